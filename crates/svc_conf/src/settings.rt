@@ -1,0 +1,25 @@
+/// The keepalive of a TCP connection.
+#[derive(Clone, Copy, PartialEq, Eq, Debug)]
+pub struct TcpKeepalive {
+    /// Nanoseconds without traffic before the first probe.
+    pub idle: u64,
+    /// Nanoseconds between two probes.
+    pub interval: u64,
+    /// How many probes stay unanswered before the connection ends.
+    pub count: u64,
+    /// Nanoseconds that sent data may stay unanswered.
+    pub user_timeout: u64,
+}
+
+/// An option that is set on an accepted connection.
+#[derive(Clone, Copy, PartialEq, Eq, Debug)]
+pub enum Setting {
+    NoDelay,
+    KeepAlive(TcpKeepalive),
+    /// The differentiated services byte.
+    Dscp(u8),
+    /// The size of the send buffer, in bytes.
+    SndBuf(u64),
+    /// The size of the receive buffer, in bytes.
+    RcvBuf(u64),
+}
