@@ -1,0 +1,162 @@
+-- How a run ends after its first signal.
+use Rattle.std.specs.Prelude.{ℕ, Bool, true, false, ◌==◌, ◌≡◌, ◌++◌, not, ◌&&◌, ◌||◌, List, [], ◌∷◌, Option, Some, None, map, nat_lt, if◌then◌else◌}
+use Rattle.svc_record.specs.declared.plan.Plan.{Plan}
+use Rattle.svc_record.specs.declared.entry.Entry.{Entry}
+use Rattle.svc_record.specs.declared.entry.Entry.TheVariants.{Got, Told}
+use Rattle.svc_record.specs.declared.action.Action.{Action}
+use Rattle.svc_record.specs.declared.action.Action.TheVariants.{Phase, Close, Stop}
+use Rattle.svc_record.specs.declared.event.ShutdownSignal.{ShutdownSignal}
+use Rattle.svc_record.specs.declared.event.ShutdownSignal.TheVariants.{FastShutdown}
+use Rattle.svc_record.specs.declared.action.ExecutionPhase.{ExecutionPhase}
+use Rattle.svc_record.specs.declared.action.ExecutionPhase.TheVariants.{Setup, Bootstrap, BootstrapComplete, Running, GracefulUpgradeTransferringFds, GracefulUpgradeCloseTimeout, GracefulTerminate, ShutdownStarted, ShutdownGracePeriod, ShutdownRuntimes, Terminated}
+use Rattle.svc_record.specs.Record.{Record, has, tell, now, signal_of, before_runtimes, is_running, EachEntry, EachEarlier, EachSettled, each_entry, each_earlier, each_settled}
+use Rattle.svc_record.specs.Descriptors.{Descriptor, live_descriptors}
+
+-- a phase that is told
+pub data Mark : Type 0 where
+  phase : ExecutionPhase → Mark
+
+-- one of bootstrap's two phases
+abbrev pub is_boot_phase : ExecutionPhase → Bool
+is_boot_phase Bootstrap = true
+is_boot_phase BootstrapComplete = true
+is_boot_phase _ = false
+
+-- the phases that were told, the newest first and without bootstrap's two
+abbrev pub told_marks : Record → List Mark
+told_marks [] = []
+told_marks (Told (Phase x ms) ∷ before) = if is_boot_phase x then told_marks before else phase x ∷ told_marks before
+told_marks (e ∷ before) = told_marks before
+
+-- the waits of the kind of signal have passed
+abbrev pub has_passed_by : Plan → Record → Option ShutdownSignal → Bool
+has_passed_by p q None = false
+has_passed_by p q (Some FastShutdown) = true
+
+-- the first signal has come, and its waits have passed
+abbrev pub has_passed : Plan → Record → Bool
+has_passed p q = has_passed_by p q (signal_of q)
+
+-- the marks if this holds, else none
+abbrev pub marks_if : Bool → List Mark → List Mark
+marks_if true marks = marks
+marks_if false marks = []
+
+-- the phases that are due after the kind of signal and before its end, the newest first
+abbrev pub row_by : Plan → Record → Option ShutdownSignal → List Mark
+row_by p q None = []
+row_by p q (Some FastShutdown) = phase ShutdownStarted ∷ []
+
+-- the phases that are due after the signal, the newest first
+abbrev pub row : Plan → Record → List Mark
+row p q = marks_if (has_passed p q) (phase Terminated ∷ phase ShutdownRuntimes ∷ []) ++ row_by p q (signal_of q)
+
+-- what is due so far: `Running`, once it was told, and then the row
+abbrev pub due_marks : Plan → Record → List Mark
+due_marks p q = row p q ++ marks_if (has is_running q) (phase Running ∷ [])
+
+-- the phases told so far are those that are due. In each settled prefix this says at which event each is told.
+abbrev pub PhasesRight : Plan → Record → Type 0
+PhasesRight p q = told_marks q ≡ due_marks p q
+
+-- a number for each phase, to compare by
+abbrev pub phase_number : ExecutionPhase → ℕ
+phase_number Setup = 0
+phase_number Bootstrap = 1
+phase_number BootstrapComplete = 2
+phase_number Running = 3
+phase_number GracefulUpgradeTransferringFds = 4
+phase_number GracefulUpgradeCloseTimeout = 5
+phase_number GracefulTerminate = 6
+phase_number ShutdownStarted = 7
+phase_number ShutdownGracePeriod = 8
+phase_number ShutdownRuntimes = 9
+phase_number Terminated = 10
+
+-- the two are equal
+abbrev pub same_mark : Mark → Mark → Bool
+same_mark (phase x) (phase y) = phase_number x == phase_number y
+
+-- the two lists are equal
+abbrev pub same_marks : List Mark → List Mark → Bool
+same_marks [] [] = true
+same_marks (x ∷ more) (y ∷ others) = same_mark x y && same_marks more others
+same_marks _ _ = false
+
+-- what was told so far is what is due so far: as a test
+abbrev pub phases_right : Plan → Record → Bool
+phases_right p q = same_marks (told_marks q) (due_marks p q)
+
+-- a phase carries its moment; bootstrap's two aside, and with them
+abbrev pub moment_right : Entry → Record → Bool
+moment_right (Told (Phase x ms)) before = is_boot_phase x || ms == now before
+moment_right _ before = true
+
+-- a phase carries its moment, bootstrap's two among them
+abbrev pub every_moment_right : Entry → Record → Bool
+every_moment_right (Told (Phase x ms)) before = ms == now before
+every_moment_right _ before = true
+
+-- the signal is the fast one
+abbrev pub is_fast : Option ShutdownSignal → Bool
+is_fast (Some FastShutdown) = true
+is_fast None = false
+
+-- the seconds that `Stop` carries
+abbrev pub stop_seconds : Plan → Record → ℕ
+stop_seconds p q = if is_fast (signal_of q) then 0 else p.stop
+
+-- the list in ascending order with one more
+abbrev pub put_number : ℕ → List ℕ → List ℕ
+put_number n [] = n ∷ []
+put_number n (m ∷ more) = if nat_lt n m then n ∷ m ∷ more else m ∷ put_number n more
+
+-- the numbers in ascending order
+abbrev pub ascending : List ℕ → List ℕ
+ascending [] = []
+ascending (n ∷ more) = put_number n (ascending more)
+
+-- the numbers of the live descriptors
+abbrev pub live_numbers : Plan → Record → List ℕ
+live_numbers p q = map (λ (d : Descriptor). d.number) (live_descriptors p q)
+
+-- what is told from `ShutdownRuntimes` on, where at stands before it
+abbrev pub last_actions : Plan → Record → List Action
+last_actions p at = Phase ShutdownRuntimes (now at) ∷ (map Close (ascending (live_numbers p at))
+    ++ (Stop (stop_seconds p at) ∷ Phase Terminated (now at) ∷ []))
+
+-- what only the end tells
+abbrev pub is_ending : Entry → Bool
+is_ending (Told (Stop n)) = true
+is_ending _ = false
+
+-- the entry tells this action, which is a phase, a close or `Stop`
+abbrev pub is_told : Action → Entry → Bool
+is_told (Phase x ms) (Told (Phase y m)) = phase_number y == phase_number x && m == ms
+is_told (Close fd) (Told (Close n)) = n == fd
+is_told (Stop n) (Told (Stop m)) = m == n
+is_told _ _ = false
+
+-- the newest entries of the second are the first, which has only what is told
+abbrev pub begins_with : Record → Record → Bool
+begins_with [] q = true
+begins_with (Told a ∷ more) (e ∷ before) = is_told a e && begins_with more before
+begins_with _ _ = false
+
+-- r ends with what is told from `ShutdownRuntimes` on, where at stands before it
+abbrev pub ends_right : Plan → Record → Record → Bool
+ends_right p at r = begins_with (tell [] (last_actions p at)) r
+
+-- r has passed and no shorter settled prefix has; each phase is told at its event, with its moment; and from `ShutdownRuntimes` on stand the closes, `Stop` and `Terminated`
+pub record Drain (p : Plan) (r : Record) : Type 0 where
+  pub passes : has_passed p r ≡ true
+  pub first : EachEarlier (λ q. has_passed p q ≡ false) r
+  pub phases : EachSettled (PhasesRight p) r
+  pub moments : EachEntry (λ e before. every_moment_right e before ≡ true) r
+  pub ends : r ≡ tell (before_runtimes r) (last_actions p (before_runtimes r))
+  pub nowhere_else : has is_ending (before_runtimes r) ≡ false
+
+-- the same as a test
+abbrev pub drain_right : Plan → Record → Bool
+drain_right p r = (((has_passed p r && each_earlier (λ q. not (has_passed p q)) r) && each_settled (phases_right p) r) && each_entry every_moment_right r)
+    && (ends_right p (before_runtimes r) r && not (has is_ending (before_runtimes r)))

@@ -1,0 +1,37 @@
+-- Which event may come after a record.
+use Rattle.std.specs.Prelude.{ℕ, Bool, true, ◌≡◌, not, ◌&&◌}
+use Rattle.svc_record.specs.declared.plan.Plan.{Plan}
+use Rattle.svc_graph.specs.declared.plan.Kind.TheVariants.{Notifying}
+use Rattle.svc_record.specs.declared.entry.Entry.{Entry}
+use Rattle.svc_record.specs.declared.entry.Entry.TheVariants.{Got}
+use Rattle.svc_record.specs.declared.event.Event.{Event}
+use Rattle.svc_record.specs.declared.event.Event.TheVariants.{Ready, Bound, Signal}
+use Rattle.svc_record.specs.Record.{Record, has, from_the_start}
+use Rattle.svc_record.specs.Plans.{has_kind}
+use Rattle.svc_record.specs.Descriptors.{brings}
+use Rattle.svc_record.specs.Asks.{is_bind_open}
+use Rattle.svc_record.specs.Starts.{is_started, is_ready_event}
+use Rattle.svc_record.specs.Ends.{has_ended}
+
+-- no earlier event brought the descriptor's number
+abbrev pub is_new : Record → ℕ → Bool
+is_new q fd = not (has (brings fd) q)
+
+-- the condition of each event
+abbrev pub fits_row : Plan → Record → Event → Bool
+fits_row p q (Ready s) = (has_kind p Notifying s && is_started q s) && not (has (is_ready_event s) q)
+fits_row p q (Bound s i fd) = is_bind_open q s i && is_new q fd
+fits_row p q (Signal kind) = from_the_start q
+
+-- the event may come: the run hasn't ended, and the event's condition holds
+abbrev pub fits : Plan → Record → Event → Bool
+fits p q e = not (has_ended p q) && fits_row p q e
+
+-- the same as a fact
+abbrev pub Fits : Plan → Record → Event → Type 0
+Fits p q e = fits p q e ≡ true
+
+-- an event among the entries fits what stands before it
+abbrev pub event_fits : Plan → Entry → Record → Bool
+event_fits p (Got e) before = fits p before e
+event_fits p _ before = true

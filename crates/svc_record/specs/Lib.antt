@@ -1,0 +1,16 @@
+pub mod Record
+pub mod Plans
+pub mod Descriptors
+pub mod Asks
+pub mod Failed
+pub mod Starts
+pub mod Endpoints
+pub mod Closes
+pub mod AskRules
+pub mod Drain
+pub mod Boot
+pub mod Ends
+pub mod Fits
+pub mod Right
+pub mod Facts
+pub mod Tail

@@ -1,0 +1,57 @@
+-- When services start.
+use Rattle.std.specs.Prelude.{ℕ, zero, suc, Bool, true, false, ◌==◌, ◌≡◌, ◌<◌, ◌++◌, not, ◌&&◌, ◌||◌, List, [], ◌∷◌, nat_lt, if◌then◌else◌}
+use Rattle.std.specs.List.{list_any, list_all}
+use Rattle.svc_record.specs.declared.plan.Plan.{Plan}
+use Rattle.svc_graph.specs.declared.plan.Kind.TheVariants.{Plain}
+use Rattle.svc_record.specs.declared.entry.Entry.{Entry}
+use Rattle.svc_record.specs.declared.entry.Entry.TheVariants.{Got, Told}
+use Rattle.svc_record.specs.declared.event.Event.TheVariants.{Ready}
+use Rattle.svc_record.specs.declared.action.Action.TheVariants.{Start}
+use Rattle.svc_record.specs.Record.{Record, has, times, EachEntry, each_entry}
+use Rattle.svc_record.specs.Plans.{service_count, services, depends, has_kind}
+use Rattle.svc_record.specs.Failed.{has_failed}
+
+-- the entry tells `Start` with this number
+abbrev pub is_start : ℕ → Entry → Bool
+is_start s (Told (Start t)) = t == s
+is_start s _ = false
+
+-- the event is `Ready` with this number
+abbrev pub is_ready_event : ℕ → Entry → Bool
+is_ready_event s (Got (Ready t)) = t == s
+is_ready_event s _ = false
+
+-- the service was started
+abbrev pub is_started : Record → ℕ → Bool
+is_started q s = has (is_start s) q
+
+-- the service has failed, or its word came, or it is started and plain
+abbrev pub is_ready : Plan → Record → ℕ → Bool
+is_ready p q s = (has_failed p q s || has (is_ready_event s) q) || (is_started q s && has_kind p Plain s)
+
+-- every dependency of the service is ready
+abbrev pub is_due : Plan → Record → ℕ → Bool
+is_due p q s = list_all (is_ready p q) (depends p s)
+
+-- a service starts once, and after its dependencies are ready
+abbrev pub start_due : Plan → Entry → Record → Bool
+start_due p (Told (Start s)) before = not (is_started before s) && is_due p before s
+start_due p _ before = true
+
+-- the service is started once where it is due, and not at all elsewhere
+abbrev pub start_right : Plan → Record → ℕ → Bool
+start_right p q s = times (is_start s) q == (if is_due p q s then 1 else 0)
+
+-- each service is started exactly where it is due: as a test
+abbrev pub starts_right : Plan → Record → Bool
+starts_right p q = list_all (start_right p q) (services p)
+
+-- for each service: it is started once where it is due, and not at all elsewhere; and each start was due as it was told
+pub record StartsRight (p : Plan) (q : Record) : Type 0 where
+  pub each : (s : ℕ) → s < service_count p → times (is_start s) q ≡ (if is_due p q s then 1 else 0)
+  pub in_turn : EachEntry (λ e before. start_due p e before ≡ true) q
+
+-- stronger: a start is of a service of the plan
+abbrev pub start_known : Plan → Entry → Record → Bool
+start_known p (Told (Start s)) before = nat_lt s (service_count p)
+start_known p _ before = true

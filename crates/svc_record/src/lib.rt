@@ -1,0 +1,12 @@
+//! What a server is told and what it tells, its plan, and in `specs/` what a right record of both is.
+#![tactic(auto)]
+
+mod action;
+mod entry;
+mod event;
+mod plan;
+
+pub use action::{Action, Actions, ExecutionPhase, StepEnd};
+pub use entry::{Entries, Entry};
+pub use event::{Event, ShutdownSignal};
+pub use plan::{Plan, ServiceList, ServicePlan};
