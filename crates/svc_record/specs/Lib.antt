@@ -14,3 +14,5 @@ pub mod Fits
 pub mod Right
 pub mod Facts
 pub mod Tail
+pub mod Validity
+pub use Rattle.svc_graph.specs.Paths

@@ -5,8 +5,10 @@ mod action;
 mod entry;
 mod event;
 mod plan;
+mod validity;
 
 pub use action::{Action, Actions, ExecutionPhase, StepEnd};
 pub use entry::{Entries, Entry};
 pub use event::{Event, ShutdownSignal};
 pub use plan::{Plan, ServiceList, ServicePlan};
+pub use validity::startup_order;
