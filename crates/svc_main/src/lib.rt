@@ -1,0 +1,12 @@
+//! The program as one call: a script in, the record of its run and a status line out.
+#![tactic(auto)]
+
+mod outcome;
+mod program;
+mod runs;
+
+pub use outcome::{RunEnd, StatusLine};
+pub use program::{one_answer, serve_script};
+
+#[cfg(test)]
+mod tests;
