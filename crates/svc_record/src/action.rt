@@ -1,3 +1,4 @@
+use std::fmt;
 use svc_conf::Reserved;
 
 /// What a server is about.
@@ -41,4 +42,44 @@ pub enum StepEnd {
     On,
     /// The run went through its shutdown.
     Served,
+}
+
+impl fmt::Display for ExecutionPhase {
+    ghost use Rattle.std.specs.Prelude.{Some};
+    ghost use Rattle.svc_record.specs.Text.{phase_word};
+
+    ghost output = { λ p. Some (phase_word p) };
+
+    fn fmt<W: fmt::Write>(&self, f: &mut fmt::Formatter<W>) -> fmt::Result {
+        match self {
+            ExecutionPhase::Setup => write!(f, "Setup"),
+            ExecutionPhase::Bootstrap => write!(f, "Bootstrap"),
+            ExecutionPhase::BootstrapComplete => write!(f, "BootstrapComplete"),
+            ExecutionPhase::Running => write!(f, "Running"),
+            ExecutionPhase::GracefulUpgradeTransferringFds => write!(f, "GracefulUpgradeTransferringFds"),
+            ExecutionPhase::GracefulUpgradeCloseTimeout => write!(f, "GracefulUpgradeCloseTimeout"),
+            ExecutionPhase::GracefulTerminate => write!(f, "GracefulTerminate"),
+            ExecutionPhase::ShutdownStarted => write!(f, "ShutdownStarted"),
+            ExecutionPhase::ShutdownGracePeriod => write!(f, "ShutdownGracePeriod"),
+            ExecutionPhase::ShutdownRuntimes => write!(f, "ShutdownRuntimes"),
+            ExecutionPhase::Terminated => write!(f, "Terminated"),
+        }
+    }
+}
+
+impl fmt::Display for Action {
+    ghost use Rattle.std.specs.Prelude.{Some};
+    ghost use Rattle.svc_record.specs.Text.{spaced, action_words};
+
+    ghost output = { λ a. Some (spaced (action_words a)) };
+
+    fn fmt<W: fmt::Write>(&self, f: &mut fmt::Formatter<W>) -> fmt::Result {
+        match self {
+            Action::Start(s) => write!(f, "start {s}"),
+            Action::Bind(s, i) => write!(f, "bind {s} {i}"),
+            Action::Close(fd) => write!(f, "close {fd}"),
+            Action::Phase(p, ms) => write!(f, "phase {p} {ms}"),
+            Action::Stop(seconds) => write!(f, "stop {seconds}"),
+        }
+    }
 }

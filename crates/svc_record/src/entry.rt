@@ -1,5 +1,6 @@
 use crate::action::Action;
 use crate::event::Event;
+use std::fmt;
 use svc_conf::Reserved;
 
 /// An entry of a record: what was got from the host, or told to it.
@@ -11,3 +12,17 @@ pub enum Entry {
 
 /// The entries of a record, in the order in which they happened.
 pub type Entries = Reserved<Entry>;
+
+impl fmt::Display for Entry {
+    ghost use Rattle.std.specs.Prelude.{Some};
+    ghost use Rattle.svc_record.specs.Text.{spaced, entry_words};
+
+    ghost output = { λ e. Some (spaced (entry_words e)) };
+
+    fn fmt<W: fmt::Write>(&self, f: &mut fmt::Formatter<W>) -> fmt::Result {
+        match self {
+            Entry::Got(e) => write!(f, "got {e}"),
+            Entry::Told(a) => write!(f, "{a}"),
+        }
+    }
+}

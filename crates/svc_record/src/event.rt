@@ -1,3 +1,5 @@
+use std::fmt;
+
 /// A signal that ends a server.
 #[derive(Clone, Copy, PartialEq, Eq, Debug)]
 pub enum ShutdownSignal {
@@ -13,4 +15,32 @@ pub enum Event {
     /// The bind of the service's endpoint brought this descriptor.
     Bound(u32, u32, u64),
     Signal(ShutdownSignal),
+}
+
+impl fmt::Display for ShutdownSignal {
+    ghost use Rattle.std.specs.Prelude.{Some};
+    ghost use Rattle.svc_record.specs.Text.{signal_word};
+
+    ghost output = { λ s. Some (signal_word s) };
+
+    fn fmt<W: fmt::Write>(&self, f: &mut fmt::Formatter<W>) -> fmt::Result {
+        match self {
+            ShutdownSignal::FastShutdown => write!(f, "fast"),
+        }
+    }
+}
+
+impl fmt::Display for Event {
+    ghost use Rattle.std.specs.Prelude.{Some};
+    ghost use Rattle.svc_record.specs.Text.{spaced, event_words};
+
+    ghost output = { λ e. Some (spaced (event_words e)) };
+
+    fn fmt<W: fmt::Write>(&self, f: &mut fmt::Formatter<W>) -> fmt::Result {
+        match self {
+            Event::Ready(s) => write!(f, "ready {s}"),
+            Event::Bound(s, i, fd) => write!(f, "bound {s} {i} {fd}"),
+            Event::Signal(kind) => write!(f, "signal {kind}"),
+        }
+    }
 }
