@@ -1,0 +1,236 @@
+-- A record that passes a test has what the test's fact says.
+use Rattle.std.proofs.Common.{ℕ, zero, suc, Bool, true, false, ◌||◌, ◌&&◌, not, ◌==◌, ◌+◌, ◌<◌, ◌≤◌, ◌⊎◌, inl, inr, List, [], ◌∷◌, ◌++◌, map, length, slice_index_or, if◌then◌else◌, ◌≡◌, refl, sym, ap, subst, ◌∙◌, eqb-true, arith}
+use Rattle.std.proofs.lemmas.Bool.{false≢true, not-true}
+use Rattle.std.proofs.Math.Decide.{ℕ_discrete}
+use Rattle.std.specs.Bool.{OnTrue, OnFalse}
+use Rattle.std.specs.List.{list_all, list_any, range_with_len}
+use Rattle.svc_record.specs.declared.plan.Plan.{Plan}
+use Rattle.svc_record.specs.declared.entry.Entry.{Entry}
+use Rattle.svc_record.specs.declared.entry.Entry.TheVariants.{Got, Told}
+use Rattle.svc_record.specs.declared.action.Action.{Action}
+use Rattle.svc_record.specs.declared.action.Action.TheVariants.{Phase, Close, Stop}
+use Rattle.svc_record.specs.declared.action.ExecutionPhase.{ExecutionPhase}
+use Rattle.svc_record.specs.declared.action.ExecutionPhase.TheVariants.{Setup, Bootstrap, BootstrapComplete, Running, GracefulUpgradeTransferringFds, GracefulUpgradeCloseTimeout, GracefulTerminate, ShutdownStarted, ShutdownGracePeriod, ShutdownRuntimes, Terminated}
+use Rattle.svc_record.specs.Record.{Record, tell, has, times, now, is_signal, from_the_start, before_runtimes, EachEntry, EachEarlier, EachSettled, each_entry, each_earlier, each_settled}
+use Rattle.svc_record.specs.Plans.{service_count, endpoints, services, endpoint_numbers}
+use Rattle.svc_record.specs.Descriptors.{Descriptor, opened_descriptors, has_number, is_close}
+use Rattle.svc_record.specs.Starts.{StartsRight, starts_right, start_right, start_due, start_known}
+use Rattle.svc_record.specs.Endpoints.{EndpointsRight, EndpointsRightLate, endpoints_right, endpoints_right_late, endpoint_right, endpoint_right_late}
+use Rattle.svc_record.specs.Closes.{ClosesRight, closes_right, close_right, close_once}
+use Rattle.svc_record.specs.AskRules.{ask_due, ask_known}
+use Rattle.svc_record.specs.Drain.{Mark, phase, Drain, drain_right, PhasesRight, phases_right, phase_number, same_mark, same_marks, told_marks, due_marks, has_passed, moment_right, every_moment_right, ends_right, last_actions, live_numbers, is_ending, begins_with, is_told, ascending}
+use Rattle.svc_record.specs.Boot.{BootRight, boot_right}
+use Rattle.svc_record.specs.Ends.{has_ended}
+use Rattle.svc_record.specs.Fits.{event_fits}
+use Rattle.svc_record.specs.Right.{Right, is_right, Served, is_served, ServesRight, serves_right, OpenRight, open_right, SettledRight, settled_right, PassedRight, passed_right, close_due, in_service, is_right_by_words, is_served_by_words, Stronger, is_stronger, LastStepRight, last_step_right}
+
+pub both : (a b : Bool) → (a && b) ≡ true → (a ≡ true) × (b ≡ true)
+both true b e = (refl, e)
+both false b e = absurd (false≢true e)
+
+pub either : (a b : Bool) → (a || b) ≡ true → (a ≡ true) ⊎ (b ≡ true)
+either true b e = inl refl
+either false b e = inr e
+
+pub on_true : (b t : Bool) (P : Type 0) → (t ≡ true → P) → (not b || t) ≡ true → OnTrue b P
+on_true true t P f e = f e
+on_true false t P f e = tt
+
+pub on_false : (b t : Bool) (P : Type 0) → (t ≡ true → P) → (b || t) ≡ true → OnFalse b P
+on_false true t P f e = tt
+on_false false t P f e = f e
+
+pub entries : (test : Entry → Record → Bool) (q : Record) → each_entry test q ≡ true → EachEntry (λ e before. test e before ≡ true) q
+entries test [] e = tt
+entries test (x ∷ before) e = let h = both (test x before) (each_entry test before) e in (h.0, entries test before h.1)
+
+pub earlier : (test : Record → Bool) (P : Record → Type 0) → ((q : Record) → test q ≡ true → P q) → (q : Record) → each_earlier test q ≡ true → EachEarlier P q
+earlier test P f [] e = tt
+earlier test P f (Got x ∷ before) e = let h = both (test before) (each_earlier test before) e in (f before h.0, earlier test P f before h.1)
+earlier test P f (Told a ∷ before) e = earlier test P f before e
+
+pub settled : (test : Record → Bool) (P : Record → Type 0) → ((q : Record) → test q ≡ true → P q) → (q : Record) → each_settled test q ≡ true → EachSettled P q
+settled test P f q e = let h = both (test q) (each_earlier test q) e in (f q h.0, earlier test P f q h.1)
+
+pub in_range : (test : ℕ → Bool) (n a s : ℕ) → list_all test (range_with_len a n) ≡ true → a ≤ s → s < a + n → test s ≡ true
+in_range test zero a s e low high = absurd (omega arith)
+in_range test (suc n) a s e low high = let h = both (test a) (list_all test (range_with_len (a + 1) n)) e in
+    elim (ℕ_discrete a s) [ yes same ↦ subst (λ x. test x ≡ true) same h.0 | no other ↦ in_range test n (a + 1) s h.1 (omega (arith, other)) (omega arith) ]
+
+pub below : (test : ℕ → Bool) (n s : ℕ) → list_all test (range_with_len 0 n) ≡ true → s < n → test s ≡ true
+below test n s e high = in_range test n 0 s e (omega arith) (omega arith)
+
+pub each_endpoint : (p : Plan) (test : ℕ → ℕ → Bool) → list_all (λ s. list_all (test s) (endpoint_numbers p s)) (services p) ≡ true → (s i : ℕ) → s < service_count p → i < length (endpoints p s) → test s i ≡ true
+each_endpoint p test e s i low lower = below (test s) (length (endpoints p s)) i (below (λ t. list_all (test t) (endpoint_numbers p t)) (service_count p) s e low) lower
+
+pub each_number : (test : ℕ → Bool) (ds : List Descriptor) (fd : ℕ) → list_all (λ (d : Descriptor). test d.number) ds ≡ true → list_any (has_number fd) ds ≡ true → test fd ≡ true
+each_number test [] fd all e = absurd (false≢true e)
+each_number test (d ∷ ds) fd all e = let h = both (test d.number) (list_all (λ (x : Descriptor). test x.number) ds) all in
+    elim (either (d.number == fd) (list_any (has_number fd) ds) e) [ inl same ↦ subst (λ n. test n ≡ true) (eqb-true d.number fd same) h.0 | inr later ↦ each_number test ds fd h.1 later ]
+
+pub starts : (p : Plan) (q : Record) → (starts_right p q && each_entry (start_due p) q) ≡ true → StartsRight p q
+starts p q e = let h = both (starts_right p q) (each_entry (start_due p) q) e in
+    record { each = λ s low. eqb-true _ _ (below (start_right p q) (service_count p) s h.0 low); in_turn = entries (start_due p) q h.1 }
+
+pub held_or_wait : (p : Plan) (q : Record) → endpoints_right p q ≡ true → EndpointsRight p q
+held_or_wait p q e = each_endpoint p (endpoint_right p q) e
+
+pub held_or_wait_late : (p : Plan) (q : Record) → endpoints_right_late p q ≡ true → EndpointsRightLate p q
+held_or_wait_late p q e = each_endpoint p (endpoint_right_late p q) e
+
+pub closes : (p : Plan) (q : Record) → closes_right p q ≡ true → ClosesRight p q
+closes p q e fd o = eqb-true _ _ (each_number (close_right p q) (opened_descriptors p q) fd e o)
+
+-- the phase that has the number
+abbrev phase_of : ℕ → ExecutionPhase
+phase_of n = slice_index_or (Setup ∷ Bootstrap ∷ BootstrapComplete ∷ Running ∷ GracefulUpgradeTransferringFds ∷ GracefulUpgradeCloseTimeout ∷ GracefulTerminate ∷ ShutdownStarted ∷ ShutdownGracePeriod ∷ ShutdownRuntimes ∷ Terminated ∷ []) n Setup
+
+phase_back : (x : ExecutionPhase) → phase_of (phase_number x) ≡ x
+phase_back Setup = refl
+phase_back Bootstrap = refl
+phase_back BootstrapComplete = refl
+phase_back Running = refl
+phase_back GracefulUpgradeTransferringFds = refl
+phase_back GracefulUpgradeCloseTimeout = refl
+phase_back GracefulTerminate = refl
+phase_back ShutdownStarted = refl
+phase_back ShutdownGracePeriod = refl
+phase_back ShutdownRuntimes = refl
+phase_back Terminated = refl
+
+-- phases with one number are one phase
+pub is_phase : (x y : ExecutionPhase) → phase_number x ≡ phase_number y → x ≡ y
+is_phase x y e = sym (phase_back x) ∙ (ap phase_of e ∙ phase_back y)
+
+pub is_mark : (x y : Mark) → same_mark x y ≡ true → x ≡ y
+is_mark (phase x) (phase y) e = ap phase (is_phase x y (eqb-true (phase_number x) (phase_number y) e))
+
+pub are_marks : (xs ys : List Mark) → same_marks xs ys ≡ true → xs ≡ ys
+are_marks [] [] e = refl
+are_marks [] (y ∷ ys) e = absurd (false≢true e)
+are_marks (x ∷ xs) [] e = absurd (false≢true e)
+are_marks (x ∷ xs) (y ∷ ys) e = let h = both (same_mark x y) (same_marks xs ys) e in
+    ap (λ z. z ∷ xs) (is_mark x y h.0) ∙ ap (λ zs. y ∷ zs) (are_marks xs ys h.1)
+
+pub phases : (p : Plan) (q : Record) → phases_right p q ≡ true → PhasesRight p q
+phases p q e = are_marks (told_marks q) (due_marks p q) e
+
+pub boot : (p : Plan) (q : Record) → boot_right p q ≡ true → BootRight p q
+boot p q e = record { entries = e }
+
+pub open_ : (p : Plan) (q : Record) → open_right p q ≡ true → OpenRight p q
+open_ p q e = let a = both _ _ e in let b = both _ _ a.0 in let c = both _ _ b.0 in let d = both _ _ b.1 in let f = both _ _ a.1 in let g = both _ _ f.1 in let k = both _ _ g.0 in
+    record {
+      boot = boot p q c.0;
+      closes = closes p q c.1;
+      one_live = d.0;
+      starts = on_true (from_the_start q) _ _ (λ t. starts p q (both _ _ t).0) d.1;
+      endpoints = on_true (in_service q) _ _ (held_or_wait p q) f.0;
+      endpoints_late = on_true (from_the_start q) _ _ (λ t. held_or_wait_late p q (both _ _ t).1) d.1;
+      phases = phases p q k.0;
+      moments = entries moment_right q k.1;
+      no_end = not-true (has is_ending q) g.1;
+    }
+
+pub settled_clause : (p : Plan) (q : Record) → settled_right p q ≡ true → SettledRight p q
+settled_clause p q e = on_false (has_ended p q) (open_right p q) (OpenRight p q) (open_ p q) e
+
+pub serves : (p : Plan) (q : Record) → serves_right p q ≡ true → ServesRight p q
+serves p q e = let h = both (has is_signal q || closes_right p q) (not (in_service q) || ((starts_right p q && each_entry (start_due p) q) && endpoints_right p q)) e in
+    record {
+      closes = on_false (has is_signal q) (closes_right p q) _ (closes p q) h.0;
+      starts = on_true (in_service q) _ _ (λ t. starts p q (both _ _ t).0) h.1;
+      endpoints = on_true (in_service q) _ _ (λ t. held_or_wait p q (both _ _ t).1) h.1;
+    }
+
+told_is : (a : Action) (e : Entry) → is_told a e ≡ true → e ≡ Told a
+told_is (Phase x ms) (Told (Phase y m)) h = let k = both (phase_number y == phase_number x) (m == ms) h in
+    ap (λ z. Told (Phase z m)) (is_phase y x (eqb-true (phase_number y) (phase_number x) k.0)) ∙ ap (λ n. Told (Phase x n)) (eqb-true m ms k.1)
+told_is (Close fd) (Told (Close n)) h = ap (λ z. Told (Close z)) (eqb-true n fd h)
+told_is (Stop n) (Told (Stop m)) h = ap (λ z. Told (Stop z)) (eqb-true m n h)
+told_is _ _ h = absurd (false≢true h)
+
+begins : (told r : Record) → begins_with told r ≡ true → (rest : Record) × (r ≡ told ++ rest)
+begins [] r e = (r, refl)
+begins (Told a ∷ more) [] e = absurd (false≢true e)
+begins (Told a ∷ more) (x ∷ before) e = let h = both (is_told a x) (begins_with more before) e in
+    let k = begins more before h.1 in (k.0, ap (λ z. z ∷ before) (told_is a x h.0) ∙ ap (λ z. Told a ∷ z) k.1)
+begins (Got x ∷ more) r e = absurd (false≢true e)
+
+pub tell_onto : (told_next : List Action) (told rest : Record) → tell (told ++ rest) told_next ≡ tell told told_next ++ rest
+tell_onto [] told rest = refl
+tell_onto (a ∷ more) told rest = tell_onto more (Told a ∷ told) rest
+
+-- telling these actions leaves what stands before `ShutdownRuntimes`
+abbrev Leaves : List Action → Record → Type 0
+Leaves actions rest = (q : Record) → before_runtimes q ≡ rest → before_runtimes (tell q actions) ≡ rest
+
+closes_leave : (fds : List ℕ) (more : List Action) (rest : Record) → Leaves more rest → Leaves (map Close fds ++ more) rest
+closes_leave [] more rest f q e = f q e
+closes_leave (fd ∷ fds) more rest f q e = closes_leave fds more rest f (Told (Close fd) ∷ q) e
+
+-- before the last actions stands what they were told after
+pub stands_before : (p : Plan) (at rest : Record) → before_runtimes (tell rest (last_actions p at)) ≡ rest
+stands_before p at rest = closes_leave (ascending (live_numbers p at)) _ rest (λ q e. e) (Told (Phase ShutdownRuntimes (now at)) ∷ rest) refl
+
+pub ends : (p : Plan) (r : Record) → ends_right p (before_runtimes r) r ≡ true → r ≡ tell (before_runtimes r) (last_actions p (before_runtimes r))
+ends p r e = let at = before_runtimes r in
+    let h = begins (tell [] (last_actions p at)) r e in
+    let is : r ≡ tell h.0 (last_actions p at) = h.1 ∙ sym (tell_onto (last_actions p at) [] h.0) in
+    let before : at ≡ h.0 = ap before_runtimes is ∙ stands_before p at h.0 in
+    is ∙ ap (λ z. tell z (last_actions p at)) (sym before)
+
+pub drains : (p : Plan) (r : Record) → drain_right p r ≡ true → Drain p r
+drains p r e = let a = both _ _ e in let b = both _ _ a.0 in let c = both _ _ b.0 in let d = both _ _ c.0 in let f = both _ _ a.1 in
+    record {
+      passes = d.0;
+      first = earlier (λ q. not (has_passed p q)) (λ q. has_passed p q ≡ false) (λ q t. not-true (has_passed p q) t) r d.1;
+      phases = settled (phases_right p) (PhasesRight p) (phases p) r c.1;
+      moments = entries every_moment_right r b.1;
+      ends = ends p r f.0;
+      nowhere_else = not-true (has is_ending (before_runtimes r)) f.1;
+    }
+
+pub last_step_clause : (p : Plan) (at : Record) → last_step_right p at ≡ true → LastStepRight p at
+last_step_clause p at e = let a = both _ _ e in let b = both _ _ a.0 in let c = both _ _ a.1 in
+    record { starts = starts p at b.0; endpoints = held_or_wait_late p at b.1; closes = closes p at c.0; boot = boot p at c.1 }
+
+pub stronger : (p : Plan) (r : Record) → is_stronger p r ≡ true → Stronger p r
+stronger p r e = let a = both _ _ e in let b = both _ _ a.0 in let c = both _ _ b.0 in let d = both _ _ a.1 in
+    record {
+      closes = entries (close_once p) r c.0;
+      last_step = on_true (has_passed p r) _ _ (last_step_clause p (before_runtimes r)) c.1;
+      moments = entries every_moment_right r b.1;
+      known_starts = entries (start_known p) r d.0;
+      known_asks = entries (ask_known p) r d.1;
+    }
+
+served_by_words : (p : Plan) (r : Record) → Stronger p r → is_served_by_words p r ≡ true → Served p r
+served_by_words p r s e = let a = both _ _ e in let b = both _ _ a.0 in let c = both _ _ b.0 in let d = both _ _ a.1 in
+    record {
+      fits = entries (event_fits p) r c.0;
+      drain = drains p r c.1;
+      serves = settled (serves_right p) (ServesRight p) (serves p) r b.1;
+      closed_once = λ fd o. eqb-true _ _ (each_number (λ n. times (is_close n) r == 1) (opened_descriptors p r) fd d.0 o);
+      closed_after = entries (close_due p) r d.1;
+      stronger = s;
+    }
+
+-- a record that passes the test is that of a run that served
+pub served_from_test : (p : Plan) (r : Record) → is_served p r ≡ true → Served p r
+served_from_test p r e = let h = both (is_served_by_words p r) (is_stronger p r) e in served_by_words p r (stronger p r h.1) h.0
+
+pub passing : (p : Plan) (r : Record) → Stronger p r → passed_right p r ≡ true → PassedRight p r
+passing p r s e = let h = both _ _ e in record { served = served_by_words p r s h.0; boot = boot p r h.1 }
+
+-- a record that passes the test is right
+pub right_from_test : (p : Plan) (r : Record) → is_right p r ≡ true → Right p r
+right_from_test p r e = let w = both (is_right_by_words p r) (is_stronger p r) e in let s = stronger p r w.1 in let a = both _ _ w.0 in let b = both _ _ a.0 in let c = both _ _ b.0 in let d = both _ _ a.1 in
+    record {
+      fits = entries (event_fits p) r c.0;
+      starts = entries (start_due p) r c.1;
+      settled = settled (settled_right p) (SettledRight p) (settled_clause p) r b.1;
+      asks = record { in_turn = entries (ask_due p) r d.0 };
+      passed = on_true (has_passed p r) _ _ (passing p r s) d.1;
+      stronger = s;
+    }
