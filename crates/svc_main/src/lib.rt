@@ -2,11 +2,5 @@
 #![tactic(auto)]
 
 mod outcome;
-mod program;
-mod runs;
 
 pub use outcome::{RunEnd, StatusLine};
-pub use program::{one_answer, serve_script};
-
-#[cfg(test)]
-mod tests;

@@ -91,14 +91,15 @@ is_bootstrap _ = false
 abbrev pub from_the_start : Record → Bool
 from_the_start q = has is_running q
 
+-- the first if there is one, else this
+abbrev pub first_or : Option ShutdownSignal → ShutdownSignal → Option ShutdownSignal
+first_or (Some earlier) kind = Some earlier
+first_or None kind = Some kind
+
 -- the kind of the first signal
 abbrev pub signal_of : Record → Option ShutdownSignal
 signal_of [] = None
-signal_of (Got (Signal kind) ∷ before) = or_else (signal_of before) kind
-  where
-    or_else : Option ShutdownSignal → ShutdownSignal → Option ShutdownSignal
-    or_else (Some earlier) k = Some earlier
-    or_else None k = Some k
+signal_of (Got (Signal kind) ∷ before) = first_or (signal_of before) kind
 signal_of (e ∷ before) = signal_of before
 
 -- what stands before the first signal; nothing where none came
