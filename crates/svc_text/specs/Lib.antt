@@ -1,0 +1,5 @@
+pub mod Words
+pub mod EventLines
+pub mod ServiceLines
+pub mod Script
+pub mod Outcome
