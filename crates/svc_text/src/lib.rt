@@ -7,6 +7,7 @@ mod lists;
 mod numbers;
 mod parsing;
 mod part;
+mod plan;
 mod printing;
 mod reading;
 mod service;
@@ -15,6 +16,7 @@ pub use cuts::{split_line, split_word};
 pub use event_lines::event_of_line;
 pub use numbers::number;
 pub use parsing::{Script, ScriptError, parse};
+pub use plan::plan_of;
 pub use printing::{one_record, record_text};
 pub use service::ServiceLine;
 
