@@ -1,0 +1,9 @@
+pub mod WordLemmas
+pub mod NumberLemmas
+pub mod LineLemmas
+pub mod Visible
+pub mod Back
+pub mod ListLemmas
+pub mod ItemLemmas
+pub mod PlaceLemmas
+pub mod ScriptLemmas

@@ -1,0 +1,53 @@
+-- What a line of words says, where it is an event.
+use Rattle.std.specs.Prelude.{ℕ, ◌^◌, if◌then◌else◌, List, [], ◌∷◌, codes, Option, Some, None}
+use Rattle.std.specs.Str.{bytes_eq}
+use Rattle.svc_text.specs.Words.{◌>>=◌, number_of}
+use Rattle.svc_record.specs.declared.event.ShutdownSignal.{ShutdownSignal}
+use Rattle.svc_record.specs.declared.event.ShutdownSignal.TheVariants.{FastShutdown}
+use Rattle.svc_record.specs.declared.event.Event.{Event}
+use Rattle.svc_record.specs.declared.event.Event.TheVariants.{Ready, Bound, Signal}
+
+-- the one word that there is
+unfoldable pub only_of : List (List ℕ) → Option (List ℕ)
+only_of (w ∷ []) = Some w
+only_of _ = None
+
+-- the three words that there are
+unfoldable pub three_of : List (List ℕ) → Option (List ℕ × List ℕ × List ℕ)
+three_of (v ∷ w ∷ x ∷ []) = Some (v, w, x)
+three_of _ = None
+
+-- the signal that a word names
+unfoldable pub signal_of : List ℕ → Option ShutdownSignal
+signal_of word = if bytes_eq word (codes "fast") then Some FastShutdown else None
+
+-- what follows the word `ready`
+unfoldable pub ready_of : List (List ℕ) → Option Event
+ready_of args = do
+  s ← only_of args
+  service ← number_of (2 ^ 32) s
+  Some (Ready service)
+
+-- what follows the word `bound`
+unfoldable pub bound_of : List (List ℕ) → Option Event
+bound_of args = do
+  a ← three_of args
+  service ← number_of (2 ^ 32) a.0
+  endpoint ← number_of (2 ^ 32) a.1
+  descriptor ← number_of (2 ^ 64) a.2
+  Some (Bound service endpoint descriptor)
+
+-- what follows the word `signal`
+unfoldable pub signalled_of : List (List ℕ) → Option Event
+signalled_of args = do
+  word ← only_of args
+  kind ← signal_of word
+  Some (Signal kind)
+
+-- the event that the words of a line say
+unfoldable pub event_of : List (List ℕ) → Option Event
+event_of [] = None
+event_of (key ∷ args) =
+    if bytes_eq key (codes "ready") then ready_of args
+    else (if bytes_eq key (codes "bound") then bound_of args
+    else (if bytes_eq key (codes "signal") then signalled_of args else None))

@@ -1,0 +1,71 @@
+-- What a service line says.
+use Rattle.std.specs.Prelude.{◌≡◌, ℕ, ◌^◌, Bool, true, false, not, ◌&&◌, ◌==◌, nat_lt, nat_le, if◌then◌else◌, List, [], ◌∷◌, length, map, codes, slice_index, Option, Some, None, is_none}
+use Rattle.std.specs.Option.{option_map}
+use Rattle.std.specs.List.{slice_split}
+use Rattle.std.specs.Str.{bytes_eq}
+use Rattle.svc_graph.specs.declared.plan.Kind.{Kind}
+use Rattle.svc_graph.specs.declared.plan.Kind.TheVariants.{Plain, Notifying}
+use Rattle.svc_text.specs.Words.{◌>>=◌, number_of, text_in}
+use Rattle.svc_text.specs.declared.service.ServiceLine.{ServiceLine}
+
+-- 1 to 255 bytes, the first neither `#` nor `%`
+abbrev pub is_name : List ℕ → Bool
+is_name word = (nat_lt 0 (length word) && nat_le (length word) 255) && (not (slice_index word 0 == 35) && not (slice_index word 0 == 37))
+
+-- the name that a word is
+unfoldable pub name_of : List ℕ → Option (List ℕ)
+name_of word = if is_name word then text_in word else None
+
+-- the kind that a word names
+unfoldable pub kind_of : List ℕ → Option Kind
+kind_of word = if bytes_eq word (codes "plain") then Some Plain else (if bytes_eq word (codes "notify") then Some Notifying else None)
+
+-- all of them, where each is there
+abbrev pub all_some : {A : Type 0} → List (Option A) → Option (List A)
+all_some [] = Some []
+all_some (o ∷ os) = o >>= λ x. all_some os >>= λ xs. Some (x ∷ xs)
+
+-- service numbers joined by commas
+unfoldable pub numbers_of : List ℕ → Option (List ℕ)
+numbers_of word = all_some (map (number_of (2 ^ 32)) (slice_split (λ b. b == 44) word))
+
+-- 1 to 4,096 bytes
+abbrev pub is_address : List ℕ → Bool
+is_address word = nat_lt 0 (length word) && nat_le (length word) 4096
+
+-- the address that a word is
+unfoldable pub address_of : List ℕ → Option (List ℕ)
+address_of word = if is_address word then text_in word else None
+
+-- the service with its dependencies, where it has none yet
+unfoldable pub with_after : ServiceLine → List ℕ → Option ServiceLine
+with_after s value = if is_none s.after then option_map (λ numbers. record s { after = Some numbers }) (numbers_of value) else None
+
+-- the service with its address, where it has none yet
+unfoldable pub with_tcp : ServiceLine → List ℕ → Option ServiceLine
+with_tcp s value = if is_none s.tcp then option_map (λ address. record s { tcp = Some address }) (address_of value) else None
+
+-- the service with one more item
+unfoldable pub with_item : ServiceLine → List ℕ → List ℕ → Option ServiceLine
+with_item s key value = if bytes_eq key (codes "after") then with_after s value else (if bytes_eq key (codes "tcp") then with_tcp s value else None)
+
+-- the items of a line are pairs of words
+unfoldable pub with_items : ServiceLine → List (List ℕ) → Option ServiceLine
+with_items s [] = Some s
+with_items s (key ∷ []) = None
+with_items s (key ∷ value ∷ more) = with_item s key value >>= λ t. with_items t more
+
+-- a service without items
+abbrev pub bare : List ℕ → Kind → ServiceLine
+bare name kind = record { name = name; kind = kind; after = None; tcp = None }
+
+-- the service that the words of a line say
+unfoldable pub service_of : List (List ℕ) → Option ServiceLine
+service_of [] = None
+service_of (name ∷ []) = None
+service_of (name ∷ kind ∷ items) = name_of name >>= λ n. kind_of kind >>= λ k. with_items (bare n k) items
+
+-- what a step made, where it was taken
+abbrev pub Takes : Bool → Option ServiceLine → ServiceLine → Type 0
+Takes true made now = made ≡ Some now
+Takes false made now = made ≡ None

@@ -1,0 +1,90 @@
+//! What a line says as an event.
+
+ghost use Rattle.std.specs.Prelude.{◌≡◌, ◌^◌};
+ghost use Rattle.std.specs.Option.{option_copied, option_map};
+ghost use Rattle.svc_text.specs.Words.{words, number_of};
+ghost use Rattle.svc_text.specs.EventLines.{only_of, three_of, signal_of, ready_of, bound_of, signalled_of, event_of};
+
+use crate::cuts::split_word;
+use crate::numbers::{number, number32};
+use svc_record::{Event, ShutdownSignal};
+
+#[tactic(auto, unfolding(crate::specs::EventLines::signal_of))]
+fn signal_of(word: &[u8]) -> Option<ShutdownSignal>
+    ensures { result ≡ signal_of word.now }
+{
+    if word == b"fast".as_slice() {
+        Some(ShutdownSignal::FastShutdown)
+    } else {
+        None
+    }
+}
+
+/// The only word of a line.
+#[tactic(auto, unfolding(crate::specs::EventLines::only_of))]
+fn only_of(line: &[u8]) -> Option<&[u8]>
+    ensures { option_copied result ≡ only_of (words line.now) }
+{
+    let (word, rest) = split_word(line)?;
+    match split_word(rest) {
+        None => Some(word),
+        Some(_) => None,
+    }
+}
+
+/// The three words of a line.
+#[tactic(auto, unfolding(crate::specs::EventLines::three_of))]
+fn three_of(line: &[u8]) -> Option<(&[u8], &[u8], &[u8])>
+    ensures { option_map (λ w. (w.0.now, w.1.now, w.2.now)) result ≡ three_of (words line.now) }
+{
+    let (first, rest) = split_word(line)?;
+    let (second, rest) = split_word(rest)?;
+    let (third, rest) = split_word(rest)?;
+    match split_word(rest) {
+        None => Some((first, second, third)),
+        Some(_) => None,
+    }
+}
+
+#[tactic(auto, unfolding(crate::specs::EventLines::ready_of))]
+fn ready_of(args: &[u8]) -> Option<Event>
+    ensures { result ≡ ready_of (words args.now) }
+{
+    let word = only_of(args)?;
+    Some(Event::Ready(number32(word)?))
+}
+
+#[tactic(auto, unfolding(crate::specs::EventLines::bound_of))]
+fn bound_of(args: &[u8]) -> Option<Event>
+    ensures { result ≡ bound_of (words args.now) }
+{
+    let (service, endpoint, descriptor) = three_of(args)?;
+    let service = number32(service)?;
+    let endpoint = number32(endpoint)?;
+    Some(Event::Bound(service, endpoint, number(descriptor)?))
+}
+
+#[tactic(auto, unfolding(crate::specs::EventLines::signalled_of))]
+fn signalled_of(args: &[u8]) -> Option<Event>
+    ensures { result ≡ signalled_of (words args.now) }
+{
+    let word = only_of(args)?;
+    Some(Event::Signal(signal_of(word)?))
+}
+
+/// The event that a line says.
+#[tactic(auto, unfolding(crate::specs::EventLines::event_of))]
+pub fn event_of_line(line: &[u8]) -> Option<Event>
+    ensures { result ≡ event_of (words line.now) }
+{
+    let (key, args) = split_word(line)?;
+    if key == b"ready".as_slice() {
+        ready_of(args)
+    } else if key == b"bound".as_slice() {
+        bound_of(args)
+    } else if key == b"signal".as_slice() {
+        signalled_of(args)
+    } else {
+        None
+    }
+}

@@ -1,0 +1,24 @@
+//! The script that a run is read from, and the text of its record.
+#![tactic(auto)]
+
+mod cuts;
+mod event_lines;
+mod lists;
+mod numbers;
+mod parsing;
+mod part;
+mod plan;
+mod printing;
+mod reading;
+mod service;
+
+pub use cuts::{split_line, split_word};
+pub use event_lines::event_of_line;
+pub use numbers::number;
+pub use parsing::{Script, ScriptError, parse};
+pub use plan::plan_of;
+pub use printing::{one_record, record_text};
+pub use service::ServiceLine;
+
+#[cfg(test)]
+mod tests;

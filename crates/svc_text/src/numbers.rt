@@ -1,0 +1,37 @@
+//! Numbers as texts have them.
+
+ghost use Rattle.std.specs.Prelude.{◌≡◌, ◌^◌};
+ghost use Rattle.svc_text.specs.Words.{has_spare_front, number_of};
+
+use std::str;
+
+fn has_spare_front(word: &[u8]) -> bool
+    ensures { result ≡ has_spare_front word.now }
+{
+    match word {
+        [b'+', ..] => true,
+        [b'0', ..] => word.len() > 1,
+        _ => false,
+    }
+}
+
+/// The number that a word spells: in decimal, without a sign or a leading zero.
+pub fn number(word: &[u8]) -> Option<u64>
+    ensures { result ≡ number_of (2 ^ 64) word.now }
+{
+    if has_spare_front(word) {
+        return None;
+    }
+    match str::from_utf8(word) {
+        Ok(text) => text.parse::<u64>().ok(),
+        Err(_) => None,
+    }
+}
+
+/// The same for numbers of 32 bits.
+#[tactic(auto, unfolding(crate::specs::Words::number_of))]
+pub(crate) fn number32(word: &[u8]) -> Option<u32>
+    ensures { result ≡ number_of (2 ^ 32) word.now }
+{
+    u32::try_from(number(word)?).ok()
+}

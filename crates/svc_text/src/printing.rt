@@ -1,0 +1,34 @@
+//! The text of a record.
+
+ghost use Rattle.std.specs.Prelude.{◌≡◌, List, All, IfOk, OnOk, string_bytes};
+ghost use Rattle.svc_record.specs.declared.entry.Entry.{Entry};
+ghost use Rattle.svc_record.specs.Text.{text_of, EntryFits};
+
+use std::alloc::Global;
+use std::fmt::Write;
+use svc_conf::NoMemory;
+use svc_record::Entry;
+
+/// The numbers of an entry are those of its types.
+fn read_entry(value: Entry)
+    ensures { EntryFits value }
+{}
+
+/// The text of a record: a line for each entry, the oldest first. Each ends with a line feed.
+pub fn record_text(alloc: Global, entries: &[Entry]) -> Result<String, NoMemory>
+    ensures text { IfOk result (λ text. string_bytes text ≡ text_of entries.now) }
+    ensures numbers { OnOk result (All EntryFits entries.now) }
+{
+    let mut text = String::new(alloc);
+    for entry in entries {
+        let value = *entry;
+        writeln!(text, "{value}")?;
+        read_entry(value);
+    }
+    Ok(text)
+}
+
+/// Two records with one text are equal.
+pub fn one_record()
+    ensures { (r q : List Entry) → All EntryFits r → All EntryFits q → text_of r ≡ text_of q → r ≡ q }
+{}

@@ -1,0 +1,192 @@
+//! The lines of a script, one after the other.
+
+ghost use Rattle.std.specs.Prelude.{◌≡◌, ◌+◌, ◌++◌, ◌==◌, [], ◌∷◌, nat_eq, OnOk, is_some, if◌then◌else◌};
+ghost use Rattle.std.specs.List.{list_any};
+ghost use Rattle.std.specs.Str.{is_utf8};
+ghost use Rattle.svc_text.specs.declared.part.Part.TheVariants.{Nothing};
+ghost use Rattle.svc_text.specs.Outcome.{After, Tests};
+ghost use Rattle.std.specs.Option.{option_to_list};
+ghost use Rattle.svc_text.specs.EventLines.{event_of};
+ghost use Rattle.svc_text.specs.Words.{words};
+ghost use Rattle.svc_text.specs.ServiceLines.{service_of};
+ghost use Rattle.svc_text.specs.Script.{part_number, is_skipped, is_free, is_next, has_address, says_item, line_fits};
+
+use crate::cuts::split_word;
+use crate::event_lines::event_of_line;
+use crate::part::{Part, header_of};
+use crate::service::{ServiceLine, service_of_line};
+use std::alloc::{AllocFailed, Global};
+use std::str;
+use svc_conf::{NoMemory, Text};
+use svc_record::Event;
+
+/// Why a line wasn't taken.
+#[derive(Clone, Copy, Debug, PartialEq, Eq)]
+pub enum LineError {
+    Refused,
+    NoMemory,
+}
+
+impl From<NoMemory> for LineError {
+    ghost use Rattle.svc_text.specs.declared.reading.LineError.TheVariants.{NoMemory};
+
+    ghost from_gives = { λ _ e. e ≡ NoMemory };
+
+    fn from(_: NoMemory) -> Self {
+        LineError::NoMemory
+    }
+}
+
+impl<T: Drop> From<AllocFailed<T>> for LineError {
+    ghost use Rattle.svc_text.specs.declared.reading.LineError.TheVariants.{NoMemory};
+
+    ghost from_gives = { λ _ e. e ≡ NoMemory };
+
+    fn from(_: AllocFailed<T>) -> Self {
+        LineError::NoMemory
+    }
+}
+
+/// What the lines so far said.
+#[derive(Debug, Drop)]
+pub struct Reading {
+    pub part: Part,
+    pub services: Vec<ServiceLine>,
+    pub events: Vec<Event>,
+}
+
+#[tactic(auto, unfolding(crate::specs::Script::is_skipped))]
+fn is_skipped(line: &[u8]) -> bool
+    ensures { result ≡ is_skipped (words line.now) }
+{
+    match split_word(line) {
+        None => true,
+        Some((word, _)) => matches!(word.first(), Some(b'#')),
+    }
+}
+
+fn is_text(line: &[u8]) -> bool
+    ensures { result ≡ is_utf8 line.now }
+{
+    match str::from_utf8(line) {
+        Ok(_) => true,
+        Err(_) => false,
+    }
+}
+
+fn has_address(service: &ServiceLine, address: &Text) -> bool
+    ensures { result ≡ has_address address.now service.now }
+{
+    match &service.tcp {
+        Some(tcp) => tcp == address,
+        None => false,
+    }
+}
+
+fn has_any(services: &[ServiceLine], address: &Text) -> bool
+    ensures { result ≡ list_any (λ s. has_address address.now s) services.now }
+{
+    services.iter().any(|s| has_address(s, address))
+}
+
+#[tactic(auto, unfolding(crate::specs::Script::is_free))]
+/// No service has the address of this one yet.
+fn is_free(services: &[ServiceLine], service: &ServiceLine) -> bool
+    ensures { result ≡ is_free services.now service.now.tcp }
+{
+    match &service.tcp {
+        Some(address) => !has_any(services, address),
+        None => true,
+    }
+}
+
+impl Reading {
+    pub fn new(alloc: Global) -> Self
+        ensures part { result.part ≡ Nothing }
+        ensures services { result.services.items ≡ [] }
+        ensures events { result.events.items ≡ [] }
+    {
+        Reading {
+            part: Part::Nothing,
+            services: Vec::new(alloc),
+            events: Vec::new(alloc),
+        }
+    }
+
+    /// Begins the next part.
+    fn begin(&mut self, part: Part) -> Result<(), LineError>
+        ensures test { Tests (part_number part == part_number self.old.part + 1) result }
+        ensures ok { OnOk result (self.new ≡ record self.old { part = part }) }
+    {
+        if part.number() != self.part.number() + 1 {
+            return Err(LineError::Refused);
+        }
+        self.part = part;
+        Ok(())
+    }
+
+    #[tactic(auto, unfolding(crate::specs::Script::is_next))]
+    fn take_service(&mut self, alloc: Global, line: &[u8]) -> Result<(), LineError>
+        ensures test { Tests (is_next self.old.services.items (service_of (words line.now))) result }
+        ensures services { OnOk result (self.new.services.items ≡ self.old.services.items ++ option_to_list (service_of (words line.now))) }
+        ensures part { OnOk result (self.new.part ≡ self.old.part) }
+        ensures events { OnOk result (self.new.events.items ≡ self.old.events.items) }
+    {
+        let Some(service) = service_of_line(alloc, line)? else {
+            return Err(LineError::Refused);
+        };
+        if self.services.len() >= 1024 {
+            return Err(LineError::Refused);
+        }
+        if !is_free(&self.services, &service) {
+            return Err(LineError::Refused);
+        }
+        self.services.push(service)?;
+        Ok(())
+    }
+
+    fn take_event(&mut self, line: &[u8]) -> Result<(), LineError>
+        ensures test { Tests (is_some (event_of (words line.now))) result }
+        ensures events { OnOk result (self.new.events.items ≡ self.old.events.items ++ option_to_list (event_of (words line.now))) }
+        ensures part { OnOk result (self.new.part ≡ self.old.part) }
+        ensures services { OnOk result (self.new.services.items ≡ self.old.services.items) }
+    {
+        let Some(event) = event_of_line(line) else {
+            return Err(LineError::Refused);
+        };
+        self.events.push(event)?;
+        Ok(())
+    }
+
+    /// Takes a line that begins no part.
+    #[tactic(auto, unfolding(crate::specs::Script::says_item))]
+    fn take_item(&mut self, alloc: Global, line: &[u8]) -> Result<(), LineError>
+        ensures test { Tests (says_item (part_number self.old.part) self.old.services.items (words line.now)) result }
+        ensures part { OnOk result (self.new.part ≡ self.old.part) }
+        ensures services { OnOk result (self.new.services.items ≡ self.old.services.items ++ (if part_number self.old.part == 2 then option_to_list (service_of (words line.now)) else [])) }
+        ensures events { OnOk result (self.new.events.items ≡ self.old.events.items ++ (if part_number self.old.part == 3 then option_to_list (event_of (words line.now)) else [])) }
+    {
+        match self.part {
+            Part::Services => self.take_service(alloc, line),
+            Part::Events => self.take_event(line),
+            Part::Nothing | Part::Conf => Err(LineError::Refused),
+        }
+    }
+
+    /// Takes one more line, where it fits those before it.
+    pub fn take_line(&mut self, alloc: Global, line: &[u8]) -> Result<(), LineError>
+        ensures test { Tests (line_fits (part_number self.old.part) self.old.services.items line.now) result }
+        ensures after { OnOk result (After self.old line.now self.new) }
+    {
+        if !is_text(line) {
+            return Err(LineError::Refused);
+        }
+        if let Some(part) = header_of(line) {
+            return self.begin(part);
+        }
+        if is_skipped(line) {
+            return Ok(());
+        }
+        self.take_item(alloc, line)
+    }
+}

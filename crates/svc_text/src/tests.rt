@@ -1,0 +1,140 @@
+use super::*;
+use std::alloc::Global;
+use std::test::Fail;
+use svc_graph::Kind;
+use svc_record::{Action, Entry, Event, ExecutionPhase, ShutdownSignal};
+
+fn refused_line(alloc: Global, bytes: &[u8]) -> Option<usize> {
+    match parse(alloc, bytes) {
+        Err(ScriptError::Line(n)) => Some(n),
+        _ => None,
+    }
+}
+
+#[test]
+fn reads_a_script(rt: HostRuntime) -> Result<(), Fail> {
+    let text =
+        b"\n# first\n%conf\n# none\n\n%services\n db notify\r\n\n#x\napi\tplain tcp 127.0.0.1:80 after 0,0\nweb plain after 1 \n%events\nready 0\n\tbound 1 0 18446744073709551615\n# end\nsignal fast";
+    let script = parse(rt.alloc(), text).ok().ok_or("a script")?;
+    assert_eq!(rt; script.lines.as_slice(), [7usize, 10, 11].as_slice());
+    assert_eq!(rt;
+        script.events.as_slice(),
+        [
+            Event::Ready(0),
+            Event::Bound(1, 0, 18_446_744_073_709_551_615),
+            Event::Signal(ShutdownSignal::FastShutdown)
+        ]
+        .as_slice()
+    );
+    assert_eq!(rt; script.services.len(), 3);
+    let api = &script.services[1];
+    assert_eq!(rt; api.name.as_str(), "api");
+    assert_eq!(rt; api.kind, Kind::Plain);
+    let after = api.after.as_ref().ok_or("dependencies")?;
+    assert_eq!(rt; after.as_slice(), [0u32, 0].as_slice());
+    let tcp = api.tcp.as_ref().ok_or("an address")?;
+    assert_eq!(rt; tcp.as_str(), "127.0.0.1:80");
+    assert_eq!(rt; script.services[0].kind, Kind::Notifying);
+    assert!(rt; script.services[0].after.is_none());
+    Ok(())
+}
+
+#[test]
+fn names_the_first_refused_line(rt: HostRuntime) {
+    for (text, line) in [
+        (b"".as_slice(), 1),
+        (b"x\n%conf\n", 1),
+        (b"%services\n%conf\n%events\n", 1),
+        (b"%conf \n%services\n%events\n", 1),
+        (b"%conf\nversion: 1\n%services\n%events\n", 2),
+        (b"%conf\n%conf\n%services\n%events\n", 2),
+        (b"%conf\n# \xff\n%services\n%events\n", 2),
+        (b"%conf\n%services\na plain\n", 4),
+        (b"%conf\n%services\na\n%events\n", 3),
+        (b"%conf\n%services\na bootstrap\n%events\n", 3),
+        (b"%conf\n%services\n%a plain\n%events\n", 3),
+        (b"%conf\n%services\neager\n%events\n", 3),
+        (b"%conf\n%services\na plain undeclared\n%events\n", 3),
+        (b"%conf\n%services\na plain unix /tmp/u\n%events\n", 3),
+        (b"%conf\n%services\na plain tcp\n%events\n", 3),
+        (b"%conf\n%services\na plain tcp x tcp y\n%events\n", 3),
+        (b"%conf\n%services\na plain tcp x dscp 1\n%events\n", 3),
+        (
+            b"%conf\n%services\na plain tcp x\nb plain tcp x\n%events\n",
+            4,
+        ),
+        (b"%conf\n%services\na plain after 01\n%events\n", 3),
+        (b"%conf\n%services\na plain after 0,\n%events\n", 3),
+        (b"%conf\n%services\na plain after +1\n%events\n", 3),
+        (b"%conf\n%services\na plain after 0 after 0\n%events\n", 3),
+        (b"%conf\n%services\na plain after 4294967296\n%events\n", 3),
+        (b"%conf\n%services\n%events\nready 4294967296\n", 4),
+        (b"%conf\n%services\n%events\nready 0 1\n", 4),
+        (
+            b"%conf\n%services\n%events\nbound 0 0 18446744073709551616\n",
+            4,
+        ),
+        (b"%conf\n%services\n%events\nsignal terminate\n", 4),
+        (b"%conf\n%services\n%events\nmoment 1\n", 4),
+        (b"%conf\n%services\n%events\nfault\n", 4),
+        (b"%conf\n%services\n%events\n\nredy 0\nsignal fast\n", 5),
+        (b"%conf\n%services\n%events\n%events\n", 4),
+    ] {
+        assert_eq!(rt; refused_line(rt.alloc(), text), Some(line), "{text:?}");
+    }
+}
+
+#[test]
+fn limits_names_and_addresses(rt: HostRuntime) -> Result<(), Fail> {
+    for (name, address, line) in [(255, 4096, None), (256, 1, Some(3)), (1, 4097, Some(3))] {
+        let mut text = b"%conf\n%services\n".to_vec(rt.alloc())?;
+        text.extend_from_slice(vec![in rt.alloc(); b'n'; name]?.as_slice())?;
+        text.extend_from_slice(b" plain tcp ")?;
+        text.extend_from_slice(vec![in rt.alloc(); b'a'; address]?.as_slice())?;
+        text.extend_from_slice(b"\n%events\n")?;
+        assert_eq!(rt; refused_line(rt.alloc(), text.as_slice()), line);
+    }
+    Ok(())
+}
+
+#[test]
+fn limits_the_services(rt: HostRuntime) -> Result<(), Fail> {
+    let mut text = b"%conf\n%services\n".to_vec(rt.alloc())?;
+    for _ in 0..1024 {
+        text.extend_from_slice(b"s plain\n")?;
+    }
+    assert_eq!(rt; refused_line(rt.alloc(), text.as_slice()), Some(1027));
+    text.extend_from_slice(b"s plain\n%events\n")?;
+    assert_eq!(rt; refused_line(rt.alloc(), text.as_slice()), Some(1027));
+    Ok(())
+}
+
+#[test]
+fn prints_a_record(rt: HostRuntime) -> Result<(), Fail> {
+    let entries = [
+        Entry::Told(Action::Start(0)),
+        Entry::Told(Action::Phase(ExecutionPhase::Running, 0)),
+        Entry::Got(Event::Ready(0)),
+        Entry::Told(Action::Bind(1, 0)),
+        Entry::Got(Event::Bound(1, 0, 7)),
+        Entry::Got(Event::Signal(ShutdownSignal::FastShutdown)),
+        Entry::Told(Action::Phase(ExecutionPhase::ShutdownStarted, 0)),
+        Entry::Told(Action::Close(7)),
+        Entry::Told(Action::Stop(0)),
+    ];
+    let text = record_text(rt.alloc(), &entries)?;
+    assert_eq!(rt;
+        text.as_str(),
+        "start 0\nphase Running 0\ngot ready 0\nbind 1 0\ngot bound 1 0 7\ngot signal fast\nphase ShutdownStarted 0\nclose 7\nstop 0\n"
+    );
+    Ok(())
+}
+
+#[test]
+fn errors_have_texts(rt: HostRuntime) -> Result<(), Fail> {
+    let line = format!(in rt.alloc(); "{}", ScriptError::Line(3))?;
+    assert_eq!(rt; line.as_str(), "line 3 is refused");
+    let memory = format!(in rt.alloc(); "{}", ScriptError::NoMemory)?;
+    assert_eq!(rt; memory.as_str(), "out of memory");
+    Ok(())
+}
