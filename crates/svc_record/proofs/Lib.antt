@@ -8,3 +8,5 @@ pub mod NoServices
 pub mod ChainOfServices
 pub mod StrayEvent
 pub mod NoSignal
+pub mod Clauses
+pub mod Refused

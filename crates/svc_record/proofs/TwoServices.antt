@@ -16,23 +16,23 @@ use Rattle.svc_record.specs.Right.{Right, Served, is_right, is_served}
 use Rattle.svc_record.proofs.Sound.{right_from_test, served_from_test}
 use Rattle.svc_record.proofs.Variants.{shortened, doubled, swapped, beginnings, right_ones}
 
-abbrev pub address : List ℕ
-address = codes "127.0.0.1:80"
-
+-- a service that says when it is ready
 abbrev pub database : ServicePlan
 database = record { name = codes "db"; kind = Notifying; depends = []; declared = Some []; endpoints = [] }
 
-abbrev pub interface : ServicePlan
-interface = record { name = codes "api"; kind = Plain; depends = 0 ∷ []; declared = Some (address ∷ []); endpoints = endpoint ∷ [] }
+-- a service with one address
+abbrev pub listening : List ℕ → List ℕ → ServicePlan
+listening depends address = record { name = codes "api"; kind = Plain; depends = depends; declared = Some (address ∷ []); endpoints = endpoint ∷ [] }
   where
     endpoint : EndpointPlan
     endpoint = record { address = address; unix = false; options = []; filter = None }
 
+-- a plan of these services, and otherwise as by default
 abbrev pub plan_of : List ServicePlan → Plan
 plan_of services = record { services = services; grace = 300; stop = 5; tasks = 1; limit = 5; upgrade = false; test = false; eager = false; daemon = false; wait = false; ready_timeout = 600 }
 
 abbrev pub plan : Plan
-plan = plan_of (database ∷ interface ∷ [])
+plan = plan_of (database ∷ listening (0 ∷ []) (codes "127.0.0.1:80") ∷ [])
 
 -- the first is ready, and the second asks for its address
 abbrev pub asked : Record
