@@ -9,7 +9,7 @@ use Rattle.svc_record.specs.declared.event.ShutdownSignal.TheVariants.{FastShutd
 use Rattle.svc_record.specs.declared.action.Action.TheVariants.{Start, Phase, Stop}
 use Rattle.svc_record.specs.declared.action.ExecutionPhase.TheVariants.{Running, ShutdownStarted, ShutdownRuntimes, Terminated}
 use Rattle.svc_record.specs.Record.{Record}
-use Rattle.svc_record.specs.Right.{Right, Served, is_right, is_served}
+use Rattle.svc_record.specs.Right.{Right, Served}
 use Rattle.svc_record.proofs.Sound.{right_from_test, served_from_test}
 use Rattle.svc_record.proofs.Variants.{shortened, doubled, swapped, beginnings, right_ones}
 use Rattle.svc_record.proofs.TwoServices.{plan_of}

@@ -1,17 +1,14 @@
 -- A run whose events end before a signal: its record is right, and isn't that of a run that served; what is open is closed.
-use Rattle.std.proofs.Common.{true, false, [], ◌∷◌, ◌++◌, Some, None, ◌≡◌, refl}
-use Rattle.svc_record.specs.declared.entry.Entry.TheVariants.{Got, Told}
-use Rattle.svc_record.specs.declared.event.Event.TheVariants.{Ready, Bound, Signal}
-use Rattle.svc_record.specs.declared.event.ShutdownSignal.TheVariants.{FastShutdown}
+use Rattle.std.proofs.Common.{true, false, [], ◌∷◌, Some, None, ◌≡◌, refl}
+use Rattle.svc_record.specs.declared.event.Event.TheVariants.{Bound}
 use Rattle.svc_record.specs.declared.action.Action.TheVariants.{Start, Close}
 use Rattle.svc_record.specs.declared.action.StepEnd.TheVariants.{On}
 use Rattle.svc_record.specs.Ends.{step_end}
-use Rattle.svc_record.specs.Fits.{fits}
-use Rattle.svc_record.specs.Right.{Right, is_right, is_served}
+use Rattle.svc_record.specs.Right.{Right, is_served}
 use Rattle.svc_record.specs.Tail.{closing_actions, tail_right}
 use Rattle.svc_record.proofs.Sound.{right_from_test}
-use Rattle.svc_record.proofs.TwoServices.{plan, asked, bound, run}
-use Rattle.svc_record.proofs.Variants.{shortened, doubled, swapped, beginnings, right_ones}
+use Rattle.svc_record.proofs.TwoServices.{plan, bound, run}
+use Rattle.svc_record.proofs.Variants.{shortened, doubled, swapped, right_ones}
 
 right : Right plan bound
 right = right_from_test plan bound refl

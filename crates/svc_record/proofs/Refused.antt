@@ -1,8 +1,6 @@
 -- Records that no server leaves: each is refused, by the clauses that say why.
-use Rattle.std.proofs.Common.{ℕ, List, [], ◌∷◌, ◌++◌, Some, None, codes, ◌≡◌, refl}
-use Rattle.svc_graph.specs.declared.plan.Kind.TheVariants.{Notifying, Plain}
+use Rattle.std.proofs.Common.{ℕ, [], ◌∷◌, ◌++◌, codes, ◌≡◌, refl}
 use Rattle.svc_record.specs.declared.plan.Plan.{Plan}
-use Rattle.svc_record.specs.declared.plan.ServicePlan.{ServicePlan}
 use Rattle.svc_record.specs.declared.entry.Entry.TheVariants.{Got, Told}
 use Rattle.svc_record.specs.declared.event.Event.TheVariants.{Ready, Bound, Signal}
 use Rattle.svc_record.specs.declared.event.ShutdownSignal.TheVariants.{FastShutdown}
@@ -11,7 +9,7 @@ use Rattle.svc_record.specs.declared.action.ExecutionPhase.TheVariants.{Setup, B
 use Rattle.svc_record.specs.declared.action.StepEnd.TheVariants.{On}
 use Rattle.svc_record.specs.Record.{Record}
 use Rattle.svc_record.specs.Ends.{step_end}
-use Rattle.svc_record.proofs.Clauses.{Clause, EventFits, StartInTurn, AskInTurn, CloseOnce, Moment, StartKnown, AskKnown, Beginning, Closes, OneLive, Starts, Endpoints, EndpointsLate, Phases, NoEnd, FirstToPass, AllPhases, LastActions, EndNowhereElse, AllClosed, LastStep, BeginningOfAll, IsRefusedBy}
+use Rattle.svc_record.proofs.Clauses.{EventFits, StartInTurn, AskInTurn, CloseOnce, Moment, StartKnown, AskKnown, Beginning, Closes, OneLive, Starts, Endpoints, EndpointsLate, Phases, NoEnd, FirstToPass, AllPhases, LastActions, EndNowhereElse, AllClosed, LastStep, BeginningOfAll, IsRefusedBy}
 use Rattle.svc_record.proofs.TwoServices.{plan_of, listening, database, plan, asked, bound, run}
 
 -- two services that say when they are ready, the second after the first

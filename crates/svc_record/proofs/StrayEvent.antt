@@ -1,17 +1,14 @@
 -- A run that an event ends which doesn't fit: what stands before it is right, and nothing is told of it but closes.
-use Rattle.std.proofs.Common.{true, false, [], ◌∷◌, Some, None, ◌≡◌, refl}
-use Rattle.svc_record.specs.declared.entry.Entry.TheVariants.{Got, Told}
-use Rattle.svc_record.specs.declared.event.Event.TheVariants.{Ready, Bound, Signal}
-use Rattle.svc_record.specs.declared.event.ShutdownSignal.TheVariants.{FastShutdown}
-use Rattle.svc_record.specs.declared.action.Action.TheVariants.{Close}
+use Rattle.std.proofs.Common.{true, false, [], ◌∷◌, Some, ◌≡◌, refl}
+use Rattle.svc_record.specs.declared.entry.Entry.TheVariants.{Got}
+use Rattle.svc_record.specs.declared.event.Event.TheVariants.{Ready}
 use Rattle.svc_record.specs.declared.action.StepEnd.TheVariants.{On}
 use Rattle.svc_record.specs.Ends.{step_end}
 use Rattle.svc_record.specs.Fits.{fits}
-use Rattle.svc_record.specs.Right.{Right, is_right, is_served}
+use Rattle.svc_record.specs.Right.{Right, is_right}
 use Rattle.svc_record.specs.Tail.{closing_actions, tail_right}
 use Rattle.svc_record.proofs.Sound.{right_from_test}
-use Rattle.svc_record.proofs.TwoServices.{plan, asked, bound, run}
-use Rattle.svc_record.proofs.Variants.{shortened, doubled, swapped, beginnings, right_ones}
+use Rattle.svc_record.proofs.TwoServices.{plan, asked}
 
 right : Right plan asked
 right = right_from_test plan asked refl

@@ -12,7 +12,7 @@ use Rattle.svc_record.specs.declared.action.ExecutionPhase.TheVariants.{Running,
 use Rattle.svc_record.specs.declared.action.StepEnd.TheVariants.{Served as HasServed}
 use Rattle.svc_record.specs.Record.{Record}
 use Rattle.svc_record.specs.Ends.{step_end}
-use Rattle.svc_record.specs.Right.{Right, Served, is_right, is_served}
+use Rattle.svc_record.specs.Right.{Right, Served}
 use Rattle.svc_record.proofs.Sound.{right_from_test, served_from_test}
 use Rattle.svc_record.proofs.Variants.{shortened, doubled, swapped, beginnings, right_ones}
 
