@@ -2,3 +2,11 @@ pub mod Sound
 pub mod Complete
 pub mod SettledPrefixes
 pub mod ClosesOnce
+pub mod Variants
+pub mod TwoServices
+pub mod NoServices
+pub mod ChainOfServices
+pub mod StrayEvent
+pub mod NoSignal
+pub mod Clauses
+pub mod Refused
