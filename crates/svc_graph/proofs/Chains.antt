@@ -1,5 +1,5 @@
 -- Chains of edges, and ranks that fall along them.
-use Rattle.std.proofs.Common.{ℕ, Bool, true, false, ◌⊎◌, inl, inr, List, [], ◌∷◌, ◌++◌, ◌≡◌, refl, ap, sym, ◌∙◌, subst, arith, ◌<◌, ◌+◌, not, if◌then◌else◌, suc, zero}
+use Rattle.std.proofs.Common.{ℕ, Bool, true, false, ◌⊎◌, inl, inr, List, [], ◌∷◌, ◌++◌, ◌≡◌, refl, sym, subst, arith, ◌<◌, ◌+◌, if◌then◌else◌, suc, zero}
 use Rattle.svc_graph.specs.Paths.{Edges, IsChain, Path, IsAcyclic}
 use Rattle.svc_graph.specs.Ranks.{IsRank}
 use Rattle.svc_graph.specs.Marks.{Divides}

@@ -1,11 +1,7 @@
 -- What the fields of a graph keep, from one change to the next.
-use Rattle.std.proofs.Common.{ℕ, Bool, true, false, ◌||◌, ◌&&◌, ◌==◌, ◌⊎◌, inl, inr, List, [], ◌∷◌, ◌++◌, ◌≡◌, ◌≢◌, refl, sym, ◌∙◌, subst, ap, arith, ◌<◌, ◌≤◌, ◌+◌, nat_lt, length, length-set, slice_set, slice_index_or, get_or}
-use Rattle.std.specs.Prelude.{All}
-use Rattle.std.specs.List.{list_any}
-use Rattle.std.proofs.lemmas.Bool.{ltb-true, lt-ltb, le-ltb, and_from, or_cases, or_left, or_right, eq-eqb, eqb-true, cases_eq, cases_Bool, ne_eqb}
+use Rattle.std.proofs.Common.{ℕ, Bool, true, ◌⊎◌, inl, inr, List, [], ◌∷◌, ◌++◌, ◌≡◌, ◌≢◌, refl, sym, ◌∙◌, subst, ap, arith, ◌<◌, nat_lt, length, length-set, slice_set}
+use Rattle.std.proofs.lemmas.Bool.{ltb-true, lt-ltb, le-ltb, cases_eq}
 use Rattle.std.proofs.lemmas.List.{get_or-set_other, get_or-set_same}
-use Rattle.std.proofs.lemmas.List.Elements.{All-append}
-use Rattle.std.proofs.lemmas.List.Folds.{list_any-append}
 use Rattle.svc_graph.specs.Paths.{Path}
 use Rattle.svc_graph.specs.GraphData.{GraphData}
 use Rattle.svc_graph.specs.Graphs.{row_of, is_in_row, is_listed, IsGraph}

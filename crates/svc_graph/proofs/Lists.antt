@@ -1,7 +1,6 @@
 -- Lists of nodes, and marks.
-use Rattle.std.proofs.Common.{ℕ, Bool, true, false, ◌||◌, ◌==◌, not, ◌⊎◌, inl, inr, List, [], ◌∷◌, ◌++◌, ◌≡◌, ◌≢◌, refl, sym, ◌∙◌, subst, arith, ◌<◌, ◌+◌, length, count_by, cond, slice_index_or, slice_set, get_or, take, drop, suc, zero}
+use Rattle.std.proofs.Common.{ℕ, Bool, true, false, ◌||◌, ◌==◌, not, ◌⊎◌, inl, inr, List, [], ◌∷◌, ◌++◌, ◌≡◌, refl, sym, ◌∙◌, subst, arith, ◌<◌, ◌+◌, length, count_by, cond, slice_index_or, slice_set, get_or, take, drop, suc, zero}
 use Rattle.std.specs.Prelude.{All}
-use Rattle.std.specs.List.{list_any, list_all}
 use Rattle.std.proofs.lemmas.Bool.{or_cases, or_left, or_right, eqb-true, eq-eqb, cases_eq}
 use Rattle.std.proofs.lemmas.List.{get_or-set_other, get_or-set_same, get_or_read}
 use Rattle.std.proofs.Math.Seq.{take-append_seam}

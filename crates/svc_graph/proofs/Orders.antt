@@ -1,8 +1,7 @@
 -- Listing the least node that is due.
-use Rattle.std.proofs.Common.{ℕ, Bool, true, false, ◌||◌, ◌&&◌, ◌==◌, ◌⊎◌, inl, inr, List, [], ◌∷◌, ◌++◌, ◌≡◌, refl, sym, ◌∙◌, subst, arith, ◌<◌, ◌≤◌, ◌+◌, length, length-append, take, slice_index, slice_set, get_or}
+use Rattle.std.proofs.Common.{ℕ, Bool, true, false, ◌||◌, ◌==◌, inl, inr, List, [], ◌∷◌, ◌++◌, ◌≡◌, refl, sym, ◌∙◌, subst, arith, ◌<◌, length, length-append, take, slice_index, slice_set}
 use Rattle.std.specs.Prelude.{All}
-use Rattle.std.specs.List.{list_any, list_all}
-use Rattle.std.proofs.lemmas.Bool.{and_cases, or_left, or_right, eqb-true, eq-eqb, ne_eqb, cases_eq, cases_Bool, true_from_ne_false}
+use Rattle.std.proofs.lemmas.Bool.{and_cases, or_left, or_right, eq-eqb, ne_eqb, cases_eq, cases_Bool, true_from_ne_false}
 use Rattle.std.proofs.lemmas.List.{get_or-set_other, get_or-set_same, take-append-le, get_or_append_left}
 use Rattle.std.proofs.Math.Seq.{get_or-append_seam, take-append_seam}
 use Rattle.std.proofs.lemmas.List.Folds.{list_any-append}

@@ -1,6 +1,5 @@
 -- A search along edges.
-use Rattle.std.proofs.Common.{ℕ, Bool, true, false, ◌⊎◌, inl, inr, List, [], ◌∷◌, ◌++◌, ◌≡◌, refl, ap, sym, ◌∙◌, subst, arith, ◌<◌, ◌+◌, length, length-append, count_by, not, slice_set}
-use Rattle.svc_graph.specs.Paths.{Path}
+use Rattle.std.proofs.Common.{ℕ, Bool, true, false, inl, inr, List, [], ◌∷◌, ◌++◌, ◌≡◌, refl, sym, subst, arith, ◌<◌, length, length-append, slice_set}
 use Rattle.svc_graph.specs.Graphs.{is_in_row, is_listed, row_of}
 use Rattle.svc_graph.specs.Marks.{is_marked, Marked, Searched, Divides}
 use Rattle.svc_graph.proofs.Lists.{listed_push, listed_before, listed_last, marked_set, marked_set_same, marked_set_kept, unmarked_set, marked_inside}

@@ -1,7 +1,7 @@
 -- The edges of a graph, what every graph keeps, and the startup order of its nodes.
-use Rattle.std.specs.Prelude.{ℕ, Bool, true, false, ◌≡◌, ◌<◌, ◌≤◌, ◌+◌, ◌==◌, ◌⊎◌, List, [], ◌∷◌, ◌++◌, length, take, All, slice_index, slice_index_or, slice_set, if◌then◌else◌}
+use Rattle.std.specs.Prelude.{ℕ, Bool, true, false, ◌≡◌, ◌<◌, ◌≤◌, ◌==◌, ◌⊎◌, List, [], ◌∷◌, ◌++◌, length, take, All, slice_index, slice_index_or, slice_set, if◌then◌else◌}
 use Rattle.std.specs.List.{list_any}
-use Rattle.svc_graph.specs.Paths.{Edges, Path, IsAcyclic}
+use Rattle.svc_graph.specs.Paths.{Path, IsAcyclic}
 use Rattle.svc_graph.specs.GraphData.{GraphData}
 
 -- the nodes in the row of a, where each node has a row

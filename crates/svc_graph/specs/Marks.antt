@@ -1,6 +1,6 @@
 -- Nodes that are marked, by number, and what a search has left open.
-use Rattle.std.specs.Prelude.{ℕ, Bool, true, false, ◌≡◌, ◌<◌, ◌≤◌, ◌+◌, ◌==◌, ◌⊎◌, not, List, length, All, count_by, slice_index_or}
-use Rattle.std.specs.List.{list_any, list_all}
+use Rattle.std.specs.Prelude.{ℕ, Bool, true, false, ◌≡◌, ◌<◌, ◌+◌, ◌⊎◌, not, List, length, All, count_by, slice_index_or}
+use Rattle.std.specs.List.{list_all}
 use Rattle.svc_graph.specs.Paths.{Edges, Path}
 use Rattle.svc_graph.specs.Graphs.{row_of, is_in_row, is_listed}
 
