@@ -10,3 +10,5 @@ pub mod StrayEvent
 pub mod NoSignal
 pub mod Clauses
 pub mod Refused
+pub mod Tallies
+pub mod Closing

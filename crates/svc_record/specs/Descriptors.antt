@@ -37,7 +37,7 @@ has_number fd d = d.number == fd
 abbrev pub is_opened : Plan → Record → ℕ → Bool
 is_opened p q fd = list_any (has_number fd) (opened_descriptors p q)
 
--- the numbers that an entry brought, and that the record brought
+-- the numbers that an entry brings
 abbrev pub numbers_of : Entry → List ℕ
 numbers_of (Got (Bound s i fd)) = fd ∷ []
 numbers_of _ = []

@@ -87,7 +87,7 @@ same_marks _ _ = false
 abbrev pub phases_right : Plan → Record → Bool
 phases_right p q = same_marks (told_marks q) (due_marks p q)
 
--- a phase carries its moment; bootstrap's two aside, and with them
+-- a phase carries its moment, bootstrap's two aside
 abbrev pub moment_right : Entry → Record → Bool
 moment_right (Told (Phase x ms)) before = is_boot_phase x || ms == now before
 moment_right _ before = true

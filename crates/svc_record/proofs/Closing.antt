@@ -1,0 +1,171 @@
+-- What is told to close a run that didn't serve closes each number that an event brought, once.
+use Rattle.std.proofs.Common.{ℕ, Bool, true, false, not, ◌==◌, ◌||◌, ◌&&◌, ◌+◌, ◌++◌, ◌≡◌, List, [], ◌∷◌, Option, Some, None, map, filter, cond, if◌then◌else◌, refl, sym, ap, ap₂, subst, ◌∙◌, append-nil, eqb-true, eq-eqb, zero-add, arith}
+use Rattle.std.proofs.lemmas.Bool.{false≢true, not-true}
+use Rattle.std.proofs.lemmas.List.Folds.{list_any-append}
+use Rattle.std.specs.List.{list_any}
+use Rattle.svc_record.specs.declared.plan.Plan.{Plan}
+use Rattle.svc_record.specs.declared.entry.Entry.TheVariants.{Got, Told}
+use Rattle.svc_record.specs.declared.event.Event.{Event}
+use Rattle.svc_record.specs.declared.event.Event.TheVariants.{Ready, Bound, Signal}
+use Rattle.svc_record.specs.declared.action.Action.{Action}
+use Rattle.svc_record.specs.declared.action.Action.TheVariants.{Close}
+use Rattle.svc_record.specs.Record.{Record, has, times, tell, EachEntry}
+use Rattle.svc_record.specs.Descriptors.{Descriptor, opened_descriptors, is_opened, has_number, is_close, numbers_of, brings}
+use Rattle.svc_record.specs.Closes.{close_once}
+use Rattle.svc_record.specs.Drain.{ascending, live_numbers}
+use Rattle.svc_record.specs.Fits.{event_fits, fits, is_new}
+use Rattle.svc_record.specs.Asks.{is_bind_open}
+use Rattle.svc_record.specs.Ends.{has_ended}
+use Rattle.svc_record.specs.Right.{Right}
+use Rattle.svc_record.specs.Tail.{numbers_in, with_event, each_once, new_numbers, closing_actions, is_of, tail_right}
+use Rattle.svc_record.proofs.Sound.{both}
+use Rattle.svc_record.proofs.Complete.{and, or_left, or_right}
+use Rattle.svc_record.proofs.ClosesOnce.{closed_once, closed_was_opened}
+use Rattle.svc_record.proofs.Tallies.{one_if, if_kept, tally, is_in, tally-ascending, tally-filter, tally-each_once, is_in-same, is_in-filter, is_in-each_once, each_in}
+
+-- the numbers that were opened are those that the events brought
+pub numbers-opened : (p : Plan) (q : Record) → map (λ (d : Descriptor). d.number) (opened_descriptors p q) ≡ numbers_in q
+numbers-opened p [] = refl
+numbers-opened p (Got (Bound s i fd) ∷ before) = ap (λ ns. fd ∷ ns) (numbers-opened p before)
+numbers-opened p (Got (Ready s) ∷ before) = numbers-opened p before
+numbers-opened p (Got (Signal kind) ∷ before) = numbers-opened p before
+numbers-opened p (Told a ∷ before) = numbers-opened p before
+
+any-number : (fd : ℕ) (ds : List Descriptor) → list_any (has_number fd) ds ≡ is_in fd (map (λ (d : Descriptor). d.number) ds)
+any-number fd [] = refl
+any-number fd (d ∷ ds) = ap (λ b. (d.number == fd) || b) (any-number fd ds)
+
+pub is_opened-in : (p : Plan) (q : Record) (fd : ℕ) → is_opened p q fd ≡ is_in fd (numbers_in q)
+is_opened-in p q fd = any-number fd (opened_descriptors p q) ∙ ap (is_in fd) (numbers-opened p q)
+
+pub brings-in : (q : Record) (fd : ℕ) → has (brings fd) q ≡ is_in fd (numbers_in q)
+brings-in [] fd = refl
+brings-in (e ∷ before) fd = ap (λ b. brings fd e || b) (brings-in before fd) ∙ sym (list_any-append (λ n. n == fd) (numbers_of e) (numbers_in before))
+
+fresh : (s i : Bool) (k : ℕ) → (s ≡ true → i ≡ false) → k ≡ one_if i → one_if s + k ≡ one_if (s || i)
+fresh true i k f e = ap (λ x. 1 + x) (e ∙ ap one_if (f refl))
+fresh false i k f e = zero-add k ∙ e
+
+is_fresh : (p : Plan) (before : Record) (s i n : ℕ) → fits p before (Bound s i n) ≡ true → is_in n (numbers_in before) ≡ false
+is_fresh p before s i n e = let h = both (not (has_ended p before)) (is_bind_open before s i && is_new before n) e in
+    let k = both (is_bind_open before s i) (is_new before n) h.1 in sym (brings-in before n) ∙ not-true (has (brings n) before) k.1
+
+-- where events fit, each number came once
+pub came_once : (p : Plan) (q : Record) (fd : ℕ) → EachEntry (λ e before. event_fits p e before ≡ true) q → tally fd (numbers_in q) ≡ one_if (is_in fd (numbers_in q))
+came_once p [] fd h = refl
+came_once p (Got (Bound s i n) ∷ before) fd h = fresh (n == fd) (is_in fd (numbers_in before)) (tally fd (numbers_in before))
+    (λ same. subst (λ m. is_in m (numbers_in before) ≡ false) (eqb-true n fd same) (is_fresh p before s i n h.0)) (came_once p before fd h.1)
+came_once p (Got (Ready s) ∷ before) fd h = came_once p before fd h.1
+came_once p (Got (Signal kind) ∷ before) fd h = came_once p before fd h.1
+came_once p (Told a ∷ before) fd h = came_once p before fd h.1
+
+filter-numbers : (test : ℕ → Bool) (ds : List Descriptor) → map (λ (d : Descriptor). d.number) (filter (λ (d : Descriptor). test d.number) ds) ≡ filter test (map (λ (d : Descriptor). d.number) ds)
+filter-numbers test [] = refl
+filter-numbers test (d ∷ ds) = by_test (test d.number) (filter-numbers test ds)
+  where
+    by_test : (b : Bool) → map (λ (x : Descriptor). x.number) (filter (λ (x : Descriptor). test x.number) ds) ≡ filter test (map (λ (x : Descriptor). x.number) ds) →
+        map (λ (x : Descriptor). x.number) (cond b (d ∷ filter (λ (x : Descriptor). test x.number) ds) (filter (λ (x : Descriptor). test x.number) ds))
+        ≡ cond b (d.number ∷ filter test (map (λ (x : Descriptor). x.number) ds)) (filter test (map (λ (x : Descriptor). x.number) ds))
+    by_test true e = ap (λ ns. d.number ∷ ns) e
+    by_test false e = e
+
+-- the live ones are those that came and have no close
+pub live-numbers : (p : Plan) (q : Record) → live_numbers p q ≡ filter (λ n. not (has (is_close n) q)) (numbers_in q)
+live-numbers p q = filter-numbers (λ n. not (has (is_close n) q)) (opened_descriptors p q) ∙ ap (filter (λ n. not (has (is_close n) q))) (numbers-opened p q)
+
+pub tell-append : (q : Record) (xs ys : List Action) → tell q (xs ++ ys) ≡ tell (tell q xs) ys
+tell-append q [] ys = refl
+tell-append q (a ∷ xs) ys = tell-append (Told a ∷ q) xs ys
+
+one_more : (s : Bool) (k t r : ℕ) → k ≡ t + (if s then r + 1 else r) → k ≡ (one_if s + t) + r
+one_more true k t r e = omega (arith, e)
+one_more false k t r e = omega (arith, e)
+
+pub times-closes : (fd : ℕ) (ns : List ℕ) (q : Record) → times (is_close fd) (tell q (map Close ns)) ≡ tally fd ns + times (is_close fd) q
+times-closes fd [] q = sym (zero-add (times (is_close fd) q))
+times-closes fd (n ∷ more) q = one_more (n == fd) _ (tally fd more) (times (is_close fd) q) (times-closes fd more (Told (Close n) ∷ q))
+
+closes_of : (among ns : List ℕ) (more : List Action) → ((fd : ℕ) → is_in fd ns ≡ true → is_in fd among ≡ true) → is_of among more ≡ true → is_of among (map Close ns ++ more) ≡ true
+closes_of among [] more f e = e
+closes_of among (n ∷ ns) more f e = and (is_in n among) (is_of among (map Close ns ++ more)) (f n (or_left (n == n) (is_in n ns) (eq-eqb n n refl)))
+    (closes_of among ns more (λ fd h. f fd (or_right (n == fd) (is_in fd ns) h)) e)
+
+-- the numbers that the unfinished event brought
+abbrev event_numbers : Option Event → List ℕ
+event_numbers (Some e) = numbers_of (Got e)
+event_numbers None = []
+
+sum : (b c m : Bool) → (c ≡ true → b ≡ true) → (m || b) ≡ true → one_if (not b && m) + (if_kept (not c) (one_if b) + one_if c) ≡ 1
+sum true true m f e = refl
+sum true false m f e = refl
+sum false true m f e = absurd (false≢true (f refl))
+sum false false true f e = refl
+sum false false false f e = absurd (false≢true e)
+
+new-numbers : (q : Record) (also : Option Event) → new_numbers q also ≡ each_once (filter (λ n. not (has (brings n) q)) (event_numbers also))
+new-numbers q (Some e) = refl
+new-numbers q None = refl
+
+numbers-with : (q : Record) (also : Option Event) → numbers_in (with_event also q) ≡ event_numbers also ++ numbers_in q
+numbers-with q (Some e) = refl
+numbers-with q None = refl
+
+times-with : (fd : ℕ) (q : Record) (also : Option Event) → times (is_close fd) (with_event also q) ≡ times (is_close fd) q
+times-with fd q (Some e) = refl
+times-with fd q None = refl
+
+-- a number that came is among those of the event, or came before
+in_either : (q : Record) (also : Option Event) (fd : ℕ) → is_in fd (numbers_in (with_event also q)) ≡ (is_in fd (event_numbers also) || is_in fd (numbers_in q))
+in_either q also fd = ap (is_in fd) (numbers-with q also) ∙ list_any-append (λ n. n == fd) (event_numbers also) (numbers_in q)
+
+in_new : (q : Record) (also : Option Event) (fd : ℕ) → is_in fd (new_numbers q also) ≡ (not (has (brings fd) q) && is_in fd (event_numbers also))
+in_new q also fd = ap (is_in fd) (new-numbers q also)
+    ∙ (is_in-each_once fd (filter (λ n. not (has (brings n) q)) (event_numbers also)) ∙ is_in-filter fd (λ n. not (has (brings n) q)) (event_numbers also))
+
+in_live : (p : Plan) (q : Record) (fd : ℕ) → is_in fd (ascending (live_numbers p q)) ≡ (not (has (is_close fd) q) && is_in fd (numbers_in q))
+in_live p q fd = is_in-same fd (ascending (live_numbers p q)) (live_numbers p q) (tally-ascending fd (live_numbers p q))
+    ∙ (ap (is_in fd) (live-numbers p q) ∙ is_in-filter fd (λ n. not (has (is_close n) q)) (numbers_in q))
+
+tally_new : (q : Record) (also : Option Event) (fd : ℕ) → tally fd (new_numbers q also) ≡ one_if (not (is_in fd (numbers_in q)) && is_in fd (event_numbers also))
+tally_new q also fd = ap (tally fd) (new-numbers q also) ∙ (tally-each_once fd (filter (λ n. not (has (brings n) q)) (event_numbers also))
+    ∙ (ap one_if (is_in-filter fd (λ n. not (has (brings n) q)) (event_numbers also)) ∙ ap (λ b. one_if (not b && is_in fd (event_numbers also))) (brings-in q fd)))
+
+tally_live : (p : Plan) (q : Record) (fd : ℕ) → EachEntry (λ e before. event_fits p e before ≡ true) q → tally fd (ascending (live_numbers p q)) ≡ if_kept (not (has (is_close fd) q)) (one_if (is_in fd (numbers_in q)))
+tally_live p q fd fit = tally-ascending fd (live_numbers p q) ∙ (ap (tally fd) (live-numbers p q)
+    ∙ (tally-filter fd (λ n. not (has (is_close n) q)) (numbers_in q) ∙ ap (if_kept (not (has (is_close fd) q))) (came_once p q fd fit)))
+
+times_told : (p : Plan) (q : Record) (also : Option Event) (fd : ℕ) → times (is_close fd) (tell (with_event also q) (closing_actions p q also))
+    ≡ tally fd (new_numbers q also) + (tally fd (ascending (live_numbers p q)) + times (is_close fd) q)
+times_told p q also fd = let live = ascending (live_numbers p q) in let from = with_event also q in
+    ap (times (is_close fd)) (tell-append from (map Close live) (map Close (new_numbers q also)))
+    ∙ (times-closes fd (new_numbers q also) (tell from (map Close live))
+    ∙ ap (λ k. tally fd (new_numbers q also) + k) (times-closes fd live from ∙ ap (λ k. tally fd live + k) (times-with fd q also)))
+
+-- each number that came then has one close
+pub all_closed : (p : Plan) (q : Record) (also : Option Event) (fd : ℕ) → EachEntry (λ e before. event_fits p e before ≡ true) q → EachEntry (λ e before. close_once p e before ≡ true) q →
+    is_in fd (numbers_in (with_event also q)) ≡ true → times (is_close fd) (tell (with_event also q) (closing_actions p q also)) ≡ 1
+all_closed p q also fd fit close came = times_told p q also fd ∙ (added (tally_new q also fd) (tally_live p q fd fit) (closed_once p q fd close)
+    ∙ sum (is_in fd (numbers_in q)) (has (is_close fd) q) (is_in fd (event_numbers also)) (λ c. sym (is_opened-in p q fd) ∙ closed_was_opened p q fd close c) (sym (in_either q also fd) ∙ came))
+  where
+    added : {a b c x y z : ℕ} → a ≡ x → b ≡ y → c ≡ z → a + (b + c) ≡ x + (y + z)
+    added e f g = ap₂ (λ m n. m + n) e (ap₂ (λ m n. m + n) f g)
+
+-- only such numbers are closed
+only_of : (p : Plan) (q : Record) (also : Option Event) → is_of (numbers_in (with_event also q)) (closing_actions p q also) ≡ true
+only_of p q also = closes_of _ (ascending (live_numbers p q)) _ live_came
+    (subst (λ xs. is_of (numbers_in (with_event also q)) xs ≡ true) (append-nil (map Close (new_numbers q also))) (closes_of _ (new_numbers q also) [] new_came refl))
+  where
+    live_came : (fd : ℕ) → is_in fd (ascending (live_numbers p q)) ≡ true → is_in fd (numbers_in (with_event also q)) ≡ true
+    live_came fd h = in_either q also fd ∙ or_right (is_in fd (event_numbers also)) (is_in fd (numbers_in q)) (both (not (has (is_close fd) q)) (is_in fd (numbers_in q)) (sym (in_live p q fd) ∙ h)).1
+
+    new_came : (fd : ℕ) → is_in fd (new_numbers q also) ≡ true → is_in fd (numbers_in (with_event also q)) ≡ true
+    new_came fd h = in_either q also fd ∙ or_left (is_in fd (event_numbers also)) (is_in fd (numbers_in q)) (both (not (has (brings fd) q)) (is_in fd (event_numbers also)) (sym (in_new q also fd) ∙ h)).1
+
+pub closing_right : (p : Plan) (q : Record) (also : Option Event) → EachEntry (λ e before. event_fits p e before ≡ true) q → EachEntry (λ e before. close_once p e before ≡ true) q →
+    tail_right q also (closing_actions p q also) ≡ true
+closing_right p q also fit close = and _ _ (only_of p q also)
+    (each_in (λ fd. times (is_close fd) (tell (with_event also q) (closing_actions p q also)) == 1) (numbers_in (with_event also q)) (λ fd came. eq-eqb _ _ (all_closed p q also fd fit close came)))
+
+-- after a right record the closing actions close each number that came, once
+pub right_closes : (p : Plan) (q : Record) (also : Option Event) → Right p q → tail_right q also (closing_actions p q also) ≡ true
+right_closes p q also right = closing_right p q also right.fits right.stronger.closes
