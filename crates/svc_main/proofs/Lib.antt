@@ -2,3 +2,4 @@ pub mod RunLemmas
 pub mod EndLemmas
 pub mod AnswerLemmas
 pub mod WholeLemmas
+pub mod AnswerOfStep
