@@ -1,2 +1,4 @@
 pub mod RunLemmas
 pub mod EndLemmas
+pub mod AnswerLemmas
+pub mod WholeLemmas

@@ -2,5 +2,9 @@
 #![tactic(auto)]
 
 mod outcome;
+mod program;
+mod runs;
+mod stub;
 
 pub use outcome::{RunEnd, StatusLine};
+pub use program::{one_answer, serve_script};

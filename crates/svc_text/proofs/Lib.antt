@@ -6,4 +6,6 @@ pub mod Back
 pub mod ListLemmas
 pub mod ItemLemmas
 pub mod PlaceLemmas
+pub mod AcceptLemmas
+pub mod PlanLemmas
 pub mod ScriptLemmas

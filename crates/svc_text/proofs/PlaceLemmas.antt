@@ -37,7 +37,7 @@ fits_item n ss line e h k = rw (e, h, k) refl
 
 -- ---- a skipped line says nothing
 
-skipped_service : (ws : List (List ℕ)) → is_skipped ws ≡ true → service_of ws ≡ None
+pub skipped_service : (ws : List (List ℕ)) → is_skipped ws ≡ true → service_of ws ≡ None
 unfolding is_skipped service_of name_of
 skipped_service [] h = refl
 skipped_service (w ∷ []) h = refl
@@ -56,7 +56,7 @@ skipped_event ((b ∷ w) ∷ ws) h =
     let e3 : eqb b 115 ≡ false = ap (λ (x : ℕ). eqb x 115) e in
     rw (e1, e2, e3) refl
 
-header_says : (n : ℕ) (line : List ℕ) (p : Part) → header_of line ≡ Some p → (said_services n line ≡ []) × (said_events n line ≡ [])
+pub header_says : (n : ℕ) (line : List ℕ) (p : Part) → header_of line ≡ Some p → (said_services n line ≡ []) × (said_events n line ≡ [])
 unfolding said_services said_events
 header_says n line p h =
     let t : is_header line ≡ true = rw h refl in
@@ -64,7 +64,7 @@ header_says n line p h =
     let b : ((n == 3) && not (is_header line)) ≡ false = and_right (n == 3) _ (ap not t) in
     (rw a refl, rw b refl)
 
-item_says : (n : ℕ) (line : List ℕ) → header_of line ≡ None
+pub item_says : (n : ℕ) (line : List ℕ) → header_of line ≡ None
     → (said_services n line ≡ cond (n == 2) (option_to_list (service_of (words line))) []) × (said_events n line ≡ cond (n == 3) (option_to_list (event_of (words line))) [])
 unfolding said_services said_events
 item_says n line h =

@@ -17,6 +17,8 @@ use Rattle.svc_text.specs.ServiceLines.{service_of}
 use Rattle.svc_text.specs.declared.reading.Reading.{Reading}
 use Rattle.svc_text.specs.declared.part.Part.TheVariants.{Nothing}
 use Rattle.svc_text.specs.Outcome.{After}
+use Rattle.svc_text.specs.Accepted.{AreAccepted}
+use Rattle.svc_text.proofs.AcceptLemmas.{accepted_none, accepted_line}
 use Rattle.std.specs.Str.Lines.{lines}
 use Rattle.svc_text.specs.Script.{IsLineOf, AreLines, part_number, line_fits, fits_at, first_misfit, judged, script, is_header, begun, part_of, services_in, events_in, said_services, said_events}
 
@@ -153,6 +155,7 @@ pub record HasRead (all rest : List ℕ) (n : ℕ) (r : Reading) : Type 0 where
   pub part : part_number r.part ≡ begun (take n (lines all))
   pub services : r.services.items ≡ services_in (take n (lines all))
   pub events : r.events.items ≡ events_in (take n (lines all))
+  pub accepted : AreAccepted r.services.items
 
 pub none_read : (all : List ℕ) (r : Reading) → r.part ≡ Nothing → r.services.items ≡ [] → r.events.items ≡ [] → HasRead all all 0 r
 unfolding begun services_in events_in part_of
@@ -163,6 +166,7 @@ none_read all r p s e = record {
   part = ap part_number p;
   services = s;
   events = e;
+  accepted = subst AreAccepted (sym s) accepted_none;
 }
 
 -- the next line, and those after it
@@ -205,6 +209,7 @@ reads_more all rest line after n r s h e t a =
       part = a.part ∙ ap (λ (m : ℕ). m + cond (is_header line) 1 0) h.part ∙ sym (ap begun next.more ∙ begun-push (take n (lines all)) line);
       services = a.services ∙ both (λ (xs : List ServiceLine) m. xs ++ said_services m line) h.services h.part ∙ sym (ap services_in next.more ∙ services-push (take n (lines all)) line);
       events = a.events ∙ both (λ (xs : List Event) m. xs ++ said_events m line) h.events h.part ∙ sym (ap events_in next.more ∙ events-push (take n (lines all)) line);
+      accepted = subst AreAccepted (sym a.services) (accepted_line (part_number r.part) r.services.items line h.accepted t);
     }
 
 pub refuses : (all rest line after : List ℕ) (n : ℕ) (r : Reading) → HasRead all rest n r → lines rest ≡ line ∷ lines after

@@ -1,24 +1,16 @@
 -- The services that a script may have.
-use Rattle.std.specs.Prelude.{ℕ, ◌≡◌, ◌≤◌, ◌<◌, true, List, [], length, Option, Some, None, slice_get, unwrap_or}
+use Rattle.std.specs.Prelude.{ℕ, ◌≡◌, ◌≤◌, true, List, [], length, Option, Some, slice_get, unwrap_or, option_and_then}
 use Rattle.svc_graph.specs.declared.plan.Kind.TheVariants.{Bootstrap}
 use Rattle.svc_text.specs.declared.service.ServiceLine.{ServiceLine}
 use Rattle.svc_text.specs.ServiceLines.{is_address}
 
 -- the address of service k, where it has one
 abbrev pub tcp_at : List ServiceLine → ℕ → Option (List ℕ)
-tcp_at services k = tcp_of (slice_get services k)
-  where
-    tcp_of : Option ServiceLine → Option (List ℕ)
-    tcp_of (Some s) = s.tcp
-    tcp_of None = None
+tcp_at services k = option_and_then (λ s. s.tcp) (slice_get services k)
 
 -- the numbers that service k names as its dependencies
 abbrev pub after_at : List ServiceLine → ℕ → List ℕ
-after_at services k = after_of (slice_get services k)
-  where
-    after_of : Option ServiceLine → List ℕ
-    after_of (Some s) = unwrap_or s.after []
-    after_of None = []
+after_at services k = unwrap_or (option_and_then (λ s. s.after) (slice_get services k)) []
 
 -- there are at most 1,024, none bootstraps, and each address has 1 to 4,096 bytes and is of one service alone
 pub record AreAccepted (services : List ServiceLine) : Type 0 where

@@ -1,5 +1,5 @@
 -- The plan that a script's services are run by.
-use Rattle.std.specs.Prelude.{ℕ, true, false, List, [], ◌∷◌, map, Option, Some, None, unwrap_or}
+use Rattle.std.specs.Prelude.{ℕ, false, List, [], ◌∷◌, map, Some, None, unwrap_or}
 use Rattle.std.specs.Option.{option_to_list}
 use Rattle.svc_conf.specs.declared.settings.Setting.TheVariants.{NoDelay}
 use Rattle.svc_graph.specs.declared.plan.EndpointPlan.{EndpointPlan}

@@ -4,6 +4,7 @@ ghost use Rattle.std.specs.Prelude.{◌≡◌, ◌++◌, ◌∷◌, [], nat_lt, 
 ghost use Rattle.std.specs.Str.Lines.{lines};
 ghost use Rattle.svc_text.specs.Script.{script, AreLines};
 ghost use Rattle.svc_text.specs.Outcome.{Gives};
+ghost use Rattle.svc_text.specs.Accepted.{AreAccepted};
 
 use crate::cuts::split_line;
 use crate::reading::{LineError, Reading};
@@ -47,6 +48,7 @@ fn note_line(lines: &mut Vec<usize>, services: usize, number: usize) -> Result<(
 /// What the bytes say as a script, or the first refused line.
 pub fn parse(alloc: Global, bytes: &[u8]) -> Result<Script, ScriptError>
     ensures parts { Gives result (script bytes.now) }
+    ensures accepted { IfOk result (λ s. AreAccepted s.services.items) }
     ensures numbers { IfOk result (λ s. AreLines (lines bytes.now) (length s.services.items) s.lines.items) }
 {
     let mut lines = Vec::new(alloc);

@@ -91,6 +91,8 @@ fn service_plans(alloc: Global, services: &[ServiceLine]) -> Result<ServiceList,
 /// The plan that the services of a script are run by. Each declares its address.
 pub fn plan_of(alloc: Global, services: &[ServiceLine]) -> Result<Plan, NoMemory>
     ensures plan { IfOk result (λ plan. plan ≡ plan_of services.now) }
+    ensures valid { AreAccepted services.now → RefusesNone services.now → IfOk result IsValid }
+    ensures built { AreAccepted services.now → IfOk result IsBuilt }
 {
     Ok(Plan {
         services: service_plans(alloc, services)?,

@@ -1,0 +1,69 @@
+-- A whole script whose events run through is served, unless memory runs out.
+use Rattle.std.proofs.Common.{◌≡◌, ◌≢◌, ℕ, ◌+◌, ◌<◌, ◌≤◌, ◌⊎◌, inl, inr, Bool, true, false, ◌&&◌, ◌==◌, nat_lt, List, [], ◌∷◌, ◌++◌, length, Option, Some, None, Ok, Err, Result, sym, ap, ◌∙◌, subst, arith, reverse, refl}
+use mathlib.Core.Bool.{false≢true, true≢false}
+use Rattle.std.proofs.lemmas.Bool.{and_parts, and_from, lt-ltb, ltb-true}
+use Rattle.std.specs.List.{list_any}
+use Rattle.svc_graph.specs.Paths.{Edges, IsChain, Path}
+use Rattle.svc_record.specs.declared.event.Event.{Event}
+use Rattle.svc_record.specs.declared.event.Event.TheVariants.{Signal}
+use Rattle.svc_record.specs.declared.event.ShutdownSignal.TheVariants.{FastShutdown}
+use Rattle.svc_text.specs.declared.service.ServiceLine.{ServiceLine}
+use Rattle.svc_text.specs.Accepted.{after_at}
+use Rattle.svc_text.specs.Dependencies.{edges_up_to, IsUnsoundAt, RefusesAt, RefusesNone}
+use Rattle.svc_text.specs.Script.{Parts, script}
+use Rattle.svc_text.specs.ScriptPlans.{plan_of}
+use Rattle.svc_conf.specs.Streams.{Rose}
+use Rattle.svc_main.specs.declared.outcome.StatusLine.{StatusLine}
+use Rattle.svc_main.specs.declared.outcome.StatusLine.TheVariants.{Words, Line, ReadFault, Run}
+use Rattle.svc_main.specs.declared.outcome.RunEnd.TheVariants.{Served, Stray, OutOfEvents}
+use Rattle.svc_main.specs.Status.{status_of}
+use Rattle.svc_main.specs.Runs.{IsStray, IsUsedUp, IsClosed}
+use Rattle.svc_main.specs.Program.{IsAnswer, Faults, IsWholeScript, RunsThrough, IsScript, RefusesIn}
+use Rattle.svc_main.proofs.EndLemmas.{ended_by_signal}
+
+-- a chain stays one where edges are added
+chain_grows : (g h : Edges) → ((a b : ℕ) → g a b ≡ true → h a b ≡ true) → (a : ℕ) (via : List ℕ) (b : ℕ) → IsChain g a via b → IsChain h a via b
+chain_grows g h f a [] b c = f a b c
+chain_grows g h f a (x ∷ via) b c = (f a x c.0, chain_grows g h f x via b c.1)
+
+edges_grow : (services : List ServiceLine) (m n : ℕ) → m ≤ n → (a b : ℕ) → edges_up_to services m a b ≡ true → edges_up_to services n a b ≡ true
+edges_grow services m n le a b e =
+    let h = and_parts (nat_lt a m) (list_any (λ x. x == b) (after_at services a)) e in
+    let below : a < m = ltb-true a m h.0 in
+    and_from (nat_lt a n) _ (lt-ltb a n (omega arith)) h.1
+
+-- a service that is refused isn't one of services that aren't
+pub refused_not : (services : List ServiceLine) (k : ℕ) → RefusesNone services → RefusesAt services k → ⊥
+refused_not services k none at = by at.refused
+  where
+    by : IsUnsoundAt services k → ⊥
+    by (inl unknown) = let here : unknown.1 < length services = subst (λ x. x < length services) unknown.3 (none.known k at.here unknown.0 unknown.1 unknown.2) in omega (arith, unknown.4)
+    by (inr cycle) = none.acyclic cycle.0 (cycle.1.0, chain_grows (edges_up_to services (k + 1)) (edges_up_to services (length services)) (edges_grow services (k + 1) (length services) (omega (arith, at.here))) cycle.0 cycle.1.0 cycle.0 cycle.1.1)
+
+-- a text is one script
+one_script : (bytes : List ℕ) (p q : Parts) → script bytes ≡ Ok p → script bytes ≡ Ok q → p ≡ q
+one_script bytes p q e f = cc
+
+-- the line of the answer to a whole script says that the run served, or that the source failed
+pub whole_is_served : (words : List (List ℕ)) (bytes : List ℕ) (parts : Parts) (line : StatusLine) (out : List ℕ) (before now : ℕ)
+    → IsWholeScript words bytes parts → IsAnswer words (Some bytes) line out → Faults line before now → (Rose before now → ⊥) → status_of line ≡ 0
+whole_is_served words bytes parts Words out before now w a f n = absurd (a.0 w.takes)
+whole_is_served words bytes parts ReadFault out before now w a f n = absurd (n f)
+whole_is_served words bytes parts (Run Served) out before now w a f n = refl
+whole_is_served words bytes parts (Line k) out before now w a f n = absurd (by a.2)
+  where
+    by : RefusesIn bytes k → ⊥
+    by (inl refused) = let said : script bytes ≡ Ok parts = w.is_script.says in cc
+    by (inr (inl edge)) =
+        refused_not parts.services edge.1.1.0 w.is_script.edges (subst (λ (q : Parts). RefusesAt q.services edge.1.1.0) (one_script bytes edge.0 parts edge.1.0 w.is_script.says) edge.1.1.1.0)
+    by (inr (inr long)) = let short = w.short in omega (arith, long.1)
+whole_is_served words bytes parts (Run (Stray k)) out before now w a f n =
+    let same : a.1.0 ≡ parts = one_script bytes a.1.0 parts a.1.1.1.says w.is_script.says in
+    let run = a.1.1.0.1.run in
+    let s : IsStray (plan_of parts.services) parts.events a.1.1.0.0 k run.0 run.1.0 run.1.1.0 = subst (λ (q : Parts). IsStray (plan_of q.services) q.events a.1.1.0.0 k run.0 run.1.0 run.1.1.0) same run.1.1.1 in
+    absurd (s.misfit (w.through.each_fits run.0 run.1.0 run.1.1.0 s.closed.right s.closed.goes_on s.front))
+whole_is_served words bytes parts (Run OutOfEvents) out before now w a f n =
+    let same : a.1.0 ≡ parts = one_script bytes a.1.0 parts a.1.1.1.says w.is_script.says in
+    let run = a.1.1.0.1.run in
+    let s : IsUsedUp (plan_of parts.services) parts.events a.1.1.0.0 run.0 = subst (λ (q : Parts). IsUsedUp (plan_of q.services) q.events a.1.1.0.0 run.0) same run.1 in
+    absurd (false≢true (sym s.closed.goes_on ∙ ended_by_signal (plan_of parts.services) run.0 w.through.signal.0 (sym s.all ∙ w.through.signal.1)))

@@ -1,0 +1,15 @@
+use Rattle.std.proofs.Common.{◌≡◌, ℕ, List, Option, Some, ◌∙◌, sym, subst, inl}
+use Rattle.svc_main.specs.Program.{IsAnswer}
+use Rattle.svc_main.proofs.WholeLemmas.{whole_is_served}
+use Rattle.svc_main.proofs.AnswerLemmas.{error_from}
+use Rattle.svc_main.proofs.program.serve_script.Goals as goal
+
+pub returns-in-Ok-write_all-clause-run_error : goal.returns-in-Ok-write_all-clause-run_error
+returns-in-Ok-write_all-clause-run_error g c = λ e.
+    error_from _ (g.S.Source.left c.args.source.now) (g.S.Source.left c.make_answer.new.source) _ _ c.in-Ok.answer.line _
+    c.in-Ok.ensures.answer c.in-Ok.ensures.ended (rw c.as_bytes.ensures.value at c.in-Ok-write_all.ensures.whole) (sym c.status.ensures ∙ e)
+
+pub returns-in-Ok-write_all-clause-complete : goal.returns-in-Ok-write_all-clause-complete
+returns-in-Ok-write_all-clause-complete g c = λ bytes parts tells whole source sink.
+    let answered = c.in-Ok.ensures.answer in
+    inl (c.status.ensures ∙ whole_is_served _ bytes parts c.in-Ok.answer.line _ _ _ whole (rw tells at answered) c.in-Ok.ensures.fault source)

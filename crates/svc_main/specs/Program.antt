@@ -1,0 +1,106 @@
+-- What the program answers, and why.
+use Rattle.std.specs.Prelude.{◌≡◌, ℕ, All, ◌<◌, ◌≤◌, ◌⊎◌, List, [], ◌∷◌, ◌++◌, length, take, codes, reverse, Option, Some, None, Ok, Err, IfSome, false}
+use Rattle.std.specs.List.{list_any}
+use Rattle.std.specs.Io.KnownBytes.{Appends, IsAtEnd}
+use Rattle.std.specs.Str.Lines.{lines}
+use Rattle.svc_conf.specs.Streams.{Rose}
+use Rattle.svc_record.specs.declared.plan.Plan.{Plan}
+use Rattle.svc_record.specs.declared.event.Event.{Event}
+use Rattle.svc_record.specs.declared.event.Event.TheVariants.{Signal}
+use Rattle.svc_record.specs.declared.event.ShutdownSignal.TheVariants.{FastShutdown}
+use Rattle.svc_record.specs.declared.entry.Entry.{Entry}
+use Rattle.svc_record.specs.Record.{Record}
+use Rattle.svc_record.specs.Ends.{has_ended}
+use Rattle.svc_record.specs.Fits.{Fits}
+use Rattle.svc_record.specs.Right.{Right}
+use Rattle.svc_record.specs.Text.{text_of, EntryFits}
+use Rattle.svc_text.specs.Script.{Parts, IsLineOf, script}
+use Rattle.svc_text.specs.Dependencies.{RefusesAt, RefusesNone}
+use Rattle.svc_text.specs.ScriptPlans.{plan_of}
+use Rattle.svc_main.specs.declared.outcome.RunEnd.{RunEnd}
+use Rattle.svc_main.specs.declared.outcome.StatusLine.{StatusLine}
+use Rattle.svc_main.specs.declared.outcome.StatusLine.TheVariants.{Words, Line, ReadFault, Run}
+use Rattle.svc_main.specs.Status.{status_line, StatusFits}
+use Rattle.svc_main.specs.Runs.{events_of, RunIs}
+
+-- the words are those that the program takes
+abbrev pub TakesWords : List (List ℕ) → Type 0
+TakesWords words = words ≡ codes "run" ∷ []
+
+-- the run of a script's plan over its events leaves these entries and ends so, and they are what is printed with the status line
+pub record IsRunOf (parts : Parts) (end : RunEnd) (out : List ℕ) (entries : List Entry) : Type 0 where
+  pub printed : out ≡ text_of entries ++ status_line (Run end)
+  pub numbers : All EntryFits entries
+  pub number : StatusFits (Run end)
+  pub run : RunIs (plan_of parts.services) parts.events entries end
+
+-- a text that prints the run of the script
+abbrev pub RanText : Parts → RunEnd → List ℕ → Type 0
+RanText parts end out = (entries : List Entry) × IsRunOf parts end out entries
+
+-- the bytes are a script with these parts, whose dependencies are known and without a cycle
+pub record IsScript (bytes : List ℕ) (parts : Parts) : Type 0 where
+  pub says : script bytes ≡ Ok parts
+  pub edges : RefusesNone parts.services
+
+-- a text that prints the run of some script, which is the one that was read where the source tells its bytes
+abbrev pub RunText : Option (List ℕ) → RunEnd → List ℕ → Type 0
+RunText left end out = (parts : Parts) × (RanText parts end out × IfSome left (λ bytes. IsScript bytes parts))
+
+-- the line of the first service whose dependencies are refused
+abbrev pub RefusesEdge : List ℕ → ℕ → Type 0
+RefusesEdge bytes n = (parts : Parts) × ((script bytes ≡ Ok parts) × ((k : ℕ) × (RefusesAt parts.services k × IsLineOf (lines bytes) k n)))
+
+-- the refused line of these bytes: the first that doesn't fit; else that of the first service whose dependencies are refused; 0 for a text that is too long
+abbrev pub RefusesIn : List ℕ → ℕ → Type 0
+RefusesIn bytes n = (script bytes ≡ Err n) ⊎ (RefusesEdge bytes n ⊎ ((n ≡ 0) × (16777216 < length bytes)))
+
+-- the refused line, where the source tells its bytes
+abbrev pub Refuses : Option (List ℕ) → ℕ → Type 0
+Refuses left n = IfSome left (λ bytes. RefusesIn bytes n)
+
+-- the text of a refusal, of bytes that were read to the end unless they are too long
+abbrev pub RefusedText : Option (List ℕ) → Option (List ℕ) → List ℕ → Type 0
+RefusedText left now_left out = (n : ℕ) × (out ≡ status_line (Line n)) × Refuses left n × (0 < n → IsAtEnd now_left)
+
+-- what is to be written, by its status line
+abbrev pub IsAnswer : List (List ℕ) → Option (List ℕ) → StatusLine → List ℕ → Type 0
+IsAnswer words left Words out = (TakesWords words → ⊥) × (out ≡ status_line Words)
+IsAnswer words left (Line n) out = TakesWords words × (out ≡ status_line (Line n)) × Refuses left n
+IsAnswer words left ReadFault out = TakesWords words × (out ≡ status_line ReadFault)
+IsAnswer words left (Run end) out = TakesWords words × RunText left end out
+
+-- the source was read to its end
+abbrev pub Ends : StatusLine → Option (List ℕ) → Type 0
+Ends (Run end) left = IsAtEnd left
+Ends (Line n) left = 0 < n → IsAtEnd left
+Ends Words left = Unit {0}
+Ends ReadFault left = Unit {0}
+
+-- the source's count rose where the line says a fault
+abbrev pub Faults : StatusLine → ℕ → ℕ → Type 0
+Faults ReadFault before now = Rose before now
+Faults Words before now = Unit {0}
+Faults (Line n) before now = Unit {0}
+Faults (Run end) before now = Unit {0}
+
+-- the sink took this text
+abbrev pub Writes : Option (List ℕ) → Option (List ℕ) → (List ℕ → Type 0) → Type 0
+Writes before now P = (out : List ℕ) × P out × Appends before now out
+
+-- the sink took a front of an answer
+abbrev pub WritesFront : List (List ℕ) → Option (List ℕ) → Option (List ℕ) → Option (List ℕ) → Type 0
+WritesFront words left before now =
+    (line : StatusLine) × (out : List ℕ) × IsAnswer words left line out × (n : ℕ) × (n ≤ length out) × Appends before now (take n out)
+
+-- in whatever right record the first of the events were got, while the run goes on the next one fits; and the last of them is the fast signal
+pub record RunsThrough (p : Plan) (events : List Event) : Type 0 where
+  pub each_fits : (q : Record) (e : Event) (more : List Event) → Right p q → has_ended p q ≡ false → events ≡ events_of (reverse q) ++ e ∷ more → Fits p q e
+  pub signal : (front : List Event) × (events ≡ front ++ Signal FastShutdown ∷ [])
+
+-- the words are taken, the source tells bytes within the limit that are a script, and its events run through
+pub record IsWholeScript (words : List (List ℕ)) (bytes : List ℕ) (parts : Parts) : Type 0 where
+  pub takes : TakesWords words
+  pub short : length bytes ≤ 16777216
+  pub is_script : IsScript bytes parts
+  pub through : RunsThrough (plan_of parts.services) parts.events
