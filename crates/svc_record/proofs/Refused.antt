@@ -1,5 +1,5 @@
 -- Records that no server leaves: each is refused, by the clauses that say why.
-use Rattle.std.proofs.Common.{ℕ, [], ◌∷◌, ◌++◌, codes, ◌≡◌, refl}
+use Rattle.std.proofs.Common.{ℕ, true, [], ◌∷◌, ◌++◌, codes, ◌≡◌, refl}
 use Rattle.svc_record.specs.declared.plan.Plan.{Plan}
 use Rattle.svc_record.specs.declared.entry.Entry.TheVariants.{Got, Told}
 use Rattle.svc_record.specs.declared.event.Event.TheVariants.{Ready, Bound, Signal}
@@ -9,6 +9,7 @@ use Rattle.svc_record.specs.declared.action.ExecutionPhase.TheVariants.{Setup, B
 use Rattle.svc_record.specs.declared.action.StepEnd.TheVariants.{On}
 use Rattle.svc_record.specs.Record.{Record}
 use Rattle.svc_record.specs.Ends.{step_end}
+use Rattle.svc_record.specs.Right.{is_served}
 use Rattle.svc_record.proofs.Clauses.{EventFits, StartInTurn, AskInTurn, CloseOnce, Moment, StartKnown, AskKnown, Beginning, Closes, OneLive, Starts, Endpoints, EndpointsLate, Phases, NoEnd, FirstToPass, AllPhases, LastActions, EndNowhereElse, AllClosed, LastStep, BeginningOfAll, IsRefusedBy}
 use Rattle.svc_record.proofs.TwoServices.{plan_of, listening, database, plan, asked, bound, run}
 
@@ -231,3 +232,22 @@ bound_of_other = (refl, refl)
 -- without a signal a run goes on
 unsignalled : step_end plan bound ≡ On
 unsignalled = refl
+
+-- `Served` alone allows a bind too many, and `Running` after an event; `Right` allows neither
+abbrev one_bind_more : Record
+one_bind_more = ended (Told (Close 7) ∷ []) 0 (Told (Bind 1 0) ∷ signalled)
+
+one_bind_more-served : is_served plan one_bind_more ≡ true
+one_bind_more-served = refl
+
+one_bind_more-right : IsRefusedBy plan one_bind_more (AskInTurn ∷ [])
+one_bind_more-right = (refl, refl)
+
+abbrev runs_late : Record
+runs_late = ended [] 0 (Got (Signal FastShutdown) ∷ Told (Bind 1 0) ∷ Told (Start 1) ∷ Told (Phase Running 0) ∷ Got (Ready 0) ∷ Told (Start 0) ∷ [])
+
+runs_late-served : is_served plan runs_late ≡ true
+runs_late-served = refl
+
+runs_late-right : IsRefusedBy plan runs_late (Beginning ∷ [])
+runs_late-right = (refl, refl)
