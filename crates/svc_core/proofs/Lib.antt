@@ -5,3 +5,5 @@ pub mod DescriptorLemmas
 pub mod StartsLemmas
 pub mod EndpointsLemmas
 pub mod PassLemmas
+pub mod ClosesLemmas
+pub mod OpenLemmas
