@@ -7,3 +7,5 @@ pub mod EndpointsLemmas
 pub mod PassLemmas
 pub mod ClosesLemmas
 pub mod OpenLemmas
+pub mod EndLemmas
+pub mod StepLemmas

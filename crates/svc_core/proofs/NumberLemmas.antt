@@ -83,3 +83,10 @@ insert-put (m ∷ more) (suc k) n within below above =
 pub any-nowhere : (test : ℕ → Bool) → ((n : ℕ) → test n ≡ false) → (xs : List ℕ) → list_any test xs ≡ false
 any-nowhere test f [] = refl
 any-nowhere test f (n ∷ more) = rw (f n) (any-nowhere test f more)
+
+pub length-put : (n : ℕ) (xs : List ℕ) → length (put_number n xs) ≡ length xs + 1
+length-put n [] = refl
+length-put n (m ∷ more) = elim (cases_Bool (nat_lt n m)) [
+  | inl below ↦ rw below (omega arith)
+  | inr above ↦ rw above (let h = length-put n more in omega arith)
+]
