@@ -9,3 +9,5 @@ pub mod ClosesLemmas
 pub mod OpenLemmas
 pub mod EndLemmas
 pub mod StepLemmas
+pub mod BeginLemmas
+pub mod FitsLemmas

@@ -1,5 +1,5 @@
 -- Laws on records and what is told in them.
-use Rattle.std.proofs.Common.{ℕ, Bool, true, false, ◌||◌, ◌&&◌, not, inl, inr, List, [], ◌∷◌, ◌++◌, ◌≡◌, refl, ap, sym, ◌∙◌, append_assoc, Option, Some, None, map}
+use Rattle.std.proofs.Common.{ℕ, Bool, true, false, ◌||◌, ◌&&◌, not, inl, inr, List, [], ◌∷◌, ◌++◌, ◌≡◌, refl, ap, sym, ◌∙◌, append_assoc, Option, Some, None, map, ◌+◌, if◌then◌else◌}
 use Rattle.std.specs.Bool.{OnTrue, OnFalse, MatchBool}
 use Rattle.std.proofs.lemmas.Bool.{or_right, cases_Bool, and_parts}
 use Rattle.svc_record.specs.declared.plan.Plan.{Plan}
@@ -10,8 +10,8 @@ use Rattle.svc_record.specs.declared.action.Action.TheVariants.{Start, Bind, Clo
 use Rattle.svc_record.specs.declared.event.Event.{Event}
 use Rattle.svc_record.specs.declared.event.Event.TheVariants.{Ready, Bound, Signal}
 use Rattle.svc_record.specs.declared.event.ShutdownSignal.TheVariants.{FastShutdown}
-use Rattle.svc_record.specs.Record.{Record, has, tell, now, signal_of, is_signal, is_running, EachEntry, EachEarlier}
-use Rattle.svc_record.specs.Drain.{has_passed}
+use Rattle.svc_record.specs.Record.{Record, has, times, tell, now, signal_of, is_signal, is_running, EachEntry, EachEarlier}
+use Rattle.svc_record.specs.Drain.{Mark, told_marks, has_passed}
 use Rattle.svc_record.specs.Fits.{event_fits}
 use Rattle.svc_core.specs.Told.{Tells, IsQuiet}
 
@@ -91,6 +91,23 @@ has-quiet test f g q (Bind s i ∷ told) h = has-quiet test f g (Told (Bind s i)
 has-quiet test f g q (Close fd ∷ told) h = absurd h
 has-quiet test f g q (Phase x ms ∷ told) h = absurd h
 has-quiet test f g q (Stop n ∷ told) h = absurd h
+
+pub times-quiet : (test : Entry → Bool) → ((s : ℕ) → test (Told (Start s)) ≡ false) → ((s i : ℕ) → test (Told (Bind s i)) ≡ false)
+    → (q : Record) (told : List Action) → IsQuiet told → times test (tell q told) ≡ times test q
+times-quiet test f g q [] h = refl
+times-quiet test f g q (Start s ∷ told) h = times-quiet test f g (Told (Start s) ∷ q) told h ∙ ap (λ b. if b then times test q + 1 else times test q) (f s)
+times-quiet test f g q (Bind s i ∷ told) h = times-quiet test f g (Told (Bind s i) ∷ q) told h ∙ ap (λ b. if b then times test q + 1 else times test q) (g s i)
+times-quiet test f g q (Close fd ∷ told) h = absurd h
+times-quiet test f g q (Phase x ms ∷ told) h = absurd h
+times-quiet test f g q (Stop n ∷ told) h = absurd h
+
+pub marks-quiet : (q : Record) (told : List Action) → IsQuiet told → told_marks (tell q told) ≡ told_marks q
+marks-quiet q [] h = refl
+marks-quiet q (Start s ∷ told) h = marks-quiet (Told (Start s) ∷ q) told h
+marks-quiet q (Bind s i ∷ told) h = marks-quiet (Told (Bind s i) ∷ q) told h
+marks-quiet q (Close fd ∷ told) h = absurd h
+marks-quiet q (Phase x ms ∷ told) h = absurd h
+marks-quiet q (Stop n ∷ told) h = absurd h
 
 pub IsQuiet-append : (xs ys : List Action) → IsQuiet xs → IsQuiet ys → IsQuiet (xs ++ ys)
 IsQuiet-append [] ys h k = k

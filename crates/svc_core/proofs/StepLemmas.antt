@@ -43,19 +43,12 @@ use Rattle.svc_core.specs.Passes.{EntriesRight, PassedUpTo, Passes}
 use Rattle.svc_core.specs.Stands.{StandsFor, StepRight, StepKeeps, BeginKeeps, ReadyMayCome, BoundMayCome}
 use Rattle.svc_core.proofs.NumberLemmas.{is_in, any-ascending}
 use Rattle.svc_core.proofs.DescriptorLemmas.{brings-in, live-numbers}
-use Rattle.svc_core.proofs.RecordLemmas.{tell-append, passed-signal, has-tell, has-quiet, EachEarlier-tell, on_true, to_false}
+use Rattle.svc_core.proofs.RecordLemmas.{tell-append, passed-signal, has-tell, has-quiet, times-quiet, marks-quiet, EachEarlier-tell, on_true, to_false}
 use Rattle.svc_core.proofs.StartsLemmas.{is_due-grows, count-start, stands-word}
 use Rattle.svc_core.proofs.EndpointsLemmas.{stands-other, stands-ready, stands-bound}
 use Rattle.svc_core.proofs.ClosesLemmas.{entries-phase}
 use Rattle.svc_core.proofs.OpenLemmas.{open-right, right-open, entries-of, is-open, open-running, open-marks, boot-same}
 use Rattle.svc_core.proofs.EndLemmas.{ended_at, end-right, end-passed, end-running, end-closed, numbers-tell}
-
-times-quiet : (test : Entry → Bool) → ((s : ℕ) → test (Told (Start s)) ≡ false) → ((s i : ℕ) → test (Told (Bind s i)) ≡ false)
-    → (q : Record) (told : List Action) → IsQuiet told → times test (tell q told) ≡ times test q
-times-quiet test f g q told quiet = ?
-
-marks-quiet : (q : Record) (told : List Action) → IsQuiet told → told_marks (tell q told) ≡ told_marks q
-marks-quiet q told quiet = ?
 
 flag : (a b : Bool) → ◌≡◌ {A = ℕ} (if a then 1 else 0) (if b then 1 else 0) → a ≡ true → b ≡ true
 flag true true h e = refl
@@ -148,7 +141,7 @@ fits-ready core q s on may stands =
     let first : has (is_ready_event s) q ≡ false = sym (st.ready_is s may.inside) ∙ may.first in
     and_from (not (has_ended core.plan q)) (fits_row core.plan q (Ready s)) (going-on core q on stands) (rw (may.notifies, started, first) refl)
 
-fresh : (core : CoreData) (q : Record) (fd : ℕ) → StandsFor core q → has (brings fd) q ≡ is_in fd core.endpoints.numbers
+pub fresh : (core : CoreData) (q : Record) (fd : ℕ) → StandsFor core q → has (brings fd) q ≡ is_in fd core.endpoints.numbers
 fresh core q fd stands = brings-in q fd ∙ sym (any-ascending (λ n. n == fd) (numbers_in q)) ∙ ap (is_in fd) (sym stands.numbers)
 
 pub fits-bound : (core : CoreData) (q : Record) (s i fd : ℕ) → core.drain.over ≡ false → BoundMayCome core s i fd → StandsFor core q → fits core.plan q (Bound s i fd) ≡ true

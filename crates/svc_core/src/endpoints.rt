@@ -153,6 +153,7 @@ impl Endpoints {
         requires room { 0 < self.old.room }
         ensures sized { IsAsksSized plan.now self.new.parts }
         ensures after { self.new.parts ≡ bound s fd self.old.parts }
+        ensures one_more { length self.new.parts.numbers ≡ length self.old.parts.numbers + 1 }
     {
         let at = place_of(&self.numbers, fd);
         insert_reserved(&mut self.numbers, at, fd);
