@@ -1,6 +1,8 @@
 -- The core's own test of an event is the record's.
 use Rattle.std.proofs.Common.{ℕ, zero, suc, Bool, true, false, ◌&&◌, not, ◌==◌, ◌⊎◌, inl, inr, List, [], ◌∷◌, ◌≡◌, refl, ap, sym, ◌∙◌, subst, arith, ◌<◌, length, slice_get, Option, Some, None, nat_lt}
-use Rattle.std.proofs.lemmas.Bool.{and_parts}
+use Rattle.std.proofs.lemmas.Bool.{false_from_ne_true}
+use Rattle.std.proofs.lemmas.Bool.Decides.{Decides-ltb}
+use Rattle.svc_graph.specs.declared.plan.EndpointPlan.{EndpointPlan}
 use Rattle.svc_record.specs.declared.plan.Plan.{Plan}
 use Rattle.svc_record.specs.declared.plan.ServicePlan.{ServicePlan}
 use Rattle.svc_record.specs.declared.event.Event.TheVariants.{Bound}
@@ -22,7 +24,10 @@ get-cases (x ∷ xs) zero = inr (omega arith)
 get-cases (x ∷ xs) (suc s) = elim (get-cases xs s) [ inl none ↦ inl none | inr lt ↦ inr (omega arith) ]
 
 no-service : (p : Plan) (s i : ℕ) → service p s ≡ None → is_endpoint p s i ≡ false
-no-service p s i e = ?
+no-service p s i e =
+    let none : endpoints p s ≡ [] = rw e refl in
+    subst (λ (xs : List EndpointPlan). nat_lt i (length xs) ≡ false) (sym none)
+    (false_from_ne_true (nat_lt i 0) (λ h. let below = (Decides-ltb i 0).0 h in absurd (omega arith)))
 
 endpoint-inside : (p : Plan) (s i : ℕ) → is_endpoint p s i ≡ true → s < service_count p
 endpoint-inside p s i h = elim (get-cases p.services s) [

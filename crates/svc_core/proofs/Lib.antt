@@ -11,3 +11,4 @@ pub mod EndLemmas
 pub mod StepLemmas
 pub mod BeginLemmas
 pub mod FitsLemmas
+pub mod TailLemmas

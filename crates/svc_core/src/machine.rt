@@ -1,6 +1,7 @@
 //! The core: one step for each event.
 
-ghost use Rattle.std.specs.Prelude.{◌≡◌, ◌+◌, ◌*◌, ◌<◌, ◌≤◌, ◌++◌, [], ◌∷◌, length, ℕ, false, true, IfOk, OnErr, OnOk, IsTrue, ◌↔◌, Option};
+ghost use Rattle.std.specs.Prelude.{◌≡◌, ◌+◌, ◌*◌, ◌<◌, ◌≤◌, ◌++◌, [], ◌∷◌, length, ℕ, false, true, IfOk, OnErr, OnOk, IsTrue, ◌↔◌, Option, map};
+ghost use Rattle.svc_record.specs.declared.action.Action.TheVariants.{Close};
 ghost use Rattle.std.specs.Option.{option_copied};
 ghost use Rattle.svc_conf.specs.Items.{list_of, spare};
 ghost use Rattle.svc_record.specs.Record.{Record};
@@ -8,7 +9,7 @@ ghost use Rattle.svc_record.specs.Fits.{Fits};
 ghost use Rattle.svc_record.specs.Right.{Right};
 ghost use Rattle.svc_record.specs.Validity.{IsValid, IsBuilt};
 ghost use Rattle.svc_core.specs.Stands.{StandsFor, HasNotBegun, MayCome, ReadyMayCome, BoundMayCome, StepKeeps, BeginKeeps, ClosesAll};
-ghost use Rattle.svc_core.specs.Rooms.{step_room, close_room};
+ghost use Rattle.svc_core.specs.Rooms.{step_room, close_room, open_numbers, left_numbers};
 
 use crate::drain::Drain;
 use crate::endpoints::{Endpoints, close_each};
@@ -225,13 +226,36 @@ impl Core {
         requires room { close_room self.now ≤ spare actions.old }
         ensures closes { (q : Record) → StandsFor self.now q → ClosesAll self.now.plan q (option_copied also.entry) (list_of actions.old) (list_of actions.new) }
     {
+        self.close_open(actions);
+        self.close_brought(also, actions);
+    }
+
+    fn close_open(&self, actions: &mut Actions)
+        requires room { length (open_numbers self.now) ≤ spare actions.old }
+        ensures told { list_of actions.new ≡ list_of actions.old ++ map Close (open_numbers self.now) }
+        ensures room { spare actions.old ≤ spare actions.new + length (open_numbers self.now) }
+    {
         if !self.drain.is_over() {
             close_each(self.endpoints.numbers(), actions);
         }
-        if let Some(Event::Bound(_, _, fd)) = also {
-            if !self.endpoints.has_number(*fd) {
-                actions.put(Action::Close(*fd));
+    }
+
+    /// Closes what the event brought that came with no earlier one.
+    fn close_brought(&self, also: Option<&Event>, actions: &mut Actions)
+        requires room { 0 < spare actions.old }
+        ensures told { list_of actions.new ≡ list_of actions.old ++ map Close (left_numbers self.now (option_copied also.entry)) }
+    {
+        let Some(event) = also else {
+            return;
+        };
+        match *event {
+            Event::Bound(_, _, fd) => {
+                if !self.endpoints.has_number(fd) {
+                    actions.put(Action::Close(fd));
+                }
             }
+            Event::Ready(_) => {}
+            Event::Signal(_) => {}
         }
     }
 }
