@@ -1,0 +1,14 @@
+pub mod RecordLemmas
+pub mod NumberLemmas
+pub mod AddressLemmas
+pub mod DescriptorLemmas
+pub mod StartsLemmas
+pub mod EndpointsLemmas
+pub mod PassLemmas
+pub mod ClosesLemmas
+pub mod OpenLemmas
+pub mod EndLemmas
+pub mod StepLemmas
+pub mod BeginLemmas
+pub mod FitsLemmas
+pub mod TailLemmas

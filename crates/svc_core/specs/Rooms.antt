@@ -1,0 +1,24 @@
+-- How many actions a core may tell.
+use Rattle.std.specs.Prelude.{ℕ, ◌+◌, ◌*◌, List, [], length, if◌then◌else◌, ◌==◌, not, Option, Some, None, filter}
+use Rattle.std.specs.List.{list_any}
+use Rattle.svc_record.specs.declared.entry.Entry.TheVariants.{Got}
+use Rattle.svc_record.specs.declared.event.Event.{Event}
+use Rattle.svc_record.specs.Descriptors.{numbers_of}
+use Rattle.svc_core.specs.CoreData.{CoreData}
+
+-- the numbers of the descriptors that are open
+abbrev pub open_numbers : CoreData → List ℕ
+open_numbers core = if core.drain.over then [] else core.endpoints.numbers
+
+-- the numbers that the event brings and that didn't come before
+abbrev pub left_numbers : CoreData → Option Event → List ℕ
+left_numbers core None = []
+left_numbers core (Some e) = filter (λ n. not (list_any (λ m. m == n) core.endpoints.numbers)) (numbers_of (Got e))
+
+-- how many actions `close_all` tells at most
+abbrev pub close_room : CoreData → ℕ
+close_room core = length (open_numbers core) + 1
+
+-- how many actions the next step, and `close_all` after it, tell at most
+abbrev pub step_room : CoreData → ℕ
+step_room core = 2 * length core.order + length core.endpoints.numbers + 5

@@ -1,0 +1,77 @@
+-- The records that a core stands for, and what its steps keep.
+use Rattle.std.specs.Prelude.{ℕ, Bool, true, false, ◌≡◌, ◌<◌, ◌==◌, List, [], ◌∷◌, Option}
+use Rattle.std.specs.List.{list_any}
+use Rattle.svc_graph.specs.declared.plan.Kind.TheVariants.{Notifying}
+use Rattle.svc_record.specs.declared.plan.Plan.{Plan}
+use Rattle.svc_record.specs.declared.action.Action.{Action}
+use Rattle.svc_record.specs.declared.action.StepEnd.{StepEnd}
+use Rattle.svc_record.specs.declared.entry.Entry.TheVariants.{Got}
+use Rattle.svc_record.specs.declared.event.Event.{Event}
+use Rattle.svc_record.specs.declared.event.Event.TheVariants.{Ready, Bound, Signal}
+use Rattle.svc_record.specs.Plans.{service_count, has_kind}
+use Rattle.svc_record.specs.Record.{Record, tell}
+use Rattle.svc_record.specs.Drain.{ascending, live_numbers}
+use Rattle.svc_record.specs.Ends.{step_end}
+use Rattle.svc_record.specs.Right.{Right}
+use Rattle.svc_record.specs.Tail.{numbers_in, closing_actions, tail_right}
+use Rattle.svc_core.specs.Told.{Tells}
+use Rattle.svc_core.specs.StartsState.{StartsStand, is_flagged}
+use Rattle.svc_core.specs.EndpointsState.{EndpointsStand, ask_at, is_open_ask}
+use Rattle.svc_core.specs.DrainState.{DrainStand}
+use Rattle.svc_core.specs.CoreData.{CoreData}
+
+-- one clause for each part; once the run is over, what came is all that is left of services, and nothing is live
+pub record StandsFor (core : CoreData) (q : Record) : Type 0 where
+  pub drain : DrainStand core.plan core.drain q
+  pub starts : core.drain.over ≡ false → StartsStand core.plan core.starts q
+  pub endpoints : core.drain.over ≡ false → EndpointsStand core.plan core.endpoints q
+  pub numbers : core.endpoints.numbers ≡ ascending (numbers_in q)
+  pub closed : core.drain.over ≡ true → live_numbers core.plan q ≡ []
+
+-- nothing was got or told yet
+abbrev pub HasNotBegun : CoreData → Type 0
+HasNotBegun core = StandsFor core []
+
+-- what a step gives: a right record that the core stands for, with its answer
+pub record StepRight (core : CoreData) (q : Record) (end : StepEnd) : Type 0 where
+  pub stands : StandsFor core q
+  pub right : Right core.plan q
+  pub answer : end ≡ step_end core.plan q
+
+-- the first step, from an empty record
+abbrev pub BeginKeeps : CoreData → List Action → List Action → StepEnd → Type 0
+BeginKeeps new before after end = Tells before after (λ told. StepRight new (tell [] told) end)
+
+-- a step of an event: for each right record that the core stood for
+abbrev pub StepKeeps : CoreData → CoreData → Event → List Action → List Action → StepEnd → Type 0
+StepKeeps old new e before after end =
+    Tells before after (λ told. (q : Record) → Right old.plan q → StandsFor old q → StepRight new (tell (Got e ∷ q) told) end)
+
+-- what closing all tells: the record's closing actions, after which each number that came has one close if the record is right
+pub record ClosesAll (p : Plan) (q : Record) (also : Option Event) (before after : List Action) : Type 0 where
+  pub told : Tells before after (λ told. told ≡ closing_actions p q also)
+  pub closed : Right p q → tail_right q also (closing_actions p q also) ≡ true
+
+-- the service's word may come
+pub record ReadyMayCome (core : CoreData) (s : ℕ) : Type 0 where
+  pub inside : s < service_count core.plan
+  pub notifies : has_kind core.plan Notifying s ≡ true
+  pub started : is_flagged core.starts.started s ≡ true
+  pub first : is_flagged core.starts.ready s ≡ false
+
+-- the endpoint's descriptor may come
+pub record BoundMayCome (core : CoreData) (s i fd : ℕ) : Type 0 where
+  pub inside : s < service_count core.plan
+  pub only : i ≡ 0
+  pub asked : is_open_ask (ask_at core.endpoints s) ≡ true
+  pub fresh : list_any (λ n. n == fd) core.endpoints.numbers ≡ false
+
+-- the condition of each event, by what the core holds
+abbrev pub RowMayCome : CoreData → Event → Type 0
+RowMayCome core (Ready s) = ReadyMayCome core s
+RowMayCome core (Bound s i fd) = BoundMayCome core s i fd
+RowMayCome core (Signal kind) = core.drain.running ≡ true
+
+-- the event may come
+abbrev pub MayCome : CoreData → Event → Type 0
+MayCome core e = (core.drain.over ≡ false) × RowMayCome core e

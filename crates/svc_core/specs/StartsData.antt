@@ -1,0 +1,7 @@
+-- What contracts see of the part on starts: one flag of each sort for each service.
+use Rattle.std.specs.Prelude.{Bool, List}
+
+-- whether it is started, and whether it said that it is ready
+pub record StartsData : Type 0 where
+  pub started : List Bool
+  pub ready : List Bool

@@ -1,0 +1,56 @@
+-- What the part on starts stands for, and what it does.
+use Rattle.std.specs.Prelude.{ℕ, Bool, true, false, ◌≡◌, ◌<◌, ◌||◌, ◌&&◌, not, List, [], ◌∷◌, length, slice_index_or, slice_set, if◌then◌else◌}
+use Rattle.std.specs.List.{list_all}
+use Rattle.svc_graph.specs.declared.plan.Kind.TheVariants.{Plain}
+use Rattle.svc_record.specs.declared.plan.Plan.{Plan}
+use Rattle.svc_record.specs.declared.action.Action.{Action}
+use Rattle.svc_record.specs.declared.action.Action.TheVariants.{Start}
+use Rattle.svc_record.specs.Plans.{service_count, depends, has_kind}
+use Rattle.svc_record.specs.Record.{Record, has}
+use Rattle.svc_record.specs.Starts.{is_started, is_ready_event}
+use Rattle.svc_core.specs.StartsData.{StartsData}
+
+-- the flag of this service
+abbrev pub is_flagged : List Bool → ℕ → Bool
+is_flagged flags s = slice_index_or flags s false
+
+-- one flag of each sort for each service
+pub record IsStartsSized (p : Plan) (st : StartsData) : Type 0 where
+  pub started : length st.started ≡ service_count p
+  pub ready : length st.ready ≡ service_count p
+
+-- no flag is set
+pub record IsBlank (st : StartsData) : Type 0 where
+  pub started : (s : ℕ) → is_flagged st.started s ≡ false
+  pub ready : (s : ℕ) → is_flagged st.ready s ≡ false
+
+-- the flags say what was started, and whose word came
+pub record StartsStand (p : Plan) (st : StartsData) (q : Record) : Type 0 where
+  pub started_is : (s : ℕ) → s < service_count p → is_flagged st.started s ≡ is_started q s
+  pub ready_is : (s : ℕ) → s < service_count p → is_flagged st.ready s ≡ has (is_ready_event s) q
+
+-- the service is ready: its word came, or it is started and plain
+abbrev pub ready_now : Plan → StartsData → ℕ → Bool
+ready_now p st s = is_flagged st.ready s || (is_flagged st.started s && has_kind p Plain s)
+
+-- all that it depends on is
+abbrev pub due_now : Plan → StartsData → ℕ → Bool
+due_now p st s = list_all (ready_now p st) (depends p s)
+
+-- a visit starts it
+abbrev pub starts_now : Plan → StartsData → ℕ → Bool
+starts_now p st s = not (is_flagged st.started s) && due_now p st s
+
+-- the part after the visit
+abbrev pub start_if : Bool → ℕ → StartsData → StartsData
+start_if true s st = record { started = slice_set st.started s true; ready = st.ready }
+start_if false s st = st
+
+-- what the visit tells
+abbrev pub start_told : Bool → ℕ → List Action
+start_told true s = Start s ∷ []
+start_told false s = []
+
+-- the part after the service's word
+abbrev pub word_taken : ℕ → StartsData → StartsData
+word_taken s st = record { started = st.started; ready = slice_set st.ready s true }

@@ -1,0 +1,15 @@
+//! The server core: a step for each event, and the actions that it tells.
+#![tactic(auto)]
+
+mod drain;
+mod endpoints;
+mod machine;
+mod pass;
+mod plans;
+mod starts;
+
+pub use machine::Core;
+pub use svc_record::{
+    Action, Actions, Entries, Entry, Event, ExecutionPhase, Plan, ServiceList, ServicePlan,
+    ShutdownSignal, StepEnd,
+};

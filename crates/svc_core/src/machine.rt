@@ -1,0 +1,261 @@
+//! The core: one step for each event.
+
+ghost use Rattle.std.specs.Prelude.{◌≡◌, ◌+◌, ◌*◌, ◌<◌, ◌≤◌, ◌++◌, [], ◌∷◌, length, ℕ, false, true, IfOk, OnErr, OnOk, IsTrue, ◌↔◌, Option, map};
+ghost use Rattle.svc_record.specs.declared.action.Action.TheVariants.{Close};
+ghost use Rattle.std.specs.Option.{option_copied};
+ghost use Rattle.svc_conf.specs.Items.{list_of, spare};
+ghost use Rattle.svc_record.specs.Record.{Record};
+ghost use Rattle.svc_record.specs.Fits.{Fits};
+ghost use Rattle.svc_record.specs.Right.{Right};
+ghost use Rattle.svc_record.specs.Validity.{IsValid, IsBuilt};
+ghost use Rattle.svc_core.specs.Stands.{StandsFor, HasNotBegun, MayCome, ReadyMayCome, BoundMayCome, StepKeeps, BeginKeeps, ClosesAll};
+ghost use Rattle.svc_core.specs.Rooms.{step_room, close_room, open_numbers, left_numbers};
+
+use crate::drain::Drain;
+use crate::endpoints::{Endpoints, close_each};
+use crate::pass::pass;
+use crate::plans::{is_notifying, service_count};
+use crate::starts::Starts;
+use std::alloc::Global;
+use std::marker::Model;
+use svc_conf::NoMemory;
+use svc_record::{Action, Actions, Event, Plan, ShutdownSignal, StepEnd, startup_order};
+
+/// The lifecycle of one server: what it is told, step by step, and what it tells.
+#[derive(Drop)]
+pub struct Core {
+    plan: Plan,
+    order: Vec<u32>,
+    starts: Starts,
+    endpoints: Endpoints,
+    drain: Drain,
+}
+
+impl Model for Core {
+    ghost use Rattle.svc_core.specs.CoreData.{CoreData, IsFormed};
+
+    ghost Value = { CoreData };
+
+    ghost view = { λ c. record { plan = c.plan; order = c.order.items; starts = c.starts; endpoints = c.endpoints.parts; drain = c.drain } };
+
+    ghost invariant = { λ c. IsFormed c.plan c.order.items c.starts c.endpoints.parts };
+}
+
+impl Core {
+    /// A core that has told nothing yet.
+    pub fn new(alloc: Global, plan: Plan) -> Result<Core, NoMemory>
+        requires valid { IsValid plan }
+        requires built { IsBuilt plan }
+        ensures plan { IfOk result (λ core. core.plan ≡ plan) }
+        ensures first { IfOk result HasNotBegun }
+    {
+        let order = startup_order(alloc, &plan)?;
+        let starts = Starts::new(alloc, &plan)?;
+        let endpoints = Endpoints::new(alloc, &plan)?;
+        Ok(Core {
+            plan,
+            order,
+            starts,
+            endpoints,
+            drain: Drain::new(),
+        })
+    }
+
+    /// What the server is run by.
+    pub fn plan(&self) -> &Plan
+        ensures { result.now ≡ self.now.plan }
+    {
+        &self.plan
+    }
+
+    /// How many actions the next step, and a `close_all` after it, tell at most.
+    pub fn step_room(&self) -> u64
+        ensures { result ≡ step_room self.now }
+    {
+        2 * self.order.len() as u64 + self.endpoints.numbers().len() as u64 + 5
+    }
+
+    /// Whether the event may come now.
+    pub fn fits(&self, event: &Event) -> bool
+        ensures may { IsTrue result ↔ MayCome self.now event.now }
+        ensures means { (q : Record) → StandsFor self.now q → IsTrue result ↔ Fits self.now.plan q event.now }
+    {
+        if self.drain.is_over() {
+            return false;
+        }
+        match *event {
+            Event::Ready(s) => self.ready_fits(s),
+            Event::Bound(s, i, fd) => self.bound_fits(s, i, fd),
+            Event::Signal(_) => self.drain.is_running(),
+        }
+    }
+
+    fn ready_fits(&self, s: u32) -> bool
+        ensures { IsTrue result ↔ ReadyMayCome self.now s }
+    {
+        if s as usize >= service_count(&self.plan) || !is_notifying(&self.plan, s) {
+            return false;
+        }
+        self.starts.is_started(&self.plan, s) && !self.starts.has_ready(&self.plan, s)
+    }
+
+    fn bound_fits(&self, s: u32, i: u32, fd: u64) -> bool
+        ensures { IsTrue result ↔ BoundMayCome self.now s i fd }
+    {
+        if s as usize >= service_count(&self.plan) || i != 0 {
+            return false;
+        }
+        self.endpoints.is_open(&self.plan, s) && !self.endpoints.has_number(fd)
+    }
+
+    /// The first step: it starts what is due, asks for endpoints, and tells that the server runs.
+    /// After `NoMemory` nothing has changed.
+    pub fn begin(&mut self, alloc: Global, actions: &mut Actions) -> Result<StepEnd, NoMemory>
+        requires first { HasNotBegun self.old }
+        ensures plan { IfOk result (λ _. self.new.plan ≡ self.old.plan) }
+        ensures refused { OnErr result (self.new ≡ self.old) }
+        ensures untold { OnErr result (list_of actions.new ≡ list_of actions.old) }
+        ensures kept { IfOk result (λ end. BeginKeeps self.new (list_of actions.old) (list_of actions.new) end) }
+        ensures few { OnOk result (length (list_of actions.new) + close_room self.new ≤ length (list_of actions.old) + step_room self.old) }
+        ensures room { step_room self.old ≤ spare actions.old → close_room self.new ≤ spare actions.new }
+    {
+        actions.reserve(alloc, self.step_room())?;
+        pass(
+            &self.plan,
+            &self.order,
+            &mut self.starts,
+            &mut self.endpoints,
+            actions,
+        );
+        self.drain.run(actions);
+        Ok(StepEnd::On)
+    }
+
+    /// One event, with the answer of the filter that it asked, if it asked one. After `NoMemory`
+    /// nothing has changed.
+    pub fn step(
+        &mut self,
+        alloc: Global,
+        event: &Event,
+        _said: bool,
+        actions: &mut Actions,
+    ) -> Result<StepEnd, NoMemory>
+        requires fits { MayCome self.old event.now }
+        ensures plan { IfOk result (λ _. self.new.plan ≡ self.old.plan) }
+        ensures refused { OnErr result (self.new ≡ self.old) }
+        ensures untold { OnErr result (list_of actions.new ≡ list_of actions.old) }
+        ensures kept { IfOk result (λ end. StepKeeps self.old self.new event.now (list_of actions.old) (list_of actions.new) end) }
+        ensures few { OnOk result (length (list_of actions.new) + close_room self.new ≤ length (list_of actions.old) + step_room self.old) }
+        ensures room { step_room self.old ≤ spare actions.old → close_room self.new ≤ spare actions.new }
+    {
+        actions.reserve(alloc, self.step_room())?;
+        match *event {
+            Event::Ready(s) => Ok(self.step_ready(s, actions)),
+            Event::Bound(s, _, fd) => self.step_bound(s, fd, actions),
+            Event::Signal(kind) => Ok(self.step_signal(kind, actions)),
+        }
+    }
+
+    fn step_ready(&mut self, s: u32, actions: &mut Actions) -> StepEnd
+        requires on { self.old.drain.over ≡ false }
+        requires may { ReadyMayCome self.old s }
+        requires room { step_room self.old ≤ spare actions.old }
+        ensures plan { self.new.plan ≡ self.old.plan }
+        ensures kept { StepKeeps self.old self.new (Event.Ready s) (list_of actions.old) (list_of actions.new) result }
+        ensures few { length (list_of actions.new) + close_room self.new ≤ length (list_of actions.old) + step_room self.old }
+        ensures room { step_room self.old ≤ spare actions.old → close_room self.new ≤ spare actions.new }
+    {
+        self.starts.take_ready(&self.plan, s);
+        pass(
+            &self.plan,
+            &self.order,
+            &mut self.starts,
+            &mut self.endpoints,
+            actions,
+        );
+        StepEnd::On
+    }
+
+    fn step_bound(
+        &mut self,
+        s: u32,
+        fd: u64,
+        actions: &mut Actions,
+    ) -> Result<StepEnd, NoMemory>
+        requires on { self.old.drain.over ≡ false }
+        requires may { BoundMayCome self.old s 0 fd }
+        requires room { step_room self.old ≤ spare actions.old }
+        ensures plan { IfOk result (λ _. self.new.plan ≡ self.old.plan) }
+        ensures refused { OnErr result (self.new ≡ self.old) }
+        ensures untold { OnErr result (list_of actions.new ≡ list_of actions.old) }
+        ensures kept { IfOk result (λ end. StepKeeps self.old self.new (Event.Bound s 0 fd) (list_of actions.old) (list_of actions.new) end) }
+        ensures few { OnOk result (length (list_of actions.new) + close_room self.new ≤ length (list_of actions.old) + step_room self.old) }
+        ensures room { step_room self.old ≤ spare actions.old → close_room self.new ≤ spare actions.new }
+    {
+        self.endpoints.reserve()?;
+        self.endpoints.take_bound(&self.plan, s, fd);
+        pass(
+            &self.plan,
+            &self.order,
+            &mut self.starts,
+            &mut self.endpoints,
+            actions,
+        );
+        Ok(StepEnd::On)
+    }
+
+    fn step_signal(&mut self, kind: ShutdownSignal, actions: &mut Actions) -> StepEnd
+        requires on { self.old.drain.over ≡ false }
+        requires may { self.old.drain.running ≡ true }
+        requires room { step_room self.old ≤ spare actions.old }
+        ensures plan { self.new.plan ≡ self.old.plan }
+        ensures kept { StepKeeps self.old self.new (Event.Signal kind) (list_of actions.old) (list_of actions.new) result }
+        ensures few { length (list_of actions.new) + close_room self.new ≤ length (list_of actions.old) + step_room self.old }
+        ensures room { step_room self.old ≤ spare actions.old → close_room self.new ≤ spare actions.new }
+    {
+        match kind {
+            ShutdownSignal::FastShutdown => {}
+        }
+        self.drain.end(self.endpoints.numbers(), actions);
+        StepEnd::Served
+    }
+
+    /// Closes each live descriptor in ascending number, and then what the event brought that was
+    /// left unfinished. A caller who had `step_room` before a step has the room after it.
+    pub fn close_all(&self, also: Option<&Event>, actions: &mut Actions)
+        requires room { close_room self.now ≤ spare actions.old }
+        ensures closes { (q : Record) → StandsFor self.now q → ClosesAll self.now.plan q (option_copied also.entry) (list_of actions.old) (list_of actions.new) }
+    {
+        self.close_open(actions);
+        self.close_brought(also, actions);
+    }
+
+    fn close_open(&self, actions: &mut Actions)
+        requires room { length (open_numbers self.now) ≤ spare actions.old }
+        ensures told { list_of actions.new ≡ list_of actions.old ++ map Close (open_numbers self.now) }
+        ensures room { spare actions.old ≤ spare actions.new + length (open_numbers self.now) }
+    {
+        if !self.drain.is_over() {
+            close_each(self.endpoints.numbers(), actions);
+        }
+    }
+
+    /// Closes what the event brought that came with no earlier one.
+    fn close_brought(&self, also: Option<&Event>, actions: &mut Actions)
+        requires room { 0 < spare actions.old }
+        ensures told { list_of actions.new ≡ list_of actions.old ++ map Close (left_numbers self.now (option_copied also.entry)) }
+    {
+        let Some(event) = also else {
+            return;
+        };
+        match *event {
+            Event::Bound(_, _, fd) => {
+                if !self.endpoints.has_number(fd) {
+                    actions.put(Action::Close(fd));
+                }
+            }
+            Event::Ready(_) => {}
+            Event::Signal(_) => {}
+        }
+    }
+}

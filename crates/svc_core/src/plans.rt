@@ -1,0 +1,53 @@
+//! What the core reads of a plan.
+
+ghost use Rattle.std.specs.Prelude.{◌≡◌, ◌<◌, length};
+ghost use Rattle.svc_record.specs.Plans.{service_count, depends, has_kind, endpoints};
+ghost use Rattle.svc_graph.specs.declared.plan.Kind.TheVariants.{Plain, Notifying};
+
+use svc_graph::Kind;
+use svc_record::Plan;
+
+pub(crate) fn service_count(plan: &Plan) -> usize
+    ensures { result ≡ service_count plan.now }
+{
+    plan.services.as_slice().len()
+}
+
+pub(crate) fn depends_of(plan: &Plan, s: u32) -> &[u32]
+    requires { s < service_count plan.now }
+    ensures { result.now ≡ depends plan.now s }
+{
+    plan.services.as_slice()[s as usize].depends.as_slice()
+}
+
+pub(crate) fn is_plain(plan: &Plan, s: u32) -> bool
+    requires { s < service_count plan.now }
+    ensures { result ≡ has_kind plan.now Plain s }
+{
+    match plan.services.as_slice()[s as usize].kind {
+        Kind::Plain => true,
+        Kind::Notifying => false,
+        Kind::Bootstrap => false,
+    }
+}
+
+pub(crate) fn is_notifying(plan: &Plan, s: u32) -> bool
+    requires { s < service_count plan.now }
+    ensures { result ≡ has_kind plan.now Notifying s }
+{
+    match plan.services.as_slice()[s as usize].kind {
+        Kind::Plain => false,
+        Kind::Notifying => true,
+        Kind::Bootstrap => false,
+    }
+}
+
+pub(crate) fn endpoint_count(plan: &Plan, s: u32) -> usize
+    requires { s < service_count plan.now }
+    ensures { result ≡ length (endpoints plan.now s) }
+{
+    plan.services.as_slice()[s as usize]
+        .endpoints
+        .as_slice()
+        .len()
+}

@@ -1,0 +1,110 @@
+//! The part of the core that starts services.
+
+ghost use Rattle.std.specs.Prelude.{◌≡◌, ◌+◌, ◌<◌, ◌≤◌, ◌++◌, length, IfOk};
+ghost use Rattle.svc_conf.specs.Items.{list_of, spare};
+ghost use Rattle.svc_record.specs.Plans.{service_count};
+ghost use Rattle.svc_record.specs.Validity.{IsValid};
+ghost use Rattle.svc_core.specs.StartsState.{IsStartsSized, IsBlank, is_flagged, ready_now, due_now, starts_now, start_if, start_told, word_taken};
+
+use crate::plans::{depends_of, is_plain, service_count};
+use std::alloc::Global;
+use std::marker::Model;
+use svc_conf::NoMemory;
+use svc_record::{Action, Actions, Plan};
+
+/// Which services are started, and which said that they are ready.
+#[derive(Drop)]
+pub struct Starts {
+    started: Vec<bool>,
+    ready: Vec<bool>,
+}
+
+impl Model for Starts {
+    ghost use Rattle.svc_core.specs.StartsData.{StartsData};
+
+    ghost Value = { StartsData };
+
+    ghost view = { λ s. record { started = s.started.items; ready = s.ready.items } };
+}
+
+impl Starts {
+    /// Nothing is started yet.
+    pub(crate) fn new(alloc: Global, plan: &Plan) -> Result<Starts, NoMemory>
+        ensures sized { IfOk result (IsStartsSized plan.now) }
+        ensures blank { IfOk result IsBlank }
+    {
+        let started = vec![in alloc; false; service_count(plan)]?;
+        let ready = vec![in alloc; false; service_count(plan)]?;
+        Ok(Starts { started, ready })
+    }
+
+    fn is_ready(&self, plan: &Plan, s: u32) -> bool
+        requires service { s < service_count plan.now }
+        requires sized { IsStartsSized plan.now self.now }
+        ensures { result ≡ ready_now plan.now self.now s }
+    {
+        self.ready[s as usize] || (self.started[s as usize] && is_plain(plan, s))
+    }
+
+    fn is_due(&self, plan: &Plan, s: u32) -> bool
+        requires service { s < service_count plan.now }
+        requires valid { IsValid plan.now }
+        requires sized { IsStartsSized plan.now self.now }
+        ensures { result ≡ due_now plan.now self.now s }
+    {
+        for d in depends_of(plan, s) {
+            if !self.is_ready(plan, *d) {
+                return false;
+            }
+        }
+        true
+    }
+
+    pub(crate) fn is_started(&self, plan: &Plan, s: u32) -> bool
+        requires service { s < service_count plan.now }
+        requires sized { IsStartsSized plan.now self.now }
+        ensures { result ≡ is_flagged self.now.started s }
+    {
+        self.started[s as usize]
+    }
+
+    /// The service's own word came.
+    pub(crate) fn has_ready(&self, plan: &Plan, s: u32) -> bool
+        requires service { s < service_count plan.now }
+        requires sized { IsStartsSized plan.now self.now }
+        ensures { result ≡ is_flagged self.now.ready s }
+    {
+        self.ready[s as usize]
+    }
+
+    /// The service says that it is ready.
+    pub(crate) fn take_ready(&mut self, plan: &Plan, s: u32)
+        requires service { s < service_count plan.now }
+        requires sized { IsStartsSized plan.now self.old }
+        ensures sized { IsStartsSized plan.now self.new }
+        ensures word { self.new ≡ word_taken s self.old }
+    {
+        self.ready[s as usize] = true;
+    }
+
+    /// Starts the service where it is due and not started yet, and says so.
+    pub(crate) fn visit(&mut self, plan: &Plan, s: u32, actions: &mut Actions) -> bool
+        requires service { s < service_count plan.now }
+        requires valid { IsValid plan.now }
+        requires sized { IsStartsSized plan.now self.old }
+        requires room { 0 < spare actions.old }
+        ensures sized { IsStartsSized plan.now self.new }
+        ensures due { result ≡ starts_now plan.now self.old s }
+        ensures after { self.new ≡ start_if result s self.old }
+        ensures told { list_of actions.new ≡ list_of actions.old ++ start_told result s }
+        ensures few { length (list_of actions.new) ≤ length (list_of actions.old) + 1 }
+        ensures room { spare actions.old ≤ spare actions.new + 1 }
+    {
+        if self.started[s as usize] || !self.is_due(plan, s) {
+            return false;
+        }
+        self.started[s as usize] = true;
+        actions.put(Action::Start(s));
+        true
+    }
+}
