@@ -1,6 +1,6 @@
 -- Addresses of endpoints.
-use Rattle.std.proofs.Common.{ℕ, Bool, true, false, ◌&&◌, inl, inr, List, [], ◌∷◌, ◌≡◌, ◌≢◌, ◌==◌, refl, ap, sym, ◌∙◌, subst, arith, ◌<◌, length, Option, Some, None, slice_get, nat_lt}
-use Rattle.std.proofs.lemmas.Bool.{cases_Bool, cases_eq, eq-eqb, ne_eqb, false_from_ne_true}
+use Rattle.std.proofs.Common.{ℕ, true, inl, inr, List, [], ◌∷◌, ◌≡◌, ◌==◌, refl, ap, sym, ◌∙◌, subst, arith, ◌<◌, length, Option, Some, None, slice_get, nat_lt}
+use Rattle.std.proofs.lemmas.Bool.{cases_eq, eq-eqb, ne_eqb, false_from_ne_true}
 use Rattle.std.proofs.lemmas.Bool.Decides.{Decides-ltb}
 use Rattle.std.proofs.lemmas.Slice.Eq.{bytes_eq-Decides}
 use Rattle.std.specs.Option.{option_map}

@@ -1,25 +1,21 @@
 -- The first step makes a right record.
-use Rattle.std.proofs.Common.{ℕ, Bool, true, false, List, [], ◌∷◌, ◌++◌, ◌≡◌, refl, ap, sym, ◌∙◌, subst, arith, append_assoc, ◌<◌, length, if◌then◌else◌}
-use Rattle.std.proofs.lemmas.Bool.{cases_Bool}
+use Rattle.std.proofs.Common.{ℕ, true, false, List, [], ◌∷◌, ◌++◌, ◌≡◌, refl, ap, sym, ◌∙◌, subst, arith, append_assoc, length, if◌then◌else◌}
 use Rattle.svc_record.specs.declared.plan.Plan.{Plan}
-use Rattle.svc_record.specs.declared.entry.Entry.TheVariants.{Got, Told}
+use Rattle.svc_record.specs.declared.entry.Entry.TheVariants.{Told}
 use Rattle.svc_record.specs.declared.action.Action.{Action}
-use Rattle.svc_record.specs.declared.action.Action.TheVariants.{Start, Bind, Close, Phase, Stop}
+use Rattle.svc_record.specs.declared.action.Action.TheVariants.{Phase}
 use Rattle.svc_record.specs.declared.action.ExecutionPhase.TheVariants.{Running}
 use Rattle.svc_record.specs.declared.action.StepEnd.TheVariants.{On, Served}
-use Rattle.svc_record.specs.Record.{Record, has, times, tell, is_signal, is_running, is_bootstrap, is_bootstrap_complete, EachEntry, EachEarlier}
+use Rattle.svc_record.specs.Record.{Record, has, tell, is_signal, is_running, is_bootstrap, is_bootstrap_complete}
 use Rattle.svc_record.specs.Boot.{BootRight}
-use Rattle.svc_record.specs.Drain.{Mark, phase, told_marks, is_ending, has_passed}
-use Rattle.svc_record.specs.Right.{Right, SettledRight}
-use Rattle.svc_record.specs.Validity.{IsBuilt, IsInOrder}
-use Rattle.svc_core.specs.Told.{Tells, IsQuiet}
+use Rattle.svc_record.specs.Drain.{phase, is_ending, has_passed}
+use Rattle.svc_record.specs.Right.{SettledRight}
+use Rattle.svc_core.specs.Told.{IsQuiet}
 use Rattle.svc_core.specs.StartsData.{StartsData}
 use Rattle.svc_core.specs.EndpointsData.{EndpointsData}
-use Rattle.svc_core.specs.DrainData.{DrainData}
-use Rattle.svc_core.specs.DrainState.{DrainStand}
 use Rattle.svc_core.specs.CoreData.{CoreData, IsFormed}
-use Rattle.svc_core.specs.Passes.{EntriesRight, PassedUpTo, Passes}
-use Rattle.svc_core.specs.Stands.{StandsFor, HasNotBegun, StepRight, BeginKeeps}
+use Rattle.svc_core.specs.Passes.{PassedUpTo, Passes}
+use Rattle.svc_core.specs.Stands.{HasNotBegun, StepRight, BeginKeeps}
 use Rattle.svc_core.proofs.RecordLemmas.{tell-append, passed-signal, has-tell, has-quiet, times-quiet, marks-quiet, EachEarlier-tell}
 use Rattle.svc_core.proofs.EndpointsLemmas.{stands-other}
 use Rattle.svc_core.proofs.ClosesLemmas.{entries-phase}
@@ -42,12 +38,15 @@ begin-right : (core : CoreData) → IsFormed core.plan core.order core.starts co
 begin-right core formed first st d told quiet done =
     let still : has is_signal (Told (Phase Running 0) ∷ tell [] told) ≡ false = has-tell is_signal (λ a. refl) [] told in
     let boot : BootRight core.plan (Told (Phase Running 0) ∷ tell [] told) = record {
-      entries = rw (has-quiet is_bootstrap (λ s. refl) (λ s i. refl) [] told quiet, has-quiet is_bootstrap_complete (λ s. refl) (λ s i. refl) [] told quiet,
-          times-quiet is_running (λ s. refl) (λ s i. refl) [] told quiet) refl;
+      entries = rw (
+        has-quiet is_bootstrap (λ s. refl) (λ s i. refl) [] told quiet,
+        has-quiet is_bootstrap_complete (λ s. refl) (λ s i. refl) [] told quiet,
+        times-quiet is_running (λ s. refl) (λ s i. refl) [] told quiet,
+      ) refl;
     } in
     let whole = done-running core.plan core.order (length core.order) st d (tell [] told) done in
     let opened = open-right core.plan formed.built core.order formed.in_order st d (Told (Phase Running 0) ∷ tell [] told) whole boot
-        (ap (λ xs. phase Running ∷ xs) (marks-quiet [] told quiet)) refl still (has-quiet is_ending (λ s. refl) (λ s i. refl) [] told quiet) in
+    (ap (λ xs. phase Running ∷ xs) (marks-quiet [] told quiet)) refl still (has-quiet is_ending (λ s. refl) (λ s i. refl) [] told quiet) in
     let passed : has_passed core.plan (Told (Phase Running 0) ∷ tell [] told) ≡ false = passed-signal core.plan (Told (Phase Running 0) ∷ tell [] told) ∙ still in
     let on : core.drain.over ≡ false = first.drain.over_is in
     record {

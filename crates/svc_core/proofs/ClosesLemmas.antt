@@ -1,19 +1,17 @@
 -- What told closes leave of a record.
-use Rattle.std.proofs.Common.{ℕ, Bool, true, false, ◌||◌, ◌&&◌, not, ◌==◌, inl, inr, List, [], ◌∷◌, ◌++◌, ◌≡◌, refl, ap, sym, ◌∙◌, subst, arith, ◌+◌, if◌then◌else◌, map}
-use Rattle.std.specs.List.{list_any, filter}
-use Rattle.std.proofs.lemmas.Bool.{eqb-true, eq-eqb, ne_eqb, and_parts, and_from, or_cases, or_parts, or_left, or_right, cases_Bool, cases_eq, false_from_ne_true}
+use Rattle.std.proofs.Common.{ℕ, Bool, true, false, ◌||◌, ◌&&◌, not, ◌==◌, inl, inr, List, [], ◌∷◌, ◌≡◌, refl, ap, sym, ◌∙◌, subst, arith, ◌+◌, if◌then◌else◌, map}
+use Rattle.std.proofs.lemmas.Bool.{eq-eqb, ne_eqb, and_parts, and_from, or_parts, or_left, or_right, cases_Bool}
 use Rattle.svc_record.specs.declared.plan.Plan.{Plan}
 use Rattle.svc_record.specs.declared.entry.Entry.{Entry}
 use Rattle.svc_record.specs.declared.entry.Entry.TheVariants.{Got, Told}
-use Rattle.svc_record.specs.declared.action.Action.{Action}
-use Rattle.svc_record.specs.declared.action.Action.TheVariants.{Start, Bind, Close, Phase, Stop}
+use Rattle.svc_record.specs.declared.action.Action.TheVariants.{Close, Phase, Stop}
 use Rattle.svc_record.specs.declared.action.ExecutionPhase.{ExecutionPhase}
 use Rattle.svc_record.specs.declared.event.Event.TheVariants.{Ready, Bound, Signal}
-use Rattle.svc_record.specs.Record.{Record, has, times, tell, now, before_runtimes, EachEntry}
+use Rattle.svc_record.specs.Record.{Record, has, times, tell, before_runtimes, EachEntry}
 use Rattle.svc_record.specs.Closes.{close_once}
 use Rattle.svc_record.specs.Descriptors.{is_opened, is_close, brings}
-use Rattle.svc_record.specs.Drain.{Mark, told_marks}
-use Rattle.svc_record.specs.Fits.{event_fits, fits, fits_row, is_new}
+use Rattle.svc_record.specs.Drain.{told_marks}
+use Rattle.svc_record.specs.Fits.{event_fits}
 use Rattle.svc_record.specs.Ends.{has_ended}
 use Rattle.svc_record.specs.Asks.{is_bind_open}
 use Rattle.svc_record.specs.Tail.{numbers_in}
@@ -116,6 +114,6 @@ entries-closes p q (f ∷ fds) apart opened lives h =
     entries-closes p (Told (Close f) ∷ q) fds parts.1
     (λ g there. opened g (or_right (f == g) (is_in g fds) there))
     (λ g there. (
-        let ne : (f == g) ≡ false = ne_eqb f g (λ e. let other = apart_from (is_in f fds) parts.0 in let same : is_in f fds ≡ true = subst (λ x. is_in x fds ≡ true) (sym e) there in cc) in
-        rw ne (lives g (or_right (f == g) (is_in g fds) there))))
+    let ne : (f == g) ≡ false = ne_eqb f g (λ e. let other = apart_from (is_in f fds) parts.0 in let same : is_in f fds ≡ true = subst (λ x. is_in x fds ≡ true) (sym e) there in cc) in
+    rw ne (lives g (or_right (f == g) (is_in g fds) there))))
     (entries-close p q f (and_from (is_opened p q f) (not (has (is_close f) q)) (opened f here) (not_in (has (is_close f) q) (lives f here))) h)

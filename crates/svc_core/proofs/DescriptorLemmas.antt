@@ -1,19 +1,15 @@
 -- What a record opened, and what of it is live.
-use Rattle.std.proofs.Common.{ℕ, Bool, true, false, ◌||◌, ◌&&◌, not, ◌==◌, inl, inr, List, [], ◌∷◌, ◌++◌, ◌≡◌, refl, ap, sym, ◌∙◌, subst, arith, length, if◌then◌else◌, Option, Some, None, map, slice_get, ◌<◌, nat_lt}
+use Rattle.std.proofs.Common.{ℕ, false, ◌||◌, not, ◌==◌, inl, inr, List, [], ◌∷◌, ◌++◌, ◌≡◌, refl, ap, sym, ◌∙◌, if◌then◌else◌, Option, map}
 use Rattle.std.specs.List.{list_any, filter}
-use Rattle.std.proofs.lemmas.Bool.{eqb-true, eq-eqb, ne_eqb, and_parts, and_from, or_cases, or_parts, or_left, or_right, cases_Bool, cases_eq, false_from_ne_true}
+use Rattle.std.proofs.lemmas.Bool.{cases_Bool}
 use Rattle.std.proofs.lemmas.List.Folds.{list_any-append}
-use Rattle.std.specs.Prelude.{bytes_eq}
 use Rattle.svc_record.specs.declared.plan.Plan.{Plan}
-use Rattle.svc_graph.specs.declared.plan.EndpointPlan.{EndpointPlan}
 use Rattle.svc_record.specs.declared.entry.Entry.{Entry}
 use Rattle.svc_record.specs.declared.entry.Entry.TheVariants.{Got, Told}
-use Rattle.svc_record.specs.declared.action.Action.{Action}
-use Rattle.svc_record.specs.declared.action.Action.TheVariants.{Start, Bind, Close, Phase, Stop}
 use Rattle.svc_record.specs.declared.event.Event.TheVariants.{Ready, Bound, Signal}
-use Rattle.svc_record.specs.Record.{Record, has, times, tell, EachEntry}
-use Rattle.svc_record.specs.Plans.{address, endpoints, is_endpoint, same_address}
-use Rattle.svc_record.specs.Descriptors.{Descriptor, descriptors_of, opened_descriptors, live_descriptors, live_numbers_with, has_live, is_opened, is_close, has_number, numbers_of, brings, one_live}
+use Rattle.svc_record.specs.Record.{Record, has}
+use Rattle.svc_record.specs.Plans.{address, same_address}
+use Rattle.svc_record.specs.Descriptors.{Descriptor, descriptors_of, opened_descriptors, live_descriptors, live_numbers_with, has_live, is_opened, is_close, has_number, numbers_of, brings}
 use Rattle.svc_record.specs.Drain.{live_numbers}
 use Rattle.svc_record.specs.Tail.{numbers_in}
 use Rattle.svc_core.proofs.NumberLemmas.{is_in}

@@ -1,22 +1,21 @@
 -- What the end of a run leaves is right.
-use Rattle.std.proofs.Common.{ℕ, Bool, true, false, ◌||◌, ◌&&◌, not, ◌==◌, inl, inr, List, [], ◌∷◌, ◌++◌, ◌≡◌, refl, ap, sym, ◌∙◌, subst, arith, ◌+◌, if◌then◌else◌, map, Option, Some, None}
-use Rattle.std.specs.Bool.{OnTrue, OnFalse}
-use Rattle.std.specs.List.{list_any, filter}
-use Rattle.std.proofs.lemmas.Bool.{and_parts, and_from, or_parts, or_left, or_right, eq-eqb, cases_Bool}
+use Rattle.std.proofs.Common.{ℕ, Bool, true, false, ◌&&◌, not, ◌==◌, List, [], ◌∷◌, ◌≡◌, refl, ap, sym, ◌∙◌, subst, arith, if◌then◌else◌, map}
+use Rattle.std.specs.Bool.{OnTrue}
+use Rattle.std.specs.List.{filter}
+use Rattle.std.proofs.lemmas.Bool.{and_parts, or_parts, or_left, or_right, eq-eqb}
 use Rattle.svc_record.specs.declared.plan.Plan.{Plan}
 use Rattle.svc_record.specs.declared.entry.Entry.{Entry}
 use Rattle.svc_record.specs.declared.entry.Entry.TheVariants.{Got, Told}
 use Rattle.svc_record.specs.declared.action.Action.{Action}
 use Rattle.svc_record.specs.declared.action.Action.TheVariants.{Start, Bind, Close, Phase, Stop}
 use Rattle.svc_record.specs.declared.action.ExecutionPhase.TheVariants.{Running, ShutdownStarted, ShutdownRuntimes, Terminated}
-use Rattle.svc_record.specs.declared.event.Event.{Event}
 use Rattle.svc_record.specs.declared.event.Event.TheVariants.{Signal}
 use Rattle.svc_record.specs.declared.event.ShutdownSignal.TheVariants.{FastShutdown}
-use Rattle.svc_record.specs.Record.{Record, has, times, tell, now, signal_of, is_signal, is_running, is_bootstrap, is_bootstrap_complete, from_the_start, before_runtimes, EachEntry, EachEarlier, EachSettled}
+use Rattle.svc_record.specs.Record.{Record, has, times, tell, is_signal, is_running, is_bootstrap, is_bootstrap_complete, from_the_start, before_runtimes, EachEarlier}
 use Rattle.svc_record.specs.Boot.{BootRight}
 use Rattle.svc_record.specs.Closes.{ClosesRight, close_once}
-use Rattle.svc_record.specs.Descriptors.{Descriptor, opened_descriptors, live_descriptors, is_opened, is_close}
-use Rattle.svc_record.specs.Drain.{Mark, phase, Drain, told_marks, due_marks, PhasesRight, is_ending, has_passed, last_actions, live_numbers, ascending}
+use Rattle.svc_record.specs.Descriptors.{Descriptor, opened_descriptors, is_opened, is_close}
+use Rattle.svc_record.specs.Drain.{phase, Drain, told_marks, PhasesRight, is_ending, has_passed, last_actions, live_numbers, ascending}
 use Rattle.svc_record.specs.Ends.{has_ended}
 use Rattle.svc_record.specs.Endpoints.{EndpointsRight, EndpointsRightLate}
 use Rattle.svc_record.specs.Fits.{fits}
@@ -28,7 +27,7 @@ use Rattle.svc_core.specs.Passes.{EntriesRight}
 use Rattle.svc_core.proofs.NumberLemmas.{is_in, distinct, tally, any-ascending, distinct-ascending, tally-distinct}
 use Rattle.svc_core.proofs.DescriptorLemmas.{opened-in, opened-numbers, live-numbers}
 use Rattle.svc_core.proofs.ClosesLemmas.{has-closes, times-other, marks-closes, runtimes-closes, times-closes, times-none, has-times, distinct-numbers, entries-phase, entries-stop, entries-closes}
-use Rattle.svc_core.proofs.RecordLemmas.{tell-append, signal_of-tell, EachEarlier-tell, EachEarlier-weaker, EachEntry-weaker, now-zero, signal-none, signal-some, passed-signal, passed-tell, has-stays, has-tell, on_false, on_true, to_false, to_true, not_false, not_true}
+use Rattle.svc_core.proofs.RecordLemmas.{tell-append, EachEarlier-tell, EachEarlier-weaker, EachEntry-weaker, now-zero, signal-none, signal-some, passed-signal, has-stays, has-tell, on_false, on_true, to_false, to_true, not_false, not_true}
 use Rattle.svc_core.proofs.OpenLemmas.{boot-same, open-marks, open-running}
 
 on_and : (a b : Bool) (P : Type 0) → OnTrue a P → OnTrue (a && b) P
@@ -148,7 +147,7 @@ module _ (p : Plan) (q : Record) (right : EntriesRight p q) (fit : fits p q (Sig
       let started = entries-phase p (Got (Signal FastShutdown) ∷ q) ShutdownStarted got in
       let runtimes = entries-phase p (last_at q) ShutdownRuntimes started in
       let closed : EntriesRight p (closed_at p q) = entries-closes p (Told (Phase ShutdownRuntimes 0) ∷ last_at q) (ascending (live_numbers p q)) apart
-          (λ g there. opened-in p q g ∙ sym (among g) ∙ there) (λ g there. never g) runtimes in
+      (λ g there. opened-in p q g ∙ sym (among g) ∙ there) (λ g there. never g) runtimes in
       let stopped = entries-stop p (closed_at p q) 0 closed in
       subst (EntriesRight p) (sym split) (entries-phase p (Told (Stop 0) ∷ closed_at p q) Terminated stopped)
 
@@ -158,9 +157,9 @@ module _ (p : Plan) (q : Record) (right : EntriesRight p q) (fit : fits p q (Sig
   end-marks : PhasesRight p (ended_at p q)
   end-marks =
       let told : told_marks (ended_at p q) ≡ phase Terminated ∷ (phase ShutdownRuntimes ∷ (phase ShutdownStarted ∷ (phase Running ∷ []))) =
-          ap told_marks split
-          ∙ ap (λ xs. phase Terminated ∷ xs) (marks-closes (Told (Phase ShutdownRuntimes 0) ∷ last_at q) (ascending (live_numbers p q)))
-          ∙ ap (λ xs. phase Terminated ∷ (phase ShutdownRuntimes ∷ (phase ShutdownStarted ∷ xs))) (open-marks p q opened silent) in
+      ap told_marks split
+      ∙ ap (λ xs. phase Terminated ∷ xs) (marks-closes (Told (Phase ShutdownRuntimes 0) ∷ last_at q) (ascending (live_numbers p q)))
+      ∙ ap (λ xs. phase Terminated ∷ (phase ShutdownRuntimes ∷ (phase ShutdownStarted ∷ xs))) (open-marks p q opened silent) in
       rw (told, signal-some (ended_at p q) came, end-running) refl
 
   end-actions : ended_at p q ≡ tell (last_at q) (last_actions p (last_at q))
@@ -241,5 +240,5 @@ module _ (p : Plan) (q : Record) (right : EntriesRight p q) (fit : fits p q (Sig
   pub end-closed : live_numbers p (ended_at p q) ≡ []
   end-closed = ap (map (λ (d : Descriptor). d.number)) (none-open (ended_at p q) (opened_descriptors p (ended_at p q)) (λ fd there.
       let came : is_in fd (numbers_in q) ≡ true =
-          ap (is_in fd) (sym (numbers-tell (Got (Signal FastShutdown) ∷ q) (end_told (ascending (live_numbers p q)))) ∙ sym (opened-numbers p (ended_at p q))) ∙ there in
+      ap (is_in fd) (sym (numbers-tell (Got (Signal FastShutdown) ∷ q) (end_told (ascending (live_numbers p q)))) ∙ sym (opened-numbers p (ended_at p q))) ∙ there in
       has-times (is_close fd) (ended_at p q) (closed-once fd came)))

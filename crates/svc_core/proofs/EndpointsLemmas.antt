@@ -1,6 +1,6 @@
 -- Laws on asks and descriptors.
-use Rattle.std.proofs.Common.{ℕ, Bool, true, false, ◌||◌, ◌&&◌, ◌==◌, not, ◌⊎◌, inl, inr, List, [], ◌∷◌, ◌++◌, ◌≡◌, ◌≢◌, refl, ap, sym, ◌∙◌, subst, arith, ◌<◌, ◌≤◌, ◌+◌, length, if◌then◌else◌, slice_set, slice_index_or, Option, Some, None, slice_get, nat_lt}
-use Rattle.std.specs.List.{list_all, list_any}
+use Rattle.std.proofs.Common.{ℕ, Bool, true, false, ◌||◌, ◌&&◌, ◌==◌, not, ◌⊎◌, inl, inr, List, [], ◌∷◌, ◌++◌, ◌≡◌, refl, ap, sym, ◌∙◌, subst, arith, ◌<◌, length, if◌then◌else◌, slice_set, slice_index_or}
+use Rattle.std.specs.List.{list_any}
 use Rattle.std.proofs.lemmas.Bool.{eqb-true, eq-eqb, ne_eqb, and_parts, and_from, cases_Bool, cases_eq}
 use Rattle.std.proofs.lemmas.List.{get_or-set_same, get_or-set_other}
 use Rattle.svc_record.specs.declared.plan.Plan.{Plan}
@@ -8,15 +8,14 @@ use Rattle.svc_record.specs.declared.entry.Entry.TheVariants.{Got, Told}
 use Rattle.svc_record.specs.declared.action.Action.{Action}
 use Rattle.svc_record.specs.declared.action.Action.TheVariants.{Start, Bind, Close, Phase, Stop}
 use Rattle.svc_record.specs.declared.event.Event.TheVariants.{Ready, Bound}
-use Rattle.svc_record.specs.Record.{Record, has}
-use Rattle.svc_record.specs.Plans.{service_count, services, endpoints, endpoint_numbers, address, is_endpoint, same_address, any_with}
+use Rattle.svc_record.specs.Record.{Record}
+use Rattle.svc_record.specs.Plans.{service_count, services, endpoint_numbers, address, is_endpoint, same_address, any_with}
 use Rattle.svc_record.specs.Asks.{is_bind_open}
 use Rattle.svc_record.specs.AskRules.{ask_due, has_turn}
-use Rattle.svc_record.specs.Endpoints.{held_numbers, is_held, is_busy}
-use Rattle.svc_record.specs.Descriptors.{is_close, has_live, is_doubled, one_live, live_numbers_with, live_descriptors, Descriptor}
-use Rattle.svc_record.specs.Drain.{ascending, put_number}
+use Rattle.svc_record.specs.Endpoints.{held_numbers, is_busy}
+use Rattle.svc_record.specs.Descriptors.{has_live, is_doubled, one_live, live_numbers_with}
+use Rattle.svc_record.specs.Drain.{put_number}
 use Rattle.svc_record.specs.Starts.{is_started}
-use Rattle.svc_record.specs.Tail.{numbers_in}
 use Rattle.svc_record.specs.Validity.{IsBuilt}
 use Rattle.svc_core.specs.declared.endpoints.Ask.{Ask}
 use Rattle.svc_core.specs.declared.endpoints.Ask.TheVariants.{Unasked, Open, Held as Holding}
@@ -132,8 +131,8 @@ module _ (p : Plan) (d : EndpointsData) (q : Record) (s : ℕ) (inside : s < ser
   pub ask-due : IsBuilt p → is_started q s ≡ true → ask_due p (Told (Bind s 0)) q ≡ true
   ask-due built on =
       let free : any_with p (address p s 0) (is_busy p q) ≡ false =
-          any-nowhere (λ t. list_any (λ k. same_address (address p t k) (address p s 0) && is_busy p q t k) (endpoint_numbers p t))
-          (λ t. any-nowhere (λ k. same_address (address p t k) (address p s 0) && is_busy p q t k) (nobody built t) (endpoint_numbers p t)) (services p) in
+      any-nowhere (λ t. list_any (λ k. same_address (address p t k) (address p s 0) && is_busy p q t k) (endpoint_numbers p t))
+      (λ t. any-nowhere (λ k. same_address (address p t k) (address p s 0) && is_busy p q t k) (nobody built t) (endpoint_numbers p t)) (services p) in
       let turn : has_turn p q s 0 ≡ true = rw (has_one, on, not_held, not_open) refl in
       and_from (has_turn p q s 0 && not (has_live p q (address p s 0))) (not (any_with p (address p s 0) (is_busy p q)))
       (and_from (has_turn p q s 0) (not (has_live p q (address p s 0))) turn (not_in (has_live p q (address p s 0)) not_live))
@@ -150,15 +149,15 @@ module _ (p : Plan) (d : EndpointsData) (q : Record) (s fd : ℕ) (built : IsBui
   bound-each : (t : ℕ) → t < service_count p → StandsAt p (ask_at (bound s fd d) t) (Got (Bound s 0 fd) ∷ q) t
   bound-each t lt =
       subst (λ a. AskStands a (if (s == t && true) then false else is_bind_open q t 0)
-          ((if (s == t && true) && not (has_live p q (address p s 0)) then fd ∷ [] else []) ++ held_numbers p q t 0)
-          (live_numbers_with p (Got (Bound s 0 fd) ∷ q) (address p t 0)))
+      ((if (s == t && true) && not (has_live p q (address p s 0)) then fd ∷ [] else []) ++ held_numbers p q t 0)
+      (live_numbers_with p (Got (Bound s 0 fd) ∷ q) (address p t 0)))
       (sym (ask_set d (put_number fd d.numbers) s t (Holding fd) (omega arith)))
       (subst (λ lives. AskStands (if s == t then Holding fd else ask_at d t) (if (s == t && true) then false else is_bind_open q t 0)
-          ((if (s == t && true) && not (has_live p q (address p s 0)) then fd ∷ [] else []) ++ held_numbers p q t 0) lives)
+      ((if (s == t && true) && not (has_live p q (address p s 0)) then fd ∷ [] else []) ++ held_numbers p q t 0) lives)
       (sym (with-bound p q s 0 fd (address p t 0) (stand.never_closed fd)))
       (subst (λ b. AskStands (if s == t then Holding fd else ask_at d t) (if b then false else is_bind_open q t 0)
-          ((if b && not (has_live p q (address p s 0)) then fd ∷ [] else []) ++ held_numbers p q t 0)
-          (if same_address (address p s 0) (address p t 0) then fd ∷ live_numbers_with p q (address p t 0) else live_numbers_with p q (address p t 0)))
+      ((if b && not (has_live p q (address p s 0)) then fd ∷ [] else []) ++ held_numbers p q t 0)
+      (if same_address (address p s 0) (address p t 0) then fd ∷ live_numbers_with p q (address p t 0) else live_numbers_with p q (address p t 0)))
       (sym (and_right_true (s == t)))
       (one-bound (s == t) (not (has_live p q (address p s 0))) (same_address (address p s 0) (address p t 0)) fd (ask_at d t)
       (is_bind_open q t 0) (held_numbers p q t 0) (live_numbers_with p q (address p t 0))

@@ -1,5 +1,5 @@
 -- The core's own test of an event is the record's.
-use Rattle.std.proofs.Common.{ℕ, zero, suc, Bool, true, false, ◌&&◌, not, ◌==◌, ◌⊎◌, inl, inr, List, [], ◌∷◌, ◌≡◌, refl, ap, sym, ◌∙◌, subst, arith, ◌<◌, length, slice_get, Option, Some, None, nat_lt}
+use Rattle.std.proofs.Common.{ℕ, zero, suc, Bool, true, false, ◌&&◌, not, ◌⊎◌, inl, inr, List, [], ◌∷◌, ◌≡◌, refl, sym, ◌∙◌, subst, arith, ◌<◌, length, slice_get, None, nat_lt}
 use Rattle.std.proofs.lemmas.Bool.{false_from_ne_true}
 use Rattle.std.proofs.lemmas.Bool.Decides.{Decides-ltb}
 use Rattle.svc_graph.specs.declared.plan.EndpointPlan.{EndpointPlan}

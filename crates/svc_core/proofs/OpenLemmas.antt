@@ -1,20 +1,19 @@
 -- What a whole pass leaves is right, while the run goes on.
-use Rattle.std.proofs.Common.{ℕ, Bool, true, false, ◌||◌, ◌&&◌, ◌==◌, not, inl, inr, List, [], ◌∷◌, ◌≡◌, refl, ap, sym, ◌∙◌, subst, arith, ◌<◌, ◌≤◌, length, if◌then◌else◌, slice_index, nat_lt}
-use Rattle.std.specs.Bool.{OnTrue}
-use Rattle.std.proofs.lemmas.Bool.{cases_Bool, and_parts, or_left, or_right, eq-eqb, eqb-true}
+use Rattle.std.proofs.Common.{ℕ, Bool, true, false, ◌||◌, ◌&&◌, ◌==◌, not, List, [], ◌∷◌, ◌≡◌, refl, ap, sym, ◌∙◌, subst, arith, ◌<◌, length, if◌then◌else◌}
+use Rattle.std.proofs.lemmas.Bool.{and_parts, or_left, or_right, eq-eqb, eqb-true}
 use Rattle.svc_record.specs.declared.plan.Plan.{Plan}
 use Rattle.svc_record.specs.declared.entry.Entry.{Entry}
 use Rattle.svc_record.specs.declared.entry.Entry.TheVariants.{Got, Told}
 use Rattle.svc_record.specs.declared.action.Action.TheVariants.{Start, Bind, Close, Phase, Stop}
 use Rattle.svc_record.specs.declared.action.ExecutionPhase.TheVariants.{Running}
 use Rattle.svc_record.specs.Plans.{service_count, endpoints}
-use Rattle.svc_record.specs.Record.{Record, has, times, is_signal, is_running, is_bootstrap, is_bootstrap_complete, from_the_start, EachEntry, EachEarlier}
-use Rattle.svc_record.specs.Starts.{is_start, is_started, is_due, StartsRight}
+use Rattle.svc_record.specs.Record.{Record, has, times, is_signal, is_running, is_bootstrap, is_bootstrap_complete, from_the_start, EachEarlier}
+use Rattle.svc_record.specs.Starts.{is_started, is_due, StartsRight}
 use Rattle.svc_record.specs.Asks.{is_bind_open}
-use Rattle.svc_record.specs.Boot.{BootRight, boot_entries_right}
-use Rattle.svc_record.specs.Closes.{ClosesRight, is_gone}
+use Rattle.svc_record.specs.Boot.{BootRight}
+use Rattle.svc_record.specs.Closes.{ClosesRight}
 use Rattle.svc_record.specs.Descriptors.{is_close, live_numbers_with}
-use Rattle.svc_record.specs.Drain.{Mark, phase, told_marks, due_marks, PhasesRight, every_moment_right, moment_right, is_boot_phase, is_ending, has_passed}
+use Rattle.svc_record.specs.Drain.{phase, told_marks, due_marks, every_moment_right, moment_right, is_boot_phase, is_ending, has_passed}
 use Rattle.svc_record.specs.Ends.{has_ended}
 use Rattle.svc_record.specs.Endpoints.{held_numbers, holds, waits, is_held, endpoint_right, endpoint_right_late, EndpointsRight, EndpointsRightLate}
 use Rattle.svc_record.specs.Plans.{address}
@@ -24,7 +23,7 @@ use Rattle.svc_core.specs.declared.endpoints.Ask.{Ask}
 use Rattle.svc_core.specs.declared.endpoints.Ask.TheVariants.{Unasked, Open, Held as Holding}
 use Rattle.svc_core.specs.StartsData.{StartsData}
 use Rattle.svc_core.specs.EndpointsData.{EndpointsData}
-use Rattle.svc_core.specs.EndpointsState.{ask_at, StandsAt, EndpointsStand}
+use Rattle.svc_core.specs.EndpointsState.{ask_at, StandsAt}
 use Rattle.svc_core.specs.Passes.{EntriesRight, PassedUpTo}
 use Rattle.svc_core.proofs.ClosesLemmas.{times-none, has-times}
 use Rattle.svc_core.proofs.RecordLemmas.{signal-none, passed-signal, EachEntry-weaker, on_false, to_false, to_true, not_true}

@@ -1,19 +1,18 @@
 -- One visit of the pass.
-use Rattle.std.proofs.Common.{ℕ, Bool, true, false, ◌||◌, ◌&&◌, ◌==◌, not, ◌⊎◌, inl, inr, List, [], ◌∷◌, ◌++◌, ◌≡◌, ◌≢◌, refl, ap, sym, ◌∙◌, subst, append_assoc, arith, ◌<◌, ◌≤◌, ◌+◌, length, if◌then◌else◌, slice_index, nat_lt}
-use Rattle.std.proofs.lemmas.Bool.{eqb-true, and_parts, and_from, or_cases, or_left, or_right, eq-eqb, cases_Bool, cases_eq}
+use Rattle.std.proofs.Common.{ℕ, Bool, true, false, ◌&&◌, ◌==◌, not, ◌⊎◌, inl, inr, List, [], ◌∷◌, ◌++◌, ◌≡◌, ◌≢◌, refl, ap, sym, ◌∙◌, subst, append_assoc, arith, ◌<◌, ◌+◌, length, if◌then◌else◌, slice_index, nat_lt}
+use Rattle.std.proofs.lemmas.Bool.{eqb-true, and_parts, or_cases, or_left, or_right, eq-eqb, cases_eq}
 use Rattle.std.proofs.lemmas.Bool.Decides.{Decides-ltb}
 use Rattle.svc_record.specs.declared.plan.Plan.{Plan}
-use Rattle.svc_record.specs.declared.entry.Entry.TheVariants.{Got, Told}
+use Rattle.svc_record.specs.declared.entry.Entry.TheVariants.{Told}
 use Rattle.svc_record.specs.declared.action.Action.{Action}
 use Rattle.svc_record.specs.declared.action.Action.TheVariants.{Start, Bind}
 use Rattle.svc_record.specs.Plans.{service_count, endpoints, is_endpoint}
-use Rattle.svc_record.specs.Record.{Record, has, tell, EachEntry}
+use Rattle.svc_record.specs.Record.{Record, has, tell}
 use Rattle.svc_record.specs.Starts.{is_started, is_due, start_due}
 use Rattle.svc_record.specs.AskRules.{ask_due}
 use Rattle.svc_record.specs.Validity.{IsValid, IsBuilt, IsInOrder}
-use Rattle.svc_core.specs.declared.endpoints.Ask.{Ask}
-use Rattle.svc_core.specs.declared.endpoints.Ask.TheVariants.{Unasked, Open, Held as Holding}
-use Rattle.svc_core.specs.Told.{Tells, IsQuiet}
+use Rattle.svc_core.specs.declared.endpoints.Ask.TheVariants.{Unasked, Open}
+use Rattle.svc_core.specs.Told.{IsQuiet}
 use Rattle.svc_core.specs.StartsData.{StartsData}
 use Rattle.svc_core.specs.StartsState.{IsStartsSized, StartsStand, is_flagged, starts_now, start_if, start_told}
 use Rattle.svc_core.specs.EndpointsData.{EndpointsData}
@@ -161,7 +160,7 @@ module _ (p : Plan) (built : IsBuilt p) (order : List ℕ) (k : ℕ) (place : k 
             elim (cases_eq (slice_index order j) (slice_index order k)) [
               | inl same ↦ (λ unasked.
                   let shut : is_unasked (ask_at d (slice_index order k)) ≡ false = not_asked (is_started q (slice_index order k)) (nat_lt 0 (length (endpoints p (slice_index order k)))) (is_unasked (ask_at d (slice_index order k))) (sym e)
-                      (subst (λ u. is_started q u ≡ true) same on) ((Decides-ltb 0 (length (endpoints p (slice_index order k)))).1 (subst (λ u. 0 < length (endpoints p u)) same has_one)) in
+                  (subst (λ u. is_started q u ≡ true) same on) ((Decides-ltb 0 (length (endpoints p (slice_index order k)))).1 (subst (λ u. 0 < length (endpoints p u)) same has_one)) in
                   let opened : is_unasked (ask_at d (slice_index order k)) ≡ true = ap is_unasked (subst (λ u. ask_at d u ≡ Unasked) same unasked) in
                   cc)
               | inr ne ↦ half.asked j (elim (below_suc j k below) [ inl less ↦ less | inr e ↦ absurd (ne (ap (slice_index order) e)) ]) on ne has_one
@@ -196,7 +195,7 @@ visit-passes p valid built order k place in_order st d b c before mid after st_s
     λ q was. (
         let half = start-halves p valid order k place in_order st d q st_sized was b start in
         let on : is_flagged (start_if b (slice_index order k) st).started (slice_index order k) ≡ is_started (tell q (start_told b (slice_index order k))) (slice_index order k) =
-            half.starts.started_is (slice_index order k) (in_order.inside k place) in
+        half.starts.started_is (slice_index order k) (in_order.inside k place) in
         subst (λ r. PassedUpTo p order (k + 1) (start_if b (slice_index order k) st) (ask_if c (slice_index order k) d) r)
         (sym (tell-append q (start_told b (slice_index order k)) (ask_told c (slice_index order k))))
         (ask-wholes p built order k place in_order (start_if b (slice_index order k) st) d (tell q (start_told b (slice_index order k))) d_sized half c

@@ -1,19 +1,18 @@
 -- Laws on records and what is told in them.
-use Rattle.std.proofs.Common.{ℕ, Bool, true, false, ◌||◌, ◌&&◌, not, inl, inr, List, [], ◌∷◌, ◌++◌, ◌≡◌, refl, ap, sym, ◌∙◌, append_assoc, Option, Some, None, map, ◌+◌, if◌then◌else◌}
-use Rattle.std.specs.Bool.{OnTrue, OnFalse, MatchBool}
-use Rattle.std.proofs.lemmas.Bool.{or_right, cases_Bool, and_parts}
+use Rattle.std.proofs.Common.{ℕ, Bool, true, false, ◌||◌, inl, inr, List, [], ◌∷◌, ◌++◌, ◌≡◌, refl, ap, sym, ◌∙◌, Some, None, ◌+◌, if◌then◌else◌}
+use Rattle.std.specs.Bool.{OnTrue, OnFalse}
+use Rattle.std.proofs.lemmas.Bool.{or_right, cases_Bool}
 use Rattle.svc_record.specs.declared.plan.Plan.{Plan}
 use Rattle.svc_record.specs.declared.entry.Entry.{Entry}
 use Rattle.svc_record.specs.declared.entry.Entry.TheVariants.{Got, Told}
 use Rattle.svc_record.specs.declared.action.Action.{Action}
 use Rattle.svc_record.specs.declared.action.Action.TheVariants.{Start, Bind, Close, Phase, Stop}
-use Rattle.svc_record.specs.declared.event.Event.{Event}
 use Rattle.svc_record.specs.declared.event.Event.TheVariants.{Ready, Bound, Signal}
 use Rattle.svc_record.specs.declared.event.ShutdownSignal.TheVariants.{FastShutdown}
-use Rattle.svc_record.specs.Record.{Record, has, times, tell, now, signal_of, is_signal, is_running, EachEntry, EachEarlier}
-use Rattle.svc_record.specs.Drain.{Mark, told_marks, has_passed}
+use Rattle.svc_record.specs.Record.{Record, has, times, tell, now, signal_of, is_signal, EachEntry, EachEarlier}
+use Rattle.svc_record.specs.Drain.{told_marks, has_passed}
 use Rattle.svc_record.specs.Fits.{event_fits}
-use Rattle.svc_core.specs.Told.{Tells, IsQuiet}
+use Rattle.svc_core.specs.Told.{IsQuiet}
 
 pub tell-append : (q : Record) (xs ys : List Action) → tell q (xs ++ ys) ≡ tell (tell q xs) ys
 tell-append q [] ys = refl

@@ -1,7 +1,7 @@
 -- Laws on what is started, ready and due.
-use Rattle.std.proofs.Common.{ℕ, zero, suc, Bool, true, false, ◌||◌, ◌&&◌, not, ◌==◌, inl, inr, List, [], ◌∷◌, ◌++◌, ◌≡◌, ◌≢◌, refl, ap, sym, ◌∙◌, arith, ◌<◌, ◌+◌, subst, if◌then◌else◌, length, slice_index, slice_index_or, slice_set}
+use Rattle.std.proofs.Common.{ℕ, suc, Bool, true, false, ◌||◌, ◌&&◌, not, ◌==◌, inl, inr, List, [], ◌∷◌, ◌≡◌, refl, ap, sym, ◌∙◌, arith, ◌<◌, ◌+◌, subst, if◌then◌else◌, length, slice_index_or, slice_set}
 use Rattle.std.specs.List.{list_all, list_any}
-use Rattle.std.proofs.lemmas.Bool.{eqb-true, eq-eqb, ne_eqb, and_parts, and_from, or_left, or_right, or_parts, cases_eq}
+use Rattle.std.proofs.lemmas.Bool.{eqb-true, eq-eqb, ne_eqb, and_parts, and_from, or_parts, cases_eq}
 use Rattle.std.proofs.lemmas.List.{get_or-set_same, get_or-set_other}
 use Rattle.svc_graph.specs.declared.plan.Kind.TheVariants.{Plain}
 use Rattle.svc_record.specs.declared.plan.Plan.{Plan}
@@ -10,7 +10,7 @@ use Rattle.svc_record.specs.declared.entry.Entry.TheVariants.{Got, Told}
 use Rattle.svc_record.specs.declared.action.Action.{Action}
 use Rattle.svc_record.specs.declared.action.Action.TheVariants.{Start, Bind, Close, Phase, Stop}
 use Rattle.svc_record.specs.declared.event.Event.TheVariants.{Ready}
-use Rattle.svc_record.specs.Record.{Record, has, times, tell, EachEntry}
+use Rattle.svc_record.specs.Record.{Record, has, times, EachEntry}
 use Rattle.svc_record.specs.Starts.{is_start, is_ready_event, is_started, is_ready, is_due, start_due}
 use Rattle.svc_record.specs.Plans.{depends, has_kind, service_count}
 use Rattle.svc_record.specs.Validity.{IsValid, depends_on}

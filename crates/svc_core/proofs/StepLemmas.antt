@@ -1,54 +1,43 @@
 -- A step keeps the record right.
-use Rattle.std.proofs.Common.{ℕ, Bool, true, false, ◌||◌, ◌&&◌, not, ◌==◌, ◌⊎◌, inl, inr, List, [], ◌∷◌, ◌++◌, ◌≡◌, refl, ap, sym, ◌∙◌, subst, arith, append_assoc, ◌<◌, length, if◌then◌else◌, slice_get, Option, Some, None, nat_lt}
-use Rattle.std.specs.Bool.{OnTrue}
-use Rattle.std.specs.List.{list_any}
-use Rattle.std.proofs.lemmas.Bool.{and_parts, and_from, eqb-true}
-use Rattle.std.proofs.lemmas.Bool.Decides.{Decides-ltb}
-use Rattle.svc_graph.specs.declared.plan.Kind.TheVariants.{Notifying}
+use Rattle.std.proofs.Common.{ℕ, Bool, true, false, ◌&&◌, not, ◌==◌, List, ◌∷◌, ◌++◌, ◌≡◌, refl, ap, sym, ◌∙◌, subst, arith, ◌<◌, length, if◌then◌else◌}
+use Rattle.std.proofs.lemmas.Bool.{and_from}
 use Rattle.svc_record.specs.declared.plan.Plan.{Plan}
-use Rattle.svc_record.specs.declared.plan.ServicePlan.{ServicePlan}
-use Rattle.svc_record.specs.declared.entry.Entry.{Entry}
-use Rattle.svc_record.specs.declared.entry.Entry.TheVariants.{Got, Told}
+use Rattle.svc_record.specs.declared.entry.Entry.TheVariants.{Got}
 use Rattle.svc_record.specs.declared.action.Action.{Action}
-use Rattle.svc_record.specs.declared.action.Action.TheVariants.{Start, Bind, Close, Phase, Stop}
-use Rattle.svc_record.specs.declared.action.ExecutionPhase.TheVariants.{Running}
-use Rattle.svc_record.specs.declared.action.StepEnd.{StepEnd}
 use Rattle.svc_record.specs.declared.action.StepEnd.TheVariants.{On, Served}
 use Rattle.svc_record.specs.declared.event.Event.{Event}
 use Rattle.svc_record.specs.declared.event.Event.TheVariants.{Ready, Bound, Signal}
 use Rattle.svc_record.specs.declared.event.ShutdownSignal.{ShutdownSignal}
 use Rattle.svc_record.specs.declared.event.ShutdownSignal.TheVariants.{FastShutdown}
-use Rattle.svc_record.specs.Plans.{service_count, service, has_kind, endpoints, is_endpoint}
-use Rattle.svc_record.specs.Record.{Record, has, times, tell, is_signal, is_running, is_bootstrap, is_bootstrap_complete, from_the_start, EachEntry, EachEarlier}
+use Rattle.svc_record.specs.Plans.{service_count}
+use Rattle.svc_record.specs.Record.{Record, has, tell, is_signal, is_running, is_bootstrap, is_bootstrap_complete, from_the_start}
 use Rattle.svc_record.specs.Asks.{is_bind_open}
 use Rattle.svc_record.specs.Boot.{BootRight}
 use Rattle.svc_record.specs.Descriptors.{brings}
-use Rattle.svc_record.specs.Drain.{Mark, phase, told_marks, is_ending, has_passed, ascending, live_numbers}
+use Rattle.svc_record.specs.Drain.{is_ending, ascending, live_numbers}
 use Rattle.svc_record.specs.Ends.{has_ended}
-use Rattle.svc_record.specs.Fits.{fits, fits_row, Fits, is_new}
+use Rattle.svc_record.specs.Fits.{fits, fits_row}
 use Rattle.svc_record.specs.Right.{Right, OpenRight, SettledRight}
 use Rattle.svc_record.specs.Starts.{is_started, is_ready_event, is_due, StartsRight}
 use Rattle.svc_record.specs.Tail.{numbers_in}
 use Rattle.svc_record.specs.Validity.{IsBuilt, IsInOrder}
-use Rattle.svc_core.specs.declared.endpoints.Ask.{Ask}
-use Rattle.svc_core.specs.Told.{Tells, IsQuiet}
+use Rattle.svc_core.specs.Told.{IsQuiet}
 use Rattle.svc_core.specs.StartsData.{StartsData}
-use Rattle.svc_core.specs.StartsState.{IsStartsSized, StartsStand, word_taken}
+use Rattle.svc_core.specs.StartsState.{StartsStand, word_taken}
 use Rattle.svc_core.specs.EndpointsData.{EndpointsData}
-use Rattle.svc_core.specs.EndpointsState.{IsAsksSized, EndpointsStand, ask_at, is_open_ask, bound}
+use Rattle.svc_core.specs.EndpointsState.{EndpointsStand, bound}
 use Rattle.svc_core.specs.DrainData.{DrainData}
 use Rattle.svc_core.specs.DrainState.{DrainStand, end_told}
 use Rattle.svc_core.specs.CoreData.{CoreData, IsFormed}
 use Rattle.svc_core.specs.Passes.{EntriesRight, PassedUpTo, Passes}
-use Rattle.svc_core.specs.Stands.{StandsFor, StepRight, StepKeeps, BeginKeeps, ReadyMayCome, BoundMayCome}
+use Rattle.svc_core.specs.Stands.{StandsFor, StepRight, StepKeeps, ReadyMayCome, BoundMayCome}
 use Rattle.svc_core.proofs.NumberLemmas.{is_in, any-ascending}
 use Rattle.svc_core.proofs.DescriptorLemmas.{brings-in, live-numbers}
-use Rattle.svc_core.proofs.RecordLemmas.{tell-append, passed-signal, has-tell, has-quiet, times-quiet, marks-quiet, EachEarlier-tell, on_true, to_false}
+use Rattle.svc_core.proofs.RecordLemmas.{passed-signal, has-tell, has-quiet, times-quiet, marks-quiet, EachEarlier-tell, on_true, to_false}
 use Rattle.svc_core.proofs.StartsLemmas.{is_due-grows, count-start, stands-word}
-use Rattle.svc_core.proofs.EndpointsLemmas.{stands-other, stands-ready, stands-bound}
-use Rattle.svc_core.proofs.ClosesLemmas.{entries-phase}
+use Rattle.svc_core.proofs.EndpointsLemmas.{stands-ready, stands-bound}
 use Rattle.svc_core.proofs.OpenLemmas.{open-right, right-open, entries-of, is-open, open-running, open-marks, boot-same}
-use Rattle.svc_core.proofs.EndLemmas.{ended_at, end-right, end-passed, end-running, end-closed, numbers-tell}
+use Rattle.svc_core.proofs.EndLemmas.{end-right, end-passed, end-running, end-closed, numbers-tell}
 
 flag : (a b : Bool) → ◌≡◌ {A = ℕ} (if a then 1 else 0) (if b then 1 else 0) → a ≡ true → b ≡ true
 flag true true h e = refl
@@ -112,11 +101,11 @@ pass-right p built order in_order st d drain q e told right fit plain quiet stan
     let still : has is_signal (tell (Got e ∷ q) told) ≡ false = has-tell is_signal (λ a. refl) (Got e ∷ q) told ∙ no_signal e q plain ∙ silent in
     let runs : has is_running (tell (Got e ∷ q) told) ≡ has is_running q = has-quiet is_running (λ s. refl) (λ s i. refl) (Got e ∷ q) told quiet in
     let boot : BootRight p (tell (Got e ∷ q) told) = boot-same p q (tell (Got e ∷ q) told)
-        (has-quiet is_bootstrap (λ s. refl) (λ s i. refl) (Got e ∷ q) told quiet) (has-quiet is_bootstrap_complete (λ s. refl) (λ s i. refl) (Got e ∷ q) told quiet)
-        (times-quiet is_running (λ s. refl) (λ s i. refl) (Got e ∷ q) told quiet) opened.boot in
+    (has-quiet is_bootstrap (λ s. refl) (λ s i. refl) (Got e ∷ q) told quiet) (has-quiet is_bootstrap_complete (λ s. refl) (λ s i. refl) (Got e ∷ q) told quiet)
+    (times-quiet is_running (λ s. refl) (λ s i. refl) (Got e ∷ q) told quiet) opened.boot in
     let whole = open-right p built order in_order st d (tell (Got e ∷ q) told) done boot
-        (marks-quiet (Got e ∷ q) told quiet ∙ open-marks p q opened silent) (runs ∙ open-running p q opened.boot) still
-        (has-quiet is_ending (λ s. refl) (λ s i. refl) (Got e ∷ q) told quiet ∙ opened.no_end) in
+    (marks-quiet (Got e ∷ q) told quiet ∙ open-marks p q opened silent) (runs ∙ open-running p q opened.boot) still
+    (has-quiet is_ending (λ s. refl) (λ s i. refl) (Got e ∷ q) told quiet ∙ opened.no_end) in
     record {
       stands = record {
         drain = record { running_is = stands.running_is ∙ sym runs; over_is = on ∙ sym (passed-signal p (tell (Got e ∷ q) told) ∙ still) };

@@ -1,10 +1,9 @@
 -- After the closing actions each number that came has one close.
 use Rattle.std.proofs.Common.{ℕ, Bool, true, false, ◌||◌, ◌&&◌, not, ◌==◌, inl, inr, List, [], ◌∷◌, ◌++◌, ◌≡◌, refl, ap, sym, ◌∙◌, subst, arith, ◌+◌, if◌then◌else◌, map, Option, Some, None, nat_lt, ◌<◌, append_assoc}
-use Rattle.std.specs.List.{list_any, list_all, filter}
-use Rattle.std.proofs.lemmas.Bool.{eqb-true, eq-eqb, ne_eqb, and_parts, and_from, or_cases, or_parts, or_left, or_right, cases_Bool, cases_eq, false_from_ne_true}
+use Rattle.std.specs.List.{list_all, filter}
+use Rattle.std.proofs.lemmas.Bool.{eqb-true, eq-eqb, ne_eqb, and_parts, and_from, or_cases, or_left, or_right, cases_Bool, cases_eq}
 use Rattle.std.proofs.lemmas.List.Folds.{list_any-append}
 use Rattle.svc_record.specs.declared.plan.Plan.{Plan}
-use Rattle.svc_record.specs.declared.entry.Entry.{Entry}
 use Rattle.svc_record.specs.declared.entry.Entry.TheVariants.{Got, Told}
 use Rattle.svc_record.specs.declared.action.Action.{Action}
 use Rattle.svc_record.specs.declared.action.Action.TheVariants.{Start, Bind, Close, Phase, Stop}
@@ -12,15 +11,14 @@ use Rattle.svc_record.specs.declared.event.Event.{Event}
 use Rattle.svc_record.specs.declared.event.Event.TheVariants.{Ready, Bound, Signal}
 use Rattle.svc_record.specs.Record.{Record, has, times, tell, EachEntry}
 use Rattle.svc_record.specs.Closes.{close_once}
-use Rattle.svc_record.specs.Descriptors.{Descriptor, opened_descriptors, live_descriptors, is_opened, is_close, numbers_of, brings}
+use Rattle.svc_record.specs.Descriptors.{Descriptor, opened_descriptors, is_opened, is_close, numbers_of, brings}
 use Rattle.svc_record.specs.Drain.{ascending, put_number, live_numbers}
 use Rattle.svc_record.specs.Right.{Right}
-use Rattle.svc_record.specs.Tail.{numbers_in, with_event, new_numbers, each_once, closing_actions, is_of, tail_right}
-use Rattle.svc_core.specs.Told.{Tells}
+use Rattle.svc_record.specs.Tail.{numbers_in, new_numbers, closing_actions, is_of, tail_right}
 use Rattle.svc_core.specs.CoreData.{CoreData}
 use Rattle.svc_core.specs.Rooms.{open_numbers, left_numbers}
 use Rattle.svc_core.specs.Stands.{StandsFor, ClosesAll}
-use Rattle.svc_core.proofs.NumberLemmas.{is_in, tally, tally-distinct, any-ascending}
+use Rattle.svc_core.proofs.NumberLemmas.{is_in, tally, tally-distinct}
 use Rattle.svc_core.proofs.DescriptorLemmas.{opened-in, opened-numbers, live-numbers, brings-in}
 use Rattle.svc_core.proofs.ClosesLemmas.{times-closes, distinct-numbers}
 use Rattle.svc_core.proofs.StepLemmas.{fresh}
@@ -166,7 +164,7 @@ module _ (p : Plan) (q : Record) (right : Right p q) (w : Record) (with new : Li
       ≡ (if has (is_close g) q then 0 else (if is_in g (numbers_in q) then 1 else 0)) + (if is_in g with && not (is_in g (numbers_in q)) then 1 else 0)
   total g =
       let lives : tally g (ascending (live_numbers p q)) ≡ (if has (is_close g) q then 0 else tally g (numbers_in q)) =
-          tally-ascending g (live_numbers p q) ∙ tally-live q g (opened_descriptors p q) ∙ ap (λ xs. if has (is_close g) q then 0 else tally g xs) (opened-numbers p q) in
+      tally-ascending g (live_numbers p q) ∙ tally-live q g (opened_descriptors p q) ∙ ap (λ xs. if has (is_close g) q then 0 else tally g xs) (opened-numbers p q) in
       let one : tally g (numbers_in q) ≡ (if is_in g (numbers_in q) then 1 else 0) = tally-distinct g (numbers_in q) (distinct-numbers p q right.fits) in
       let fresh_ones : tally g new ≡ (if is_in g with && not (is_in g (numbers_in q)) then 1 else 0) = news g ∙ ap (λ b. if is_in g with && not b then 1 else 0) (brings-in q g) in
       tally-append g (ascending (live_numbers p q)) new

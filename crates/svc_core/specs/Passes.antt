@@ -1,5 +1,5 @@
 -- What a pass over the services keeps.
-use Rattle.std.specs.Prelude.{ℕ, Bool, true, ◌≡◌, ◌<◌, List, length, slice_index}
+use Rattle.std.specs.Prelude.{ℕ, true, ◌≡◌, ◌<◌, List, length, slice_index}
 use Rattle.svc_record.specs.declared.plan.Plan.{Plan}
 use Rattle.svc_record.specs.declared.action.Action.{Action}
 use Rattle.svc_record.specs.Plans.{service_count, endpoints}

@@ -1,5 +1,5 @@
 -- What the part on starts stands for, and what it does.
-use Rattle.std.specs.Prelude.{ℕ, Bool, true, false, ◌≡◌, ◌<◌, ◌||◌, ◌&&◌, not, List, [], ◌∷◌, length, slice_index_or, slice_set, if◌then◌else◌}
+use Rattle.std.specs.Prelude.{ℕ, Bool, true, false, ◌≡◌, ◌<◌, ◌||◌, ◌&&◌, not, List, [], ◌∷◌, length, slice_index_or, slice_set}
 use Rattle.std.specs.List.{list_all}
 use Rattle.svc_graph.specs.declared.plan.Kind.TheVariants.{Plain}
 use Rattle.svc_record.specs.declared.plan.Plan.{Plan}

@@ -176,12 +176,7 @@ impl Core {
         StepEnd::On
     }
 
-    fn step_bound(
-        &mut self,
-        s: u32,
-        fd: u64,
-        actions: &mut Actions,
-    ) -> Result<StepEnd, NoMemory>
+    fn step_bound(&mut self, s: u32, fd: u64, actions: &mut Actions) -> Result<StepEnd, NoMemory>
         requires on { self.old.drain.over ≡ false }
         requires may { BoundMayCome self.old s 0 fd }
         requires room { step_room self.old ≤ spare actions.old }

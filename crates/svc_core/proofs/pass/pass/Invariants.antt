@@ -1,4 +1,4 @@
-use Rattle.std.proofs.Common.{ℕ, ◌+◌, ◌*◌, ◌≤◌, ◌≡◌, length}
+use Rattle.std.proofs.Common.{◌+◌, ◌*◌, ◌≤◌, ◌≡◌, length}
 use Rattle.svc_conf.specs.Items.{list_of, spare}
 use Rattle.svc_core.specs.StartsState.{IsStartsSized}
 use Rattle.svc_core.specs.EndpointsState.{IsAsksSized}

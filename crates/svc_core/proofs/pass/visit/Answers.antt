@@ -1,10 +1,8 @@
-use Rattle.std.proofs.Common.{slice_index, ap, ◌∙◌, sym}
+use Rattle.std.proofs.Common.{slice_index, ap, ◌∙◌}
 use Rattle.svc_conf.specs.Items.{list_of}
 use Rattle.svc_core.specs.StartsData.{StartsData}
-use Rattle.svc_core.specs.StartsState.{start_if, is_flagged}
-use Rattle.svc_core.specs.EndpointsData.{EndpointsData}
-use Rattle.svc_core.specs.EndpointsState.{ask_if, asks_now}
-use Rattle.svc_core.specs.Passes.{Passes}
+use Rattle.svc_core.specs.StartsState.{is_flagged}
+use Rattle.svc_core.specs.EndpointsState.{asks_now}
 use Rattle.svc_core.proofs.PassLemmas.{visit-passes}
 use Rattle.svc_core.proofs.pass.visit.Goals as goal
 

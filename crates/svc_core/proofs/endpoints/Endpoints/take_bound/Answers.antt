@@ -1,7 +1,6 @@
 use Rattle.svc_core.proofs.NumberLemmas.{insert-put}
-use Rattle.std.proofs.Common.{◌≡◌, ap, ◌∙◌, sym, subst, slice_set, refl}
-use Rattle.svc_core.specs.declared.endpoints.Ask.TheVariants.{Held as Holding}
-use Rattle.svc_core.specs.EndpointsData.{EndpointsData, EndpointsRoom}
+use Rattle.std.proofs.Common.{ap}
+use Rattle.svc_core.specs.EndpointsData.{EndpointsRoom}
 use Rattle.svc_core.specs.EndpointsState.{bound}
 use Rattle.svc_core.proofs.endpoints.Endpoints.take_bound.Goals as goal
 

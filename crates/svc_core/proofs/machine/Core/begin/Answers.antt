@@ -1,9 +1,4 @@
-use Rattle.std.proofs.Common.{subst, ◌≡◌, true, ap, ◌∙◌, sym}
 use Rattle.svc_conf.specs.Items.{list_of}
-use Rattle.svc_record.specs.declared.action.StepEnd.TheVariants.{On}
-use Rattle.svc_core.specs.CoreData.{CoreData}
-use Rattle.svc_core.specs.DrainData.{DrainData}
-use Rattle.svc_core.specs.Stands.{BeginKeeps, HasNotBegun}
 use Rattle.svc_core.proofs.BeginLemmas.{begin-keeps}
 use Rattle.svc_core.proofs.machine.Core.begin.Goals as goal
 

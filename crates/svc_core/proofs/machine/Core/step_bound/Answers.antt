@@ -1,10 +1,8 @@
-use Rattle.std.proofs.Common.{subst, ◌≡◌, ap, ◌∙◌, sym}
+use Rattle.std.proofs.Common.{subst}
 use Rattle.svc_conf.specs.Items.{list_of}
 use Rattle.svc_record.specs.declared.action.StepEnd.TheVariants.{On}
 use Rattle.svc_record.specs.declared.event.Event.TheVariants.{Bound}
 use Rattle.svc_core.specs.CoreData.{CoreData}
-use Rattle.svc_core.specs.EndpointsData.{EndpointsData}
-use Rattle.svc_core.specs.EndpointsState.{bound}
 use Rattle.svc_core.specs.Stands.{StepKeeps}
 use Rattle.svc_core.proofs.StepLemmas.{step-bound}
 use Rattle.svc_core.proofs.machine.Core.step_bound.Goals as goal

@@ -1,4 +1,4 @@
-use Rattle.std.proofs.Common.{subst, ◌≡◌}
+use Rattle.std.proofs.Common.{subst}
 use Rattle.svc_conf.specs.Items.{list_of}
 use Rattle.svc_record.specs.declared.action.StepEnd.TheVariants.{On}
 use Rattle.svc_record.specs.declared.event.Event.TheVariants.{Ready}
