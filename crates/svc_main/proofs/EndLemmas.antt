@@ -1,6 +1,6 @@
 -- How a run ends, from what the core ensures.
-use Rattle.std.proofs.Common.{List, [], ◌∷◌, ◌++◌, ◌≡◌, ℕ, ◌+◌, Bool, true, false, refl, ap, sym, ◌∙◌, subst, map, reverse, length, append-nil, Option, Some, None, arith, length-append}
-use Rattle.std.proofs.lemmas.List.{reverse-append, reverse-reverse}
+use Rattle.std.proofs.Common.{List, [], ◌∷◌, ◌++◌, ◌≡◌, ℕ, ◌+◌, Bool, true, false, refl, ap, sym, ◌∙◌, subst, map, reverse, length, append-nil, append_assoc, Option, Some, None, arith, length-append, ◌<◌, ◌≤◌, take, drop, get_or, add-one, drop-cons}
+use Rattle.std.proofs.lemmas.List.{reverse-append, reverse-reverse, take-append-drop, length-take-le}
 use Rattle.std.proofs.lemmas.List.Elements.{filter_map-append}
 use Rattle.std.specs.Option.{option_to_list}
 use mathlib.Core.Bool.{false≢true}
@@ -13,32 +13,36 @@ use Rattle.svc_record.specs.declared.event.Event.TheVariants.{Ready, Bound, Sign
 use Rattle.svc_record.specs.declared.event.ShutdownSignal.{ShutdownSignal}
 use Rattle.svc_record.specs.declared.event.ShutdownSignal.TheVariants.{FastShutdown}
 use Rattle.svc_record.specs.Record.{Record, tell, first_or, signal_of}
-use Rattle.svc_record.specs.Ends.{has_ended}
+use Rattle.svc_record.specs.Ends.{has_ended, step_end}
+use Rattle.svc_record.specs.declared.action.StepEnd.TheVariants.{Served as SteppedServed}
 use Rattle.svc_record.specs.Drain.{has_passed, has_passed_by}
 use Rattle.svc_record.specs.Fits.{Fits}
 use Rattle.svc_record.specs.Right.{Right}
 use Rattle.svc_record.specs.Tail.{closing_actions, tail_right}
-use Rattle.svc_main.specs.Runs.{events_of, event_of, IsClosed, IsStray, IsUsedUp}
+use Rattle.svc_main.specs.Runs.{events_of, event_of, IsClosed, IsStray, IsUsedUp, RunIs}
+use Rattle.svc_main.specs.Steps.{Closes}
+use Rattle.svc_main.specs.declared.outcome.RunEnd.TheVariants.{Served, Stray, OutOfEvents}
+use Rattle.svc_main.proofs.AnswerOfStep.{served_from_answer}
 use Rattle.svc_main.proofs.RunLemmas.{reverse-told, reverse-step, events_of-back, events_of-step, events_of-tell}
 
 -- the entries of a run whose record is xs, and that was closed
-pub closed : (p : Plan) (xs ys : List Entry) (told : List Action) → Right p (reverse xs) → has_ended p (reverse xs) ≡ false
-    → ys ≡ xs ++ map Told told → told ≡ closing_actions p (reverse xs) None → tail_right (reverse xs) None told ≡ true → IsClosed p ys (reverse xs) None
-closed p xs ys told right on entries acts tail = record {
+pub closed : (p : Plan) (xs ys : List Entry) → Right p (reverse xs) → has_ended p (reverse xs) ≡ false → Closes p (reverse xs) None xs ys → IsClosed p ys (reverse xs) None
+closed p xs ys right on closes = record {
   right = right;
   goes_on = on;
-  entries_are = sym (reverse-reverse ys) ∙ ap reverse (ap reverse entries ∙ (reverse-told xs told ∙ ap (tell (reverse xs)) acts));
-  closed_once = subst (λ t. tail_right (reverse xs) None t ≡ true) acts tail;
+  entries_are = sym (reverse-reverse ys) ∙ ap reverse (ap reverse closes.appended ∙ reverse-told xs (closing_actions p (reverse xs) None));
+  closed_once = closes.once;
 }
 
 -- the same with an event that was left unfinished
-pub closed-event : (p : Plan) (xs ys : List Entry) (e : Event) (told : List Action) → Right p (reverse xs) → has_ended p (reverse xs) ≡ false
-    → ys ≡ (xs ++ Got e ∷ []) ++ map Told told → told ≡ closing_actions p (reverse xs) (Some e) → tail_right (reverse xs) (Some e) told ≡ true → IsClosed p ys (reverse xs) (Some e)
-closed-event p xs ys e told right on entries acts tail = record {
+pub closed-event : (p : Plan) (xs middle ys : List Entry) (e : Event) → Right p (reverse xs) → has_ended p (reverse xs) ≡ false
+    → middle ≡ xs ++ Got e ∷ [] → Closes p (reverse xs) (Some e) middle ys → IsClosed p ys (reverse xs) (Some e)
+closed-event p xs middle ys e right on got closes = record {
   right = right;
   goes_on = on;
-  entries_are = sym (reverse-reverse ys) ∙ ap reverse (ap reverse entries ∙ (reverse-step xs e told ∙ ap (tell (Got e ∷ reverse xs)) acts));
-  closed_once = subst (λ t. tail_right (reverse xs) (Some e) t ≡ true) acts tail;
+  entries_are = sym (reverse-reverse ys) ∙ ap reverse (ap reverse (closes.appended ∙ ap (λ es. es ++ map Told (closing_actions p (reverse xs) (Some e))) got)
+    ∙ reverse-step xs e (closing_actions p (reverse xs) (Some e)));
+  closed_once = closes.once;
 }
 
 pub stray : (p : Plan) (events : List Event) (xs ys : List Entry) (k : ℕ) (e : Event) (more : List Event)
@@ -106,3 +110,30 @@ passed_by p q None h = absurd (false≢true h)
 -- a record that got the signal last has ended
 pub ended_by_signal : (p : Plan) (q : Record) (front : List Event) → events_of (reverse q) ≡ front ++ Signal FastShutdown ∷ [] → has_ended p q ≡ true
 ended_by_signal p q front h = passed_by p q (signal_of q) (signalled q front h)
+
+-- ---- the ends of a run at its k-th event, from 0
+
+split_at : (events : List Event) (k : ℕ) (d : Event) → k < length events → events ≡ take k events ++ get_or events k d ∷ drop (k + 1) events
+split_at events k d below = sym (take-append-drop k events) ∙ ap (λ more. take k events ++ more) (rw add-one (drop-cons events k d below))
+
+pub stray_at : (p q : Plan) → q ≡ p → (events : List Event) (xs ys : List Entry) (k : ℕ) (d : Event) → k < length events → events_of xs ≡ take k events
+    → IsClosed q ys (reverse xs) (Some (get_or events k d)) → (Fits q (reverse xs) (get_or events k d) → ⊥) → RunIs p events ys (Stray (k + 1))
+stray_at p q same events xs ys k d below so_far closed misfit =
+    let front : events ≡ events_of xs ++ get_or events k d ∷ drop (k + 1) events = split_at events k d below ∙ ap (λ es. es ++ get_or events k d ∷ drop (k + 1) events) (sym so_far) in
+    let number : k + 1 ≡ length (events_of xs) + 1 = ap (λ n. n + 1) (sym (ap length so_far ∙ length-take-le k events (omega arith))) in
+    subst (λ (z : Plan). RunIs z events ys (Stray (k + 1))) same
+    (reverse xs, (get_or events k d, (drop (k + 1) events, stray q events xs ys (k + 1) (get_or events k d) (drop (k + 1) events) closed misfit front number)))
+
+pub served_at : (p q : Plan) → q ≡ p → (events : List Event) (xs ys : List Entry) (k : ℕ) (d : Event) → k < length events → events_of xs ≡ take k events
+    → events_of ys ≡ events_of xs ++ get_or events k d ∷ [] → Right q (reverse ys) → SteppedServed ≡ step_end q (reverse ys) → RunIs p events ys Served
+served_at p q same events xs ys k d below so_far step right answer =
+    let front : events ≡ events_of ys ++ drop (k + 1) events =
+        split_at events k d below ∙ (sym (append_assoc (take k events) (get_or events k d ∷ []) (drop (k + 1) events))
+        ∙ ap (λ es. es ++ drop (k + 1) events) (ap (λ es. es ++ get_or events k d ∷ []) (sym so_far) ∙ sym step)) in
+    subst (λ (z : Plan). RunIs z events ys Served) same (drop (k + 1) events, record { served = served_from_answer q (reverse ys) right answer; right = right; front = front })
+
+-- no event was taken
+pub served_first : (p q : Plan) → q ≡ p → (events : List Event) (ys : List Entry) → events_of ys ≡ [] → Right q (reverse ys) → SteppedServed ≡ step_end q (reverse ys) → RunIs p events ys Served
+served_first p q same events ys none right answer =
+    subst (λ (z : Plan). RunIs z events ys Served) same
+    (events, record { served = served_from_answer q (reverse ys) right answer; right = right; front = ap (λ es. es ++ events) (sym none) })

@@ -3,3 +3,4 @@ pub mod EndLemmas
 pub mod AnswerLemmas
 pub mod WholeLemmas
 pub mod AnswerOfStep
+pub mod StepsOfRun

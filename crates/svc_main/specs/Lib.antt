@@ -1,3 +1,4 @@
 pub mod Status
 pub mod Runs
+pub mod Steps
 pub mod Program
