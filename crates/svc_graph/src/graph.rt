@@ -1,6 +1,6 @@
 //! The graph of dependencies.
 
-ghost use Rattle.std.specs.Prelude.{◌≡◌, ◌<◌, ◌≤◌, ◌+◌, ◌==◌, ◌&&◌, ◌||◌, ◌⊎◌, ◌↔◌, ℕ, [], ◌∷◌, ◌++◌, true, false, length, slice_set, IsErrAnd, IfOk, IfErr, OnOk, OnErr};
+ghost use Rattle.std.specs.Prelude.{◌≡◌, ◌<◌, ◌≤◌, ◌+◌, ◌==◌, ◌&&◌, ◌||◌, ◌⊎◌, ◌↔◌, ℕ, [], ◌∷◌, ◌++◌, true, false, length, slice_set, IsErrAnd, IfOk, IfErr, OnOk, OnErr, vec_len};
 ghost use Rattle.svc_graph.specs.Paths.{Path, IsAcyclic};
 ghost use Rattle.svc_graph.specs.Graphs.{is_in_row, row_of, is_listed};
 ghost use Rattle.svc_graph.specs.Marks.{RowsBelow, Divides};
@@ -204,6 +204,7 @@ impl DependencyGraph {
         dependency: u32,
     ) -> Result<(), DependencyError>
         ensures added { OnOk result (self.new ≡ with_edge self.old dependent dependency) }
+        ensures names { self.new.names ≡ self.old.names }
         ensures edges { OnOk result ((a b : ℕ) → is_edge self.new a b ≡ (is_edge self.old a b || (a == dependent && b == dependency))) }
         ensures no_cycle { OnOk result (LeadsBack self.old dependent dependency → ⊥) }
         ensures unknown { IsUnknown self.old dependent dependency → result ≡ Err DependencyError.UnknownService }
@@ -233,6 +234,7 @@ impl DependencyGraph {
     /// The startup order: each node once, always the least one whose dependencies are all listed.
     pub fn topological_sort(&self, alloc: Global) -> Result<Vec<u32>, NoMemory>
         ensures order { IfOk result (λ order. IsStartupOrder self.now.depends order.items) }
+        ensures size { IfOk result (λ order. vec_len order ≡ node_count self.now) }
         ensures graph { IsGraph self.now }
     {
         sorted(alloc, &self.rows)
