@@ -1,7 +1,7 @@
 //! The graph of dependencies.
 
 ghost use Rattle.std.specs.Prelude.{◌≡◌, ◌<◌, ◌≤◌, ◌+◌, ◌==◌, ◌&&◌, ◌||◌, ◌⊎◌, ◌↔◌, ℕ, [], ◌∷◌, ◌++◌, true, false, length, slice_set, IsErrAnd, IfOk, IfErr, OnOk, OnErr, vec_len};
-ghost use Rattle.svc_graph.specs.Paths.{Path, IsAcyclic};
+ghost use Rattle.svc_graph.specs.Paths.{Path};
 ghost use Rattle.svc_graph.specs.Graphs.{is_in_row, row_of, is_listed};
 ghost use Rattle.svc_graph.specs.Marks.{RowsBelow, Divides};
 ghost use Rattle.svc_graph.specs.Ranks.{Falls};
@@ -139,7 +139,8 @@ impl DependencyGraph {
 
     /// A graph without nodes.
     pub fn new(alloc: Global) -> Self
-        ensures { result ≡ record { names = []; depends = [] } }
+        ensures empty { result ≡ record { names = []; depends = [] } }
+        ensures graph { IsGraph result }
     {
         DependencyGraph {
             names: Texts::new(alloc),
@@ -170,6 +171,7 @@ impl DependencyGraph {
         ensures only_then { IfErr result (λ refused. refused.reason ≡ AddNodeReason.TooMany → node_count self.old ≡ NODE_LIMIT) }
         ensures back { IfErr result (λ refused. refused.name ≡ name) }
         ensures unchanged { OnErr result (self.new ≡ self.old) }
+        ensures graph { IsGraph self.new }
     {
         let number = self.names.len();
         if number >= NODE_LIMIT {
@@ -210,7 +212,7 @@ impl DependencyGraph {
         ensures unknown { IsUnknown self.old dependent dependency → result ≡ Err DependencyError.UnknownService }
         ensures refusal { IfErr result (λ error. RefusalFits self.old dependent dependency error) }
         ensures unchanged { OnErr result (self.new ≡ self.old) }
-        ensures acyclic { OnOk result (IsAcyclic (is_edge self.new)) }
+        ensures graph { IsGraph self.new }
     {
         let count = self.names.len();
         if dependent as u64 >= count || dependency as u64 >= count {
