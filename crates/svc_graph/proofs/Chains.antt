@@ -29,6 +29,16 @@ chain-along : (g : Edges) (side : ℕ → Bool) → ((a b : ℕ) → g a b ≡ t
 chain-along g side along a [] b e h = along a b e h
 chain-along g side along a (c ∷ more) b chain h = chain-along g side along c more b chain.1 (along a c chain.0 h)
 
+pub chain-within : (g h : Edges) → ((a b : ℕ) → g a b ≡ true → h a b ≡ true) → (a : ℕ) (via : List ℕ) (b : ℕ) → IsChain g a via b → IsChain h a via b
+chain-within g h within a [] b e = within a b e
+chain-within g h within a (c ∷ more) b chain = (within a c chain.0, chain-within g h within c more b chain.1)
+
+pub path-within : (g h : Edges) → ((a b : ℕ) → g a b ≡ true → h a b ≡ true) → (a b : ℕ) → Path g a b → Path h a b
+path-within g h within a b path = (path.0, chain-within g h within a path.0 b path.1)
+
+pub acyclic-within : (g h : Edges) → ((a b : ℕ) → g a b ≡ true → h a b ≡ true) → IsAcyclic h → IsAcyclic g
+acyclic-within g h within none a path = none a (path-within g h within a a path)
+
 -- no chain leads over a divide
 pub divides-path : (g : Edges) (from to : ℕ) → Divides g from to → (to ≡ from) ⊎ Path g from to → ⊥
 divides-path g from to apart (inl same) =

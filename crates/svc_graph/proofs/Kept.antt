@@ -1,14 +1,14 @@
 -- What the fields of a graph keep, from one change to the next.
-use Rattle.std.proofs.Common.{ℕ, Bool, true, ◌⊎◌, inl, inr, List, [], ◌∷◌, ◌++◌, ◌≡◌, ◌≢◌, refl, sym, ◌∙◌, subst, ap, arith, ◌<◌, nat_lt, length, length-set, slice_set}
+use Rattle.std.proofs.Common.{ℕ, zero, suc, Bool, true, ◌⊎◌, inl, inr, List, [], ◌∷◌, ◌++◌, ◌≡◌, ◌≢◌, refl, sym, ◌∙◌, subst, ap, arith, All, ◌<◌, nat_lt, length, length-append, length-set, slice_set}
 use Rattle.std.proofs.lemmas.Bool.{ltb-true, lt-ltb, le-ltb, cases_eq}
 use Rattle.std.proofs.lemmas.List.{get_or-set_other, get_or-set_same}
 use Rattle.svc_graph.specs.Paths.{Path}
 use Rattle.svc_graph.specs.GraphData.{GraphData}
-use Rattle.svc_graph.specs.Graphs.{row_of, is_in_row, is_listed, IsGraph}
+use Rattle.svc_graph.specs.Graphs.{row_of, is_in_row, is_listed, IsGraph, with_node, depends, is_edge, node_count}
 use Rattle.svc_graph.specs.Marks.{Divides, RowsBelow}
 use Rattle.svc_graph.specs.Ranks.{IsRank, Falls, IsKept}
 use Rattle.svc_graph.proofs.Lists.{All-listed, All-from_listed, listed_push}
-use Rattle.svc_graph.proofs.Chains.{ranked-acyclic, rank-added, raised, path-falls}
+use Rattle.svc_graph.proofs.Chains.{ranked-acyclic, acyclic-within, rank-added, raised, path-falls}
 
 pub kept-none : IsKept 0 [] true
 kept-none = record {
@@ -26,6 +26,27 @@ kept-graph g falls kept = record {
   rows = kept.sized;
   inside = kept.inside;
   acyclic = ranked-acyclic (is_in_row g.depends) kept.rank kept.ranked;
+}
+
+-- the same for a graph that is seen as one
+pub view-graph : (names rows : List (List ℕ)) (falls : Bool) (g : GraphData) → record { names = names; depends = rows } ≡ g → IsKept (length names) rows falls → IsGraph g
+view-graph names rows falls g same kept = subst (λ (h : GraphData). IsGraph h) same (kept-graph (record { names = names; depends = rows }) falls kept)
+
+-- a row without nodes changes no row
+row_more : (rows : List (List ℕ)) (a : ℕ) → row_of (rows ++ [] ∷ []) a ≡ row_of rows a
+row_more [] zero = refl
+row_more [] (suc a) = refl
+row_more (row ∷ rows) zero = refl
+row_more (row ∷ rows) (suc a) = row_more rows a
+
+-- a graph with one more node
+pub node-graph : (g : GraphData) (name : List ℕ) → length g.names < 1024 → IsGraph g → IsGraph (with_node g name)
+node-graph g name room graph = record {
+  few = (let size = length-append g.names (name ∷ []) in omega arith);
+  rows = (let names = length-append g.names (name ∷ []) in let rows = length-append g.depends ([] ∷ []) in let same = graph.rows in omega arith);
+  inside = λ a. subst (λ row. All (λ b. b < length (g.names ++ name ∷ [])) row) (sym (row_more g.depends a))
+      (λ k d lt. let size = length-append g.names (name ∷ []) in let below = graph.inside a k d lt in omega arith);
+  acyclic = acyclic-within (is_edge (with_node g name)) (is_edge g) (λ a b e. subst (λ row. is_listed row b ≡ true) (row_more g.depends a) e) graph.acyclic;
 }
 
 -- the rows with one more edge

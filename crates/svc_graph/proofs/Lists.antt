@@ -59,6 +59,14 @@ unmarked_set marks b lt free =
     let was : ◌≡◌ {A = ℕ} (cond (not (is_marked marks b)) 1 0) 1 = rw free refl in
     omega (arith, less, was)
 
+-- where all are marked, none is left without a mark
+pub unmarked_none : (marks : List Bool) → ((a : ℕ) → a < length marks → is_marked marks a ≡ true) → count_by not marks ≡ 0
+unmarked_none [] all = refl
+unmarked_none (m ∷ marks) all =
+    let rest = unmarked_none marks (λ a lt. all (suc a) (omega arith)) in
+    let here : m ≡ true = all zero (omega arith) in
+    rw here rest
+
 -- only nodes below the length are marked
 pub marked_inside : (marks : List Bool) (a : ℕ) → is_marked marks a ≡ true → a < length marks
 marked_inside [] a e = absurd (cc)

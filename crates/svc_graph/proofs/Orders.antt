@@ -1,5 +1,5 @@
 -- Listing the least node that is due.
-use Rattle.std.proofs.Common.{ℕ, Bool, true, false, ◌||◌, ◌==◌, inl, inr, List, [], ◌∷◌, ◌++◌, ◌≡◌, refl, sym, ◌∙◌, subst, arith, ◌<◌, length, length-append, take, slice_index, slice_set}
+use Rattle.std.proofs.Common.{ℕ, Bool, true, false, ◌||◌, ◌==◌, inl, inr, List, [], ◌∷◌, ◌++◌, ◌≡◌, refl, sym, ◌∙◌, subst, arith, ◌<◌, length, length-append, count_by, not, take, slice_index, slice_set}
 use Rattle.std.specs.Prelude.{All}
 use Rattle.std.proofs.lemmas.Bool.{and_cases, or_left, or_right, eq-eqb, ne_eqb, cases_eq, cases_Bool, true_from_ne_false}
 use Rattle.std.proofs.lemmas.List.{get_or-set_other, get_or-set_same, take-append-le, get_or_append_left}
@@ -9,7 +9,7 @@ use Rattle.std.proofs.lemmas.List.Sums.{AllPass-from_list_all, list_all-from_All
 use Rattle.svc_graph.specs.Graphs.{row_of, is_in_row, is_listed, IsNext, IsStartupOrder}
 use Rattle.svc_graph.specs.Marks.{is_marked, is_due, RowsBelow, IsReady}
 use Rattle.svc_graph.specs.Ranks.{IsRanked}
-use Rattle.svc_graph.proofs.Lists.{All-listed, All-from_listed, listed_last}
+use Rattle.svc_graph.proofs.Lists.{All-listed, All-from_listed, listed_last, unmarked_none}
 use Rattle.svc_graph.proofs.Chains.{none-left}
 
 -- the marked nodes are those listed, and each of them was next
@@ -96,3 +96,7 @@ module _ (rows : List (List ℕ)) (inside : RowsBelow (length rows) rows) (marks
       marked : (x : ℕ) → x < length rows → is_marked marks x ≡ true
       marked x lt = true_from_ne_false (is_marked marks x)
           (λ free. none-left (is_in_row rows) ranked.0 (λ y. (y < length rows) × (is_marked marks y ≡ false)) ranked.1 stuck x (lt, free))
+
+  -- and none is left without a mark
+  pub all-marked : length marks ≡ length rows → IsStartupOrder rows order → count_by not marks ≡ 0
+  all-marked sized least = unmarked_none marks (λ a lt. was.same a (omega arith) ∙ least.all_listed a (omega arith))

@@ -1,7 +1,7 @@
 //! The graph of dependencies.
 
-ghost use Rattle.std.specs.Prelude.{◌≡◌, ◌<◌, ◌≤◌, ◌+◌, ◌==◌, ◌&&◌, ◌||◌, ◌⊎◌, ◌↔◌, ℕ, [], ◌∷◌, ◌++◌, true, false, length, slice_set, IsErrAnd, IfOk, IfErr, OnOk, OnErr};
-ghost use Rattle.svc_graph.specs.Paths.{Path, IsAcyclic};
+ghost use Rattle.std.specs.Prelude.{◌≡◌, ◌<◌, ◌≤◌, ◌+◌, ◌==◌, ◌&&◌, ◌||◌, ◌⊎◌, ◌↔◌, ℕ, [], ◌∷◌, ◌++◌, true, false, length, slice_set, IsErrAnd, IfOk, IfErr, OnOk, OnErr, vec_len};
+ghost use Rattle.svc_graph.specs.Paths.{Path};
 ghost use Rattle.svc_graph.specs.Graphs.{is_in_row, row_of, is_listed};
 ghost use Rattle.svc_graph.specs.Marks.{RowsBelow, Divides};
 ghost use Rattle.svc_graph.specs.Ranks.{Falls};
@@ -139,7 +139,8 @@ impl DependencyGraph {
 
     /// A graph without nodes.
     pub fn new(alloc: Global) -> Self
-        ensures { result ≡ record { names = []; depends = [] } }
+        ensures empty { result ≡ record { names = []; depends = [] } }
+        ensures graph { IsGraph result }
     {
         DependencyGraph {
             names: Texts::new(alloc),
@@ -170,6 +171,7 @@ impl DependencyGraph {
         ensures only_then { IfErr result (λ refused. refused.reason ≡ AddNodeReason.TooMany → node_count self.old ≡ NODE_LIMIT) }
         ensures back { IfErr result (λ refused. refused.name ≡ name) }
         ensures unchanged { OnErr result (self.new ≡ self.old) }
+        ensures graph { IsGraph self.new }
     {
         let number = self.names.len();
         if number >= NODE_LIMIT {
@@ -204,12 +206,13 @@ impl DependencyGraph {
         dependency: u32,
     ) -> Result<(), DependencyError>
         ensures added { OnOk result (self.new ≡ with_edge self.old dependent dependency) }
+        ensures names { self.new.names ≡ self.old.names }
         ensures edges { OnOk result ((a b : ℕ) → is_edge self.new a b ≡ (is_edge self.old a b || (a == dependent && b == dependency))) }
         ensures no_cycle { OnOk result (LeadsBack self.old dependent dependency → ⊥) }
         ensures unknown { IsUnknown self.old dependent dependency → result ≡ Err DependencyError.UnknownService }
         ensures refusal { IfErr result (λ error. RefusalFits self.old dependent dependency error) }
         ensures unchanged { OnErr result (self.new ≡ self.old) }
-        ensures acyclic { OnOk result (IsAcyclic (is_edge self.new)) }
+        ensures graph { IsGraph self.new }
     {
         let count = self.names.len();
         if dependent as u64 >= count || dependency as u64 >= count {
@@ -233,6 +236,7 @@ impl DependencyGraph {
     /// The startup order: each node once, always the least one whose dependencies are all listed.
     pub fn topological_sort(&self, alloc: Global) -> Result<Vec<u32>, NoMemory>
         ensures order { IfOk result (λ order. IsStartupOrder self.now.depends order.items) }
+        ensures size { IfOk result (λ order. vec_len order ≡ node_count self.now) }
         ensures graph { IsGraph self.now }
     {
         sorted(alloc, &self.rows)

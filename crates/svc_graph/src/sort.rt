@@ -1,6 +1,6 @@
 //! The startup order of the nodes.
 
-ghost use Rattle.std.specs.Prelude.{◌≡◌, ◌<◌, ◌≤◌, ◌↔◌, IsTrue, ℕ, true, false, length, All, IfOk, IfSome, IfNone};
+ghost use Rattle.std.specs.Prelude.{◌≡◌, ◌<◌, ◌≤◌, ◌↔◌, IsTrue, ℕ, true, false, length, All, IfOk, IfSome, IfNone, vec_len};
 ghost use Rattle.svc_graph.specs.Graphs.{row_of, is_in_row, IsStartupOrder};
 ghost use Rattle.svc_graph.specs.Marks.{RowsBelow, is_marked, is_due, IsReady};
 ghost use Rattle.svc_graph.specs.Ranks.{IsRanked};
@@ -47,7 +47,8 @@ pub(crate) fn sorted(alloc: Global, rows: &[Numbers]) -> Result<Vec<u32>, NoMemo
     requires few { length rows.now ≤ 1024 }
     requires inside { RowsBelow (length rows.now) rows.now }
     requires ranked { IsRanked rows.now }
-    ensures { IfOk result (λ order. IsStartupOrder rows.now order.items) }
+    ensures order { IfOk result (λ order. IsStartupOrder rows.now order.items) }
+    ensures size { IfOk result (λ order. vec_len order ≡ length rows.now) }
 {
     let mut marks = vec![in alloc; false; rows.len()]?;
     let mut order = Vec::new(alloc);

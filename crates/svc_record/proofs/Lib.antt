@@ -12,3 +12,5 @@ pub mod Clauses
 pub mod Refused
 pub mod Tallies
 pub mod Closing
+pub mod GraphLemmas
+pub mod OrderLemmas

@@ -2,25 +2,20 @@ use Rattle.std.proofs.Common.{arith, ◌≡◌, ◌<◌, ◌++◌, length, take,
 use Rattle.std.proofs.lemmas.Bool.{ltb-true}
 use Rattle.svc_graph.specs.Paths.{Path, IsAcyclic}
 use Rattle.svc_graph.specs.GraphData.{GraphData}
-use Rattle.svc_graph.specs.Graphs.{LeadsBack, is_edge, is_in_row}
+use Rattle.svc_graph.specs.Graphs.{IsGraph, LeadsBack, is_edge, is_in_row}
 use Rattle.svc_graph.specs.Marks.{Divides}
 use Rattle.svc_graph.specs.Ranks.{Falls, IsKept}
 use Rattle.svc_graph.proofs.Lists.{whole_slice}
 use Rattle.svc_graph.proofs.Chains.{divides-path, ranked-acyclic}
-use Rattle.svc_graph.proofs.Kept.{kept-graph, kept-edge, edge-no_return, pushed}
+use Rattle.svc_graph.proofs.Kept.{kept-graph, view-graph, kept-edge, edge-no_return, pushed}
 use Rattle.svc_graph.proofs.graph.DependencyGraph.add_dependency.Goals as goal
-use Rattle.svc_graph.proofs.graph.DependencyGraph.add_dependency.Goals.{then-self, else-self, In_ok-push_edge}
+use Rattle.svc_graph.proofs.graph.DependencyGraph.add_dependency.Goals.{After-len-count, In_err-push_edge, then-self, else-self, In_ok-push_edge}
 
 pub returns-then-has_edge-clause-no_cycle : goal.returns-then-has_edge-clause-no_cycle
 returns-then-has_edge-clause-no_cycle c =
     subst (λ (g : GraphData). LeadsBack g c.args.dependent c.args.dependency → ⊥) c.self.view_is
     (edge-no_return (length c.self.inside.names) c.self.inside.rows.items c.self.inside.falling c.args.dependent c.args.dependency c.self.invariant
     (sym (rw c.deref.ensures.value at c.has_edge.ensures) ∙ c.if-has_edge.true))
-
-pub returns-then-has_edge-clause-acyclic : goal.returns-then-has_edge-clause-acyclic
-returns-then-has_edge-clause-acyclic c =
-    subst (λ (g : GraphData). IsAcyclic (is_edge g)) c.self.view_is
-    (kept-graph (record { names = c.self.inside.names; depends = c.self.inside.rows.items }) c.self.inside.falling c.self.invariant).acyclic
 
 pub returns-then-branch-clause-refusal : goal.returns-then-branch-clause-refusal
 returns-then-branch-clause-refusal c = (
@@ -63,7 +58,30 @@ returns-clause-no_cycle c =
     subst (λ (g : GraphData). LeadsBack g c.args.dependent c.args.dependency → ⊥) c.self.view_is
     (divides-path (is_in_row c.self.inside.rows.items) c.args.dependency c.args.dependent (apart here))
 
-pub returns-clause-acyclic : goal.returns-clause-acyclic
-returns-clause-acyclic c =
-    let here = (goal.at.returns-clause-acyclic c).In_ok-push_edge in
-    subst (λ rows. IsAcyclic (is_in_row rows)) (back here) (ranked-acyclic (is_in_row c.push_edge.new.rows) (kept here).rank (kept here).ranked)
+old : (c : After-len-count) → IsGraph c.args.self.now
+old c = view-graph c.self.inside.names c.self.inside.rows.items c.self.inside.falling c.args.self.now c.self.view_is c.self.invariant
+
+pub returns-then-dependent-count-clause-graph : goal.returns-then-dependent-count-clause-graph
+returns-then-dependent-count-clause-graph c = old ((goal.at.returns-then-dependent-count-clause-graph c).After-len-count)
+
+pub returns-then-has_edge-clause-graph : goal.returns-then-has_edge-clause-graph
+returns-then-has_edge-clause-graph c = old ((goal.at.returns-then-has_edge-clause-graph c).After-len-count)
+
+pub returns-in_err-leads_back-clause-graph : goal.returns-in_err-leads_back-clause-graph
+returns-in_err-leads_back-clause-graph c = old ((goal.at.returns-in_err-leads_back-clause-graph c).After-len-count)
+
+pub returns-then-branch-clause-graph : goal.returns-then-branch-clause-graph
+returns-then-branch-clause-graph c = old ((goal.at.returns-then-branch-clause-graph c).After-len-count)
+
+pub returns-in_err-push_edge-clause-graph : goal.returns-in_err-push_edge-clause-graph
+returns-in_err-push_edge-clause-graph c =
+    let here = (goal.at.returns-in_err-push_edge-clause-graph c).In_err-push_edge in
+    let whole = whole_slice c.self.inside.rows.len c.self.inside.rows.items c.push_edge.new.rows (omega (arith, c.self.inside.rows.ok.0, c.push_edge.auto.rows, c.deref_mut.ensures.len)) in
+    subst (λ rows. IsGraph (record { names = c.self.inside.names; depends = rows })) (sym (whole ∙ here.in_err-push_edge.ensures.refused ∙ c.deref_mut.ensures.value))
+    (kept-graph (record { names = c.self.inside.names; depends = c.self.inside.rows.items }) c.self.inside.falling c.self.invariant)
+
+pub returns-clause-graph : goal.returns-clause-graph
+returns-clause-graph c =
+    let here = (goal.at.returns-clause-graph c).In_ok-push_edge in
+    subst (λ rows. IsGraph (record { names = c.self.inside.names; depends = rows })) (back here)
+    (kept-graph (record { names = c.self.inside.names; depends = c.push_edge.new.rows }) c.if-self.falling (kept here))
