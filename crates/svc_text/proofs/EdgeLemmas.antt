@@ -238,3 +238,36 @@ circular_next old g a xs i d t lt back = refused_circular old g a (get_or xs i d
 
 pub after_read : (xs : List ServiceLine) (k : ℕ) (s : ServiceLine) → k < length xs → s ≡ get_or xs k s → unwrap_or s.after [] ≡ after_at xs k
 after_read xs k s lt e = rw (slice_get-get_or xs k s lt, ← e) refl
+
+-- ---- one service alone
+
+edges_grow : (xs : List ServiceLine) (k n : ℕ) → k ≤ n → (a b : ℕ) → edges_up_to xs k a b ≡ true → edges_up_to xs n a b ≡ true
+edges_grow xs k n le a b e =
+    let p = and_parts (ltb a k) _ e in
+    let lt : a < k = ltb-true a k p.0 in
+    and_from (ltb a n) _ (lt-ltb a n (omega arith)) p.1
+
+refused_unsound : (xs : List ServiceLine) (k n : ℕ) → RefusesAt xs k → k < n → AreSoundUpTo xs n → ⊥
+refused_unsound xs k n r lt s =
+    elim r.refused [
+      | inl none ↦
+          let known : get_or (after_at xs k) none.0 none.1 < length xs = s.known k lt none.0 none.1 none.2 in
+          let here : get_or (after_at xs k) none.0 none.1 ≡ none.1 = none.3 in
+          let past : length xs ≤ none.1 = none.4 in
+          omega arith
+      | inr cycle ↦ s.acyclic cycle.0 (cycle.1.0, chain_in (edges_up_to xs (k + 1)) (edges_up_to xs n) (edges_grow xs (k + 1) n (omega arith)) cycle.0 cycle.1.0 cycle.0 cycle.1.1)
+    ]
+
+pub refused_some : (xs : List ServiceLine) (k : ℕ) → RefusesAt xs k → RefusesNone xs → ⊥
+refused_some xs k r s = refused_unsound xs k (length xs) r r.here s
+
+pub refused_first : (xs : List ServiceLine) (j k : ℕ) → RefusesAt xs j → RefusesAt xs k → j ≡ k
+refused_first xs j k r q =
+    elim (cases_lt j k) [
+      | inl lt ↦ absurd (refused_unsound xs j k r lt q.before)
+      | inr le ↦
+          elim (cases_lt k j) [
+            | inl lt ↦ absurd (refused_unsound xs k j q lt r.before)
+            | inr ge ↦ omega arith
+          ]
+    ]

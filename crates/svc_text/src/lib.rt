@@ -19,7 +19,7 @@ pub use numbers::number;
 pub use parsing::{Script, ScriptError, parse};
 pub use plan::plan_of;
 pub use printing::{one_record, record_text};
-pub use refused::refused_service;
+pub use refused::{one_refused_service, refused_service};
 pub use service::ServiceLine;
 
 #[cfg(test)]

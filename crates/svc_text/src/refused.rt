@@ -1,8 +1,9 @@
 //! The first service whose dependencies a script may not have.
 
-ghost use Rattle.std.specs.Prelude.{◌≡◌, ◌<◌, ◌≤◌, true, false, length, IfOk, OnOk, MatchBool, MatchOption};
+ghost use Rattle.std.specs.Prelude.{◌≡◌, ◌<◌, ◌≤◌, ℕ, List, length, IfOk, OnOk, MatchBool, MatchOption};
 ghost use Rattle.svc_graph.specs.Paths.{IsAcyclic};
 ghost use Rattle.svc_graph.specs.Graphs.{node_count, is_edge, with_node};
+ghost use Rattle.svc_text.specs.declared.service.ServiceLine.{ServiceLine};
 ghost use Rattle.svc_text.specs.Dependencies.{edges_up_to, IsUnsound, RefusesAt, RefusesNone};
 ghost use Rattle.svc_text.specs.Edges.{with_row, HasEdges, HasTaken};
 
@@ -73,3 +74,9 @@ pub fn refused_service(alloc: Global, services: &[ServiceLine]) -> Result<Option
     }
     Ok(None)
 }
+
+/// At most one service is the first that is refused, and if one is, then not none is.
+pub fn one_refused_service()
+    ensures first { (services : List ServiceLine) (j k : ℕ) → RefusesAt services j → RefusesAt services k → j ≡ k }
+    ensures some { (services : List ServiceLine) (k : ℕ) → RefusesAt services k → RefusesNone services → ⊥ }
+{}
