@@ -8,4 +8,5 @@ pub mod ItemLemmas
 pub mod PlaceLemmas
 pub mod AcceptLemmas
 pub mod PlanLemmas
+pub mod EdgeLemmas
 pub mod ScriptLemmas

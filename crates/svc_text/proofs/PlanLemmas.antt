@@ -76,7 +76,7 @@ fits_plan a h = let p = and_parts _ _ h in let some : 0 < length a = ltb-true 0 
 
 -- ---- edges
 
-chain_in : (g f : Edges) → ((a b : ℕ) → g a b ≡ true → f a b ≡ true) → (a : ℕ) (via : List ℕ) (b : ℕ) → IsChain g a via b → IsChain f a via b
+pub chain_in : (g f : Edges) → ((a b : ℕ) → g a b ≡ true → f a b ≡ true) → (a : ℕ) (via : List ℕ) (b : ℕ) → IsChain g a via b → IsChain f a via b
 chain_in g f h a [] b c = h a b c
 chain_in g f h a (x ∷ via) b c = (h a x c.0, chain_in g f h x via b c.1)
 

@@ -14,16 +14,16 @@ pub record AreSoundUpTo (services : List ServiceLine) (n : ℕ) : Type 0 where
   pub known : (a : ℕ) → a < n → All (λ b. b < length services) (after_at services a)
   pub acyclic : IsAcyclic (edges_up_to services n)
 
--- service k depends on one that isn't there, or its dependencies close a cycle with those of the services before it
-abbrev pub IsUnsoundAt : List ServiceLine → ℕ → Type 0
-IsUnsoundAt services k = Any (λ b. length services ≤ b) (after_at services k) ⊎ ((a : ℕ) × Path (edges_up_to services (k + 1)) a a)
+-- one of the dependencies is none of so many services, or the edges have a cycle
+abbrev pub IsUnsound : ℕ → Edges → List ℕ → Type 0
+IsUnsound n edges after = Any (λ b. n ≤ b) after ⊎ ((a : ℕ) × Path edges a a)
 
--- service k is the first that is refused for its dependencies
+-- service k is the first that is refused: it depends on one that isn't there, or closes a cycle with those before it
 pub record RefusesAt (services : List ServiceLine) (k : ℕ) : Type 0 where
   pub here : k < length services
   pub before : AreSoundUpTo services k
-  pub refused : IsUnsoundAt services k
+  pub refused : IsUnsound (length services) (edges_up_to services (k + 1)) (after_at services k)
 
--- none is
+-- none is refused
 abbrev pub RefusesNone : List ServiceLine → Type 0
 RefusesNone services = AreSoundUpTo services (length services)

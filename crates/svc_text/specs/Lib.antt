@@ -5,4 +5,5 @@ pub mod Script
 pub mod Outcome
 pub mod Accepted
 pub mod Dependencies
+pub mod Edges
 pub mod ScriptPlans

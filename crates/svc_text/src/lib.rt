@@ -10,6 +10,7 @@ mod part;
 mod plan;
 mod printing;
 mod reading;
+mod refused;
 mod service;
 
 pub use cuts::{split_line, split_word};
@@ -18,6 +19,7 @@ pub use numbers::number;
 pub use parsing::{Script, ScriptError, parse};
 pub use plan::plan_of;
 pub use printing::{one_record, record_text};
+pub use refused::{one_refused_service, refused_service};
 pub use service::ServiceLine;
 
 #[cfg(test)]

@@ -1,6 +1,6 @@
 //! The plan that a script's services are run by.
 
-ghost use Rattle.std.specs.Prelude.{◌≡◌, IfOk, [], map, unwrap_or};
+ghost use Rattle.std.specs.Prelude.{◌≡◌, IfOk, map};
 ghost use Rattle.std.specs.Option.{option_to_list};
 ghost use Rattle.svc_record.specs.Validity.{IsValid, IsBuilt};
 ghost use Rattle.svc_text.specs.Accepted.{AreAccepted};
@@ -57,22 +57,13 @@ fn copy_of(alloc: Global, numbers: &[u32]) -> Result<Numbers, NoMemory>
     Ok(copy)
 }
 
-fn depends_of(alloc: Global, after: &Option<Numbers>) -> Result<Numbers, NoMemory>
-    ensures { IfOk result (λ depends. depends ≡ unwrap_or after.now []) }
-{
-    match after {
-        Some(numbers) => copy_of(alloc, numbers.as_slice()),
-        None => Ok(Numbers::new(alloc)),
-    }
-}
-
 fn service_plan(alloc: Global, service: &ServiceLine) -> Result<ServicePlan, NoMemory>
     ensures { IfOk result (λ plan. plan ≡ service_plan service.now) }
 {
     Ok(ServicePlan {
         name: service.name.copy(alloc)?,
         kind: service.kind,
-        depends: depends_of(alloc, &service.after)?,
+        depends: copy_of(alloc, service.dependencies())?,
         declared: Some(addresses_of(alloc, &service.tcp)?),
         endpoints: endpoints_of(alloc, &service.tcp)?,
     })

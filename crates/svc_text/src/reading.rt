@@ -89,8 +89,8 @@ fn has_any(services: &[ServiceLine], address: &Text) -> bool
     services.iter().any(|s| has_address(s, address))
 }
 
-#[tactic(auto, unfolding(crate::specs::Script::is_free))]
 /// No service has the address of this one yet.
+#[tactic(auto, unfolding(crate::specs::Script::is_free))]
 fn is_free(services: &[ServiceLine], service: &ServiceLine) -> bool
     ensures { result ≡ is_free services.now service.now.tcp }
 {

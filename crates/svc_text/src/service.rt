@@ -1,6 +1,6 @@
 //! What a service line says.
 
-ghost use Rattle.std.specs.Prelude.{◌≡◌, ◌^◌, IfOk, Option, Some, None, nat_le};
+ghost use Rattle.std.specs.Prelude.{◌≡◌, ◌^◌, [], unwrap_or, IfOk, Option, Some, None, nat_le};
 ghost use Rattle.std.specs.Option.{option_map};
 ghost use Rattle.std.specs.Str.{is_utf8};
 ghost use Rattle.svc_text.specs.Words.{words, number_of, text_in};
@@ -23,6 +23,18 @@ pub struct ServiceLine {
     pub after: Option<Numbers>,
     /// The address of its endpoint, where it has one.
     pub tcp: Option<Text>,
+}
+
+impl ServiceLine {
+    /// The services that it depends on.
+    pub fn dependencies(&self) -> &[u32]
+        ensures { result.now ≡ unwrap_or self.now.after [] }
+    {
+        match &self.after {
+            Some(numbers) => numbers.as_slice(),
+            None => &[],
+        }
+    }
 }
 
 /// The text that bytes are.

@@ -138,3 +138,52 @@ fn errors_have_texts(rt: HostRuntime) -> Result<(), Fail> {
     assert_eq!(rt; memory.as_str(), "out of memory");
     Ok(())
 }
+
+#[test]
+fn finds_the_first_refused_service(rt: HostRuntime) -> Result<(), Fail> {
+    for (text, refused) in [
+        (b"%conf\n%services\n%events\n".as_slice(), None),
+        (
+            b"%conf\n%services\na plain\nb plain after 0,0\n%events\n",
+            None,
+        ),
+        (
+            b"%conf\n%services\na plain after 1\nb plain\n%events\n",
+            None,
+        ),
+        (b"%conf\n%services\na plain after 0\n%events\n", Some(0)),
+        (
+            b"%conf\n%services\na plain\nb plain after 0,2\n%events\n",
+            Some(1),
+        ),
+        (
+            b"%conf\n%services\na plain after 1\nb plain after 2\nc plain after 0\nd plain after 9\n%events\n",
+            Some(2),
+        ),
+    ] {
+        let script = parse(rt.alloc(), text).ok().ok_or("a script")?;
+        assert_eq!(rt;
+            refused_service(rt.alloc(), script.services.as_slice()),
+            Ok(refused)
+        );
+    }
+    Ok(())
+}
+
+#[test]
+fn plans_what_a_script_says(rt: HostRuntime) -> Result<(), Fail> {
+    let text = b"%conf\n%services\ndb notify\napi plain tcp x after 0\n%events\n";
+    let script = parse(rt.alloc(), text).ok().ok_or("a script")?;
+    let plan = plan_of(rt.alloc(), script.services.as_slice())?;
+    let services = plan.services.as_slice();
+    assert_eq!(rt; services.len(), 2);
+    assert_eq!(rt; services[0].kind, Kind::Notifying);
+    assert!(rt; services[0].endpoints.is_empty());
+    assert_eq!(rt; services[1].name.as_str(), "api");
+    assert_eq!(rt; services[1].depends.as_slice(), [0u32].as_slice());
+    let endpoints = services[1].endpoints.as_slice();
+    assert_eq!(rt; endpoints.len(), 1);
+    assert_eq!(rt; endpoints[0].address.as_str(), "x");
+    assert_eq!(rt; plan.grace, 300);
+    Ok(())
+}

@@ -1,0 +1,9 @@
+use Rattle.std.proofs.Common.{◌∙◌, arith}
+use Rattle.std.proofs.lemmas.List.{length-take-le}
+use Rattle.svc_text.proofs.EdgeLemmas.{nodes_start}
+use Rattle.svc_text.proofs.refused.graph_of.Goals as goal
+
+pub returns : goal.returns
+returns c =
+    let i = c.loop-service.service-index in
+    nodes_start c.loop-service.graph c.args.services.now _ (length-take-le i c.args.services.now c.loop-service.auto.service-index-end ∙ omega arith) c.loop-service.invariant
