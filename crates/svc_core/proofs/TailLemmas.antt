@@ -1,5 +1,5 @@
 -- After the closing actions each number that came has one close.
-use Rattle.std.proofs.Common.{ℕ, Bool, true, false, ◌||◌, ◌&&◌, not, ◌==◌, inl, inr, List, [], ◌∷◌, ◌++◌, ◌≡◌, refl, ap, sym, ◌∙◌, subst, arith, ◌+◌, if◌then◌else◌, map, Option, Some, None, nat_lt, ◌<◌, append_assoc}
+use Rattle.std.proofs.Common.{ℕ, Bool, true, false, ◌||◌, ◌&&◌, not, ◌==◌, inl, inr, List, [], ◌∷◌, ◌++◌, ◌≡◌, refl, ap, sym, ◌∙◌, subst, arith, ◌+◌, if◌then◌else◌, map, Option, Some, None, nat_lt, ◌<◌, append_assoc, append-nil}
 use Rattle.std.specs.List.{list_all, filter}
 use Rattle.std.proofs.lemmas.Bool.{eqb-true, eq-eqb, ne_eqb, and_parts, and_from, or_cases, or_left, or_right, cases_Bool, cases_eq}
 use Rattle.std.proofs.lemmas.List.Folds.{list_any-append}
@@ -205,26 +205,40 @@ open-live : (core : CoreData) (q : Record) → StandsFor core q → (b : Bool) �
 open-live core q stands true e = rw e (sym (ap ascending (stands.closed e)))
 open-live core q stands false e = rw e (let ep = stands.endpoints e in stands.numbers ∙ ap ascending (sym (live-numbers core.plan q ep.never_closed)))
 
-left-new : (core : CoreData) (q : Record) (also : Option Event) → StandsFor core q → left_numbers core also ≡ new_numbers q also
-left-new core q None stands = refl
-left-new core q (Some (Ready s)) stands = refl
-left-new core q (Some (Signal kind)) stands = refl
-left-new core q (Some (Bound s i fd)) stands =
+left-new : (core : CoreData) (q : Record) (e : Event) → StandsFor core q → left_numbers core e ≡ new_numbers q (Some e)
+left-new core q (Ready s) stands = refl
+left-new core q (Signal kind) stands = refl
+left-new core q (Bound s i fd) stands =
     let e = fresh core q fd stands in
     elim (cases_Bool (has (brings fd) q)) [
       | inl came ↦ rw (came, sym e ∙ came) refl
       | inr new ↦ rw (new, sym e ∙ new) refl
     ]
 
-pub closes-all : (core : CoreData) (q : Record) (also : Option Event) (before mid after : List Action)
-    → mid ≡ before ++ map (λ (fd : ℕ). Close fd) (open_numbers core) → after ≡ mid ++ map (λ (fd : ℕ). Close fd) (left_numbers core also)
-    → StandsFor core q → ClosesAll core.plan q also before after
-closes-all core q also before mid after first next stands = record {
+-- where no event was left unfinished
+pub closes-open : (core : CoreData) (q : Record) (before after : List Action) → after ≡ before ++ map (λ (fd : ℕ). Close fd) (open_numbers core)
+    → StandsFor core q → ClosesAll core.plan q None before after
+closes-open core q before after told stands = record {
   told = record {
-    told = map (λ (fd : ℕ). Close fd) (open_numbers core) ++ map (λ (fd : ℕ). Close fd) (left_numbers core also);
-    appended = next ∙ ap (λ w. w ++ map (λ (fd : ℕ). Close fd) (left_numbers core also)) first ∙ append_assoc before (map (λ (fd : ℕ). Close fd) (open_numbers core)) (map (λ (fd : ℕ). Close fd) (left_numbers core also));
-    kept = ap (λ xs. map (λ (fd : ℕ). Close fd) xs ++ map (λ (fd : ℕ). Close fd) (left_numbers core also)) (open-live core q stands core.drain.over refl)
-        ∙ ap (λ xs. map (λ (fd : ℕ). Close fd) (ascending (live_numbers core.plan q)) ++ map (λ (fd : ℕ). Close fd) xs) (left-new core q also stands);
+    told = map (λ (fd : ℕ). Close fd) (open_numbers core);
+    appended = told;
+    kept = ap (map (λ (fd : ℕ). Close fd)) (open-live core q stands core.drain.over refl) ∙ sym (append-nil (map (λ (fd : ℕ). Close fd) (ascending (live_numbers core.plan q))));
   };
-  closed = λ right. tail-right core.plan q also right;
+  closed = λ right. tail-right core.plan q None right;
+}
+
+-- where one was
+pub closes-brought : (core : CoreData) (q : Record) (e : Event) (before mid after : List Action)
+    → mid ≡ before ++ map (λ (fd : ℕ). Close fd) (open_numbers core) → after ≡ mid ++ map (λ (fd : ℕ). Close fd) (left_numbers core e)
+    → StandsFor core q → ClosesAll core.plan q (Some e) before after
+closes-brought core q e before mid after first next stands = record {
+  told = record {
+    told = map (λ (fd : ℕ). Close fd) (open_numbers core) ++ map (λ (fd : ℕ). Close fd) (left_numbers core e);
+    appended = next
+        ∙ ap (λ w. w ++ map (λ (fd : ℕ). Close fd) (left_numbers core e)) first
+        ∙ append_assoc before (map (λ (fd : ℕ). Close fd) (open_numbers core)) (map (λ (fd : ℕ). Close fd) (left_numbers core e));
+    kept = ap (λ xs. map (λ (fd : ℕ). Close fd) xs ++ map (λ (fd : ℕ). Close fd) (left_numbers core e)) (open-live core q stands core.drain.over refl)
+        ∙ ap (λ xs. map (λ (fd : ℕ). Close fd) (ascending (live_numbers core.plan q)) ++ map (λ (fd : ℕ). Close fd) xs) (left-new core q e stands);
+  };
+  closed = λ right. tail-right core.plan q (Some e) right;
 }

@@ -11,11 +11,15 @@ abbrev pub open_numbers : CoreData → List ℕ
 open_numbers core = if core.drain.over then [] else core.endpoints.numbers
 
 -- the numbers that the event brings and that didn't come before
-abbrev pub left_numbers : CoreData → Option Event → List ℕ
-left_numbers core None = []
-left_numbers core (Some e) = filter (λ n. not (list_any (λ m. m == n) core.endpoints.numbers)) (numbers_of (Got e))
+abbrev pub left_numbers : CoreData → Event → List ℕ
+left_numbers core e = filter (λ n. not (list_any (λ m. m == n) core.endpoints.numbers)) (numbers_of (Got e))
 
--- how many actions `close_all` tells at most
+-- how many actions `close_all` tells at most, with an unfinished event or without one
+abbrev pub close_need : CoreData → Option Event → ℕ
+close_need core None = length (open_numbers core)
+close_need core (Some e) = length (open_numbers core) + 1
+
+-- how many it tells at most in either case
 abbrev pub close_room : CoreData → ℕ
 close_room core = length (open_numbers core) + 1
 

@@ -9,7 +9,7 @@ ghost use Rattle.svc_record.specs.Fits.{Fits};
 ghost use Rattle.svc_record.specs.Right.{Right};
 ghost use Rattle.svc_record.specs.Validity.{IsValid, IsBuilt};
 ghost use Rattle.svc_core.specs.Stands.{StandsFor, HasNotBegun, MayCome, ReadyMayCome, BoundMayCome, StepKeeps, BeginKeeps, ClosesAll};
-ghost use Rattle.svc_core.specs.Rooms.{step_room, close_room, open_numbers, left_numbers};
+ghost use Rattle.svc_core.specs.Rooms.{step_room, close_room, close_need, open_numbers, left_numbers};
 
 use crate::drain::Drain;
 use crate::endpoints::{Endpoints, close_each};
@@ -163,7 +163,7 @@ impl Core {
         ensures plan { self.new.plan ≡ self.old.plan }
         ensures kept { StepKeeps self.old self.new (Event.Ready s) (list_of actions.old) (list_of actions.new) result }
         ensures few { length (list_of actions.new) + close_room self.new ≤ length (list_of actions.old) + step_room self.old }
-        ensures room { step_room self.old ≤ spare actions.old → close_room self.new ≤ spare actions.new }
+        ensures room { close_room self.new ≤ spare actions.new }
     {
         self.starts.take_ready(&self.plan, s);
         pass(
@@ -206,7 +206,7 @@ impl Core {
         ensures plan { self.new.plan ≡ self.old.plan }
         ensures kept { StepKeeps self.old self.new (Event.Signal kind) (list_of actions.old) (list_of actions.new) result }
         ensures few { length (list_of actions.new) + close_room self.new ≤ length (list_of actions.old) + step_room self.old }
-        ensures room { step_room self.old ≤ spare actions.old → close_room self.new ≤ spare actions.new }
+        ensures room { close_room self.new ≤ spare actions.new }
     {
         match kind {
             ShutdownSignal::FastShutdown => {}
@@ -218,11 +218,13 @@ impl Core {
     /// Closes each live descriptor in ascending number, and then what the event brought that was
     /// left unfinished. A caller who had `step_room` before a step has the room after it.
     pub fn close_all(&self, also: Option<&Event>, actions: &mut Actions)
-        requires room { close_room self.now ≤ spare actions.old }
+        requires room { close_need self.now (option_copied also) ≤ spare actions.old }
         ensures closes { (q : Record) → StandsFor self.now q → ClosesAll self.now.plan q (option_copied also.entry) (list_of actions.old) (list_of actions.new) }
     {
         self.close_open(actions);
-        self.close_brought(also, actions);
+        if let Some(event) = also {
+            self.close_brought(event, actions);
+        }
     }
 
     fn close_open(&self, actions: &mut Actions)
@@ -236,13 +238,10 @@ impl Core {
     }
 
     /// Closes what the event brought that came with no earlier one.
-    fn close_brought(&self, also: Option<&Event>, actions: &mut Actions)
+    fn close_brought(&self, event: &Event, actions: &mut Actions)
         requires room { 0 < spare actions.old }
-        ensures told { list_of actions.new ≡ list_of actions.old ++ map Close (left_numbers self.now (option_copied also.entry)) }
+        ensures { list_of actions.new ≡ list_of actions.old ++ map Close (left_numbers self.now event.now) }
     {
-        let Some(event) = also else {
-            return;
-        };
         match *event {
             Event::Bound(_, _, fd) => {
                 if !self.endpoints.has_number(fd) {

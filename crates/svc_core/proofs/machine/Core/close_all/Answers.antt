@@ -1,10 +1,16 @@
 use Rattle.svc_conf.specs.Items.{list_of}
-use Rattle.std.specs.Option.{option_copied}
-use Rattle.svc_core.proofs.TailLemmas.{closes-all}
+use Rattle.svc_core.proofs.TailLemmas.{closes-open, closes-brought}
 use Rattle.svc_core.proofs.machine.Core.close_all.Goals as goal
 
-pub returns : goal.returns
-returns c = record {
-  closes = λ q stands. closes-all c.args.self.now q (option_copied c.args.also) (list_of c.args.actions.now) (list_of c.close_open.new.actions) (list_of c.close_brought.new.actions)
-      c.close_open.ensures.told c.close_brought.ensures.told stands;
+pub returns-in-Some : goal.returns-in-Some
+returns-in-Some c = record {
+  closes = λ q stands. rw c.in-Some.is
+      (closes-brought c.args.self.now q c.in-Some.event.now (list_of c.args.actions.now) (list_of c.close_open.new.actions) (list_of c.close_brought.new.actions)
+      c.close_open.ensures.told c.close_brought.ensures stands);
+}
+
+pub returns-in_default : goal.returns-in_default
+returns-in_default c = record {
+  closes = λ q stands. rw c.in_default.is
+      (closes-open c.args.self.now q (list_of c.args.actions.now) (list_of c.close_open.new.actions) c.close_open.ensures.told stands);
 }
