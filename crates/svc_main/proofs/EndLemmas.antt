@@ -41,7 +41,7 @@ closed-event p xs middle ys e right on got closes = record {
   right = right;
   goes_on = on;
   entries_are = sym (reverse-reverse ys) ∙ ap reverse (ap reverse (closes.appended ∙ ap (λ es. es ++ map Told (closing_actions p (reverse xs) (Some e))) got)
-    ∙ reverse-step xs e (closing_actions p (reverse xs) (Some e)));
+      ∙ reverse-step xs e (closing_actions p (reverse xs) (Some e)));
   closed_once = closes.once;
 }
 
@@ -128,8 +128,8 @@ pub served_at : (p q : Plan) → q ≡ p → (events : List Event) (xs ys : List
     → events_of ys ≡ events_of xs ++ get_or events k d ∷ [] → Right q (reverse ys) → SteppedServed ≡ step_end q (reverse ys) → RunIs p events ys Served
 served_at p q same events xs ys k d below so_far step right answer =
     let front : events ≡ events_of ys ++ drop (k + 1) events =
-        split_at events k d below ∙ (sym (append_assoc (take k events) (get_or events k d ∷ []) (drop (k + 1) events))
-        ∙ ap (λ es. es ++ drop (k + 1) events) (ap (λ es. es ++ get_or events k d ∷ []) (sym so_far) ∙ sym step)) in
+    split_at events k d below ∙ (sym (append_assoc (take k events) (get_or events k d ∷ []) (drop (k + 1) events))
+    ∙ ap (λ es. es ++ drop (k + 1) events) (ap (λ es. es ++ get_or events k d ∷ []) (sym so_far) ∙ sym step)) in
     subst (λ (z : Plan). RunIs z events ys Served) same (drop (k + 1) events, record { served = served_from_answer q (reverse ys) right answer; right = right; front = front })
 
 -- no event was taken

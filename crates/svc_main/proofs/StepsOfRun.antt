@@ -36,7 +36,7 @@ pub taken : (old core : CoreData) (e : Event) (before middle after : List Entry)
     → StepKeeps old core e [] told end → middle ≡ before ++ Got e ∷ [] → after ≡ middle ++ map Told told → Stands old before → Leaves core after end
 taken old core e before middle after told end keeps got appended stands =
     let same : reverse after ≡ tell (Got e ∷ reverse before) keeps.told =
-        ap reverse (appended ∙ ap (λ es. es ++ map Told told) got) ∙ (reverse-step before e told ∙ ap (tell (Got e ∷ reverse before)) keeps.appended) in
+    ap reverse (appended ∙ ap (λ es. es ++ map Told told) got) ∙ (reverse-step before e told ∙ ap (tell (Got e ∷ reverse before)) keeps.appended) in
     leaves core after end (subst (λ r. StepRight core r end) (sym same) (keeps.kept (reverse before) stands.right stands.stands))
 
 pub taken-events : (e : Event) (before middle after : List Entry) (told : List Action) → middle ≡ before ++ Got e ∷ [] → after ≡ middle ++ map Told told → events_of after ≡ events_of before ++ e ∷ []

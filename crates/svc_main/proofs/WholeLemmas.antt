@@ -1,15 +1,11 @@
 -- A whole script whose events run through is served, unless memory runs out.
 use Rattle.std.proofs.Common.{◌≡◌, ◌≢◌, ℕ, ◌+◌, ◌<◌, ◌≤◌, ◌⊎◌, inl, inr, Bool, true, false, ◌&&◌, ◌==◌, nat_lt, List, [], ◌∷◌, ◌++◌, length, Option, Some, None, Ok, Err, Result, sym, ap, ◌∙◌, subst, arith, reverse, refl}
 use mathlib.Core.Bool.{false≢true, true≢false}
-use Rattle.std.proofs.lemmas.Bool.{and_parts, and_from, lt-ltb, ltb-true}
-use Rattle.std.specs.List.{list_any}
-use Rattle.svc_graph.specs.Paths.{Edges, IsChain, Path}
 use Rattle.svc_record.specs.declared.event.Event.{Event}
 use Rattle.svc_record.specs.declared.event.Event.TheVariants.{Signal}
 use Rattle.svc_record.specs.declared.event.ShutdownSignal.TheVariants.{FastShutdown}
-use Rattle.svc_text.specs.declared.service.ServiceLine.{ServiceLine}
-use Rattle.svc_text.specs.Accepted.{after_at}
-use Rattle.svc_text.specs.Dependencies.{edges_up_to, IsUnsoundAt, RefusesAt, RefusesNone}
+use Rattle.svc_text.specs.Dependencies.{RefusesAt}
+use Rattle.svc_text.proofs.EdgeLemmas.{refused_some}
 use Rattle.svc_text.specs.Script.{Parts, script}
 use Rattle.svc_text.specs.ScriptPlans.{plan_of}
 use Rattle.svc_conf.specs.Streams.{Rose}
@@ -20,25 +16,6 @@ use Rattle.svc_main.specs.Status.{status_of}
 use Rattle.svc_main.specs.Runs.{IsStray, IsUsedUp, IsClosed}
 use Rattle.svc_main.specs.Program.{IsAnswer, Faults, IsWholeScript, RunsThrough, IsScript, RefusesIn}
 use Rattle.svc_main.proofs.EndLemmas.{ended_by_signal}
-
--- a chain stays one where edges are added
-chain_grows : (g h : Edges) → ((a b : ℕ) → g a b ≡ true → h a b ≡ true) → (a : ℕ) (via : List ℕ) (b : ℕ) → IsChain g a via b → IsChain h a via b
-chain_grows g h f a [] b c = f a b c
-chain_grows g h f a (x ∷ via) b c = (f a x c.0, chain_grows g h f x via b c.1)
-
-edges_grow : (services : List ServiceLine) (m n : ℕ) → m ≤ n → (a b : ℕ) → edges_up_to services m a b ≡ true → edges_up_to services n a b ≡ true
-edges_grow services m n le a b e =
-    let h = and_parts (nat_lt a m) (list_any (λ x. x == b) (after_at services a)) e in
-    let below : a < m = ltb-true a m h.0 in
-    and_from (nat_lt a n) _ (lt-ltb a n (omega arith)) h.1
-
--- a service that is refused isn't one of services that aren't
-pub refused_not : (services : List ServiceLine) (k : ℕ) → RefusesNone services → RefusesAt services k → ⊥
-refused_not services k none at = by at.refused
-  where
-    by : IsUnsoundAt services k → ⊥
-    by (inl unknown) = let here : unknown.1 < length services = subst (λ x. x < length services) unknown.3 (none.known k at.here unknown.0 unknown.1 unknown.2) in omega (arith, unknown.4)
-    by (inr cycle) = none.acyclic cycle.0 (cycle.1.0, chain_grows (edges_up_to services (k + 1)) (edges_up_to services (length services)) (edges_grow services (k + 1) (length services) (omega (arith, at.here))) cycle.0 cycle.1.0 cycle.0 cycle.1.1)
 
 -- a text is one script
 one_script : (bytes : List ℕ) (p q : Parts) → script bytes ≡ Ok p → script bytes ≡ Ok q → p ≡ q
@@ -55,7 +32,7 @@ whole_is_served words bytes parts (Line k) out before now w a f n = absurd (by a
     by : RefusesIn bytes k → ⊥
     by (inl refused) = let said : script bytes ≡ Ok parts = w.is_script.says in cc
     by (inr (inl edge)) =
-        refused_not parts.services edge.1.1.0 w.is_script.edges (subst (λ (q : Parts). RefusesAt q.services edge.1.1.0) (one_script bytes edge.0 parts edge.1.0 w.is_script.says) edge.1.1.1.0)
+        refused_some parts.services edge.1.1.0 (subst (λ (q : Parts). RefusesAt q.services edge.1.1.0) (one_script bytes edge.0 parts edge.1.0 w.is_script.says) edge.1.1.1.0) w.is_script.edges
     by (inr (inr long)) = let short = w.short in omega (arith, long.1)
 whole_is_served words bytes parts (Run (Stray k)) out before now w a f n =
     let same : a.1.0 ≡ parts = one_script bytes a.1.0 parts a.1.1.1.says w.is_script.says in

@@ -4,7 +4,6 @@
 mod outcome;
 mod program;
 mod runs;
-mod stub;
 
 pub use outcome::{RunEnd, StatusLine};
 pub use program::{one_answer, serve_script};

@@ -22,12 +22,11 @@ ghost use Rattle.svc_main.specs.Program.{TakesWords, RunText, RanText, RefusedTe
 
 use crate::outcome::{RunEnd, StatusLine};
 use crate::runs::{Run, run_events};
-use crate::stub::{parse, plan_of, refused_service};
 use std::alloc::Global;
 use std::fmt::Write;
 use std::rc::RcStr;
 use svc_conf::{NoMemory, ReadAllError, Sink, Source, Status, read_all, write_all};
-use svc_text::{Script, ScriptError, record_text};
+use svc_text::{Script, ScriptError, parse, plan_of, record_text, refused_service};
 
 /// A status line, and what is to be written with it.
 #[derive(Debug, Drop)]
@@ -85,7 +84,8 @@ fn run_script(alloc: Global, script: &Script) -> Result<Answer, NoMemory>
 
 /// The line of the first service whose dependencies are refused.
 fn refused_line(alloc: Global, script: &Script) -> Result<Option<u64>, NoMemory>
-    requires { length script.now.lines.items ≡ length script.now.services.items }
+    requires accepted { AreAccepted script.now.services.items }
+    requires lines { length script.now.lines.items ≡ length script.now.services.items }
     ensures { IfOk result (λ o. MatchOption o (RefusesNone script.now.services.items) (λ n. (k : ℕ) × (RefusesAt script.now.services.items k × (n ≡ slice_index script.now.lines.items k)))) }
 {
     match refused_service(alloc, &script.services)? {
