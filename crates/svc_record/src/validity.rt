@@ -6,6 +6,8 @@ ghost use Rattle.svc_graph.specs.Graphs.{node_count, is_edge, IsGraph};
 ghost use Rattle.svc_record.specs.Plans.{service_count, depends};
 ghost use Rattle.svc_record.specs.Validity.{IsValid, IsBuilt, IsStartupOrder, IsInOrder, depends_on, is_listed, IsAddress, KeepsLimits, DependsWell, IsGraphUpTo, with_row};
 
+mod built;
+
 use crate::plan::{Plan, ServicePlan};
 use std::alloc::Global;
 use svc_conf::NoMemory;
