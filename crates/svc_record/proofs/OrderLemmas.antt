@@ -1,7 +1,6 @@
 -- The startup order of a plan, from that of its graph.
-use Rattle.std.proofs.Common.{ℕ, Bool, true, false, ◌||◌, ◌&&◌, ◌==◌, List, [], ◌∷◌, ◌≡◌, refl, sym, ◌∙◌, inl, inr, subst, ap, arith, ◌<◌, ◌≤◌, nat_lt, length, take, All, slice_index, get_or}
+use Rattle.std.proofs.Common.{ℕ, true, false, ◌==◌, List, ◌≡◌, refl, sym, ◌∙◌, inl, inr, subst, arith, ◌<◌, ◌≤◌, nat_lt, length, take, All, slice_index, get_or}
 use Rattle.std.specs.Prelude.{Result, Ok, Err, IfOk}
-use Rattle.std.specs.List.{list_any}
 use Rattle.std.proofs.lemmas.Bool.{and_parts, and_from, eqb-true, eq-eqb, false_from_ne_true, lt-ltb}
 use Rattle.std.proofs.lemmas.List.{take-take, get_or_default}
 use Rattle.std.proofs.lemmas.Option.{slice_get_cases}
@@ -11,7 +10,8 @@ use Rattle.svc_graph.specs.Graphs.{node_count, is_edge, row_of, IsGraph}
 use Rattle.svc_graph.specs.Graphs as graphs
 use Rattle.svc_record.specs.declared.plan.Plan.{Plan}
 use Rattle.svc_record.specs.Plans.{service_count, depends}
-use Rattle.svc_record.specs.Validity.{depends_on, is_listed, DependsWell, IsGraphUpTo, IsNext, IsStartupOrder, IsInOrder}
+use Rattle.svc_record.specs.Building.{DependsWell, IsGraphUpTo}
+use Rattle.svc_record.specs.Validity.{depends_on, is_listed, IsNext, IsStartupOrder, IsInOrder}
 use Rattle.svc_graph.proofs.Chains.{acyclic-within}
 use Rattle.svc_record.proofs.GraphLemmas.{listed_front}
 
@@ -79,9 +79,9 @@ in-order p order short least = record {
       (found.0, found.2, get_or_default order found.0 0 found.1 found.2 ∙ found.3 ∙ eqb-true found.1 s found.4));
   after = λ j k le lt. false_from_ne_true (depends_on p (slice_index order j) (slice_index order k))
       (λ e. (
-          let due = All-listed (λ d. is_listed (take j order) d ≡ true) (depends p (slice_index order j)) (slice_index order k) (least.next j (omega arith)).due e in
-          let seen = earlier_listed order j k (slice_index order k) le due in
-          let fresh = (least.next k lt).fresh in cc));
+      let due = All-listed (λ d. is_listed (take j order) d ≡ true) (depends p (slice_index order j)) (slice_index order k) (least.next j (omega arith)).due e in
+      let seen = earlier_listed order j k (slice_index order k) le due in
+      let fresh = (least.next k lt).fresh in cc));
   short = short;
 }
 

@@ -1,5 +1,5 @@
 -- The tests of a plan.
-use Rattle.std.proofs.Common.{ℕ, Bool, true, false, ◌&&◌, ◌==◌, ◌⊎◌, inl, inr, List, [], ◌≡◌, refl, sym, ◌∙◌, subst, ap, arith, ◌<◌, ◌≤◌, nat_lt, length, All, slice_get}
+use Rattle.std.proofs.Common.{ℕ, inl, inr, List, refl, subst, arith, ◌<◌, ◌≤◌, length, All}
 use Rattle.std.specs.Prelude.{Option, Some, None, IfSome, IfNone, IsTrue, ◌↔◌, is_some}
 use Rattle.std.proofs.lemmas.Option.{slice_get_cases}
 use Rattle.svc_graph.specs.GraphData.{GraphData}
@@ -7,8 +7,9 @@ use Rattle.svc_graph.specs.Graphs.{IsGraph}
 use Rattle.svc_graph.specs.declared.plan.EndpointPlan.{EndpointPlan}
 use Rattle.svc_record.specs.declared.plan.Plan.{Plan}
 use Rattle.svc_record.specs.declared.plan.ServicePlan.{ServicePlan}
-use Rattle.svc_record.specs.Plans.{service_count, service, depends, endpoints}
-use Rattle.svc_record.specs.Validity.{depends_on, IsAddress, KeepsLimits, DependsWell, IsGraphUpTo, IsValid}
+use Rattle.svc_record.specs.Plans.{service_count, endpoints}
+use Rattle.svc_record.specs.Building.{KeepsLimits, DependsWell, IsGraphUpTo}
+use Rattle.svc_record.specs.Validity.{IsAddress, IsValid}
 use Rattle.svc_record.proofs.OrderLemmas.{depends-well}
 
 -- what holds of each service's endpoints

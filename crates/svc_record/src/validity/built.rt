@@ -42,14 +42,18 @@ fn is_plain_service(service: &ServicePlan) -> bool
 fn has_address(endpoints: &[EndpointPlan], address: &Text) -> bool
     ensures { result ≡ has_address address.now endpoints.now }
 {
-    endpoints.iter().any(|endpoint| endpoint.address == *address)
+    endpoints
+        .iter()
+        .any(|endpoint| endpoint.address == *address)
 }
 
 /// An endpoint of these has the address of one of those.
 fn share_address(these: &[EndpointPlan], those: &[EndpointPlan]) -> bool
     ensures { result ≡ share_address those.now these.now }
 {
-    these.iter().any(|endpoint| has_address(those, &endpoint.address))
+    these
+        .iter()
+        .any(|endpoint| has_address(those, &endpoint.address))
 }
 
 /// A service has the address of one of the endpoints.
@@ -87,6 +91,9 @@ impl Plan {
         ensures { IsTrue result ↔ IsBuilt self.now }
     {
         let services = self.services.as_slice();
-        !self.eager && !self.daemon && are_plain_services(services) && are_apart(services)
+        if self.eager || self.daemon {
+            return false;
+        }
+        are_plain_services(services) && are_apart(services)
     }
 }
