@@ -1,17 +1,16 @@
 -- Adding the dependencies of services to a graph.
-use Rattle.std.proofs.Common.{ℕ, Bool, true, false, ◌||◌, ◌&&◌, ◌==◌, ◌⊎◌, inl, inr, List, [], ◌∷◌, ◌++◌, ◌≡◌, refl, sym, ◌∙◌, subst, ap, arith, ◌<◌, ◌≤◌, ◌+◌, nat_lt, length, take, drop, All, slice_index_or}
-use Rattle.std.specs.List.{list_any}
-use Rattle.std.proofs.lemmas.Bool.{and_parts, and_from, or_cases, or_left, or_right, eqb-true, eq-eqb, ne_eqb, cases_eq, cases_Bool, lt-ltb, ltb-true}
-use Rattle.std.proofs.lemmas.List.Folds.{list_any_at, list_any_more, list_any-append, Any-from_list_any}
+use Rattle.std.proofs.Common.{ℕ, Bool, true, false, ◌||◌, ◌&&◌, ◌==◌, ◌⊎◌, inl, inr, List, [], ◌∷◌, ◌≡◌, refl, sym, ◌∙◌, subst, ap, arith, ◌<◌, ◌+◌, nat_lt, length, take, drop, All, slice_index_or}
+use Rattle.std.proofs.lemmas.Bool.{and_parts, and_from, or_cases, or_left, or_right, eqb-true, eq-eqb, ne_eqb, cases_eq}
+use Rattle.std.proofs.lemmas.List.Folds.{list_any_at, list_any_more, list_any-append}
 use Rattle.std.proofs.lemmas.List.{take-append-drop}
-use Rattle.svc_graph.specs.Paths.{Edges, IsChain, Path, IsAcyclic}
+use Rattle.svc_graph.specs.Paths.{Edges, Path, IsAcyclic}
 use Rattle.svc_graph.specs.GraphData.{GraphData}
 use Rattle.svc_graph.specs.Graphs.{node_count, is_edge, LeadsBack, IsUnknown}
-use Rattle.svc_graph.specs.Refusals.{RefusalFits}
 use Rattle.svc_graph.proofs.Chains.{chain-within, acyclic-within}
 use Rattle.svc_record.specs.declared.plan.Plan.{Plan}
 use Rattle.svc_record.specs.Plans.{service_count, depends}
-use Rattle.svc_record.specs.Validity.{depends_on, is_listed, with_row, DependsWell, IsGraphUpTo}
+use Rattle.svc_record.specs.Building.{with_row, DependsWell, IsGraphUpTo}
+use Rattle.svc_record.specs.Validity.{depends_on, is_listed}
 
 -- an edge to what leads back closes a cycle
 pub closes-cycle : (g h : Edges) (s d : ℕ) → ((a b : ℕ) → g a b ≡ true → h a b ≡ true) → h s d ≡ true → (s ≡ d) ⊎ Path g d s → IsAcyclic h → ⊥

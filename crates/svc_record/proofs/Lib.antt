@@ -14,3 +14,5 @@ pub mod Tallies
 pub mod Closing
 pub mod GraphLemmas
 pub mod OrderLemmas
+pub mod ValidLemmas
+pub mod BuiltLemmas

@@ -1,16 +1,18 @@
 -- The startup order of a plan, from that of its graph.
-use Rattle.std.proofs.Common.{ℕ, Bool, true, false, ◌||◌, ◌&&◌, ◌==◌, List, [], ◌∷◌, ◌≡◌, refl, sym, ◌∙◌, subst, ap, arith, ◌<◌, ◌≤◌, nat_lt, length, take, All, slice_index, get_or}
+use Rattle.std.proofs.Common.{ℕ, true, false, ◌==◌, List, ◌≡◌, refl, sym, ◌∙◌, inl, inr, subst, arith, ◌<◌, ◌≤◌, nat_lt, length, take, All, slice_index, get_or}
 use Rattle.std.specs.Prelude.{Result, Ok, Err, IfOk}
-use Rattle.std.specs.List.{list_any}
 use Rattle.std.proofs.lemmas.Bool.{and_parts, and_from, eqb-true, eq-eqb, false_from_ne_true, lt-ltb}
 use Rattle.std.proofs.lemmas.List.{take-take, get_or_default}
+use Rattle.std.proofs.lemmas.Option.{slice_get_cases}
 use Rattle.std.proofs.lemmas.List.Folds.{list_any_at, Any-from_list_any}
 use Rattle.svc_graph.specs.GraphData.{GraphData}
 use Rattle.svc_graph.specs.Graphs.{node_count, is_edge, row_of, IsGraph}
 use Rattle.svc_graph.specs.Graphs as graphs
 use Rattle.svc_record.specs.declared.plan.Plan.{Plan}
 use Rattle.svc_record.specs.Plans.{service_count, depends}
-use Rattle.svc_record.specs.Validity.{depends_on, is_listed, IsGraphUpTo, IsNext, IsStartupOrder, IsInOrder}
+use Rattle.svc_record.specs.Building.{DependsWell, IsGraphUpTo}
+use Rattle.svc_record.specs.Validity.{depends_on, is_listed, IsNext, IsStartupOrder, IsInOrder}
+use Rattle.svc_graph.proofs.Chains.{acyclic-within}
 use Rattle.svc_record.proofs.GraphLemmas.{listed_front}
 
 -- what holds of each element holds of a listed number
@@ -35,6 +37,21 @@ module _ (p : Plan) (g : GraphData) (whole : IsGraphUpTo p (service_count p) g) 
   plan_row : (P : ℕ → Type 0) (a : ℕ) → All P (depends p a) → All P (row_of g.depends a)
   plan_row P a all = All-from_listed P (row_of g.depends a)
       (λ b e. All-listed P (depends p a) b all (and_parts (nat_lt a (service_count p)) (depends_on p a b) (sym (whole.edges a b) ∙ e)).1)
+
+  depends_inside : (a b : ℕ) → depends_on p a b ≡ true → a < service_count p
+  depends_inside a b e =
+      elim (slice_get_cases p.services a).1 [
+        | inl at ↦ at.1
+        | inr past ↦ absurd (let none : depends_on p a b ≡ false = rw past.1 refl in cc)
+      ]
+
+  -- the plan's dependencies are services, without a cycle
+  pub depends-well : DependsWell p
+  depends-well = record {
+    inside = λ s lt. row_plan (λ d. d < service_count p) s lt (subst (λ n. All (λ d. d < n) (row_of g.depends s)) whole.nodes (graph.inside s));
+    acyclic = acyclic-within (depends_on p) (is_edge g)
+        (λ a b e. whole.edges a b ∙ and_from (nat_lt a (service_count p)) (depends_on p a b) (lt-ltb a (service_count p) (depends_inside a b e)) e) graph.acyclic;
+  }
 
   next-plan : (listed : List ℕ) (s : ℕ) → graphs.IsNext g.depends listed s → IsNext p listed s
   next-plan listed s next = record {
@@ -62,9 +79,9 @@ in-order p order short least = record {
       (found.0, found.2, get_or_default order found.0 0 found.1 found.2 ∙ found.3 ∙ eqb-true found.1 s found.4));
   after = λ j k le lt. false_from_ne_true (depends_on p (slice_index order j) (slice_index order k))
       (λ e. (
-          let due = All-listed (λ d. is_listed (take j order) d ≡ true) (depends p (slice_index order j)) (slice_index order k) (least.next j (omega arith)).due e in
-          let seen = earlier_listed order j k (slice_index order k) le due in
-          let fresh = (least.next k lt).fresh in cc));
+      let due = All-listed (λ d. is_listed (take j order) d ≡ true) (depends p (slice_index order j)) (slice_index order k) (least.next j (omega arith)).due e in
+      let seen = earlier_listed order j k (slice_index order k) le due in
+      let fresh = (least.next k lt).fresh in cc));
   short = short;
 }
 

@@ -16,4 +16,5 @@ pub mod Facts
 pub mod Tail
 pub mod Validity
 pub mod Text
+pub mod Building
 pub use Rattle.svc_graph.specs.Paths

@@ -1,13 +1,10 @@
 -- Which plans a server can be run by, and the order in which their services start.
-use Rattle.std.specs.Prelude.{ℕ, Bool, true, false, ◌≡◌, ◌<◌, ◌≤◌, ◌==◌, ◌&&◌, ◌||◌, nat_lt, List, length, take, All, Option, Some, None, slice_index}
+use Rattle.std.specs.Prelude.{ℕ, Bool, true, false, ◌≡◌, ◌<◌, ◌≤◌, ◌==◌, List, length, take, All, Option, Some, None, slice_index}
 use Rattle.std.specs.List.{list_any}
-use Rattle.svc_graph.specs.Paths.{Edges, IsAcyclic}
-use Rattle.svc_graph.specs.GraphData.{GraphData}
-use Rattle.svc_graph.specs.Graphs.{node_count, is_edge}
+use Rattle.svc_graph.specs.Paths.{IsAcyclic}
 use Rattle.svc_graph.specs.declared.plan.EndpointPlan.{EndpointPlan}
 use Rattle.svc_graph.specs.declared.plan.Kind.TheVariants.{Bootstrap}
 use Rattle.svc_record.specs.declared.plan.Plan.{Plan}
-use Rattle.svc_record.specs.declared.plan.ServicePlan.{ServicePlan}
 use Rattle.svc_record.specs.Plans.{service_count, depends, has_kind, endpoints, address, is_unix}
 
 -- s depends on d
@@ -59,23 +56,3 @@ pub record IsInOrder (p : Plan) (order : List ℕ) : Type 0 where
   pub each : (s : ℕ) → s < service_count p → (k : ℕ) × (k < length order) × (slice_index order k ≡ s)
   pub after : (j k : ℕ) → j ≤ k → k < length order → depends_on p (slice_index order j) (slice_index order k) ≡ false
   pub short : length order ≤ 1024
-
--- the plan keeps the limits
-pub record KeepsLimits (p : Plan) : Type 0 where
-  pub few : service_count p ≤ 1024
-  pub tasks : 0 < p.tasks
-  pub endpoints : All (λ (s : ServicePlan). (length s.endpoints ≤ 64) × All IsAddress s.endpoints) p.services
-
--- each dependency is a service, and no service depends on itself by any chain
-pub record DependsWell (p : Plan) : Type 0 where
-  pub inside : (s : ℕ) → s < service_count p → All (λ d. d < service_count p) (depends p s)
-  pub acyclic : IsAcyclic (depends_on p)
-
--- the edges with those from s to each of the row
-abbrev pub with_row : Edges → ℕ → List ℕ → Edges
-with_row g s row a b = g a b || (a == s && is_listed row b)
-
--- the graph has a node for each service, and the dependencies of those below n
-pub record IsGraphUpTo (p : Plan) (n : ℕ) (g : GraphData) : Type 0 where
-  pub nodes : node_count g ≡ service_count p
-  pub edges : (a b : ℕ) → is_edge g a b ≡ (nat_lt a n && depends_on p a b)

@@ -1,10 +1,15 @@
 //! The tests of a plan, and the order in which its services start.
 
-ghost use Rattle.std.specs.Prelude.{◌≡◌, ◌<◌, ◌≤◌, ◌↔◌, ◌||◌, ◌&&◌, ◌==◌, ℕ, true, false, length, All, IsTrue, IfOk, IfSome, IfNone, OnOk, OnErr};
+ghost use Rattle.std.specs.Prelude.{◌≡◌, ◌<◌, ◌≤◌, ◌↔◌, ℕ, true, false, length, All, IsTrue, IfOk, IfSome, IfNone};
 ghost use Rattle.svc_graph.specs.Paths.{IsAcyclic};
 ghost use Rattle.svc_graph.specs.Graphs.{node_count, is_edge, IsGraph};
 ghost use Rattle.svc_record.specs.Plans.{service_count, depends};
-ghost use Rattle.svc_record.specs.Validity.{IsValid, IsBuilt, IsStartupOrder, IsInOrder, depends_on, is_listed, IsAddress, KeepsLimits, DependsWell, IsGraphUpTo, with_row};
+ghost use Rattle.svc_record.specs.Validity.{IsValid, IsStartupOrder, IsInOrder, IsAddress};
+ghost use Rattle.svc_record.specs.Building.{KeepsLimits, DependsWell, IsGraphUpTo, with_row};
+
+mod built;
+#[cfg(test)]
+mod tests;
 
 use crate::plan::{Plan, ServicePlan};
 use std::alloc::Global;
@@ -109,7 +114,9 @@ fn are_endpoints(endpoints: &[EndpointPlan]) -> bool
 fn have_endpoints(services: &[ServicePlan]) -> bool
     ensures { IsTrue result ↔ All (λ s. (length s.endpoints ≤ 64) × All IsAddress s.endpoints) services.now }
 {
-    services.iter().all(|service| are_endpoints(service.endpoints.as_slice()))
+    services
+        .iter()
+        .all(|service| are_endpoints(service.endpoints.as_slice()))
 }
 
 /// The plan keeps the limits, whatever its services depend on.

@@ -1,6 +1,6 @@
 use Rattle.std.proofs.Common.{ℕ, ◌≡◌, take}
 use Rattle.svc_graph.specs.Graphs.{node_count, is_edge, IsGraph}
-use Rattle.svc_record.specs.Validity.{with_row}
+use Rattle.svc_record.specs.Building.{with_row}
 use Rattle.svc_record.proofs.validity.add_dependencies.Given as goal
 
 abbrev pub invariant-loop-dependency : goal.invariant-loop-dependency

@@ -1,7 +1,7 @@
 use Rattle.std.proofs.Common.{arith, ap, All, subst, length, ◌<◌}
 use Rattle.svc_graph.specs.Paths.{IsAcyclic}
 use Rattle.svc_graph.specs.Graphs.{node_count, is_edge}
-use Rattle.svc_record.specs.Validity.{with_row}
+use Rattle.svc_record.specs.Building.{with_row}
 use Rattle.svc_record.proofs.GraphLemmas.{graph-cause}
 use Rattle.svc_record.proofs.validity.graph_of.Goals as goal
 

@@ -1,5 +1,5 @@
 use Rattle.svc_graph.specs.Graphs.{IsGraph}
-use Rattle.svc_record.specs.Validity.{IsGraphUpTo}
+use Rattle.svc_record.specs.Building.{IsGraphUpTo}
 use Rattle.svc_record.proofs.validity.graph_of.Given as goal
 
 abbrev pub invariant-loop-service : goal.invariant-loop-service

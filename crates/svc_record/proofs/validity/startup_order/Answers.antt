@@ -1,10 +1,11 @@
-use Rattle.std.proofs.Common.{arith, ◌≡◌, ◌≤◌, ℕ, Vec, Global, length, vec_len, subst}
+use Rattle.std.proofs.Common.{arith, ◌≡◌, vec_len, subst}
 use Rattle.std.specs.Prelude.{Option, IfSome}
 use Rattle.std.proofs.lemmas.Result.{IfOk-weaker}
 use Rattle.svc_graph.specs.GraphData.{GraphData}
 use Rattle.svc_graph.specs.Graphs as graphs
 use Rattle.svc_record.specs.Plans.{service_count}
-use Rattle.svc_record.specs.Validity.{IsGraphUpTo, IsStartupOrder, IsInOrder}
+use Rattle.svc_record.specs.Building.{IsGraphUpTo}
+use Rattle.svc_record.specs.Validity.{IsStartupOrder, IsInOrder}
 use Rattle.svc_record.proofs.OrderLemmas.{order-plan, in-order, both_ok}
 use Rattle.svc_record.proofs.validity.startup_order.Goals as goal
 use Rattle.svc_record.proofs.validity.startup_order.Goals.{After-topological_sort}
@@ -23,5 +24,5 @@ returns-clause-in_order c =
     both_ok c.topological_sort.result (λ order. graphs.IsStartupOrder c.in-Some.graph.depends order.items) (λ order. vec_len order ≡ graphs.node_count c.in-Some.graph)
     (λ order. IsInOrder c.args.plan.now order.items)
     (λ order least size. in-order c.args.plan.now order.items (omega (arith, order.ok.0, graph.nodes, c.requires.few))
-        (order-plan c.args.plan.now c.in-Some.graph graph c.topological_sort.ensures.graph order.items least))
+    (order-plan c.args.plan.now c.in-Some.graph graph c.topological_sort.ensures.graph order.items least))
     c.topological_sort.ensures.order c.topological_sort.ensures.size
