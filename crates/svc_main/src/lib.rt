@@ -7,3 +7,6 @@ mod runs;
 
 pub use outcome::{RunEnd, StatusLine};
 pub use program::{one_answer, serve_script};
+
+#[cfg(test)]
+mod tests;

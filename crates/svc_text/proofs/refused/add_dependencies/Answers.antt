@@ -12,4 +12,4 @@ returns-in-Err-Circular c =
 
 pub loop-dependency-preserved : goal.loop-dependency-preserved
 loop-dependency-preserved c =
-    taken_next c.args.graph.now c.loop-dependency.graph c.add_dependency.new.self c.args.dependent c.args.after.now c.loop-dependency.dependency-index _ c.loop-dependency.invariant c.loop-dependency-test.true c.in-Ok.ensures.added c.in-Ok.ensures.edges c.in-Ok.ensures.acyclic (λ unknown. let e = c.in-Ok.ensures.unknown unknown in absurd cc)
+    taken_next c.args.graph.now c.loop-dependency.graph c.add_dependency.new.self c.args.dependent c.args.after.now c.loop-dependency.dependency-index _ c.loop-dependency.invariant c.loop-dependency-test.true c.in-Ok.ensures.added c.in-Ok.ensures.edges c.in-Ok.ensures.graph.acyclic (λ unknown. let e = c.in-Ok.ensures.unknown unknown in absurd cc)
