@@ -4,7 +4,7 @@ use Rattle.std.proofs.lemmas.Bool.{ltb-true, lt-ltb, le-ltb, cases_eq}
 use Rattle.std.proofs.lemmas.List.{get_or-set_other, get_or-set_same}
 use Rattle.svc_graph.specs.Paths.{Path}
 use Rattle.svc_graph.specs.GraphData.{GraphData}
-use Rattle.svc_graph.specs.Graphs.{row_of, is_in_row, is_listed, IsGraph, with_node, depends, is_edge, node_count}
+use Rattle.svc_graph.specs.Graphs.{row_of, is_in_row, is_listed, IsGraph, with_node, is_edge}
 use Rattle.svc_graph.specs.Marks.{Divides, RowsBelow}
 use Rattle.svc_graph.specs.Ranks.{IsRank, Falls, IsKept}
 use Rattle.svc_graph.proofs.Lists.{All-listed, All-from_listed, listed_push}

@@ -1,12 +1,12 @@
 use Rattle.std.proofs.Common.{arith, ◌≡◌, ◌<◌, ◌++◌, length, take, drop, true, sym, ap, subst, refl, ◌∙◌, ◌⊎◌}
 use Rattle.std.proofs.lemmas.Bool.{ltb-true}
-use Rattle.svc_graph.specs.Paths.{Path, IsAcyclic}
+use Rattle.svc_graph.specs.Paths.{Path}
 use Rattle.svc_graph.specs.GraphData.{GraphData}
-use Rattle.svc_graph.specs.Graphs.{IsGraph, LeadsBack, is_edge, is_in_row}
+use Rattle.svc_graph.specs.Graphs.{IsGraph, LeadsBack, is_in_row}
 use Rattle.svc_graph.specs.Marks.{Divides}
 use Rattle.svc_graph.specs.Ranks.{Falls, IsKept}
 use Rattle.svc_graph.proofs.Lists.{whole_slice}
-use Rattle.svc_graph.proofs.Chains.{divides-path, ranked-acyclic}
+use Rattle.svc_graph.proofs.Chains.{divides-path}
 use Rattle.svc_graph.proofs.Kept.{kept-graph, view-graph, kept-edge, edge-no_return, pushed}
 use Rattle.svc_graph.proofs.graph.DependencyGraph.add_dependency.Goals as goal
 use Rattle.svc_graph.proofs.graph.DependencyGraph.add_dependency.Goals.{After-len-count, In_err-push_edge, then-self, else-self, In_ok-push_edge}

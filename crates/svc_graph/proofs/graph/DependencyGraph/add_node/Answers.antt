@@ -1,7 +1,7 @@
 use Rattle.std.proofs.Common.{arith, subst}
 use Rattle.svc_graph.specs.GraphData.{GraphData}
 use Rattle.svc_graph.specs.Graphs.{IsGraph}
-use Rattle.svc_graph.proofs.Kept.{kept-graph, view-graph, node-graph}
+use Rattle.svc_graph.proofs.Kept.{kept-graph, node-graph}
 use Rattle.svc_graph.proofs.graph.DependencyGraph.add_node.Goals as goal
 use Rattle.svc_graph.proofs.graph.DependencyGraph.add_node.Goals.{After-len-number}
 
