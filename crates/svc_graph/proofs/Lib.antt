@@ -1,1 +1,5 @@
-
+pub mod Lists
+pub mod Chains
+pub mod Searches
+pub mod Orders
+pub mod Kept

@@ -2,6 +2,13 @@
 //! of its endpoints.
 #![tactic(auto)]
 
+mod graph;
 mod plan;
+mod search;
+mod sort;
 
+pub use graph::{AddNodeReason, AddNodeRefused, DependencyError, DependencyGraph, NODE_LIMIT};
 pub use plan::{EndpointList, EndpointPlan, Kind};
+
+#[cfg(test)]
+mod tests;

@@ -1,0 +1,4 @@
+pub mod GraphLemmas
+pub mod OrderLemmas
+pub mod ValidLemmas
+pub mod BuiltLemmas

@@ -15,4 +15,5 @@ pub mod Right
 pub mod Facts
 pub mod Tail
 pub mod Validity
+pub mod Building
 pub use Rattle.svc_graph.specs.Paths

@@ -1,0 +1,60 @@
+-- Parts of the tests of a plan: what a graph of its services holds, and what is asked of each service.
+use Rattle.std.specs.Prelude.{ℕ, Bool, true, false, not, nat_lt, ◌&&◌, ◌||◌, ◌==◌, ◌≡◌, ◌<◌, ◌≤◌, List, [], ◌∷◌, length, All, None, bytes_eq}
+use Rattle.std.specs.List.{list_any}
+use Rattle.svc_graph.specs.Paths.{Edges, IsAcyclic}
+use Rattle.svc_graph.specs.GraphData.{GraphData}
+use Rattle.svc_graph.specs.Graphs.{node_count, is_edge}
+use Rattle.svc_graph.specs.declared.plan.EndpointPlan.{EndpointPlan}
+use Rattle.svc_graph.specs.declared.plan.Kind.TheVariants.{Bootstrap}
+use Rattle.svc_record.specs.declared.plan.Plan.{Plan}
+use Rattle.svc_record.specs.declared.plan.ServicePlan.{ServicePlan}
+use Rattle.svc_record.specs.Plans.{service_count, depends, is_kind}
+use Rattle.svc_record.specs.Validity.{IsAddress, depends_on, is_listed}
+
+-- the plan keeps the limits
+pub record KeepsLimits (p : Plan) : Type 0 where
+  pub few : service_count p ≤ 1024
+  pub tasks : 0 < p.tasks
+  pub endpoints : All (λ (s : ServicePlan). (length s.endpoints ≤ 64) × All IsAddress s.endpoints) p.services
+
+-- each dependency is a service, and no service depends on itself by any chain
+pub record DependsWell (p : Plan) : Type 0 where
+  pub inside : (s : ℕ) → s < service_count p → All (λ d. d < service_count p) (depends p s)
+  pub acyclic : IsAcyclic (depends_on p)
+
+-- the edges with those from s to each of the row
+abbrev pub with_row : Edges → ℕ → List ℕ → Edges
+with_row g s row a b = g a b || (a == s && is_listed row b)
+
+-- the graph has a node for each service, and the dependencies of those below n
+pub record IsGraphUpTo (p : Plan) (n : ℕ) (g : GraphData) : Type 0 where
+  pub nodes : node_count g ≡ service_count p
+  pub edges : (a b : ℕ) → is_edge g a b ≡ (nat_lt a n && depends_on p a b)
+
+-- the endpoint is bound over TCP, and has no filter
+pub record IsPlainEndpoint (e : EndpointPlan) : Type 0 where
+  pub tcp : e.unix ≡ false
+  pub unfiltered : e.filter ≡ None
+
+-- the service doesn't bootstrap, and has at most one endpoint, a plain one
+pub record IsPlainService (s : ServicePlan) : Type 0 where
+  pub boots_not : is_kind Bootstrap s.kind ≡ false
+  pub single : length s.endpoints ≤ 1
+  pub plain : All IsPlainEndpoint s.endpoints
+
+-- an endpoint has the address
+abbrev pub has_address : List ℕ → List EndpointPlan → Bool
+has_address address endpoints = list_any (λ e. bytes_eq e.address address) endpoints
+
+-- an endpoint of these has the address of one of those
+abbrev pub share_address : List EndpointPlan → List EndpointPlan → Bool
+share_address those these = list_any (λ e. has_address e.address those) these
+
+-- a service has the address of one of the endpoints
+abbrev pub clashes : List EndpointPlan → List ServicePlan → Bool
+clashes endpoints services = list_any (λ s. share_address s.endpoints endpoints) services
+
+-- no two services share an address
+abbrev pub are_apart : List ServicePlan → Bool
+are_apart [] = true
+are_apart (s ∷ more) = not (clashes s.endpoints more) && are_apart more
