@@ -1,9 +1,11 @@
 -- How many actions a core may tell.
-use Rattle.std.specs.Prelude.{ℕ, ◌+◌, ◌*◌, List, [], length, if◌then◌else◌, ◌==◌, not, Option, Some, None, filter}
+use Rattle.std.specs.Prelude.{ℕ, ◌+◌, ◌*◌, ◌≤◌, List, [], length, if◌then◌else◌, ◌==◌, not, Option, Some, None, filter}
 use Rattle.std.specs.List.{list_any}
 use Rattle.svc_record.specs.declared.entry.Entry.TheVariants.{Got}
 use Rattle.svc_record.specs.declared.event.Event.{Event}
 use Rattle.svc_record.specs.Descriptors.{numbers_of}
+use Rattle.svc_conf.specs.Items.{list_of, spare}
+use Rattle.svc_record.specs.declared.action.Action.{Action}
 use Rattle.svc_core.specs.CoreData.{CoreData}
 
 -- the numbers of the descriptors that are open
@@ -26,3 +28,11 @@ close_room core = length (open_numbers core) + 1
 -- how many actions the next step, and `close_all` after it, tell at most
 abbrev pub step_room : CoreData → ℕ
 step_room core = 2 * length core.order + length core.endpoints.numbers + 5
+
+-- a step told no more than that, less what `close_all` tells after it
+abbrev pub TellsWithin : CoreData → CoreData → List Action × ℕ → List Action × ℕ → Type 0
+TellsWithin old new before after = length (list_of after) + close_room new ≤ length (list_of before) + step_room old
+
+-- where there was that room before a step, there is room for `close_all` after it
+abbrev pub KeepsRoom : CoreData → CoreData → List Action × ℕ → List Action × ℕ → Type 0
+KeepsRoom old new before after = step_room old ≤ spare before → close_room new ≤ spare after

@@ -2,6 +2,7 @@
 
 ghost use Rattle.std.specs.Prelude.{◌≡◌, ◌+◌, ◌<◌, ◌≤◌, ◌++◌, length, ℕ, OnOk, map, ◌==◌, insert, slice_index, vec_len, vec_capacity, IfOk, false};
 ghost use Rattle.std.specs.List.{list_any};
+ghost use Rattle.std.specs.List.Sorted.{IsNonDecreasing};
 ghost use Rattle.svc_conf.specs.Items.{list_of, spare};
 ghost use Rattle.svc_record.specs.Plans.{service_count};
 ghost use Rattle.svc_record.specs.declared.action.Action.TheVariants.{Close};
@@ -31,25 +32,39 @@ pub struct Endpoints {
 
 impl Model for Endpoints {
     ghost use Rattle.std.specs.Prelude.{◌-◌, vec_capacity, vec_len};
+    ghost use Rattle.std.specs.List.Sorted.{IsNonDecreasing};
     ghost use Rattle.svc_core.specs.EndpointsData.{EndpointsRoom};
 
     ghost Value = { EndpointsRoom };
 
     ghost view = { λ e. record { parts = record { asks = e.asks.items; numbers = e.numbers.items }; room = vec_capacity e.numbers - vec_len e.numbers } };
+
+    ghost invariant = { λ e. IsNonDecreasing e.numbers.items };
 }
 
-/// Where the number goes among the others.
+/// Where a new number goes among the others.
 fn place_of(numbers: &[u64], fd: u64) -> usize
+    requires rising { IsNonDecreasing numbers.now }
+    requires new { list_any (λ n. n == fd) numbers.now ≡ false }
     ensures within { result ≤ length numbers.now }
     ensures below { (k : ℕ) → k < result → slice_index numbers.now k ≤ fd }
-    ensures above { result < length numbers.now → fd < slice_index numbers.now result }
+    ensures above { (k : ℕ) → result ≤ k → k < length numbers.now → fd < slice_index numbers.now k }
 {
-    for (i, x) in numbers.iter().enumerate() {
-        if *x > fd {
-            return i;
-        }
+    match numbers.binary_search(&fd) {
+        Ok(place) => place,
+        Err(place) => place,
     }
-    numbers.len()
+}
+
+/// The number is among the others.
+fn is_among(numbers: &[u64], fd: u64) -> bool
+    requires rising { IsNonDecreasing numbers.now }
+    ensures { result ≡ list_any (λ n. n == fd) numbers.now }
+{
+    match numbers.binary_search(&fd) {
+        Ok(_) => true,
+        Err(_) => false,
+    }
 }
 
 /// Inserts into reserved room.
@@ -141,15 +156,16 @@ impl Endpoints {
 
     /// A descriptor with this number came.
     pub(crate) fn has_number(&self, fd: u64) -> bool
-        ensures { result ≡ list_any (λ x. x == fd) self.now.parts.numbers }
+        ensures { result ≡ list_any (λ n. n == fd) self.now.parts.numbers }
     {
-        self.numbers.iter().any(|x| *x == fd)
+        is_among(&self.numbers, fd)
     }
 
     /// The endpoint that was asked for is held by a new descriptor.
     pub(crate) fn take_bound(&mut self, plan: &Plan, s: u32, fd: u64)
         requires service { s < service_count plan.now }
         requires sized { IsAsksSized plan.now self.old.parts }
+        requires new { list_any (λ n. n == fd) self.old.parts.numbers ≡ false }
         requires room { 0 < self.old.room }
         ensures sized { IsAsksSized plan.now self.new.parts }
         ensures after { self.new.parts ≡ bound s fd self.old.parts }

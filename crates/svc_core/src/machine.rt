@@ -9,7 +9,7 @@ ghost use Rattle.svc_record.specs.Fits.{Fits};
 ghost use Rattle.svc_record.specs.Right.{Right};
 ghost use Rattle.svc_record.specs.Validity.{IsValid, IsBuilt};
 ghost use Rattle.svc_core.specs.Stands.{StandsFor, HasNotBegun, MayCome, ReadyMayCome, BoundMayCome, StepKeeps, BeginKeeps, ClosesAll};
-ghost use Rattle.svc_core.specs.Rooms.{step_room, close_room, close_need, open_numbers, left_numbers};
+ghost use Rattle.svc_core.specs.Rooms.{TellsWithin, KeepsRoom, step_room, close_room, close_need, open_numbers, left_numbers};
 
 use crate::drain::Drain;
 use crate::endpoints::{Endpoints, close_each};
@@ -116,8 +116,8 @@ impl Core {
         ensures refused { OnErr result (self.new ≡ self.old) }
         ensures untold { OnErr result (list_of actions.new ≡ list_of actions.old) }
         ensures kept { IfOk result (λ end. BeginKeeps self.new (list_of actions.old) (list_of actions.new) end) }
-        ensures few { OnOk result (length (list_of actions.new) + close_room self.new ≤ length (list_of actions.old) + step_room self.old) }
-        ensures room { step_room self.old ≤ spare actions.old → close_room self.new ≤ spare actions.new }
+        ensures few { OnOk result (TellsWithin self.old self.new actions.old actions.new) }
+        ensures room { KeepsRoom self.old self.new actions.old actions.new }
     {
         actions.reserve(alloc, self.step_room())?;
         pass(
@@ -145,8 +145,8 @@ impl Core {
         ensures refused { OnErr result (self.new ≡ self.old) }
         ensures untold { OnErr result (list_of actions.new ≡ list_of actions.old) }
         ensures kept { IfOk result (λ end. StepKeeps self.old self.new event.now (list_of actions.old) (list_of actions.new) end) }
-        ensures few { OnOk result (length (list_of actions.new) + close_room self.new ≤ length (list_of actions.old) + step_room self.old) }
-        ensures room { step_room self.old ≤ spare actions.old → close_room self.new ≤ spare actions.new }
+        ensures few { OnOk result (TellsWithin self.old self.new actions.old actions.new) }
+        ensures room { KeepsRoom self.old self.new actions.old actions.new }
     {
         actions.reserve(alloc, self.step_room())?;
         match *event {
@@ -162,7 +162,7 @@ impl Core {
         requires room { step_room self.old ≤ spare actions.old }
         ensures plan { self.new.plan ≡ self.old.plan }
         ensures kept { StepKeeps self.old self.new (Event.Ready s) (list_of actions.old) (list_of actions.new) result }
-        ensures few { length (list_of actions.new) + close_room self.new ≤ length (list_of actions.old) + step_room self.old }
+        ensures few { TellsWithin self.old self.new actions.old actions.new }
         ensures room { close_room self.new ≤ spare actions.new }
     {
         self.starts.take_ready(&self.plan, s);
@@ -184,8 +184,8 @@ impl Core {
         ensures refused { OnErr result (self.new ≡ self.old) }
         ensures untold { OnErr result (list_of actions.new ≡ list_of actions.old) }
         ensures kept { IfOk result (λ end. StepKeeps self.old self.new (Event.Bound s 0 fd) (list_of actions.old) (list_of actions.new) end) }
-        ensures few { OnOk result (length (list_of actions.new) + close_room self.new ≤ length (list_of actions.old) + step_room self.old) }
-        ensures room { step_room self.old ≤ spare actions.old → close_room self.new ≤ spare actions.new }
+        ensures few { OnOk result (TellsWithin self.old self.new actions.old actions.new) }
+        ensures room { KeepsRoom self.old self.new actions.old actions.new }
     {
         self.endpoints.reserve()?;
         self.endpoints.take_bound(&self.plan, s, fd);
@@ -205,7 +205,7 @@ impl Core {
         requires room { step_room self.old ≤ spare actions.old }
         ensures plan { self.new.plan ≡ self.old.plan }
         ensures kept { StepKeeps self.old self.new (Event.Signal kind) (list_of actions.old) (list_of actions.new) result }
-        ensures few { length (list_of actions.new) + close_room self.new ≤ length (list_of actions.old) + step_room self.old }
+        ensures few { TellsWithin self.old self.new actions.old actions.new }
         ensures room { close_room self.new ≤ spare actions.new }
     {
         match kind {
