@@ -1,13 +1,13 @@
 -- When services start.
-use Rattle.std.specs.Prelude.{ℕ, zero, suc, Bool, true, false, ◌==◌, ◌≡◌, ◌<◌, ◌++◌, not, ◌&&◌, ◌||◌, List, [], ◌∷◌, nat_lt, if◌then◌else◌}
-use Rattle.std.specs.List.{list_any, list_all}
+use Rattle.std.specs.Prelude.{ℕ, Bool, true, false, ◌==◌, ◌≡◌, ◌<◌, not, ◌&&◌, ◌||◌, nat_lt, if◌then◌else◌}
+use Rattle.std.specs.List.{list_all}
 use Rattle.svc_record.specs.declared.plan.Plan.{Plan}
 use Rattle.svc_graph.specs.declared.plan.Kind.TheVariants.{Plain}
 use Rattle.svc_record.specs.declared.entry.Entry.{Entry}
 use Rattle.svc_record.specs.declared.entry.Entry.TheVariants.{Got, Told}
 use Rattle.svc_record.specs.declared.event.Event.TheVariants.{Ready}
 use Rattle.svc_record.specs.declared.action.Action.TheVariants.{Start}
-use Rattle.svc_record.specs.Record.{Record, has, times, EachEntry, each_entry}
+use Rattle.svc_record.specs.Record.{Record, has, times, EachEntry}
 use Rattle.svc_record.specs.Plans.{service_count, services, depends, has_kind}
 use Rattle.svc_record.specs.Failed.{has_failed}
 

@@ -56,7 +56,10 @@ impl fmt::Display for ExecutionPhase {
             ExecutionPhase::Bootstrap => write!(f, "Bootstrap"),
             ExecutionPhase::BootstrapComplete => write!(f, "BootstrapComplete"),
             ExecutionPhase::Running => write!(f, "Running"),
-            ExecutionPhase::GracefulUpgradeTransferringFds => write!(f, "GracefulUpgradeTransferringFds"),
+            ExecutionPhase::GracefulUpgradeTransferringFds => write!(
+                f,
+                "GracefulUpgradeTransferringFds"
+            ),
             ExecutionPhase::GracefulUpgradeCloseTimeout => write!(f, "GracefulUpgradeCloseTimeout"),
             ExecutionPhase::GracefulTerminate => write!(f, "GracefulTerminate"),
             ExecutionPhase::ShutdownStarted => write!(f, "ShutdownStarted"),
