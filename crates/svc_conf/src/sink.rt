@@ -1,4 +1,4 @@
-ghost use Rattle.std.specs.Prelude.{◌≡◌, ℕ, ◌+◌, ◌<◌, ◌≤◌, List, length, take, Option, OnOk, OnErr};
+ghost use Rattle.std.specs.Prelude.{◌≡◌, ℕ, ◌+◌, ◌<◌, ◌≤◌, List, [], length, take, Option, OnOk, OnErr};
 ghost use Rattle.std.specs.Io.KnownBytes.{Appends};
 ghost use Rattle.svc_conf.specs.Streams.{Rose, WriteFits, put_bytes, WriteFaults};
 
@@ -71,6 +71,8 @@ impl MemorySink {
     /// A sink that takes at most so many bytes a call.
     pub fn new(alloc: Global, most: usize, failing: Vec<u64>) -> Self
         requires { 0 < most }
+        ensures bytes { result.bytes.items ≡ [] }
+        ensures count { result.count ≡ 0 }
     {
         MemorySink {
             bytes: Vec::new(alloc),
@@ -119,7 +121,9 @@ pub struct SteadySink {
 }
 
 impl SteadySink {
-    pub fn new(alloc: Global) -> Self {
+    pub fn new(alloc: Global) -> Self
+        ensures { result.bytes.items ≡ [] }
+    {
         SteadySink {
             bytes: Vec::new(alloc),
             lost: 0,
@@ -155,7 +159,10 @@ pub struct Writing<W: Write> {
 }
 
 impl<W: Write> Writing<W> {
-    pub fn new(inner: W) -> Self {
+    pub fn new(inner: W) -> Self
+        ensures inner { result.inner ≡ inner }
+        ensures count { result.count ≡ 0 }
+    {
         Writing { inner, count: 0 }
     }
 }

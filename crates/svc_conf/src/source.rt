@@ -188,7 +188,10 @@ pub struct Reading<R: Read> {
 }
 
 impl<R: Read> Reading<R> {
-    pub fn new(inner: R) -> Self {
+    pub fn new(inner: R) -> Self
+        ensures inner { result.inner ≡ inner }
+        ensures count { result.count ≡ 0 }
+    {
         Reading { inner, count: 0 }
     }
 }
