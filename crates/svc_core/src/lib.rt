@@ -13,3 +13,6 @@ pub use svc_record::{
     Action, Actions, Entries, Entry, Event, ExecutionPhase, Plan, ServiceList, ServicePlan,
     ShutdownSignal, StepEnd,
 };
+
+#[cfg(test)]
+mod tests;
