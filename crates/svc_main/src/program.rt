@@ -148,7 +148,7 @@ pub fn serve_script<S: Source, K: Sink>(
     ensures run_error { result.0 ≡ 4 → (end : RunEnd) × (end ≡ Served → ⊥) × TakesWords (map rc_str_bytes words.now) × IsAtEnd (S.left source.new)
         × Writes (K.written sink.old) (K.written sink.new) (λ out. RunText (S.left source.old) end out) }
 
-    ensures read_fault { result.0 ≡ 5 → Rose (S.faulted source.old) (S.faulted source.new)
+    ensures read_fault { result.0 ≡ 5 → TakesWords (map rc_str_bytes words.now) × Rose (S.faulted source.old) (S.faulted source.new)
         × Appends (K.written sink.old) (K.written sink.new) (status_line ReadFault) }
 
     ensures write_fault { result.0 ≡ 6 → Rose (K.faulted sink.old) (K.faulted sink.new)

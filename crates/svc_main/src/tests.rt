@@ -26,7 +26,8 @@ fn serve(
     Ok((status, sink.bytes))
 }
 
-const TWO_SERVICES: &str = "%conf\n%services\ndb notify\napi plain after 0 tcp 127.0.0.1:80\n%events\n";
+const TWO_SERVICES: &str =
+    "%conf\n%services\ndb notify\napi plain after 0 tcp 127.0.0.1:80\n%events\n";
 
 #[test]
 fn a_run_is_printed_with_its_status(rt: HostRuntime) -> Result<(), Fail> {
