@@ -1,6 +1,6 @@
 //! The graph of dependencies.
 
-ghost use Rattle.std.specs.Prelude.{◌≡◌, ◌<◌, ◌≤◌, ◌+◌, ◌==◌, ◌&&◌, ◌||◌, ◌⊎◌, ◌↔◌, ℕ, [], ◌∷◌, ◌++◌, true, false, length, slice_set, IsErrAnd, IfOk, IfErr, OnOk, OnErr, vec_len};
+ghost use Rattle.std.specs.Prelude.{◌≡◌, ◌<◌, ◌+◌, ◌==◌, ◌&&◌, ◌||◌, ◌⊎◌, ℕ, [], ◌∷◌, ◌++◌, true, false, length, slice_set, IsErrAnd, IfOk, IfErr, OnOk, OnErr, vec_len};
 ghost use Rattle.svc_graph.specs.Paths.{Path};
 ghost use Rattle.svc_graph.specs.Graphs.{is_in_row, row_of, is_listed};
 ghost use Rattle.svc_graph.specs.Marks.{RowsBelow, Divides};
@@ -87,7 +87,8 @@ fn push_edge(
     dependency: u32,
 ) -> Result<(), NoMemory>
     requires { dependent < length rows.old }
-    ensures pushed { OnOk result (rows.new ≡ slice_set rows.old dependent (row_of rows.old dependent ++ dependency ∷ [])) }
+    ensures pushed { OnOk result (rows.new
+        ≡ slice_set rows.old dependent (row_of rows.old dependent ++ dependency ∷ [])) }
     ensures refused { OnErr result (rows.new ≡ rows.old) }
 {
     match rows[dependent as usize].push(alloc, dependency) {
@@ -124,8 +125,10 @@ fn leads_back(
     requires dependent { dependent < length rows.now }
     requires dependency { dependency < length rows.now }
     requires falling { falling ≡ true → Falls rows.now × (dependency < dependent) }
-    ensures yes { IfOk result (λ leads. leads ≡ true → (dependent ≡ dependency) ⊎ Path (is_in_row rows.now) dependency dependent) }
-    ensures no { IfOk result (λ leads. leads ≡ false → Divides (is_in_row rows.now) dependency dependent) }
+    ensures yes { IfOk result (λ leads. leads ≡ true
+        → (dependent ≡ dependency) ⊎ Path (is_in_row rows.now) dependency dependent) }
+    ensures no { IfOk result (λ leads. leads ≡ false
+        → Divides (is_in_row rows.now) dependency dependent) }
 {
     if falling {
         return Ok(false);
@@ -167,8 +170,10 @@ impl DependencyGraph {
     pub fn add_node(&mut self, alloc: Global, name: Text) -> Result<u32, AddNodeRefused>
         ensures number { IfOk result (λ number. number ≡ node_count self.old) }
         ensures added { OnOk result (self.new ≡ with_node self.old name) }
-        ensures too_many { node_count self.old ≡ NODE_LIMIT → IsErrAnd result (λ refused. refused.reason ≡ AddNodeReason.TooMany) }
-        ensures only_then { IfErr result (λ refused. refused.reason ≡ AddNodeReason.TooMany → node_count self.old ≡ NODE_LIMIT) }
+        ensures too_many { node_count self.old ≡ NODE_LIMIT
+            → IsErrAnd result (λ refused. refused.reason ≡ AddNodeReason.TooMany) }
+        ensures only_then { IfErr result
+            (λ refused. refused.reason ≡ AddNodeReason.TooMany → node_count self.old ≡ NODE_LIMIT) }
         ensures back { IfErr result (λ refused. refused.name ≡ name) }
         ensures unchanged { OnErr result (self.new ≡ self.old) }
         ensures graph { IsGraph self.new }
@@ -207,9 +212,11 @@ impl DependencyGraph {
     ) -> Result<(), DependencyError>
         ensures added { OnOk result (self.new ≡ with_edge self.old dependent dependency) }
         ensures names { self.new.names ≡ self.old.names }
-        ensures edges { OnOk result ((a b : ℕ) → is_edge self.new a b ≡ (is_edge self.old a b || (a == dependent && b == dependency))) }
+        ensures edges { OnOk result ((a b : ℕ)
+            → is_edge self.new a b ≡ (is_edge self.old a b || (a == dependent && b == dependency))) }
         ensures no_cycle { OnOk result (LeadsBack self.old dependent dependency → ⊥) }
-        ensures unknown { IsUnknown self.old dependent dependency → result ≡ Err DependencyError.UnknownService }
+        ensures unknown { IsUnknown self.old dependent dependency
+            → result ≡ Err DependencyError.UnknownService }
         ensures refusal { IfErr result (λ error. RefusalFits self.old dependent dependency error) }
         ensures unchanged { OnErr result (self.new ≡ self.old) }
         ensures graph { IsGraph self.new }

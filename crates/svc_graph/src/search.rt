@@ -48,7 +48,8 @@ pub(crate) fn leads_to(
     requires inside { RowsBelow (length rows.now) rows.now }
     requires from { from < length rows.now }
     requires to { to < length rows.now }
-    ensures yes { IfOk result (λ leads. leads ≡ true → (to ≡ from) ⊎ Path (is_in_row rows.now) from to) }
+    ensures yes { IfOk result (λ leads. leads ≡ true
+        → (to ≡ from) ⊎ Path (is_in_row rows.now) from to) }
     ensures no { IfOk result (λ leads. leads ≡ false → Divides (is_in_row rows.now) from to) }
 {
     let marks = marked_from(alloc, rows, from)?;

@@ -1,8 +1,8 @@
 //! The startup order of the nodes.
 
 ghost use Rattle.std.specs.Prelude.{◌≡◌, ◌<◌, ◌≤◌, ◌↔◌, IsTrue, ℕ, true, false, length, All, IfOk, IfSome, IfNone, vec_len};
-ghost use Rattle.svc_graph.specs.Graphs.{row_of, is_in_row, IsStartupOrder};
-ghost use Rattle.svc_graph.specs.Marks.{RowsBelow, is_marked, is_due, IsReady};
+ghost use Rattle.svc_graph.specs.Graphs.{IsStartupOrder};
+ghost use Rattle.svc_graph.specs.Marks.{RowsBelow, is_due, IsReady};
 ghost use Rattle.svc_graph.specs.Ranks.{IsRanked};
 
 use std::alloc::Global;

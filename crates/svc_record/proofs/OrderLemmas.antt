@@ -1,10 +1,10 @@
 -- The startup order of a plan, from that of its graph.
-use Rattle.std.proofs.Common.{ℕ, true, false, ◌==◌, List, ◌≡◌, refl, sym, ◌∙◌, inl, inr, subst, arith, ◌<◌, ◌≤◌, nat_lt, length, take, All, slice_index, get_or}
+use Rattle.std.proofs.Common.{ℕ, true, false, ◌==◌, List, ◌≡◌, refl, sym, ◌∙◌, inl, inr, subst, arith, ◌<◌, ◌≤◌, nat_lt, length, take, All, slice_index}
 use Rattle.std.specs.Prelude.{Result, Ok, Err, IfOk}
-use Rattle.std.proofs.lemmas.Bool.{and_parts, and_from, eqb-true, eq-eqb, false_from_ne_true, lt-ltb}
+use Rattle.std.proofs.lemmas.Bool.{and_parts, and_from, eqb-true, false_from_ne_true, lt-ltb}
 use Rattle.std.proofs.lemmas.List.{take-take, get_or_default}
 use Rattle.std.proofs.lemmas.Option.{slice_get_cases}
-use Rattle.std.proofs.lemmas.List.Folds.{list_any_at, Any-from_list_any}
+use Rattle.std.proofs.lemmas.List.Folds.{Any-from_list_any}
 use Rattle.svc_graph.specs.GraphData.{GraphData}
 use Rattle.svc_graph.specs.Graphs.{node_count, is_edge, row_of, IsGraph}
 use Rattle.svc_graph.specs.Graphs as graphs
@@ -13,17 +13,8 @@ use Rattle.svc_record.specs.Plans.{service_count, depends}
 use Rattle.svc_record.specs.Building.{DependsWell, IsGraphUpTo}
 use Rattle.svc_record.specs.Validity.{depends_on, is_listed, IsNext, IsStartupOrder, IsInOrder}
 use Rattle.svc_graph.proofs.Chains.{acyclic-within}
+use Rattle.svc_graph.proofs.Lists.{All-listed, All-from_listed}
 use Rattle.svc_record.proofs.GraphLemmas.{listed_front}
-
--- what holds of each element holds of a listed number
-All-listed : (P : ℕ → Type 0) (xs : List ℕ) (a : ℕ) → All P xs → is_listed xs a ≡ true → P a
-All-listed P xs a all e =
-    let found = Any-from_list_any (λ x. x == a) xs e in
-    subst P (eqb-true found.1 a found.4) (subst P found.3 (all found.0 found.1 found.2))
-
--- the converse
-All-from_listed : (P : ℕ → Type 0) (xs : List ℕ) → ((a : ℕ) → is_listed xs a ≡ true → P a) → All P xs
-All-from_listed P xs f = λ k d lt. f (get_or xs k d) (list_any_at (λ x. x == get_or xs k d) xs k d lt (eq-eqb (get_or xs k d) (get_or xs k d) refl))
 
 module _ (p : Plan) (g : GraphData) (whole : IsGraphUpTo p (service_count p) g) (graph : IsGraph g) where
   size : length g.depends ≡ service_count p

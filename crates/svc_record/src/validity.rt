@@ -52,8 +52,11 @@ fn add_dependencies(
     requires graph { IsGraph graph.old }
     ensures graph { IsGraph graph.new }
     ensures names { node_count graph.new ≡ node_count graph.old }
-    ensures added { IfOk result (λ added. added ≡ true → (a b : ℕ) → is_edge graph.new a b ≡ with_row (is_edge graph.old) service dependencies.now a b) }
-    ensures refused { IfOk result (λ added. added ≡ false → All (λ d. d < node_count graph.old) dependencies.now → IsAcyclic (with_row (is_edge graph.old) service dependencies.now) → ⊥) }
+    ensures added { IfOk result (λ added. added ≡ true → (a b : ℕ)
+        → is_edge graph.new a b ≡ with_row (is_edge graph.old) service dependencies.now a b) }
+    ensures refused { IfOk result (λ added. added ≡ false
+        → All (λ d. d < node_count graph.old) dependencies.now
+        → IsAcyclic (with_row (is_edge graph.old) service dependencies.now) → ⊥) }
 {
     for dependency in dependencies {
         if let Err(error) = graph.add_dependency(alloc, service, *dependency) {
@@ -70,7 +73,8 @@ fn add_dependencies(
 /// The graph of the services' dependencies, if each is a service and none leads back.
 fn graph_of(alloc: Global, plan: &Plan) -> Result<Option<DependencyGraph>, NoMemory>
     requires { service_count plan.now ≤ 1024 }
-    ensures some { IfOk result (λ found. IfSome found (λ graph. IsGraphUpTo plan.now (service_count plan.now) graph)) }
+    ensures some { IfOk result (λ found. IfSome found
+        (λ graph. IsGraphUpTo plan.now (service_count plan.now) graph)) }
     ensures graph { IfOk result (λ found. IfSome found (λ graph. IsGraph graph)) }
     ensures none { IfOk result (λ found. IfNone found (DependsWell plan.now → ⊥)) }
 {
@@ -112,7 +116,8 @@ fn are_endpoints(endpoints: &[EndpointPlan]) -> bool
 
 /// Each service has at most 64 endpoints, each with an address.
 fn have_endpoints(services: &[ServicePlan]) -> bool
-    ensures { IsTrue result ↔ All (λ s. (length s.endpoints ≤ 64) × All IsAddress s.endpoints) services.now }
+    ensures { IsTrue result
+        ↔ All (λ s. (length s.endpoints ≤ 64) × All IsAddress s.endpoints) services.now }
 {
     services
         .iter()

@@ -1,6 +1,6 @@
 //! Whether a plan has only forms that are built.
 
-ghost use Rattle.std.specs.Prelude.{◌≡◌, ◌≤◌, ◌↔◌, true, false, length, All, None, IsTrue};
+ghost use Rattle.std.specs.Prelude.{◌≡◌, ◌≤◌, ◌↔◌, true, false, length, All, IsTrue};
 ghost use Rattle.svc_graph.specs.declared.plan.Kind.TheVariants.{Bootstrap};
 ghost use Rattle.svc_record.specs.Plans.{is_kind};
 ghost use Rattle.svc_record.specs.Validity.{IsBuilt};
