@@ -2,10 +2,9 @@
 #![tactic(auto)]
 
 use std::alloc::AllocError;
-use std::env;
-use std::io;
 use std::process::ExitCode;
 use std::rc::RcStr;
+use std::{env, io};
 use svc_conf::{Reading, Status, Writing};
 use svc_main::serve_script;
 

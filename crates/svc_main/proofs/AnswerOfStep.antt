@@ -1,8 +1,7 @@
 -- What the answer of a step says of the record.
-use Rattle.std.proofs.Common.{◌≡◌, Bool, true, false, if◌then◌else◌, refl, subst}
+use Rattle.std.proofs.Common.{◌≡◌, Bool, true, false, if◌then◌else◌, refl}
 use Rattle.std.specs.Bool.{OnTrue}
 use Rattle.svc_record.specs.declared.plan.Plan.{Plan}
-use Rattle.svc_record.specs.declared.action.StepEnd.{StepEnd}
 use Rattle.svc_record.specs.declared.action.StepEnd.TheVariants.{On, Served}
 use Rattle.svc_record.specs.Record.{Record}
 use Rattle.svc_record.specs.Drain.{has_passed}

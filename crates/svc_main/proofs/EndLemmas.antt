@@ -1,5 +1,5 @@
 -- How a run ends, from what the core ensures.
-use Rattle.std.proofs.Common.{List, [], ◌∷◌, ◌++◌, ◌≡◌, ℕ, ◌+◌, Bool, true, false, refl, ap, sym, ◌∙◌, subst, map, reverse, length, append-nil, append_assoc, Option, Some, None, arith, length-append, ◌<◌, ◌≤◌, take, drop, get_or, add-one, drop-cons}
+use Rattle.std.proofs.Common.{List, [], ◌∷◌, ◌++◌, ◌≡◌, ℕ, ◌+◌, Bool, true, false, refl, ap, sym, ◌∙◌, subst, map, reverse, length, append-nil, append_assoc, Option, Some, None, arith, length-append, ◌<◌, take, drop, get_or, add-one, drop-cons}
 use Rattle.std.proofs.lemmas.List.{reverse-append, reverse-reverse, take-append-drop, length-take-le}
 use Rattle.std.proofs.lemmas.List.Elements.{filter_map-append}
 use Rattle.std.specs.Option.{option_to_list}
@@ -7,23 +7,22 @@ use mathlib.Core.Bool.{false≢true}
 use Rattle.svc_record.specs.declared.plan.Plan.{Plan}
 use Rattle.svc_record.specs.declared.entry.Entry.{Entry}
 use Rattle.svc_record.specs.declared.entry.Entry.TheVariants.{Got, Told}
-use Rattle.svc_record.specs.declared.action.Action.{Action}
 use Rattle.svc_record.specs.declared.event.Event.{Event}
 use Rattle.svc_record.specs.declared.event.Event.TheVariants.{Ready, Bound, Signal}
 use Rattle.svc_record.specs.declared.event.ShutdownSignal.{ShutdownSignal}
 use Rattle.svc_record.specs.declared.event.ShutdownSignal.TheVariants.{FastShutdown}
-use Rattle.svc_record.specs.Record.{Record, tell, first_or, signal_of}
+use Rattle.svc_record.specs.Record.{Record, first_or, signal_of}
 use Rattle.svc_record.specs.Ends.{has_ended, step_end}
 use Rattle.svc_record.specs.declared.action.StepEnd.TheVariants.{Served as SteppedServed}
-use Rattle.svc_record.specs.Drain.{has_passed, has_passed_by}
+use Rattle.svc_record.specs.Drain.{has_passed_by}
 use Rattle.svc_record.specs.Fits.{Fits}
 use Rattle.svc_record.specs.Right.{Right}
-use Rattle.svc_record.specs.Tail.{closing_actions, tail_right}
+use Rattle.svc_record.specs.Tail.{closing_actions}
 use Rattle.svc_main.specs.Runs.{events_of, event_of, IsClosed, IsStray, IsUsedUp, RunIs}
 use Rattle.svc_main.specs.Steps.{Closes}
-use Rattle.svc_main.specs.declared.outcome.RunEnd.TheVariants.{Served, Stray, OutOfEvents}
+use Rattle.svc_main.specs.declared.outcome.RunEnd.TheVariants.{Served, Stray}
 use Rattle.svc_main.proofs.AnswerOfStep.{served_from_answer}
-use Rattle.svc_main.proofs.RunLemmas.{reverse-told, reverse-step, events_of-back, events_of-step, events_of-tell}
+use Rattle.svc_main.proofs.RunLemmas.{reverse-told, reverse-step, events_of-back}
 
 -- the entries of a run whose record is xs, and that was closed
 pub closed : (p : Plan) (xs ys : List Entry) → Right p (reverse xs) → has_ended p (reverse xs) ≡ false → Closes p (reverse xs) None xs ys → IsClosed p ys (reverse xs) None

@@ -5,7 +5,7 @@ use Rattle.svc_record.specs.declared.entry.Entry.TheVariants.{Got, Told}
 use Rattle.svc_record.specs.declared.action.Action.{Action}
 use Rattle.svc_record.specs.declared.action.StepEnd.{StepEnd}
 use Rattle.svc_record.specs.declared.event.Event.{Event}
-use Rattle.svc_record.specs.Record.{Record, tell}
+use Rattle.svc_record.specs.Record.{tell}
 use Rattle.svc_record.specs.Ends.{step_end}
 use Rattle.svc_core.specs.CoreData.{CoreData}
 use Rattle.svc_core.specs.Stands.{StepRight, BeginKeeps, StepKeeps}

@@ -1,9 +1,6 @@
 -- A whole script whose events run through is served, unless memory runs out.
-use Rattle.std.proofs.Common.{◌≡◌, ◌≢◌, ℕ, ◌+◌, ◌<◌, ◌≤◌, ◌⊎◌, inl, inr, Bool, true, false, ◌&&◌, ◌==◌, nat_lt, List, [], ◌∷◌, ◌++◌, length, Option, Some, None, Ok, Err, Result, sym, ap, ◌∙◌, subst, arith, reverse, refl}
-use mathlib.Core.Bool.{false≢true, true≢false}
-use Rattle.svc_record.specs.declared.event.Event.{Event}
-use Rattle.svc_record.specs.declared.event.Event.TheVariants.{Signal}
-use Rattle.svc_record.specs.declared.event.ShutdownSignal.TheVariants.{FastShutdown}
+use Rattle.std.proofs.Common.{◌≡◌, ℕ, inl, inr, List, Some, Ok, sym, ◌∙◌, subst, arith, refl}
+use mathlib.Core.Bool.{false≢true}
 use Rattle.svc_text.specs.Dependencies.{RefusesAt}
 use Rattle.svc_text.proofs.EdgeLemmas.{refused_some}
 use Rattle.svc_text.specs.Script.{Parts, script}
@@ -13,8 +10,8 @@ use Rattle.svc_main.specs.declared.outcome.StatusLine.{StatusLine}
 use Rattle.svc_main.specs.declared.outcome.StatusLine.TheVariants.{Words, Line, ReadFault, Run}
 use Rattle.svc_main.specs.declared.outcome.RunEnd.TheVariants.{Served, Stray, OutOfEvents}
 use Rattle.svc_main.specs.Status.{status_of}
-use Rattle.svc_main.specs.Runs.{IsStray, IsUsedUp, IsClosed}
-use Rattle.svc_main.specs.Program.{IsAnswer, Faults, IsWholeScript, RunsThrough, IsScript, RefusesIn}
+use Rattle.svc_main.specs.Runs.{IsStray, IsUsedUp}
+use Rattle.svc_main.specs.Program.{IsAnswer, Faults, IsWholeScript, RefusesIn}
 use Rattle.svc_main.proofs.EndLemmas.{ended_by_signal}
 
 -- a text is one script

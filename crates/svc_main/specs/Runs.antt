@@ -1,5 +1,5 @@
 -- What the run of a plan over a list of events leaves. The record of a run has its oldest entry first; the definitions of right records have the newest first.
-use Rattle.std.specs.Prelude.{ℕ, true, false, ◌≡◌, ◌+◌, List, [], ◌∷◌, ◌++◌, length, reverse, filter_map, Option, Some, None}
+use Rattle.std.specs.Prelude.{ℕ, true, false, ◌≡◌, ◌+◌, List, ◌∷◌, ◌++◌, length, reverse, filter_map, Option, Some, None}
 use Rattle.svc_record.specs.declared.plan.Plan.{Plan}
 use Rattle.svc_record.specs.declared.event.Event.{Event}
 use Rattle.svc_record.specs.declared.entry.Entry.{Entry}

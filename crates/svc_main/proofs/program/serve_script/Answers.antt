@@ -1,5 +1,4 @@
-use Rattle.std.proofs.Common.{◌≡◌, ℕ, List, Option, Some, ◌∙◌, sym, subst, inl}
-use Rattle.svc_main.specs.Program.{IsAnswer}
+use Rattle.std.proofs.Common.{◌∙◌, sym, inl}
 use Rattle.svc_main.proofs.WholeLemmas.{whole_is_served}
 use Rattle.svc_main.proofs.AnswerLemmas.{error_from}
 use Rattle.svc_main.proofs.program.serve_script.Goals as goal
