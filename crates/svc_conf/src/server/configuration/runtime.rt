@@ -5,7 +5,7 @@
 pub enum RuntimeMetricsPollTimeHistogramScale {
     /// All buckets are equally wide.
     Linear,
-    /// Each bucket is twice as wide as the one before it.
+    /// Each bucket is wider than the one before it.
     Log,
 }
 
