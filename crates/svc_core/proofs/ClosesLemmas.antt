@@ -6,8 +6,8 @@ use Rattle.svc_record.specs.declared.entry.Entry.{Entry}
 use Rattle.svc_record.specs.declared.entry.Entry.TheVariants.{Got, Told}
 use Rattle.svc_record.specs.declared.action.Action.TheVariants.{Close, Phase, Stop}
 use Rattle.svc_record.specs.declared.action.ExecutionPhase.{ExecutionPhase}
-use Rattle.svc_record.specs.declared.event.Event.TheVariants.{Ready, Bound, Signal}
-use Rattle.svc_record.specs.Record.{Record, has, times, tell, before_runtimes, EachEntry}
+use Rattle.svc_record.specs.declared.event.Event.TheVariants.{Moment, Ready, Ended, Bound, Signal}
+use Rattle.svc_record.specs.Record.{Record, has, now, times, tell, before_runtimes, EachEntry}
 use Rattle.svc_record.specs.Closes.{close_once}
 use Rattle.svc_record.specs.Descriptors.{is_opened, is_close, brings}
 use Rattle.svc_record.specs.Drain.{told_marks}
@@ -18,7 +18,6 @@ use Rattle.svc_record.specs.Tail.{numbers_in}
 use Rattle.svc_core.specs.Passes.{EntriesRight}
 use Rattle.svc_core.proofs.NumberLemmas.{is_in, distinct, tally, not_in, apart_from}
 use Rattle.svc_core.proofs.DescriptorLemmas.{brings-in}
-use Rattle.svc_core.proofs.RecordLemmas.{now-zero}
 
 pub has-closes : (test : Entry → Bool) → ((f : ℕ) → test (Told (Close f)) ≡ false) → (q : Record) (fds : List ℕ) → has test (tell q (map Close fds)) ≡ has test q
 has-closes test f q [] = refl
@@ -62,7 +61,9 @@ fits-new a b c h = grind arith
 -- each number comes once
 pub distinct-numbers : (p : Plan) (q : Record) → EachEntry (λ e before. event_fits p e before ≡ true) q → distinct (numbers_in q) ≡ true
 distinct-numbers p [] h = refl
+distinct-numbers p (Got (Moment ms) ∷ q) h = distinct-numbers p q h.1
 distinct-numbers p (Got (Ready s) ∷ q) h = distinct-numbers p q h.1
+distinct-numbers p (Got (Ended s) ∷ q) h = distinct-numbers p q h.1
 distinct-numbers p (Got (Signal kind) ∷ q) h = distinct-numbers p q h.1
 distinct-numbers p (Got (Bound s i fd) ∷ q) h =
     let fresh : has (brings fd) q ≡ false = fits-new (not (has_ended p q)) (is_bind_open q s i) (has (brings fd) q) h.0 in
@@ -70,13 +71,13 @@ distinct-numbers p (Got (Bound s i fd) ∷ q) h =
 distinct-numbers p (Told a ∷ q) h = distinct-numbers p q h.1
 
 -- the entries with more of them
-pub entries-phase : (p : Plan) (q : Record) (x : ExecutionPhase) → EntriesRight p q → EntriesRight p (Told (Phase x 0) ∷ q)
-entries-phase p q x h = record {
+pub entries-phase : (p : Plan) (q : Record) (x : ExecutionPhase) (ms : ℕ) → ms ≡ now q → EntriesRight p q → EntriesRight p (Told (Phase x ms) ∷ q)
+entries-phase p q x ms at h = record {
   fits = (refl, h.fits);
   starts = (refl, h.starts);
   asks = (refl, h.asks);
   closes = (refl, h.closes);
-  moments = ((rw (now-zero q) refl), h.moments);
+  moments = (eq-eqb ms (now q) at, h.moments);
   known_starts = (refl, h.known_starts);
   known_asks = (refl, h.known_asks);
 }

@@ -6,7 +6,7 @@ use Rattle.std.proofs.lemmas.List.Folds.{list_any-append}
 use Rattle.svc_record.specs.declared.plan.Plan.{Plan}
 use Rattle.svc_record.specs.declared.entry.Entry.{Entry}
 use Rattle.svc_record.specs.declared.entry.Entry.TheVariants.{Got, Told}
-use Rattle.svc_record.specs.declared.event.Event.TheVariants.{Ready, Bound, Signal}
+use Rattle.svc_record.specs.declared.event.Event.TheVariants.{Moment, Ready, Ended, Bound, Signal}
 use Rattle.svc_record.specs.Record.{Record, has}
 use Rattle.svc_record.specs.Plans.{address, same_address}
 use Rattle.svc_record.specs.Descriptors.{Descriptor, descriptors_of, opened_descriptors, live_descriptors, live_numbers_with, has_live, is_opened, is_close, has_number, numbers_of, brings}
@@ -17,7 +17,9 @@ use Rattle.svc_core.proofs.NumberLemmas.{is_in}
 -- what an entry opens are its numbers
 opened-numbers_of : (p : Plan) (e : Entry) (more : List Descriptor) → map (λ (d : Descriptor). d.number) (descriptors_of p e ++ more) ≡ numbers_of e ++ map (λ (d : Descriptor). d.number) more
 opened-numbers_of p (Got (Bound s i fd)) more = refl
+opened-numbers_of p (Got (Moment ms)) more = refl
 opened-numbers_of p (Got (Ready s)) more = refl
+opened-numbers_of p (Got (Ended s)) more = refl
 opened-numbers_of p (Got (Signal kind)) more = refl
 opened-numbers_of p (Told a) more = refl
 

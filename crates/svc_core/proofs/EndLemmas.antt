@@ -11,7 +11,7 @@ use Rattle.svc_record.specs.declared.action.Action.TheVariants.{Start, Bind, Clo
 use Rattle.svc_record.specs.declared.action.ExecutionPhase.TheVariants.{Running, ShutdownStarted, ShutdownRuntimes, Terminated}
 use Rattle.svc_record.specs.declared.event.Event.TheVariants.{Signal}
 use Rattle.svc_record.specs.declared.event.ShutdownSignal.TheVariants.{FastShutdown}
-use Rattle.svc_record.specs.Record.{Record, has, times, tell, is_signal, is_running, is_bootstrap, is_bootstrap_complete, from_the_start, before_runtimes, EachEarlier}
+use Rattle.svc_record.specs.Record.{Record, has, now, times, tell, is_signal, is_running, is_bootstrap, is_bootstrap_complete, from_the_start, before_runtimes, EachEarlier}
 use Rattle.svc_record.specs.Boot.{BootRight}
 use Rattle.svc_record.specs.Closes.{ClosesRight, close_once}
 use Rattle.svc_record.specs.Descriptors.{Descriptor, opened_descriptors, is_opened, is_close}
@@ -20,14 +20,16 @@ use Rattle.svc_record.specs.Ends.{has_ended}
 use Rattle.svc_record.specs.Endpoints.{EndpointsRight, EndpointsRightLate}
 use Rattle.svc_record.specs.Fits.{fits}
 use Rattle.svc_record.specs.Right.{Right, OpenRight, SettledRight, ServesRight, LastStepRight, PassedRight, Served, in_service, close_due}
-use Rattle.svc_record.specs.Starts.{StartsRight}
+use Rattle.svc_record.specs.Starts.{StartsRight, is_start, is_ready_event, is_ended_event}
 use Rattle.svc_record.specs.Tail.{numbers_in}
+use Rattle.svc_core.specs.StartsData.{StartsData}
+use Rattle.svc_core.specs.StartsState.{StartsStand}
 use Rattle.svc_core.specs.DrainState.{end_told}
 use Rattle.svc_core.specs.Passes.{EntriesRight}
 use Rattle.svc_core.proofs.NumberLemmas.{is_in, distinct, tally, any-ascending, distinct-ascending, tally-distinct}
 use Rattle.svc_core.proofs.DescriptorLemmas.{opened-in, opened-numbers, live-numbers}
 use Rattle.svc_core.proofs.ClosesLemmas.{has-closes, times-other, marks-closes, runtimes-closes, times-closes, times-none, has-times, distinct-numbers, entries-phase, entries-stop, entries-closes}
-use Rattle.svc_core.proofs.RecordLemmas.{tell-append, EachEarlier-tell, EachEarlier-weaker, EachEntry-weaker, now-zero, signal-none, signal-some, passed-signal, has-stays, has-tell, on_false, on_true, to_false, to_true, not_false, not_true}
+use Rattle.svc_core.proofs.RecordLemmas.{tell-append, EachEarlier-tell, EachEarlier-weaker, EachEntry-weaker, now-tell, signal-none, signal-some, passed-signal, has-stays, has-tell, on_false, on_true, to_false, to_true, not_false, not_true}
 use Rattle.svc_core.proofs.OpenLemmas.{boot-same, open-marks, open-running}
 
 on_and : (a b : Bool) (P : Type 0) → OnTrue a P → OnTrue (a && b) P
@@ -85,35 +87,49 @@ none-open r (d ∷ more) f =
 
 -- the record before `ShutdownRuntimes`, with the closes, and as it ends
 abbrev last_at : Record → Record
-last_at q = Told (Phase ShutdownStarted 0) ∷ (Got (Signal FastShutdown) ∷ q)
+last_at q = Told (Phase ShutdownStarted (now q)) ∷ (Got (Signal FastShutdown) ∷ q)
 
 abbrev closed_at : Plan → Record → Record
-closed_at p q = tell (Told (Phase ShutdownRuntimes 0) ∷ last_at q) (map Close (ascending (live_numbers p q)))
+closed_at p q = tell (Told (Phase ShutdownRuntimes (now q)) ∷ last_at q) (map Close (ascending (live_numbers p q)))
 
 abbrev pub ended_at : Plan → Record → Record
-ended_at p q = tell (Got (Signal FastShutdown) ∷ q) (end_told (ascending (live_numbers p q)))
+ended_at p q = tell (Got (Signal FastShutdown) ∷ q) (end_told (now q) (ascending (live_numbers p q)))
 
 module _ (p : Plan) (q : Record) (right : EntriesRight p q) (fit : fits p q (Signal FastShutdown) ≡ true) (opened : OpenRight p q)
     (silent : has is_signal q ≡ false) (earlier : EachEarlier (SettledRight p) q) (never : (fd : ℕ) → has (is_close fd) q ≡ false) where
-  split : ended_at p q ≡ Told (Phase Terminated 0) ∷ (Told (Stop 0) ∷ closed_at p q)
-  split = tell-append (Told (Phase ShutdownRuntimes 0) ∷ last_at q) (map Close (ascending (live_numbers p q))) (Stop 0 ∷ Phase Terminated 0 ∷ [])
+  split : ended_at p q ≡ Told (Phase Terminated (now q)) ∷ (Told (Stop 0) ∷ closed_at p q)
+  split = tell-append (Told (Phase ShutdownRuntimes (now q)) ∷ last_at q) (map Close (ascending (live_numbers p q))) (Stop 0 ∷ Phase Terminated (now q) ∷ [])
 
   -- what a test that neither closes, phases nor `Stop` pass still sees
-  has-end : (test : Entry → Bool) → ((f : ℕ) → test (Told (Close f)) ≡ false) → test (Told (Phase Terminated 0)) ≡ false → test (Told (Stop 0)) ≡ false
-      → has test (ended_at p q) ≡ has test (Told (Phase ShutdownRuntimes 0) ∷ last_at q)
-  has-end test f a b = ap (has test) split ∙ rw (a, b) (has-closes test f (Told (Phase ShutdownRuntimes 0) ∷ last_at q) (ascending (live_numbers p q)))
+  has-end : (test : Entry → Bool) → ((f : ℕ) → test (Told (Close f)) ≡ false) → test (Told (Phase Terminated (now q))) ≡ false → test (Told (Stop 0)) ≡ false
+      → has test (ended_at p q) ≡ has test (Told (Phase ShutdownRuntimes (now q)) ∷ last_at q)
+  has-end test f a b = ap (has test) split ∙ rw (a, b) (has-closes test f (Told (Phase ShutdownRuntimes (now q)) ∷ last_at q) (ascending (live_numbers p q)))
 
   running : has is_running q ≡ true
   running = open-running p q opened.boot
 
   came : has is_signal (ended_at p q) ≡ true
-  came = has-tell is_signal (λ a. refl) (Got (Signal FastShutdown) ∷ q) (end_told (ascending (live_numbers p q)))
+  came = has-tell is_signal (λ a. refl) (Got (Signal FastShutdown) ∷ q) (end_told (now q) (ascending (live_numbers p q)))
+
+  closed-now : now (closed_at p q) ≡ now q
+  closed-now = now-tell (Told (Phase ShutdownRuntimes (now q)) ∷ last_at q) (map Close (ascending (live_numbers p q)))
 
   pub end-passed : has_passed p (ended_at p q) ≡ true
   end-passed = passed-signal p (ended_at p q) ∙ came
 
   pub end-running : has is_running (ended_at p q) ≡ true
-  end-running = has-stays is_running (Got (Signal FastShutdown) ∷ q) (end_told (ascending (live_numbers p q))) running
+  end-running = has-stays is_running (Got (Signal FastShutdown) ∷ q) (end_told (now q) (ascending (live_numbers p q))) running
+
+  pub end-now : now (ended_at p q) ≡ now q
+  end-now = now-tell (Got (Signal FastShutdown) ∷ q) (end_told (now q) (ascending (live_numbers p q)))
+
+  -- the end starts nothing
+  pub end-starts : (st : StartsData) → StartsStand p st q → StartsStand p st (ended_at p q)
+  end-starts st stands = record {
+    started_is = λ s inside. stands.started_is s inside ∙ sym (has-end (is_start s) (λ f. refl) refl refl);
+    ready_is = λ s inside. stands.ready_is s inside ∙ sym (has-end (is_ready_event s) (λ f. refl) refl refl);
+    ended_is = λ s inside. stands.ended_is s inside ∙ sym (has-end (is_ended_event s) (λ f. refl) refl refl);
+  }
 
   live-same : live_numbers p q ≡ numbers_in q
   live-same = live-numbers p q never
@@ -128,7 +144,7 @@ module _ (p : Plan) (q : Record) (right : EntriesRight p q) (fit : fits p q (Sig
   pub closed-once : (fd : ℕ) → is_in fd (numbers_in q) ≡ true → times (is_close fd) (ended_at p q) ≡ 1
   closed-once fd there =
       let none = times-none (is_close fd) q (never fd) in
-      let count = times-closes fd (Told (Phase ShutdownRuntimes 0) ∷ last_at q) (ascending (live_numbers p q)) in
+      let count = times-closes fd (Told (Phase ShutdownRuntimes (now q)) ∷ last_at q) (ascending (live_numbers p q)) in
       let one : tally fd (ascending (live_numbers p q)) ≡ 1 = tally-distinct fd (ascending (live_numbers p q)) apart ∙ ap (λ b. if b then 1 else 0) (among fd ∙ there) in
       let sum : times (is_close fd) (closed_at p q) ≡ 1 = omega arith in
       ap (times (is_close fd)) split ∙ sum
@@ -144,35 +160,35 @@ module _ (p : Plan) (q : Record) (right : EntriesRight p q) (fit : fits p q (Sig
         known_starts = (refl, right.known_starts);
         known_asks = (refl, right.known_asks);
       } in
-      let started = entries-phase p (Got (Signal FastShutdown) ∷ q) ShutdownStarted got in
-      let runtimes = entries-phase p (last_at q) ShutdownRuntimes started in
-      let closed : EntriesRight p (closed_at p q) = entries-closes p (Told (Phase ShutdownRuntimes 0) ∷ last_at q) (ascending (live_numbers p q)) apart
+      let started = entries-phase p (Got (Signal FastShutdown) ∷ q) ShutdownStarted (now q) refl got in
+      let runtimes = entries-phase p (last_at q) ShutdownRuntimes (now q) refl started in
+      let closed : EntriesRight p (closed_at p q) = entries-closes p (Told (Phase ShutdownRuntimes (now q)) ∷ last_at q) (ascending (live_numbers p q)) apart
       (λ g there. opened-in p q g ∙ sym (among g) ∙ there) (λ g there. never g) runtimes in
       let stopped = entries-stop p (closed_at p q) 0 closed in
-      subst (EntriesRight p) (sym split) (entries-phase p (Told (Stop 0) ∷ closed_at p q) Terminated stopped)
+      subst (EntriesRight p) (sym split) (entries-phase p (Told (Stop 0) ∷ closed_at p q) Terminated (now q) (sym closed-now) stopped)
 
   end-at : before_runtimes (ended_at p q) ≡ last_at q
-  end-at = ap before_runtimes split ∙ runtimes-closes (Told (Phase ShutdownRuntimes 0) ∷ last_at q) (ascending (live_numbers p q))
+  end-at = ap before_runtimes split ∙ runtimes-closes (Told (Phase ShutdownRuntimes (now q)) ∷ last_at q) (ascending (live_numbers p q))
 
   end-marks : PhasesRight p (ended_at p q)
   end-marks =
       let told : told_marks (ended_at p q) ≡ phase Terminated ∷ (phase ShutdownRuntimes ∷ (phase ShutdownStarted ∷ (phase Running ∷ []))) =
       ap told_marks split
-      ∙ ap (λ xs. phase Terminated ∷ xs) (marks-closes (Told (Phase ShutdownRuntimes 0) ∷ last_at q) (ascending (live_numbers p q)))
+      ∙ ap (λ xs. phase Terminated ∷ xs) (marks-closes (Told (Phase ShutdownRuntimes (now q)) ∷ last_at q) (ascending (live_numbers p q)))
       ∙ ap (λ xs. phase Terminated ∷ (phase ShutdownRuntimes ∷ (phase ShutdownStarted ∷ xs))) (open-marks p q opened silent) in
       rw (told, signal-some (ended_at p q) came, end-running) refl
 
   end-actions : ended_at p q ≡ tell (last_at q) (last_actions p (last_at q))
-  end-actions = rw (now-zero q, signal-none q silent) refl
+  end-actions = rw (signal-none q silent) refl
 
   end-drain : Drain p (ended_at p q)
   end-drain = record {
     passes = end-passed;
-    first = EachEarlier-tell (λ before. has_passed p before ≡ false) (Got (Signal FastShutdown) ∷ q) (end_told (ascending (live_numbers p q)))
+    first = EachEarlier-tell (λ before. has_passed p before ≡ false) (Got (Signal FastShutdown) ∷ q) (end_told (now q) (ascending (live_numbers p q)))
         (passed-signal p q ∙ silent, silent-earlier p q silent);
     phases = (
       end-marks,
-      EachEarlier-tell (PhasesRight p) (Got (Signal FastShutdown) ∷ q) (end_told (ascending (live_numbers p q)))
+      EachEarlier-tell (PhasesRight p) (Got (Signal FastShutdown) ∷ q) (end_told (now q) (ascending (live_numbers p q)))
           (opened.phases, EachEarlier-weaker (OpenRight p) (PhasesRight p) (λ b h. h.phases) q (open-earlier p q silent earlier)),
     );
     moments = end-entries.moments;
@@ -200,11 +216,11 @@ module _ (p : Plan) (q : Record) (right : EntriesRight p q) (fit : fits p q (Sig
   end-boot : BootRight p (ended_at p q)
   end-boot = boot-same p q (ended_at p q)
       (has-end is_bootstrap (λ f. refl) refl refl) (has-end is_bootstrap_complete (λ f. refl) refl refl)
-      (ap (times is_running) split ∙ times-other is_running (λ f. refl) (Told (Phase ShutdownRuntimes 0) ∷ last_at q) (ascending (live_numbers p q)))
+      (ap (times is_running) split ∙ times-other is_running (λ f. refl) (Told (Phase ShutdownRuntimes (now q)) ∷ last_at q) (ascending (live_numbers p q)))
       opened.boot
 
   end-earlier : EachEarlier (SettledRight p) (ended_at p q)
-  end-earlier = EachEarlier-tell (SettledRight p) (Got (Signal FastShutdown) ∷ q) (end_told (ascending (live_numbers p q)))
+  end-earlier = EachEarlier-tell (SettledRight p) (Got (Signal FastShutdown) ∷ q) (end_told (now q) (ascending (live_numbers p q)))
       (to_false (has_ended p q) (OpenRight p q) opened, earlier)
 
   end-served : Served p (ended_at p q)
@@ -213,10 +229,10 @@ module _ (p : Plan) (q : Record) (right : EntriesRight p q) (fit : fits p q (Sig
     drain = end-drain;
     serves = (
       end-serves,
-      EachEarlier-tell (ServesRight p) (Got (Signal FastShutdown) ∷ q) (end_told (ascending (live_numbers p q)))
+      EachEarlier-tell (ServesRight p) (Got (Signal FastShutdown) ∷ q) (end_told (now q) (ascending (live_numbers p q)))
           (serves-open p q opened, EachEarlier-weaker (OpenRight p) (ServesRight p) (serves-open p) q (open-earlier p q silent earlier)),
     );
-    closed_once = λ fd there. closed-once fd (ap (is_in fd) (sym (numbers-tell (Got (Signal FastShutdown) ∷ q) (end_told (ascending (live_numbers p q))))) ∙ sym (opened-in p (ended_at p q) fd) ∙ there);
+    closed_once = λ fd there. closed-once fd (ap (is_in fd) (sym (numbers-tell (Got (Signal FastShutdown) ∷ q) (end_told (now q) (ascending (live_numbers p q))))) ∙ sym (opened-in p (ended_at p q) fd) ∙ there);
     closed_after = EachEntry-weaker (λ e before. close_once p e before ≡ true) (λ e before. close_due p e before ≡ true) (close-due p) (ended_at p q) end-entries.closes;
     stronger = record {
       closes = end-entries.closes;
@@ -240,5 +256,5 @@ module _ (p : Plan) (q : Record) (right : EntriesRight p q) (fit : fits p q (Sig
   pub end-closed : live_numbers p (ended_at p q) ≡ []
   end-closed = ap (map (λ (d : Descriptor). d.number)) (none-open (ended_at p q) (opened_descriptors p (ended_at p q)) (λ fd there.
       let came : is_in fd (numbers_in q) ≡ true =
-      ap (is_in fd) (sym (numbers-tell (Got (Signal FastShutdown) ∷ q) (end_told (ascending (live_numbers p q)))) ∙ sym (opened-numbers p (ended_at p q))) ∙ there in
+      ap (is_in fd) (sym (numbers-tell (Got (Signal FastShutdown) ∷ q) (end_told (now q) (ascending (live_numbers p q)))) ∙ sym (opened-numbers p (ended_at p q))) ∙ there in
       has-times (is_close fd) (ended_at p q) (closed-once fd came)))

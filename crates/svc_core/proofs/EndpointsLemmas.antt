@@ -7,7 +7,7 @@ use Rattle.svc_record.specs.declared.plan.Plan.{Plan}
 use Rattle.svc_record.specs.declared.entry.Entry.TheVariants.{Got, Told}
 use Rattle.svc_record.specs.declared.action.Action.{Action}
 use Rattle.svc_record.specs.declared.action.Action.TheVariants.{Start, Bind, Close, Phase, Stop}
-use Rattle.svc_record.specs.declared.event.Event.TheVariants.{Ready, Bound}
+use Rattle.svc_record.specs.declared.event.Event.TheVariants.{Moment, Ready, Ended, Bound}
 use Rattle.svc_record.specs.Record.{Record}
 use Rattle.svc_record.specs.Plans.{service_count, services, endpoint_numbers, address, is_endpoint, same_address, any_with}
 use Rattle.svc_record.specs.Asks.{is_bind_open}
@@ -199,8 +199,28 @@ stands-other p d q _ other stand = record {
   one_live = stand.one_live;
 }
 
+pub stands-moment : (p : Plan) (d : EndpointsData) (q : Record) (ms : ℕ) → EndpointsStand p d q → EndpointsStand p d (Got (Moment ms) ∷ q)
+stands-moment p d q ms stand = record {
+  each = stand.each;
+  numbers_are = stand.numbers_are;
+  known = stand.known;
+  never_closed = stand.never_closed;
+  never_doubled = stand.never_doubled;
+  one_live = stand.one_live;
+}
+
 pub stands-ready : (p : Plan) (d : EndpointsData) (q : Record) (s : ℕ) → EndpointsStand p d q → EndpointsStand p d (Got (Ready s) ∷ q)
 stands-ready p d q s stand = record {
+  each = stand.each;
+  numbers_are = stand.numbers_are;
+  known = stand.known;
+  never_closed = stand.never_closed;
+  never_doubled = stand.never_doubled;
+  one_live = stand.one_live;
+}
+
+pub stands-ended : (p : Plan) (d : EndpointsData) (q : Record) (s : ℕ) → EndpointsStand p d q → EndpointsStand p d (Got (Ended s) ∷ q)
+stands-ended p d q s stand = record {
   each = stand.each;
   numbers_are = stand.numbers_are;
   known = stand.known;

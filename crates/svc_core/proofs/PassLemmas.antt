@@ -135,7 +135,7 @@ module _ (p : Plan) (built : IsBuilt p) (order : List ℕ) (k : ℕ) (place : k 
       let known : is_endpoint p (slice_index order k) 0 ≡ true = both.1 in
       let lt : slice_index order k < length d.asks = omega arith in
       record {
-        starts = record { started_is = half.starts.started_is; ready_is = half.starts.ready_is };
+        starts = record { started_is = half.starts.started_is; ready_is = half.starts.ready_is; ended_is = half.starts.ended_is };
         asks = stands-ask p d q (slice_index order k) inside sized known parts.1 half.asks;
         entries = entries-ask p q (slice_index order k) (ask-due p d q (slice_index order k) inside sized known parts.1 half.asks built both.0) known half.entries;
         started_due = half.started_due;

@@ -7,7 +7,7 @@ use Rattle.svc_record.specs.declared.entry.Entry.{Entry}
 use Rattle.svc_record.specs.declared.entry.Entry.TheVariants.{Got, Told}
 use Rattle.svc_record.specs.declared.action.Action.{Action}
 use Rattle.svc_record.specs.declared.action.Action.TheVariants.{Start, Bind, Close, Phase, Stop}
-use Rattle.svc_record.specs.declared.event.Event.TheVariants.{Ready, Bound, Signal}
+use Rattle.svc_record.specs.declared.event.Event.TheVariants.{Moment, Ready, Ended, Bound, Signal}
 use Rattle.svc_record.specs.declared.event.ShutdownSignal.TheVariants.{FastShutdown}
 use Rattle.svc_record.specs.Record.{Record, has, times, tell, now, signal_of, is_signal, EachEntry, EachEarlier}
 use Rattle.svc_record.specs.Drain.{told_marks, has_passed}
@@ -45,21 +45,25 @@ pub EachEntry-weaker : (P Q : Entry → Record → Type 0) → ((e : Entry) (b :
 EachEntry-weaker P Q f [] h = h
 EachEntry-weaker P Q f (e ∷ q) h = (f e q h.0, EachEntry-weaker P Q f q h.1)
 
--- no event brings a moment
-pub now-zero : (q : Record) → now q ≡ 0
-now-zero [] = refl
-now-zero (e ∷ q) = now-zero q
+-- what is told brings no moment
+pub now-tell : (q : Record) (told : List Action) → now (tell q told) ≡ now q
+now-tell q [] = refl
+now-tell q (a ∷ told) = now-tell (Told a ∷ q) told
 
 pub signal-none : (q : Record) → has is_signal q ≡ false → signal_of q ≡ None
 signal-none [] h = refl
+signal-none (Got (Moment ms) ∷ q) h = signal-none q h
 signal-none (Got (Ready s) ∷ q) h = signal-none q h
+signal-none (Got (Ended s) ∷ q) h = signal-none q h
 signal-none (Got (Bound s i fd) ∷ q) h = signal-none q h
 signal-none (Got (Signal kind) ∷ q) h = absurd (cc)
 signal-none (Told a ∷ q) h = signal-none q h
 
 pub signal-some : (q : Record) → has is_signal q ≡ true → signal_of q ≡ Some FastShutdown
 signal-some [] h = absurd (cc)
+signal-some (Got (Moment ms) ∷ q) h = signal-some q h
 signal-some (Got (Ready s) ∷ q) h = signal-some q h
+signal-some (Got (Ended s) ∷ q) h = signal-some q h
 signal-some (Got (Bound s i fd) ∷ q) h = signal-some q h
 signal-some (Got (Signal FastShutdown) ∷ q) h = elim (cases_Bool (has is_signal q)) [
   | inl earlier ↦ rw (signal-some q earlier) refl

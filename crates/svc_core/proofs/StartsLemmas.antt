@@ -9,13 +9,13 @@ use Rattle.svc_record.specs.declared.entry.Entry.{Entry}
 use Rattle.svc_record.specs.declared.entry.Entry.TheVariants.{Got, Told}
 use Rattle.svc_record.specs.declared.action.Action.{Action}
 use Rattle.svc_record.specs.declared.action.Action.TheVariants.{Start, Bind, Close, Phase, Stop}
-use Rattle.svc_record.specs.declared.event.Event.TheVariants.{Ready}
+use Rattle.svc_record.specs.declared.event.Event.TheVariants.{Ready, Ended}
 use Rattle.svc_record.specs.Record.{Record, has, times, EachEntry}
-use Rattle.svc_record.specs.Starts.{is_start, is_ready_event, is_started, is_ready, is_due, start_due}
+use Rattle.svc_record.specs.Starts.{is_start, is_ready_event, is_ended_event, is_started, is_ready, is_due, start_due}
 use Rattle.svc_record.specs.Plans.{depends, has_kind, service_count}
 use Rattle.svc_record.specs.Validity.{IsValid, depends_on}
 use Rattle.svc_core.specs.StartsData.{StartsData}
-use Rattle.svc_core.specs.StartsState.{IsStartsSized, StartsStand, is_flagged, ready_now, due_now, starts_now, start_if, word_taken}
+use Rattle.svc_core.specs.StartsState.{IsStartsSized, StartsStand, is_flagged, ready_now, due_now, starts_now, start_if, word_taken, end_taken}
 
 -- what holds of every number that passes
 list_all-weaker : (P Q : ℕ → Bool) → ((x : ℕ) → P x ≡ true → Q x ≡ true) → (xs : List ℕ) → list_all P xs ≡ true → list_all Q xs ≡ true
@@ -30,11 +30,11 @@ list_all-same P Q [] f = refl
 list_all-same P Q (x ∷ xs) f = rw (f 0 0 (omega arith), list_all-same P Q xs (λ k d lt. f (suc k) d (omega arith))) refl
 
 -- Boolean algebra, over plain variables
-or_grows : (a b c d m : Bool) → (b || (d && c)) ≡ true → ((a || b) || ((m || d) && c)) ≡ true
-or_grows a b c d m h = grind arith
+or_grows : (a b x y c d m : Bool) → ((b || y) || (d && c)) ≡ true → (((a || b) || (x || y)) || ((m || d) && c)) ≡ true
+or_grows a b x y c d m h = grind arith
 
 ready-grows : (p : Plan) (q : Record) (e : Entry) (s : ℕ) → is_ready p q s ≡ true → is_ready p (e ∷ q) s ≡ true
-ready-grows p q e s h = or_grows (is_ready_event s e) (has (is_ready_event s) q) (has_kind p Plain s) (is_started q s) (is_start s e) h
+ready-grows p q e s h = or_grows (is_ready_event s e) (has (is_ready_event s) q) (is_ended_event s e) (has (is_ended_event s) q) (has_kind p Plain s) (is_started q s) (is_start s e) h
 
 pub is_due-grows : (p : Plan) (q : Record) (e : Entry) (s : ℕ) → is_due p q s ≡ true → is_due p (e ∷ q) s ≡ true
 is_due-grows p q e s h = list_all-weaker (is_ready p q) (is_ready p (e ∷ q)) (ready-grows p q e) (depends p s) h
@@ -89,6 +89,7 @@ pub stands-start : (p : Plan) (st : StartsData) (q : Record) (s : ℕ) → IsSta
 stands-start p st q s sized inside h = record {
   started_is = λ t lt. flag-set st.started s t (let e = sized.started in omega arith) ∙ ap (λ b. (s == t) || b) (h.started_is t lt);
   ready_is = h.ready_is;
+  ended_is = h.ended_is;
 }
 
 pub stands-word : (p : Plan) (st : StartsData) (q : Record) (s : ℕ) → IsStartsSized p st → s < service_count p → StartsStand p st q
@@ -96,13 +97,25 @@ pub stands-word : (p : Plan) (st : StartsData) (q : Record) (s : ℕ) → IsStar
 stands-word p st q s sized inside h = record {
   started_is = h.started_is;
   ready_is = λ t lt. flag-set st.ready s t (let e = sized.ready in omega arith) ∙ ap (λ b. (s == t) || b) (h.ready_is t lt);
+  ended_is = h.ended_is;
+}
+
+pub stands-end : (p : Plan) (st : StartsData) (q : Record) (s : ℕ) → IsStartsSized p st → s < service_count p → StartsStand p st q
+    → StartsStand p (end_taken s st) (Got (Ended s) ∷ q)
+stands-end p st q s sized inside h = record {
+  started_is = h.started_is;
+  ready_is = h.ready_is;
+  ended_is = λ t lt. flag-set st.ended s t (let e = sized.ended in omega arith) ∙ ap (λ b. (s == t) || b) (h.ended_is t lt);
 }
 
 -- the part's own tests are the record's
+pub ready-is : (p : Plan) (st : StartsData) (q : Record) (s : ℕ) → s < service_count p → StartsStand p st q → ready_now p st s ≡ is_ready p q s
+ready-is p st q s inside h = rw (h.ready_is s inside, h.ended_is s inside, h.started_is s inside) refl
+
 pub due-is : (p : Plan) (st : StartsData) (q : Record) (s : ℕ) → IsValid p → s < service_count p → StartsStand p st q → due_now p st s ≡ is_due p q s
 due-is p st q s valid inside h =
     list_all-same (ready_now p st) (is_ready p q) (depends p s)
-    (λ k d lt. let within = valid.inside s inside k d lt in rw (h.ready_is (slice_index_or (depends p s) k d) within, h.started_is (slice_index_or (depends p s) k d) within) refl)
+    (λ k d lt. ready-is p st q (slice_index_or (depends p s) k d) (valid.inside s inside k d lt) h)
 
 pub starts-is : (p : Plan) (st : StartsData) (q : Record) (s : ℕ) → IsValid p → s < service_count p → StartsStand p st q
     → starts_now p st s ≡ (not (is_started q s) && is_due p q s)

@@ -8,7 +8,7 @@ use Rattle.svc_record.specs.declared.entry.Entry.TheVariants.{Got, Told}
 use Rattle.svc_record.specs.declared.action.Action.{Action}
 use Rattle.svc_record.specs.declared.action.Action.TheVariants.{Start, Bind, Close, Phase, Stop}
 use Rattle.svc_record.specs.declared.event.Event.{Event}
-use Rattle.svc_record.specs.declared.event.Event.TheVariants.{Ready, Bound, Signal}
+use Rattle.svc_record.specs.declared.event.Event.TheVariants.{Moment, Ready, Ended, Bound, Signal}
 use Rattle.svc_record.specs.Record.{Record, has, times, tell, EachEntry}
 use Rattle.svc_record.specs.Closes.{close_once}
 use Rattle.svc_record.specs.Descriptors.{Descriptor, opened_descriptors, is_opened, is_close, numbers_of, brings}
@@ -103,7 +103,9 @@ closed-came p (Told (Stop n) ∷ q) g h shut = closed-came p q g h.1 shut
 
 -- the new numbers of an event
 new-in : (q : Record) (e : Event) (g : ℕ) → tally g (new_numbers q (Some e)) ≡ (if is_in g (numbers_of (Got e)) && not (has (brings g) q) then 1 else 0)
+new-in q (Moment ms) g = refl
 new-in q (Ready s) g = refl
+new-in q (Ended s) g = refl
 new-in q (Signal kind) g = refl
 new-in q (Bound s i fd) g = elim (cases_eq fd g) [
   | inl same ↦ elim (cases_Bool (has (brings fd) q)) [
@@ -206,7 +208,9 @@ open-live core q stands true e = rw e (sym (ap ascending (stands.closed e)))
 open-live core q stands false e = rw e (let ep = stands.endpoints e in stands.numbers ∙ ap ascending (sym (live-numbers core.plan q ep.never_closed)))
 
 left-new : (core : CoreData) (q : Record) (e : Event) → StandsFor core q → left_numbers core e ≡ new_numbers q (Some e)
+left-new core q (Moment ms) stands = refl
 left-new core q (Ready s) stands = refl
+left-new core q (Ended s) stands = refl
 left-new core q (Signal kind) stands = refl
 left-new core q (Bound s i fd) stands =
     let e = fresh core q fd stands in

@@ -4,15 +4,16 @@ use Rattle.svc_record.specs.declared.plan.Plan.{Plan}
 use Rattle.svc_record.specs.declared.action.Action.{Action}
 use Rattle.svc_record.specs.declared.action.Action.TheVariants.{Phase, Close, Stop}
 use Rattle.svc_record.specs.declared.action.ExecutionPhase.TheVariants.{ShutdownStarted, ShutdownRuntimes, Terminated}
-use Rattle.svc_record.specs.Record.{Record, has, is_running}
+use Rattle.svc_record.specs.Record.{Record, has, now, is_running}
 use Rattle.svc_record.specs.Drain.{has_passed}
 use Rattle.svc_core.specs.DrainData.{DrainData}
 
--- the flags say whether `Running` was told, and whether the signal's waits have passed
+-- the flags say whether `Running` was told, and whether the signal's waits have passed; the moment is the last one
 pub record DrainStand (p : Plan) (d : DrainData) (q : Record) : Type 0 where
   pub running_is : d.running ≡ has is_running q
   pub over_is : d.over ≡ has_passed p q
+  pub moment_is : d.moment ≡ now q
 
--- what is told after a fast signal, where these descriptors are live
-abbrev pub end_told : List ℕ → List Action
-end_told fds = Phase ShutdownStarted 0 ∷ Phase ShutdownRuntimes 0 ∷ (map Close fds ++ Stop 0 ∷ Phase Terminated 0 ∷ [])
+-- what is told after a fast signal at this moment, where these descriptors are live
+abbrev pub end_told : ℕ → List ℕ → List Action
+end_told ms fds = Phase ShutdownStarted ms ∷ Phase ShutdownRuntimes ms ∷ (map Close fds ++ Stop 0 ∷ Phase Terminated ms ∷ [])

@@ -1,5 +1,5 @@
 -- The records that a core stands for, and what its steps keep.
-use Rattle.std.specs.Prelude.{ℕ, true, false, ◌≡◌, ◌<◌, ◌==◌, List, [], ◌∷◌, Option}
+use Rattle.std.specs.Prelude.{ℕ, true, false, ◌≡◌, ◌<◌, ◌≤◌, ◌==◌, List, [], ◌∷◌, Option}
 use Rattle.std.specs.List.{list_any}
 use Rattle.svc_graph.specs.declared.plan.Kind.TheVariants.{Notifying}
 use Rattle.svc_record.specs.declared.plan.Plan.{Plan}
@@ -7,11 +7,12 @@ use Rattle.svc_record.specs.declared.action.Action.{Action}
 use Rattle.svc_record.specs.declared.action.StepEnd.{StepEnd}
 use Rattle.svc_record.specs.declared.entry.Entry.TheVariants.{Got}
 use Rattle.svc_record.specs.declared.event.Event.{Event}
-use Rattle.svc_record.specs.declared.event.Event.TheVariants.{Ready, Bound, Signal}
+use Rattle.svc_record.specs.declared.event.Event.TheVariants.{Moment, Ready, Ended, Bound, Signal}
 use Rattle.svc_record.specs.Plans.{service_count, has_kind}
 use Rattle.svc_record.specs.Record.{Record, tell}
 use Rattle.svc_record.specs.Drain.{ascending, live_numbers}
 use Rattle.svc_record.specs.Ends.{step_end}
+use Rattle.svc_record.specs.Fits.{may_end}
 use Rattle.svc_record.specs.Right.{Right}
 use Rattle.svc_record.specs.Tail.{numbers_in, closing_actions, tail_right}
 use Rattle.svc_core.specs.Told.{Tells}
@@ -20,10 +21,10 @@ use Rattle.svc_core.specs.EndpointsState.{EndpointsStand, ask_at, is_open_ask}
 use Rattle.svc_core.specs.DrainState.{DrainStand}
 use Rattle.svc_core.specs.CoreData.{CoreData}
 
--- one clause for each part; once the run is over, what came is all that is left of services, and nothing is live
+-- one clause for each part; once the run is over, what came is all that is left of endpoints, and nothing is live
 pub record StandsFor (core : CoreData) (q : Record) : Type 0 where
   pub drain : DrainStand core.plan core.drain q
-  pub starts : core.drain.over ≡ false → StartsStand core.plan core.starts q
+  pub starts : StartsStand core.plan core.starts q
   pub endpoints : core.drain.over ≡ false → EndpointsStand core.plan core.endpoints q
   pub numbers : core.endpoints.numbers ≡ ascending (numbers_in q)
   pub closed : core.drain.over ≡ true → live_numbers core.plan q ≡ []
@@ -59,6 +60,13 @@ pub record ReadyMayCome (core : CoreData) (s : ℕ) : Type 0 where
   pub started : is_flagged core.starts.started s ≡ true
   pub first : is_flagged core.starts.ready s ≡ false
 
+-- the end of the service's work may come
+pub record EndedMayCome (core : CoreData) (s : ℕ) : Type 0 where
+  pub inside : s < service_count core.plan
+  pub ends : may_end core.plan s ≡ true
+  pub started : is_flagged core.starts.started s ≡ true
+  pub first : is_flagged core.starts.ended s ≡ false
+
 -- the endpoint's descriptor may come
 pub record BoundMayCome (core : CoreData) (s i fd : ℕ) : Type 0 where
   pub inside : s < service_count core.plan
@@ -68,7 +76,9 @@ pub record BoundMayCome (core : CoreData) (s i fd : ℕ) : Type 0 where
 
 -- the condition of each event, by what the core holds
 abbrev pub RowMayCome : CoreData → Event → Type 0
+RowMayCome core (Moment ms) = core.drain.moment ≤ ms
 RowMayCome core (Ready s) = ReadyMayCome core s
+RowMayCome core (Ended s) = EndedMayCome core s
 RowMayCome core (Bound s i fd) = BoundMayCome core s i fd
 RowMayCome core (Signal kind) = core.drain.running ≡ true
 

@@ -1,4 +1,4 @@
-//! The part of the core that knows whether the server runs, and ends the run.
+//! The part of the core that knows the time and whether the server runs, and ends the run.
 
 ghost use Rattle.std.specs.Prelude.{◌≡◌, ◌+◌, ◌≤◌, ◌++◌, [], ◌∷◌, length, true, false};
 ghost use Rattle.svc_conf.specs.Items.{list_of, spare};
@@ -10,11 +10,12 @@ use crate::endpoints::close_each;
 use std::marker::Model;
 use svc_record::{Action, Actions, ExecutionPhase};
 
-/// Whether the server runs, and whether the run is over.
+/// Whether the server runs, whether the run is over, and the last moment that came.
 #[derive(Drop)]
 pub struct Drain {
     running: bool,
     over: bool,
+    moment: u64,
 }
 
 impl Model for Drain {
@@ -22,16 +23,17 @@ impl Model for Drain {
 
     ghost Value = { DrainData };
 
-    ghost view = { λ d. record { running = d.running; over = d.over } };
+    ghost view = { λ d. record { running = d.running; over = d.over; moment = d.moment } };
 }
 
 impl Drain {
     pub(crate) fn new() -> Drain
-        ensures { result ≡ record { running = false; over = false } }
+        ensures { result ≡ record { running = false; over = false; moment = 0 } }
     {
         Drain {
             running: false,
             over: false,
+            moment: 0,
         }
     }
 
@@ -47,29 +49,43 @@ impl Drain {
         self.over
     }
 
+    /// The last moment that came, in milliseconds.
+    pub(crate) fn moment(&self) -> u64
+        ensures { result ≡ self.now.moment }
+    {
+        self.moment
+    }
+
+    /// Time has gone on to this moment.
+    pub(crate) fn take_moment(&mut self, ms: u64)
+        ensures { self.new ≡ record { running = self.old.running; over = self.old.over; moment = ms } }
+    {
+        self.moment = ms;
+    }
+
     /// Tells that the server runs.
     pub(crate) fn run(&mut self, actions: &mut Actions)
         requires room { 1 ≤ spare actions.old }
-        ensures after { self.new ≡ record { running = true; over = self.old.over } }
-        ensures told { list_of actions.new ≡ list_of actions.old ++ Phase Running 0 ∷ [] }
+        ensures after { self.new ≡ record { running = true; over = self.old.over; moment = self.old.moment } }
+        ensures told { list_of actions.new ≡ list_of actions.old ++ Phase Running self.old.moment ∷ [] }
         ensures room { spare actions.old ≤ spare actions.new + 1 }
     {
-        actions.put(Action::Phase(ExecutionPhase::Running, 0));
+        actions.put(Action::Phase(ExecutionPhase::Running, self.moment));
         self.running = true;
     }
 
     /// Tells the whole shutdown: the live descriptors close between its last two phases.
     pub(crate) fn end(&mut self, live: &[u64], actions: &mut Actions)
         requires room { length live.now + 4 ≤ spare actions.old }
-        ensures after { self.new ≡ record { running = self.old.running; over = true } }
-        ensures told { list_of actions.new ≡ list_of actions.old ++ end_told live.now }
+        ensures after { self.new ≡ record { running = self.old.running; over = true; moment = self.old.moment } }
+        ensures told { list_of actions.new ≡ list_of actions.old ++ end_told self.old.moment live.now }
         ensures room { spare actions.old ≤ spare actions.new + (length live.now + 4) }
     {
-        actions.put(Action::Phase(ExecutionPhase::ShutdownStarted, 0));
-        actions.put(Action::Phase(ExecutionPhase::ShutdownRuntimes, 0));
+        actions.put(Action::Phase(ExecutionPhase::ShutdownStarted, self.moment));
+        actions.put(Action::Phase(ExecutionPhase::ShutdownRuntimes, self.moment));
         close_each(live, actions);
         actions.put(Action::Stop(0));
-        actions.put(Action::Phase(ExecutionPhase::Terminated, 0));
+        actions.put(Action::Phase(ExecutionPhase::Terminated, self.moment));
         self.over = true;
     }
 }

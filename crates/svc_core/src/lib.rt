@@ -5,10 +5,12 @@ mod drain;
 mod endpoints;
 mod machine;
 mod pass;
+mod phase_reader;
 mod plans;
 mod starts;
 
 pub use machine::Core;
+pub use phase_reader::PhaseReader;
 pub use svc_record::{
     Action, Actions, Entries, Entry, Event, ExecutionPhase, Plan, ServiceList, ServicePlan,
     ShutdownSignal, StepEnd,

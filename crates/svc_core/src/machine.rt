@@ -1,20 +1,23 @@
 //! The core: one step for each event.
 
-ghost use Rattle.std.specs.Prelude.{◌≡◌, ◌+◌, ◌*◌, ◌<◌, ◌≤◌, ◌++◌, [], ◌∷◌, length, ℕ, false, true, IfOk, OnErr, OnOk, IsTrue, ◌↔◌, Option, map};
+ghost use Rattle.std.specs.Prelude.{◌≡◌, ◌+◌, ◌*◌, ◌<◌, ◌≤◌, ◌++◌, [], ◌∷◌, length, ℕ, false, true, IfOk, OnErr, OnOk, IsTrue, ◌↔◌, List, Option, map};
+ghost use Rattle.svc_record.specs.declared.action.Action.{Action};
 ghost use Rattle.svc_record.specs.declared.action.Action.TheVariants.{Close};
 ghost use Rattle.std.specs.Option.{option_copied};
 ghost use Rattle.svc_conf.specs.Items.{list_of, spare};
 ghost use Rattle.svc_record.specs.Record.{Record};
+ghost use Rattle.svc_record.specs.Plans.{service_count};
+ghost use Rattle.svc_record.specs.Starts.{is_ready};
 ghost use Rattle.svc_record.specs.Fits.{Fits};
 ghost use Rattle.svc_record.specs.Right.{Right};
 ghost use Rattle.svc_record.specs.Validity.{IsValid, IsBuilt};
-ghost use Rattle.svc_core.specs.Stands.{StandsFor, HasNotBegun, MayCome, ReadyMayCome, BoundMayCome, StepKeeps, BeginKeeps, ClosesAll};
+ghost use Rattle.svc_core.specs.Stands.{StandsFor, HasNotBegun, MayCome, ReadyMayCome, EndedMayCome, BoundMayCome, StepKeeps, BeginKeeps, ClosesAll};
 ghost use Rattle.svc_core.specs.Rooms.{TellsWithin, KeepsRoom, step_room, close_room, close_need, open_numbers, left_numbers};
 
 use crate::drain::Drain;
 use crate::endpoints::{Endpoints, close_each};
 use crate::pass::pass;
-use crate::plans::{is_notifying, service_count};
+use crate::plans::{is_notifying, may_end, service_count};
 use crate::starts::Starts;
 use std::alloc::Global;
 use std::marker::Model;
@@ -75,6 +78,13 @@ impl Core {
         2 * self.order.len() as u64 + self.endpoints.numbers().len() as u64 + 5
     }
 
+    fn is_ready(&self, s: u32) -> bool
+        requires service { s < service_count self.now.plan }
+        ensures { (q : Record) → StandsFor self.now q → result ≡ is_ready self.now.plan q s }
+    {
+        self.starts.is_ready(&self.plan, s)
+    }
+
     /// Whether the event may come now.
     pub fn fits(&self, event: &Event) -> bool
         ensures may { IsTrue result ↔ MayCome self.now event.now }
@@ -84,7 +94,9 @@ impl Core {
             return false;
         }
         match *event {
+            Event::Moment(ms) => self.drain.moment() <= ms,
             Event::Ready(s) => self.ready_fits(s),
+            Event::Ended(s) => self.ended_fits(s),
             Event::Bound(s, i, fd) => self.bound_fits(s, i, fd),
             Event::Signal(_) => self.drain.is_running(),
         }
@@ -97,6 +109,15 @@ impl Core {
             return false;
         }
         self.starts.is_started(&self.plan, s) && !self.starts.has_ready(&self.plan, s)
+    }
+
+    fn ended_fits(&self, s: u32) -> bool
+        ensures { IsTrue result ↔ EndedMayCome self.now s }
+    {
+        if s as usize >= service_count(&self.plan) || !may_end(&self.plan, s) {
+            return false;
+        }
+        self.starts.is_started(&self.plan, s) && !self.starts.has_ended(&self.plan, s)
     }
 
     fn bound_fits(&self, s: u32, i: u32, fd: u64) -> bool
@@ -150,10 +171,24 @@ impl Core {
     {
         actions.reserve(alloc, self.step_room())?;
         match *event {
+            Event::Moment(ms) => Ok(self.step_moment(ms)),
             Event::Ready(s) => Ok(self.step_ready(s, actions)),
+            Event::Ended(s) => Ok(self.step_ended(s, actions)),
             Event::Bound(s, _, fd) => self.step_bound(s, fd, actions),
             Event::Signal(kind) => Ok(self.step_signal(kind, actions)),
         }
+    }
+
+    /// Nothing waits for a moment, so nothing is told.
+    fn step_moment(&mut self, ms: u64) -> StepEnd
+        requires on { self.old.drain.over ≡ false }
+        requires may { self.old.drain.moment ≤ ms }
+        ensures plan { self.new.plan ≡ self.old.plan }
+        ensures kept { (before : List Action) → StepKeeps self.old self.new (Event.Moment ms) before before result }
+        ensures room { close_room self.new ≤ step_room self.old }
+    {
+        self.drain.take_moment(ms);
+        StepEnd::On
     }
 
     fn step_ready(&mut self, s: u32, actions: &mut Actions) -> StepEnd
@@ -166,6 +201,26 @@ impl Core {
         ensures room { close_room self.new ≤ spare actions.new }
     {
         self.starts.take_ready(&self.plan, s);
+        pass(
+            &self.plan,
+            &self.order,
+            &mut self.starts,
+            &mut self.endpoints,
+            actions,
+        );
+        StepEnd::On
+    }
+
+    fn step_ended(&mut self, s: u32, actions: &mut Actions) -> StepEnd
+        requires on { self.old.drain.over ≡ false }
+        requires may { EndedMayCome self.old s }
+        requires room { step_room self.old ≤ spare actions.old }
+        ensures plan { self.new.plan ≡ self.old.plan }
+        ensures kept { StepKeeps self.old self.new (Event.Ended s) (list_of actions.old) (list_of actions.new) result }
+        ensures few { TellsWithin self.old self.new actions.old actions.new }
+        ensures room { close_room self.new ≤ spare actions.new }
+    {
+        self.starts.take_ended(&self.plan, s);
         pass(
             &self.plan,
             &self.order,
@@ -248,7 +303,9 @@ impl Core {
                     actions.put(Action::Close(fd));
                 }
             }
+            Event::Moment(_) => {}
             Event::Ready(_) => {}
+            Event::Ended(_) => {}
             Event::Signal(_) => {}
         }
     }

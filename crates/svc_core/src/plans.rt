@@ -2,6 +2,7 @@
 
 ghost use Rattle.std.specs.Prelude.{◌≡◌, ◌<◌, length};
 ghost use Rattle.svc_record.specs.Plans.{service_count, depends, has_kind, endpoints};
+ghost use Rattle.svc_record.specs.Fits.{may_end};
 ghost use Rattle.svc_graph.specs.declared.plan.Kind.TheVariants.{Plain, Notifying};
 
 use svc_graph::Kind;
@@ -50,4 +51,12 @@ pub(crate) fn endpoint_count(plan: &Plan, s: u32) -> usize
         .endpoints
         .as_slice()
         .len()
+}
+
+/// The service takes no connections and doesn't bootstrap, so its work may end.
+pub(crate) fn may_end(plan: &Plan, s: u32) -> bool
+    requires { s < service_count plan.now }
+    ensures { result ≡ may_end plan.now s }
+{
+    (is_plain(plan, s) || is_notifying(plan, s)) && endpoint_count(plan, s) == 0
 }

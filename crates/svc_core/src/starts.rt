@@ -4,7 +4,7 @@ ghost use Rattle.std.specs.Prelude.{◌≡◌, ◌+◌, ◌<◌, ◌≤◌, ◌+
 ghost use Rattle.svc_conf.specs.Items.{list_of, spare};
 ghost use Rattle.svc_record.specs.Plans.{service_count};
 ghost use Rattle.svc_record.specs.Validity.{IsValid};
-ghost use Rattle.svc_core.specs.StartsState.{IsStartsSized, IsBlank, is_flagged, ready_now, due_now, starts_now, start_if, start_told, word_taken};
+ghost use Rattle.svc_core.specs.StartsState.{IsStartsSized, IsBlank, is_flagged, ready_now, due_now, starts_now, start_if, start_told, word_taken, end_taken};
 
 use crate::plans::{depends_of, is_plain, service_count};
 use std::alloc::Global;
@@ -12,11 +12,12 @@ use std::marker::Model;
 use svc_conf::NoMemory;
 use svc_record::{Action, Actions, Plan};
 
-/// Which services are started, and which said that they are ready.
+/// Which services are started, which said that they are ready, and whose work is done.
 #[derive(Drop)]
 pub struct Starts {
     started: Vec<bool>,
     ready: Vec<bool>,
+    ended: Vec<bool>,
 }
 
 impl Model for Starts {
@@ -24,7 +25,7 @@ impl Model for Starts {
 
     ghost Value = { StartsData };
 
-    ghost view = { λ s. record { started = s.started.items; ready = s.ready.items } };
+    ghost view = { λ s. record { started = s.started.items; ready = s.ready.items; ended = s.ended.items } };
 }
 
 impl Starts {
@@ -35,15 +36,22 @@ impl Starts {
     {
         let started = vec![in alloc; false; service_count(plan)]?;
         let ready = vec![in alloc; false; service_count(plan)]?;
-        Ok(Starts { started, ready })
+        let ended = vec![in alloc; false; service_count(plan)]?;
+        Ok(Starts {
+            started,
+            ready,
+            ended,
+        })
     }
 
-    fn is_ready(&self, plan: &Plan, s: u32) -> bool
+    /// The service's word came, or its work is done, or it is started and plain.
+    pub(crate) fn is_ready(&self, plan: &Plan, s: u32) -> bool
         requires service { s < service_count plan.now }
         requires sized { IsStartsSized plan.now self.now }
         ensures { result ≡ ready_now plan.now self.now s }
     {
-        self.ready[s as usize] || (self.started[s as usize] && is_plain(plan, s))
+        (self.ready[s as usize] || self.ended[s as usize])
+            || (self.started[s as usize] && is_plain(plan, s))
     }
 
     fn is_due(&self, plan: &Plan, s: u32) -> bool
@@ -77,6 +85,15 @@ impl Starts {
         self.ready[s as usize]
     }
 
+    /// The service's work is done.
+    pub(crate) fn has_ended(&self, plan: &Plan, s: u32) -> bool
+        requires service { s < service_count plan.now }
+        requires sized { IsStartsSized plan.now self.now }
+        ensures { result ≡ is_flagged self.now.ended s }
+    {
+        self.ended[s as usize]
+    }
+
     /// The service says that it is ready.
     pub(crate) fn take_ready(&mut self, plan: &Plan, s: u32)
         requires service { s < service_count plan.now }
@@ -85,6 +102,16 @@ impl Starts {
         ensures word { self.new ≡ word_taken s self.old }
     {
         self.ready[s as usize] = true;
+    }
+
+    /// The service's work is done.
+    pub(crate) fn take_ended(&mut self, plan: &Plan, s: u32)
+        requires service { s < service_count plan.now }
+        requires sized { IsStartsSized plan.now self.old }
+        ensures sized { IsStartsSized plan.now self.new }
+        ensures end { self.new ≡ end_taken s self.old }
+    {
+        self.ended[s as usize] = true;
     }
 
     /// Starts the service where it is due and not started yet, and says so.

@@ -138,6 +138,55 @@ fn takes_what_was_asked_for_alone(rt: HostRuntime) -> Result<(), Fail> {
 }
 
 #[test]
+fn tells_the_end_with_the_moment(rt: HostRuntime) -> Result<(), Fail> {
+    let alloc = rt.alloc();
+    let mut core = serving(&rt, alloc)?;
+    let end = step(&rt, alloc, &mut core, Event::Moment(5), &[])?;
+    assert_eq!(rt; end, StepEnd::On);
+    assert!(rt; !core.fits(&Event::Moment(4)));
+    let end = step(&rt, alloc, &mut core, Event::Moment(5), &[])?;
+    assert_eq!(rt; end, StepEnd::On);
+    let told = [
+        Action::Phase(ExecutionPhase::ShutdownStarted, 5),
+        Action::Phase(ExecutionPhase::ShutdownRuntimes, 5),
+        Action::Close(7),
+        Action::Stop(0),
+        Action::Phase(ExecutionPhase::Terminated, 5),
+    ];
+    let signal = Event::Signal(ShutdownSignal::FastShutdown);
+    assert_eq!(rt;
+        step(&rt, alloc, &mut core, signal, &told)?,
+        StepEnd::Served
+    );
+    assert!(rt; !core.fits(&Event::Moment(6)));
+    Ok(())
+}
+
+#[test]
+fn starts_what_waits_for_a_service_that_ended(rt: HostRuntime) -> Result<(), Fail> {
+    let alloc = rt.alloc();
+    let mut core = begun(&rt, alloc)?;
+    let told = [Action::Start(1), Action::Bind(1, 0)];
+    let end = step(&rt, alloc, &mut core, Event::Ended(0), &told)?;
+    assert_eq!(rt; end, StepEnd::On);
+    assert!(rt; !core.fits(&Event::Ended(0)));
+    assert!(rt; !core.fits(&Event::Ended(1)));
+    assert!(rt; core.fits(&Event::Ready(0)));
+    Ok(())
+}
+
+#[test]
+fn reads_each_phase_once(rt: HostRuntime) -> Result<(), Fail> {
+    let mut reader = PhaseReader::new();
+    let phases = [ExecutionPhase::Running, ExecutionPhase::ShutdownStarted];
+    assert_eq!(rt; reader.recv(&phases[..1]), Some(ExecutionPhase::Running));
+    assert_eq!(rt; reader.recv(&phases[..1]), None);
+    assert_eq!(rt; reader.recv(&phases), Some(ExecutionPhase::ShutdownStarted));
+    assert_eq!(rt; reader.recv(&phases), None);
+    Ok(())
+}
+
+#[test]
 fn closes_what_is_open_and_what_came_last(rt: HostRuntime) -> Result<(), Fail> {
     let alloc = rt.alloc();
     let core = serving(&rt, alloc)?;

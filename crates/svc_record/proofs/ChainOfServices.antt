@@ -14,7 +14,7 @@ use Rattle.svc_record.proofs.Sound.{right_from_test, served_from_test}
 use Rattle.svc_record.proofs.Variants.{shortened, doubled, swapped, beginnings, right_ones}
 use Rattle.svc_record.proofs.TwoServices.{plan_of}
 
-abbrev service : List ℕ → List ℕ → ServicePlan
+abbrev pub service : List ℕ → List ℕ → ServicePlan
 service name depends = record { name = name; kind = Plain; depends = depends; declared = Some []; endpoints = [] }
 
 abbrev plan : Plan

@@ -6,7 +6,7 @@ use Rattle.std.specs.List.{list_any}
 use Rattle.svc_record.specs.declared.plan.Plan.{Plan}
 use Rattle.svc_record.specs.declared.entry.Entry.TheVariants.{Got, Told}
 use Rattle.svc_record.specs.declared.event.Event.{Event}
-use Rattle.svc_record.specs.declared.event.Event.TheVariants.{Ready, Bound, Signal}
+use Rattle.svc_record.specs.declared.event.Event.TheVariants.{Moment, Ready, Ended, Bound, Signal}
 use Rattle.svc_record.specs.declared.action.Action.{Action}
 use Rattle.svc_record.specs.declared.action.Action.TheVariants.{Close}
 use Rattle.svc_record.specs.Record.{Record, has, times, tell, EachEntry}
@@ -27,7 +27,9 @@ use Rattle.svc_record.proofs.Tallies.{one_if, if_kept, tally, is_in, tally-ascen
 pub numbers-opened : (p : Plan) (q : Record) → map (λ (d : Descriptor). d.number) (opened_descriptors p q) ≡ numbers_in q
 numbers-opened p [] = refl
 numbers-opened p (Got (Bound s i fd) ∷ before) = ap (λ ns. fd ∷ ns) (numbers-opened p before)
+numbers-opened p (Got (Moment ms) ∷ before) = numbers-opened p before
 numbers-opened p (Got (Ready s) ∷ before) = numbers-opened p before
+numbers-opened p (Got (Ended s) ∷ before) = numbers-opened p before
 numbers-opened p (Got (Signal kind) ∷ before) = numbers-opened p before
 numbers-opened p (Told a ∷ before) = numbers-opened p before
 
@@ -55,7 +57,9 @@ pub came_once : (p : Plan) (q : Record) (fd : ℕ) → EachEntry (λ e before. e
 came_once p [] fd h = refl
 came_once p (Got (Bound s i n) ∷ before) fd h = fresh (n == fd) (is_in fd (numbers_in before)) (tally fd (numbers_in before))
     (λ same. subst (λ m. is_in m (numbers_in before) ≡ false) (eqb-true n fd same) (is_fresh p before s i n h.0)) (came_once p before fd h.1)
+came_once p (Got (Moment ms) ∷ before) fd h = came_once p before fd h.1
 came_once p (Got (Ready s) ∷ before) fd h = came_once p before fd h.1
+came_once p (Got (Ended s) ∷ before) fd h = came_once p before fd h.1
 came_once p (Got (Signal kind) ∷ before) fd h = came_once p before fd h.1
 came_once p (Told a ∷ before) fd h = came_once p before fd h.1
 

@@ -6,6 +6,7 @@ pub mod Variants
 pub mod TwoServices
 pub mod NoServices
 pub mod ChainOfServices
+pub mod EndedService
 pub mod StrayEvent
 pub mod NoSignal
 pub mod Clauses

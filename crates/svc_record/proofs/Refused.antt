@@ -1,8 +1,9 @@
 -- Records that no server leaves: each is refused, by the clauses that say why.
 use Rattle.std.proofs.Common.{ℕ, true, [], ◌∷◌, ◌++◌, codes, ◌≡◌, refl}
+use Rattle.svc_graph.specs.declared.plan.Kind.TheVariants.{Bootstrap as Bootstrapping}
 use Rattle.svc_record.specs.declared.plan.Plan.{Plan}
 use Rattle.svc_record.specs.declared.entry.Entry.TheVariants.{Got, Told}
-use Rattle.svc_record.specs.declared.event.Event.TheVariants.{Ready, Bound, Signal}
+use Rattle.svc_record.specs.declared.event.Event.TheVariants.{Moment as Time, Ready, Ended, Bound, Signal}
 use Rattle.svc_record.specs.declared.event.ShutdownSignal.TheVariants.{FastShutdown}
 use Rattle.svc_record.specs.declared.action.Action.TheVariants.{Start, Bind, Close, Phase, Stop}
 use Rattle.svc_record.specs.declared.action.ExecutionPhase.TheVariants.{Setup, Bootstrap, BootstrapComplete, Running, ShutdownStarted, ShutdownGracePeriod, ShutdownRuntimes, Terminated}
@@ -24,6 +25,10 @@ pair = plan_of (listening [] (codes "127.0.0.1:80") ∷ listening [] (codes "127
 -- two services with one address
 abbrev shared : Plan
 shared = plan_of (listening [] (codes "127.0.0.1:80") ∷ listening [] (codes "127.0.0.1:80") ∷ [])
+
+-- one service, which bootstraps
+abbrev bootstrapping : Plan
+bootstrapping = plan_of (record database { kind = Bootstrapping } ∷ [])
 
 -- one service is started, and the run runs
 abbrev begun : Record
@@ -145,6 +150,18 @@ moment_wrong = (refl, refl)
 last_moment_wrong : IsRefusedBy plan (Told (Phase Terminated 1) ∷ Told (Stop 0) ∷ Told (Close 7) ∷ Told (Phase ShutdownRuntimes 0) ∷ Told (Phase ShutdownStarted 0) ∷ signalled) (Moment ∷ LastActions ∷ [])
 last_moment_wrong = (refl, refl)
 
+-- a phase after a moment carries none
+started_without_moment : IsRefusedBy plan (Told (Phase Terminated 5) ∷ Told (Stop 0) ∷ Told (Close 7) ∷ Told (Phase ShutdownRuntimes 5) ∷ Told (Phase ShutdownStarted 0) ∷ Got (Signal FastShutdown) ∷ Got (Time 5) ∷ bound) (Moment ∷ [])
+started_without_moment = (refl, refl)
+
+-- none of the last phases does
+end_without_moment : IsRefusedBy plan (ended (Told (Close 7) ∷ []) 0 (Got (Signal FastShutdown) ∷ Got (Time 5) ∷ bound)) (Moment ∷ LastActions ∷ [])
+end_without_moment = (refl, refl)
+
+-- a moment is before the last one
+moment_back : IsRefusedBy plan (Got (Time 4) ∷ Got (Time 5) ∷ begun) (EventFits ∷ [])
+moment_back = (refl, refl)
+
 -- `Running` isn't told
 running_left_out : IsRefusedBy plan (Told (Start 0) ∷ []) (Beginning ∷ [])
 running_left_out = (refl, refl)
@@ -220,6 +237,26 @@ ready_twice = (refl, refl)
 -- a service says that it is ready before it is started
 ready_unstarted : IsRefusedBy later (Got (Ready 1) ∷ begun) (EventFits ∷ [])
 ready_unstarted = (refl, refl)
+
+-- a service's work is done twice
+ended_twice : IsRefusedBy plan (Got (Ended 0) ∷ Told (Bind 1 0) ∷ Told (Start 1) ∷ Got (Ended 0) ∷ begun) (EventFits ∷ [])
+ended_twice = (refl, refl)
+
+-- the work of a service with an endpoint is done
+ended_of_listening : IsRefusedBy plan (Got (Ended 1) ∷ bound) (EventFits ∷ [])
+ended_of_listening = (refl, refl)
+
+-- that of a service that isn't started
+ended_unstarted : IsRefusedBy later (Got (Ended 1) ∷ begun) (EventFits ∷ [])
+ended_unstarted = (refl, refl)
+
+-- that of a service that bootstraps
+ended_of_bootstrapping : IsRefusedBy bootstrapping (Got (Ended 0) ∷ begun) (EventFits ∷ [])
+ended_of_bootstrapping = (refl, refl)
+
+-- a service isn't started though the work of what it waits for is done
+start_after_ended_left_out : IsRefusedBy plan (Got (Ended 0) ∷ begun) (Starts ∷ [])
+start_after_ended_left_out = (refl, refl)
 
 -- a descriptor comes though no bind is open
 bound_unasked : IsRefusedBy plan (Got (Bound 1 0 8) ∷ bound) (EventFits ∷ Closes ∷ OneLive ∷ Endpoints ∷ [])

@@ -1,25 +1,31 @@
 -- Which event may come after a record.
-use Rattle.std.specs.Prelude.{ℕ, Bool, true, ◌≡◌, not, ◌&&◌}
+use Rattle.std.specs.Prelude.{ℕ, Bool, true, ◌≡◌, ◌==◌, not, ◌&&◌, ◌||◌, length, nat_le}
 use Rattle.svc_record.specs.declared.plan.Plan.{Plan}
-use Rattle.svc_graph.specs.declared.plan.Kind.TheVariants.{Notifying}
+use Rattle.svc_graph.specs.declared.plan.Kind.TheVariants.{Plain, Notifying}
 use Rattle.svc_record.specs.declared.entry.Entry.{Entry}
 use Rattle.svc_record.specs.declared.entry.Entry.TheVariants.{Got}
 use Rattle.svc_record.specs.declared.event.Event.{Event}
-use Rattle.svc_record.specs.declared.event.Event.TheVariants.{Ready, Bound, Signal}
-use Rattle.svc_record.specs.Record.{Record, has, from_the_start}
-use Rattle.svc_record.specs.Plans.{has_kind}
+use Rattle.svc_record.specs.declared.event.Event.TheVariants.{Moment, Ready, Ended, Bound, Signal}
+use Rattle.svc_record.specs.Record.{Record, has, now, from_the_start}
+use Rattle.svc_record.specs.Plans.{has_kind, endpoints}
 use Rattle.svc_record.specs.Descriptors.{brings}
 use Rattle.svc_record.specs.Asks.{is_bind_open}
-use Rattle.svc_record.specs.Starts.{is_started, is_ready_event}
+use Rattle.svc_record.specs.Starts.{is_started, is_ready_event, is_ended_event}
 use Rattle.svc_record.specs.Ends.{has_ended}
 
 -- no earlier event brought the descriptor's number
 abbrev pub is_new : Record → ℕ → Bool
 is_new q fd = not (has (brings fd) q)
 
+-- the service takes no connections and doesn't bootstrap
+abbrev pub may_end : Plan → ℕ → Bool
+may_end p s = (has_kind p Plain s || has_kind p Notifying s) && length (endpoints p s) == 0
+
 -- the condition of each event
 abbrev pub fits_row : Plan → Record → Event → Bool
+fits_row p q (Moment ms) = nat_le (now q) ms
 fits_row p q (Ready s) = (has_kind p Notifying s && is_started q s) && not (has (is_ready_event s) q)
+fits_row p q (Ended s) = (may_end p s && is_started q s) && not (has (is_ended_event s) q)
 fits_row p q (Bound s i fd) = is_bind_open q s i && is_new q fd
 fits_row p q (Signal kind) = from_the_start q
 

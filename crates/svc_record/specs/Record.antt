@@ -5,7 +5,7 @@ use Rattle.svc_record.specs.declared.entry.Entry.TheVariants.{Got, Told}
 use Rattle.svc_record.specs.declared.action.Action.{Action}
 use Rattle.svc_record.specs.declared.action.Action.TheVariants.{Phase}
 use Rattle.svc_record.specs.declared.action.ExecutionPhase.TheVariants.{Running, Bootstrap, BootstrapComplete, ShutdownRuntimes}
-use Rattle.svc_record.specs.declared.event.Event.TheVariants.{Signal}
+use Rattle.svc_record.specs.declared.event.Event.TheVariants.{Moment, Signal}
 use Rattle.svc_record.specs.declared.event.ShutdownSignal.{ShutdownSignal}
 
 -- a record, the newest entry first
@@ -57,9 +57,10 @@ EachSettled P q = P q × EachEarlier P q
 abbrev pub each_settled : (Record → Bool) → Record → Bool
 each_settled test q = test q && each_earlier test q
 
--- the last moment that came, else 0: no event brings one yet. The moment of an entry e is `now (e ∷ before)`.
+-- the last moment that came, else 0. The moment of an entry e is `now (e ∷ before)`.
 abbrev pub now : Record → ℕ
 now [] = 0
+now (Got (Moment ms) ∷ before) = ms
 now (e ∷ before) = now before
 
 -- the entry tells the phase `Running`

@@ -5,7 +5,7 @@ use Rattle.svc_record.specs.declared.plan.Plan.{Plan}
 use Rattle.svc_graph.specs.declared.plan.Kind.TheVariants.{Plain}
 use Rattle.svc_record.specs.declared.entry.Entry.{Entry}
 use Rattle.svc_record.specs.declared.entry.Entry.TheVariants.{Got, Told}
-use Rattle.svc_record.specs.declared.event.Event.TheVariants.{Ready}
+use Rattle.svc_record.specs.declared.event.Event.TheVariants.{Ready, Ended}
 use Rattle.svc_record.specs.declared.action.Action.TheVariants.{Start}
 use Rattle.svc_record.specs.Record.{Record, has, times, EachEntry}
 use Rattle.svc_record.specs.Plans.{service_count, services, depends, has_kind}
@@ -21,13 +21,18 @@ abbrev pub is_ready_event : ℕ → Entry → Bool
 is_ready_event s (Got (Ready t)) = t == s
 is_ready_event s _ = false
 
+-- the event is `Ended` with this number
+abbrev pub is_ended_event : ℕ → Entry → Bool
+is_ended_event s (Got (Ended t)) = t == s
+is_ended_event s _ = false
+
 -- the service was started
 abbrev pub is_started : Record → ℕ → Bool
 is_started q s = has (is_start s) q
 
--- the service has failed, or its word came, or it is started and plain
+-- the service has failed, or its word came, or its work is done, or it is started and plain
 abbrev pub is_ready : Plan → Record → ℕ → Bool
-is_ready p q s = (has_failed p q s || has (is_ready_event s) q) || (is_started q s && has_kind p Plain s)
+is_ready p q s = (has_failed p q s || (has (is_ready_event s) q || has (is_ended_event s) q)) || (is_started q s && has_kind p Plain s)
 
 -- every dependency of the service is ready
 abbrev pub is_due : Plan → Record → ℕ → Bool

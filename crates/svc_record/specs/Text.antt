@@ -7,7 +7,7 @@ use Rattle.svc_record.specs.declared.event.ShutdownSignal.TheVariants.{FastShutd
 use Rattle.svc_record.specs.declared.action.ExecutionPhase.{ExecutionPhase}
 use Rattle.svc_record.specs.declared.action.ExecutionPhase.TheVariants.{Setup, Bootstrap, BootstrapComplete, Running, GracefulUpgradeTransferringFds, GracefulUpgradeCloseTimeout, GracefulTerminate, ShutdownStarted, ShutdownGracePeriod, ShutdownRuntimes, Terminated}
 use Rattle.svc_record.specs.declared.event.Event.{Event}
-use Rattle.svc_record.specs.declared.event.Event.TheVariants.{Ready, Bound, Signal}
+use Rattle.svc_record.specs.declared.event.Event.TheVariants.{Moment, Ready, Ended, Bound, Signal}
 use Rattle.svc_record.specs.declared.action.Action.{Action}
 use Rattle.svc_record.specs.declared.action.Action.TheVariants.{Start, Bind, Close, Phase, Stop}
 use Rattle.svc_record.specs.declared.entry.Entry.{Entry}
@@ -33,7 +33,9 @@ phase_word Terminated = codes "Terminated"
 
 -- the words of an event's line
 abbrev pub event_words : Event → List (List ℕ)
+event_words (Moment ms) = codes "moment" ∷ decimal ms ∷ []
 event_words (Ready s) = codes "ready" ∷ decimal s ∷ []
+event_words (Ended s) = codes "ended" ∷ decimal s ∷ []
 event_words (Bound s i fd) = codes "bound" ∷ decimal s ∷ decimal i ∷ decimal fd ∷ []
 event_words (Signal kind) = codes "signal" ∷ signal_word kind ∷ []
 
@@ -64,7 +66,9 @@ text_of entries = flat_map line_of entries
 
 -- the numbers of an event are those of its types
 abbrev pub EventFits : Event → Type 0
+EventFits (Moment ms) = ms < 2 ^ 64
 EventFits (Ready s) = s < 2 ^ 32
+EventFits (Ended s) = s < 2 ^ 32
 EventFits (Bound s i fd) = (s < 2 ^ 32) × (i < 2 ^ 32) × (fd < 2 ^ 64)
 EventFits (Signal kind) = Unit {0}
 

@@ -10,8 +10,12 @@ pub enum ShutdownSignal {
 /// What the host tells the core.
 #[derive(Clone, Copy, PartialEq, Eq, Debug)]
 pub enum Event {
+    /// The time: so many milliseconds since the host was made.
+    Moment(u64),
     /// The service says that it is ready.
     Ready(u32),
+    /// The service's work is done.
+    Ended(u32),
     /// The bind of the service's endpoint brought this descriptor.
     Bound(u32, u32, u64),
     Signal(ShutdownSignal),
@@ -38,7 +42,9 @@ impl fmt::Display for Event {
 
     fn fmt<W: fmt::Write>(&self, f: &mut fmt::Formatter<W>) -> fmt::Result {
         match self {
+            Event::Moment(ms) => write!(f, "moment {ms}"),
             Event::Ready(s) => write!(f, "ready {s}"),
+            Event::Ended(s) => write!(f, "ended {s}"),
             Event::Bound(s, i, fd) => write!(f, "bound {s} {i} {fd}"),
             Event::Signal(kind) => write!(f, "signal {kind}"),
         }

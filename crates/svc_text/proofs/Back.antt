@@ -14,13 +14,13 @@ use Rattle.svc_record.specs.declared.action.ExecutionPhase.{ExecutionPhase}
 use Rattle.svc_record.specs.declared.action.ExecutionPhase.TheVariants.{Setup, Bootstrap, BootstrapComplete, Running, GracefulUpgradeTransferringFds, GracefulUpgradeCloseTimeout, GracefulTerminate, ShutdownStarted, ShutdownGracePeriod, ShutdownRuntimes, Terminated}
 use Rattle.svc_record.specs.declared.event.ShutdownSignal.TheVariants.{FastShutdown}
 use Rattle.svc_record.specs.declared.event.Event.{Event}
-use Rattle.svc_record.specs.declared.event.Event.TheVariants.{Ready, Bound, Signal}
+use Rattle.svc_record.specs.declared.event.Event.TheVariants.{Moment, Ready, Ended, Bound, Signal}
 use Rattle.svc_record.specs.declared.action.Action.{Action}
 use Rattle.svc_record.specs.declared.action.Action.TheVariants.{Start, Bind, Close, Phase, Stop}
 use Rattle.svc_record.specs.declared.entry.Entry.{Entry}
 use Rattle.svc_record.specs.declared.entry.Entry.TheVariants.{Got, Told}
 use Rattle.svc_record.specs.Text.{phase_word, event_words, action_words, entry_words, spaced, line_of, text_of, EventFits, ActionFits, EntryFits}
-use Rattle.svc_text.specs.EventLines.{only_of, three_of, signal_of, ready_of, bound_of, signalled_of, event_of}
+use Rattle.svc_text.specs.EventLines.{only_of, three_of, signal_of, moment_of, ready_of, ended_of, bound_of, signalled_of, event_of}
 use Rattle.svc_text.proofs.Visible.{IsWord, decimal_word, words_spaced, spaced_printable, line_back}
 
 n32 : (n : ℕ) → n < 2 ^ 32 → number_of (2 ^ 32) (decimal n) ≡ Some n
@@ -30,8 +30,10 @@ n64 : (n : ℕ) → n < 2 ^ 64 → number_of (2 ^ 64) (decimal n) ≡ Some n
 n64 n h = number_of-decimal (2 ^ 64) n (omega arith) h
 
 pub event_back : (e : Event) → EventFits e → event_of (event_words e) ≡ Some e
-unfolding event_of ready_of bound_of signalled_of signal_of only_of three_of
+unfolding event_of moment_of ready_of ended_of bound_of signalled_of signal_of only_of three_of
+event_back (Moment ms) h = rw (n64 ms h) refl
 event_back (Ready s) h = rw (n32 s h) refl
+event_back (Ended s) h = rw (n32 s h) refl
 event_back (Bound s i fd) h = rw (n32 s h.0, n32 i h.1, n64 fd h.2) refl
 event_back (Signal FastShutdown) h = refl
 
@@ -113,7 +115,9 @@ d32 : (n : ℕ) → n < 2 ^ 32 → IsWord (decimal n)
 d32 n h = decimal_word n (omega arith)
 
 event_fits : (e : Event) → EventFits e → AllByRecursion IsWord (event_words e)
+event_fits (Moment ms) h = (record { visible = refl; some = omega arith }, (decimal_word ms h, tt))
 event_fits (Ready s) h = (record { visible = refl; some = omega arith }, (d32 s h, tt))
+event_fits (Ended s) h = (record { visible = refl; some = omega arith }, (d32 s h, tt))
 event_fits (Bound s i fd) h = (record { visible = refl; some = omega arith }, (d32 s h.0, (d32 i h.1, (decimal_word fd h.2, tt))))
 event_fits (Signal FastShutdown) h = (record { visible = refl; some = omega arith }, (record { visible = refl; some = omega arith }, tt))
 

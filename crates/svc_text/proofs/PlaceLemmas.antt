@@ -54,7 +54,9 @@ skipped_event ((b ∷ w) ∷ ws) h =
     let e1 : eqb b 114 ≡ false = ap (λ (x : ℕ). eqb x 114) e in
     let e2 : eqb b 98 ≡ false = ap (λ (x : ℕ). eqb x 98) e in
     let e3 : eqb b 115 ≡ false = ap (λ (x : ℕ). eqb x 115) e in
-    rw (e1, e2, e3) refl
+    let e4 : eqb b 109 ≡ false = ap (λ (x : ℕ). eqb x 109) e in
+    let e5 : eqb b 101 ≡ false = ap (λ (x : ℕ). eqb x 101) e in
+    rw (e1, e2, e3, e4, e5) refl
 
 pub header_says : (n : ℕ) (line : List ℕ) (p : Part) → header_of line ≡ Some p → (said_services n line ≡ []) × (said_events n line ≡ [])
 unfolding said_services said_events

@@ -5,7 +5,7 @@ use Rattle.svc_text.specs.Words.{◌>>=◌, number_of}
 use Rattle.svc_record.specs.declared.event.ShutdownSignal.{ShutdownSignal}
 use Rattle.svc_record.specs.declared.event.ShutdownSignal.TheVariants.{FastShutdown}
 use Rattle.svc_record.specs.declared.event.Event.{Event}
-use Rattle.svc_record.specs.declared.event.Event.TheVariants.{Ready, Bound, Signal}
+use Rattle.svc_record.specs.declared.event.Event.TheVariants.{Moment, Ready, Ended, Bound, Signal}
 
 -- the one word that there is
 unfoldable pub only_of : List (List ℕ) → Option (List ℕ)
@@ -21,12 +21,26 @@ three_of _ = None
 unfoldable pub signal_of : List ℕ → Option ShutdownSignal
 signal_of word = if bytes_eq word (codes "fast") then Some FastShutdown else None
 
+-- what follows the word `moment`
+unfoldable pub moment_of : List (List ℕ) → Option Event
+moment_of args = do
+  word ← only_of args
+  ms ← number_of (2 ^ 64) word
+  Some (Moment ms)
+
 -- what follows the word `ready`
 unfoldable pub ready_of : List (List ℕ) → Option Event
 ready_of args = do
   s ← only_of args
   service ← number_of (2 ^ 32) s
   Some (Ready service)
+
+-- what follows the word `ended`
+unfoldable pub ended_of : List (List ℕ) → Option Event
+ended_of args = do
+  s ← only_of args
+  service ← number_of (2 ^ 32) s
+  Some (Ended service)
 
 -- what follows the word `bound`
 unfoldable pub bound_of : List (List ℕ) → Option Event
@@ -48,6 +62,8 @@ signalled_of args = do
 unfoldable pub event_of : List (List ℕ) → Option Event
 event_of [] = None
 event_of (key ∷ args) =
-    if bytes_eq key (codes "ready") then ready_of args
+    if bytes_eq key (codes "moment") then moment_of args
+    else (if bytes_eq key (codes "ready") then ready_of args
+    else (if bytes_eq key (codes "ended") then ended_of args
     else (if bytes_eq key (codes "bound") then bound_of args
-    else (if bytes_eq key (codes "signal") then signalled_of args else None))
+    else (if bytes_eq key (codes "signal") then signalled_of args else None))))

@@ -3,7 +3,7 @@
 ghost use Rattle.std.specs.Prelude.{◌≡◌, ◌^◌};
 ghost use Rattle.std.specs.Option.{option_copied, option_map};
 ghost use Rattle.svc_text.specs.Words.{words, number_of};
-ghost use Rattle.svc_text.specs.EventLines.{only_of, three_of, signal_of, ready_of, bound_of, signalled_of, event_of};
+ghost use Rattle.svc_text.specs.EventLines.{only_of, three_of, signal_of, moment_of, ready_of, ended_of, bound_of, signalled_of, event_of};
 
 use crate::cuts::split_word;
 use crate::numbers::{number, number32};
@@ -46,12 +46,28 @@ fn three_of(line: &[u8]) -> Option<(&[u8], &[u8], &[u8])>
     }
 }
 
+#[tactic(auto, unfolding(crate::specs::EventLines::moment_of))]
+fn moment_of(args: &[u8]) -> Option<Event>
+    ensures { result ≡ moment_of (words args.now) }
+{
+    let word = only_of(args)?;
+    Some(Event::Moment(number(word)?))
+}
+
 #[tactic(auto, unfolding(crate::specs::EventLines::ready_of))]
 fn ready_of(args: &[u8]) -> Option<Event>
     ensures { result ≡ ready_of (words args.now) }
 {
     let word = only_of(args)?;
     Some(Event::Ready(number32(word)?))
+}
+
+#[tactic(auto, unfolding(crate::specs::EventLines::ended_of))]
+fn ended_of(args: &[u8]) -> Option<Event>
+    ensures { result ≡ ended_of (words args.now) }
+{
+    let word = only_of(args)?;
+    Some(Event::Ended(number32(word)?))
 }
 
 #[tactic(auto, unfolding(crate::specs::EventLines::bound_of))]
@@ -78,8 +94,12 @@ pub fn event_of_line(line: &[u8]) -> Option<Event>
     ensures { result ≡ event_of (words line.now) }
 {
     let (key, args) = split_word(line)?;
-    if key == b"ready".as_slice() {
+    if key == b"moment".as_slice() {
+        moment_of(args)
+    } else if key == b"ready".as_slice() {
         ready_of(args)
+    } else if key == b"ended".as_slice() {
+        ended_of(args)
     } else if key == b"bound".as_slice() {
         bound_of(args)
     } else if key == b"signal".as_slice() {

@@ -14,13 +14,15 @@ fn refused_line(alloc: Global, bytes: &[u8]) -> Option<usize> {
 #[test]
 fn reads_a_script(rt: HostRuntime) -> Result<(), Fail> {
     let text =
-        b"\n# first\n%conf\n# none\n\n%services\n db notify\r\n\n#x\napi\tplain tcp 127.0.0.1:80 after 0,0\nweb plain after 1 \n%events\nready 0\n\tbound 1 0 18446744073709551615\n# end\nsignal fast";
+        b"\n# first\n%conf\n# none\n\n%services\n db notify\r\n\n#x\napi\tplain tcp 127.0.0.1:80 after 0,0\nweb plain after 1 \n%events\nmoment 18446744073709551615\nready 0\n ended 4294967295\n\tbound 1 0 18446744073709551615\n# end\nsignal fast";
     let script = parse(rt.alloc(), text).ok().ok_or("a script")?;
     assert_eq!(rt; script.lines.as_slice(), [7usize, 10, 11].as_slice());
     assert_eq!(rt;
         script.events.as_slice(),
         [
+            Event::Moment(18_446_744_073_709_551_615),
             Event::Ready(0),
+            Event::Ended(4_294_967_295),
             Event::Bound(1, 0, 18_446_744_073_709_551_615),
             Event::Signal(ShutdownSignal::FastShutdown)
         ]
@@ -75,7 +77,14 @@ fn names_the_first_refused_line(rt: HostRuntime) {
             4,
         ),
         (b"%conf\n%services\n%events\nsignal terminate\n", 4),
-        (b"%conf\n%services\n%events\nmoment 1\n", 4),
+        (
+            b"%conf\n%services\n%events\nmoment 18446744073709551616\n",
+            4,
+        ),
+        (b"%conf\n%services\n%events\nmoment\n", 4),
+        (b"%conf\n%services\n%events\nmoment 1 2\n", 4),
+        (b"%conf\n%services\n%events\nended 4294967296\n", 4),
+        (b"%conf\n%services\n%events\nended 00\n", 4),
         (b"%conf\n%services\n%events\nfault\n", 4),
         (b"%conf\n%services\n%events\n\nredy 0\nsignal fast\n", 5),
         (b"%conf\n%services\n%events\n%events\n", 4),
@@ -115,6 +124,8 @@ fn prints_a_record(rt: HostRuntime) -> Result<(), Fail> {
         Entry::Told(Action::Start(0)),
         Entry::Told(Action::Phase(ExecutionPhase::Running, 0)),
         Entry::Got(Event::Ready(0)),
+        Entry::Got(Event::Moment(5)),
+        Entry::Got(Event::Ended(0)),
         Entry::Told(Action::Bind(1, 0)),
         Entry::Got(Event::Bound(1, 0, 7)),
         Entry::Got(Event::Signal(ShutdownSignal::FastShutdown)),
@@ -125,7 +136,7 @@ fn prints_a_record(rt: HostRuntime) -> Result<(), Fail> {
     let text = record_text(rt.alloc(), &entries)?;
     assert_eq!(rt;
         text.as_str(),
-        "start 0\nphase Running 0\ngot ready 0\nbind 1 0\ngot bound 1 0 7\ngot signal fast\nphase ShutdownStarted 0\nclose 7\nstop 0\n"
+        "start 0\nphase Running 0\ngot ready 0\ngot moment 5\ngot ended 0\nbind 1 0\ngot bound 1 0 7\ngot signal fast\nphase ShutdownStarted 0\nclose 7\nstop 0\n"
     );
     Ok(())
 }
