@@ -260,6 +260,7 @@ impl<S> Model for Plain<S> {
 }
 
 impl<S: Service> Plain<S> {
+    /// The service as the server takes it.
     pub fn new(inner: S) -> Self
         ensures { result ≡ inner }
     {
