@@ -1,0 +1,3 @@
+pub mod BoxLemmas
+pub mod TellLemmas
+pub mod CloseLemmas
