@@ -1,3 +1,5 @@
 pub mod BoxLemmas
 pub mod TellLemmas
 pub mod CloseLemmas
+pub mod AnswerOfStep
+pub mod TurnLemmas

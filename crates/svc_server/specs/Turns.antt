@@ -9,11 +9,13 @@ use Rattle.svc_record.specs.Right.{Right}
 use Rattle.svc_core.specs.CoreData.{CoreData}
 use Rattle.svc_core.specs.Stands.{StandsFor}
 use Rattle.svc_core.specs.Rooms.{close_room}
-use Rattle.svc_server.specs.Hosts.{Account, IsEven}
+use Rattle.svc_conf.specs.Streams.{Rose}
+use Rattle.svc_server.specs.Hosts.{Account, IsEven, Counts}
 use Rattle.svc_server.specs.Handing.{Hands, IsToldAs}
 use Rattle.svc_server.specs.Runs.{event_count, RunEnds}
 use Rattle.svc_server.specs.declared.run.Outcome.{Outcome}
 use Rattle.svc_server.specs.declared.run.RunError.{RunError}
+use Rattle.svc_server.specs.declared.run.RunError.TheVariants.{HostFault, OutOfEvents}
 
 -- there is room for a close of all, and nothing was handed over that wasn't started
 pub record MayClose (core : CoreData) (closing : List Action × ℕ) (room : ℕ) (account : Option Account) : Type 0 where
@@ -39,3 +41,15 @@ abbrev pub TurnGives : CoreData → List (Option (List ℕ)) → Option Account 
 TurnGives core names account turns k (Ok None) = (q : Record) × IsAt core names account (k + 1) q
 TurnGives core names account turns k (Ok (Some outcome)) = HasEnded core.plan turns account (Ok outcome)
 TurnGives core names account turns k (Err e) = HasEnded core.plan turns account (Err e)
+
+-- a turn counts a fault or an idle answer exactly where it ends so
+abbrev pub TurnCounts : Result (Option Outcome) RunError → Counts → Counts → Type 0
+TurnCounts (Err HostFault) before after = Rose before.faults after.faults
+TurnCounts (Err OutOfEvents) before after = Rose before.idles after.idles
+TurnCounts _ before after = (after.faults ≡ before.faults) × (after.idles ≡ before.idles)
+
+-- a run counts a fault or an idle answer where it ends so
+abbrev pub RunCounts : Result Outcome RunError → Counts → Counts → Type 0
+RunCounts (Err HostFault) before after = Rose before.faults after.faults
+RunCounts (Err OutOfEvents) before after = Rose before.idles after.idles
+RunCounts _ before after = Unit {0}

@@ -1,6 +1,6 @@
 //! The turns of a run: events are taken one by one until an answer.
 
-ghost use Rattle.std.specs.Prelude.{◌≡◌, ◌<◌, ◌≤◌, ◌+◌, ◌*◌, ◌∷◌, [], true, length, List, ℕ, Option, Some, None, IfOk, OnOk, OnErr};
+ghost use Rattle.std.specs.Prelude.{◌≡◌, ◌≢◌, ◌<◌, ◌≤◌, ◌+◌, ◌*◌, ◌∷◌, [], true, false, Err, length, List, ℕ, Option, Some, None, IfOk, OnOk, OnErr};
 ghost use Rattle.std.specs.Option.{option_copied};
 ghost use Rattle.svc_conf.specs.Items.{list_of, spare};
 ghost use Rattle.svc_record.specs.declared.plan.Plan.{Plan};
@@ -14,7 +14,10 @@ ghost use Rattle.svc_core.specs.Rooms.{close_room, step_room};
 ghost use Rattle.svc_server.specs.Hosts.{IsEven};
 ghost use Rattle.svc_server.specs.Boxes.{names_by};
 ghost use Rattle.svc_server.specs.Handing.{Hands, IsToldAs};
-ghost use Rattle.svc_server.specs.Turns.{MayClose, IsAt, TurnGives};
+ghost use Rattle.svc_record.specs.Ends.{has_ended};
+ghost use Rattle.svc_server.specs.Runs.{event_count};
+ghost use Rattle.svc_server.specs.Turns.{MayClose, IsAt, TurnGives, TurnCounts};
+ghost use Rattle.svc_server.specs.declared.run.RunError.TheVariants.{HostFault, OutOfEvents};
 
 use crate::boxes::Boxes;
 use crate::handing::tell_all;
@@ -45,5 +48,76 @@ impl Machine {
     {
         self.core.close_all(also, &mut self.closing);
         tell_all(&mut self.boxes, host, self.closing.as_slice());
+    }
+
+    /// One event that fits. After `NoMemory` nothing has changed.
+    fn step<H: Host>(&mut self, alloc: Global, event: &Event, host: &mut H) -> Result<StepEnd, NoMemory>
+        requires fits { MayCome self.old.core event.now }
+        requires empty { list_of self.old.closing ≡ [] }
+        requires closes { step_room self.old.core ≤ spare self.old.closing }
+        requires tells { 2 * step_room self.old.core ≤ H.spare host.old }
+        requires even { IsEven (H.account host.old) }
+        ensures plan { self.new.core.plan ≡ self.old.core.plan }
+        ensures counts { H.counts host.new ≡ H.counts host.old }
+        ensures ready { MayClose self.new.core self.new.closing (H.spare host.new) (H.account host.new) }
+        ensures core { OnErr result (self.new.core ≡ self.old.core) }
+        ensures boxes { OnErr result (names_by (λ s. named s) self.new.boxes.boxes.items ≡ names_by (λ s. named s) self.old.boxes.boxes.items) }
+        ensures account { OnErr result (H.account host.new ≡ H.account host.old) }
+        ensures leads { IfOk result (λ end. (q : Record) → StandsFor self.old.core q → Right self.old.core.plan q
+            → Hands self.old.core.plan (Got event.now ∷ q) (names_by (λ s. named s) self.old.boxes.boxes.items) (H.account host.old)
+            → (told : List Action) × (StepRight self.new.core (tell (Got event.now ∷ q) told) end
+                × Hands self.new.core.plan (tell (Got event.now ∷ q) told) (names_by (λ s. named s) self.new.boxes.boxes.items) (H.account host.new))) }
+    {
+        let mut actions = Actions::new(alloc);
+        let end = self.core.step(alloc, event, true, &mut actions)?;
+        tell_all(&mut self.boxes, host, actions.as_slice());
+        Ok(end)
+    }
+
+    /// Makes room for one more event, for what its step tells and hands over, and for a close of all
+    /// after it.
+    fn make_room<H: Host>(&mut self, alloc: Global, host: &mut H) -> Result<(), NoMemory>
+        requires { MayClose self.old.core self.old.closing (H.spare host.old) (H.account host.old) }
+        ensures core { self.new.core ≡ self.old.core }
+        ensures boxes { names_by (λ s. named s) self.new.boxes.boxes.items ≡ names_by (λ s. named s) self.old.boxes.boxes.items }
+        ensures account { H.account host.new ≡ H.account host.old }
+        ensures counts { H.counts host.new ≡ H.counts host.old }
+        ensures ready { MayClose self.new.core self.new.closing (H.spare host.new) (H.account host.new) }
+        ensures closes { OnOk result (step_room self.new.core ≤ spare self.new.closing) }
+        ensures tells { OnOk result (2 * step_room self.new.core + 1 ≤ H.spare host.new) }
+    {
+        let room = self.core.step_room();
+        let Some(wanted) = room.checked_mul(2).and_then(|n| n.checked_add(1)) else {
+            return Err(NoMemory);
+        };
+        self.closing.reserve(alloc, room)?;
+        host.reserve(alloc, wanted)
+    }
+
+    /// The event that was taken, as the one of this number, counted from 1.
+    fn take<H: Host>(&mut self, alloc: Global, event: Event, number: u64, host: &mut H) -> Result<Option<Outcome>, RunError>
+        requires ready { MayClose self.old.core self.old.closing (H.spare host.old) (H.account host.old) }
+        requires closes { step_room self.old.core ≤ spare self.old.closing }
+        requires tells { 2 * step_room self.old.core ≤ H.spare host.old }
+        ensures plan { self.new.core.plan ≡ self.old.core.plan }
+        ensures counts { H.counts host.new ≡ H.counts host.old }
+        ensures ready { IfOk result (λ end. end ≡ None → MayClose self.new.core self.new.closing (H.spare host.new) (H.account host.new)) }
+        ensures ends { (result ≢ Err HostFault) × (result ≢ Err OutOfEvents) }
+        ensures gives { (q : Record) (turns : ℕ) → StandsFor self.old.core q → Right self.old.core.plan q → has_ended self.old.core.plan q ≡ false → number ≡ event_count q + 1
+            → Hands self.old.core.plan (Got event ∷ q) (names_by (λ s. named s) self.old.boxes.boxes.items) (H.account host.old)
+            → TurnGives self.new.core (names_by (λ s. named s) self.new.boxes.boxes.items) (H.account host.new) turns (event_count q) result }
+    {
+        if !self.core.fits(&event) {
+            self.close_all(Some(&event), host);
+            return Err(RunError::Stray(number));
+        }
+        match self.step(alloc, &event, host) {
+            Ok(StepEnd::On) => Ok(None),
+            Ok(StepEnd::Served) => Ok(Some(Outcome::Served)),
+            Err(NoMemory) => {
+                self.close_all(Some(&event), host);
+                Err(RunError::NoMemory)
+            }
+        }
     }
 }
