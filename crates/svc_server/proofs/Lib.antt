@@ -3,3 +3,4 @@ pub mod TellLemmas
 pub mod CloseLemmas
 pub mod AnswerOfStep
 pub mod TurnLemmas
+pub mod EventLemmas

@@ -16,7 +16,7 @@ ghost use Rattle.svc_server.specs.Boxes.{names_by};
 ghost use Rattle.svc_server.specs.Handing.{Hands, IsToldAs};
 ghost use Rattle.svc_record.specs.Ends.{has_ended};
 ghost use Rattle.svc_server.specs.Runs.{event_count};
-ghost use Rattle.svc_server.specs.Turns.{MayClose, IsAt, TurnGives, TurnCounts};
+ghost use Rattle.svc_server.specs.Turns.{MayClose, IsAt, TurnGives, TurnCounts, RunCounts, HasEnded};
 ghost use Rattle.svc_server.specs.declared.run.RunError.TheVariants.{HostFault, OutOfEvents};
 
 use crate::boxes::Boxes;
@@ -119,5 +119,50 @@ impl Machine {
                 Err(RunError::NoMemory)
             }
         }
+    }
+
+    /// One turn, with the event of this number, counted from 1.
+    fn turn<H: Host>(&mut self, alloc: Global, number: u64, host: &mut H) -> Result<Option<Outcome>, RunError>
+        requires { MayClose self.old.core self.old.closing (H.spare host.old) (H.account host.old) }
+        ensures plan { self.new.core.plan ≡ self.old.core.plan }
+        ensures counts { TurnCounts result (H.counts host.old) (H.counts host.new) }
+        ensures ready { IfOk result (λ end. end ≡ None → MayClose self.new.core self.new.closing (H.spare host.new) (H.account host.new)) }
+        ensures gives { (q : Record) (turns : ℕ) → IsAt self.old.core (names_by (λ s. named s) self.old.boxes.boxes.items) (H.account host.old) (event_count q) q → number ≡ event_count q + 1
+            → TurnGives self.new.core (names_by (λ s. named s) self.new.boxes.boxes.items) (H.account host.new) turns (event_count q) result }
+    {
+        if self.make_room(alloc, host).is_err() {
+            self.close_all(None, host);
+            return Err(RunError::NoMemory);
+        }
+        match host.next() {
+            Next::Event => {
+                let event = *host.event();
+                self.take(alloc, event, number, host)
+            }
+            Next::None => {
+                self.close_all(None, host);
+                Err(RunError::OutOfEvents)
+            }
+            Next::Failed => {
+                self.close_all(None, host);
+                Err(RunError::HostFault)
+            }
+        }
+    }
+
+    /// Takes so many turns, until an answer.
+    pub(crate) fn take_turns<H: Host>(&mut self, alloc: Global, turns: u64, host: &mut H) -> Result<Outcome, RunError>
+        requires { MayClose self.old.core self.old.closing (H.spare host.old) (H.account host.old) }
+        ensures plan { self.new.core.plan ≡ self.old.core.plan }
+        ensures counts { RunCounts result (H.counts host.old) (H.counts host.new) }
+        ensures gives { (q : Record) → IsAt self.old.core (names_by (λ s. named s) self.old.boxes.boxes.items) (H.account host.old) 0 q → HasEnded self.old.core.plan turns (H.account host.new) result }
+    {
+        for number in 0..turns {
+            if let Some(outcome) = self.turn(alloc, number + 1, host)? {
+                return Ok(outcome);
+            }
+        }
+        self.close_all(None, host);
+        Err(RunError::TurnsSpent)
     }
 }
