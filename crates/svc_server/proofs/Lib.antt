@@ -4,3 +4,4 @@ pub mod CloseLemmas
 pub mod AnswerOfStep
 pub mod TurnLemmas
 pub mod EventLemmas
+pub mod RunLemmas

@@ -3,19 +3,19 @@
 ghost use Rattle.std.specs.Prelude.{◌≡◌, ◌≢◌, ◌<◌, ◌≤◌, ◌+◌, ◌*◌, ◌∷◌, [], true, false, Err, length, List, ℕ, Option, Some, None, IfOk, OnOk, OnErr};
 ghost use Rattle.std.specs.Option.{option_copied};
 ghost use Rattle.svc_conf.specs.Items.{list_of, spare};
-ghost use Rattle.svc_record.specs.declared.plan.Plan.{Plan};
+ghost use Rattle.svc_record.specs.Validity.{IsValid, IsBuilt};
 ghost use Rattle.svc_record.specs.declared.action.Action.{Action};
 ghost use Rattle.svc_record.specs.declared.entry.Entry.TheVariants.{Got, Told};
 ghost use Rattle.svc_record.specs.Record.{Record, tell};
 ghost use Rattle.svc_record.specs.Right.{Right};
 ghost use Rattle.svc_record.specs.Tail.{with_event, closing_actions, tail_right};
-ghost use Rattle.svc_core.specs.Stands.{StandsFor, StepRight, MayCome};
+ghost use Rattle.svc_core.specs.Stands.{StandsFor, StepRight, MayCome, HasNotBegun};
 ghost use Rattle.svc_core.specs.Rooms.{close_room, step_room};
 ghost use Rattle.svc_server.specs.Hosts.{IsEven};
 ghost use Rattle.svc_server.specs.Boxes.{names_by};
-ghost use Rattle.svc_server.specs.Handing.{Hands, IsToldAs};
+ghost use Rattle.svc_server.specs.Handing.{Hands, IsToldAs, AreLeft};
 ghost use Rattle.svc_record.specs.Ends.{has_ended};
-ghost use Rattle.svc_server.specs.Runs.{event_count};
+ghost use Rattle.svc_server.specs.Runs.{event_count, RunTells};
 ghost use Rattle.svc_server.specs.Turns.{MayClose, IsAt, TurnGives, TurnCounts, RunCounts, HasEnded};
 ghost use Rattle.svc_server.specs.declared.run.RunError.TheVariants.{HostFault, OutOfEvents};
 
@@ -26,7 +26,7 @@ use crate::run::{Outcome, RunError};
 use std::alloc::Global;
 use svc_conf::NoMemory;
 use svc_core::Core;
-use svc_record::{Actions, Event, StepEnd};
+use svc_record::{Actions, Event, Plan, StepEnd};
 
 /// A core at work, with the boxes that are left, and room for what a close of all tells.
 #[derive(Drop)]
@@ -164,5 +164,55 @@ impl Machine {
         }
         self.close_all(None, host);
         Err(RunError::TurnsSpent)
+    }
+
+    /// The first step, with what it tells. After `NoMemory` nothing was told.
+    fn begin<H: Host>(&mut self, alloc: Global, host: &mut H) -> Result<StepEnd, NoMemory>
+        requires first { HasNotBegun self.old.core }
+        requires empty { list_of self.old.closing ≡ [] }
+        requires even { IsEven (H.account host.old) }
+        ensures plan { IfOk result (λ _. self.new.core.plan ≡ self.old.core.plan) }
+        ensures counts { H.counts host.new ≡ H.counts host.old }
+        ensures account { OnErr result (H.account host.new ≡ H.account host.old) }
+        ensures ready { OnOk result (MayClose self.new.core self.new.closing (H.spare host.new) (H.account host.new)) }
+        ensures leads { IfOk result (λ end. Hands self.old.core.plan [] (names_by (λ s. named s) self.old.boxes.boxes.items) (H.account host.old)
+            → (told : List Action) × (StepRight self.new.core (tell [] told) end
+                × Hands self.new.core.plan (tell [] told) (names_by (λ s. named s) self.new.boxes.boxes.items) (H.account host.new))) }
+    {
+        let room = self.core.step_room();
+        let Some(wanted) = room.checked_mul(2) else {
+            return Err(NoMemory);
+        };
+        self.closing.reserve(alloc, room)?;
+        host.reserve(alloc, wanted)?;
+        let mut actions = Actions::new(alloc);
+        let end = self.core.begin(alloc, &mut actions)?;
+        tell_all(&mut self.boxes, host, actions.as_slice());
+        Ok(end)
+    }
+}
+
+/// Runs the plan over the host, for so many turns at most. The boxes are those of its services.
+pub(crate) fn run_plan<H: Host>(alloc: Global, plan: Plan, boxes: Boxes, turns: u64, host: &mut H) -> Result<Outcome, RunError>
+    requires valid { IsValid plan }
+    requires built { IsBuilt plan }
+    requires boxes { AreLeft plan [] (names_by (λ s. named s) boxes.boxes.items) }
+    requires fresh { IsToldAs plan [] (H.account host.old) }
+    ensures counts { RunCounts result (H.counts host.old) (H.counts host.new) }
+    ensures tells { RunTells plan turns result (H.account host.new) }
+{
+    let Ok(core) = Core::new(alloc, plan) else {
+        return Err(RunError::NoMemory);
+    };
+    let closing = Actions::new(alloc);
+    let mut machine = Machine {
+        core,
+        boxes,
+        closing,
+    };
+    match machine.begin(alloc, host) {
+        Ok(StepEnd::On) => machine.take_turns(alloc, turns, host),
+        Ok(StepEnd::Served) => Ok(Outcome::Served),
+        Err(NoMemory) => Err(RunError::NoMemory),
     }
 }
