@@ -12,3 +12,4 @@ pub mod StepLemmas
 pub mod BeginLemmas
 pub mod FitsLemmas
 pub mod TailLemmas
+pub mod CloseCounts

@@ -275,6 +275,7 @@ impl Core {
     pub fn close_all(&self, also: Option<&Event>, actions: &mut Actions)
         requires room { close_need self.now (option_copied also) ≤ spare actions.old }
         ensures closes { (q : Record) → StandsFor self.now q → ClosesAll self.now.plan q (option_copied also.entry) (list_of actions.old) (list_of actions.new) }
+        ensures few { length (list_of actions.new) ≤ length (list_of actions.old) + close_need self.now (option_copied also.entry) }
     {
         self.close_open(actions);
         if let Some(event) = also {
