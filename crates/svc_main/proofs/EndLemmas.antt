@@ -8,7 +8,7 @@ use Rattle.svc_record.specs.declared.plan.Plan.{Plan}
 use Rattle.svc_record.specs.declared.entry.Entry.{Entry}
 use Rattle.svc_record.specs.declared.entry.Entry.TheVariants.{Got, Told}
 use Rattle.svc_record.specs.declared.event.Event.{Event}
-use Rattle.svc_record.specs.declared.event.Event.TheVariants.{Ready, Bound, Signal}
+use Rattle.svc_record.specs.declared.event.Event.TheVariants.{Moment, Ready, Ended, Bound, Signal}
 use Rattle.svc_record.specs.declared.event.ShutdownSignal.{ShutdownSignal}
 use Rattle.svc_record.specs.declared.event.ShutdownSignal.TheVariants.{FastShutdown}
 use Rattle.svc_record.specs.Record.{Record, first_or, signal_of}
@@ -100,6 +100,8 @@ signalled [] front h = absurd (omega (arith, ap length h, length-append front (S
 signalled (Told a ∷ q) front h = signalled q front (sym (append-nil (events_of (reverse q))) ∙ (sym (events_of-newest (Told a) q) ∙ h))
 signalled (Got (Signal kind) ∷ q) front h = first_or-some (signal_of q) kind
 signalled (Got (Ready s) ∷ q) front h = absurd (false≢true (ap is_signal_event (last_is (Ready s) q front h)))
+signalled (Got (Moment ms) ∷ q) front h = absurd (false≢true (ap is_signal_event (last_is (Moment ms) q front h)))
+signalled (Got (Ended s) ∷ q) front h = absurd (false≢true (ap is_signal_event (last_is (Ended s) q front h)))
 signalled (Got (Bound s i fd) ∷ q) front h = absurd (false≢true (ap is_signal_event (last_is (Bound s i fd) q front h)))
 
 passed_by : (p : Plan) (q : Record) (o : Option ShutdownSignal) → is_some_signal o ≡ true → has_passed_by p q o ≡ true
