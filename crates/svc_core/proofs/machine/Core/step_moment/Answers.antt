@@ -1,5 +1,4 @@
-use Rattle.std.proofs.Common.{List, subst}
-use Rattle.svc_record.specs.declared.action.Action.{Action}
+use Rattle.std.proofs.Common.{subst}
 use Rattle.svc_record.specs.declared.action.StepEnd.TheVariants.{On}
 use Rattle.svc_record.specs.declared.event.Event.TheVariants.{Moment}
 use Rattle.svc_core.specs.CoreData.{CoreData}
