@@ -1,2 +1,5 @@
+pub mod Configuration
 pub mod Items
+pub mod Keys
+pub mod OptionalNumbers
 pub mod Streams

@@ -2,8 +2,10 @@
 //! sinks of bytes that count their faults.
 #![tactic(auto)]
 
+mod equality;
 mod items;
 mod memory;
+pub mod server;
 mod settings;
 mod sink;
 mod source;
@@ -12,6 +14,9 @@ mod text;
 
 pub use items::{Bytes, ItemRefused, Items, Numbers, Reserved, Settings, Texts};
 pub use memory::NoMemory;
+pub use server::configuration::{
+    Key, Opt, RuntimeMetricsOpts, RuntimeMetricsPollTimeHistogramScale, RuntimeOpts, ServerConf,
+};
 pub use settings::{Setting, TcpKeepalive};
 pub use sink::{MemorySink, Put, Sink, SteadySink, WriteFault, Writing, write_all};
 pub use source::{

@@ -3,3 +3,5 @@ pub mod Chains
 pub mod Searches
 pub mod Orders
 pub mod Kept
+pub mod Names
+pub mod Ascending

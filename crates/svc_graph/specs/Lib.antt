@@ -4,3 +4,9 @@ pub mod Graphs
 pub mod Marks
 pub mod Ranks
 pub mod Refusals
+pub mod HandleData
+pub mod Handles
+pub mod HandleRefusals
+pub mod Services
+pub mod BackgroundData
+pub mod Backgrounds

@@ -1,6 +1,7 @@
 //! The graph of dependencies.
 
-ghost use Rattle.std.specs.Prelude.{◌≡◌, ◌<◌, ◌+◌, ◌==◌, ◌&&◌, ◌||◌, ◌⊎◌, ℕ, [], ◌∷◌, ◌++◌, true, false, length, slice_set, IsErrAnd, IfOk, IfErr, OnOk, OnErr, vec_len};
+ghost use Rattle.std.specs.Prelude.{◌≡◌, ◌↔◌, IsTrue, ◌<◌, ◌+◌, ◌==◌, ◌&&◌, ◌||◌, ◌⊎◌, ℕ, [], ◌∷◌, ◌++◌, true, false, length, slice_get, slice_set, Some, IsErrAnd, IfOk, IfErr, OnOk, OnErr, vec_len};
+ghost use Rattle.std.specs.List.Sorted.{IsStrictlyIncreasing};
 ghost use Rattle.svc_graph.specs.Paths.{Path};
 ghost use Rattle.svc_graph.specs.Graphs.{is_in_row, row_of, is_listed};
 ghost use Rattle.svc_graph.specs.Marks.{RowsBelow, Divides};
@@ -104,6 +105,17 @@ fn has(row: &[u32], node: u32) -> bool
     row.iter().any(|listed| *listed == node)
 }
 
+/// The nodes of a row in ascending order.
+fn ascending(alloc: Global, row: &[u32]) -> Result<Vec<u32>, NoMemory>
+    ensures order { IfOk result (λ nodes. IsStrictlyIncreasing nodes.items) }
+    ensures same { IfOk result (λ nodes. (a : ℕ) → is_listed nodes.items a ≡ is_listed row.now a) }
+{
+    let mut nodes = row.to_vec(alloc)?;
+    nodes.sort_unstable();
+    nodes.dedup();
+    Ok(nodes)
+}
+
 /// Whether the row of the dependent names the dependency.
 fn has_edge(rows: &[Numbers], dependent: u32, dependency: u32) -> bool
     requires { dependent < length rows.now }
@@ -136,8 +148,18 @@ fn leads_back(
     leads_to(alloc, rows, dependency, dependent)
 }
 
+/// Whether the name stands at the number.
+fn is_named(names: &[Text], s: u32, name: &str) -> bool
+    ensures { IsTrue result ↔ (slice_get names.now s ≡ Some name.now) }
+{
+    match names.get(s as usize) {
+        Some(known) => known.as_str() == name,
+        None => false,
+    }
+}
+
 impl DependencyGraph {
-    ghost use Rattle.svc_graph.specs.Graphs.{IsGraph, IsUnknown, LeadsBack, node_count, is_edge, with_node, with_edge, IsStartupOrder};
+    ghost use Rattle.svc_graph.specs.Graphs.{IsGraph, IsUnknown, LeadsBack, node_count, is_edge, with_node, with_edge, IsNamed, IsStartupOrder};
     ghost use Rattle.svc_graph.specs.Refusals.{RefusalFits};
 
     /// A graph without nodes.
@@ -203,6 +225,14 @@ impl DependencyGraph {
         }
     }
 
+    /// Whether the number is in the graph and has this name.
+    pub fn is_named(&self, s: u32, name: &str) -> bool
+        ensures named { IsTrue result ↔ IsNamed self.now s name.now }
+        ensures graph { IsGraph self.now }
+    {
+        is_named(self.names.as_slice(), s, name)
+    }
+
     /// The dependent waits for the dependency from now on. Where it does already, nothing changes.
     pub fn add_dependency(
         &mut self,
@@ -247,5 +277,15 @@ impl DependencyGraph {
         ensures graph { IsGraph self.now }
     {
         sorted(alloc, &self.rows)
+    }
+    /// The numbers that a number of the graph depends on, in ascending order.
+    pub fn get_dependencies(&self, alloc: Global, s: u32) -> Result<Vec<u32>, NoMemory>
+        requires { s < node_count self.now }
+        ensures order { IfOk result (λ numbers. IsStrictlyIncreasing numbers.items) }
+        ensures edges { IfOk result (λ numbers. (a : ℕ)
+            → is_listed numbers.items a ≡ is_edge self.now s a) }
+        ensures graph { IsGraph self.now }
+    {
+        ascending(alloc, self.rows[s as usize].as_slice())
     }
 }

@@ -3,11 +3,14 @@
 #![tactic(auto)]
 
 mod graph;
+mod handles;
 mod plan;
 mod search;
+pub mod services;
 mod sort;
 
 pub use graph::{AddNodeReason, AddNodeRefused, DependencyError, DependencyGraph, NODE_LIMIT};
+pub use handles::ServiceHandle;
 pub use plan::{EndpointList, EndpointPlan, Kind};
 
 #[cfg(test)]

@@ -1,4 +1,4 @@
-use crate::{AddNodeReason, DependencyError, DependencyGraph};
+use crate::{AddNodeReason, DependencyError, DependencyGraph, ServiceHandle};
 use std::alloc::Global;
 use std::test::Fail;
 use svc_conf::Text;
@@ -110,5 +110,73 @@ fn has_at_most_1024_nodes(rt: HostRuntime) -> Result<(), Fail> {
         "too many services"
     );
     assert_eq!(rt; services.len(), 1024);
+    Ok(())
+}
+
+/// A graph of services with these names, and their handles.
+fn named(alloc: Global, names: &[&str]) -> Result<(DependencyGraph, Vec<ServiceHandle>), Fail> {
+    let mut graph = DependencyGraph::new(alloc);
+    let mut handles = Vec::new(alloc);
+    for name in names {
+        match graph.add_node(alloc, Text::new(alloc, name)?) {
+            Ok(id) => handles.push(ServiceHandle::new(id, Text::new(alloc, name)?))?,
+            Err(refused) => return Err(Fail::from(refused.reason)),
+        }
+    }
+    Ok((graph, handles))
+}
+
+#[test]
+fn handles_add_dependencies(rt: HostRuntime) -> Result<(), Fail> {
+    let (mut services, mut handles) = named(rt.alloc(), &["db", "cache", "api"])?;
+    let api = handles.pop().ok_or("no handle")?;
+    let added = api.add_dependencies(rt.alloc(), &mut services, &handles);
+    assert_eq!(rt; added, Ok(()));
+    assert_eq!(rt; services.len(), 3);
+    assert_eq!(rt;
+        services.get_dependencies(rt.alloc(), 2)?.as_slice(),
+        [0, 1].as_slice()
+    );
+    let copy = api.copy(rt.alloc())?;
+    assert_eq!(rt; copy.id(), 2);
+    assert_eq!(rt; copy.name(), "api");
+    Ok(())
+}
+
+#[test]
+fn refuses_handles_of_other_graphs(rt: HostRuntime) -> Result<(), Fail> {
+    let (mut services, handles) = named(rt.alloc(), &["db", "cache"])?;
+    let other = ServiceHandle::new(0, Text::new(rt.alloc(), "queue")?);
+    let past = ServiceHandle::new(2, Text::new(rt.alloc(), "db")?);
+    for known in &handles {
+        for stray in [&other, &past] {
+            let unknown = Err(DependencyError::UnknownService);
+            assert_eq!(rt;
+                known.add_dependency(rt.alloc(), &mut services, stray),
+                unknown
+            );
+            assert_eq!(rt;
+                stray.add_dependency(rt.alloc(), &mut services, known),
+                unknown
+            );
+        }
+    }
+    Ok(())
+}
+
+#[test]
+fn stops_at_the_item_that_is_refused(rt: HostRuntime) -> Result<(), Fail> {
+    let (mut services, mut handles) = named(rt.alloc(), &["db", "cache", "api"])?;
+    let api = handles.pop().ok_or("no handle")?;
+    let cache = handles.pop().ok_or("no handle")?;
+    handles.push(ServiceHandle::new(0, Text::new(rt.alloc(), "queue")?))?;
+    handles.push(cache)?;
+    let added = api.add_dependencies(rt.alloc(), &mut services, &handles);
+    assert_eq!(rt; added, Err((1, DependencyError::UnknownService)));
+    assert_eq!(rt; services.len(), 3);
+    assert_eq!(rt;
+        services.get_dependencies(rt.alloc(), 2)?.as_slice(),
+        [0].as_slice()
+    );
     Ok(())
 }

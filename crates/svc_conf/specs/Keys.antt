@@ -1,0 +1,42 @@
+-- The texts of the keys of a configuration.
+use Rattle.std.specs.Prelude.{ℕ, List, codes}
+use Rattle.svc_conf.specs.declared.server.configuration.key.Key.{Key}
+use Rattle.svc_conf.specs.declared.server.configuration.key.Key.TheVariants.{Version, Daemon, ErrorLog, PidFile, UpgradeSock, User, Group, WorkingDirectory, Threads, ListenerTasksPerFd, WorkStealing, RuntimeEnableAltTimer, CaFile, GracePeriodSeconds, GracefulShutdownTimeoutSeconds, ClientBindToIpv4, ClientBindToIpv6, UpstreamKeepalivePoolSize, UpstreamConnectOffloadThreadpools, UpstreamConnectOffloadThreadPerPool, DownstreamTlsOffloadThreadpools, DownstreamTlsOffloadThreadPerPool, UpstreamDebugSslKeylog, MaxRetries, UpgradeSockConnectAcceptMaxRetries, MaxBlockingThreads, BlockingThreadsTtlSeconds, FastTimeoutToTokioThresholdSeconds, RuntimeMetricsPollTimeHistogram, RuntimeMetricsPollTimeHistogramScale, RuntimeMetricsPollTimeHistogramResolutionMicros, RuntimeMetricsPollTimeHistogramBuckets, DaemonWaitForReady, DaemonReadyTimeoutSeconds, DaemonNotifyTimeoutSeconds}
+
+-- the text of a key
+abbrev pub key_name : Key → List ℕ
+key_name Version = codes "version"
+key_name Daemon = codes "daemon"
+key_name ErrorLog = codes "error_log"
+key_name PidFile = codes "pid_file"
+key_name UpgradeSock = codes "upgrade_sock"
+key_name User = codes "user"
+key_name Group = codes "group"
+key_name WorkingDirectory = codes "working_directory"
+key_name Threads = codes "threads"
+key_name ListenerTasksPerFd = codes "listener_tasks_per_fd"
+key_name WorkStealing = codes "work_stealing"
+key_name RuntimeEnableAltTimer = codes "runtime_enable_alt_timer"
+key_name CaFile = codes "ca_file"
+key_name GracePeriodSeconds = codes "grace_period_seconds"
+key_name GracefulShutdownTimeoutSeconds = codes "graceful_shutdown_timeout_seconds"
+key_name ClientBindToIpv4 = codes "client_bind_to_ipv4"
+key_name ClientBindToIpv6 = codes "client_bind_to_ipv6"
+key_name UpstreamKeepalivePoolSize = codes "upstream_keepalive_pool_size"
+key_name UpstreamConnectOffloadThreadpools = codes "upstream_connect_offload_threadpools"
+key_name UpstreamConnectOffloadThreadPerPool = codes "upstream_connect_offload_thread_per_pool"
+key_name DownstreamTlsOffloadThreadpools = codes "downstream_tls_offload_threadpools"
+key_name DownstreamTlsOffloadThreadPerPool = codes "downstream_tls_offload_thread_per_pool"
+key_name UpstreamDebugSslKeylog = codes "upstream_debug_ssl_keylog"
+key_name MaxRetries = codes "max_retries"
+key_name UpgradeSockConnectAcceptMaxRetries = codes "upgrade_sock_connect_accept_max_retries"
+key_name MaxBlockingThreads = codes "max_blocking_threads"
+key_name BlockingThreadsTtlSeconds = codes "blocking_threads_ttl_seconds"
+key_name FastTimeoutToTokioThresholdSeconds = codes "fast_timeout_to_tokio_threshold_seconds"
+key_name RuntimeMetricsPollTimeHistogram = codes "runtime_metrics_poll_time_histogram"
+key_name RuntimeMetricsPollTimeHistogramScale = codes "runtime_metrics_poll_time_histogram_scale"
+key_name RuntimeMetricsPollTimeHistogramResolutionMicros = codes "runtime_metrics_poll_time_histogram_resolution_micros"
+key_name RuntimeMetricsPollTimeHistogramBuckets = codes "runtime_metrics_poll_time_histogram_buckets"
+key_name DaemonWaitForReady = codes "daemon_wait_for_ready"
+key_name DaemonReadyTimeoutSeconds = codes "daemon_ready_timeout_seconds"
+key_name DaemonNotifyTimeoutSeconds = codes "daemon_notify_timeout_seconds"

@@ -1,0 +1,3 @@
+//! What a server is set up with.
+
+pub mod configuration;
