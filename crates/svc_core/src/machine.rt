@@ -22,6 +22,7 @@ use crate::starts::Starts;
 use std::alloc::Global;
 use std::marker::Model;
 use svc_conf::NoMemory;
+use svc_graph::services::ServiceReadyWatch;
 use svc_record::{Action, Actions, Event, Plan, ShutdownSignal, StepEnd, startup_order};
 
 /// The lifecycle of one server: what it is told, step by step, and what it tells.
@@ -78,11 +79,13 @@ impl Core {
         2 * self.order.len() as u64 + self.endpoints.numbers().len() as u64 + 5
     }
 
-    fn is_ready(&self, s: u32) -> bool
-        requires service { s < service_count self.now.plan }
-        ensures { (q : Record) → StandsFor self.now q → result ≡ is_ready self.now.plan q s }
+    /// Whether the watched service is ready: its word came, or its work is done, or it is started
+    /// and plain.
+    pub fn ready(&self, watch: &ServiceReadyWatch) -> bool
+        requires service { watch.now < service_count self.now.plan }
+        ensures { (q : Record) → StandsFor self.now q → result ≡ is_ready self.now.plan q watch.now }
     {
-        self.starts.is_ready(&self.plan, s)
+        self.starts.is_ready(&self.plan, watch.service())
     }
 
     /// Whether the event may come now.

@@ -3,6 +3,7 @@ use std::alloc::Global;
 use std::process::Abort;
 use std::test::Fail;
 use svc_conf::{Numbers, Settings, Text};
+use svc_graph::services::ServiceReadyWatch;
 use svc_graph::{EndpointList, EndpointPlan, Kind};
 
 fn service(
@@ -172,6 +173,24 @@ fn starts_what_waits_for_a_service_that_ended(rt: HostRuntime) -> Result<(), Fai
     assert!(rt; !core.fits(&Event::Ended(0)));
     assert!(rt; !core.fits(&Event::Ended(1)));
     assert!(rt; core.fits(&Event::Ready(0)));
+    Ok(())
+}
+
+fn is_ready(rt: &impl Abort, core: &Core, s: u32) -> bool {
+    assert!(rt; (s as usize) < core.plan().services.as_slice().len());
+    core.ready(&ServiceReadyWatch::new(s))
+}
+
+#[test]
+fn knows_which_services_are_ready(rt: HostRuntime) -> Result<(), Fail> {
+    let alloc = rt.alloc();
+    let mut core = begun(&rt, alloc)?;
+    assert!(rt; !is_ready(&rt, &core, 0));
+    assert!(rt; !is_ready(&rt, &core, 1));
+    let told = [Action::Start(1), Action::Bind(1, 0)];
+    step(&rt, alloc, &mut core, Event::Ended(0), &told)?;
+    assert!(rt; is_ready(&rt, &core, 0));
+    assert!(rt; is_ready(&rt, &core, 1));
     Ok(())
 }
 
