@@ -26,13 +26,17 @@ abbrev pub close_room : CoreData → ℕ
 close_room core = length (open_numbers core) + 1
 
 -- how many actions the next step, and `close_all` after it, tell at most
+abbrev pub tell_room : CoreData → ℕ
+tell_room core = 2 * length core.order + length core.endpoints.numbers + 5
+
+-- how many these are together with the boxes of the services that they start: at most one for each action
 abbrev pub step_room : CoreData → ℕ
-step_room core = 2 * length core.order + length core.endpoints.numbers + 5
+step_room core = 2 * tell_room core
 
 -- a step told no more than that, less what `close_all` tells after it
 abbrev pub TellsWithin : CoreData → CoreData → List Action × ℕ → List Action × ℕ → Type 0
-TellsWithin old new before after = length (list_of after) + close_room new ≤ length (list_of before) + step_room old
+TellsWithin old new before after = length (list_of after) + close_room new ≤ length (list_of before) + tell_room old
 
 -- where there was that room before a step, there is room for `close_all` after it
 abbrev pub KeepsRoom : CoreData → CoreData → List Action × ℕ → List Action × ℕ → Type 0
-KeepsRoom old new before after = step_room old ≤ spare before → close_room new ≤ spare after
+KeepsRoom old new before after = tell_room old ≤ spare before → close_room new ≤ spare after

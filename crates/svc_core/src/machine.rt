@@ -12,7 +12,7 @@ ghost use Rattle.svc_record.specs.Fits.{Fits};
 ghost use Rattle.svc_record.specs.Right.{Right};
 ghost use Rattle.svc_record.specs.Validity.{IsValid, IsBuilt};
 ghost use Rattle.svc_core.specs.Stands.{StandsFor, HasNotBegun, MayCome, ReadyMayCome, EndedMayCome, BoundMayCome, StepKeeps, BeginKeeps, ClosesAll};
-ghost use Rattle.svc_core.specs.Rooms.{TellsWithin, KeepsRoom, step_room, close_room, close_need, open_numbers, left_numbers};
+ghost use Rattle.svc_core.specs.Rooms.{TellsWithin, KeepsRoom, tell_room, step_room, close_room, close_need, open_numbers, left_numbers};
 
 use crate::drain::Drain;
 use crate::endpoints::{Endpoints, close_each};
@@ -72,9 +72,17 @@ impl Core {
         &self.plan
     }
 
-    /// How many actions the next step, and a `close_all` after it, tell at most.
+    /// How many actions the next step, and a `close_all` after it, tell at most, together with the
+    /// boxes of the services that they start.
     pub fn step_room(&self) -> u64
         ensures { result ≡ step_room self.now }
+    {
+        2 * self.tell_room()
+    }
+
+    /// How many actions the next step, and a `close_all` after it, tell at most.
+    fn tell_room(&self) -> u64
+        ensures { result ≡ tell_room self.now }
     {
         2 * self.order.len() as u64 + self.endpoints.numbers().len() as u64 + 5
     }
@@ -143,7 +151,7 @@ impl Core {
         ensures few { OnOk result (TellsWithin self.old self.new actions.old actions.new) }
         ensures room { KeepsRoom self.old self.new actions.old actions.new }
     {
-        actions.reserve(alloc, self.step_room())?;
+        actions.reserve(alloc, self.tell_room())?;
         pass(
             &self.plan,
             &self.order,
@@ -172,7 +180,7 @@ impl Core {
         ensures few { OnOk result (TellsWithin self.old self.new actions.old actions.new) }
         ensures room { KeepsRoom self.old self.new actions.old actions.new }
     {
-        actions.reserve(alloc, self.step_room())?;
+        actions.reserve(alloc, self.tell_room())?;
         match *event {
             Event::Moment(ms) => Ok(self.step_moment(ms)),
             Event::Ready(s) => Ok(self.step_ready(s, actions)),
@@ -188,7 +196,7 @@ impl Core {
         requires may { self.old.drain.moment ≤ ms }
         ensures plan { self.new.plan ≡ self.old.plan }
         ensures kept { (before : List Action) → StepKeeps self.old self.new (Event.Moment ms) before before result }
-        ensures room { close_room self.new ≤ step_room self.old }
+        ensures room { close_room self.new ≤ tell_room self.old }
     {
         self.drain.take_moment(ms);
         StepEnd::On
@@ -197,7 +205,7 @@ impl Core {
     fn step_ready(&mut self, s: u32, actions: &mut Actions) -> StepEnd
         requires on { self.old.drain.over ≡ false }
         requires may { ReadyMayCome self.old s }
-        requires room { step_room self.old ≤ spare actions.old }
+        requires room { tell_room self.old ≤ spare actions.old }
         ensures plan { self.new.plan ≡ self.old.plan }
         ensures kept { StepKeeps self.old self.new (Event.Ready s) (list_of actions.old) (list_of actions.new) result }
         ensures few { TellsWithin self.old self.new actions.old actions.new }
@@ -217,7 +225,7 @@ impl Core {
     fn step_ended(&mut self, s: u32, actions: &mut Actions) -> StepEnd
         requires on { self.old.drain.over ≡ false }
         requires may { EndedMayCome self.old s }
-        requires room { step_room self.old ≤ spare actions.old }
+        requires room { tell_room self.old ≤ spare actions.old }
         ensures plan { self.new.plan ≡ self.old.plan }
         ensures kept { StepKeeps self.old self.new (Event.Ended s) (list_of actions.old) (list_of actions.new) result }
         ensures few { TellsWithin self.old self.new actions.old actions.new }
@@ -237,7 +245,7 @@ impl Core {
     fn step_bound(&mut self, s: u32, fd: u64, actions: &mut Actions) -> Result<StepEnd, NoMemory>
         requires on { self.old.drain.over ≡ false }
         requires may { BoundMayCome self.old s 0 fd }
-        requires room { step_room self.old ≤ spare actions.old }
+        requires room { tell_room self.old ≤ spare actions.old }
         ensures plan { IfOk result (λ _. self.new.plan ≡ self.old.plan) }
         ensures refused { OnErr result (self.new ≡ self.old) }
         ensures untold { OnErr result (list_of actions.new ≡ list_of actions.old) }
@@ -260,7 +268,7 @@ impl Core {
     fn step_signal(&mut self, kind: ShutdownSignal, actions: &mut Actions) -> StepEnd
         requires on { self.old.drain.over ≡ false }
         requires may { self.old.drain.running ≡ true }
-        requires room { step_room self.old ≤ spare actions.old }
+        requires room { tell_room self.old ≤ spare actions.old }
         ensures plan { self.new.plan ≡ self.old.plan }
         ensures kept { StepKeeps self.old self.new (Event.Signal kind) (list_of actions.old) (list_of actions.new) result }
         ensures few { TellsWithin self.old self.new actions.old actions.new }

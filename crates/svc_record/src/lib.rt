@@ -4,11 +4,13 @@
 mod action;
 mod entry;
 mod event;
+mod item;
 mod plan;
 mod validity;
 
 pub use action::{Action, Actions, ExecutionPhase, StepEnd};
 pub use entry::{Entries, Entry};
 pub use event::{Event, ShutdownSignal};
+pub use item::Item;
 pub use plan::{Plan, ServiceList, ServicePlan};
 pub use validity::startup_order;
