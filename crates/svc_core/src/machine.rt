@@ -77,7 +77,7 @@ impl Core {
     pub fn step_room(&self) -> u64
         ensures { result ≡ step_room self.now }
     {
-        2 * self.tell_room()
+        4 * self.order.len() as u64 + 2 * self.endpoints.numbers().len() as u64 + 10
     }
 
     /// How many actions the next step, and a `close_all` after it, tell at most.
