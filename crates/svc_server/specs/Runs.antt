@@ -1,0 +1,119 @@
+-- How a run went, by what it answers. `p` is the plan, `r` the record, whose newest entry stands first.
+use Rattle.std.specs.Prelude.{ℕ, true, false, ◌≡◌, ◌+◌, ◌≤◌, ◌⊎◌, List, [], ◌∷◌, ◌++◌, length, map, Option, Some, None, Result, Ok, Err, slice_get, slice_set}
+use Rattle.std.specs.Option.{option_map}
+use Rattle.svc_conf.specs.Streams.{Rose}
+use Rattle.svc_record.specs.declared.plan.Plan.{Plan}
+use Rattle.svc_record.specs.declared.plan.ServicePlan.{ServicePlan}
+use Rattle.svc_record.specs.declared.event.Event.{Event}
+use Rattle.svc_record.specs.declared.entry.Entry.TheVariants.{Got, Told}
+use Rattle.svc_record.specs.declared.action.Action.TheVariants.{Start}
+use Rattle.svc_record.specs.declared.item.Item.{Item}
+use Rattle.svc_record.specs.declared.item.Item.TheVariants as items
+use Rattle.svc_record.specs.Plans.{service}
+use Rattle.svc_record.specs.Record.{Record, tell}
+use Rattle.svc_record.specs.Ends.{has_ended}
+use Rattle.svc_record.specs.Fits.{Fits}
+use Rattle.svc_record.specs.Right.{Right, Served as ServedRecord}
+use Rattle.svc_record.specs.Tail.{with_event, closing_actions, tail_right}
+use Rattle.svc_server.specs.declared.run.Outcome.{Outcome}
+use Rattle.svc_server.specs.declared.run.Outcome.TheVariants.{Served}
+use Rattle.svc_server.specs.declared.run.RunError.{RunError}
+use Rattle.svc_server.specs.declared.run.RunError.TheVariants.{Config, HostFault, Stray, TurnsSpent, OutOfEvents, NoMemory}
+use Rattle.svc_server.specs.Hosts.{Handed, Account, Counts, no_account}
+
+-- the events of a record, the oldest first
+abbrev pub events_of : Record → List Event
+events_of [] = []
+events_of (Got e ∷ before) = events_of before ++ e ∷ []
+events_of (Told a ∷ before) = events_of before
+
+-- the name of service s of the plan
+abbrev pub name_at : Plan → ℕ → List ℕ
+name_at p s = name_of (service p s)
+  where
+    name_of : Option ServicePlan → List ℕ
+    name_of (Some x) = x.name
+    name_of None = []
+
+-- the names of the services of the plan
+abbrev pub names_of : Plan → List (List ℕ)
+names_of p = map (λ (x : ServicePlan). x.name) p.services
+
+-- the services that were started, each with the plan's name, the newest first
+abbrev pub handed_of : Plan → Record → List Handed
+handed_of p [] = []
+handed_of p (Told (Start s) ∷ before) = record { service = s; name = name_at p s } ∷ handed_of p before
+handed_of p (e ∷ before) = handed_of p before
+
+-- the record of a run that served
+pub record IsServed (p : Plan) (r : Record) : Type 0 where
+  pub served : ServedRecord p r
+  pub right : Right p r
+
+-- what stands of a run that didn't serve: a right record of finished steps in which the run goes on, perhaps one more event, and a close of each descriptor that isn't closed, so that each that came is closed once
+pub record IsClosed (p : Plan) (r finished : Record) (also : Option Event) : Type 0 where
+  pub right : Right p finished
+  pub goes_on : has_ended p finished ≡ false
+  pub closed : r ≡ tell (with_event also finished) (closing_actions p finished also)
+  pub closed_once : tail_right finished also (closing_actions p finished also) ≡ true
+
+-- as many events as there are turns were taken, and the run goes on
+pub record IsSpent (p : Plan) (turns : ℕ) (r finished : Record) : Type 0 where
+  pub closed : IsClosed p r finished None
+  pub count : length (events_of finished) ≡ turns
+
+-- the k-th event, from 1, doesn't fit the record of those before it, and is the last that was taken
+pub record IsStray (p : Plan) (k : ℕ) (r finished : Record) (e : Event) : Type 0 where
+  pub closed : IsClosed p r finished (Some e)
+  pub misfit : Fits p finished e → ⊥
+  pub number : k ≡ length (events_of finished) + 1
+
+-- memory was refused: before anything was told, or after finished steps and perhaps one more event
+abbrev pub IsRefused : Plan → Record → Type 0
+IsRefused p r = (r ≡ []) ⊎ ((finished : Record) × ((also : Option Event) × IsClosed p r finished also))
+
+-- the record of the run of a plan with so many turns, by its answer
+abbrev pub RunEnds : Plan → ℕ → Result Outcome RunError → Record → Type 0
+RunEnds p turns (Ok Served) r = IsServed p r
+RunEnds p turns (Err (Config key)) r = r ≡ []
+RunEnds p turns (Err HostFault) r = (finished : Record) × IsClosed p r finished None
+RunEnds p turns (Err (Stray k)) r = (finished : Record) × ((e : Event) × IsStray p k r finished e)
+RunEnds p turns (Err TurnsSpent) r = (finished : Record) × IsSpent p turns r finished
+RunEnds p turns (Err OutOfEvents) r = (finished : Record) × IsClosed p r finished None
+RunEnds p turns (Err NoMemory) r = IsRefused p r
+
+-- what a host tells of such a run: its record, within so many events, and each service that was started, handed over with the plan's name
+pub record RunTells (p : Plan) (turns : ℕ) (answer : Result Outcome RunError) (a : Account) : Type 0 where
+  pub ends : RunEnds p turns answer a.entries
+  pub few : length (events_of a.entries) ≤ turns
+  pub handed : a.handed ≡ handed_of p a.entries
+
+-- the counts of the host: faults rise in a run only where it answers so, and idles too
+abbrev pub RunCounts : Result Outcome RunError → Counts → Counts → Type 0
+RunCounts (Err HostFault) before now = Rose before.faults now.faults × (now.idles ≡ before.idles)
+RunCounts (Err OutOfEvents) before now = (now.faults ≡ before.faults) × Rose before.idles now.idles
+RunCounts (Ok Served) before now = (now.faults ≡ before.faults) × (now.idles ≡ before.idles)
+RunCounts (Err (Config key)) before now = (now.faults ≡ before.faults) × (now.idles ≡ before.idles)
+RunCounts (Err (Stray k)) before now = (now.faults ≡ before.faults) × (now.idles ≡ before.idles)
+RunCounts (Err TurnsSpent) before now = (now.faults ≡ before.faults) × (now.idles ≡ before.idles)
+RunCounts (Err NoMemory) before now = (now.faults ≡ before.faults) × (now.idles ≡ before.idles)
+
+-- the answer isn't that the configuration is refused
+abbrev pub IsConfigured : Result Outcome RunError → Type 0
+IsConfigured (Err (Config key)) = ⊥
+IsConfigured answer = Unit {0}
+
+-- the items that a run took from what lay ahead: its events, and the fault that it answers
+abbrev pub taken_items : Result Outcome RunError → Record → List Item
+taken_items (Err HostFault) r = map items.Event (events_of r) ++ items.Fault ∷ []
+taken_items answer r = map items.Event (events_of r)
+
+-- nothing lies ahead where the run answers so
+abbrev pub LeavesNothing : Result Outcome RunError → List Item → Type 0
+LeavesNothing (Err OutOfEvents) left = left ≡ []
+LeavesNothing answer left = Unit {0}
+
+-- what lay ahead of the host is what the run took, and then what is left
+pub record RunTakes (answer : Result Outcome RunError) (r : Record) (before now : List Item) : Type 0 where
+  pub taken : before ≡ taken_items answer r ++ now
+  pub left : LeavesNothing answer now

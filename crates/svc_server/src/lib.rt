@@ -1,0 +1,9 @@
+//! A server over any host: what it is made of, and its run.
+#![tactic(auto)]
+
+mod host;
+mod run;
+mod turns;
+
+pub use host::{Host, Next};
+pub use run::{Outcome, RunArgs, RunError};
