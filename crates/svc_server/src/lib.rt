@@ -1,6 +1,8 @@
 //! A server over any host: what it is made of, and its run.
 #![tactic(auto)]
 
+mod boxes;
+mod handing;
 mod host;
 mod run;
 mod turns;

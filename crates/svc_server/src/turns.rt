@@ -1,15 +1,138 @@
 //! The run of a plan over a host, turn by turn.
 
-ghost use Rattle.std.specs.Prelude.{◌≡◌, map, IfSome};
+ghost use Rattle.std.specs.Prelude.{◌≡◌, ◌+◌, ◌*◌, ◌<◌, ◌≤◌, ℕ, [], ◌∷◌, List, Option, Some, None, map, Ok, Err, IfSome, IfOk, OnOk, OnErr, IsSome};
+ghost use Rattle.std.specs.Option.{option_copied};
+ghost use Rattle.svc_conf.specs.Items.{list_of, spare};
+ghost use Rattle.svc_record.specs.declared.action.StepEnd.TheVariants as ends;
+ghost use Rattle.svc_record.specs.declared.entry.Entry.TheVariants.{Got};
+ghost use Rattle.svc_record.specs.declared.item.Item.{Item};
+ghost use Rattle.svc_record.specs.Record.{Record, tell};
+ghost use Rattle.svc_record.specs.Right.{Right};
+ghost use Rattle.svc_record.specs.Tail.{with_event, closing_actions};
 ghost use Rattle.svc_record.specs.Validity.{IsValid, IsBuilt};
+ghost use Rattle.svc_core.specs.Rooms.{tell_room, close_room};
+ghost use Rattle.svc_core.specs.Stands.{StandsFor, HasNotBegun, MayCome};
 ghost use Rattle.svc_server.specs.Hosts.{no_account};
+ghost use Rattle.svc_server.specs.Handing.{names_by, Hands};
+ghost use Rattle.svc_server.specs.Turns.{IsAt, IsSomewhere, IsAhead, HasRoom, CanClose, CanTake, Leaves, RunGives, TurnGives, TurnCounts};
 ghost use Rattle.svc_server.specs.Runs.{RunTells, RunCounts, RunTakes, IsConfigured, names_of};
 
-use crate::host::Host;
+use crate::boxes::Boxes;
+use crate::handing::tell_all;
+use crate::host::{Host, Next};
 use crate::run::{Outcome, RunError};
 use std::alloc::Global;
+use svc_conf::NoMemory;
+use svc_core::Core;
 use svc_graph::services::ServiceWithDependents;
-use svc_record::Plan;
+use svc_record::{Actions, Event, Plan, StepEnd};
+
+/// A run on its way: the core, the services that aren't handed over yet, and an empty list that has
+/// room for the closes of all.
+#[derive(Drop)]
+struct Machine<B> {
+    core: Core,
+    boxes: Boxes<B>,
+    closing: Actions,
+}
+
+impl<B: ServiceWithDependents> Machine<B> {
+    /// Closes all, with what the event brought that was left unfinished.
+    fn close<H: Host<Service = B>>(&mut self, also: Option<&Event>, host: &mut H)
+        requires room { HasRoom self.old.core self.old.closing (H.spare host.old) }
+        requires can { CanClose self.old.core (names_by B.named self.old.boxes) (H.account host.old) (option_copied also) }
+        ensures closed { (q : Record) → StandsFor self.old.core q
+            → Hands (names_by B.named self.old.boxes) (H.account host.old) self.old.core.plan (with_event (option_copied also.entry) q)
+            → Hands (names_by B.named self.new.boxes) (H.account host.new) self.old.core.plan
+            (tell (with_event (option_copied also.entry) q) (closing_actions self.old.core.plan q (option_copied also.entry))) }
+        ensures core { self.new.core ≡ self.old.core }
+        ensures counts { H.counts host.new ≡ H.counts host.old }
+        ensures ahead { H.ahead host.new ≡ H.ahead host.old }
+    {
+        self.core.close_all(also, &mut self.closing);
+        tell_all(
+            self.core.plan(),
+            &mut self.boxes,
+            self.closing.as_slice(),
+            host,
+        );
+    }
+
+    /// Takes the memory of the next step, and of the closes after it.
+    fn make_room<H: Host<Service = B>>(
+        &mut self,
+        alloc: Global,
+        host: &mut H,
+    ) -> Result<(), NoMemory>
+        requires room { HasRoom self.old.core self.old.closing (H.spare host.old) }
+        ensures room { HasRoom self.new.core self.new.closing (H.spare host.new) }
+        ensures list { OnOk result (tell_room self.new.core ≤ spare self.new.closing) }
+        ensures host { OnOk result (2 * tell_room self.new.core + 1 ≤ H.spare host.new) }
+        ensures core { self.new.core ≡ self.old.core }
+        ensures boxes { self.new.boxes ≡ self.old.boxes }
+        ensures account { H.account host.new ≡ H.account host.old }
+        ensures counts { H.counts host.new ≡ H.counts host.old }
+        ensures ahead { H.ahead host.new ≡ H.ahead host.old }
+    {
+        let room = self.core.step_room();
+        self.closing.reserve(alloc, room)?;
+        host.reserve(alloc, room + 1)
+    }
+
+    /// The first step, with its actions told. After `NoMemory` nothing was told.
+    fn begin<H: Host<Service = B>>(
+        &mut self,
+        alloc: Global,
+        host: &mut H,
+    ) -> Result<StepEnd, NoMemory>
+        requires first { HasNotBegun self.old.core }
+        requires empty { list_of self.old.closing ≡ [] }
+        requires hands { Hands (names_by B.named self.old.boxes) (H.account host.old) self.old.core.plan [] }
+        ensures plan { IfOk result (λ _. self.new.core.plan ≡ self.old.core.plan) }
+        ensures leaves { IfOk result (λ end. Leaves self.new.core (names_by B.named self.new.boxes) (H.account host.new) end []) }
+        ensures room { OnOk result (HasRoom self.new.core self.new.closing (H.spare host.new)) }
+        ensures untold { OnErr result (H.account host.new ≡ H.account host.old) }
+        ensures counts { H.counts host.new ≡ H.counts host.old }
+        ensures ahead { H.ahead host.new ≡ H.ahead host.old }
+    {
+        let room = self.core.step_room();
+        self.closing.reserve(alloc, room)?;
+        host.reserve(alloc, room)?;
+        let mut actions = Actions::new(alloc);
+        let end = self.core.begin(alloc, &mut actions)?;
+        tell_all(self.core.plan(), &mut self.boxes, actions.as_slice(), host);
+        Ok(end)
+    }
+
+    /// The step of an event that fits, with its actions told. After `NoMemory` nothing has changed.
+    fn take<H: Host<Service = B>>(
+        &mut self,
+        alloc: Global,
+        event: &Event,
+        host: &mut H,
+    ) -> Result<StepEnd, NoMemory>
+        requires fits { MayCome self.old.core event.now }
+        requires room { 2 * tell_room self.old.core ≤ H.spare host.old }
+        requires can { CanTake self.old.core (names_by B.named self.old.boxes) (H.account host.old) event.now }
+        ensures plan { IfOk result (λ _. self.new.core.plan ≡ self.old.core.plan) }
+        ensures leaves { IfOk result (λ end. (q : Record) → StandsFor self.old.core q → Right self.old.core.plan q
+            → Hands (names_by B.named self.old.boxes) (H.account host.old) self.old.core.plan (Got event.now ∷ q)
+            → Leaves self.new.core (names_by B.named self.new.boxes) (H.account host.new) end (Got event.now ∷ q)) }
+        ensures room { OnOk result (2 * close_room self.new.core ≤ H.spare host.new) }
+        ensures few { OnOk result (close_room self.new.core ≤ tell_room self.old.core) }
+        ensures refused { OnErr result (self.new ≡ self.old) }
+        ensures untold { OnErr result (host.new ≡ host.old) }
+        ensures list { self.new.closing ≡ self.old.closing }
+        ensures counts { H.counts host.new ≡ H.counts host.old }
+        ensures ahead { H.ahead host.new ≡ H.ahead host.old }
+    {
+        let mut actions = Actions::new(alloc);
+        let end = self.core.step(alloc, event, true, &mut actions)?;
+        self.boxes.note_event(event);
+        tell_all(self.core.plan(), &mut self.boxes, actions.as_slice(), host);
+        Ok(end)
+    }
+}
 
 /// Runs a plan over a host, with at most so many events. The services are the plan's, in order.
 pub(crate) fn run_plan<B: ServiceWithDependents, H: Host<Service = B>>(

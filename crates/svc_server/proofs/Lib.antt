@@ -1,0 +1,4 @@
+pub mod BoxLemmas
+pub mod HandLemmas
+pub mod CloseLemmas
+pub mod StepLemmas

@@ -1,0 +1,14 @@
+use Rattle.std.proofs.Common.{◌≡◌, ◌≤◌, ◌+◌, ◌*◌, take}
+use Rattle.svc_record.specs.declared.plan.Plan.{Plan}
+use Rattle.svc_record.specs.Record.{Record, tell}
+use Rattle.svc_server.specs.Handing.{names_by, Hands, DueStarts}
+use Rattle.svc_server.proofs.handing.tell_all.Given as goal
+
+abbrev pub invariant-loop-action : goal.invariant-loop-action
+invariant-loop-action g l = record {
+  hands : (p : Plan) (q : Record) → Hands (names_by g.B.ServiceWithDependents.named l.initial.boxes) (g.H.Host.account l.initial.host) p q → DueStarts p q l.actions
+      → Hands (names_by g.B.ServiceWithDependents.named l.boxes) (g.H.Host.account l.host) p (tell q (take l.action-index l.actions));
+  room : g.H.Host.spare l.initial.host ≤ g.H.Host.spare l.host + 2 * l.action-index;
+  counts : g.H.Host.counts l.host ≡ g.H.Host.counts l.initial.host;
+  ahead : g.H.Host.ahead l.host ≡ g.H.Host.ahead l.initial.host;
+}

@@ -1,0 +1,81 @@
+//! Actions are told to a host; before a start the service is handed over.
+
+ghost use Rattle.std.specs.Prelude.{◌≡◌, ◌+◌, ◌*◌, ◌≤◌, ◌∷◌, length};
+ghost use Rattle.svc_record.specs.declared.plan.Plan.{Plan};
+ghost use Rattle.svc_record.specs.declared.action.Action.TheVariants.{Start};
+ghost use Rattle.svc_record.specs.declared.entry.Entry.TheVariants.{Told};
+ghost use Rattle.svc_record.specs.Record.{Record, tell};
+ghost use Rattle.svc_server.specs.Handing.{names_by, Hands, DueStart, DueStarts, MayHand, MayHandAll};
+
+use crate::boxes::Boxes;
+use crate::host::Host;
+use svc_graph::services::ServiceWithDependents;
+use svc_record::{Action, Plan};
+
+/// Hands the service over, and tells its start.
+fn start<B: ServiceWithDependents, H: Host<Service = B>>(
+    plan: &Plan,
+    boxes: &mut Boxes<B>,
+    s: u32,
+    host: &mut H,
+)
+    requires room { 2 ≤ H.spare host.old }
+    requires may { MayHand (names_by B.named boxes.old) (H.account host.old) (Start s) }
+    ensures hands { (p : Plan) (q : Record) → Hands (names_by B.named boxes.old) (H.account host.old) p q → DueStart p q (Start s)
+        → Hands (names_by B.named boxes.new) (H.account host.new) p (Told (Start s) ∷ q) }
+    ensures room { H.spare host.old ≤ H.spare host.new + 2 }
+    ensures counts { H.counts host.new ≡ H.counts host.old }
+    ensures ahead { H.ahead host.new ≡ H.ahead host.old }
+{
+    match boxes.take(plan, s) {
+        Some(service) => {
+            host.hand(s, service);
+            host.tell(Action::Start(s));
+        }
+        None => unreachable!(),
+    }
+}
+
+/// Tells an action; a service that starts is handed over before.
+fn tell_one<B: ServiceWithDependents, H: Host<Service = B>>(
+    plan: &Plan,
+    boxes: &mut Boxes<B>,
+    action: Action,
+    host: &mut H,
+)
+    requires room { 2 ≤ H.spare host.old }
+    requires may { MayHand (names_by B.named boxes.old) (H.account host.old) action }
+    ensures hands { (p : Plan) (q : Record) → Hands (names_by B.named boxes.old) (H.account host.old) p q → DueStart p q action
+        → Hands (names_by B.named boxes.new) (H.account host.new) p (Told action ∷ q) }
+    ensures room { H.spare host.old ≤ H.spare host.new + 2 }
+    ensures counts { H.counts host.new ≡ H.counts host.old }
+    ensures ahead { H.ahead host.new ≡ H.ahead host.old }
+{
+    boxes.note(action);
+    match action {
+        Action::Start(s) => start(plan, boxes, s, host),
+        Action::Bind(_, _) | Action::Close(_) | Action::Phase(_, _) | Action::Stop(_) => {
+            host.tell(action);
+        }
+    }
+}
+
+/// Tells the actions, in order; each service that starts is handed over right before its start.
+pub(crate) fn tell_all<B: ServiceWithDependents, H: Host<Service = B>>(
+    plan: &Plan,
+    boxes: &mut Boxes<B>,
+    actions: &[Action],
+    host: &mut H,
+)
+    requires room { 2 * length actions.now ≤ H.spare host.old }
+    requires may { MayHandAll (names_by B.named boxes.old) (H.account host.old) actions.now }
+    ensures hands { (p : Plan) (q : Record) → Hands (names_by B.named boxes.old) (H.account host.old) p q → DueStarts p q actions.now
+        → Hands (names_by B.named boxes.new) (H.account host.new) p (tell q actions.now) }
+    ensures room { H.spare host.old ≤ H.spare host.new + 2 * length actions.now }
+    ensures counts { H.counts host.new ≡ H.counts host.old }
+    ensures ahead { H.ahead host.new ≡ H.ahead host.old }
+{
+    for action in actions {
+        tell_one(plan, boxes, *action, host);
+    }
+}
