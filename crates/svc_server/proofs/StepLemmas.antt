@@ -33,9 +33,10 @@ due-one p q (Stop n) due known = tt
 
 due-told : (p : Plan) (q : Record) (told : List Action) → EachEntry (λ e before. start_due p e before ≡ true) (tell q told) → EachEntry (λ e before. start_known p e before ≡ true) (tell q told) → DueStarts p q told
 due-told p q [] due known = tt
-due-told p q (a ∷ more) due known =
-    (due-one p q a (each-front (λ e before. start_due p e before ≡ true) (Told a ∷ q) more due).0 (each-front (λ e before. start_known p e before ≡ true) (Told a ∷ q) more known).0,
-    due-told p (Told a ∷ q) more due known)
+due-told p q (a ∷ more) due known = (
+  due-one p q a (each-front (λ e before. start_due p e before ≡ true) (Told a ∷ q) more due).0 (each-front (λ e before. start_known p e before ≡ true) (Told a ∷ q) more known).0,
+  due-told p (Told a ∷ q) more due known,
+)
 
 -- the starts of a step that leaves a right record are due
 due-step : (core : CoreData) (p : Plan) (q : Record) (told : List Action) (end : StepEnd) → core.plan ≡ p → StepRight core (tell q told) end → DueStarts p q told

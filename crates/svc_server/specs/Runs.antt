@@ -99,7 +99,7 @@ RunCounts (Err TurnsSpent) before now = (now.faults ≡ before.faults) × (now.i
 RunCounts (Err NoMemory) before now = (now.faults ≡ before.faults) × (now.idles ≡ before.idles)
 
 -- the answer isn't that the configuration is refused
-abbrev pub IsConfigured : Result Outcome RunError → Type 0
+abbrev pub IsConfigured : {T : Type 0} → Result T RunError → Type 0
 IsConfigured (Err (Config key)) = ⊥
 IsConfigured answer = Unit {0}
 

@@ -32,9 +32,20 @@ pub record IsAt (core : CoreData) (left : List (Option (List ℕ))) (account : O
   pub hands : Hands left account core.plan q
   pub count : length (events_of q) ≡ k
 
+-- within a turn: the next event is in the account, and isn't taken yet
+pub record IsAtEvent (core : CoreData) (left : List (Option (List ℕ))) (account : Option Account) (k : ℕ) (e : Event) (q : Record) : Type 0 where
+  pub stands : StandsFor core q
+  pub right : Right core.plan q
+  pub goes_on : has_ended core.plan q ≡ false
+  pub hands : Hands left account core.plan (Got e ∷ q)
+  pub count : length (events_of q) ≡ k
+
 -- for some record
 abbrev pub IsSomewhere : CoreData → List (Option (List ℕ)) → Option Account → ℕ → Type 0
 IsSomewhere core left account k = (q : Record) × IsAt core left account k q
+
+abbrev pub IsSomewhereAtEvent : CoreData → List (Option (List ℕ)) → Option Account → ℕ → Event → Type 0
+IsSomewhereAtEvent core left account k e = (q : Record) × IsAtEvent core left account k e q
 
 -- what lay ahead is the events of the record, and then what lies ahead now
 abbrev pub IsAhead : Option (List Item) → Option (List Item) → Record → Type 0

@@ -14,7 +14,7 @@ ghost use Rattle.svc_core.specs.Rooms.{tell_room, close_room};
 ghost use Rattle.svc_core.specs.Stands.{StandsFor, HasNotBegun, MayCome};
 ghost use Rattle.svc_server.specs.Hosts.{no_account};
 ghost use Rattle.svc_server.specs.Handing.{names_by, Hands};
-ghost use Rattle.svc_server.specs.Turns.{IsAt, IsSomewhere, IsAhead, HasRoom, CanClose, CanTake, Leaves, RunGives, TurnGives, TurnCounts};
+ghost use Rattle.svc_server.specs.Turns.{IsAt, IsAtEvent, IsSomewhere, IsSomewhereAtEvent, IsAhead, HasRoom, CanClose, CanTake, Leaves, RunGives, TurnGives, TurnCounts};
 ghost use Rattle.svc_server.specs.Runs.{RunTells, RunCounts, RunTakes, IsConfigured, names_of};
 
 use crate::boxes::Boxes;
@@ -37,6 +37,24 @@ struct Machine<B> {
 }
 
 impl<B: ServiceWithDependents> Machine<B> {
+    /// Nothing was told yet, and all services are left.
+    fn new(alloc: Global, plan: Plan, services: Vec<B>) -> Result<Self, NoMemory>
+        requires valid { IsValid plan }
+        requires built { IsBuilt plan }
+        ensures plan { IfOk result (λ machine. machine.core.plan ≡ plan) }
+        ensures first { IfOk result (λ machine. HasNotBegun machine.core) }
+        ensures left { IfOk result (λ machine. machine.boxes ≡ map Some services.items) }
+        ensures empty { IfOk result (λ machine. list_of machine.closing ≡ []) }
+    {
+        let core = Core::new(alloc, plan)?;
+        let boxes = Boxes::new(alloc, services)?;
+        Ok(Machine {
+            core,
+            boxes,
+            closing: Actions::new(alloc),
+        })
+    }
+
     /// Closes all, with what the event brought that was left unfinished.
     fn close<H: Host<Service = B>>(&mut self, also: Option<&Event>, host: &mut H)
         requires room { HasRoom self.old.core self.old.closing (H.spare host.old) }
@@ -132,11 +150,133 @@ impl<B: ServiceWithDependents> Machine<B> {
         tell_all(self.core.plan(), &mut self.boxes, actions.as_slice(), host);
         Ok(end)
     }
+
+    /// Takes the event that came, if it fits. Where it doesn't, or memory is refused, all is closed.
+    fn take_event<H: Host<Service = B>>(
+        &mut self,
+        alloc: Global,
+        k: u64,
+        event: &Event,
+        host: &mut H,
+    ) -> Result<StepEnd, RunError>
+        requires small { k < u64.MAX }
+        requires room { HasRoom self.old.core self.old.closing (H.spare host.old) }
+        requires list { tell_room self.old.core ≤ spare self.old.closing }
+        requires told { 2 * tell_room self.old.core ≤ H.spare host.old }
+        requires at { IsSomewhereAtEvent self.old.core (names_by B.named self.old.boxes) (H.account host.old) k event.now }
+        ensures gives { (turns : ℕ) (before : Option (List Item)) (q : Record) → k < turns
+            → IsAtEvent self.old.core (names_by B.named self.old.boxes) (H.account host.old) k event.now q
+            → IsAhead before (H.ahead host.old) (Got event.now ∷ q)
+            → TurnGives self.new.core (names_by B.named self.new.boxes) (H.account host.new) k turns result before (H.ahead host.new) }
+        ensures room { OnOk result (HasRoom self.new.core self.new.closing (H.spare host.new)) }
+        ensures plan { self.new.core.plan ≡ self.old.core.plan }
+        ensures counts { TurnCounts result (H.counts host.old) (H.counts host.new) }
+        ensures configured { IsConfigured result }
+    {
+        if !self.core.fits(event) {
+            self.close(Some(event), host);
+            return Err(RunError::Stray(k + 1));
+        }
+        match self.take(alloc, event, host) {
+            Ok(end) => Ok(end),
+            Err(NoMemory) => {
+                self.close(Some(event), host);
+                Err(RunError::NoMemory)
+            }
+        }
+    }
+
+    /// One turn: memory, and then the next event, if one comes. Where none is taken, all is closed.
+    fn turn<H: Host<Service = B>>(
+        &mut self,
+        alloc: Global,
+        k: u64,
+        host: &mut H,
+    ) -> Result<StepEnd, RunError>
+        requires small { k < u64.MAX }
+        requires room { HasRoom self.old.core self.old.closing (H.spare host.old) }
+        requires at { IsSomewhere self.old.core (names_by B.named self.old.boxes) (H.account host.old) k }
+        ensures gives { (turns : ℕ) (before : Option (List Item)) (q : Record) → k < turns
+            → IsAt self.old.core (names_by B.named self.old.boxes) (H.account host.old) k q
+            → IsAhead before (H.ahead host.old) q
+            → TurnGives self.new.core (names_by B.named self.new.boxes) (H.account host.new) k turns result before (H.ahead host.new) }
+        ensures room { OnOk result (HasRoom self.new.core self.new.closing (H.spare host.new)) }
+        ensures plan { self.new.core.plan ≡ self.old.core.plan }
+        ensures counts { TurnCounts result (H.counts host.old) (H.counts host.new) }
+        ensures configured { IsConfigured result }
+    {
+        if self.make_room(alloc, host).is_err() {
+            self.close(None, host);
+            return Err(RunError::NoMemory);
+        }
+        match host.next() {
+            Next::Event => {
+                let event = *host.event();
+                self.take_event(alloc, k, &event, host)
+            }
+            Next::None => {
+                self.close(None, host);
+                Err(RunError::OutOfEvents)
+            }
+            Next::Failed => {
+                self.close(None, host);
+                Err(RunError::HostFault)
+            }
+        }
+    }
+
+    /// Turn after turn, until the run ends or they are spent.
+    fn take_turns<H: Host<Service = B>>(
+        &mut self,
+        alloc: Global,
+        turns: u64,
+        host: &mut H,
+    ) -> Result<Outcome, RunError>
+        requires room { HasRoom self.old.core self.old.closing (H.spare host.old) }
+        requires at { IsSomewhere self.old.core (names_by B.named self.old.boxes) (H.account host.old) 0 }
+        ensures gives { (before : Option (List Item)) (q : Record)
+            → IsAt self.old.core (names_by B.named self.old.boxes) (H.account host.old) 0 q
+            → IsAhead before (H.ahead host.old) q
+            → RunGives self.old.core.plan turns result (H.account host.new) before (H.ahead host.new) }
+        ensures counts { RunCounts result (H.counts host.old) (H.counts host.new) }
+        ensures configured { IsConfigured result }
+    {
+        for k in 0..turns {
+            match self.turn(alloc, k, host) {
+                Ok(StepEnd::On) => {}
+                Ok(StepEnd::Served) => return Ok(Outcome::Served),
+                Err(error) => return Err(error),
+            }
+        }
+        self.close(None, host);
+        Err(RunError::TurnsSpent)
+    }
+
+    /// The whole run.
+    fn run<H: Host<Service = B>>(
+        &mut self,
+        alloc: Global,
+        turns: u64,
+        host: &mut H,
+    ) -> Result<Outcome, RunError>
+        requires first { HasNotBegun self.old.core }
+        requires empty { list_of self.old.closing ≡ [] }
+        requires hands { Hands (names_by B.named self.old.boxes) (H.account host.old) self.old.core.plan [] }
+        ensures gives { RunGives self.old.core.plan turns result (H.account host.new) (H.ahead host.old) (H.ahead host.new) }
+        ensures counts { RunCounts result (H.counts host.old) (H.counts host.new) }
+        ensures configured { IsConfigured result }
+    {
+        match self.begin(alloc, host) {
+            Ok(StepEnd::On) => self.take_turns(alloc, turns, host),
+            Ok(StepEnd::Served) => Ok(Outcome::Served),
+            Err(NoMemory) => Err(RunError::NoMemory),
+        }
+    }
 }
 
 /// Runs a plan over a host, with at most so many events. The services are the plan's, in order.
 pub(crate) fn run_plan<B: ServiceWithDependents, H: Host<Service = B>>(
-    _alloc: Global,
+    alloc: Global,
     plan: Plan,
     services: Vec<B>,
     turns: u64,
@@ -151,5 +291,11 @@ pub(crate) fn run_plan<B: ServiceWithDependents, H: Host<Service = B>>(
     ensures takes { IfSome (H.account host.new) (λ a. IfSome (H.ahead host.old) (λ before. IfSome (H.ahead host.new) (RunTakes result a.entries before))) }
     ensures configured { IsConfigured result }
 {
-    Err(RunError::NoMemory)
+    match Machine::new(alloc, plan, services) {
+        Ok(machine) => {
+            let mut machine = machine;
+            machine.run(alloc, turns, host)
+        }
+        Err(NoMemory) => Err(RunError::NoMemory),
+    }
 }

@@ -1,0 +1,7 @@
+use Rattle.svc_server.proofs.TurnLemmas.{hands-first}
+use Rattle.svc_server.proofs.turns.run_plan.Goals as goal
+
+pub run-requires-clause-hands : goal.run-requires-clause-hands
+run-requires-clause-hands g c =
+    hands-first g.B.ServiceWithDependents.named c.args.services.items c.in-Ok.machine.boxes (g.H.Host.account c.args.host.now) c.args.plan c.in-Ok.machine.core.plan c.in-Ok.ensures.plan
+    c.in-Ok.ensures.left c.requires.names c.requires.first
