@@ -4,17 +4,17 @@ use Rattle.std.specs.Option.{option_to_list}
 use Rattle.std.specs.Str.{is_utf8, IsUtf8}
 use Rattle.std.proofs.lemmas.Str.{is_utf8-from_IsUtf8, IsUtf8-from_is_utf8}
 use Rattle.std.proofs.Math.Bool.{and-true}
-use Rattle.svc_record.specs.declared.event.Event.{Event}
+use Rattle.svc_record.specs.declared.item.Item.{Item}
 use Rattle.std.proofs.lemmas.Bool.{eqb-true, cases_Bool, and_right}
 use Rattle.std.proofs.lemmas.List.{append-nil}
 use Rattle.svc_text.specs.Words.{text_in, words}
-use Rattle.svc_text.specs.EventLines.{event_of}
+use Rattle.svc_text.specs.EventLines.{only_of, event_of, is_fault, item_of}
 use Rattle.svc_text.specs.declared.part.Part.{Part}
 use Rattle.svc_text.specs.declared.service.ServiceLine.{ServiceLine}
 use Rattle.svc_text.specs.declared.reading.Reading.{Reading}
 use Rattle.svc_text.specs.declared.reading.LineError.{LineError}
 use Rattle.svc_text.specs.ServiceLines.{is_name, name_of, service_of}
-use Rattle.svc_text.specs.Script.{part_number, header_of, is_header, is_skipped, says_item, place_fits, line_fits, said_services, said_events}
+use Rattle.svc_text.specs.Script.{part_number, header_of, is_header, is_skipped, says_item, place_fits, line_fits, said_services, said_items}
 use Rattle.svc_text.specs.Outcome.{After, Tests}
 
 -- ---- whether a line fits
@@ -58,8 +58,22 @@ skipped_event ((b ∷ w) ∷ ws) h =
     let e5 : eqb b 101 ≡ false = ap (λ (x : ℕ). eqb x 101) e in
     rw (e1, e2, e3, e4, e5) refl
 
-pub header_says : (n : ℕ) (line : List ℕ) (p : Part) → header_of line ≡ Some p → (said_services n line ≡ []) × (said_events n line ≡ [])
-unfolding said_services said_events
+skipped_is_no_fault : (ws : List (List ℕ)) → is_skipped ws ≡ true → is_fault ws ≡ false
+unfolding is_skipped is_fault only_of
+skipped_is_no_fault [] h = refl
+skipped_is_no_fault ([] ∷ ws) h = absurd cc
+skipped_is_no_fault ((b ∷ w) ∷ []) h =
+    let e : b ≡ 35 = eqb-true b 35 h in
+    let e1 : eqb b 102 ≡ false = ap (λ (x : ℕ). eqb x 102) e in
+    rw e1 refl
+skipped_is_no_fault ((b ∷ w) ∷ v ∷ ws) h = refl
+
+skipped_item : (ws : List (List ℕ)) → is_skipped ws ≡ true → item_of ws ≡ None
+unfolding item_of
+skipped_item ws h = rw (skipped_is_no_fault ws h, skipped_event ws h) refl
+
+pub header_says : (n : ℕ) (line : List ℕ) (p : Part) → header_of line ≡ Some p → (said_services n line ≡ []) × (said_items n line ≡ [])
+unfolding said_services said_items
 header_says n line p h =
     let t : is_header line ≡ true = rw h refl in
     let a : ((n == 2) && not (is_header line)) ≡ false = and_right (n == 2) _ (ap not t) in
@@ -67,8 +81,8 @@ header_says n line p h =
     (rw a refl, rw b refl)
 
 pub item_says : (n : ℕ) (line : List ℕ) → header_of line ≡ None
-    → (said_services n line ≡ cond (n == 2) (option_to_list (service_of (words line))) []) × (said_events n line ≡ cond (n == 3) (option_to_list (event_of (words line))) [])
-unfolding said_services said_events
+    → (said_services n line ≡ cond (n == 2) (option_to_list (service_of (words line))) []) × (said_items n line ≡ cond (n == 3) (option_to_list (item_of (words line))) [])
+unfolding said_services said_items
 item_says n line h =
     let t : is_header line ≡ false = rw h refl in
     let a : ((n == 2) && not (is_header line)) ≡ (n == 2) = ap (λ (x : Bool). (n == 2) && x) (ap not t) ∙ and-true (n == 2) in
@@ -98,7 +112,7 @@ after_header old new line p h t e =
     record {
       part = stepped ∙ rw is refl;
       services = ap (λ (r : Reading). r.services.items) e ∙ rw says.0 (sym (append-nil _));
-      events = ap (λ (r : Reading). r.events.items) e ∙ rw says.1 (sym (append-nil _));
+      items = ap (λ (r : Reading). r.items.items) e ∙ rw says.1 (sym (append-nil _));
     }
 
 pub after_skipped : (r : Reading) (line : List ℕ) → header_of line ≡ None → is_skipped (words line) ≡ true → After r line r
@@ -107,16 +121,16 @@ after_skipped r line h k =
     let says = item_says n line h in
     let is : is_header line ≡ false = rw h refl in
     let ss : said_services n line ≡ [] = says.0 ∙ nothing_either (n == 2) _ (skipped_service (words line) k) in
-    let es : said_events n line ≡ [] = says.1 ∙ nothing_either (n == 3) _ (skipped_event (words line) k) in
+    let es : said_items n line ≡ [] = says.1 ∙ nothing_either (n == 3) _ (skipped_item (words line) k) in
     record {
       part = rw is (sym (add-zero n));
       services = rw ss (sym (append-nil _));
-      events = rw es (sym (append-nil _));
+      items = rw es (sym (append-nil _));
     }
 
 pub after_item : (old new : Reading) (line : List ℕ) → header_of line ≡ None → new.part ≡ old.part
     → new.services.items ≡ old.services.items ++ cond (part_number old.part == 2) (option_to_list (service_of (words line))) []
-    → new.events.items ≡ old.events.items ++ cond (part_number old.part == 3) (option_to_list (event_of (words line))) []
+    → new.items.items ≡ old.items.items ++ cond (part_number old.part == 3) (option_to_list (item_of (words line))) []
     → After old line new
 after_item old new line h p s e =
     let n : ℕ = part_number old.part in
@@ -125,7 +139,7 @@ after_item old new line h p s e =
     record {
       part = ap part_number p ∙ rw is (sym (add-zero n));
       services = s ∙ ap (λ (xs : List ServiceLine). old.services.items ++ xs) (sym says.0);
-      events = e ∙ ap (λ (xs : List Event). old.events.items ++ xs) (sym says.1);
+      items = e ∙ ap (λ (xs : List Item). old.items.items ++ xs) (sym says.1);
     }
 
 -- ---- text

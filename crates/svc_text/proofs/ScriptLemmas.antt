@@ -10,8 +10,8 @@ use Rattle.std.proofs.lemmas.List.Elements.{filter_map-append}
 use Rattle.std.proofs.Math.Seq.{drop-cons, take-length}
 use Rattle.std.proofs.Math.Dec.{eqb-suc-suc, eqb-suc-zero, eqb-zero-suc}
 use Rattle.svc_text.specs.Words.{words}
-use Rattle.svc_record.specs.declared.event.Event.{Event}
-use Rattle.svc_text.specs.EventLines.{event_of}
+use Rattle.svc_record.specs.declared.item.Item.{Item}
+use Rattle.svc_text.specs.EventLines.{item_of}
 use Rattle.svc_text.specs.declared.service.ServiceLine.{ServiceLine}
 use Rattle.svc_text.specs.ServiceLines.{service_of}
 use Rattle.svc_text.specs.declared.reading.Reading.{Reading}
@@ -20,7 +20,7 @@ use Rattle.svc_text.specs.Outcome.{After}
 use Rattle.svc_text.specs.Accepted.{AreAccepted}
 use Rattle.svc_text.proofs.AcceptLemmas.{accepted_none, accepted_line}
 use Rattle.std.specs.Str.Lines.{lines}
-use Rattle.svc_text.specs.Script.{IsLineOf, AreLines, part_number, line_fits, fits_at, first_misfit, judged, script, is_header, begun, part_of, services_in, events_in, said_services, said_events}
+use Rattle.svc_text.specs.Script.{IsLineOf, AreLines, part_number, line_fits, fits_at, first_misfit, judged, script, is_header, begun, part_of, services_in, items_in, said_services, said_items}
 
 -- one more element goes to the last part
 pick : {X : Type 0} → Bool → X → List X
@@ -104,9 +104,9 @@ pub services-push : (ls : List (List ℕ)) (l : List ℕ) → services_in (ls ++
 unfolding services_in said_services
 services-push ls l = said_push (λ x. service_of (words x)) 2 ls l
 
-pub events-push : (ls : List (List ℕ)) (l : List ℕ) → events_in (ls ++ l ∷ []) ≡ events_in ls ++ said_events (begun ls) l
-unfolding events_in said_events
-events-push ls l = said_push (λ x. event_of (words x)) 3 ls l
+pub items-push : (ls : List (List ℕ)) (l : List ℕ) → items_in (ls ++ l ∷ []) ≡ items_in ls ++ said_items (begun ls) l
+unfolding items_in said_items
+items-push ls l = said_push (λ x. item_of (words x)) 3 ls l
 
 -- ---- the first line that does not fit
 
@@ -154,18 +154,18 @@ pub record HasRead (all rest : List ℕ) (n : ℕ) (r : Reading) : Type 0 where
   pub fit : FitUpTo (lines all) n
   pub part : part_number r.part ≡ begun (take n (lines all))
   pub services : r.services.items ≡ services_in (take n (lines all))
-  pub events : r.events.items ≡ events_in (take n (lines all))
+  pub items : r.items.items ≡ items_in (take n (lines all))
   pub accepted : AreAccepted r.services.items
 
-pub none_read : (all : List ℕ) (r : Reading) → r.part ≡ Nothing → r.services.items ≡ [] → r.events.items ≡ [] → HasRead all all 0 r
-unfolding begun services_in events_in part_of
+pub none_read : (all : List ℕ) (r : Reading) → r.part ≡ Nothing → r.services.items ≡ [] → r.items.items ≡ [] → HasRead all all 0 r
+unfolding begun services_in items_in part_of
 none_read all r p s e = record {
   rest_is = refl;
   within = omega arith;
   fit = record { below = λ k lt. absurd (omega arith) };
   part = ap part_number p;
   services = s;
-  events = e;
+  items = e;
   accepted = subst AreAccepted (sym s) accepted_none;
 }
 
@@ -208,7 +208,7 @@ reads_more all rest line after n r s h e t a =
       fit = fit_more (lines all) n h.fit (fits_next all rest line after n r h next ∙ t);
       part = a.part ∙ ap (λ (m : ℕ). m + cond (is_header line) 1 0) h.part ∙ sym (ap begun next.more ∙ begun-push (take n (lines all)) line);
       services = a.services ∙ both (λ (xs : List ServiceLine) m. xs ++ said_services m line) h.services h.part ∙ sym (ap services_in next.more ∙ services-push (take n (lines all)) line);
-      events = a.events ∙ both (λ (xs : List Event) m. xs ++ said_events m line) h.events h.part ∙ sym (ap events_in next.more ∙ events-push (take n (lines all)) line);
+      items = a.items ∙ both (λ (xs : List Item) m. xs ++ said_items m line) h.items h.part ∙ sym (ap items_in next.more ∙ items-push (take n (lines all)) line);
       accepted = subst AreAccepted (sym a.services) (accepted_line (part_number r.part) r.services.items line h.accepted t);
     }
 
@@ -234,14 +234,14 @@ lacks_part all rest n r h e f =
     rw (m, b) (ap (λ (k : ℕ). Err (k + 1)) (sym z.0))
 
 pub reads_all : (all rest : List ℕ) (n : ℕ) (r : Reading) → HasRead all rest n r → lines rest ≡ [] → (part_number r.part == 3) ≡ true
-    → script all ≡ Ok (record { services = r.services.items; events = r.events.items })
+    → script all ≡ Ok (record { services = r.services.items; items = r.items.items })
 unfolding script judged
 reads_all all rest n r h e t =
     let z = ended (lines all) n h.within (sym h.rest_is ∙ e) in
     let m : first_misfit (lines all) ≡ None = misfit_none (lines all) (subst (FitUpTo (lines all)) z.0 h.fit) in
     let b : (begun (lines all) == 3) ≡ true = ap (λ (ls : List (List ℕ)). begun ls == 3) (sym z.1) ∙ ap (λ (k : ℕ). k == 3) (sym h.part) ∙ t in
     let ss : services_in (lines all) ≡ r.services.items = ap services_in (sym z.1) ∙ sym h.services in
-    let es : events_in (lines all) ≡ r.events.items = ap events_in (sym z.1) ∙ sym h.events in
+    let es : items_in (lines all) ≡ r.items.items = ap items_in (sym z.1) ∙ sym h.items in
     rw (m, b, ss, es) refl
 
 -- ---- the lines of the services

@@ -1,11 +1,14 @@
--- What a line of words says, where it is an event.
-use Rattle.std.specs.Prelude.{ℕ, ◌^◌, if◌then◌else◌, List, [], ◌∷◌, codes, Option, Some, None}
+-- What a line of words says, where it is an event or a fault.
+use Rattle.std.specs.Prelude.{ℕ, Bool, false, ◌^◌, if◌then◌else◌, List, [], ◌∷◌, codes, Option, Some, None}
+use Rattle.std.specs.Option.{option_map, option_map_or}
 use Rattle.std.specs.Str.{bytes_eq}
 use Rattle.svc_text.specs.Words.{◌>>=◌, number_of}
 use Rattle.svc_record.specs.declared.event.ShutdownSignal.{ShutdownSignal}
 use Rattle.svc_record.specs.declared.event.ShutdownSignal.TheVariants.{FastShutdown}
 use Rattle.svc_record.specs.declared.event.Event.{Event}
 use Rattle.svc_record.specs.declared.event.Event.TheVariants.{Moment, Ready, Ended, Bound, Signal}
+use Rattle.svc_record.specs.declared.item.Item.{Item}
+use Rattle.svc_record.specs.declared.item.Item.TheVariants as item
 
 -- the one word that there is
 unfoldable pub only_of : List (List ℕ) → Option (List ℕ)
@@ -67,3 +70,11 @@ event_of (key ∷ args) =
     else (if bytes_eq key (codes "ended") then ended_of args
     else (if bytes_eq key (codes "bound") then bound_of args
     else (if bytes_eq key (codes "signal") then signalled_of args else None))))
+
+-- the one word that there is is `fault`
+unfoldable pub is_fault : List (List ℕ) → Bool
+is_fault ws = option_map_or (λ w. bytes_eq w (codes "fault")) (only_of ws) false
+
+-- the item that the words of a line say: a fault, or an event
+unfoldable pub item_of : List (List ℕ) → Option Item
+item_of ws = if is_fault ws then Some item.Fault else option_map item.Event (event_of ws)

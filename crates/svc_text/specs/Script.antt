@@ -5,8 +5,8 @@ use Rattle.std.specs.Option.{option_to_list}
 use Rattle.std.specs.Str.{bytes_eq, is_utf8}
 use Rattle.std.specs.Str.Lines.{lines}
 use Rattle.svc_text.specs.Words.{words}
-use Rattle.svc_record.specs.declared.event.Event.{Event}
-use Rattle.svc_text.specs.EventLines.{event_of}
+use Rattle.svc_record.specs.declared.item.Item.{Item}
+use Rattle.svc_text.specs.EventLines.{item_of}
 use Rattle.svc_text.specs.declared.part.Part.{Part}
 use Rattle.svc_text.specs.declared.part.Part.TheVariants.{Nothing, Conf, Services, Events}
 use Rattle.svc_text.specs.declared.service.ServiceLine.{ServiceLine}
@@ -42,9 +42,9 @@ part_of n ls = slice_index_or (slice_split is_header ls) n []
 unfoldable pub services_in : List (List ℕ) → List ServiceLine
 services_in ls = filter_map (λ l. service_of (words l)) (part_of 2 ls)
 
--- the events that the lines say
-unfoldable pub events_in : List (List ℕ) → List Event
-events_in ls = filter_map (λ l. event_of (words l)) (part_of 3 ls)
+-- the items that the lines say
+unfoldable pub items_in : List (List ℕ) → List Item
+items_in ls = filter_map (λ l. item_of (words l)) (part_of 3 ls)
 
 -- a blank line, or a comment
 unfoldable pub is_skipped : List (List ℕ) → Bool
@@ -71,7 +71,7 @@ is_next services (Some s) = nat_lt (length services) 1024 && is_free services s.
 
 -- the words may stand in the part
 unfoldable pub says_item : ℕ → List ServiceLine → List (List ℕ) → Bool
-says_item part services ws = if part == 2 then is_next services (service_of ws) else (if part == 3 then is_some (event_of ws) else false)
+says_item part services ws = if part == 2 then is_next services (service_of ws) else (if part == 3 then is_some (item_of ws) else false)
 
 -- a line, which may begin a part, fits its place
 unfoldable pub place_fits : ℕ → List ServiceLine → List ℕ → Option Part → Bool
@@ -93,12 +93,12 @@ first_misfit ls = find (λ k. not (fits_at ls k)) (range_with_len 0 (length ls))
 -- what a script says
 pub record Parts : Type 0 where
   pub services : List ServiceLine
-  pub events : List Event
+  pub items : List Item
 
 -- lines are numbered from 1; where all fit and a part is missing, the line behind the last is refused
 unfoldable pub judged : Option ℕ → List (List ℕ) → Result Parts ℕ
 judged (Some k) ls = Err (k + 1)
-judged None ls = if begun ls == 3 then Ok (record { services = services_in ls; events = events_in ls }) else Err (length ls + 1)
+judged None ls = if begun ls == 3 then Ok (record { services = services_in ls; items = items_in ls }) else Err (length ls + 1)
 
 -- what the bytes say as a script, or the number of the first refused line
 unfoldable pub script : List ℕ → Result Parts ℕ
@@ -108,9 +108,9 @@ script bytes = judged (first_misfit (lines bytes)) (lines bytes)
 unfoldable pub said_services : ℕ → List ℕ → List ServiceLine
 said_services part line = if (part == 2) && not (is_header line) then option_to_list (service_of (words line)) else []
 
--- the events that one more line says
-unfoldable pub said_events : ℕ → List ℕ → List Event
-said_events part line = if (part == 3) && not (is_header line) then option_to_list (event_of (words line)) else []
+-- the items that one more line says
+unfoldable pub said_items : ℕ → List ℕ → List Item
+said_items part line = if (part == 3) && not (is_header line) then option_to_list (item_of (words line)) else []
 
 -- line n, from 1, says the service at index k: there is one service more behind it than before it
 pub record IsLineOf (ls : List (List ℕ)) (k n : ℕ) : Type 0 where

@@ -1,13 +1,13 @@
-//! What a line says as an event.
+//! What a line says as an event, or as a fault.
 
 ghost use Rattle.std.specs.Prelude.{◌≡◌, ◌^◌};
 ghost use Rattle.std.specs.Option.{option_copied, option_map};
 ghost use Rattle.svc_text.specs.Words.{words, number_of};
-ghost use Rattle.svc_text.specs.EventLines.{only_of, three_of, signal_of, moment_of, ready_of, ended_of, bound_of, signalled_of, event_of};
+ghost use Rattle.svc_text.specs.EventLines.{only_of, three_of, signal_of, moment_of, ready_of, ended_of, bound_of, signalled_of, event_of, is_fault, item_of};
 
 use crate::cuts::split_word;
 use crate::numbers::{number, number32};
-use svc_record::{Event, ShutdownSignal};
+use svc_record::{Event, Item, ShutdownSignal};
 
 #[tactic(auto, unfolding(crate::specs::EventLines::signal_of))]
 fn signal_of(word: &[u8]) -> Option<ShutdownSignal>
@@ -107,4 +107,26 @@ pub fn event_of_line(line: &[u8]) -> Option<Event>
     } else {
         None
     }
+}
+
+/// The line is the word `fault` alone.
+#[tactic(auto, unfolding(crate::specs::EventLines::is_fault))]
+fn is_fault(line: &[u8]) -> bool
+    ensures { result ≡ is_fault (words line.now) }
+{
+    match only_of(line) {
+        Some(word) => word == b"fault".as_slice(),
+        None => false,
+    }
+}
+
+/// The item that a line says: an event, or the fault of the host.
+#[tactic(auto, unfolding(crate::specs::EventLines::item_of))]
+pub fn item_of_line(line: &[u8]) -> Option<Item>
+    ensures { result ≡ item_of (words line.now) }
+{
+    if is_fault(line) {
+        return Some(Item::Fault);
+    }
+    Some(Item::Event(event_of_line(line)?))
 }

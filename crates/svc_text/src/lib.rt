@@ -14,7 +14,7 @@ mod refused;
 mod service;
 
 pub use cuts::{split_line, split_word};
-pub use event_lines::event_of_line;
+pub use event_lines::{event_of_line, item_of_line};
 pub use numbers::number;
 pub use parsing::{Script, ScriptError, parse};
 pub use plan::plan_of;

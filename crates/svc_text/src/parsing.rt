@@ -11,7 +11,7 @@ use crate::reading::{LineError, Reading};
 use crate::service::ServiceLine;
 use std::alloc::Global;
 use svc_conf::NoMemory;
-use svc_record::Event;
+use svc_record::Item;
 use thiserror::Error;
 
 /// What a script says.
@@ -19,7 +19,8 @@ use thiserror::Error;
 pub struct Script {
     /// The services, numbered from 0 in the order of their lines.
     pub services: Vec<ServiceLine>,
-    pub events: Vec<Event>,
+    /// The events, and where the host fails.
+    pub items: Vec<Item>,
     /// The number of each service's line.
     pub lines: Vec<usize>,
 }
@@ -73,7 +74,7 @@ pub fn parse(alloc: Global, bytes: &[u8]) -> Result<Script, ScriptError>
     }
     Ok(Script {
         services: reading.services,
-        events: reading.events,
+        items: reading.items,
         lines,
     })
 }

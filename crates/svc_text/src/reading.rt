@@ -6,19 +6,19 @@ ghost use Rattle.std.specs.Str.{is_utf8};
 ghost use Rattle.svc_text.specs.declared.part.Part.TheVariants.{Nothing};
 ghost use Rattle.svc_text.specs.Outcome.{After, Tests};
 ghost use Rattle.std.specs.Option.{option_to_list};
-ghost use Rattle.svc_text.specs.EventLines.{event_of};
+ghost use Rattle.svc_text.specs.EventLines.{item_of};
 ghost use Rattle.svc_text.specs.Words.{words};
 ghost use Rattle.svc_text.specs.ServiceLines.{service_of};
 ghost use Rattle.svc_text.specs.Script.{part_number, is_skipped, is_free, is_next, has_address, says_item, line_fits};
 
 use crate::cuts::split_word;
-use crate::event_lines::event_of_line;
+use crate::event_lines::item_of_line;
 use crate::part::{Part, header_of};
 use crate::service::{ServiceLine, service_of_line};
 use std::alloc::{AllocFailed, Global};
 use std::str;
 use svc_conf::{NoMemory, Text};
-use svc_record::Event;
+use svc_record::Item;
 
 /// Why a line wasn't taken.
 #[derive(Clone, Copy, Debug, PartialEq, Eq)]
@@ -52,7 +52,7 @@ impl<T: Drop> From<AllocFailed<T>> for LineError {
 pub struct Reading {
     pub part: Part,
     pub services: Vec<ServiceLine>,
-    pub events: Vec<Event>,
+    pub items: Vec<Item>,
 }
 
 #[tactic(auto, unfolding(crate::specs::Script::is_skipped))]
@@ -104,12 +104,12 @@ impl Reading {
     pub fn new(alloc: Global) -> Self
         ensures part { result.part ≡ Nothing }
         ensures services { result.services.items ≡ [] }
-        ensures events { result.events.items ≡ [] }
+        ensures items { result.items.items ≡ [] }
     {
         Reading {
             part: Part::Nothing,
             services: Vec::new(alloc),
-            events: Vec::new(alloc),
+            items: Vec::new(alloc),
         }
     }
 
@@ -130,7 +130,7 @@ impl Reading {
         ensures test { Tests (is_next self.old.services.items (service_of (words line.now))) result }
         ensures services { OnOk result (self.new.services.items ≡ self.old.services.items ++ option_to_list (service_of (words line.now))) }
         ensures part { OnOk result (self.new.part ≡ self.old.part) }
-        ensures events { OnOk result (self.new.events.items ≡ self.old.events.items) }
+        ensures items { OnOk result (self.new.items.items ≡ self.old.items.items) }
     {
         let Some(service) = service_of_line(alloc, line)? else {
             return Err(LineError::Refused);
@@ -146,15 +146,15 @@ impl Reading {
     }
 
     fn take_event(&mut self, line: &[u8]) -> Result<(), LineError>
-        ensures test { Tests (is_some (event_of (words line.now))) result }
-        ensures events { OnOk result (self.new.events.items ≡ self.old.events.items ++ option_to_list (event_of (words line.now))) }
+        ensures test { Tests (is_some (item_of (words line.now))) result }
+        ensures items { OnOk result (self.new.items.items ≡ self.old.items.items ++ option_to_list (item_of (words line.now))) }
         ensures part { OnOk result (self.new.part ≡ self.old.part) }
         ensures services { OnOk result (self.new.services.items ≡ self.old.services.items) }
     {
-        let Some(event) = event_of_line(line) else {
+        let Some(item) = item_of_line(line) else {
             return Err(LineError::Refused);
         };
-        self.events.push(event)?;
+        self.items.push(item)?;
         Ok(())
     }
 
@@ -164,7 +164,7 @@ impl Reading {
         ensures test { Tests (says_item (part_number self.old.part) self.old.services.items (words line.now)) result }
         ensures part { OnOk result (self.new.part ≡ self.old.part) }
         ensures services { OnOk result (self.new.services.items ≡ self.old.services.items ++ (if part_number self.old.part == 2 then option_to_list (service_of (words line.now)) else [])) }
-        ensures events { OnOk result (self.new.events.items ≡ self.old.events.items ++ (if part_number self.old.part == 3 then option_to_list (event_of (words line.now)) else [])) }
+        ensures items { OnOk result (self.new.items.items ≡ self.old.items.items ++ (if part_number self.old.part == 3 then option_to_list (item_of (words line.now)) else [])) }
     {
         match self.part {
             Part::Services => self.take_service(alloc, line),

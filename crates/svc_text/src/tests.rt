@@ -2,7 +2,7 @@ use super::*;
 use std::alloc::Global;
 use std::test::Fail;
 use svc_graph::Kind;
-use svc_record::{Action, Entry, Event, ExecutionPhase, ShutdownSignal};
+use svc_record::{Action, Entry, Event, ExecutionPhase, Item, ShutdownSignal};
 
 fn refused_line(alloc: Global, bytes: &[u8]) -> Option<usize> {
     match parse(alloc, bytes) {
@@ -14,17 +14,19 @@ fn refused_line(alloc: Global, bytes: &[u8]) -> Option<usize> {
 #[test]
 fn reads_a_script(rt: HostRuntime) -> Result<(), Fail> {
     let text =
-        b"\n# first\n%conf\n# none\n\n%services\n db notify\r\n\n#x\napi\tplain tcp 127.0.0.1:80 after 0,0\nweb plain after 1 \n%events\nmoment 18446744073709551615\nready 0\n ended 4294967295\n\tbound 1 0 18446744073709551615\n# end\nsignal fast";
+        b"\n# first\n%conf\n# none\n\n%services\n db notify\r\n\n#x\napi\tplain tcp 127.0.0.1:80 after 0,0\nweb plain after 1 \n%events\nmoment 18446744073709551615\nready 0\n ended 4294967295\n\tbound 1 0 18446744073709551615\nfault\n# end\nsignal fast\n\tfault ";
     let script = parse(rt.alloc(), text).ok().ok_or("a script")?;
     assert_eq!(rt; script.lines.as_slice(), [7usize, 10, 11].as_slice());
     assert_eq!(rt;
-        script.events.as_slice(),
+        script.items.as_slice(),
         [
-            Event::Moment(18_446_744_073_709_551_615),
-            Event::Ready(0),
-            Event::Ended(4_294_967_295),
-            Event::Bound(1, 0, 18_446_744_073_709_551_615),
-            Event::Signal(ShutdownSignal::FastShutdown)
+            Item::Event(Event::Moment(18_446_744_073_709_551_615)),
+            Item::Event(Event::Ready(0)),
+            Item::Event(Event::Ended(4_294_967_295)),
+            Item::Event(Event::Bound(1, 0, 18_446_744_073_709_551_615)),
+            Item::Fault,
+            Item::Event(Event::Signal(ShutdownSignal::FastShutdown)),
+            Item::Fault
         ]
         .as_slice()
     );
@@ -85,7 +87,10 @@ fn names_the_first_refused_line(rt: HostRuntime) {
         (b"%conf\n%services\n%events\nmoment 1 2\n", 4),
         (b"%conf\n%services\n%events\nended 4294967296\n", 4),
         (b"%conf\n%services\n%events\nended 00\n", 4),
-        (b"%conf\n%services\n%events\nfault\n", 4),
+        (b"%conf\n%services\n%events\nfault\nfault 1\n", 5),
+        (b"%conf\n%services\n%events\nfaults\n", 4),
+        (b"%conf\n%services\n%events\nready 0 fault\n", 4),
+        (b"%conf\n%services\nfault\n%events\n", 3),
         (b"%conf\n%services\n%events\n\nredy 0\nsignal fast\n", 5),
         (b"%conf\n%services\n%events\n%events\n", 4),
     ] {

@@ -4,7 +4,7 @@ use Rattle.svc_text.proofs.ScriptLemmas.{lines_none, lines_more, none_read, read
 use Rattle.svc_text.proofs.parsing.parse.Goals as goal
 
 pub loop-line-init : goal.loop-line-init
-loop-line-init c = (none_read c.args.bytes.now c.new-reading.result c.new-reading.ensures.part c.new-reading.ensures.services c.new-reading.ensures.events, omega arith, lines_none _ _ _ (ap length c.new-reading.ensures.services) c.new-lines.ensures.items)
+loop-line-init c = (none_read c.args.bytes.now c.new-reading.result c.new-reading.ensures.part c.new-reading.ensures.services c.new-reading.ensures.items, omega arith, lines_none _ _ _ (ap length c.new-reading.ensures.services) c.new-lines.ensures.items)
 
 pub returns-in-Err-Refused-clause-parts : goal.returns-in-Err-Refused-clause-parts
 returns-in-Err-Refused-clause-parts c =

@@ -23,7 +23,7 @@ returns-clause-test c =
 
 pub returns-clause-after : goal.returns-clause-after
 returns-clause-after c =
-    on_ok_three c.take_item.result c.take_item.ensures.part c.take_item.ensures.services c.take_item.ensures.events (λ p s e. after_item c.args.self.now c.take_item.new.self c.args.line.now (cc) p s e)
+    on_ok_three c.take_item.result c.take_item.ensures.part c.take_item.ensures.services c.take_item.ensures.items (λ p s e. after_item c.args.self.now c.take_item.new.self c.args.line.now (cc) p s e)
 
 pub returns-then-not-is_text-clause-test : goal.returns-then-not-is_text-clause-test
 returns-then-not-is_text-clause-test c = fits_not_text _ _ c.args.line.now (cc)
