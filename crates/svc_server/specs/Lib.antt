@@ -1,2 +1,4 @@
 pub mod Hosts
 pub mod Runs
+pub mod ScriptHostData
+pub mod ScriptHosts

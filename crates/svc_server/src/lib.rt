@@ -3,7 +3,9 @@
 
 mod host;
 mod run;
+mod script_host;
 mod turns;
 
 pub use host::{Host, Next};
 pub use run::{Outcome, RunArgs, RunError};
+pub use script_host::ScriptHost;
