@@ -1,5 +1,6 @@
 -- How a run went, by what it answers. `p` is the plan, `r` the record, whose newest entry stands first.
-use Rattle.std.specs.Prelude.{ℕ, true, false, ◌≡◌, ◌+◌, ◌≤◌, ◌⊎◌, List, [], ◌∷◌, ◌++◌, length, map, Option, Some, None, Result, Ok, Err}
+use Rattle.std.specs.Prelude.{ℕ, true, false, ◌≡◌, ◌+◌, ◌≤◌, ◌⊎◌, List, [], ◌∷◌, ◌++◌, length, map, Option, Some, None, Result, Ok, Err, slice_get, slice_set}
+use Rattle.std.specs.Option.{option_map}
 use Rattle.svc_conf.specs.Streams.{Rose}
 use Rattle.svc_record.specs.declared.plan.Plan.{Plan}
 use Rattle.svc_record.specs.declared.plan.ServicePlan.{ServicePlan}
@@ -18,7 +19,7 @@ use Rattle.svc_server.specs.declared.run.Outcome.{Outcome}
 use Rattle.svc_server.specs.declared.run.Outcome.TheVariants.{Served}
 use Rattle.svc_server.specs.declared.run.RunError.{RunError}
 use Rattle.svc_server.specs.declared.run.RunError.TheVariants.{Config, HostFault, Stray, TurnsSpent, OutOfEvents, NoMemory}
-use Rattle.svc_server.specs.Hosts.{Handed, Account, Counts}
+use Rattle.svc_server.specs.Hosts.{Handed, Account, Counts, no_account}
 
 -- the events of a record, the oldest first
 abbrev pub events_of : Record → List Event

@@ -49,16 +49,14 @@ impl<B> Model for ScriptHost<B> {
     ghost invariant = { λ a. KeepsScript a.script.items a.given (reverse (list_of a.entries)) (list_of a.phases) a.faults a.idles };
 }
 
-impl<B> ScriptHost<B> {
+impl<B: ServiceWithDependents> ScriptHost<B> {
     /// A host that gives these items, in order. It makes no memory of its own.
     pub fn new(alloc: Global, items: Vec<Item>) -> Self
         ensures taken { result.taken ≡ [] }
-        ensures left { result.left ≡ items.items }
-        ensures entries { result.entries ≡ [] }
-        ensures handed { result.handed ≡ [] }
-        ensures faults { result.faults ≡ 0 }
-        ensures idles { result.idles ≡ 0 }
-        ensures last { result.last ≡ None }
+        ensures ahead { ⟦<ScriptHost<B> as Host>⟧.ahead result ≡ Some items.items }
+        ensures account { ⟦<ScriptHost<B> as Host>⟧.account result ≡ Some no_account }
+        ensures counts { ⟦<ScriptHost<B> as Host>⟧.counts result ≡ counts_with 0 0 }
+        ensures last { ⟦<ScriptHost<B> as Host>⟧.last result ≡ None }
     {
         ScriptHost {
             script: items,
@@ -174,3 +172,6 @@ impl<B: ServiceWithDependents> Host for ScriptHost<B> {
         self.entries.put(Entry::Told(action));
     }
 }
+
+#[cfg(test)]
+mod tests;
