@@ -13,7 +13,10 @@ use svc_graph::services::ServiceWithDependents;
 use svc_record::{Action, Entries, Entry, Event, ExecutionPhase, Item};
 
 /// A host that gives the items of a list, one after the other. It keeps what it gave and was told,
-/// and the services that it was handed, to its end.
+/// and the services that it was handed, to its end. `reserve` makes so much room in each of its lists.
+///
+/// Contracts see the items that it gave and those that are left, its record, the services, its counts,
+/// its room and the last event.
 #[derive(Drop)]
 pub struct ScriptHost<B> {
     script: Vec<Item>,
