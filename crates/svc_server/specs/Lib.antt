@@ -2,3 +2,5 @@ pub mod Hosts
 pub mod Runs
 pub mod Handing
 pub mod Turns
+pub mod ScriptHostData
+pub mod ScriptHosts

@@ -5,7 +5,9 @@ mod boxes;
 mod handing;
 mod host;
 mod run;
+mod script_host;
 mod turns;
 
 pub use host::{Host, Next};
 pub use run::{Outcome, RunArgs, RunError};
+pub use script_host::ScriptHost;
