@@ -1,2 +1,4 @@
 pub mod Hosts
 pub mod Runs
+pub mod Servers
+pub mod Additions

@@ -3,7 +3,9 @@
 
 mod host;
 mod run;
+mod server;
 mod turns;
 
 pub use host::{Host, Next};
 pub use run::{Outcome, RunArgs, RunError};
+pub use server::{AddAllRefused, AddError, AddRefused, ReadError, Server};
