@@ -1,2 +1,3 @@
 pub mod PlanLemmas
 pub mod AddLemmas
+pub mod RunLemmas

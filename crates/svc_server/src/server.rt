@@ -4,11 +4,14 @@ mod adding;
 mod planning;
 mod refusals;
 
+use crate::host::Host;
+use crate::run::{Outcome, RunArgs, RunError};
 use crate::server::adding::fault_of;
-use crate::server::planning::{is_test, is_upgrade, service_plans};
+use crate::server::planning::{is_test, is_upgrade, runnable, service_plans};
+use crate::turns::run_plan;
 pub use refusals::{AddAllRefused, AddError, AddRefused, ReadError};
 use std::alloc::Global;
-use svc_conf::{Key, NoMemory, Opt, ServerConf, Text};
+use svc_conf::{NoMemory, Opt, ServerConf, Text};
 use svc_core::PhaseReader;
 use svc_graph::services::ServiceWithDependents;
 use svc_graph::{DependencyGraph, ServiceHandle};
@@ -27,9 +30,12 @@ pub struct Server<B> {
 }
 
 impl<B: ServiceWithDependents> Server<B> {
-    ghost use Rattle.std.specs.Prelude.{◌≡◌, ◌<◌, Ok, Err, None, false, [], ◌∷◌, ◌++◌, IfOk, IfErr, OnOk, OnErr, vec_len, vec_capacity};
+    ghost use Rattle.std.specs.Prelude.{◌≡◌, ◌<◌, Ok, Err, None, false, [], ◌∷◌, ◌++◌, IfOk, IfSome, ◌↔◌, IfErr, OnOk, OnErr, vec_len, vec_capacity};
     ghost use Rattle.svc_conf.specs.Configuration.{judged};
     ghost use Rattle.svc_record.specs.Validity.{IsValid, IsBuilt};
+    ghost use Rattle.svc_record.specs.Right.{Served as ServedRecord};
+    ghost use Rattle.svc_server.specs.Hosts.{no_account};
+    ghost use Rattle.svc_server.specs.Runs.{RunTells, RunCounts, RunTakes};
     ghost use Rattle.svc_graph.specs.Graphs.{node_count, with_node};
     ghost use Rattle.svc_server.specs.Additions.{fault_of, IsReason};
     ghost use Rattle.svc_server.specs.Servers.{answer_of, answers_of, plan_of, merged, runnable, IsSound};
@@ -136,6 +142,41 @@ impl<B: ServiceWithDependents> Server<B> {
         }
     }
 
+    /// Adds a service as `add_service` does.
+    pub fn add_boxed_service(
+        &mut self,
+        alloc: Global,
+        service: B,
+    ) -> Result<ServiceHandle, AddRefused<B>>
+        ensures configuration { self.new.configuration ≡ self.old.configuration }
+        ensures options { self.new.options ≡ self.old.options }
+
+        // It is taken exactly where no cause stands, want of memory aside.
+        ensures handle { IfOk result (λ handle. handle
+            ≡ record { id = node_count self.old.dependencies; name = B.named service }) }
+        ensures added { OnOk result (self.new.services.items ≡ self.old.services.items ++ service ∷ []) }
+        ensures node { OnOk result (self.new.dependencies
+            ≡ with_node self.old.dependencies (B.named service)) }
+        ensures good { OnOk result (fault_of self.old.dependencies
+            (answers_of B.ServiceWithDependents self.old.services.items)
+            (answer_of B.ServiceWithDependents service) ≡ None) }
+
+        // Else the cause is told, and nothing changes.
+        ensures cause { IfErr result (λ refused. IsReason (fault_of self.old.dependencies
+            (answers_of B.ServiceWithDependents self.old.services.items)
+            (answer_of B.ServiceWithDependents service)) refused.reason) }
+        ensures back { IfErr result (λ refused. refused.service ≡ service) }
+        ensures same_services { OnErr result (self.new.services.items ≡ self.old.services.items) }
+        ensures same_nodes { OnErr result (self.new.dependencies ≡ self.old.dependencies) }
+
+        ensures sound { IsSound self.old.dependencies
+            (answers_of B.ServiceWithDependents self.old.services.items)
+            → IsSound self.new.dependencies
+            (answers_of B.ServiceWithDependents self.new.services.items) }
+    {
+        self.add_service(alloc, service)
+    }
+
     /// A reader of the phases that a run tells, at the first one.
     pub fn watch_execution_phase(&self) -> PhaseReader
         ensures { result ≡ 0 }
@@ -171,5 +212,47 @@ impl<B: ServiceWithDependents> Server<B> {
             wait: conf.daemon_wait_for_ready,
             ready_timeout: conf.daemon_ready_timeout_seconds.unwrap_or(600),
         })
+    }
+
+    /// Runs the server over a host until its shutdown is through, with at most so many events as there
+    /// are turns. `Config` with the offending key where no server can be run with the configuration,
+    /// and with `daemon` where it asks for a daemon, which isn't built yet; the other errors are those
+    /// of the run. Each service is handed to the host right before its start.
+    pub fn run<H: Host<Service = B>>(
+        self,
+        alloc: Global,
+        args: RunArgs,
+        host: &mut H,
+    ) -> Result<Outcome, RunError>
+        requires sound { IsSound self.dependencies
+            (answers_of B.ServiceWithDependents self.services.items) }
+        requires first { IfSome (H.account host.old) (λ a. a ≡ no_account) }
+
+        // The headline: where the host tells its account, its record is a served one of the plan.
+        ensures served { result ≡ Ok Outcome.Served → IfSome (H.account host.new) (λ a.
+            ServedRecord (plan_of self.configuration self.options self.dependencies
+            (answers_of B.ServiceWithDependents self.services.items)) a.entries) }
+
+        // The record, and what was handed over, by each answer.
+        ensures tells { IfSome (H.account host.new) (RunTells (plan_of self.configuration
+            self.options self.dependencies
+            (answers_of B.ServiceWithDependents self.services.items)) args.turns result) }
+        ensures counts { RunCounts result (H.counts host.old) (H.counts host.new) }
+        ensures takes { IfSome (H.account host.new) (λ a. IfSome (H.ahead host.old) (λ before.
+            IfSome (H.ahead host.new) (RunTakes result a.entries before))) }
+        ensures config { (key : _) → (result ≡ Err (RunError.Config key))
+            ↔ (runnable self.configuration ≡ Err key) }
+    {
+        if let Err(key) = runnable(&self.configuration) {
+            return Err(RunError::Config(key));
+        }
+        let plan = self.plan(alloc)?;
+        let Server {
+            configuration: _,
+            options: _,
+            dependencies: _,
+            services,
+        } = self;
+        run_plan(alloc, plan, services, args.turns, host)
     }
 }
