@@ -5,3 +5,6 @@ pub mod StepLemmas
 pub mod AnswerOfStep
 pub mod TurnLemmas
 pub mod ScriptLemmas
+pub mod PlanLemmas
+pub mod AddLemmas
+pub mod RunLemmas

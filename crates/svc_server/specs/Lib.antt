@@ -4,3 +4,5 @@ pub mod Handing
 pub mod Turns
 pub mod ScriptHostData
 pub mod ScriptHosts
+pub mod Servers
+pub mod Additions

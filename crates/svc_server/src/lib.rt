@@ -6,8 +6,10 @@ mod handing;
 mod host;
 mod run;
 mod script_host;
+mod server;
 mod turns;
 
 pub use host::{Host, Next};
 pub use run::{Outcome, RunArgs, RunError};
 pub use script_host::ScriptHost;
+pub use server::{AddAllRefused, AddError, AddRefused, ReadError, Server};

@@ -1,0 +1,204 @@
+-- Adding a service to a server.
+use Rattle.std.proofs.Common.{ℕ, zero, suc, Bool, true, false, not, ◌||◌, ◌&&◌, ◌==◌, cond, List, [], ◌∷◌, ◌++◌, ◌≡◌, refl, sym, ◌∙◌, ap, subst, inl, inr, ◌⊎◌, arith, ◌+◌, ◌<◌, ◌≤◌, length, map, take, get_or, All, nat_lt, nat_le}
+use Rattle.std.specs.Prelude.{Option, Some, None, position, is_some}
+use Rattle.std.specs.List.{list_any, position_or_len}
+use Rattle.std.specs.Option.{option_map, option_or}
+use Rattle.std.proofs.lemmas.Bool.{and_parts, and_from, or_parts, or_from, not_from_false, ltb-false, eqb-false, false_from_ne_true, le-leb, lt-leb}
+use Rattle.std.proofs.lemmas.List.{length-map, get_or-map, map_more, map_push}
+use Rattle.std.proofs.lemmas.List.Elements.{All-push, All-nil, All-cons}
+use Rattle.std.proofs.lemmas.List.Folds.{list_any_at, list_any-append}
+use Rattle.svc_graph.specs.GraphData.{GraphData}
+use Rattle.svc_graph.specs.Graphs.{node_count, with_node}
+use Rattle.svc_graph.specs.declared.plan.EndpointPlan.{EndpointPlan}
+use Rattle.svc_graph.specs.declared.plan.Kind.TheVariants.{Bootstrap}
+use Rattle.svc_record.specs.declared.plan.ServicePlan.{ServicePlan}
+use Rattle.svc_record.specs.Plans.{is_kind}
+use Rattle.svc_record.specs.Validity.{IsAddress}
+use Rattle.svc_record.specs.Building.{IsPlainEndpoint, IsPlainService, clashes, share_address, are_apart}
+use Rattle.svc_server.specs.declared.server.refusals.AddError.{AddError}
+use Rattle.svc_server.specs.declared.server.refusals.AddError.TheVariants.{TooMany, TooManyEndpoints, BadAddressText, UnknownFilter, Unbuilt}
+use Rattle.svc_graph.specs.declared.services.ServiceWithDependents.{Ghosts}
+use Rattle.svc_server.specs.Servers.{answer_of, answers_of, IsSound}
+use Rattle.svc_server.specs.Additions.{is_bad_address, has_filter, is_unix, is_taken, is_unbuilt, is_unbuilt_form, cause_if, first_cause, endpoint_causes, fault_of}
+
+-- ---- an address that another service has
+
+-- a service with a shared address among them
+pub taken-at : {B : Type 0} (answer : B → ServicePlan) (bs : List B) (k : ℕ) (b : B) (endpoints : List EndpointPlan) → k < length bs → b ≡ get_or bs k b → share_address endpoints (answer b).endpoints ≡ true → is_taken (map answer bs) endpoints ≡ true
+taken-at answer bs k b endpoints lt read shares =
+    list_any_at (λ (s : ServicePlan). share_address endpoints s.endpoints) (map answer bs) k (answer b) (omega (arith, length-map bs answer))
+    (subst (λ (s : ServicePlan). share_address endpoints s.endpoints ≡ true) (ap answer read ∙ sym (get_or-map answer bs k b (answer b) lt)) shares)
+
+-- one service more, which shares none
+pub taken-more : {B : Type 0} (answer : B → ServicePlan) (bs : List B) (k : ℕ) (b : B) (endpoints : List EndpointPlan) → k < length bs → b ≡ get_or bs k b → share_address endpoints (answer b).endpoints ≡ false
+    → is_taken (map answer (take k bs)) endpoints ≡ false → is_taken (map answer (take (k + 1) bs)) endpoints ≡ false
+taken-more answer bs k b endpoints lt read apart before =
+    ap (λ (xs : List ServicePlan). is_taken xs endpoints) (map_more answer bs k b lt)
+    ∙ list_any-append (λ (s : ServicePlan). share_address endpoints s.endpoints) (map answer (take k bs)) (answer (get_or bs k b) ∷ [])
+    ∙ or_from _ _ before (or_from _ _ (subst (λ x. share_address endpoints (answer x).endpoints ≡ false) read apart) refl)
+
+-- ---- causes
+
+option_or_none : (a : Option AddError) → option_or a None ≡ a
+option_or_none None = refl
+option_or_none (Some x) = refl
+
+or_none_parts : (a b : Option AddError) → option_or a b ≡ None → (a ≡ None) × (b ≡ None)
+or_none_parts None b e = (refl, e)
+or_none_parts (Some x) b e = absurd (cc)
+
+pub first_cause-append : (xs ys : List (Option AddError)) → first_cause (xs ++ ys) ≡ option_or (first_cause xs) (first_cause ys)
+first_cause-append [] ys = refl
+first_cause-append (None ∷ xs) ys = first_cause-append xs ys
+first_cause-append (Some x ∷ xs) ys = refl
+
+no_cause : (b : Bool) (cause : AddError) → cause_if b cause ≡ None → b ≡ false
+no_cause true cause e = absurd (cc)
+no_cause false cause e = refl
+
+unmapped : (f : ℕ → AddError) (o : Option ℕ) → option_map f o ≡ None → o ≡ None
+unmapped f None e = refl
+unmapped f (Some x) e = absurd (cc)
+
+not_some : {X : Type 0} (o : Option X) → is_some o ≡ false → o ≡ None
+not_some None e = refl
+not_some (Some x) e = absurd (cc)
+
+-- where a test has no first element, no element passes it
+no_position : {X : Type 0} (p : X → Bool) (xs : List X) → position p xs ≡ None → All (λ x. p x ≡ false) xs
+no_position p xs e = none p xs (past (position_or_len p xs) (length xs) e)
+  where
+    past : (i n : ℕ) → cond (nat_lt i n) (Some i) None ≡ None → n ≤ i
+    past i n none = ltb-false i n (false_from_ne_true (nat_lt i n) (λ lt. (let found : cond true (Some i) None ≡ None = subst (λ b. cond b (Some i) None ≡ None) lt none in absurd (cc))))
+
+    none : {Y : Type 0} (q : Y → Bool) (ys : List Y) → length ys ≤ position_or_len q ys → All (λ y. q y ≡ false) ys
+    none q [] le k d lt = absurd (omega arith)
+    none q (y ∷ ys) le k d lt =
+        let first : q y ≡ false = false_from_ne_true (q y) (λ yes. (let here : position_or_len q (y ∷ ys) ≡ 0 = rw yes refl in omega arith)) in
+        let later : position_or_len q (y ∷ ys) ≡ 1 + position_or_len q ys = rw first refl in
+        All-cons (λ x. q x ≡ false) y ys first (none q ys (omega arith)) k d lt
+
+-- ---- a server with one service more
+
+-- one service more, which shares no address
+apart-push : (xs : List ServicePlan) (x : ServicePlan) → are_apart xs ≡ true → is_taken xs x.endpoints ≡ false → are_apart (xs ++ x ∷ []) ≡ true
+apart-push [] x apart free = refl
+apart-push (y ∷ ys) x apart free =
+    let both = and_parts (not (clashes y.endpoints ys)) (are_apart ys) apart in
+    let parts = or_parts (share_address x.endpoints y.endpoints) (is_taken ys x.endpoints) free in
+    and_from (not (clashes y.endpoints (ys ++ x ∷ []))) (are_apart (ys ++ x ∷ []))
+    (not_from_false (clashes y.endpoints (ys ++ x ∷ []))
+    (list_any-append (λ (s : ServicePlan). share_address s.endpoints y.endpoints) ys (x ∷ [])
+    ∙ or_from _ _ (clash_free (clashes y.endpoints ys) both.0) (or_from _ _ parts.0 refl)))
+    (apart-push ys x both.1 parts.1)
+  where
+    clash_free : (b : Bool) → not b ≡ true → b ≡ false
+    clash_free true e = absurd (cc)
+    clash_free false e = refl
+
+-- where no cause stands
+record NoCause (full many : Bool) (bad filtered : Option ℕ) (boots two unix taken : Bool) : Type 0 where
+  room : full ≡ false
+  few : many ≡ false
+  addresses : bad ≡ None
+  filters : filtered ≡ None
+  boots_not : boots ≡ false
+  single : two ≡ false
+  tcp : unix ≡ false
+  free : taken ≡ false
+
+no_causes : (full many : Bool) (bad filtered : Option ℕ) (boots two unix taken : Bool)
+    → first_cause (cause_if full TooMany ∷ cause_if many TooManyEndpoints ∷ option_map BadAddressText bad ∷ option_map UnknownFilter filtered ∷ cause_if ((boots || (two || unix)) || taken) Unbuilt ∷ []) ≡ None
+    → NoCause full many bad filtered boots two unix taken
+no_causes full many bad filtered boots two unix taken none =
+    let a = or_none_parts (cause_if full TooMany) (first_cause (cause_if many TooManyEndpoints ∷ option_map BadAddressText bad ∷ option_map UnknownFilter filtered ∷ cause_if ((boots || (two || unix)) || taken) Unbuilt ∷ [])) none in
+    let b = or_none_parts (cause_if many TooManyEndpoints) (first_cause (option_map BadAddressText bad ∷ option_map UnknownFilter filtered ∷ cause_if ((boots || (two || unix)) || taken) Unbuilt ∷ [])) a.1 in
+    let c = or_none_parts (option_map BadAddressText bad) (first_cause (option_map UnknownFilter filtered ∷ cause_if ((boots || (two || unix)) || taken) Unbuilt ∷ [])) b.1 in
+    let d = or_none_parts (option_map UnknownFilter filtered) (first_cause (cause_if ((boots || (two || unix)) || taken) Unbuilt ∷ [])) c.1 in
+    let e = or_none_parts (cause_if ((boots || (two || unix)) || taken) Unbuilt) None d.1 in
+    let built = or_parts (boots || (two || unix)) taken (no_cause ((boots || (two || unix)) || taken) Unbuilt e.0) in
+    let form = or_parts boots (two || unix) built.0 in
+    let rest = or_parts two unix form.1 in
+    record {
+      room = no_cause full TooMany a.0;
+      few = no_cause many TooManyEndpoints b.0;
+      addresses = unmapped BadAddressText bad c.0;
+      filters = unmapped UnknownFilter filtered d.0;
+      boots_not = form.0;
+      single = rest.0;
+      tcp = rest.1;
+      free = built.1;
+    }
+
+-- what is known of a service that can be added
+record IsGood (answers : List ServicePlan) (s : ServicePlan) : Type 0 where
+  limits : (length s.endpoints ≤ 64) × All IsAddress s.endpoints
+  plain : IsPlainService s
+  free : is_taken answers s.endpoints ≡ false
+
+good-address : (e : EndpointPlan) → is_bad_address e ≡ false → IsAddress e
+good-address e good =
+    let parts = or_parts (length e.address == 0) (nat_lt 4096 (length e.address)) good in
+    let some : length e.address ≡ 0 → ⊥ = eqb-false (length e.address) 0 parts.0 in
+    let few : length e.address ≤ 4096 = ltb-false 4096 (length e.address) parts.1 in
+    (omega arith, few)
+
+-- where no element passes a test, none at an index does
+none_passes : {X : Type 0} (p : X → Bool) (xs : List X) → list_any p xs ≡ false → All (λ x. p x ≡ false) xs
+none_passes p xs none k d lt = false_from_ne_true (p (get_or xs k d)) (λ yes. (let some = list_any_at p xs k d lt yes in cc))
+
+good : (g : GraphData) (answers : List ServicePlan) (s : ServicePlan) → fault_of g answers s ≡ None → IsGood answers s
+good g answers s none =
+    let said = no_causes (nat_le 1024 (node_count g)) (nat_lt 64 (length s.endpoints)) (position is_bad_address s.endpoints) (position has_filter s.endpoints)
+    (is_kind Bootstrap s.kind) (nat_lt 1 (length s.endpoints)) (list_any is_unix s.endpoints) (is_taken answers s.endpoints) none in
+    let filters = no_position has_filter s.endpoints said.filters in
+    let tcp = none_passes is_unix s.endpoints said.tcp in
+    record {
+      limits = (
+        ltb-false 64 (length s.endpoints) said.few,
+        λ k d lt. good-address (get_or s.endpoints k d) (no_position is_bad_address s.endpoints said.addresses k d lt),
+      );
+      plain = record {
+        boots_not = said.boots_not;
+        single = ltb-false 1 (length s.endpoints) said.single;
+        plain = λ k d lt. record { tcp = tcp k d lt; unfiltered = not_some (get_or s.endpoints k d).filter (filters k d lt) };
+      };
+      free = said.free;
+    }
+
+-- a sound server stays so with a service that can be added
+pub sound-push : (g : GraphData) (answers : List ServicePlan) (s : ServicePlan) → fault_of g answers s ≡ None → IsSound g answers → IsSound (with_node g s.name) (answers ++ s ∷ [])
+sound-push g answers s none sound =
+    let known = good g answers s none in
+    record {
+      names = ap (λ (names : List (List ℕ)). names ++ s.name ∷ []) sound.names ∙ sym (map_push (λ (x : ServicePlan). x.name) answers s);
+      limits = All-push (λ (x : ServicePlan). (length x.endpoints ≤ 64) × All IsAddress x.endpoints) answers s sound.limits known.limits;
+      plain = All-push IsPlainService answers s sound.plain known.plain;
+      apart = apart-push answers s sound.apart known.free;
+    }
+
+-- ---- the first cause, step by step
+
+pub fault-full : (g : GraphData) (answers : List ServicePlan) (s : ServicePlan) → 1024 ≤ node_count g → fault_of g answers s ≡ Some TooMany
+fault-full g answers s full = rw (le-leb 1024 (node_count g) full) refl
+
+-- where there is room, the other causes decide
+pub fault-room : (g : GraphData) (answers : List ServicePlan) (s : ServicePlan) → node_count g < 1024 → fault_of g answers s ≡ option_or (first_cause (endpoint_causes s.endpoints)) (cause_if (is_unbuilt answers s.kind s.endpoints) Unbuilt)
+fault-room g answers s room =
+    let free : nat_le 1024 (node_count g) ≡ false = lt-leb 1024 (node_count g) room in
+    rw free (first_cause-append (endpoint_causes s.endpoints) (cause_if (is_unbuilt answers s.kind s.endpoints) Unbuilt ∷ [])
+    ∙ ap (λ (c : Option AddError). option_or (first_cause (endpoint_causes s.endpoints)) c) (option_or_none (cause_if (is_unbuilt answers s.kind s.endpoints) Unbuilt)))
+
+pub fault-none : (g : GraphData) (answers : List ServicePlan) (s : ServicePlan) → node_count g < 1024 → first_cause (endpoint_causes s.endpoints) ≡ None → is_unbuilt answers s.kind s.endpoints ≡ false → fault_of g answers s ≡ None
+fault-none g answers s room fine built =
+    fault-room g answers s room
+    ∙ ap (λ (c : Option AddError). option_or c (cause_if (is_unbuilt answers s.kind s.endpoints) Unbuilt)) fine
+    ∙ ap (λ (b : Bool). cause_if b Unbuilt) built
+
+-- the server after a service was added
+pub add-sound : {B : Type 0} (means : Ghosts B) (g h : GraphData) (old new : List B) (b : B) → h ≡ with_node g (means.named b) → new ≡ old ++ b ∷ [] → fault_of g (answers_of means old) (answer_of means b) ≡ None
+    → IsSound g (answers_of means old) → IsSound h (answers_of means new)
+add-sound means g h old new b node added none sound =
+    subst (λ (k : GraphData). IsSound k (answers_of means new)) (sym node)
+    (subst (λ (answers : List ServicePlan). IsSound (with_node g (means.named b)) answers) (sym (ap (λ xs. answers_of means xs) added ∙ map_push (answer_of means) old b))
+    (sound-push g (answers_of means old) (answer_of means b) none sound))

@@ -1,0 +1,258 @@
+//! A server: its configuration, its services with their dependencies, and its run.
+
+mod adding;
+mod planning;
+mod refusals;
+
+use crate::host::Host;
+use crate::run::{Outcome, RunArgs, RunError};
+use crate::server::adding::fault_of;
+use crate::server::planning::{is_test, is_upgrade, runnable, service_plans};
+use crate::turns::run_plan;
+pub use refusals::{AddAllRefused, AddError, AddRefused, ReadError};
+use std::alloc::Global;
+use svc_conf::{NoMemory, Opt, ServerConf, Text};
+use svc_core::PhaseReader;
+use svc_graph::services::ServiceWithDependents;
+use svc_graph::{DependencyGraph, ServiceHandle};
+use svc_record::Plan;
+
+/// A server whose services have the type `B`, which is `Box<dyn ServiceWithDependents>` for most.
+#[derive(Drop)]
+pub struct Server<B> {
+    /// What the server is configured with.
+    pub configuration: ServerConf,
+    /// The flags that it was started with.
+    pub options: Option<Opt>,
+    /// Which service depends on which. Its nodes are the services, by number and name.
+    pub dependencies: DependencyGraph,
+    services: Vec<B>,
+}
+
+impl<B: ServiceWithDependents> Server<B> {
+    ghost use Rattle.std.specs.Prelude.{◌≡◌, ◌<◌, Ok, Err, None, false, [], ◌∷◌, ◌++◌, IfOk, IfSome, ◌↔◌, IfErr, OnOk, OnErr, vec_len, vec_capacity};
+    ghost use Rattle.svc_conf.specs.Configuration.{judged};
+    ghost use Rattle.svc_record.specs.Validity.{IsValid, IsBuilt};
+    ghost use Rattle.svc_record.specs.Right.{Served as ServedRecord};
+    ghost use Rattle.svc_server.specs.Hosts.{no_account};
+    ghost use Rattle.svc_server.specs.Runs.{RunTells, RunCounts, RunTakes};
+    ghost use Rattle.svc_graph.specs.Graphs.{node_count, with_node};
+    ghost use Rattle.svc_server.specs.Additions.{fault_of, IsReason};
+    ghost use Rattle.svc_server.specs.Servers.{answer_of, answers_of, plan_of, merged, runnable, IsSound};
+
+    /// A server without services. The flags are merged into the configuration, which is then
+    /// validated; the path in the flags isn't looked at. `Invalid` with the offending key where the
+    /// configuration is one that no server can run with.
+    pub fn new_with_opt_and_conf(
+        alloc: Global,
+        opt: Option<Opt>,
+        mut conf: ServerConf,
+    ) -> Result<Server<B>, ReadError>
+        ensures configuration { IfOk result (λ server. server.configuration ≡ merged opt conf) }
+        ensures options { IfOk result (λ server. server.options ≡ opt) }
+        ensures nodes { IfOk result
+            (λ server. server.dependencies ≡ record { names = []; depends = [] }) }
+        ensures services { IfOk result (λ server. server.services.items ≡ []) }
+        ensures accepted { OnOk result (judged (merged opt conf) ≡ Ok tt) }
+        ensures refused { IfErr result
+            (λ error. (key : _) × (error ≡ ReadError.Invalid key) × (judged (merged opt conf) ≡ Err key)) }
+        ensures sound { IfOk result (λ server. IsSound server.dependencies
+            (answers_of B.ServiceWithDependents server.services.items)) }
+    {
+        if let Some(opt) = &opt {
+            conf.merge_with_opt(opt);
+        }
+        if let Err(key) = conf.validate() {
+            return Err(ReadError::Invalid(key));
+        }
+        Ok(Server {
+            configuration: conf,
+            options: opt,
+            dependencies: DependencyGraph::new(alloc),
+            services: Vec::new(alloc),
+        })
+    }
+
+    /// Makes a node for the service, and room for it. The services and the configuration stay.
+    fn prepare(&mut self, alloc: Global, service: &B) -> Result<ServiceHandle, AddError>
+        ensures configuration { self.new.configuration ≡ self.old.configuration }
+        ensures options { self.new.options ≡ self.old.options }
+        ensures services { self.new.services.items ≡ self.old.services.items }
+        ensures room { OnOk result (vec_len self.new.services < vec_capacity self.new.services) }
+        ensures handle { IfOk result (λ handle. handle
+            ≡ record { id = node_count self.old.dependencies; name = B.named service.now }) }
+        ensures node { OnOk result (self.new.dependencies
+            ≡ with_node self.old.dependencies (B.named service.now)) }
+        ensures unchanged { OnErr result (self.new.dependencies ≡ self.old.dependencies) }
+        ensures good { OnOk result (fault_of self.old.dependencies
+            (answers_of B.ServiceWithDependents self.old.services.items)
+            (answer_of B.ServiceWithDependents service.now) ≡ None) }
+        ensures cause { IfErr result (IsReason (fault_of self.old.dependencies
+            (answers_of B.ServiceWithDependents self.old.services.items)
+            (answer_of B.ServiceWithDependents service.now))) }
+    {
+        if let Some(fault) = fault_of(alloc, &self.dependencies, &self.services, service)? {
+            return Err(fault);
+        }
+        self.services.reserve(1).map_err(NoMemory::from)?;
+        let name = Text::new(alloc, service.name())?;
+        let node_name = Text::new(alloc, service.name())?;
+        match self.dependencies.add_node(alloc, node_name) {
+            Ok(id) => Ok(ServiceHandle::new(id, name)),
+            // There is room for a node, so it is memory that is wanted.
+            Err(_) => Err(AddError::NoMemory),
+        }
+    }
+
+    /// Adds a service, and answers its handle, which has the next number. A refusal gives the service
+    /// back, with the first cause that stands, and leaves the server as it was.
+    pub fn add_service(&mut self, alloc: Global, service: B) -> Result<ServiceHandle, AddRefused<B>>
+        ensures configuration { self.new.configuration ≡ self.old.configuration }
+        ensures options { self.new.options ≡ self.old.options }
+
+        // It is taken exactly where no cause stands, want of memory aside.
+        ensures handle { IfOk result (λ handle. handle
+            ≡ record { id = node_count self.old.dependencies; name = B.named service }) }
+        ensures added { OnOk result (self.new.services.items ≡ self.old.services.items ++ service ∷ []) }
+        ensures node { OnOk result (self.new.dependencies
+            ≡ with_node self.old.dependencies (B.named service)) }
+        ensures good { OnOk result (fault_of self.old.dependencies
+            (answers_of B.ServiceWithDependents self.old.services.items)
+            (answer_of B.ServiceWithDependents service) ≡ None) }
+
+        // Else the cause is told, and nothing changes.
+        ensures cause { IfErr result (λ refused. IsReason (fault_of self.old.dependencies
+            (answers_of B.ServiceWithDependents self.old.services.items)
+            (answer_of B.ServiceWithDependents service)) refused.reason) }
+        ensures back { IfErr result (λ refused. refused.service ≡ service) }
+        ensures same_services { OnErr result (self.new.services.items ≡ self.old.services.items) }
+        ensures same_nodes { OnErr result (self.new.dependencies ≡ self.old.dependencies) }
+
+        ensures sound { IsSound self.old.dependencies
+            (answers_of B.ServiceWithDependents self.old.services.items)
+            → IsSound self.new.dependencies
+            (answers_of B.ServiceWithDependents self.new.services.items) }
+    {
+        match self.prepare(alloc, &service) {
+            Ok(handle) => {
+                self.services.push_reserved(service);
+                Ok(handle)
+            }
+            Err(reason) => Err(AddRefused { reason, service }),
+        }
+    }
+
+    /// Adds a service as `add_service` does.
+    pub fn add_boxed_service(
+        &mut self,
+        alloc: Global,
+        service: B,
+    ) -> Result<ServiceHandle, AddRefused<B>>
+        ensures configuration { self.new.configuration ≡ self.old.configuration }
+        ensures options { self.new.options ≡ self.old.options }
+
+        // It is taken exactly where no cause stands, want of memory aside.
+        ensures handle { IfOk result (λ handle. handle
+            ≡ record { id = node_count self.old.dependencies; name = B.named service }) }
+        ensures added { OnOk result (self.new.services.items ≡ self.old.services.items ++ service ∷ []) }
+        ensures node { OnOk result (self.new.dependencies
+            ≡ with_node self.old.dependencies (B.named service)) }
+        ensures good { OnOk result (fault_of self.old.dependencies
+            (answers_of B.ServiceWithDependents self.old.services.items)
+            (answer_of B.ServiceWithDependents service) ≡ None) }
+
+        // Else the cause is told, and nothing changes.
+        ensures cause { IfErr result (λ refused. IsReason (fault_of self.old.dependencies
+            (answers_of B.ServiceWithDependents self.old.services.items)
+            (answer_of B.ServiceWithDependents service)) refused.reason) }
+        ensures back { IfErr result (λ refused. refused.service ≡ service) }
+        ensures same_services { OnErr result (self.new.services.items ≡ self.old.services.items) }
+        ensures same_nodes { OnErr result (self.new.dependencies ≡ self.old.dependencies) }
+
+        ensures sound { IsSound self.old.dependencies
+            (answers_of B.ServiceWithDependents self.old.services.items)
+            → IsSound self.new.dependencies
+            (answers_of B.ServiceWithDependents self.new.services.items) }
+    {
+        self.add_service(alloc, service)
+    }
+
+    /// A reader of the phases that a run tells, at the first one.
+    pub fn watch_execution_phase(&self) -> PhaseReader
+        ensures { result ≡ 0 }
+    {
+        PhaseReader::new()
+    }
+
+    /// What the server is run by: its services as they answer, their dependencies, and the settings,
+    /// with 300 seconds of grace, 5 seconds to stop, 5 retries and 600 seconds of waiting for a
+    /// daemon where they are unset. It is valid where the configuration is, and has only forms that
+    /// are built where no daemon is asked for.
+    pub fn plan(&self, alloc: Global) -> Result<Plan, NoMemory>
+        requires sound { IsSound self.now.dependencies
+            (answers_of B.ServiceWithDependents self.now.services.items) }
+        ensures plan { IfOk result (λ plan. plan
+            ≡ plan_of self.now.configuration self.now.options self.now.dependencies
+            (answers_of B.ServiceWithDependents self.now.services.items)) }
+        ensures valid { judged self.now.configuration ≡ Ok tt → IfOk result IsValid }
+        ensures built { self.now.configuration.daemon ≡ false → IfOk result IsBuilt }
+    {
+        let conf = &self.configuration;
+        let services = service_plans(alloc, &self.dependencies, &self.services)?;
+        Ok(Plan {
+            services,
+            grace: conf.grace_period_seconds.unwrap_or(300),
+            stop: conf.graceful_shutdown_timeout_seconds.unwrap_or(5),
+            tasks: conf.listener_tasks_per_fd,
+            limit: conf.upgrade_sock_connect_accept_max_retries.unwrap_or(5),
+            upgrade: is_upgrade(&self.options),
+            test: is_test(&self.options),
+            eager: false,
+            daemon: conf.daemon,
+            wait: conf.daemon_wait_for_ready,
+            ready_timeout: conf.daemon_ready_timeout_seconds.unwrap_or(600),
+        })
+    }
+
+    /// Runs the server over a host until its shutdown is through, with at most so many events as there
+    /// are turns. `Config` with the offending key where no server can be run with the configuration,
+    /// and with `daemon` where it asks for a daemon, which isn't built yet; the other errors are those
+    /// of the run. Each service is handed to the host right before its start.
+    pub fn run<H: Host<Service = B>>(
+        self,
+        alloc: Global,
+        args: RunArgs,
+        host: &mut H,
+    ) -> Result<Outcome, RunError>
+        requires sound { IsSound self.dependencies
+            (answers_of B.ServiceWithDependents self.services.items) }
+        requires first { IfSome (H.account host.old) (λ a. a ≡ no_account) }
+
+        // The headline: where the host tells its account, its record is a served one of the plan.
+        ensures served { result ≡ Ok Outcome.Served → IfSome (H.account host.new) (λ a.
+            ServedRecord (plan_of self.configuration self.options self.dependencies
+            (answers_of B.ServiceWithDependents self.services.items)) a.entries) }
+
+        // The record, and what was handed over, by each answer.
+        ensures tells { IfSome (H.account host.new) (RunTells (plan_of self.configuration
+            self.options self.dependencies
+            (answers_of B.ServiceWithDependents self.services.items)) args.turns result) }
+        ensures counts { RunCounts result (H.counts host.old) (H.counts host.new) }
+        ensures takes { IfSome (H.account host.new) (λ a. IfSome (H.ahead host.old) (λ before.
+            IfSome (H.ahead host.new) (RunTakes result a.entries before))) }
+        ensures config { (key : _) → (result ≡ Err (RunError.Config key))
+            ↔ (runnable self.configuration ≡ Err key) }
+    {
+        if let Err(key) = runnable(&self.configuration) {
+            return Err(RunError::Config(key));
+        }
+        let plan = self.plan(alloc)?;
+        let Server {
+            configuration: _,
+            options: _,
+            dependencies: _,
+            services,
+        } = self;
+        run_plan(alloc, plan, services, args.turns, host)
+    }
+}

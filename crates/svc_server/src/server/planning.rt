@@ -1,0 +1,113 @@
+//! What a server's plan is made of.
+
+ghost use Rattle.std.specs.Prelude.{◌≡◌, ◌<◌, ◌+◌, length, IfOk, OnOk, [], ◌∷◌, ◌++◌};
+ghost use Rattle.std.specs.Option.{option_map};
+ghost use Rattle.svc_graph.specs.Graphs.{node_count, IsGraph};
+ghost use Rattle.svc_server.specs.Servers.{answer_of, answers_of, depends_of, with_depends, is_upgrade, is_test, runnable};
+
+use std::alloc::Global;
+use svc_conf::{Items, Key, NoMemory, Opt, ServerConf, Text, Texts};
+use svc_graph::DependencyGraph;
+use svc_graph::services::ServiceWithDependents;
+use svc_record::{ServiceList, ServicePlan};
+
+/// The items as a list of a plan.
+fn list_of<T: Drop>(alloc: Global, items: Vec<T>) -> Result<Items<T>, NoMemory>
+    ensures { IfOk result (λ list. list ≡ items.items) }
+{
+    let mut list = Items::new(alloc);
+    for item in items {
+        if let Err(refused) = list.push(alloc, item) {
+            return Err(refused.reason);
+        }
+    }
+    Ok(list)
+}
+
+/// What the service declares, as a plan has it.
+fn declared_of<B: ServiceWithDependents>(
+    alloc: Global,
+    service: &B,
+) -> Result<Option<Texts>, NoMemory>
+    ensures { IfOk result (λ declared. declared ≡ B.declares service.now) }
+{
+    match service.listen_addresses(alloc)? {
+        Some(texts) => Ok(Some(list_of(alloc, texts)?)),
+        None => Ok(None),
+    }
+}
+
+/// What the service with this number answers, with what the graph says that it depends on.
+fn service_plan<B: ServiceWithDependents>(
+    alloc: Global,
+    graph: &DependencyGraph,
+    s: u32,
+    service: &B,
+) -> Result<ServicePlan, NoMemory>
+    requires { s < node_count graph.now }
+    ensures { IfOk result (λ plan. plan
+        ≡ record (answer_of B.ServiceWithDependents service.now) {
+          depends = depends_of graph.now s;
+        }) }
+{
+    Ok(ServicePlan {
+        name: Text::new(alloc, service.name())?,
+        kind: service.kind(),
+        depends: list_of(alloc, graph.get_dependencies(alloc, s)?)?,
+        declared: declared_of(alloc, service)?,
+        endpoints: list_of(alloc, service.listener_configs(alloc)?)?,
+    })
+}
+
+/// What each of the services answers, with what the graph says that it depends on.
+pub(super) fn service_plans<B: ServiceWithDependents>(
+    alloc: Global,
+    graph: &DependencyGraph,
+    services: &[B],
+) -> Result<ServiceList, NoMemory>
+    requires { length services.now ≡ node_count graph.now }
+    ensures graph { IsGraph graph.now }
+    ensures plans { IfOk result (λ plans. plans
+        ≡ with_depends graph.now 0
+        (answers_of B.ServiceWithDependents services.now)) }
+{
+    let mut plans = ServiceList::new(alloc);
+    for s in 0..graph.len() as u32 {
+        let plan = service_plan(alloc, graph, s, &services[s as usize])?;
+        if let Err(refused) = plans.push(alloc, plan) {
+            return Err(refused.reason);
+        }
+    }
+    Ok(plans)
+}
+
+/// The flags ask that the server takes over the sockets of an older one.
+pub(super) fn is_upgrade(options: &Option<Opt>) -> bool
+    ensures { result ≡ is_upgrade options.now }
+{
+    match options {
+        Some(opt) => opt.upgrade,
+        None => false,
+    }
+}
+
+/// The flags ask that the server only tests that it can start.
+pub(super) fn is_test(options: &Option<Opt>) -> bool
+    ensures { result ≡ is_test options.now }
+{
+    match options {
+        Some(opt) => opt.test,
+        None => false,
+    }
+}
+
+/// Whether a server can be run with the configuration, with the offending key where it can't.
+pub(super) fn runnable(conf: &ServerConf) -> Result<(), Key>
+    ensures { result ≡ runnable conf.now }
+{
+    conf.validate()?;
+    if conf.daemon {
+        return Err(Key::Daemon);
+    }
+    Ok(())
+}
