@@ -13,7 +13,7 @@ use Rattle.std.specs.declared.rc.RcStr.{RcStr}
 use Rattle.std.proofs.lemmas.Slice.Eq.{bytes_eq-Decides}
 use Rattle.std.specs.Io.KnownBytes.{Appends, IsAtEnd}
 use Rattle.svc_main.specs.declared.outcome.RunEnd.{RunEnd}
-use Rattle.svc_main.specs.declared.outcome.RunEnd.TheVariants.{Served, Stray, OutOfEvents}
+use Rattle.svc_main.specs.declared.outcome.RunEnd.TheVariants.{Served, HostFault, Stray, OutOfEvents}
 use Rattle.svc_main.specs.declared.outcome.StatusLine.{StatusLine}
 use Rattle.svc_main.specs.declared.outcome.StatusLine.TheVariants.{Words, Line, ReadFault, Run}
 use Rattle.svc_main.specs.Status.{status_text, status_line, StatusFits, status_of}
@@ -34,6 +34,7 @@ error_from words left now_left before now Words out a d p e = absurd (omega arit
 error_from words left now_left before now (Line n) out a d p e = absurd (omega arith)
 error_from words left now_left before now ReadFault out a d p e = absurd (omega arith)
 error_from words left now_left before now (Run Served) out a d p e = absurd (omega arith)
+error_from words left now_left before now (Run HostFault) out a d p e = (HostFault, λ q. cc, a.0, d, (out, a.1, p))
 error_from words left now_left before now (Run (Stray k)) out a d p e = (Stray k, λ q. cc, a.0, d, (out, a.1, p))
 error_from words left now_left before now (Run OutOfEvents) out a d p e = (OutOfEvents, λ q. cc, a.0, d, (out, a.1, p))
 
@@ -47,6 +48,7 @@ status_words Words = codes "status" ∷ codes "words" ∷ []
 status_words (Line n) = codes "status" ∷ codes "line" ∷ decimal n ∷ []
 status_words ReadFault = codes "status" ∷ codes "read" ∷ codes "fault" ∷ []
 status_words (Run Served) = codes "status" ∷ codes "served" ∷ []
+status_words (Run HostFault) = codes "status" ∷ codes "host" ∷ codes "fault" ∷ []
 status_words (Run (Stray k)) = codes "status" ∷ codes "stray" ∷ decimal k ∷ []
 status_words (Run OutOfEvents) = codes "status" ∷ codes "out" ∷ codes "of" ∷ codes "events" ∷ []
 
@@ -56,6 +58,7 @@ spelt Words = refl
 spelt (Line n) = refl
 spelt ReadFault = refl
 spelt (Run Served) = refl
+spelt (Run HostFault) = refl
 spelt (Run (Stray k)) = refl
 spelt (Run OutOfEvents) = refl
 
@@ -65,6 +68,7 @@ status_fits Words h = (word _ refl (omega arith), (word _ refl (omega arith), tt
 status_fits (Line n) h = (word _ refl (omega arith), (word _ refl (omega arith), (decimal_word n h, tt)))
 status_fits ReadFault h = (word _ refl (omega arith), (word _ refl (omega arith), (word _ refl (omega arith), tt)))
 status_fits (Run Served) h = (word _ refl (omega arith), (word _ refl (omega arith), tt))
+status_fits (Run HostFault) h = (word _ refl (omega arith), (word _ refl (omega arith), (word _ refl (omega arith), tt)))
 status_fits (Run (Stray k)) h = (word _ refl (omega arith), (word _ refl (omega arith), (decimal_word k h, tt)))
 status_fits (Run OutOfEvents) h = (word _ refl (omega arith), (word _ refl (omega arith), (word _ refl (omega arith), (word _ refl (omega arith), tt))))
 
@@ -74,6 +78,7 @@ status_is_no_entry Words = no_entry _
 status_is_no_entry (Line n) = no_entry _
 status_is_no_entry ReadFault = no_entry _
 status_is_no_entry (Run Served) = no_entry _
+status_is_no_entry (Run HostFault) = no_entry _
 status_is_no_entry (Run (Stray k)) = no_entry _
 status_is_no_entry (Run OutOfEvents) = no_entry _
 

@@ -1,4 +1,3 @@
 pub mod Status
-pub mod Runs
-pub mod Steps
+pub mod Services
 pub mod Program

@@ -1,5 +1,5 @@
 -- What the program answers, and why.
-use Rattle.std.specs.Prelude.{◌≡◌, ℕ, All, ◌<◌, ◌≤◌, ◌⊎◌, List, [], ◌∷◌, ◌++◌, length, take, codes, reverse, Option, Ok, Err, IfSome, false}
+use Rattle.std.specs.Prelude.{◌≡◌, ℕ, All, ◌<◌, ◌≤◌, ◌⊎◌, ◌+◌, List, [], ◌∷◌, ◌++◌, length, take, map, codes, reverse, Option, Result, Ok, Err, IfSome, false}
 use Rattle.std.specs.Io.KnownBytes.{Appends, IsAtEnd}
 use Rattle.std.specs.Str.Lines.{lines}
 use Rattle.svc_conf.specs.Streams.{Rose}
@@ -7,7 +7,8 @@ use Rattle.svc_record.specs.declared.plan.Plan.{Plan}
 use Rattle.svc_record.specs.declared.event.Event.{Event}
 use Rattle.svc_record.specs.declared.event.Event.TheVariants.{Signal}
 use Rattle.svc_record.specs.declared.event.ShutdownSignal.TheVariants.{FastShutdown}
-use Rattle.svc_record.specs.declared.entry.Entry.{Entry}
+use Rattle.svc_record.specs.declared.item.Item.{Item}
+use Rattle.svc_record.specs.declared.item.Item.TheVariants as items
 use Rattle.svc_record.specs.Record.{Record}
 use Rattle.svc_record.specs.Ends.{has_ended}
 use Rattle.svc_record.specs.Fits.{Fits}
@@ -16,26 +17,44 @@ use Rattle.svc_record.specs.Text.{text_of, EntryFits}
 use Rattle.svc_text.specs.Script.{Parts, IsLineOf, script}
 use Rattle.svc_text.specs.Dependencies.{RefusesAt, RefusesNone}
 use Rattle.svc_text.specs.ScriptPlans.{plan_of}
+use Rattle.svc_server.specs.declared.run.Outcome.{Outcome}
+use Rattle.svc_server.specs.declared.run.Outcome.TheVariants as outcomes
+use Rattle.svc_server.specs.declared.run.RunError.{RunError}
+use Rattle.svc_server.specs.declared.run.RunError.TheVariants as errors
+use Rattle.svc_server.specs.Runs.{events_of, RunEnds, RunTakes}
 use Rattle.svc_main.specs.declared.outcome.RunEnd.{RunEnd}
+use Rattle.svc_main.specs.declared.outcome.RunEnd.TheVariants.{Served, HostFault, Stray, OutOfEvents}
 use Rattle.svc_main.specs.declared.outcome.StatusLine.{StatusLine}
 use Rattle.svc_main.specs.declared.outcome.StatusLine.TheVariants.{Words, Line, ReadFault, Run}
 use Rattle.svc_main.specs.Status.{status_line, StatusFits}
-use Rattle.svc_main.specs.Runs.{events_of, RunIs}
 
 -- the words are those that the program takes
 abbrev pub TakesWords : List (List ℕ) → Type 0
 TakesWords words = words ≡ codes "run" ∷ []
 
--- the run of a script's plan over its events leaves these entries and ends so, and they are what is printed with the status line
-pub record IsRunOf (parts : Parts) (end : RunEnd) (out : List ℕ) (entries : List Entry) : Type 0 where
-  pub printed : out ≡ text_of entries ++ status_line (Run end)
-  pub numbers : All EntryFits entries
+-- what the run of a server answers where it ends so
+abbrev pub answer_of : RunEnd → Result Outcome RunError
+answer_of Served = Ok outcomes.Served
+answer_of HostFault = Err errors.HostFault
+answer_of (Stray k) = Err (errors.Stray k)
+answer_of OutOfEvents = Err errors.OutOfEvents
+
+-- how many turns a script's run has: one more than it has items
+abbrev pub turns_of : Parts → ℕ
+turns_of parts = length parts.items + 1
+
+-- the run of a server of the script's plan, over the script's items, leaves this record and ends so, and they are what is printed with the status line
+pub record IsRunOf (parts : Parts) (end : RunEnd) (out : List ℕ) (r : Record) : Type 0 where
+  pub printed : out ≡ text_of (reverse r) ++ status_line (Run end)
+  pub numbers : All EntryFits (reverse r)
   pub number : StatusFits (Run end)
-  pub run : RunIs (plan_of parts.services) parts.events entries end
+  pub ends : RunEnds (plan_of parts.services) (turns_of parts) (answer_of end) r
+  pub left : List Item
+  pub takes : RunTakes (answer_of end) r parts.items left
 
 -- a text that prints the run of the script
 abbrev pub RanText : Parts → RunEnd → List ℕ → Type 0
-RanText parts end out = (entries : List Entry) × IsRunOf parts end out entries
+RanText parts end out = (r : Record) × IsRunOf parts end out r
 
 -- the bytes are a script with these parts, whose dependencies are known and without a cycle
 pub record IsScript (bytes : List ℕ) (parts : Parts) : Type 0 where
@@ -92,9 +111,11 @@ abbrev pub WritesFront : List (List ℕ) → Option (List ℕ) → Option (List 
 WritesFront words left before now =
     (line : StatusLine) × (out : List ℕ) × IsAnswer words left line out × (n : ℕ) × (n ≤ length out) × Appends before now (take n out)
 
--- in whatever right record the first of the events were got, while the run goes on the next one fits; and the last of them is the fast signal
-pub record RunsThrough (p : Plan) (events : List Event) : Type 0 where
-  pub each_fits : (q : Record) (e : Event) (more : List Event) → Right p q → has_ended p q ≡ false → events ≡ events_of (reverse q) ++ e ∷ more → Fits p q e
+-- the items are events alone, and the last of them is the fast signal; in whatever right record the first of the events were got, while the run goes on the next one fits
+pub record RunsThrough (p : Plan) (script_items : List Item) : Type 0 where
+  pub events : List Event
+  pub only_events : script_items ≡ map items.Event events
+  pub each_fits : (q : Record) (e : Event) (more : List Event) → Right p q → has_ended p q ≡ false → events ≡ events_of q ++ e ∷ more → Fits p q e
   pub signal : (front : List Event) × (events ≡ front ++ Signal FastShutdown ∷ [])
 
 -- the words are taken, the source tells bytes within the limit that are a script, and its events run through
@@ -102,4 +123,4 @@ pub record IsWholeScript (words : List (List ℕ)) (bytes : List ℕ) (parts : P
   pub takes : TakesWords words
   pub short : length bytes ≤ 16777216
   pub is_script : IsScript bytes parts
-  pub through : RunsThrough (plan_of parts.services) parts.events
+  pub through : RunsThrough (plan_of parts.services) parts.items

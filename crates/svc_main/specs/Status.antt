@@ -2,13 +2,14 @@
 use Rattle.std.specs.Prelude.{ℕ, ◌^◌, ◌≡◌, ◌<◌, ◌≤◌, List, [], ◌∷◌, ◌++◌, codes}
 use Rattle.std.specs.Fmt.{decimal}
 use Rattle.svc_main.specs.declared.outcome.RunEnd.{RunEnd}
-use Rattle.svc_main.specs.declared.outcome.RunEnd.TheVariants.{Served, Stray, OutOfEvents}
+use Rattle.svc_main.specs.declared.outcome.RunEnd.TheVariants.{Served, HostFault, Stray, OutOfEvents}
 use Rattle.svc_main.specs.declared.outcome.StatusLine.{StatusLine}
 use Rattle.svc_main.specs.declared.outcome.StatusLine.TheVariants.{Words, Line, ReadFault, Run}
 
 -- how a run's end is printed
 abbrev pub end_text : RunEnd → List ℕ
 end_text Served = codes "served"
+end_text HostFault = codes "host fault"
 end_text (Stray k) = codes "stray " ++ decimal k
 end_text OutOfEvents = codes "out of events"
 
@@ -29,6 +30,7 @@ StatusFits Words = Unit {0}
 StatusFits (Line n) = n < 2 ^ 64
 StatusFits ReadFault = Unit {0}
 StatusFits (Run Served) = Unit {0}
+StatusFits (Run HostFault) = Unit {0}
 StatusFits (Run (Stray k)) = k < 2 ^ 64
 StatusFits (Run OutOfEvents) = Unit {0}
 
@@ -38,6 +40,7 @@ status_of Words = 2
 status_of (Line n) = 3
 status_of ReadFault = 5
 status_of (Run Served) = 0
+status_of (Run HostFault) = 4
 status_of (Run (Stray k)) = 4
 status_of (Run OutOfEvents) = 4
 

@@ -9,6 +9,8 @@ use svc_conf::Status;
 pub enum RunEnd {
     /// It went through its shutdown.
     Served,
+    /// The script's next item was a fault.
+    HostFault,
     /// The event with this number, from 1, didn't fit.
     Stray(u64),
     /// The events were used up before the shutdown.
@@ -33,6 +35,7 @@ impl fmt::Display for RunEnd {
     fn fmt<W: fmt::Write>(&self, f: &mut fmt::Formatter<W>) -> fmt::Result {
         match self {
             RunEnd::Served => write!(f, "served"),
+            RunEnd::HostFault => write!(f, "host fault"),
             RunEnd::Stray(k) => write!(f, "stray {k}"),
             RunEnd::OutOfEvents => write!(f, "out of events"),
         }

@@ -7,14 +7,21 @@ use Rattle.std.proofs.lemmas.List.{take_more, length-append, take-append-drop, g
 use Rattle.std.proofs.lemmas.Option.{slice_get-get_or}
 use Rattle.std.proofs.lemmas.List.Folds.{list_any-append, list_any-from_Any}
 use Rattle.std.proofs.lemmas.List.Elements.{All-push}
-use Rattle.svc_graph.specs.Paths.{Edges, IsAcyclic}
+use Rattle.svc_graph.specs.Paths.{Edges, IsChain, IsAcyclic}
 use Rattle.svc_graph.specs.GraphData.{GraphData}
 use Rattle.svc_graph.specs.Graphs.{node_count, is_edge, with_node, with_edge, IsUnknown, LeadsBack}
 use Rattle.svc_text.specs.declared.service.ServiceLine.{ServiceLine}
 use Rattle.svc_text.specs.Accepted.{after_at}
 use Rattle.svc_text.specs.Dependencies.{edges_up_to, AreSoundUpTo, IsUnsound, RefusesAt, RefusesNone}
 use Rattle.svc_text.specs.Edges.{with_row, HasEdges, HasTaken}
-use Rattle.svc_text.proofs.PlanLemmas.{chain_in, fewer_acyclic}
+
+pub chain_in : (g f : Edges) → ((a b : ℕ) → g a b ≡ true → f a b ≡ true) → (a : ℕ) (via : List ℕ) (b : ℕ) → IsChain g a via b → IsChain f a via b
+chain_in g f h a [] b c = h a b c
+chain_in g f h a (x ∷ via) b c = (h a x c.0, chain_in g f h x via b c.1)
+
+-- fewer edges have no more cycles
+pub fewer_acyclic : (g f : Edges) → ((a b : ℕ) → g a b ≡ true → f a b ≡ true) → IsAcyclic f → IsAcyclic g
+fewer_acyclic g f h acyclic a p = acyclic a (p.0, chain_in g f h a p.0 a p.1)
 
 -- two that give the same edges
 same_acyclic : (g f : Edges) → ((a b : ℕ) → g a b ≡ f a b) → IsAcyclic f → IsAcyclic g

@@ -7,6 +7,5 @@ pub mod ListLemmas
 pub mod ItemLemmas
 pub mod PlaceLemmas
 pub mod AcceptLemmas
-pub mod PlanLemmas
 pub mod EdgeLemmas
 pub mod ScriptLemmas

@@ -1,30 +1,41 @@
 -- The plan that a script's services are run by.
-use Rattle.std.specs.Prelude.{ℕ, false, List, [], ◌∷◌, map, Some, None, unwrap_or}
+use Rattle.std.specs.Prelude.{ℕ, false, ◌+◌, List, [], ◌∷◌, length, map, filter, Some, None}
+use Rattle.std.specs.List.{range_with_len}
 use Rattle.std.specs.Option.{option_to_list}
 use Rattle.svc_conf.specs.declared.settings.Setting.TheVariants.{NoDelay}
 use Rattle.svc_graph.specs.declared.plan.EndpointPlan.{EndpointPlan}
 use Rattle.svc_record.specs.declared.plan.ServicePlan.{ServicePlan}
 use Rattle.svc_record.specs.declared.plan.Plan.{Plan}
 use Rattle.svc_text.specs.declared.service.ServiceLine.{ServiceLine}
+use Rattle.svc_text.specs.Dependencies.{edges_up_to}
 
 -- the endpoint of an address: over TCP, whose writes aren't held back
 abbrev pub endpoint_of : List ℕ → EndpointPlan
 endpoint_of address = record { address = address; unix = false; options = NoDelay ∷ []; filter = None }
 
--- a service, which declares its address
-abbrev pub service_plan : ServiceLine → ServicePlan
-service_plan s = record {
-  name = s.name;
-  kind = s.kind;
-  depends = unwrap_or s.after [];
-  declared = Some (option_to_list s.tcp);
-  endpoints = map endpoint_of (option_to_list s.tcp);
+-- the services that service s names as its dependencies, ascending
+abbrev pub depends_of : List ServiceLine → ℕ → List ℕ
+depends_of services s = filter (edges_up_to services (length services) s) (range_with_len 0 (length services))
+
+-- service s, of its line: it declares its address
+abbrev pub service_plan : List ServiceLine → ℕ → ServiceLine → ServicePlan
+service_plan services s x = record {
+  name = x.name;
+  kind = x.kind;
+  depends = depends_of services s;
+  declared = Some (option_to_list x.tcp);
+  endpoints = map endpoint_of (option_to_list x.tcp);
 }
+
+-- the services from s on, of their lines
+abbrev pub plans_from : List ServiceLine → ℕ → List ServiceLine → List ServicePlan
+plans_from services s [] = []
+plans_from services s (x ∷ xs) = service_plan services s x ∷ plans_from services (s + 1) xs
 
 -- the services, with what else is used where no configuration says otherwise
 abbrev pub plan_of : List ServiceLine → Plan
 plan_of services = record {
-  services = map service_plan services;
+  services = plans_from services 0 services;
   grace = 300;
   stop = 5;
   tasks = 1;

@@ -185,21 +185,3 @@ fn finds_the_first_refused_service(rt: HostRuntime) -> Result<(), Fail> {
     }
     Ok(())
 }
-
-#[test]
-fn plans_what_a_script_says(rt: HostRuntime) -> Result<(), Fail> {
-    let text = b"%conf\n%services\ndb notify\napi plain tcp x after 0\n%events\n";
-    let script = parse(rt.alloc(), text).ok().ok_or("a script")?;
-    let plan = plan_of(rt.alloc(), script.services.as_slice())?;
-    let services = plan.services.as_slice();
-    assert_eq!(rt; services.len(), 2);
-    assert_eq!(rt; services[0].kind, Kind::Notifying);
-    assert!(rt; services[0].endpoints.is_empty());
-    assert_eq!(rt; services[1].name.as_str(), "api");
-    assert_eq!(rt; services[1].depends.as_slice(), [0u32].as_slice());
-    let endpoints = services[1].endpoints.as_slice();
-    assert_eq!(rt; endpoints.len(), 1);
-    assert_eq!(rt; endpoints[0].address.as_str(), "x");
-    assert_eq!(rt; plan.grace, 300);
-    Ok(())
-}
