@@ -17,7 +17,7 @@ pub use event_lines::{event_of_line, item_of_line};
 pub use numbers::number;
 pub use parsing::{Script, ScriptError, parse};
 pub use printing::{one_record, record_text};
-pub use refused::{one_refused_service, refused_service};
+pub use refused::{add_dependencies, one_refused_service};
 pub use service::ServiceLine;
 
 #[cfg(test)]

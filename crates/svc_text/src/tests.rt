@@ -1,7 +1,7 @@
 use super::*;
 use std::alloc::Global;
 use std::test::Fail;
-use svc_graph::Kind;
+use svc_graph::{DependencyGraph, Kind};
 use svc_record::{Action, Entry, Event, ExecutionPhase, Item, ShutdownSignal};
 
 fn refused_line(alloc: Global, bytes: &[u8]) -> Option<usize> {
@@ -155,6 +155,20 @@ fn errors_have_texts(rt: HostRuntime) -> Result<(), Fail> {
     Ok(())
 }
 
+/// A node for each service, and then the dependencies.
+fn refused_service(alloc: Global, services: &[ServiceLine]) -> Result<Option<usize>, Fail> {
+    if services.len() > 1024 {
+        return Err(Fail::from("too many services"));
+    }
+    let mut graph = DependencyGraph::new(alloc);
+    for service in services {
+        if graph.add_node(alloc, service.name.copy(alloc)?).is_err() {
+            return Err(Fail::from("no node"));
+        }
+    }
+    Ok(add_dependencies(alloc, &mut graph, services)?)
+}
+
 #[test]
 fn finds_the_first_refused_service(rt: HostRuntime) -> Result<(), Fail> {
     for (text, refused) in [
@@ -178,10 +192,7 @@ fn finds_the_first_refused_service(rt: HostRuntime) -> Result<(), Fail> {
         ),
     ] {
         let script = parse(rt.alloc(), text).ok().ok_or("a script")?;
-        assert_eq!(rt;
-            refused_service(rt.alloc(), script.services.as_slice()),
-            Ok(refused)
-        );
+        assert_eq!(rt; refused_service(rt.alloc(), &script.services)?, refused);
     }
     Ok(())
 }

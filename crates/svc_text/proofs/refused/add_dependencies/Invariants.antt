@@ -1,6 +1,9 @@
-use Rattle.std.proofs.Common.{take}
-use Rattle.svc_text.specs.Edges.{HasTaken}
+use Rattle.std.proofs.Common.{◌≡◌}
+use Rattle.svc_text.proofs.EdgeLemmas.{HasServices}
 use Rattle.svc_text.proofs.refused.add_dependencies.Given as goal
 
-abbrev pub invariant-loop-dependency : goal.invariant-loop-dependency
-invariant-loop-dependency l = HasTaken l.fn.graph l.graph l.dependent (take l.dependency-index l.after)
+abbrev pub invariant-loop-number : goal.invariant-loop-number
+invariant-loop-number l = record {
+  services : HasServices l.graph l.services l.number;
+  names : l.graph.names ≡ l.fn.graph.names;
+}
