@@ -1,3 +1,4 @@
 pub mod PlanLemmas
 pub mod AddLemmas
+pub mod AddressLemmas
 pub mod RunLemmas
