@@ -1,13 +1,15 @@
 -- Adding a service to a server.
-use Rattle.std.proofs.Common.{ℕ, zero, suc, Bool, true, false, not, ◌||◌, ◌&&◌, ◌==◌, cond, List, [], ◌∷◌, ◌++◌, ◌≡◌, refl, sym, ◌∙◌, ap, subst, inl, inr, ◌⊎◌, arith, ◌+◌, ◌<◌, ◌≤◌, length, map, take, get_or, All, nat_lt, nat_le}
-use Rattle.std.specs.Prelude.{Option, Some, None, position, is_some}
+use Rattle.std.proofs.Common.{ℕ, zero, suc, Bool, true, false, not, ◌||◌, ◌&&◌, ◌==◌, cond, List, [], ◌∷◌, ◌++◌, ◌≡◌, refl, sym, ◌∙◌, ap, subst, inl, inr, ◌⊎◌, arith, ◌+◌, ◌<◌, ◌≤◌, length, map, take, drop, reverse, get_or, All, nat_lt, nat_le}
+use Rattle.std.specs.Prelude.{Option, Some, None, position, is_some, slice_get}
 use Rattle.std.specs.List.{list_any, position_or_len}
 use Rattle.std.specs.Option.{option_map, option_or}
-use Rattle.std.proofs.lemmas.Bool.{and_parts, and_from, or_parts, or_from, not_from_false, ltb-false, eqb-false, false_from_ne_true, le-leb, lt-leb}
-use Rattle.std.proofs.lemmas.List.{length-map, get_or-map, map_more, map_push}
+use Rattle.std.proofs.lemmas.Bool.{and_parts, and_from, or_parts, or_from, not_from_false, ltb-false, eqb-false, false_from_ne_true, le-leb, lt-leb, cases_lt}
+use Rattle.std.proofs.lemmas.List.{length-map, length-append, get_or-map, map_more, map_push, take_more, append_assoc, reverse-append, reverse-reverse}
+use Rattle.std.proofs.lemmas.Option.{get_or_from_slice_get, same_Some}
 use Rattle.std.proofs.lemmas.List.Elements.{All-push, All-nil, All-cons}
 use Rattle.std.proofs.lemmas.List.Folds.{list_any_at, list_any-append}
 use Rattle.svc_graph.specs.GraphData.{GraphData}
+use Rattle.svc_graph.specs.HandleData.{HandleData}
 use Rattle.svc_graph.specs.Graphs.{node_count, with_node}
 use Rattle.svc_graph.specs.declared.plan.EndpointPlan.{EndpointPlan}
 use Rattle.svc_graph.specs.declared.plan.Kind.TheVariants.{Bootstrap}
@@ -19,7 +21,7 @@ use Rattle.svc_server.specs.declared.server.refusals.AddError.{AddError}
 use Rattle.svc_server.specs.declared.server.refusals.AddError.TheVariants.{TooMany, TooManyEndpoints, BadAddressText, UnknownFilter, Unbuilt}
 use Rattle.svc_graph.specs.declared.services.ServiceWithDependents.{Ghosts}
 use Rattle.svc_server.specs.Servers.{answer_of, answers_of, IsSound}
-use Rattle.svc_server.specs.Additions.{is_bad_address, has_filter, is_unix, is_taken, is_unbuilt, is_unbuilt_form, cause_if, first_cause, endpoint_causes, fault_of}
+use Rattle.svc_server.specs.Additions.{is_bad_address, has_filter, is_unix, is_taken, is_unbuilt, is_unbuilt_form, cause_if, first_cause, endpoint_causes, fault_of, IsReason, with_nodes, handles_from, AddsFirst, RefusesAt}
 
 -- ---- an address that another service has
 
@@ -202,3 +204,81 @@ add-sound means g h old new b node added none sound =
     subst (λ (k : GraphData). IsSound k (answers_of means new)) (sym node)
     (subst (λ (answers : List ServicePlan). IsSound (with_node g (means.named b)) answers) (sym (ap (λ xs. answers_of means xs) added ∙ map_push (answer_of means) old b))
     (sound-push g (answers_of means old) (answer_of means b) none sound))
+
+-- ---- services one after the other
+
+with_nodes-push : (g : GraphData) (names : List (List ℕ)) (name : List ℕ) → with_nodes g (names ++ name ∷ []) ≡ with_node (with_nodes g names) name
+with_nodes-push g [] name = refl
+with_nodes-push g (n ∷ names) name = with_nodes-push (with_node g n) names name
+
+node_count-with_nodes : (g : GraphData) (names : List (List ℕ)) → node_count (with_nodes g names) ≡ node_count g + length names
+node_count-with_nodes g [] = omega arith
+node_count-with_nodes g (n ∷ names) = omega (arith, node_count-with_nodes (with_node g n) names, length-append g.names (n ∷ []))
+
+handles_from-push : (n : ℕ) (names : List (List ℕ)) (name : List ℕ) (k : ℕ) → n + length names ≡ k → handles_from n (names ++ name ∷ []) ≡ handles_from n names ++ (record { id = k; name = name }) ∷ []
+handles_from-push n [] name k at = let same : n ≡ k = omega arith in ap (λ (i : ℕ). handles_from i (name ∷ [])) same
+handles_from-push n (x ∷ names) name k at = ap (λ rest. (record { id = n; name = x }) ∷ rest) (handles_from-push (n + 1) names name k (omega arith))
+
+-- what stands first in the rest of a list
+dropped : {B : Type 0} (more : List B) (n : ℕ) (b : B) (rest : List B) → drop n more ≡ b ∷ rest → (n < length more) × (slice_get more n ≡ Some b) × (drop (n + 1) more ≡ rest)
+dropped [] zero b rest e = absurd (cc)
+dropped (x ∷ xs) zero b rest e = (omega arith, first x xs b rest e, behind x xs b rest e)
+  where
+    first : {C : Type 0} (y : C) (ys : List C) (c : C) (zs : List C) → y ∷ ys ≡ c ∷ zs → slice_get (y ∷ ys) zero ≡ Some c
+    first y ys c zs e = ap (λ (l : List _). slice_get l zero) e
+
+    behind : {C : Type 0} (y : C) (ys : List C) (c : C) (zs : List C) → y ∷ ys ≡ c ∷ zs → drop (0 + 1) (y ∷ ys) ≡ zs
+    behind y ys c zs e = ap (λ (l : List _). drop 1 l) e
+dropped [] (suc n) b rest e = absurd (cc)
+dropped (x ∷ xs) (suc n) b rest e =
+    let inner = dropped xs n b rest e in
+    let same : suc n + 1 ≡ suc (n + 1) = omega arith in
+    (omega (arith, inner.0), inner.1, ap (λ (k : ℕ). drop k (x ∷ xs)) same ∙ inner.2)
+
+-- what was popped from services that are left in reverse is the next of them
+pub popped : {B : Type 0} (more left now : List B) (n : ℕ) (b : B) → left ≡ reverse (drop n more) → left ≡ now ++ b ∷ [] → (n < length more) × (slice_get more n ≡ Some b) × (now ≡ reverse (drop (n + 1) more))
+popped {B = B} more left now n b reversed taken =
+    let front : drop n more ≡ b ∷ reverse now =
+        sym (reverse-reverse (drop n more)) ∙ ap (λ (l : List B). reverse l) (sym reversed ∙ taken) ∙ reverse-append now (b ∷ []) in
+    let inner = dropped more n b (reverse now) front in
+    (inner.0, inner.1, sym (reverse-reverse now) ∙ ap (λ (l : List B). reverse l) (sym inner.2))
+
+-- one service more is added
+pub adds-more : {B : Type 0} (means : Ghosts B) (old g h : GraphData) (there services now more : List B) (n m : ℕ) (b : B) (handles : List HandleData) (handle : HandleData)
+    → AddsFirst means old g there services more n handles → n < length more → slice_get more n ≡ Some b → now ≡ services ++ b ∷ [] → h ≡ with_node g (means.named b)
+    → fault_of g (answers_of means services) (answer_of means b) ≡ None → handle ≡ record { id = node_count g; name = means.named b } → m ≡ n + 1 → AddsFirst means old h there now more m (handles ++ handle ∷ [])
+adds-more {B = B} means old g h there services now more n m b handles handle adds lt at pushed node none is step =
+    let next : take m more ≡ take n more ++ b ∷ [] =
+        ap (λ (k : ℕ). take k more) step ∙ take_more more n b lt ∙ ap (λ (x : B). take n more ++ x ∷ []) (get_or_from_slice_get more n b b at) in
+    let names : map means.named (take m more) ≡ map means.named (take n more) ++ means.named b ∷ [] = ap (λ (xs : List B). map means.named xs) next ∙ map_push means.named (take n more) b in
+    record {
+      within = omega arith;
+      added = pushed ∙ ap (λ (xs : List B). xs ++ b ∷ []) adds.added ∙ append_assoc there (take n more) (b ∷ []) ∙ ap (λ (xs : List B). there ++ xs) (sym next);
+      nodes = node ∙ ap (λ (k : GraphData). with_node k (means.named b)) adds.nodes ∙ sym (with_nodes-push old (map means.named (take n more)) (means.named b)) ∙ ap (λ (ns : List (List ℕ)). with_nodes old ns) (sym names);
+      numbered =
+          ap (λ (x : HandleData). handles ++ x ∷ []) is
+          ∙ ap (λ (xs : List HandleData). xs ++ (record { id = node_count g; name = means.named b }) ∷ []) adds.numbered
+          ∙ sym (handles_from-push (node_count old) (map means.named (take n more)) (means.named b) (node_count g)
+          (sym (ap (λ (k : GraphData). node_count k) adds.nodes ∙ node_count-with_nodes old (map means.named (take n more)))))
+          ∙ ap (λ (ns : List (List ℕ)). handles_from (node_count old) ns) (sym names);
+      good = λ k c le here.
+          elim (cases_lt k n) [
+            | inl earlier ↦ adds.good k c earlier here
+            | inr late ↦ (
+                let same : k ≡ n = omega arith in
+                let this : c ≡ b = same_Some c b (sym here ∙ ap (λ (i : ℕ). slice_get more i) same ∙ at) in
+                ap (λ (i : ℕ). fault_of (with_nodes old (map means.named (take i more))) (answers_of means (there ++ take i more)) (answer_of means c)) same
+                ∙ ap (λ (x : B). fault_of (with_nodes old (map means.named (take n more))) (answers_of means (there ++ take n more)) (answer_of means x)) this
+                ∙ ap (λ (k' : GraphData). fault_of k' (answers_of means (there ++ take n more)) (answer_of means b)) (sym adds.nodes)
+                ∙ ap (λ (xs : List B). fault_of g (answers_of means xs) (answer_of means b)) (sym adds.added)
+                ∙ none)
+          ];
+    }
+
+-- the reason for which the next service isn't added
+pub refuses-at : {B : Type 0} (means : Ghosts B) (g h : GraphData) (services now more : List B) (n index : ℕ) (b : B) (reason : AddError) → slice_get more n ≡ Some b → index ≡ n → h ≡ g → now ≡ services
+    → IsReason (fault_of g (answers_of means services) (answer_of means b)) reason → RefusesAt means h now more index reason
+refuses-at means g h services now more n index b reason at same nodes kept (inl wanted) = inl wanted
+refuses-at {B = B} means g h services now more n index b reason at same nodes kept (inr stands) =
+    inr (b, ap (λ (i : ℕ). slice_get more i) same ∙ at,
+    ap (λ (k : GraphData). fault_of k (answers_of means now) (answer_of means b)) nodes ∙ ap (λ (xs : List B). fault_of g (answers_of means xs) (answer_of means b)) kept ∙ stands)

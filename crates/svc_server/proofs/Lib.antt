@@ -7,4 +7,5 @@ pub mod TurnLemmas
 pub mod ScriptLemmas
 pub mod PlanLemmas
 pub mod AddLemmas
+pub mod AddressLemmas
 pub mod RunLemmas

@@ -1,10 +1,13 @@
 -- The run of a server, beside the run of its plan.
 use Rattle.std.proofs.Common.{ℕ, Bool, true, false, List, [], ◌≡◌, refl, sym, ◌∙◌, ap, subst, inl, arith, zero-le}
-use Rattle.std.specs.Prelude.{Option, Some, None, Result, Ok, Err, IfSome, if◌then◌else◌}
+use Rattle.std.specs.Prelude.{Option, Some, None, Result, Ok, Err, ◌↔◌, if◌then◌else◌}
 use Rattle.svc_conf.specs.declared.server.configuration.ServerConf.{ServerConf}
 use Rattle.svc_conf.specs.declared.server.configuration.key.Key.{Key}
 use Rattle.svc_conf.specs.declared.server.configuration.key.Key.TheVariants.{Daemon}
 use Rattle.svc_conf.specs.Configuration.{judged}
+use Rattle.svc_server.specs.declared.run.Outcome.{Outcome}
+use Rattle.svc_server.specs.declared.run.RunError.{RunError}
+use Rattle.svc_server.specs.declared.run.RunError.TheVariants.{Config}
 use Rattle.svc_server.specs.Servers.{and_then, runnable}
 
 both_accepted : (first : Result (Unit {0}) Key) (daemon : Bool) (u : Unit {0}) → and_then first (if daemon then Err Daemon else Ok tt) ≡ Ok u → (first ≡ Ok tt) × (daemon ≡ false)
@@ -15,3 +18,11 @@ both_accepted (Err key) daemon u e = absurd (cc)
 -- a configuration with which a server can be run is accepted, and asks for no daemon
 pub runnable-parts : (conf : ServerConf) (u : Unit {0}) → runnable conf ≡ Ok u → (judged conf ≡ Ok tt) × (conf.daemon ≡ false)
 runnable-parts conf u e = both_accepted (judged conf) conf.daemon u e
+
+-- that a run isn't refused for a key, whatever it answers instead
+pub config-ok : (r : Result Outcome RunError) (x : Outcome) (key : Key) (K : Type 0) → r ≡ Ok x → ((r ≡ Err (Config key)) ↔ K) → ((◌≡◌ {A = Result ℕ RunError} (Ok 0) (Err (Config key))) ↔ K)
+config-ok r x key K is h = (λ e. absurd (cc), λ k. absurd (let refused = h.1 k in cc))
+
+-- that a run is refused for a key, as it is told
+pub config-err : (r : Result Outcome RunError) (error : RunError) (key : Key) (K : Type 0) → r ≡ Err error → ((r ≡ Err (Config key)) ↔ K) → ((◌≡◌ {A = Result ℕ RunError} (Err error) (Err (Config key))) ↔ K)
+config-err r error key K is h = (λ e. h.0 (let same : error ≡ Config key = cc in cc), λ k. (let refused = h.1 k in let same : error ≡ Config key = cc in cc))

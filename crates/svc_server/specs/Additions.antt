@@ -1,15 +1,18 @@
 -- Why a service can't be added to a server.
-use Rattle.std.specs.Prelude.{ℕ, Bool, true, false, ◌≡◌, ◌==◌, ◌||◌, ◌⊎◌, nat_lt, nat_le, List, [], ◌∷◌, ◌++◌, length, position, Option, Some, None, is_some}
+use Rattle.std.specs.Prelude.{ℕ, Bool, true, false, ◌≡◌, ◌==◌, ◌||◌, ◌⊎◌, ◌+◌, ◌<◌, ◌≤◌, nat_lt, nat_le, List, [], ◌∷◌, ◌++◌, length, map, take, slice_get, position, Option, Some, None, is_some}
 use Rattle.std.specs.List.{list_any}
 use Rattle.std.specs.Option.{option_map, option_or}
 use Rattle.svc_graph.specs.GraphData.{GraphData}
-use Rattle.svc_graph.specs.Graphs.{node_count}
+use Rattle.svc_graph.specs.Graphs.{node_count, with_node}
+use Rattle.svc_graph.specs.HandleData.{HandleData}
+use Rattle.svc_graph.specs.declared.services.ServiceWithDependents.{Ghosts}
 use Rattle.svc_graph.specs.declared.plan.EndpointPlan.{EndpointPlan}
 use Rattle.svc_graph.specs.declared.plan.Kind.{Kind}
 use Rattle.svc_graph.specs.declared.plan.Kind.TheVariants.{Bootstrap}
 use Rattle.svc_record.specs.declared.plan.ServicePlan.{ServicePlan}
 use Rattle.svc_record.specs.Plans.{is_kind}
 use Rattle.svc_record.specs.Building.{share_address}
+use Rattle.svc_server.specs.Servers.{answer_of, answers_of}
 use Rattle.svc_server.specs.declared.server.refusals.AddError.{AddError}
 use Rattle.svc_server.specs.declared.server.refusals.AddError.TheVariants.{TooMany, TooManyEndpoints, BadAddressText, UnknownFilter, Unbuilt, NoMemory}
 
@@ -64,3 +67,27 @@ fault_of g services s =
 -- the reason of a refusal: want of memory, or the cause that stands
 abbrev pub IsReason : Option AddError → AddError → Type 0
 IsReason fault reason = (reason ≡ NoMemory) ⊎ (fault ≡ Some reason)
+
+-- the graph with a node of each name, in order
+abbrev pub with_nodes : GraphData → List (List ℕ) → GraphData
+with_nodes g [] = g
+with_nodes g (name ∷ names) = with_nodes (with_node g name) names
+
+-- the handles of services with these names, numbered from n on
+abbrev pub handles_from : ℕ → List (List ℕ) → List HandleData
+handles_from n [] = []
+handles_from n (name ∷ names) = record { id = n; name = name } ∷ handles_from (n + 1) names
+
+-- of the services that come, the first n are added at the end, in order, and have these handles: against each, in its turn, no cause stood
+pub record AddsFirst {B : Type 0} (means : Ghosts B) (old now : GraphData) (there services more : List B) (n : ℕ) (handles : List HandleData) : Type 0 where
+  pub within : n ≤ length more
+  pub added : services ≡ there ++ take n more
+  pub nodes : now ≡ with_nodes old (map means.named (take n more))
+  pub numbered : handles ≡ handles_from (node_count old) (map means.named (take n more))
+  pub good : (k : ℕ) (b : B) → k < n → slice_get more k ≡ Some b
+      → fault_of (with_nodes old (map means.named (take k more))) (answers_of means (there ++ take k more)) (answer_of means b) ≡ None
+
+-- of the services that come, the one with this index isn't added to a server with this graph and these services, for this reason: want of memory, or the cause that stands
+abbrev pub RefusesAt : {B : Type 0} → Ghosts B → GraphData → List B → List B → ℕ → AddError → Type 0
+RefusesAt {B} means g services more index reason =
+    (reason ≡ NoMemory) ⊎ ((b : B) × (slice_get more index ≡ Some b) × (fault_of g (answers_of means services) (answer_of means b) ≡ Some reason))

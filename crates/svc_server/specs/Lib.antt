@@ -6,3 +6,4 @@ pub mod ScriptHostData
 pub mod ScriptHosts
 pub mod Servers
 pub mod Additions
+pub mod Addresses

@@ -11,6 +11,9 @@ use Rattle.svc_graph.specs.Graphs.{node_count, is_edge}
 use Rattle.svc_graph.specs.declared.services.ServiceWithDependents.{Ghosts}
 use Rattle.svc_record.specs.declared.plan.Plan.{Plan}
 use Rattle.svc_record.specs.declared.plan.ServicePlan.{ServicePlan}
+use Rattle.svc_server.specs.declared.run.Outcome.{Outcome}
+use Rattle.svc_server.specs.declared.run.Outcome.TheVariants.{Served}
+use Rattle.svc_server.specs.declared.run.RunError.{RunError}
 use Rattle.svc_record.specs.Validity.{IsAddress}
 use Rattle.svc_record.specs.Building.{IsPlainService, are_apart}
 
@@ -77,3 +80,8 @@ and_then (Err key) next = Err key
 -- what is judged of a configuration before a run: after all else, that no daemon can be made yet
 abbrev pub runnable : ServerConf → Result (Unit {0}) Key
 runnable conf = and_then (judged conf) (if conf.daemon then Err Daemon else Ok tt)
+
+-- the outcome of a run that answers such a status
+abbrev pub outcome_of : Result ℕ RunError → Result Outcome RunError
+outcome_of (Ok status) = Ok Served
+outcome_of (Err error) = Err error

@@ -1,12 +1,16 @@
 //! A server: its configuration, its services with their dependencies, and its run.
 
 mod adding;
+mod addresses;
+mod lists;
 mod planning;
 mod refusals;
 
 use crate::host::Host;
 use crate::run::{Outcome, RunArgs, RunError};
 use crate::server::adding::fault_of;
+use crate::server::addresses::expected_addresses;
+use crate::server::lists::turn_round;
 use crate::server::planning::{is_test, is_upgrade, runnable, service_plans};
 use crate::turns::run_plan;
 pub use refusals::{AddAllRefused, AddError, AddRefused, ReadError};
@@ -30,15 +34,17 @@ pub struct Server<B> {
 }
 
 impl<B: ServiceWithDependents> Server<B> {
-    ghost use Rattle.std.specs.Prelude.{◌≡◌, ◌<◌, Ok, Err, None, false, [], ◌∷◌, ◌++◌, IfOk, IfSome, ◌↔◌, IfErr, OnOk, OnErr, vec_len, vec_capacity};
+    ghost use Rattle.std.specs.Prelude.{◌≡◌, ◌<◌, Ok, Err, None, false, [], ◌∷◌, ◌++◌, IfOk, IfSome, ◌↔◌, IfErr, OnOk, OnErr, drop, vec_len, vec_capacity};
     ghost use Rattle.svc_conf.specs.Configuration.{judged};
     ghost use Rattle.svc_record.specs.Validity.{IsValid, IsBuilt};
     ghost use Rattle.svc_record.specs.Right.{Served as ServedRecord};
     ghost use Rattle.svc_server.specs.Hosts.{no_account};
     ghost use Rattle.svc_server.specs.Runs.{RunTells, RunCounts, RunTakes};
     ghost use Rattle.svc_graph.specs.Graphs.{node_count, with_node};
-    ghost use Rattle.svc_server.specs.Additions.{fault_of, IsReason};
-    ghost use Rattle.svc_server.specs.Servers.{answer_of, answers_of, plan_of, merged, runnable, IsSound};
+    ghost use Rattle.svc_server.specs.Additions.{fault_of, IsReason, AddsFirst, RefusesAt};
+    ghost use Rattle.svc_server.specs.Servers.{answer_of, answers_of, plan_of, merged, runnable, outcome_of, IsSound};
+    ghost use Rattle.svc_server.specs.Addresses.{expected_of};
+    ghost use Rattle.std.specs.Option.{option_map};
 
     /// A server without services. The flags are merged into the configuration, which is then
     /// validated; the path in the flags isn't looked at. `Invalid` with the offending key where the
@@ -177,6 +183,70 @@ impl<B: ServiceWithDependents> Server<B> {
         self.add_service(alloc, service)
     }
 
+    /// Adds the services in order, and answers their handles. Where one is refused, it and those after
+    /// it come back, with its index and the cause, and those before it stay, with their handles.
+    pub fn add_services(
+        &mut self,
+        alloc: Global,
+        mut services: Vec<B>,
+    ) -> Result<Vec<ServiceHandle>, AddAllRefused<B>>
+        ensures configuration { self.new.configuration ≡ self.old.configuration }
+        ensures options { self.new.options ≡ self.old.options }
+        ensures all { IfOk result (λ handles. AddsFirst B.ServiceWithDependents
+            self.old.dependencies self.new.dependencies self.old.services.items
+            self.new.services.items services.items (vec_len services) handles.items) }
+
+        // Where one is refused: those before it, it and those after it, and the cause.
+        ensures some { IfErr result (λ refused. AddsFirst B.ServiceWithDependents
+            self.old.dependencies self.new.dependencies self.old.services.items
+            self.new.services.items services.items refused.index refused.handles.items) }
+        ensures back { IfErr result
+            (λ refused. refused.services.items ≡ drop refused.index services.items) }
+        ensures cause { IfErr result (λ refused. RefusesAt B.ServiceWithDependents
+            self.new.dependencies self.new.services.items services.items refused.index refused.reason) }
+
+        ensures sound { IsSound self.old.dependencies
+            (answers_of B.ServiceWithDependents self.old.services.items)
+            → IsSound self.new.dependencies
+            (answers_of B.ServiceWithDependents self.new.services.items) }
+    {
+        let mut handles = Vec::new(alloc);
+        if handles.reserve(services.len()).is_err() {
+            return Err(AddAllRefused {
+                reason: AddError::NoMemory,
+                index: 0,
+                handles,
+                services,
+            });
+        }
+        turn_round(&mut services);
+        while let Some(service) = services.pop() {
+            match self.add_service(alloc, service) {
+                Ok(handle) => handles.push_reserved(handle),
+                Err(refused) => {
+                    services.push_reserved(refused.service);
+                    turn_round(&mut services);
+                    return Err(AddAllRefused {
+                        reason: refused.reason,
+                        index: handles.len() as u64,
+                        handles,
+                        services,
+                    });
+                }
+            }
+        }
+        Ok(handles)
+    }
+
+    /// All addresses that the services declare, each once, in the order in which they first come;
+    /// None where one of the services declares None.
+    pub fn expected_addresses(&self, alloc: Global) -> Result<Option<Vec<Text>>, NoMemory>
+        ensures { IfOk result (λ found. option_map (λ texts. texts.items) found
+            ≡ expected_of (answers_of B.ServiceWithDependents self.now.services.items)) }
+    {
+        expected_addresses(alloc, &self.services)
+    }
+
     /// A reader of the phases that a run tells, at the first one.
     pub fn watch_execution_phase(&self) -> PhaseReader
         ensures { result ≡ 0 }
@@ -254,5 +324,34 @@ impl<B: ServiceWithDependents> Server<B> {
             services,
         } = self;
         run_plan(alloc, plan, services, args.turns, host)
+    }
+
+    /// Runs as `run` does with the turns of `RunArgs::default`, and answers the status to end with: 0
+    /// where it served.
+    pub fn run_forever<H: Host<Service = B>>(
+        self,
+        alloc: Global,
+        host: &mut H,
+    ) -> Result<u8, RunError>
+        requires sound { IsSound self.dependencies
+            (answers_of B.ServiceWithDependents self.services.items) }
+        requires first { IfSome (H.account host.old) (λ a. a ≡ no_account) }
+        ensures status { IfOk result (λ status. status ≡ 0) }
+        ensures served { OnOk result (IfSome (H.account host.new) (λ a.
+            ServedRecord (plan_of self.configuration self.options self.dependencies
+            (answers_of B.ServiceWithDependents self.services.items)) a.entries)) }
+        ensures tells { IfSome (H.account host.new) (RunTells (plan_of self.configuration
+            self.options self.dependencies
+            (answers_of B.ServiceWithDependents self.services.items)) 1000000 (outcome_of result)) }
+        ensures counts { RunCounts (outcome_of result) (H.counts host.old) (H.counts host.new) }
+        ensures takes { IfSome (H.account host.new) (λ a. IfSome (H.ahead host.old) (λ before.
+            IfSome (H.ahead host.new) (RunTakes (outcome_of result) a.entries before))) }
+        ensures config { (key : _) → (result ≡ Err (RunError.Config key))
+            ↔ (runnable self.configuration ≡ Err key) }
+    {
+        match self.run(alloc, RunArgs::default(), host) {
+            Ok(Outcome::Served) => Ok(0),
+            Err(error) => Err(error),
+        }
     }
 }
