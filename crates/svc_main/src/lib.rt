@@ -4,6 +4,7 @@
 mod outcome;
 mod program;
 mod runs;
+mod services;
 
 pub use outcome::{RunEnd, StatusLine};
 pub use program::{one_answer, serve_script};

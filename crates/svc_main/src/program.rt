@@ -1,32 +1,38 @@
 //! The program as one call.
 
-ghost use Rattle.std.specs.Prelude.{◌≡◌, ◌⊎◌, slice_index, ◌<◌, ◌≤◌, [], ◌++◌, map, length, List, All, ℕ, IfOk, IfSome, OnOk, Some, string_bytes};
+ghost use Rattle.std.specs.Prelude.{◌≡◌, ◌⊎◌, ◌<◌, ◌≤◌, [], ◌++◌, map, length, List, All, ℕ, IfOk, IfSome, OnOk, Some, None, string_bytes};
 ghost use Rattle.std.specs.Bool.{Decides};
 ghost use Rattle.std.specs.Option.{MatchOption};
 ghost use Rattle.std.specs.Rc.{rc_str_bytes};
 ghost use Rattle.std.specs.Str.Lines.{lines};
 ghost use Rattle.std.specs.Io.KnownBytes.{Appends, IsAtEnd};
+ghost use Rattle.svc_conf.specs.Configuration.{defaults};
 ghost use Rattle.svc_conf.specs.Streams.{Rose};
 ghost use Rattle.svc_record.specs.declared.entry.Entry.{Entry};
 ghost use Rattle.svc_record.specs.Text.{text_of, EntryFits};
+ghost use Rattle.svc_text.specs.declared.service.ServiceLine.{ServiceLine};
 ghost use Rattle.svc_text.specs.Script.{Parts, AreLines};
 ghost use Rattle.svc_text.specs.Outcome.{parts_of};
-ghost use Rattle.svc_text.specs.Accepted.{AreAccepted};
-ghost use Rattle.svc_text.specs.Dependencies.{RefusesAt, RefusesNone};
+ghost use Rattle.svc_server.specs.Servers.{answers_of};
 ghost use Rattle.svc_main.specs.declared.outcome.RunEnd.{RunEnd};
 ghost use Rattle.svc_main.specs.declared.outcome.RunEnd.TheVariants.{Served};
 ghost use Rattle.svc_main.specs.declared.outcome.StatusLine.{StatusLine};
 ghost use Rattle.svc_main.specs.declared.outcome.StatusLine.TheVariants.{Words, ReadFault, Run as RunLine};
+ghost use Rattle.svc_main.specs.Services.{HasLines};
 ghost use Rattle.svc_main.specs.Status.{status_line, StatusFits, IsStatus};
 ghost use Rattle.svc_main.specs.Program.{TakesWords, RunText, RanText, RefusedText, IsAnswer, Ends, Faults, Writes, WritesFront, IsWholeScript};
 
 use crate::outcome::{RunEnd, StatusLine};
-use crate::runs::{Run, run_events};
+use crate::runs::run_items;
+use crate::services::{ScriptService, server_of_script};
 use std::alloc::Global;
 use std::fmt::Write;
 use std::rc::RcStr;
 use svc_conf::{NoMemory, ReadAllError, Sink, Source, Status, read_all, write_all};
-use svc_text::{Script, ScriptError, parse, plan_of, record_text, refused_service};
+use svc_graph::services::ServiceWithDependents;
+use svc_record::{Entry, Item};
+use svc_server::{ScriptHost, Server};
+use svc_text::{ScriptError, parse, record_text};
 
 /// A status line, and what is to be written with it.
 #[derive(Debug, Drop)]
@@ -59,39 +65,36 @@ fn read_line(line: StatusLine)
 {}
 
 /// The record of a run, and its status line.
-fn ran(alloc: Global, run: &Run) -> Result<Answer, NoMemory>
-    ensures text { IfOk result (λ a. (a.line ≡ RunLine run.now.end) × (string_bytes a.text ≡ text_of run.now.entries.items ++ status_line (RunLine run.now.end))) }
-    ensures numbers { OnOk result (All EntryFits run.now.entries.items × StatusFits (RunLine run.now.end)) }
+fn ran(alloc: Global, end: RunEnd, entries: &[Entry]) -> Result<Answer, NoMemory>
+    ensures text { IfOk result (λ a. (a.line ≡ RunLine end) × (string_bytes a.text ≡ text_of entries.now ++ status_line (RunLine end))) }
+    ensures numbers { OnOk result (All EntryFits entries.now × StatusFits (RunLine end)) }
 {
-    let line = StatusLine::Run(run.end);
+    let line = StatusLine::Run(end);
     read_line(line);
-    let mut text = record_text(alloc, &run.entries)?;
+    let mut text = record_text(alloc, entries)?;
     writeln!(text, "{line}")?;
     Ok(Answer { line, text })
 }
 
-/// Runs a script, and gives what its run leaves.
-fn run_script(alloc: Global, script: &Script) -> Result<Answer, NoMemory>
-    requires accepted { AreAccepted script.now.services.items }
-    requires edges { RefusesNone script.now.services.items }
-    ensures { IfOk result (λ a. (end : RunEnd) × (a.line ≡ RunLine end) × RanText (parts_of script.now) end (string_bytes a.text)) }
+/// Runs the server of a script over the script's items, and gives what its run leaves.
+fn run_script(
+    alloc: Global,
+    server: Server<ScriptService>,
+    items: Vec<Item>,
+) -> Result<Answer, NoMemory>
+    requires configuration { server.configuration ≡ defaults }
+    requires options { server.options ≡ None }
+    requires lines { (services : List ServiceLine) × HasLines services (length services) server.dependencies
+        (answers_of ⟦<ScriptService as ServiceWithDependents>⟧ server.services.items) }
+    ensures { (services : List ServiceLine) → HasLines services (length services) server.dependencies
+        (answers_of ⟦<ScriptService as ServiceWithDependents>⟧ server.services.items)
+        → IfOk result (λ a. (end : RunEnd) × (a.line ≡ RunLine end)
+        × RanText (record { services = services; items = items.items }) end (string_bytes a.text)) }
 {
-    let plan = plan_of(alloc, &script.services)?;
-    let run = run_events(alloc, plan, &script.events)?;
-    let answer = ran(alloc, &run)?;
-    Ok(answer)
-}
-
-/// The line of the first service whose dependencies are refused.
-fn refused_line(alloc: Global, script: &Script) -> Result<Option<u64>, NoMemory>
-    requires accepted { AreAccepted script.now.services.items }
-    requires lines { length script.now.lines.items ≡ length script.now.services.items }
-    ensures { IfOk result (λ o. MatchOption o (RefusesNone script.now.services.items) (λ n. (k : ℕ) × (RefusesAt script.now.services.items k × (n ≡ slice_index script.now.lines.items k)))) }
-{
-    match refused_service(alloc, &script.services)? {
-        Some(k) => Ok(Some(script.lines[k] as u64)),
-        None => Ok(None),
-    }
+    let turns = items.len() as u64 + 1;
+    let mut host = ScriptHost::new(alloc, items);
+    let end = run_items(alloc, server, turns, &mut host)?;
+    ran(alloc, end, host.entries().as_slice())
 }
 
 /// What is to be written.
@@ -118,9 +121,10 @@ fn make_answer<S: Source>(
         Err(ScriptError::Line(n)) => return said(alloc, StatusLine::Line(n as u64)),
         Err(ScriptError::NoMemory) => return Err(NoMemory),
     };
-    match refused_line(alloc, &script)? {
-        Some(n) => said(alloc, StatusLine::Line(n)),
-        None => run_script(alloc, &script),
+    match server_of_script(alloc, &script) {
+        Ok(server) => run_script(alloc, server, script.items),
+        Err(ScriptError::Line(n)) => said(alloc, StatusLine::Line(n as u64)),
+        Err(ScriptError::NoMemory) => Err(NoMemory),
     }
 }
 

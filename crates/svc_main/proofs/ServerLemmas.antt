@@ -1,0 +1,86 @@
+-- The server that a script's services are in, and the plan that it is run by.
+use Rattle.std.proofs.Common.{◌≡◌, ℕ, Bool, List, [], ◌∷◌, ◌++◌, length, map, take, get_or, Option, Some, None, Ok, Err, refl, ap, sym, ◌∙◌, subst, arith, ◌+◌, ◌<◌, ◌≤◌, filter}
+use Rattle.std.specs.List.{range_with_len}
+use Rattle.std.proofs.lemmas.List.{map-append, map_more, take_all}
+use Rattle.std.proofs.lemmas.List.Elements.{filter_agree}
+use Rattle.svc_conf.specs.declared.server.configuration.ServerConf.{ServerConf}
+use Rattle.svc_conf.specs.declared.server.configuration.Opt.{Opt}
+use Rattle.svc_conf.specs.Configuration.{defaults}
+use Rattle.svc_graph.specs.GraphData.{GraphData}
+use Rattle.svc_graph.specs.Graphs.{node_count, is_edge, with_node}
+use Rattle.svc_record.specs.declared.plan.Plan.{Plan}
+use Rattle.svc_record.specs.declared.plan.ServicePlan.{ServicePlan}
+use Rattle.svc_text.specs.declared.service.ServiceLine.{ServiceLine}
+use Rattle.svc_text.specs.Dependencies.{edges_up_to}
+use Rattle.svc_text.specs.Edges.{HasEdges}
+use Rattle.svc_text.proofs.EdgeLemmas.{HasNodes, nodes_none, nodes_more, nodes_start}
+use Rattle.svc_text.specs.ScriptPlans as script
+use Rattle.svc_server.specs.Servers.{depends_of, with_depends, plan_of, IsSound}
+use Rattle.svc_main.specs.Services.{answered, HasLines}
+
+-- ---- the plan
+
+-- a service depends on what the lines say
+same_depends : (services : List ServiceLine) (g : GraphData) (s : ℕ) → HasEdges g (length services) (edges_up_to services (length services)) → depends_of g s ≡ script.depends_of services s
+same_depends services g s h =
+    ap (λ (n : ℕ). filter (is_edge g s) (range_with_len 0 n)) h.count
+    ∙ filter_agree (is_edge g s) (edges_up_to services (length services) s) (h.same s) (range_with_len 0 (length services))
+
+same_services : (services : List ServiceLine) (g : GraphData) (s : ℕ) (xs : List ServiceLine) → HasEdges g (length services) (edges_up_to services (length services))
+    → with_depends g s (map answered xs) ≡ script.plans_from services s xs
+same_services services g s [] h = refl
+same_services services g s (x ∷ xs) h =
+    ap (λ (ds : List ℕ). record (answered x) { depends = ds } ∷ with_depends g (s + 1) (map answered xs)) (same_depends services g s h)
+    ∙ ap (λ (more : List ServicePlan). script.service_plan services s x ∷ more) (same_services services g (s + 1) xs h)
+
+-- the server of a script's services is run by the plan that the lines say
+pub same_plan : (conf : ServerConf) (options : Option Opt) (services : List ServiceLine) (g : GraphData) (answers : List ServicePlan) → conf ≡ defaults → options ≡ None → HasLines services (length services) g answers
+    → plan_of conf options g answers ≡ script.plan_of services
+same_plan conf options services g answers c o h =
+    ap (λ (x : ServerConf). plan_of x options g answers) c
+    ∙ ap (λ (x : Option Opt). plan_of defaults x g answers) o
+    ∙ ap (plan_of defaults None g) h.answers_are
+    ∙ ap (λ (x : List ServicePlan). record (script.plan_of services) { services = x }) (same_services services g 0 services h.edges)
+
+-- ---- the graph and the services
+
+-- only edges were added
+pub with_edges : (lines : List ServiceLine) (g h : GraphData) (answers : List ServicePlan) → HasLines lines 0 g answers → HasEdges h (length lines) (edges_up_to lines (length lines)) → h.names ≡ g.names → HasLines lines (length lines) h answers
+with_edges lines g h answers old edges names = record {
+  answers_are = old.answers_are;
+  edges = edges;
+  sound = record { names = names ∙ old.sound.names; limits = old.sound.limits; plain = old.sound.plain; apart = old.sound.apart };
+}
+
+-- ---- one service after the other
+
+-- the first k of the lines are in the server, without dependencies
+pub record HasFirst (lines : List ServiceLine) (k : ℕ) (g : GraphData) (answers : List ServicePlan) : Type 0 where
+  pub answers_are : answers ≡ map answered (take k lines)
+  pub nodes : HasNodes g k
+  pub sound : IsSound g answers
+
+pub first_none : {S : Type 0} (answer : S → ServicePlan) (lines : List ServiceLine) (g : GraphData) (services : List S) → g ≡ record { names = []; depends = [] } → services ≡ [] → IsSound g (map answer services)
+    → HasFirst lines 0 g (map answer services)
+first_none answer lines g services empty none sound = record { answers_are = ap (map answer) none; nodes = nodes_none g empty; sound = sound }
+
+pub first_more : {S : Type 0} (answer : S → ServicePlan) (lines : List ServiceLine) (k : ℕ) (line : ServiceLine) (g h : GraphData) (name : List ℕ) (services more : List S) (service : S)
+    → HasFirst lines k g (map answer services) → k < length lines → line ≡ get_or lines k line → answer service ≡ answered line → h ≡ with_node g name → more ≡ services ++ service ∷ [] → IsSound h (map answer more)
+    → HasFirst lines (k + 1) h (map answer more)
+first_more answer lines k line g h name services more service old below read says made pushed sound = record {
+  answers_are =
+      ap (map answer) pushed
+      ∙ map-append answer services (service ∷ [])
+      ∙ ap (λ (xs : List ServicePlan). xs ++ answer service ∷ []) old.answers_are
+      ∙ ap (λ (x : ServicePlan). map answered (take k lines) ++ x ∷ []) (says ∙ ap answered read)
+      ∙ sym (map_more answered lines k line below);
+  nodes = nodes_more g h name k (k + 1) old.nodes refl made;
+  sound = sound;
+}
+
+pub first_all : (lines : List ServiceLine) (k : ℕ) (g : GraphData) (answers : List ServicePlan) → HasFirst lines k g answers → k ≡ length lines → HasLines lines 0 g answers
+first_all lines k g answers h all = record {
+  answers_are = h.answers_are ∙ ap (map answered) (take_all k lines (omega arith));
+  edges = nodes_start g lines k all h.nodes;
+  sound = h.sound;
+}
