@@ -64,6 +64,18 @@ fn each_refusal_has_its_status(rt: HostRuntime) -> Result<(), Fail> {
             4,
             "start 0\nphase Running 0\ngot bound 1 0 9\nclose 9\nstatus stray 1\n",
         ),
+        (
+            "run",
+            "fault\n",
+            4,
+            "start 0\nphase Running 0\nstatus host fault\n",
+        ),
+        (
+            "run",
+            "ready 0\nbound 1 0 7\nfault\nsignal fast\n",
+            4,
+            "start 0\nphase Running 0\ngot ready 0\nstart 1\nbind 1 0\ngot bound 1 0 7\nclose 7\nstatus host fault\n",
+        ),
     ] {
         let text = format!(in rt.alloc(); "{TWO_SERVICES}{rest}")?;
         let (status, bytes) = serve(rt.alloc(), &[word], text.as_str(), &[], &[])?;
