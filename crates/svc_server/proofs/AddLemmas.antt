@@ -239,7 +239,7 @@ dropped (x ∷ xs) (suc n) b rest e =
 pub popped : {B : Type 0} (more left now : List B) (n : ℕ) (b : B) → left ≡ reverse (drop n more) → left ≡ now ++ b ∷ [] → (n < length more) × (slice_get more n ≡ Some b) × (now ≡ reverse (drop (n + 1) more))
 popped {B = B} more left now n b reversed taken =
     let front : drop n more ≡ b ∷ reverse now =
-        sym (reverse-reverse (drop n more)) ∙ ap (λ (l : List B). reverse l) (sym reversed ∙ taken) ∙ reverse-append now (b ∷ []) in
+    sym (reverse-reverse (drop n more)) ∙ ap (λ (l : List B). reverse l) (sym reversed ∙ taken) ∙ reverse-append now (b ∷ []) in
     let inner = dropped more n b (reverse now) front in
     (inner.0, inner.1, sym (reverse-reverse now) ∙ ap (λ (l : List B). reverse l) (sym inner.2))
 
@@ -249,7 +249,7 @@ pub adds-more : {B : Type 0} (means : Ghosts B) (old g h : GraphData) (there ser
     → fault_of g (answers_of means services) (answer_of means b) ≡ None → handle ≡ record { id = node_count g; name = means.named b } → m ≡ n + 1 → AddsFirst means old h there now more m (handles ++ handle ∷ [])
 adds-more {B = B} means old g h there services now more n m b handles handle adds lt at pushed node none is step =
     let next : take m more ≡ take n more ++ b ∷ [] =
-        ap (λ (k : ℕ). take k more) step ∙ take_more more n b lt ∙ ap (λ (x : B). take n more ++ x ∷ []) (get_or_from_slice_get more n b b at) in
+    ap (λ (k : ℕ). take k more) step ∙ take_more more n b lt ∙ ap (λ (x : B). take n more ++ x ∷ []) (get_or_from_slice_get more n b b at) in
     let names : map means.named (take m more) ≡ map means.named (take n more) ++ means.named b ∷ [] = ap (λ (xs : List B). map means.named xs) next ∙ map_push means.named (take n more) b in
     record {
       within = omega arith;
@@ -280,5 +280,8 @@ pub refuses-at : {B : Type 0} (means : Ghosts B) (g h : GraphData) (services now
     → IsReason (fault_of g (answers_of means services) (answer_of means b)) reason → RefusesAt means h now more index reason
 refuses-at means g h services now more n index b reason at same nodes kept (inl wanted) = inl wanted
 refuses-at {B = B} means g h services now more n index b reason at same nodes kept (inr stands) =
-    inr (b, ap (λ (i : ℕ). slice_get more i) same ∙ at,
-    ap (λ (k : GraphData). fault_of k (answers_of means now) (answer_of means b)) nodes ∙ ap (λ (xs : List B). fault_of g (answers_of means xs) (answer_of means b)) kept ∙ stands)
+    inr (
+      b,
+      ap (λ (i : ℕ). slice_get more i) same ∙ at,
+      ap (λ (k : GraphData). fault_of k (answers_of means now) (answer_of means b)) nodes ∙ ap (λ (xs : List B). fault_of g (answers_of means xs) (answer_of means b)) kept ∙ stands,
+    )
