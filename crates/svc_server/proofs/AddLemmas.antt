@@ -1,12 +1,12 @@
 -- Adding a service to a server.
-use Rattle.std.proofs.Common.{ℕ, zero, suc, Bool, true, false, not, ◌||◌, ◌&&◌, ◌==◌, cond, List, [], ◌∷◌, ◌++◌, ◌≡◌, refl, sym, ◌∙◌, ap, subst, inl, inr, ◌⊎◌, arith, ◌+◌, ◌<◌, ◌≤◌, length, map, take, drop, reverse, get_or, All, nat_lt, nat_le}
+use Rattle.std.proofs.Common.{ℕ, zero, suc, Bool, true, false, not, ◌||◌, ◌==◌, cond, List, [], ◌∷◌, ◌++◌, ◌≡◌, refl, sym, ◌∙◌, ap, subst, inl, inr, arith, ◌+◌, ◌<◌, ◌≤◌, length, map, take, drop, reverse, get_or, All, nat_lt, nat_le}
 use Rattle.std.specs.Prelude.{Option, Some, None, position, is_some, slice_get}
 use Rattle.std.specs.List.{list_any, position_or_len}
 use Rattle.std.specs.Option.{option_map, option_or}
 use Rattle.std.proofs.lemmas.Bool.{and_parts, and_from, or_parts, or_from, not_from_false, ltb-false, eqb-false, false_from_ne_true, le-leb, lt-leb, cases_lt}
 use Rattle.std.proofs.lemmas.List.{length-map, length-append, get_or-map, map_more, map_push, take_more, append_assoc, reverse-append, reverse-reverse}
 use Rattle.std.proofs.lemmas.Option.{get_or_from_slice_get, same_Some}
-use Rattle.std.proofs.lemmas.List.Elements.{All-push, All-nil, All-cons}
+use Rattle.std.proofs.lemmas.List.Elements.{All-push, All-cons}
 use Rattle.std.proofs.lemmas.List.Folds.{list_any_at, list_any-append}
 use Rattle.svc_graph.specs.GraphData.{GraphData}
 use Rattle.svc_graph.specs.HandleData.{HandleData}
@@ -16,12 +16,12 @@ use Rattle.svc_graph.specs.declared.plan.Kind.TheVariants.{Bootstrap}
 use Rattle.svc_record.specs.declared.plan.ServicePlan.{ServicePlan}
 use Rattle.svc_record.specs.Plans.{is_kind}
 use Rattle.svc_record.specs.Validity.{IsAddress}
-use Rattle.svc_record.specs.Building.{IsPlainEndpoint, IsPlainService, clashes, share_address, are_apart}
+use Rattle.svc_record.specs.Building.{IsPlainService, clashes, share_address, are_apart}
 use Rattle.svc_server.specs.declared.server.refusals.AddError.{AddError}
 use Rattle.svc_server.specs.declared.server.refusals.AddError.TheVariants.{TooMany, TooManyEndpoints, BadAddressText, UnknownFilter, Unbuilt}
 use Rattle.svc_graph.specs.declared.services.ServiceWithDependents.{Ghosts}
 use Rattle.svc_server.specs.Servers.{answer_of, answers_of, IsSound}
-use Rattle.svc_server.specs.Additions.{is_bad_address, has_filter, is_unix, is_taken, is_unbuilt, is_unbuilt_form, cause_if, first_cause, endpoint_causes, fault_of, IsReason, with_nodes, handles_from, AddsFirst, RefusesAt}
+use Rattle.svc_server.specs.Additions.{is_bad_address, has_filter, is_unix, is_taken, is_unbuilt, cause_if, first_cause, endpoint_causes, fault_of, IsReason, with_nodes, handles_from, AddsFirst, RefusesAt}
 
 -- ---- an address that another service has
 
@@ -239,7 +239,7 @@ dropped (x ∷ xs) (suc n) b rest e =
 pub popped : {B : Type 0} (more left now : List B) (n : ℕ) (b : B) → left ≡ reverse (drop n more) → left ≡ now ++ b ∷ [] → (n < length more) × (slice_get more n ≡ Some b) × (now ≡ reverse (drop (n + 1) more))
 popped {B = B} more left now n b reversed taken =
     let front : drop n more ≡ b ∷ reverse now =
-        sym (reverse-reverse (drop n more)) ∙ ap (λ (l : List B). reverse l) (sym reversed ∙ taken) ∙ reverse-append now (b ∷ []) in
+    sym (reverse-reverse (drop n more)) ∙ ap (λ (l : List B). reverse l) (sym reversed ∙ taken) ∙ reverse-append now (b ∷ []) in
     let inner = dropped more n b (reverse now) front in
     (inner.0, inner.1, sym (reverse-reverse now) ∙ ap (λ (l : List B). reverse l) (sym inner.2))
 
@@ -249,7 +249,7 @@ pub adds-more : {B : Type 0} (means : Ghosts B) (old g h : GraphData) (there ser
     → fault_of g (answers_of means services) (answer_of means b) ≡ None → handle ≡ record { id = node_count g; name = means.named b } → m ≡ n + 1 → AddsFirst means old h there now more m (handles ++ handle ∷ [])
 adds-more {B = B} means old g h there services now more n m b handles handle adds lt at pushed node none is step =
     let next : take m more ≡ take n more ++ b ∷ [] =
-        ap (λ (k : ℕ). take k more) step ∙ take_more more n b lt ∙ ap (λ (x : B). take n more ++ x ∷ []) (get_or_from_slice_get more n b b at) in
+    ap (λ (k : ℕ). take k more) step ∙ take_more more n b lt ∙ ap (λ (x : B). take n more ++ x ∷ []) (get_or_from_slice_get more n b b at) in
     let names : map means.named (take m more) ≡ map means.named (take n more) ++ means.named b ∷ [] = ap (λ (xs : List B). map means.named xs) next ∙ map_push means.named (take n more) b in
     record {
       within = omega arith;
@@ -280,5 +280,8 @@ pub refuses-at : {B : Type 0} (means : Ghosts B) (g h : GraphData) (services now
     → IsReason (fault_of g (answers_of means services) (answer_of means b)) reason → RefusesAt means h now more index reason
 refuses-at means g h services now more n index b reason at same nodes kept (inl wanted) = inl wanted
 refuses-at {B = B} means g h services now more n index b reason at same nodes kept (inr stands) =
-    inr (b, ap (λ (i : ℕ). slice_get more i) same ∙ at,
-    ap (λ (k : GraphData). fault_of k (answers_of means now) (answer_of means b)) nodes ∙ ap (λ (xs : List B). fault_of g (answers_of means xs) (answer_of means b)) kept ∙ stands)
+    inr (
+      b,
+      ap (λ (i : ℕ). slice_get more i) same ∙ at,
+      ap (λ (k : GraphData). fault_of k (answers_of means now) (answer_of means b)) nodes ∙ ap (λ (xs : List B). fault_of g (answers_of means xs) (answer_of means b)) kept ∙ stands,
+    )

@@ -1,25 +1,23 @@
 -- The plan of a server: what it says of each service, and that a server can be run by it.
-use Rattle.std.proofs.Common.{ℕ, zero, suc, Bool, true, false, not, ◌||◌, ◌&&◌, ◌==◌, cond, List, [], ◌∷◌, ◌++◌, ◌≡◌, refl, sym, ◌∙◌, ap, subst, inl, inr, ◌⊎◌, arith, ◌+◌, ◌<◌, ◌≤◌, length, map, filter, take, slice_index, get_or, All}
-use Rattle.std.specs.Prelude.{Option, Some, None, Result, Ok, Err, slice_get, nat_lt, unwrap_or, if◌then◌else◌}
-use Rattle.std.specs.List.{range_with_len, list_any}
+use Rattle.std.proofs.Common.{ℕ, zero, suc, Bool, true, false, not, ◌||◌, ◌&&◌, ◌==◌, List, [], ◌∷◌, ◌++◌, ◌≡◌, refl, sym, ◌∙◌, ap, subst, inl, inr, arith, ◌+◌, ◌<◌, ◌≤◌, length, map, filter, take, slice_index, get_or, All}
+use Rattle.std.specs.Prelude.{Option, Some, Result, Ok, Err, slice_get, unwrap_or, if◌then◌else◌}
+use Rattle.std.specs.List.{range_with_len}
 use Rattle.std.specs.List.Sorted.{IsStrictlyIncreasing}
-use Rattle.std.specs.Option.{option_map}
-use Rattle.std.proofs.lemmas.Bool.{and_parts, and_from, or_cases, eqb-true, eq-eqb, ne_eqb, cases_eq, false_from_ne_true, cases_lt}
+use Rattle.std.proofs.lemmas.Bool.{eq-eqb, ne_eqb, cases_eq}
 use Rattle.std.proofs.lemmas.Option.{slice_get_cases, same_Some}
 use Rattle.std.proofs.lemmas.List.{length-map, length-take-le, map_more}
 use Rattle.std.proofs.lemmas.List.Elements.{filter_passes}
-use Rattle.svc_graph.specs.Paths.{IsAcyclic}
 use Rattle.svc_graph.specs.GraphData.{GraphData}
 use Rattle.svc_graph.specs.Graphs.{node_count, is_edge, is_listed, row_of, IsGraph}
 use Rattle.svc_graph.proofs.Chains.{acyclic-within}
-use Rattle.svc_graph.proofs.Lists.{All-listed, All-from_listed}
+use Rattle.svc_graph.proofs.Lists.{All-listed}
 use Rattle.svc_graph.specs.declared.plan.Kind.{Kind}
 use Rattle.svc_graph.specs.declared.plan.EndpointPlan.{EndpointPlan}
 use Rattle.svc_record.specs.declared.plan.Plan.{Plan}
 use Rattle.svc_record.specs.declared.plan.ServicePlan.{ServicePlan}
 use Rattle.svc_record.specs.Plans.{service_count, depends}
 use Rattle.svc_record.specs.Validity.{IsAddress, IsValid, IsBuilt, depends_on}
-use Rattle.svc_record.specs.Building.{KeepsLimits, DependsWell, IsPlainService, clashes, share_address, are_apart}
+use Rattle.svc_record.specs.Building.{DependsWell, IsPlainService, clashes, share_address, are_apart}
 use Rattle.svc_record.proofs.ValidLemmas.{valid-plan}
 use Rattle.svc_record.proofs.BuiltLemmas.{built-from_tests}
 use Rattle.svc_conf.specs.declared.server.configuration.ServerConf.{ServerConf}

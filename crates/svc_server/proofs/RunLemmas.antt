@@ -1,6 +1,6 @@
 -- The run of a server, beside the run of its plan.
-use Rattle.std.proofs.Common.{ℕ, Bool, true, false, List, [], ◌≡◌, refl, sym, ◌∙◌, ap, subst, inl, arith, zero-le}
-use Rattle.std.specs.Prelude.{Option, Some, None, Result, Ok, Err, ◌↔◌, if◌then◌else◌}
+use Rattle.std.proofs.Common.{ℕ, Bool, true, false, ◌≡◌, refl}
+use Rattle.std.specs.Prelude.{Result, Ok, Err, ◌↔◌, if◌then◌else◌}
 use Rattle.svc_conf.specs.declared.server.configuration.ServerConf.{ServerConf}
 use Rattle.svc_conf.specs.declared.server.configuration.key.Key.{Key}
 use Rattle.svc_conf.specs.declared.server.configuration.key.Key.TheVariants.{Daemon}

@@ -355,3 +355,6 @@ impl<B: ServiceWithDependents> Server<B> {
         }
     }
 }
+
+#[cfg(test)]
+mod tests;

@@ -1,4 +1,4 @@
-use Rattle.std.proofs.Common.{sym, ap, ◌∙◌, ◌≡◌, ◌<◌, ◌++◌, ◌∷◌, [], List, ℕ, vec_len, drop, reverse, subst, arith}
+use Rattle.std.proofs.Common.{sym, ap, ◌∙◌, List, ℕ, vec_len, drop, reverse, subst, arith}
 use Rattle.svc_graph.specs.HandleData.{HandleData}
 use Rattle.svc_server.specs.Additions.{AddsFirst}
 use Rattle.svc_server.proofs.AddLemmas.{popped, adds-more, refuses-at}

@@ -1,9 +1,8 @@
-use Rattle.std.proofs.Common.{◌≡◌, sym, ap, subst, ◌∙◌, length, List, false}
+use Rattle.std.proofs.Common.{sym, ap, subst, ◌∙◌, length, List}
 use Rattle.svc_record.specs.declared.plan.Plan.{Plan}
 use Rattle.svc_record.specs.Validity.{IsValid, IsBuilt}
-use Rattle.svc_server.specs.Servers.{answers_of, with_depends, plan_of}
+use Rattle.svc_server.specs.Servers.{answers_of, with_depends}
 use Rattle.svc_server.proofs.PlanLemmas.{count-sound, plan-is, whole-valid, whole-built}
-use Rattle.svc_server.proofs.server.Server.plan.Given.{Over}
 use Rattle.svc_server.proofs.server.Server.plan.Goals as goal
 
 pub service_plans-requires : goal.service_plans-requires

@@ -1,7 +1,5 @@
-use Rattle.std.proofs.Common.{sym, ap, ◌∙◌, List, ◌≡◌}
-use Rattle.std.specs.Prelude.{Ok}
+use Rattle.std.proofs.Common.{sym, ap, ◌∙◌}
 use Rattle.svc_record.specs.declared.plan.Plan.{Plan}
-use Rattle.svc_conf.specs.Configuration.{judged}
 use Rattle.svc_server.specs.Runs.{names_of}
 use Rattle.svc_server.proofs.PlanLemmas.{names-plan_of}
 use Rattle.svc_server.proofs.RunLemmas.{runnable-parts}

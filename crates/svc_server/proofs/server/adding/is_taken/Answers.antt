@@ -1,4 +1,4 @@
-use Rattle.std.proofs.Common.{sym, ap, ◌∙◌, true, false, ◌≡◌, List}
+use Rattle.std.proofs.Common.{sym, ap, ◌∙◌, List}
 use Rattle.svc_graph.specs.declared.plan.EndpointPlan.{EndpointPlan}
 use Rattle.svc_record.specs.Building.{share_address}
 use Rattle.svc_server.specs.Servers.{answer_of}

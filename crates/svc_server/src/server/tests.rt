@@ -1,0 +1,285 @@
+ghost use Rattle.std.specs.Prelude.{[], map, Some, None, if◌then◌else◌};
+ghost use Rattle.svc_server.specs.Servers.{answers_of, IsSound};
+
+use super::{AddError, ReadError, Server};
+use std::alloc::Global;
+use std::process::Abort;
+use svc_conf::{Key, NoMemory, ServerConf, Settings, Text, Texts};
+use svc_graph::services::{RunPoll, ServiceReadyNotifier, ServiceWithDependents, StartPoll};
+use svc_graph::{DependencyError, EndpointPlan, Kind, ServiceHandle};
+
+/// A service that listens on some addresses, all alike.
+#[derive(Drop)]
+struct Listener {
+    name: Text,
+    kind: Kind,
+    /// It declares its addresses.
+    says: bool,
+    addresses: Texts,
+    unix: bool,
+    filter: Option<u32>,
+}
+
+impl ServiceWithDependents for Listener {
+    ghost named = { λ listener. listener.name };
+
+    ghost of_kind = { λ listener. listener.kind };
+
+    ghost declares = { λ listener. if listener.says then Some listener.addresses else None };
+
+    ghost configures = { λ listener. map (λ address. record {
+      address = address;
+      unix = listener.unix;
+      options = [];
+      filter = listener.filter;
+    }) listener.addresses };
+
+    fn poll_start(
+        &mut self,
+        _shutdown: bool,
+        _listeners_per_fd: u64,
+        notifier: ServiceReadyNotifier,
+    ) -> StartPoll {
+        StartPoll::Waiting(notifier)
+    }
+
+    fn poll_run(&mut self, _shutdown: bool) -> RunPoll {
+        RunPoll::Pending
+    }
+
+    fn name(&self) -> &str {
+        self.name.as_str()
+    }
+
+    fn listen_addresses(&self, alloc: Global) -> Result<Option<Vec<Text>>, NoMemory> {
+        if !self.says {
+            return Ok(None);
+        }
+        let mut texts = Vec::new(alloc);
+        for address in self.addresses.as_slice() {
+            texts.push(address.copy(alloc)?)?;
+        }
+        Ok(Some(texts))
+    }
+
+    fn kind(&self) -> Kind {
+        self.kind
+    }
+
+    fn listener_configs(&self, alloc: Global) -> Result<Vec<EndpointPlan>, NoMemory> {
+        let mut endpoints = Vec::new(alloc);
+        for address in self.addresses.as_slice() {
+            let endpoint = EndpointPlan {
+                address: address.copy(alloc)?,
+                unix: self.unix,
+                options: Settings::new(alloc),
+                filter: self.filter,
+            };
+            endpoints.push(endpoint)?;
+        }
+        Ok(endpoints)
+    }
+}
+
+/// A service of the kind `Plain` that listens so many times on the address, and declares it.
+fn listening(rt: &impl Abort, alloc: Global, name: &str, address: &str, times: u32) -> Listener {
+    let mut addresses = Texts::new(alloc);
+    for _ in 0..times {
+        let text = Text::new(alloc, address).expect(rt, "memory");
+        addresses.push(alloc, text).expect(rt, "memory");
+    }
+    Listener {
+        name: Text::new(alloc, name).expect(rt, "memory"),
+        kind: Kind::Plain,
+        says: true,
+        addresses,
+        unix: false,
+        filter: None,
+    }
+}
+
+/// A server without services, with the defaults.
+fn server(rt: &impl Abort, alloc: Global) -> Server<Listener>
+    ensures { IsSound result.dependencies
+        (answers_of ⟦<Listener as ServiceWithDependents>⟧ result.services.items) }
+{
+    let conf = ServerConf::default(alloc).expect(rt, "memory");
+    match Server::new_with_opt_and_conf(alloc, None, conf) {
+        Ok(server) => server,
+        Err(_) => panic!(rt; "refused"),
+    }
+}
+
+/// Adds a service that is taken.
+fn added(
+    rt: &impl Abort,
+    alloc: Global,
+    server: &mut Server<Listener>,
+    service: Listener,
+) -> ServiceHandle {
+    match server.add_boxed_service(alloc, service) {
+        Ok(handle) => handle,
+        Err(_) => panic!(rt; "refused"),
+    }
+}
+
+/// Whether a service is refused with this text.
+fn is_refused(
+    rt: &impl Abort,
+    alloc: Global,
+    server: &mut Server<Listener>,
+    service: Listener,
+    text: &str,
+) -> bool {
+    match server.add_service(alloc, service) {
+        Ok(_) => false,
+        Err(refused) => {
+            let told = format!(in alloc; "{}", refused.reason).expect(rt, "memory");
+            told.as_str() == text
+        }
+    }
+}
+
+#[test]
+fn expects_what_all_declare(rt: HostRuntime) {
+    let alloc = rt.alloc();
+    let mut server = server(&rt, alloc);
+    let _ = added(
+        &rt,
+        alloc,
+        &mut server,
+        listening(&rt, alloc, "still", "", 0),
+    );
+    let found = server.expected_addresses(alloc).expect(&rt, "memory");
+    assert_eq!(rt; found.map(|texts| texts.len()), Some(0));
+    let mut silent = listening(&rt, alloc, "silent", "", 0);
+    silent.says = false;
+    let _ = added(&rt, alloc, &mut server, silent);
+    let found = server.expected_addresses(alloc).expect(&rt, "memory");
+    assert_eq!(rt; found.map(|texts| texts.len()), None);
+}
+
+#[test]
+fn endpoint_refusals_have_texts(rt: HostRuntime) {
+    let alloc = rt.alloc();
+    let mut server = server(&rt, alloc);
+    let many = listening(&rt, alloc, "many", "a:1", 65);
+    assert!(rt; is_refused(&rt, alloc, &mut server, many, "too many endpoints"));
+    let bare = listening(&rt, alloc, "bare", "", 1);
+    let text = "endpoint 0 has an address that is empty or too long";
+    assert!(rt; is_refused(&rt, alloc, &mut server, bare, text));
+    let mut filtered = listening(&rt, alloc, "filtered", "a:1", 1);
+    filtered.filter = Some(0);
+    let text = "endpoint 0 has an unknown filter";
+    assert!(rt; is_refused(&rt, alloc, &mut server, filtered, text));
+    let text = format!(in alloc; "{}", AddError::NoMemory).expect(&rt, "memory");
+    assert_eq!(rt; text.as_str(), "out of memory");
+}
+
+#[test]
+fn refuses_forms_that_are_not_built(rt: HostRuntime) {
+    let alloc = rt.alloc();
+    let mut server = server(&rt, alloc);
+    let text = "the service has a form that isn't built yet";
+    let _ = added(
+        &rt,
+        alloc,
+        &mut server,
+        listening(&rt, alloc, "first", "a:1", 1),
+    );
+    let shared = listening(&rt, alloc, "shared", "a:1", 1);
+    assert!(rt; is_refused(&rt, alloc, &mut server, shared, text));
+    let two = listening(&rt, alloc, "two", "b:1", 2);
+    assert!(rt; is_refused(&rt, alloc, &mut server, two, text));
+    let mut unix = listening(&rt, alloc, "unix", "/tmp/u", 1);
+    unix.unix = true;
+    assert!(rt; is_refused(&rt, alloc, &mut server, unix, text));
+    let mut bootstrap = listening(&rt, alloc, "bootstrap", "", 0);
+    bootstrap.kind = Kind::Bootstrap;
+    assert!(rt; is_refused(&rt, alloc, &mut server, bootstrap, text));
+}
+
+#[test]
+fn has_at_most_1024_services(rt: HostRuntime) {
+    let alloc = rt.alloc();
+    let mut server = server(&rt, alloc);
+    for _ in 0..1024u32 {
+        let _ = added(
+            &rt,
+            alloc,
+            &mut server,
+            listening(&rt, alloc, "service", "", 0),
+        );
+    }
+    let last = listening(&rt, alloc, "last", "", 65);
+    assert!(rt; is_refused(&rt, alloc, &mut server, last, "too many services"));
+}
+
+#[test]
+fn gives_back_what_is_not_added(rt: HostRuntime) {
+    let alloc = rt.alloc();
+    let mut server = server(&rt, alloc);
+    let mut services = Vec::with_capacity(alloc, 3).expect(&rt, "memory");
+    services.push_reserved(listening(&rt, alloc, "first", "a:1", 1));
+    services.push_reserved(listening(&rt, alloc, "second", "", 1));
+    services.push_reserved(listening(&rt, alloc, "third", "b:1", 1));
+    match server.add_services(alloc, services) {
+        Ok(_) => panic!(rt; "taken"),
+        Err(mut refused) => {
+            assert_eq!(rt; refused.reason, AddError::BadAddressText(0));
+            assert_eq!(rt; refused.index, 1);
+            assert_eq!(rt; refused.handles.len(), 1);
+            assert_eq!(rt; server.dependencies.len(), 1);
+            assert_eq!(rt; refused.services.len(), 2);
+            let third = refused.services.take_last();
+            assert_eq!(rt; third.name.as_str(), "third");
+        }
+    }
+}
+
+#[test]
+fn refuses_a_handle_of_another_server(rt: HostRuntime) {
+    let alloc = rt.alloc();
+    let mut here = server(&rt, alloc);
+    let mut there = server(&rt, alloc);
+    let api = added(&rt, alloc, &mut here, listening(&rt, alloc, "api", "", 0));
+    let other = added(
+        &rt,
+        alloc,
+        &mut there,
+        listening(&rt, alloc, "other", "", 0),
+    );
+    assert_eq!(rt; other.id(), 0);
+    let refused = api.add_dependency(alloc, &mut here.dependencies, &other);
+    assert_eq!(rt; refused, Err(DependencyError::UnknownService));
+}
+
+#[test]
+fn validates_what_it_merges(rt: HostRuntime) {
+    let alloc = rt.alloc();
+    let mut conf = ServerConf::default(alloc).expect(&rt, "memory");
+    conf.listener_tasks_per_fd = 0;
+    let refused: Result<Server<Listener>, ReadError> = Server::new_with_opt_and_conf(
+        alloc, None, conf,
+    );
+    match refused {
+        Ok(_) => panic!(rt; "taken"),
+        Err(error) => {
+            assert_eq!(rt; error, ReadError::Invalid(Key::ListenerTasksPerFd));
+            let text = format!(in alloc; "{error}").expect(&rt, "memory");
+            let wanted = "the configuration is refused for listener_tasks_per_fd";
+            assert_eq!(rt; text.as_str(), wanted);
+        }
+    }
+}
+
+#[test]
+fn plans_with_the_defaults(rt: HostRuntime) {
+    let alloc = rt.alloc();
+    let server = server(&rt, alloc);
+    assert!(rt; server.watch_execution_phase().recv(&[]).is_none());
+    let plan = server.plan(alloc).expect(&rt, "memory");
+    assert_eq!(rt; (plan.grace, plan.stop, plan.tasks), (300, 5, 1));
+    assert_eq!(rt; (plan.limit, plan.ready_timeout), (5, 600));
+    assert!(rt; plan.services.is_empty());
+}
