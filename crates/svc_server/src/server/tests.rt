@@ -1,12 +1,15 @@
-ghost use Rattle.std.specs.Prelude.{[], map, Some, None, if◌then◌else◌};
+ghost use Rattle.std.specs.Prelude.{[], map, Some, None, OnOk, if◌then◌else◌};
 ghost use Rattle.svc_server.specs.Servers.{answers_of, IsSound};
 
 use super::{AddError, ReadError, Server};
+use crate::run::{Outcome, RunArgs, RunError};
+use crate::script_host::ScriptHost;
 use std::alloc::Global;
 use std::process::Abort;
 use svc_conf::{Key, NoMemory, ServerConf, Settings, Text, Texts};
 use svc_graph::services::{RunPoll, ServiceReadyNotifier, ServiceWithDependents, StartPoll};
 use svc_graph::{DependencyError, EndpointPlan, Kind, ServiceHandle};
+use svc_record::{Action, Entry, Event, ExecutionPhase, Item, ShutdownSignal};
 
 /// A service that listens on some addresses, all alike.
 #[derive(Drop)]
@@ -116,7 +119,12 @@ fn added(
     alloc: Global,
     server: &mut Server<Listener>,
     service: Listener,
-) -> ServiceHandle {
+) -> ServiceHandle
+    ensures { IsSound server.old.dependencies
+        (answers_of ⟦<Listener as ServiceWithDependents>⟧ server.old.services.items)
+        → IsSound server.new.dependencies
+        (answers_of ⟦<Listener as ServiceWithDependents>⟧ server.new.services.items) }
+{
     match server.add_boxed_service(alloc, service) {
         Ok(handle) => handle,
         Err(_) => panic!(rt; "refused"),
@@ -282,4 +290,121 @@ fn plans_with_the_defaults(rt: HostRuntime) {
     assert_eq!(rt; (plan.grace, plan.stop, plan.tasks), (300, 5, 1));
     assert_eq!(rt; (plan.limit, plan.ready_timeout), (5, 600));
     assert!(rt; plan.services.is_empty());
+}
+
+/// A server where `api`, which listens, waits for the word of `db`.
+fn two_services(rt: &impl Abort, alloc: Global) -> Server<Listener>
+    ensures { IsSound result.dependencies
+        (answers_of ⟦<Listener as ServiceWithDependents>⟧ result.services.items) }
+{
+    let mut server = server(rt, alloc);
+    let mut words = listening(rt, alloc, "db", "", 0);
+    words.kind = Kind::Notifying;
+    let db = added(rt, alloc, &mut server, words);
+    let web = listening(rt, alloc, "api", "127.0.0.1:80", 1);
+    let api = added(rt, alloc, &mut server, web);
+    match api.add_dependency(alloc, &mut server.dependencies, &db) {
+        Ok(()) => server,
+        Err(_) => panic!(rt; "refused"),
+    }
+}
+
+/// What the run of a server over these items answers, and what its host was told.
+fn run_of(
+    rt: &impl Abort,
+    alloc: Global,
+    server: Server<Listener>,
+    items: &[Item],
+    turns: u64,
+) -> (Result<Outcome, RunError>, ScriptHost<Listener>)
+    requires { IsSound server.dependencies
+        (answers_of ⟦<Listener as ServiceWithDependents>⟧ server.services.items) }
+{
+    let mut host = ScriptHost::new(alloc, items.to_vec(alloc).expect(rt, "memory"));
+    let answer = server.run(alloc, RunArgs { turns }, &mut host);
+    (answer, host)
+}
+
+#[test]
+fn turns_are_counted(rt: HostRuntime) {
+    let alloc = rt.alloc();
+    let signal = [Item::Event(Event::Signal(ShutdownSignal::FastShutdown))];
+    let (answer, host) = run_of(&rt, alloc, server(&rt, alloc), &signal, 0);
+    assert_eq!(rt; answer, Err(RunError::TurnsSpent));
+    let told = [Entry::Told(Action::Phase(ExecutionPhase::Running, 0))];
+    assert_eq!(rt; host.entries().as_slice(), told.as_slice());
+    let (answer, host) = run_of(&rt, alloc, server(&rt, alloc), &signal, 1);
+    assert_eq!(rt; answer, Ok(Outcome::Served));
+    assert_eq!(rt; host.phases().last().copied(), Some(ExecutionPhase::Terminated));
+}
+
+#[test]
+fn closes_all_when_the_turns_are_spent(rt: HostRuntime) {
+    let alloc = rt.alloc();
+    let items = [
+        Item::Event(Event::Ready(0)),
+        Item::Event(Event::Bound(1, 0, 7)),
+        Item::Event(Event::Signal(ShutdownSignal::FastShutdown)),
+    ];
+    let (answer, host) = run_of(&rt, alloc, two_services(&rt, alloc), &items, 2);
+    assert_eq!(rt; answer, Err(RunError::TurnsSpent));
+    let told = host.entries().as_slice().last().copied();
+    assert_eq!(rt; told, Some(Entry::Told(Action::Close(7))));
+}
+
+#[test]
+fn ends_with_its_cause(rt: HostRuntime) {
+    let alloc = rt.alloc();
+    for (item, error, text) in [
+        (None, RunError::OutOfEvents, "out of events"),
+        (Some(Item::Fault), RunError::HostFault, "the host failed"),
+        (
+            Some(Item::Event(Event::Ready(1))),
+            RunError::Stray(1),
+            "event 1 doesn't fit",
+        ),
+    ] {
+        let mut items = Vec::with_capacity(alloc, 1).expect(&rt, "memory");
+        if let Some(item) = item {
+            items.push_reserved(item);
+        }
+        let (answer, _) = run_of(&rt, alloc, two_services(&rt, alloc), &items, 9);
+        assert_eq!(rt; answer, Err(error));
+        let told = format!(in alloc; "{error}").expect(&rt, "memory");
+        assert_eq!(rt; told.as_str(), text);
+    }
+}
+
+#[test]
+fn no_daemon_is_run_yet(rt: HostRuntime) {
+    let alloc = rt.alloc();
+    let mut server = two_services(&rt, alloc);
+    server.configuration.daemon = true;
+    let (answer, host) = run_of(&rt, alloc, server, &[], 9);
+    assert_eq!(rt; answer, Err(RunError::Config(Key::Daemon)));
+    assert!(rt; host.entries().as_slice().is_empty());
+    let told = format!(in alloc; "{}", RunError::Config(Key::Daemon)).expect(&rt, "memory");
+    assert_eq!(rt; told.as_str(), "the configuration is refused for daemon");
+}
+
+#[test]
+fn boxed_services_run_forever(rt: HostRuntime) {
+    let alloc = rt.alloc();
+    let conf = ServerConf::default(alloc).expect(&rt, "memory");
+    let made: Result<Server<Box<dyn ServiceWithDependents>>, ReadError> =
+        Server::new_with_opt_and_conf(alloc, None, conf);
+    match made {
+        Ok(mut server) => {
+            let web = listening(&rt, alloc, "web", "127.0.0.1:80", 1);
+            let web: Box<dyn ServiceWithDependents> = Box::new(alloc, web).expect(&rt, "memory");
+            assert!(rt; server.add_boxed_service(alloc, web).is_ok());
+            let signal = Item::Event(Event::Signal(ShutdownSignal::FastShutdown));
+            let mut items = Vec::with_capacity(alloc, 1).expect(&rt, "memory");
+            items.push_reserved(signal);
+            let mut host = ScriptHost::new(alloc, items);
+            assert_eq!(rt; server.run_forever(alloc, &mut host), Ok(0));
+            assert_eq!(rt; host.entries().len(), 8);
+        }
+        Err(_) => panic!(rt; "refused"),
+    }
 }
