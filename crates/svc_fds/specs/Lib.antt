@@ -1,0 +1,5 @@
+pub mod FdTable
+pub mod Tables
+pub mod Places
+pub mod Patience
+pub mod Retries
