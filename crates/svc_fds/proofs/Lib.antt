@@ -1,2 +1,4 @@
 pub mod TableLemmas
 pub mod PlaceLemmas
+pub mod WordLemmas
+pub mod PairLemmas

@@ -1,5 +1,6 @@
 -- What the calls of a table mean, by cases on its entries.
-use Rattle.std.proofs.Common.{ℕ, Bool, true, false, not, cond, List, [], ◌∷◌, Option, Some, None, ◌≡◌, refl, sym, ap, subst, ◌∙◌, filter}
+use Rattle.std.proofs.Common.{ℕ, Bool, true, false, not, cond, List, [], ◌∷◌, Option, Some, None, ◌≡◌, refl, sym, ap, subst, ◌∙◌, ◌||◌, filter}
+use Rattle.std.specs.List.{list_any}
 use Rattle.std.specs.Ordering.{nat_cmp, is_eq, ordering_reverse, match_ordering}
 use Rattle.std.specs.declared.cmp.Ordering.{Ordering}
 use Rattle.std.specs.declared.cmp.Ordering.TheVariants.{Less, Equal, Greater}
@@ -8,7 +9,7 @@ use Rattle.std.specs.Str.{bytes_eq}
 use Rattle.std.proofs.lemmas.Map.Text.{is_eq-slice_cmp}
 use Rattle.std.proofs.lemmas.Map.Lookups.{exact_bytes}
 use Rattle.std.proofs.lemmas.Slice.Eq.{bytes_eq-Decides}
-use Rattle.svc_fds.specs.Tables.{Entry, lookup, put, without, Precedes, PrecedesAll, IsAscending}
+use Rattle.svc_fds.specs.Tables.{Entry, lookup, put, without, Precedes, PrecedesAll, IsAscending, is_kept}
 
 -- a lesser address is another one
 pub differs : (x y : List ℕ) → Precedes x y → bytes_eq x y ≡ false
@@ -126,3 +127,8 @@ ascending-filter p (e ∷ es) up =
 
 pub ascending-without : (a : List ℕ) (es : List Entry) → IsAscending es → IsAscending (without a es)
 ascending-without a es up = ascending-filter (λ e. not (bytes_eq e.0 a)) es up
+
+-- a set of texts has an address where one of them is the same bytes
+pub kept-tested : (a : List ℕ) (keep : List (List ℕ)) → list_any (λ k. is_eq (slice_cmp nat_cmp a k)) keep ≡ is_kept keep a
+kept-tested a [] = refl
+kept-tested a (k ∷ keep) = ap (λ b. b || list_any (λ x. is_eq (slice_cmp nat_cmp a x)) keep) (is_eq-slice_cmp a k) ∙ ap (λ b. bytes_eq a k || b) (kept-tested a keep)

@@ -3,3 +3,5 @@ pub mod Tables
 pub mod Places
 pub mod Patience
 pub mod Retries
+pub mod Lists
+pub mod Messages

@@ -1,5 +1,7 @@
 -- A table of descriptors as a finite map from addresses to numbers, kept in the order of the addresses.
-use Rattle.std.specs.Prelude.{ℕ, not, ◌≡◌, List, [], ◌∷◌, Option, Some, None, ⊤, filter, if◌then◌else◌}
+use Rattle.std.specs.Prelude.{ℕ, Bool, not, ◌≡◌, List, [], ◌∷◌, ◌++◌, Option, Some, None, ⊤, filter, map, if◌then◌else◌}
+use Rattle.std.specs.Option.{option_to_list}
+use Rattle.std.specs.List.{list_any}
 use Rattle.std.specs.Ordering.{nat_cmp, match_ordering}
 use Rattle.std.specs.declared.cmp.Ordering.TheVariants.{Less}
 use Rattle.std.specs.Cmp.Lexicographic.{slice_cmp}
@@ -22,6 +24,34 @@ put a fd (e ∷ es) = match_ordering (slice_cmp nat_cmp e.0 a) (e ∷ put a fd e
 -- the table without an address
 abbrev pub without : List ℕ → List Entry → List Entry
 without a es = filter (λ e. not (bytes_eq e.0 a)) es
+
+-- the addresses, and the numbers of the descriptors, in order
+abbrev pub addresses : List Entry → List (List ℕ)
+addresses es = map (λ e. e.0) es
+
+abbrev pub numbers : List Entry → List ℕ
+numbers es = map (λ e. e.1) es
+
+-- the table with each of the pairs set, in order
+abbrev pub put_all : List Entry → List Entry → List Entry
+put_all [] es = es
+put_all (p ∷ pairs) es = put_all pairs (put p.0 p.1 es)
+
+-- what each pair replaces as they are set in order
+abbrev pub replaced_by : List Entry → List Entry → List ℕ
+replaced_by [] es = []
+replaced_by (p ∷ pairs) es = option_to_list (lookup p.0 es) ++ replaced_by pairs (put p.0 p.1 es)
+
+-- the address is among those to keep
+abbrev pub is_kept : List (List ℕ) → List ℕ → Bool
+is_kept keep a = list_any (λ k. bytes_eq a k) keep
+
+-- the entries whose addresses are kept, and the others
+abbrev pub kept : List (List ℕ) → List Entry → List Entry
+kept keep es = filter (λ e. is_kept keep e.0) es
+
+abbrev pub unclaimed : List (List ℕ) → List Entry → List Entry
+unclaimed keep es = filter (λ e. not (is_kept keep e.0)) es
 
 -- a stands before b, by bytes
 abbrev pub Precedes : List ℕ → List ℕ → Type 0

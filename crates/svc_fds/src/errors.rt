@@ -56,6 +56,21 @@ pub enum DecodeError {
     NoMemory,
 }
 
+impl From<ListsError> for DecodeError {
+    ghost use Rattle.std.specs.Prelude.{◌≡◌};
+    ghost use Rattle.svc_fds.specs.Lists.{decode_error};
+
+    ghost from_gives = { λ e error. error ≡ decode_error e };
+
+    fn from(error: ListsError) -> Self {
+        match error {
+            ListsError::Unequal => DecodeError::Unequal,
+            ListsError::Repeated => DecodeError::Repeated,
+            ListsError::NoMemory => DecodeError::NoMemory,
+        }
+    }
+}
+
 /// Why a table wasn't sent.
 #[derive(Clone, Copy, PartialEq, Eq, Debug, Error)]
 pub enum SendError {

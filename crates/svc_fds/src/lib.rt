@@ -1,16 +1,19 @@
 //! Listening sockets by address, and the message that carries them from one process to the next.
 #![tactic(auto)]
 
+mod encoding;
 mod errors;
 mod fd;
 mod place;
 mod retry;
 pub mod server;
+mod words;
 
+pub use encoding::{FD_LIMIT, MESSAGE_LIMIT, Message};
 pub use errors::{DecodeError, EncodeError, ListsError, ReceiveError, SendError};
 pub use fd::Fd;
 pub use retry::{
     BUSY_LIMIT, BUSY_REST, PEER_REST, ReceiveKind, ReceiveNext, ReceiveRetry, SendAnswer, SendNext,
     SendRetry,
 };
-pub use server::transfer_fd::{AddFdRefused, Fds};
+pub use server::transfer_fd::{AddFdRefused, DecodeRefused, FdList, Fds, ListsRefused};

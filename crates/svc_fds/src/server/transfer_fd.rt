@@ -3,13 +3,22 @@
 ghost use Rattle.std.specs.Prelude.{◌≡◌, ◌+◌, ◌-◌, ◌<◌, ◌≤◌, ◌==◌, [], ◌++◌, ℕ, List, Some, None, OnOk, OnErr, IfOk, IfErr, IfSome, length, insert, vec_len, vec_capacity, if◌then◌else◌};
 ghost use Rattle.std.specs.Option.{option_copied, option_to_list};
 ghost use Rattle.std.specs.Str.{bytes_eq};
-ghost use Rattle.svc_fds.specs.Tables.{lookup, put, without, IsAscending, PrecedesAll};
+ghost use Rattle.std.specs.List.{filter_map, zip};
+ghost use Rattle.svc_fds.specs.Tables.{addresses, numbers, lookup, put, put_all, replaced_by, without, is_kept, kept, unclaimed, IsAscending, PrecedesAll};
 
+use crate::encoding::{Message, encoded, numbers_of, texts_of};
+use crate::errors::{DecodeError, EncodeError, ListsError};
 use crate::fd::Fd;
 use crate::place::{Place, place_of, replace_at};
+use crate::words::{has_repeat, words_of};
 use std::alloc::Global;
+use std::collections::BTreeSet;
 use std::marker::Model;
-use svc_conf::{NoMemory, Text};
+use std::str;
+use svc_conf::{Items, NoMemory, Text};
+
+/// Numbers of descriptors.
+pub type FdList = Items<u64>;
 
 /// A descriptor for which no memory was found: both values come back.
 #[derive(Debug)]
@@ -17,6 +26,21 @@ pub struct AddFdRefused {
     pub reason: NoMemory,
     pub bind: Text,
     pub fd: Fd,
+}
+
+/// Texts and descriptors that aren't taken as pairs: both lists come back.
+#[derive(Debug)]
+pub struct ListsRefused {
+    pub reason: ListsError,
+    pub binds: Vec<Text>,
+    pub fds: Vec<Fd>,
+}
+
+/// A message that isn't a table: the descriptors come back.
+#[derive(Debug)]
+pub struct DecodeRefused {
+    pub reason: DecodeError,
+    pub fds: Vec<Fd>,
 }
 
 /// Descriptors of listening sockets, by the address that each is bound to. Contracts see the pairs of
@@ -77,7 +101,36 @@ fn insert_at(
     }
 }
 
+/// Whether an address is among those to keep.
+fn is_kept(keep: &BTreeSet<Text>, bind: &Text) -> bool
+    ensures { result ≡ is_kept keep.now.keys bind.now }
+{
+    keep.contains(bind)
+}
+
+/// Takes the entries out whose addresses aren't kept. There is room for them.
+fn take_unclaimed(entries: &mut Vec<(Text, Fd)>, keep: &BTreeSet<Text>, out: &mut Vec<(Text, Fd)>)
+    requires empty { out.old.items ≡ [] }
+    requires room { vec_len entries.old ≤ vec_capacity out.old }
+    ensures left { entries.new.items ≡ kept keep.now.keys entries.old.items }
+    ensures out { out.new.items ≡ unclaimed keep.now.keys entries.old.items }
+    ensures spare { vec_capacity entries.old - vec_len entries.old
+        ≤ vec_capacity entries.new - vec_len entries.new }
+{
+    let mut at = 0;
+    while at < entries.len() {
+        if is_kept(keep, &entries[at].0) {
+            at += 1;
+        } else {
+            out.push_reserved(entries.remove(at));
+        }
+    }
+}
+
 impl Fds {
+    ghost use Rattle.svc_fds.specs.Lists.{ArePairs, ListsRefusalFits};
+    ghost use Rattle.svc_fds.specs.Messages.{IsEncodable, written, EncodeRefusalFits, IsMessage, table_of, DecodeRefusalFits};
+
     /// A table without entries.
     pub fn new(alloc: Global) -> Self
         ensures empty { result.entries ≡ [] }
@@ -168,6 +221,168 @@ impl Fds {
             return None;
         }
         Some(self.entries.remove(0))
+    }
+
+    /// The addresses and the numbers, in ascending order of the addresses.
+    pub fn serialize(&self, alloc: Global) -> Result<(Vec<Text>, FdList), NoMemory>
+        ensures addresses { IfOk result (λ lists. lists.0.items ≡ addresses self.now.entries) }
+        ensures numbers { IfOk result (λ lists. lists.1 ≡ numbers self.now.entries) }
+    {
+        let texts = texts_of(alloc, &self.entries)?;
+        let fds = numbers_of(alloc, &self.entries)?;
+        Ok((texts, fds))
+    }
+
+    /// Adds the k-th text with the k-th descriptor, for each k. The descriptors that they replace come
+    /// back, in the order of the texts.
+    pub fn deserialize(
+        &mut self,
+        alloc: Global,
+        binds: Vec<Text>,
+        fds: Vec<Fd>,
+    ) -> Result<Vec<Fd>, ListsRefused>
+        ensures paired { OnOk result (ArePairs binds.items (vec_len fds)) }
+        ensures added { OnOk result (self.new.entries ≡ put_all (zip binds.items fds.items) self.old.entries) }
+        ensures replaced { IfOk result
+            (λ replaced. replaced.items ≡ filter_map (λ bind. lookup bind self.old.entries) binds.items) }
+        ensures refusal { IfErr result (λ refused. ListsRefusalFits binds.items (vec_len fds) refused.reason) }
+        ensures back { IfErr result
+            (λ refused. (refused.binds.items ≡ binds.items) × (refused.fds.items ≡ fds.items)) }
+        ensures unchanged { OnErr result (self.new ≡ self.old) }
+        ensures ascending { OnOk result (IsAscending self.new.entries) }
+    {
+        if binds.len() != fds.len() {
+            return Err(ListsRefused {
+                reason: ListsError::Unequal,
+                binds,
+                fds,
+            });
+        }
+        if has_repeat(&binds) {
+            return Err(ListsRefused {
+                reason: ListsError::Repeated,
+                binds,
+                fds,
+            });
+        }
+        let mut replaced = Vec::new(alloc);
+        if replaced.reserve(fds.len()).is_err() || self.entries.reserve(fds.len()).is_err() {
+            replaced.destroy_empty();
+            return Err(ListsRefused {
+                reason: ListsError::NoMemory,
+                binds,
+                fds,
+            });
+        }
+        Ok(self.put_pairs(alloc, binds, fds, replaced))
+    }
+
+    /// Adds pairs for which there is room. What they replace is put after what was replaced before.
+    fn put_pairs(
+        &mut self,
+        alloc: Global,
+        mut binds: Vec<Text>,
+        mut fds: Vec<Fd>,
+        mut replaced: Vec<Fd>,
+    ) -> Vec<Fd>
+        requires same { vec_len binds ≡ vec_len fds }
+        requires room { vec_len fds ≤ self.old.spare }
+        requires replaced_room { vec_len fds + vec_len replaced ≤ vec_capacity replaced }
+        ensures added { self.new.entries ≡ put_all (zip binds.items fds.items) self.old.entries }
+        ensures replaced { result.items
+            ≡ replaced.items ++ replaced_by (zip binds.items fds.items) self.old.entries }
+    {
+        while !fds.is_empty() {
+            let bind = binds.remove(0);
+            let fd = fds.remove(0);
+            match self.add(alloc, bind, fd) {
+                Ok(None) => {}
+                Ok(Some(held)) => replaced.push_reserved(held),
+                Err(_) => unreachable!(),
+            }
+        }
+        fds.destroy_empty();
+        replaced
+    }
+
+    /// Takes the entries out whose addresses aren't in `keep`. They come back in ascending order of the
+    /// addresses, to be closed.
+    pub fn close_unclaimed(
+        &mut self,
+        alloc: Global,
+        keep: &BTreeSet<Text>,
+    ) -> Result<Vec<(Text, Fd)>, NoMemory>
+        ensures left { OnOk result (self.new.entries ≡ kept keep.now.keys self.old.entries) }
+        ensures out { IfOk result (λ out. out.items ≡ unclaimed keep.now.keys self.old.entries) }
+        ensures room { self.old.spare ≤ self.new.spare }
+        ensures unchanged { OnErr result (self.new ≡ self.old) }
+        ensures ascending { IsAscending self.new.entries }
+    {
+        let mut out = Vec::new(alloc);
+        if out.reserve(self.entries.len()).is_err() {
+            out.destroy_empty();
+            return Err(NoMemory);
+        }
+        take_unclaimed(&mut self.entries, keep, &mut out);
+        Ok(out)
+    }
+
+    /// The message that carries the table to a successor: the addresses, joined by single spaces, and
+    /// the numbers, in the same order.
+    pub fn encode(&self, alloc: Global) -> Result<Message, EncodeError>
+        ensures ok { IfOk result (λ message. IsEncodable self.now.entries × (message ≡ written self.now.entries)) }
+        ensures again { IfOk result (λ message. IsMessage message.bytes (length message.fds)
+            × (table_of message.bytes message.fds ≡ self.now.entries)) }
+        ensures refusal { IfErr result (λ error. EncodeRefusalFits self.now.entries error) }
+    {
+        encoded(alloc, &self.entries)
+    }
+
+    /// The table that a message brings: its k-th word with the k-th descriptor.
+    pub fn decode(alloc: Global, bytes: &[u8], fds: Vec<Fd>) -> Result<Fds, DecodeRefused>
+        ensures ok { OnOk result (IsMessage bytes.now (vec_len fds)) }
+        ensures table { IfOk result (λ table. table.entries ≡ table_of bytes.now fds.items) }
+        ensures refusal { IfErr result (λ refused. DecodeRefusalFits bytes.now (vec_len fds) refused.reason) }
+        ensures back { IfErr result (λ refused. refused.fds.items ≡ fds.items) }
+        ensures ascending { IfOk result (λ table. IsAscending table.entries) }
+    {
+        let text = match str::from_utf8(bytes) {
+            Ok(text) => text,
+            Err(_) => {
+                return Err(DecodeRefused {
+                    reason: DecodeError::NotUtf8,
+                    fds,
+                });
+            }
+        };
+        let binds = match words_of(alloc, text) {
+            Ok(binds) => binds,
+            Err(_) => {
+                return Err(DecodeRefused {
+                    reason: DecodeError::NoMemory,
+                    fds,
+                });
+            }
+        };
+        let mut table = Fds::new(alloc);
+        match table.deserialize(alloc, binds, fds) {
+            Ok(replaced) => {
+                replaced.destroy_empty();
+                Ok(table)
+            }
+            Err(refused) => {
+                let ListsRefused {
+                    reason,
+                    binds: _,
+                    fds,
+                } = refused;
+                table.finish();
+                Err(DecodeRefused {
+                    reason: DecodeError::from(reason),
+                    fds,
+                })
+            }
+        }
     }
 
     /// Spends an empty table.
