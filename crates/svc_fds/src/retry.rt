@@ -1,6 +1,6 @@
 //! When a transfer is tried again, and when it is given up.
 
-ghost use Rattle.std.specs.Prelude.{◌≡◌, ℕ, [], ◌∷◌, ◌++◌, List};
+ghost use Rattle.std.specs.Prelude.{◌≡◌, ℕ, [], ◌∷◌, List};
 ghost use Rattle.svc_fds.specs.Retries.{send_next, receive_next, IsAfterSends, IsAfterReceives};
 
 use crate::errors::{ReceiveError, SendError};
@@ -96,7 +96,7 @@ impl SendRetry {
         ensures next { (limit : ℕ) (earlier : List _) → IsAfterSends limit earlier self.old
             → result ≡ send_next limit earlier answer }
         ensures after { (limit : ℕ) (earlier : List _) → IsAfterSends limit earlier self.old
-            → IsAfterSends limit (earlier ++ answer ∷ []) self.new }
+            → IsAfterSends limit (answer ∷ earlier) self.new }
     {
         match answer {
             SendAnswer::Connected => SendNext::Send(0),
@@ -157,7 +157,7 @@ impl ReceiveRetry {
         ensures next { (limit : ℕ) (earlier : List _) → IsAfterReceives limit earlier self.old
             → result ≡ receive_next limit earlier answer }
         ensures after { (limit : ℕ) (earlier : List _) → IsAfterReceives limit earlier self.old
-            → IsAfterReceives limit (earlier ++ answer ∷ []) self.new }
+            → IsAfterReceives limit (answer ∷ earlier) self.new }
     {
         match answer {
             ReceiveKind::Came => ReceiveNext::Done,
