@@ -2,3 +2,6 @@ pub mod TableLemmas
 pub mod PlaceLemmas
 pub mod WordLemmas
 pub mod PairLemmas
+pub mod SendLemmas
+pub mod ReceiveLemmas
+pub mod LoadLemmas

@@ -5,3 +5,5 @@ pub mod Patience
 pub mod Retries
 pub mod Lists
 pub mod Messages
+pub mod Channels
+pub mod Transfers

@@ -116,3 +116,35 @@ pub enum ReceiveError {
     #[error("out of memory")]
     NoMemory,
 }
+
+impl From<EncodeError> for SendError {
+    ghost use Rattle.std.specs.Prelude.{◌≡◌};
+    ghost use Rattle.svc_fds.specs.Transfers.{send_error};
+
+    ghost from_gives = { λ e error. error ≡ send_error e };
+
+    fn from(error: EncodeError) -> Self {
+        match error {
+            EncodeError::BadAddress => SendError::BadAddress,
+            EncodeError::TooLong => SendError::TooLong,
+            EncodeError::TooMany => SendError::TooMany,
+            EncodeError::NoMemory => SendError::NoMemory,
+        }
+    }
+}
+
+impl From<DecodeError> for ReceiveError {
+    ghost use Rattle.std.specs.Prelude.{◌≡◌};
+    ghost use Rattle.svc_fds.specs.Transfers.{receive_error};
+
+    ghost from_gives = { λ e error. error ≡ receive_error e };
+
+    fn from(error: DecodeError) -> Self {
+        match error {
+            DecodeError::NotUtf8 => ReceiveError::NotUtf8,
+            DecodeError::Unequal => ReceiveError::Unequal,
+            DecodeError::Repeated => ReceiveError::Repeated,
+            DecodeError::NoMemory => ReceiveError::NoMemory,
+        }
+    }
+}

@@ -1,14 +1,19 @@
 //! Listening sockets by address, and the message that carries them from one process to the next.
 #![tactic(auto)]
 
+mod call;
+mod channel;
 mod encoding;
 mod errors;
 mod fd;
 mod place;
 mod retry;
 pub mod server;
+mod transfer;
 mod words;
 
+pub use call::{ChannelCall, Receipt, ReceiveAnswer};
+pub use channel::Channel;
 pub use encoding::{FD_LIMIT, MESSAGE_LIMIT, Message};
 pub use errors::{DecodeError, EncodeError, ListsError, ReceiveError, SendError};
 pub use fd::Fd;
@@ -17,3 +22,4 @@ pub use retry::{
     SendRetry,
 };
 pub use server::transfer_fd::{AddFdRefused, DecodeRefused, FdList, Fds, ListsRefused};
+pub use transfer::{MAX_RETRY, get_fds_from, send_fds_to};

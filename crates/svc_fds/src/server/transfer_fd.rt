@@ -1,15 +1,19 @@
 //! Listening sockets by address.
 
-ghost use Rattle.std.specs.Prelude.{◌≡◌, ◌+◌, ◌-◌, ◌<◌, ◌≤◌, ◌==◌, [], ◌++◌, ℕ, List, Some, None, OnOk, OnErr, IfOk, IfErr, IfSome, length, insert, vec_len, vec_capacity, if◌then◌else◌};
+ghost use Rattle.std.specs.Prelude.{◌≡◌, ◌+◌, ◌-◌, ◌<◌, ◌≤◌, ◌==◌, [], ◌∷◌, ◌++◌, ℕ, List, Some, None, OnOk, OnErr, IfOk, IfErr, IfSome, length, insert, unwrap_or, is_some, IsErrOf, vec_len, vec_capacity, if◌then◌else◌};
 ghost use Rattle.std.specs.Option.{option_copied, option_to_list};
 ghost use Rattle.std.specs.Str.{bytes_eq};
 ghost use Rattle.std.specs.List.{filter_map, zip};
 ghost use Rattle.svc_fds.specs.Tables.{addresses, numbers, lookup, put, put_all, replaced_by, without, is_kept, kept, unclaimed, IsAscending, PrecedesAll};
 
+use crate::call::ChannelCall;
+use crate::channel::Channel;
 use crate::encoding::{Message, encoded, numbers_of, texts_of};
-use crate::errors::{DecodeError, EncodeError, ListsError};
+use crate::errors::{DecodeError, EncodeError, ListsError, ReceiveError, SendError};
 use crate::fd::Fd;
 use crate::place::{Place, place_of, replace_at};
+use crate::transfer::{MAX_RETRY, close_all};
+pub use crate::transfer::{get_fds_from, send_fds_to};
 use crate::words::{has_repeat, words_of};
 use std::alloc::Global;
 use std::collections::BTreeSet;
@@ -129,7 +133,10 @@ fn take_unclaimed(entries: &mut Vec<(Text, Fd)>, keep: &BTreeSet<Text>, out: &mu
 
 impl Fds {
     ghost use Rattle.svc_fds.specs.Lists.{ArePairs, ListsRefusalFits};
-    ghost use Rattle.svc_fds.specs.Messages.{IsEncodable, written, EncodeRefusalFits, IsMessage, table_of, DecodeRefusalFits};
+    ghost use Rattle.svc_conf.specs.Streams.{Rose};
+    ghost use Rattle.svc_fds.specs.Channels.{Tells};
+    ghost use Rattle.svc_fds.specs.Transfers.{SendsTable, Loads, LoadsNot, copies, fresh, closes};
+    ghost use Rattle.svc_fds.specs.Messages.{joined, IsEncodable, written, EncodeRefusalFits, IsMessage, table_of, DecodeRefusalFits};
 
     /// A table without entries.
     pub fn new(alloc: Global) -> Self
@@ -382,6 +389,106 @@ impl Fds {
                     fds,
                 })
             }
+        }
+    }
+
+    /// Sends the table's message through a channel, and answers how many bytes were sent. Without
+    /// `max_retry` five missing receivers are borne. A table that has no message is refused before any
+    /// call of the channel.
+    pub fn send_to_sock<C: Channel>(
+        &self,
+        alloc: Global,
+        channel: &mut C,
+        max_retry: Option<u64>,
+    ) -> Result<u64, SendError>
+        ensures asked { SendsTable C.calls (unwrap_or max_retry MAX_RETRY) self.now.entries
+            channel.old channel.new result }
+        ensures sent { IfOk result (λ n. n ≡ length (joined self.now.entries)) }
+        ensures fault { IsErrOf result SendError.Transfer → Rose (C.faulted channel.old) (C.faulted channel.new) }
+    {
+        match self.encode(alloc) {
+            Ok(message) => send_fds_to(
+                message.fds.as_slice(),
+                message.bytes.as_slice(),
+                channel,
+                max_retry,
+            ),
+            Err(error) => Err(SendError::from(error)),
+        }
+    }
+
+    /// Receives a message through a channel and adds what it brings. What came for an address that the
+    /// table holds is closed, and so is all that came where the message is refused; the table's entries
+    /// are then as before. Without `max_retry` five missing senders are borne.
+    pub fn get_from_sock<C: Channel>(
+        &mut self,
+        alloc: Global,
+        channel: &mut C,
+        max_retry: Option<u64>,
+    ) -> Result<(), ReceiveError>
+        ensures loaded { OnOk result (Loads (unwrap_or max_retry MAX_RETRY)
+            (C.calls channel.old) (C.calls channel.new) self.old.entries self.new.entries) }
+        ensures refused { IfErr result (λ error. LoadsNot (unwrap_or max_retry MAX_RETRY)
+            (C.calls channel.old) (C.calls channel.new) error) }
+        ensures unchanged { OnErr result (self.new.entries ≡ self.old.entries) }
+        ensures room { OnErr result (self.old.spare ≤ self.new.spare) }
+        ensures fault { IsErrOf result ReceiveError.Transfer → Rose (C.faulted channel.old) (C.faulted channel.new) }
+    {
+        let (fds, bytes) = match get_fds_from(alloc, channel, max_retry) {
+            Ok(message) => message,
+            Err(error) => return Err(error),
+        };
+        if self.reserve(alloc, fds.len() as u64).is_err() {
+            close_all(channel, fds);
+            return Err(ReceiveError::NoMemory);
+        }
+        match Fds::decode(alloc, bytes.as_slice(), fds) {
+            Ok(table) => {
+                self.take_in(alloc, channel, table);
+                Ok(())
+            }
+            Err(refused) => {
+                let DecodeRefused { reason, fds } = refused;
+                close_all(channel, fds);
+                Err(ReceiveError::from(reason))
+            }
+        }
+    }
+
+    /// Adds the entries of a table, for which there is room, and closes what came for an address that
+    /// is held.
+    fn take_in<C: Channel>(&mut self, alloc: Global, channel: &mut C, mut table: Fds)
+        requires room { length table.entries ≤ self.old.spare }
+        requires ascending { IsAscending table.entries }
+        ensures added { self.new.entries ≡ put_all (fresh table.entries self.old.entries) self.old.entries }
+        ensures closed { Tells (C.calls channel.old) (C.calls channel.new)
+            (closes (numbers (copies table.entries self.old.entries))) }
+        ensures cause { C.faulted channel.new ≡ C.faulted channel.old }
+    {
+        while let Some((bind, fd)) = table.pop_first() {
+            self.take_one(alloc, channel, bind, fd);
+        }
+        table.finish();
+    }
+
+    /// Adds an entry for which there is room, or closes it where its address is held.
+    fn take_one<C: Channel>(&mut self, alloc: Global, channel: &mut C, bind: Text, fd: Fd)
+        requires { 0 < self.old.spare }
+        ensures entries { self.new.entries ≡ (if is_some (lookup bind self.old.entries)
+            then self.old.entries else put bind fd self.old.entries) }
+        ensures room { self.old.spare ≤ self.new.spare + 1 }
+        ensures told { Tells (C.calls channel.old) (C.calls channel.new)
+            (if is_some (lookup bind self.old.entries) then ChannelCall.Close fd ∷ [] else []) }
+        ensures cause { C.faulted channel.new ≡ C.faulted channel.old }
+    {
+        if self.get(bind.as_str()).is_some() {
+            channel.close(fd);
+            return;
+        }
+        match self.add(alloc, bind, fd) {
+            Ok(None) => {}
+            Ok(Some(_held)) => unreachable!(),
+            Err(_refused) => unreachable!(),
         }
     }
 
