@@ -5,3 +5,4 @@ pub mod PairLemmas
 pub mod SendLemmas
 pub mod ReceiveLemmas
 pub mod LoadLemmas
+pub mod FaultLemmas

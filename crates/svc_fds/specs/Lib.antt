@@ -7,3 +7,4 @@ pub mod Lists
 pub mod Messages
 pub mod Channels
 pub mod Transfers
+pub mod Logs

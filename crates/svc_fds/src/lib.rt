@@ -6,6 +6,8 @@ mod channel;
 mod encoding;
 mod errors;
 mod fd;
+mod memory_channel;
+mod peer;
 mod place;
 mod retry;
 pub mod server;
@@ -17,6 +19,7 @@ pub use channel::Channel;
 pub use encoding::{FD_LIMIT, MESSAGE_LIMIT, Message};
 pub use errors::{DecodeError, EncodeError, ListsError, ReceiveError, SendError};
 pub use fd::Fd;
+pub use memory_channel::{MemoryChannel, SteadyChannel};
 pub use retry::{
     BUSY_LIMIT, BUSY_REST, PEER_REST, ReceiveKind, ReceiveNext, ReceiveRetry, SendAnswer, SendNext,
     SendRetry,
