@@ -6,3 +6,4 @@ pub mod SendLemmas
 pub mod ReceiveLemmas
 pub mod LoadLemmas
 pub mod FaultLemmas
+pub mod LawLemmas

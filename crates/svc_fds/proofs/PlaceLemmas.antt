@@ -71,7 +71,7 @@ put-held : (a : List ℕ) (m n : ℕ) (front back : List Entry) → AllPrecede a
 put-held a m n [] back before = rw (tied_itself nat_list_cmp_total a) refl
 put-held a m n (e ∷ front) back before = rw before.0 (ap (λ es. e ∷ es) (put-held a m n front back before.1))
 
-put-above : (a : List ℕ) (n : ℕ) (back : List Entry) → PrecedesAll a back → put a n back ≡ (a, n) ∷ back
+pub put-above : (a : List ℕ) (n : ℕ) (back : List Entry) → PrecedesAll a back → put a n back ≡ (a, n) ∷ back
 put-above a n [] after = refl
 put-above a n (e ∷ back) after = rw (greater a e.0 after.0) refl
 

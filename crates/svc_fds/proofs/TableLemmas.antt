@@ -108,7 +108,7 @@ pub ascending-put : (a : List ℕ) (n : ℕ) (es : List Entry) → IsAscending e
 ascending-put a n [] up = (tt, tt)
 ascending-put a n (e ∷ es) up = ascending-put_by a n e es (slice_cmp nat_cmp e.0 a) refl up (ascending-put a n es up.1)
 
-precedes-filter : (p : Entry → Bool) (x : List ℕ) (es : List Entry) → PrecedesAll x es → PrecedesAll x (filter p es)
+pub precedes-filter : (p : Entry → Bool) (x : List ℕ) (es : List Entry) → PrecedesAll x es → PrecedesAll x (filter p es)
 precedes-filter p x [] all = tt
 precedes-filter p x (e ∷ es) all =
     elim (p e) as (λ b. PrecedesAll x (cond b (e ∷ filter p es) (filter p es))) [

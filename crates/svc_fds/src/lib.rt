@@ -6,6 +6,7 @@ mod channel;
 mod encoding;
 mod errors;
 mod fd;
+pub mod laws;
 mod memory_channel;
 mod peer;
 mod place;

@@ -1,6 +1,6 @@
 //! Channels in memory. What is sent through one can be received from it.
 
-ghost use Rattle.std.specs.Prelude.{◌≡◌, [], IfOk, Some, not};
+ghost use Rattle.std.specs.Prelude.{◌≡◌, [], IfOk, IfSome, Some, not};
 ghost use Rattle.svc_fds.specs.Channels.{FaultsUnless};
 
 use crate::call::{ChannelCall, ReceiveAnswer};
@@ -28,7 +28,7 @@ impl MemoryChannel {
 
     /// A channel without a receiver, with room to tell so many calls.
     pub fn new(alloc: Global, room: u64, failing: Vec<u64>) -> Result<MemoryChannel, NoMemory>
-        ensures { IfOk result (λ channel. told channel.log.whole channel.log.calls.items ≡ Some []) }
+        ensures { IfOk result (λ channel. ⟦<MemoryChannel as Channel>⟧.calls channel ≡ Some []) }
     {
         let log = Log::new(alloc, room)?;
         Ok(MemoryChannel {
@@ -43,14 +43,15 @@ impl MemoryChannel {
 
     /// The next sends, so many, find the receiver busy.
     pub fn set_busy(&mut self, sends: u64)
-        ensures { told self.new.log.whole self.new.log.calls.items ≡ told self.old.log.whole self.old.log.calls.items }
+        ensures calls { ⟦<MemoryChannel as Channel>⟧.calls self.new ≡ ⟦<MemoryChannel as Channel>⟧.calls self.old }
+        ensures faults { ⟦<MemoryChannel as Channel>⟧.faulted self.new ≡ ⟦<MemoryChannel as Channel>⟧.faulted self.old }
     {
         self.peer.busy = sends;
     }
 
     /// The calls that are told.
     pub fn log(&self) -> &[ChannelCall]
-        ensures { result.now ≡ self.now.log.calls.items }
+        ensures { IfSome (⟦<MemoryChannel as Channel>⟧.calls self.now) (λ calls. result.now ≡ calls) }
     {
         &self.log.calls
     }
@@ -142,7 +143,7 @@ impl SteadyChannel {
 
     /// A channel without a receiver, with room to tell so many calls.
     pub fn new(alloc: Global, room: u64) -> Result<SteadyChannel, NoMemory>
-        ensures { IfOk result (λ channel. told channel.log.whole channel.log.calls.items ≡ Some []) }
+        ensures { IfOk result (λ channel. ⟦<SteadyChannel as Channel>⟧.calls channel ≡ Some []) }
     {
         let log = Log::new(alloc, room)?;
         Ok(SteadyChannel {
@@ -154,7 +155,7 @@ impl SteadyChannel {
 
     /// The calls that are told.
     pub fn log(&self) -> &[ChannelCall]
-        ensures { result.now ≡ self.now.log.calls.items }
+        ensures { IfSome (⟦<SteadyChannel as Channel>⟧.calls self.now) (λ calls. result.now ≡ calls) }
     {
         &self.log.calls
     }
