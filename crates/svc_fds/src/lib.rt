@@ -27,3 +27,6 @@ pub use retry::{
 };
 pub use server::transfer_fd::{AddFdRefused, DecodeRefused, FdList, Fds, ListsRefused};
 pub use transfer::{MAX_RETRY, get_fds_from, send_fds_to};
+
+#[cfg(test)]
+mod tests;
