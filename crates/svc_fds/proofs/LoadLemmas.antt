@@ -1,5 +1,5 @@
 -- What comes through a channel is added to a table, one entry after another.
-use Rattle.std.proofs.Common.{ℕ, ◌+◌, ◌≤◌, Bool, true, false, not, cond, List, [], ◌∷◌, ◌++◌, Option, Some, None, ◌≡◌, refl, sym, ap, subst, ◌∙◌, arith, append_assoc, length}
+use Rattle.std.proofs.Common.{ℕ, ◌+◌, ◌≤◌, Bool, true, false, not, cond, List, [], ◌∷◌, ◌++◌, Option, Some, ◌≡◌, refl, sym, ap, subst, ◌∙◌, arith, append_assoc, length}
 use Rattle.std.specs.Prelude.{is_some, Result, Ok, Err, OnOk}
 use Rattle.std.specs.Result.{is_err}
 use Rattle.std.specs.List.{zip}

@@ -1,5 +1,5 @@
 -- A receiver's tries, one after another.
-use Rattle.std.proofs.Common.{ℕ, ◌+◌, ◌-◌, ◌<◌, ◌≤◌, Bool, true, false, cond, ltb, List, [], ◌∷◌, ◌++◌, map, Option, Some, None, ◌≡◌, refl, sym, ap, subst, ◌∙◌, arith}
+use Rattle.std.proofs.Common.{ℕ, ◌+◌, ◌-◌, ◌<◌, Bool, true, false, cond, ltb, List, [], ◌∷◌, map, Option, ◌≡◌, refl, sym, subst, ◌∙◌, arith}
 use Rattle.std.proofs.lemmas.Bool.{ltb-false}
 use Rattle.svc_fds.specs.declared.call.ChannelCall.{ChannelCall}
 use Rattle.svc_fds.specs.declared.call.ChannelCall.TheVariants.{Listen, Receive}
@@ -7,7 +7,6 @@ use Rattle.svc_fds.specs.declared.call.Receipt.{Receipt}
 use Rattle.svc_fds.specs.declared.call.Receipt.TheVariants as receipts
 use Rattle.svc_fds.specs.declared.retry.ReceiveKind.{ReceiveKind}
 use Rattle.svc_fds.specs.declared.retry.ReceiveKind.TheVariants as kinds
-use Rattle.svc_fds.specs.declared.retry.ReceiveNext.{ReceiveNext}
 use Rattle.svc_fds.specs.declared.retry.ReceiveNext.TheVariants as receives
 use Rattle.svc_fds.specs.declared.errors.ReceiveError.{ReceiveError}
 use Rattle.svc_fds.specs.declared.errors.ReceiveError.TheVariants as receive_errors

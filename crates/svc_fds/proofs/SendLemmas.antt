@@ -1,5 +1,5 @@
 -- A sender's tries, one after another.
-use Rattle.std.proofs.Common.{ℕ, ◌+◌, ◌-◌, ◌<◌, ◌≤◌, Bool, true, false, cond, ltb, List, [], ◌∷◌, ◌++◌, Option, Some, None, Result, Err, ◌≡◌, refl, sym, ap, subst, ◌∙◌, arith, append_assoc, length, get_or}
+use Rattle.std.proofs.Common.{ℕ, ◌+◌, ◌-◌, ◌<◌, Bool, true, false, cond, ltb, List, [], ◌∷◌, ◌++◌, Option, Some, None, Result, Err, ◌≡◌, refl, sym, ap, subst, ◌∙◌, arith, append_assoc, length, get_or}
 use Rattle.std.specs.Prelude.{remove}
 use Rattle.std.proofs.lemmas.Bool.{ltb-true, ltb-false}
 use Rattle.std.proofs.lemmas.List.{append-nil, map_push}

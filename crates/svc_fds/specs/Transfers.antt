@@ -1,5 +1,5 @@
 -- What a transfer asks of a channel, by the answers that it gets.
-use Rattle.std.specs.Prelude.{ℕ, ◌≡◌, ◌≤◌, ◌==◌, Bool, true, false, not, Option, Some, None, Result, Ok, Err, List, [], ◌∷◌, ◌++◌, map, filter, length, is_some, if◌then◌else◌}
+use Rattle.std.specs.Prelude.{ℕ, ◌≡◌, ◌==◌, true, false, not, Option, Result, Ok, Err, List, [], ◌∷◌, ◌++◌, map, filter, length, is_some, if◌then◌else◌}
 use Rattle.svc_fds.specs.declared.call.ChannelCall.{ChannelCall}
 use Rattle.svc_fds.specs.declared.call.ChannelCall.TheVariants.{Listen, Receive, Connect, Send, Rest, Close}
 use Rattle.svc_fds.specs.declared.call.Receipt.{Receipt}

@@ -28,7 +28,8 @@ pub trait Channel {
 
     /// Tries to receive once.
     fn receive(&mut self, alloc: Global) -> ReceiveAnswer
-        ensures told { Tells (calls self.old) (calls self.new) (ChannelCall.Receive (receipt_of result) ∷ []) }
+        ensures told { Tells (calls self.old) (calls self.new)
+            (ChannelCall.Receive (receipt_of result) ∷ []) }
         ensures few { IsFew result }
         ensures cause { ReceiveFaults result (faulted self.old) (faulted self.new) };
 

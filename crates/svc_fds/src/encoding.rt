@@ -106,7 +106,8 @@ fn joined(alloc: Global, entries: &[(Text, Fd)]) -> Result<String, NoMemory>
 /// The message of a table.
 pub(crate) fn encoded(alloc: Global, entries: &[(Text, Fd)]) -> Result<Message, EncodeError>
     requires { IsAscending entries.now }
-    ensures ok { IfOk result (λ message. IsEncodable entries.now × (message ≡ written entries.now)) }
+    ensures ok { IfOk result (λ message. IsEncodable entries.now
+        × (message ≡ written entries.now)) }
     ensures again { IfOk result (λ message. IsMessage message.bytes (length message.fds)
         × (table_of message.bytes message.fds ≡ entries.now)) }
     ensures refusal { IfErr result (λ error. EncodeRefusalFits entries.now error) }

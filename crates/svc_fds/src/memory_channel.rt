@@ -28,7 +28,8 @@ impl MemoryChannel {
 
     /// A channel without a receiver, with room to tell so many calls.
     pub fn new(alloc: Global, room: u64, failing: Vec<u64>) -> Result<MemoryChannel, NoMemory>
-        ensures { IfOk result (λ channel. ⟦<MemoryChannel as Channel>⟧.calls channel ≡ Some []) }
+        ensures calls { IfOk result (λ channel. ⟦<MemoryChannel as Channel>⟧.calls channel ≡ Some []) }
+        ensures faults { IfOk result (λ channel. ⟦<MemoryChannel as Channel>⟧.faulted channel ≡ 0) }
     {
         let log = Log::new(alloc, room)?;
         Ok(MemoryChannel {
@@ -43,22 +44,26 @@ impl MemoryChannel {
 
     /// The next sends, so many, find the receiver busy.
     pub fn set_busy(&mut self, sends: u64)
-        ensures calls { ⟦<MemoryChannel as Channel>⟧.calls self.new ≡ ⟦<MemoryChannel as Channel>⟧.calls self.old }
-        ensures faults { ⟦<MemoryChannel as Channel>⟧.faulted self.new ≡ ⟦<MemoryChannel as Channel>⟧.faulted self.old }
+        ensures calls { ⟦<MemoryChannel as Channel>⟧.calls self.new
+            ≡ ⟦<MemoryChannel as Channel>⟧.calls self.old }
+        ensures faults { ⟦<MemoryChannel as Channel>⟧.faulted self.new
+            ≡ ⟦<MemoryChannel as Channel>⟧.faulted self.old }
     {
         self.peer.busy = sends;
     }
 
     /// The calls that are told.
     pub fn log(&self) -> &[ChannelCall]
-        ensures { IfSome (⟦<MemoryChannel as Channel>⟧.calls self.now) (λ calls. result.now ≡ calls) }
+        ensures { IfSome (⟦<MemoryChannel as Channel>⟧.calls self.now)
+            (λ calls. result.now ≡ calls) }
     {
         &self.log.calls
     }
 
     /// Counts a call that can fail, and says whether it does.
     fn fails(&mut self) -> bool
-        ensures told { told self.new.log.whole self.new.log.calls.items ≡ told self.old.log.whole self.old.log.calls.items }
+        ensures told { told self.new.log.whole self.new.log.calls.items
+            ≡ told self.old.log.whole self.old.log.calls.items }
         ensures cause { FaultsUnless (not result) self.old.count self.new.count }
     {
         let call = self.made;
@@ -155,7 +160,8 @@ impl SteadyChannel {
 
     /// The calls that are told.
     pub fn log(&self) -> &[ChannelCall]
-        ensures { IfSome (⟦<SteadyChannel as Channel>⟧.calls self.now) (λ calls. result.now ≡ calls) }
+        ensures { IfSome (⟦<SteadyChannel as Channel>⟧.calls self.now)
+            (λ calls. result.now ≡ calls) }
     {
         &self.log.calls
     }

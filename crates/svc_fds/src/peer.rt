@@ -30,7 +30,8 @@ impl Log {
 
     /// Takes a call down, if there is room.
     pub(crate) fn note(&mut self, call: ChannelCall)
-        ensures { Tells (told self.old.whole self.old.calls.items) (told self.new.whole self.new.calls.items) (call ∷ []) }
+        ensures { Tells (told self.old.whole self.old.calls.items)
+            (told self.new.whole self.new.calls.items) (call ∷ []) }
     {
         if self.whole && self.calls.len() < self.calls.capacity() {
             self.calls.push_reserved(call);
@@ -41,7 +42,8 @@ impl Log {
 
     /// Takes a send down, if there is room.
     pub(crate) fn note_send(&mut self, alloc: Global, bytes: &[u8], fds: &[u64], answer: SendAnswer)
-        ensures { Tells (told self.old.whole self.old.calls.items) (told self.new.whole self.new.calls.items)
+        ensures { Tells (told self.old.whole self.old.calls.items)
+            (told self.new.whole self.new.calls.items)
             (ChannelCall.Send bytes.now fds.now answer ∷ []) }
     {
         match copies_of(alloc, bytes, fds) {
@@ -52,7 +54,8 @@ impl Log {
 
     /// Takes a receive down, if there is room.
     pub(crate) fn note_receive(&mut self, alloc: Global, answer: &ReceiveAnswer)
-        ensures { Tells (told self.old.whole self.old.calls.items) (told self.new.whole self.new.calls.items)
+        ensures { Tells (told self.old.whole self.old.calls.items)
+            (told self.new.whole self.new.calls.items)
             (ChannelCall.Receive (receipt_of answer.now) ∷ []) }
     {
         match receipt(alloc, answer) {

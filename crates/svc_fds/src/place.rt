@@ -36,7 +36,8 @@ pub(crate) fn place_of(entries: &[(Text, Fd)], bind: &str) -> Place
 /// Puts a descriptor in the place of another, which comes back.
 pub(crate) fn replace_at(entries: &mut [(Text, Fd)], at: usize, fd: Fd) -> Fd
     requires { at < length entries.old }
-    ensures old { (bind : _) (held : ℕ) → slice_get entries.old at ≡ Some (bind, held) → result ≡ held }
+    ensures old { (bind : _) (held : ℕ) → slice_get entries.old at ≡ Some (bind, held)
+        → result ≡ held }
     ensures now { (bind : _) (held : ℕ) → slice_get entries.old at ≡ Some (bind, held)
         → entries.new ≡ slice_set entries.old at (bind, fd) }
 {

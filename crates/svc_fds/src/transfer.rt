@@ -32,9 +32,11 @@ fn rest<C: Channel>(channel: &mut C, ms: u64)
 fn ask<C: Channel>(channel: &mut C, next: SendNext, bytes: &[u8], fds: &[u64]) -> Option<SendAnswer>
     requires { length fds.now ≤ 32 }
     ensures told { IfSome result (λ answer.
-        Tells (C.calls channel.old) (C.calls channel.new) (send_calls bytes.now fds.now next answer)) }
+        Tells (C.calls channel.old) (C.calls channel.new)
+        (send_calls bytes.now fds.now next answer)) }
     ensures fits { IfSome result (λ answer. Answers next answer) }
-    ensures cause { IfSome result (λ answer. SendFaults answer (C.faulted channel.old) (C.faulted channel.new)) }
+    ensures cause { IfSome result
+        (λ answer. SendFaults answer (C.faulted channel.old) (C.faulted channel.new)) }
     ensures ended { IfNone result (IsEnd next) }
     ensures unasked { IfNone result (channel.new ≡ channel.old) }
 {
@@ -72,9 +74,11 @@ fn send_all<C: Channel>(
     fds: &[u64],
 ) -> Result<u64, SendError>
     requires { length fds.now ≤ 32 }
-    ensures asked { SendsBy limit bytes.now fds.now (C.calls channel.old) (C.calls channel.new) result }
+    ensures asked { SendsBy limit bytes.now fds.now
+        (C.calls channel.old) (C.calls channel.new) result }
     ensures sent { IfOk result (λ n. n ≡ length bytes.now) }
-    ensures fault { IsErrOf result SendError.Transfer → Rose (C.faulted channel.old) (C.faulted channel.new) }
+    ensures fault { IsErrOf result SendError.Transfer
+        → Rose (C.faulted channel.old) (C.faulted channel.new) }
 {
     let mut retry = SendRetry::new(limit);
     let mut next = SendNext::Connect(0);
@@ -97,9 +101,11 @@ pub fn send_fds_to<C: Channel>(
     ensures too_many { length payload.now ≤ MESSAGE_LIMIT → FD_LIMIT < length fds.now
         → (result ≡ Err SendError.TooMany) × (channel.new ≡ channel.old) }
     ensures asked { length payload.now ≤ MESSAGE_LIMIT → length fds.now ≤ FD_LIMIT
-        → SendsBy (unwrap_or max_retry MAX_RETRY) payload.now fds.now (C.calls channel.old) (C.calls channel.new) result }
+        → SendsBy (unwrap_or max_retry MAX_RETRY) payload.now fds.now
+        (C.calls channel.old) (C.calls channel.new) result }
     ensures sent { IfOk result (λ n. n ≡ length payload.now) }
-    ensures fault { IsErrOf result SendError.Transfer → Rose (C.faulted channel.old) (C.faulted channel.new) }
+    ensures fault { IsErrOf result SendError.Transfer
+        → Rose (C.faulted channel.old) (C.faulted channel.new) }
 {
     if payload.len() > MESSAGE_LIMIT {
         return Err(SendError::TooLong);
@@ -113,9 +119,11 @@ pub fn send_fds_to<C: Channel>(
 /// Takes it that nobody sent yet, and answers the rest before the next try.
 fn wait(retry: &mut ReceiveRetry) -> Result<u64, ReceiveError>
     ensures again { (limit : ℕ) (earlier : List _) → IsAfterReceives limit earlier retry.old
-        → IfOk result (λ ms. receive_next limit earlier ReceiveKind.NotYet ≡ ReceiveNext.Receive ms) }
+        → IfOk result (λ ms. receive_next limit earlier ReceiveKind.NotYet
+        ≡ ReceiveNext.Receive ms) }
     ensures refused { (limit : ℕ) (earlier : List _) → IsAfterReceives limit earlier retry.old
-        → IfErr result (λ error. receive_next limit earlier ReceiveKind.NotYet ≡ ReceiveNext.Refused error) }
+        → IfErr result (λ error. receive_next limit earlier ReceiveKind.NotYet
+        ≡ ReceiveNext.Refused error) }
     ensures after { (limit : ℕ) (earlier : List _) → IsAfterReceives limit earlier retry.old
         → IsAfterReceives limit (ReceiveKind.NotYet ∷ earlier) retry.new }
     ensures falls { OnOk result (retry.new < retry.old) }
@@ -139,7 +147,8 @@ pub fn get_fds_from<C: Channel>(
     ensures few { IfOk result (λ message. vec_len message.0 ≤ FD_LIMIT) }
     ensures refused { IfErr result (λ error. ReceivesNot (unwrap_or max_retry MAX_RETRY)
         (C.calls channel.old) (C.calls channel.new) error) }
-    ensures fault { IsErrOf result ReceiveError.Transfer → Rose (C.faulted channel.old) (C.faulted channel.new) }
+    ensures fault { IsErrOf result ReceiveError.Transfer
+        → Rose (C.faulted channel.old) (C.faulted channel.new) }
 {
     if !channel.listen() {
         return Err(ReceiveError::Transfer);

@@ -62,7 +62,10 @@ impl Model for Fds {
 
     ghost Value = { FdTable };
 
-    ghost view = { λ t. record { entries = t.entries.items; spare = vec_capacity t.entries - vec_len t.entries } };
+    ghost view = { λ t. record {
+      entries = t.entries.items;
+      spare = vec_capacity t.entries - vec_len t.entries;
+    } };
 
     ghost invariant = { λ t. IsAscending t.entries.items };
 }
@@ -249,10 +252,13 @@ impl Fds {
         fds: Vec<Fd>,
     ) -> Result<Vec<Fd>, ListsRefused>
         ensures paired { OnOk result (ArePairs binds.items (vec_len fds)) }
-        ensures added { OnOk result (self.new.entries ≡ put_all (zip binds.items fds.items) self.old.entries) }
+        ensures added { OnOk result (self.new.entries
+            ≡ put_all (zip binds.items fds.items) self.old.entries) }
         ensures replaced { IfOk result
-            (λ replaced. replaced.items ≡ filter_map (λ bind. lookup bind self.old.entries) binds.items) }
-        ensures refusal { IfErr result (λ refused. ListsRefusalFits binds.items (vec_len fds) refused.reason) }
+            (λ replaced. replaced.items
+            ≡ filter_map (λ bind. lookup bind self.old.entries) binds.items) }
+        ensures refusal { IfErr result
+            (λ refused. ListsRefusalFits binds.items (vec_len fds) refused.reason) }
         ensures back { IfErr result
             (λ refused. (refused.binds.items ≡ binds.items) × (refused.fds.items ≡ fds.items)) }
         ensures unchanged { OnErr result (self.new ≡ self.old) }
@@ -337,7 +343,8 @@ impl Fds {
     /// The message that carries the table to a successor: the addresses, joined by single spaces, and
     /// the numbers, in the same order.
     pub fn encode(&self, alloc: Global) -> Result<Message, EncodeError>
-        ensures ok { IfOk result (λ message. IsEncodable self.now.entries × (message ≡ written self.now.entries)) }
+        ensures ok { IfOk result (λ message. IsEncodable self.now.entries
+            × (message ≡ written self.now.entries)) }
         ensures again { IfOk result (λ message. IsMessage message.bytes (length message.fds)
             × (table_of message.bytes message.fds ≡ self.now.entries)) }
         ensures refusal { IfErr result (λ error. EncodeRefusalFits self.now.entries error) }
@@ -349,7 +356,8 @@ impl Fds {
     pub fn decode(alloc: Global, bytes: &[u8], fds: Vec<Fd>) -> Result<Fds, DecodeRefused>
         ensures ok { OnOk result (IsMessage bytes.now (vec_len fds)) }
         ensures table { IfOk result (λ table. table.entries ≡ table_of bytes.now fds.items) }
-        ensures refusal { IfErr result (λ refused. DecodeRefusalFits bytes.now (vec_len fds) refused.reason) }
+        ensures refusal { IfErr result
+            (λ refused. DecodeRefusalFits bytes.now (vec_len fds) refused.reason) }
         ensures back { IfErr result (λ refused. refused.fds.items ≡ fds.items) }
         ensures ascending { IfOk result (λ table. IsAscending table.entries) }
     {
@@ -404,7 +412,8 @@ impl Fds {
         ensures asked { SendsTable C.calls (unwrap_or max_retry MAX_RETRY) self.now.entries
             channel.old channel.new result }
         ensures sent { IfOk result (λ n. n ≡ length (joined self.now.entries)) }
-        ensures fault { IsErrOf result SendError.Transfer → Rose (C.faulted channel.old) (C.faulted channel.new) }
+        ensures fault { IsErrOf result SendError.Transfer
+            → Rose (C.faulted channel.old) (C.faulted channel.new) }
     {
         match self.encode(alloc) {
             Ok(message) => send_fds_to(
@@ -432,7 +441,8 @@ impl Fds {
             (C.calls channel.old) (C.calls channel.new) error) }
         ensures unchanged { OnErr result (self.new.entries ≡ self.old.entries) }
         ensures room { OnErr result (self.old.spare ≤ self.new.spare) }
-        ensures fault { IsErrOf result ReceiveError.Transfer → Rose (C.faulted channel.old) (C.faulted channel.new) }
+        ensures fault { IsErrOf result ReceiveError.Transfer
+            → Rose (C.faulted channel.old) (C.faulted channel.new) }
     {
         let (fds, bytes) = match get_fds_from(alloc, channel, max_retry) {
             Ok(message) => message,
@@ -460,7 +470,8 @@ impl Fds {
     fn take_in<C: Channel>(&mut self, alloc: Global, channel: &mut C, mut table: Fds)
         requires room { length table.entries ≤ self.old.spare }
         requires ascending { IsAscending table.entries }
-        ensures added { self.new.entries ≡ put_all (fresh table.entries self.old.entries) self.old.entries }
+        ensures added { self.new.entries
+            ≡ put_all (fresh table.entries self.old.entries) self.old.entries }
         ensures closed { Tells (C.calls channel.old) (C.calls channel.new)
             (closes (numbers (copies table.entries self.old.entries))) }
         ensures cause { C.faulted channel.new ≡ C.faulted channel.old }

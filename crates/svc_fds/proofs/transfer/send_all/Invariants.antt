@@ -1,7 +1,3 @@
-use Rattle.std.proofs.Common.{◌≡◌, ◌+◌}
-use Rattle.svc_fds.specs.Retries.{after_sends, IsAfterSends}
-use Rattle.svc_fds.specs.Transfers.{IsSendRun, sends_asked}
-use Rattle.svc_fds.specs.Channels.{Tells}
 use Rattle.svc_fds.proofs.SendLemmas.{Sending, left}
 use Rattle.svc_fds.proofs.transfer.send_all.Given as goal
 
