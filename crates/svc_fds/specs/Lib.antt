@@ -1,0 +1,10 @@
+pub mod FdTable
+pub mod Tables
+pub mod Places
+pub mod Patience
+pub mod Retries
+pub mod Lists
+pub mod Messages
+pub mod Channels
+pub mod Transfers
+pub mod Logs
