@@ -1,5 +1,5 @@
 -- The server that a script's services are in, and the plan that it is run by.
-use Rattle.std.proofs.Common.{◌≡◌, ℕ, Bool, List, [], ◌∷◌, ◌++◌, length, map, take, get_or, Option, Some, None, Ok, Err, refl, ap, sym, ◌∙◌, subst, arith, ◌+◌, ◌<◌, ◌≤◌, filter}
+use Rattle.std.proofs.Common.{◌≡◌, ℕ, List, [], ◌∷◌, ◌++◌, length, map, take, get_or, Option, None, refl, ap, sym, ◌∙◌, arith, ◌+◌, ◌<◌, filter}
 use Rattle.std.specs.List.{range_with_len}
 use Rattle.std.proofs.lemmas.List.{map-append, map_more, take_all}
 use Rattle.std.proofs.lemmas.List.Elements.{filter_agree}
@@ -7,8 +7,7 @@ use Rattle.svc_conf.specs.declared.server.configuration.ServerConf.{ServerConf}
 use Rattle.svc_conf.specs.declared.server.configuration.Opt.{Opt}
 use Rattle.svc_conf.specs.Configuration.{defaults}
 use Rattle.svc_graph.specs.GraphData.{GraphData}
-use Rattle.svc_graph.specs.Graphs.{node_count, is_edge, with_node}
-use Rattle.svc_record.specs.declared.plan.Plan.{Plan}
+use Rattle.svc_graph.specs.Graphs.{is_edge, with_node}
 use Rattle.svc_record.specs.declared.plan.ServicePlan.{ServicePlan}
 use Rattle.svc_text.specs.declared.service.ServiceLine.{ServiceLine}
 use Rattle.svc_text.specs.Dependencies.{edges_up_to}

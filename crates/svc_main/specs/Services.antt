@@ -1,8 +1,6 @@
 -- The server that a script's services are in.
-use Rattle.std.specs.Prelude.{◌≡◌, ℕ, List, [], length, map, Some, None}
+use Rattle.std.specs.Prelude.{◌≡◌, ℕ, List, [], length, map, Some}
 use Rattle.std.specs.Option.{option_to_list}
-use Rattle.svc_conf.specs.declared.server.configuration.ServerConf.{ServerConf}
-use Rattle.svc_conf.specs.Configuration.{defaults}
 use Rattle.svc_graph.specs.GraphData.{GraphData}
 use Rattle.svc_record.specs.declared.plan.ServicePlan.{ServicePlan}
 use Rattle.svc_text.specs.declared.service.ServiceLine.{ServiceLine}

@@ -1,17 +1,16 @@
 -- Services that are handed over: which are left, and what the host tells of it.
-use Rattle.std.proofs.Common.{ℕ, zero, suc, ◌≡◌, ◌<◌, ◌==◌, ◌||◌, Bool, true, false, List, [], ◌∷◌, ◌++◌, map, take, length, set, get_or, ◌+◌, add-one, Option, Some, None, refl, ap, sym, subst, ◌∙◌, inl, inr, eq-eqb, arith}
+use Rattle.std.proofs.Common.{ℕ, zero, suc, ◌≡◌, ◌<◌, ◌==◌, ◌||◌, Bool, true, false, List, [], ◌∷◌, map, take, length, set, get_or, ◌+◌, add-one, Option, Some, None, refl, ap, sym, subst, ◌∙◌, inl, inr, eq-eqb, arith}
 use Rattle.std.specs.Prelude.{slice_get, unwrap_or, IfSome}
 use Rattle.std.specs.Option.{option_map}
 use Rattle.std.proofs.lemmas.Bool.{false≢true}
 use Rattle.std.proofs.lemmas.Option.{slice_get-map, slice_get_cases}
 use Rattle.svc_record.specs.declared.plan.Plan.{Plan}
 use Rattle.svc_record.specs.declared.plan.ServicePlan.{ServicePlan}
-use Rattle.svc_record.specs.declared.event.Event.{Event}
 use Rattle.svc_record.specs.declared.entry.Entry.TheVariants.{Got, Told}
 use Rattle.svc_record.specs.declared.action.Action.{Action}
 use Rattle.svc_record.specs.declared.action.Action.TheVariants.{Start, Bind, Close, Phase, Stop}
 use Rattle.svc_record.specs.Plans.{service_count}
-use Rattle.svc_record.specs.Record.{Record, tell, EachEntry}
+use Rattle.svc_record.specs.Record.{Record, tell}
 use Rattle.svc_record.specs.Starts.{is_started}
 use Rattle.svc_server.specs.Hosts.{Handed, Account, with_entry, with_handed, starts_of, MayTell}
 use Rattle.svc_server.specs.Runs.{names_of, name_at, handed_of}

@@ -1,5 +1,5 @@
 -- What a step of the core told, as it is told to a host.
-use Rattle.std.proofs.Common.{ℕ, ◌≡◌, true, false, not, ◌&&◌, List, [], ◌∷◌, ◌++◌, Option, ap, subst, sym, ◌∙◌}
+use Rattle.std.proofs.Common.{ℕ, ◌≡◌, true, not, List, [], ◌∷◌, ◌++◌, Option, ap, subst, sym, ◌∙◌}
 use Rattle.std.proofs.lemmas.Bool.{not-true, ltb-true}
 use Rattle.svc_record.specs.declared.plan.Plan.{Plan}
 use Rattle.svc_record.specs.declared.event.Event.{Event}

@@ -12,7 +12,7 @@ use Rattle.svc_record.specs.declared.action.StepEnd.TheVariants as ends
 use Rattle.svc_record.specs.declared.item.Item.{Item}
 use Rattle.svc_record.specs.declared.item.Item.TheVariants as items
 use Rattle.svc_record.specs.Record.{Record, tell}
-use Rattle.svc_record.specs.Ends.{has_ended, step_end}
+use Rattle.svc_record.specs.Ends.{has_ended}
 use Rattle.svc_record.specs.Fits.{Fits}
 use Rattle.svc_record.specs.Right.{Right}
 use Rattle.svc_record.specs.Tail.{with_event, closing_actions}
@@ -25,7 +25,7 @@ use Rattle.svc_server.specs.declared.run.RunError.{RunError}
 use Rattle.svc_server.specs.declared.run.RunError.TheVariants.{HostFault, Stray, TurnsSpent, OutOfEvents, NoMemory}
 use Rattle.svc_server.specs.declared.host.Next.TheVariants as nexts
 use Rattle.svc_server.specs.Hosts.{Account, no_account, AheadAfter, item_of, account_after, with_entry}
-use Rattle.svc_server.specs.Runs.{events_of, names_of, IsClosed, IsServed, IsSpent, IsStray, RunEnds, RunTells, RunTakes, taken_items, LeavesNothing}
+use Rattle.svc_server.specs.Runs.{events_of, names_of, IsClosed, RunEnds, RunTells, RunTakes, taken_items, LeavesNothing}
 use Rattle.svc_server.specs.Handing.{account_of, names_by, Hands}
 use Rattle.svc_server.specs.Turns.{IsAt, IsAtEvent, IsAhead, Leaves, RunGives, TurnGives}
 use Rattle.svc_server.proofs.AnswerOfStep.{served_from_answer, on_from_answer}

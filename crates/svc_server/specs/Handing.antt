@@ -2,7 +2,7 @@
 use Rattle.std.specs.Prelude.{ℕ, false, ◌≡◌, ◌<◌, List, [], ◌∷◌, map, Option, Some, None, IfSome, slice_set}
 use Rattle.std.specs.Option.{option_map}
 use Rattle.svc_record.specs.declared.plan.Plan.{Plan}
-use Rattle.svc_record.specs.declared.entry.Entry.TheVariants.{Got, Told}
+use Rattle.svc_record.specs.declared.entry.Entry.TheVariants.{Told}
 use Rattle.svc_record.specs.declared.action.Action.{Action}
 use Rattle.svc_record.specs.declared.action.Action.TheVariants.{Start}
 use Rattle.svc_record.specs.Plans.{service_count}

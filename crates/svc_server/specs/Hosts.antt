@@ -1,5 +1,5 @@
 -- What a host tells of a run, and what its calls leave of that.
-use Rattle.std.specs.Prelude.{ℕ, Bool, false, ◌≡◌, List, [], ◌∷◌, map, Option, Some, None, IfSome, IfNone, MatchBool}
+use Rattle.std.specs.Prelude.{ℕ, Bool, false, ◌≡◌, List, [], ◌∷◌, map, Option, Some, None, IfSome, MatchBool}
 use Rattle.std.specs.Option.{option_map}
 use Rattle.svc_conf.specs.Streams.{Rose}
 use Rattle.svc_record.specs.declared.action.Action.{Action}

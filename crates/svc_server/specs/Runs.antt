@@ -1,6 +1,5 @@
 -- How a run went, by what it answers. `p` is the plan, `r` the record, whose newest entry stands first.
-use Rattle.std.specs.Prelude.{ℕ, true, false, ◌≡◌, ◌+◌, ◌≤◌, ◌⊎◌, List, [], ◌∷◌, ◌++◌, length, map, Option, Some, None, Result, Ok, Err, slice_get, slice_set}
-use Rattle.std.specs.Option.{option_map}
+use Rattle.std.specs.Prelude.{ℕ, true, false, ◌≡◌, ◌+◌, ◌≤◌, ◌⊎◌, List, [], ◌∷◌, ◌++◌, length, map, Option, Some, None, Result, Ok, Err}
 use Rattle.svc_conf.specs.Streams.{Rose}
 use Rattle.svc_record.specs.declared.plan.Plan.{Plan}
 use Rattle.svc_record.specs.declared.plan.ServicePlan.{ServicePlan}
@@ -19,7 +18,7 @@ use Rattle.svc_server.specs.declared.run.Outcome.{Outcome}
 use Rattle.svc_server.specs.declared.run.Outcome.TheVariants.{Served}
 use Rattle.svc_server.specs.declared.run.RunError.{RunError}
 use Rattle.svc_server.specs.declared.run.RunError.TheVariants.{Config, HostFault, Stray, TurnsSpent, OutOfEvents, NoMemory}
-use Rattle.svc_server.specs.Hosts.{Handed, Account, Counts, no_account}
+use Rattle.svc_server.specs.Hosts.{Handed, Account, Counts}
 
 -- the events of a record, the oldest first
 abbrev pub events_of : Record → List Event

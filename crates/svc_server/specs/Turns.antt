@@ -1,5 +1,5 @@
 -- Points in a run over a host, and what a turn leaves.
-use Rattle.std.specs.Prelude.{ℕ, false, ◌≡◌, ◌+◌, ◌*◌, ◌≤◌, List, [], ◌∷◌, ◌++◌, length, map, Option, None, Some, IfSome, Result, Ok, Err}
+use Rattle.std.specs.Prelude.{ℕ, false, ◌≡◌, ◌+◌, ◌*◌, ◌≤◌, List, [], ◌∷◌, ◌++◌, length, map, Option, IfSome, Result, Ok, Err}
 use Rattle.std.specs.Option.{option_map}
 use Rattle.svc_conf.specs.Items.{list_of, spare}
 use Rattle.svc_record.specs.declared.plan.Plan.{Plan}

@@ -1,11 +1,13 @@
-ghost use Rattle.std.specs.Prelude.{[], map, Some, None, OnOk, if◌then◌else◌};
+ghost use Rattle.std.specs.Prelude.{[], codes, map, Some, None, OnOk, if◌then◌else◌};
 ghost use Rattle.svc_server.specs.Servers.{answers_of, IsSound};
 
 use super::{AddError, ReadError, Server};
 use crate::run::{Outcome, RunArgs, RunError};
 use crate::script_host::ScriptHost;
 use std::alloc::Global;
+use std::cell::Cell;
 use std::process::Abort;
+use std::rc::Rc;
 use svc_conf::{Key, NoMemory, ServerConf, Settings, Text, Texts};
 use svc_graph::services::{RunPoll, ServiceReadyNotifier, ServiceWithDependents, StartPoll};
 use svc_graph::{DependencyError, EndpointPlan, Kind, ServiceHandle};
@@ -102,9 +104,9 @@ fn listening(rt: &impl Abort, alloc: Global, name: &str, address: &str, times: u
 }
 
 /// A server without services, with the defaults.
-fn server(rt: &impl Abort, alloc: Global) -> Server<Listener>
+fn server<B: ServiceWithDependents>(rt: &impl Abort, alloc: Global) -> Server<B>
     ensures { IsSound result.dependencies
-        (answers_of ⟦<Listener as ServiceWithDependents>⟧ result.services.items) }
+        (answers_of B.ServiceWithDependents result.services.items) }
 {
     let conf = ServerConf::default(alloc).expect(rt, "memory");
     match Server::new_with_opt_and_conf(alloc, None, conf) {
@@ -114,16 +116,16 @@ fn server(rt: &impl Abort, alloc: Global) -> Server<Listener>
 }
 
 /// Adds a service that is taken.
-fn added(
+fn added<B: ServiceWithDependents>(
     rt: &impl Abort,
     alloc: Global,
-    server: &mut Server<Listener>,
-    service: Listener,
+    server: &mut Server<B>,
+    service: B,
 ) -> ServiceHandle
     ensures { IsSound server.old.dependencies
-        (answers_of ⟦<Listener as ServiceWithDependents>⟧ server.old.services.items)
+        (answers_of B.ServiceWithDependents server.old.services.items)
         → IsSound server.new.dependencies
-        (answers_of ⟦<Listener as ServiceWithDependents>⟧ server.new.services.items) }
+        (answers_of B.ServiceWithDependents server.new.services.items) }
 {
     match server.add_boxed_service(alloc, service) {
         Ok(handle) => handle,
@@ -284,7 +286,7 @@ fn validates_what_it_merges(rt: HostRuntime) {
 #[test]
 fn plans_with_the_defaults(rt: HostRuntime) {
     let alloc = rt.alloc();
-    let server = server(&rt, alloc);
+    let server: Server<Listener> = server(&rt, alloc);
     assert!(rt; server.watch_execution_phase().recv(&[]).is_none());
     let plan = server.plan(alloc).expect(&rt, "memory");
     assert_eq!(rt; (plan.grace, plan.stop, plan.tasks), (300, 5, 1));
@@ -335,7 +337,10 @@ fn turns_are_counted(rt: HostRuntime) {
     assert_eq!(rt; host.entries().as_slice(), told.as_slice());
     let (answer, host) = run_of(&rt, alloc, server(&rt, alloc), &signal, 1);
     assert_eq!(rt; answer, Ok(Outcome::Served));
-    assert_eq!(rt; host.phases().last().copied(), Some(ExecutionPhase::Terminated));
+    assert_eq!(rt;
+        host.phases().last().copied(),
+        Some(ExecutionPhase::Terminated)
+    );
 }
 
 #[test]
@@ -407,4 +412,81 @@ fn boxed_services_run_forever(rt: HostRuntime) {
         }
         Err(_) => panic!(rt; "refused"),
     }
+}
+
+/// A service that keeps how long it was told to have waited.
+#[derive(Drop)]
+struct Late {
+    waited: Rc<Cell<u64>>,
+}
+
+impl ServiceWithDependents for Late {
+    ghost named = { λ _. codes "late" };
+
+    fn poll_start(
+        &mut self,
+        _shutdown: bool,
+        _listeners_per_fd: u64,
+        notifier: ServiceReadyNotifier,
+    ) -> StartPoll {
+        StartPoll::Waiting(notifier)
+    }
+
+    fn poll_run(&mut self, _shutdown: bool) -> RunPoll {
+        RunPoll::Pending
+    }
+
+    fn name(&self) -> &str {
+        "late"
+    }
+
+    fn on_startup_delay(&self, waited_ms: u64) {
+        self.waited.set(waited_ms);
+    }
+
+    fn listen_addresses(&self, _alloc: Global) -> Result<Option<Vec<Text>>, NoMemory> {
+        Ok(None)
+    }
+
+    fn kind(&self) -> Kind {
+        Kind::Notifying
+    }
+
+    fn listener_configs(&self, alloc: Global) -> Result<Vec<EndpointPlan>, NoMemory> {
+        Ok(Vec::new(alloc))
+    }
+}
+
+/// A server where the second service waits for the first.
+fn late_services(rt: &impl Abort, alloc: Global, waited: &Rc<Cell<u64>>) -> Server<Late>
+    ensures { IsSound result.dependencies
+        (answers_of ⟦<Late as ServiceWithDependents>⟧ result.services.items) }
+{
+    let mut server = server(rt, alloc);
+    let first = Late {
+        waited: waited.clone().expect(rt, "memory"),
+    };
+    let first = added(rt, alloc, &mut server, first);
+    let second = Late {
+        waited: waited.clone().expect(rt, "memory"),
+    };
+    let second = added(rt, alloc, &mut server, second);
+    match second.add_dependency(alloc, &mut server.dependencies, &first) {
+        Ok(()) => server,
+        Err(_) => panic!(rt; "refused"),
+    }
+}
+
+#[test]
+fn a_service_is_told_how_long_it_waited(rt: HostRuntime) {
+    let alloc = rt.alloc();
+    let waited = Rc::new(alloc, Cell::new(0)).expect(&rt, "memory");
+    let server = late_services(&rt, alloc, &waited);
+    let items = [
+        Item::Event(Event::Moment(700)),
+        Item::Event(Event::Ready(0)),
+    ];
+    let mut host = ScriptHost::new(alloc, items.to_vec(alloc).expect(&rt, "memory"));
+    let _ = server.run(alloc, RunArgs { turns: 2 }, &mut host);
+    assert_eq!(rt; waited.get(), 700);
 }

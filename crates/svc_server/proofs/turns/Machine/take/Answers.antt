@@ -1,4 +1,4 @@
-use Rattle.std.proofs.Common.{◌≡◌, ◌∷◌, List, Option, refl, ap, sym, subst}
+use Rattle.std.proofs.Common.{◌∷◌, List, Option, refl, ap, sym, subst}
 use Rattle.svc_conf.specs.Items.{list_of}
 use Rattle.svc_record.specs.declared.entry.Entry.TheVariants.{Got}
 use Rattle.svc_server.specs.Handing.{names_by}

@@ -1,4 +1,4 @@
-use Rattle.std.proofs.Common.{ℕ, ◌≡◌, List, Option}
+use Rattle.std.proofs.Common.{◌≡◌, List, Option}
 use Rattle.svc_record.specs.declared.item.Item.{Item}
 use Rattle.svc_record.specs.Record.{Record}
 use Rattle.svc_server.specs.Handing.{names_by}
