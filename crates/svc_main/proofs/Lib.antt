@@ -1,4 +1,5 @@
 pub mod ServerLemmas
+pub mod AcceptedLemmas
 pub mod RunLemmas
 pub mod AnswerLemmas
 pub mod WholeLemmas

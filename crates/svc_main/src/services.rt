@@ -1,11 +1,13 @@
 //! The services of a script, and the server that they are in.
 
-ghost use Rattle.std.specs.Prelude.{◌≡◌, ◌≤◌, ℕ, [], length, map, slice_index, Some, None, IfOk, IfErr, OnOk, List};
+ghost use Rattle.std.specs.Prelude.{◌≡◌, ℕ, [], length, map, slice_index, Some, None, IfOk, IfErr, OnOk, List};
 ghost use Rattle.std.specs.Option.{option_to_list};
 ghost use Rattle.svc_conf.specs.Configuration.{defaults};
+ghost use Rattle.svc_text.specs.Accepted.{AreAccepted};
 ghost use Rattle.svc_text.specs.Dependencies.{RefusesNone, RefusesAt};
 ghost use Rattle.svc_text.specs.declared.parsing.ScriptError.TheVariants as errors;
 ghost use Rattle.svc_text.specs.ScriptPlans.{endpoint_of};
+ghost use Rattle.svc_server.specs.declared.server.refusals.AddError.TheVariants as refusals;
 ghost use Rattle.svc_server.specs.Servers.{answers_of, IsSound};
 ghost use Rattle.svc_main.specs.Services.{HasLines};
 
@@ -13,7 +15,7 @@ use std::alloc::Global;
 use svc_conf::{NoMemory, ServerConf, Setting, Settings, Text};
 use svc_graph::services::{RunPoll, ServiceReadyNotifier, ServiceWithDependents, StartPoll};
 use svc_graph::{EndpointPlan, Kind};
-use svc_server::Server;
+use svc_server::{AddError, Server};
 use svc_text::{Script, ScriptError, ServiceLine, add_dependencies};
 
 /// A service of a script. It does nothing by itself: its word and its end are items of the script.
@@ -137,12 +139,27 @@ fn empty_server(alloc: Global) -> Result<Server<ScriptService>, NoMemory>
     }
 }
 
-/// A server with the services of a script, and no dependencies yet.
+/// A refusal for want of memory.
+fn memory_alone(reason: AddError) -> NoMemory
+    requires { reason ≡ refusals.NoMemory }
+{
+    match reason {
+        AddError::NoMemory => NoMemory,
+        AddError::TooMany
+        | AddError::TooManyEndpoints
+        | AddError::BadAddressText(_)
+        | AddError::UnknownFilter(_)
+        | AddError::Unbuilt => unreachable!(),
+    }
+}
+
+/// A server with the services of a script, and no dependencies yet. Against none of them a cause
+/// stands, so it is memory that is wanted.
 pub(crate) fn server_of(
     alloc: Global,
     lines: &[ServiceLine],
 ) -> Result<Server<ScriptService>, NoMemory>
-    requires { length lines.now ≤ 1024 }
+    requires { AreAccepted lines.now }
     ensures configuration { IfOk result (λ server. server.configuration ≡ defaults) }
     ensures options { IfOk result (λ server. server.options ≡ None) }
     ensures lines { IfOk result (λ server. HasLines lines.now 0 server.dependencies
@@ -153,7 +170,7 @@ pub(crate) fn server_of(
         let service = ScriptService::new(alloc, line)?;
         match server.add_service(alloc, service) {
             Ok(_) => {}
-            Err(_) => return Err(NoMemory),
+            Err(refused) => return Err(memory_alone(refused.reason)),
         }
     }
     Ok(server)
@@ -165,7 +182,7 @@ pub(crate) fn server_of_script(
     alloc: Global,
     script: &Script,
 ) -> Result<Server<ScriptService>, ScriptError>
-    requires few { length script.now.services.items ≤ 1024 }
+    requires accepted { AreAccepted script.now.services.items }
     requires lines { length script.now.lines.items ≡ length script.now.services.items }
     ensures configuration { IfOk result (λ server. server.configuration ≡ defaults) }
     ensures options { IfOk result (λ server. server.options ≡ None) }
