@@ -1,0 +1,3 @@
+pub mod OptionsData
+pub mod Steps
+pub mod OptionLists

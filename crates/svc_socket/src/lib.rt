@@ -1,0 +1,20 @@
+//! What a server sets on its sockets, and what stands for TLS where there is none.
+#![tactic(auto)]
+
+mod memory;
+mod options;
+mod peer;
+pub mod protocols;
+
+pub use memory::{MemoryOptions, SteadyOptions};
+pub use options::{Family, OptionCall, Options, SockOption};
+pub use peer::PeerAddr;
+pub use protocols::l4::ext::{
+    OptionError, TcpSocketOptions, apply_bind_options, set_dscp, set_recv_buf, set_snd_buf,
+    set_tcp_fastopen_backlog, set_tcp_fastopen_connect, set_tcp_keepalive, settings_of,
+};
+pub use protocols::l4::virt::IoPoll;
+pub use svc_conf::{Setting, Settings, TcpKeepalive};
+
+#[cfg(test)]
+mod tests;

@@ -1,0 +1,4 @@
+//! Transport and TLS.
+
+pub mod l4;
+pub mod tls;

@@ -1,0 +1,4 @@
+//! Transport.
+
+pub mod ext;
+pub mod virt;
