@@ -300,6 +300,19 @@ fn goes_through_a_channel(rt: HostRuntime) -> Result<(), Fail> {
 }
 
 #[test]
+fn a_table_arrives_whole(rt: HostRuntime) -> Result<(), Fail> {
+    let mut channel = SteadyChannel::new(rt.alloc(), 8).expect(&rt, "memory");
+    assert!(rt; channel.listen());
+    let table = table_of(&rt, &TWO);
+    assert_eq!(rt; table.send_to_sock(rt.alloc(), &mut channel, None), Ok(22));
+    let mut other = Fds::new(rt.alloc());
+    assert_eq!(rt; other.get_from_sock(rt.alloc(), &mut channel, None), Ok(()));
+    assert_eq!(rt; spent(&rt, other).as_str(), TWO_SHOWN);
+    assert_eq!(rt; spent(&rt, table).as_str(), TWO_SHOWN);
+    Ok(())
+}
+
+#[test]
 fn gives_up_after_the_limit(rt: HostRuntime) -> Result<(), Fail> {
     let mut channel = SteadyChannel::new(rt.alloc(), 9).expect(&rt, "memory");
     let sent = send_fds_to(&[], b"", &mut channel, Some(2));
