@@ -12,8 +12,10 @@ use svc_main::serve_script;
 /// as one without words is.
 fn words(rt: &HostRuntime) -> Result<Vec<RcStr>, AllocError> {
     let mut words = Vec::new(rt.alloc());
-    let Ok(args) = env::args(rt) else {
-        return Ok(words);
+    let args = match env::args(rt) {
+        Ok(args) => args,
+        Err(error) if error.kind() == io::ErrorKind::OutOfMemory => return Err(AllocError),
+        Err(_) => return Ok(words),
     };
     for word in args.skip(1) {
         words.push(RcStr::from_str(rt.alloc(), word.as_str())?)?;
