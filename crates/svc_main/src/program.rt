@@ -148,7 +148,8 @@ pub fn serve_script<S: Source, K: Sink>(
     ensures refused { result.0 ≡ 3 → TakesWords (map rc_str_bytes words.now)
         × Writes (K.written sink.old) (K.written sink.new) (λ out. RefusedText (S.left source.old) (S.left source.new) out) }
 
-    // A run that didn't serve: an event didn't fit, or they were used up. All is closed.
+    // A run that didn't serve: an event didn't fit, the host failed, or the items were used up. All is
+    // closed.
     ensures run_error { result.0 ≡ 4 → (end : RunEnd) × (end ≡ Served → ⊥) × TakesWords (map rc_str_bytes words.now) × IsAtEnd (S.left source.new)
         × Writes (K.written sink.old) (K.written sink.new) (λ out. RunText (S.left source.old) end out) }
 
@@ -162,7 +163,7 @@ pub fn serve_script<S: Source, K: Sink>(
     ensures no_memory { result.0 ≡ 7 → K.written sink.new ≡ K.written sink.old }
     ensures others { IsStatus result.0 }
 
-    // A whole script whose events fit and end with the fast signal is served, unless memory runs out
+    // A whole script of events that fit and end with the fast signal is served, unless memory runs out
     // or the source or the sink fails.
     ensures complete { (bytes : List ℕ) (parts : Parts) → S.left source.old ≡ Some bytes → IsWholeScript (map rc_str_bytes words.now) bytes parts
         → (Rose (S.faulted source.old) (S.faulted source.new) → ⊥) → (Rose (K.faulted sink.old) (K.faulted sink.new) → ⊥) → (result.0 ≡ 0) ⊎ (result.0 ≡ 7) }
