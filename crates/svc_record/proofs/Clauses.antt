@@ -7,7 +7,7 @@ use Rattle.svc_record.specs.Descriptors.{Descriptor, opened_descriptors, is_clos
 use Rattle.svc_record.specs.Starts.{starts_right, start_due, start_known}
 use Rattle.svc_record.specs.Endpoints.{endpoints_right, endpoints_right_late}
 use Rattle.svc_record.specs.Closes.{closes_right, close_once}
-use Rattle.svc_record.specs.AskRules.{ask_due, ask_known}
+use Rattle.svc_record.specs.AskRules.{fails_right, ask_due, ask_known}
 use Rattle.svc_record.specs.Drain.{phases_right, every_moment_right, has_passed, ends_right, is_ending}
 use Rattle.svc_record.specs.Boot.{boot_right}
 use Rattle.svc_record.specs.Ends.{has_ended}
@@ -19,6 +19,7 @@ pub data Clause : Type 0 where
   EventFits : Clause
   StartInTurn : Clause
   AskInTurn : Clause
+  GivenUp : Clause
   CloseOnce : Clause
   Moment : Clause
   StartKnown : Clause
@@ -49,8 +50,8 @@ unless false clause more = clause ∷ more
 -- the clauses of entries that refuse the record
 abbrev entries_refused_by : Plan → Record → List Clause
 entries_refused_by p r = unless (each_entry (event_fits p) r) EventFits (unless (each_entry (start_due p) r) StartInTurn (unless (each_entry (ask_due p) r) AskInTurn
-    (unless (each_entry (close_once p) r) CloseOnce (unless (each_entry every_moment_right r) Moment (unless (each_entry (start_known p) r) StartKnown
-    (unless (each_entry (ask_known p) r) AskKnown []))))))
+    (unless (each_settled (fails_right p) r) GivenUp (unless (each_entry (close_once p) r) CloseOnce (unless (each_entry every_moment_right r) Moment (unless (each_entry (start_known p) r) StartKnown
+    (unless (each_entry (ask_known p) r) AskKnown [])))))))
 
 -- each settled prefix in which the run hasn't ended passes the test
 abbrev while_open : Plan → (Record → Bool) → Record → Bool

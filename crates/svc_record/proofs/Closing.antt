@@ -6,7 +6,7 @@ use Rattle.std.specs.List.{list_any}
 use Rattle.svc_record.specs.declared.plan.Plan.{Plan}
 use Rattle.svc_record.specs.declared.entry.Entry.TheVariants.{Got, Told}
 use Rattle.svc_record.specs.declared.event.Event.{Event}
-use Rattle.svc_record.specs.declared.event.Event.TheVariants.{Moment, Ready, Ended, Bound, Signal}
+use Rattle.svc_record.specs.declared.event.Event.TheVariants.{Moment, Ready, Ended, Bound, InUse, BindFailed, Adopted, AdoptFailed, Signal}
 use Rattle.svc_record.specs.declared.action.Action.{Action}
 use Rattle.svc_record.specs.declared.action.Action.TheVariants.{Close}
 use Rattle.svc_record.specs.Record.{Record, has, times, tell, EachEntry}
@@ -30,6 +30,10 @@ numbers-opened p (Got (Bound s i fd) ∷ before) = ap (λ ns. fd ∷ ns) (number
 numbers-opened p (Got (Moment ms) ∷ before) = numbers-opened p before
 numbers-opened p (Got (Ready s) ∷ before) = numbers-opened p before
 numbers-opened p (Got (Ended s) ∷ before) = numbers-opened p before
+numbers-opened p (Got (InUse s i) ∷ before) = numbers-opened p before
+numbers-opened p (Got (BindFailed s i) ∷ before) = numbers-opened p before
+numbers-opened p (Got (Adopted s i) ∷ before) = numbers-opened p before
+numbers-opened p (Got (AdoptFailed s i) ∷ before) = numbers-opened p before
 numbers-opened p (Got (Signal kind) ∷ before) = numbers-opened p before
 numbers-opened p (Told a ∷ before) = numbers-opened p before
 
@@ -60,6 +64,10 @@ came_once p (Got (Bound s i n) ∷ before) fd h = fresh (n == fd) (is_in fd (num
 came_once p (Got (Moment ms) ∷ before) fd h = came_once p before fd h.1
 came_once p (Got (Ready s) ∷ before) fd h = came_once p before fd h.1
 came_once p (Got (Ended s) ∷ before) fd h = came_once p before fd h.1
+came_once p (Got (InUse s i) ∷ before) fd h = came_once p before fd h.1
+came_once p (Got (BindFailed s i) ∷ before) fd h = came_once p before fd h.1
+came_once p (Got (Adopted s i) ∷ before) fd h = came_once p before fd h.1
+came_once p (Got (AdoptFailed s i) ∷ before) fd h = came_once p before fd h.1
 came_once p (Got (Signal kind) ∷ before) fd h = came_once p before fd h.1
 came_once p (Told a ∷ before) fd h = came_once p before fd h.1
 

@@ -1,5 +1,5 @@
 -- A record that has what a fact says passes the fact's test, so a wrong record is refuted by computing.
-use Rattle.std.proofs.Common.{ℕ, zero, suc, Bool, true, false, ◌||◌, ◌&&◌, not, ◌==◌, ◌+◌, ◌<◌, ◌≤◌, List, [], ◌∷◌, ◌++◌, map, length, ◌≡◌, refl, sym, subst, ◌∙◌, eq-eqb, arith}
+use Rattle.std.proofs.Common.{ℕ, zero, suc, Bool, true, false, ◌||◌, ◌&&◌, not, ◌==◌, ◌+◌, ◌<◌, ◌≤◌, List, [], ◌∷◌, ◌++◌, map, length, if◌then◌else◌, ◌≡◌, refl, sym, subst, ◌∙◌, eq-eqb, arith}
 use Rattle.std.proofs.lemmas.Bool.{false≢true, not_from_false}
 use Rattle.std.specs.Bool.{OnTrue, OnFalse}
 use Rattle.std.specs.List.{list_all, list_any, range_with_len}
@@ -12,10 +12,11 @@ use Rattle.svc_record.specs.declared.action.ExecutionPhase.TheVariants.{Shutdown
 use Rattle.svc_record.specs.Record.{Record, tell, has, times, now, is_signal, from_the_start, before_runtimes, EachEntry, EachEarlier, EachSettled, each_entry, each_earlier, each_settled}
 use Rattle.svc_record.specs.Plans.{service_count, endpoints, services, endpoint_numbers}
 use Rattle.svc_record.specs.Descriptors.{Descriptor, opened_descriptors, has_number, is_close}
+use Rattle.svc_record.specs.Failed.{has_failed, is_fail}
 use Rattle.svc_record.specs.Starts.{StartsRight, starts_right, start_right, start_due, start_known}
 use Rattle.svc_record.specs.Endpoints.{EndpointsRight, EndpointsRightLate, endpoints_right, endpoints_right_late, endpoint_right, endpoint_right_late}
 use Rattle.svc_record.specs.Closes.{ClosesRight, closes_right, close_right, close_once}
-use Rattle.svc_record.specs.AskRules.{ask_due, ask_known}
+use Rattle.svc_record.specs.AskRules.{FailsRight, fails_right, ask_due, ask_known}
 use Rattle.svc_record.specs.Drain.{Mark, phase, Drain, drain_right, PhasesRight, phases_right, phase_number, same_mark, same_marks, told_marks, has_passed, moment_right, every_moment_right, ends_right, last_actions, live_numbers, begins_with, is_told, stop_seconds, ascending}
 use Rattle.svc_record.specs.Boot.{BootRight, boot_right}
 use Rattle.svc_record.specs.Ends.{has_ended}
@@ -86,6 +87,9 @@ held_or_wait_late p q f = each_endpoint p (endpoint_right_late p q) f
 
 pub closes : (p : Plan) (q : Record) → ClosesRight p q → closes_right p q ≡ true
 closes p q f = each_number (close_right p q) (opened_descriptors p q) (λ fd o. eq-eqb _ _ (f fd o))
+
+pub fails : (p : Plan) (q : Record) → FailsRight p q → fails_right p q ≡ true
+fails p q f = below (λ t. times (is_fail t) q == (if has_failed p q t then 1 else 0)) (service_count p) (λ s low. eq-eqb _ _ (f s low))
 
 same_self : (x : Mark) → same_mark x x ≡ true
 same_self (phase x) = same (phase_number x)
@@ -171,5 +175,5 @@ passing p r h = and _ _ (served_by_words p r h.served) (boot p r h.boot)
 -- a right record passes the test
 pub test_from_right : (p : Plan) (r : Record) → Right p r → is_right p r ≡ true
 test_from_right p r h = and _ _ (and _ _ (and _ _ (and _ _ (entries (event_fits p) r h.fits) (entries (start_due p) r h.starts)) (settled (settled_right p) (SettledRight p) (settled_clause p) r h.settled))
-    (and _ _ (entries (ask_due p) r h.asks.in_turn) (on_true (has_passed p r) _ _ (passing p r) h.passed)))
+    (and _ _ (and _ _ (entries (ask_due p) r h.asks.in_turn) (settled (fails_right p) (FailsRight p) (fails p) r h.asks.fails)) (on_true (has_passed p r) _ _ (passing p r) h.passed)))
     (stronger p r h.stronger)

@@ -1,5 +1,5 @@
 -- A record that passes a test has what the test's fact says.
-use Rattle.std.proofs.Common.{ℕ, zero, suc, Bool, true, false, ◌||◌, ◌&&◌, not, ◌==◌, ◌+◌, ◌<◌, ◌≤◌, ◌⊎◌, inl, inr, List, [], ◌∷◌, ◌++◌, map, length, slice_index_or, ◌≡◌, refl, sym, ap, subst, ◌∙◌, eqb-true, arith}
+use Rattle.std.proofs.Common.{ℕ, zero, suc, Bool, true, false, ◌||◌, ◌&&◌, not, ◌==◌, ◌+◌, ◌<◌, ◌≤◌, ◌⊎◌, inl, inr, List, [], ◌∷◌, ◌++◌, map, length, slice_index_or, if◌then◌else◌, ◌≡◌, refl, sym, ap, subst, ◌∙◌, eqb-true, arith}
 use Rattle.std.proofs.lemmas.Bool.{false≢true, not-true}
 use Rattle.std.proofs.Math.Decide.{ℕ_discrete}
 use Rattle.std.specs.Bool.{OnTrue, OnFalse}
@@ -14,10 +14,11 @@ use Rattle.svc_record.specs.declared.action.ExecutionPhase.TheVariants.{Setup, B
 use Rattle.svc_record.specs.Record.{Record, tell, has, times, now, is_signal, from_the_start, before_runtimes, EachEntry, EachEarlier, EachSettled, each_entry, each_earlier, each_settled}
 use Rattle.svc_record.specs.Plans.{service_count, endpoints, services, endpoint_numbers}
 use Rattle.svc_record.specs.Descriptors.{Descriptor, opened_descriptors, has_number, is_close}
+use Rattle.svc_record.specs.Failed.{has_failed, is_fail}
 use Rattle.svc_record.specs.Starts.{StartsRight, starts_right, start_right, start_due, start_known}
 use Rattle.svc_record.specs.Endpoints.{EndpointsRight, EndpointsRightLate, endpoints_right, endpoints_right_late, endpoint_right, endpoint_right_late}
 use Rattle.svc_record.specs.Closes.{ClosesRight, closes_right, close_right, close_once}
-use Rattle.svc_record.specs.AskRules.{ask_due, ask_known}
+use Rattle.svc_record.specs.AskRules.{FailsRight, fails_right, ask_due, ask_known}
 use Rattle.svc_record.specs.Drain.{Mark, phase, Drain, drain_right, PhasesRight, phases_right, phase_number, same_mark, same_marks, told_marks, due_marks, has_passed, moment_right, every_moment_right, ends_right, last_actions, live_numbers, is_ending, begins_with, is_told, ascending}
 use Rattle.svc_record.specs.Boot.{BootRight, boot_right}
 use Rattle.svc_record.specs.Ends.{has_ended}
@@ -80,6 +81,9 @@ held_or_wait_late p q e = each_endpoint p (endpoint_right_late p q) e
 
 pub closes : (p : Plan) (q : Record) → closes_right p q ≡ true → ClosesRight p q
 closes p q e fd o = eqb-true _ _ (each_number (close_right p q) (opened_descriptors p q) fd e o)
+
+pub fails : (p : Plan) (q : Record) → fails_right p q ≡ true → FailsRight p q
+fails p q e s low = eqb-true _ _ (below (λ t. times (is_fail t) q == (if has_failed p q t then 1 else 0)) (service_count p) s e low)
 
 -- the phase that has the number
 abbrev phase_of : ℕ → ExecutionPhase
@@ -225,12 +229,12 @@ passing p r s e = let h = both _ _ e in record { served = served_by_words p r s 
 
 -- a record that passes the test is right
 pub right_from_test : (p : Plan) (r : Record) → is_right p r ≡ true → Right p r
-right_from_test p r e = let w = both (is_right_by_words p r) (is_stronger p r) e in let s = stronger p r w.1 in let a = both _ _ w.0 in let b = both _ _ a.0 in let c = both _ _ b.0 in let d = both _ _ a.1 in
+right_from_test p r e = let w = both (is_right_by_words p r) (is_stronger p r) e in let s = stronger p r w.1 in let a = both _ _ w.0 in let b = both _ _ a.0 in let c = both _ _ b.0 in let d = both _ _ a.1 in let f = both _ _ d.0 in
     record {
       fits = entries (event_fits p) r c.0;
       starts = entries (start_due p) r c.1;
       settled = settled (settled_right p) (SettledRight p) (settled_clause p) r b.1;
-      asks = record { in_turn = entries (ask_due p) r d.0 };
+      asks = record { in_turn = entries (ask_due p) r f.0; fails = settled (fails_right p) (FailsRight p) (fails p) r f.1 };
       passed = on_true (has_passed p r) _ _ (passing p r s) d.1;
       stronger = s;
     }

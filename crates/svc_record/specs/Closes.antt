@@ -1,16 +1,27 @@
 -- Which descriptors are gone, and so closed.
-use Rattle.std.specs.Prelude.{ℕ, Bool, true, ◌==◌, ◌≡◌, not, ◌&&◌, if◌then◌else◌}
-use Rattle.std.specs.List.{list_all}
+use Rattle.std.specs.Prelude.{ℕ, Bool, true, false, ◌==◌, ◌≡◌, not, ◌&&◌, ◌||◌, List, Option, Some, None, if◌then◌else◌}
+use Rattle.std.specs.List.{list_any, list_all}
 use Rattle.svc_record.specs.declared.plan.Plan.{Plan}
 use Rattle.svc_record.specs.declared.entry.Entry.{Entry}
 use Rattle.svc_record.specs.declared.entry.Entry.TheVariants.{Told}
 use Rattle.svc_record.specs.declared.action.Action.TheVariants.{Close}
 use Rattle.svc_record.specs.Record.{Record, has, times}
-use Rattle.svc_record.specs.Descriptors.{Descriptor, opened_descriptors, is_opened, is_close, is_doubled}
+use Rattle.svc_record.specs.Plans.{services, names}
+use Rattle.svc_record.specs.Descriptors.{Descriptor, opened_descriptors, is_opened, is_close, address_of, is_doubled}
+use Rattle.svc_record.specs.Failed.{has_failed}
 
--- the descriptor is doubled
+-- some service names the address, and all that name it have failed
+abbrev pub is_abandoned : Plan → Record → List ℕ → Bool
+is_abandoned p q a = list_any (λ s. names p s a) (services p) && list_all (λ s. not (names p s a) || has_failed p q s) (services p)
+
+-- there is an address, and it is abandoned
+abbrev pub is_address_abandoned : Plan → Record → Option (List ℕ) → Bool
+is_address_abandoned p q (Some a) = is_abandoned p q a
+is_address_abandoned p q None = false
+
+-- the descriptor is doubled, or its address is abandoned
 abbrev pub is_gone : Plan → Record → ℕ → Bool
-is_gone p q fd = is_doubled p q fd
+is_gone p q fd = is_doubled p q fd || is_address_abandoned p q (address_of p q fd)
 
 -- the descriptor has one close if it is gone, else none
 abbrev pub close_right : Plan → Record → ℕ → Bool

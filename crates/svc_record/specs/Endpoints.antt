@@ -1,23 +1,25 @@
 -- Which endpoints are held, and which wait.
-use Rattle.std.specs.Prelude.{ℕ, Bool, true, false, ◌==◌, ◌≡◌, ◌<◌, ◌++◌, not, ◌&&◌, ◌||◌, List, [], ◌∷◌, Option, Some, None, length, nat_lt, nat_le, if◌then◌else◌}
+use Rattle.std.specs.Prelude.{ℕ, Bool, true, false, ◌==◌, ◌≡◌, ◌<◌, ◌-◌, ◌++◌, not, ◌&&◌, ◌||◌, List, [], ◌∷◌, Option, Some, None, length, nat_lt, nat_le, if◌then◌else◌}
 use Rattle.std.specs.List.{list_any, list_all}
 use Rattle.svc_record.specs.declared.plan.Plan.{Plan}
 use Rattle.svc_record.specs.declared.entry.Entry.{Entry}
-use Rattle.svc_record.specs.declared.entry.Entry.TheVariants.{Got}
-use Rattle.svc_record.specs.declared.event.Event.TheVariants.{Bound}
-use Rattle.svc_record.specs.Record.{Record}
+use Rattle.svc_record.specs.declared.entry.Entry.TheVariants.{Got, Told}
+use Rattle.svc_record.specs.declared.event.Event.TheVariants.{Bound, InUse, BindFailed, Adopted}
+use Rattle.svc_record.specs.declared.action.Action.TheVariants.{Bind}
+use Rattle.svc_record.specs.Record.{Record, now}
 use Rattle.svc_record.specs.Plans.{service_count, services, endpoints, endpoint_numbers, address, any_with}
 use Rattle.svc_record.specs.Descriptors.{live_numbers_with, has_live}
-use Rattle.svc_record.specs.Asks.{is_ask_open}
+use Rattle.svc_record.specs.Asks.{is_ask_open, last_adopt}
 use Rattle.svc_record.specs.Failed.{has_failed}
 use Rattle.svc_record.specs.Starts.{is_started}
 
 -- the descriptors by which an entry lets the endpoint be held, seen from the whole record
 abbrev pub held_numbers_of : Plan → ℕ → ℕ → Entry → Record → List ℕ
 held_numbers_of p s i (Got (Bound t j fd)) before = if (t == s && j == i) && not (has_live p before (address p t j)) then fd ∷ [] else []
+held_numbers_of p s i (Got (Adopted t j)) before = if t == s && j == i then last_adopt before s i else []
 held_numbers_of p s i _ before = []
 
--- the descriptors by which the endpoint is held: bound and not doubled
+-- the descriptors by which the endpoint is held: bound and not doubled, or adopted
 abbrev pub held_numbers : Plan → Record → ℕ → ℕ → List ℕ
 held_numbers p [] s i = []
 held_numbers p (e ∷ before) s i = held_numbers_of p s i e before ++ held_numbers p before s i
@@ -41,11 +43,24 @@ holds p q s i = is_one_of (live_numbers_with p q (address p s i)) (held_numbers 
 
 -- the service is started and hasn't failed
 abbrev pub is_at_work : Plan → Record → ℕ → Bool
-is_at_work p q s = not (has_failed p q s) && is_started q s
+is_at_work p q s = is_started q s && not (has_failed p q s)
 
--- an ask of the endpoint is open
+-- of the endpoint's binds and their answers the newest is `InUse`, under 1,000 ms before the moment t
+abbrev pub in_use_within : ℕ → Record → ℕ → ℕ → Bool
+in_use_within t [] s i = false
+in_use_within t (Told (Bind a b) ∷ before) s i = if a == s && b == i then false else in_use_within t before s i
+in_use_within t (Got (InUse a b) ∷ before) s i = if a == s && b == i then nat_lt (t - now before) 1000 else in_use_within t before s i
+in_use_within t (Got (Bound a b fd) ∷ before) s i = if a == s && b == i then false else in_use_within t before s i
+in_use_within t (Got (BindFailed a b) ∷ before) s i = if a == s && b == i then false else in_use_within t before s i
+in_use_within t (e ∷ before) s i = in_use_within t before s i
+
+-- its last bind found the address in use under 1,000 ms ago; it isn't held, its service hasn't failed, and no live descriptor has the address
+abbrev pub rests : Plan → Record → ℕ → ℕ → Bool
+rests p q s i = ((not (has_failed p q s) && not (is_held p q s i)) && in_use_within (now q) q s i) && not (has_live p q (address p s i))
+
+-- an ask of the endpoint is open, or it rests
 abbrev pub is_busy : Plan → Record → ℕ → ℕ → Bool
-is_busy p q s i = is_ask_open q s i
+is_busy p q s i = is_ask_open q s i || rests p q s i
 
 -- an endpoint with this address, of a service at work, is busy
 abbrev pub is_busy_elsewhere : Plan → Record → Option (List ℕ) → Bool

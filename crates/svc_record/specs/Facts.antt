@@ -1,5 +1,5 @@
 -- The definitions as facts, under the words that contracts use.
-use Rattle.std.specs.Prelude.{ℕ, ◌≡◌, ◌⊎◌, ◌++◌, ◌∷◌, IsTrue}
+use Rattle.std.specs.Prelude.{ℕ, ◌≡◌, ◌⊎◌, ◌++◌, ◌∷◌, List, IsTrue}
 use Rattle.svc_record.specs.declared.plan.Plan.{Plan}
 use Rattle.svc_record.specs.declared.entry.Entry.TheVariants.{Got}
 use Rattle.svc_record.specs.declared.event.Event.{Event}
@@ -7,8 +7,8 @@ use Rattle.svc_record.specs.Record.{Record}
 use Rattle.svc_record.specs.Descriptors.{is_doubled}
 use Rattle.svc_record.specs.Failed.{has_failed}
 use Rattle.svc_record.specs.Starts.{is_ready}
-use Rattle.svc_record.specs.Endpoints.{is_held_by, is_held, holds, serves, is_busy, waits}
-use Rattle.svc_record.specs.Closes.{is_gone}
+use Rattle.svc_record.specs.Endpoints.{is_held_by, is_held, holds, serves, rests, is_busy, waits}
+use Rattle.svc_record.specs.Closes.{is_abandoned, is_gone}
 use Rattle.svc_record.specs.Drain.{has_passed}
 
 -- q is the record, or what stands before one of its events
@@ -43,13 +43,21 @@ Holds p q s i = IsTrue (holds p q s i)
 abbrev pub Serves : Plan → Record → ℕ → Type 0
 Serves p q s = IsTrue (serves p q s)
 
--- it is asked for
+-- the endpoint's address was in use a moment ago
+abbrev pub Rests : Plan → Record → ℕ → ℕ → Type 0
+Rests p q s i = IsTrue (rests p q s i)
+
+-- it is asked for, or rests
 abbrev pub Busy : Plan → Record → ℕ → ℕ → Type 0
 Busy p q s i = IsTrue (is_busy p q s i)
 
 -- it, or an earlier one of its service, waits for an answer
 abbrev pub Waits : Plan → Record → ℕ → ℕ → Type 0
 Waits p q s i = IsTrue (waits p q s i)
+
+-- some service names the address, and all that name it have failed
+abbrev pub Abandoned : Plan → Record → List ℕ → Type 0
+Abandoned p q a = IsTrue (is_abandoned p q a)
 
 -- the descriptor is to be closed
 abbrev pub Gone : Plan → Record → ℕ → Type 0

@@ -5,11 +5,11 @@ use Rattle.svc_graph.specs.declared.plan.Kind.TheVariants.{Plain, Notifying}
 use Rattle.svc_record.specs.declared.entry.Entry.{Entry}
 use Rattle.svc_record.specs.declared.entry.Entry.TheVariants.{Got}
 use Rattle.svc_record.specs.declared.event.Event.{Event}
-use Rattle.svc_record.specs.declared.event.Event.TheVariants.{Moment, Ready, Ended, Bound, Signal}
+use Rattle.svc_record.specs.declared.event.Event.TheVariants.{Moment, Ready, Ended, Bound, InUse, BindFailed, Adopted, AdoptFailed, Signal}
 use Rattle.svc_record.specs.Record.{Record, has, now, from_the_start}
 use Rattle.svc_record.specs.Plans.{has_kind, endpoints}
 use Rattle.svc_record.specs.Descriptors.{brings}
-use Rattle.svc_record.specs.Asks.{is_bind_open}
+use Rattle.svc_record.specs.Asks.{is_bind_open, is_adopt_open}
 use Rattle.svc_record.specs.Starts.{is_started, is_ready_event, is_ended_event}
 use Rattle.svc_record.specs.Ends.{has_ended}
 
@@ -27,6 +27,10 @@ fits_row p q (Moment ms) = nat_le (now q) ms
 fits_row p q (Ready s) = (has_kind p Notifying s && is_started q s) && not (has (is_ready_event s) q)
 fits_row p q (Ended s) = (may_end p s && is_started q s) && not (has (is_ended_event s) q)
 fits_row p q (Bound s i fd) = is_bind_open q s i && is_new q fd
+fits_row p q (InUse s i) = is_bind_open q s i
+fits_row p q (BindFailed s i) = is_bind_open q s i
+fits_row p q (Adopted s i) = is_adopt_open q s i
+fits_row p q (AdoptFailed s i) = is_adopt_open q s i
 fits_row p q (Signal kind) = from_the_start q
 
 -- the event may come: the run hasn't ended, and the event's condition holds

@@ -17,4 +17,5 @@ pub mod Tail
 pub mod Validity
 pub mod Text
 pub mod Building
+pub mod Told
 pub use Rattle.svc_graph.specs.Paths

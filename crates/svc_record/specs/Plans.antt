@@ -1,5 +1,5 @@
 -- What a plan says of each service.
-use Rattle.std.specs.Prelude.{ℕ, Bool, true, false, ◌&&◌, List, [], length, Option, Some, None, slice_get, nat_lt}
+use Rattle.std.specs.Prelude.{ℕ, Bool, true, false, ◌&&◌, ◌||◌, List, [], length, Option, Some, None, slice_get, nat_lt}
 use Rattle.std.specs.List.{list_any, range_with_len}
 use Rattle.std.specs.Prelude.{bytes_eq}
 use Rattle.svc_record.specs.declared.plan.Plan.{Plan}
@@ -87,3 +87,23 @@ same_address _ _ = false
 -- some endpoint with the address passes the test
 abbrev pub any_with : Plan → Option (List ℕ) → (ℕ → ℕ → Bool) → Bool
 any_with p a test = list_any (λ s. list_any (λ i. same_address (address p s i) a && test s i) (endpoint_numbers p s)) (services p)
+
+-- some text of the list is a
+abbrev pub is_among : List ℕ → List (List ℕ) → Bool
+is_among a texts = list_any (λ t. bytes_eq t a) texts
+
+-- the service declares a list with a in it
+abbrev pub declares : Plan → ℕ → List ℕ → Bool
+declares p s a = in_service (service p s)
+  where
+    in_list : Option (List (List ℕ)) → Bool
+    in_list (Some texts) = is_among a texts
+    in_list None = false
+
+    in_service : Option ServicePlan → Bool
+    in_service (Some x) = in_list x.declared
+    in_service None = false
+
+-- s declares a, or has an endpoint with this address
+abbrev pub names : Plan → ℕ → List ℕ → Bool
+names p s a = declares p s a || list_any (λ (e : EndpointPlan). bytes_eq e.address a) (endpoints p s)

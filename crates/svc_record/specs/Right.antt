@@ -11,7 +11,7 @@ use Rattle.svc_record.specs.Descriptors.{Descriptor, opened_descriptors, is_open
 use Rattle.svc_record.specs.Starts.{StartsRight, starts_right, start_due, start_known}
 use Rattle.svc_record.specs.Endpoints.{EndpointsRight, EndpointsRightLate, endpoints_right, endpoints_right_late}
 use Rattle.svc_record.specs.Closes.{ClosesRight, closes_right, close_once}
-use Rattle.svc_record.specs.AskRules.{AsksRight, ask_due, ask_known}
+use Rattle.svc_record.specs.AskRules.{AsksRight, ask_due, fails_right, ask_known}
 use Rattle.svc_record.specs.Drain.{Drain, drain_right, has_passed, PhasesRight, phases_right, moment_right, every_moment_right, is_ending}
 use Rattle.svc_record.specs.Boot.{BootRight, boot_right}
 use Rattle.svc_record.specs.Ends.{has_ended}
@@ -125,7 +125,7 @@ pub record Right (p : Plan) (r : Record) : Type 0 where
 -- the words of it as a test
 abbrev pub is_right_by_words : Plan → Record → Bool
 is_right_by_words p r = ((each_entry (event_fits p) r && each_entry (start_due p) r) && each_settled (settled_right p) r)
-    && (each_entry (ask_due p) r && (not (has_passed p r) || passed_right p r))
+    && ((each_entry (ask_due p) r && each_settled (fails_right p) r) && (not (has_passed p r) || passed_right p r))
 
 -- the same as a test
 abbrev pub is_right : Plan → Record → Bool

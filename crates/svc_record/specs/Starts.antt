@@ -30,9 +30,9 @@ is_ended_event s _ = false
 abbrev pub is_started : Record → ℕ → Bool
 is_started q s = has (is_start s) q
 
--- the service has failed, or its word came, or its work is done, or it is started and plain
+-- the service's word came, or its work is done, or it has failed, or it is started and plain
 abbrev pub is_ready : Plan → Record → ℕ → Bool
-is_ready p q s = (has_failed p q s || (has (is_ready_event s) q || has (is_ended_event s) q)) || (is_started q s && has_kind p Plain s)
+is_ready p q s = ((has (is_ready_event s) q || has (is_ended_event s) q) || has_failed p q s) || (is_started q s && has_kind p Plain s)
 
 -- every dependency of the service is ready
 abbrev pub is_due : Plan → Record → ℕ → Bool

@@ -7,9 +7,9 @@ use Rattle.svc_record.specs.declared.event.ShutdownSignal.TheVariants.{FastShutd
 use Rattle.svc_record.specs.declared.action.ExecutionPhase.{ExecutionPhase}
 use Rattle.svc_record.specs.declared.action.ExecutionPhase.TheVariants.{Setup, Bootstrap, BootstrapComplete, Running, GracefulUpgradeTransferringFds, GracefulUpgradeCloseTimeout, GracefulTerminate, ShutdownStarted, ShutdownGracePeriod, ShutdownRuntimes, Terminated}
 use Rattle.svc_record.specs.declared.event.Event.{Event}
-use Rattle.svc_record.specs.declared.event.Event.TheVariants.{Moment, Ready, Ended, Bound, Signal}
+use Rattle.svc_record.specs.declared.event.Event.TheVariants.{Moment, Ready, Ended, Bound, InUse, BindFailed, Adopted, AdoptFailed, Signal}
 use Rattle.svc_record.specs.declared.action.Action.{Action}
-use Rattle.svc_record.specs.declared.action.Action.TheVariants.{Start, Bind, Close, Phase, Stop}
+use Rattle.svc_record.specs.declared.action.Action.TheVariants.{Start, Fail, Bind, Adopt, Close, Phase, Stop}
 use Rattle.svc_record.specs.declared.entry.Entry.{Entry}
 use Rattle.svc_record.specs.declared.entry.Entry.TheVariants.{Got, Told}
 
@@ -37,12 +37,18 @@ event_words (Moment ms) = codes "moment" ∷ decimal ms ∷ []
 event_words (Ready s) = codes "ready" ∷ decimal s ∷ []
 event_words (Ended s) = codes "ended" ∷ decimal s ∷ []
 event_words (Bound s i fd) = codes "bound" ∷ decimal s ∷ decimal i ∷ decimal fd ∷ []
+event_words (InUse s i) = codes "inuse" ∷ decimal s ∷ decimal i ∷ []
+event_words (BindFailed s i) = codes "bindfailed" ∷ decimal s ∷ decimal i ∷ []
+event_words (Adopted s i) = codes "adopted" ∷ decimal s ∷ decimal i ∷ []
+event_words (AdoptFailed s i) = codes "adoptfailed" ∷ decimal s ∷ decimal i ∷ []
 event_words (Signal kind) = codes "signal" ∷ signal_word kind ∷ []
 
 -- the words of an action's line
 abbrev pub action_words : Action → List (List ℕ)
 action_words (Start s) = codes "start" ∷ decimal s ∷ []
+action_words (Fail s) = codes "fail" ∷ decimal s ∷ []
 action_words (Bind s i) = codes "bind" ∷ decimal s ∷ decimal i ∷ []
+action_words (Adopt s i fd) = codes "adopt" ∷ decimal s ∷ decimal i ∷ decimal fd ∷ []
 action_words (Close fd) = codes "close" ∷ decimal fd ∷ []
 action_words (Phase p ms) = codes "phase" ∷ phase_word p ∷ decimal ms ∷ []
 action_words (Stop seconds) = codes "stop" ∷ decimal seconds ∷ []
@@ -70,12 +76,18 @@ EventFits (Moment ms) = ms < 2 ^ 64
 EventFits (Ready s) = s < 2 ^ 32
 EventFits (Ended s) = s < 2 ^ 32
 EventFits (Bound s i fd) = (s < 2 ^ 32) × (i < 2 ^ 32) × (fd < 2 ^ 64)
+EventFits (InUse s i) = (s < 2 ^ 32) × (i < 2 ^ 32)
+EventFits (BindFailed s i) = (s < 2 ^ 32) × (i < 2 ^ 32)
+EventFits (Adopted s i) = (s < 2 ^ 32) × (i < 2 ^ 32)
+EventFits (AdoptFailed s i) = (s < 2 ^ 32) × (i < 2 ^ 32)
 EventFits (Signal kind) = Unit {0}
 
 -- the numbers of an action are
 abbrev pub ActionFits : Action → Type 0
 ActionFits (Start s) = s < 2 ^ 32
+ActionFits (Fail s) = s < 2 ^ 32
 ActionFits (Bind s i) = (s < 2 ^ 32) × (i < 2 ^ 32)
+ActionFits (Adopt s i fd) = (s < 2 ^ 32) × (i < 2 ^ 32) × (fd < 2 ^ 64)
 ActionFits (Close fd) = fd < 2 ^ 64
 ActionFits (Phase p ms) = ms < 2 ^ 64
 ActionFits (Stop seconds) = seconds < 2 ^ 64

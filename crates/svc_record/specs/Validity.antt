@@ -5,7 +5,7 @@ use Rattle.svc_graph.specs.Paths.{IsAcyclic}
 use Rattle.svc_graph.specs.declared.plan.EndpointPlan.{EndpointPlan}
 use Rattle.svc_graph.specs.declared.plan.Kind.TheVariants.{Bootstrap}
 use Rattle.svc_record.specs.declared.plan.Plan.{Plan}
-use Rattle.svc_record.specs.Plans.{service_count, depends, has_kind, endpoints, address, is_unix}
+use Rattle.svc_record.specs.Plans.{service_count, depends, has_kind, endpoints}
 
 -- s depends on d
 abbrev pub depends_on : Plan → ℕ → ℕ → Bool
@@ -24,12 +24,9 @@ pub record IsValid (p : Plan) : Type 0 where
   pub acyclic : IsAcyclic (depends_on p)
   pub tasks : 0 < p.tasks
 
--- the plan has only forms that are built: at most one endpoint a service, over TCP, without a filter, with an address of its own; nothing bootstraps, and nothing forks
+-- the plan has only forms that are built: no endpoint has a filter; nothing bootstraps, and nothing forks
 pub record IsBuilt (p : Plan) : Type 0 where
-  pub single : (s : ℕ) → length (endpoints p s) ≤ 1
-  pub tcp : (s i : ℕ) → is_unix p s i ≡ false
   pub unfiltered : (s : ℕ) → All (λ (e : EndpointPlan). e.filter ≡ None) (endpoints p s)
-  pub apart : (s t i j : ℕ) (a : List ℕ) → address p s i ≡ Some a → address p t j ≡ Some a → s ≡ t
   pub boots_not : (s : ℕ) → has_kind p Bootstrap s ≡ false
   pub eager_not : p.eager ≡ false
   pub daemon_not : p.daemon ≡ false

@@ -23,8 +23,12 @@ pub enum ExecutionPhase {
 pub enum Action {
     /// Start the service.
     Start(u32),
+    /// Give the service up.
+    Fail(u32),
     /// Bind the address of the service's endpoint.
     Bind(u32, u32),
+    /// Listen for the service's endpoint on this descriptor, which is held already.
+    Adopt(u32, u32, u64),
     /// Close the descriptor.
     Close(u64),
     /// Publish the phase, with the last moment in milliseconds.
@@ -79,7 +83,9 @@ impl fmt::Display for Action {
     fn fmt<W: fmt::Write>(&self, f: &mut fmt::Formatter<W>) -> fmt::Result {
         match self {
             Action::Start(s) => write!(f, "start {s}"),
+            Action::Fail(s) => write!(f, "fail {s}"),
             Action::Bind(s, i) => write!(f, "bind {s} {i}"),
+            Action::Adopt(s, i, fd) => write!(f, "adopt {s} {i} {fd}"),
             Action::Close(fd) => write!(f, "close {fd}"),
             Action::Phase(p, ms) => write!(f, "phase {p} {ms}"),
             Action::Stop(seconds) => write!(f, "stop {seconds}"),

@@ -18,6 +18,14 @@ pub enum Event {
     Ended(u32),
     /// The bind of the service's endpoint brought this descriptor.
     Bound(u32, u32, u64),
+    /// The address of the service's endpoint is in use.
+    InUse(u32, u32),
+    /// The bind of the service's endpoint failed.
+    BindFailed(u32, u32),
+    /// The service's endpoint listens on the descriptor that it was offered.
+    Adopted(u32, u32),
+    /// The service's endpoint couldn't take the descriptor that it was offered.
+    AdoptFailed(u32, u32),
     Signal(ShutdownSignal),
 }
 
@@ -46,6 +54,10 @@ impl fmt::Display for Event {
             Event::Ready(s) => write!(f, "ready {s}"),
             Event::Ended(s) => write!(f, "ended {s}"),
             Event::Bound(s, i, fd) => write!(f, "bound {s} {i} {fd}"),
+            Event::InUse(s, i) => write!(f, "inuse {s} {i}"),
+            Event::BindFailed(s, i) => write!(f, "bindfailed {s} {i}"),
+            Event::Adopted(s, i) => write!(f, "adopted {s} {i}"),
+            Event::AdoptFailed(s, i) => write!(f, "adoptfailed {s} {i}"),
             Event::Signal(kind) => write!(f, "signal {kind}"),
         }
     }

@@ -1,0 +1,25 @@
+-- What a call told.
+use Rattle.std.specs.Prelude.{List, [], ◌∷◌, ◌++◌, ◌≡◌}
+use Rattle.svc_record.specs.declared.action.Action.{Action}
+use Rattle.svc_record.specs.declared.action.Action.TheVariants.{Start, Fail, Bind, Adopt, Close}
+
+-- a call appended actions to a list, and what it told meets Kept
+pub record Tells (before after : List Action) (Kept : List Action → Type 0) : Type 0 where
+  pub told : List Action
+  pub appended : after ≡ before ++ told
+  pub kept : Kept told
+
+-- only starts and asks
+abbrev pub IsQuiet : List Action → Type 0
+IsQuiet [] = Unit {0}
+IsQuiet (Start s ∷ more) = IsQuiet more
+IsQuiet (Bind s i ∷ more) = IsQuiet more
+IsQuiet (Adopt s i fd ∷ more) = IsQuiet more
+IsQuiet (_ ∷ more) = ⊥
+
+-- only services that are given up, and closes
+abbrev pub IsGivingUp : List Action → Type 0
+IsGivingUp [] = Unit {0}
+IsGivingUp (Fail s ∷ more) = IsGivingUp more
+IsGivingUp (Close fd ∷ more) = IsGivingUp more
+IsGivingUp (_ ∷ more) = ⊥
