@@ -1,6 +1,6 @@
 -- The test of built forms says what they are.
-use Rattle.std.proofs.Common.{ℕ, false, inl, inr, List, [], ◌≡◌, refl, subst, arith, All, slice_get, get_or}
-use Rattle.std.specs.Prelude.{Option, Some, None}
+use Rattle.std.proofs.Common.{ℕ, false, inl, inr, List, ◌≡◌, refl, subst, arith, All, slice_get, get_or}
+use Rattle.std.specs.Prelude.{Some, None}
 use Rattle.std.proofs.lemmas.Option.{slice_get_cases, slice_get-get_or}
 use Rattle.svc_graph.specs.declared.plan.EndpointPlan.{EndpointPlan}
 use Rattle.svc_graph.specs.declared.plan.Kind.TheVariants.{Bootstrap}

@@ -8,6 +8,9 @@ pub mod NoServices
 pub mod ChainOfServices
 pub mod EndedService
 pub mod StrayEvent
+pub mod SharedAddress
+pub mod FailedBind
+pub mod UnixInUse
 pub mod NoSignal
 pub mod Clauses
 pub mod Refused

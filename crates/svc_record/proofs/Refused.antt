@@ -3,16 +3,19 @@ use Rattle.std.proofs.Common.{ℕ, true, [], ◌∷◌, ◌++◌, codes, ◌≡�
 use Rattle.svc_graph.specs.declared.plan.Kind.TheVariants.{Bootstrap as Bootstrapping}
 use Rattle.svc_record.specs.declared.plan.Plan.{Plan}
 use Rattle.svc_record.specs.declared.entry.Entry.TheVariants.{Got, Told}
-use Rattle.svc_record.specs.declared.event.Event.TheVariants.{Moment as Time, Ready, Ended, Bound, Signal}
+use Rattle.svc_record.specs.declared.event.Event.TheVariants.{Moment as Time, Ready, Ended, Bound, InUse, BindFailed, Adopted, Signal}
 use Rattle.svc_record.specs.declared.event.ShutdownSignal.TheVariants.{FastShutdown}
-use Rattle.svc_record.specs.declared.action.Action.TheVariants.{Start, Bind, Close, Phase, Stop}
+use Rattle.svc_record.specs.declared.action.Action.TheVariants.{Start, Fail, Bind, Adopt, Close, Phase, Stop}
 use Rattle.svc_record.specs.declared.action.ExecutionPhase.TheVariants.{Setup, Bootstrap, BootstrapComplete, Running, ShutdownStarted, ShutdownGracePeriod, ShutdownRuntimes, Terminated}
 use Rattle.svc_record.specs.declared.action.StepEnd.TheVariants.{On}
 use Rattle.svc_record.specs.Record.{Record}
 use Rattle.svc_record.specs.Ends.{step_end}
 use Rattle.svc_record.specs.Right.{is_served}
-use Rattle.svc_record.proofs.Clauses.{EventFits, StartInTurn, AskInTurn, CloseOnce, Moment, StartKnown, AskKnown, Beginning, Closes, OneLive, Starts, Endpoints, EndpointsLate, Phases, NoEnd, FirstToPass, AllPhases, LastActions, EndNowhereElse, AllClosed, LastStep, BeginningOfAll, IsRefusedBy}
+use Rattle.svc_record.proofs.Clauses.{EventFits, StartInTurn, AskInTurn, GivenUp, CloseOnce, Moment, StartKnown, AskKnown, Beginning, Closes, OneLive, Starts, Endpoints, EndpointsLate, Phases, NoEnd, FirstToPass, AllPhases, LastActions, EndNowhereElse, AllClosed, LastStep, BeginningOfAll, IsRefusedBy}
 use Rattle.svc_record.proofs.TwoServices.{plan_of, listening, database, plan, asked, bound, run}
+use Rattle.svc_record.proofs.SharedAddress.{plan as shared_plan, refused, retried, offered}
+use Rattle.svc_record.proofs.FailedBind.{plan as failing_plan, half_held, given_up}
+use Rattle.svc_record.proofs.UnixInUse.{plan as unix_plan}
 
 -- two services that say when they are ready, the second after the first
 abbrev later : Plan
@@ -37,6 +40,10 @@ begun = Told (Phase Running 0) ∷ Told (Start 0) ∷ []
 -- both services are started and bound
 abbrev both_asked : Record
 both_asked = Told (Phase Running 0) ∷ Told (Bind 1 0) ∷ Told (Start 1) ∷ Told (Bind 0 0) ∷ Told (Start 0) ∷ []
+
+-- both services are started, and the first asks
+abbrev both_asked_for_one : Record
+both_asked_for_one = Told (Phase Running 0) ∷ Told (Start 1) ∷ Told (Bind 0 0) ∷ Told (Start 0) ∷ []
 
 -- the signal has come
 abbrev signalled : Record
@@ -288,3 +295,71 @@ runs_late-served = refl
 
 runs_late-right : IsRefusedBy plan runs_late (Beginning ∷ [])
 runs_late-right = (refl, refl)
+
+-- a busy port is tried again at once
+retry_at_once : IsRefusedBy shared_plan (Told (Bind 0 0) ∷ refused) (AskInTurn ∷ [])
+retry_at_once = (refl, refl)
+
+-- before its rest of 1,000 ms is over
+retry_early : IsRefusedBy shared_plan (Told (Bind 0 0) ∷ Got (Time 999) ∷ refused) (AskInTurn ∷ [])
+retry_early = (refl, refl)
+
+-- after its rest it isn't tried again
+retry_left_out : IsRefusedBy shared_plan (Got (Time 1000) ∷ refused) (Endpoints ∷ EndpointsLate ∷ [])
+retry_left_out = (refl, refl)
+
+-- an address is bound for one service while the endpoint of another rests
+bind_beside_rest : IsRefusedBy shared_plan (Told (Bind 1 0) ∷ refused) (AskInTurn ∷ [])
+bind_beside_rest = (refl, refl)
+
+-- an address is bound for which a descriptor is held
+bind_beside_held : IsRefusedBy shared_plan (Told (Bind 1 0) ∷ Got (Bound 0 0 5) ∷ retried) (AskInTurn ∷ [])
+bind_beside_held = (refl, refl)
+
+-- a held descriptor isn't offered
+offer_left_out : IsRefusedBy shared_plan (Got (Bound 0 0 5) ∷ retried) (Endpoints ∷ EndpointsLate ∷ [])
+offer_left_out = (refl, refl)
+
+-- a number is offered that no live descriptor has
+offer_of_none : IsRefusedBy shared_plan (Told (Adopt 1 0 6) ∷ Got (Bound 0 0 5) ∷ retried) (AskInTurn ∷ [])
+offer_of_none = (refl, refl)
+
+-- a descriptor is offered twice
+offer_twice : IsRefusedBy shared_plan (Told (Adopt 1 0 5) ∷ offered) (AskInTurn ∷ [])
+offer_twice = (refl, refl)
+
+-- an adoption is answered that isn't open
+adopted_unasked : IsRefusedBy shared_plan (Got (Adopted 0 0) ∷ offered) (EventFits ∷ [])
+adopted_unasked = (refl, refl)
+
+-- a service that failed isn't given up
+fail_left_out : IsRefusedBy failing_plan (Told (Close 7) ∷ Got (BindFailed 0 1) ∷ half_held) (GivenUp ∷ [])
+fail_left_out = (refl, refl)
+
+-- it is given up twice
+fail_twice : IsRefusedBy failing_plan (Told (Fail 0) ∷ given_up) (GivenUp ∷ [])
+fail_twice = (refl, refl)
+
+-- a service is given up that hasn't failed
+fail_of_working : IsRefusedBy failing_plan (Told (Fail 0) ∷ half_held) (GivenUp ∷ [])
+fail_of_working = (refl, refl)
+
+-- a number that is no service is given up
+fail_of_none : IsRefusedBy failing_plan (Told (Fail 1) ∷ half_held) (AskKnown ∷ [])
+fail_of_none = (refl, refl)
+
+-- what a failed service alone named is left open
+abandoned_left_open : IsRefusedBy failing_plan (Told (Fail 0) ∷ Got (BindFailed 0 1) ∷ half_held) (Closes ∷ [])
+abandoned_left_open = (refl, refl)
+
+-- an endpoint of a failed service is bound
+bind_of_failed : IsRefusedBy failing_plan (Told (Bind 0 1) ∷ given_up) (AskInTurn ∷ [])
+bind_of_failed = (refl, refl)
+
+-- the second endpoint is bound before the first is held
+bind_out_of_turn : IsRefusedBy failing_plan (Told (Bind 0 1) ∷ Told (Phase Running 0) ∷ Told (Bind 0 0) ∷ Told (Start 0) ∷ []) (AskInTurn ∷ [])
+bind_out_of_turn = (refl, refl)
+
+-- a Unix endpoint is tried a second time
+unix_twice : IsRefusedBy unix_plan (Told (Bind 0 0) ∷ Got (Time 1000) ∷ Told (Bind 1 0) ∷ Told (Fail 0) ∷ Got (InUse 0 0) ∷ both_asked_for_one) (AskInTurn ∷ [])
+unix_twice = (refl, refl)

@@ -1,6 +1,5 @@
 -- Parts of the tests of a plan: what a graph of its services holds, and what is asked of each service.
-use Rattle.std.specs.Prelude.{ℕ, Bool, true, false, not, nat_lt, ◌&&◌, ◌||◌, ◌==◌, ◌≡◌, ◌<◌, ◌≤◌, List, [], ◌∷◌, length, All, None, bytes_eq}
-use Rattle.std.specs.List.{list_any}
+use Rattle.std.specs.Prelude.{ℕ, false, nat_lt, ◌&&◌, ◌||◌, ◌==◌, ◌≡◌, ◌<◌, ◌≤◌, List, length, All, None}
 use Rattle.svc_graph.specs.Paths.{Edges, IsAcyclic}
 use Rattle.svc_graph.specs.GraphData.{GraphData}
 use Rattle.svc_graph.specs.Graphs.{node_count, is_edge}

@@ -1,5 +1,5 @@
 -- Which plans a server can be run by, and the order in which their services start.
-use Rattle.std.specs.Prelude.{ℕ, Bool, true, false, ◌≡◌, ◌<◌, ◌≤◌, ◌==◌, List, length, take, All, Some, None, slice_index}
+use Rattle.std.specs.Prelude.{ℕ, Bool, true, false, ◌≡◌, ◌<◌, ◌≤◌, ◌==◌, List, length, take, All, None, slice_index}
 use Rattle.std.specs.List.{list_any}
 use Rattle.svc_graph.specs.Paths.{IsAcyclic}
 use Rattle.svc_graph.specs.declared.plan.EndpointPlan.{EndpointPlan}

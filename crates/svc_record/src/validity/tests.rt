@@ -79,9 +79,10 @@ fn tells_plans_that_are_not_valid(rt: HostRuntime) -> Result<(), Fail> {
 
 #[test]
 fn tells_plans_that_are_not_built(rt: HostRuntime) -> Result<(), Fail> {
-    let shared = plan(rt.alloc(), [&[], &[]], [&["a"], &["a"]])?;
-    assert!(rt; !shared.is_built());
-    let many = plan(rt.alloc(), [&[], &[]], [&["a", "b"], &[]])?;
-    assert!(rt; !many.is_built());
+    let shared = plan(rt.alloc(), [&[], &[]], [&["a", "b"], &["a"]])?;
+    assert!(rt; shared.is_built());
+    let mut eager = shared;
+    eager.eager = true;
+    assert!(rt; !eager.is_built());
     Ok(())
 }

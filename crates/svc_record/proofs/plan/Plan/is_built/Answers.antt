@@ -1,4 +1,4 @@
-use Rattle.std.proofs.Common.{◌≡◌, All, List, sym, subst}
+use Rattle.std.proofs.Common.{All, List, sym, subst}
 use Rattle.svc_record.specs.declared.plan.ServicePlan.{ServicePlan}
 use Rattle.svc_record.specs.Building.{IsPlainService}
 use Rattle.svc_record.proofs.BuiltLemmas.{built-from_tests, plain-from_built}
