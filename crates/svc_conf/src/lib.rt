@@ -3,6 +3,7 @@
 #![tactic(auto)]
 
 mod equality;
+mod files;
 mod items;
 mod memory;
 pub mod server;
@@ -12,10 +13,12 @@ mod source;
 mod status;
 mod text;
 
+pub use files::{FileCall, FileError, Files, MemoryFile, MemoryFiles, SteadyFiles, SystemFiles};
 pub use items::{Bytes, ItemRefused, Items, Numbers, Reserved, Settings, Texts};
 pub use memory::NoMemory;
 pub use server::configuration::{
-    Key, Opt, RuntimeMetricsOpts, RuntimeMetricsPollTimeHistogramScale, RuntimeOpts, ServerConf,
+    Key, Opt, OptError, ReadError, RuntimeMetricsOpts, RuntimeMetricsPollTimeHistogramScale,
+    RuntimeOpts, ServerConf,
 };
 pub use settings::{Setting, TcpKeepalive};
 pub use sink::{MemorySink, Put, Sink, SteadySink, WriteFault, Writing, write_all};

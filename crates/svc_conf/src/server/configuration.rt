@@ -2,15 +2,27 @@
 ghost use Rattle.std.specs.Prelude.{◌≡◌, if◌then◌else◌, Ok, Err};
 ghost use Rattle.svc_conf.specs.OptionalNumbers.{is_zero, is_above, offload_of};
 
+mod cuts;
+mod field;
 mod key;
+mod kind;
+mod place;
+mod read_error;
+mod reading;
 mod runtime;
+mod said;
+mod values;
+mod words;
+mod yaml;
 
 use crate::items::Texts;
 use crate::memory::NoMemory;
 use crate::text::Text;
 pub use key::Key;
+pub use read_error::ReadError;
 pub use runtime::{RuntimeMetricsOpts, RuntimeMetricsPollTimeHistogramScale, RuntimeOpts};
 use std::alloc::Global;
+pub use words::OptError;
 
 const MAX_RUNTIME_METRICS_POLL_TIME_HISTOGRAM_BUCKETS: u64 = 1024;
 
@@ -274,3 +286,5 @@ fn offload(pools: Option<u64>, threads_per_pool: Option<u64>) -> Option<(u64, u6
 
 #[cfg(test)]
 mod tests;
+#[cfg(test)]
+mod text_tests;

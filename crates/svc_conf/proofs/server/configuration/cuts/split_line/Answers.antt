@@ -1,0 +1,12 @@
+use Rattle.std.proofs.Common.{sym, refl, arith}
+use Rattle.std.proofs.lemmas.Bool.Decides.{nat_tests}
+use Rattle.svc_conf.proofs.TextLineLemmas.{one_line, line_cut}
+use Rattle.svc_conf.proofs.server.configuration.cuts.split_line.Goals as goal
+
+pub returns-in-None-clause-first : goal.returns-in-None-clause-first
+returns-in-None-clause-first c =
+    one_line c.args.text.now (grind (arith, nat_tests)) (sym c.in-None.ensures)
+
+pub returns-in-Some-clause-first : goal.returns-in-Some-clause-first
+returns-in-Some-clause-first c =
+    line_cut c.args.text.now c.in-Some.end c.without_return.result.now _ (sym c.in-Some.ensures) c.without_return.ensures refl

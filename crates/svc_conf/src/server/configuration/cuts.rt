@@ -1,0 +1,137 @@
+//! A text is cut into lines, and a line where its blanks, its key and its comment end.
+
+ghost use Rattle.std.specs.Prelude.{◌≡◌, ◌<◌, ◌≤◌, [], ◌∷◌, length, take, position, MatchOption, IfSome, true};
+ghost use Rattle.std.specs.List.{position_or_len};
+ghost use Rattle.std.specs.Str.Lines.{lines, strip_carriage_return};
+ghost use Rattle.svc_conf.specs.TextLines.{is_feed, is_blank, is_key_byte, not_key_byte, key_len, past_blanks, is_silent, is_skipped, is_end, is_gap, before_comment, without_end};
+
+fn feed_at(text: &[u8]) -> Option<usize>
+    ensures { result ≡ position is_feed text.now }
+{
+    text.iter().position(|b| *b == b'\n')
+}
+
+fn without_return(line: &[u8]) -> &[u8]
+    ensures { result.now ≡ strip_carriage_return line.now }
+{
+    match line {
+        [front @ .., b'\r'] => front,
+        _ => line,
+    }
+}
+
+/// The first line of a text, and what follows it.
+pub fn split_line(text: &[u8]) -> Option<(&[u8], &[u8])>
+    ensures first { MatchOption result (lines text.now ≡ []) (λ cut. lines text.now ≡ cut.0.now ∷ lines cut.1.now) }
+    ensures shorter { IfSome result (λ cut. length cut.1.now < length text.now) }
+{
+    if text.is_empty() {
+        return None;
+    }
+    match feed_at(text) {
+        None => Some((text, &[])),
+        Some(end) => Some((without_return(&text[..end]), &text[end + 1..])),
+    }
+}
+
+pub fn is_blank(b: u8) -> bool
+    ensures { result ≡ is_blank b }
+{
+    b == b' ' || b == b'\t'
+}
+
+fn is_key_byte(b: u8) -> bool
+    ensures { result ≡ is_key_byte b }
+{
+    b.is_ascii_alphanumeric() || b == b'_' || b == b'-' || b == b'.'
+}
+
+fn key_end(line: &[u8]) -> Option<usize>
+    ensures { result ≡ position not_key_byte line.now }
+{
+    line.iter().position(|b| !is_key_byte(*b))
+}
+
+/// How many bytes at the front are those of a key.
+pub fn key_len(line: &[u8]) -> usize
+    ensures len { result ≡ key_len line.now }
+    ensures bound { result ≤ length line.now }
+{
+    key_end(line).unwrap_or(line.len())
+}
+
+/// What follows the blanks at the front.
+pub fn past_blanks(line: &[u8]) -> &[u8]
+    ensures { result.now ≡ past_blanks line.now }
+{
+    let mut rest = line;
+    while let [b' ' | b'\t', more @ ..] = rest {
+        rest = more;
+    }
+    rest
+}
+
+/// Nothing, or a comment.
+fn is_silent(text: &[u8]) -> bool
+    ensures { result ≡ is_silent text.now }
+{
+    match text {
+        [] => true,
+        [first, ..] => *first == b'#',
+    }
+}
+
+/// Blanks alone, or a comment behind them.
+pub fn is_skipped(line: &[u8]) -> bool
+    ensures { result ≡ is_skipped line.now }
+{
+    is_silent(past_blanks(line))
+}
+
+/// What may follow a closing quote: nothing, or blanks with a comment behind them perhaps.
+pub fn is_end(text: &[u8]) -> bool
+    ensures { result ≡ is_end text.now }
+{
+    match text {
+        [] => true,
+        [first, more @ ..] => is_blank(*first) && is_skipped(more),
+    }
+}
+
+/// Nothing, or something behind a blank.
+pub fn is_gap(text: &[u8]) -> bool
+    ensures { result ≡ is_gap text.now }
+{
+    match text {
+        [] => true,
+        [first, ..] => is_blank(*first),
+    }
+}
+
+/// What stands before a comment, which begins at a `#` that is the first byte or follows a blank.
+pub fn before_comment(value: &[u8]) -> &[u8]
+    ensures { result.now ≡ before_comment true value.now }
+{
+    let mut free = true;
+    for (i, b) in value.iter().enumerate() {
+        if free && *b == b'#' {
+            return &value[..i];
+        }
+        free = is_blank(*b);
+    }
+    value
+}
+
+/// The bytes without the blanks at the end.
+pub fn without_end(text: &[u8]) -> &[u8]
+    ensures { result.now ≡ without_end text.now }
+{
+    let mut front = text;
+    while let [more @ .., last] = front {
+        if !is_blank(*last) {
+            break;
+        }
+        front = more;
+    }
+    front
+}
