@@ -1,3 +1,6 @@
 pub mod OptionsData
 pub mod Steps
 pub mod OptionLists
+pub mod DialerData
+pub mod Connects
+pub mod VirtualSockets

@@ -1,3 +1,4 @@
 //! TLS.
 
+pub mod digest;
 pub mod noop_tls;

@@ -1,0 +1,16 @@
+use Rattle.std.proofs.Common.{sym, ◌∙◌}
+use Rattle.svc_calls.proofs.CallLemmas.{Adds-then}
+use Rattle.svc_socket.proofs.connectors.l4.connect.Goals as goal
+
+pub returns-clause-connects : goal.returns-clause-connects
+returns-clause-connects g c =
+    let e = sym c.second_from.ensures ∙ c.in-Some.is in (
+      c.dial-first.result,
+      rw e (
+        c.dial.result,
+        (
+          Adds-then _ _ _ _ _ c.dial-first.ensures.called c.dial.ensures.called,
+          c.outcome-in-Some.ensures,
+        ),
+      ),
+    )

@@ -1,0 +1,109 @@
+//! What a connect asks of its dialer.
+
+ghost use Rattle.std.specs.Prelude.{◌≡◌, IfOk, ◌&&◌, is_some};
+ghost use Rattle.std.specs.Option.{option_copied};
+ghost use Rattle.svc_socket.specs.DialerData.{DialerData, IsDialed};
+
+use crate::peer::PeerAddr;
+use std::alloc::Global;
+use svc_conf::{NoMemory, Text};
+
+/// Where a connect goes.
+#[derive(PartialEq, Eq, Debug, Drop)]
+pub enum Target {
+    Inet(PeerAddr),
+    /// The path of a Unix socket.
+    Unix(Text),
+}
+
+impl Target {
+    /// The same target once more.
+    pub fn copy(&self, alloc: Global) -> Result<Target, NoMemory>
+        ensures { IfOk result (λ target. target ≡ self.now) }
+    {
+        match self {
+            Target::Inet(addr) => Ok(Target::Inet(*addr)),
+            Target::Unix(path) => match path.copy(alloc) {
+                Ok(path) => Ok(Target::Unix(path)),
+                Err(error) => Err(error),
+            },
+        }
+    }
+}
+
+/// From where a connect goes out.
+#[derive(Clone, Copy, PartialEq, Eq, Debug)]
+pub struct BindTo {
+    pub addr: Option<PeerAddr>,
+    /// The least and the greatest port.
+    pub port_range: Option<(u16, u16)>,
+    /// Whether any port will do where none in the range can be bound.
+    pub fallback: bool,
+}
+
+impl BindTo {
+    /// Whether a bind that fails is tried once more without the range.
+    pub fn will_fallback(&self) -> bool
+        ensures { result ≡ (self.now.fallback && is_some self.now.port_range) }
+    {
+        self.fallback && self.port_range.is_some()
+    }
+}
+
+/// What the system answered to a connect.
+#[derive(Clone, Copy, PartialEq, Eq, Debug)]
+pub enum OsFault {
+    Refused,
+    TimedOut,
+    AddrNotAvailable,
+    PermissionDenied,
+    AddrInUse,
+    NetUnreachable,
+    HostUnreachable,
+    /// Another error number.
+    Other(i32),
+}
+
+/// Why a dial failed.
+#[derive(Clone, Copy, PartialEq, Eq, Debug)]
+pub enum DialFault {
+    /// The socket couldn't be made, or an option couldn't be set.
+    Socket,
+    /// It couldn't be bound.
+    Bind,
+    /// It couldn't be connected.
+    Os(OsFault),
+}
+
+/// What a dial answers, with the local address, where it is known.
+#[derive(Clone, Copy, PartialEq, Eq, Debug)]
+pub enum DialAnswer {
+    Connected(Option<PeerAddr>),
+    Failed(DialFault, Option<PeerAddr>),
+}
+
+/// A dial, with its answer.
+#[derive(PartialEq, Eq, Debug, Drop)]
+pub struct DialCall {
+    pub target: Target,
+    pub from: Option<BindTo>,
+    pub answer: DialAnswer,
+}
+
+/// What makes connections.
+pub trait Dialer {
+    // What contracts see of it.
+    ghost seen: { Self → DialerData };
+
+    /// How often a dial failed. The count never falls; at its greatest value it stays.
+    fn faults(&self) -> u64
+        ensures { result ≡ (seen self.now).faults };
+
+    /// Tries once to connect, and answers what came of it.
+    fn dial(&mut self, target: &Target, from: Option<&BindTo>) -> DialAnswer
+        ensures { IsDialed (seen self.old) (seen self.new) (record {
+          target = target.now;
+          from = option_copied from.entry;
+          answer = result;
+        }) };
+}

@@ -1,0 +1,125 @@
+//! A dialer over the network.
+
+ghost use Rattle.std.specs.Prelude.{◌≡◌, None};
+
+use super::dialer::{BindTo, DialAnswer, DialFault, Dialer, OsFault, Target};
+use crate::peer::PeerAddr;
+use std::io;
+use std::io::ErrorKind;
+use std::net::{
+    Ipv4Addr, Ipv6Addr, Net, OpenStream, SocketAddr, SocketAddrV4, SocketAddrV6, TcpStream,
+};
+use std::os::unix::net::UnixStream;
+
+/// A stream that was connected.
+#[derive(Drop)]
+pub enum Dialed<S> {
+    Inet(S),
+    Unix(UnixStream),
+}
+
+/// A dialer over the network. It can't bind: a dial from an address or from a range of ports fails
+/// with `Bind`.
+#[derive(Drop)]
+pub struct NetDialer<'a, R, S> {
+    net: &'a R,
+    /// The stream of the last dial that connected, unless it was taken. The next one replaces it.
+    pub dialed: Option<Dialed<S>>,
+    pub count: u64,
+}
+
+impl<'a, R: Net> NetDialer<'a, R, R::Stream> {
+    /// A dialer that hasn't dialed yet.
+    pub fn new(net: &'a R) -> Self
+        ensures { result.count ≡ 0 }
+    {
+        NetDialer {
+            net,
+            dialed: None,
+            count: 0,
+        }
+    }
+}
+
+/// Whether the dial is to go out from a given address or port.
+fn is_bound(from: Option<&BindTo>) -> bool {
+    match from {
+        Some(from) => from.addr.is_some() || from.port_range.is_some(),
+        None => false,
+    }
+}
+
+/// What the system's error is.
+fn os_fault(error: &io::Error) -> OsFault {
+    match error.kind() {
+        ErrorKind::ConnectionRefused => OsFault::Refused,
+        ErrorKind::TimedOut => OsFault::TimedOut,
+        ErrorKind::AddrNotAvailable => OsFault::AddrNotAvailable,
+        ErrorKind::PermissionDenied => OsFault::PermissionDenied,
+        ErrorKind::AddrInUse => OsFault::AddrInUse,
+        ErrorKind::NetworkUnreachable => OsFault::NetUnreachable,
+        ErrorKind::HostUnreachable => OsFault::HostUnreachable,
+        _ => OsFault::Other(error.raw_os_error().unwrap_or(0)),
+    }
+}
+
+fn socket_addr(addr: PeerAddr) -> SocketAddr {
+    match addr {
+        PeerAddr::V4 { ip, port } => {
+            SocketAddr::V4(SocketAddrV4::new(Ipv4Addr::from_bits(ip), port))
+        }
+        PeerAddr::V6 { ip, port } => {
+            SocketAddr::V6(SocketAddrV6::new(Ipv6Addr::from_bits(ip), port, 0, 0))
+        }
+    }
+}
+
+fn peer_addr(addr: SocketAddr) -> PeerAddr {
+    match addr {
+        SocketAddr::V4(addr) => PeerAddr::V4 {
+            ip: addr.ip().to_bits(),
+            port: addr.port(),
+        },
+        SocketAddr::V6(addr) => PeerAddr::V6 {
+            ip: addr.ip().to_bits(),
+            port: addr.port(),
+        },
+    }
+}
+
+/// The stream that was connected, and its local address, where it is known.
+fn open<R: Net>(net: &R, target: &Target) -> io::Result<(Dialed<R::Stream>, Option<PeerAddr>)> {
+    match target {
+        Target::Inet(addr) => {
+            let stream = TcpStream::connect(net, socket_addr(*addr))?;
+            let local = stream.local_addr().ok().map(peer_addr);
+            Ok((Dialed::Inet(stream), local))
+        }
+        Target::Unix(path) => Ok((Dialed::Unix(UnixStream::connect(net, path.as_str())?), None)),
+    }
+}
+
+impl<R: Net> Dialer for NetDialer<'_, R, R::Stream> {
+    ghost seen = { λ d. record { called = None; faults = d.count } };
+
+    fn faults(&self) -> u64 {
+        self.count
+    }
+
+    fn dial(&mut self, target: &Target, from: Option<&BindTo>) -> DialAnswer {
+        if is_bound(from) {
+            self.count = self.count.saturating_add(1);
+            return DialAnswer::Failed(DialFault::Bind, None);
+        }
+        match open(self.net, target) {
+            Ok((dialed, local)) => {
+                self.dialed = Some(dialed);
+                DialAnswer::Connected(local)
+            }
+            Err(error) => {
+                self.count = self.count.saturating_add(1);
+                DialAnswer::Failed(DialFault::Os(os_fault(&error)), None)
+            }
+        }
+    }
+}
