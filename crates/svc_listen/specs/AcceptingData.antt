@@ -1,0 +1,50 @@
+-- What contracts see of what accepts connections, and what its calls change.
+use Rattle.std.specs.Prelude.{◌≡◌, ℕ, Bool, true, false, List, [], ◌∷◌, Option}
+use Rattle.svc_conf.specs.Streams.{Rose}
+use Rattle.svc_conf.specs.declared.settings.Setting.{Setting}
+use Rattle.svc_calls.specs.Calls.{Adds}
+use Rattle.svc_listen.specs.declared.accepting.Arrival.{Arrival}
+use Rattle.svc_listen.specs.declared.accepting.Arrival.TheVariants.{Came, NotYet, Failed}
+use Rattle.svc_listen.specs.declared.accepting.AcceptingCall.{AcceptingCall}
+use Rattle.svc_listen.specs.declared.accepting.AcceptingCall.TheVariants.{Accept, Refuse, Set}
+
+-- the calls that it was asked, the oldest first, where it tells them; how often it failed, and how often no connection was there yet
+pub record AcceptingData : Type 0 where
+  pub called : Option (List AcceptingCall)
+  pub faults : ℕ
+  pub waits : ℕ
+
+-- the count of faults rises where an accept failed, and stays at every other answer
+abbrev pub AcceptFaults : Arrival → ℕ → ℕ → Type 0
+AcceptFaults (Came c peer) before now = now ≡ before
+AcceptFaults NotYet before now = now ≡ before
+AcceptFaults (Failed n) before now = Rose before now
+
+-- the count of waits rises where no connection was there yet, and stays at every other answer
+abbrev pub AcceptWaits : Arrival → ℕ → ℕ → Type 0
+AcceptWaits (Came c peer) before now = now ≡ before
+AcceptWaits NotYet before now = Rose before now
+AcceptWaits (Failed n) before now = now ≡ before
+
+-- it was asked once to accept a connection, with this answer
+pub record IsAccepted (before now : AcceptingData) (arrival : Arrival) : Type 0 where
+  pub called : Adds before.called now.called (Accept arrival ∷ [])
+  pub faults : AcceptFaults arrival before.faults now.faults
+  pub waits : AcceptWaits arrival before.waits now.waits
+
+-- it was told to refuse a connection
+pub record IsRefused (before now : AcceptingData) (c : ℕ) : Type 0 where
+  pub called : Adds before.called now.called (Refuse c ∷ [])
+  pub faults : now.faults ≡ before.faults
+  pub waits : now.waits ≡ before.waits
+
+-- the count of faults rises where a setting wasn't set
+abbrev pub SetFaults : Bool → ℕ → ℕ → Type 0
+SetFaults true before now = now ≡ before
+SetFaults false before now = Rose before now
+
+-- it was asked to set an option of a connection, with this answer
+pub record IsSet (before now : AcceptingData) (c : ℕ) (setting : Setting) (set : Bool) : Type 0 where
+  pub called : Adds before.called now.called (Set c setting set ∷ [])
+  pub faults : SetFaults set before.faults now.faults
+  pub waits : now.waits ≡ before.waits

@@ -1,0 +1,38 @@
+-- The life of an application that a service has, and what the service answers.
+use Rattle.std.specs.Prelude.{Bool, ◌||◌, Option, Some, None, is_some, unwrap_or, if◌then◌else◌}
+use Rattle.svc_conf.specs.declared.server.configuration.runtime.RuntimeOpts.{RuntimeOpts}
+use Rattle.svc_graph.specs.declared.services.RunPoll.{RunPoll}
+use Rattle.svc_graph.specs.declared.services.RunPoll.TheVariants.{Pending, Ended}
+use Rattle.svc_listen.specs.declared.services.listening.RuntimeOptsOverride.{RuntimeOptsOverride}
+
+-- the first start takes the application away
+abbrev pub taken_away : {A : Type 0} → Option A → Option A → Option A
+taken_away (Some app) serving = Some app
+taken_away None serving = serving
+
+-- what is answered with an application that was taken away: it ends at the shutdown, and is ended from then on
+abbrev pub answer_of : {A : Type 0} → Option A → Bool → RunPoll
+answer_of None shutdown = Ended
+answer_of (Some app) shutdown = if shutdown then Ended else Pending
+
+-- at the shutdown it is cleaned up and gone
+abbrev pub left_of : {A : Type 0} → Option A → Bool → Option A
+left_of None shutdown = None
+left_of (Some app) shutdown = if shutdown then None else Some app
+
+-- before the first start nothing happens
+abbrev pub run_answer : {A : Type 0} → Option A → Option A → Bool → RunPoll
+run_answer (Some app) serving shutdown = Pending
+run_answer None serving shutdown = answer_of serving shutdown
+
+abbrev pub run_left : {A : Type 0} → Option A → Option A → Bool → Option A
+run_left (Some app) serving shutdown = serving
+run_left None serving shutdown = left_of serving shutdown
+
+-- the global options in which each given field is replaced; None where no field is given
+abbrev pub overridden : Option RuntimeOptsOverride → RuntimeOpts → Option RuntimeOpts
+overridden None global = None
+overridden (Some with) global =
+    if is_some with.metrics || is_some with.enable_alt_timer
+    then Some (record { metrics = unwrap_or with.metrics global.metrics; enable_alt_timer = unwrap_or with.enable_alt_timer global.enable_alt_timer })
+    else None

@@ -1,0 +1,3 @@
+//! Transport.
+
+pub mod l4;

@@ -1,0 +1,3 @@
+//! Services that listen.
+
+pub mod listening;
