@@ -1,14 +1,12 @@
 -- How many actions a close of all tells.
-use Rattle.std.proofs.Common.{ℕ, List, [], ◌∷◌, ◌++◌, ◌≡◌, ◌+◌, ◌≤◌, refl, sym, ◌∙◌, ap, Bool, true, false, length, map, filter, Some, None, arith, length-append, not, ◌==◌}
+use Rattle.std.proofs.Common.{ℕ, List, [], ◌∷◌, ◌++◌, ◌≡◌, ◌+◌, ◌≤◌, refl, ◌∙◌, ap, Bool, length, map, filter, Some, None, arith, length-append, not, ◌==◌}
 use Rattle.std.proofs.lemmas.List.{length-map}
 use Rattle.std.proofs.lemmas.List.Filters.{length-filter_both}
 use Rattle.std.specs.List.{list_any}
 use Rattle.svc_record.specs.declared.event.Event.{Event}
-use Rattle.svc_record.specs.declared.event.Event.TheVariants.{Ready, Bound, Signal, Moment, Ended}
+use Rattle.svc_record.specs.declared.event.Event.TheVariants.{Bound}
 use Rattle.svc_record.specs.declared.action.Action.{Action}
 use Rattle.svc_record.specs.declared.action.Action.TheVariants.{Close}
-use Rattle.svc_record.specs.declared.entry.Entry.TheVariants.{Got}
-use Rattle.svc_record.specs.Descriptors.{numbers_of}
 use Rattle.svc_core.specs.CoreData.{CoreData}
 use Rattle.svc_core.specs.Rooms.{open_numbers, left_numbers, close_need}
 
@@ -21,11 +19,8 @@ one test n = let both = length-filter_both test (λ m. not (test m)) (λ m. refl
 
 -- an event brings at most one number
 few-left : (core : CoreData) (e : Event) → length (left_numbers core e) ≤ 1
-few-left core (Ready s) = omega arith
-few-left core (Bound s i fd) = one (λ n. not (list_any (λ m. m == n) core.endpoints.numbers)) fd
-few-left core (Signal kind) = omega arith
-few-left core (Moment ms) = omega arith
-few-left core (Ended s) = omega arith
+few-left core (Bound s i fd) = one (λ n. not (list_any (λ m. m == n) core.endpoints.came)) fd
+few-left core _ = omega arith
 
 pub few-open : (core : CoreData) (xs ys : List Action) → ys ≡ xs ++ map Close (open_numbers core) → length ys ≤ length xs + close_need core None
 few-open core xs ys told = let same = length-closes xs ys (open_numbers core) told in omega arith

@@ -1,36 +1,38 @@
 -- What the end of a run leaves is right.
-use Rattle.std.proofs.Common.{ℕ, Bool, true, false, ◌&&◌, not, ◌==◌, List, [], ◌∷◌, ◌≡◌, refl, ap, sym, ◌∙◌, subst, arith, if◌then◌else◌, map}
+use Rattle.std.proofs.Common.{ℕ, Bool, true, false, ◌&&◌, not, ◌==◌, List, [], ◌∷◌, ◌≡◌, refl, ap, sym, ◌∙◌, subst, arith, if◌then◌else◌, map, ◌≤◌, append-nil}
 use Rattle.std.specs.Bool.{OnTrue}
+use Rattle.std.specs.Prelude.{None}
 use Rattle.std.specs.List.{filter}
 use Rattle.std.proofs.lemmas.Bool.{and_parts, or_parts, or_left, or_right, eq-eqb}
 use Rattle.svc_record.specs.declared.plan.Plan.{Plan}
 use Rattle.svc_record.specs.declared.entry.Entry.{Entry}
 use Rattle.svc_record.specs.declared.entry.Entry.TheVariants.{Got, Told}
 use Rattle.svc_record.specs.declared.action.Action.{Action}
-use Rattle.svc_record.specs.declared.action.Action.TheVariants.{Start, Bind, Close, Phase, Stop}
+use Rattle.svc_record.specs.declared.action.Action.TheVariants.{Close, Phase, Stop}
 use Rattle.svc_record.specs.declared.action.ExecutionPhase.TheVariants.{Running, ShutdownStarted, ShutdownRuntimes, Terminated}
 use Rattle.svc_record.specs.declared.event.Event.TheVariants.{Signal}
 use Rattle.svc_record.specs.declared.event.ShutdownSignal.TheVariants.{FastShutdown}
-use Rattle.svc_record.specs.Record.{Record, has, now, times, tell, is_signal, is_running, is_bootstrap, is_bootstrap_complete, from_the_start, before_runtimes, EachEarlier}
+use Rattle.svc_record.specs.Record.{Record, has, now, times, tell, is_signal, is_running, is_bootstrap, is_bootstrap_complete, from_the_start, before_runtimes, EachEntry, EachEarlier}
+use Rattle.svc_record.specs.AskRules.{FailsRight, ask_due, ask_known}
 use Rattle.svc_record.specs.Boot.{BootRight}
 use Rattle.svc_record.specs.Closes.{ClosesRight, close_once}
 use Rattle.svc_record.specs.Descriptors.{Descriptor, opened_descriptors, is_opened, is_close}
-use Rattle.svc_record.specs.Drain.{phase, Drain, told_marks, PhasesRight, is_ending, has_passed, last_actions, live_numbers, ascending}
+use Rattle.svc_record.specs.Drain.{phase, Drain, told_marks, PhasesRight, is_ending, has_passed, every_moment_right, last_actions, live_numbers, ascending}
 use Rattle.svc_record.specs.Ends.{has_ended}
 use Rattle.svc_record.specs.Endpoints.{EndpointsRight, EndpointsRightLate}
-use Rattle.svc_record.specs.Fits.{fits}
+use Rattle.svc_record.specs.Failed.{has_failed, is_fail}
+use Rattle.svc_record.specs.Fits.{fits, event_fits}
 use Rattle.svc_record.specs.Right.{Right, OpenRight, SettledRight, ServesRight, LastStepRight, PassedRight, Served, in_service, close_due}
-use Rattle.svc_record.specs.Starts.{StartsRight, is_start, is_ready_event, is_ended_event}
+use Rattle.svc_record.specs.Starts.{StartsRight, is_start, is_ready_event, is_ended_event, start_due, start_known}
 use Rattle.svc_record.specs.Tail.{numbers_in}
+use Rattle.svc_record.proofs.Closing.{tell-append, is_opened-in, numbers-opened, in_live, tally_live, all_closed}
+use Rattle.svc_record.proofs.Tallies.{is_in, tally, if_kept, one_if}
 use Rattle.svc_core.specs.StartsData.{StartsData}
-use Rattle.svc_core.specs.StartsState.{StartsStand}
+use Rattle.svc_core.specs.StartsState.{StartsStand, AreFailed}
 use Rattle.svc_core.specs.DrainState.{end_told}
-use Rattle.svc_core.specs.Passes.{EntriesRight}
-use Rattle.svc_core.proofs.NumberLemmas.{is_in, distinct, tally, any-ascending, distinct-ascending, tally-distinct}
-use Rattle.svc_core.proofs.DescriptorLemmas.{opened-in, opened-numbers, live-numbers}
-use Rattle.svc_core.proofs.ClosesLemmas.{has-closes, times-other, marks-closes, runtimes-closes, times-closes, times-none, has-times, distinct-numbers, entries-phase, entries-stop, entries-closes}
-use Rattle.svc_core.proofs.RecordLemmas.{tell-append, EachEarlier-tell, EachEarlier-weaker, EachEntry-weaker, now-tell, signal-none, signal-some, passed-signal, has-stays, has-tell, on_false, on_true, to_false, to_true, not_false, not_true}
-use Rattle.svc_core.proofs.OpenLemmas.{boot-same, open-marks, open-running}
+use Rattle.svc_core.proofs.ClosesLemmas.{has-closes, times-other, marks-closes, runtimes-closes, failed-closes, each-closes, closes-once, has-times}
+use Rattle.svc_core.proofs.RecordLemmas.{EachEarlier-tell, EachEarlier-weaker, EachEntry-weaker, now-tell, signal-none, signal-some, passed-signal, has-stays, has-tell, on_false, on_true, to_false, to_true, not_false, not_true}
+use Rattle.svc_core.proofs.OpenLemmas.{boot-same, open-marks, open-running, is-open}
 
 on_and : (a b : Bool) (P : Type 0) → OnTrue a P → OnTrue (a && b) P
 on_and true true P h = h
@@ -65,17 +67,10 @@ pub numbers-tell : (q : Record) (told : List Action) → numbers_in (tell q told
 numbers-tell q [] = refl
 numbers-tell q (a ∷ told) = numbers-tell (Told a ∷ q) told
 
-opened-tell : (p : Plan) (q : Record) (told : List Action) → opened_descriptors p (tell q told) ≡ opened_descriptors p q
-opened-tell p q [] = refl
-opened-tell p q (a ∷ told) = opened-tell p (Told a ∷ q) told
-
 close-due : (p : Plan) (e : Entry) (b : Record) → close_once p e b ≡ true → close_due p e b ≡ true
-close-due p (Got e) b h = h
-close-due p (Told (Start s)) b h = h
-close-due p (Told (Bind s i)) b h = h
-close-due p (Told (Phase x ms)) b h = h
-close-due p (Told (Stop n)) b h = h
 close-due p (Told (Close fd)) b h = (and_parts (is_opened p b fd) (not (has (is_close fd) b)) h).0
+close-due p (Told _) b h = h
+close-due p (Got e) b h = h
 
 -- where each has a close, none is live
 none-open : (r : Record) (ds : List Descriptor) → ((fd : ℕ) → is_in fd (map (λ (d : Descriptor). d.number) ds) ≡ true → has (is_close fd) r ≡ true)
@@ -85,25 +80,50 @@ none-open r (d ∷ more) f =
     rw (f d.number (or_left (d.number == d.number) (is_in d.number (map (λ (x : Descriptor). x.number) more)) (eq-eqb d.number d.number refl)))
     (none-open r more (λ fd there. f fd (or_right (d.number == fd) (is_in fd (map (λ (x : Descriptor). x.number) more)) there)))
 
--- the record before `ShutdownRuntimes`, with the closes, and as it ends
+kept_at_most : (b c : Bool) (n : ℕ) → n ≡ if_kept b (one_if c) → n ≤ 1
+kept_at_most true true n e = omega arith
+kept_at_most true false n e = omega arith
+kept_at_most false c n e = omega arith
+
+and_first : (a b : Bool) → (not a && b) ≡ true → a ≡ false
+and_first a b h = grind arith
+
+and_second : (a b : Bool) → (not a && b) ≡ true → b ≡ true
+and_second a b h = grind arith
+
+-- the record before `ShutdownRuntimes`, with that phase, with the closes, and as it ends
 abbrev last_at : Record → Record
 last_at q = Told (Phase ShutdownStarted (now q)) ∷ (Got (Signal FastShutdown) ∷ q)
 
+abbrev runtimes_at : Record → Record
+runtimes_at q = Told (Phase ShutdownRuntimes (now q)) ∷ last_at q
+
 abbrev closed_at : Plan → Record → Record
-closed_at p q = tell (Told (Phase ShutdownRuntimes (now q)) ∷ last_at q) (map Close (ascending (live_numbers p q)))
+closed_at p q = tell (runtimes_at q) (map Close (ascending (live_numbers p q)))
 
 abbrev pub ended_at : Plan → Record → Record
 ended_at p q = tell (Got (Signal FastShutdown) ∷ q) (end_told (now q) (ascending (live_numbers p q)))
 
-module _ (p : Plan) (q : Record) (right : EntriesRight p q) (fit : fits p q (Signal FastShutdown) ≡ true) (opened : OpenRight p q)
-    (silent : has is_signal q ≡ false) (earlier : EachEarlier (SettledRight p) q) (never : (fd : ℕ) → has (is_close fd) q ≡ false) where
+module _ (p : Plan) (q : Record) (right : Right p q) (fit : fits p q (Signal FastShutdown) ≡ true) (silent : has is_signal q ≡ false) where
+  opened : OpenRight p q
+  opened = is-open p q right silent
+
   split : ended_at p q ≡ Told (Phase Terminated (now q)) ∷ (Told (Stop 0) ∷ closed_at p q)
-  split = tell-append (Told (Phase ShutdownRuntimes (now q)) ∷ last_at q) (map Close (ascending (live_numbers p q))) (Stop 0 ∷ Phase Terminated (now q) ∷ [])
+  split = tell-append (runtimes_at q) (map Close (ascending (live_numbers p q))) (Stop 0 ∷ Phase Terminated (now q) ∷ [])
 
   -- what a test that neither closes, phases nor `Stop` pass still sees
   has-end : (test : Entry → Bool) → ((f : ℕ) → test (Told (Close f)) ≡ false) → test (Told (Phase Terminated (now q))) ≡ false → test (Told (Stop 0)) ≡ false
-      → has test (ended_at p q) ≡ has test (Told (Phase ShutdownRuntimes (now q)) ∷ last_at q)
-  has-end test f a b = ap (has test) split ∙ rw (a, b) (has-closes test f (Told (Phase ShutdownRuntimes (now q)) ∷ last_at q) (ascending (live_numbers p q)))
+      → has test (ended_at p q) ≡ has test (runtimes_at q)
+  has-end test f a b = ap (has test) split ∙ rw (a, b) (has-closes test f (runtimes_at q) (ascending (live_numbers p q)))
+
+  -- a test that closes pass holds of each entry where it holds of the others
+  each-end : (test : Entry → Record → Bool) → ((f : ℕ) (b : Record) → test (Told (Close f)) b ≡ true)
+      → test (Told (Phase Terminated (now q))) (Told (Stop 0) ∷ closed_at p q) ≡ true → test (Told (Stop 0)) (closed_at p q) ≡ true
+      → test (Told (Phase ShutdownRuntimes (now q))) (last_at q) ≡ true → test (Told (Phase ShutdownStarted (now q))) (Got (Signal FastShutdown) ∷ q) ≡ true
+      → test (Got (Signal FastShutdown)) q ≡ true → EachEntry (λ e before. test e before ≡ true) q → EachEntry (λ e before. test e before ≡ true) (ended_at p q)
+  each-end test c a b f g e h =
+      subst (EachEntry (λ e before. test e before ≡ true)) (sym split)
+      (a, (b, each-closes test c (runtimes_at q) (ascending (live_numbers p q)) (f, (g, (e, h)))))
 
   running : has is_running q ≡ true
   running = open-running p q opened.boot
@@ -112,7 +132,7 @@ module _ (p : Plan) (q : Record) (right : EntriesRight p q) (fit : fits p q (Sig
   came = has-tell is_signal (λ a. refl) (Got (Signal FastShutdown) ∷ q) (end_told (now q) (ascending (live_numbers p q)))
 
   closed-now : now (closed_at p q) ≡ now q
-  closed-now = now-tell (Told (Phase ShutdownRuntimes (now q)) ∷ last_at q) (map Close (ascending (live_numbers p q)))
+  closed-now = now-tell (runtimes_at q) (map Close (ascending (live_numbers p q)))
 
   pub end-passed : has_passed p (ended_at p q) ≡ true
   end-passed = passed-signal p (ended_at p q) ∙ came
@@ -123,7 +143,7 @@ module _ (p : Plan) (q : Record) (right : EntriesRight p q) (fit : fits p q (Sig
   pub end-now : now (ended_at p q) ≡ now q
   end-now = now-tell (Got (Signal FastShutdown) ∷ q) (end_told (now q) (ascending (live_numbers p q)))
 
-  -- the end starts nothing
+  -- the end starts nothing, and fails nothing
   pub end-starts : (st : StartsData) → StartsStand p st q → StartsStand p st (ended_at p q)
   end-starts st stands = record {
     started_is = λ s inside. stands.started_is s inside ∙ sym (has-end (is_start s) (λ f. refl) refl refl);
@@ -131,55 +151,65 @@ module _ (p : Plan) (q : Record) (right : EntriesRight p q) (fit : fits p q (Sig
     ended_is = λ s inside. stands.ended_is s inside ∙ sym (has-end (is_ended_event s) (λ f. refl) refl refl);
   }
 
-  live-same : live_numbers p q ≡ numbers_in q
-  live-same = live-numbers p q never
+  end-failing : (s : ℕ) → has_failed p (ended_at p q) s ≡ has_failed p q s
+  end-failing s = ap (λ r. has_failed p r s) split ∙ failed-closes p (runtimes_at q) (ascending (live_numbers p q)) s
 
-  apart : distinct (ascending (live_numbers p q)) ≡ true
-  apart = distinct-ascending (live_numbers p q) (subst (λ xs. distinct xs ≡ true) (sym live-same) (distinct-numbers p q right.fits))
+  pub end-failed : (failed : List Bool) → AreFailed p failed q → AreFailed p failed (ended_at p q)
+  end-failed failed h s inside = h s inside ∙ sym (end-failing s)
 
-  -- what is closed at the end is what came
-  among : (fd : ℕ) → is_in fd (ascending (live_numbers p q)) ≡ is_in fd (numbers_in q)
-  among fd = any-ascending (λ n. n == fd) (live_numbers p q) ∙ ap (is_in fd) live-same
+  end-fails : FailsRight p (ended_at p q)
+  end-fails s inside =
+      ap (times (is_fail s)) split
+      ∙ times-other (is_fail s) (λ f. refl) (runtimes_at q) (ascending (live_numbers p q))
+      ∙ right.asks.fails.0 s inside
+      ∙ ap (λ b. if b then 1 else 0) (sym (end-failing s))
 
-  pub closed-once : (fd : ℕ) → is_in fd (numbers_in q) ≡ true → times (is_close fd) (ended_at p q) ≡ 1
-  closed-once fd there =
-      let none = times-none (is_close fd) q (never fd) in
-      let count = times-closes fd (Told (Phase ShutdownRuntimes (now q)) ∷ last_at q) (ascending (live_numbers p q)) in
-      let one : tally fd (ascending (live_numbers p q)) ≡ 1 = tally-distinct fd (ascending (live_numbers p q)) apart ∙ ap (λ b. if b then 1 else 0) (among fd ∙ there) in
-      let sum : times (is_close fd) (closed_at p q) ≡ 1 = omega arith in
-      ap (times (is_close fd)) split ∙ sum
+  got-fits : EachEntry (λ e before. event_fits p e before ≡ true) (runtimes_at q)
+  got-fits = (refl, (refl, (fit, right.fits)))
 
-  pub end-entries : EntriesRight p (ended_at p q)
-  end-entries =
-      let got : EntriesRight p (Got (Signal FastShutdown) ∷ q) = record {
-        fits = (fit, right.fits);
-        starts = (refl, right.starts);
-        asks = (refl, right.asks);
-        closes = (refl, right.closes);
-        moments = (refl, right.moments);
-        known_starts = (refl, right.known_starts);
-        known_asks = (refl, right.known_asks);
-      } in
-      let started = entries-phase p (Got (Signal FastShutdown) ∷ q) ShutdownStarted (now q) refl got in
-      let runtimes = entries-phase p (last_at q) ShutdownRuntimes (now q) refl started in
-      let closed : EntriesRight p (closed_at p q) = entries-closes p (Told (Phase ShutdownRuntimes (now q)) ∷ last_at q) (ascending (live_numbers p q)) apart
-      (λ g there. opened-in p q g ∙ sym (among g) ∙ there) (λ g there. never g) runtimes in
-      let stopped = entries-stop p (closed_at p q) 0 closed in
-      subst (EntriesRight p) (sym split) (entries-phase p (Told (Stop 0) ∷ closed_at p q) Terminated (now q) (sym closed-now) stopped)
+  got-closes : EachEntry (λ e before. close_once p e before ≡ true) (runtimes_at q)
+  got-closes = (refl, (refl, (refl, right.stronger.closes)))
+
+  -- what came is then closed, once
+  pub closed-at-end : (fd : ℕ) → is_in fd (numbers_in q) ≡ true → times (is_close fd) (ended_at p q) ≡ 1
+  closed-at-end fd there =
+      ap (times (is_close fd)) split
+      ∙ ap (λ told. times (is_close fd) (tell (runtimes_at q) told)) (sym (append-nil (map Close (ascending (live_numbers p q)))))
+      ∙ all_closed p (runtimes_at q) None fd got-fits got-closes there
+
+  end-closes : EachEntry (λ e before. close_once p e before ≡ true) (ended_at p q)
+  end-closes =
+      subst (EachEntry (λ e before. close_once p e before ≡ true)) (sym split) (
+        refl,
+        (
+          refl,
+          closes-once p (runtimes_at q) (ascending (live_numbers p q))
+              (λ g. kept_at_most (not (has (is_close g) (runtimes_at q))) (is_in g (numbers_in (runtimes_at q))) (tally g (ascending (live_numbers p q))) (tally_live p (runtimes_at q) g got-fits))
+              (λ g there. is_opened-in p (runtimes_at q) g ∙ and_second (has (is_close g) q) (is_in g (numbers_in q)) (sym (in_live p q g) ∙ there))
+              (λ g there. and_first (has (is_close g) q) (is_in g (numbers_in q)) (sym (in_live p q g) ∙ there))
+              got-closes,
+        ),
+      )
 
   end-at : before_runtimes (ended_at p q) ≡ last_at q
-  end-at = ap before_runtimes split ∙ runtimes-closes (Told (Phase ShutdownRuntimes (now q)) ∷ last_at q) (ascending (live_numbers p q))
+  end-at = ap before_runtimes split ∙ runtimes-closes (runtimes_at q) (ascending (live_numbers p q))
 
   end-marks : PhasesRight p (ended_at p q)
   end-marks =
       let told : told_marks (ended_at p q) ≡ phase Terminated ∷ (phase ShutdownRuntimes ∷ (phase ShutdownStarted ∷ (phase Running ∷ []))) =
       ap told_marks split
-      ∙ ap (λ xs. phase Terminated ∷ xs) (marks-closes (Told (Phase ShutdownRuntimes (now q)) ∷ last_at q) (ascending (live_numbers p q)))
+      ∙ ap (λ xs. phase Terminated ∷ xs) (marks-closes (runtimes_at q) (ascending (live_numbers p q)))
       ∙ ap (λ xs. phase Terminated ∷ (phase ShutdownRuntimes ∷ (phase ShutdownStarted ∷ xs))) (open-marks p q opened silent) in
       rw (told, signal-some (ended_at p q) came, end-running) refl
 
   end-actions : ended_at p q ≡ tell (last_at q) (last_actions p (last_at q))
   end-actions = rw (signal-none q silent) refl
+
+  end-moments : EachEntry (λ e before. every_moment_right e before ≡ true) (ended_at p q)
+  end-moments = each-end every_moment_right (λ f b. refl) (eq-eqb (now q) (now (closed_at p q)) (sym closed-now)) refl (eq-eqb (now q) (now q) refl) (eq-eqb (now q) (now q) refl) refl right.stronger.moments
+
+  end-fits : EachEntry (λ e before. event_fits p e before ≡ true) (ended_at p q)
+  end-fits = each-end (event_fits p) (λ f b. refl) refl refl refl refl fit right.fits
 
   end-drain : Drain p (ended_at p q)
   end-drain = record {
@@ -189,9 +219,9 @@ module _ (p : Plan) (q : Record) (right : EntriesRight p q) (fit : fits p q (Sig
     phases = (
       end-marks,
       EachEarlier-tell (PhasesRight p) (Got (Signal FastShutdown) ∷ q) (end_told (now q) (ascending (live_numbers p q)))
-          (opened.phases, EachEarlier-weaker (OpenRight p) (PhasesRight p) (λ b h. h.phases) q (open-earlier p q silent earlier)),
+          (opened.phases, EachEarlier-weaker (OpenRight p) (PhasesRight p) (λ b h. h.phases) q (open-earlier p q silent right.settled.1)),
     );
-    moments = end-entries.moments;
+    moments = end-moments;
     ends = subst (λ b. ended_at p q ≡ tell b (last_actions p b)) (sym end-at) end-actions;
     nowhere_else = ap (has is_ending) end-at ∙ opened.no_end;
   }
@@ -216,45 +246,50 @@ module _ (p : Plan) (q : Record) (right : EntriesRight p q) (fit : fits p q (Sig
   end-boot : BootRight p (ended_at p q)
   end-boot = boot-same p q (ended_at p q)
       (has-end is_bootstrap (λ f. refl) refl refl) (has-end is_bootstrap_complete (λ f. refl) refl refl)
-      (ap (times is_running) split ∙ times-other is_running (λ f. refl) (Told (Phase ShutdownRuntimes (now q)) ∷ last_at q) (ascending (live_numbers p q)))
+      (ap (times is_running) split ∙ times-other is_running (λ f. refl) (runtimes_at q) (ascending (live_numbers p q)))
       opened.boot
 
   end-earlier : EachEarlier (SettledRight p) (ended_at p q)
   end-earlier = EachEarlier-tell (SettledRight p) (Got (Signal FastShutdown) ∷ q) (end_told (now q) (ascending (live_numbers p q)))
-      (to_false (has_ended p q) (OpenRight p q) opened, earlier)
+      (to_false (has_ended p q) (OpenRight p q) opened, right.settled.1)
+
+  opened-numbers : map (λ (d : Descriptor). d.number) (opened_descriptors p (ended_at p q)) ≡ numbers_in q
+  opened-numbers = numbers-opened p (ended_at p q) ∙ numbers-tell (Got (Signal FastShutdown) ∷ q) (end_told (now q) (ascending (live_numbers p q)))
 
   end-served : Served p (ended_at p q)
   end-served = record {
-    fits = end-entries.fits;
+    fits = end-fits;
     drain = end-drain;
     serves = (
       end-serves,
       EachEarlier-tell (ServesRight p) (Got (Signal FastShutdown) ∷ q) (end_told (now q) (ascending (live_numbers p q)))
-          (serves-open p q opened, EachEarlier-weaker (OpenRight p) (ServesRight p) (serves-open p) q (open-earlier p q silent earlier)),
+          (serves-open p q opened, EachEarlier-weaker (OpenRight p) (ServesRight p) (serves-open p) q (open-earlier p q silent right.settled.1)),
     );
-    closed_once = λ fd there. closed-once fd (ap (is_in fd) (sym (numbers-tell (Got (Signal FastShutdown) ∷ q) (end_told (now q) (ascending (live_numbers p q))))) ∙ sym (opened-in p (ended_at p q) fd) ∙ there);
-    closed_after = EachEntry-weaker (λ e before. close_once p e before ≡ true) (λ e before. close_due p e before ≡ true) (close-due p) (ended_at p q) end-entries.closes;
+    closed_once = λ fd there. closed-at-end fd
+        (ap (is_in fd) (sym (numbers-tell (Got (Signal FastShutdown) ∷ q) (end_told (now q) (ascending (live_numbers p q))))) ∙ sym (is_opened-in p (ended_at p q) fd) ∙ there);
+    closed_after = EachEntry-weaker (λ e before. close_once p e before ≡ true) (λ e before. close_due p e before ≡ true) (close-due p) (ended_at p q) end-closes;
     stronger = record {
-      closes = end-entries.closes;
+      closes = end-closes;
       last_step = to_true (has_passed p (ended_at p q)) (LastStepRight p (before_runtimes (ended_at p q))) (subst (LastStepRight p) (sym end-at) last-step);
-      moments = end-entries.moments;
-      known_starts = end-entries.known_starts;
-      known_asks = end-entries.known_asks;
+      moments = end-moments;
+      known_starts = each-end (start_known p) (λ f b. refl) refl refl refl refl refl right.stronger.known_starts;
+      known_asks = each-end (ask_known p) (λ f b. refl) refl refl refl refl refl right.stronger.known_asks;
     };
   }
 
   pub end-right : Right p (ended_at p q)
   end-right = record {
-    fits = end-entries.fits;
-    starts = end-entries.starts;
+    fits = end-fits;
+    starts = each-end (start_due p) (λ f b. refl) refl refl refl refl refl right.starts;
     settled = (not_false (has_ended p (ended_at p q)) (OpenRight p (ended_at p q)) end-passed, end-earlier);
-    asks = record { in_turn = end-entries.asks };
+    asks = record {
+      in_turn = each-end (ask_due p) (λ f b. refl) refl refl refl refl refl right.asks.in_turn;
+      fails = (end-fails, EachEarlier-tell (FailsRight p) (Got (Signal FastShutdown) ∷ q) (end_told (now q) (ascending (live_numbers p q))) right.asks.fails);
+    };
     passed = to_true (has_passed p (ended_at p q)) (PassedRight p (ended_at p q)) (record { served = end-served; boot = end-boot });
     stronger = end-served.stronger;
   }
 
   pub end-closed : live_numbers p (ended_at p q) ≡ []
   end-closed = ap (map (λ (d : Descriptor). d.number)) (none-open (ended_at p q) (opened_descriptors p (ended_at p q)) (λ fd there.
-      let came : is_in fd (numbers_in q) ≡ true =
-      ap (is_in fd) (sym (numbers-tell (Got (Signal FastShutdown) ∷ q) (end_told (now q) (ascending (live_numbers p q)))) ∙ sym (opened-numbers p (ended_at p q))) ∙ there in
-      has-times (is_close fd) (ended_at p q) (closed-once fd came)))
+      has-times (is_close fd) (ended_at p q) (closed-at-end fd (ap (is_in fd) (sym opened-numbers) ∙ there))))

@@ -1,9 +1,5 @@
 pub mod RecordLemmas
-pub mod NumberLemmas
-pub mod AddressLemmas
-pub mod DescriptorLemmas
 pub mod StartsLemmas
-pub mod EndpointsLemmas
 pub mod PassLemmas
 pub mod ClosesLemmas
 pub mod OpenLemmas

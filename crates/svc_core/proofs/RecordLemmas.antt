@@ -1,22 +1,17 @@
 -- Laws on records and what is told in them.
-use Rattle.std.proofs.Common.{ℕ, Bool, true, false, ◌||◌, inl, inr, List, [], ◌∷◌, ◌++◌, ◌≡◌, refl, ap, sym, ◌∙◌, Some, None, ◌+◌, if◌then◌else◌}
+use Rattle.std.proofs.Common.{ℕ, Bool, true, false, ◌||◌, inl, inr, List, [], ◌∷◌, ◌++◌, ◌≡◌, refl, ap, ◌∙◌, Some, None, ◌+◌, if◌then◌else◌}
 use Rattle.std.specs.Bool.{OnTrue, OnFalse}
 use Rattle.std.proofs.lemmas.Bool.{or_right, cases_Bool}
 use Rattle.svc_record.specs.declared.plan.Plan.{Plan}
 use Rattle.svc_record.specs.declared.entry.Entry.{Entry}
 use Rattle.svc_record.specs.declared.entry.Entry.TheVariants.{Got, Told}
 use Rattle.svc_record.specs.declared.action.Action.{Action}
-use Rattle.svc_record.specs.declared.action.Action.TheVariants.{Start, Bind, Close, Phase, Stop}
-use Rattle.svc_record.specs.declared.event.Event.TheVariants.{Moment, Ready, Ended, Bound, Signal}
+use Rattle.svc_record.specs.declared.action.Action.TheVariants.{Start, Fail, Bind, Adopt, Close}
+use Rattle.svc_record.specs.declared.event.Event.TheVariants.{Signal}
 use Rattle.svc_record.specs.declared.event.ShutdownSignal.TheVariants.{FastShutdown}
 use Rattle.svc_record.specs.Record.{Record, has, times, tell, now, signal_of, is_signal, EachEntry, EachEarlier}
 use Rattle.svc_record.specs.Drain.{told_marks, has_passed}
-use Rattle.svc_record.specs.Fits.{event_fits}
-use Rattle.svc_core.specs.Told.{IsQuiet}
-
-pub tell-append : (q : Record) (xs ys : List Action) → tell q (xs ++ ys) ≡ tell (tell q xs) ys
-tell-append q [] ys = refl
-tell-append q (x ∷ xs) ys = tell-append (Told x ∷ q) xs ys
+use Rattle.svc_record.specs.Told.{IsQuiet, IsGivingUp}
 
 -- a test of events doesn't see what is told
 pub has-tell : (test : Entry → Bool) → ((a : Action) → test (Told a) ≡ false) → (q : Record) (told : List Action) → has test (tell q told) ≡ has test q
@@ -27,10 +22,6 @@ has-tell test f q (a ∷ told) = has-tell test f (Told a ∷ q) told ∙ ap (λ 
 pub has-stays : (test : Entry → Bool) (q : Record) (told : List Action) → has test q ≡ true → has test (tell q told) ≡ true
 has-stays test q [] h = h
 has-stays test q (a ∷ told) h = has-stays test (Told a ∷ q) told (or_right (test (Told a)) (has test q) h)
-
-pub signal_of-tell : (q : Record) (told : List Action) → signal_of (tell q told) ≡ signal_of q
-signal_of-tell q [] = refl
-signal_of-tell q (a ∷ told) = signal_of-tell (Told a ∷ q) told
 
 pub EachEarlier-tell : (P : Record → Type 0) (q : Record) (told : List Action) → EachEarlier P q → EachEarlier P (tell q told)
 EachEarlier-tell P q [] h = h
@@ -52,23 +43,17 @@ now-tell q (a ∷ told) = now-tell (Told a ∷ q) told
 
 pub signal-none : (q : Record) → has is_signal q ≡ false → signal_of q ≡ None
 signal-none [] h = refl
-signal-none (Got (Moment ms) ∷ q) h = signal-none q h
-signal-none (Got (Ready s) ∷ q) h = signal-none q h
-signal-none (Got (Ended s) ∷ q) h = signal-none q h
-signal-none (Got (Bound s i fd) ∷ q) h = signal-none q h
 signal-none (Got (Signal kind) ∷ q) h = absurd (cc)
+signal-none (Got e ∷ q) h = signal-none q h
 signal-none (Told a ∷ q) h = signal-none q h
 
 pub signal-some : (q : Record) → has is_signal q ≡ true → signal_of q ≡ Some FastShutdown
 signal-some [] h = absurd (cc)
-signal-some (Got (Moment ms) ∷ q) h = signal-some q h
-signal-some (Got (Ready s) ∷ q) h = signal-some q h
-signal-some (Got (Ended s) ∷ q) h = signal-some q h
-signal-some (Got (Bound s i fd) ∷ q) h = signal-some q h
 signal-some (Got (Signal FastShutdown) ∷ q) h = elim (cases_Bool (has is_signal q)) [
   | inl earlier ↦ rw (signal-some q earlier) refl
   | inr none ↦ rw (signal-none q none) refl
 ]
+signal-some (Got e ∷ q) h = signal-some q h
 signal-some (Told a ∷ q) h = signal-some q h
 
 -- the one kind of signal has no wait
@@ -78,47 +63,57 @@ passed-signal p q = elim (cases_Bool (has is_signal q)) [
   | inr none ↦ rw (signal-none q none, none) refl
 ]
 
-pub passed-tell : (p : Plan) (q : Record) (told : List Action) → has_passed p (tell q told) ≡ has_passed p q
-passed-tell p q told = passed-signal p (tell q told) ∙ has-tell is_signal (λ a. refl) q told ∙ sym (passed-signal p q)
-
-pub fits-tell : (p : Plan) (q : Record) (told : List Action) → EachEntry (λ e before. event_fits p e before ≡ true) q → EachEntry (λ e before. event_fits p e before ≡ true) (tell q told)
-fits-tell p q [] h = h
-fits-tell p q (a ∷ told) h = fits-tell p (Told a ∷ q) told (refl, h)
-
 -- a test that starts and asks fail doesn't see them
-pub has-quiet : (test : Entry → Bool) → ((s : ℕ) → test (Told (Start s)) ≡ false) → ((s i : ℕ) → test (Told (Bind s i)) ≡ false)
+pub has-quiet : (test : Entry → Bool) → ((s : ℕ) → test (Told (Start s)) ≡ false) → ((s i : ℕ) → test (Told (Bind s i)) ≡ false) → ((s i fd : ℕ) → test (Told (Adopt s i fd)) ≡ false)
     → (q : Record) (told : List Action) → IsQuiet told → has test (tell q told) ≡ has test q
-has-quiet test f g q [] h = refl
-has-quiet test f g q (Start s ∷ told) h = has-quiet test f g (Told (Start s) ∷ q) told h ∙ ap (λ b. b || has test q) (f s)
-has-quiet test f g q (Bind s i ∷ told) h = has-quiet test f g (Told (Bind s i) ∷ q) told h ∙ ap (λ b. b || has test q) (g s i)
-has-quiet test f g q (Close fd ∷ told) h = absurd h
-has-quiet test f g q (Phase x ms ∷ told) h = absurd h
-has-quiet test f g q (Stop n ∷ told) h = absurd h
+has-quiet test f g k q [] h = refl
+has-quiet test f g k q (Start s ∷ told) h = has-quiet test f g k (Told (Start s) ∷ q) told h ∙ ap (λ b. b || has test q) (f s)
+has-quiet test f g k q (Bind s i ∷ told) h = has-quiet test f g k (Told (Bind s i) ∷ q) told h ∙ ap (λ b. b || has test q) (g s i)
+has-quiet test f g k q (Adopt s i fd ∷ told) h = has-quiet test f g k (Told (Adopt s i fd) ∷ q) told h ∙ ap (λ b. b || has test q) (k s i fd)
+has-quiet test f g k q (_ ∷ told) h = absurd h
 
-pub times-quiet : (test : Entry → Bool) → ((s : ℕ) → test (Told (Start s)) ≡ false) → ((s i : ℕ) → test (Told (Bind s i)) ≡ false)
+pub times-quiet : (test : Entry → Bool) → ((s : ℕ) → test (Told (Start s)) ≡ false) → ((s i : ℕ) → test (Told (Bind s i)) ≡ false) → ((s i fd : ℕ) → test (Told (Adopt s i fd)) ≡ false)
     → (q : Record) (told : List Action) → IsQuiet told → times test (tell q told) ≡ times test q
-times-quiet test f g q [] h = refl
-times-quiet test f g q (Start s ∷ told) h = times-quiet test f g (Told (Start s) ∷ q) told h ∙ ap (λ b. if b then times test q + 1 else times test q) (f s)
-times-quiet test f g q (Bind s i ∷ told) h = times-quiet test f g (Told (Bind s i) ∷ q) told h ∙ ap (λ b. if b then times test q + 1 else times test q) (g s i)
-times-quiet test f g q (Close fd ∷ told) h = absurd h
-times-quiet test f g q (Phase x ms ∷ told) h = absurd h
-times-quiet test f g q (Stop n ∷ told) h = absurd h
+times-quiet test f g k q [] h = refl
+times-quiet test f g k q (Start s ∷ told) h = times-quiet test f g k (Told (Start s) ∷ q) told h ∙ ap (λ b. if b then times test q + 1 else times test q) (f s)
+times-quiet test f g k q (Bind s i ∷ told) h = times-quiet test f g k (Told (Bind s i) ∷ q) told h ∙ ap (λ b. if b then times test q + 1 else times test q) (g s i)
+times-quiet test f g k q (Adopt s i fd ∷ told) h = times-quiet test f g k (Told (Adopt s i fd) ∷ q) told h ∙ ap (λ b. if b then times test q + 1 else times test q) (k s i fd)
+times-quiet test f g k q (_ ∷ told) h = absurd h
 
 pub marks-quiet : (q : Record) (told : List Action) → IsQuiet told → told_marks (tell q told) ≡ told_marks q
 marks-quiet q [] h = refl
 marks-quiet q (Start s ∷ told) h = marks-quiet (Told (Start s) ∷ q) told h
 marks-quiet q (Bind s i ∷ told) h = marks-quiet (Told (Bind s i) ∷ q) told h
-marks-quiet q (Close fd ∷ told) h = absurd h
-marks-quiet q (Phase x ms ∷ told) h = absurd h
-marks-quiet q (Stop n ∷ told) h = absurd h
+marks-quiet q (Adopt s i fd ∷ told) h = marks-quiet (Told (Adopt s i fd) ∷ q) told h
+marks-quiet q (_ ∷ told) h = absurd h
 
 pub IsQuiet-append : (xs ys : List Action) → IsQuiet xs → IsQuiet ys → IsQuiet (xs ++ ys)
 IsQuiet-append [] ys h k = k
 IsQuiet-append (Start s ∷ xs) ys h k = IsQuiet-append xs ys h k
 IsQuiet-append (Bind s i ∷ xs) ys h k = IsQuiet-append xs ys h k
-IsQuiet-append (Close fd ∷ xs) ys h k = absurd h
-IsQuiet-append (Phase x ms ∷ xs) ys h k = absurd h
-IsQuiet-append (Stop n ∷ xs) ys h k = absurd h
+IsQuiet-append (Adopt s i fd ∷ xs) ys h k = IsQuiet-append xs ys h k
+IsQuiet-append (_ ∷ xs) ys h k = absurd h
+
+-- a test that failures and closes fail doesn't see them
+pub has-giving : (test : Entry → Bool) → ((s : ℕ) → test (Told (Fail s)) ≡ false) → ((fd : ℕ) → test (Told (Close fd)) ≡ false)
+    → (q : Record) (told : List Action) → IsGivingUp told → has test (tell q told) ≡ has test q
+has-giving test f g q [] h = refl
+has-giving test f g q (Fail s ∷ told) h = has-giving test f g (Told (Fail s) ∷ q) told h ∙ ap (λ b. b || has test q) (f s)
+has-giving test f g q (Close fd ∷ told) h = has-giving test f g (Told (Close fd) ∷ q) told h ∙ ap (λ b. b || has test q) (g fd)
+has-giving test f g q (_ ∷ told) h = absurd h
+
+pub times-giving : (test : Entry → Bool) → ((s : ℕ) → test (Told (Fail s)) ≡ false) → ((fd : ℕ) → test (Told (Close fd)) ≡ false)
+    → (q : Record) (told : List Action) → IsGivingUp told → times test (tell q told) ≡ times test q
+times-giving test f g q [] h = refl
+times-giving test f g q (Fail s ∷ told) h = times-giving test f g (Told (Fail s) ∷ q) told h ∙ ap (λ b. if b then times test q + 1 else times test q) (f s)
+times-giving test f g q (Close fd ∷ told) h = times-giving test f g (Told (Close fd) ∷ q) told h ∙ ap (λ b. if b then times test q + 1 else times test q) (g fd)
+times-giving test f g q (_ ∷ told) h = absurd h
+
+pub marks-giving : (q : Record) (told : List Action) → IsGivingUp told → told_marks (tell q told) ≡ told_marks q
+marks-giving q [] h = refl
+marks-giving q (Fail s ∷ told) h = marks-giving (Told (Fail s) ∷ q) told h
+marks-giving q (Close fd ∷ told) h = marks-giving (Told (Close fd) ∷ q) told h
+marks-giving q (_ ∷ told) h = absurd h
 
 pub on_false : (b : Bool) (P : Type 0) → b ≡ false → OnFalse b P → P
 on_false true P e h = absurd (cc)

@@ -8,14 +8,18 @@ use Rattle.svc_record.specs.declared.plan.Plan.{Plan}
 use Rattle.svc_record.specs.declared.entry.Entry.{Entry}
 use Rattle.svc_record.specs.declared.entry.Entry.TheVariants.{Got, Told}
 use Rattle.svc_record.specs.declared.action.Action.{Action}
-use Rattle.svc_record.specs.declared.action.Action.TheVariants.{Start, Bind, Close, Phase, Stop}
+use Rattle.svc_record.specs.declared.action.Action.TheVariants.{Start}
 use Rattle.svc_record.specs.declared.event.Event.TheVariants.{Ready, Ended}
-use Rattle.svc_record.specs.Record.{Record, has, times, EachEntry}
+use Rattle.svc_record.specs.Record.{Record, has, times, tell, EachEntry}
+use Rattle.svc_record.specs.Failed.{has_failed}
+use Rattle.svc_record.specs.Told.{IsGivingUp}
 use Rattle.svc_record.specs.Starts.{is_start, is_ready_event, is_ended_event, is_started, is_ready, is_due, start_due}
 use Rattle.svc_record.specs.Plans.{depends, has_kind, service_count}
 use Rattle.svc_record.specs.Validity.{IsValid, depends_on}
 use Rattle.svc_core.specs.StartsData.{StartsData}
-use Rattle.svc_core.specs.StartsState.{IsStartsSized, StartsStand, is_flagged, ready_now, due_now, starts_now, start_if, word_taken, end_taken}
+use Rattle.svc_core.specs.StartsState.{IsStartsSized, StartsStand, AreFailed, is_flagged, ready_now, due_now, starts_now, start_if, word_taken, end_taken}
+use Rattle.svc_endpoints.proofs.GrowLemmas.{failed-grows}
+use Rattle.svc_core.proofs.RecordLemmas.{has-giving, has-tell}
 
 -- what holds of every number that passes
 list_all-weaker : (P Q : ℕ → Bool) → ((x : ℕ) → P x ≡ true → Q x ≡ true) → (xs : List ℕ) → list_all P xs ≡ true → list_all Q xs ≡ true
@@ -30,11 +34,13 @@ list_all-same P Q [] f = refl
 list_all-same P Q (x ∷ xs) f = rw (f 0 0 (omega arith), list_all-same P Q xs (λ k d lt. f (suc k) d (omega arith))) refl
 
 -- Boolean algebra, over plain variables
-or_grows : (a b x y c d m : Bool) → ((b || y) || (d && c)) ≡ true → (((a || b) || (x || y)) || ((m || d) && c)) ≡ true
-or_grows a b x y c d m h = grind arith
+or_grows : (a b x y c d m f g : Bool) → (((b || y) || f) || (d && c)) ≡ true → (f ≡ true → g ≡ true) → ((((a || b) || (x || y)) || g) || ((m || d) && c)) ≡ true
+or_grows a b x y c d m f g h k = grind (arith, k)
 
 ready-grows : (p : Plan) (q : Record) (e : Entry) (s : ℕ) → is_ready p q s ≡ true → is_ready p (e ∷ q) s ≡ true
-ready-grows p q e s h = or_grows (is_ready_event s e) (has (is_ready_event s) q) (is_ended_event s e) (has (is_ended_event s) q) (has_kind p Plain s) (is_started q s) (is_start s e) h
+ready-grows p q e s h =
+    or_grows (is_ready_event s e) (has (is_ready_event s) q) (is_ended_event s e) (has (is_ended_event s) q) (has_kind p Plain s) (is_started q s) (is_start s e)
+    (has_failed p q s) (has_failed p (e ∷ q) s) h (failed-grows p q e s)
 
 pub is_due-grows : (p : Plan) (q : Record) (e : Entry) (s : ℕ) → is_due p q s ≡ true → is_due p (e ∷ q) s ≡ true
 is_due-grows p q e s h = list_all-weaker (is_ready p q) (is_ready p (e ∷ q)) (ready-grows p q e) (depends p s) h
@@ -65,10 +71,7 @@ not_started b d h = grind arith
 count_step : (p : Plan) (q : Record) (s : ℕ) (a : Action) → times (is_start s) q ≡ (if is_started q s then 1 else 0)
     → start_due p (Told a) q ≡ true → times (is_start s) (Told a ∷ q) ≡ (if is_started (Told a ∷ q) s then 1 else 0)
 count_step p q s (Start t) n due = one_more (t == s) (is_started q s) (times (is_start s) q) n (λ e. subst (λ k. is_started q k ≡ false) (eqb-true t s e) (not_started (is_started q t) (is_due p q t) due))
-count_step p q s (Bind t i) n due = n
-count_step p q s (Close fd) n due = n
-count_step p q s (Phase x ms) n due = n
-count_step p q s (Stop m) n due = n
+count_step p q s _ n due = n
 
 pub count-start : (p : Plan) (q : Record) (s : ℕ) → EachEntry (λ e before. start_due p e before ≡ true) q
     → times (is_start s) q ≡ (if is_started q s then 1 else 0)
@@ -109,14 +112,26 @@ stands-end p st q s sized inside h = record {
 }
 
 -- the part's own tests are the record's
-pub ready-is : (p : Plan) (st : StartsData) (q : Record) (s : ℕ) → s < service_count p → StartsStand p st q → ready_now p st s ≡ is_ready p q s
-ready-is p st q s inside h = rw (h.ready_is s inside, h.ended_is s inside, h.started_is s inside) refl
+pub ready-is : (p : Plan) (st : StartsData) (failed : List Bool) (q : Record) (s : ℕ) → s < service_count p → StartsStand p st q → AreFailed p failed q → ready_now p st failed s ≡ is_ready p q s
+ready-is p st failed q s inside h f = rw (h.ready_is s inside, h.ended_is s inside, h.started_is s inside, f s inside) refl
 
-pub due-is : (p : Plan) (st : StartsData) (q : Record) (s : ℕ) → IsValid p → s < service_count p → StartsStand p st q → due_now p st s ≡ is_due p q s
-due-is p st q s valid inside h =
-    list_all-same (ready_now p st) (is_ready p q) (depends p s)
-    (λ k d lt. ready-is p st q (slice_index_or (depends p s) k d) (valid.inside s inside k d lt) h)
+pub due-is : (p : Plan) (st : StartsData) (failed : List Bool) (q : Record) (s : ℕ) → IsValid p → s < service_count p → StartsStand p st q → AreFailed p failed q → due_now p st failed s ≡ is_due p q s
+due-is p st failed q s valid inside h f =
+    list_all-same (ready_now p st failed) (is_ready p q) (depends p s)
+    (λ k d lt. ready-is p st failed q (slice_index_or (depends p s) k d) (valid.inside s inside k d lt) h f)
 
-pub starts-is : (p : Plan) (st : StartsData) (q : Record) (s : ℕ) → IsValid p → s < service_count p → StartsStand p st q
-    → starts_now p st s ≡ (not (is_started q s) && is_due p q s)
-starts-is p st q s valid inside h = rw (h.started_is s inside, due-is p st q s valid inside h) refl
+pub starts-is : (p : Plan) (st : StartsData) (failed : List Bool) (q : Record) (s : ℕ) → IsValid p → s < service_count p → StartsStand p st q → AreFailed p failed q
+    → starts_now p st failed s ≡ (not (is_started q s) && is_due p q s)
+starts-is p st failed q s valid inside h f = rw (h.started_is s inside, due-is p st failed q s valid inside h f) refl
+
+-- what is given up and closed starts nothing
+pub stands-giving : (p : Plan) (st : StartsData) (q : Record) (told : List Action) → IsGivingUp told → StartsStand p st q → StartsStand p st (tell q told)
+stands-giving p st q told giving h = record {
+  started_is = λ s lt. h.started_is s lt ∙ sym (has-giving (is_start s) (λ t. refl) (λ fd. refl) q told giving);
+  ready_is = λ s lt. h.ready_is s lt ∙ sym (has-tell (is_ready_event s) (λ a. refl) q told);
+  ended_is = λ s lt. h.ended_is s lt ∙ sym (has-tell (is_ended_event s) (λ a. refl) q told);
+}
+
+pub is_due-tell : (p : Plan) (q : Record) (told : List Action) (s : ℕ) → is_due p q s ≡ true → is_due p (tell q told) s ≡ true
+is_due-tell p q [] s h = h
+is_due-tell p q (a ∷ told) s h = is_due-tell p (Told a ∷ q) told s (is_due-grows p q (Told a) s h)

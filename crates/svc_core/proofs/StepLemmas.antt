@@ -1,43 +1,47 @@
 -- A step keeps the record right.
-use Rattle.std.proofs.Common.{ℕ, Bool, true, false, ◌&&◌, not, ◌==◌, List, [], ◌∷◌, ◌++◌, ◌≡◌, refl, ap, sym, ◌∙◌, subst, arith, ◌<◌, ◌≤◌, length, if◌then◌else◌, nat_le, append-nil}
+use Rattle.std.proofs.Common.{ℕ, Bool, true, false, ◌&&◌, ◌||◌, not, List, [], ◌∷◌, ◌++◌, ◌≡◌, refl, ap, sym, ◌∙◌, subst, arith, ◌<◌, ◌≤◌, length, if◌then◌else◌, map, nat_le, append-nil, append_assoc}
 use Rattle.std.proofs.lemmas.Bool.{and_from, le-leb}
 use Rattle.svc_record.specs.declared.plan.Plan.{Plan}
-use Rattle.svc_record.specs.declared.entry.Entry.TheVariants.{Got}
+use Rattle.svc_record.specs.declared.entry.Entry.{Entry}
+use Rattle.svc_record.specs.declared.entry.Entry.TheVariants.{Got, Told}
 use Rattle.svc_record.specs.declared.action.Action.{Action}
+use Rattle.svc_record.specs.declared.action.Action.TheVariants.{Start, Fail, Bind, Adopt, Close}
 use Rattle.svc_record.specs.declared.action.StepEnd.TheVariants.{On, Served}
 use Rattle.svc_record.specs.declared.event.Event.{Event}
-use Rattle.svc_record.specs.declared.event.Event.TheVariants.{Moment, Ready, Ended, Bound, Signal}
+use Rattle.svc_record.specs.declared.event.Event.TheVariants.{Moment, Ready, Ended, Bound, InUse, BindFailed, Adopted, AdoptFailed, Signal}
 use Rattle.svc_record.specs.declared.event.ShutdownSignal.{ShutdownSignal}
 use Rattle.svc_record.specs.declared.event.ShutdownSignal.TheVariants.{FastShutdown}
 use Rattle.svc_record.specs.Plans.{service_count}
 use Rattle.svc_record.specs.Record.{Record, has, now, tell, is_signal, is_running, is_bootstrap, is_bootstrap_complete, from_the_start}
-use Rattle.svc_record.specs.Asks.{is_bind_open}
+use Rattle.svc_record.specs.AskRules.{FailsRight}
+use Rattle.svc_record.specs.Asks.{is_bind_open, is_adopt_open}
 use Rattle.svc_record.specs.Boot.{BootRight}
 use Rattle.svc_record.specs.Descriptors.{brings}
 use Rattle.svc_record.specs.Drain.{is_ending, ascending, live_numbers}
 use Rattle.svc_record.specs.Ends.{has_ended}
 use Rattle.svc_record.specs.Fits.{fits, fits_row, may_end}
 use Rattle.svc_record.specs.Right.{Right, OpenRight, SettledRight}
-use Rattle.svc_record.specs.Starts.{is_started, is_ready_event, is_ended_event, is_due, StartsRight}
+use Rattle.svc_record.specs.Starts.{is_started, is_start, is_ready_event, is_ended_event, is_due, StartsRight}
 use Rattle.svc_record.specs.Tail.{numbers_in}
-use Rattle.svc_record.specs.Validity.{IsBuilt, IsInOrder}
-use Rattle.svc_core.specs.Told.{IsQuiet}
+use Rattle.svc_record.specs.Told.{Tells, IsQuiet, IsGivingUp}
+use Rattle.svc_record.specs.Validity.{IsInOrder}
+use Rattle.svc_record.proofs.Closing.{tell-append, brings-in}
+use Rattle.svc_record.proofs.Tallies.{is_in, is_in-same, tally-ascending}
+use Rattle.svc_endpoints.specs.EndpointsData.{EndpointsData}
+use Rattle.svc_endpoints.specs.EndpointsState.{EndpointsStand, open_numbers}
 use Rattle.svc_core.specs.StartsData.{StartsData}
 use Rattle.svc_core.specs.StartsState.{StartsStand, word_taken, end_taken}
-use Rattle.svc_core.specs.EndpointsData.{EndpointsData}
-use Rattle.svc_core.specs.EndpointsState.{EndpointsStand, bound}
 use Rattle.svc_core.specs.DrainData.{DrainData}
-use Rattle.svc_core.specs.DrainState.{DrainStand, end_told}
+use Rattle.svc_core.specs.DrainState.{DrainStand, shutdown_told, stop_told, end_told}
 use Rattle.svc_core.specs.CoreData.{CoreData, IsFormed}
 use Rattle.svc_core.specs.Passes.{EntriesRight, PassedUpTo, Passes}
-use Rattle.svc_core.specs.Stands.{StandsFor, StepRight, StepKeeps, ReadyMayCome, EndedMayCome, BoundMayCome}
-use Rattle.svc_core.proofs.NumberLemmas.{is_in, any-ascending}
-use Rattle.svc_core.proofs.DescriptorLemmas.{brings-in, live-numbers}
-use Rattle.svc_core.proofs.RecordLemmas.{passed-signal, signal-none, now-tell, has-tell, has-quiet, times-quiet, marks-quiet, EachEarlier-tell, on_true, to_false, to_true}
-use Rattle.svc_core.proofs.StartsLemmas.{is_due-grows, count-start, stands-word, stands-end}
-use Rattle.svc_core.proofs.EndpointsLemmas.{stands-moment, stands-ready, stands-ended, stands-bound}
+use Rattle.svc_core.specs.Stands.{StandsFor, StepRight, StepKeeps, ReadyMayCome, EndedMayCome, BindMayBeAnswered, BoundMayCome, AdoptMayBeAnswered}
+use Rattle.svc_endpoints.proofs.EventLemmas.{stands-got}
+use Rattle.svc_core.proofs.RecordLemmas.{passed-signal, now-tell, has-tell, has-quiet, times-quiet, marks-quiet, has-giving, times-giving, marks-giving, EachEarlier-tell, on_true, to_false}
+use Rattle.svc_core.proofs.StartsLemmas.{is_due-grows, is_due-tell, count-start, stands-word, stands-end, stands-giving}
+use Rattle.svc_core.proofs.PassLemmas.{are-failed}
 use Rattle.svc_core.proofs.OpenLemmas.{open-right, right-open, entries-of, is-open, open-running, open-marks, boot-same}
-use Rattle.svc_core.proofs.EndLemmas.{end-right, end-passed, end-running, end-now, end-starts, end-closed, numbers-tell}
+use Rattle.svc_core.proofs.EndLemmas.{end-right, end-passed, end-running, end-now, end-starts, end-failed, end-closed, numbers-tell}
 
 flag : (a b : Bool) → ◌≡◌ {A = ℕ} (if a then 1 else 0) (if b then 1 else 0) → a ≡ true → b ≡ true
 flag true true h e = refl
@@ -51,41 +55,36 @@ started-due p q entries opened s inside here =
     flag (is_started q s) (is_due p q s) (sym (count-start p q s entries.starts) ∙ starts.each s inside) here
 
 entries-got : (p : Plan) (q : Record) (e : Event) → fits p q e ≡ true → EntriesRight p q → EntriesRight p (Got e ∷ q)
-entries-got p q e fit h = record {
-  fits = (fit, h.fits);
-  starts = (refl, h.starts);
-  asks = (refl, h.asks);
-  closes = (refl, h.closes);
-  moments = (refl, h.moments);
-  known_starts = (refl, h.known_starts);
-  known_asks = (refl, h.known_asks);
-}
+entries-got p q e fit h = record { fits = (fit, h.fits); starts = (refl, h.starts); moments = (refl, h.moments); known_starts = (refl, h.known_starts) }
 
--- an event's effect, before the pass
-before-pass : (p : Plan) (order : List ℕ) (st : StartsData) (d : EndpointsData) (q : Record) (e : Event)
-    → EntriesRight p q → OpenRight p q → fits p q e ≡ true → StartsStand p st (Got e ∷ q) → EndpointsStand p d (Got e ∷ q) → PassedUpTo p order 0 st d (Got e ∷ q)
-before-pass p order st d q e entries opened fit starts asks = record {
-  starts = starts;
-  asks = asks;
-  entries = entries-got p q e fit entries;
-  started_due = λ s inside here. is_due-grows p q (Got e) s (started-due p q entries opened s inside here);
+entries-giving : (p : Plan) (q : Record) (told : List Action) → IsGivingUp told → EntriesRight p q → EntriesRight p (tell q told)
+entries-giving p q [] giving h = h
+entries-giving p q (Fail s ∷ told) giving h = entries-giving p (Told (Fail s) ∷ q) told giving (record { fits = (refl, h.fits); starts = (refl, h.starts); moments = (refl, h.moments); known_starts = (refl, h.known_starts) })
+entries-giving p q (Close fd ∷ told) giving h = entries-giving p (Told (Close fd) ∷ q) told giving (record { fits = (refl, h.fits); starts = (refl, h.starts); moments = (refl, h.moments); known_starts = (refl, h.known_starts) })
+entries-giving p q (_ ∷ told) giving h = absurd giving
+
+-- an event's effect with what is given up and closed by it, before the pass
+before-pass : (p : Plan) (order : List ℕ) (moment : ℕ) (st : StartsData) (d : EndpointsData) (q : Record) (e : Event) (gave : List Action)
+    → EntriesRight p q → OpenRight p q → fits p q e ≡ true → IsGivingUp gave → moment ≡ now (Got e ∷ q)
+    → StartsStand p st (Got e ∷ q) → EndpointsStand p d (tell (Got e ∷ q) gave) → PassedUpTo p order moment 0 st d (tell (Got e ∷ q) gave)
+before-pass p order moment st d q e gave entries opened fit giving time starts ends = record {
+  moment_is = time ∙ sym (now-tell (Got e ∷ q) gave);
+  starts = stands-giving p st (Got e ∷ q) gave giving starts;
+  ends = ends;
+  entries = entries-giving p (Got e ∷ q) gave giving (entries-got p q e fit entries);
+  started_due = λ s inside here. is_due-tell p (Got e ∷ q) gave s (is_due-grows p q (Got e) s
+      (started-due p q entries opened s inside (sym (has-giving (is_start s) (λ t. refl) (λ fd. refl) (Got e ∷ q) gave giving) ∙ here)));
   due_started = λ j lt. absurd (omega arith);
-  asked = λ j lt. absurd (omega arith);
+  right = λ j lt. absurd (omega arith);
 }
 
 abbrev is_last : Event → Bool
 is_last (Signal kind) = true
-is_last (Moment ms) = false
-is_last (Ready s) = false
-is_last (Ended s) = false
-is_last (Bound s i fd) = false
+is_last _ = false
 
 no_signal : (e : Event) (q : Record) → is_last e ≡ false → has is_signal (Got e ∷ q) ≡ has is_signal q
-no_signal (Moment ms) q h = refl
-no_signal (Ready s) q h = refl
-no_signal (Ended s) q h = refl
-no_signal (Bound s i fd) q h = refl
 no_signal (Signal kind) q h = absurd (cc)
+no_signal _ q h = refl
 
 fits-silent : (p : Plan) (q : Record) (e : Event) → fits p q e ≡ true → has is_signal q ≡ false
 fits-silent p q e h = ongoing (has_ended p q) (has is_signal q) (fits_row p q e) (passed-signal p q) h
@@ -93,35 +92,56 @@ fits-silent p q e h = ongoing (has_ended p q) (has is_signal q) (fits_row p q e)
     ongoing : (a b c : Bool) → a ≡ b → (not a && c) ≡ true → b ≡ false
     ongoing a b c k g = grind arith
 
--- an event that is neither a signal nor a moment, and the pass after it
-pass-right : (p : Plan) (built : IsBuilt p) (order : List ℕ) (in_order : IsInOrder p order) (st : StartsData) (d : EndpointsData) (drain : DrainData)
-    (q : Record) (e : Event) (told : List Action)
-    → Right p q → fits p q e ≡ true → is_last e ≡ false → now (Got e ∷ q) ≡ now q → IsQuiet told → DrainStand p drain q → drain.over ≡ false
-    → PassedUpTo p order (length order) st d (tell (Got e ∷ q) told)
-    → StepRight (record { plan = p; order = order; starts = st; endpoints = d; drain = drain }) (tell (Got e ∷ q) told) On
-pass-right p built order in_order st d drain q e told right fit plain time quiet stands on done =
-    let silent = fits-silent p q e fit in
-    let opened = is-open p q right silent in
-    let still : has is_signal (tell (Got e ∷ q) told) ≡ false = has-tell is_signal (λ a. refl) (Got e ∷ q) told ∙ no_signal e q plain ∙ silent in
-    let runs : has is_running (tell (Got e ∷ q) told) ≡ has is_running q = has-quiet is_running (λ s. refl) (λ s i. refl) (Got e ∷ q) told quiet in
-    let boot : BootRight p (tell (Got e ∷ q) told) = boot-same p q (tell (Got e ∷ q) told)
-    (has-quiet is_bootstrap (λ s. refl) (λ s i. refl) (Got e ∷ q) told quiet) (has-quiet is_bootstrap_complete (λ s. refl) (λ s i. refl) (Got e ∷ q) told quiet)
-    (times-quiet is_running (λ s. refl) (λ s i. refl) (Got e ∷ q) told quiet) opened.boot in
-    let whole = open-right p built order in_order st d (tell (Got e ∷ q) told) done boot
-    (marks-quiet (Got e ∷ q) told quiet ∙ open-marks p q opened silent) (runs ∙ open-running p q opened.boot) still
-    (has-quiet is_ending (λ s. refl) (λ s i. refl) (Got e ∷ q) told quiet ∙ opened.no_end) in
-    record {
-      stands = record {
-        drain = record { running_is = stands.running_is ∙ sym runs; over_is = on ∙ sym (passed-signal p (tell (Got e ∷ q) told) ∙ still); moment_is = stands.moment_is ∙ sym (now-tell (Got e ∷ q) told ∙ time) };
-        starts = done.starts;
-        endpoints = λ h. done.asks;
-        numbers = done.asks.numbers_are;
-        closed = λ h. absurd (cc);
-      };
-      right = right-open p (tell (Got e ∷ q) told) still done.entries whole
-          (EachEarlier-tell (SettledRight p) (Got e ∷ q) told (to_false (has_ended p q) (OpenRight p q) opened, right.settled.1));
-      answer = ap (λ b. if b then Served else On) (sym (passed-signal p (tell (Got e ∷ q) told) ∙ still));
-    }
+-- an event that isn't a signal, what is given up by it, and the pass after it
+module _ (p : Plan) (order : List ℕ) (in_order : IsInOrder p order) (st : StartsData) (d : EndpointsData) (drain : DrainData) (moment : ℕ)
+    (q : Record) (e : Event) (gave told : List Action) (right : Right p q) (fit : fits p q e ≡ true) (plain : is_last e ≡ false)
+    (giving : IsGivingUp gave) (quiet : IsQuiet told) (stands : DrainStand p drain q) (on : drain.over ≡ false)
+    (done : PassedUpTo p order moment (length order) st d (tell (tell (Got e ∷ q) gave) told)) where
+  silent : has is_signal q ≡ false
+  silent = fits-silent p q e fit
+
+  opened : OpenRight p q
+  opened = is-open p q right silent
+
+  -- a test of what neither is given up nor told in a pass doesn't see the step
+  same : (test : Entry → Bool) → ((s : ℕ) → test (Told (Fail s)) ≡ false) → ((fd : ℕ) → test (Told (Close fd)) ≡ false)
+      → ((s : ℕ) → test (Told (Start s)) ≡ false) → ((s i : ℕ) → test (Told (Bind s i)) ≡ false) → ((s i fd : ℕ) → test (Told (Adopt s i fd)) ≡ false)
+      → test (Got e) ≡ false → has test (tell (tell (Got e ∷ q) gave) told) ≡ has test q
+  same test a b f g k h = has-quiet test f g k (tell (Got e ∷ q) gave) told quiet ∙ has-giving test a b (Got e ∷ q) gave giving ∙ ap (λ x. x || has test q) h
+
+  still : has is_signal (tell (tell (Got e ∷ q) gave) told) ≡ false
+  still = has-tell is_signal (λ a. refl) (tell (Got e ∷ q) gave) told ∙ has-tell is_signal (λ a. refl) (Got e ∷ q) gave ∙ no_signal e q plain ∙ silent
+
+  runs : has is_running (tell (tell (Got e ∷ q) gave) told) ≡ has is_running q
+  runs = same is_running (λ s. refl) (λ fd. refl) (λ s. refl) (λ s i. refl) (λ s i fd. refl) refl
+
+  boot : BootRight p (tell (tell (Got e ∷ q) gave) told)
+  boot = boot-same p q (tell (tell (Got e ∷ q) gave) told)
+      (same is_bootstrap (λ s. refl) (λ fd. refl) (λ s. refl) (λ s i. refl) (λ s i fd. refl) refl)
+      (same is_bootstrap_complete (λ s. refl) (λ fd. refl) (λ s. refl) (λ s i. refl) (λ s i fd. refl) refl)
+      (times-quiet is_running (λ s. refl) (λ s i. refl) (λ s i fd. refl) (tell (Got e ∷ q) gave) told quiet ∙ times-giving is_running (λ s. refl) (λ fd. refl) (Got e ∷ q) gave giving)
+      opened.boot
+
+  whole : OpenRight p (tell (tell (Got e ∷ q) gave) told)
+  whole = open-right p order in_order moment st d (tell (tell (Got e ∷ q) gave) told) done boot
+      (marks-quiet (tell (Got e ∷ q) gave) told quiet ∙ marks-giving (Got e ∷ q) gave giving ∙ open-marks p q opened silent) (runs ∙ open-running p q opened.boot) still
+      (same is_ending (λ s. refl) (λ fd. refl) (λ s. refl) (λ s i. refl) (λ s i fd. refl) refl ∙ opened.no_end)
+
+  pub pass-right : StepRight (record { plan = p; order = order; starts = st; endpoints = d; drain = record { running = drain.running; over = drain.over; moment = moment } }) (tell (tell (Got e ∷ q) gave) told) On
+  pass-right = record {
+    stands = record {
+      drain = record { running_is = stands.running_is ∙ sym runs; over_is = on ∙ sym (passed-signal p (tell (tell (Got e ∷ q) gave) told) ∙ still); moment_is = done.moment_is };
+      starts = done.starts;
+      endpoints = λ h. done.ends;
+      failed = are-failed p d (tell (tell (Got e ∷ q) gave) told) done.ends;
+      came = done.ends.came_are;
+      closed = λ h. absurd (cc);
+    };
+    right = right-open p d (tell (tell (Got e ∷ q) gave) told) still done.entries done.ends whole
+        (EachEarlier-tell (SettledRight p) (tell (Got e ∷ q) gave) told (EachEarlier-tell (SettledRight p) (Got e ∷ q) gave (to_false (has_ended p q) (OpenRight p q) opened, right.settled.1)))
+        (EachEarlier-tell (FailsRight p) (tell (Got e ∷ q) gave) told (EachEarlier-tell (FailsRight p) (Got e ∷ q) gave right.asks.fails));
+    answer = ap (λ b. if b then Served else On) (sym (passed-signal p (tell (tell (Got e ∷ q) gave) told) ∙ still));
+  }
 
 -- what the core tests, fits
 going-on : (core : CoreData) (q : Record) → core.drain.over ≡ false → StandsFor core q → not (has_ended core.plan q) ≡ true
@@ -148,144 +168,201 @@ fits-ended core q s on may stands =
     and_from (not (has_ended core.plan q)) (fits_row core.plan q (Ended s)) (going-on core q on stands)
     (and_from (may_end core.plan s && is_started q s) (not (has (is_ended_event s) q)) (and_from (may_end core.plan s) (is_started q s) may.ends started) (ap not first))
 
-pub fresh : (core : CoreData) (q : Record) (fd : ℕ) → StandsFor core q → has (brings fd) q ≡ is_in fd core.endpoints.numbers
-fresh core q fd stands = brings-in q fd ∙ sym (any-ascending (λ n. n == fd) (numbers_in q)) ∙ ap (is_in fd) (sym stands.numbers)
+pub fresh : (core : CoreData) (q : Record) (fd : ℕ) → StandsFor core q → has (brings fd) q ≡ is_in fd core.endpoints.came
+fresh core q fd stands = brings-in q fd ∙ is_in-same fd (numbers_in q) (ascending (numbers_in q)) (sym (tally-ascending fd (numbers_in q))) ∙ ap (is_in fd) (sym stands.came)
+
+pub bind-open : (core : CoreData) (q : Record) (s i : ℕ) → core.drain.over ≡ false → BindMayBeAnswered core s i → StandsFor core q → is_bind_open q s i ≡ true
+bind-open core q s i on may stands = sym ((stands.endpoints on).states.each s i may.inside may.within).binding_is ∙ may.asked
+
+pub adopt-open : (core : CoreData) (q : Record) (s i : ℕ) → core.drain.over ≡ false → AdoptMayBeAnswered core s i → StandsFor core q → is_adopt_open q s i ≡ true
+adopt-open core q s i on may stands = sym ((stands.endpoints on).states.each s i may.inside may.within).adopting_is ∙ may.asked
 
 pub fits-bound : (core : CoreData) (q : Record) (s i fd : ℕ) → core.drain.over ≡ false → BoundMayCome core s i fd → StandsFor core q → fits core.plan q (Bound s i fd) ≡ true
 fits-bound core q s i fd on may stands =
-    let ep = stands.endpoints on in
-    let opened : is_bind_open q s 0 ≡ true = sym (ep.each s may.inside).open_is ∙ may.asked in
-    let here : is_bind_open q s i ≡ true = subst (λ j. is_bind_open q s j ≡ true) (sym may.only) opened in
     let new : has (brings fd) q ≡ false = fresh core q fd stands ∙ may.fresh in
-    and_from (not (has_ended core.plan q)) (fits_row core.plan q (Bound s i fd)) (going-on core q on stands) (rw (here, new) refl)
+    and_from (not (has_ended core.plan q)) (fits_row core.plan q (Bound s i fd)) (going-on core q on stands) (rw (bind-open core q s i on may.asked stands, new) refl)
+
+pub fits-in-use : (core : CoreData) (q : Record) (s i : ℕ) → core.drain.over ≡ false → BindMayBeAnswered core s i → StandsFor core q → fits core.plan q (InUse s i) ≡ true
+fits-in-use core q s i on may stands = and_from (not (has_ended core.plan q)) (is_bind_open q s i) (going-on core q on stands) (bind-open core q s i on may stands)
+
+pub fits-bind-failed : (core : CoreData) (q : Record) (s i : ℕ) → core.drain.over ≡ false → BindMayBeAnswered core s i → StandsFor core q → fits core.plan q (BindFailed s i) ≡ true
+fits-bind-failed core q s i on may stands = and_from (not (has_ended core.plan q)) (is_bind_open q s i) (going-on core q on stands) (bind-open core q s i on may stands)
+
+pub fits-adopted : (core : CoreData) (q : Record) (s i : ℕ) → core.drain.over ≡ false → AdoptMayBeAnswered core s i → StandsFor core q → fits core.plan q (Adopted s i) ≡ true
+fits-adopted core q s i on may stands = and_from (not (has_ended core.plan q)) (is_adopt_open q s i) (going-on core q on stands) (adopt-open core q s i on may stands)
+
+pub fits-adopt-failed : (core : CoreData) (q : Record) (s i : ℕ) → core.drain.over ≡ false → AdoptMayBeAnswered core s i → StandsFor core q → fits core.plan q (AdoptFailed s i) ≡ true
+fits-adopt-failed core q s i on may stands = and_from (not (has_ended core.plan q)) (is_adopt_open q s i) (going-on core q on stands) (adopt-open core q s i on may stands)
 
 pub fits-signal : (core : CoreData) (q : Record) (kind : ShutdownSignal) → core.drain.over ≡ false → core.drain.running ≡ true → StandsFor core q → fits core.plan q (Signal kind) ≡ true
 fits-signal core q kind on running stands =
     and_from (not (has_ended core.plan q)) (from_the_start q) (going-on core q on stands) (sym stands.drain.running_is ∙ running)
 
--- time goes on: nothing else changes
-open-moment : (p : Plan) (q : Record) (ms : ℕ) → OpenRight p q → has is_signal q ≡ false → OpenRight p (Got (Moment ms) ∷ q)
-open-moment p q ms opened silent =
-    let running = open-running p q opened.boot in
-    let starts = on_true (from_the_start q) (StartsRight p q) running opened.starts in
-    record {
-      boot = record { entries = opened.boot.entries };
-      closes = opened.closes;
-      one_live = opened.one_live;
-      starts = to_true (from_the_start q) (StartsRight p (Got (Moment ms) ∷ q)) (record { each = starts.each; in_turn = (refl, starts.in_turn) });
-      endpoints = opened.endpoints;
-      endpoints_late = opened.endpoints_late;
-      phases = rw (open-marks p q opened silent, signal-none q silent, running) refl;
-      moments = (refl, opened.moments);
-      no_end = opened.no_end;
-    }
+-- what the endpoints' part told of the event, and what it stands for then
+abbrev pub Answers : CoreData → EndpointsData → Event → List Action → List Action → Type 0
+Answers core d e before after = Tells before after (λ told. IsGivingUp told × ((q : Record) → StandsFor core q → fits core.plan q e ≡ true → EndpointsStand core.plan d (tell (Got e ∷ q) told)))
 
-pub step-moment : (core : CoreData) (ms : ℕ) (before : List Action) → core.drain.over ≡ false → core.drain.moment ≤ ms
-    → StepKeeps core (record { plan = core.plan; order = core.order; starts = core.starts; endpoints = core.endpoints; drain = record { running = core.drain.running; over = core.drain.over; moment = ms } }) (Moment ms) before before On
-step-moment core ms before on may = record {
-  told = [];
-  appended = sym (append-nil before);
-  kept = λ q right stands. (
-      let fit = fits-moment core q ms on may stands in
-      let silent = fits-silent core.plan q (Moment ms) fit in
-      let opened = is-open core.plan q right silent in
-      let passed = passed-signal core.plan (Got (Moment ms) ∷ q) ∙ silent in
-      record {
-        stands = record {
-          drain = record { running_is = stands.drain.running_is; over_is = on ∙ sym passed; moment_is = refl };
-          starts = record { started_is = stands.starts.started_is; ready_is = stands.starts.ready_is; ended_is = stands.starts.ended_is };
-          endpoints = λ h. stands-moment core.plan core.endpoints q ms (stands.endpoints on);
-          numbers = stands.numbers;
-          closed = λ h. absurd (cc);
-        };
-        right = right-open core.plan (Got (Moment ms) ∷ q) silent (entries-got core.plan q (Moment ms) fit (entries-of core.plan q right)) (open-moment core.plan q ms opened silent)
-            (to_false (has_ended core.plan q) (OpenRight core.plan q) opened, right.settled.1);
-        answer = ap (λ b. if b then Served else On) (sym passed);
-      });
-}
-
--- an event that is neither a signal nor a moment: its effect on the parts, then the pass
-step-passes : (core : CoreData) (built : IsBuilt core.plan) (in_order : IsInOrder core.plan core.order)
-    (st1 st2 : StartsData) (d1 d2 : EndpointsData) (e : Event) (before after : List Action)
-    → core.drain.over ≡ false → is_last e ≡ false → ((q : Record) → now (Got e ∷ q) ≡ now q)
+-- an event that isn't a signal: its effect on the parts, then the pass
+pub step-passes : (core : CoreData) (in_order : IsInOrder core.plan core.order)
+    (st1 st2 : StartsData) (d1 d2 : EndpointsData) (moment : ℕ) (e : Event) (before mid after : List Action)
+    → core.drain.over ≡ false → is_last e ≡ false → ((q : Record) → StandsFor core q → moment ≡ now (Got e ∷ q))
     → ((q : Record) → StandsFor core q → fits core.plan q e ≡ true)
     → ((q : Record) → StandsFor core q → StartsStand core.plan st1 (Got e ∷ q))
-    → ((q : Record) → StandsFor core q → EndpointsStand core.plan d1 (Got e ∷ q))
-    → Passes core.plan core.order 0 (length core.order) st1 st2 d1 d2 before after
-    → StepKeeps core (record { plan = core.plan; order = core.order; starts = st2; endpoints = d2; drain = core.drain }) e before after On
-step-passes core built in_order st1 st2 d1 d2 e before after on plain time fit starts asks pass = record {
-  told = pass.told;
-  appended = pass.appended;
+    → Answers core d1 e before mid
+    → Passes core.plan core.order moment 0 (length core.order) st1 st2 d1 d2 mid after
+    → StepKeeps core (record { plan = core.plan; order = core.order; starts = st2; endpoints = d2; drain = record { running = core.drain.running; over = core.drain.over; moment = moment } }) e before after On
+step-passes core in_order st1 st2 d1 d2 moment e before mid after on plain time fit starts gave pass = record {
+  told = gave.told ++ pass.told;
+  appended = pass.appended ∙ ap (λ w. w ++ pass.told) gave.appended ∙ append_assoc before gave.told pass.told;
   kept = λ q right stands. (
       let silent = fits-silent core.plan q e (fit q stands) in
-      let was = before-pass core.plan core.order st1 d1 q e (entries-of core.plan q right) (is-open core.plan q right silent) (fit q stands) (starts q stands) (asks q stands) in
-      pass-right core.plan built core.order in_order st2 d2 core.drain q e pass.told right (fit q stands) plain (time q) pass.kept.0 stands.drain on (pass.kept.1 (Got e ∷ q) was));
+      let opened = is-open core.plan q right silent in
+      let from = before-pass core.plan core.order moment st1 d1 q e gave.told (entries-of core.plan q right) opened (fit q stands) gave.kept.0 (time q stands) (starts q stands) (gave.kept.1 q stands (fit q stands)) in
+      subst (λ r. StepRight (record { plan = core.plan; order = core.order; starts = st2; endpoints = d2; drain = record { running = core.drain.running; over = core.drain.over; moment = moment } }) r On)
+      (sym (tell-append (Got e ∷ q) gave.told pass.told))
+      (pass-right core.plan core.order in_order st2 d2 core.drain moment q e gave.told pass.told right (fit q stands) plain gave.kept.0 pass.kept.0 stands.drain on
+      (pass.kept.1 (tell (Got e ∷ q) gave.told) from)));
 }
 
-pub step-ready : (core : CoreData) → IsFormed core.plan core.order core.starts core.endpoints
-    → (st2 : StartsData) (d2 : EndpointsData) (s : ℕ) (before after : List Action)
+-- where the endpoints' part told nothing
+silent-answers : (core : CoreData) (d : EndpointsData) (e : Event) (before : List Action)
+    → ((q : Record) → StandsFor core q → fits core.plan q e ≡ true → EndpointsStand core.plan d (Got e ∷ q)) → Answers core d e before before
+silent-answers core d e before stand = record { told = []; appended = sym (append-nil before); kept = (tt, stand) }
+
+-- an answer to an ask: what the endpoints' part makes of it, then the pass
+step-answer : (core : CoreData) → IsInOrder core.plan core.order → (st2 : StartsData) (d1 d2 : EndpointsData) (e : Event) (before mid after : List Action)
+    → core.drain.over ≡ false → is_last e ≡ false → ((q : Record) → now (Got e ∷ q) ≡ now q)
+    → ((q : Record) → StandsFor core q → fits core.plan q e ≡ true)
+    → ((q : Record) → StartsStand core.plan core.starts q → StartsStand core.plan core.starts (Got e ∷ q))
+    → Tells before mid (λ told. IsGivingUp told × ((q : Record) → core.drain.moment ≡ now q → EndpointsStand core.plan core.endpoints q → EndpointsStand core.plan d1 (tell (Got e ∷ q) told)))
+    → Passes core.plan core.order core.drain.moment 0 (length core.order) core.starts st2 d1 d2 mid after
+    → StepKeeps core (record { plan = core.plan; order = core.order; starts = st2; endpoints = d2; drain = core.drain }) e before after On
+step-answer core in_order st2 d1 d2 e before mid after on plain time fit starts gave pass =
+    step-passes core in_order core.starts st2 d1 d2 core.drain.moment e before mid after on plain
+    (λ q stands. stands.drain.moment_is ∙ sym (time q)) fit (λ q stands. starts q stands.starts)
+    (record { told = gave.told; appended = gave.appended; kept = (gave.kept.0, λ q stands fitting. gave.kept.1 q stands.drain.moment_is (stands.endpoints on)) })
+    pass
+
+-- a law that needs no moment
+timeless : (p : Plan) (d d1 : EndpointsData) (moment : ℕ) (e : Event) (before mid : List Action)
+    → Tells before mid (λ told. IsGivingUp told × ((q : Record) → EndpointsStand p d q → EndpointsStand p d1 (tell (Got e ∷ q) told)))
+    → Tells before mid (λ told. IsGivingUp told × ((q : Record) → moment ≡ now q → EndpointsStand p d q → EndpointsStand p d1 (tell (Got e ∷ q) told)))
+timeless p d d1 moment e before mid gave = record { told = gave.told; appended = gave.appended; kept = (gave.kept.0, λ q time. gave.kept.1 q) }
+
+pub step-bound : (core : CoreData) → IsInOrder core.plan core.order → (st2 : StartsData) (d1 d2 : EndpointsData) (s i fd : ℕ) (before mid after : List Action)
+    → core.drain.over ≡ false → BoundMayCome core s i fd
+    → Tells before mid (λ told. IsGivingUp told × ((q : Record) → EndpointsStand core.plan core.endpoints q → EndpointsStand core.plan d1 (tell (Got (Bound s i fd) ∷ q) told)))
+    → Passes core.plan core.order core.drain.moment 0 (length core.order) core.starts st2 d1 d2 mid after
+    → StepKeeps core (record { plan = core.plan; order = core.order; starts = st2; endpoints = d2; drain = core.drain }) (Bound s i fd) before after On
+step-bound core in_order st2 d1 d2 s i fd before mid after on may gave pass =
+    step-answer core in_order st2 d1 d2 (Bound s i fd) before mid after on refl (λ q. refl) (λ q. fits-bound core q s i fd on may)
+    (λ q h. record { started_is = h.started_is; ready_is = h.ready_is; ended_is = h.ended_is })
+    (timeless core.plan core.endpoints d1 core.drain.moment (Bound s i fd) before mid gave) pass
+
+pub step-in-use : (core : CoreData) → IsInOrder core.plan core.order → (st2 : StartsData) (d1 d2 : EndpointsData) (s i : ℕ) (before mid after : List Action)
+    → core.drain.over ≡ false → BindMayBeAnswered core s i
+    → Tells before mid (λ told. IsGivingUp told × ((q : Record) → core.drain.moment ≡ now q → EndpointsStand core.plan core.endpoints q → EndpointsStand core.plan d1 (tell (Got (InUse s i) ∷ q) told)))
+    → Passes core.plan core.order core.drain.moment 0 (length core.order) core.starts st2 d1 d2 mid after
+    → StepKeeps core (record { plan = core.plan; order = core.order; starts = st2; endpoints = d2; drain = core.drain }) (InUse s i) before after On
+step-in-use core in_order st2 d1 d2 s i before mid after on may gave pass =
+    step-answer core in_order st2 d1 d2 (InUse s i) before mid after on refl (λ q. refl) (λ q. fits-in-use core q s i on may)
+    (λ q h. record { started_is = h.started_is; ready_is = h.ready_is; ended_is = h.ended_is }) gave pass
+
+pub step-bind-failed : (core : CoreData) → IsInOrder core.plan core.order → (st2 : StartsData) (d1 d2 : EndpointsData) (s i : ℕ) (before mid after : List Action)
+    → core.drain.over ≡ false → BindMayBeAnswered core s i
+    → Tells before mid (λ told. IsGivingUp told × ((q : Record) → EndpointsStand core.plan core.endpoints q → EndpointsStand core.plan d1 (tell (Got (BindFailed s i) ∷ q) told)))
+    → Passes core.plan core.order core.drain.moment 0 (length core.order) core.starts st2 d1 d2 mid after
+    → StepKeeps core (record { plan = core.plan; order = core.order; starts = st2; endpoints = d2; drain = core.drain }) (BindFailed s i) before after On
+step-bind-failed core in_order st2 d1 d2 s i before mid after on may gave pass =
+    step-answer core in_order st2 d1 d2 (BindFailed s i) before mid after on refl (λ q. refl) (λ q. fits-bind-failed core q s i on may)
+    (λ q h. record { started_is = h.started_is; ready_is = h.ready_is; ended_is = h.ended_is })
+    (timeless core.plan core.endpoints d1 core.drain.moment (BindFailed s i) before mid gave) pass
+
+pub step-adopt-failed : (core : CoreData) → IsInOrder core.plan core.order → (st2 : StartsData) (d1 d2 : EndpointsData) (s i : ℕ) (before mid after : List Action)
+    → core.drain.over ≡ false → AdoptMayBeAnswered core s i
+    → Tells before mid (λ told. IsGivingUp told × ((q : Record) → EndpointsStand core.plan core.endpoints q → EndpointsStand core.plan d1 (tell (Got (AdoptFailed s i) ∷ q) told)))
+    → Passes core.plan core.order core.drain.moment 0 (length core.order) core.starts st2 d1 d2 mid after
+    → StepKeeps core (record { plan = core.plan; order = core.order; starts = st2; endpoints = d2; drain = core.drain }) (AdoptFailed s i) before after On
+step-adopt-failed core in_order st2 d1 d2 s i before mid after on may gave pass =
+    step-answer core in_order st2 d1 d2 (AdoptFailed s i) before mid after on refl (λ q. refl) (λ q. fits-adopt-failed core q s i on may)
+    (λ q h. record { started_is = h.started_is; ready_is = h.ready_is; ended_is = h.ended_is })
+    (timeless core.plan core.endpoints d1 core.drain.moment (AdoptFailed s i) before mid gave) pass
+
+pub step-adopted : (core : CoreData) → IsInOrder core.plan core.order → (st2 : StartsData) (d1 d2 : EndpointsData) (s i : ℕ) (before after : List Action)
+    → core.drain.over ≡ false → AdoptMayBeAnswered core s i
+    → ((q : Record) → EndpointsStand core.plan core.endpoints q → EndpointsStand core.plan d1 (Got (Adopted s i) ∷ q))
+    → Passes core.plan core.order core.drain.moment 0 (length core.order) core.starts st2 d1 d2 before after
+    → StepKeeps core (record { plan = core.plan; order = core.order; starts = st2; endpoints = d2; drain = core.drain }) (Adopted s i) before after On
+step-adopted core in_order st2 d1 d2 s i before after on may stand pass =
+    step-passes core in_order core.starts st2 d1 d2 core.drain.moment (Adopted s i) before before after on refl
+    (λ q stands. stands.drain.moment_is) (λ q. fits-adopted core q s i on may)
+    (λ q stands. record { started_is = stands.starts.started_is; ready_is = stands.starts.ready_is; ended_is = stands.starts.ended_is })
+    (silent-answers core d1 (Adopted s i) before (λ q stands fitting. stand q (stands.endpoints on))) pass
+
+pub step-moment : (core : CoreData) → IsInOrder core.plan core.order → (st2 : StartsData) (d2 : EndpointsData) (ms : ℕ) (before after : List Action)
+    → core.drain.over ≡ false → core.drain.moment ≤ ms
+    → Passes core.plan core.order ms 0 (length core.order) core.starts st2 core.endpoints d2 before after
+    → StepKeeps core (record { plan = core.plan; order = core.order; starts = st2; endpoints = d2; drain = record { running = core.drain.running; over = core.drain.over; moment = ms } }) (Moment ms) before after On
+step-moment core in_order st2 d2 ms before after on may pass =
+    step-passes core in_order core.starts st2 core.endpoints d2 ms (Moment ms) before before after on refl
+    (λ q stands. refl) (λ q. fits-moment core q ms on may)
+    (λ q stands. record { started_is = stands.starts.started_is; ready_is = stands.starts.ready_is; ended_is = stands.starts.ended_is })
+    (silent-answers core core.endpoints (Moment ms) before (λ q stands fitting. stands-got core.plan core.endpoints q (Moment ms) tt (stands.endpoints on))) pass
+
+pub step-ready : (core : CoreData) → IsFormed core.plan core.order core.starts core.endpoints → (st2 : StartsData) (d2 : EndpointsData) (s : ℕ) (before after : List Action)
     → core.drain.over ≡ false → ReadyMayCome core s
-    → Passes core.plan core.order 0 (length core.order) (word_taken s core.starts) st2 core.endpoints d2 before after
+    → Passes core.plan core.order core.drain.moment 0 (length core.order) (word_taken s core.starts) st2 core.endpoints d2 before after
     → StepKeeps core (record { plan = core.plan; order = core.order; starts = st2; endpoints = d2; drain = core.drain }) (Ready s) before after On
 step-ready core formed st2 d2 s before after on may pass =
-    step-passes core formed.built formed.in_order (word_taken s core.starts) st2 core.endpoints d2 (Ready s) before after on refl (λ q. refl)
-    (λ q h. fits-ready core q s on may h)
-    (λ q h. stands-word core.plan core.starts q s formed.starts may.inside h.starts)
-    (λ q h. stands-ready core.plan core.endpoints q s (h.endpoints on))
-    pass
+    step-passes core formed.in_order (word_taken s core.starts) st2 core.endpoints d2 core.drain.moment (Ready s) before before after on refl
+    (λ q stands. stands.drain.moment_is) (λ q. fits-ready core q s on may)
+    (λ q stands. stands-word core.plan core.starts q s formed.starts may.inside stands.starts)
+    (silent-answers core core.endpoints (Ready s) before (λ q stands fitting. stands-got core.plan core.endpoints q (Ready s) tt (stands.endpoints on))) pass
 
-pub step-ended : (core : CoreData) → IsFormed core.plan core.order core.starts core.endpoints
-    → (st2 : StartsData) (d2 : EndpointsData) (s : ℕ) (before after : List Action)
+pub step-ended : (core : CoreData) → IsFormed core.plan core.order core.starts core.endpoints → (st2 : StartsData) (d2 : EndpointsData) (s : ℕ) (before after : List Action)
     → core.drain.over ≡ false → EndedMayCome core s
-    → Passes core.plan core.order 0 (length core.order) (end_taken s core.starts) st2 core.endpoints d2 before after
+    → Passes core.plan core.order core.drain.moment 0 (length core.order) (end_taken s core.starts) st2 core.endpoints d2 before after
     → StepKeeps core (record { plan = core.plan; order = core.order; starts = st2; endpoints = d2; drain = core.drain }) (Ended s) before after On
 step-ended core formed st2 d2 s before after on may pass =
-    step-passes core formed.built formed.in_order (end_taken s core.starts) st2 core.endpoints d2 (Ended s) before after on refl (λ q. refl)
-    (λ q h. fits-ended core q s on may h)
-    (λ q h. stands-end core.plan core.starts q s formed.starts may.inside h.starts)
-    (λ q h. stands-ended core.plan core.endpoints q s (h.endpoints on))
-    pass
+    step-passes core formed.in_order (end_taken s core.starts) st2 core.endpoints d2 core.drain.moment (Ended s) before before after on refl
+    (λ q stands. stands.drain.moment_is) (λ q. fits-ended core q s on may)
+    (λ q stands. stands-end core.plan core.starts q s formed.starts may.inside stands.starts)
+    (silent-answers core core.endpoints (Ended s) before (λ q stands fitting. stands-got core.plan core.endpoints q (Ended s) tt (stands.endpoints on))) pass
 
-pub step-bound : (core : CoreData) → IsFormed core.plan core.order core.starts core.endpoints
-    → (st2 : StartsData) (d2 : EndpointsData) (s fd : ℕ) (before after : List Action)
-    → core.drain.over ≡ false → BoundMayCome core s 0 fd
-    → Passes core.plan core.order 0 (length core.order) core.starts st2 (bound s fd core.endpoints) d2 before after
-    → StepKeeps core (record { plan = core.plan; order = core.order; starts = st2; endpoints = d2; drain = core.drain }) (Bound s 0 fd) before after On
-step-bound core formed st2 d2 s fd before after on may pass =
-    step-passes core formed.built formed.in_order core.starts st2 (bound s fd core.endpoints) d2 (Bound s 0 fd) before after on refl (λ q. refl)
-    (λ q h. fits-bound core q s 0 fd on may h)
-    (λ q h. record { started_is = h.starts.started_is; ready_is = h.starts.ready_is; ended_is = h.starts.ended_is })
-    (λ q h. stands-bound core.plan core.endpoints q s fd formed.built may.inside formed.asks may.asked (h.endpoints on))
-    pass
+-- what is told at the end, in its three parts
+pub end-joined : (before mid closed after : List Action) (ms : ℕ) (fds : List ℕ) → mid ≡ before ++ shutdown_told ms → closed ≡ mid ++ map Close fds → after ≡ closed ++ stop_told ms
+    → after ≡ before ++ end_told ms fds
+end-joined before mid closed after ms fds first next last =
+    last
+    ∙ ap (λ w. w ++ stop_told ms) (next ∙ ap (λ w. w ++ map Close fds) first)
+    ∙ append_assoc (before ++ shutdown_told ms) (map Close fds) (stop_told ms)
+    ∙ append_assoc before (shutdown_told ms) (map Close fds ++ stop_told ms)
 
 -- the signal
 pub step-signal : (core : CoreData) (kind : ShutdownSignal) (before after : List Action)
-    → core.drain.over ≡ false → core.drain.running ≡ true → after ≡ before ++ end_told core.drain.moment core.endpoints.numbers
+    → core.drain.over ≡ false → core.drain.running ≡ true → after ≡ before ++ end_told core.drain.moment (open_numbers core.endpoints)
     → StepKeeps core (record { plan = core.plan; order = core.order; starts = core.starts; endpoints = core.endpoints; drain = record { running = core.drain.running; over = true; moment = core.drain.moment } }) (Signal kind) before after Served
 step-signal core FastShutdown before after on running told = record {
-  told = end_told core.drain.moment core.endpoints.numbers;
+  told = end_told core.drain.moment (open_numbers core.endpoints);
   appended = told;
   kept = λ q right stands. (
-      let ep = stands.endpoints on in
       let fit = fits-signal core q FastShutdown on running stands in
       let silent = fits-silent core.plan q (Signal FastShutdown) fit in
-      let opened = is-open core.plan q right silent in
-      let entries = entries-of core.plan q right in
-      let lives : ascending (live_numbers core.plan q) ≡ core.endpoints.numbers = ap ascending (live-numbers core.plan q ep.never_closed) ∙ sym stands.numbers in
-      let over = end-passed core.plan q entries fit opened silent right.settled.1 ep.never_closed in
-      let running_is = running ∙ sym (end-running core.plan q entries fit opened silent right.settled.1 ep.never_closed) in
-      let moment_is = stands.drain.moment_is ∙ sym (end-now core.plan q entries fit opened silent right.settled.1 ep.never_closed) in
+      let over = end-passed core.plan q right fit silent in
+      let running_is = running ∙ sym (end-running core.plan q right fit silent) in
+      let moment_is = stands.drain.moment_is ∙ sym (end-now core.plan q right fit silent) in
       subst (λ told_now. StepRight (record { plan = core.plan; order = core.order; starts = core.starts; endpoints = core.endpoints; drain = record { running = core.drain.running; over = true; moment = core.drain.moment } }) (tell (Got (Signal FastShutdown) ∷ q) told_now) Served)
-      (ap (λ ms. end_told ms (ascending (live_numbers core.plan q))) (sym stands.drain.moment_is) ∙ ap (end_told core.drain.moment) lives)
+      (ap (λ ms. end_told ms (ascending (live_numbers core.plan q))) (sym stands.drain.moment_is) ∙ ap (end_told core.drain.moment) (sym (stands.endpoints on).open_are))
       (record {
         stands = record {
           drain = record { running_is = running_is; over_is = sym over; moment_is = moment_is };
-          starts = end-starts core.plan q entries fit opened silent right.settled.1 ep.never_closed core.starts stands.starts;
+          starts = end-starts core.plan q right fit silent core.starts stands.starts;
           endpoints = λ off. absurd (cc);
-          numbers = stands.numbers ∙ ap ascending (sym (numbers-tell (Got (Signal FastShutdown) ∷ q) (end_told (now q) (ascending (live_numbers core.plan q)))));
-          closed = λ h. end-closed core.plan q entries fit opened silent right.settled.1 ep.never_closed;
+          failed = end-failed core.plan q right fit silent core.endpoints.failed stands.failed;
+          came = stands.came ∙ ap ascending (sym (numbers-tell (Got (Signal FastShutdown) ∷ q) (end_told (now q) (ascending (live_numbers core.plan q)))));
+          closed = λ h. end-closed core.plan q right fit silent;
         };
-        right = end-right core.plan q entries fit opened silent right.settled.1 ep.never_closed;
+        right = end-right core.plan q right fit silent;
         answer = ap (λ b. if b then Served else On) (sym over);
       }));
 }

@@ -2,10 +2,10 @@
 use Rattle.std.specs.Prelude.{ℕ, List}
 use Rattle.svc_record.specs.declared.plan.Plan.{Plan}
 use Rattle.svc_record.specs.Validity.{IsValid, IsBuilt, IsInOrder}
+use Rattle.svc_endpoints.specs.EndpointsData.{EndpointsData}
+use Rattle.svc_endpoints.specs.EndpointsState.{IsEndpointsSized}
 use Rattle.svc_core.specs.StartsData.{StartsData}
 use Rattle.svc_core.specs.StartsState.{IsStartsSized}
-use Rattle.svc_core.specs.EndpointsData.{EndpointsData}
-use Rattle.svc_core.specs.EndpointsState.{IsAsksSized}
 use Rattle.svc_core.specs.DrainData.{DrainData}
 
 -- the plan, the services in their startup order, and the parts
@@ -22,4 +22,4 @@ pub record IsFormed (p : Plan) (order : List ℕ) (st : StartsData) (d : Endpoin
   pub built : IsBuilt p
   pub in_order : IsInOrder p order
   pub starts : IsStartsSized p st
-  pub asks : IsAsksSized p d
+  pub endpoints : IsEndpointsSized p d

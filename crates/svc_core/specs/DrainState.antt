@@ -14,6 +14,13 @@ pub record DrainStand (p : Plan) (d : DrainData) (q : Record) : Type 0 where
   pub over_is : d.over ≡ has_passed p q
   pub moment_is : d.moment ≡ now q
 
--- what is told after a fast signal at this moment, where these descriptors are live
+-- what is told after a fast signal at this moment before the live descriptors close, and after it
+abbrev pub shutdown_told : ℕ → List Action
+shutdown_told ms = Phase ShutdownStarted ms ∷ Phase ShutdownRuntimes ms ∷ []
+
+abbrev pub stop_told : ℕ → List Action
+stop_told ms = Stop 0 ∷ Phase Terminated ms ∷ []
+
+-- all that is told then, where these descriptors are live
 abbrev pub end_told : ℕ → List ℕ → List Action
 end_told ms fds = Phase ShutdownStarted ms ∷ Phase ShutdownRuntimes ms ∷ (map Close fds ++ Stop 0 ∷ Phase Terminated ms ∷ [])

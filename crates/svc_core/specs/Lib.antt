@@ -1,14 +1,14 @@
-pub mod Told
 pub mod StartsData
 pub mod StartsState
-pub mod EndpointsData
-pub mod EndpointsState
 pub mod DrainData
 pub mod DrainState
 pub mod CoreData
 pub mod Passes
 pub mod Rooms
 pub mod Stands
+pub use Rattle.svc_record.specs.Told
+pub use Rattle.svc_endpoints.specs.EndpointsData
+pub use Rattle.svc_endpoints.specs.EndpointsState
 pub use Rattle.svc_record.specs.Record
 pub use Rattle.svc_record.specs.Plans
 pub use Rattle.svc_record.specs.Descriptors

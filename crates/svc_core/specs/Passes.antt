@@ -3,39 +3,35 @@ use Rattle.std.specs.Prelude.{ℕ, true, ◌≡◌, ◌<◌, List, length, slice
 use Rattle.svc_record.specs.declared.plan.Plan.{Plan}
 use Rattle.svc_record.specs.declared.action.Action.{Action}
 use Rattle.svc_record.specs.Plans.{service_count, endpoints}
-use Rattle.svc_record.specs.Record.{Record, tell, EachEntry}
+use Rattle.svc_record.specs.Record.{Record, now, tell, EachEntry}
 use Rattle.svc_record.specs.Starts.{is_started, is_due, start_due, start_known}
-use Rattle.svc_record.specs.AskRules.{ask_due, ask_known}
-use Rattle.svc_record.specs.Closes.{close_once}
+use Rattle.svc_record.specs.Endpoints.{endpoint_right}
 use Rattle.svc_record.specs.Drain.{every_moment_right}
 use Rattle.svc_record.specs.Fits.{event_fits}
-use Rattle.svc_core.specs.declared.endpoints.Ask.TheVariants.{Unasked}
-use Rattle.svc_core.specs.Told.{Tells, IsQuiet}
+use Rattle.svc_record.specs.Told.{Tells, IsQuiet}
+use Rattle.svc_endpoints.specs.EndpointsData.{EndpointsData}
+use Rattle.svc_endpoints.specs.EndpointsState.{EndpointsStand}
 use Rattle.svc_core.specs.StartsData.{StartsData}
 use Rattle.svc_core.specs.StartsState.{StartsStand}
-use Rattle.svc_core.specs.EndpointsData.{EndpointsData}
-use Rattle.svc_core.specs.EndpointsState.{EndpointsStand, ask_at}
 
--- each entry is right, with what stands before it
+-- each event, start and phase is right, with what stands before it
 pub record EntriesRight (p : Plan) (q : Record) : Type 0 where
   pub fits : EachEntry (λ e before. event_fits p e before ≡ true) q
   pub starts : EachEntry (λ e before. start_due p e before ≡ true) q
-  pub asks : EachEntry (λ e before. ask_due p e before ≡ true) q
-  pub closes : EachEntry (λ e before. close_once p e before ≡ true) q
   pub moments : EachEntry (λ e before. every_moment_right e before ≡ true) q
   pub known_starts : EachEntry (λ e before. start_known p e before ≡ true) q
-  pub known_asks : EachEntry (λ e before. ask_known p e before ≡ true) q
 
--- both parts stand for q; what is started is due; each of the first k services of the order is started where it is due, and asked for where it is started
-pub record PassedUpTo (p : Plan) (order : List ℕ) (k : ℕ) (st : StartsData) (d : EndpointsData) (q : Record) : Type 0 where
+-- both parts stand for q, at its moment; what is started is due; each of the first k services of the order is started where it is due, and each of its endpoints is right
+pub record PassedUpTo (p : Plan) (order : List ℕ) (moment k : ℕ) (st : StartsData) (d : EndpointsData) (q : Record) : Type 0 where
+  pub moment_is : moment ≡ now q
   pub starts : StartsStand p st q
-  pub asks : EndpointsStand p d q
+  pub ends : EndpointsStand p d q
   pub entries : EntriesRight p q
   pub started_due : (s : ℕ) → s < service_count p → is_started q s ≡ true → is_due p q s ≡ true
   pub due_started : (j : ℕ) → j < k → is_due p q (slice_index order j) ≡ true → is_started q (slice_index order j) ≡ true
-  pub asked : (j : ℕ) → j < k → is_started q (slice_index order j) ≡ true → 0 < length (endpoints p (slice_index order j)) → ask_at d (slice_index order j) ≡ Unasked → ⊥
+  pub right : (j : ℕ) → j < k → (i : ℕ) → i < length (endpoints p (slice_index order j)) → endpoint_right p q (slice_index order j) i ≡ true
 
 -- visits that told only starts and asks went from the place j of the order to the place k
-abbrev pub Passes : Plan → List ℕ → ℕ → ℕ → StartsData → StartsData → EndpointsData → EndpointsData → List Action → List Action → Type 0
-Passes p order j k st st' d d' before after =
-    Tells before after (λ told. IsQuiet told × ((q : Record) → PassedUpTo p order j st d q → PassedUpTo p order k st' d' (tell q told)))
+abbrev pub Passes : Plan → List ℕ → ℕ → ℕ → ℕ → StartsData → StartsData → EndpointsData → EndpointsData → List Action → List Action → Type 0
+Passes p order moment j k st st' d d' before after =
+    Tells before after (λ told. IsQuiet told × ((q : Record) → PassedUpTo p order moment j st d q → PassedUpTo p order moment k st' d' (tell q told)))

@@ -6,15 +6,16 @@ use Rattle.svc_record.specs.declared.event.Event.{Event}
 use Rattle.svc_record.specs.Descriptors.{numbers_of}
 use Rattle.svc_conf.specs.Items.{list_of, spare}
 use Rattle.svc_record.specs.declared.action.Action.{Action}
+use Rattle.svc_endpoints.specs.EndpointsState.{open_numbers as table_numbers}
 use Rattle.svc_core.specs.CoreData.{CoreData}
 
 -- the numbers of the descriptors that are open
 abbrev pub open_numbers : CoreData → List ℕ
-open_numbers core = if core.drain.over then [] else core.endpoints.numbers
+open_numbers core = if core.drain.over then [] else table_numbers core.endpoints
 
 -- the numbers that the event brings and that didn't come before
 abbrev pub left_numbers : CoreData → Event → List ℕ
-left_numbers core e = filter (λ n. not (list_any (λ m. m == n) core.endpoints.numbers)) (numbers_of (Got e))
+left_numbers core e = filter (λ n. not (list_any (λ m. m == n) core.endpoints.came)) (numbers_of (Got e))
 
 -- how many actions `close_all` tells at most, with an unfinished event or without one
 abbrev pub close_need : CoreData → Option Event → ℕ
@@ -27,7 +28,7 @@ close_room core = length (open_numbers core) + 1
 
 -- how many actions the next step, and `close_all` after it, tell at most
 abbrev pub tell_room : CoreData → ℕ
-tell_room core = 2 * length core.order + length core.endpoints.numbers + 5
+tell_room core = 2 * length core.order + length core.endpoints.table + 5
 
 -- how many these are together with the boxes of the services that they start: at most one for each action
 abbrev pub step_room : CoreData → ℕ

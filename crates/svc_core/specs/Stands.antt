@@ -1,5 +1,5 @@
 -- The records that a core stands for, and what its steps keep.
-use Rattle.std.specs.Prelude.{ℕ, true, false, ◌≡◌, ◌<◌, ◌≤◌, ◌==◌, List, [], ◌∷◌, Option}
+use Rattle.std.specs.Prelude.{ℕ, true, false, ◌≡◌, ◌<◌, ◌≤◌, ◌==◌, List, [], ◌∷◌, Option, length}
 use Rattle.std.specs.List.{list_any}
 use Rattle.svc_graph.specs.declared.plan.Kind.TheVariants.{Notifying}
 use Rattle.svc_record.specs.declared.plan.Plan.{Plan}
@@ -7,26 +7,27 @@ use Rattle.svc_record.specs.declared.action.Action.{Action}
 use Rattle.svc_record.specs.declared.action.StepEnd.{StepEnd}
 use Rattle.svc_record.specs.declared.entry.Entry.TheVariants.{Got}
 use Rattle.svc_record.specs.declared.event.Event.{Event}
-use Rattle.svc_record.specs.declared.event.Event.TheVariants.{Moment, Ready, Ended, Bound, Signal}
-use Rattle.svc_record.specs.Plans.{service_count, has_kind}
+use Rattle.svc_record.specs.declared.event.Event.TheVariants.{Moment, Ready, Ended, Bound, InUse, BindFailed, Adopted, AdoptFailed, Signal}
+use Rattle.svc_record.specs.Plans.{service_count, endpoints, has_kind}
 use Rattle.svc_record.specs.Record.{Record, tell}
 use Rattle.svc_record.specs.Drain.{ascending, live_numbers}
 use Rattle.svc_record.specs.Ends.{step_end}
 use Rattle.svc_record.specs.Fits.{may_end}
 use Rattle.svc_record.specs.Right.{Right}
 use Rattle.svc_record.specs.Tail.{numbers_in, closing_actions, tail_right}
-use Rattle.svc_core.specs.Told.{Tells}
-use Rattle.svc_core.specs.StartsState.{StartsStand, is_flagged}
-use Rattle.svc_core.specs.EndpointsState.{EndpointsStand, ask_at, is_open_ask}
+use Rattle.svc_record.specs.Told.{Tells}
+use Rattle.svc_endpoints.specs.EndpointsState.{EndpointsStand, last_at, is_binding, is_adopting}
+use Rattle.svc_core.specs.StartsState.{StartsStand, AreFailed, is_flagged}
 use Rattle.svc_core.specs.DrainState.{DrainStand}
 use Rattle.svc_core.specs.CoreData.{CoreData}
 
--- one clause for each part; once the run is over, what came is all that is left of endpoints, and nothing is live
+-- one clause for each part; once the run is over, which services failed and what came is all that is left of endpoints, and nothing is live
 pub record StandsFor (core : CoreData) (q : Record) : Type 0 where
   pub drain : DrainStand core.plan core.drain q
   pub starts : StartsStand core.plan core.starts q
   pub endpoints : core.drain.over ≡ false → EndpointsStand core.plan core.endpoints q
-  pub numbers : core.endpoints.numbers ≡ ascending (numbers_in q)
+  pub failed : AreFailed core.plan core.endpoints.failed q
+  pub came : core.endpoints.came ≡ ascending (numbers_in q)
   pub closed : core.drain.over ≡ true → live_numbers core.plan q ≡ []
 
 -- nothing was got or told yet
@@ -67,12 +68,22 @@ pub record EndedMayCome (core : CoreData) (s : ℕ) : Type 0 where
   pub started : is_flagged core.starts.started s ≡ true
   pub first : is_flagged core.starts.ended s ≡ false
 
--- the endpoint's descriptor may come
-pub record BoundMayCome (core : CoreData) (s i fd : ℕ) : Type 0 where
+-- s has an endpoint i whose bind is open
+pub record BindMayBeAnswered (core : CoreData) (s i : ℕ) : Type 0 where
   pub inside : s < service_count core.plan
-  pub only : i ≡ 0
-  pub asked : is_open_ask (ask_at core.endpoints s) ≡ true
-  pub fresh : list_any (λ n. n == fd) core.endpoints.numbers ≡ false
+  pub within : i < length (endpoints core.plan s)
+  pub asked : is_binding (last_at core.endpoints s i) ≡ true
+
+-- the same, and the descriptor is new
+pub record BoundMayCome (core : CoreData) (s i fd : ℕ) : Type 0 where
+  pub asked : BindMayBeAnswered core s i
+  pub fresh : list_any (λ n. n == fd) core.endpoints.came ≡ false
+
+-- s has an endpoint i whose adoption is open
+pub record AdoptMayBeAnswered (core : CoreData) (s i : ℕ) : Type 0 where
+  pub inside : s < service_count core.plan
+  pub within : i < length (endpoints core.plan s)
+  pub asked : is_adopting (last_at core.endpoints s i) ≡ true
 
 -- the condition of each event, by what the core holds
 abbrev pub RowMayCome : CoreData → Event → Type 0
@@ -80,6 +91,10 @@ RowMayCome core (Moment ms) = core.drain.moment ≤ ms
 RowMayCome core (Ready s) = ReadyMayCome core s
 RowMayCome core (Ended s) = EndedMayCome core s
 RowMayCome core (Bound s i fd) = BoundMayCome core s i fd
+RowMayCome core (InUse s i) = BindMayBeAnswered core s i
+RowMayCome core (BindFailed s i) = BindMayBeAnswered core s i
+RowMayCome core (Adopted s i) = AdoptMayBeAnswered core s i
+RowMayCome core (AdoptFailed s i) = AdoptMayBeAnswered core s i
 RowMayCome core (Signal kind) = core.drain.running ≡ true
 
 -- the event may come

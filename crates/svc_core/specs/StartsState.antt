@@ -7,6 +7,7 @@ use Rattle.svc_record.specs.declared.action.Action.{Action}
 use Rattle.svc_record.specs.declared.action.Action.TheVariants.{Start}
 use Rattle.svc_record.specs.Plans.{service_count, depends, has_kind}
 use Rattle.svc_record.specs.Record.{Record, has}
+use Rattle.svc_record.specs.Failed.{has_failed}
 use Rattle.svc_record.specs.Starts.{is_started, is_ready_event, is_ended_event}
 use Rattle.svc_core.specs.StartsData.{StartsData}
 
@@ -32,17 +33,21 @@ pub record StartsStand (p : Plan) (st : StartsData) (q : Record) : Type 0 where
   pub ready_is : (s : ℕ) → s < service_count p → is_flagged st.ready s ≡ has (is_ready_event s) q
   pub ended_is : (s : ℕ) → s < service_count p → is_flagged st.ended s ≡ has (is_ended_event s) q
 
--- the service is ready: its word came, or its work is done, or it is started and plain
-abbrev pub ready_now : Plan → StartsData → ℕ → Bool
-ready_now p st s = (is_flagged st.ready s || is_flagged st.ended s) || (is_flagged st.started s && has_kind p Plain s)
+-- the flags say which services have failed
+abbrev pub AreFailed : Plan → List Bool → Record → Type 0
+AreFailed p failed q = (s : ℕ) → s < service_count p → is_flagged failed s ≡ has_failed p q s
+
+-- the service is ready: its word came, or its work is done, or it has failed, or it is started and plain
+abbrev pub ready_now : Plan → StartsData → List Bool → ℕ → Bool
+ready_now p st failed s = ((is_flagged st.ready s || is_flagged st.ended s) || is_flagged failed s) || (is_flagged st.started s && has_kind p Plain s)
 
 -- all that it depends on is
-abbrev pub due_now : Plan → StartsData → ℕ → Bool
-due_now p st s = list_all (ready_now p st) (depends p s)
+abbrev pub due_now : Plan → StartsData → List Bool → ℕ → Bool
+due_now p st failed s = list_all (ready_now p st failed) (depends p s)
 
 -- a visit starts it
-abbrev pub starts_now : Plan → StartsData → ℕ → Bool
-starts_now p st s = not (is_flagged st.started s) && due_now p st s
+abbrev pub starts_now : Plan → StartsData → List Bool → ℕ → Bool
+starts_now p st failed s = not (is_flagged st.started s) && due_now p st failed s
 
 -- the part after the visit
 abbrev pub start_if : Bool → ℕ → StartsData → StartsData

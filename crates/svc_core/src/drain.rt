@@ -1,12 +1,11 @@
 //! The part of the core that knows the time and whether the server runs, and ends the run.
 
-ghost use Rattle.std.specs.Prelude.{◌≡◌, ◌+◌, ◌≤◌, ◌++◌, [], ◌∷◌, length, true, false};
+ghost use Rattle.std.specs.Prelude.{◌≡◌, ◌+◌, ◌≤◌, ◌++◌, [], ◌∷◌, true, false};
 ghost use Rattle.svc_conf.specs.Items.{list_of, spare};
 ghost use Rattle.svc_record.specs.declared.action.Action.TheVariants.{Phase};
 ghost use Rattle.svc_record.specs.declared.action.ExecutionPhase.TheVariants.{Running};
-ghost use Rattle.svc_core.specs.DrainState.{end_told};
+ghost use Rattle.svc_core.specs.DrainState.{shutdown_told, stop_told};
 
-use crate::endpoints::close_each;
 use std::marker::Model;
 use svc_record::{Action, Actions, ExecutionPhase};
 
@@ -74,18 +73,25 @@ impl Drain {
         self.running = true;
     }
 
-    /// Tells the whole shutdown: the live descriptors close between its last two phases.
-    pub(crate) fn end(&mut self, live: &[u64], actions: &mut Actions)
-        requires room { length live.now + 4 ≤ spare actions.old }
+    /// Tells that the shutdown begins; the live descriptors close next.
+    pub(crate) fn shut_down(&mut self, actions: &mut Actions)
+        requires room { 2 ≤ spare actions.old }
         ensures after { self.new ≡ record { running = self.old.running; over = true; moment = self.old.moment } }
-        ensures told { list_of actions.new ≡ list_of actions.old ++ end_told self.old.moment live.now }
-        ensures room { spare actions.old ≤ spare actions.new + (length live.now + 4) }
+        ensures told { list_of actions.new ≡ list_of actions.old ++ shutdown_told self.old.moment }
+        ensures room { spare actions.old ≤ spare actions.new + 2 }
     {
         actions.put(Action::Phase(ExecutionPhase::ShutdownStarted, self.moment));
         actions.put(Action::Phase(ExecutionPhase::ShutdownRuntimes, self.moment));
-        close_each(live, actions);
+        self.over = true;
+    }
+
+    /// Tells the last that is told.
+    pub(crate) fn stop(&self, actions: &mut Actions)
+        requires room { 2 ≤ spare actions.old }
+        ensures told { list_of actions.new ≡ list_of actions.old ++ stop_told self.now.moment }
+        ensures room { spare actions.old ≤ spare actions.new + 2 }
+    {
         actions.put(Action::Stop(0));
         actions.put(Action::Phase(ExecutionPhase::Terminated, self.moment));
-        self.over = true;
     }
 }

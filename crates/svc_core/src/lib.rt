@@ -2,7 +2,6 @@
 #![tactic(auto)]
 
 mod drain;
-mod endpoints;
 mod machine;
 mod pass;
 mod phase_reader;

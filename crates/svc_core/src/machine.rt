@@ -11,17 +11,17 @@ ghost use Rattle.svc_record.specs.Starts.{is_ready};
 ghost use Rattle.svc_record.specs.Fits.{Fits};
 ghost use Rattle.svc_record.specs.Right.{Right};
 ghost use Rattle.svc_record.specs.Validity.{IsValid, IsBuilt};
-ghost use Rattle.svc_core.specs.Stands.{StandsFor, HasNotBegun, MayCome, ReadyMayCome, EndedMayCome, BoundMayCome, StepKeeps, BeginKeeps, ClosesAll};
+ghost use Rattle.svc_core.specs.Stands.{StandsFor, HasNotBegun, MayCome, ReadyMayCome, EndedMayCome, BoundMayCome, BindMayBeAnswered, AdoptMayBeAnswered, StepKeeps, BeginKeeps, ClosesAll};
 ghost use Rattle.svc_core.specs.Rooms.{TellsWithin, KeepsRoom, tell_room, step_room, close_room, close_need, open_numbers, left_numbers};
 
 use crate::drain::Drain;
-use crate::endpoints::{Endpoints, close_each};
 use crate::pass::pass;
-use crate::plans::{is_notifying, may_end, service_count};
+use crate::plans::{address_of, endpoint_count, is_notifying, may_end, service_count};
 use crate::starts::Starts;
 use std::alloc::Global;
 use std::marker::Model;
 use svc_conf::NoMemory;
+use svc_endpoints::Endpoints;
 use svc_graph::services::ServiceReadyWatch;
 use svc_record::{Action, Actions, Event, Plan, ShutdownSignal, StepEnd, startup_order};
 
@@ -77,23 +77,24 @@ impl Core {
     pub fn step_room(&self) -> u64
         ensures { result ≡ step_room self.now }
     {
-        4 * self.order.len() as u64 + 2 * self.endpoints.numbers().len() as u64 + 10
+        4 * self.order.len() as u64 + 2 * self.endpoints.open_len() as u64 + 10
     }
 
     /// How many actions the next step, and a `close_all` after it, tell at most.
     fn tell_room(&self) -> u64
         ensures { result ≡ tell_room self.now }
     {
-        2 * self.order.len() as u64 + self.endpoints.numbers().len() as u64 + 5
+        2 * self.order.len() as u64 + self.endpoints.open_len() as u64 + 5
     }
 
-    /// Whether the watched service is ready: its word came, or its work is done, or it is started
-    /// and plain.
+    /// Whether the watched service is ready: its word came, or its work is done, or it has failed,
+    /// or it is started and plain.
     pub fn ready(&self, watch: &ServiceReadyWatch) -> bool
         requires service { watch.now < service_count self.now.plan }
         ensures { (q : Record) → StandsFor self.now q → result ≡ is_ready self.now.plan q watch.now }
     {
-        self.starts.is_ready(&self.plan, watch.service())
+        self.starts
+            .is_ready(&self.plan, self.endpoints.failed(), watch.service())
     }
 
     /// Whether the event may come now.
@@ -109,6 +110,10 @@ impl Core {
             Event::Ready(s) => self.ready_fits(s),
             Event::Ended(s) => self.ended_fits(s),
             Event::Bound(s, i, fd) => self.bound_fits(s, i, fd),
+            Event::InUse(s, i) => self.bind_answer_fits(s, i),
+            Event::BindFailed(s, i) => self.bind_answer_fits(s, i),
+            Event::Adopted(s, i) => self.adopt_answer_fits(s, i),
+            Event::AdoptFailed(s, i) => self.adopt_answer_fits(s, i),
             Event::Signal(_) => self.drain.is_running(),
         }
     }
@@ -134,10 +139,27 @@ impl Core {
     fn bound_fits(&self, s: u32, i: u32, fd: u64) -> bool
         ensures { IsTrue result ↔ BoundMayCome self.now s i fd }
     {
-        if s as usize >= service_count(&self.plan) || i != 0 {
+        self.bind_answer_fits(s, i) && !self.endpoints.has_number(fd)
+    }
+
+    /// The service has the endpoint, and its bind is open.
+    fn bind_answer_fits(&self, s: u32, i: u32) -> bool
+        ensures { IsTrue result ↔ BindMayBeAnswered self.now s i }
+    {
+        if s as usize >= service_count(&self.plan) || i as usize >= endpoint_count(&self.plan, s) {
             return false;
         }
-        self.endpoints.is_open(&self.plan, s) && !self.endpoints.has_number(fd)
+        self.endpoints.is_binding(&self.plan, s, i)
+    }
+
+    /// The service has the endpoint, and its adoption is open.
+    fn adopt_answer_fits(&self, s: u32, i: u32) -> bool
+        ensures { IsTrue result ↔ AdoptMayBeAnswered self.now s i }
+    {
+        if s as usize >= service_count(&self.plan) || i as usize >= endpoint_count(&self.plan, s) {
+            return false;
+        }
+        self.endpoints.is_adopting(&self.plan, s, i)
     }
 
     /// The first step: it starts what is due, asks for endpoints, and tells that the server runs.
@@ -155,6 +177,7 @@ impl Core {
         pass(
             &self.plan,
             &self.order,
+            self.drain.moment(),
             &mut self.starts,
             &mut self.endpoints,
             actions,
@@ -182,26 +205,41 @@ impl Core {
     {
         actions.reserve(alloc, self.tell_room())?;
         match *event {
-            Event::Moment(ms) => Ok(self.step_moment(ms)),
+            Event::Moment(ms) => Ok(self.step_moment(ms, actions)),
             Event::Ready(s) => Ok(self.step_ready(s, actions)),
             Event::Ended(s) => Ok(self.step_ended(s, actions)),
-            Event::Bound(s, _, fd) => self.step_bound(s, fd, actions),
+            Event::Bound(s, i, fd) => self.step_bound(alloc, s, i, fd, actions),
+            Event::InUse(s, i) => Ok(self.step_in_use(s, i, actions)),
+            Event::BindFailed(s, i) => Ok(self.step_bind_failed(s, i, actions)),
+            Event::Adopted(s, i) => Ok(self.step_adopted(s, i, actions)),
+            Event::AdoptFailed(s, i) => Ok(self.step_adopt_failed(s, i, actions)),
             Event::Signal(kind) => Ok(self.step_signal(kind, actions)),
         }
     }
 
-    /// Nothing waits for a moment, so nothing is told.
-    fn step_moment(&mut self, ms: u64) -> StepEnd
+    /// Rests that are over end with it.
+    fn step_moment(&mut self, ms: u64, actions: &mut Actions) -> StepEnd
         requires on { self.old.drain.over ≡ false }
         requires may { self.old.drain.moment ≤ ms }
+        requires room { tell_room self.old ≤ spare actions.old }
         ensures plan { self.new.plan ≡ self.old.plan }
-        ensures kept { (before : List Action) → StepKeeps self.old self.new (Event.Moment ms) before before result }
-        ensures room { close_room self.new ≤ tell_room self.old }
+        ensures kept { StepKeeps self.old self.new (Event.Moment ms) (list_of actions.old) (list_of actions.new) result }
+        ensures few { TellsWithin self.old self.new actions.old actions.new }
+        ensures room { close_room self.new ≤ spare actions.new }
     {
         self.drain.take_moment(ms);
+        pass(
+            &self.plan,
+            &self.order,
+            self.drain.moment(),
+            &mut self.starts,
+            &mut self.endpoints,
+            actions,
+        );
         StepEnd::On
     }
 
+    /// What waited for the service's word starts.
     fn step_ready(&mut self, s: u32, actions: &mut Actions) -> StepEnd
         requires on { self.old.drain.over ≡ false }
         requires may { ReadyMayCome self.old s }
@@ -215,6 +253,7 @@ impl Core {
         pass(
             &self.plan,
             &self.order,
+            self.drain.moment(),
             &mut self.starts,
             &mut self.endpoints,
             actions,
@@ -222,6 +261,7 @@ impl Core {
         StepEnd::On
     }
 
+    /// What waited for the end of the service's work starts.
     fn step_ended(&mut self, s: u32, actions: &mut Actions) -> StepEnd
         requires on { self.old.drain.over ≡ false }
         requires may { EndedMayCome self.old s }
@@ -235,6 +275,7 @@ impl Core {
         pass(
             &self.plan,
             &self.order,
+            self.drain.moment(),
             &mut self.starts,
             &mut self.endpoints,
             actions,
@@ -242,27 +283,127 @@ impl Core {
         StepEnd::On
     }
 
-    fn step_bound(&mut self, s: u32, fd: u64, actions: &mut Actions) -> Result<StepEnd, NoMemory>
+    /// The descriptor is held, or closed again where its address has one.
+    fn step_bound(
+        &mut self,
+        alloc: Global,
+        s: u32,
+        i: u32,
+        fd: u64,
+        actions: &mut Actions,
+    ) -> Result<StepEnd, NoMemory>
         requires on { self.old.drain.over ≡ false }
-        requires may { BoundMayCome self.old s 0 fd }
+        requires may { BoundMayCome self.old s i fd }
         requires room { tell_room self.old ≤ spare actions.old }
         ensures plan { IfOk result (λ _. self.new.plan ≡ self.old.plan) }
         ensures refused { OnErr result (self.new ≡ self.old) }
         ensures untold { OnErr result (list_of actions.new ≡ list_of actions.old) }
-        ensures kept { IfOk result (λ end. StepKeeps self.old self.new (Event.Bound s 0 fd) (list_of actions.old) (list_of actions.new) end) }
+        ensures kept { IfOk result (λ end. StepKeeps self.old self.new (Event.Bound s i fd) (list_of actions.old) (list_of actions.new) end) }
         ensures few { OnOk result (TellsWithin self.old self.new actions.old actions.new) }
         ensures room { KeepsRoom self.old self.new actions.old actions.new }
     {
+        let address = address_of(&self.plan, s, i).copy(alloc)?;
         self.endpoints.reserve()?;
-        self.endpoints.take_bound(&self.plan, s, fd);
+        self.endpoints
+            .take_bound(&self.plan, s, i, fd, address, actions);
         pass(
             &self.plan,
             &self.order,
+            self.drain.moment(),
             &mut self.starts,
             &mut self.endpoints,
             actions,
         );
         Ok(StepEnd::On)
+    }
+
+    /// The endpoint rests, or its service fails.
+    fn step_in_use(&mut self, s: u32, i: u32, actions: &mut Actions) -> StepEnd
+        requires on { self.old.drain.over ≡ false }
+        requires may { BindMayBeAnswered self.old s i }
+        requires room { tell_room self.old ≤ spare actions.old }
+        ensures plan { self.new.plan ≡ self.old.plan }
+        ensures kept { StepKeeps self.old self.new (Event.InUse s i) (list_of actions.old) (list_of actions.new) result }
+        ensures few { TellsWithin self.old self.new actions.old actions.new }
+        ensures room { close_room self.new ≤ spare actions.new }
+    {
+        self.endpoints
+            .take_in_use(&self.plan, s, i, self.drain.moment(), actions);
+        pass(
+            &self.plan,
+            &self.order,
+            self.drain.moment(),
+            &mut self.starts,
+            &mut self.endpoints,
+            actions,
+        );
+        StepEnd::On
+    }
+
+    /// The service fails.
+    fn step_bind_failed(&mut self, s: u32, i: u32, actions: &mut Actions) -> StepEnd
+        requires on { self.old.drain.over ≡ false }
+        requires may { BindMayBeAnswered self.old s i }
+        requires room { tell_room self.old ≤ spare actions.old }
+        ensures plan { self.new.plan ≡ self.old.plan }
+        ensures kept { StepKeeps self.old self.new (Event.BindFailed s i) (list_of actions.old) (list_of actions.new) result }
+        ensures few { TellsWithin self.old self.new actions.old actions.new }
+        ensures room { close_room self.new ≤ spare actions.new }
+    {
+        self.endpoints.take_bind_failed(&self.plan, s, i, actions);
+        pass(
+            &self.plan,
+            &self.order,
+            self.drain.moment(),
+            &mut self.starts,
+            &mut self.endpoints,
+            actions,
+        );
+        StepEnd::On
+    }
+
+    /// The endpoint is held.
+    fn step_adopted(&mut self, s: u32, i: u32, actions: &mut Actions) -> StepEnd
+        requires on { self.old.drain.over ≡ false }
+        requires may { AdoptMayBeAnswered self.old s i }
+        requires room { tell_room self.old ≤ spare actions.old }
+        ensures plan { self.new.plan ≡ self.old.plan }
+        ensures kept { StepKeeps self.old self.new (Event.Adopted s i) (list_of actions.old) (list_of actions.new) result }
+        ensures few { TellsWithin self.old self.new actions.old actions.new }
+        ensures room { close_room self.new ≤ spare actions.new }
+    {
+        self.endpoints.take_adopted(&self.plan, s, i);
+        pass(
+            &self.plan,
+            &self.order,
+            self.drain.moment(),
+            &mut self.starts,
+            &mut self.endpoints,
+            actions,
+        );
+        StepEnd::On
+    }
+
+    /// The service fails.
+    fn step_adopt_failed(&mut self, s: u32, i: u32, actions: &mut Actions) -> StepEnd
+        requires on { self.old.drain.over ≡ false }
+        requires may { AdoptMayBeAnswered self.old s i }
+        requires room { tell_room self.old ≤ spare actions.old }
+        ensures plan { self.new.plan ≡ self.old.plan }
+        ensures kept { StepKeeps self.old self.new (Event.AdoptFailed s i) (list_of actions.old) (list_of actions.new) result }
+        ensures few { TellsWithin self.old self.new actions.old actions.new }
+        ensures room { close_room self.new ≤ spare actions.new }
+    {
+        self.endpoints.take_adopt_failed(&self.plan, s, i, actions);
+        pass(
+            &self.plan,
+            &self.order,
+            self.drain.moment(),
+            &mut self.starts,
+            &mut self.endpoints,
+            actions,
+        );
+        StepEnd::On
     }
 
     fn step_signal(&mut self, kind: ShutdownSignal, actions: &mut Actions) -> StepEnd
@@ -277,7 +418,9 @@ impl Core {
         match kind {
             ShutdownSignal::FastShutdown => {}
         }
-        self.drain.end(self.endpoints.numbers(), actions);
+        self.drain.shut_down(actions);
+        self.endpoints.close_open(actions);
+        self.drain.stop(actions);
         StepEnd::Served
     }
 
@@ -300,7 +443,7 @@ impl Core {
         ensures room { spare actions.old ≤ spare actions.new + length (open_numbers self.now) }
     {
         if !self.drain.is_over() {
-            close_each(self.endpoints.numbers(), actions);
+            self.endpoints.close_open(actions);
         }
     }
 
@@ -318,6 +461,10 @@ impl Core {
             Event::Moment(_) => {}
             Event::Ready(_) => {}
             Event::Ended(_) => {}
+            Event::InUse(..) => {}
+            Event::BindFailed(..) => {}
+            Event::Adopted(..) => {}
+            Event::AdoptFailed(..) => {}
             Event::Signal(_) => {}
         }
     }

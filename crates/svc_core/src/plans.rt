@@ -1,10 +1,11 @@
 //! What the core reads of a plan.
 
-ghost use Rattle.std.specs.Prelude.{◌≡◌, ◌<◌, length};
-ghost use Rattle.svc_record.specs.Plans.{service_count, depends, has_kind, endpoints};
+ghost use Rattle.std.specs.Prelude.{◌≡◌, ◌<◌, length, Some};
+ghost use Rattle.svc_record.specs.Plans.{service_count, depends, has_kind, endpoints, address};
 ghost use Rattle.svc_record.specs.Fits.{may_end};
 ghost use Rattle.svc_graph.specs.declared.plan.Kind.TheVariants.{Plain, Notifying};
 
+use svc_conf::Text;
 use svc_graph::Kind;
 use svc_record::Plan;
 
@@ -51,6 +52,16 @@ pub(crate) fn endpoint_count(plan: &Plan, s: u32) -> usize
         .endpoints
         .as_slice()
         .len()
+}
+
+/// The address of the service's endpoint.
+pub(crate) fn address_of(plan: &Plan, s: u32, i: u32) -> &Text
+    requires service { s < service_count plan.now }
+    requires endpoint { i < length (endpoints plan.now s) }
+    ensures { Some result.now ≡ address plan.now s i }
+{
+    let endpoints = plan.services.as_slice()[s as usize].endpoints.as_slice();
+    &endpoints[i as usize].address
 }
 
 /// The service takes no connections and doesn't bootstrap, so its work may end.

@@ -44,24 +44,26 @@ impl Starts {
         })
     }
 
-    /// The service's word came, or its work is done, or it is started and plain.
-    pub(crate) fn is_ready(&self, plan: &Plan, s: u32) -> bool
+    /// The service's word came, or its work is done, or it has failed, or it is started and plain.
+    pub(crate) fn is_ready(&self, plan: &Plan, failed: &[bool], s: u32) -> bool
         requires service { s < service_count plan.now }
         requires sized { IsStartsSized plan.now self.now }
-        ensures { result ≡ ready_now plan.now self.now s }
+        requires flags { length failed.now ≡ service_count plan.now }
+        ensures { result ≡ ready_now plan.now self.now failed.now s }
     {
-        (self.ready[s as usize] || self.ended[s as usize])
+        ((self.ready[s as usize] || self.ended[s as usize]) || failed[s as usize])
             || (self.started[s as usize] && is_plain(plan, s))
     }
 
-    fn is_due(&self, plan: &Plan, s: u32) -> bool
+    fn is_due(&self, plan: &Plan, failed: &[bool], s: u32) -> bool
         requires service { s < service_count plan.now }
         requires valid { IsValid plan.now }
         requires sized { IsStartsSized plan.now self.now }
-        ensures { result ≡ due_now plan.now self.now s }
+        requires flags { length failed.now ≡ service_count plan.now }
+        ensures { result ≡ due_now plan.now self.now failed.now s }
     {
         for d in depends_of(plan, s) {
-            if !self.is_ready(plan, *d) {
+            if !self.is_ready(plan, failed, *d) {
                 return false;
             }
         }
@@ -115,19 +117,26 @@ impl Starts {
     }
 
     /// Starts the service where it is due and not started yet, and says so.
-    pub(crate) fn visit(&mut self, plan: &Plan, s: u32, actions: &mut Actions) -> bool
+    pub(crate) fn visit(
+        &mut self,
+        plan: &Plan,
+        failed: &[bool],
+        s: u32,
+        actions: &mut Actions,
+    ) -> bool
         requires service { s < service_count plan.now }
         requires valid { IsValid plan.now }
         requires sized { IsStartsSized plan.now self.old }
+        requires flags { length failed.now ≡ service_count plan.now }
         requires room { 0 < spare actions.old }
         ensures sized { IsStartsSized plan.now self.new }
-        ensures due { result ≡ starts_now plan.now self.old s }
+        ensures due { result ≡ starts_now plan.now self.old failed.now s }
         ensures after { self.new ≡ start_if result s self.old }
         ensures told { list_of actions.new ≡ list_of actions.old ++ start_told result s }
         ensures few { length (list_of actions.new) ≤ length (list_of actions.old) + 1 }
         ensures room { spare actions.old ≤ spare actions.new + 1 }
     {
-        if self.started[s as usize] || !self.is_due(plan, s) {
+        if self.started[s as usize] || !self.is_due(plan, failed, s) {
             return false;
         }
         self.started[s as usize] = true;

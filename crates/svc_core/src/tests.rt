@@ -182,6 +182,38 @@ fn is_ready(rt: &impl Abort, core: &Core, s: u32) -> bool {
 }
 
 #[test]
+fn tries_a_busy_port_again_after_a_second(rt: HostRuntime) -> Result<(), Fail> {
+    let alloc = rt.alloc();
+    let mut core = begun(&rt, alloc)?;
+    let told = [Action::Start(1), Action::Bind(1, 0)];
+    step(&rt, alloc, &mut core, Event::Ready(0), &told)?;
+    step(&rt, alloc, &mut core, Event::InUse(1, 0), &[])?;
+    step(&rt, alloc, &mut core, Event::Moment(999), &[])?;
+    assert!(rt; !core.fits(&Event::Bound(1, 0, 7)));
+    let told = [Action::Bind(1, 0)];
+    step(&rt, alloc, &mut core, Event::Moment(1_000), &told)?;
+    step(&rt, alloc, &mut core, Event::Bound(1, 0, 7), &[])?;
+    Ok(())
+}
+
+#[test]
+fn a_failed_bind_fails_its_service(rt: HostRuntime) -> Result<(), Fail> {
+    let alloc = rt.alloc();
+    let mut core = begun(&rt, alloc)?;
+    let told = [Action::Start(1), Action::Bind(1, 0)];
+    step(&rt, alloc, &mut core, Event::Ready(0), &told)?;
+    step(
+        &rt,
+        alloc,
+        &mut core,
+        Event::BindFailed(1, 0),
+        &[Action::Fail(1)],
+    )?;
+    assert!(rt; !core.fits(&Event::BindFailed(1, 0)));
+    Ok(())
+}
+
+#[test]
 fn knows_which_services_are_ready(rt: HostRuntime) -> Result<(), Fail> {
     let alloc = rt.alloc();
     let mut core = begun(&rt, alloc)?;

@@ -48,7 +48,7 @@ pub with_edges : (lines : List ServiceLine) (g h : GraphData) (answers : List Se
 with_edges lines g h answers old edges names = record {
   answers_are = old.answers_are;
   edges = edges;
-  sound = record { names = names ∙ old.sound.names; limits = old.sound.limits; plain = old.sound.plain; apart = old.sound.apart };
+  sound = record { names = names ∙ old.sound.names; limits = old.sound.limits; plain = old.sound.plain };
 }
 
 -- ---- one service after the other

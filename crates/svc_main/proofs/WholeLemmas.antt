@@ -14,7 +14,7 @@ use Rattle.svc_main.specs.Status.{status_of}
 use Rattle.svc_record.specs.declared.plan.Plan.{Plan}
 use Rattle.svc_record.specs.declared.entry.Entry.TheVariants.{Got, Told}
 use Rattle.svc_record.specs.declared.event.Event.{Event}
-use Rattle.svc_record.specs.declared.event.Event.TheVariants.{Moment, Ready, Ended, Bound, Signal}
+use Rattle.svc_record.specs.declared.event.Event.TheVariants.{Moment, Ready, Ended, Bound, InUse, BindFailed, Adopted, AdoptFailed, Signal}
 use Rattle.svc_record.specs.declared.event.ShutdownSignal.{ShutdownSignal}
 use Rattle.svc_record.specs.declared.event.ShutdownSignal.TheVariants.{FastShutdown}
 use Rattle.svc_record.specs.declared.item.Item.{Item}
@@ -65,6 +65,10 @@ signalled (Got (Ready s) ∷ q) front h = absurd (false≢true (ap is_signal_eve
 signalled (Got (Moment ms) ∷ q) front h = absurd (false≢true (ap is_signal_event (last_is (Moment ms) (events_of q) front h)))
 signalled (Got (Ended s) ∷ q) front h = absurd (false≢true (ap is_signal_event (last_is (Ended s) (events_of q) front h)))
 signalled (Got (Bound s i fd) ∷ q) front h = absurd (false≢true (ap is_signal_event (last_is (Bound s i fd) (events_of q) front h)))
+signalled (Got (InUse s i) ∷ q) front h = absurd (false≢true (ap is_signal_event (last_is (InUse s i) (events_of q) front h)))
+signalled (Got (BindFailed s i) ∷ q) front h = absurd (false≢true (ap is_signal_event (last_is (BindFailed s i) (events_of q) front h)))
+signalled (Got (Adopted s i) ∷ q) front h = absurd (false≢true (ap is_signal_event (last_is (Adopted s i) (events_of q) front h)))
+signalled (Got (AdoptFailed s i) ∷ q) front h = absurd (false≢true (ap is_signal_event (last_is (AdoptFailed s i) (events_of q) front h)))
 
 passed_by : (p : Plan) (q : Record) (o : Option ShutdownSignal) → is_some_signal o ≡ true → has_passed_by p q o ≡ true
 passed_by p q (Some FastShutdown) h = refl

@@ -1,22 +1,21 @@
 -- The server that a script's services are in.
 use Rattle.std.specs.Prelude.{◌≡◌, ℕ, List, [], length, map, Some}
-use Rattle.std.specs.Option.{option_to_list}
 use Rattle.svc_graph.specs.GraphData.{GraphData}
 use Rattle.svc_record.specs.declared.plan.ServicePlan.{ServicePlan}
 use Rattle.svc_text.specs.declared.service.ServiceLine.{ServiceLine}
-use Rattle.svc_text.specs.ScriptPlans.{endpoint_of}
+use Rattle.svc_text.specs.ScriptPlans.{endpoint_of, addresses_of}
 use Rattle.svc_text.specs.Dependencies.{edges_up_to}
 use Rattle.svc_text.specs.Edges.{HasEdges}
 use Rattle.svc_server.specs.Servers.{IsSound}
 
--- what a service answers, of its line: it declares its address
+-- what a service answers, of its line: it declares its endpoints' addresses
 abbrev pub answered : ServiceLine → ServicePlan
 answered x = record {
   name = x.name;
   kind = x.kind;
   depends = [];
-  declared = Some (option_to_list x.tcp);
-  endpoints = map endpoint_of (option_to_list x.tcp);
+  declared = Some (addresses_of x);
+  endpoints = map endpoint_of x.endpoints;
 }
 
 -- the services of these lines are in the server, in order, and the graph has the dependencies of the first n

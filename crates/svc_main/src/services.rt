@@ -1,34 +1,34 @@
 //! The services of a script, and the server that they are in.
 
 ghost use Rattle.std.specs.Prelude.{◌≡◌, ℕ, [], length, map, slice_index, Some, None, IfOk, IfErr, OnOk, List};
-ghost use Rattle.std.specs.Option.{option_to_list};
 ghost use Rattle.svc_conf.specs.Configuration.{defaults};
 ghost use Rattle.svc_text.specs.Accepted.{AreAccepted};
 ghost use Rattle.svc_text.specs.Dependencies.{RefusesNone, RefusesAt};
 ghost use Rattle.svc_text.specs.declared.parsing.ScriptError.TheVariants as errors;
 ghost use Rattle.svc_text.specs.ScriptPlans.{endpoint_of};
+ghost use Rattle.svc_text.specs.declared.service.EndpointLine.{EndpointLine};
 ghost use Rattle.svc_server.specs.declared.server.refusals.AddError.TheVariants as refusals;
 ghost use Rattle.svc_server.specs.Servers.{answers_of, IsSound};
 ghost use Rattle.svc_main.specs.Services.{HasLines};
 
 use std::alloc::Global;
-use svc_conf::{NoMemory, ServerConf, Setting, Settings, Text};
+use svc_conf::{Items, NoMemory, ServerConf, Setting, Settings, Text};
 use svc_graph::services::{RunPoll, ServiceReadyNotifier, ServiceWithDependents, StartPoll};
 use svc_graph::{EndpointPlan, Kind};
 use svc_server::{AddError, Server};
-use svc_text::{Script, ScriptError, ServiceLine, add_dependencies};
+use svc_text::{EndpointLine, Script, ScriptError, ServiceLine, add_dependencies};
 
 /// A service of a script. It does nothing by itself: its word and its end are items of the script.
 #[derive(Drop)]
 pub(crate) struct ScriptService {
     name: Text,
     kind: Kind,
-    tcp: Option<Text>,
+    endpoints: Items<EndpointLine>,
 }
 
-/// The endpoint of an address, whose writes aren't held back.
-fn endpoint_of(alloc: Global, address: &Text) -> Result<EndpointPlan, NoMemory>
-    ensures { IfOk result (λ endpoint. endpoint ≡ endpoint_of address.now) }
+/// The endpoint that a line names. Its writes aren't held back.
+fn endpoint_of(alloc: Global, line: &EndpointLine) -> Result<EndpointPlan, NoMemory>
+    ensures { IfOk result (λ endpoint. endpoint ≡ endpoint_of line.now) }
 {
     let mut options = Settings::new(alloc);
     match options.push(alloc, Setting::NoDelay) {
@@ -36,32 +36,62 @@ fn endpoint_of(alloc: Global, address: &Text) -> Result<EndpointPlan, NoMemory>
         Err(_) => return Err(NoMemory),
     }
     Ok(EndpointPlan {
-        address: address.copy(alloc)?,
-        unix: false,
+        address: line.address.copy(alloc)?,
+        unix: line.unix,
         options,
         filter: None,
     })
 }
 
-/// The address once more, where there is one.
-fn copy_of(alloc: Global, address: &Option<Text>) -> Result<Option<Text>, NoMemory>
-    ensures { IfOk result (λ copy. copy ≡ address.now) }
+/// The endpoints that the lines name, in order.
+fn endpoints_of(alloc: Global, lines: &[EndpointLine]) -> Result<Vec<EndpointPlan>, NoMemory>
+    ensures { IfOk result (λ endpoints. endpoints.items ≡ map endpoint_of lines.now) }
 {
-    match address {
-        Some(address) => Ok(Some(address.copy(alloc)?)),
-        None => Ok(None),
+    let mut endpoints = Vec::new(alloc);
+    for line in lines {
+        endpoints.push(endpoint_of(alloc, line)?)?;
     }
+    Ok(endpoints)
+}
+
+/// Their addresses, in order.
+fn addresses_of(alloc: Global, lines: &[EndpointLine]) -> Result<Vec<Text>, NoMemory>
+    ensures { IfOk result (λ addresses. addresses.items ≡ map (λ (e : EndpointLine). e.address) lines.now) }
+{
+    let mut addresses = Vec::new(alloc);
+    for line in lines {
+        addresses.push(line.address.copy(alloc)?)?;
+    }
+    Ok(addresses)
+}
+
+/// The lines once more.
+fn copy_of(alloc: Global, lines: &[EndpointLine]) -> Result<Items<EndpointLine>, NoMemory>
+    ensures { IfOk result (λ copy. copy ≡ lines.now) }
+{
+    let mut copy = Items::new(alloc);
+    for line in lines {
+        let endpoint = EndpointLine {
+            address: line.address.copy(alloc)?,
+            unix: line.unix,
+        };
+        match copy.push(alloc, endpoint) {
+            Ok(()) => {}
+            Err(_) => return Err(NoMemory),
+        }
+    }
+    Ok(copy)
 }
 
 impl ScriptService {
     /// The service that a line says.
     fn new(alloc: Global, line: &ServiceLine) -> Result<Self, NoMemory>
-        ensures { IfOk result (λ service. service ≡ record { name = line.now.name; kind = line.now.kind; tcp = line.now.tcp }) }
+        ensures { IfOk result (λ service. service ≡ record { name = line.now.name; kind = line.now.kind; endpoints = line.now.endpoints }) }
     {
         Ok(ScriptService {
             name: line.name.copy(alloc)?,
             kind: line.kind,
-            tcp: copy_of(alloc, &line.tcp)?,
+            endpoints: copy_of(alloc, line.endpoints.as_slice())?,
         })
     }
 }
@@ -71,9 +101,9 @@ impl ServiceWithDependents for ScriptService {
 
     ghost of_kind = { λ s. s.kind };
 
-    ghost declares = { λ s. Some (option_to_list s.tcp) };
+    ghost declares = { λ s. Some (map (λ (e : EndpointLine). e.address) s.endpoints) };
 
-    ghost configures = { λ s. map endpoint_of (option_to_list s.tcp) };
+    ghost configures = { λ s. map endpoint_of s.endpoints };
 
     fn poll_start(
         &mut self,
@@ -103,10 +133,7 @@ impl ServiceWithDependents for ScriptService {
     }
 
     fn listen_addresses(&self, alloc: Global) -> Result<Option<Vec<Text>>, NoMemory> {
-        let mut addresses = Vec::new(alloc);
-        if let Some(address) = &self.tcp {
-            addresses.push(address.copy(alloc)?)?;
-        }
+        let addresses = addresses_of(alloc, self.endpoints.as_slice())?;
         Ok(Some(addresses))
     }
 
@@ -115,11 +142,7 @@ impl ServiceWithDependents for ScriptService {
     }
 
     fn listener_configs(&self, alloc: Global) -> Result<Vec<EndpointPlan>, NoMemory> {
-        let mut endpoints = Vec::new(alloc);
-        if let Some(address) = &self.tcp {
-            endpoints.push(endpoint_of(alloc, address)?)?;
-        }
-        Ok(endpoints)
+        endpoints_of(alloc, self.endpoints.as_slice())
     }
 }
 

@@ -134,7 +134,7 @@ in_new : (q : Record) (also : Option Event) (fd : ℕ) → is_in fd (new_numbers
 in_new q also fd = ap (is_in fd) (new-numbers q also)
     ∙ (is_in-each_once fd (filter (λ n. not (has (brings n) q)) (event_numbers also)) ∙ is_in-filter fd (λ n. not (has (brings n) q)) (event_numbers also))
 
-in_live : (p : Plan) (q : Record) (fd : ℕ) → is_in fd (ascending (live_numbers p q)) ≡ (not (has (is_close fd) q) && is_in fd (numbers_in q))
+pub in_live : (p : Plan) (q : Record) (fd : ℕ) → is_in fd (ascending (live_numbers p q)) ≡ (not (has (is_close fd) q) && is_in fd (numbers_in q))
 in_live p q fd = is_in-same fd (ascending (live_numbers p q)) (live_numbers p q) (tally-ascending fd (live_numbers p q))
     ∙ (ap (is_in fd) (live-numbers p q) ∙ is_in-filter fd (λ n. not (has (is_close n) q)) (numbers_in q))
 
@@ -142,7 +142,7 @@ tally_new : (q : Record) (also : Option Event) (fd : ℕ) → tally fd (new_numb
 tally_new q also fd = ap (tally fd) (new-numbers q also) ∙ (tally-each_once fd (filter (λ n. not (has (brings n) q)) (event_numbers also))
     ∙ (ap one_if (is_in-filter fd (λ n. not (has (brings n) q)) (event_numbers also)) ∙ ap (λ b. one_if (not b && is_in fd (event_numbers also))) (brings-in q fd)))
 
-tally_live : (p : Plan) (q : Record) (fd : ℕ) → EachEntry (λ e before. event_fits p e before ≡ true) q → tally fd (ascending (live_numbers p q)) ≡ if_kept (not (has (is_close fd) q)) (one_if (is_in fd (numbers_in q)))
+pub tally_live : (p : Plan) (q : Record) (fd : ℕ) → EachEntry (λ e before. event_fits p e before ≡ true) q → tally fd (ascending (live_numbers p q)) ≡ if_kept (not (has (is_close fd) q)) (one_if (is_in fd (numbers_in q)))
 tally_live p q fd fit = tally-ascending fd (live_numbers p q) ∙ (ap (tally fd) (live-numbers p q)
     ∙ (tally-filter fd (λ n. not (has (is_close n) q)) (numbers_in q) ∙ ap (if_kept (not (has (is_close fd) q))) (came_once p q fd fit)))
 

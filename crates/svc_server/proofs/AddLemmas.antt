@@ -16,28 +16,12 @@ use Rattle.svc_graph.specs.declared.plan.Kind.TheVariants.{Bootstrap}
 use Rattle.svc_record.specs.declared.plan.ServicePlan.{ServicePlan}
 use Rattle.svc_record.specs.Plans.{is_kind}
 use Rattle.svc_record.specs.Validity.{IsAddress}
-use Rattle.svc_record.specs.Building.{IsPlainService, clashes, share_address, are_apart}
+use Rattle.svc_record.specs.Building.{IsPlainService}
 use Rattle.svc_server.specs.declared.server.refusals.AddError.{AddError}
 use Rattle.svc_server.specs.declared.server.refusals.AddError.TheVariants.{TooMany, TooManyEndpoints, BadAddressText, UnknownFilter, Unbuilt}
 use Rattle.svc_graph.specs.declared.services.ServiceWithDependents.{Ghosts}
 use Rattle.svc_server.specs.Servers.{answer_of, answers_of, IsSound}
-use Rattle.svc_server.specs.Additions.{is_bad_address, has_filter, is_unix, is_taken, is_unbuilt, cause_if, first_cause, endpoint_causes, fault_of, IsReason, with_nodes, handles_from, AddsFirst, RefusesAt}
-
--- ---- an address that another service has
-
--- a service with a shared address among them
-pub taken-at : {B : Type 0} (answer : B → ServicePlan) (bs : List B) (k : ℕ) (b : B) (endpoints : List EndpointPlan) → k < length bs → b ≡ get_or bs k b → share_address endpoints (answer b).endpoints ≡ true → is_taken (map answer bs) endpoints ≡ true
-taken-at answer bs k b endpoints lt read shares =
-    list_any_at (λ (s : ServicePlan). share_address endpoints s.endpoints) (map answer bs) k (answer b) (omega (arith, length-map bs answer))
-    (subst (λ (s : ServicePlan). share_address endpoints s.endpoints ≡ true) (ap answer read ∙ sym (get_or-map answer bs k b (answer b) lt)) shares)
-
--- one service more, which shares none
-pub taken-more : {B : Type 0} (answer : B → ServicePlan) (bs : List B) (k : ℕ) (b : B) (endpoints : List EndpointPlan) → k < length bs → b ≡ get_or bs k b → share_address endpoints (answer b).endpoints ≡ false
-    → is_taken (map answer (take k bs)) endpoints ≡ false → is_taken (map answer (take (k + 1) bs)) endpoints ≡ false
-taken-more answer bs k b endpoints lt read apart before =
-    ap (λ (xs : List ServicePlan). is_taken xs endpoints) (map_more answer bs k b lt)
-    ∙ list_any-append (λ (s : ServicePlan). share_address endpoints s.endpoints) (map answer (take k bs)) (answer (get_or bs k b) ∷ [])
-    ∙ or_from _ _ before (or_from _ _ (subst (λ x. share_address endpoints (answer x).endpoints ≡ false) read apart) refl)
+use Rattle.svc_server.specs.Additions.{is_bad_address, has_filter, cause_if, first_cause, endpoint_causes, fault_of, IsReason, with_nodes, handles_from, AddsFirst, RefusesAt}
 
 -- ---- causes
 
@@ -82,61 +66,35 @@ no_position p xs e = none p xs (past (position_or_len p xs) (length xs) e)
 
 -- ---- a server with one service more
 
--- one service more, which shares no address
-apart-push : (xs : List ServicePlan) (x : ServicePlan) → are_apart xs ≡ true → is_taken xs x.endpoints ≡ false → are_apart (xs ++ x ∷ []) ≡ true
-apart-push [] x apart free = refl
-apart-push (y ∷ ys) x apart free =
-    let both = and_parts (not (clashes y.endpoints ys)) (are_apart ys) apart in
-    let parts = or_parts (share_address x.endpoints y.endpoints) (is_taken ys x.endpoints) free in
-    and_from (not (clashes y.endpoints (ys ++ x ∷ []))) (are_apart (ys ++ x ∷ []))
-    (not_from_false (clashes y.endpoints (ys ++ x ∷ []))
-    (list_any-append (λ (s : ServicePlan). share_address s.endpoints y.endpoints) ys (x ∷ [])
-    ∙ or_from _ _ (clash_free (clashes y.endpoints ys) both.0) (or_from _ _ parts.0 refl)))
-    (apart-push ys x both.1 parts.1)
-  where
-    clash_free : (b : Bool) → not b ≡ true → b ≡ false
-    clash_free true e = absurd (cc)
-    clash_free false e = refl
-
 -- where no cause stands
-record NoCause (full many : Bool) (bad filtered : Option ℕ) (boots two unix taken : Bool) : Type 0 where
+record NoCause (full many : Bool) (bad filtered : Option ℕ) (boots : Bool) : Type 0 where
   room : full ≡ false
   few : many ≡ false
   addresses : bad ≡ None
   filters : filtered ≡ None
   boots_not : boots ≡ false
-  single : two ≡ false
-  tcp : unix ≡ false
-  free : taken ≡ false
 
-no_causes : (full many : Bool) (bad filtered : Option ℕ) (boots two unix taken : Bool)
-    → first_cause (cause_if full TooMany ∷ cause_if many TooManyEndpoints ∷ option_map BadAddressText bad ∷ option_map UnknownFilter filtered ∷ cause_if ((boots || (two || unix)) || taken) Unbuilt ∷ []) ≡ None
-    → NoCause full many bad filtered boots two unix taken
-no_causes full many bad filtered boots two unix taken none =
-    let a = or_none_parts (cause_if full TooMany) (first_cause (cause_if many TooManyEndpoints ∷ option_map BadAddressText bad ∷ option_map UnknownFilter filtered ∷ cause_if ((boots || (two || unix)) || taken) Unbuilt ∷ [])) none in
-    let b = or_none_parts (cause_if many TooManyEndpoints) (first_cause (option_map BadAddressText bad ∷ option_map UnknownFilter filtered ∷ cause_if ((boots || (two || unix)) || taken) Unbuilt ∷ [])) a.1 in
-    let c = or_none_parts (option_map BadAddressText bad) (first_cause (option_map UnknownFilter filtered ∷ cause_if ((boots || (two || unix)) || taken) Unbuilt ∷ [])) b.1 in
-    let d = or_none_parts (option_map UnknownFilter filtered) (first_cause (cause_if ((boots || (two || unix)) || taken) Unbuilt ∷ [])) c.1 in
-    let e = or_none_parts (cause_if ((boots || (two || unix)) || taken) Unbuilt) None d.1 in
-    let built = or_parts (boots || (two || unix)) taken (no_cause ((boots || (two || unix)) || taken) Unbuilt e.0) in
-    let form = or_parts boots (two || unix) built.0 in
-    let rest = or_parts two unix form.1 in
+no_causes : (full many : Bool) (bad filtered : Option ℕ) (boots : Bool)
+    → first_cause (cause_if full TooMany ∷ cause_if many TooManyEndpoints ∷ option_map BadAddressText bad ∷ option_map UnknownFilter filtered ∷ cause_if boots Unbuilt ∷ []) ≡ None
+    → NoCause full many bad filtered boots
+no_causes full many bad filtered boots none =
+    let a = or_none_parts (cause_if full TooMany) (first_cause (cause_if many TooManyEndpoints ∷ option_map BadAddressText bad ∷ option_map UnknownFilter filtered ∷ cause_if boots Unbuilt ∷ [])) none in
+    let b = or_none_parts (cause_if many TooManyEndpoints) (first_cause (option_map BadAddressText bad ∷ option_map UnknownFilter filtered ∷ cause_if boots Unbuilt ∷ [])) a.1 in
+    let c = or_none_parts (option_map BadAddressText bad) (first_cause (option_map UnknownFilter filtered ∷ cause_if boots Unbuilt ∷ [])) b.1 in
+    let d = or_none_parts (option_map UnknownFilter filtered) (first_cause (cause_if boots Unbuilt ∷ [])) c.1 in
+    let e = or_none_parts (cause_if boots Unbuilt) None d.1 in
     record {
       room = no_cause full TooMany a.0;
       few = no_cause many TooManyEndpoints b.0;
       addresses = unmapped BadAddressText bad c.0;
       filters = unmapped UnknownFilter filtered d.0;
-      boots_not = form.0;
-      single = rest.0;
-      tcp = rest.1;
-      free = built.1;
+      boots_not = no_cause boots Unbuilt e.0;
     }
 
 -- what is known of a service that can be added
-record IsGood (answers : List ServicePlan) (s : ServicePlan) : Type 0 where
+record IsGood (s : ServicePlan) : Type 0 where
   limits : (length s.endpoints ≤ 64) × All IsAddress s.endpoints
   plain : IsPlainService s
-  free : is_taken answers s.endpoints ≡ false
 
 good-address : (e : EndpointPlan) → is_bad_address e ≡ false → IsAddress e
 good-address e good =
@@ -145,60 +103,49 @@ good-address e good =
     let few : length e.address ≤ 4096 = ltb-false 4096 (length e.address) parts.1 in
     (omega arith, few)
 
--- where no element passes a test, none at an index does
-none_passes : {X : Type 0} (p : X → Bool) (xs : List X) → list_any p xs ≡ false → All (λ x. p x ≡ false) xs
-none_passes p xs none k d lt = false_from_ne_true (p (get_or xs k d)) (λ yes. (let some = list_any_at p xs k d lt yes in cc))
-
-good : (g : GraphData) (answers : List ServicePlan) (s : ServicePlan) → fault_of g answers s ≡ None → IsGood answers s
-good g answers s none =
+good : (g : GraphData) (s : ServicePlan) → fault_of g s ≡ None → IsGood s
+good g s none =
     let said = no_causes (nat_le 1024 (node_count g)) (nat_lt 64 (length s.endpoints)) (position is_bad_address s.endpoints) (position has_filter s.endpoints)
-    (is_kind Bootstrap s.kind) (nat_lt 1 (length s.endpoints)) (list_any is_unix s.endpoints) (is_taken answers s.endpoints) none in
+    (is_kind Bootstrap s.kind) none in
     let filters = no_position has_filter s.endpoints said.filters in
-    let tcp = none_passes is_unix s.endpoints said.tcp in
     record {
       limits = (
         ltb-false 64 (length s.endpoints) said.few,
         λ k d lt. good-address (get_or s.endpoints k d) (no_position is_bad_address s.endpoints said.addresses k d lt),
       );
-      plain = record {
-        boots_not = said.boots_not;
-        single = ltb-false 1 (length s.endpoints) said.single;
-        plain = λ k d lt. record { tcp = tcp k d lt; unfiltered = not_some (get_or s.endpoints k d).filter (filters k d lt) };
-      };
-      free = said.free;
+      plain = record { boots_not = said.boots_not; unfiltered = λ k d lt. not_some (get_or s.endpoints k d).filter (filters k d lt) };
     }
 
 -- a sound server stays so with a service that can be added
-pub sound-push : (g : GraphData) (answers : List ServicePlan) (s : ServicePlan) → fault_of g answers s ≡ None → IsSound g answers → IsSound (with_node g s.name) (answers ++ s ∷ [])
+pub sound-push : (g : GraphData) (answers : List ServicePlan) (s : ServicePlan) → fault_of g s ≡ None → IsSound g answers → IsSound (with_node g s.name) (answers ++ s ∷ [])
 sound-push g answers s none sound =
-    let known = good g answers s none in
+    let known = good g s none in
     record {
       names = ap (λ (names : List (List ℕ)). names ++ s.name ∷ []) sound.names ∙ sym (map_push (λ (x : ServicePlan). x.name) answers s);
       limits = All-push (λ (x : ServicePlan). (length x.endpoints ≤ 64) × All IsAddress x.endpoints) answers s sound.limits known.limits;
       plain = All-push IsPlainService answers s sound.plain known.plain;
-      apart = apart-push answers s sound.apart known.free;
     }
 
 -- ---- the first cause, step by step
 
-pub fault-full : (g : GraphData) (answers : List ServicePlan) (s : ServicePlan) → 1024 ≤ node_count g → fault_of g answers s ≡ Some TooMany
-fault-full g answers s full = rw (le-leb 1024 (node_count g) full) refl
+pub fault-full : (g : GraphData) (s : ServicePlan) → 1024 ≤ node_count g → fault_of g s ≡ Some TooMany
+fault-full g s full = rw (le-leb 1024 (node_count g) full) refl
 
 -- where there is room, the other causes decide
-pub fault-room : (g : GraphData) (answers : List ServicePlan) (s : ServicePlan) → node_count g < 1024 → fault_of g answers s ≡ option_or (first_cause (endpoint_causes s.endpoints)) (cause_if (is_unbuilt answers s.kind s.endpoints) Unbuilt)
-fault-room g answers s room =
+pub fault-room : (g : GraphData) (s : ServicePlan) → node_count g < 1024 → fault_of g s ≡ option_or (first_cause (endpoint_causes s.endpoints)) (cause_if (is_kind Bootstrap s.kind) Unbuilt)
+fault-room g s room =
     let free : nat_le 1024 (node_count g) ≡ false = lt-leb 1024 (node_count g) room in
-    rw free (first_cause-append (endpoint_causes s.endpoints) (cause_if (is_unbuilt answers s.kind s.endpoints) Unbuilt ∷ [])
-    ∙ ap (λ (c : Option AddError). option_or (first_cause (endpoint_causes s.endpoints)) c) (option_or_none (cause_if (is_unbuilt answers s.kind s.endpoints) Unbuilt)))
+    rw free (first_cause-append (endpoint_causes s.endpoints) (cause_if (is_kind Bootstrap s.kind) Unbuilt ∷ [])
+    ∙ ap (λ (c : Option AddError). option_or (first_cause (endpoint_causes s.endpoints)) c) (option_or_none (cause_if (is_kind Bootstrap s.kind) Unbuilt)))
 
-pub fault-none : (g : GraphData) (answers : List ServicePlan) (s : ServicePlan) → node_count g < 1024 → first_cause (endpoint_causes s.endpoints) ≡ None → is_unbuilt answers s.kind s.endpoints ≡ false → fault_of g answers s ≡ None
-fault-none g answers s room fine built =
-    fault-room g answers s room
-    ∙ ap (λ (c : Option AddError). option_or c (cause_if (is_unbuilt answers s.kind s.endpoints) Unbuilt)) fine
+pub fault-none : (g : GraphData) (s : ServicePlan) → node_count g < 1024 → first_cause (endpoint_causes s.endpoints) ≡ None → is_kind Bootstrap s.kind ≡ false → fault_of g s ≡ None
+fault-none g s room fine built =
+    fault-room g s room
+    ∙ ap (λ (c : Option AddError). option_or c (cause_if (is_kind Bootstrap s.kind) Unbuilt)) fine
     ∙ ap (λ (b : Bool). cause_if b Unbuilt) built
 
 -- the server after a service was added
-pub add-sound : {B : Type 0} (means : Ghosts B) (g h : GraphData) (old new : List B) (b : B) → h ≡ with_node g (means.named b) → new ≡ old ++ b ∷ [] → fault_of g (answers_of means old) (answer_of means b) ≡ None
+pub add-sound : {B : Type 0} (means : Ghosts B) (g h : GraphData) (old new : List B) (b : B) → h ≡ with_node g (means.named b) → new ≡ old ++ b ∷ [] → fault_of g (answer_of means b) ≡ None
     → IsSound g (answers_of means old) → IsSound h (answers_of means new)
 add-sound means g h old new b node added none sound =
     subst (λ (k : GraphData). IsSound k (answers_of means new)) (sym node)
@@ -246,7 +193,7 @@ popped {B = B} more left now n b reversed taken =
 -- one service more is added
 pub adds-more : {B : Type 0} (means : Ghosts B) (old g h : GraphData) (there services now more : List B) (n m : ℕ) (b : B) (handles : List HandleData) (handle : HandleData)
     → AddsFirst means old g there services more n handles → n < length more → slice_get more n ≡ Some b → now ≡ services ++ b ∷ [] → h ≡ with_node g (means.named b)
-    → fault_of g (answers_of means services) (answer_of means b) ≡ None → handle ≡ record { id = node_count g; name = means.named b } → m ≡ n + 1 → AddsFirst means old h there now more m (handles ++ handle ∷ [])
+    → fault_of g (answer_of means b) ≡ None → handle ≡ record { id = node_count g; name = means.named b } → m ≡ n + 1 → AddsFirst means old h there now more m (handles ++ handle ∷ [])
 adds-more {B = B} means old g h there services now more n m b handles handle adds lt at pushed node none is step =
     let next : take m more ≡ take n more ++ b ∷ [] =
     ap (λ (k : ℕ). take k more) step ∙ take_more more n b lt ∙ ap (λ (x : B). take n more ++ x ∷ []) (get_or_from_slice_get more n b b at) in
@@ -267,21 +214,20 @@ adds-more {B = B} means old g h there services now more n m b handles handle add
             | inr late ↦ (
                 let same : k ≡ n = omega arith in
                 let this : c ≡ b = same_Some c b (sym here ∙ ap (λ (i : ℕ). slice_get more i) same ∙ at) in
-                ap (λ (i : ℕ). fault_of (with_nodes old (map means.named (take i more))) (answers_of means (there ++ take i more)) (answer_of means c)) same
-                ∙ ap (λ (x : B). fault_of (with_nodes old (map means.named (take n more))) (answers_of means (there ++ take n more)) (answer_of means x)) this
-                ∙ ap (λ (k' : GraphData). fault_of k' (answers_of means (there ++ take n more)) (answer_of means b)) (sym adds.nodes)
-                ∙ ap (λ (xs : List B). fault_of g (answers_of means xs) (answer_of means b)) (sym adds.added)
+                ap (λ (i : ℕ). fault_of (with_nodes old (map means.named (take i more))) (answer_of means c)) same
+                ∙ ap (λ (x : B). fault_of (with_nodes old (map means.named (take n more))) (answer_of means x)) this
+                ∙ ap (λ (k' : GraphData). fault_of k' (answer_of means b)) (sym adds.nodes)
                 ∙ none)
           ];
     }
 
 -- the reason for which the next service isn't added
-pub refuses-at : {B : Type 0} (means : Ghosts B) (g h : GraphData) (services now more : List B) (n index : ℕ) (b : B) (reason : AddError) → slice_get more n ≡ Some b → index ≡ n → h ≡ g → now ≡ services
-    → IsReason (fault_of g (answers_of means services) (answer_of means b)) reason → RefusesAt means h now more index reason
-refuses-at means g h services now more n index b reason at same nodes kept (inl wanted) = inl wanted
-refuses-at {B = B} means g h services now more n index b reason at same nodes kept (inr stands) =
+pub refuses-at : {B : Type 0} (means : Ghosts B) (g h : GraphData) (more : List B) (n index : ℕ) (b : B) (reason : AddError) → slice_get more n ≡ Some b → index ≡ n → h ≡ g
+    → IsReason (fault_of g (answer_of means b)) reason → RefusesAt means h more index reason
+refuses-at means g h more n index b reason at same nodes (inl wanted) = inl wanted
+refuses-at {B = B} means g h more n index b reason at same nodes (inr stands) =
     inr (
       b,
       ap (λ (i : ℕ). slice_get more i) same ∙ at,
-      ap (λ (k : GraphData). fault_of k (answers_of means now) (answer_of means b)) nodes ∙ ap (λ (xs : List B). fault_of g (answers_of means xs) (answer_of means b)) kept ∙ stands,
+      ap (λ (k : GraphData). fault_of k (answer_of means b)) nodes ∙ stands,
     )

@@ -8,7 +8,7 @@ use Rattle.svc_record.specs.declared.plan.Plan.{Plan}
 use Rattle.svc_record.specs.declared.plan.ServicePlan.{ServicePlan}
 use Rattle.svc_record.specs.declared.entry.Entry.TheVariants.{Got, Told}
 use Rattle.svc_record.specs.declared.action.Action.{Action}
-use Rattle.svc_record.specs.declared.action.Action.TheVariants.{Start, Bind, Close, Phase, Stop}
+use Rattle.svc_record.specs.declared.action.Action.TheVariants.{Start}
 use Rattle.svc_record.specs.Plans.{service_count}
 use Rattle.svc_record.specs.Record.{Record, tell}
 use Rattle.svc_record.specs.Starts.{is_started}
@@ -34,10 +34,7 @@ left-at names (Got x ∷ before) s e = left-at names before s e
 left-at names (Told (Start t) ∷ before) s e =
     let both = neither (t == s) (is_started before s) e in
     slice_get-set_other (left_of names before) t s None (λ same. false≢true (sym both.0 ∙ eq-eqb t s (sym same))) ∙ left-at names before s both.1
-left-at names (Told (Bind t i) ∷ before) s e = left-at names before s e
-left-at names (Told (Close fd) ∷ before) s e = left-at names before s e
-left-at names (Told (Phase x ms) ∷ before) s e = left-at names before s e
-left-at names (Told (Stop n) ∷ before) s e = left-at names before s e
+left-at names (Told a ∷ before) s e = left-at names before s e
 
 name-at : (p : Plan) (s : ℕ) → s < service_count p → slice_get (map Some (names_of p)) s ≡ Some (Some (name_at p s))
 name-at p s lt =
@@ -59,10 +56,7 @@ services-handed : (p : Plan) (q : Record) → map (λ (h : Handed). h.service) (
 services-handed p [] = refl
 services-handed p (Got e ∷ before) = services-handed p before
 services-handed p (Told (Start s) ∷ before) = ap (λ xs. s ∷ xs) (services-handed p before)
-services-handed p (Told (Bind s i) ∷ before) = services-handed p before
-services-handed p (Told (Close fd) ∷ before) = services-handed p before
-services-handed p (Told (Phase x ms) ∷ before) = services-handed p before
-services-handed p (Told (Stop n) ∷ before) = services-handed p before
+services-handed p (Told a ∷ before) = services-handed p before
 
 -- the start of a service that was handed over may be told
 pub may-start : (account : Option Account) (p : Plan) (q : Record) (s : ℕ) (name : List ℕ) → IfSome account (λ a. a ≡ account_of p q)

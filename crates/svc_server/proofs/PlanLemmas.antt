@@ -17,7 +17,7 @@ use Rattle.svc_record.specs.declared.plan.Plan.{Plan}
 use Rattle.svc_record.specs.declared.plan.ServicePlan.{ServicePlan}
 use Rattle.svc_record.specs.Plans.{service_count, depends}
 use Rattle.svc_record.specs.Validity.{IsAddress, IsValid, IsBuilt, depends_on}
-use Rattle.svc_record.specs.Building.{DependsWell, IsPlainService, clashes, share_address, are_apart}
+use Rattle.svc_record.specs.Building.{DependsWell, IsPlainService}
 use Rattle.svc_record.proofs.ValidLemmas.{valid-plan}
 use Rattle.svc_record.proofs.BuiltLemmas.{built-from_tests}
 use Rattle.svc_conf.specs.declared.server.configuration.ServerConf.{ServerConf}
@@ -149,16 +149,6 @@ All-with_depends P kept g s [] all k d lt = absurd (omega arith)
 All-with_depends P kept g s (x ∷ xs) all zero d lt = kept x (depends_of g s) (all zero d (omega arith))
 All-with_depends P kept g s (x ∷ xs) all (suc k) d lt = All-with_depends P kept g (s + 1) xs (λ j e l. all (suc j) e (omega arith)) k d (omega arith)
 
-clashes-with_depends : (es : List EndpointPlan) (g : GraphData) (s : ℕ) (xs : List ServicePlan) → clashes es (with_depends g s xs) ≡ clashes es xs
-clashes-with_depends es g s [] = refl
-clashes-with_depends es g s (x ∷ xs) = ap (λ b. share_address x.endpoints es || b) (clashes-with_depends es g (s + 1) xs)
-
-are_apart-with_depends : (g : GraphData) (s : ℕ) (xs : List ServicePlan) → are_apart (with_depends g s xs) ≡ are_apart xs
-are_apart-with_depends g s [] = refl
-are_apart-with_depends g s (x ∷ xs) =
-    ap (λ b. not b && are_apart (with_depends g (s + 1) xs)) (clashes-with_depends x.endpoints g (s + 1) xs)
-    ∙ ap (λ b. not (clashes x.endpoints xs) && b) (are_apart-with_depends g (s + 1) xs)
-
 pub names-with_depends : (g : GraphData) (s : ℕ) (xs : List ServicePlan) → map (λ (x : ServicePlan). x.name) (with_depends g s xs) ≡ map (λ (x : ServicePlan). x.name) xs
 names-with_depends g s [] = refl
 names-with_depends g s (x ∷ xs) = ap (λ names. x.name ∷ names) (names-with_depends g (s + 1) xs)
@@ -220,8 +210,7 @@ module _ (conf : ServerConf) (options : Option Opt) (g : GraphData) (answers : L
 
   pub whole-built : conf.daemon ≡ false → IsBuilt whole
   whole-built no_daemon = built-from_tests whole refl no_daemon
-      (All-with_depends IsPlainService (λ x ds h. record { boots_not = h.boots_not; single = h.single; plain = h.plain }) g 0 answers sound.plain)
-      (are_apart-with_depends g 0 answers ∙ sound.apart)
+      (All-with_depends IsPlainService (λ x ds h. record { boots_not = h.boots_not; unfiltered = h.unfiltered }) g 0 answers sound.plain)
 
 -- there are as many services as nodes
 pub count-sound : {B : Type 0} (means : Ghosts B) (services : List B) (g : GraphData) → IsSound g (answers_of means services) → length services ≡ node_count g

@@ -6,7 +6,7 @@ use Rattle.svc_record.specs.declared.event.Event.{Event}
 use Rattle.svc_record.specs.declared.entry.Entry.{Entry}
 use Rattle.svc_record.specs.declared.entry.Entry.TheVariants.{Got, Told}
 use Rattle.svc_record.specs.declared.action.Action.{Action}
-use Rattle.svc_record.specs.declared.action.Action.TheVariants.{Start, Bind, Close, Phase, Stop}
+use Rattle.svc_record.specs.declared.action.Action.TheVariants.{Start}
 use Rattle.svc_record.specs.declared.action.StepEnd.{StepEnd}
 use Rattle.svc_record.specs.Plans.{service_count}
 use Rattle.svc_record.specs.Record.{Record, tell, EachEntry}
@@ -26,10 +26,7 @@ each-front P q (a ∷ more) h = (each-front P (Told a ∷ q) more h).1
 
 due-one : (p : Plan) (q : Record) (a : Action) → start_due p (Told a) q ≡ true → start_known p (Told a) q ≡ true → DueStart p q a
 due-one p q (Start s) due known = (ltb-true s (service_count p) known, not-true (is_started q s) (both (not (is_started q s)) (is_due p q s) due).0)
-due-one p q (Bind s i) due known = tt
-due-one p q (Close fd) due known = tt
-due-one p q (Phase x ms) due known = tt
-due-one p q (Stop n) due known = tt
+due-one p q _ due known = tt
 
 due-told : (p : Plan) (q : Record) (told : List Action) → EachEntry (λ e before. start_due p e before ≡ true) (tell q told) → EachEntry (λ e before. start_known p e before ≡ true) (tell q told) → DueStarts p q told
 due-told p q [] due known = tt

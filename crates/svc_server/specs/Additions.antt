@@ -1,18 +1,15 @@
 -- Why a service can't be added to a server.
 use Rattle.std.specs.Prelude.{ℕ, Bool, true, false, ◌≡◌, ◌==◌, ◌||◌, ◌⊎◌, ◌+◌, ◌<◌, ◌≤◌, nat_lt, nat_le, List, [], ◌∷◌, ◌++◌, length, map, take, slice_get, position, Option, Some, None, is_some}
-use Rattle.std.specs.List.{list_any}
 use Rattle.std.specs.Option.{option_map, option_or}
 use Rattle.svc_graph.specs.GraphData.{GraphData}
 use Rattle.svc_graph.specs.Graphs.{node_count, with_node}
 use Rattle.svc_graph.specs.HandleData.{HandleData}
 use Rattle.svc_graph.specs.declared.services.ServiceWithDependents.{Ghosts}
 use Rattle.svc_graph.specs.declared.plan.EndpointPlan.{EndpointPlan}
-use Rattle.svc_graph.specs.declared.plan.Kind.{Kind}
 use Rattle.svc_graph.specs.declared.plan.Kind.TheVariants.{Bootstrap}
 use Rattle.svc_record.specs.declared.plan.ServicePlan.{ServicePlan}
 use Rattle.svc_record.specs.Plans.{is_kind}
-use Rattle.svc_record.specs.Building.{share_address}
-use Rattle.svc_server.specs.Servers.{answer_of, answers_of}
+use Rattle.svc_server.specs.Servers.{answer_of}
 use Rattle.svc_server.specs.declared.server.refusals.AddError.{AddError}
 use Rattle.svc_server.specs.declared.server.refusals.AddError.TheVariants.{TooMany, TooManyEndpoints, BadAddressText, UnknownFilter, Unbuilt, NoMemory}
 
@@ -23,22 +20,6 @@ is_bad_address e = (length e.address == 0) || nat_lt 4096 (length e.address)
 -- the endpoint names a filter
 abbrev pub has_filter : EndpointPlan → Bool
 has_filter e = is_some e.filter
-
--- the endpoint is bound in the Unix domain
-abbrev pub is_unix : EndpointPlan → Bool
-is_unix e = e.unix
-
--- one of the services has an address of one of the endpoints
-abbrev pub is_taken : List ServicePlan → List EndpointPlan → Bool
-is_taken services endpoints = list_any (λ s. share_address endpoints s.endpoints) services
-
--- such a service has a form that isn't built yet, whatever the others are: it bootstraps, or has more than one endpoint, or one of the Unix domain
-abbrev pub is_unbuilt_form : Kind → List EndpointPlan → Bool
-is_unbuilt_form kind endpoints = is_kind Bootstrap kind || (nat_lt 1 (length endpoints) || list_any is_unix endpoints)
-
--- such a service has a form that isn't built yet, beside those services
-abbrev pub is_unbuilt : List ServicePlan → Kind → List EndpointPlan → Bool
-is_unbuilt services kind endpoints = is_unbuilt_form kind endpoints || is_taken services endpoints
 
 -- the cause, where the test says that it stands
 abbrev pub cause_if : Bool → AddError → Option AddError
@@ -58,11 +39,11 @@ endpoint_causes endpoints =
     option_map UnknownFilter (position has_filter endpoints) ∷
     []
 
--- why the service can't be added to a server with this graph and these services: the first cause that stands
-abbrev pub fault_of : GraphData → List ServicePlan → ServicePlan → Option AddError
-fault_of g services s =
+-- why the service can't be added to a server with this graph: the first cause that stands. A service that bootstraps isn't built yet.
+abbrev pub fault_of : GraphData → ServicePlan → Option AddError
+fault_of g s =
     first_cause (cause_if (nat_le 1024 (node_count g)) TooMany ∷
-    (endpoint_causes s.endpoints ++ cause_if (is_unbuilt services s.kind s.endpoints) Unbuilt ∷ []))
+    (endpoint_causes s.endpoints ++ cause_if (is_kind Bootstrap s.kind) Unbuilt ∷ []))
 
 -- the reason of a refusal: want of memory, or the cause that stands
 abbrev pub IsReason : Option AddError → AddError → Type 0
@@ -85,9 +66,9 @@ pub record AddsFirst {B : Type 0} (means : Ghosts B) (old now : GraphData) (ther
   pub nodes : now ≡ with_nodes old (map means.named (take n more))
   pub numbered : handles ≡ handles_from (node_count old) (map means.named (take n more))
   pub good : (k : ℕ) (b : B) → k < n → slice_get more k ≡ Some b
-      → fault_of (with_nodes old (map means.named (take k more))) (answers_of means (there ++ take k more)) (answer_of means b) ≡ None
+      → fault_of (with_nodes old (map means.named (take k more))) (answer_of means b) ≡ None
 
--- of the services that come, the one with this index isn't added to a server with this graph and these services, for this reason: want of memory, or the cause that stands
-abbrev pub RefusesAt : {B : Type 0} → Ghosts B → GraphData → List B → List B → ℕ → AddError → Type 0
-RefusesAt {B} means g services more index reason =
-    (reason ≡ NoMemory) ⊎ ((b : B) × (slice_get more index ≡ Some b) × (fault_of g (answers_of means services) (answer_of means b) ≡ Some reason))
+-- of the services that come, the one with this index isn't added to a server with this graph, for this reason: want of memory, or the cause that stands
+abbrev pub RefusesAt : {B : Type 0} → Ghosts B → GraphData → List B → ℕ → AddError → Type 0
+RefusesAt {B} means g more index reason =
+    (reason ≡ NoMemory) ⊎ ((b : B) × (slice_get more index ≡ Some b) × (fault_of g (answer_of means b) ≡ Some reason))

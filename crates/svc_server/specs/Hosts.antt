@@ -1,11 +1,11 @@
 -- What a host tells of a run, and what its calls leave of that.
-use Rattle.std.specs.Prelude.{ℕ, Bool, false, ◌≡◌, List, [], ◌∷◌, map, Option, Some, None, IfSome, MatchBool}
+use Rattle.std.specs.Prelude.{ℕ, Bool, true, false, ◌≡◌, List, [], ◌∷◌, map, Option, Some, None, IfSome, MatchBool}
 use Rattle.std.specs.Option.{option_map}
 use Rattle.svc_conf.specs.Streams.{Rose}
 use Rattle.svc_record.specs.declared.action.Action.{Action}
 use Rattle.svc_record.specs.declared.action.Action.TheVariants.{Start}
 use Rattle.svc_record.specs.declared.event.Event.{Event}
-use Rattle.svc_record.specs.declared.event.Event.TheVariants.{Moment, Ready, Ended, Bound, Signal}
+use Rattle.svc_record.specs.declared.event.Event.TheVariants.{BindFailed, AdoptFailed}
 use Rattle.svc_record.specs.declared.entry.Entry.{Entry}
 use Rattle.svc_record.specs.declared.entry.Entry.TheVariants.{Got, Told}
 use Rattle.svc_record.specs.declared.item.Item.{Item}
@@ -42,13 +42,11 @@ pub record Counts : Type 0 where
   pub idles : ℕ
   pub failures : ℕ
 
--- the event tells that an ask failed: no form of event that does is built yet
+-- the event tells that an ask failed
 abbrev pub tells_failure : Event → Bool
-tells_failure (Moment ms) = false
-tells_failure (Ready s) = false
-tells_failure (Ended s) = false
-tells_failure (Bound s i fd) = false
-tells_failure (Signal kind) = false
+tells_failure (BindFailed s i) = true
+tells_failure (AdoptFailed s i) = true
+tells_failure _ = false
 
 -- exactly the count of what was answered has risen
 abbrev pub CountsAfter : Next → Option Event → Counts → Counts → Type 0

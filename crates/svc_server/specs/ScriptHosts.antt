@@ -34,9 +34,9 @@ phases_of [] = []
 phases_of (Told a ∷ before) = phases_of before ++ action_phase a
 phases_of (Got e ∷ before) = phases_of before
 
--- the counts of a host that gives no event that tells a failure
-abbrev pub counts_with : ℕ → ℕ → Counts
-counts_with faulted idled = record { faults = faulted; idles = idled; failures = 0 }
+-- these counts
+abbrev pub counts_with : ℕ → ℕ → ℕ → Counts
+counts_with faulted idled failed = record { faults = faulted; idles = idled; failures = failed }
 
 -- a service that was handed over, with its number and the name that it answers
 abbrev pub handed_with : {B : Type 0} → (B → List ℕ) → ℕ × B → Handed

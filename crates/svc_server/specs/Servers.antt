@@ -15,7 +15,7 @@ use Rattle.svc_server.specs.declared.run.Outcome.{Outcome}
 use Rattle.svc_server.specs.declared.run.Outcome.TheVariants.{Served}
 use Rattle.svc_server.specs.declared.run.RunError.{RunError}
 use Rattle.svc_record.specs.Validity.{IsAddress}
-use Rattle.svc_record.specs.Building.{IsPlainService, are_apart}
+use Rattle.svc_record.specs.Building.{IsPlainService}
 
 -- what a service answers, by the meanings of its calls; what it depends on isn't among it
 abbrev pub answer_of : {B : Type 0} → Ghosts B → B → ServicePlan
@@ -60,12 +60,11 @@ plan_of conf options g answers = record {
   ready_timeout = unwrap_or conf.daemon_ready_timeout_seconds 600;
 }
 
--- what a server's own calls keep: the graph's nodes are its services, by number and name; each service keeps the limits and has only forms that are built; no two share an address
+-- what a server's own calls keep: the graph's nodes are its services, by number and name; each service keeps the limits and has only forms that are built
 pub record IsSound (g : GraphData) (answers : List ServicePlan) : Type 0 where
   pub names : g.names ≡ map (λ (x : ServicePlan). x.name) answers
   pub limits : All (λ (s : ServicePlan). (length s.endpoints ≤ 64) × All IsAddress s.endpoints) answers
   pub plain : All IsPlainService answers
-  pub apart : are_apart answers ≡ true
 
 -- the configuration with what the flags set in it
 abbrev pub merged : Option Opt → ServerConf → ServerConf

@@ -54,7 +54,12 @@ fn tell_one<B: ServiceWithDependents, H: Host<Service = B>>(
     boxes.note(action);
     match action {
         Action::Start(s) => start(plan, boxes, s, host),
-        Action::Bind(_, _) | Action::Close(_) | Action::Phase(_, _) | Action::Stop(_) => {
+        Action::Fail(_)
+        | Action::Bind(_, _)
+        | Action::Adopt(_, _, _)
+        | Action::Close(_)
+        | Action::Phase(_, _)
+        | Action::Stop(_) => {
             host.tell(action);
         }
     }

@@ -1,8 +1,9 @@
 //! A host that is made from a list of what it gives.
 
-ghost use Rattle.std.specs.Prelude.{◌≡◌, ◌+◌, ◌<◌, ◌≤◌, ◌++◌, ℕ, List, [], map, reverse, Some, None, IsSome, IfSome, OnOk, slice_get};
+ghost use Rattle.std.specs.Prelude.{◌≡◌, ◌+◌, ◌<◌, ◌≤◌, ◌++◌, ℕ, List, [], map, reverse, Some, None, IsSome, IfSome, MatchBool, OnOk, slice_get};
 ghost use Rattle.svc_conf.specs.Items.{list_of, spare};
-ghost use Rattle.svc_server.specs.Hosts.{no_account};
+ghost use Rattle.svc_conf.specs.Streams.{Rose};
+ghost use Rattle.svc_server.specs.Hosts.{no_account, tells_failure};
 ghost use Rattle.svc_server.specs.ScriptHosts.{FollowsScript, action_phase, phases_of, counts_with, handed_with};
 
 use crate::host::{Host, Next};
@@ -28,6 +29,7 @@ pub struct ScriptHost<B> {
     last: Option<Event>,
     faults: u64,
     idles: u64,
+    failures: u64,
 }
 
 impl<B> Model for ScriptHost<B> {
@@ -45,6 +47,7 @@ impl<B> Model for ScriptHost<B> {
       handed = reverse (list_of a.handed);
       faults = a.faults;
       idles = a.idles;
+      failures = a.failures;
       spare = min (spare a.entries) (min (spare a.handed) (spare a.phases));
       last = a.last;
     } };
@@ -58,7 +61,7 @@ impl<B: ServiceWithDependents> ScriptHost<B> {
         ensures taken { result.taken ≡ [] }
         ensures ahead { ⟦<ScriptHost<B> as Host>⟧.ahead result ≡ Some items.items }
         ensures account { ⟦<ScriptHost<B> as Host>⟧.account result ≡ Some no_account }
-        ensures counts { ⟦<ScriptHost<B> as Host>⟧.counts result ≡ counts_with 0 0 }
+        ensures counts { ⟦<ScriptHost<B> as Host>⟧.counts result ≡ counts_with 0 0 0 }
         ensures last { ⟦<ScriptHost<B> as Host>⟧.last result ≡ None }
     {
         ScriptHost {
@@ -70,6 +73,7 @@ impl<B: ServiceWithDependents> ScriptHost<B> {
             last: None,
             faults: 0,
             idles: 0,
+            failures: 0,
         }
     }
 
@@ -107,13 +111,23 @@ fn put_phase(phases: &mut Reserved<ExecutionPhase>, action: Action)
     }
 }
 
-/// It tells everything. No event that it gives tells a failure, so `failures` stays 0.
+/// The count of events that tell a failure, with this event.
+fn failures_with(failures: u64, event: &Event) -> u64
+    ensures { MatchBool (tells_failure event.now) (Rose failures result) (result ≡ failures) }
+{
+    match *event {
+        Event::BindFailed(..) | Event::AdoptFailed(..) => failures.saturating_add(1),
+        _ => failures,
+    }
+}
+
+/// It tells everything.
 impl<B: ServiceWithDependents> Host for ScriptHost<B> {
     type Service = B;
 
     ghost account = { λ h. Some (record { entries = h.entries; handed = map (handed_with B.named) h.handed }) };
 
-    ghost counts = { λ h. counts_with h.faults h.idles };
+    ghost counts = { λ h. counts_with h.faults h.idles h.failures };
 
     ghost spare = { λ h. h.spare };
 
@@ -130,7 +144,7 @@ impl<B: ServiceWithDependents> Host for ScriptHost<B> {
     }
 
     fn failures(&self) -> u64 {
-        0
+        self.failures
     }
 
     fn reserve(&mut self, alloc: Global, n: u64) -> Result<(), NoMemory> {
@@ -143,6 +157,7 @@ impl<B: ServiceWithDependents> Host for ScriptHost<B> {
         match item_at(self.script.as_slice(), self.given) {
             Some(Item::Event(event)) => {
                 self.given += 1;
+                self.failures = failures_with(self.failures, &event);
                 self.entries.put(Entry::Got(event));
                 self.last = Some(event);
                 Next::Event

@@ -91,13 +91,11 @@ impl<B: ServiceWithDependents> Server<B> {
             ≡ with_node self.old.dependencies (B.named service.now)) }
         ensures unchanged { OnErr result (self.new.dependencies ≡ self.old.dependencies) }
         ensures good { OnOk result (fault_of self.old.dependencies
-            (answers_of B.ServiceWithDependents self.old.services.items)
             (answer_of B.ServiceWithDependents service.now) ≡ None) }
         ensures cause { IfErr result (IsReason (fault_of self.old.dependencies
-            (answers_of B.ServiceWithDependents self.old.services.items)
             (answer_of B.ServiceWithDependents service.now))) }
     {
-        if let Some(fault) = fault_of(alloc, &self.dependencies, &self.services, service)? {
+        if let Some(fault) = fault_of(alloc, &self.dependencies, service)? {
             return Err(fault);
         }
         self.services.reserve(1).map_err(NoMemory::from)?;
@@ -123,12 +121,10 @@ impl<B: ServiceWithDependents> Server<B> {
         ensures node { OnOk result (self.new.dependencies
             ≡ with_node self.old.dependencies (B.named service)) }
         ensures good { OnOk result (fault_of self.old.dependencies
-            (answers_of B.ServiceWithDependents self.old.services.items)
             (answer_of B.ServiceWithDependents service) ≡ None) }
 
         // Else the cause is told, and nothing changes.
         ensures cause { IfErr result (λ refused. IsReason (fault_of self.old.dependencies
-            (answers_of B.ServiceWithDependents self.old.services.items)
             (answer_of B.ServiceWithDependents service)) refused.reason) }
         ensures back { IfErr result (λ refused. refused.service ≡ service) }
         ensures same_services { OnErr result (self.new.services.items ≡ self.old.services.items) }
@@ -164,12 +160,10 @@ impl<B: ServiceWithDependents> Server<B> {
         ensures node { OnOk result (self.new.dependencies
             ≡ with_node self.old.dependencies (B.named service)) }
         ensures good { OnOk result (fault_of self.old.dependencies
-            (answers_of B.ServiceWithDependents self.old.services.items)
             (answer_of B.ServiceWithDependents service) ≡ None) }
 
         // Else the cause is told, and nothing changes.
         ensures cause { IfErr result (λ refused. IsReason (fault_of self.old.dependencies
-            (answers_of B.ServiceWithDependents self.old.services.items)
             (answer_of B.ServiceWithDependents service)) refused.reason) }
         ensures back { IfErr result (λ refused. refused.service ≡ service) }
         ensures same_services { OnErr result (self.new.services.items ≡ self.old.services.items) }
@@ -203,7 +197,7 @@ impl<B: ServiceWithDependents> Server<B> {
         ensures back { IfErr result
             (λ refused. refused.services.items ≡ drop refused.index services.items) }
         ensures cause { IfErr result (λ refused. RefusesAt B.ServiceWithDependents
-            self.new.dependencies self.new.services.items services.items refused.index refused.reason) }
+            self.new.dependencies services.items refused.index refused.reason) }
 
         ensures sound { IsSound self.old.dependencies
             (answers_of B.ServiceWithDependents self.old.services.items)

@@ -14,13 +14,13 @@ use Rattle.svc_record.specs.declared.action.ExecutionPhase.{ExecutionPhase}
 use Rattle.svc_record.specs.declared.action.ExecutionPhase.TheVariants.{Setup, Bootstrap, BootstrapComplete, Running, GracefulUpgradeTransferringFds, GracefulUpgradeCloseTimeout, GracefulTerminate, ShutdownStarted, ShutdownGracePeriod, ShutdownRuntimes, Terminated}
 use Rattle.svc_record.specs.declared.event.ShutdownSignal.TheVariants.{FastShutdown}
 use Rattle.svc_record.specs.declared.event.Event.{Event}
-use Rattle.svc_record.specs.declared.event.Event.TheVariants.{Moment, Ready, Ended, Bound, Signal}
+use Rattle.svc_record.specs.declared.event.Event.TheVariants.{Moment, Ready, Ended, Bound, InUse, BindFailed, Adopted, AdoptFailed, Signal}
 use Rattle.svc_record.specs.declared.action.Action.{Action}
-use Rattle.svc_record.specs.declared.action.Action.TheVariants.{Start, Bind, Close, Phase, Stop}
+use Rattle.svc_record.specs.declared.action.Action.TheVariants.{Start, Fail, Bind, Adopt, Close, Phase, Stop}
 use Rattle.svc_record.specs.declared.entry.Entry.{Entry}
 use Rattle.svc_record.specs.declared.entry.Entry.TheVariants.{Got, Told}
 use Rattle.svc_record.specs.Text.{phase_word, event_words, action_words, entry_words, spaced, line_of, text_of, EventFits, ActionFits, EntryFits}
-use Rattle.svc_text.specs.EventLines.{only_of, three_of, signal_of, moment_of, ready_of, ended_of, bound_of, signalled_of, event_of}
+use Rattle.svc_text.specs.EventLines.{only_of, two_of, three_of, signal_of, moment_of, ready_of, ended_of, bound_of, place_of, in_use_of, bind_failed_of, adopted_of, adopt_failed_of, signalled_of, event_of}
 use Rattle.svc_text.proofs.Visible.{IsWord, decimal_word, words_spaced, spaced_printable, line_back}
 
 n32 : (n : ℕ) → n < 2 ^ 32 → number_of (2 ^ 32) (decimal n) ≡ Some n
@@ -30,11 +30,15 @@ n64 : (n : ℕ) → n < 2 ^ 64 → number_of (2 ^ 64) (decimal n) ≡ Some n
 n64 n h = number_of-decimal (2 ^ 64) n (omega arith) h
 
 pub event_back : (e : Event) → EventFits e → event_of (event_words e) ≡ Some e
-unfolding event_of moment_of ready_of ended_of bound_of signalled_of signal_of only_of three_of
+unfolding event_of moment_of ready_of ended_of bound_of place_of in_use_of bind_failed_of adopted_of adopt_failed_of signalled_of signal_of only_of two_of three_of
 event_back (Moment ms) h = rw (n64 ms h) refl
 event_back (Ready s) h = rw (n32 s h) refl
 event_back (Ended s) h = rw (n32 s h) refl
 event_back (Bound s i fd) h = rw (n32 s h.0, n32 i h.1, n64 fd h.2) refl
+event_back (InUse s i) h = rw (n32 s h.0, n32 i h.1) refl
+event_back (BindFailed s i) h = rw (n32 s h.0, n32 i h.1) refl
+event_back (Adopted s i) h = rw (n32 s h.0, n32 i h.1) refl
+event_back (AdoptFailed s i) h = rw (n32 s h.0, n32 i h.1) refl
 event_back (Signal FastShutdown) h = refl
 
 -- ---- actions are read back in proofs alone
@@ -61,6 +65,11 @@ bind_of : List (List ℕ) → Option Action
 bind_of (s ∷ i ∷ []) = number_of (2 ^ 32) s >>= λ service. option_map (λ endpoint. Bind service endpoint) (number_of (2 ^ 32) i)
 bind_of _ = None
 
+adopt_of : List (List ℕ) → Option Action
+adopt_of (s ∷ i ∷ fd ∷ []) =
+    number_of (2 ^ 32) s >>= λ service. number_of (2 ^ 32) i >>= λ endpoint. option_map (λ descriptor. Adopt service endpoint descriptor) (number_of (2 ^ 64) fd)
+adopt_of _ = None
+
 told_of : List (List ℕ) → Option Action
 told_of (p ∷ ms ∷ []) = phase_of p >>= λ phase. option_map (λ moment. Phase phase moment) (number_of (2 ^ 64) ms)
 told_of _ = None
@@ -69,10 +78,12 @@ action_of : List (List ℕ) → Option Action
 action_of [] = None
 action_of (key ∷ args) =
     cond (bytes_eq key (codes "start")) (one_of Start (2 ^ 32) args)
+    (cond (bytes_eq key (codes "fail")) (one_of Fail (2 ^ 32) args)
     (cond (bytes_eq key (codes "bind")) (bind_of args)
+    (cond (bytes_eq key (codes "adopt")) (adopt_of args)
     (cond (bytes_eq key (codes "close")) (one_of Close (2 ^ 64) args)
     (cond (bytes_eq key (codes "phase")) (told_of args)
-    (cond (bytes_eq key (codes "stop")) (one_of Stop (2 ^ 64) args) None))))
+    (cond (bytes_eq key (codes "stop")) (one_of Stop (2 ^ 64) args) None))))))
 
 phase_back : (p : ExecutionPhase) → phase_of (phase_word p) ≡ Some p
 unfolding phase_of
@@ -89,9 +100,11 @@ phase_back ShutdownRuntimes = refl
 phase_back Terminated = refl
 
 action_back : (a : Action) → ActionFits a → action_of (action_words a) ≡ Some a
-unfolding action_of one_of bind_of told_of
+unfolding action_of one_of bind_of adopt_of told_of
 action_back (Start s) h = rw (n32 s h) refl
+action_back (Fail s) h = rw (n32 s h) refl
 action_back (Bind s i) h = rw (n32 s h.0, n32 i h.1) refl
+action_back (Adopt s i fd) h = rw (n32 s h.0, n32 i h.1, n64 fd h.2) refl
 action_back (Close fd) h = rw (n64 fd h) refl
 action_back (Phase p ms) h = rw (phase_back p, n64 ms h) refl
 action_back (Stop seconds) h = rw (n64 seconds h) refl
@@ -104,7 +117,9 @@ entry_back : (e : Entry) → EntryFits e → entry_of (entry_words e) ≡ Some e
 unfolding entry_of
 entry_back (Got e) h = rw (event_back e h) refl
 entry_back (Told (Start s)) h = rw (action_back (Start s) h) refl
+entry_back (Told (Fail s)) h = rw (action_back (Fail s) h) refl
 entry_back (Told (Bind s i)) h = rw (action_back (Bind s i) h) refl
+entry_back (Told (Adopt s i fd)) h = rw (action_back (Adopt s i fd) h) refl
 entry_back (Told (Close fd)) h = rw (action_back (Close fd) h) refl
 entry_back (Told (Phase p ms)) h = rw (action_back (Phase p ms) h) refl
 entry_back (Told (Stop seconds)) h = rw (action_back (Stop seconds) h) refl
@@ -119,6 +134,10 @@ event_fits (Moment ms) h = (record { visible = refl; some = omega arith }, (deci
 event_fits (Ready s) h = (record { visible = refl; some = omega arith }, (d32 s h, tt))
 event_fits (Ended s) h = (record { visible = refl; some = omega arith }, (d32 s h, tt))
 event_fits (Bound s i fd) h = (record { visible = refl; some = omega arith }, (d32 s h.0, (d32 i h.1, (decimal_word fd h.2, tt))))
+event_fits (InUse s i) h = (record { visible = refl; some = omega arith }, (d32 s h.0, (d32 i h.1, tt)))
+event_fits (BindFailed s i) h = (record { visible = refl; some = omega arith }, (d32 s h.0, (d32 i h.1, tt)))
+event_fits (Adopted s i) h = (record { visible = refl; some = omega arith }, (d32 s h.0, (d32 i h.1, tt)))
+event_fits (AdoptFailed s i) h = (record { visible = refl; some = omega arith }, (d32 s h.0, (d32 i h.1, tt)))
 event_fits (Signal FastShutdown) h = (record { visible = refl; some = omega arith }, (record { visible = refl; some = omega arith }, tt))
 
 phase_fits : (p : ExecutionPhase) → IsWord (phase_word p)
@@ -136,7 +155,9 @@ phase_fits Terminated = record { visible = refl; some = omega arith }
 
 action_fits : (a : Action) → ActionFits a → AllByRecursion IsWord (action_words a)
 action_fits (Start s) h = (record { visible = refl; some = omega arith }, (d32 s h, tt))
+action_fits (Fail s) h = (record { visible = refl; some = omega arith }, (d32 s h, tt))
 action_fits (Bind s i) h = (record { visible = refl; some = omega arith }, (d32 s h.0, (d32 i h.1, tt)))
+action_fits (Adopt s i fd) h = (record { visible = refl; some = omega arith }, (d32 s h.0, (d32 i h.1, (decimal_word fd h.2, tt))))
 action_fits (Close fd) h = (record { visible = refl; some = omega arith }, (decimal_word fd h, tt))
 action_fits (Phase p ms) h = (record { visible = refl; some = omega arith }, (phase_fits p, (decimal_word ms h, tt)))
 action_fits (Stop seconds) h = (record { visible = refl; some = omega arith }, (decimal_word seconds h, tt))

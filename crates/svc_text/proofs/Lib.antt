@@ -9,3 +9,4 @@ pub mod PlaceLemmas
 pub mod AcceptLemmas
 pub mod EdgeLemmas
 pub mod ScriptLemmas
+pub mod PlanLemmas

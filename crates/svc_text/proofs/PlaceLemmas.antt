@@ -56,7 +56,9 @@ skipped_event ((b ∷ w) ∷ ws) h =
     let e3 : eqb b 115 ≡ false = ap (λ (x : ℕ). eqb x 115) e in
     let e4 : eqb b 109 ≡ false = ap (λ (x : ℕ). eqb x 109) e in
     let e5 : eqb b 101 ≡ false = ap (λ (x : ℕ). eqb x 101) e in
-    rw (e1, e2, e3, e4, e5) refl
+    let e6 : eqb b 105 ≡ false = ap (λ (x : ℕ). eqb x 105) e in
+    let e7 : eqb b 97 ≡ false = ap (λ (x : ℕ). eqb x 97) e in
+    rw (e1, e2, e3, e4, e5, e6, e7) refl
 
 skipped_is_no_fault : (ws : List (List ℕ)) → is_skipped ws ≡ true → is_fault ws ≡ false
 unfolding is_skipped is_fault only_of

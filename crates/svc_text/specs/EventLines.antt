@@ -6,7 +6,7 @@ use Rattle.svc_text.specs.Words.{◌>>=◌, number_of}
 use Rattle.svc_record.specs.declared.event.ShutdownSignal.{ShutdownSignal}
 use Rattle.svc_record.specs.declared.event.ShutdownSignal.TheVariants.{FastShutdown}
 use Rattle.svc_record.specs.declared.event.Event.{Event}
-use Rattle.svc_record.specs.declared.event.Event.TheVariants.{Moment, Ready, Ended, Bound, Signal}
+use Rattle.svc_record.specs.declared.event.Event.TheVariants.{Moment, Ready, Ended, Bound, InUse, BindFailed, Adopted, AdoptFailed, Signal}
 use Rattle.svc_record.specs.declared.item.Item.{Item}
 use Rattle.svc_record.specs.declared.item.Item.TheVariants as item
 
@@ -14,6 +14,11 @@ use Rattle.svc_record.specs.declared.item.Item.TheVariants as item
 unfoldable pub only_of : List (List ℕ) → Option (List ℕ)
 only_of (w ∷ []) = Some w
 only_of _ = None
+
+-- the two words that there are
+unfoldable pub two_of : List (List ℕ) → Option (List ℕ × List ℕ)
+two_of (v ∷ w ∷ []) = Some (v, w)
+two_of _ = None
 
 -- the three words that there are
 unfoldable pub three_of : List (List ℕ) → Option (List ℕ × List ℕ × List ℕ)
@@ -54,6 +59,38 @@ bound_of args = do
   descriptor ← number_of (2 ^ 64) a.2
   Some (Bound service endpoint descriptor)
 
+-- the service and the endpoint that two words number
+unfoldable pub place_of : List (List ℕ) → Option (ℕ × ℕ)
+place_of args = do
+  a ← two_of args
+  service ← number_of (2 ^ 32) a.0
+  endpoint ← number_of (2 ^ 32) a.1
+  Some (service, endpoint)
+
+-- what follows the word `inuse`
+unfoldable pub in_use_of : List (List ℕ) → Option Event
+in_use_of args = do
+  p ← place_of args
+  Some (InUse p.0 p.1)
+
+-- what follows the word `bindfailed`
+unfoldable pub bind_failed_of : List (List ℕ) → Option Event
+bind_failed_of args = do
+  p ← place_of args
+  Some (BindFailed p.0 p.1)
+
+-- what follows the word `adopted`
+unfoldable pub adopted_of : List (List ℕ) → Option Event
+adopted_of args = do
+  p ← place_of args
+  Some (Adopted p.0 p.1)
+
+-- what follows the word `adoptfailed`
+unfoldable pub adopt_failed_of : List (List ℕ) → Option Event
+adopt_failed_of args = do
+  p ← place_of args
+  Some (AdoptFailed p.0 p.1)
+
 -- what follows the word `signal`
 unfoldable pub signalled_of : List (List ℕ) → Option Event
 signalled_of args = do
@@ -69,7 +106,11 @@ event_of (key ∷ args) =
     else (if bytes_eq key (codes "ready") then ready_of args
     else (if bytes_eq key (codes "ended") then ended_of args
     else (if bytes_eq key (codes "bound") then bound_of args
-    else (if bytes_eq key (codes "signal") then signalled_of args else None))))
+    else (if bytes_eq key (codes "inuse") then in_use_of args
+    else (if bytes_eq key (codes "bindfailed") then bind_failed_of args
+    else (if bytes_eq key (codes "adopted") then adopted_of args
+    else (if bytes_eq key (codes "adoptfailed") then adopt_failed_of args
+    else (if bytes_eq key (codes "signal") then signalled_of args else None))))))))
 
 -- the one word that there is is `fault`
 unfoldable pub is_fault : List (List ℕ) → Bool

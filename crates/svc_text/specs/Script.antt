@@ -1,6 +1,6 @@
 -- What a script says, or which line is the first that does not fit those before it.
 use Rattle.std.specs.Prelude.{◌≡◌, ◌<◌, ℕ, ◌+◌, ◌-◌, Bool, true, false, not, ◌||◌, ◌&&◌, ◌==◌, nat_lt, if◌then◌else◌, List, [], ◌∷◌, length, take, find, count_by, codes, slice_index, Option, Some, None, is_some, Result, Ok, Err}
-use Rattle.std.specs.List.{slice_split, slice_index_or, filter_map, list_any, range_with_len}
+use Rattle.std.specs.List.{slice_split, slice_index_or, filter_map, range_with_len}
 use Rattle.std.specs.Option.{option_to_list}
 use Rattle.std.specs.Str.{bytes_eq, is_utf8}
 use Rattle.std.specs.Str.Lines.{lines}
@@ -51,23 +51,9 @@ unfoldable pub is_skipped : List (List ℕ) → Bool
 is_skipped [] = true
 is_skipped (w ∷ ws) = slice_index w 0 == 35
 
--- the service has the address
-abbrev pub has_address : List ℕ → ServiceLine → Bool
-has_address address s = has s.tcp
-  where
-    has : Option (List ℕ) → Bool
-    has None = false
-    has (Some a) = bytes_eq a address
-
--- no service has the address yet
-unfoldable pub is_free : List ServiceLine → Option (List ℕ) → Bool
-is_free services None = true
-is_free services (Some address) = not (list_any (has_address address) services)
-
 -- the service may come after these
-unfoldable pub is_next : List ServiceLine → Option ServiceLine → Bool
-is_next services None = false
-is_next services (Some s) = nat_lt (length services) 1024 && is_free services s.tcp
+abbrev pub is_next : List ServiceLine → Option ServiceLine → Bool
+is_next services o = is_some o && nat_lt (length services) 1024
 
 -- the words may stand in the part
 unfoldable pub says_item : ℕ → List ServiceLine → List (List ℕ) → Bool

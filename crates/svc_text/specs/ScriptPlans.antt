@@ -1,30 +1,34 @@
 -- The plan that a script's services are run by.
 use Rattle.std.specs.Prelude.{ℕ, false, ◌+◌, List, [], ◌∷◌, length, map, filter, Some, None}
 use Rattle.std.specs.List.{range_with_len}
-use Rattle.std.specs.Option.{option_to_list}
 use Rattle.svc_conf.specs.declared.settings.Setting.TheVariants.{NoDelay}
 use Rattle.svc_graph.specs.declared.plan.EndpointPlan.{EndpointPlan}
 use Rattle.svc_record.specs.declared.plan.ServicePlan.{ServicePlan}
 use Rattle.svc_record.specs.declared.plan.Plan.{Plan}
+use Rattle.svc_text.specs.declared.service.EndpointLine.{EndpointLine}
 use Rattle.svc_text.specs.declared.service.ServiceLine.{ServiceLine}
 use Rattle.svc_text.specs.Dependencies.{edges_up_to}
 
--- the endpoint of an address: over TCP, whose writes aren't held back
-abbrev pub endpoint_of : List ℕ → EndpointPlan
-endpoint_of address = record { address = address; unix = false; options = NoDelay ∷ []; filter = None }
+-- the endpoint of a line: its writes aren't held back, and it has no filter
+abbrev pub endpoint_of : EndpointLine → EndpointPlan
+endpoint_of e = record { address = e.address; unix = e.unix; options = NoDelay ∷ []; filter = None }
+
+-- the addresses of a line's endpoints, in order
+abbrev pub addresses_of : ServiceLine → List (List ℕ)
+addresses_of x = map (λ (e : EndpointLine). e.address) x.endpoints
 
 -- the services that service s names as its dependencies, ascending
 abbrev pub depends_of : List ServiceLine → ℕ → List ℕ
 depends_of services s = filter (edges_up_to services (length services) s) (range_with_len 0 (length services))
 
--- service s, of its line: it declares its address
+-- service s, of its line: it declares its endpoints' addresses
 abbrev pub service_plan : List ServiceLine → ℕ → ServiceLine → ServicePlan
 service_plan services s x = record {
   name = x.name;
   kind = x.kind;
   depends = depends_of services s;
-  declared = Some (option_to_list x.tcp);
-  endpoints = map endpoint_of (option_to_list x.tcp);
+  declared = Some (addresses_of x);
+  endpoints = map endpoint_of x.endpoints;
 }
 
 -- the services from s on, of their lines

@@ -1,11 +1,12 @@
 -- What a service line says.
-use Rattle.std.specs.Prelude.{◌≡◌, ℕ, ◌^◌, Bool, true, false, not, ◌&&◌, ◌==◌, nat_lt, nat_le, if◌then◌else◌, List, [], ◌∷◌, length, map, codes, slice_index, Option, Some, None, is_none}
+use Rattle.std.specs.Prelude.{◌≡◌, ℕ, ◌^◌, Bool, true, false, not, ◌&&◌, ◌==◌, nat_lt, nat_le, if◌then◌else◌, List, [], ◌∷◌, ◌++◌, length, map, codes, slice_index, Option, Some, None, is_none}
 use Rattle.std.specs.Option.{option_map}
 use Rattle.std.specs.List.{slice_split}
 use Rattle.std.specs.Str.{bytes_eq}
 use Rattle.svc_graph.specs.declared.plan.Kind.{Kind}
 use Rattle.svc_graph.specs.declared.plan.Kind.TheVariants.{Plain, Notifying}
 use Rattle.svc_text.specs.Words.{◌>>=◌, number_of, text_in}
+use Rattle.svc_text.specs.declared.service.EndpointLine.{EndpointLine}
 use Rattle.svc_text.specs.declared.service.ServiceLine.{ServiceLine}
 
 -- 1 to 255 bytes, the first neither `#` nor `%`
@@ -41,13 +42,21 @@ address_of word = if is_address word then text_in word else None
 unfoldable pub with_after : ServiceLine → List ℕ → Option ServiceLine
 with_after s value = if is_none s.after then option_map (λ numbers. record s { after = Some numbers }) (numbers_of value) else None
 
--- the service with its address, where it has none yet
-unfoldable pub with_tcp : ServiceLine → List ℕ → Option ServiceLine
-with_tcp s value = if is_none s.tcp then option_map (λ address. record s { tcp = Some address }) (address_of value) else None
+-- the endpoint of an address, or of a path of the Unix domain
+abbrev pub endpoint_at : Bool → List ℕ → EndpointLine
+endpoint_at unix address = record { address = address; unix = unix }
+
+-- the service with its next endpoint, where it has fewer than 64
+unfoldable pub with_endpoint : ServiceLine → Bool → List ℕ → Option ServiceLine
+with_endpoint s unix value =
+    if nat_lt (length s.endpoints) 64 then option_map (λ address. record s { endpoints = s.endpoints ++ endpoint_at unix address ∷ [] }) (address_of value) else None
 
 -- the service with one more item
 unfoldable pub with_item : ServiceLine → List ℕ → List ℕ → Option ServiceLine
-with_item s key value = if bytes_eq key (codes "after") then with_after s value else (if bytes_eq key (codes "tcp") then with_tcp s value else None)
+with_item s key value =
+    if bytes_eq key (codes "after") then with_after s value
+    else (if bytes_eq key (codes "tcp") then with_endpoint s false value
+    else (if bytes_eq key (codes "unix") then with_endpoint s true value else None))
 
 -- the items of a line are pairs of words
 unfoldable pub with_items : ServiceLine → List (List ℕ) → Option ServiceLine
@@ -57,7 +66,7 @@ with_items s (key ∷ value ∷ more) = with_item s key value >>= λ t. with_ite
 
 -- a service without items
 abbrev pub bare : List ℕ → Kind → ServiceLine
-bare name kind = record { name = name; kind = kind; after = None; tcp = None }
+bare name kind = record { name = name; kind = kind; after = None; endpoints = [] }
 
 -- the service that the words of a line say
 unfoldable pub service_of : List (List ℕ) → Option ServiceLine

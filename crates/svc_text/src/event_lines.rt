@@ -3,7 +3,7 @@
 ghost use Rattle.std.specs.Prelude.{◌≡◌, ◌^◌};
 ghost use Rattle.std.specs.Option.{option_copied, option_map};
 ghost use Rattle.svc_text.specs.Words.{words, number_of};
-ghost use Rattle.svc_text.specs.EventLines.{only_of, three_of, signal_of, moment_of, ready_of, ended_of, bound_of, signalled_of, event_of, is_fault, item_of};
+ghost use Rattle.svc_text.specs.EventLines.{only_of, two_of, three_of, signal_of, moment_of, ready_of, ended_of, bound_of, place_of, in_use_of, bind_failed_of, adopted_of, adopt_failed_of, signalled_of, event_of, is_fault, item_of};
 
 use crate::cuts::split_word;
 use crate::numbers::{number, number32};
@@ -28,6 +28,19 @@ fn only_of(line: &[u8]) -> Option<&[u8]>
     let (word, rest) = split_word(line)?;
     match split_word(rest) {
         None => Some(word),
+        Some(_) => None,
+    }
+}
+
+/// The two words of a line.
+#[tactic(auto, unfolding(crate::specs::EventLines::two_of))]
+fn two_of(line: &[u8]) -> Option<(&[u8], &[u8])>
+    ensures { option_map (λ w. (w.0.now, w.1.now)) result ≡ two_of (words line.now) }
+{
+    let (first, rest) = split_word(line)?;
+    let (second, rest) = split_word(rest)?;
+    match split_word(rest) {
+        None => Some((first, second)),
         Some(_) => None,
     }
 }
@@ -80,6 +93,48 @@ fn bound_of(args: &[u8]) -> Option<Event>
     Some(Event::Bound(service, endpoint, number(descriptor)?))
 }
 
+/// The service and the endpoint that two words number.
+#[tactic(auto, unfolding(crate::specs::EventLines::place_of))]
+fn place_of(args: &[u8]) -> Option<(u32, u32)>
+    ensures { result ≡ place_of (words args.now) }
+{
+    let (service, endpoint) = two_of(args)?;
+    let service = number32(service)?;
+    Some((service, number32(endpoint)?))
+}
+
+#[tactic(auto, unfolding(crate::specs::EventLines::in_use_of))]
+fn in_use_of(args: &[u8]) -> Option<Event>
+    ensures { result ≡ in_use_of (words args.now) }
+{
+    let (service, endpoint) = place_of(args)?;
+    Some(Event::InUse(service, endpoint))
+}
+
+#[tactic(auto, unfolding(crate::specs::EventLines::bind_failed_of))]
+fn bind_failed_of(args: &[u8]) -> Option<Event>
+    ensures { result ≡ bind_failed_of (words args.now) }
+{
+    let (service, endpoint) = place_of(args)?;
+    Some(Event::BindFailed(service, endpoint))
+}
+
+#[tactic(auto, unfolding(crate::specs::EventLines::adopted_of))]
+fn adopted_of(args: &[u8]) -> Option<Event>
+    ensures { result ≡ adopted_of (words args.now) }
+{
+    let (service, endpoint) = place_of(args)?;
+    Some(Event::Adopted(service, endpoint))
+}
+
+#[tactic(auto, unfolding(crate::specs::EventLines::adopt_failed_of))]
+fn adopt_failed_of(args: &[u8]) -> Option<Event>
+    ensures { result ≡ adopt_failed_of (words args.now) }
+{
+    let (service, endpoint) = place_of(args)?;
+    Some(Event::AdoptFailed(service, endpoint))
+}
+
 #[tactic(auto, unfolding(crate::specs::EventLines::signalled_of))]
 fn signalled_of(args: &[u8]) -> Option<Event>
     ensures { result ≡ signalled_of (words args.now) }
@@ -102,6 +157,14 @@ pub fn event_of_line(line: &[u8]) -> Option<Event>
         ended_of(args)
     } else if key == b"bound".as_slice() {
         bound_of(args)
+    } else if key == b"inuse".as_slice() {
+        in_use_of(args)
+    } else if key == b"bindfailed".as_slice() {
+        bind_failed_of(args)
+    } else if key == b"adopted".as_slice() {
+        adopted_of(args)
+    } else if key == b"adoptfailed".as_slice() {
+        adopt_failed_of(args)
     } else if key == b"signal".as_slice() {
         signalled_of(args)
     } else {

@@ -7,6 +7,7 @@ mod lists;
 mod numbers;
 mod parsing;
 mod part;
+mod plans;
 mod printing;
 mod reading;
 mod refused;
@@ -16,9 +17,10 @@ pub use cuts::{split_line, split_word};
 pub use event_lines::{event_of_line, item_of_line};
 pub use numbers::number;
 pub use parsing::{Script, ScriptError, parse};
+pub use plans::accepted_plan;
 pub use printing::{one_record, record_text};
 pub use refused::{add_dependencies, one_refused_service};
-pub use service::ServiceLine;
+pub use service::{EndpointLine, ServiceLine};
 
 #[cfg(test)]
 mod tests;

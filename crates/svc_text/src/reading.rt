@@ -1,7 +1,6 @@
 //! The lines of a script, one after the other.
 
 ghost use Rattle.std.specs.Prelude.{◌≡◌, ◌+◌, ◌++◌, ◌==◌, [], ◌∷◌, nat_eq, OnOk, is_some, if◌then◌else◌};
-ghost use Rattle.std.specs.List.{list_any};
 ghost use Rattle.std.specs.Str.{is_utf8};
 ghost use Rattle.svc_text.specs.declared.part.Part.TheVariants.{Nothing};
 ghost use Rattle.svc_text.specs.Outcome.{After, Tests};
@@ -9,7 +8,7 @@ ghost use Rattle.std.specs.Option.{option_to_list};
 ghost use Rattle.svc_text.specs.EventLines.{item_of};
 ghost use Rattle.svc_text.specs.Words.{words};
 ghost use Rattle.svc_text.specs.ServiceLines.{service_of};
-ghost use Rattle.svc_text.specs.Script.{part_number, is_skipped, is_free, is_next, has_address, says_item, line_fits};
+ghost use Rattle.svc_text.specs.Script.{part_number, is_skipped, is_next, says_item, line_fits};
 
 use crate::cuts::split_word;
 use crate::event_lines::item_of_line;
@@ -17,7 +16,7 @@ use crate::part::{Part, header_of};
 use crate::service::{ServiceLine, service_of_line};
 use std::alloc::{AllocFailed, Global};
 use std::str;
-use svc_conf::{NoMemory, Text};
+use svc_conf::NoMemory;
 use svc_record::Item;
 
 /// Why a line wasn't taken.
@@ -74,32 +73,6 @@ fn is_text(line: &[u8]) -> bool
     }
 }
 
-fn has_address(service: &ServiceLine, address: &Text) -> bool
-    ensures { result ≡ has_address address.now service.now }
-{
-    match &service.tcp {
-        Some(tcp) => tcp == address,
-        None => false,
-    }
-}
-
-fn has_any(services: &[ServiceLine], address: &Text) -> bool
-    ensures { result ≡ list_any (λ s. has_address address.now s) services.now }
-{
-    services.iter().any(|s| has_address(s, address))
-}
-
-/// No service has the address of this one yet.
-#[tactic(auto, unfolding(crate::specs::Script::is_free))]
-fn is_free(services: &[ServiceLine], service: &ServiceLine) -> bool
-    ensures { result ≡ is_free services.now service.now.tcp }
-{
-    match &service.tcp {
-        Some(address) => !has_any(services, address),
-        None => true,
-    }
-}
-
 impl Reading {
     pub fn new(alloc: Global) -> Self
         ensures part { result.part ≡ Nothing }
@@ -125,7 +98,6 @@ impl Reading {
         Ok(())
     }
 
-    #[tactic(auto, unfolding(crate::specs::Script::is_next))]
     fn take_service(&mut self, alloc: Global, line: &[u8]) -> Result<(), LineError>
         ensures test { Tests (is_next self.old.services.items (service_of (words line.now))) result }
         ensures services { OnOk result (self.new.services.items ≡ self.old.services.items ++ option_to_list (service_of (words line.now))) }
@@ -136,9 +108,6 @@ impl Reading {
             return Err(LineError::Refused);
         };
         if self.services.len() >= 1024 {
-            return Err(LineError::Refused);
-        }
-        if !is_free(&self.services, &service) {
             return Err(LineError::Refused);
         }
         self.services.push(service)?;

@@ -1,18 +1,27 @@
 //! What a service line says.
 
-ghost use Rattle.std.specs.Prelude.{◌≡◌, ◌^◌, [], unwrap_or, IfOk, Option, Some, None, nat_le};
+ghost use Rattle.std.specs.Prelude.{◌≡◌, ◌^◌, [], ◌∷◌, ◌++◌, unwrap_or, IfOk, Option, Some, None, nat_le};
 ghost use Rattle.std.specs.Option.{option_map};
 ghost use Rattle.std.specs.Str.{is_utf8};
 ghost use Rattle.svc_text.specs.Words.{words, number_of, text_in};
-ghost use Rattle.svc_text.specs.ServiceLines.{is_name, name_of, kind_of, numbers_of, is_address, address_of, with_after, with_tcp, with_item, with_items, service_of, Takes};
+ghost use Rattle.svc_text.specs.ServiceLines.{is_name, name_of, kind_of, numbers_of, is_address, address_of, with_after, with_endpoint, with_item, with_items, service_of, Takes};
 
 use crate::cuts::split_word;
 use crate::lists::push_item;
 use crate::numbers::number32;
 use std::alloc::Global;
 use std::str;
-use svc_conf::{NoMemory, Numbers, Text};
+use svc_conf::{Items, NoMemory, Numbers, Text};
 use svc_graph::Kind;
+
+/// An endpoint that a service line names.
+#[derive(Debug, Drop)]
+pub struct EndpointLine {
+    /// The address's text: of 1 to 4,096 bytes.
+    pub address: Text,
+    /// The address is a path of the Unix domain.
+    pub unix: bool,
+}
 
 /// What a service line says.
 #[derive(Debug, Drop)]
@@ -21,8 +30,8 @@ pub struct ServiceLine {
     pub kind: Kind,
     /// The services that it depends on, where the line says so.
     pub after: Option<Numbers>,
-    /// The address of its endpoint, where it has one.
-    pub tcp: Option<Text>,
+    /// Its endpoints, in the order of the line: at most 64.
+    pub endpoints: Items<EndpointLine>,
 }
 
 impl ServiceLine {
@@ -128,17 +137,23 @@ fn take_after(alloc: Global, service: &mut ServiceLine, value: &[u8]) -> Result<
     }
 }
 
-/// Sets the address, where there is none yet.
-#[tactic(auto, unfolding(crate::specs::ServiceLines::with_tcp))]
-fn take_tcp(alloc: Global, service: &mut ServiceLine, value: &[u8]) -> Result<bool, NoMemory>
-    ensures { IfOk result (λ taken. Takes taken (with_tcp service.old value.now) service.new) }
+/// Adds an endpoint, where there are fewer than 64.
+#[tactic(auto, unfolding(crate::specs::ServiceLines::with_endpoint))]
+fn take_endpoint(
+    alloc: Global,
+    service: &mut ServiceLine,
+    unix: bool,
+    value: &[u8],
+) -> Result<bool, NoMemory>
+    ensures { IfOk result (λ taken. Takes taken (with_endpoint service.old unix value.now) service.new) }
 {
-    if service.tcp.is_some() {
+    if service.endpoints.len() >= 64 {
         return Ok(false);
     }
     match address_of(alloc, value)? {
         Some(address) => {
-            service.tcp = Some(address);
+            let endpoint = EndpointLine { address, unix };
+            push_item(alloc, &mut service.endpoints, endpoint)?;
             Ok(true)
         }
         None => Ok(false),
@@ -157,7 +172,9 @@ fn take_item(
     if key == b"after".as_slice() {
         take_after(alloc, service, value)
     } else if key == b"tcp".as_slice() {
-        take_tcp(alloc, service, value)
+        take_endpoint(alloc, service, false, value)
+    } else if key == b"unix".as_slice() {
+        take_endpoint(alloc, service, true, value)
     } else {
         Ok(false)
     }
@@ -200,7 +217,7 @@ pub fn service_of_line(alloc: Global, line: &[u8]) -> Result<Option<ServiceLine>
         name,
         kind,
         after: None,
-        tcp: None,
+        endpoints: Items::new(alloc),
     };
     if take_items(alloc, &mut service, items)? {
         Ok(Some(service))

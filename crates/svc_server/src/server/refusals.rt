@@ -29,8 +29,7 @@ pub enum AddError {
     /// The endpoint with this index, from 0, is the first with a filter that the server doesn't have.
     #[error("endpoint {0} has an unknown filter")]
     UnknownFilter(u64),
-    /// The service bootstraps, or has more than one endpoint, one of the Unix domain, or an address
-    /// that an earlier service has.
+    /// The service bootstraps.
     #[error("the service has a form that isn't built yet")]
     Unbuilt,
     #[error("out of memory")]

@@ -6,11 +6,11 @@ use Rattle.svc_core.proofs.pass.pass.Goals as goal
 pub loop-k-preserved : goal.loop-k-preserved
 loop-k-preserved c = record {
   starts_sized = c.visit.ensures.starts_sized;
-  asks_sized = c.visit.ensures.asks_sized;
-  numbers = c.visit.ensures.numbers ∙ c.loop-k.invariant.numbers;
+  ends_sized = c.visit.ensures.ends_sized;
+  table = c.visit.ensures.table ∙ c.loop-k.invariant.table;
   few = omega arith;
   room = omega arith;
-  passed = passes-then c.args.plan.now c.args.order.now 0 c.loop-k.k (c.loop-k.k + 1) c.args.starts.now c.loop-k.starts c.visit.new.starts
+  passed = passes-then c.args.plan.now c.args.order.now c.args.moment 0 c.loop-k.k (c.loop-k.k + 1) c.args.starts.now c.loop-k.starts c.visit.new.starts
       c.args.endpoints.now.parts c.loop-k.endpoints.parts c.visit.new.endpoints.parts
       (list_of c.args.actions.now) (list_of c.loop-k.actions) (list_of c.visit.new.actions)
       c.loop-k.invariant.passed c.visit.ensures.passed;

@@ -8,5 +8,5 @@ returns-clause-kept c =
     (begin-keeps (record { plan = c.self.inside.plan; order = c.self.inside.order.items; starts = c.self.inside.starts; endpoints = c.self.inside.endpoints.parts; drain = c.self.inside.drain })
     c.self.invariant (rw (← c.self.view_is) at c.requires.first)
     c.pass.new.starts c.pass.new.endpoints.parts (list_of c.args.actions.now) (list_of c.pass.new.actions) (list_of c.run.new.actions)
-    (rw (c.deref.ensures.value, c.in_ok-reserve.ensures.items) at c.pass.ensures.passed)
+    (rw (c.deref.ensures.value, c.moment.ensures, c.in_ok-reserve.ensures.items) at c.pass.ensures.passed)
     c.run.ensures.told)

@@ -9,9 +9,10 @@ use Rattle.svc_core.proofs.machine.Core.step_bound.Goals as goal
 
 pub returns-clause-kept : goal.returns-clause-kept
 returns-clause-kept c =
-    subst (λ (core : CoreData). StepKeeps core (record { plan = c.self.inside.plan; order = c.self.inside.order.items; starts = c.pass.new.starts; endpoints = c.pass.new.endpoints.parts; drain = c.self.inside.drain }) (Bound c.args.s 0 c.args.fd) (list_of c.args.actions.now) (list_of c.pass.new.actions) On)
+    subst (λ (core : CoreData). StepKeeps core (record { plan = c.self.inside.plan; order = c.self.inside.order.items; starts = c.pass.new.starts; endpoints = c.pass.new.endpoints.parts; drain = c.self.inside.drain }) (Bound c.args.s c.args.i c.args.fd) (list_of c.args.actions.now) (list_of c.pass.new.actions) On)
     c.self.view_is
     (step-bound (record { plan = c.self.inside.plan; order = c.self.inside.order.items; starts = c.self.inside.starts; endpoints = c.self.inside.endpoints.parts; drain = c.self.inside.drain })
-    c.self.invariant c.pass.new.starts c.pass.new.endpoints.parts c.args.s c.args.fd (list_of c.args.actions.now) (list_of c.pass.new.actions)
+    c.self.invariant.in_order c.pass.new.starts c.take_bound.new.self.parts c.pass.new.endpoints.parts c.args.s c.args.i c.args.fd (list_of c.args.actions.now) (list_of c.take_bound.new.actions) (list_of c.pass.new.actions)
     (rw (← c.self.view_is) at c.requires.on) (rw (← c.self.view_is) at c.requires.may)
-    (rw (c.deref.ensures.value, c.take_bound.ensures.after, c.in_ok-reserve.ensures.parts) at c.pass.ensures.passed))
+    (rw c.in_ok-reserve.ensures.parts at c.take_bound.ensures.stands)
+    (rw (c.deref.ensures.value, c.moment.ensures) at c.pass.ensures.passed))

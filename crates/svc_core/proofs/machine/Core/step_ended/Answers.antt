@@ -14,4 +14,4 @@ returns-clause-kept c =
     (step-ended (record { plan = c.self.inside.plan; order = c.self.inside.order.items; starts = c.self.inside.starts; endpoints = c.self.inside.endpoints.parts; drain = c.self.inside.drain })
     c.self.invariant c.pass.new.starts c.pass.new.endpoints.parts c.args.s (list_of c.args.actions.now) (list_of c.pass.new.actions)
     (rw (← c.self.view_is) at c.requires.on) (rw (← c.self.view_is) at c.requires.may)
-    (rw (c.deref.ensures.value, c.take_ended.ensures.end) at c.pass.ensures.passed))
+    (rw (c.deref.ensures.value, c.moment.ensures, c.take_ended.ensures.end) at c.pass.ensures.passed))

@@ -26,5 +26,5 @@ pub returns-in-Err-clause-cause : goal.returns-in-Err-clause-cause
 returns-in-Err-clause-cause g c =
     let known = c.loop-service.invariant in
     let next = popped c.args.services.items c.loop-service.services.items c.pop.new.self.items (vec_len c.loop-service.handles) c.in-Some.service known.left c.in-Some.ensures.items in
-    refuses-at g.B.ServiceWithDependents c.loop-service.self.dependencies c.add_service.new.self.dependencies c.loop-service.self.services.items c.add_service.new.self.services.items c.args.services.items
-    (vec_len c.loop-service.handles) c.len-in-Err.result c.in-Some.service c.in-Err.refused.reason next.1 c.len-in-Err.ensures c.in-Err.ensures.same_nodes c.in-Err.ensures.same_services c.in-Err.ensures.cause
+    refuses-at g.B.ServiceWithDependents c.loop-service.self.dependencies c.add_service.new.self.dependencies c.args.services.items
+    (vec_len c.loop-service.handles) c.len-in-Err.result c.in-Some.service c.in-Err.refused.reason next.1 c.len-in-Err.ensures c.in-Err.ensures.same_nodes c.in-Err.ensures.cause

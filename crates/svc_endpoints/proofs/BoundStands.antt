@@ -1,0 +1,172 @@
+-- What a bind that brought a descriptor leaves, with the close of a doubled one.
+use Rattle.std.proofs.Common.{ℕ, Bool, true, false, ◌==◌, not, inl, inr, List, [], ◌∷◌, ◌++◌, ◌≡◌, refl, ap, sym, ◌∙◌, subst, arith, ◌<◌, ◌≤◌, ◌+◌, length, nat_lt, map, Option, Some, if◌then◌else◌}
+use Rattle.std.proofs.lemmas.Bool.{cases_Bool, cases_eq, and_from, or_left, eq-eqb, ne_eqb}
+use Rattle.svc_record.specs.declared.plan.Plan.{Plan}
+use Rattle.svc_record.specs.declared.entry.Entry.TheVariants.{Got, Told}
+use Rattle.svc_record.specs.declared.action.Action.{Action}
+use Rattle.svc_record.specs.declared.action.Action.TheVariants.{Close}
+use Rattle.svc_record.specs.declared.event.Event.TheVariants.{Bound}
+use Rattle.svc_record.specs.Record.{Record, has, times, tell}
+use Rattle.svc_record.specs.Plans.{service_count, endpoints, address}
+use Rattle.svc_record.specs.Descriptors.{Descriptor, has_live, is_close, is_opened, is_doubled, brings}
+use Rattle.svc_record.specs.Drain.{ascending, put_number}
+use Rattle.svc_record.specs.Closes.{is_gone, is_address_abandoned, is_abandoned}
+use Rattle.svc_record.specs.Fits.{is_new}
+use Rattle.svc_record.specs.Tail.{numbers_in}
+use Rattle.svc_record.specs.Told.{Tells, IsGivingUp}
+use Rattle.svc_record.proofs.ClosesOnce.{closed_once}
+use Rattle.svc_endpoints.specs.declared.table.Open.{Open}
+use Rattle.svc_endpoints.specs.EndpointsData.{EndpointsData}
+use Rattle.svc_endpoints.specs.EndpointsState.{IsEndpointsSized, EndpointsStand, last_at, failed_at, is_binding, is_in, distinct, numbers_with}
+use Rattle.svc_endpoints.specs.Effects.{has_open, put_open, bound, bound_again, bound_or_again, close_told}
+use Rattle.svc_endpoints.proofs.GrowLemmas.{gone-same, address-same}
+use Rattle.svc_endpoints.proofs.NumberLemmas.{any-ascending, not_in}
+use Rattle.svc_endpoints.proofs.StatesLemmas.{has_open-is}
+use Rattle.svc_endpoints.proofs.KeptLemmas.{asks_free_binding}
+use Rattle.svc_endpoints.proofs.TableLemmas.{numbers_of-put}
+use Rattle.svc_endpoints.proofs.LiveLemmas.{live-bound, live-doubled}
+use Rattle.svc_endpoints.proofs.OpenedLemmas.{brings-in, opened-in, doubled-opened, live-opened}
+use Rattle.svc_endpoints.proofs.NamedLemmas.{unneeded, abandoned-is}
+use Rattle.svc_endpoints.proofs.OneLiveLemmas.{one_live-is}
+use Rattle.svc_endpoints.proofs.BoundLemmas.{stands-again, stands-bound, kept-again, kept-bound}
+
+not_true_false : (b : Bool) → (b ≡ true → ⊥) → b ≡ false
+not_true_false true f = absurd (f refl)
+not_true_false false f = refl
+
+pub giving-close : (b : Bool) (fd : ℕ) → IsGivingUp (close_told b fd)
+giving-close true fd = tt
+giving-close false fd = tt
+
+module _ (p : Plan) (d : EndpointsData) (q : Record) (s i fd : ℕ) (text : List ℕ) (sized : IsEndpointsSized p d) (inside : s < service_count p) (within : i < length (endpoints p s))
+    (binds : is_binding (last_at d s i) ≡ true) (is : Some text ≡ address p s i) (fresh : is_in fd d.came ≡ false) (stand : EndpointsStand p d q) where
+  free : failed_at d s ≡ false
+  free = asks_free_binding p d s i sized inside within stand.kept binds
+
+  -- the number is new
+  not_came : is_in fd (numbers_in q) ≡ false
+  not_came = sym (any-ascending (λ n. n == fd) (numbers_in q)) ∙ sym (ap (is_in fd) stand.came_are) ∙ fresh
+
+  new : is_new q fd ≡ true
+  new = not_in (has (brings fd) q) (brings-in q fd ∙ not_came)
+
+  not_opened : is_opened p q fd ≡ false
+  not_opened = opened-in p q fd ∙ not_came
+
+  not_closed : has (is_close fd) q ≡ false
+  not_closed = stand.states.closed_came fd new
+
+  no_close : times (is_close fd) q ≡ 0
+  no_close = closed_once p q fd stand.closes_once ∙ (rw not_closed refl)
+
+  not_doubled : is_doubled p q fd ≡ false
+  not_doubled = not_true_false (is_doubled p q fd) (λ h. clash (is_opened p q fd) (doubled-opened p q fd h) not_opened)
+    where
+      clash : (b : Bool) → b ≡ true → b ≡ false → ⊥
+      clash b h g = cc
+
+  not_in_table : (a : Option (List ℕ)) → is_in fd (numbers_with d.table a) ≡ false
+  not_in_table a = not_true_false (is_in fd (numbers_with d.table a)) (λ h. clash (is_opened p q fd) (live-opened p q fd a (ap (is_in fd) (sym (stand.states.with_is a)) ∙ h)) not_opened)
+    where
+      clash : (b : Bool) → b ≡ true → b ≡ false → ⊥
+      clash b h g = cc
+
+  -- its address isn't abandoned, since the service that asked hasn't failed
+  needed : is_address_abandoned p q (address p s i) ≡ false
+  needed = subst (λ a. is_address_abandoned p q a ≡ false) is
+      (not_true_false (is_abandoned p q text) (λ h. unneeded p d.failed d refl text (abandoned-is p d q stand.states text ∙ h) s i inside free (sym is)))
+
+  -- what was opened before is gone as it was
+  other_gone : (g : ℕ) → (fd == g) ≡ false → is_gone p (Got (Bound s i fd) ∷ q) g ≡ is_gone p q g
+  other_gone g off = gone-same p q (Got (Bound s i fd) ∷ q) (λ t. refl) g (rw off refl) (rw off refl)
+
+  opened_before : (g : ℕ) → (fd == g) ≡ false → is_opened p (Got (Bound s i fd) ∷ q) g ≡ true → is_opened p q g ≡ true
+  opened_before g off h = rw off at h
+
+  -- a new descriptor that is alone with its address isn't gone
+  new_stays : has_live p q (address p s i) ≡ false → is_gone p (Got (Bound s i fd) ∷ q) fd ≡ false
+  new_stays alone = rw (eq-eqb fd fd refl, alone, not_doubled) (address-same p q (Got (Bound s i fd) ∷ q) (λ t. refl) (address p s i) ∙ needed)
+
+  new_goes : has_live p q (address p s i) ≡ true → is_gone p (Got (Bound s i fd) ∷ q) fd ≡ true
+  new_goes taken = rw (eq-eqb fd fd refl, taken) refl
+
+  pub after-bound : has_open d.table (address p s i) ≡ false → EndpointsStand p (bound d s i fd text) (Got (Bound s i fd) ∷ q)
+  after-bound none =
+      let states = stands-bound p d s i fd sized inside within binds free q text new is none stand.states in
+      let kept = kept-bound p d s i fd sized inside within binds free text is none not_in_table stand.kept in
+      let alone : has_live p q (address p s i) ≡ false = sym (has_open-is p d q stand.states (address p s i)) ∙ none in
+      record {
+        states = states;
+        kept = kept;
+        asks_due = (refl, stand.asks_due);
+        asks_known = (refl, stand.asks_known);
+        closes_once = (refl, stand.closes_once);
+        fails = stand.fails;
+        closes = λ g came. elim (cases_eq fd g) [
+          | inl e ↦ subst (λ n. times (is_close n) q ≡ (if is_gone p (Got (Bound s i fd) ∷ q) n then 1 else 0)) e (no_close ∙ ap (λ b. if b then 1 else 0) (sym (new_stays alone)))
+          | inr ne ↦ (let off = ne_eqb fd g ne in stand.closes g (opened_before g off came) ∙ ap (λ b. if b then 1 else 0) (sym (other_gone g off)))
+        ];
+        one_live = one_live-is p (bound d s i fd text) (Got (Bound s i fd) ∷ q) kept states;
+        open_are = numbers_of-put (record { fd = fd; address = text }) d.table ∙ ap (put_number fd) stand.open_are
+            ∙ ap (λ w. ascending (map (λ (x : Descriptor). x.number) w)) (sym (live-bound p q s i fd new not_closed));
+        came_are = ap (put_number fd) stand.came_are;
+        came_apart = and_from (not (is_in fd (numbers_in q))) (distinct (numbers_in q)) (not_in (is_in fd (numbers_in q)) not_came) stand.came_apart;
+      }
+
+  pub after-again : has_open d.table (address p s i) ≡ true → EndpointsStand p (bound_again d s i fd) (Told (Close fd) ∷ Got (Bound s i fd) ∷ q)
+  after-again some =
+      let states = stands-again p d s i fd sized inside within binds free q new some stand.states in
+      let kept = kept-again p d s i fd sized inside within binds free stand.kept in
+      let taken : has_live p q (address p s i) ≡ true = sym (has_open-is p d q stand.states (address p s i)) ∙ some in
+      record {
+        states = states;
+        kept = kept;
+        asks_due = (refl, (refl, stand.asks_due));
+        asks_known = (refl, (refl, stand.asks_known));
+        closes_once = (and_from (is_opened p (Got (Bound s i fd) ∷ q) fd) (not (has (is_close fd) q)) (or_left (fd == fd) (is_opened p q fd) (eq-eqb fd fd refl)) (not_in (has (is_close fd) q) not_closed), (refl, stand.closes_once));
+        fails = stand.fails;
+        closes = λ g came. elim (cases_eq fd g) [
+          | inl e ↦ subst (λ n. times (is_close n) (Told (Close fd) ∷ Got (Bound s i fd) ∷ q) ≡ (if is_gone p (Got (Bound s i fd) ∷ q) n then 1 else 0)) e (closed_up ∙ ap (λ b. if b then 1 else 0) (sym (new_goes taken)))
+          | inr ne ↦ (let off = ne_eqb fd g ne in not_counted g off ∙ stand.closes g (opened_before g off came) ∙ ap (λ b. if b then 1 else 0) (sym (other_gone g off)))
+        ];
+        one_live = one_live-is p (bound_again d s i fd) (Told (Close fd) ∷ Got (Bound s i fd) ∷ q) kept states;
+        open_are = stand.open_are ∙ ap (λ w. ascending (map (λ (x : Descriptor). x.number) w)) (sym (live-doubled p q s i fd new));
+        came_are = ap (put_number fd) stand.came_are;
+        came_apart = and_from (not (is_in fd (numbers_in q))) (distinct (numbers_in q)) (not_in (is_in fd (numbers_in q)) not_came) stand.came_apart;
+      }
+    where
+      closed_up : times (is_close fd) (Told (Close fd) ∷ Got (Bound s i fd) ∷ q) ≡ 1
+      closed_up = rw (eq-eqb fd fd refl, no_close) refl
+
+      not_counted : (g : ℕ) → (fd == g) ≡ false → times (is_close g) (Told (Close fd) ∷ Got (Bound s i fd) ∷ q) ≡ times (is_close g) q
+      not_counted g off = rw off refl
+
+  pub after-answer : (b : Bool) → has_open d.table (Some text) ≡ b → EndpointsStand p (bound_or_again b d s i fd text) (tell (Got (Bound s i fd) ∷ q) (close_told b fd))
+  after-answer true e = after-again (subst (λ a. has_open d.table a ≡ true) is e)
+  after-answer false e = after-bound (subst (λ a. has_open d.table a ≡ false) is e)
+
+-- what is told, and how much
+pub tells-bound : (p : Plan) (d made_now : EndpointsData) (s i fd : ℕ) (text : List ℕ) (before after : List Action) → IsEndpointsSized p d → s < service_count p → i < length (endpoints p s)
+    → is_binding (last_at d s i) ≡ true → Some text ≡ address p s i → is_in fd d.came ≡ false
+    → made_now ≡ bound_or_again (has_open d.table (Some text)) d s i fd text → after ≡ before ++ close_told (has_open d.table (Some text)) fd
+    → Tells before after (λ told. IsGivingUp told × ((q : Record) → EndpointsStand p d q → EndpointsStand p made_now (tell (Got (Bound s i fd) ∷ q) told)))
+tells-bound p d made_now s i fd text before after sized inside within binds is fresh made appended = record {
+  told = close_told (has_open d.table (Some text)) fd;
+  appended = appended;
+  kept = (
+    giving-close (has_open d.table (Some text)) fd,
+    λ q stand. subst (λ (m : EndpointsData). EndpointsStand p m (tell (Got (Bound s i fd) ∷ q) (close_told (has_open d.table (Some text)) fd))) (sym made)
+        (after-answer p d q s i fd text sized inside within binds is fresh stand (has_open d.table (Some text)) refl),
+  );
+}
+
+longer : (o : Open) (table : List Open) → length (put_open o table) ≡ length table + 1
+longer o [] = refl
+longer o (x ∷ more) = let h = longer o more in elim (cases_Bool (nat_lt o.fd x.fd)) [
+  | inl below ↦ rw below (omega arith)
+  | inr above ↦ rw above (omega (arith, h))
+]
+
+pub bound-few : (b : Bool) (d : EndpointsData) (s i fd : ℕ) (text : List ℕ) → length (close_told b fd) + length (bound_or_again b d s i fd text).table ≤ length d.table + 1
+bound-few true d s i fd text = omega arith
+bound-few false d s i fd text = let h = longer (record { fd = fd; address = text }) d.table in omega (arith, h)

@@ -1,0 +1,90 @@
+-- The table of open descriptors, walked from its front.
+use Rattle.std.proofs.Common.{ℕ, zero, Bool, true, false, inl, inr, List, [], ◌∷◌, ◌++◌, append_assoc, length-append, map, filter, take, ◌≡◌, refl, ap, sym, ◌∙◌, arith, ◌<◌, ◌≤◌, ◌+◌, length, insert, nat_lt, slice_index, Some, drop, drop-cons, suc, get_or, bytes_eq}
+use Rattle.svc_endpoints.specs.declared.table.Open.{Open}
+use Rattle.std.proofs.lemmas.Bool.{cases_Bool, cases_eq, false_from_ne_true}
+use Rattle.std.proofs.lemmas.List.{append-nil, take_more, get_or-map, map-append}
+use Rattle.std.proofs.lemmas.List.Elements.{filter-append}
+use Rattle.std.proofs.lemmas.Bool.Decides.{Decides-ltb}
+use Rattle.svc_conf.specs.Items.{list_of, spare}
+use Rattle.svc_record.specs.declared.action.Action.{Action}
+use Rattle.svc_record.specs.declared.action.Action.TheVariants.{Close}
+use Rattle.svc_record.specs.Drain.{put_number}
+use Rattle.svc_endpoints.specs.EndpointsState.{numbers_with, numbers_of_table}
+use Rattle.svc_endpoints.specs.Effects.{put_open}
+use Rattle.svc_endpoints.proofs.RestLemmas.{out}
+
+front : (table : List Open) (k : ℕ) (x : Open) → k < length table → x ≡ get_or table k x → drop k table ≡ x ∷ drop (k + 1) table
+front table k x lt e = let one : suc k ≡ k + 1 = omega arith in drop-cons table k x lt ∙ ap (λ y. y ∷ drop (suc k) table) (sym e) ∙ ap (λ n. x ∷ drop n table) one
+
+pub numbers-at : (table : List Open) (k : ℕ) (x : Open) (a : List ℕ) → k < length table → x ≡ get_or table k x → bytes_eq x.address a ≡ true → numbers_with (drop k table) (Some a) ≡ x.fd ∷ numbers_with (drop (k + 1) table) (Some a)
+numbers-at table k x a lt e same = ap (λ w. numbers_with w (Some a)) (front table k x lt e) ∙ (rw same refl)
+
+pub numbers-past : (table : List Open) (k : ℕ) (x : Open) (a : List ℕ) → k < length table → x ≡ get_or table k x → bytes_eq x.address a ≡ false → numbers_with (drop k table) (Some a) ≡ numbers_with (drop (k + 1) table) (Some a)
+numbers-past table k x a lt e same = ap (λ w. numbers_with w (Some a)) (front table k x lt e) ∙ (rw same refl)
+
+-- the numbers of a table with one more descriptor
+pub numbers_of-put : (o : Open) (table : List Open) → numbers_of_table (put_open o table) ≡ put_number o.fd (numbers_of_table table)
+numbers_of-put o [] = refl
+numbers_of-put o (x ∷ more) = elim (cases_Bool (nat_lt o.fd x.fd)) [
+  | inl below ↦ rw below refl
+  | inr above ↦ rw above (ap (λ w. x.fd ∷ w) (numbers_of-put o more))
+]
+
+-- where it goes among the others
+pub insert-put_open : (table : List Open) (k : ℕ) (o : Open) → k ≤ length table → ((j : ℕ) → j < k → slice_index (numbers_of_table table) j ≤ o.fd) → (k < length table → o.fd < slice_index (numbers_of_table table) k)
+    → insert table k o ≡ put_open o table
+insert-put_open [] zero o within below above = refl
+insert-put_open [] (suc k) o within below above = absurd (omega arith)
+insert-put_open (x ∷ more) zero o within below above =
+    let less : o.fd < x.fd = above (omega arith) in
+    rw ((Decides-ltb o.fd x.fd).1 less) refl
+insert-put_open (x ∷ more) (suc k) o within below above =
+    let most : x.fd ≤ o.fd = below 0 (omega arith) in
+    rw (false_from_ne_true (nat_lt o.fd x.fd) (λ h. let less = (Decides-ltb o.fd x.fd).0 h in absurd (omega arith)))
+    (ap (λ xs. x ∷ xs) (insert-put_open more k o (omega arith) (λ j lt. below (suc j) (omega arith)) (λ lt. above (omega arith))))
+
+-- the number of one more of them
+pub numbers-next : (table : List Open) (k fd : ℕ) (x : Open) → k < length table → x ≡ get_or table k x → x.fd ≤ fd → ((j : ℕ) → j < k → slice_index (numbers_of_table table) j ≤ fd)
+    → (j : ℕ) → j < k + 1 → slice_index (numbers_of_table table) j ≤ fd
+numbers-next table k fd x lt e here below j less = elim (cases_eq j k) [
+  | inl f ↦ (let at : slice_index (numbers_of_table table) k ≡ x.fd = get_or-map (λ (o : Open). o.fd) table k x 0 lt ∙ ap (λ (o : Open). o.fd) (sym e) in rw f (omega (arith, at)))
+  | inr ne ↦ below j (omega arith)
+]
+
+-- what goes of one more of them
+module _ (gone : List ℕ → Bool) (table : List Open) (k : ℕ) (x : Open) (lt : k < length table) (is : x ≡ get_or table k x) where
+  out_next : out gone (take (k + 1) table) ≡ out gone (take k table) ++ numbers_of_table (filter (λ (o : Open). gone o.address) (x ∷ []))
+  out_next = ap (out gone) (take_more table k x lt ∙ ap (λ y. take k table ++ y ∷ []) (sym is))
+      ∙ ap numbers_of_table (filter-append (λ (o : Open). gone o.address) (take k table) (x ∷ []))
+      ∙ map-append (λ (o : Open). o.fd) (filter (λ (o : Open). gone o.address) (take k table)) (filter (λ (o : Open). gone o.address) (x ∷ []))
+
+  pub out-here : gone x.address ≡ true → out gone (take (k + 1) table) ≡ out gone (take k table) ++ x.fd ∷ []
+  out-here h = out_next ∙ (rw h refl)
+
+  pub out-past : gone x.address ≡ false → out gone (take (k + 1) table) ≡ out gone (take k table)
+  out-past h = out_next ∙ (rw h (append-nil (out gone (take k table))))
+
+-- of the first k descriptors those of these addresses are closed
+pub record ClosedUpTo (gone : List ℕ → Bool) (table : List Open) (start here : List Action × ℕ) (k : ℕ) : Type 0 where
+  pub few : length (out gone (take k table)) ≤ k
+  pub room : spare start ≤ spare here + length (out gone (take k table))
+  pub told : list_of here ≡ list_of start ++ map Close (out gone (take k table))
+
+module _ (gone : List ℕ → Bool) (table : List Open) (k : ℕ) (x : Open) (lt : k < length table) (is : x ≡ get_or table k x) (start here : List Action × ℕ) (was : ClosedUpTo gone table start here k) where
+  pub closes-past : gone x.address ≡ false → ClosedUpTo gone table start here (k + 1)
+  closes-past h = let same = out-past gone table k x lt is h in record {
+    few = rw same (let few = was.few in omega arith);
+    room = rw same was.room;
+    told = rw same was.told;
+  }
+
+  pub closes-here : (next : List Action × ℕ) → gone x.address ≡ true → list_of next ≡ list_of here ++ Close x.fd ∷ [] → spare here ≤ spare next + 1 → ClosedUpTo gone table start next (k + 1)
+  closes-here next h told room =
+      let more = out-here gone table k x lt is h in
+      let longer : length (out gone (take (k + 1) table)) ≡ length (out gone (take k table)) + 1 = ap length more ∙ length-append (out gone (take k table)) (x.fd ∷ []) in
+      record {
+        few = let few = was.few in omega (arith, longer);
+        room = let before = was.room in omega (arith, longer);
+        told = told ∙ ap (λ w. w ++ Close x.fd ∷ []) was.told ∙ append_assoc (list_of start) (map Close (out gone (take k table))) (Close x.fd ∷ [])
+            ∙ ap (λ w. list_of start ++ w) (sym (ap (map Close) more ∙ map-append Close (out gone (take k table)) (x.fd ∷ [])));
+      }

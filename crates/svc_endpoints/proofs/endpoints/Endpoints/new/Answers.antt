@@ -1,0 +1,7 @@
+use Rattle.svc_conf.specs.Items.{list_of}
+use Rattle.svc_endpoints.proofs.NewLemmas.{stands-new}
+use Rattle.svc_endpoints.proofs.endpoints.Endpoints.new.Goals as goal
+
+pub returns-clause-stands : goal.returns-clause-stands
+returns-clause-stands c = stands-new c.args.plan.now (record { rows = c.in_ok-rows.rows.items; failed = c.in_ok-failed.failed.items; table = list_of c.new.result; came = list_of c.new-2.result })
+    c.in_ok-rows.ensures.blank c.in_ok-failed.ensures.blank c.new.ensures c.new-2.ensures

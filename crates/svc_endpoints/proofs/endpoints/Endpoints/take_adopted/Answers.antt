@@ -1,0 +1,11 @@
+use Rattle.std.proofs.Common.{subst, sym, ◌∷◌}
+use Rattle.svc_record.specs.declared.entry.Entry.TheVariants.{Got}
+use Rattle.svc_record.specs.declared.event.Event.TheVariants.{Adopted}
+use Rattle.svc_endpoints.specs.EndpointsData.{EndpointsData}
+use Rattle.svc_endpoints.specs.EndpointsState.{EndpointsStand}
+use Rattle.svc_endpoints.proofs.AnswerLemmas.{after-adopted}
+use Rattle.svc_endpoints.proofs.endpoints.Endpoints.take_adopted.Goals as goal
+
+pub returns-clause-stands : goal.returns-clause-stands
+returns-clause-stands c = λ q stand. subst (λ (e : EndpointsData). EndpointsStand c.args.plan.now e (Got (Adopted c.args.s c.args.i) ∷ q)) (sym c.hold.ensures)
+    (after-adopted c.args.plan.now c.args.self.now.parts q c.args.s c.args.i c.requires.sized c.requires.service c.requires.endpoint stand c.requires.asks)

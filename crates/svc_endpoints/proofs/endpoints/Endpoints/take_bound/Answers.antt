@@ -1,0 +1,24 @@
+use Rattle.std.proofs.Common.{arith, ap, ◌∙◌, length, length-append, Some}
+use Rattle.svc_conf.specs.Items.{list_of}
+use Rattle.svc_endpoints.specs.EndpointsData.{EndpointsData}
+use Rattle.svc_endpoints.specs.Effects.{has_open, close_told}
+use Rattle.svc_endpoints.proofs.BoundStands.{tells-bound, bound-few}
+use Rattle.svc_endpoints.proofs.endpoints.Endpoints.take_bound.Goals as goal
+
+pub returns-clause-stands : goal.returns-clause-stands
+returns-clause-stands c = tells-bound c.args.plan.now c.args.self.now.parts c.bind_or_close.new.self.parts c.args.s c.args.i c.args.fd c.args.text (list_of c.args.actions.now) (list_of c.bind_or_close.new.actions)
+    c.requires.sized c.requires.service c.requires.endpoint c.requires.asks c.requires.text c.requires.new c.bind_or_close.ensures.after c.bind_or_close.ensures.told
+
+pub returns-clause-few : goal.returns-clause-few
+returns-clause-few c =
+    let few = bound-few (has_open c.args.self.now.parts.table (Some c.args.text)) c.args.self.now.parts c.args.s c.args.i c.args.fd c.args.text in
+    let told = ap length c.bind_or_close.ensures.told ∙ length-append (list_of c.args.actions.now) (close_told (has_open c.args.self.now.parts.table (Some c.args.text)) c.args.fd) in
+    let rest = ap (λ (m : EndpointsData). length m.table) c.bind_or_close.ensures.after in
+    omega (arith, few, told, rest)
+
+pub returns-clause-room : goal.returns-clause-room
+returns-clause-room c =
+    let few = bound-few (has_open c.args.self.now.parts.table (Some c.args.text)) c.args.self.now.parts c.args.s c.args.i c.args.fd c.args.text in
+    let rest = ap (λ (m : EndpointsData). length m.table) c.bind_or_close.ensures.after in
+    let room = c.bind_or_close.ensures.room in
+    omega (arith, few, rest, room)

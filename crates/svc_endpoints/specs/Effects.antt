@@ -1,0 +1,137 @@
+-- What each answer makes of the states.
+use Rattle.std.specs.Prelude.{ℕ, Bool, false, true, not, ◌&&◌, ◌||◌, ◌+◌, List, [], ◌∷◌, Option, Some, None, map, filter, slice_index_or, slice_set, nat_le, nat_lt, if◌then◌else◌}
+use Rattle.std.specs.List.{list_any, list_all}
+use Rattle.svc_record.specs.declared.plan.Plan.{Plan}
+use Rattle.svc_record.specs.Plans.{services, address, names}
+use Rattle.svc_record.specs.Failed.{in_use_limit}
+use Rattle.svc_record.specs.Drain.{put_number}
+use Rattle.svc_record.specs.declared.action.Action.{Action}
+use Rattle.svc_record.specs.declared.action.Action.TheVariants.{Fail, Close}
+use Rattle.svc_endpoints.specs.declared.states.Last.{Last}
+use Rattle.svc_endpoints.specs.declared.states.Last.TheVariants.{Unasked, Binding, Busied, Adopting, Holding, Lost}
+use Rattle.svc_endpoints.specs.declared.states.EndState.{EndState}
+use Rattle.svc_endpoints.specs.declared.table.Open.{Open}
+use Rattle.svc_endpoints.specs.EndpointsData.{EndpointsData}
+use Rattle.svc_endpoints.specs.EndpointsState.{last_at, refusals_at, numbers_with, numbers_of_table}
+
+-- the first of them
+abbrev pub first_of : List ℕ → Option ℕ
+first_of [] = None
+first_of (x ∷ more) = Some x
+
+-- there is one
+abbrev pub not_empty : List ℕ → Bool
+not_empty [] = false
+not_empty (x ∷ more) = true
+
+-- the table has a descriptor with this address
+abbrev pub has_open : List Open → Option (List ℕ) → Bool
+has_open table a = not_empty (numbers_with table a)
+
+-- endpoint i of s has this state
+abbrev pub put : EndpointsData → ℕ → ℕ → EndState → EndpointsData
+put d s i x = record d { rows = slice_set d.rows s (slice_set (slice_index_or d.rows s []) i x) }
+
+-- endpoint i of s has this state, and its count stays
+abbrev pub put_last : EndpointsData → ℕ → ℕ → Last → EndpointsData
+put_last d s i x = put d s i (record { last = x; refusals = refusals_at d s i })
+
+-- the service has failed, where b says so
+abbrev pub fail_if : Bool → ℕ → EndpointsData → EndpointsData
+fail_if b s d = if b then record d { failed = slice_set d.failed s true } else d
+
+-- the service fails at one more answer that the endpoint's address is in use
+abbrev pub is_last_refusal : Plan → EndpointsData → ℕ → ℕ → Bool
+is_last_refusal p d s i = not (has_open d.table (address p s i)) && nat_le (in_use_limit p s i) (refusals_at d s i + 1)
+
+-- the endpoint's address was in use at the moment: this counts while no live descriptor has it
+abbrev pub refused : Plan → EndpointsData → ℕ → ℕ → ℕ → EndpointsData
+refused p d s i moment =
+    fail_if (is_last_refusal p d s i) s
+    (put d s i (record { last = Busied moment; refusals = if is_last_refusal p d s i then refusals_at d s i else (if not (has_open d.table (address p s i)) then refusals_at d s i + 1 else refusals_at d s i) }))
+
+-- the endpoint couldn't be bound
+abbrev pub bind_failed : EndpointsData → ℕ → ℕ → EndpointsData
+bind_failed d s i = fail_if true s (put_last d s i Unasked)
+
+-- the endpoint couldn't take what it was offered
+abbrev pub adopt_failed : EndpointsData → ℕ → ℕ → EndpointsData
+adopt_failed d s i = fail_if true s (put_last d s i Lost)
+
+-- what is offered is held
+abbrev pub held_now : Last → Last
+held_now (Adopting fd) = Holding fd
+held_now x = x
+
+-- the endpoint holds what it was offered
+abbrev pub adopted : EndpointsData → ℕ → ℕ → EndpointsData
+adopted d s i = put_last d s i (held_now (last_at d s i))
+
+-- the endpoint is asked for
+abbrev pub asked : EndpointsData → ℕ → ℕ → EndpointsData
+asked d s i = put_last d s i Binding
+
+-- a live descriptor is offered to the endpoint
+abbrev pub offered : EndpointsData → ℕ → ℕ → ℕ → EndpointsData
+offered d s i fd = put_last d s i (Adopting fd)
+
+-- a descriptor with this number came
+abbrev pub with_number : ℕ → EndpointsData → EndpointsData
+with_number fd d = record d { came = put_number fd d.came }
+
+-- a doubled descriptor came, and the endpoint is unasked again
+abbrev pub bound_again : EndpointsData → ℕ → ℕ → ℕ → EndpointsData
+bound_again d s i fd = put_last (with_number fd d) s i Unasked
+
+-- the table with one more descriptor, in ascending number
+abbrev pub put_open : Open → List Open → List Open
+put_open o [] = o ∷ []
+put_open o (x ∷ more) = if nat_lt o.fd x.fd then o ∷ x ∷ more else x ∷ put_open o more
+
+-- a descriptor with this number and this address came, and is live
+abbrev pub with_open : ℕ → List ℕ → EndpointsData → EndpointsData
+with_open fd text d = record d { came = put_number fd d.came; table = put_open (record { fd = fd; address = text }) d.table }
+
+-- the endpoint is held by a new descriptor with this address
+abbrev pub bound : EndpointsData → ℕ → ℕ → ℕ → List ℕ → EndpointsData
+bound d s i fd text = put_last (with_open fd text d) s i (Holding fd)
+
+-- what the bind brought is closed again where a live descriptor has the address, else it holds the endpoint
+abbrev pub bound_or_again : Bool → EndpointsData → ℕ → ℕ → ℕ → List ℕ → EndpointsData
+bound_or_again doubled d s i fd text = if doubled then bound_again d s i fd else bound d s i fd text
+
+-- the close of a doubled descriptor
+abbrev pub close_told : Bool → ℕ → List Action
+close_told doubled fd = if doubled then Close fd ∷ [] else []
+
+-- some service names the address, and all that name it have failed by these flags
+abbrev pub is_abandoned_by : Plan → List Bool → List ℕ → Bool
+is_abandoned_by p failed a = list_any (λ s. names p s a) (services p) && list_all (λ s. not (names p s a) || slice_index_or failed s false) (services p)
+
+-- the descriptor's address is abandoned
+abbrev pub is_done_for : Plan → List Bool → Open → Bool
+is_done_for p failed o = is_abandoned_by p failed o.address
+
+-- the numbers of the table's descriptors whose addresses are abandoned
+abbrev pub abandoned_numbers : Plan → List Bool → List Open → List ℕ
+abandoned_numbers p failed table = numbers_of_table (filter (is_done_for p failed) table)
+
+-- the table without them
+abbrev pub without_abandoned : Plan → List Bool → List Open → List Open
+without_abandoned p failed table = filter (λ (o : Open). not (is_done_for p failed o)) table
+
+-- the states without them
+abbrev pub cleared : Plan → EndpointsData → EndpointsData
+cleared p d = record d { table = without_abandoned p d.failed d.table }
+
+-- a service is given up, and what is abandoned now is closed
+abbrev pub given_up : Plan → ℕ → EndpointsData → List Action
+given_up p s d = Fail s ∷ map Close (abandoned_numbers p d.failed d.table)
+
+-- the same where b says so
+abbrev pub cleared_if : Bool → Plan → EndpointsData → EndpointsData
+cleared_if b p d = if b then cleared p d else d
+
+-- what is told where b says so
+abbrev pub given_up_if : Bool → Plan → ℕ → EndpointsData → List Action
+given_up_if b p s d = if b then given_up p s d else []

@@ -1,0 +1,4 @@
+pub mod EndpointsData
+pub mod EndpointsState
+pub mod Effects
+pub mod Visits

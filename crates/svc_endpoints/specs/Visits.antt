@@ -1,0 +1,81 @@
+-- One visit of a service: what it tells, and what it leaves.
+use Rattle.std.specs.Prelude.{ℕ, Bool, true, false, ◌≡◌, ◌<◌, not, ◌&&◌, ◌||◌, List, [], ◌∷◌, Option, Some, None, length, if◌then◌else◌}
+use Rattle.std.specs.List.{list_any}
+use Rattle.svc_record.specs.declared.plan.Plan.{Plan}
+use Rattle.svc_record.specs.declared.action.Action.{Action}
+use Rattle.svc_record.specs.declared.action.Action.TheVariants.{Bind, Adopt}
+use Rattle.svc_record.specs.Plans.{endpoints, address, any_with, same_address, endpoint_numbers}
+use Rattle.svc_record.specs.Record.{Record, tell}
+use Rattle.svc_record.specs.Endpoints.{endpoint_right}
+use Rattle.svc_endpoints.specs.declared.states.Last.{Last}
+use Rattle.svc_endpoints.specs.declared.visit.Visit.{Visit}
+use Rattle.svc_endpoints.specs.declared.visit.Visit.TheVariants.{Nothing, Asks, Offers}
+use Rattle.svc_endpoints.specs.EndpointsData.{EndpointsData}
+use Rattle.svc_endpoints.specs.EndpointsState.{last_at, failed_at, numbers_with, is_asking, is_holding, rests_in, EndpointsStand}
+use Rattle.svc_endpoints.specs.Effects.{first_of, asked, offered}
+
+-- an ask is open, or it rests, while no live descriptor has its address
+abbrev pub busy_of : Bool → ℕ → Last → Bool
+busy_of failed moment x = is_asking x || (not failed && rests_in x moment)
+
+-- the same of endpoint k of t
+abbrev pub busy_in : EndpointsData → ℕ → ℕ → ℕ → Bool
+busy_in d moment t k = busy_of (failed_at d t) moment (last_at d t k)
+
+-- the same for one of the service's endpoints with the address
+abbrev pub any_busy : Plan → EndpointsData → ℕ → Option (List ℕ) → ℕ → Bool
+any_busy p d moment a t = list_any (λ k. same_address (address p t k) a && busy_in d moment t k) (endpoint_numbers p t)
+
+-- the actions of a visit
+abbrev pub told_by : ℕ → Visit → List Action
+told_by s Nothing = []
+told_by s (Asks i) = Bind s i ∷ []
+told_by s (Offers i fd) = Adopt s i fd ∷ []
+
+-- what the visit makes of the states
+abbrev pub after : EndpointsData → ℕ → Visit → EndpointsData
+after d s Nothing = d
+after d s (Asks i) = asked d s i
+after d s (Offers i fd) = offered d s i fd
+
+-- the endpoint is one of the service
+abbrev pub IsWithin : Plan → ℕ → Visit → Type 0
+IsWithin p s Nothing = Unit {0}
+IsWithin p s (Asks i) = i < length (endpoints p s)
+IsWithin p s (Offers i fd) = i < length (endpoints p s)
+
+-- the first endpoint that isn't held
+pub record IsFirst (p : Plan) (d : EndpointsData) (s j : ℕ) : Type 0 where
+  pub within : j < length (endpoints p s)
+  pub missing : is_holding (last_at d s j) ≡ false
+  pub earlier : (k : ℕ) → k < j → is_holding (last_at d s k) ≡ true
+
+-- offered what is live of its address, else asked for where nobody is busy with the address
+abbrev pub ask_or_offer : Bool → ℕ → Option ℕ → Visit
+ask_or_offer kept_busy j (Some fd) = Offers j fd
+ask_or_offer kept_busy j None = if kept_busy then Nothing else Asks j
+
+-- what is done for the first endpoint that isn't held
+abbrev pub decide_at : Plan → EndpointsData → ℕ → ℕ → ℕ → Visit
+decide_at p d s moment j =
+    if is_asking (last_at d s j) then Nothing
+    else ask_or_offer (any_with p (address p s j) (busy_in d moment)) j (first_of (numbers_with d.table (address p s j)))
+
+-- what is done for the service: nothing where it isn't started, has failed or has all it needs
+pub record IsDecided (p : Plan) (d : EndpointsData) (s : ℕ) (on : Bool) (moment : ℕ) (v : Visit) : Type 0 where
+  pub off : on ≡ false → v ≡ Nothing
+  pub failed : failed_at d s ≡ true → v ≡ Nothing
+  pub held : on ≡ true → failed_at d s ≡ false → ((i : ℕ) → i < length (endpoints p s) → is_holding (last_at d s i) ≡ true) → v ≡ Nothing
+  pub first : on ≡ true → failed_at d s ≡ false → (j : ℕ) → IsFirst p d s j → v ≡ decide_at p d s moment j
+
+-- nothing, or one ask of an endpoint of the service
+abbrev pub IsAskOf : ℕ → List Action → Type 0
+IsAskOf s [] = Unit {0}
+IsAskOf s (Bind t i ∷ []) = t ≡ s
+IsAskOf s (Adopt t i fd ∷ []) = t ≡ s
+IsAskOf s _ = ⊥
+
+-- after a visit the parts stand for the longer record, and each endpoint of the service holds or waits, where the service is at work
+pub record Visited (p : Plan) (d : EndpointsData) (s : ℕ) (q : Record) (told : List Action) : Type 0 where
+  pub stands : EndpointsStand p d (tell q told)
+  pub right : (i : ℕ) → i < length (endpoints p s) → endpoint_right p (tell q told) s i ≡ true

@@ -1,0 +1,215 @@
+//! What answers to asks make of the endpoints.
+
+ghost use Rattle.std.specs.Prelude.{◌≡◌, ◌+◌, ◌<◌, ◌≤◌, ◌++◌, ◌∷◌, ◌==◌, [], length, slice_index_or, ℕ, Some, None, Option, map, true, false};
+ghost use Rattle.std.specs.List.{list_any};
+ghost use Rattle.svc_conf.specs.Items.{list_of, spare};
+ghost use Rattle.svc_record.specs.declared.entry.Entry.TheVariants.{Got};
+ghost use Rattle.svc_record.specs.declared.event.Event.TheVariants.{Bound, InUse, BindFailed, Adopted, AdoptFailed};
+ghost use Rattle.svc_record.specs.Plans.{service_count, endpoints, address};
+ghost use Rattle.svc_record.specs.Record.{Record, now, tell};
+ghost use Rattle.svc_record.specs.Told.{Tells, IsGivingUp};
+ghost use Rattle.svc_endpoints.specs.EndpointsState.{IsEndpointsSized, EndpointsStand, last_at, is_binding, is_adopting};
+ghost use Rattle.svc_endpoints.specs.Effects.{is_last_refusal, refused, bind_failed, adopt_failed, adopted, bound_or_again, has_open, cleared_if, given_up_if, close_told};
+
+use crate::endpoints::Endpoints;
+use crate::naming::{address_of, limit};
+use crate::states::{EndState, Last, held_now};
+use svc_conf::Text;
+use svc_record::{Action, Actions, Plan};
+
+impl Endpoints {
+    /// The bind of the endpoint brought a descriptor: it holds the endpoint, or is closed again
+    /// where a live one has the address. Room for it was reserved.
+    pub fn take_bound(
+        &mut self,
+        plan: &Plan,
+        s: u32,
+        i: u32,
+        fd: u64,
+        text: Text,
+        actions: &mut Actions,
+    )
+        requires sized { IsEndpointsSized plan.now self.old.parts }
+        requires service { s < service_count plan.now }
+        requires endpoint { i < length (endpoints plan.now s) }
+        requires asks { is_binding (last_at self.old.parts s i) ≡ true }
+        requires text { Some text ≡ address plan.now s i }
+        requires new { list_any (λ n. n == fd) self.old.parts.came ≡ false }
+        requires memory { 0 < self.old.room }
+        requires room { length self.old.parts.table + 2 ≤ spare actions.old }
+        ensures sized { IsEndpointsSized plan.now self.new.parts }
+        ensures stands { Tells (list_of actions.old) (list_of actions.new) (λ told. IsGivingUp told × ((q : Record) → EndpointsStand plan.now self.old.parts q → EndpointsStand plan.now self.new.parts (tell (Got (Bound s i fd) ∷ q) told))) }
+        ensures room { spare actions.old + length self.new.parts.table ≤ spare actions.new + length self.old.parts.table + 2 }
+        ensures few { length (list_of actions.new) + length self.new.parts.table ≤ length (list_of actions.old) + length self.old.parts.table + 2 }
+    {
+        self.bind_or_close(plan, s, i, fd, text, actions);
+    }
+
+    /// The address of the endpoint was in use at the moment, in milliseconds. The endpoint rests,
+    /// or its service fails, is given up, and what nobody needs any more is closed.
+    pub fn take_in_use(&mut self, plan: &Plan, s: u32, i: u32, moment: u64, actions: &mut Actions)
+        requires sized { IsEndpointsSized plan.now self.old.parts }
+        requires service { s < service_count plan.now }
+        requires endpoint { i < length (endpoints plan.now s) }
+        requires asks { is_binding (last_at self.old.parts s i) ≡ true }
+        requires room { length self.old.parts.table + 2 ≤ spare actions.old }
+        ensures sized { IsEndpointsSized plan.now self.new.parts }
+        ensures stands { Tells (list_of actions.old) (list_of actions.new) (λ told. IsGivingUp told × ((q : Record) → moment ≡ now q → EndpointsStand plan.now self.old.parts q → EndpointsStand plan.now self.new.parts (tell (Got (InUse s i) ∷ q) told))) }
+        ensures room { spare actions.old + length self.new.parts.table ≤ spare actions.new + length self.old.parts.table + 2 }
+        ensures few { length (list_of actions.new) + length self.new.parts.table ≤ length (list_of actions.old) + length self.old.parts.table + 2 }
+    {
+        let fails = self.refuse(plan, s, i, moment);
+        self.give_up_if(fails, plan, s, actions);
+    }
+
+    /// The endpoint couldn't be bound: its service fails, is given up, and what nobody needs any
+    /// more is closed.
+    pub fn take_bind_failed(&mut self, plan: &Plan, s: u32, i: u32, actions: &mut Actions)
+        requires sized { IsEndpointsSized plan.now self.old.parts }
+        requires service { s < service_count plan.now }
+        requires endpoint { i < length (endpoints plan.now s) }
+        requires asks { is_binding (last_at self.old.parts s i) ≡ true }
+        requires room { length self.old.parts.table + 2 ≤ spare actions.old }
+        ensures sized { IsEndpointsSized plan.now self.new.parts }
+        ensures stands { Tells (list_of actions.old) (list_of actions.new) (λ told. IsGivingUp told × ((q : Record) → EndpointsStand plan.now self.old.parts q → EndpointsStand plan.now self.new.parts (tell (Got (BindFailed s i) ∷ q) told))) }
+        ensures room { spare actions.old + length self.new.parts.table ≤ spare actions.new + length self.old.parts.table + 2 }
+        ensures few { length (list_of actions.new) + length self.new.parts.table ≤ length (list_of actions.old) + length self.old.parts.table + 2 }
+    {
+        self.end_bind(plan, s, i);
+        self.give_up_if(true, plan, s, actions);
+    }
+
+    /// The endpoint holds the descriptor that it was offered.
+    pub fn take_adopted(&mut self, plan: &Plan, s: u32, i: u32)
+        requires sized { IsEndpointsSized plan.now self.old.parts }
+        requires service { s < service_count plan.now }
+        requires endpoint { i < length (endpoints plan.now s) }
+        requires asks { is_adopting (last_at self.old.parts s i) ≡ true }
+        ensures sized { IsEndpointsSized plan.now self.new.parts }
+        ensures stands { (q : Record) → EndpointsStand plan.now self.old.parts q → EndpointsStand plan.now self.new.parts (Got (Adopted s i) ∷ q) }
+        ensures table { self.new.parts.table ≡ self.old.parts.table }
+    {
+        self.hold(plan, s, i);
+    }
+
+    /// The endpoint couldn't take the descriptor that it was offered: its service fails, is given
+    /// up, and what nobody needs any more is closed.
+    pub fn take_adopt_failed(&mut self, plan: &Plan, s: u32, i: u32, actions: &mut Actions)
+        requires sized { IsEndpointsSized plan.now self.old.parts }
+        requires service { s < service_count plan.now }
+        requires endpoint { i < length (endpoints plan.now s) }
+        requires asks { is_adopting (last_at self.old.parts s i) ≡ true }
+        requires room { length self.old.parts.table + 2 ≤ spare actions.old }
+        ensures sized { IsEndpointsSized plan.now self.new.parts }
+        ensures stands { Tells (list_of actions.old) (list_of actions.new) (λ told. IsGivingUp told × ((q : Record) → EndpointsStand plan.now self.old.parts q → EndpointsStand plan.now self.new.parts (tell (Got (AdoptFailed s i) ∷ q) told))) }
+        ensures room { spare actions.old + length self.new.parts.table ≤ spare actions.new + length self.old.parts.table + 2 }
+        ensures few { length (list_of actions.new) + length self.new.parts.table ≤ length (list_of actions.old) + length self.old.parts.table + 2 }
+    {
+        self.end_adopt(plan, s, i);
+        self.give_up_if(true, plan, s, actions);
+    }
+
+    /// The descriptor holds the endpoint, or is closed again where a live one has its address.
+    fn bind_or_close(
+        &mut self,
+        plan: &Plan,
+        s: u32,
+        i: u32,
+        fd: u64,
+        text: Text,
+        actions: &mut Actions,
+    )
+        requires sized { IsEndpointsSized plan.now self.old.parts }
+        requires service { s < service_count plan.now }
+        requires endpoint { i < length (endpoints plan.now s) }
+        requires new { list_any (λ n. n == fd) self.old.parts.came ≡ false }
+        requires memory { 0 < self.old.room }
+        requires room { 0 < spare actions.old }
+        ensures after { self.new.parts ≡ bound_or_again (has_open self.old.parts.table (Some text)) self.old.parts s i fd text }
+        ensures told { list_of actions.new ≡ list_of actions.old ++ close_told (has_open self.old.parts.table (Some text)) fd }
+        ensures room { spare actions.old ≤ spare actions.new + length (close_told (has_open self.old.parts.table (Some text)) fd) }
+    {
+        if self.is_open(text.as_str()) {
+            self.take_number(fd);
+            self.put_last(s as usize, i as usize, Last::Unasked);
+            actions.put(Action::Close(fd));
+        } else {
+            self.take_open(fd, text);
+            self.put_last(s as usize, i as usize, Last::Holding(fd));
+        }
+    }
+
+    /// The endpoint's address was in use. Whether its service fails by that.
+    fn refuse(&mut self, plan: &Plan, s: u32, i: u32, moment: u64) -> bool
+        requires sized { IsEndpointsSized plan.now self.old.parts }
+        requires service { s < service_count plan.now }
+        requires endpoint { i < length (endpoints plan.now s) }
+        ensures last { result ≡ is_last_refusal plan.now self.old.parts s i }
+        ensures after { self.new.parts ≡ refused plan.now self.old.parts s i moment }
+    {
+        let state = self.state(s as usize, i as usize);
+        let open = self.is_open(address_of(plan, s as usize, i as usize));
+        let last = Last::Busied(moment);
+        if open {
+            self.put_last(s as usize, i as usize, last);
+            return false;
+        }
+        if state.refusals >= limit(plan, s, i) - 1 {
+            self.put_last(s as usize, i as usize, last);
+            self.set_failed(s as usize);
+            return true;
+        }
+        let refusals = state.refusals + 1;
+        self.put(s as usize, i as usize, EndState { last, refusals });
+        false
+    }
+
+    /// The endpoint is unasked, and its service has failed.
+    fn end_bind(&mut self, plan: &Plan, s: u32, i: u32)
+        requires sized { IsEndpointsSized plan.now self.old.parts }
+        requires service { s < service_count plan.now }
+        requires endpoint { i < length (endpoints plan.now s) }
+        ensures { self.new.parts ≡ bind_failed self.old.parts s i }
+    {
+        self.put_last(s as usize, i as usize, Last::Unasked);
+        self.set_failed(s as usize);
+    }
+
+    /// The endpoint is lost, and its service has failed.
+    fn end_adopt(&mut self, plan: &Plan, s: u32, i: u32)
+        requires sized { IsEndpointsSized plan.now self.old.parts }
+        requires service { s < service_count plan.now }
+        requires endpoint { i < length (endpoints plan.now s) }
+        ensures { self.new.parts ≡ adopt_failed self.old.parts s i }
+    {
+        self.put_last(s as usize, i as usize, Last::Lost);
+        self.set_failed(s as usize);
+    }
+
+    /// What is offered to the endpoint is held.
+    fn hold(&mut self, plan: &Plan, s: u32, i: u32)
+        requires sized { IsEndpointsSized plan.now self.old.parts }
+        requires service { s < service_count plan.now }
+        requires endpoint { i < length (endpoints plan.now s) }
+        ensures { self.new.parts ≡ adopted self.old.parts s i }
+    {
+        self.put_last(
+            s as usize,
+            i as usize,
+            held_now(self.last(s as usize, i as usize)),
+        );
+    }
+
+    /// Where the service fails, it is given up, and what nobody needs any more is closed.
+    fn give_up_if(&mut self, fails: bool, plan: &Plan, s: u32, actions: &mut Actions)
+        requires flags { length self.old.parts.failed ≡ service_count plan.now }
+        requires room { length self.old.parts.table + 1 ≤ spare actions.old }
+        ensures after { self.new.parts ≡ cleared_if fails plan.now self.old.parts }
+        ensures told { list_of actions.new ≡ list_of actions.old ++ given_up_if fails plan.now s self.old.parts }
+        ensures room { spare actions.old + length self.new.parts.table ≤ spare actions.new + length self.old.parts.table + 1 }
+    {
+        if fails {
+            self.give_up(plan, s, actions);
+        }
+    }
+}

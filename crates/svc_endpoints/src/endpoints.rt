@@ -1,0 +1,225 @@
+//! The endpoints of all services, and the descriptors that came.
+
+ghost use Rattle.std.specs.Prelude.{◌≡◌, ◌+◌, ◌<◌, ◌≤◌, ◌++◌, ◌∷◌, ◌==◌, [], length, slice_index_or, ℕ, Some, None, Option, IfOk, OnOk, map, true, false, ◌^◌};
+ghost use Rattle.std.specs.List.{list_any};
+ghost use Rattle.svc_conf.specs.Items.{list_of, spare};
+ghost use Rattle.svc_record.specs.declared.action.Action.TheVariants.{Close};
+ghost use Rattle.svc_record.specs.Plans.{service_count, endpoints, address};
+ghost use Rattle.svc_record.specs.Validity.{IsValid};
+ghost use Rattle.svc_endpoints.specs.EndpointsState.{IsEndpointsSized, EndpointsStand, last_at, failed_at, state_at, open_numbers, numbers_with, is_binding, is_adopting, is_holding};
+ghost use Rattle.svc_endpoints.specs.Effects.{put, put_last, fail_if, has_open, first_of, with_number, with_open, cleared, given_up};
+
+use crate::came::Came;
+use crate::naming::service_count;
+use crate::states::{EndState, Last, Row, is_adopting, is_binding, new_flags, new_rows};
+use crate::table::Table;
+use std::alloc::Global;
+use std::marker::Model;
+use svc_conf::{NoMemory, Text};
+use svc_record::{Action, Actions, Plan};
+
+/// The state of each endpoint, which services have failed, the live descriptors with their
+/// addresses, and the numbers of all descriptors that came.
+#[derive(Drop)]
+pub struct Endpoints {
+    rows: Vec<Row>,
+    failed: Vec<bool>,
+    table: Table,
+    came: Came,
+}
+
+impl Model for Endpoints {
+    ghost use Rattle.std.specs.Prelude.{min};
+    ghost use Rattle.svc_conf.specs.Items.{list_of, spare};
+    ghost use Rattle.svc_endpoints.specs.EndpointsData.{EndpointsRoom};
+
+    ghost Value = { EndpointsRoom };
+
+    ghost view = { λ e. record { parts = record { rows = e.rows.items; failed = e.failed.items; table = list_of e.table; came = list_of e.came }; room = min (spare e.table) (spare e.came) } };
+}
+
+impl Endpoints {
+    /// Nothing is asked for yet.
+    pub fn new(alloc: Global, plan: &Plan) -> Result<Endpoints, NoMemory>
+        requires { IsValid plan.now }
+        ensures sized { IfOk result (λ e. IsEndpointsSized plan.now e.parts) }
+        ensures stands { IfOk result (λ e. EndpointsStand plan.now e.parts []) }
+    {
+        let rows = new_rows(alloc, plan)?;
+        let failed = new_flags(alloc, service_count(plan))?;
+        Ok(Endpoints {
+            rows,
+            failed,
+            table: Table::new(alloc),
+            came: Came::new(alloc),
+        })
+    }
+
+    /// After it there is memory for one more descriptor.
+    pub fn reserve(&mut self) -> Result<(), NoMemory>
+        ensures parts { self.new.parts ≡ self.old.parts }
+        ensures room { OnOk result (0 < self.new.room) }
+    {
+        self.table.reserve()?;
+        self.came.reserve()
+    }
+
+    /// Which services have failed.
+    pub fn failed(&self) -> &[bool]
+        ensures { result.now ≡ self.now.parts.failed }
+    {
+        &self.failed
+    }
+
+    /// A bind of the endpoint is open.
+    pub fn is_binding(&self, plan: &Plan, s: u32, i: u32) -> bool
+        requires sized { IsEndpointsSized plan.now self.now.parts }
+        requires service { s < service_count plan.now }
+        requires endpoint { i < length (endpoints plan.now s) }
+        ensures { result ≡ is_binding (last_at self.now.parts s i) }
+    {
+        is_binding(self.last(s as usize, i as usize))
+    }
+
+    /// A descriptor is offered to the endpoint.
+    pub fn is_adopting(&self, plan: &Plan, s: u32, i: u32) -> bool
+        requires sized { IsEndpointsSized plan.now self.now.parts }
+        requires service { s < service_count plan.now }
+        requires endpoint { i < length (endpoints plan.now s) }
+        ensures { result ≡ is_adopting (last_at self.now.parts s i) }
+    {
+        is_adopting(self.last(s as usize, i as usize))
+    }
+
+    /// A descriptor with this number came.
+    pub fn has_number(&self, fd: u64) -> bool
+        ensures { result ≡ list_any (λ n. n == fd) self.now.parts.came }
+    {
+        self.came.has(fd)
+    }
+
+    /// How many descriptors are live.
+    pub fn open_len(&self) -> usize
+        ensures small { result < 2 ^ 60 }
+        ensures length { result ≡ length self.now.parts.table }
+    {
+        self.table.len()
+    }
+
+    /// Closes each live descriptor, in ascending number.
+    pub fn close_open(&self, actions: &mut Actions)
+        requires room { length self.now.parts.table ≤ spare actions.old }
+        ensures told { list_of actions.new ≡ list_of actions.old ++ map Close (open_numbers self.now.parts) }
+        ensures room { spare actions.old ≤ spare actions.new + length self.now.parts.table }
+    {
+        self.table.close_all(actions);
+    }
+
+    pub(crate) fn state(&self, s: usize, i: usize) -> EndState
+        requires service { s < length self.now.parts.rows }
+        requires endpoint { i < length (slice_index_or self.now.parts.rows s []) }
+        ensures { result ≡ state_at self.now.parts s i }
+    {
+        self.rows[s].get(i)
+    }
+
+    pub(crate) fn last(&self, s: usize, i: usize) -> Last
+        requires service { s < length self.now.parts.rows }
+        requires endpoint { i < length (slice_index_or self.now.parts.rows s []) }
+        ensures { result ≡ last_at self.now.parts s i }
+    {
+        self.state(s, i).last
+    }
+
+    pub(crate) fn put(&mut self, s: usize, i: usize, state: EndState)
+        requires service { s < length self.old.parts.rows }
+        requires endpoint { i < length (slice_index_or self.old.parts.rows s []) }
+        ensures parts { self.new.parts ≡ put self.old.parts s i state }
+        ensures room { self.new.room ≡ self.old.room }
+    {
+        let row = &mut self.rows[s];
+        row.set(i, state);
+    }
+
+    /// The endpoint has this state, and its count stays.
+    pub(crate) fn put_last(&mut self, s: usize, i: usize, last: Last)
+        requires service { s < length self.old.parts.rows }
+        requires endpoint { i < length (slice_index_or self.old.parts.rows s []) }
+        ensures parts { self.new.parts ≡ put_last self.old.parts s i last }
+        ensures room { self.new.room ≡ self.old.room }
+    {
+        let refusals = self.state(s, i).refusals;
+        self.put(s, i, EndState { last, refusals });
+    }
+
+    pub(crate) fn has_failed(&self, s: usize) -> bool
+        requires { s < length self.now.parts.failed }
+        ensures { result ≡ failed_at self.now.parts s }
+    {
+        self.failed[s]
+    }
+
+    pub(crate) fn set_failed(&mut self, s: usize)
+        requires { s < length self.old.parts.failed }
+        ensures { self.new.parts ≡ fail_if true s self.old.parts }
+    {
+        self.failed[s] = true;
+    }
+
+    /// The first endpoint of the service that isn't held, else their number.
+    pub(crate) fn first_missing(&self, plan: &Plan, s: u32) -> u32
+        requires sized { IsEndpointsSized plan.now self.now.parts }
+        requires service { s < service_count plan.now }
+        ensures within { result ≤ length (endpoints plan.now s) }
+        ensures missing { result < length (endpoints plan.now s) → is_holding (last_at self.now.parts s result) ≡ false }
+        ensures earlier { (k : ℕ) → k < result → is_holding (last_at self.now.parts s k) ≡ true }
+    {
+        let row = &self.rows[s as usize];
+        row.first_missing()
+    }
+
+    /// The live descriptor with this address.
+    pub(crate) fn find(&self, address: &str) -> Option<u64>
+        ensures { result ≡ first_of (numbers_with self.now.parts.table (Some address.now)) }
+    {
+        self.table.find(address)
+    }
+
+    /// A live descriptor has the address.
+    pub(crate) fn is_open(&self, address: &str) -> bool
+        ensures { result ≡ has_open self.now.parts.table (Some address.now) }
+    {
+        self.find(address).is_some()
+    }
+
+    /// The number came.
+    pub(crate) fn take_number(&mut self, fd: u64)
+        requires new { list_any (λ n. n == fd) self.old.parts.came ≡ false }
+        requires room { 0 < self.old.room }
+        ensures { self.new.parts ≡ with_number fd self.old.parts }
+    {
+        self.came.add(fd);
+    }
+
+    /// The number came, and its descriptor is live.
+    pub(crate) fn take_open(&mut self, fd: u64, address: Text)
+        requires new { list_any (λ n. n == fd) self.old.parts.came ≡ false }
+        requires room { 0 < self.old.room }
+        ensures { self.new.parts ≡ with_open fd address self.old.parts }
+    {
+        self.table.add(fd, address);
+        self.came.add(fd);
+    }
+
+    /// Says that the service is given up, and closes what nobody needs any more.
+    pub(crate) fn give_up(&mut self, plan: &Plan, s: u32, actions: &mut Actions)
+        requires flags { length self.old.parts.failed ≡ service_count plan.now }
+        requires room { length self.old.parts.table + 1 ≤ spare actions.old }
+        ensures after { self.new.parts ≡ cleared plan.now self.old.parts }
+        ensures told { list_of actions.new ≡ list_of actions.old ++ given_up plan.now s self.old.parts }
+        ensures room { spare actions.old + length self.new.parts.table ≤ spare actions.new + length self.old.parts.table + 1 }
+    {
+        actions.put(Action::Fail(s));
+        self.table.close_abandoned(plan, &self.failed, actions);
+    }
+}

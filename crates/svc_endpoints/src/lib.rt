@@ -1,0 +1,16 @@
+//! The part of a server's core on endpoints: which are asked for, held, busy or failed, and which
+//! descriptors are live.
+#![tactic(auto)]
+
+mod answers;
+mod came;
+mod endpoints;
+mod naming;
+mod states;
+mod table;
+mod visit;
+
+pub use endpoints::Endpoints;
+
+#[cfg(test)]
+mod tests;

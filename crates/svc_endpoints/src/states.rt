@@ -1,0 +1,184 @@
+//! What became of endpoints.
+
+ghost use Rattle.std.specs.Prelude.{◌≡◌, ◌<◌, ◌≤◌, ◌==◌, [], length, ℕ, true, false, slice_index_or, slice_set, vec_len, IfOk};
+ghost use Rattle.svc_record.specs.declared.plan.Plan.{Plan};
+ghost use Rattle.svc_record.specs.Plans.{service_count, endpoints};
+ghost use Rattle.svc_endpoints.specs.EndpointsState.{idle, is_binding, is_adopting, is_asking, is_holding};
+ghost use Rattle.svc_endpoints.specs.Effects.{held_now};
+ghost use Rattle.svc_endpoints.specs.Visits.{busy_of};
+
+use crate::naming::{endpoint_count, service_count};
+use std::alloc::Global;
+use std::marker::Model;
+use svc_conf::NoMemory;
+use svc_record::Plan;
+
+/// How long an endpoint rests after its address was in use, in milliseconds.
+const REST: u64 = 1000;
+
+/// What became of an endpoint last.
+#[derive(Clone, Copy, Drop)]
+pub(crate) enum Last {
+    /// It isn't asked for, or its bind failed, or what it brought was closed again.
+    Unasked,
+    /// A bind is open.
+    Binding,
+    /// Its address was in use at this moment, in milliseconds.
+    Busied(u64),
+    /// This descriptor is offered to it.
+    Adopting(u64),
+    /// This descriptor holds it.
+    Holding(u64),
+    /// It couldn't take what it was offered.
+    Lost,
+}
+
+/// An endpoint's state.
+#[derive(Clone, Copy, Drop)]
+pub(crate) struct EndState {
+    pub last: Last,
+    /// How often its address was in use while no live descriptor had it.
+    pub refusals: u32,
+}
+
+/// The states of one service's endpoints.
+#[derive(Drop)]
+pub(crate) struct Row {
+    states: Vec<EndState>,
+}
+
+impl Model for Row {
+    ghost use Rattle.std.specs.Prelude.{List};
+    ghost use Rattle.svc_endpoints.specs.declared.states.EndState.{EndState};
+
+    ghost Value = { List EndState };
+
+    ghost view = { λ r. r.states.items };
+}
+
+impl Row {
+    /// Nothing is known of so many endpoints.
+    pub(crate) fn new(alloc: Global, count: usize) -> Result<Row, NoMemory>
+        ensures blank { IfOk result (λ row. (i : ℕ) → slice_index_or row i idle ≡ idle) }
+        ensures size { IfOk result (λ row. length row ≡ count) }
+    {
+        let state = EndState {
+            last: Last::Unasked,
+            refusals: 0,
+        };
+        let states = vec![in alloc; state; count]?;
+        Ok(Row { states })
+    }
+
+    pub(crate) fn get(&self, i: usize) -> EndState
+        requires { i < length self.now }
+        ensures { (d : EndState) → result ≡ slice_index_or self.now i d }
+    {
+        self.states[i]
+    }
+
+    pub(crate) fn set(&mut self, i: usize, state: EndState)
+        requires { i < length self.old }
+        ensures { self.new ≡ slice_set self.old i state }
+    {
+        self.states[i] = state;
+    }
+
+    /// The first endpoint that isn't held, else their number.
+    pub(crate) fn first_missing(&self) -> u32
+        requires few { length self.now ≤ 64 }
+        ensures within { result ≤ length self.now }
+        ensures missing { result < length self.now → is_holding (slice_index_or self.now result idle).last ≡ false }
+        ensures earlier { (k : ℕ) → k < result → is_holding (slice_index_or self.now k idle).last ≡ true }
+    {
+        for i in 0..self.states.len() {
+            if !is_holding(self.states[i].last) {
+                return i as u32;
+            }
+        }
+        self.states.len() as u32
+    }
+}
+
+/// A row for each service, with no endpoint asked for.
+pub(crate) fn new_rows(alloc: Global, plan: &Plan) -> Result<Vec<Row>, NoMemory>
+    ensures blank { IfOk result (λ rows. (s i : ℕ) → slice_index_or (slice_index_or rows.items s []) i idle ≡ idle) }
+    ensures services { IfOk result (λ rows. vec_len rows ≡ service_count plan.now) }
+    ensures each { IfOk result (λ rows. (s : ℕ) → s < service_count plan.now → length (slice_index_or rows.items s []) ≡ length (endpoints plan.now s)) }
+{
+    let mut rows = Vec::new(alloc);
+    for s in 0..service_count(plan) {
+        let row = Row::new(alloc, endpoint_count(plan, s))?;
+        match rows.push(row) {
+            Ok(()) => {}
+            Err(_) => return Err(NoMemory),
+        }
+    }
+    Ok(rows)
+}
+
+/// No service has failed.
+pub(crate) fn new_flags(alloc: Global, count: usize) -> Result<Vec<bool>, NoMemory>
+    ensures blank { IfOk result (λ flags. (i : ℕ) → slice_index_or flags.items i false ≡ false) }
+    ensures size { IfOk result (λ flags. vec_len flags ≡ count) }
+{
+    let flags = vec![in alloc; false; count]?;
+    Ok(flags)
+}
+
+pub(crate) fn is_binding(last: Last) -> bool
+    ensures { result ≡ is_binding last }
+{
+    match last {
+        Last::Binding => true,
+        _ => false,
+    }
+}
+
+pub(crate) fn is_adopting(last: Last) -> bool
+    ensures { result ≡ is_adopting last }
+{
+    match last {
+        Last::Adopting(_) => true,
+        _ => false,
+    }
+}
+
+pub(crate) fn is_asking(last: Last) -> bool
+    ensures { result ≡ is_asking last }
+{
+    match last {
+        Last::Binding | Last::Adopting(_) => true,
+        _ => false,
+    }
+}
+
+pub(crate) fn is_holding(last: Last) -> bool
+    ensures { result ≡ is_holding last }
+{
+    match last {
+        Last::Holding(_) => true,
+        _ => false,
+    }
+}
+
+/// An ask is open, or the endpoint of a service that hasn't failed rests.
+pub(crate) fn is_busy(failed: bool, moment: u64, last: Last) -> bool
+    ensures { result ≡ busy_of failed moment last }
+{
+    match last {
+        Last::Binding | Last::Adopting(_) => true,
+        Last::Busied(at) => !failed && moment.saturating_sub(at) < REST,
+        _ => false,
+    }
+}
+
+/// What is offered is held.
+pub(crate) fn held_now(last: Last) -> Last
+    ensures { result ≡ held_now last }
+{
+    match last {
+        Last::Adopting(fd) => Last::Holding(fd),
+        other => other,
+    }
+}

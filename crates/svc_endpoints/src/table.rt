@@ -1,0 +1,171 @@
+//! The live descriptors.
+
+ghost use Rattle.std.specs.Prelude.{◌≡◌, ◌+◌, ◌<◌, ◌≤◌, ◌++◌, not, [], length, ℕ, List, Option, Some, OnOk, map, filter, insert, slice_index, vec_len, vec_capacity, ◌||◌, ◌&&◌, false, true, nat_lt, ◌^◌};
+ghost use Rattle.std.specs.List.{list_any, list_all};
+ghost use Rattle.svc_conf.specs.Items.{list_of, spare};
+ghost use Rattle.svc_record.specs.declared.plan.Plan.{Plan};
+ghost use Rattle.svc_record.specs.declared.action.Action.TheVariants.{Close};
+ghost use Rattle.svc_record.specs.Drain.{put_number};
+ghost use Rattle.svc_record.specs.Plans.{service_count};
+ghost use Rattle.svc_endpoints.specs.EndpointsState.{numbers_with, numbers_of_table};
+ghost use Rattle.svc_endpoints.specs.Effects.{first_of, put_open, abandoned_numbers, without_abandoned};
+
+use crate::naming::is_abandoned;
+use std::alloc::Global;
+use std::marker::Model;
+use svc_conf::{NoMemory, Text};
+use svc_record::{Action, Actions, Plan};
+
+/// A live descriptor, with the address with which it was opened.
+#[derive(Drop)]
+pub(crate) struct Open {
+    pub fd: u64,
+    pub address: Text,
+}
+
+/// Live descriptors in ascending number. Contracts see them and for how many more there is memory.
+#[derive(Drop)]
+pub(crate) struct Table {
+    entries: Vec<Open>,
+}
+
+impl Model for Table {
+    ghost use Rattle.std.specs.Prelude.{List, ℕ, ◌-◌, vec_capacity, vec_len};
+    ghost use Rattle.svc_endpoints.specs.declared.table.Open.{Open};
+
+    ghost Value = { List Open × ℕ };
+
+    ghost view = { λ t. (t.entries.items, vec_capacity t.entries - vec_len t.entries) };
+}
+
+fn find_in(table: &[Open], address: &str) -> Option<u64>
+    ensures { result ≡ first_of (numbers_with table.now (Some address.now)) }
+{
+    for entry in table {
+        if entry.address.as_str() == address {
+            return Some(entry.fd);
+        }
+    }
+    None
+}
+
+/// Where a descriptor goes among the others.
+fn place_of(table: &[Open], fd: u64) -> usize
+    ensures within { result ≤ length table.now }
+    ensures below { (k : ℕ) → k < result → slice_index (numbers_of_table table.now) k ≤ fd }
+    ensures above { result < length table.now → fd < slice_index (numbers_of_table table.now) result }
+{
+    for i in 0..table.len() {
+        if fd < table[i].fd {
+            return i;
+        }
+    }
+    table.len()
+}
+
+/// Inserts into reserved room.
+fn insert_reserved(table: &mut Vec<Open>, at: usize, entry: Open)
+    requires place { at ≤ vec_len table.old }
+    requires room { vec_len table.old < vec_capacity table.old }
+    ensures { table.new.items ≡ insert table.old.items at entry }
+{
+    let _ = table.insert(at, entry);
+}
+
+/// Closes each of them.
+fn close_each(table: &[Open], actions: &mut Actions)
+    requires room { length table.now ≤ spare actions.old }
+    ensures told { list_of actions.new ≡ list_of actions.old ++ map Close (numbers_of_table table.now) }
+    ensures room { spare actions.old ≤ spare actions.new + length table.now }
+{
+    for entry in table {
+        actions.put(Action::Close(entry.fd));
+    }
+}
+
+/// Closes those whose addresses are abandoned.
+fn close_done(table: &[Open], plan: &Plan, failed: &[bool], actions: &mut Actions)
+    requires flags { length failed.now ≡ service_count plan.now }
+    requires room { length table.now ≤ spare actions.old }
+    ensures told { list_of actions.new ≡ list_of actions.old ++ map Close (abandoned_numbers plan.now failed.now table.now) }
+    ensures room { spare actions.old ≤ spare actions.new + length (abandoned_numbers plan.now failed.now table.now) }
+{
+    for entry in table {
+        if is_abandoned(plan, failed, entry.address.as_str()) {
+            actions.put(Action::Close(entry.fd));
+        }
+    }
+}
+
+/// Takes those out whose addresses are abandoned.
+fn remove_done(table: &mut Vec<Open>, plan: &Plan, failed: &[bool])
+    requires flags { length failed.now ≡ service_count plan.now }
+    ensures { table.new.items ≡ without_abandoned plan.now failed.now table.old.items }
+{
+    table.retain(|entry| !is_abandoned(plan, failed, entry.address.as_str()));
+}
+
+impl Table {
+    pub(crate) fn new(alloc: Global) -> Table
+        ensures { list_of result ≡ [] }
+    {
+        Table {
+            entries: Vec::new(alloc),
+        }
+    }
+
+    /// After it there is room for one more descriptor.
+    pub(crate) fn reserve(&mut self) -> Result<(), NoMemory>
+        ensures entries { list_of self.new ≡ list_of self.old }
+        ensures room { OnOk result (0 < spare self.new) }
+    {
+        match self.entries.reserve(1) {
+            Ok(()) => Ok(()),
+            Err(_) => Err(NoMemory),
+        }
+    }
+
+    pub(crate) fn len(&self) -> usize
+        ensures small { result < 2 ^ 60 }
+        ensures length { result ≡ length (list_of self.now) }
+    {
+        self.entries.as_slice().len()
+    }
+
+    /// The live descriptor with this address.
+    pub(crate) fn find(&self, address: &str) -> Option<u64>
+        ensures { result ≡ first_of (numbers_with (list_of self.now) (Some address.now)) }
+    {
+        find_in(&self.entries, address)
+    }
+
+    /// Takes a descriptor.
+    pub(crate) fn add(&mut self, fd: u64, address: Text)
+        requires { 0 < spare self.old }
+        ensures { list_of self.new ≡ put_open (record { fd = fd; address = address }) (list_of self.old) }
+    {
+        let at = place_of(&self.entries, fd);
+        insert_reserved(&mut self.entries, at, Open { fd, address });
+    }
+
+    /// Closes the descriptors whose addresses are abandoned, in ascending number.
+    pub(crate) fn close_abandoned(&mut self, plan: &Plan, failed: &[bool], actions: &mut Actions)
+        requires flags { length failed.now ≡ service_count plan.now }
+        requires room { length (list_of self.old) ≤ spare actions.old }
+        ensures after { list_of self.new ≡ without_abandoned plan.now failed.now (list_of self.old) }
+        ensures told { list_of actions.new ≡ list_of actions.old ++ map Close (abandoned_numbers plan.now failed.now (list_of self.old)) }
+        ensures room { spare actions.old ≤ spare actions.new + length (abandoned_numbers plan.now failed.now (list_of self.old)) }
+    {
+        close_done(&self.entries, plan, failed, actions);
+        remove_done(&mut self.entries, plan, failed);
+    }
+
+    /// Closes each descriptor, in ascending number.
+    pub(crate) fn close_all(&self, actions: &mut Actions)
+        requires room { length (list_of self.now) ≤ spare actions.old }
+        ensures told { list_of actions.new ≡ list_of actions.old ++ map Close (numbers_of_table (list_of self.now)) }
+        ensures room { spare actions.old ≤ spare actions.new + length (list_of self.now) }
+    {
+        close_each(&self.entries, actions);
+    }
+}

@@ -1,0 +1,99 @@
+ghost use Rattle.std.specs.Prelude.{◌<◌, ◌≤◌};
+ghost use Rattle.svc_conf.specs.Items.{spare};
+ghost use Rattle.svc_record.specs.Plans.{service_count};
+ghost use Rattle.svc_endpoints.specs.EndpointsState.{IsEndpointsSized};
+
+use super::*;
+use crate::naming::{endpoint_count, service_count};
+use std::alloc::Global;
+use std::process::Abort;
+use std::test::Fail;
+use svc_conf::{Numbers, Settings, Text};
+use svc_graph::{EndpointList, EndpointPlan, Kind};
+use svc_record::{Action, Actions, Plan, ServiceList, ServicePlan};
+
+fn service(alloc: Global, address: &str) -> Result<ServicePlan, Fail> {
+    let mut endpoints = EndpointList::new(alloc);
+    let endpoint = EndpointPlan {
+        address: Text::new(alloc, address)?,
+        unix: false,
+        options: Settings::new(alloc),
+        filter: None,
+    };
+    endpoints.push(alloc, endpoint)?;
+    Ok(ServicePlan {
+        name: Text::new(alloc, address)?,
+        kind: Kind::Plain,
+        depends: Numbers::new(alloc),
+        declared: None,
+        endpoints,
+    })
+}
+
+/// One service, with an endpoint.
+fn plan(alloc: Global) -> Result<Plan, Fail> {
+    let mut services = ServiceList::new(alloc);
+    services.push(alloc, service(alloc, "127.0.0.1:80")?)?;
+    Ok(Plan {
+        services,
+        grace: 300,
+        stop: 5,
+        tasks: 1,
+        limit: 5,
+        upgrade: false,
+        test: false,
+        eager: false,
+        daemon: false,
+        wait: false,
+        ready_timeout: 600,
+    })
+}
+
+/// Room for what an answer tells.
+fn room(rt: &impl Abort, alloc: Global) -> Actions
+    ensures { 8 ≤ spare result }
+{
+    let mut actions = Actions::new(alloc);
+    actions.reserve(alloc, 8).expect(rt, "memory");
+    actions
+}
+
+/// Visits a started service, and says what that told.
+fn visit(
+    rt: &impl Abort,
+    alloc: Global,
+    part: &mut Endpoints,
+    plan: &Plan,
+    s: u32,
+    moment: u64,
+    told: &[Action],
+)
+    requires sized { IsEndpointsSized plan.now part.old.parts }
+    requires service { s < service_count plan.now }
+    ensures { IsEndpointsSized plan.now part.new.parts }
+{
+    let mut actions = room(rt, alloc);
+    part.visit(plan, s, true, moment, &mut actions);
+    assert_eq!(rt; actions.as_slice(), told);
+}
+
+#[test]
+fn tries_a_busy_port_again(rt: HostRuntime) -> Result<(), Fail> {
+    let alloc = rt.alloc();
+    let plan = plan(alloc)?;
+    let is_valid = plan.valid(alloc)?;
+    assert!(rt; is_valid);
+    assert_eq!(rt; service_count(&plan), 1);
+    assert_eq!(rt; endpoint_count(&plan, 0), 1);
+    let mut part = Endpoints::new(alloc, &plan)?;
+    let bind = [Action::Bind(0, 0)];
+    visit(&rt, alloc, &mut part, &plan, 0, 5, bind.as_slice());
+    assert!(rt; part.is_binding(&plan, 0, 0));
+    assert!(rt; part.open_len() < 2);
+    let mut actions = room(&rt, alloc);
+    part.take_in_use(&plan, 0, 0, 5, &mut actions);
+    assert!(rt; actions.is_empty());
+    visit(&rt, alloc, &mut part, &plan, 0, 1004, [].as_slice());
+    visit(&rt, alloc, &mut part, &plan, 0, 1005, bind.as_slice());
+    Ok(())
+}
