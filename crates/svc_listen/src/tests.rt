@@ -1,4 +1,4 @@
-ghost use Rattle.std.specs.Prelude.{◌≡◌, ◌<◌, Bool, [], ◌∷◌, not, length, IfSome, None};
+ghost use Rattle.std.specs.Prelude.{◌≡◌, ◌<◌, Bool, false, [], ◌∷◌, not, length, IfSome, None};
 ghost use Rattle.svc_listen.specs.Accepts.{MayBePolled};
 
 use super::*;
@@ -593,11 +593,23 @@ fn said_by(answer: &AcceptAnswer) -> Said {
     }
 }
 
+/// A filter that always says no.
+#[derive(Drop)]
+struct Nobody;
+
+impl ConnectionFilter for Nobody {
+    ghost verdict = { λ _ _ _. false };
+
+    fn should_accept(&mut self, _peer: Option<&PeerAddr>) -> bool {
+        false
+    }
+}
+
 /// What an endpoint with the only filter says to the next arrival.
-fn judged(
+fn judged<F: ConnectionFilter>(
     alloc: Global,
     endpoint: &ListenerEndpoint,
-    filters: &mut Filters<EveryOther>,
+    filters: &mut Filters<F>,
     from: &mut MemoryAccepting,
 ) -> Said
     requires { IfSome endpoint.now.filter (λ number. number < length filters.old) }
@@ -655,6 +667,27 @@ fn a_filter_judges_each_known_peer(rt: HostRuntime) {
     assert_eq!(rt; (from.faults(), from.waits()), (1, 1));
     assert_eq!(rt; call_at(&from, 3), Some(AcceptingCall::Refuse(2)));
     assert_eq!(rt; call_at(&from, 10), None);
+}
+
+#[test]
+fn a_filter_may_refuse_all(rt: HostRuntime) {
+    let alloc = rt.alloc();
+    let mut filters: Filters<Nobody> = Filters::new(alloc);
+    assert!(rt; filters.add(alloc, Nobody).is_ok());
+    let endpoint = endpoint_of(&rt, tcp(&rt, "X"), Some(0));
+    let arrivals = [
+        Arrival::Came(1, LOCAL),
+        Arrival::Came(2, LOCAL),
+        Arrival::Came(3, LOCAL),
+    ];
+    let mut from = accepting_of(&rt, &arrivals, &[]);
+    for c in 1..4 {
+        if filters.len() == 1 {
+            let said = judged(alloc, &endpoint, &mut filters, &mut from);
+            assert_eq!(rt; said, Said::Refused(c));
+        }
+    }
+    assert_eq!(rt; closed(endpoint), Some(7));
 }
 
 /// What an endpoint without a filter says to the next arrival.
