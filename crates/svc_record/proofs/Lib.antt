@@ -16,6 +16,7 @@ pub mod Clauses
 pub mod Refused
 pub mod Tallies
 pub mod Closing
+pub mod OneLive
 pub mod GraphLemmas
 pub mod OrderLemmas
 pub mod ValidLemmas
