@@ -9,3 +9,4 @@ pub mod BeginLemmas
 pub mod FitsLemmas
 pub mod TailLemmas
 pub mod CloseCounts
+pub mod RoomLemmas

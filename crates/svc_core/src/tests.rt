@@ -238,6 +238,7 @@ fn reads_each_phase_once(rt: HostRuntime) -> Result<(), Fail> {
 }
 
 #[test]
+#[tactic(auto, using(crate::proofs::RoomLemmas::close_within))]
 fn closes_what_is_open_and_what_came_last(rt: HostRuntime) -> Result<(), Fail> {
     let alloc = rt.alloc();
     let core = serving(&rt, alloc)?;
