@@ -13,7 +13,7 @@ mod place;
 mod retry;
 pub mod server;
 mod transfer;
-mod words;
+pub mod words;
 
 pub use call::{ChannelCall, Receipt, ReceiveAnswer};
 pub use channel::Channel;

@@ -8,7 +8,7 @@ use std::alloc::Global;
 use svc_conf::{NoMemory, Text};
 
 /// The words of a text, which stand between blanks.
-pub(crate) fn words_of(alloc: Global, text: &str) -> Result<Vec<Text>, NoMemory>
+pub fn words_of(alloc: Global, text: &str) -> Result<Vec<Text>, NoMemory>
     ensures { IfOk result (λ found. found.items ≡ words text.now) }
 {
     let mut found = Vec::new(alloc);
@@ -26,7 +26,7 @@ fn is_among(text: &str, texts: &[Text]) -> bool
 }
 
 /// Whether a text stands twice.
-pub(crate) fn has_repeat(texts: &[Text]) -> bool
+pub fn has_repeat(texts: &[Text]) -> bool
     ensures { result ≡ has_repeat texts.now }
 {
     for (index, text) in texts.iter().enumerate() {

@@ -4,3 +4,5 @@ pub mod OptionLists
 pub mod DialerData
 pub mod Connects
 pub mod VirtualSockets
+pub mod Peers
+pub mod ReadPeers

@@ -592,3 +592,61 @@ fn dials_over_loopback(rt: HostRuntime) -> Result<(), Fail> {
     assert_eq!(rt; dialer.faults(), 3);
     Ok(())
 }
+
+#[test]
+fn reads_addresses(rt: HostRuntime) -> Result<(), Fail> {
+    assert_eq!(rt; read_ip("127.0.0.1"), Some(IpNumber::V4(0x7f00_0001)));
+    assert_eq!(rt; read_ip("255.255.255.255"), Some(IpNumber::V4(u32::MAX)));
+    assert_eq!(rt;
+        read_ip("fe80:0:0:0:0:0:a:1"),
+        Some(IpNumber::V6(0xfe80_0000_0000_0000_0000_0000_000a_0001))
+    );
+    assert_eq!(rt; read_ip("256.0.0.1"), None);
+    assert_eq!(rt; read_ip("127.0.0.01"), None);
+    assert_eq!(rt; read_ip("127.0.0"), None);
+    assert_eq!(rt; read_ip("::1"), None);
+    assert_eq!(rt; read_ip("1:2:3:4:5:6:7"), None);
+    assert_eq!(rt; read_ip("1:2:3:4:5:6:7:08"), None);
+    assert_eq!(rt; read_ip("1:2:3:4:5:6:7:A"), None);
+    assert_eq!(rt; read_ip(""), None);
+    Ok(())
+}
+
+#[test]
+fn reads_peers(rt: HostRuntime) -> Result<(), Fail> {
+    let addr = PeerAddr::V4 {
+        ip: 0x7f00_0001,
+        port: 8080,
+    };
+    assert_eq!(rt; read_peer("127.0.0.1:8080"), Some(addr));
+    let wide = PeerAddr::V6 { ip: 1, port: 65535 };
+    assert_eq!(rt; read_peer("[0:0:0:0:0:0:0:1]:65535"), Some(wide));
+    assert_eq!(rt; read_peer("127.0.0.1"), None);
+    assert_eq!(rt; read_peer("127.0.0.1:65536"), None);
+    assert_eq!(rt; read_peer("127.0.0.1:080"), None);
+    assert_eq!(rt; read_peer("0:0:0:0:0:0:0:1:65535"), None);
+    assert_eq!(rt; read_peer("[0:0:0:0:0:0:0:1]65535"), None);
+    assert_eq!(rt; read_peer("[127.0.0.1]:80"), None);
+    assert_eq!(rt; read_peer_word(b"-"), Some(Peer::Unknown));
+    assert_eq!(rt; read_peer_word(b"unix"), Some(Peer::Unix));
+    assert_eq!(rt; read_peer_word(b"127.0.0.1:8080"), Some(Peer::Inet(addr)));
+    assert_eq!(rt; read_peer_word(b"nobody"), None);
+    Ok(())
+}
+
+#[test]
+fn prints_peers(rt: HostRuntime) -> Result<(), Fail> {
+    let addr = PeerAddr::V4 {
+        ip: 0x7f00_0001,
+        port: 8080,
+    };
+    let text = format!(in rt.alloc(); "{addr} {} {}", Peer::Unknown, Peer::Unix)?;
+    assert_eq!(rt; text.as_str(), "127.0.0.1:8080 - unix");
+    let wide = Peer::Inet(PeerAddr::V6 {
+        ip: 0xfe80_0000_0000_0000_0000_0000_00ab_0001,
+        port: 1,
+    });
+    let text = format!(in rt.alloc(); "{wide}")?;
+    assert_eq!(rt; text.as_str(), "[fe80:0:0:0:0:0:ab:1]:1");
+    Ok(())
+}
