@@ -3,8 +3,8 @@ use Rattle.std.proofs.Common.{◌≡◌, ℕ, Bool, true, false, List, length, O
 use Rattle.svc_conf.specs.Streams.{Rose}
 use Rattle.svc_listen.specs.AcceptingData.{AcceptingData}
 use Rattle.svc_listen.specs.Accepts.{Verdict, Judges, Accepts, none_yet, failed, refused, unset, taken, AcceptCause, HasGiven}
-use Rattle.svc_streams.specs.declared.protocols.l4.stream.Peer.{Peer}
-use Rattle.svc_streams.specs.declared.protocols.l4.stream.Peer.TheVariants as peers
+use Rattle.svc_socket.specs.declared.peer.Peer.{Peer}
+use Rattle.svc_socket.specs.declared.peer.Peer.TheVariants as peers
 use Rattle.svc_listen.specs.declared.listeners.l4.ServerAddress.{ServerAddress}
 use Rattle.svc_listen.specs.declared.listeners.l4.arrivals.AcceptAnswer.{AcceptAnswer}
 use Rattle.svc_listen.specs.declared.listeners.l4.arrivals.Given.{Given}

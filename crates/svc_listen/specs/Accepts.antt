@@ -9,8 +9,8 @@ use Rattle.svc_socket.specs.declared.peer.PeerAddr.{PeerAddr}
 use Rattle.svc_streams.specs.HandshakeData.{HandshakeData}
 use Rattle.svc_streams.specs.Verdicts.{verdict_at}
 use Rattle.svc_streams.specs.declared.listeners.handshake.HandshakePoll.TheVariants.{Pending}
-use Rattle.svc_streams.specs.declared.protocols.l4.stream.Peer.{Peer}
-use Rattle.svc_streams.specs.declared.protocols.l4.stream.Peer.TheVariants as peers
+use Rattle.svc_socket.specs.declared.peer.Peer.{Peer}
+use Rattle.svc_socket.specs.declared.peer.Peer.TheVariants as peers
 use Rattle.svc_listen.specs.Addresses.{options_of}
 use Rattle.svc_listen.specs.Endpoints.{default_buffer}
 use Rattle.svc_listen.specs.AcceptingData.{AcceptingData, IsAccepted, IsRefused}

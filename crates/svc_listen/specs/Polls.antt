@@ -1,8 +1,9 @@
 -- The life of an application that a service has, and what the service answers.
-use Rattle.std.specs.Prelude.{Bool, ◌||◌, Option, Some, None, is_some, unwrap_or, if◌then◌else◌}
+use Rattle.std.specs.Prelude.{◌≡◌, Bool, true, false, ◌||◌, List, Option, Some, None, is_some, unwrap_or, if◌then◌else◌}
 use Rattle.svc_conf.specs.declared.server.configuration.runtime.RuntimeOpts.{RuntimeOpts}
 use Rattle.svc_graph.specs.declared.services.RunPoll.{RunPoll}
 use Rattle.svc_graph.specs.declared.services.RunPoll.TheVariants.{Pending, Ended}
+use Rattle.svc_streams.specs.Events.{AppCall, CleanedUp, IsCalled}
 use Rattle.svc_listen.specs.declared.services.listening.RuntimeOptsOverride.{RuntimeOptsOverride}
 
 -- the first start takes the application away
@@ -15,7 +16,7 @@ abbrev pub answer_of : {A : Type 0} → Option A → Bool → RunPoll
 answer_of None shutdown = Ended
 answer_of (Some app) shutdown = if shutdown then Ended else Pending
 
--- at the shutdown it is cleaned up and gone
+-- at the shutdown it serves no more
 abbrev pub left_of : {A : Type 0} → Option A → Bool → Option A
 left_of None shutdown = None
 left_of (Some app) shutdown = if shutdown then None else Some app
@@ -28,6 +29,17 @@ run_answer None serving shutdown = answer_of serving shutdown
 abbrev pub run_left : {A : Type 0} → Option A → Option A → Bool → Option A
 run_left (Some app) serving shutdown = serving
 run_left None serving shutdown = left_of serving shutdown
+
+-- the application that a poll of the run reaches: none before the first start
+abbrev pub taken_in_run : {A : Type 0} → Option A → Option A → Option A
+taken_in_run (Some app) serving = None
+taken_in_run None serving = serving
+
+-- at the shutdown the application that serves is cleaned up, by one call, and rests as the call left it; at every other poll nothing is called, and what rests stays
+abbrev pub CleansUp : {A : Type 0} → {S : Type 0} → (A → List (AppCall S) → Type 0) → Option A → Bool → Option A → Option A → Type 0
+CleansUp {A} may (Some app) true old new = (left : A) × (new ≡ Some left) × IsCalled may app left CleanedUp
+CleansUp may (Some app) false old new = new ≡ old
+CleansUp may None shutdown old new = new ≡ old
 
 -- the global options in which each given field is replaced; None where no field is given
 abbrev pub overridden : Option RuntimeOptsOverride → RuntimeOpts → Option RuntimeOpts

@@ -187,7 +187,7 @@ struct Counting {
 }
 
 impl<S: Drop> ServerApp<S> for Counting {
-    ghost may_process = { λ _ _. Unit {0} };
+    ghost may_come = { λ _ _. Unit {0} };
 
     fn process_new(&mut self, event: S, _shutdown: bool) -> Option<S> {
         if self.turns == 0 {

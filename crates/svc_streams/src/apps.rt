@@ -1,20 +1,21 @@
 //! Applications, which are given each connection after its handshake.
 
 ghost use Rattle.std.specs.Prelude.{◌≤◌, List};
-ghost use Rattle.svc_streams.specs.Events.{Processing, IsProcessed, IsHandled};
+ghost use Rattle.svc_streams.specs.Events.{AppCall, Processed, CleanedUp, IsCalled, IsHandled};
 
 /// An application over streams of the type `S`.
 pub trait ServerApp<S> {
     // Which calls may come, one after another, with what they give back.
-    ghost may_process: { Self → List (Processing S) → Type 0 };
+    ghost may_come: { Self → List (AppCall S) → Type 0 };
 
     /// Serves what came on the stream. It gives the stream back where more may come on it.
     fn process_new(&mut self, event: S, shutdown: bool) -> Option<S>
-        ensures { IsProcessed may_process self.old self.new
-            (record { event = event; shutdown = shutdown; back = result }) };
+        ensures { IsCalled may_come self.old self.new
+            (Processed (record { event = event; shutdown = shutdown; back = result })) };
 
-    /// Is called once, when the server shuts down. As written here it does nothing.
-    fn cleanup(&mut self) {}
+    /// Is called once, when the server shuts down.
+    fn cleanup(&mut self)
+        ensures { IsCalled may_come self.old self.new CleanedUp };
 }
 
 /// How the calls of an application with one stream ended.
@@ -35,7 +36,7 @@ pub fn handle_event<S, A: ServerApp<S>>(
     turns: u64,
 ) -> Handled<S>
     requires { 1 ≤ turns }
-    ensures { IsHandled A.may_process app.old app.new event shutdown turns result }
+    ensures { IsHandled A.may_come app.old app.new event shutdown turns result }
 {
     let mut event = event;
     for _ in 0..turns {

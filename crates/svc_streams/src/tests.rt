@@ -271,7 +271,7 @@ struct Rounds {
 }
 
 impl ServerApp<u64> for Rounds {
-    ghost may_process = { λ _ _. Unit {0} };
+    ghost may_come = { λ _ _. Unit {0} };
 
     fn process_new(&mut self, event: u64, _shutdown: bool) -> Option<u64> {
         if self.left == 0 {
@@ -291,11 +291,13 @@ impl ServerApp<u64> for Rounds {
 struct Once;
 
 impl ServerApp<u64> for Once {
-    ghost may_process = { λ _ _. Unit {0} };
+    ghost may_come = { λ _ _. Unit {0} };
 
     fn process_new(&mut self, _event: u64, _shutdown: bool) -> Option<u64> {
         None
     }
+
+    fn cleanup(&mut self) {}
 }
 
 #[test]

@@ -2,7 +2,7 @@
 
 ghost use Rattle.std.specs.Prelude.{◌≡◌, ◌≤◌, Some, None, IfErr, OnOk, OnErr};
 ghost use Rattle.std.specs.Option.{option_copied, option_map};
-ghost use Rattle.svc_listen.specs.Polls.{overridden, answer_of, left_of};
+ghost use Rattle.svc_listen.specs.Polls.{overridden, answer_of, left_of, CleansUp};
 
 use crate::listeners::l4::{Permissions, ServerAddress, TcpSocketOptions};
 use crate::listeners::{EndpointRefused, ListenerConfig, Listeners};
@@ -22,13 +22,14 @@ pub struct RuntimeOptsOverride {
 }
 
 /// A service with its endpoints and its application. The first start takes the application away; once
-/// the server shuts down it is cleaned up and gone.
+/// the server shuts down it is cleaned up, and rests until the service is dropped.
 #[derive(Drop)]
 pub struct Service<A> {
     name: Text,
     listeners: Listeners,
     app_logic: Option<A>,
     serving: Option<A>,
+    cleaned: Option<A>,
     /// The preferred number of threads: None at first, which leaves it to the server.
     pub threads: Option<u64>,
     runtime_opts_override: Option<RuntimeOptsOverride>,
@@ -44,6 +45,7 @@ impl<A> Model for Service<A> {
       listeners = s.listeners;
       app = s.app_logic;
       serving = s.serving;
+      cleaned = s.cleaned;
       threads = s.threads;
       replaced = s.runtime_opts_override;
     } };
@@ -60,20 +62,21 @@ impl<A> Service<A> {
 
     /// A service of this name without endpoints.
     pub fn new(alloc: Global, name: Text, app: A) -> Self
-        ensures { result ≡ record { name = name; listeners = no_listeners; app = Some app; serving = None; threads = None; replaced = None } }
+        ensures { result ≡ record { name = name; listeners = no_listeners; app = Some app; serving = None; cleaned = None; threads = None; replaced = None } }
     {
         Service::with_listeners(name, Listeners::new(alloc), app)
     }
 
     /// A service of this name with these endpoints.
     pub fn with_listeners(name: Text, listeners: Listeners, app: A) -> Self
-        ensures { result ≡ record { name = name; listeners = listeners; app = Some app; serving = None; threads = None; replaced = None } }
+        ensures { result ≡ record { name = name; listeners = listeners; app = Some app; serving = None; cleaned = None; threads = None; replaced = None } }
     {
         Service {
             name,
             listeners,
             app_logic: Some(app),
             serving: None,
+            cleaned: None,
             threads: None,
             runtime_opts_override: None,
         }
@@ -212,7 +215,7 @@ impl<A> Service<A> {
     where
         A: ServerApp<S>,
         requires { 1 ≤ turns }
-        ensures { IsHandled A.may_process app.old app.new event shutdown turns result }
+        ensures { IsHandled A.may_come app.old app.new event shutdown turns result }
     {
         handle_event(app, event, shutdown, turns)
     }
@@ -232,16 +235,22 @@ fn overridden(with: Option<RuntimeOptsOverride>, global: &RuntimeOpts) -> Option
     })
 }
 
-/// Polls an application that was taken away: at the shutdown it is cleaned up and gone.
-fn polled<A: ServerApp<L4Stream> + Drop>(serving: &mut Option<A>, shutdown: bool) -> RunPoll
+/// Polls an application that was taken away: at the shutdown it is cleaned up, and rests from then on.
+fn polled<A: ServerApp<L4Stream> + Drop>(
+    serving: &mut Option<A>,
+    cleaned: &mut Option<A>,
+    shutdown: bool,
+) -> RunPoll
     ensures answer { result ≡ answer_of serving.old shutdown }
     ensures left { serving.new ≡ left_of serving.old shutdown }
+    ensures cleaned { CleansUp A.may_come serving.old shutdown cleaned.old cleaned.new }
 {
     if !shutdown && serving.is_some() {
         return RunPoll::Pending;
     }
     if let Some(mut app) = serving.take() {
         app.cleanup();
+        *cleaned = Some(app);
     }
     RunPoll::Ended
 }
@@ -249,7 +258,7 @@ fn polled<A: ServerApp<L4Stream> + Drop>(serving: &mut Option<A>, shutdown: bool
 impl<A: ServerApp<L4Stream> + Drop> ServiceTrait for Service<A> {
     ghost use Rattle.std.specs.Prelude.{◌≡◌, Some, None, map};
     ghost use Rattle.svc_listen.specs.Endpoints.{addresses, plan_of};
-    ghost use Rattle.svc_listen.specs.Polls.{overridden, taken_away, answer_of, left_of, run_answer, run_left};
+    ghost use Rattle.svc_listen.specs.Polls.{overridden, taken_away, taken_in_run, answer_of, left_of, run_answer, run_left, CleansUp};
 
     ghost named = { λ s. s.name };
 
@@ -265,12 +274,14 @@ impl<A: ServerApp<L4Stream> + Drop> ServiceTrait for Service<A> {
         ensures left { self.new ≡ record self.old {
           app = None;
           serving = left_of (taken_away self.old.app self.old.serving) shutdown;
+          cleaned = self.new.cleaned;
         } }
+        ensures cleaned { CleansUp A.may_come (taken_away self.old.app self.old.serving) shutdown self.old.cleaned self.new.cleaned }
     {
         if let Some(app) = self.app_logic.take() {
             self.serving = Some(app);
         }
-        polled(&mut self.serving, shutdown)
+        polled(&mut self.serving, &mut self.cleaned, shutdown)
     }
 
     fn poll_run(&mut self, shutdown: bool) -> RunPoll
@@ -278,12 +289,16 @@ impl<A: ServerApp<L4Stream> + Drop> ServiceTrait for Service<A> {
         ensures addresses { Some (addresses self.new.listeners) ≡ Some (addresses self.old.listeners) }
         ensures endpoints { map plan_of self.new.listeners.endpoints ≡ map plan_of self.old.listeners.endpoints }
         ensures answer { result ≡ run_answer self.old.app self.old.serving shutdown }
-        ensures left { self.new ≡ record self.old { serving = run_left self.old.app self.old.serving shutdown } }
+        ensures left { self.new ≡ record self.old {
+          serving = run_left self.old.app self.old.serving shutdown;
+          cleaned = self.new.cleaned;
+        } }
+        ensures cleaned { CleansUp A.may_come (taken_in_run self.old.app self.old.serving) shutdown self.old.cleaned self.new.cleaned }
     {
         if self.app_logic.is_some() {
             return RunPoll::Pending;
         }
-        polled(&mut self.serving, shutdown)
+        polled(&mut self.serving, &mut self.cleaned, shutdown)
     }
 
     fn name(&self) -> &str {

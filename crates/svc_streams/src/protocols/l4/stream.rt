@@ -4,21 +4,13 @@ ghost use Rattle.std.specs.Prelude.{◌≡◌, Some, None};
 ghost use Rattle.svc_streams.specs.Buffers.{capacity_of};
 
 use svc_conf::Bytes;
-use svc_socket::PeerAddr;
+pub use svc_socket::Peer;
 
 /// How many bytes are read ahead where no number is given.
 pub const DEFAULT_L4_READ_BUFFER_SIZE: u64 = 65536;
 
 /// How many bytes are kept before they are written where no number is given.
 pub const DEFAULT_L4_WRITE_BUFFER_SIZE: u64 = 1460;
-
-/// Who is at the other end of a connection.
-#[derive(Clone, Copy, PartialEq, Eq, Debug)]
-pub enum Peer {
-    Unknown,
-    Unix,
-    Inet(PeerAddr),
-}
 
 /// The buffers of a stream, in bytes. None stands for the default size, 0 for no buffer.
 #[derive(Clone, Copy, PartialEq, Eq, Debug)]
