@@ -27,7 +27,7 @@ pub closed_once : (p : Plan) (q : Record) (fd : ℕ) → EachEntry (λ e before.
 closed_once p [] fd h = refl
 closed_once p (e ∷ before) fd h = one_or_none (is_close fd e) (has (is_close fd) before) (times (is_close fd) before) (λ a. (not_yet p fd e before h.0 a).1) (closed_once p before fd h.1)
 
-any_later : (fd : ℕ) (new old : List Descriptor) → list_any (has_number fd) old ≡ true → list_any (has_number fd) (new ++ old) ≡ true
+pub any_later : (fd : ℕ) (new old : List Descriptor) → list_any (has_number fd) old ≡ true → list_any (has_number fd) (new ++ old) ≡ true
 any_later fd [] old e = e
 any_later fd (d ∷ more) old e = or_right (d.number == fd) (list_any (has_number fd) (more ++ old)) (any_later fd more old e)
 

@@ -1,20 +1,23 @@
 -- What is told to close a run that didn't serve closes each number that an event brought, once.
-use Rattle.std.proofs.Common.{ℕ, Bool, true, false, not, ◌==◌, ◌||◌, ◌&&◌, ◌+◌, ◌++◌, ◌≡◌, List, [], ◌∷◌, Option, Some, None, map, filter, cond, if◌then◌else◌, refl, sym, ap, ap₂, subst, ◌∙◌, append-nil, eqb-true, eq-eqb, zero-add, arith}
+use Rattle.std.proofs.Common.{ℕ, Bool, true, false, not, ◌==◌, ◌||◌, ◌&&◌, ◌+◌, ◌++◌, ◌≡◌, List, [], ◌∷◌, Option, Some, None, length, map, filter, cond, nat_le, if◌then◌else◌, refl, sym, ap, ap₂, subst, ◌∙◌, append-nil, eqb-true, eq-eqb, zero-add, arith}
 use Rattle.std.proofs.lemmas.Bool.{false≢true, not-true}
 use Rattle.std.proofs.lemmas.List.Folds.{list_any-append}
-use Rattle.std.specs.List.{list_any}
+use Rattle.std.specs.List.{list_any, list_all}
 use Rattle.svc_record.specs.declared.plan.Plan.{Plan}
+use Rattle.svc_record.specs.declared.entry.Entry.{Entry}
 use Rattle.svc_record.specs.declared.entry.Entry.TheVariants.{Got, Told}
 use Rattle.svc_record.specs.declared.event.Event.{Event}
-use Rattle.svc_record.specs.declared.event.Event.TheVariants.{Moment, Ready, Ended, Bound, InUse, BindFailed, Adopted, AdoptFailed, Signal}
+use Rattle.svc_record.specs.declared.event.Event.TheVariants.{Bound, Received, Arrived}
 use Rattle.svc_record.specs.declared.action.Action.{Action}
-use Rattle.svc_record.specs.declared.action.Action.TheVariants.{Close}
+use Rattle.svc_record.specs.declared.action.Action.TheVariants.{Cut, Close}
 use Rattle.svc_record.specs.Record.{Record, has, times, tell, EachEntry}
-use Rattle.svc_record.specs.Descriptors.{Descriptor, opened_descriptors, is_opened, has_number, is_close, numbers_of, brings}
+use Rattle.svc_record.specs.Message.{decode}
+use Rattle.svc_record.specs.Descriptors.{Descriptor, descriptors_of, opened_descriptors, with_words, words_or_none, is_opened, has_number, is_close, numbers_of, brings}
+use Rattle.svc_record.specs.Connections.{Arrival, arrivals, live_connections, goes_on, is_cut}
 use Rattle.svc_record.specs.Closes.{close_once}
 use Rattle.svc_record.specs.Drain.{ascending, live_numbers}
-use Rattle.svc_record.specs.Fits.{event_fits, fits, is_new}
-use Rattle.svc_record.specs.Asks.{is_bind_open}
+use Rattle.svc_record.specs.Fits.{event_fits, fits, is_new, are_new}
+use Rattle.svc_record.specs.Asks.{is_bind_open, is_try_open}
 use Rattle.svc_record.specs.Ends.{has_ended}
 use Rattle.svc_record.specs.Right.{Right}
 use Rattle.svc_record.specs.Tail.{numbers_in, with_event, each_once, new_numbers, closing_actions, is_of, tail_right}
@@ -23,19 +26,21 @@ use Rattle.svc_record.proofs.Complete.{and, or_left, or_right}
 use Rattle.svc_record.proofs.ClosesOnce.{closed_once, closed_was_opened}
 use Rattle.svc_record.proofs.Tallies.{one_if, if_kept, tally, is_in, tally-ascending, tally-filter, tally-each_once, is_in-same, is_in-filter, is_in-each_once, each_in}
 
+numbers-with_words : (fds : List ℕ) (words : List (List ℕ)) (more : List Descriptor) → map (λ (d : Descriptor). d.number) (with_words fds words ++ more) ≡ fds ++ map (λ (d : Descriptor). d.number) more
+numbers-with_words [] words more = refl
+numbers-with_words (fd ∷ fds) [] more = ap (λ ns. fd ∷ ns) (numbers-with_words fds [] more)
+numbers-with_words (fd ∷ fds) (w ∷ words) more = ap (λ ns. fd ∷ ns) (numbers-with_words fds words more)
+
+numbers-descriptors : (p : Plan) (e : Entry) (more : List Descriptor) → map (λ (d : Descriptor). d.number) (descriptors_of p e ++ more) ≡ numbers_of e ++ map (λ (d : Descriptor). d.number) more
+numbers-descriptors p (Got (Bound s i fd)) more = refl
+numbers-descriptors p (Got (Received bytes fds)) more = numbers-with_words fds (words_or_none (decode bytes (length fds))) more
+numbers-descriptors p (Got _) more = refl
+numbers-descriptors p (Told a) more = refl
+
 -- the numbers that were opened are those that the events brought
 pub numbers-opened : (p : Plan) (q : Record) → map (λ (d : Descriptor). d.number) (opened_descriptors p q) ≡ numbers_in q
 numbers-opened p [] = refl
-numbers-opened p (Got (Bound s i fd) ∷ before) = ap (λ ns. fd ∷ ns) (numbers-opened p before)
-numbers-opened p (Got (Moment ms) ∷ before) = numbers-opened p before
-numbers-opened p (Got (Ready s) ∷ before) = numbers-opened p before
-numbers-opened p (Got (Ended s) ∷ before) = numbers-opened p before
-numbers-opened p (Got (InUse s i) ∷ before) = numbers-opened p before
-numbers-opened p (Got (BindFailed s i) ∷ before) = numbers-opened p before
-numbers-opened p (Got (Adopted s i) ∷ before) = numbers-opened p before
-numbers-opened p (Got (AdoptFailed s i) ∷ before) = numbers-opened p before
-numbers-opened p (Got (Signal kind) ∷ before) = numbers-opened p before
-numbers-opened p (Told a ∷ before) = numbers-opened p before
+numbers-opened p (e ∷ before) = numbers-descriptors p e (opened_descriptors p before) ∙ ap (λ ns. numbers_of e ++ ns) (numbers-opened p before)
 
 any-number : (fd : ℕ) (ds : List Descriptor) → list_any (has_number fd) ds ≡ is_in fd (map (λ (d : Descriptor). d.number) ds)
 any-number fd [] = refl
@@ -52,24 +57,47 @@ fresh : (s i : Bool) (k : ℕ) → (s ≡ true → i ≡ false) → k ≡ one_if
 fresh true i k f e = ap (λ x. 1 + x) (e ∙ ap one_if (f refl))
 fresh false i k f e = zero-add k ∙ e
 
-is_fresh : (p : Plan) (before : Record) (s i n : ℕ) → fits p before (Bound s i n) ≡ true → is_in n (numbers_in before) ≡ false
-is_fresh p before s i n e = let h = both (not (has_ended p before)) (is_bind_open before s i && is_new before n) e in
-    let k = both (is_bind_open before s i) (is_new before n) h.1 in sym (brings-in before n) ∙ not-true (has (brings n) before) k.1
+none : (a b : Bool) → a ≡ false → b ≡ false → (a || b) ≡ false
+none a b e f = rw (e, f) refl
+
+-- numbers that are new, and no two of them equal, come once more
+came_more : (before : Record) (fd : ℕ) (fds : List ℕ) → are_new before fds ≡ true → tally fd (numbers_in before) ≡ one_if (is_in fd (numbers_in before)) → tally fd (fds ++ numbers_in before) ≡ one_if (is_in fd (fds ++ numbers_in before))
+came_more before fd [] new once = once
+came_more before fd (n ∷ fds) new once =
+    let h = both (is_new before n && not (is_in n fds)) (are_new before fds) new in
+    let k = both (is_new before n) (not (is_in n fds)) h.0 in
+    fresh (n == fd) (is_in fd (fds ++ numbers_in before)) (tally fd (fds ++ numbers_in before))
+    (λ same. subst (λ m. is_in m (fds ++ numbers_in before) ≡ false) (eqb-true n fd same)
+    (list_any-append (λ m. m == n) fds (numbers_in before) ∙ none (is_in n fds) (is_in n (numbers_in before)) (not-true (is_in n fds) k.1) (sym (brings-in before n) ∙ not-true (has (brings n) before) k.0)))
+    (came_more before fd fds h.1 once)
+
+one_new : (before : Record) (n : ℕ) → is_new before n ≡ true → are_new before (n ∷ []) ≡ true
+one_new before n h = rw h refl
+
+-- what an event that fits brings is new
+brought_new : (p : Plan) (before : Record) (e : Event) → fits p before e ≡ true → are_new before (numbers_of (Got e)) ≡ true
+brought_new p before (Bound s i n) e = one_new before n (both (is_bind_open before s i) (is_new before n) (both (not (has_ended p before)) (is_bind_open before s i && is_new before n) e).1).1
+brought_new p before (Received bytes fds) e = (both (is_try_open before && nat_le (length fds) 32) (are_new before fds) (both (not (has_ended p before)) ((is_try_open before && nat_le (length fds) 32) && are_new before fds) e).1).1
+brought_new p before _ e = refl
 
 -- where events fit, each number came once
 pub came_once : (p : Plan) (q : Record) (fd : ℕ) → EachEntry (λ e before. event_fits p e before ≡ true) q → tally fd (numbers_in q) ≡ one_if (is_in fd (numbers_in q))
 came_once p [] fd h = refl
-came_once p (Got (Bound s i n) ∷ before) fd h = fresh (n == fd) (is_in fd (numbers_in before)) (tally fd (numbers_in before))
-    (λ same. subst (λ m. is_in m (numbers_in before) ≡ false) (eqb-true n fd same) (is_fresh p before s i n h.0)) (came_once p before fd h.1)
-came_once p (Got (Moment ms) ∷ before) fd h = came_once p before fd h.1
-came_once p (Got (Ready s) ∷ before) fd h = came_once p before fd h.1
-came_once p (Got (Ended s) ∷ before) fd h = came_once p before fd h.1
-came_once p (Got (InUse s i) ∷ before) fd h = came_once p before fd h.1
-came_once p (Got (BindFailed s i) ∷ before) fd h = came_once p before fd h.1
-came_once p (Got (Adopted s i) ∷ before) fd h = came_once p before fd h.1
-came_once p (Got (AdoptFailed s i) ∷ before) fd h = came_once p before fd h.1
-came_once p (Got (Signal kind) ∷ before) fd h = came_once p before fd h.1
+came_once p (Got e ∷ before) fd h = came_more before fd (numbers_of (Got e)) (brought_new p before e h.0) (came_once p before fd h.1)
 came_once p (Told a ∷ before) fd h = came_once p before fd h.1
+
+-- where events fit, no connection arrived
+pub none_arrived : (p : Plan) (q : Record) → EachEntry (λ e before. event_fits p e before ≡ true) q → live_connections q ≡ []
+none_arrived p q fit = ap (λ xs. filter (λ c. goes_on q c && not (has (is_cut c) q)) (map (λ (x : Arrival). x.number) xs)) (arrivals_none p q fit)
+  where
+    never : (p : Plan) (before : Record) (e : Event) → fits p before e ≡ true → arrivals (Got e ∷ before) ≡ arrivals before
+    never p before (Arrived s i c peer) e = absurd (false≢true (both (not (has_ended p before)) false e).1)
+    never p before _ e = refl
+
+    arrivals_none : (p : Plan) (q : Record) → EachEntry (λ e before. event_fits p e before ≡ true) q → arrivals q ≡ []
+    arrivals_none p [] fit = refl
+    arrivals_none p (Got e ∷ before) fit = never p before e fit.0 ∙ arrivals_none p before fit.1
+    arrivals_none p (Told a ∷ before) fit = arrivals_none p before fit.1
 
 filter-numbers : (test : ℕ → Bool) (ds : List Descriptor) → map (λ (d : Descriptor). d.number) (filter (λ (d : Descriptor). test d.number) ds) ≡ filter test (map (λ (d : Descriptor). d.number) ds)
 filter-numbers test [] = refl
@@ -97,10 +125,20 @@ pub times-closes : (fd : ℕ) (ns : List ℕ) (q : Record) → times (is_close f
 times-closes fd [] q = sym (zero-add (times (is_close fd) q))
 times-closes fd (n ∷ more) q = one_more (n == fd) _ (tally fd more) (times (is_close fd) q) (times-closes fd more (Told (Close n) ∷ q))
 
-closes_of : (among ns : List ℕ) (more : List Action) → ((fd : ℕ) → is_in fd ns ≡ true → is_in fd among ≡ true) → is_of among more ≡ true → is_of among (map Close ns ++ more) ≡ true
-closes_of among [] more f e = e
-closes_of among (n ∷ ns) more f e = and (is_in n among) (is_of among (map Close ns ++ more)) (f n (or_left (n == n) (is_in n ns) (eq-eqb n n refl)))
-    (closes_of among ns more (λ fd h. f fd (or_right (n == fd) (is_in fd ns) h)) e)
+-- cuts close nothing
+pub times-cuts : (fd : ℕ) (cs : List ℕ) (q : Record) → times (is_close fd) (tell q (map Cut cs)) ≡ times (is_close fd) q
+times-cuts fd [] q = refl
+times-cuts fd (c ∷ more) q = times-cuts fd more (Told (Cut c) ∷ q)
+
+closes_of : (cs among ns : List ℕ) (more : List Action) → ((fd : ℕ) → is_in fd ns ≡ true → is_in fd among ≡ true) → is_of cs among more ≡ true → is_of cs among (map Close ns ++ more) ≡ true
+closes_of cs among [] more f e = e
+closes_of cs among (n ∷ ns) more f e = and (is_in n among) (is_of cs among (map Close ns ++ more)) (f n (or_left (n == n) (is_in n ns) (eq-eqb n n refl)))
+    (closes_of cs among ns more (λ fd h. f fd (or_right (n == fd) (is_in fd ns) h)) e)
+
+cuts_of : (cs among ns : List ℕ) (more : List Action) → ((c : ℕ) → is_in c ns ≡ true → is_in c cs ≡ true) → is_of cs among more ≡ true → is_of cs among (map Cut ns ++ more) ≡ true
+cuts_of cs among [] more f e = e
+cuts_of cs among (c ∷ ns) more f e = and (is_in c cs) (is_of cs among (map Cut ns ++ more)) (f c (or_left (c == c) (is_in c ns) (eq-eqb c c refl)))
+    (cuts_of cs among ns more (λ n h. f n (or_right (c == n) (is_in n ns) h)) e)
 
 -- the numbers that the unfinished event brought
 abbrev event_numbers : Option Event → List ℕ
@@ -148,10 +186,11 @@ tally_live p q fd fit = tally-ascending fd (live_numbers p q) ∙ (ap (tally fd)
 
 times_told : (p : Plan) (q : Record) (also : Option Event) (fd : ℕ) → times (is_close fd) (tell (with_event also q) (closing_actions p q also))
     ≡ tally fd (new_numbers q also) + (tally fd (ascending (live_numbers p q)) + times (is_close fd) q)
-times_told p q also fd = let live = ascending (live_numbers p q) in let from = with_event also q in
-    ap (times (is_close fd)) (tell-append from (map Close live) (map Close (new_numbers q also)))
-    ∙ (times-closes fd (new_numbers q also) (tell from (map Close live))
-    ∙ ap (λ k. tally fd (new_numbers q also) + k) (times-closes fd live from ∙ ap (λ k. tally fd live + k) (times-with fd q also)))
+times_told p q also fd = let live = ascending (live_numbers p q) in let cut = tell (with_event also q) (map Cut (ascending (live_connections q))) in
+    ap (times (is_close fd)) (tell-append (with_event also q) (map Cut (ascending (live_connections q))) (map Close live ++ map Close (new_numbers q also)))
+    ∙ (ap (times (is_close fd)) (tell-append cut (map Close live) (map Close (new_numbers q also)))
+    ∙ (times-closes fd (new_numbers q also) (tell cut (map Close live))
+    ∙ ap (λ k. tally fd (new_numbers q also) + k) (times-closes fd live cut ∙ ap (λ k. tally fd live + k) (times-cuts fd (ascending (live_connections q)) (with_event also q) ∙ times-with fd q also))))
 
 -- each number that came then has one close
 pub all_closed : (p : Plan) (q : Record) (also : Option Event) (fd : ℕ) → EachEntry (λ e before. event_fits p e before ≡ true) q → EachEntry (λ e before. close_once p e before ≡ true) q →
@@ -162,10 +201,11 @@ all_closed p q also fd fit close came = times_told p q also fd ∙ (added (tally
     added : {a b c x y z : ℕ} → a ≡ x → b ≡ y → c ≡ z → a + (b + c) ≡ x + (y + z)
     added e f g = ap₂ (λ m n. m + n) e (ap₂ (λ m n. m + n) f g)
 
--- only such numbers are closed
-only_of : (p : Plan) (q : Record) (also : Option Event) → is_of (numbers_in (with_event also q)) (closing_actions p q also) ≡ true
-only_of p q also = closes_of _ (ascending (live_numbers p q)) _ live_came
-    (subst (λ xs. is_of (numbers_in (with_event also q)) xs ≡ true) (append-nil (map Close (new_numbers q also))) (closes_of _ (new_numbers q also) [] new_came refl))
+-- only such numbers are closed, and live connections cut
+only_of : (p : Plan) (q : Record) (also : Option Event) → is_of (live_connections q) (numbers_in (with_event also q)) (closing_actions p q also) ≡ true
+only_of p q also = cuts_of (live_connections q) _ (ascending (live_connections q)) _ (λ c h. sym (is_in-same c (ascending (live_connections q)) (live_connections q) (tally-ascending c (live_connections q))) ∙ h)
+    (closes_of (live_connections q) _ (ascending (live_numbers p q)) _ live_came
+    (subst (λ xs. is_of (live_connections q) (numbers_in (with_event also q)) xs ≡ true) (append-nil (map Close (new_numbers q also))) (closes_of (live_connections q) _ (new_numbers q also) [] new_came refl)))
   where
     live_came : (fd : ℕ) → is_in fd (ascending (live_numbers p q)) ≡ true → is_in fd (numbers_in (with_event also q)) ≡ true
     live_came fd h = in_either q also fd ∙ or_right (is_in fd (event_numbers also)) (is_in fd (numbers_in q)) (both (not (has (is_close fd) q)) (is_in fd (numbers_in q)) (sym (in_live p q fd) ∙ h)).1
@@ -175,7 +215,8 @@ only_of p q also = closes_of _ (ascending (live_numbers p q)) _ live_came
 
 pub closing_right : (p : Plan) (q : Record) (also : Option Event) → EachEntry (λ e before. event_fits p e before ≡ true) q → EachEntry (λ e before. close_once p e before ≡ true) q →
     tail_right q also (closing_actions p q also) ≡ true
-closing_right p q also fit close = and _ _ (only_of p q also)
+closing_right p q also fit close = and _ _
+    (and _ _ (only_of p q also) (ap (list_all (λ c. times (is_cut c) (tell [] (closing_actions p q also)) == 1)) (none_arrived p q fit)))
     (each_in (λ fd. times (is_close fd) (tell (with_event also q) (closing_actions p q also)) == 1) (numbers_in (with_event also q)) (λ fd came. eq-eqb _ _ (all_closed p q also fd fit close came)))
 
 -- after a right record the closing actions close each number that came, once

@@ -1,5 +1,5 @@
 -- A record that has what a fact says passes the fact's test, so a wrong record is refuted by computing.
-use Rattle.std.proofs.Common.{ℕ, zero, suc, Bool, true, false, ◌||◌, ◌&&◌, not, ◌==◌, ◌+◌, ◌<◌, ◌≤◌, List, [], ◌∷◌, ◌++◌, map, length, if◌then◌else◌, ◌≡◌, refl, sym, subst, ◌∙◌, eq-eqb, arith}
+use Rattle.std.proofs.Common.{ℕ, zero, suc, Bool, true, false, ◌||◌, ◌&&◌, not, ◌==◌, ◌+◌, ◌<◌, ◌≤◌, List, [], ◌∷◌, ◌++◌, map, length, if◌then◌else◌, MatchBool, ◌≡◌, refl, sym, ap, subst, ◌∙◌, eq-eqb, arith}
 use Rattle.std.proofs.lemmas.Bool.{false≢true, not_from_false}
 use Rattle.std.specs.Bool.{OnTrue, OnFalse}
 use Rattle.std.specs.List.{list_all, list_any, range_with_len}
@@ -7,21 +7,23 @@ use Rattle.svc_record.specs.declared.plan.Plan.{Plan}
 use Rattle.svc_record.specs.declared.entry.Entry.{Entry}
 use Rattle.svc_record.specs.declared.entry.Entry.TheVariants.{Got, Told}
 use Rattle.svc_record.specs.declared.action.Action.{Action}
-use Rattle.svc_record.specs.declared.action.Action.TheVariants.{Phase, Close}
+use Rattle.svc_record.specs.declared.action.Action.TheVariants.{Phase, Cut, Close}
 use Rattle.svc_record.specs.declared.action.ExecutionPhase.TheVariants.{ShutdownRuntimes}
-use Rattle.svc_record.specs.Record.{Record, tell, has, times, now, is_signal, from_the_start, before_runtimes, EachEntry, EachEarlier, EachSettled, each_entry, each_earlier, each_settled}
+use Rattle.svc_record.specs.Record.{Record, tell, has, times, now, last_step, is_signal, from_the_start, before_runtimes, EachEntry, EachEarlier, EachSettled, each_entry, each_earlier, each_settled}
 use Rattle.svc_record.specs.Plans.{service_count, endpoints, services, endpoint_numbers}
 use Rattle.svc_record.specs.Descriptors.{Descriptor, opened_descriptors, has_number, is_close}
 use Rattle.svc_record.specs.Failed.{has_failed, is_fail}
-use Rattle.svc_record.specs.Starts.{StartsRight, starts_right, start_right, start_due, start_known}
+use Rattle.svc_record.specs.Starts.{StartsRight, starts_right, start_right, is_start, is_due, start_due, start_known}
 use Rattle.svc_record.specs.Endpoints.{EndpointsRight, EndpointsRightLate, endpoints_right, endpoints_right_late, endpoint_right, endpoint_right_late}
 use Rattle.svc_record.specs.Closes.{ClosesRight, closes_right, close_right, close_once}
 use Rattle.svc_record.specs.AskRules.{FailsRight, fails_right, ask_due, ask_known}
-use Rattle.svc_record.specs.Drain.{Mark, phase, Drain, drain_right, PhasesRight, phases_right, phase_number, same_mark, same_marks, told_marks, has_passed, moment_right, every_moment_right, ends_right, last_actions, live_numbers, begins_with, is_told, stop_seconds, ascending}
-use Rattle.svc_record.specs.Boot.{BootRight, boot_right}
-use Rattle.svc_record.specs.Ends.{has_ended}
+use Rattle.svc_record.specs.Offer.{OfferRight, offer_right, offer_due, retry_due, one_ask}
+use Rattle.svc_record.specs.Connections.{ConnRight, conn_right, rest_due, live_connections, connection_known}
+use Rattle.svc_record.specs.Drain.{Mark, phase, broadcast, Drain, drain_right, PhasesRight, phases_right, phase_number, same_mark, same_marks, told_marks, has_passed, moment_right, every_moment_right, ends_right, last_actions, live_numbers, begins_with, is_told, stop_seconds, ascending}
+use Rattle.svc_record.specs.Boot.{BootRight, boot_right, stands_first, fork_first, start_after_boot, try_due, boot_due}
+use Rattle.svc_record.specs.Ends.{has_ended, has_ended_early, ends_tested, TestedRight, tested_right, visited_services, is_visited}
 use Rattle.svc_record.specs.Fits.{event_fits}
-use Rattle.svc_record.specs.Right.{Right, is_right, Served, is_served, ServesRight, serves_right, OpenRight, open_right, SettledRight, settled_right, PassedRight, passed_right, close_due, in_service, is_served_by_words, Stronger, is_stronger, LastStepRight, last_step_right}
+use Rattle.svc_record.specs.Right.{Right, is_right, Served, is_served, ServesRight, serves_right, EndedRight, ended_right, OpenRight, open_right, SettledRight, settled_right, PassedRight, passed_right, close_due, in_service, is_silent, is_test_step, is_served_by_words, Stronger, is_stronger, LastStepRight, last_step_right}
 use Rattle.svc_record.proofs.Sound.{tell_onto}
 
 same : (n : ℕ) → (n == n) ≡ true
@@ -46,6 +48,10 @@ on_true false t P f h = refl
 pub on_false : (b t : Bool) (P : Type 0) → (P → t ≡ true) → OnFalse b P → (b || t) ≡ true
 on_false true t P f h = refl
 on_false false t P f h = f h
+
+pub chosen : (b x y : Bool) (P Q : Type 0) → (P → x ≡ true) → (Q → y ≡ true) → MatchBool b P Q → (if b then x else y) ≡ true
+chosen true x y P Q f g h = f h
+chosen false x y P Q f g h = g h
 
 pub entries : (test : Entry → Record → Bool) (q : Record) → EachEntry (λ e before. test e before ≡ true) q → each_entry test q ≡ true
 entries test [] h = refl
@@ -93,6 +99,7 @@ fails p q f = below (λ t. times (is_fail t) q == (if has_failed p q t then 1 el
 
 same_self : (x : Mark) → same_mark x x ≡ true
 same_self (phase x) = same (phase_number x)
+same_self broadcast = refl
 
 same_selves : (xs : List Mark) → same_marks xs xs ≡ true
 same_selves [] = refl
@@ -101,11 +108,22 @@ same_selves (x ∷ xs) = and (same_mark x x) (same_marks xs xs) (same_self x) (s
 pub phases : (p : Plan) (q : Record) → PhasesRight p q → phases_right p q ≡ true
 phases p q e = subst (λ xs. same_marks (told_marks q) xs ≡ true) e (same_selves (told_marks q))
 
+pub offer : (p : Plan) (q : Record) → OfferRight p q → (offer_right p q && each_entry (offer_due p) q) ≡ true
+offer p q h = and _ _ h.goes (entries (offer_due p) q h.in_turn)
+
 pub boot : (p : Plan) (q : Record) → BootRight p q → boot_right p q ≡ true
-boot p q h = h.entries
+boot p q h = and _ _ h.entries (and _ _ (and _ _ (entries stands_first q h.first) (entries (fork_first p) q h.fork)) (entries (start_after_boot p) q h.starts))
+
+pub connections : (p : Plan) (q : Record) → ConnRight p q → conn_right p q ≡ true
+connections p q h = and _ _ (and _ _ h.each h.rests) (entries rest_due q h.in_turn)
+
+pub ended : (p : Plan) (q : Record) → EndedRight p q → ended_right p q ≡ true
+ended p q h = and _ _ (on_true (has_ended_early p q) _ _ (λ e. ap is_silent e) h.early)
+    (on_true (ends_tested p q) _ _ (λ (t : (is_test_step (now q) (last_step q) ≡ true) × ClosesRight p q). and _ _ t.0 (closes p q t.1)) h.tested)
 
 pub open_ : (p : Plan) (q : Record) → OpenRight p q → open_right p q ≡ true
-open_ p q h = and _ _ (and _ _ (and _ _ (boot p q h.boot) (closes p q h.closes)) (and _ _ h.one_live (both_late (from_the_start q) h.starts h.endpoints_late)))
+open_ p q h = and _ _ (and _ _ (and _ _ (and _ _ (boot p q h.boot) (offer p q h.offer)) (and _ _ (connections p q h.connections) (closes p q h.closes)))
+    (and _ _ h.one_live (both_late (from_the_start q) h.starts h.endpoints_late)))
     (and _ _ (on_true (in_service q) _ _ (held_or_wait p q) h.endpoints) (and _ _ (and _ _ (phases p q h.phases) (entries moment_right q h.moments)) (not_from_false _ h.no_end)))
   where
     both_late : (b : Bool) → OnTrue b (StartsRight p q) → OnTrue b (EndpointsRightLate p q) → (not b || ((starts_right p q && each_entry (start_due p) q) && endpoints_right_late p q)) ≡ true
@@ -113,7 +131,7 @@ open_ p q h = and _ _ (and _ _ (and _ _ (boot p q h.boot) (closes p q h.closes))
     both_late false s l = refl
 
 pub settled_clause : (p : Plan) (q : Record) → SettledRight p q → settled_right p q ≡ true
-settled_clause p q h = on_false (has_ended p q) (open_right p q) (OpenRight p q) (open_ p q) h
+settled_clause p q h = chosen (has_ended p q) (ended_right p q) (open_right p q) _ _ (ended p q) (open_ p q) h
 
 pub serves : (p : Plan) (q : Record) → ServesRight p q → serves_right p q ≡ true
 serves p q h = and _ _ (on_false (has is_signal q) (closes_right p q) _ (closes p q) h.closes) (both_parts (in_service q) h.starts h.endpoints)
@@ -122,7 +140,7 @@ serves p q h = and _ _ (on_false (has is_signal q) (closes_right p q) _ (closes 
     both_parts true s l = and _ _ (starts p q s) (held_or_wait p q l)
     both_parts false s l = refl
 
--- only phases, closes and `Stop`
+-- only phases, cuts, closes and `Stop`
 abbrev AllLast : Record → Type 0
 AllLast [] = Unit {0}
 AllLast (Told a ∷ more) = (is_told a (Told a) ≡ true) × AllLast more
@@ -133,9 +151,13 @@ begins [] rest h = refl
 begins (Told a ∷ more) rest h = and _ _ h.0 (begins more rest h.1)
 begins (Got e ∷ more) rest h = absurd h
 
--- telling these actions adds only phases, closes and `Stop`
+-- telling these actions adds only phases, cuts, closes and `Stop`
 abbrev Stays : List Action → Type 0
 Stays actions = (q : Record) → AllLast q → AllLast (tell q actions)
+
+cuts_stay : (cs : List ℕ) (more : List Action) → Stays more → Stays (map Cut cs ++ more)
+cuts_stay [] more f q h = f q h
+cuts_stay (c ∷ cs) more f q h = cuts_stay cs more f (Told (Cut c) ∷ q) (same c, h)
 
 closes_stay : (fds : List ℕ) (more : List Action) → Stays more → Stays (map Close fds ++ more)
 closes_stay [] more f q h = f q h
@@ -146,7 +168,7 @@ ends p at r e = subst (λ z. begins_with (tell [] (last_actions p at)) z ≡ tru
     (begins (tell [] (last_actions p at)) at all_last)
   where
     all_last : AllLast (tell [] (last_actions p at))
-    all_last = closes_stay (ascending (live_numbers p at)) _ (λ q h. (same (now at), (same (stop_seconds p at), h)))
+    all_last = cuts_stay (ascending (live_connections at)) _ (closes_stay (ascending (live_numbers p at)) _ (λ q h. (same (now at), (same (stop_seconds p at), h))))
         (Told (Phase ShutdownRuntimes (now at)) ∷ []) (same (now at), tt)
 
 pub drains : (p : Plan) (r : Record) → Drain p r → drain_right p r ≡ true
@@ -154,12 +176,26 @@ drains p r h = and _ _ (and _ _ (and _ _ (and _ _ h.passes (earlier (λ q. not (
     (settled (phases_right p) (PhasesRight p) (phases p) r h.phases)) (entries every_moment_right r h.moments))
     (and _ _ (ends p (before_runtimes r) r h.ends) (not_from_false _ h.nowhere_else))
 
+pub each_among : (test : ℕ → Bool) (ns : List ℕ) → ((s : ℕ) → list_any (λ n. n == s) ns ≡ true → test s ≡ true) → list_all test ns ≡ true
+each_among test [] f = refl
+each_among test (n ∷ ns) f = and (test n) (list_all test ns) (f n (or_left (n == n) (list_any (λ m. m == n) ns) (same n)))
+    (each_among test ns (λ s e. f s (or_right (n == s) (list_any (λ m. m == s) ns) e)))
+
+pub tested : (p : Plan) (q : Record) → TestedRight p q → tested_right p q ≡ true
+tested p q h = and _ _ (and _ _ (and _ _ h.forked h.begun) (entries (start_after_boot p) q h.in_turn)) (and _ _
+    (on_false p.eager _ _ (λ (f : (s : ℕ) → is_visited p q s ≡ true → times (is_start s) q ≡ (if is_due p q s then 1 else 0)). each_among (start_right p q) (visited_services p q) (λ s v. eq-eqb _ _ (f s v))) h.starts)
+    (on_false p.eager _ _ (λ (f : (s i : ℕ) → is_visited p q s ≡ true → i < length (endpoints p s) → endpoint_right_late p q s i ≡ true).
+    each_among (λ s. list_all (endpoint_right_late p q s) (endpoint_numbers p s)) (visited_services p q) (λ s v. below (endpoint_right_late p q s) (length (endpoints p s)) (λ i low. f s i v low))) h.endpoints))
+
 pub last_step_clause : (p : Plan) (at : Record) → LastStepRight p at → last_step_right p at ≡ true
-last_step_clause p at h = and _ _ (and _ _ (starts p at h.starts) (held_or_wait_late p at h.endpoints)) (and _ _ (closes p at h.closes) (boot p at h.boot))
+last_step_clause p at h = and _ _ (and _ _ (and _ _ (starts p at h.starts) (held_or_wait_late p at h.endpoints)) (and _ _ (closes p at h.closes) (boot p at h.boot)))
+    (and _ _ (offer p at h.offer) (connections p at h.connections))
 
 pub stronger : (p : Plan) (r : Record) → Stronger p r → is_stronger p r ≡ true
-stronger p r h = and _ _ (and _ _ (and _ _ (entries (close_once p) r h.closes) (on_true (has_passed p r) _ _ (last_step_clause p (before_runtimes r)) h.last_step)) (entries every_moment_right r h.moments))
-    (and _ _ (entries (start_known p) r h.known_starts) (entries (ask_known p) r h.known_asks))
+stronger p r h = and _ _ (and _ _ (and _ _ (and _ _ (and _ _ (entries (boot_due p) r h.boots) (entries try_due r h.tries)) (entries retry_due r h.retries))
+    (and _ _ (settled (one_ask p) (λ q. one_ask p q ≡ true) (λ q t. t) r h.one_ask) (on_true (ends_tested p r) _ _ (tested p r) h.tested)))
+    (and _ _ (and _ _ (entries (close_once p) r h.closes) (on_true (has_passed p r) _ _ (last_step_clause p (before_runtimes r)) h.last_step)) (entries every_moment_right r h.moments)))
+    (and _ _ (and _ _ (entries (start_known p) r h.known_starts) (entries (ask_known p) r h.known_asks)) (entries (connection_known p) r h.known_connections))
 
 served_by_words : (p : Plan) (r : Record) → Served p r → is_served_by_words p r ≡ true
 served_by_words p r h = and _ _ (and _ _ (and _ _ (entries (event_fits p) r h.fits) (drains p r h.drain)) (settled (serves_right p) (ServesRight p) (serves p) r h.serves))
@@ -170,7 +206,7 @@ pub test_from_served : (p : Plan) (r : Record) → Served p r → is_served p r 
 test_from_served p r h = and _ _ (served_by_words p r h) (stronger p r h.stronger)
 
 pub passing : (p : Plan) (r : Record) → PassedRight p r → passed_right p r ≡ true
-passing p r h = and _ _ (served_by_words p r h.served) (boot p r h.boot)
+passing p r h = and _ _ (and _ _ (served_by_words p r h.served) (boot p r h.boot)) (and _ _ (offer p r h.offer) (connections p r h.connections))
 
 -- a right record passes the test
 pub test_from_right : (p : Plan) (r : Record) → Right p r → is_right p r ≡ true

@@ -1,6 +1,5 @@
 -- Records that no server leaves: each is refused, by the clauses that say why.
 use Rattle.std.proofs.Common.{ℕ, true, [], ◌∷◌, ◌++◌, codes, ◌≡◌, refl}
-use Rattle.svc_graph.specs.declared.plan.Kind.TheVariants.{Bootstrap as Bootstrapping}
 use Rattle.svc_record.specs.declared.plan.Plan.{Plan}
 use Rattle.svc_record.specs.declared.entry.Entry.TheVariants.{Got, Told}
 use Rattle.svc_record.specs.declared.event.Event.TheVariants.{Moment as Time, Ready, Ended, Bound, InUse, BindFailed, Adopted, Signal}
@@ -11,7 +10,7 @@ use Rattle.svc_record.specs.declared.action.StepEnd.TheVariants.{On}
 use Rattle.svc_record.specs.Record.{Record}
 use Rattle.svc_record.specs.Ends.{step_end}
 use Rattle.svc_record.specs.Right.{is_served}
-use Rattle.svc_record.proofs.Clauses.{EventFits, StartInTurn, AskInTurn, GivenUp, CloseOnce, Moment, StartKnown, AskKnown, Beginning, Closes, OneLive, Starts, Endpoints, EndpointsLate, Phases, NoEnd, FirstToPass, AllPhases, LastActions, EndNowhereElse, AllClosed, LastStep, BeginningOfAll, IsRefusedBy}
+use Rattle.svc_record.proofs.Clauses.{EventFits, StartInTurn, AskInTurn, GivenUp, CloseOnce, Moment, StartKnown, AskKnown, Beginning, Closes, OneLive, Starts, Endpoints, EndpointsLate, Phases, NoEnd, FirstToPass, AllPhases, LastActions, EndNowhereElse, Serves, AllClosed, ClosedAfter, LastStep, BeginningOfAll, IsRefusedBy}
 use Rattle.svc_record.proofs.TwoServices.{plan_of, listening, database, plan, asked, bound, run}
 use Rattle.svc_record.proofs.SharedAddress.{plan as shared_plan, refused, retried, offered}
 use Rattle.svc_record.proofs.FailedBind.{plan as failing_plan, half_held, given_up}
@@ -28,10 +27,6 @@ pair = plan_of (listening [] (codes "127.0.0.1:80") ∷ listening [] (codes "127
 -- two services with one address
 abbrev shared : Plan
 shared = plan_of (listening [] (codes "127.0.0.1:80") ∷ listening [] (codes "127.0.0.1:80") ∷ [])
-
--- one service, which bootstraps
-abbrev bootstrapping : Plan
-bootstrapping = plan_of (record database { kind = Bootstrapping } ∷ [])
 
 -- one service is started, and the run runs
 abbrev begun : Record
@@ -128,6 +123,14 @@ close_twice = (refl, refl)
 -- a descriptor is left open at the end
 close_left_out : IsRefusedBy plan (ended [] 0 signalled) (LastActions ∷ AllClosed ∷ [])
 close_left_out = (refl, refl)
+
+-- a number is closed before it is opened, and not after that
+close_of_later_at_the_end : IsRefusedBy plan (ended [] 0 (Got (Signal FastShutdown) ∷ Got (Bound 1 0 7) ∷ Told (Close 7) ∷ asked)) (CloseOnce ∷ Closes ∷ Endpoints ∷ Serves ∷ ClosedAfter ∷ LastStep ∷ [])
+close_of_later_at_the_end = (refl, refl)
+
+-- a due service isn't started before the signal
+start_left_out_at_the_end : IsRefusedBy plan (ended [] 0 (Got (Signal FastShutdown) ∷ Got (Ready 0) ∷ begun)) (Starts ∷ Serves ∷ LastStep ∷ [])
+start_left_out_at_the_end = (refl, refl)
 
 -- a descriptor is closed in the last step, but before `ShutdownRuntimes`
 close_in_last_step : IsRefusedBy plan (ended [] 0 (Told (Close 7) ∷ Got (Signal FastShutdown) ∷ bound)) (LastStep ∷ [])
@@ -256,10 +259,6 @@ ended_of_listening = (refl, refl)
 -- that of a service that isn't started
 ended_unstarted : IsRefusedBy later (Got (Ended 1) ∷ begun) (EventFits ∷ [])
 ended_unstarted = (refl, refl)
-
--- that of a service that bootstraps
-ended_of_bootstrapping : IsRefusedBy bootstrapping (Got (Ended 0) ∷ begun) (EventFits ∷ [])
-ended_of_bootstrapping = (refl, refl)
 
 -- a service isn't started though the work of what it waits for is done
 start_after_ended_left_out : IsRefusedBy plan (Got (Ended 0) ∷ begun) (Starts ∷ [])

@@ -1,13 +1,12 @@
 -- Parts of the tests of a plan: what a graph of its services holds, and what is asked of each service.
-use Rattle.std.specs.Prelude.{ℕ, false, nat_lt, ◌&&◌, ◌||◌, ◌==◌, ◌≡◌, ◌<◌, ◌≤◌, List, length, All, None}
+use Rattle.std.specs.Prelude.{ℕ, nat_lt, ◌&&◌, ◌||◌, ◌==◌, ◌≡◌, ◌<◌, ◌≤◌, List, length, All, None}
 use Rattle.svc_graph.specs.Paths.{Edges, IsAcyclic}
 use Rattle.svc_graph.specs.GraphData.{GraphData}
 use Rattle.svc_graph.specs.Graphs.{node_count, is_edge}
 use Rattle.svc_graph.specs.declared.plan.EndpointPlan.{EndpointPlan}
-use Rattle.svc_graph.specs.declared.plan.Kind.TheVariants.{Bootstrap}
 use Rattle.svc_record.specs.declared.plan.Plan.{Plan}
 use Rattle.svc_record.specs.declared.plan.ServicePlan.{ServicePlan}
-use Rattle.svc_record.specs.Plans.{service_count, depends, is_kind}
+use Rattle.svc_record.specs.Plans.{service_count, depends}
 use Rattle.svc_record.specs.Validity.{IsAddress, depends_on, is_listed}
 
 -- the plan keeps the limits
@@ -30,7 +29,6 @@ pub record IsGraphUpTo (p : Plan) (n : ℕ) (g : GraphData) : Type 0 where
   pub nodes : node_count g ≡ service_count p
   pub edges : (a b : ℕ) → is_edge g a b ≡ (nat_lt a n && depends_on p a b)
 
--- the service doesn't bootstrap, and none of its endpoints has a filter
-pub record IsPlainService (s : ServicePlan) : Type 0 where
-  pub boots_not : is_kind Bootstrap s.kind ≡ false
-  pub unfiltered : All (λ (e : EndpointPlan). e.filter ≡ None) s.endpoints
+-- none of the service's endpoints has a filter
+abbrev pub HasNoFilter : ServicePlan → Type 0
+HasNoFilter s = All (λ (e : EndpointPlan). e.filter ≡ None) s.endpoints

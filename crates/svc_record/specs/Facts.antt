@@ -4,16 +4,25 @@ use Rattle.svc_record.specs.declared.plan.Plan.{Plan}
 use Rattle.svc_record.specs.declared.entry.Entry.TheVariants.{Got}
 use Rattle.svc_record.specs.declared.event.Event.{Event}
 use Rattle.svc_record.specs.Record.{Record}
+use Rattle.svc_record.specs.Plans.{names, is_unclaimed}
 use Rattle.svc_record.specs.Descriptors.{is_doubled}
 use Rattle.svc_record.specs.Failed.{has_failed}
 use Rattle.svc_record.specs.Starts.{is_ready}
 use Rattle.svc_record.specs.Endpoints.{is_held_by, is_held, holds, serves, rests, is_busy, waits}
-use Rattle.svc_record.specs.Closes.{is_abandoned, is_gone}
+use Rattle.svc_record.specs.Closes.{is_abandoned, is_drained, is_gone}
 use Rattle.svc_record.specs.Drain.{has_passed}
 
 -- q is the record, or what stands before one of its events
 abbrev pub Settled : Record → Record → Type 0
 Settled q r = (q ≡ r) ⊎ ((e : Event) × ((more : Record) × (r ≡ more ++ (Got e ∷ q))))
+
+-- the service declares the address or has an endpoint with it
+abbrev pub Names : Plan → ℕ → List ℕ → Type 0
+Names p s a = IsTrue (names p s a)
+
+-- every service declares a list, and no service names the address
+abbrev pub Unclaimed : Plan → List ℕ → Type 0
+Unclaimed p a = IsTrue (is_unclaimed p a)
 
 -- before the event that opened the descriptor, a live one had its address
 abbrev pub Doubled : Plan → Record → ℕ → Type 0
@@ -58,6 +67,10 @@ Waits p q s i = IsTrue (waits p q s i)
 -- some service names the address, and all that name it have failed
 abbrev pub Abandoned : Plan → Record → List ℕ → Type 0
 Abandoned p q a = IsTrue (is_abandoned p q a)
+
+-- after the broadcast all that hold the descriptor are done with it
+abbrev pub Drained : Plan → Record → ℕ → Type 0
+Drained p q fd = IsTrue (is_drained p q fd)
 
 -- the descriptor is to be closed
 abbrev pub Gone : Plan → Record → ℕ → Type 0

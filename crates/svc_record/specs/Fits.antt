@@ -1,15 +1,17 @@
 -- Which event may come after a record.
-use Rattle.std.specs.Prelude.{ℕ, Bool, true, ◌≡◌, ◌==◌, not, ◌&&◌, ◌||◌, length, nat_le}
+use Rattle.std.specs.Prelude.{ℕ, Bool, true, ◌==◌, ◌≡◌, false, not, ◌&&◌, ◌||◌, List, [], ◌∷◌, length, nat_le}
+use Rattle.std.specs.List.{list_any}
 use Rattle.svc_record.specs.declared.plan.Plan.{Plan}
 use Rattle.svc_graph.specs.declared.plan.Kind.TheVariants.{Plain, Notifying}
 use Rattle.svc_record.specs.declared.entry.Entry.{Entry}
 use Rattle.svc_record.specs.declared.entry.Entry.TheVariants.{Got}
 use Rattle.svc_record.specs.declared.event.Event.{Event}
-use Rattle.svc_record.specs.declared.event.Event.TheVariants.{Moment, Ready, Ended, Bound, InUse, BindFailed, Adopted, AdoptFailed, Signal}
+use Rattle.svc_record.specs.declared.event.Event.TheVariants.{Moment, Ready, Ended, Bound, InUse, BindFailed, Adopted, AdoptFailed, Received, NoSenderYet, ReceiveFailed, Signal}
+use Rattle.svc_record.specs.declared.event.ShutdownSignal.TheVariants.{FastShutdown}
 use Rattle.svc_record.specs.Record.{Record, has, now, from_the_start}
 use Rattle.svc_record.specs.Plans.{has_kind, endpoints}
 use Rattle.svc_record.specs.Descriptors.{brings}
-use Rattle.svc_record.specs.Asks.{is_bind_open, is_adopt_open}
+use Rattle.svc_record.specs.Asks.{is_bind_open, is_adopt_open, is_try_open}
 use Rattle.svc_record.specs.Starts.{is_started, is_ready_event, is_ended_event}
 use Rattle.svc_record.specs.Ends.{has_ended}
 
@@ -17,11 +19,16 @@ use Rattle.svc_record.specs.Ends.{has_ended}
 abbrev pub is_new : Record → ℕ → Bool
 is_new q fd = not (has (brings fd) q)
 
+-- the numbers are new, and no two of them equal
+abbrev pub are_new : Record → List ℕ → Bool
+are_new q [] = true
+are_new q (fd ∷ fds) = (is_new q fd && not (list_any (λ n. n == fd) fds)) && are_new q fds
+
 -- the service takes no connections and doesn't bootstrap
 abbrev pub may_end : Plan → ℕ → Bool
 may_end p s = (has_kind p Plain s || has_kind p Notifying s) && length (endpoints p s) == 0
 
--- the condition of each event
+-- the condition of each event. Events of forms that aren't built yet never come.
 abbrev pub fits_row : Plan → Record → Event → Bool
 fits_row p q (Moment ms) = nat_le (now q) ms
 fits_row p q (Ready s) = (has_kind p Notifying s && is_started q s) && not (has (is_ready_event s) q)
@@ -31,7 +38,11 @@ fits_row p q (InUse s i) = is_bind_open q s i
 fits_row p q (BindFailed s i) = is_bind_open q s i
 fits_row p q (Adopted s i) = is_adopt_open q s i
 fits_row p q (AdoptFailed s i) = is_adopt_open q s i
-fits_row p q (Signal kind) = from_the_start q
+fits_row p q (Received bytes fds) = (is_try_open q && nat_le (length fds) 32) && are_new q fds
+fits_row p q NoSenderYet = is_try_open q
+fits_row p q ReceiveFailed = is_try_open q
+fits_row p q (Signal FastShutdown) = from_the_start q
+fits_row p q _ = false
 
 -- the event may come: the run hasn't ended, and the event's condition holds
 abbrev pub fits : Plan → Record → Event → Bool

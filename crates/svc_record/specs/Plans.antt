@@ -1,7 +1,8 @@
 -- What a plan says of each service.
-use Rattle.std.specs.Prelude.{ℕ, Bool, true, false, ◌&&◌, ◌||◌, List, [], length, Option, Some, None, slice_get, nat_lt}
-use Rattle.std.specs.List.{list_any, range_with_len}
+use Rattle.std.specs.Prelude.{ℕ, Bool, true, false, not, ◌&&◌, ◌||◌, List, [], length, Option, Some, None, slice_get, nat_lt}
+use Rattle.std.specs.List.{list_any, list_all, range_with_len}
 use Rattle.std.specs.Prelude.{bytes_eq}
+use Rattle.svc_conf.specs.declared.settings.Setting.{Setting}
 use Rattle.svc_record.specs.declared.plan.Plan.{Plan}
 use Rattle.svc_record.specs.declared.plan.ServicePlan.{ServicePlan}
 use Rattle.svc_graph.specs.declared.plan.EndpointPlan.{EndpointPlan}
@@ -79,6 +80,22 @@ is_unix p s i = unix_of (endpoint p s i)
     unix_of (Some x) = x.unix
     unix_of None = false
 
+-- the number of its filter, if it has one
+abbrev pub filter_of : Plan → ℕ → ℕ → Option ℕ
+filter_of p s i = in_endpoint (endpoint p s i)
+  where
+    in_endpoint : Option EndpointPlan → Option ℕ
+    in_endpoint (Some x) = x.filter
+    in_endpoint None = None
+
+-- its options
+abbrev pub options_of : Plan → ℕ → ℕ → List Setting
+options_of p s i = in_endpoint (endpoint p s i)
+  where
+    in_endpoint : Option EndpointPlan → List Setting
+    in_endpoint (Some x) = x.options
+    in_endpoint None = []
+
 -- both are an address, and the same one
 abbrev pub same_address : Option (List ℕ) → Option (List ℕ) → Bool
 same_address (Some a) (Some b) = bytes_eq a b
@@ -88,9 +105,25 @@ same_address _ _ = false
 abbrev pub any_with : Plan → Option (List ℕ) → (ℕ → ℕ → Bool) → Bool
 any_with p a test = list_any (λ s. list_any (λ i. same_address (address p s i) a && test s i) (endpoint_numbers p s)) (services p)
 
+-- each endpoint passes the test
+abbrev pub each_endpoint : Plan → (ℕ → ℕ → Bool) → Bool
+each_endpoint p test = list_all (λ s. list_all (test s) (endpoint_numbers p s)) (services p)
+
 -- some text of the list is a
 abbrev pub is_among : List ℕ → List (List ℕ) → Bool
 is_among a texts = list_any (λ t. bytes_eq t a) texts
+
+-- the service declares a list
+abbrev pub declares_list : Plan → ℕ → Bool
+declares_list p s = in_service (service p s)
+  where
+    is_list : Option (List (List ℕ)) → Bool
+    is_list (Some texts) = true
+    is_list None = false
+
+    in_service : Option ServicePlan → Bool
+    in_service (Some x) = is_list x.declared
+    in_service None = false
 
 -- the service declares a list with a in it
 abbrev pub declares : Plan → ℕ → List ℕ → Bool
@@ -107,3 +140,7 @@ declares p s a = in_service (service p s)
 -- s declares a, or has an endpoint with this address
 abbrev pub names : Plan → ℕ → List ℕ → Bool
 names p s a = declares p s a || list_any (λ (e : EndpointPlan). bytes_eq e.address a) (endpoints p s)
+
+-- every service declares a list, and no service names a
+abbrev pub is_unclaimed : Plan → List ℕ → Bool
+is_unclaimed p a = list_all (λ s. declares_list p s && not (names p s a)) (services p)

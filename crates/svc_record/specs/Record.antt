@@ -1,5 +1,5 @@
 -- The record of a run: what was got and told, the newest entry first. So what stands before an entry is the rest of the list behind it.
-use Rattle.std.specs.Prelude.{ℕ, Bool, true, false, ◌||◌, ◌&&◌, ◌+◌, List, [], ◌∷◌, if◌then◌else◌, Option, Some, None}
+use Rattle.std.specs.Prelude.{ℕ, Bool, true, false, ◌||◌, ◌&&◌, ◌+◌, ◌==◌, List, [], ◌∷◌, if◌then◌else◌, Option, Some, None}
 use Rattle.svc_record.specs.declared.entry.Entry.{Entry}
 use Rattle.svc_record.specs.declared.entry.Entry.TheVariants.{Got, Told}
 use Rattle.svc_record.specs.declared.action.Action.{Action}
@@ -21,6 +21,10 @@ has test (e ∷ before) = test e || has test before
 abbrev pub times : (Entry → Bool) → Record → ℕ
 times test [] = 0
 times test (e ∷ before) = if test e then times test before + 1 else times test before
+
+-- entries that pass the test stand in q once if this holds, else not at all
+abbrev pub once_if : Bool → (Entry → Bool) → Record → Bool
+once_if holds test q = times test q == (if holds then 1 else 0)
 
 -- the record after these actions were told, in this order
 abbrev pub tell : Record → List Action → Record
@@ -56,6 +60,12 @@ EachSettled P q = P q × EachEarlier P q
 -- each settled prefix passes the test
 abbrev pub each_settled : (Record → Bool) → Record → Bool
 each_settled test q = test q && each_earlier test q
+
+-- what was told since the last event, the newest first
+abbrev pub last_step : Record → List Action
+last_step [] = []
+last_step (Got e ∷ before) = []
+last_step (Told a ∷ before) = a ∷ last_step before
 
 -- the last moment that came, else 0. The moment of an entry e is `now (e ∷ before)`.
 abbrev pub now : Record → ℕ

@@ -9,6 +9,10 @@ pub record Tells (before after : List Action) (Kept : List Action → Type 0) : 
   pub appended : after ≡ before ++ told
   pub kept : Kept told
 
+-- a call appended the same actions to two lists
+abbrev pub TellsBoth : List Action → List Action → List Action → List Action → Type 0
+TellsBoth before after before_again after_again = (told : List Action) × (after ≡ before ++ told) × (after_again ≡ before_again ++ told)
+
 -- only starts and asks
 abbrev pub IsQuiet : List Action → Type 0
 IsQuiet [] = Unit {0}

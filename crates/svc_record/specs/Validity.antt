@@ -3,9 +3,8 @@ use Rattle.std.specs.Prelude.{ℕ, Bool, true, false, ◌≡◌, ◌<◌, ◌≤
 use Rattle.std.specs.List.{list_any}
 use Rattle.svc_graph.specs.Paths.{IsAcyclic}
 use Rattle.svc_graph.specs.declared.plan.EndpointPlan.{EndpointPlan}
-use Rattle.svc_graph.specs.declared.plan.Kind.TheVariants.{Bootstrap}
 use Rattle.svc_record.specs.declared.plan.Plan.{Plan}
-use Rattle.svc_record.specs.Plans.{service_count, depends, has_kind, endpoints}
+use Rattle.svc_record.specs.Plans.{service_count, depends, endpoints}
 
 -- s depends on d
 abbrev pub depends_on : Plan → ℕ → ℕ → Bool
@@ -24,11 +23,9 @@ pub record IsValid (p : Plan) : Type 0 where
   pub acyclic : IsAcyclic (depends_on p)
   pub tasks : 0 < p.tasks
 
--- the plan has only forms that are built: no endpoint has a filter; nothing bootstraps, and nothing forks
+-- the plan has only forms that are built: no endpoint has a filter, and nothing forks
 pub record IsBuilt (p : Plan) : Type 0 where
   pub unfiltered : (s : ℕ) → All (λ (e : EndpointPlan). e.filter ≡ None) (endpoints p s)
-  pub boots_not : (s : ℕ) → has_kind p Bootstrap s ≡ false
-  pub eager_not : p.eager ≡ false
   pub daemon_not : p.daemon ≡ false
 
 -- s is among those listed

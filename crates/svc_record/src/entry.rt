@@ -4,7 +4,7 @@ use std::fmt;
 use svc_conf::Reserved;
 
 /// An entry of a record: what was got from the host, or told to it.
-#[derive(Clone, Copy, PartialEq, Eq, Debug)]
+#[derive(PartialEq, Eq, Debug, Drop)]
 pub enum Entry {
     Got(Event),
     Told(Action),

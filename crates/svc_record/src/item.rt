@@ -1,7 +1,7 @@
 use crate::event::Event;
 
 /// What a host that is made from a list gives next.
-#[derive(Clone, Copy, PartialEq, Eq, Debug)]
+#[derive(PartialEq, Eq, Debug, Drop)]
 pub enum Item {
     /// This event comes.
     Event(Event),

@@ -2,15 +2,17 @@
 #![tactic(auto)]
 
 mod action;
+mod copies;
 mod entry;
 mod event;
 mod item;
 mod plan;
+mod printed;
 mod validity;
 
-pub use action::{Action, Actions, ExecutionPhase, StepEnd};
+pub use action::{Action, Actions, BootstrapError, ExecutionPhase, StepEnd};
 pub use entry::{Entries, Entry};
-pub use event::{Event, ShutdownSignal};
+pub use event::{Event, ShutdownSignal, Side};
 pub use item::Item;
 pub use plan::{Plan, ServiceList, ServicePlan};
 pub use validity::startup_order;

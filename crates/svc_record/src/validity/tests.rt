@@ -79,10 +79,10 @@ fn tells_plans_that_are_not_valid(rt: HostRuntime) -> Result<(), Fail> {
 
 #[test]
 fn tells_plans_that_are_not_built(rt: HostRuntime) -> Result<(), Fail> {
-    let shared = plan(rt.alloc(), [&[], &[]], [&["a", "b"], &["a"]])?;
+    let mut shared = plan(rt.alloc(), [&[], &[]], [&["a", "b"], &["a"]])?;
+    shared.eager = true;
     assert!(rt; shared.is_built());
-    let mut eager = shared;
-    eager.eager = true;
-    assert!(rt; !eager.is_built());
+    shared.daemon = true;
+    assert!(rt; !shared.is_built());
     Ok(())
 }
