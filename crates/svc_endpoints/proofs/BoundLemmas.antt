@@ -73,7 +73,7 @@ module _ (p : Plan) (d : EndpointsData) (s i fd : ℕ) (sized : IsEndpointsSized
   pub more_with : (text : List ℕ) → Some text ≡ address p s i → has_open d.table (address p s i) ≡ false → (a : Option (List ℕ))
       → numbers_with (with_open fd text d).table a ≡ (if same_address (address p s i) a then fd ∷ [] else numbers_with d.table a)
   more_with text is none a = subst (λ b. numbers_with (with_open fd text d).table a ≡ (if same_address b a then fd ∷ [] else numbers_with d.table a)) is
-      (numbers_with-put (record { fd = fd; address = text }) d.table (subst (λ b. numbers_with d.table b ≡ []) (sym is) (empty_nil (numbers_with d.table (address p s i)) none)) a)
+      (numbers_with-put (record { fd = fd; address = Some text }) d.table (subst (λ b. numbers_with d.table b ≡ []) (sym is) (empty_nil (numbers_with d.table (address p s i)) none)) a)
 
   pub stands-bound : (q : Record) (text : List ℕ) → is_new q fd ≡ true → Some text ≡ address p s i → has_open d.table (address p s i) ≡ false
       → StatesStand p d q → StatesStand p (bound d s i fd text) (Got (Bound s i fd) ∷ q)

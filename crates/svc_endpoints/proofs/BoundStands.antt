@@ -1,6 +1,6 @@
 -- What a bind that brought a descriptor leaves, with the close of a doubled one.
-use Rattle.std.proofs.Common.{ℕ, Bool, true, false, ◌==◌, not, inl, inr, List, [], ◌∷◌, ◌++◌, ◌≡◌, refl, ap, sym, ◌∙◌, subst, arith, ◌<◌, ◌≤◌, ◌+◌, length, nat_lt, map, Option, Some, if◌then◌else◌}
-use Rattle.std.proofs.lemmas.Bool.{cases_Bool, cases_eq, and_from, or_left, eq-eqb, ne_eqb}
+use Rattle.std.proofs.Common.{ℕ, Bool, true, false, ◌||◌, ◌&&◌, ◌==◌, not, inl, inr, List, [], ◌∷◌, ◌++◌, ◌≡◌, refl, ap, sym, ◌∙◌, subst, arith, ◌<◌, ◌≤◌, ◌+◌, length, nat_lt, map, Option, Some, if◌then◌else◌}
+use Rattle.std.proofs.lemmas.Bool.{cases_Bool, cases_eq, and_from, or_left, or_right, eq-eqb, ne_eqb}
 use Rattle.svc_record.specs.declared.plan.Plan.{Plan}
 use Rattle.svc_record.specs.declared.entry.Entry.TheVariants.{Got, Told}
 use Rattle.svc_record.specs.declared.action.Action.{Action}
@@ -8,9 +8,9 @@ use Rattle.svc_record.specs.declared.action.Action.TheVariants.{Close}
 use Rattle.svc_record.specs.declared.event.Event.TheVariants.{Bound}
 use Rattle.svc_record.specs.Record.{Record, has, times, tell}
 use Rattle.svc_record.specs.Plans.{service_count, endpoints, address}
-use Rattle.svc_record.specs.Descriptors.{Descriptor, has_live, is_close, is_opened, is_doubled, brings}
+use Rattle.svc_record.specs.Descriptors.{Descriptor, has_live, is_close, is_opened, is_doubled, address_of, brings}
 use Rattle.svc_record.specs.Drain.{ascending, put_number}
-use Rattle.svc_record.specs.Closes.{is_gone, is_address_abandoned, is_abandoned}
+use Rattle.svc_record.specs.Closes.{is_received, is_address_unclaimed, is_address_abandoned, is_abandoned}
 use Rattle.svc_record.specs.Fits.{is_new}
 use Rattle.svc_record.specs.Tail.{numbers_in}
 use Rattle.svc_record.specs.Told.{Tells, IsGivingUp}
@@ -19,13 +19,14 @@ use Rattle.svc_endpoints.specs.declared.table.Open.{Open}
 use Rattle.svc_endpoints.specs.EndpointsData.{EndpointsData}
 use Rattle.svc_endpoints.specs.EndpointsState.{IsEndpointsSized, EndpointsStand, last_at, failed_at, is_binding, is_in, distinct, numbers_with}
 use Rattle.svc_endpoints.specs.Effects.{has_open, put_open, bound, bound_again, bound_or_again, close_told}
+use Rattle.svc_endpoints.proofs.CalmLemmas.{is_turned, is_gone_early, calm-told, calm-got, closes-early, closes-right}
 use Rattle.svc_endpoints.proofs.GrowLemmas.{gone-same, address-same}
 use Rattle.svc_endpoints.proofs.NumberLemmas.{any-ascending, not_in}
 use Rattle.svc_endpoints.proofs.StatesLemmas.{has_open-is}
 use Rattle.svc_endpoints.proofs.KeptLemmas.{asks_free_binding}
 use Rattle.svc_endpoints.proofs.TableLemmas.{numbers_of-put}
 use Rattle.svc_endpoints.proofs.LiveLemmas.{live-bound, live-doubled}
-use Rattle.svc_endpoints.proofs.OpenedLemmas.{brings-in, opened-in, doubled-opened, live-opened}
+use Rattle.svc_endpoints.proofs.OpenedLemmas.{brings-in, opened-in, doubled-opened, received-opened, live-opened}
 use Rattle.svc_endpoints.proofs.NamedLemmas.{unneeded, abandoned-is}
 use Rattle.svc_endpoints.proofs.OneLiveLemmas.{one_live-is}
 use Rattle.svc_endpoints.proofs.BoundLemmas.{stands-again, stands-bound, kept-again, kept-bound}
@@ -71,43 +72,51 @@ module _ (p : Plan) (d : EndpointsData) (q : Record) (s i fd : ℕ) (text : List
       clash : (b : Bool) → b ≡ true → b ≡ false → ⊥
       clash b h g = cc
 
+  not_received : is_received p q fd ≡ false
+  not_received = not_true_false (is_received p q fd) (λ h. clash (is_opened p q fd) (received-opened p q fd h) not_opened)
+    where
+      clash : (b : Bool) → b ≡ true → b ≡ false → ⊥
+      clash b h g = cc
+
   -- its address isn't abandoned, since the service that asked hasn't failed
   needed : is_address_abandoned p q (address p s i) ≡ false
   needed = subst (λ a. is_address_abandoned p q a ≡ false) is
       (not_true_false (is_abandoned p q text) (λ h. unneeded p d.failed d refl text (abandoned-is p d q stand.states text ∙ h) s i inside free (sym is)))
 
   -- what was opened before is gone as it was
-  other_gone : (g : ℕ) → (fd == g) ≡ false → is_gone p (Got (Bound s i fd) ∷ q) g ≡ is_gone p q g
+  other_gone : (g : ℕ) → (fd == g) ≡ false → is_gone_early p (Got (Bound s i fd) ∷ q) g ≡ is_gone_early p q g
   other_gone g off = gone-same p q (Got (Bound s i fd) ∷ q) (λ t. refl) g (rw off refl) (rw off refl)
 
   opened_before : (g : ℕ) → (fd == g) ≡ false → is_opened p (Got (Bound s i fd) ∷ q) g ≡ true → is_opened p q g ≡ true
   opened_before g off h = rw off at h
 
   -- a new descriptor that is alone with its address isn't gone
-  new_stays : has_live p q (address p s i) ≡ false → is_gone p (Got (Bound s i fd) ∷ q) fd ≡ false
-  new_stays alone = rw (eq-eqb fd fd refl, alone, not_doubled) (address-same p q (Got (Bound s i fd) ∷ q) (λ t. refl) (address p s i) ∙ needed)
+  new_stays : has_live p q (address p s i) ≡ false → is_gone_early p (Got (Bound s i fd) ∷ q) fd ≡ false
+  new_stays alone = rw (eq-eqb fd fd refl, alone, not_doubled, not_received) (address-same p q (Got (Bound s i fd) ∷ q) (λ t. refl) (address p s i) ∙ needed)
 
-  new_goes : has_live p q (address p s i) ≡ true → is_gone p (Got (Bound s i fd) ∷ q) fd ≡ true
-  new_goes taken = rw (eq-eqb fd fd refl, taken) refl
+  new_goes : has_live p q (address p s i) ≡ true → is_gone_early p (Got (Bound s i fd) ∷ q) fd ≡ true
+  new_goes taken = or_left (is_turned p (Got (Bound s i fd) ∷ q) fd) _ (or_right (is_received p (Got (Bound s i fd) ∷ q) fd && is_address_unclaimed p (address_of p (Got (Bound s i fd) ∷ q) fd)) (is_doubled p (Got (Bound s i fd) ∷ q) fd) (rw (eq-eqb fd fd refl, taken) refl))
 
   pub after-bound : has_open d.table (address p s i) ≡ false → EndpointsStand p (bound d s i fd text) (Got (Bound s i fd) ∷ q)
   after-bound none =
       let states = stands-bound p d s i fd sized inside within binds free q text new is none stand.states in
       let kept = kept-bound p d s i fd sized inside within binds free text is none not_in_table stand.kept in
       let alone : has_live p q (address p s i) ≡ false = sym (has_open-is p d q stand.states (address p s i)) ∙ none in
+      let calm = calm-got (Bound s i fd) q refl stand.calm in
       record {
+        calm = calm;
         states = states;
         kept = kept;
         asks_due = (refl, stand.asks_due);
         asks_known = (refl, stand.asks_known);
         closes_once = (refl, stand.closes_once);
         fails = stand.fails;
-        closes = λ g came. elim (cases_eq fd g) [
-          | inl e ↦ subst (λ n. times (is_close n) q ≡ (if is_gone p (Got (Bound s i fd) ∷ q) n then 1 else 0)) e (no_close ∙ ap (λ b. if b then 1 else 0) (sym (new_stays alone)))
-          | inr ne ↦ (let off = ne_eqb fd g ne in stand.closes g (opened_before g off came) ∙ ap (λ b. if b then 1 else 0) (sym (other_gone g off)))
-        ];
+        closes = closes-right p (Got (Bound s i fd) ∷ q) calm (λ g came. elim (cases_eq fd g) [
+          | inl e ↦ subst (λ n. times (is_close n) q ≡ (if is_gone_early p (Got (Bound s i fd) ∷ q) n then 1 else 0)) e (no_close ∙ ap (λ b. if b then 1 else 0) (sym (new_stays alone)))
+          | inr ne ↦ (let off = ne_eqb fd g ne in closes-early p q stand.calm stand.closes g (opened_before g off came) ∙ ap (λ b. if b then 1 else 0) (sym (other_gone g off)))
+        ]);
         one_live = one_live-is p (bound d s i fd text) (Got (Bound s i fd) ∷ q) kept states;
-        open_are = numbers_of-put (record { fd = fd; address = text }) d.table ∙ ap (put_number fd) stand.open_are
+        open_are = numbers_of-put (record { fd = fd; address = Some text }) d.table ∙ ap (put_number fd) stand.open_are
             ∙ ap (λ w. ascending (map (λ (x : Descriptor). x.number) w)) (sym (live-bound p q s i fd new not_closed));
         came_are = ap (put_number fd) stand.came_are;
         came_apart = and_from (not (is_in fd (numbers_in q))) (distinct (numbers_in q)) (not_in (is_in fd (numbers_in q)) not_came) stand.came_apart;
@@ -118,17 +127,19 @@ module _ (p : Plan) (d : EndpointsData) (q : Record) (s i fd : ℕ) (text : List
       let states = stands-again p d s i fd sized inside within binds free q new some stand.states in
       let kept = kept-again p d s i fd sized inside within binds free stand.kept in
       let taken : has_live p q (address p s i) ≡ true = sym (has_open-is p d q stand.states (address p s i)) ∙ some in
+      let calm = calm-told (Close fd) (Got (Bound s i fd) ∷ q) refl (calm-got (Bound s i fd) q refl stand.calm) in
       record {
+        calm = calm;
         states = states;
         kept = kept;
         asks_due = (refl, (refl, stand.asks_due));
         asks_known = (refl, (refl, stand.asks_known));
         closes_once = (and_from (is_opened p (Got (Bound s i fd) ∷ q) fd) (not (has (is_close fd) q)) (or_left (fd == fd) (is_opened p q fd) (eq-eqb fd fd refl)) (not_in (has (is_close fd) q) not_closed), (refl, stand.closes_once));
         fails = stand.fails;
-        closes = λ g came. elim (cases_eq fd g) [
-          | inl e ↦ subst (λ n. times (is_close n) (Told (Close fd) ∷ Got (Bound s i fd) ∷ q) ≡ (if is_gone p (Got (Bound s i fd) ∷ q) n then 1 else 0)) e (closed_up ∙ ap (λ b. if b then 1 else 0) (sym (new_goes taken)))
-          | inr ne ↦ (let off = ne_eqb fd g ne in not_counted g off ∙ stand.closes g (opened_before g off came) ∙ ap (λ b. if b then 1 else 0) (sym (other_gone g off)))
-        ];
+        closes = closes-right p (Told (Close fd) ∷ Got (Bound s i fd) ∷ q) calm (λ g came. elim (cases_eq fd g) [
+          | inl e ↦ subst (λ n. times (is_close n) (Told (Close fd) ∷ Got (Bound s i fd) ∷ q) ≡ (if is_gone_early p (Got (Bound s i fd) ∷ q) n then 1 else 0)) e (closed_up ∙ ap (λ b. if b then 1 else 0) (sym (new_goes taken)))
+          | inr ne ↦ (let off = ne_eqb fd g ne in not_counted g off ∙ closes-early p q stand.calm stand.closes g (opened_before g off came) ∙ ap (λ b. if b then 1 else 0) (sym (other_gone g off)))
+        ]);
         one_live = one_live-is p (bound_again d s i fd) (Told (Close fd) ∷ Got (Bound s i fd) ∷ q) kept states;
         open_are = stand.open_are ∙ ap (λ w. ascending (map (λ (x : Descriptor). x.number) w)) (sym (live-doubled p q s i fd new));
         came_are = ap (put_number fd) stand.came_are;
@@ -160,7 +171,7 @@ tells-bound p d made_now s i fd text before after sized inside within binds is f
   );
 }
 
-longer : (o : Open) (table : List Open) → length (put_open o table) ≡ length table + 1
+pub longer : (o : Open) (table : List Open) → length (put_open o table) ≡ length table + 1
 longer o [] = refl
 longer o (x ∷ more) = let h = longer o more in elim (cases_Bool (nat_lt o.fd x.fd)) [
   | inl below ↦ rw below (omega arith)
@@ -169,4 +180,4 @@ longer o (x ∷ more) = let h = longer o more in elim (cases_Bool (nat_lt o.fd x
 
 pub bound-few : (b : Bool) (d : EndpointsData) (s i fd : ℕ) (text : List ℕ) → length (close_told b fd) + length (bound_or_again b d s i fd text).table ≤ length d.table + 1
 bound-few true d s i fd text = omega arith
-bound-few false d s i fd text = let h = longer (record { fd = fd; address = text }) d.table in omega (arith, h)
+bound-few false d s i fd text = let h = longer (record { fd = fd; address = Some text }) d.table in omega (arith, h)

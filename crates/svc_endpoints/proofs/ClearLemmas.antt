@@ -6,19 +6,20 @@ use Rattle.svc_record.specs.declared.plan.Plan.{Plan}
 use Rattle.svc_record.specs.declared.action.Action.TheVariants.{Close}
 use Rattle.svc_record.specs.Record.{Record, has, times, tell, EachEntry}
 use Rattle.svc_record.specs.Plans.{service_count, endpoints, address, same_address}
-use Rattle.svc_record.specs.Descriptors.{Descriptor, opened_descriptors, live_numbers_with, is_opened, is_close, is_doubled, address_of, brings, has_number}
+use Rattle.svc_record.specs.Descriptors.{Descriptor, opened_descriptors, live_numbers_with, is_opened, is_close, address_of, brings, has_number}
 use Rattle.svc_record.specs.Drain.{ascending, live_numbers}
 use Rattle.svc_record.specs.Failed.{has_failed, in_use_count}
 use Rattle.svc_record.specs.Fits.{is_new}
 use Rattle.svc_record.specs.AskRules.{FailsRight, ask_due, ask_known}
-use Rattle.svc_record.specs.Closes.{is_gone, is_address_abandoned, is_abandoned, close_once}
+use Rattle.svc_record.specs.Closes.{is_address_abandoned, is_abandoned, close_once}
 use Rattle.svc_record.specs.Tail.{numbers_in}
 use Rattle.svc_record.proofs.ClosesOnce.{closed_once}
 use Rattle.svc_endpoints.specs.declared.table.Open.{Open}
 use Rattle.svc_endpoints.specs.EndpointsData.{EndpointsData}
-use Rattle.svc_endpoints.specs.EndpointsState.{StatesKept, StatesStand, StandsAt, EndpointsStand, open_numbers, numbers_with, is_in, distinct, last_at, failed_at, refusals_at}
-use Rattle.svc_endpoints.specs.Effects.{is_abandoned_by, abandoned_numbers, cleared}
+use Rattle.svc_endpoints.specs.EndpointsState.{Calm, StatesKept, StatesStand, StandsAt, EndpointsStand, open_numbers, numbers_with, is_in, distinct, last_at, failed_at, refusals_at}
+use Rattle.svc_endpoints.specs.Effects.{passes, is_abandoned_by, abandoned_numbers, cleared}
 use Rattle.svc_endpoints.proofs.NumberLemmas.{filter-ascending, in-filter, distinct-ascending}
+use Rattle.svc_endpoints.proofs.CalmLemmas.{is_turned, is_gone_early, calm-told, closes-right}
 use Rattle.svc_endpoints.proofs.CloseLemmas.{along-closes, closed-tell, opened-tell, with-tell, numbers-tell, once-tell, left_out}
 use Rattle.svc_endpoints.proofs.RestLemmas.{rest-with, rest-numbers, rest-stays, none-left, out-from, with-None, distinct-part}
 use Rattle.svc_endpoints.proofs.OpenedLemmas.{live-pair, live-opened, live-address, live-distinct, opened-in, brings-in, first_address}
@@ -26,16 +27,17 @@ use Rattle.svc_endpoints.proofs.NamedLemmas.{unneeded, named-inside, abandoned-i
 use Rattle.svc_endpoints.proofs.OneLiveLemmas.{one_live-is}
 use Rattle.svc_endpoints.proofs.LiveLemmas.{same_self, same_eq}
 
--- after an answer and before its closes: what is closed is gone, and what is doubled is closed
+-- after an answer and before its closes: what is closed is gone, and what is turned away is closed
 pub record Answered (p : Plan) (d : EndpointsData) (q : Record) : Type 0 where
+  pub calm : Calm q
   pub states : StatesStand p d q
   pub kept : StatesKept p d
   pub asks_due : EachEntry (λ e before. ask_due p e before ≡ true) q
   pub asks_known : EachEntry (λ e before. ask_known p e before ≡ true) q
   pub closes_once : EachEntry (λ e before. close_once p e before ≡ true) q
   pub fails : FailsRight p q
-  pub closed_gone : (fd : ℕ) → is_opened p q fd ≡ true → has (is_close fd) q ≡ true → is_gone p q fd ≡ true
-  pub doubled_closed : (fd : ℕ) → is_opened p q fd ≡ true → is_doubled p q fd ≡ true → has (is_close fd) q ≡ true
+  pub closed_gone : (fd : ℕ) → is_opened p q fd ≡ true → has (is_close fd) q ≡ true → is_gone_early p q fd ≡ true
+  pub turned_closed : (fd : ℕ) → is_opened p q fd ≡ true → is_turned p q fd ≡ true → has (is_close fd) q ≡ true
   pub open_are : open_numbers d ≡ ascending (live_numbers p q)
   pub came_are : d.came ≡ ascending (numbers_in q)
   pub came_apart : distinct (numbers_in q) ≡ true
@@ -55,8 +57,8 @@ one_zero false true e = absurd (omega arith)
 one_zero false false e = refl
 
 -- exactly what is gone is closed
-pub closed-is : (p : Plan) (q : Record) (fd : ℕ) → EachEntry (λ e before. close_once p e before ≡ true) q → times (is_close fd) q ≡ (if is_gone p q fd then 1 else 0) → has (is_close fd) q ≡ is_gone p q fd
-closed-is p q fd once h = one_zero (has (is_close fd) q) (is_gone p q fd) (sym (closed_once p q fd once) ∙ h)
+pub closed-is : (p : Plan) (q : Record) (fd : ℕ) → EachEntry (λ e before. close_once p e before ≡ true) q → times (is_close fd) q ≡ (if is_gone_early p q fd then 1 else 0) → has (is_close fd) q ≡ is_gone_early p q fd
+closed-is p q fd once h = one_zero (has (is_close fd) q) (is_gone_early p q fd) (sym (closed_once p q fd once) ∙ h)
 
 -- the first with the number is live where the number isn't closed
 abbrev live_of : Record → List Descriptor → List Descriptor
@@ -84,15 +86,12 @@ still_live fd q a (x ∷ xs) h e c = elim (cases_Bool (x.number == fd)) [
   | inr n ↦ one_more fd q (Some a) x xs (still_live fd q a xs (rw n at h) (rw n at e) c)
 ]
 
-in_table : (gone : List ℕ → Bool) (fd : ℕ) (a : List ℕ) (table : List Open) → is_in fd (numbers_with table (Some a)) ≡ true → gone a ≡ true → list_any (λ (o : Open). gone o.address) table ≡ true
+in_table : (gone : List ℕ → Bool) (fd : ℕ) (a : List ℕ) (table : List Open) → is_in fd (numbers_with table (Some a)) ≡ true → gone a ≡ true → list_any (λ (o : Open). passes gone o.address) table ≡ true
 in_table gone fd a [] h g = absurd (cc)
-in_table gone fd a (o ∷ more) h g = elim (cases_Bool (same_address (Some o.address) (Some a))) [
-  | inl s ↦ or_left (gone o.address) (list_any (λ (x : Open). gone x.address) more) (subst (λ w. gone w ≡ true) (sym (some_same o.address a (same_eq (Some o.address) (Some a) s))) g)
-  | inr n ↦ or_right (gone o.address) (list_any (λ (x : Open). gone x.address) more) (in_table gone fd a more (rw n at h) g)
+in_table gone fd a (o ∷ more) h g = elim (cases_Bool (same_address o.address (Some a))) [
+  | inl s ↦ or_left (passes gone o.address) (list_any (λ (x : Open). passes gone x.address) more) (subst (λ w. passes gone w ≡ true) (sym (same_eq o.address (Some a) s)) g)
+  | inr n ↦ or_right (passes gone o.address) (list_any (λ (x : Open). passes gone x.address) more) (in_table gone fd a more (rw n at h) g)
 ]
-  where
-    some_same : (x y : List ℕ) → Some x ≡ Some y → x ≡ y
-    some_same x y e = cc
 
 some_address : (p : Plan) (q : Record) (a : Option (List ℕ)) → is_address_abandoned p q a ≡ true → (b : List ℕ) × (a ≡ Some b) × (is_abandoned p q b ≡ true)
 some_address p q (Some b) h = (b, refl, h)
@@ -183,24 +182,27 @@ module _ (p : Plan) (d : EndpointsData) (q : Record) (mid : Answered p d q) wher
             | inr n ↦ n
           ]
 
+  table_apart : distinct (open_numbers d) ≡ true
+  table_apart = ap distinct mid.open_are ∙ distinct-ascending (live_numbers p q) (live-distinct p q mid.came_apart)
+
   numbers_open : open_numbers (cleared p d) ≡ ascending (live_numbers p r)
-  numbers_open = rest-numbers gone d.table mid.kept.distinct ∙ ap (left_out ns) mid.open_are ∙ filter-ascending (λ n. not (is_in n ns)) (live_numbers p q) ∙ ap ascending (sym (numbers-tell p q ns))
+  numbers_open = rest-numbers gone d.table table_apart ∙ ap (left_out ns) mid.open_are ∙ filter-ascending (λ n. not (is_in n ns)) (live_numbers p q) ∙ ap ascending (sym (numbers-tell p q ns))
 
   -- what is gone after the closes was gone before
-  gone_stays : (fd : ℕ) → is_gone p r fd ≡ is_gone p q fd
-  gone_stays fd = along-closes (λ x. is_gone p x fd ≡ is_gone p q fd) (λ x n h. h) q ns refl
+  gone_stays : (fd : ℕ) → is_gone_early p r fd ≡ is_gone_early p q fd
+  gone_stays fd = along-closes (λ x. is_gone_early p x fd ≡ is_gone_early p q fd) (λ x n h. h) q ns refl
 
-  closed_then : (fd : ℕ) → is_opened p q fd ≡ true → has (is_close fd) r ≡ true → is_gone p q fd ≡ true
+  closed_then : (fd : ℕ) → is_opened p q fd ≡ true → has (is_close fd) r ≡ true → is_gone_early p q fd ≡ true
   closed_then fd came h = elim (or_cases (has (is_close fd) q) (is_in fd ns) (sym (closed-tell q ns fd) ∙ h)) [
     | inl before ↦ mid.closed_gone fd came before
     | inr now ↦ (let at = goes_with fd now in
-        or_right (is_doubled p q fd) (is_address_abandoned p q (address_of p q fd))
+        or_right (is_turned p q fd) (is_address_abandoned p q (address_of p q fd))
         (subst (λ a. is_address_abandoned p q a ≡ true) (sym (live-address p q fd (Some at.0) mid.came_apart at.2)) (sym (abandoned-is p d q mid.states at.0) ∙ at.1)))
   ]
 
-  gone_then : (fd : ℕ) → is_opened p q fd ≡ true → is_gone p q fd ≡ true → has (is_close fd) r ≡ true
-  gone_then fd came h = elim (or_cases (is_doubled p q fd) (is_address_abandoned p q (address_of p q fd)) h) [
-    | inl doubled ↦ closed-tell q ns fd ∙ or_left (has (is_close fd) q) (is_in fd ns) (mid.doubled_closed fd came doubled)
+  gone_then : (fd : ℕ) → is_opened p q fd ≡ true → is_gone_early p q fd ≡ true → has (is_close fd) r ≡ true
+  gone_then fd came h = elim (or_cases (is_turned p q fd) (is_address_abandoned p q (address_of p q fd)) h) [
+    | inl turned ↦ closed-tell q ns fd ∙ or_left (has (is_close fd) q) (is_in fd ns) (mid.turned_closed fd came turned)
     | inr abandoned ↦ elim (cases_Bool (has (is_close fd) r)) [
       | inl y ↦ y
       | inr n ↦ absurd (
@@ -209,26 +211,30 @@ module _ (p : Plan) (d : EndpointsData) (q : Record) (mid : Answered p d q) wher
           let lives : is_in fd (live_numbers_with p r (Some at.0)) ≡ true = still_live fd r at.0 (opened_descriptors p r) (ap (list_any (has_number fd)) (opened-tell p q ns) ∙ came) place n in
           let there : is_in fd (numbers_with (cleared p d).table (Some at.0)) ≡ true = ap (is_in fd) (with_is (Some at.0)) ∙ lives in
           let some = in_table gone fd at.0 (cleared p d).table there (abandoned-is p d q mid.states at.0 ∙ at.2) in
-          clash (list_any (λ (o : Open). gone o.address) (cleared p d).table) some (none-left gone d.table))
+          clash (list_any (λ (o : Open). passes gone o.address) (cleared p d).table) some (none-left gone d.table))
     ]
   ]
+
+  calm_then : Calm r
+  calm_then = along-closes Calm (λ x n h. calm-told (Close n) x refl h) q ns mid.calm
 
   once : EachEntry (λ e before. close_once p e before ≡ true) r
   once = once-tell p ns q apart goes_live mid.closes_once
     where
       apart : distinct ns ≡ true
-      apart = distinct-part (λ (o : Open). gone o.address) d.table (ap distinct mid.open_are ∙ distinct-ascending (live_numbers p q) (live-distinct p q mid.came_apart))
+      apart = distinct-part (λ (o : Open). passes gone o.address) d.table table_apart
 
   pub stands-cleared : EndpointsStand p (cleared p d) r
   stands-cleared = record {
+    calm = calm_then;
     states = states-cleared;
     kept = kept-cleared;
     asks_due = along-closes (EachEntry (λ e before. ask_due p e before ≡ true)) (λ x n h. (refl, h)) q ns mid.asks_due;
     asks_known = along-closes (EachEntry (λ e before. ask_known p e before ≡ true)) (λ x n h. (refl, h)) q ns mid.asks_known;
     closes_once = once;
     fails = along-closes (FailsRight p) (λ x n h. h) q ns mid.fails;
-    closes = λ fd came. (let before : is_opened p q fd ≡ true = ap (list_any (has_number fd)) (sym (opened-tell p q ns)) ∙ came in
-        closed_once p r fd once ∙ ap (λ b. if b then 1 else 0) (bool_same (has (is_close fd) r) (is_gone p q fd) (closed_then fd before) (gone_then fd before) ∙ sym (gone_stays fd)));
+    closes = closes-right p r calm_then (λ fd came. (let before : is_opened p q fd ≡ true = ap (list_any (has_number fd)) (sym (opened-tell p q ns)) ∙ came in
+        closed_once p r fd once ∙ ap (λ b. if b then 1 else 0) (bool_same (has (is_close fd) r) (is_gone_early p q fd) (closed_then fd before) (gone_then fd before) ∙ sym (gone_stays fd))));
     one_live = one_live-is p (cleared p d) r kept-cleared states-cleared;
     open_are = numbers_open;
     came_are = mid.came_are ∙ ap ascending (sym (along-closes (λ x. numbers_in x ≡ numbers_in q) (λ x n h. h) q ns refl));

@@ -8,11 +8,12 @@ use Rattle.svc_record.specs.declared.entry.Entry.TheVariants.{Told}
 use Rattle.svc_record.specs.declared.action.Action.{Action}
 use Rattle.svc_record.specs.Record.{Record, has, tell}
 use Rattle.svc_record.specs.Plans.{services, names, endpoint_numbers, address}
-use Rattle.svc_record.specs.Descriptors.{has_live, address_of, is_doubled}
+use Rattle.svc_record.specs.Descriptors.{has_live, address_of}
 use Rattle.svc_record.specs.Failed.{has_failed, is_failure, is_in_use, in_use_count, in_use_limit}
-use Rattle.svc_record.specs.Closes.{is_abandoned, is_address_abandoned, is_gone}
+use Rattle.svc_record.specs.Closes.{is_abandoned, is_address_abandoned}
 use Rattle.svc_endpoints.proofs.RangeLemmas.{any-grows}
 use Rattle.svc_endpoints.proofs.NumberLemmas.{all-grows}
+use Rattle.svc_endpoints.proofs.CalmLemmas.{is_turned, is_gone_early}
 
 failed_more : (x h b : Bool) (l c : ℕ) → (h || nat_le l c) ≡ true → ((x || h) || nat_le l (if b then c + 1 else c)) ≡ true
 failed_more x h true l c e = grind arith
@@ -43,10 +44,10 @@ module _ (p : Plan) (q r : Record) (grows : (s : ℕ) → has_failed p q s ≡ t
   address_grows None h = h
 
   -- what is gone stays gone, where its opening stays as it was
-  pub gone-grows : (fd : ℕ) → is_doubled p r fd ≡ is_doubled p q fd → address_of p r fd ≡ address_of p q fd → is_gone p q fd ≡ true → is_gone p r fd ≡ true
-  gone-grows fd doubled place h = elim (or_cases (is_doubled p q fd) (is_address_abandoned p q (address_of p q fd)) h) [
-    | inl d ↦ or_left (is_doubled p r fd) (is_address_abandoned p r (address_of p r fd)) (doubled ∙ d)
-    | inr a ↦ or_right (is_doubled p r fd) (is_address_abandoned p r (address_of p r fd)) (subst (λ w. is_address_abandoned p r w ≡ true) (sym place) (address_grows (address_of p q fd) a))
+  pub gone-grows : (fd : ℕ) → is_turned p r fd ≡ is_turned p q fd → address_of p r fd ≡ address_of p q fd → is_gone_early p q fd ≡ true → is_gone_early p r fd ≡ true
+  gone-grows fd turned place h = elim (or_cases (is_turned p q fd) (is_address_abandoned p q (address_of p q fd)) h) [
+    | inl d ↦ or_left (is_turned p r fd) (is_address_abandoned p r (address_of p r fd)) (turned ∙ d)
+    | inr a ↦ or_right (is_turned p r fd) (is_address_abandoned p r (address_of p r fd)) (subst (λ w. is_address_abandoned p r w ≡ true) (sym place) (address_grows (address_of p q fd) a))
   ]
 
 all-same : (f g : ℕ → Bool) (xs : List ℕ) → ((k : ℕ) → f k ≡ g k) → list_all f xs ≡ list_all g xs
@@ -60,5 +61,6 @@ module _ (p : Plan) (q r : Record) (same : (s : ℕ) → has_failed p r s ≡ ha
   address-same None = refl
 
   -- what is gone is the same, where no service fails
-  pub gone-same : (fd : ℕ) → is_doubled p r fd ≡ is_doubled p q fd → address_of p r fd ≡ address_of p q fd → is_gone p r fd ≡ is_gone p q fd
-  gone-same fd doubled place = rw (doubled, place) (ap (λ b. is_doubled p q fd || b) (address-same (address_of p q fd)))
+  pub gone-same : (fd : ℕ) → is_turned p r fd ≡ is_turned p q fd → address_of p r fd ≡ address_of p q fd → is_gone_early p r fd ≡ is_gone_early p q fd
+  gone-same fd turned place = ap (λ b. b || is_address_abandoned p r (address_of p r fd)) turned
+      ∙ ap (λ b. is_turned p q fd || b) (ap (is_address_abandoned p r) place ∙ address-same (address_of p q fd))

@@ -1,5 +1,5 @@
 -- What the crates above build on: what a record says of asks and numbers where the endpoints stand for it, and what asks leave.
-use Rattle.std.proofs.Common.{ℕ, zero, suc, true, ◌==◌, not, inl, inr, ◌⊎◌, List, [], ◌∷◌, ◌≡◌, refl, ap, sym, ◌∙◌, subst, arith, ◌<◌, length, Option, Some, None, slice_get, nat_lt}
+use Rattle.std.proofs.Common.{ℕ, zero, suc, true, ◌&&◌, ◌==◌, not, filter, inl, inr, ◌⊎◌, List, [], ◌∷◌, ◌≡◌, refl, ap, sym, ◌∙◌, subst, arith, ◌<◌, length, Option, Some, None, slice_get, nat_lt}
 use Rattle.std.proofs.lemmas.Bool.{cases_Bool, and_parts, eqb-true}
 use Rattle.std.proofs.lemmas.Bool.Decides.{Decides-ltb}
 use Rattle.svc_record.specs.declared.plan.Plan.{Plan}
@@ -8,18 +8,20 @@ use Rattle.svc_record.specs.declared.entry.Entry.{Entry}
 use Rattle.svc_record.specs.declared.entry.Entry.TheVariants.{Told}
 use Rattle.svc_record.specs.declared.action.Action.{Action}
 use Rattle.svc_record.specs.declared.action.Action.TheVariants.{Bind, Adopt}
-use Rattle.svc_record.specs.Record.{Record, tell, EachEntry}
+use Rattle.svc_record.specs.Record.{Record, has, tell, EachEntry}
+use Rattle.svc_record.specs.Descriptors.{brings}
+use Rattle.svc_record.specs.declared.event.Event.TheVariants.{Received}
 use Rattle.svc_record.specs.Plans.{service_count, endpoints, is_endpoint}
 use Rattle.svc_record.specs.Asks.{is_bind, is_bind_answer, is_adopt, is_adopt_answer, is_bind_open, is_adopt_open}
 use Rattle.svc_record.specs.AskRules.{ask_known}
 use Rattle.svc_record.specs.Endpoints.{endpoint_right}
 use Rattle.svc_record.specs.Failed.{has_failed}
-use Rattle.svc_record.specs.Fits.{is_new}
+use Rattle.svc_record.specs.Fits.{is_new, are_new}
 use Rattle.svc_record.specs.Starts.{is_started}
-use Rattle.svc_record.specs.Tail.{numbers_in}
+use Rattle.svc_record.specs.Tail.{numbers_in, each_once, new_numbers}
 use Rattle.svc_record.specs.Told.{IsQuiet}
 use Rattle.svc_endpoints.specs.EndpointsData.{EndpointsData}
-use Rattle.svc_endpoints.specs.EndpointsState.{EndpointsStand, is_in, is_binding, is_adopting, last_at, failed_at}
+use Rattle.svc_endpoints.specs.EndpointsState.{EndpointsStand, is_in, all_new, is_binding, is_adopting, last_at, failed_at}
 use Rattle.svc_endpoints.specs.Visits.{IsAskOf}
 use Rattle.svc_endpoints.proofs.NumberLemmas.{any-ascending}
 use Rattle.svc_endpoints.proofs.OpenedLemmas.{brings-in}
@@ -91,6 +93,22 @@ module _ (p : Plan) (d : EndpointsData) (q : Record) (stand : EndpointsStand p d
   -- a number is new where it isn't among those that came
   pub new-is : (fd : ℕ) → is_new q fd ≡ not (is_in fd d.came)
   new-is fd = ap not (brings-in q fd ∙ sym (any-ascending (λ n. n == fd) (numbers_in q)) ∙ ap (is_in fd) (sym stand.came_are))
+
+  -- and several are where the test says so
+  pub are_new-is : (fds : List ℕ) → are_new q fds ≡ all_new d.came fds
+  are_new-is [] = refl
+  are_new-is (fd ∷ fds) = ap (λ b. (b && not (is_in fd fds)) && are_new q fds) (new-is fd) ∙ ap (λ b. (not (is_in fd d.came) && not (is_in fd fds)) && b) (are_new-is fds)
+
+  -- the numbers that an unfinished message brought
+  pub new_numbers-is : (bytes fds : List ℕ) → new_numbers q (Some (Received bytes fds)) ≡ each_once (filter (λ n. not (is_in n d.came)) fds)
+  new_numbers-is bytes fds = ap each_once (same fds)
+    where
+      same : (xs : List ℕ) → filter (λ n. not (has (brings n) q)) xs ≡ filter (λ n. not (is_in n d.came)) xs
+      same [] = refl
+      same (x ∷ xs) = elim (cases_Bool (is_in x d.came)) [
+        | inl y ↦ (let off = new-is x ∙ ap not y in rw (off, y) (same xs))
+        | inr n ↦ (let on = new-is x ∙ ap not n in rw (on, n) (ap (λ w. x ∷ w) (same xs)))
+      ]
 
 -- what is told makes no service fail
 pub failed-tell : (p : Plan) (q : Record) (told : List Action) (s : ℕ) → has_failed p (tell q told) s ≡ has_failed p q s

@@ -13,6 +13,8 @@ pub mod VisitedLemmas
 pub mod NumberLemmas
 pub mod CloseLemmas
 pub mod RestLemmas
+pub mod WordLemmas
+pub mod CalmLemmas
 pub mod GrowLemmas
 pub mod FailLemmas
 pub mod OpenedLemmas
@@ -24,3 +26,8 @@ pub mod AnswerLemmas
 pub mod BoundStands
 pub mod NewLemmas
 pub mod Laws
+pub mod GatherLemmas
+pub mod DecodeLemmas
+pub mod ReceivedLists
+pub mod ReceivedStands
+pub mod ReceivedTells

@@ -1,5 +1,5 @@
 -- What a bind brings, and what is live after it.
-use Rattle.std.proofs.Common.{ℕ, Bool, true, false, ◌||◌, ◌==◌, not, inl, inr, List, [], ◌∷◌, ◌≡◌, refl, ap, sym, ◌∙◌, subst, arith, Option, Some, None, map, filter, if◌then◌else◌, nat_lt}
+use Rattle.std.proofs.Common.{ℕ, Bool, true, false, ◌||◌, ◌==◌, not, inl, inr, List, [], ◌∷◌, ◌≡◌, refl, ap, sym, ◌∙◌, subst, arith, Option, Some, None, length, map, filter, if◌then◌else◌, nat_lt}
 use Rattle.std.specs.List.{list_any}
 use Rattle.std.proofs.lemmas.Bool.{cases_Bool, cases_eq, eq-eqb, ne_eqb}
 use Rattle.std.proofs.lemmas.List.Folds.{list_any-append}
@@ -7,15 +7,17 @@ use Rattle.std.proofs.lemmas.Slice.Eq.{bytes_eq-Decides}
 use Rattle.svc_record.specs.declared.plan.Plan.{Plan}
 use Rattle.svc_record.specs.declared.entry.Entry.{Entry}
 use Rattle.svc_record.specs.declared.entry.Entry.TheVariants.{Got, Told}
-use Rattle.svc_record.specs.declared.event.Event.TheVariants.{Bound}
+use Rattle.svc_record.specs.declared.event.Event.TheVariants.{Bound, Received}
 use Rattle.svc_record.specs.declared.action.Action.TheVariants.{Close}
 use Rattle.svc_record.specs.Record.{Record, has}
 use Rattle.svc_record.specs.Plans.{address, same_address}
-use Rattle.svc_record.specs.Descriptors.{Descriptor, live_descriptors, live_numbers_with, opened_descriptors, descriptors_of, has_number, is_close, brings}
+use Rattle.svc_record.specs.Descriptors.{Descriptor, live_descriptors, live_numbers_with, opened_descriptors, descriptors_of, words_or_none, has_number, is_close, brings}
+use Rattle.svc_record.specs.Message.{decode}
 use Rattle.svc_record.specs.Fits.{is_new}
 use Rattle.svc_endpoints.specs.declared.table.Open.{Open}
 use Rattle.svc_endpoints.specs.EndpointsState.{numbers_with}
 use Rattle.svc_endpoints.specs.Effects.{put_open}
+use Rattle.svc_endpoints.proofs.WordLemmas.{any-words}
 
 pub same_eq : (a b : Option (List ℕ)) → same_address a b ≡ true → a ≡ b
 same_eq (Some x) (Some y) h = ap Some ((bytes_eq-Decides x y).0 h)
@@ -26,25 +28,25 @@ pub same_self : (a : List ℕ) → same_address (Some a) (Some a) ≡ true
 same_self a = (bytes_eq-Decides a a).1 refl
 
 -- a table with one more descriptor, of an address that it had none of
-none_later : (x : Open) (more : List Open) (a : Option (List ℕ)) → numbers_with (x ∷ more) a ≡ [] → (same_address (Some x.address) a ≡ false) × (numbers_with more a ≡ [])
-none_later x more a h = elim (cases_Bool (same_address (Some x.address) a)) [
+none_later : (x : Open) (more : List Open) (a : Option (List ℕ)) → numbers_with (x ∷ more) a ≡ [] → (same_address x.address a ≡ false) × (numbers_with more a ≡ [])
+none_later x more a h = elim (cases_Bool (same_address x.address a)) [
   | inl y ↦ absurd (let k = rw y at h in cc)
   | inr n ↦ (n, rw n at h)
 ]
 
-pub numbers_with-put : (o : Open) (table : List Open) → numbers_with table (Some o.address) ≡ [] → (a : Option (List ℕ))
-    → numbers_with (put_open o table) a ≡ (if same_address (Some o.address) a then o.fd ∷ [] else numbers_with table a)
+pub numbers_with-put : (o : Open) (table : List Open) → numbers_with table o.address ≡ [] → (a : Option (List ℕ))
+    → numbers_with (put_open o table) a ≡ (if same_address o.address a then o.fd ∷ [] else numbers_with table a)
 numbers_with-put o [] none a = refl
 numbers_with-put o (x ∷ more) none a = elim (cases_Bool (nat_lt o.fd x.fd)) [
-  | inl below ↦ rw below (elim (cases_Bool (same_address (Some o.address) a)) [
-    | inl y ↦ rw y (ap (λ w. o.fd ∷ w) (subst (λ b. numbers_with (x ∷ more) b ≡ []) (same_eq (Some o.address) a y) none))
+  | inl below ↦ rw below (elim (cases_Bool (same_address o.address a)) [
+    | inl y ↦ rw y (ap (λ w. o.fd ∷ w) (subst (λ b. numbers_with (x ∷ more) b ≡ []) (same_eq o.address a y) none))
     | inr n ↦ rw n refl
   ])
-  | inr above ↦ (let later = none_later x more (Some o.address) none in
+  | inr above ↦ (let later = none_later x more o.address none in
       let ih = numbers_with-put o more later.1 a in
-      rw above (elim (cases_Bool (same_address (Some o.address) a)) [
-        | inl y ↦ (let off : same_address (Some x.address) a ≡ false = subst (λ b. same_address (Some x.address) b ≡ false) (same_eq (Some o.address) a y) later.0 in rw off ih)
-        | inr n ↦ elim (cases_Bool (same_address (Some x.address) a)) [
+      rw above (elim (cases_Bool (same_address o.address a)) [
+        | inl y ↦ (let off : same_address x.address a ≡ false = subst (λ b. same_address x.address b ≡ false) (same_eq o.address a y) later.0 in rw off ih)
+        | inr n ↦ elim (cases_Bool (same_address x.address a)) [
           | inl s ↦ rw (s, n) (ap (λ w. x.fd ∷ w) (ih ∙ (rw n refl)))
           | inr t ↦ rw t ih
         ]
@@ -55,6 +57,7 @@ numbers_with-put o (x ∷ more) none a = elim (cases_Bool (nat_lt o.fd x.fd)) [
 descriptors_of-new : (p : Plan) (fd : ℕ) (e : Entry) → brings fd e ≡ false → list_any (has_number fd) (descriptors_of p e) ≡ false
 descriptors_of-new p fd (Told a) h = refl
 descriptors_of-new p fd (Got (Bound s i n)) h = h
+descriptors_of-new p fd (Got (Received bytes fds)) h = any-words fd fds (words_or_none (decode bytes (length fds))) ∙ h
 descriptors_of-new p fd (Got _) h = refl
 
 pub opened-new : (p : Plan) (fd : ℕ) (q : Record) → has (brings fd) q ≡ false → list_any (has_number fd) (opened_descriptors p q) ≡ false
@@ -92,7 +95,7 @@ module _ (p : Plan) (q : Record) (s i fd : ℕ) (new : is_new q fd ≡ true) whe
   pub live-doubled : live_descriptors p (Told (Close fd) ∷ Got (Bound s i fd) ∷ q) ≡ live_descriptors p q
   live-doubled = rw (eq-eqb fd fd refl) (filter-new fd q (opened_descriptors p q) (opened-new p fd q (new_brings (has (brings fd) q) new)))
 
-  pub live-bound : has (is_close fd) q ≡ false → live_descriptors p (Got (Bound s i fd) ∷ q) ≡ record { number = fd; address = address p s i } ∷ live_descriptors p q
+  pub live-bound : has (is_close fd) q ≡ false → live_descriptors p (Got (Bound s i fd) ∷ q) ≡ record { number = fd; address = address p s i; received = false } ∷ live_descriptors p q
   live-bound stays = rw stays refl
 
   pub live_with-bound : has (is_close fd) q ≡ false → live_numbers_with p q (address p s i) ≡ [] → (a : Option (List ℕ)) → live_numbers_with p (Got (Bound s i fd) ∷ q) a ≡ (if same_address (address p s i) a then fd ∷ [] else live_numbers_with p q a)

@@ -43,6 +43,7 @@ module _ (p : Plan) (d : EndpointsData) (blank : (s i : ℕ) → state_at d s i 
 
   pub stands-new : EndpointsStand p d []
   stands-new = record {
+    calm = record { no_broadcast = refl; no_upgrade = refl };
     states = states-new;
     kept = kept-new;
     asks_due = tt;

@@ -1,24 +1,28 @@
 -- What a record opened, by numbers and addresses.
-use Rattle.std.proofs.Common.{ℕ, Bool, true, false, ◌||◌, ◌&&◌, ◌==◌, not, inl, inr, List, [], ◌∷◌, ◌++◌, ◌≡◌, refl, ap, sym, ◌∙◌, subst, arith, Option, None, map, filter, if◌then◌else◌}
+use Rattle.std.proofs.Common.{ℕ, Bool, true, false, ◌||◌, ◌&&◌, ◌==◌, not, inl, inr, List, [], ◌∷◌, ◌++◌, ◌≡◌, refl, ap, sym, ◌∙◌, subst, arith, Option, None, length, map, filter, if◌then◌else◌}
 use Rattle.std.specs.List.{list_any}
 use Rattle.std.proofs.lemmas.Bool.{cases_Bool, and_parts, and_from, or_cases, or_left, or_right, eqb-true}
 use Rattle.std.proofs.lemmas.List.Folds.{list_any-append}
 use Rattle.svc_record.specs.declared.plan.Plan.{Plan}
 use Rattle.svc_record.specs.declared.entry.Entry.{Entry}
 use Rattle.svc_record.specs.declared.entry.Entry.TheVariants.{Got, Told}
-use Rattle.svc_record.specs.declared.event.Event.TheVariants.{Bound}
+use Rattle.svc_record.specs.declared.event.Event.TheVariants.{Bound, Received}
 use Rattle.svc_record.specs.Record.{Record, has}
 use Rattle.svc_record.specs.Plans.{same_address}
-use Rattle.svc_record.specs.Descriptors.{Descriptor, descriptors_of, opened_descriptors, live_numbers_with, has_live, is_opened, is_close, is_doubled, address_of, has_number, numbers_of, brings}
+use Rattle.svc_record.specs.Descriptors.{Descriptor, descriptors_of, opened_descriptors, live_numbers_with, has_live, is_opened, is_close, is_doubled, address_of, has_number, words_or_none, numbers_of, brings}
+use Rattle.svc_record.specs.Message.{decode}
+use Rattle.svc_record.specs.Closes.{is_received}
 use Rattle.svc_record.specs.Drain.{live_numbers}
 use Rattle.svc_record.specs.Tail.{numbers_in}
 use Rattle.svc_endpoints.specs.EndpointsState.{is_in, distinct}
+use Rattle.svc_endpoints.proofs.WordLemmas.{numbers-words}
 use Rattle.svc_endpoints.proofs.LiveLemmas.{same_eq}
 use Rattle.svc_endpoints.proofs.NumberLemmas.{apart_from}
 
 -- what an entry opens are its numbers
 opened-numbers_of : (p : Plan) (e : Entry) (more : List Descriptor) → map (λ (d : Descriptor). d.number) (descriptors_of p e ++ more) ≡ numbers_of e ++ map (λ (d : Descriptor). d.number) more
 opened-numbers_of p (Got (Bound s i fd)) more = refl
+opened-numbers_of p (Got (Received bytes fds)) more = numbers-words fds (words_or_none (decode bytes (length fds))) more
 opened-numbers_of p (Got _) more = refl
 opened-numbers_of p (Told a) more = refl
 
@@ -55,6 +59,17 @@ doubled-opened p (e ∷ q) fd h = elim (or_cases (list_any (λ (d : Descriptor).
   | inl now ↦ opens_here fd (λ (d : Descriptor). has_live p q d.address) (descriptors_of p e) (opened_descriptors p q) now
   | inr earlier ↦ opens_later fd (descriptors_of p e) (opened_descriptors p q) (doubled-opened p q fd earlier)
 ]
+
+-- what was received was opened
+pub received-opened : (p : Plan) (q : Record) (fd : ℕ) → is_received p q fd ≡ true → is_opened p q fd ≡ true
+received-opened p q fd h = opened_of (opened_descriptors p q) h
+  where
+    opened_of : (xs : List Descriptor) → list_any (λ (d : Descriptor). d.number == fd && d.received) xs ≡ true → list_any (has_number fd) xs ≡ true
+    opened_of [] e = e
+    opened_of (x ∷ xs) e = elim (or_cases (x.number == fd && x.received) (list_any (λ (d : Descriptor). d.number == fd && d.received) xs) e) [
+      | inl here ↦ or_left (x.number == fd) (list_any (has_number fd) xs) (and_parts (x.number == fd) x.received here).0
+      | inr later ↦ or_right (x.number == fd) (list_any (has_number fd) xs) (opened_of xs later)
+    ]
 
 -- the first with the number, which `address_of` reads
 abbrev pub first_address : ℕ → List Descriptor → Option (List ℕ)

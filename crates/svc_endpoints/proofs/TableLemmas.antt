@@ -1,5 +1,5 @@
 -- The table of open descriptors, walked from its front.
-use Rattle.std.proofs.Common.{ℕ, zero, Bool, true, false, inl, inr, List, [], ◌∷◌, ◌++◌, append_assoc, length-append, map, filter, take, ◌≡◌, refl, ap, sym, ◌∙◌, arith, ◌<◌, ◌≤◌, ◌+◌, length, insert, nat_lt, slice_index, Some, drop, drop-cons, suc, get_or, bytes_eq}
+use Rattle.std.proofs.Common.{ℕ, zero, Bool, true, false, inl, inr, List, [], ◌∷◌, ◌++◌, append_assoc, length-append, map, filter, take, ◌≡◌, refl, ap, sym, ◌∙◌, arith, ◌<◌, ◌≤◌, ◌+◌, length, insert, nat_lt, slice_index, Some, drop, drop-cons, suc, get_or}
 use Rattle.svc_endpoints.specs.declared.table.Open.{Open}
 use Rattle.std.proofs.lemmas.Bool.{cases_Bool, cases_eq, false_from_ne_true}
 use Rattle.std.proofs.lemmas.List.{append-nil, take_more, get_or-map, map-append}
@@ -10,16 +10,17 @@ use Rattle.svc_record.specs.declared.action.Action.{Action}
 use Rattle.svc_record.specs.declared.action.Action.TheVariants.{Close}
 use Rattle.svc_record.specs.Drain.{put_number}
 use Rattle.svc_endpoints.specs.EndpointsState.{numbers_with, numbers_of_table}
-use Rattle.svc_endpoints.specs.Effects.{put_open}
+use Rattle.svc_record.specs.Plans.{same_address}
+use Rattle.svc_endpoints.specs.Effects.{put_open, passes}
 use Rattle.svc_endpoints.proofs.RestLemmas.{out}
 
 front : (table : List Open) (k : ℕ) (x : Open) → k < length table → x ≡ get_or table k x → drop k table ≡ x ∷ drop (k + 1) table
 front table k x lt e = let one : suc k ≡ k + 1 = omega arith in drop-cons table k x lt ∙ ap (λ y. y ∷ drop (suc k) table) (sym e) ∙ ap (λ n. x ∷ drop n table) one
 
-pub numbers-at : (table : List Open) (k : ℕ) (x : Open) (a : List ℕ) → k < length table → x ≡ get_or table k x → bytes_eq x.address a ≡ true → numbers_with (drop k table) (Some a) ≡ x.fd ∷ numbers_with (drop (k + 1) table) (Some a)
+pub numbers-at : (table : List Open) (k : ℕ) (x : Open) (a : List ℕ) → k < length table → x ≡ get_or table k x → same_address x.address (Some a) ≡ true → numbers_with (drop k table) (Some a) ≡ x.fd ∷ numbers_with (drop (k + 1) table) (Some a)
 numbers-at table k x a lt e same = ap (λ w. numbers_with w (Some a)) (front table k x lt e) ∙ (rw same refl)
 
-pub numbers-past : (table : List Open) (k : ℕ) (x : Open) (a : List ℕ) → k < length table → x ≡ get_or table k x → bytes_eq x.address a ≡ false → numbers_with (drop k table) (Some a) ≡ numbers_with (drop (k + 1) table) (Some a)
+pub numbers-past : (table : List Open) (k : ℕ) (x : Open) (a : List ℕ) → k < length table → x ≡ get_or table k x → same_address x.address (Some a) ≡ false → numbers_with (drop k table) (Some a) ≡ numbers_with (drop (k + 1) table) (Some a)
 numbers-past table k x a lt e same = ap (λ w. numbers_with w (Some a)) (front table k x lt e) ∙ (rw same refl)
 
 -- the numbers of a table with one more descriptor
@@ -53,15 +54,15 @@ numbers-next table k fd x lt e here below j less = elim (cases_eq j k) [
 
 -- what goes of one more of them
 module _ (gone : List ℕ → Bool) (table : List Open) (k : ℕ) (x : Open) (lt : k < length table) (is : x ≡ get_or table k x) where
-  out_next : out gone (take (k + 1) table) ≡ out gone (take k table) ++ numbers_of_table (filter (λ (o : Open). gone o.address) (x ∷ []))
+  out_next : out gone (take (k + 1) table) ≡ out gone (take k table) ++ numbers_of_table (filter (λ (o : Open). passes gone o.address) (x ∷ []))
   out_next = ap (out gone) (take_more table k x lt ∙ ap (λ y. take k table ++ y ∷ []) (sym is))
-      ∙ ap numbers_of_table (filter-append (λ (o : Open). gone o.address) (take k table) (x ∷ []))
-      ∙ map-append (λ (o : Open). o.fd) (filter (λ (o : Open). gone o.address) (take k table)) (filter (λ (o : Open). gone o.address) (x ∷ []))
+      ∙ ap numbers_of_table (filter-append (λ (o : Open). passes gone o.address) (take k table) (x ∷ []))
+      ∙ map-append (λ (o : Open). o.fd) (filter (λ (o : Open). passes gone o.address) (take k table)) (filter (λ (o : Open). passes gone o.address) (x ∷ []))
 
-  pub out-here : gone x.address ≡ true → out gone (take (k + 1) table) ≡ out gone (take k table) ++ x.fd ∷ []
+  pub out-here : passes gone x.address ≡ true → out gone (take (k + 1) table) ≡ out gone (take k table) ++ x.fd ∷ []
   out-here h = out_next ∙ (rw h refl)
 
-  pub out-past : gone x.address ≡ false → out gone (take (k + 1) table) ≡ out gone (take k table)
+  pub out-past : passes gone x.address ≡ false → out gone (take (k + 1) table) ≡ out gone (take k table)
   out-past h = out_next ∙ (rw h (append-nil (out gone (take k table))))
 
 -- of the first k descriptors those of these addresses are closed
@@ -71,14 +72,14 @@ pub record ClosedUpTo (gone : List ℕ → Bool) (table : List Open) (start here
   pub told : list_of here ≡ list_of start ++ map Close (out gone (take k table))
 
 module _ (gone : List ℕ → Bool) (table : List Open) (k : ℕ) (x : Open) (lt : k < length table) (is : x ≡ get_or table k x) (start here : List Action × ℕ) (was : ClosedUpTo gone table start here k) where
-  pub closes-past : gone x.address ≡ false → ClosedUpTo gone table start here (k + 1)
+  pub closes-past : passes gone x.address ≡ false → ClosedUpTo gone table start here (k + 1)
   closes-past h = let same = out-past gone table k x lt is h in record {
     few = rw same (let few = was.few in omega arith);
     room = rw same was.room;
     told = rw same was.told;
   }
 
-  pub closes-here : (next : List Action × ℕ) → gone x.address ≡ true → list_of next ≡ list_of here ++ Close x.fd ∷ [] → spare here ≤ spare next + 1 → ClosedUpTo gone table start next (k + 1)
+  pub closes-here : (next : List Action × ℕ) → passes gone x.address ≡ true → list_of next ≡ list_of here ++ Close x.fd ∷ [] → spare here ≤ spare next + 1 → ClosedUpTo gone table start next (k + 1)
   closes-here next h told room =
       let more = out-here gone table k x lt is h in
       let longer : length (out gone (take (k + 1) table)) ≡ length (out gone (take k table)) + 1 = ap length more ∙ length-append (out gone (take k table)) (x.fd ∷ []) in

@@ -23,6 +23,8 @@ use Rattle.svc_endpoints.specs.EndpointsData.{EndpointsData}
 use Rattle.svc_endpoints.specs.EndpointsState.{IsEndpointsSized, StatesKept, StatesStand, EndpointsStand, numbers_of_table, last_at, failed_at, numbers_with, is_binding, is_adopting, is_asking, is_holding, held_of}
 use Rattle.svc_endpoints.specs.Effects.{first_of, not_empty, asked, offered}
 use Rattle.svc_endpoints.specs.Visits.{IsAskOf, busy_in, IsFirst, IsDecided, decide_at, after, told_by, Visited}
+use Rattle.svc_endpoints.proofs.CalmLemmas.{calm-told}
+use Rattle.svc_endpoints.proofs.EventLemmas.{closes-told}
 use Rattle.svc_endpoints.proofs.RangeLemmas.{at0, get0, all0}
 use Rattle.svc_endpoints.proofs.StatesLemmas.{has_open-is, stands-asked, stands-offered}
 use Rattle.svc_endpoints.proofs.KeptLemmas.{kept-asked, kept-offered}
@@ -92,13 +94,14 @@ find_first p d s (suc n) le = elim (find_first p d s n (omega arith)) [
 pub stand-bind : (p : Plan) (d e : EndpointsData) (q : Record) (s i : ℕ) → EndpointsStand p d q → StatesStand p e (Told (Bind s i) ∷ q) → StatesKept p e → ask_due p (Told (Bind s i)) q ≡ true → is_endpoint p s i ≡ true
     → e.table ≡ d.table → e.came ≡ d.came → EndpointsStand p e (Told (Bind s i) ∷ q)
 stand-bind p d e q s i stand states kept due known table came = record {
+  calm = calm-told (Bind s i) q refl stand.calm;
   states = states;
   kept = kept;
   asks_due = (due, stand.asks_due);
   asks_known = (known, stand.asks_known);
   closes_once = (refl, stand.closes_once);
   fails = stand.fails;
-  closes = stand.closes;
+  closes = closes-told p q (Bind s i) refl (λ fd. refl) stand.calm stand.closes;
   one_live = stand.one_live;
   open_are = ap numbers_of_table table ∙ stand.open_are;
   came_are = came ∙ stand.came_are;
@@ -108,13 +111,14 @@ stand-bind p d e q s i stand states kept due known table came = record {
 pub stand-adopt : (p : Plan) (d e : EndpointsData) (q : Record) (s i fd : ℕ) → EndpointsStand p d q → StatesStand p e (Told (Adopt s i fd) ∷ q) → StatesKept p e → ask_due p (Told (Adopt s i fd)) q ≡ true → is_endpoint p s i ≡ true
     → e.table ≡ d.table → e.came ≡ d.came → EndpointsStand p e (Told (Adopt s i fd) ∷ q)
 stand-adopt p d e q s i fd stand states kept due known table came = record {
+  calm = calm-told (Adopt s i fd) q refl stand.calm;
   states = states;
   kept = kept;
   asks_due = (due, stand.asks_due);
   asks_known = (known, stand.asks_known);
   closes_once = (refl, stand.closes_once);
   fails = stand.fails;
-  closes = stand.closes;
+  closes = closes-told p q (Adopt s i fd) refl (λ n. refl) stand.calm stand.closes;
   one_live = stand.one_live;
   open_are = ap numbers_of_table table ∙ stand.open_are;
   came_are = came ∙ stand.came_are;

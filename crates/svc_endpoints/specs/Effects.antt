@@ -2,9 +2,9 @@
 use Rattle.std.specs.Prelude.{ℕ, Bool, false, true, not, ◌&&◌, ◌||◌, ◌+◌, List, [], ◌∷◌, Option, Some, None, map, filter, slice_index_or, slice_set, nat_le, nat_lt, if◌then◌else◌}
 use Rattle.std.specs.List.{list_any, list_all}
 use Rattle.svc_record.specs.declared.plan.Plan.{Plan}
-use Rattle.svc_record.specs.Plans.{services, address, names}
+use Rattle.svc_record.specs.Plans.{services, address, names, is_unclaimed}
 use Rattle.svc_record.specs.Failed.{in_use_limit}
-use Rattle.svc_record.specs.Drain.{put_number}
+use Rattle.svc_record.specs.Drain.{put_number, ascending}
 use Rattle.svc_record.specs.declared.action.Action.{Action}
 use Rattle.svc_record.specs.declared.action.Action.TheVariants.{Fail, Close}
 use Rattle.svc_endpoints.specs.declared.states.Last.{Last}
@@ -12,7 +12,7 @@ use Rattle.svc_endpoints.specs.declared.states.Last.TheVariants.{Unasked, Bindin
 use Rattle.svc_endpoints.specs.declared.states.EndState.{EndState}
 use Rattle.svc_endpoints.specs.declared.table.Open.{Open}
 use Rattle.svc_endpoints.specs.EndpointsData.{EndpointsData}
-use Rattle.svc_endpoints.specs.EndpointsState.{last_at, refusals_at, numbers_with, numbers_of_table}
+use Rattle.svc_endpoints.specs.EndpointsState.{last_at, refusals_at, numbers_with, numbers_of_table, is_in}
 
 -- the first of them
 abbrev pub first_of : List ℕ → Option ℕ
@@ -90,7 +90,7 @@ put_open o (x ∷ more) = if nat_lt o.fd x.fd then o ∷ x ∷ more else x ∷ p
 
 -- a descriptor with this number and this address came, and is live
 abbrev pub with_open : ℕ → List ℕ → EndpointsData → EndpointsData
-with_open fd text d = record d { came = put_number fd d.came; table = put_open (record { fd = fd; address = text }) d.table }
+with_open fd text d = record d { came = put_number fd d.came; table = put_open (record { fd = fd; address = Some text }) d.table }
 
 -- the endpoint is held by a new descriptor with this address
 abbrev pub bound : EndpointsData → ℕ → ℕ → ℕ → List ℕ → EndpointsData
@@ -108,9 +108,14 @@ close_told doubled fd = if doubled then Close fd ∷ [] else []
 abbrev pub is_abandoned_by : Plan → List Bool → List ℕ → Bool
 is_abandoned_by p failed a = list_any (λ s. names p s a) (services p) && list_all (λ s. not (names p s a) || slice_index_or failed s false) (services p)
 
+-- there is an address, and it passes the test
+abbrev pub passes : (List ℕ → Bool) → Option (List ℕ) → Bool
+passes test (Some a) = test a
+passes test None = false
+
 -- the descriptor's address is abandoned
 abbrev pub is_done_for : Plan → List Bool → Open → Bool
-is_done_for p failed o = is_abandoned_by p failed o.address
+is_done_for p failed o = passes (is_abandoned_by p failed) o.address
 
 -- the numbers of the table's descriptors whose addresses are abandoned
 abbrev pub abandoned_numbers : Plan → List Bool → List Open → List ℕ
@@ -135,3 +140,39 @@ cleared_if b p d = if b then cleared p d else d
 -- what is told where b says so
 abbrev pub given_up_if : Bool → Plan → ℕ → EndpointsData → List Action
 given_up_if b p s d = if b then given_up p s d else []
+
+-- a received descriptor with this address closes at once: a live one has the address, or no service claims it, or it is abandoned
+abbrev pub turns_away : Plan → EndpointsData → List ℕ → Bool
+turns_away p d a = (has_open d.table (Some a) || is_unclaimed p a) || is_abandoned_by p d.failed a
+
+-- each number with the word at its place, and without an address where there is none
+abbrev pub opens_of : List ℕ → List (List ℕ) → List Open
+opens_of [] words = []
+opens_of (fd ∷ fds) [] = record { fd = fd; address = None } ∷ opens_of fds []
+opens_of (fd ∷ fds) (w ∷ words) = record { fd = fd; address = Some w } ∷ opens_of fds words
+
+-- the numbers of those whose address passes the test
+abbrev pub numbers_out : (List ℕ → Bool) → List Open → List ℕ
+numbers_out gone opens = numbers_of_table (filter (λ (o : Open). passes gone o.address) opens)
+
+-- those whose numbers aren't among these
+abbrev pub without_numbers : List ℕ → List Open → List Open
+without_numbers out opens = filter (λ (o : Open). not (is_in o.fd out)) opens
+
+-- the numbers in ascending order with these, one after the other
+abbrev pub put_numbers : List ℕ → List ℕ → List ℕ
+put_numbers [] came = came
+put_numbers (fd ∷ fds) came = put_numbers fds (put_number fd came)
+
+-- the table with these, one after the other
+abbrev pub put_opens : List Open → List Open → List Open
+put_opens [] table = table
+put_opens (o ∷ more) table = put_opens more (put_open o table)
+
+-- the numbers that close at once, in ascending order
+abbrev pub turned_away : Plan → EndpointsData → List (List ℕ) → List ℕ → List ℕ
+turned_away p d words fds = ascending (numbers_out (turns_away p d) (opens_of fds words))
+
+-- the numbers came with these words, and the descriptors that don't close at once are live
+abbrev pub received : Plan → EndpointsData → List (List ℕ) → List ℕ → EndpointsData
+received p d words fds = record d { table = put_opens (without_numbers (turned_away p d words fds) (opens_of fds words)) d.table; came = put_numbers fds d.came }

@@ -3,11 +3,12 @@ use Rattle.std.specs.Prelude.{ℕ, Bool, true, false, ◌==◌, ◌≡◌, ◌<�
 use Rattle.std.specs.List.{list_any}
 use Rattle.svc_record.specs.declared.plan.Plan.{Plan}
 use Rattle.svc_record.specs.Plans.{service_count, endpoints, address, same_address}
-use Rattle.svc_record.specs.Record.{Record, has, EachEntry}
+use Rattle.svc_record.specs.Record.{Record, has, signal_of, EachEntry}
 use Rattle.svc_record.specs.Descriptors.{live_numbers_with, is_close, one_live}
 use Rattle.svc_record.specs.Asks.{is_bind_open, is_adopt_open, last_adopt}
 use Rattle.svc_record.specs.AskRules.{FailsRight, ask_due, ask_known}
-use Rattle.svc_record.specs.Closes.{ClosesRight, close_once}
+use Rattle.svc_record.specs.Closes.{ClosesRight, close_once, is_broadcast}
+use Rattle.svc_record.specs.Offer.{is_upgrade}
 use Rattle.svc_record.specs.Drain.{ascending, live_numbers}
 use Rattle.svc_record.specs.Endpoints.{held_numbers, in_use_within}
 use Rattle.svc_record.specs.Failed.{has_failed, in_use_count}
@@ -107,11 +108,16 @@ open_numbers d = numbers_of_table d.table
 -- the numbers of the table's descriptors with this address
 abbrev pub numbers_with : List Open → Option (List ℕ) → List ℕ
 numbers_with [] a = []
-numbers_with (o ∷ more) a = if same_address (Some o.address) a then o.fd ∷ numbers_with more a else numbers_with more a
+numbers_with (o ∷ more) a = if same_address o.address a then o.fd ∷ numbers_with more a else numbers_with more a
 
 -- the number is in the list
 abbrev pub is_in : ℕ → List ℕ → Bool
 is_in fd xs = list_any (λ n. n == fd) xs
+
+-- none of the numbers came, and no two of them are equal
+abbrev pub all_new : List ℕ → List ℕ → Bool
+all_new came [] = true
+all_new came (fd ∷ fds) = (not (is_in fd came) && not (is_in fd fds)) && all_new came fds
 
 -- no number stands twice in the list
 abbrev pub distinct : List ℕ → Bool
@@ -155,8 +161,14 @@ pub record StatesStand (p : Plan) (d : EndpointsData) (q : Record) : Type 0 wher
   pub lost : (s i : ℕ) → is_lost (last_at d s i) ≡ true → failed_at d s ≡ true
   pub closed_came : (fd : ℕ) → is_new q fd ≡ true → has (is_close fd) q ≡ false
 
--- while the run goes on: the parts say what the record says; each ask was due and of an endpoint of the plan, and each close of a descriptor that was open; exactly what has failed is given up, and exactly what is gone is closed; no address has two live descriptors, and no number came twice
+-- no broadcast was told, and no signal asked for an upgrade
+pub record Calm (q : Record) : Type 0 where
+  pub no_broadcast : has is_broadcast q ≡ false
+  pub no_upgrade : is_upgrade (signal_of q) ≡ false
+
+-- while the run goes on: nothing was broadcast or offered yet; the parts say what the record says; each ask was due and of an endpoint of the plan, and each close of a descriptor that was open; exactly what has failed is given up, and exactly what is gone is closed; no address has two live descriptors, and no number came twice
 pub record EndpointsStand (p : Plan) (d : EndpointsData) (q : Record) : Type 0 where
+  pub calm : Calm q
   pub states : StatesStand p d q
   pub kept : StatesKept p d
   pub asks_due : EachEntry (λ e before. ask_due p e before ≡ true) q

@@ -1,10 +1,12 @@
 //! The numbers of the descriptors that came.
 
-ghost use Rattle.std.specs.Prelude.{◌≡◌, ◌+◌, ◌<◌, ◌≤◌, length, ℕ, OnOk, [], ◌==◌, insert, slice_index, vec_len, vec_capacity, false};
+ghost use Rattle.std.specs.Prelude.{◌≡◌, ◌+◌, ◌-◌, ◌<◌, ◌≤◌, length, ℕ, OnOk, [], ◌==◌, insert, slice_index, vec_len, vec_capacity, true, false};
 ghost use Rattle.std.specs.List.{list_any};
 ghost use Rattle.std.specs.List.Sorted.{IsNonDecreasing};
 ghost use Rattle.svc_conf.specs.Items.{list_of, spare};
 ghost use Rattle.svc_record.specs.Drain.{put_number};
+ghost use Rattle.svc_endpoints.specs.EndpointsState.{all_new};
+ghost use Rattle.svc_endpoints.specs.Effects.{put_numbers};
 
 use std::alloc::Global;
 use std::marker::Model;
@@ -52,11 +54,19 @@ fn is_among(numbers: &[u64], fd: u64) -> bool
     }
 }
 
+/// The number stands in the list.
+pub(crate) fn contains(list: &[u64], fd: u64) -> bool
+    ensures { result ≡ list_any (λ n. n == fd) list.now }
+{
+    list.iter().any(|n| *n == fd)
+}
+
 /// Inserts into reserved room.
 fn insert_reserved(numbers: &mut Vec<u64>, at: usize, fd: u64)
     requires place { at ≤ vec_len numbers.old }
     requires room { vec_len numbers.old < vec_capacity numbers.old }
-    ensures { numbers.new.items ≡ insert numbers.old.items at fd }
+    ensures items { numbers.new.items ≡ insert numbers.old.items at fd }
+    ensures room { vec_capacity numbers.old - vec_len numbers.old ≤ vec_capacity numbers.new - vec_len numbers.new + 1 }
 {
     let _ = numbers.insert(at, fd);
 }
@@ -70,12 +80,12 @@ impl Came {
         }
     }
 
-    /// After it there is room for one more number.
-    pub(crate) fn reserve(&mut self) -> Result<(), NoMemory>
+    /// After it there is room for so many more numbers.
+    pub(crate) fn reserve(&mut self, count: usize) -> Result<(), NoMemory>
         ensures numbers { list_of self.new ≡ list_of self.old }
-        ensures room { OnOk result (0 < spare self.new) }
+        ensures room { OnOk result (count ≤ spare self.new) }
     {
-        match self.numbers.reserve(1) {
+        match self.numbers.reserve(count) {
             Ok(()) => Ok(()),
             Err(_) => Err(NoMemory),
         }
@@ -87,13 +97,31 @@ impl Came {
         is_among(&self.numbers, fd)
     }
 
+    pub(crate) fn as_slice(&self) -> &[u64]
+        ensures { result.now ≡ list_of self.now }
+    {
+        self.numbers.as_slice()
+    }
+
     /// Takes a new number.
     pub(crate) fn add(&mut self, fd: u64)
         requires new { list_any (λ n. n == fd) (list_of self.old) ≡ false }
         requires room { 0 < spare self.old }
-        ensures { list_of self.new ≡ put_number fd (list_of self.old) }
+        ensures numbers { list_of self.new ≡ put_number fd (list_of self.old) }
+        ensures room { spare self.old ≤ spare self.new + 1 }
     {
         let at = place_of(&self.numbers, fd);
         insert_reserved(&mut self.numbers, at, fd);
+    }
+
+    /// Takes new numbers.
+    pub(crate) fn add_all(&mut self, fds: &[u64])
+        requires new { all_new (list_of self.old) fds.now ≡ true }
+        requires room { length fds.now ≤ spare self.old }
+        ensures { list_of self.new ≡ put_numbers fds.now (list_of self.old) }
+    {
+        for fd in fds {
+            self.add(*fd);
+        }
     }
 }

@@ -1,16 +1,17 @@
 //! The endpoints of all services, and the descriptors that came.
 
-ghost use Rattle.std.specs.Prelude.{◌≡◌, ◌+◌, ◌<◌, ◌≤◌, ◌++◌, ◌∷◌, ◌==◌, [], length, slice_index_or, ℕ, Some, None, Option, IfOk, OnOk, map, true, false, ◌^◌};
+ghost use Rattle.std.specs.Prelude.{◌≡◌, ◌+◌, ◌<◌, ◌≤◌, ◌++◌, ◌∷◌, ◌==◌, [], length, slice_index_or, ℕ, Some, None, Option, IfOk, OnOk, map, filter, not, ◌&&◌, slice_index, take, drop, true, false, ◌^◌};
 ghost use Rattle.std.specs.List.{list_any};
 ghost use Rattle.svc_conf.specs.Items.{list_of, spare};
 ghost use Rattle.svc_record.specs.declared.action.Action.TheVariants.{Close};
 ghost use Rattle.svc_record.specs.Plans.{service_count, endpoints, address};
+ghost use Rattle.svc_record.specs.Tail.{each_once};
 ghost use Rattle.svc_record.specs.Validity.{IsValid};
-ghost use Rattle.svc_endpoints.specs.EndpointsState.{IsEndpointsSized, EndpointsStand, last_at, failed_at, state_at, open_numbers, numbers_with, is_binding, is_adopting, is_holding};
-ghost use Rattle.svc_endpoints.specs.Effects.{put, put_last, fail_if, has_open, first_of, with_number, with_open, cleared, given_up};
+ghost use Rattle.svc_endpoints.specs.EndpointsState.{IsEndpointsSized, EndpointsStand, last_at, failed_at, state_at, open_numbers, numbers_with, is_binding, is_adopting, is_holding, is_in, all_new};
+ghost use Rattle.svc_endpoints.specs.Effects.{put, put_last, fail_if, has_open, first_of, with_number, with_open, cleared, given_up, is_abandoned_by, put_opens, put_numbers, opens_of, without_numbers};
 
-use crate::came::Came;
-use crate::naming::service_count;
+use crate::came::{Came, contains};
+use crate::naming::{is_abandoned, service_count};
 use crate::states::{EndState, Last, Row, is_adopting, is_binding, new_flags, new_rows};
 use crate::table::Table;
 use std::alloc::Global;
@@ -60,8 +61,16 @@ impl Endpoints {
         ensures parts { self.new.parts ≡ self.old.parts }
         ensures room { OnOk result (0 < self.new.room) }
     {
-        self.table.reserve()?;
-        self.came.reserve()
+        self.reserve_for(1)
+    }
+
+    /// After it there is memory for so many more descriptors.
+    pub(crate) fn reserve_for(&mut self, count: usize) -> Result<(), NoMemory>
+        ensures parts { self.new.parts ≡ self.old.parts }
+        ensures room { OnOk result (count ≤ self.new.room) }
+    {
+        self.table.reserve(count)?;
+        self.came.reserve(count)
     }
 
     /// Which services have failed.
@@ -98,6 +107,18 @@ impl Endpoints {
         self.came.has(fd)
     }
 
+    /// None of the numbers came, and no two of them are equal.
+    pub fn are_new(&self, fds: &[u64]) -> bool
+        ensures { result ≡ all_new self.now.parts.came fds.now }
+    {
+        for k in 0..fds.len() {
+            if !self.is_new_before(fds, k) {
+                return false;
+            }
+        }
+        true
+    }
+
     /// How many descriptors are live.
     pub fn open_len(&self) -> usize
         ensures small { result < 2 ^ 60 }
@@ -113,6 +134,46 @@ impl Endpoints {
         ensures room { spare actions.old ≤ spare actions.new + length self.now.parts.table }
     {
         self.table.close_all(actions);
+    }
+
+    /// Closes each of the numbers that didn't come, once, in the order of the list.
+    pub fn close_new(&self, fds: &[u64], actions: &mut Actions)
+        requires room { length fds.now ≤ spare actions.old }
+        ensures told { list_of actions.new ≡ list_of actions.old ++ map Close (each_once (filter (λ n. not (is_in n self.now.parts.came)) fds.now)) }
+        ensures room { spare actions.old ≤ spare actions.new + length fds.now }
+    {
+        for k in 0..fds.len() {
+            if self.is_new_after(fds, k) {
+                actions.put(Action::Close(fds[k]));
+            }
+        }
+    }
+
+    /// The k-th number didn't come, and isn't among those after it.
+    fn is_new_before(&self, fds: &[u64], k: usize) -> bool
+        requires { k < length fds.now }
+        ensures { result ≡ (not (is_in (slice_index fds.now k) self.now.parts.came) && not (is_in (slice_index fds.now k) (drop (k + 1) fds.now))) }
+    {
+        !self.came.has(fds[k]) && !contains(&fds[k + 1..], fds[k])
+    }
+
+    /// The k-th number didn't come, and isn't among those before it.
+    fn is_new_after(&self, fds: &[u64], k: usize) -> bool
+        requires { k < length fds.now }
+        ensures { result ≡ (not (is_in (slice_index fds.now k) self.now.parts.came) && not (is_in (slice_index fds.now k) (take k fds.now))) }
+    {
+        !self.came.has(fds[k]) && !contains(&fds[..k], fds[k])
+    }
+
+    /// The table with the descriptors of these numbers, each with the word at its place if there is
+    /// one, but for those that are left out.
+    pub(crate) fn take_rest(&mut self, words: Vec<Text>, fds: &[u64], out: &Came)
+        requires new { all_new self.old.parts.came fds.now ≡ true }
+        requires room { length fds.now ≤ self.old.room }
+        ensures { self.new.parts ≡ record self.old.parts { table = put_opens (without_numbers (list_of out.now) (opens_of fds.now words.items)) self.old.parts.table; came = put_numbers fds.now self.old.parts.came } }
+    {
+        self.table.add_rest(words, fds, out);
+        self.came.add_all(fds);
     }
 
     pub(crate) fn state(&self, s: usize, i: usize) -> EndState
@@ -192,6 +253,14 @@ impl Endpoints {
         self.find(address).is_some()
     }
 
+    /// Some service names the address, and all that name it have failed.
+    pub(crate) fn is_abandoned(&self, plan: &Plan, address: &str) -> bool
+        requires { length self.now.parts.failed ≡ service_count plan.now }
+        ensures { result ≡ is_abandoned_by plan.now self.now.parts.failed address.now }
+    {
+        is_abandoned(plan, &self.failed, address)
+    }
+
     /// The number came.
     pub(crate) fn take_number(&mut self, fd: u64)
         requires new { list_any (λ n. n == fd) self.old.parts.came ≡ false }
@@ -207,7 +276,7 @@ impl Endpoints {
         requires room { 0 < self.old.room }
         ensures { self.new.parts ≡ with_open fd address self.old.parts }
     {
-        self.table.add(fd, address);
+        self.table.add(fd, Some(address));
         self.came.add(fd);
     }
 

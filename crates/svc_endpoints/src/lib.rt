@@ -6,6 +6,7 @@ mod answers;
 mod came;
 mod endpoints;
 mod naming;
+mod received;
 mod states;
 mod table;
 mod visit;

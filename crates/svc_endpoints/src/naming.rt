@@ -3,7 +3,7 @@
 ghost use Rattle.std.specs.Prelude.{◌≡◌, ◌<◌, ◌≤◌, not, ◌&&◌, ◌||◌, length, ℕ, Some, bytes_eq, slice_index_or, false};
 ghost use Rattle.std.specs.List.{list_any, list_all};
 ghost use Rattle.svc_graph.specs.declared.plan.EndpointPlan.{EndpointPlan};
-ghost use Rattle.svc_record.specs.Plans.{service_count, services, endpoints, address, names, declares, is_among};
+ghost use Rattle.svc_record.specs.Plans.{service_count, services, endpoints, address, names, declares, declares_list, is_among, is_unclaimed};
 ghost use Rattle.svc_record.specs.Failed.{in_use_limit};
 
 use svc_conf::Text;
@@ -79,6 +79,14 @@ fn declares(plan: &Plan, s: usize, address: &str) -> bool
     }
 }
 
+/// The service declares a list.
+fn declares_list(plan: &Plan, s: usize) -> bool
+    requires { s < service_count plan.now }
+    ensures { result ≡ declares_list plan.now s }
+{
+    plan.services.as_slice()[s].declared.is_some()
+}
+
 fn has_endpoint(list: &[EndpointPlan], address: &str) -> bool
     ensures { result ≡ list_any (λ (x : EndpointPlan). bytes_eq x.address address.now) list.now }
 {
@@ -108,6 +116,26 @@ fn is_named(plan: &Plan, address: &str) -> bool
         }
     }
     false
+}
+
+/// The service declares a list, and doesn't name the address.
+fn is_foreign_to(plan: &Plan, s: usize, address: &str) -> bool
+    requires { s < service_count plan.now }
+    ensures { result ≡ (declares_list plan.now s && not (names plan.now s address.now)) }
+{
+    declares_list(plan, s) && !names(plan, s, address)
+}
+
+/// Every service declares a list, and none names the address.
+pub(crate) fn is_unclaimed(plan: &Plan, address: &str) -> bool
+    ensures { result ≡ is_unclaimed plan.now address.now }
+{
+    for s in 0..service_count(plan) {
+        if !is_foreign_to(plan, s, address) {
+            return false;
+        }
+    }
+    true
 }
 
 /// The service has failed, or doesn't name the address.

@@ -1,26 +1,28 @@
 //! The live descriptors.
 
-ghost use Rattle.std.specs.Prelude.{◌≡◌, ◌+◌, ◌<◌, ◌≤◌, ◌++◌, not, [], length, ℕ, List, Option, Some, OnOk, map, filter, insert, slice_index, vec_len, vec_capacity, ◌||◌, ◌&&◌, false, true, nat_lt, ◌^◌};
+ghost use Rattle.std.specs.Prelude.{◌≡◌, ◌+◌, ◌-◌, ◌<◌, ◌≤◌, ◌++◌, ◌∷◌, not, [], length, ℕ, List, Option, Some, None, OnOk, map, filter, insert, slice_index, vec_len, vec_capacity, ◌||◌, ◌&&◌, false, true, nat_lt, ◌^◌, if◌then◌else◌};
 ghost use Rattle.std.specs.List.{list_any, list_all};
+ghost use Rattle.std.specs.Option.{option_to_list};
 ghost use Rattle.svc_conf.specs.Items.{list_of, spare};
 ghost use Rattle.svc_record.specs.declared.plan.Plan.{Plan};
 ghost use Rattle.svc_record.specs.declared.action.Action.TheVariants.{Close};
 ghost use Rattle.svc_record.specs.Drain.{put_number};
-ghost use Rattle.svc_record.specs.Plans.{service_count};
+ghost use Rattle.svc_record.specs.Plans.{service_count, same_address};
 ghost use Rattle.svc_endpoints.specs.EndpointsState.{numbers_with, numbers_of_table};
-ghost use Rattle.svc_endpoints.specs.Effects.{first_of, put_open, abandoned_numbers, without_abandoned};
+ghost use Rattle.svc_endpoints.specs.Effects.{first_of, put_open, put_opens, opens_of, without_numbers, is_done_for, abandoned_numbers, without_abandoned};
 
+use crate::came::Came;
 use crate::naming::is_abandoned;
 use std::alloc::Global;
 use std::marker::Model;
 use svc_conf::{NoMemory, Text};
 use svc_record::{Action, Actions, Plan};
 
-/// A live descriptor, with the address with which it was opened.
+/// A live descriptor, with the address with which it was opened, if it has one.
 #[derive(Drop)]
 pub(crate) struct Open {
     pub fd: u64,
-    pub address: Text,
+    pub address: Option<Text>,
 }
 
 /// Live descriptors in ascending number. Contracts see them and for how many more there is memory.
@@ -38,11 +40,42 @@ impl Model for Table {
     ghost view = { λ t. (t.entries.items, vec_capacity t.entries - vec_len t.entries) };
 }
 
+fn has_address(entry: &Open, address: &str) -> bool
+    ensures { result ≡ same_address entry.now.address (Some address.now) }
+{
+    match &entry.address {
+        Some(text) => text.as_str() == address,
+        None => false,
+    }
+}
+
+/// The descriptor has an address, and it is abandoned.
+fn is_done(entry: &Open, plan: &Plan, failed: &[bool]) -> bool
+    requires { length failed.now ≡ service_count plan.now }
+    ensures { result ≡ is_done_for plan.now failed.now entry.now }
+{
+    match &entry.address {
+        Some(text) => is_abandoned(plan, failed, text.as_str()),
+        None => false,
+    }
+}
+
+/// The next word is taken out, if there is one.
+fn next_word(words: &mut Vec<Text>) -> Option<Text>
+    ensures words { words.old.items ≡ option_to_list result ++ words.new.items }
+    ensures none { result ≡ None → words.old.items ≡ [] }
+{
+    if words.is_empty() {
+        return None;
+    }
+    Some(words.remove(0))
+}
+
 fn find_in(table: &[Open], address: &str) -> Option<u64>
     ensures { result ≡ first_of (numbers_with table.now (Some address.now)) }
 {
     for entry in table {
-        if entry.address.as_str() == address {
+        if has_address(entry, address) {
             return Some(entry.fd);
         }
     }
@@ -67,7 +100,8 @@ fn place_of(table: &[Open], fd: u64) -> usize
 fn insert_reserved(table: &mut Vec<Open>, at: usize, entry: Open)
     requires place { at ≤ vec_len table.old }
     requires room { vec_len table.old < vec_capacity table.old }
-    ensures { table.new.items ≡ insert table.old.items at entry }
+    ensures items { table.new.items ≡ insert table.old.items at entry }
+    ensures room { vec_capacity table.old - vec_len table.old ≤ vec_capacity table.new - vec_len table.new + 1 }
 {
     let _ = table.insert(at, entry);
 }
@@ -91,7 +125,7 @@ fn close_done(table: &[Open], plan: &Plan, failed: &[bool], actions: &mut Action
     ensures room { spare actions.old ≤ spare actions.new + length (abandoned_numbers plan.now failed.now table.now) }
 {
     for entry in table {
-        if is_abandoned(plan, failed, entry.address.as_str()) {
+        if is_done(entry, plan, failed) {
             actions.put(Action::Close(entry.fd));
         }
     }
@@ -102,7 +136,7 @@ fn remove_done(table: &mut Vec<Open>, plan: &Plan, failed: &[bool])
     requires flags { length failed.now ≡ service_count plan.now }
     ensures { table.new.items ≡ without_abandoned plan.now failed.now table.old.items }
 {
-    table.retain(|entry| !is_abandoned(plan, failed, entry.address.as_str()));
+    table.retain(|entry| !is_done(entry, plan, failed));
 }
 
 impl Table {
@@ -114,12 +148,12 @@ impl Table {
         }
     }
 
-    /// After it there is room for one more descriptor.
-    pub(crate) fn reserve(&mut self) -> Result<(), NoMemory>
+    /// After it there is room for so many more descriptors.
+    pub(crate) fn reserve(&mut self, count: usize) -> Result<(), NoMemory>
         ensures entries { list_of self.new ≡ list_of self.old }
-        ensures room { OnOk result (0 < spare self.new) }
+        ensures room { OnOk result (count ≤ spare self.new) }
     {
-        match self.entries.reserve(1) {
+        match self.entries.reserve(count) {
             Ok(()) => Ok(()),
             Err(_) => Err(NoMemory),
         }
@@ -140,12 +174,36 @@ impl Table {
     }
 
     /// Takes a descriptor.
-    pub(crate) fn add(&mut self, fd: u64, address: Text)
+    pub(crate) fn add(&mut self, fd: u64, address: Option<Text>)
         requires { 0 < spare self.old }
-        ensures { list_of self.new ≡ put_open (record { fd = fd; address = address }) (list_of self.old) }
+        ensures entries { list_of self.new ≡ put_open (record { fd = fd; address = address }) (list_of self.old) }
+        ensures room { spare self.old ≤ spare self.new + 1 }
     {
         let at = place_of(&self.entries, fd);
         insert_reserved(&mut self.entries, at, Open { fd, address });
+    }
+
+    /// Takes descriptors, each with the word at its place if there is one, but for those that are
+    /// left out.
+    pub(crate) fn add_rest(&mut self, mut words: Vec<Text>, fds: &[u64], out: &Came)
+        requires { length fds.now ≤ spare self.old }
+        ensures { list_of self.new ≡ put_opens (without_numbers (list_of out.now) (opens_of fds.now words.items)) (list_of self.old) }
+    {
+        for fd in fds {
+            let address = next_word(&mut words);
+            self.add_unless(out.has(*fd), *fd, address);
+        }
+    }
+
+    /// Takes a descriptor, unless it is left out.
+    fn add_unless(&mut self, left_out: bool, fd: u64, address: Option<Text>)
+        requires { 0 < spare self.old }
+        ensures entries { list_of self.new ≡ (if left_out then list_of self.old else put_open (record { fd = fd; address = address }) (list_of self.old)) }
+        ensures room { spare self.old ≤ spare self.new + 1 }
+    {
+        if !left_out {
+            self.add(fd, address);
+        }
     }
 
     /// Closes the descriptors whose addresses are abandoned, in ascending number.

@@ -93,7 +93,32 @@ fn tries_a_busy_port_again(rt: HostRuntime) -> Result<(), Fail> {
     let mut actions = room(&rt, alloc);
     part.take_in_use(&plan, 0, 0, 5, &mut actions);
     assert!(rt; actions.is_empty());
-    visit(&rt, alloc, &mut part, &plan, 0, 1004, [].as_slice());
+    let none = Actions::new(alloc);
+    visit(&rt, alloc, &mut part, &plan, 0, 1004, none.as_slice());
     visit(&rt, alloc, &mut part, &plan, 0, 1005, bind.as_slice());
+    Ok(())
+}
+
+#[test]
+fn takes_what_a_message_brings(rt: HostRuntime) -> Result<(), Fail> {
+    let alloc = rt.alloc();
+    let plan = plan(alloc)?;
+    let is_valid = plan.valid(alloc)?;
+    assert!(rt; is_valid);
+    assert_eq!(rt; service_count(&plan), 1);
+    let mut part = Endpoints::new(alloc, &plan)?;
+    let mut actions = room(&rt, alloc);
+    let fds = [9, 4];
+    let are_new = part.are_new(fds.as_slice());
+    assert!(rt; are_new);
+    let text = "127.0.0.1:81 127.0.0.1:80";
+    let good = part.take_received(alloc, &plan, text.as_bytes(), fds.as_slice(), &mut actions)?;
+    assert!(rt; good);
+    assert!(rt; actions.is_empty());
+    assert_eq!(rt; part.open_len(), 2);
+    part.close_new([4, 5, 5].as_slice(), &mut actions);
+    assert_eq!(rt; actions.as_slice(), [Action::Close(5)].as_slice());
+    let adopt = [Action::Adopt(0, 0, 4)];
+    visit(&rt, alloc, &mut part, &plan, 0, 5, adopt.as_slice());
     Ok(())
 }

@@ -4,9 +4,9 @@ use Rattle.svc_record.specs.Drain.{put_number}
 use Rattle.svc_endpoints.proofs.NumberLemmas.{insert-put}
 use Rattle.svc_endpoints.proofs.came.Came.add.Goals as goal
 
-pub returns : goal.returns
-returns c =
-    rw (c.insert_reserved.ensures)
+pub returns-clause-numbers : goal.returns-clause-numbers
+returns-clause-numbers c =
+    rw (c.insert_reserved.ensures.items)
     (rw (insert-put c.self.inside.numbers.items c.place_of-at.result c.args.fd
     (rw c.deref.ensures.value at c.place_of-at.ensures.within) (rw c.deref.ensures.value at c.place_of-at.ensures.below) (rw c.deref.ensures.value at c.place_of-at.ensures.above))
     (ap (λ (x : List ℕ × ℕ). put_number c.args.fd (list_of x)) c.self.view_is))
