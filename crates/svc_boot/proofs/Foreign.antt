@@ -1,0 +1,133 @@
+-- What belongs to no beginning of a run changes nothing of bootstrapping.
+use Rattle.std.proofs.Common.{ℕ, Bool, true, false, not, ◌||◌, List, [], ◌∷◌, ◌≡◌, refl, map, ◌++◌}
+use Rattle.std.proofs.lemmas.Bool.{and_parts, and_from}
+use Rattle.svc_record.specs.declared.plan.Plan.{Plan}
+use Rattle.svc_record.specs.declared.entry.Entry.TheVariants.{Got, Told}
+use Rattle.svc_record.specs.declared.action.Action.{Action}
+use Rattle.svc_record.specs.declared.action.Action.TheVariants.{Start, Fail, Bind, Adopt, Close, Phase, OpenReceiver, TryReceive, NotifyParent, Daemonize}
+use Rattle.svc_record.specs.declared.action.ExecutionPhase.TheVariants.{Bootstrap, BootstrapComplete, Running}
+use Rattle.svc_record.specs.declared.event.Event.{Event}
+use Rattle.svc_record.specs.declared.event.Event.TheVariants.{Received, NoSenderYet, ReceiveFailed, Side}
+use Rattle.svc_record.specs.Record.{Record, tell}
+use Rattle.svc_record.specs.Told.{IsQuiet, IsGivingUp}
+use Rattle.svc_boot.specs.BootData.{BootData}
+use Rattle.svc_boot.specs.BootState.{BootStands}
+use Rattle.svc_boot.specs.BootFacts.{is_boot_action, has_no_boot_action, is_boot_event}
+
+-- an action that doesn't belong to the beginning
+pub stands-told : (p : Plan) (d : BootData) (q : Record) (a : Action) → is_boot_action a ≡ false → BootStands p d q → BootStands p d (Told a ∷ q)
+stands-told p d q (Phase Bootstrap ms) other stand = cc
+stands-told p d q (Phase BootstrapComplete ms) other stand = cc
+stands-told p d q (Phase Running ms) other stand = cc
+stands-told p d q OpenReceiver other stand = cc
+stands-told p d q TryReceive other stand = cc
+stands-told p d q NotifyParent other stand = cc
+stands-told p d q Daemonize other stand = cc
+stands-told p d q _ other stand = let b = stand.begin in let x = stand.receiving in let u = stand.unforked in record {
+  kept = stand.kept;
+  begin = record { begun_is = b.begun_is; begun_times = b.begun_times; complete_is = b.complete_is; complete_times = b.complete_times };
+  receiving = record {
+    opened_is = x.opened_is;
+    opened_times = x.opened_times;
+    tried_is = x.tried_is;
+    trying_is = x.trying_is;
+    may_is = x.may_is;
+    rests_is = x.rests_is;
+    good_is = x.good_is;
+    bad_is = x.bad_is;
+    failed_is = x.failed_is;
+  };
+  missing_is = stand.missing_is;
+  patience_is = stand.patience_is;
+  unforked = record { no_fork = u.no_fork; no_fork_at_all = u.no_fork_at_all; no_notify = u.no_notify; no_parent = u.no_parent };
+  boots_due = (refl, stand.boots_due);
+  tries_due = (refl, stand.tries_due);
+}
+
+-- the phase `Running`, where it is due
+pub stands-running : (p : Plan) (d : BootData) (q : Record) (ms : ℕ) → (not p.eager || d.complete) ≡ true → BootStands p d q → BootStands p d (Told (Phase Running ms) ∷ q)
+stands-running p d q ms due stand = let b = stand.begin in let x = stand.receiving in let u = stand.unforked in record {
+  kept = stand.kept;
+  begin = record { begun_is = b.begun_is; begun_times = b.begun_times; complete_is = b.complete_is; complete_times = b.complete_times };
+  receiving = record {
+    opened_is = x.opened_is;
+    opened_times = x.opened_times;
+    tried_is = x.tried_is;
+    trying_is = x.trying_is;
+    may_is = x.may_is;
+    rests_is = x.rests_is;
+    good_is = x.good_is;
+    bad_is = x.bad_is;
+    failed_is = x.failed_is;
+  };
+  missing_is = stand.missing_is;
+  patience_is = stand.patience_is;
+  unforked = record { no_fork = u.no_fork; no_fork_at_all = u.no_fork_at_all; no_notify = u.no_notify; no_parent = u.no_parent };
+  boots_due = (rw b.complete_is due, stand.boots_due);
+  tries_due = (refl, stand.tries_due);
+}
+
+-- an event that doesn't belong to the beginning
+pub stands-got : (p : Plan) (d : BootData) (q : Record) (e : Event) → is_boot_event e ≡ false → BootStands p d q → BootStands p d (Got e ∷ q)
+stands-got p d q (Received bytes fds) other stand = cc
+stands-got p d q NoSenderYet other stand = cc
+stands-got p d q ReceiveFailed other stand = cc
+stands-got p d q (Side side) other stand = cc
+stands-got p d q _ other stand = let b = stand.begin in let x = stand.receiving in let u = stand.unforked in record {
+  kept = stand.kept;
+  begin = record { begun_is = b.begun_is; begun_times = b.begun_times; complete_is = b.complete_is; complete_times = b.complete_times };
+  receiving = record {
+    opened_is = x.opened_is;
+    opened_times = x.opened_times;
+    tried_is = x.tried_is;
+    trying_is = x.trying_is;
+    may_is = x.may_is;
+    rests_is = x.rests_is;
+    good_is = x.good_is;
+    bad_is = x.bad_is;
+    failed_is = x.failed_is;
+  };
+  missing_is = stand.missing_is;
+  patience_is = stand.patience_is;
+  unforked = record { no_fork = u.no_fork; no_fork_at_all = u.no_fork_at_all; no_notify = u.no_notify; no_parent = u.no_parent };
+  boots_due = (refl, stand.boots_due);
+  tries_due = (refl, stand.tries_due);
+}
+
+not_true : (b : Bool) → not b ≡ true → b ≡ false
+not_true true h = cc
+not_true false h = refl
+
+-- a told list in which nothing belongs to the beginning
+pub stands-tell : (p : Plan) (d : BootData) (q : Record) (told : List Action) → has_no_boot_action told ≡ true → BootStands p d q → BootStands p d (tell q told)
+stands-tell p d q [] other stand = stand
+stands-tell p d q (a ∷ told) other stand =
+    let parts = and_parts (not (is_boot_action a)) (has_no_boot_action told) other in
+    stands-tell p d (Told a ∷ q) told parts.1 (stands-told p d q a (not_true (is_boot_action a) parts.0) stand)
+
+-- starts and asks are such a list
+pub quiet-other : (told : List Action) → IsQuiet told → has_no_boot_action told ≡ true
+quiet-other [] quiet = refl
+quiet-other (Start s ∷ told) quiet = quiet-other told quiet
+quiet-other (Bind s i ∷ told) quiet = quiet-other told quiet
+quiet-other (Adopt s i fd ∷ told) quiet = quiet-other told quiet
+quiet-other (_ ∷ told) quiet = absurd quiet
+
+-- services that are given up, and closes, are one
+pub giving_up-other : (told : List Action) → IsGivingUp told → has_no_boot_action told ≡ true
+giving_up-other [] quiet = refl
+giving_up-other (Fail s ∷ told) quiet = giving_up-other told quiet
+giving_up-other (Close fd ∷ told) quiet = giving_up-other told quiet
+giving_up-other (_ ∷ told) quiet = absurd quiet
+
+-- closes are one
+pub closes-other : (fds : List ℕ) → has_no_boot_action (map Close fds) ≡ true
+closes-other [] = refl
+closes-other (fd ∷ fds) = closes-other fds
+
+-- one after another is one
+pub append-other : (xs ys : List Action) → has_no_boot_action xs ≡ true → has_no_boot_action ys ≡ true → has_no_boot_action (xs ++ ys) ≡ true
+append-other [] ys x y = y
+append-other (a ∷ xs) ys x y =
+    let parts = and_parts (not (is_boot_action a)) (has_no_boot_action xs) x in
+    and_from (not (is_boot_action a)) (has_no_boot_action (xs ++ ys)) parts.0 (append-other xs ys parts.1 y)

@@ -1,0 +1,99 @@
+-- What each call makes of the part on bootstrapping, and what it tells.
+use Rattle.std.specs.Prelude.{ℕ, Bool, true, false, ◌-◌, not, ◌&&◌, ◌||◌, List, [], ◌∷◌, nat_lt, if◌then◌else◌}
+use Rattle.svc_record.specs.declared.plan.Plan.{Plan}
+use Rattle.svc_record.specs.declared.action.Action.{Action}
+use Rattle.svc_record.specs.declared.action.Action.TheVariants.{Phase, OpenReceiver, TryReceive}
+use Rattle.svc_record.specs.declared.action.ExecutionPhase.TheVariants.{Bootstrap, BootstrapComplete}
+use Rattle.svc_record.specs.declared.action.StepEnd.{StepEnd}
+use Rattle.svc_record.specs.declared.action.StepEnd.TheVariants.{On, Tested, Ended}
+use Rattle.svc_record.specs.declared.action.BootstrapError.TheVariants.{Transfer, NoSender, BadMessage}
+use Rattle.svc_boot.specs.declared.receiving.Receiving.{Receiving}
+use Rattle.svc_boot.specs.declared.receiving.Receiving.TheVariants.{Unasked, Trying, Missed, Came, Refused}
+use Rattle.svc_boot.specs.BootData.{BootData}
+use Rattle.svc_boot.specs.BootState.{is_refused, has_come}
+
+-- nothing has happened, and so many missing senders are borne
+abbrev pub unbegun : ℕ → BootData
+unbegun limit = record { begun = false; complete = false; receiving = Unasked; patience = limit }
+
+-- what follows the phase `Bootstrap`, by whether the run tests and whether it takes over
+abbrev pub begin_more : Bool → Bool → ℕ → List Action
+begin_more true upgrade moment = []
+begin_more false true moment = OpenReceiver ∷ TryReceive ∷ []
+begin_more false false moment = Phase BootstrapComplete moment ∷ []
+
+-- bootstrapping begins: with `test` that is all, else the older server's message is received, or all is complete
+abbrev pub begun_with : Bool → Bool → BootData → BootData
+begun_with true upgrade d = record { begun = true; complete = d.complete; receiving = d.receiving; patience = d.patience }
+begun_with false true d = record { begun = true; complete = d.complete; receiving = Trying; patience = d.patience }
+begun_with false false d = record { begun = true; complete = true; receiving = d.receiving; patience = d.patience }
+
+-- the part after a beginning: only the first changes it
+abbrev pub begun_from : Bool → Bool → BootData → BootData
+begun_from test upgrade d = if d.begun then d else begun_with test upgrade d
+
+-- the same in a run by the plan
+abbrev pub begun_by : Plan → BootData → BootData
+begun_by p d = begun_from p.test p.upgrade d
+
+-- what a beginning tells at this moment: only the first tells something
+abbrev pub told_from : Bool → Bool → BootData → ℕ → List Action
+told_from test upgrade d moment = if d.begun then [] else Phase Bootstrap moment ∷ begin_more test upgrade moment
+
+-- the same in a run by the plan
+abbrev pub begin_told : Plan → BootData → ℕ → List Action
+begin_told p d moment = told_from p.test p.upgrade d moment
+
+-- nobody sent yet at this moment: too often, or it is tried again
+abbrev pub missed : ℕ → BootData → BootData
+missed moment d = record {
+  begun = d.begun;
+  complete = d.complete;
+  receiving = if nat_lt d.patience 1 then Refused NoSender else Missed moment;
+  patience = d.patience - 1;
+}
+
+-- receiving failed
+abbrev pub failed : BootData → BootData
+failed d = record { begun = d.begun; complete = d.complete; receiving = Refused Transfer; patience = d.patience }
+
+-- a message came that can be read, or one that can't
+abbrev pub received : Bool → BootData → BootData
+received good d = record { begun = d.begun; complete = d.complete; receiving = if good then Came else Refused BadMessage; patience = d.patience }
+
+-- a message has come, and it wasn't told yet that bootstrapping is complete
+abbrev pub is_complete_due : BootData → Bool
+is_complete_due d = has_come d.receiving && not d.complete
+
+-- the part after that is told
+abbrev pub completed_if : Bool → BootData → BootData
+completed_if due d = record { begun = d.begun; complete = d.complete || due; receiving = d.receiving; patience = d.patience }
+
+-- what is told then
+abbrev pub complete_told : Bool → ℕ → List Action
+complete_told due moment = if due then Phase BootstrapComplete moment ∷ [] else []
+
+-- it is tried again
+abbrev pub tried_if : Bool → BootData → BootData
+tried_if due d = record { begun = d.begun; complete = d.complete; receiving = if due then Trying else d.receiving; patience = d.patience }
+
+-- what is told then
+abbrev pub try_told : Bool → List Action
+try_told due = if due then TryReceive ∷ [] else []
+
+-- how the receiving ends the run
+abbrev pub refusal_of : Receiving → StepEnd
+refusal_of (Refused reason) = Ended reason
+refusal_of _ = On
+
+-- how bootstrapping ends the run, by whether that tests
+abbrev pub end_from : Bool → BootData → StepEnd
+end_from test d = if test && d.begun then Tested else refusal_of d.receiving
+
+-- the same in a run by the plan
+abbrev pub end_of : Plan → BootData → StepEnd
+end_of p d = end_from p.test d
+
+-- bootstrapping ends the run
+abbrev pub is_over : Plan → BootData → Bool
+is_over p d = (p.test && d.begun) || is_refused d.receiving

@@ -1,0 +1,6 @@
+pub mod BootData
+pub mod BootState
+pub mod BootEffects
+pub mod BootFacts
+pub mod BootstrapData
+pub mod Lending

@@ -1,0 +1,1 @@
+pub mod bootstrap_services;
