@@ -1,103 +1,174 @@
--- The first step makes a right record.
-use Rattle.std.proofs.Common.{ℕ, true, false, List, [], ◌∷◌, ◌++◌, ◌≡◌, refl, ap, sym, ◌∙◌, subst, arith, append_assoc, length, if◌then◌else◌}
-use Rattle.std.proofs.lemmas.Bool.{eq-eqb}
+-- The first step.
+use Rattle.std.proofs.Common.{ℕ, Bool, true, false, ◌||◌, ◌&&◌, not, inl, inr, List, [], ◌∷◌, ◌++◌, ◌≡◌, refl, ap, sym, ◌∙◌, subst, ◌<◌, if◌then◌else◌, append-nil, append_assoc, arith}
+use Rattle.std.specs.Bool.{OnTrue, OnFalse}
+use Rattle.std.specs.List.{list_any}
+use Rattle.std.proofs.lemmas.Bool.{eq-eqb, cases_Bool}
+use Rattle.svc_graph.specs.declared.plan.Kind.TheVariants.{Bootstrap as BootstrapKind}
 use Rattle.svc_record.specs.declared.plan.Plan.{Plan}
 use Rattle.svc_record.specs.declared.entry.Entry.TheVariants.{Told}
 use Rattle.svc_record.specs.declared.action.Action.{Action}
 use Rattle.svc_record.specs.declared.action.Action.TheVariants.{Phase}
-use Rattle.svc_record.specs.declared.action.ExecutionPhase.TheVariants.{Running}
-use Rattle.svc_record.specs.declared.action.StepEnd.TheVariants.{On, Served}
-use Rattle.svc_record.specs.Record.{Record, has, now, tell, is_signal, is_running, is_bootstrap, is_bootstrap_complete}
-use Rattle.svc_record.specs.AskRules.{FailsRight}
-use Rattle.svc_record.specs.Boot.{BootRight}
-use Rattle.svc_record.specs.Drain.{phase, is_ending, has_passed}
-use Rattle.svc_record.specs.Right.{SettledRight}
-use Rattle.svc_record.specs.Told.{IsQuiet}
+use Rattle.svc_record.specs.declared.action.ExecutionPhase.TheVariants.{Bootstrap}
+use Rattle.svc_record.specs.declared.action.StepEnd.{StepEnd}
+use Rattle.svc_record.specs.Plans.{services, has_kind}
+use Rattle.svc_record.specs.Record.{Record, now, tell, last_step}
+use Rattle.svc_record.specs.Boot.{has_begun}
+use Rattle.svc_record.specs.Ends.{ends_tested, has_ended_early, TestedRight}
+use Rattle.svc_record.specs.Right.{is_quiet, EndedRight}
+use Rattle.svc_record.specs.Told.{Tells}
 use Rattle.svc_record.proofs.Closing.{tell-append}
-use Rattle.svc_endpoints.specs.EndpointsData.{EndpointsData}
-use Rattle.svc_core.specs.StartsData.{StartsData}
-use Rattle.svc_core.specs.CoreData.{CoreData, IsFormed}
-use Rattle.svc_core.specs.Passes.{EntriesRight, PassedUpTo, Passes}
-use Rattle.svc_core.specs.Stands.{HasNotBegun, StepRight, BeginKeeps}
-use Rattle.svc_endpoints.proofs.EventLemmas.{stands-told}
-use Rattle.svc_core.proofs.RecordLemmas.{now-tell, passed-signal, has-tell, has-quiet, times-quiet, marks-quiet, EachEarlier-tell}
-use Rattle.svc_core.proofs.PassLemmas.{are-failed}
-use Rattle.svc_core.proofs.OpenLemmas.{open-right, right-open}
+use Rattle.svc_boot.specs.BootData.{BootData}
+use Rattle.svc_boot.specs.BootState.{BootStands, is_refused, is_through, has_come, is_tried}
+use Rattle.svc_boot.specs.declared.receiving.Receiving.{Receiving}
+use Rattle.svc_boot.specs.declared.receiving.Receiving.TheVariants.{Unasked, Trying, Missed, Came, Refused}
+use Rattle.svc_boot.specs.BootEffects.{end_of, begin_told, begun_by}
+use Rattle.svc_boot.proofs.BootEnds.{tested-is, early-is}
+use Rattle.svc_core.specs.CoreData.{CoreData, is_on}
+use Rattle.svc_core.specs.Passes.{EntriesRight, IsBootRipe, is_tested}
+use Rattle.svc_core.specs.Stands.{HasNotBegun, Struck, EndedSo, StepRight, BeginKeeps, Follows}
+use Rattle.svc_core.proofs.RecordLemmas.{to_false, not_true, not_false}
+use Rattle.svc_core.proofs.GoingLemmas.{Loose, loose-tell, going-from, are_loose, begun-tell}
+use Rattle.svc_core.proofs.PassLemmas.{begin-loose, begin-ends, begun-now, ripe-begun, tested-told}
+use Rattle.svc_core.proofs.FinishLemmas.{with_boot, on-by}
 
--- the entries with `Running` more
-entries-running : (p : Plan) (q : Record) (ms : ℕ) → ms ≡ now q → EntriesRight p q → EntriesRight p (Told (Phase Running ms) ∷ q)
-entries-running p q ms at h = record {
-  fits = (refl, h.fits);
-  starts = (refl, h.starts);
-  moments = (eq-eqb ms (now q) at, h.moments);
-  known_starts = (refl, h.known_starts);
+-- nothing stands in an empty record
+loose-empty : (core : CoreData) → HasNotBegun core → Loose core.plan core.starts core.drain []
+loose-empty core first = record {
+  drain = first.drain;
+  starts = first.starts;
+  forms = tt;
+  entries = record { fits = tt; starts = tt; after_boot = tt; moments = tt; known_starts = tt };
+  started_due = λ s lt here. absurd (cc);
+  marks = rw first.idle refl;
+  no_end = refl;
+  silent = refl;
+  earlier = tt;
+  fails = tt;
 }
 
--- the pass is done, and `Running` is told
-done-running : (p : Plan) (order : List ℕ) (moment k : ℕ) (st : StartsData) (d : EndpointsData) (q : Record) (ms : ℕ) → ms ≡ now q → PassedUpTo p order moment k st d q → PassedUpTo p order moment k st d (Told (Phase Running ms) ∷ q)
-done-running p order moment k st d q ms at h = record {
-  moment_is = h.moment_is;
-  starts = record { started_is = h.starts.started_is; ready_is = h.starts.ready_is; ended_is = h.starts.ended_is };
-  ends = stands-told p d q (Phase Running ms) tt h.ends;
-  entries = entries-running p q ms at h.entries;
-  started_due = h.started_due;
-  due_started = h.due_started;
-  right = h.right;
-}
+none-started : (p : Plan) (xs : List ℕ) → list_any (λ s. has_kind p BootstrapKind s && false) xs ≡ false
+none-started p [] = refl
+none-started p (x ∷ xs) = rw (none-started p xs) (and_none (has_kind p BootstrapKind x))
+  where
+    and_none : (b : Bool) → ((b && false) || false) ≡ false
+    and_none b = grind arith
 
-begin-right : (core : CoreData) → IsFormed core.plan core.order core.starts core.endpoints → HasNotBegun core
-    → (st : StartsData) (d : EndpointsData) (told : List Action) → IsQuiet told → PassedUpTo core.plan core.order core.drain.moment (length core.order) st d (tell [] told)
-    → StepRight (record { plan = core.plan; order = core.order; starts = st; endpoints = d; drain = record { running = true; over = core.drain.over; moment = core.drain.moment } }) (Told (Phase Running core.drain.moment) ∷ tell [] told) On
-begin-right core formed first st d told quiet done =
-    let still : has is_signal (Told (Phase Running core.drain.moment) ∷ tell [] told) ≡ false = has-tell is_signal (λ a. refl) [] told in
-    let boot : BootRight core.plan (Told (Phase Running core.drain.moment) ∷ tell [] told) = record {
-      entries = rw (
-        has-quiet is_bootstrap (λ s. refl) (λ s i. refl) (λ s i fd. refl) [] told quiet,
-        has-quiet is_bootstrap_complete (λ s. refl) (λ s i. refl) (λ s i fd. refl) [] told quiet,
-        times-quiet is_running (λ s. refl) (λ s i. refl) (λ s i fd. refl) [] told quiet,
-      ) refl;
-    } in
-    let at : core.drain.moment ≡ now (tell [] told) = first.drain.moment_is ∙ sym (now-tell [] told) in
-    let whole = done-running core.plan core.order core.drain.moment (length core.order) st d (tell [] told) core.drain.moment at done in
-    let opened = open-right core.plan core.order formed.in_order core.drain.moment st d (Told (Phase Running core.drain.moment) ∷ tell [] told) whole boot
-    (ap (λ xs. phase Running ∷ xs) (marks-quiet [] told quiet)) refl still (has-quiet is_ending (λ s. refl) (λ s i. refl) (λ s i fd. refl) [] told quiet) in
-    let passed : has_passed core.plan (Told (Phase Running core.drain.moment) ∷ tell [] told) ≡ false = passed-signal core.plan (Told (Phase Running core.drain.moment) ∷ tell [] told) ∙ still in
-    let on : core.drain.over ≡ false = first.drain.over_is in
+through-none : (begun t u h : Bool) → begun ≡ false → ((begun && not t) && (not u || h)) ≡ false
+through-none begun t u h e = grind arith
+
+untried : (begun t u : Bool) → begun ≡ false → ((begun && not t) && u) ≡ false
+untried begun t u e = grind arith
+
+untried-goes : (x : Receiving) → is_tried x ≡ false → is_refused x ≡ false
+untried-goes Unasked h = refl
+untried-goes Trying h = refl
+untried-goes (Missed at) h = refl
+untried-goes Came h = refl
+untried-goes (Refused reason) h = absurd (cc)
+
+unbegun-complete : (core : CoreData) → HasNotBegun core → core.boot.complete ≡ false
+unbegun-complete core first = sym first.boot.begin.complete_is
+
+-- bootstrapping doesn't come first
+pub strike-plain : (core : CoreData) → HasNotBegun core → core.plan.eager ≡ false → Struck core []
+strike-plain core first late = record {
+  going = going-from core.plan core.starts core.endpoints core.boot core.drain [] (loose-empty core first) first.ends first.boot
+      (rw late (none-started core.plan (services core.plan)) ∙ sym first.unbegun) (λ r. absurd (let idle = first.idle in cc));
+  quiet = λ e. refl;
+  alone = λ e. unbegun-complete core first ∙ sym (through-none core.boot.begun core.plan.test core.plan.upgrade (has_come core.boot.receiving) first.unbegun);
+  ended = to_false (is_on (end_of core.plan core.boot)) (EndedSo core.plan []) (record {
+    ended = record {
+      early = not_true (has_ended_early core.plan []) _ (early-is core.plan core.boot [] first.boot ∙ unrefused);
+      tested = not_true (ends_tested core.plan []) _ (tested-is core.plan core.boot [] first.boot ∙ untested core.plan.test core.boot.begun first.unbegun);
+    };
+    tested = not_true (ends_tested core.plan []) (TestedRight core.plan []) (tested-is core.plan core.boot [] first.boot ∙ untested core.plan.test core.boot.begun first.unbegun);
+  });
+}
+  where
+    untested : (t begun : Bool) → begun ≡ false → (t && begun) ≡ false
+    untested t begun e = grind arith
+
+    unrefused : is_refused core.boot.receiving ≡ false
+    unrefused = untried-goes core.boot.receiving (first.boot.kept.tried_is ∙ untried core.boot.begun core.plan.test core.plan.upgrade first.unbegun)
+
+-- it does
+pub strike-eager : (core : CoreData) → HasNotBegun core → core.plan.eager ≡ true → core.plan.daemon ≡ false
+    → BootStands core.plan (begun_by core.plan core.boot) (tell [] (begin_told core.plan core.boot core.drain.moment))
+    → Struck (with_boot (begun_by core.plan core.boot) core) (tell [] (begin_told core.plan core.boot core.drain.moment))
+strike-eager core first eager none stands =
+    let loose : are_loose 0 (begin_told core.plan core.boot core.drain.moment) ≡ true =
+    subst (λ m. are_loose m (begin_told core.plan core.boot core.drain.moment) ≡ true) first.drain.moment_is (begin-loose core.plan core.boot core.drain.moment) in
+    let old : core.boot.complete ≡ is_through core.plan core.boot =
+    unbegun-complete core first ∙ sym (through-none core.boot.begun core.plan.test core.plan.upgrade (has_come core.boot.receiving) first.unbegun) in
+    let ripe = ripe-begun core.plan core.boot first.unbegun (record { goes_on = untried-goes core.boot.receiving (first.boot.kept.tried_is ∙ untried core.boot.begun core.plan.test core.plan.upgrade first.unbegun); complete_is = old }) in
     record {
-      stands = record {
-        drain = record { running_is = refl; over_is = on ∙ sym passed; moment_is = at };
-        starts = whole.starts;
-        endpoints = λ h. whole.ends;
-        failed = are-failed core.plan d (Told (Phase Running core.drain.moment) ∷ tell [] told) whole.ends;
-        came = whole.ends.came_are;
-        closed = λ h. absurd (cc);
-      };
-      right = right-open core.plan d (Told (Phase Running core.drain.moment) ∷ tell [] told) still whole.entries whole.ends opened
-          (EachEarlier-tell (SettledRight core.plan) [] told tt) (EachEarlier-tell (FailsRight core.plan) [] told tt);
-      answer = ap (λ b. if b then Served else On) (sym passed);
+      going = going-from core.plan core.starts core.endpoints (begun_by core.plan core.boot) core.drain (tell [] (begin_told core.plan core.boot core.drain.moment))
+          (loose-tell core.plan core.starts core.drain [] (begin_told core.plan core.boot core.drain.moment) loose (loose-empty core first))
+          (begin-ends core.plan core.endpoints core.boot core.drain.moment [] first.ends) stands
+          (begun-tell core.plan [] 0 (begin_told core.plan core.boot core.drain.moment) loose ∙ rw (eager, none) refl ∙ sym (begun-now core.plan core.boot first.unbegun))
+          (λ r. absurd (let idle = first.idle in cc));
+      quiet = λ e. absurd (let begun = begun-now core.plan core.boot first.unbegun in cc);
+      alone = λ e. ripe.complete_is;
+      ended = by core.plan.test refl ripe;
     }
+  where
+    by : (t : Bool) → core.plan.test ≡ t → IsBootRipe core.plan (begun_by core.plan core.boot)
+        → OnFalse (is_on (end_of core.plan (begun_by core.plan core.boot))) (EndedSo core.plan (tell [] (begin_told core.plan core.boot core.drain.moment)))
+    by true e ripe = to_false (is_on (end_of core.plan (begun_by core.plan core.boot))) (EndedSo core.plan (tell [] (begin_told core.plan core.boot core.drain.moment)))
+        (subst (EndedSo core.plan) (sym (ap (tell []) (tested-told core.plan core.boot core.drain.moment first.unbegun e))) (record {
+          ended = record {
+            early = not_true (has_ended_early core.plan (Told (Phase Bootstrap core.drain.moment) ∷ [])) _ refl_early;
+            tested = always (ends_tested core.plan (Told (Phase Bootstrap core.drain.moment) ∷ [])) _ (rw first.drain.moment_is refl, λ fd there. absurd (cc));
+          };
+          tested = always (ends_tested core.plan (Told (Phase Bootstrap core.drain.moment) ∷ [])) (TestedRight core.plan (Told (Phase Bootstrap core.drain.moment) ∷ [])) (record {
+            forked = rw none refl;
+            begun = rw (eager, none) refl;
+            in_turn = (refl, tt);
+            starts = not_false core.plan.eager _ eager;
+            endpoints = not_false core.plan.eager _ eager;
+          });
+        }))
+      where
+        refl_early : has_ended_early core.plan (Told (Phase Bootstrap core.drain.moment) ∷ []) ≡ false
+        refl_early = early-is core.plan (begun_by core.plan core.boot) (Told (Phase Bootstrap core.drain.moment) ∷ [])
+            (subst (BootStands core.plan (begun_by core.plan core.boot)) (ap (tell []) (tested-told core.plan core.boot core.drain.moment first.unbegun e)) stands) ∙ ripe.goes_on
 
--- the pass over an empty record, then `Running`
-pub begin-keeps : (core : CoreData) → IsFormed core.plan core.order core.starts core.endpoints → HasNotBegun core
-    → (st : StartsData) (d : EndpointsData) (before mid after : List Action)
-    → Passes core.plan core.order core.drain.moment 0 (length core.order) core.starts st core.endpoints d before mid
-    → after ≡ mid ++ Phase Running core.drain.moment ∷ []
-    → BeginKeeps (record { plan = core.plan; order = core.order; starts = st; endpoints = d; drain = record { running = true; over = core.drain.over; moment = core.drain.moment } }) before after On
-begin-keeps core formed first st d before mid after pass last = record {
-  told = pass.told ++ Phase Running core.drain.moment ∷ [];
-  appended = last ∙ ap (λ w. w ++ Phase Running core.drain.moment ∷ []) pass.appended ∙ append_assoc before pass.told (Phase Running core.drain.moment ∷ []);
-  kept = (
-      let on : core.drain.over ≡ false = first.drain.over_is in
-      let empty : PassedUpTo core.plan core.order core.drain.moment 0 core.starts core.endpoints [] = record {
-        moment_is = first.drain.moment_is;
-        starts = first.starts;
-        ends = first.endpoints on;
-        entries = record { fits = tt; starts = tt; moments = tt; known_starts = tt };
-        started_due = λ s inside h. absurd (cc);
-        due_started = λ j lt. absurd (omega arith);
-        right = λ j lt. absurd (omega arith);
-      } in
-      subst (λ r. StepRight (record { plan = core.plan; order = core.order; starts = st; endpoints = d; drain = record { running = true; over = core.drain.over; moment = core.drain.moment } }) r On)
-      (sym (tell-append [] pass.told (Phase Running core.drain.moment ∷ [])))
-      (begin-right core formed first st d pass.told pass.kept.0 (pass.kept.1 [] empty)));
+        always : (c : Bool) (A : Type 0) → A → OnTrue c A
+        always true A a = a
+        always false A a = tt
+    by false e ripe = live (is_on (end_of core.plan (begun_by core.plan core.boot))) (EndedSo core.plan (tell [] (begin_told core.plan core.boot core.drain.moment)))
+        (on-by core.plan (begun_by core.plan core.boot) (untested core.plan.test (begun_by core.plan core.boot).begun e) ripe.goes_on)
+      where
+        live : (c : Bool) (A : Type 0) → c ≡ true → OnFalse c A
+        live true A h = tt
+        live false A h = absurd (cc)
+
+        untested : (t begun : Bool) → t ≡ false → (t && begun) ≡ false
+        untested t begun h = grind arith
+
+-- the first step
+pub begin-plain : (core new : CoreData) (before after : List Action) (end : StepEnd) → HasNotBegun core → core.plan.eager ≡ false → Follows core new before after end → BeginKeeps new before after end
+begin-plain core new before after end first late follows = record {
+  told = follows.told;
+  appended = follows.appended;
+  kept = follows.kept [] (strike-plain core first late);
 }
+
+pub begin-eager : (core new : CoreData) (before mid after : List Action) (end : StepEnd) → HasNotBegun core → core.plan.eager ≡ true → core.plan.daemon ≡ false
+    → mid ≡ before ++ begin_told core.plan core.boot core.drain.moment
+    → ((q : Record) → BootStands core.plan core.boot q → BootStands core.plan (begun_by core.plan core.boot) (tell q (begin_told core.plan core.boot core.drain.moment)))
+    → Follows (with_boot (begun_by core.plan core.boot) core) new mid after end → BeginKeeps new before after end
+begin-eager core new before mid after end first eager none told stands follows = record {
+  told = begin_told core.plan core.boot core.drain.moment ++ follows.told;
+  appended = follows.appended ∙ ap (λ w. w ++ follows.told) told ∙ append_assoc before (begin_told core.plan core.boot core.drain.moment) follows.told;
+  kept = subst (λ r. StepRight new r end) (sym (tell-append [] (begin_told core.plan core.boot core.drain.moment) follows.told))
+      (follows.kept (tell [] (begin_told core.plan core.boot core.drain.moment)) (strike-eager core first eager none (stands [] first.boot)));
+}
+
+-- the same with what the call gave
+pub begin-eager-at : (core new : CoreData) (b : BootData) (before mid after : List Action) (end : StepEnd) → HasNotBegun core → core.plan.eager ≡ true → core.plan.daemon ≡ false
+    → b ≡ begun_by core.plan core.boot → mid ≡ before ++ begin_told core.plan core.boot core.drain.moment
+    → ((q : Record) → BootStands core.plan core.boot q → BootStands core.plan b (tell q (begin_told core.plan core.boot core.drain.moment)))
+    → Follows (with_boot b core) new mid after end → BeginKeeps new before after end
+begin-eager-at core new b before mid after end first eager none boots told stands follows =
+    begin-eager core new before mid after end first eager none told (rw boots at stands) (rw boots at follows)

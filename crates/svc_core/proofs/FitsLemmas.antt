@@ -1,24 +1,34 @@
 -- The core's own test of an event is the record's.
-use Rattle.std.proofs.Common.{ℕ, zero, suc, Bool, true, false, ◌&&◌, ◌==◌, not, ◌⊎◌, inl, inr, List, [], ◌∷◌, ◌≡◌, refl, sym, ◌∙◌, subst, arith, ◌<◌, length, slice_get, None, nat_lt}
-use Rattle.std.proofs.lemmas.Bool.{and_parts, eqb-true, cases_Bool, false_from_ne_true}
+use Rattle.std.proofs.Common.{ℕ, zero, suc, Bool, true, false, ◌&&◌, ◌==◌, not, ◌⊎◌, inl, inr, List, [], ◌∷◌, ◌≡◌, refl, sym, ◌∙◌, subst, arith, ◌<◌, ◌≤◌, length, slice_get, None, nat_lt, nat_le, ap, ◌||◌, if◌then◌else◌}
+use Rattle.std.proofs.lemmas.Bool.{leb-true, and_parts, and_from, or_left, eqb-true, cases_Bool, false_from_ne_true}
 use Rattle.std.proofs.lemmas.Bool.Decides.{Decides-ltb}
 use Rattle.svc_graph.specs.declared.plan.EndpointPlan.{EndpointPlan}
+use Rattle.svc_graph.specs.declared.plan.Kind.TheVariants.{Plain, Notifying}
 use Rattle.svc_record.specs.declared.plan.Plan.{Plan}
 use Rattle.svc_record.specs.declared.plan.ServicePlan.{ServicePlan}
 use Rattle.svc_record.specs.declared.entry.Entry.{Entry}
 use Rattle.svc_record.specs.declared.entry.Entry.TheVariants.{Got, Told}
 use Rattle.svc_record.specs.declared.action.Action.TheVariants.{Bind, Adopt}
-use Rattle.svc_record.specs.declared.event.Event.TheVariants.{Bound, InUse, BindFailed, Adopted, AdoptFailed}
-use Rattle.svc_record.specs.Plans.{service_count, service, endpoints, is_endpoint}
-use Rattle.svc_record.specs.Record.{Record, has, EachEntry}
+use Rattle.svc_record.specs.declared.event.Event.{Event}
+use Rattle.svc_record.specs.declared.event.Event.TheVariants.{Moment, Ready, Ended, Bound, InUse, BindFailed, Adopted, AdoptFailed, Received, NoSenderYet, ReceiveFailed, Signal}
+use Rattle.svc_record.specs.declared.event.ShutdownSignal.{ShutdownSignal}
+use Rattle.svc_record.specs.declared.event.ShutdownSignal.TheVariants.{FastShutdown, GracefulTerminate, GracefulUpgrade}
+use Rattle.svc_record.specs.Plans.{service_count, service, endpoints, is_endpoint, has_kind}
+use Rattle.svc_record.specs.Record.{Record, has, now, from_the_start, EachEntry}
 use Rattle.svc_record.specs.AskRules.{ask_known}
-use Rattle.svc_record.specs.Asks.{is_open, is_bind, is_bind_answer, is_bind_open, is_adopt, is_adopt_answer, is_adopt_open}
+use Rattle.svc_record.specs.Asks.{is_open, is_bind, is_bind_answer, is_bind_open, is_adopt, is_adopt_answer, is_adopt_open, is_try_open}
 use Rattle.svc_record.specs.Descriptors.{brings}
-use Rattle.svc_record.specs.Ends.{has_ended}
-use Rattle.svc_record.specs.Fits.{Fits, is_new}
-use Rattle.svc_core.specs.CoreData.{CoreData}
-use Rattle.svc_core.specs.Stands.{StandsFor, BindMayBeAnswered, BoundMayCome, AdoptMayBeAnswered}
-use Rattle.svc_core.proofs.StepLemmas.{fits-bound, fits-in-use, fits-bind-failed, fits-adopted, fits-adopt-failed, fresh}
+use Rattle.svc_record.specs.declared.action.StepEnd.{StepEnd}
+use Rattle.svc_record.specs.declared.action.StepEnd.TheVariants.{On, Served, Tested, Parent, Ended as EndedBy}
+use Rattle.svc_record.specs.declared.action.BootstrapError.TheVariants.{Transfer, NoSender, BadMessage}
+use Rattle.svc_record.specs.Drain.{has_passed}
+use Rattle.svc_record.specs.Ends.{has_ended, step_end, ends_tested, ends_parent_well, ends_parent_badly, ends_transfer, ends_no_sender, ends_bad_message}
+use Rattle.svc_record.specs.Fits.{Fits, fits, fits_row, is_new, are_new, may_end}
+use Rattle.svc_record.specs.Starts.{is_started, is_ready_event, is_ended_event}
+use Rattle.svc_boot.specs.BootState.{is_trying}
+use Rattle.svc_core.specs.CoreData.{CoreData, is_on}
+use Rattle.svc_core.specs.Stands.{StandsFor, RowMayCome, ReadyMayCome, EndedMayCome, BindMayBeAnswered, BoundMayCome, AdoptMayBeAnswered, ReceivedMayCome}
+use Rattle.svc_core.proofs.StepLemmas.{fits-moment, fits-ready, fits-ended, fits-bound, fits-bind, fits-adopt, fits-try, fits-received, fresh, new-is, ends-of, going-on, running-is}
 
 get-cases : (xs : List ServicePlan) (s : ℕ) → (slice_get xs s ≡ None) ⊎ (s < length xs)
 get-cases [] s = inl refl
@@ -33,12 +43,22 @@ no-service p s i e =
 
 endpoint-inside : (p : Plan) (s i : ℕ) → is_endpoint p s i ≡ true → s < service_count p
 endpoint-inside p s i h = elim (get-cases p.services s) [
-  | inl none ↦ (let no = no-service p s i none in absurd (cc))
+  | inl none ↦ (let none_here = no-service p s i none in absurd (cc))
   | inr lt ↦ lt
 ]
 
 not_and : (a b : Bool) → (a && not b) ≡ true → b ≡ false
 not_and a b h = grind arith
+
+not_not : (b : Bool) → not b ≡ true → b ≡ false
+not_not b h = grind arith
+
+-- what has a kind is a service
+kind-inside : (p : Plan) (s : ℕ) → (has_kind p Notifying s || has_kind p Plain s) ≡ true → s < service_count p
+kind-inside p s h = elim (get-cases p.services s) [
+  | inl none ↦ absurd (let neither : (has_kind p Notifying s || has_kind p Plain s) ≡ false = rw none refl in cc)
+  | inr lt ↦ lt
+]
 
 -- what was asked for is an endpoint of the plan
 same_endpoint : (p : Plan) (s i t j : ℕ) → (t == s && j == i) ≡ true → is_endpoint p t j ≡ true → is_endpoint p s i ≡ true
@@ -63,46 +83,161 @@ open-known p ask answer s i f [] k h = absurd (cc)
 open-known p ask answer s i f (e ∷ q) k h = elim (cases_Bool (ask e)) [
   | inl here ↦ f e q here k.0
   | inr other ↦ elim (cases_Bool (answer e)) [
-    | inl closed ↦ absurd (let no : false ≡ true = rw (other, closed) at h in cc)
+    | inl closed ↦ absurd (let never : false ≡ true = rw (other, closed) at h in cc)
     | inr on ↦ open-known p ask answer s i f q k.1 (rw (other, on) at h)
   ]
 ]
 
--- the core's test of binds and of adoptions
-module _ (core : CoreData) (q : Record) (s i : ℕ) (on : core.drain.over ≡ false) (stands : StandsFor core q) where
-  bind-means : is_bind_open q s i ≡ true → BindMayBeAnswered core s i
-  bind-means asked =
-      let known = open-known core.plan (is_bind s i) (is_bind_answer s i) s i (bind-here core.plan s i) q (stands.endpoints on).asks_known asked in
-      let inside = endpoint-inside core.plan s i known in
-      let within = (Decides-ltb i (length (endpoints core.plan s))).0 known in
-      record { inside = inside; within = within; asked = ((stands.endpoints on).states.each s i inside within).binding_is ∙ asked }
+-- the core's test of binds, of adoptions and of messages
+module _ (core : CoreData) (q : Record) (on : is_on core.end ≡ true) (stands : StandsFor core q) where
+  module _ (s i : ℕ) where
+    bind-means : is_bind_open q s i ≡ true → BindMayBeAnswered core s i
+    bind-means asked =
+        let known = open-known core.plan (is_bind s i) (is_bind_answer s i) s i (bind-here core.plan s i) q (ends-of core q on stands).asks_known asked in
+        let inside = endpoint-inside core.plan s i known in
+        let within = (Decides-ltb i (length (endpoints core.plan s))).0 known in
+        record { inside = inside; within = within; asked = ((ends-of core q on stands).states.each s i inside within).binding_is ∙ asked }
 
-  adopt-means : is_adopt_open q s i ≡ true → AdoptMayBeAnswered core s i
-  adopt-means asked =
-      let known = open-known core.plan (is_adopt s i) (is_adopt_answer s i) s i (adopt-here core.plan s i) q (stands.endpoints on).asks_known asked in
-      let inside = endpoint-inside core.plan s i known in
-      let within = (Decides-ltb i (length (endpoints core.plan s))).0 known in
-      record { inside = inside; within = within; asked = ((stands.endpoints on).states.each s i inside within).adopting_is ∙ asked }
+    adopt-means : is_adopt_open q s i ≡ true → AdoptMayBeAnswered core s i
+    adopt-means asked =
+        let known = open-known core.plan (is_adopt s i) (is_adopt_answer s i) s i (adopt-here core.plan s i) q (ends-of core q on stands).asks_known asked in
+        let inside = endpoint-inside core.plan s i known in
+        let within = (Decides-ltb i (length (endpoints core.plan s))).0 known in
+        record { inside = inside; within = within; asked = ((ends-of core q on stands).states.each s i inside within).adopting_is ∙ asked }
 
-  pub bound-fits : (fd : ℕ) → (BoundMayCome core s i fd → Fits core.plan q (Bound s i fd)) × (Fits core.plan q (Bound s i fd) → BoundMayCome core s i fd)
-  bound-fits fd = (
-    λ may. fits-bound core q s i fd on may stands,
+    pub bound-fits : (fd : ℕ) → (BoundMayCome core s i fd → Fits core.plan q (Bound s i fd)) × (Fits core.plan q (Bound s i fd) → BoundMayCome core s i fd)
+    bound-fits fd = (
+      λ may. fits-bound core q s i fd on may stands,
+      λ fit. (
+          let row = (and_parts (not (has_ended core.plan q)) (is_bind_open q s i && is_new q fd) fit).1 in
+          record {
+            asked = bind-means (and_parts (is_bind_open q s i) (is_new q fd) row).0;
+            fresh = sym (fresh core q fd stands) ∙ not_and (is_bind_open q s i) (has (brings fd) q) row;
+          }),
+    )
+
+    -- an answer to a bind, and to an adoption
+    pub bind-fits : (BindMayBeAnswered core s i → (not (has_ended core.plan q) && is_bind_open q s i) ≡ true) × ((not (has_ended core.plan q) && is_bind_open q s i) ≡ true → BindMayBeAnswered core s i)
+    bind-fits = ((λ may. fits-bind core q s i on may stands), (λ fit. bind-means (and_parts (not (has_ended core.plan q)) (is_bind_open q s i) fit).1))
+
+    pub adopt-fits : (AdoptMayBeAnswered core s i → (not (has_ended core.plan q) && is_adopt_open q s i) ≡ true) × ((not (has_ended core.plan q) && is_adopt_open q s i) ≡ true → AdoptMayBeAnswered core s i)
+    adopt-fits = ((λ may. fits-adopt core q s i on may stands), (λ fit. adopt-means (and_parts (not (has_ended core.plan q)) (is_adopt_open q s i) fit).1))
+
+  -- an answer to a try
+  pub try-fits : (is_trying core.boot.receiving ≡ true → (not (has_ended core.plan q) && is_try_open q) ≡ true) × ((not (has_ended core.plan q) && is_try_open q) ≡ true → is_trying core.boot.receiving ≡ true)
+  try-fits = ((λ may. fits-try core q on may stands), (λ fit. sym stands.boot.receiving.trying_is ∙ (and_parts (not (has_ended core.plan q)) (is_try_open q) fit).1))
+
+  pub received-fits : (bytes fds : List ℕ) → (ReceivedMayCome core fds → Fits core.plan q (Received bytes fds)) × (Fits core.plan q (Received bytes fds) → ReceivedMayCome core fds)
+  received-fits bytes fds = (
+    λ may. fits-received core q bytes fds on may stands,
     λ fit. (
-        let row = (and_parts (not (has_ended core.plan q)) (is_bind_open q s i && is_new q fd) fit).1 in
+        let row = (and_parts (not (has_ended core.plan q)) (fits_row core.plan q (Received bytes fds)) fit).1 in
+        let both = and_parts (is_try_open q && nat_le (length fds) 32) (are_new q fds) row in
+        let first = and_parts (is_try_open q) (nat_le (length fds) 32) both.0 in
         record {
-          asked = bind-means (and_parts (is_bind_open q s i) (is_new q fd) row).0;
-          fresh = sym (fresh core q fd stands) ∙ not_and (is_bind_open q s i) (has (brings fd) q) row;
+          trying = sym stands.boot.receiving.trying_is ∙ first.0;
+          few = leb-true (length fds) 32 first.1;
+          fresh = sym (new-is core q fds stands) ∙ both.1;
         }),
   )
 
-  pub in-use-fits : (BindMayBeAnswered core s i → Fits core.plan q (InUse s i)) × (Fits core.plan q (InUse s i) → BindMayBeAnswered core s i)
-  in-use-fits = ((λ may. fits-in-use core q s i on may stands), (λ fit. bind-means (and_parts (not (has_ended core.plan q)) (is_bind_open q s i) fit).1))
+  pub moment-fits : (ms : ℕ) → (core.drain.moment ≤ ms → Fits core.plan q (Moment ms)) × (Fits core.plan q (Moment ms) → core.drain.moment ≤ ms)
+  moment-fits ms = (
+    λ may. fits-moment core q ms on may stands,
+    λ fit. subst (λ m. m ≤ ms) (sym stands.drain.moment_is) (leb-true (now q) ms (and_parts (not (has_ended core.plan q)) (nat_le (now q) ms) fit).1),
+  )
 
-  pub bind-failed-fits : (BindMayBeAnswered core s i → Fits core.plan q (BindFailed s i)) × (Fits core.plan q (BindFailed s i) → BindMayBeAnswered core s i)
-  bind-failed-fits = ((λ may. fits-bind-failed core q s i on may stands), (λ fit. bind-means (and_parts (not (has_ended core.plan q)) (is_bind_open q s i) fit).1))
+  pub signal-fits : (core.drain.running ≡ true → Fits core.plan q (Signal FastShutdown)) × (Fits core.plan q (Signal FastShutdown) → core.drain.running ≡ true)
+  signal-fits = (
+    λ may. and_from (not (has_ended core.plan q)) (from_the_start q) (going-on core q stands on) (running-is core q stands on ∙ may),
+    λ fit. sym (running-is core q stands on) ∙ (and_parts (not (has_ended core.plan q)) (from_the_start q) fit).1,
+  )
 
-  pub adopted-fits : (AdoptMayBeAnswered core s i → Fits core.plan q (Adopted s i)) × (Fits core.plan q (Adopted s i) → AdoptMayBeAnswered core s i)
-  adopted-fits = ((λ may. fits-adopted core q s i on may stands), (λ fit. adopt-means (and_parts (not (has_ended core.plan q)) (is_adopt_open q s i) fit).1))
+  pub kind-fits : (kind : ShutdownSignal) → (RowMayCome core (Signal kind) → Fits core.plan q (Signal kind)) × (Fits core.plan q (Signal kind) → RowMayCome core (Signal kind))
+  kind-fits FastShutdown = signal-fits
+  kind-fits GracefulTerminate = ((λ may. absurd may), (λ fit. never (has_ended core.plan q) fit))
+    where
+      never : (b : Bool) → (not b && false) ≡ true → ⊥
+      never b x = grind arith
+  kind-fits GracefulUpgrade = ((λ may. absurd may), (λ fit. never (has_ended core.plan q) fit))
+    where
+      never : (b : Bool) → (not b && false) ≡ true → ⊥
+      never b x = grind arith
 
-  pub adopt-failed-fits : (AdoptMayBeAnswered core s i → Fits core.plan q (AdoptFailed s i)) × (Fits core.plan q (AdoptFailed s i) → AdoptMayBeAnswered core s i)
-  adopt-failed-fits = ((λ may. fits-adopt-failed core q s i on may stands), (λ fit. adopt-means (and_parts (not (has_ended core.plan q)) (is_adopt_open q s i) fit).1))
+  pub ready-fits : (s : ℕ) → (ReadyMayCome core s → Fits core.plan q (Ready s)) × (Fits core.plan q (Ready s) → ReadyMayCome core s)
+  ready-fits s = (
+    λ may. fits-ready core q s on may stands,
+    λ fit. (
+        let row = (and_parts (not (has_ended core.plan q)) (fits_row core.plan q (Ready s)) fit).1 in
+        let both = and_parts (has_kind core.plan Notifying s && is_started q s) (not (has (is_ready_event s) q)) row in
+        let first = and_parts (has_kind core.plan Notifying s) (is_started q s) both.0 in
+        let inside = kind-inside core.plan s (or_left (has_kind core.plan Notifying s) (has_kind core.plan Plain s) first.0) in
+        record {
+          inside = inside;
+          notifies = first.0;
+          started = stands.starts.started_is s inside ∙ first.1;
+          first = stands.starts.ready_is s inside ∙ not_not (has (is_ready_event s) q) both.1;
+        }),
+  )
+
+  pub ended-fits : (s : ℕ) → (EndedMayCome core s → Fits core.plan q (Ended s)) × (Fits core.plan q (Ended s) → EndedMayCome core s)
+  ended-fits s = (
+    λ may. fits-ended core q s on may stands,
+    λ fit. (
+        let row = (and_parts (not (has_ended core.plan q)) (fits_row core.plan q (Ended s)) fit).1 in
+        let both = and_parts (may_end core.plan s && is_started q s) (not (has (is_ended_event s) q)) row in
+        let first = and_parts (may_end core.plan s) (is_started q s) both.0 in
+        let inside = kind-inside core.plan s (either (has_kind core.plan Plain s) (has_kind core.plan Notifying s) (length (endpoints core.plan s) == 0) first.0) in
+        record {
+          inside = inside;
+          ends = first.0;
+          started = stands.starts.started_is s inside ∙ first.1;
+          first = stands.starts.ended_is s inside ∙ not_not (has (is_ended_event s) q) both.1;
+        }),
+  )
+    where
+      either : (a b c : Bool) → ((a || b) && c) ≡ true → (b || a) ≡ true
+      either a b c h = grind arith
+
+-- an event of a form that isn't built
+pub default-row : (core : CoreData) (e : Event) → ((ms : ℕ) → e ≡ Moment ms → ⊥) → ((s : ℕ) → e ≡ Ready s → ⊥) → ((s : ℕ) → e ≡ Ended s → ⊥) → ((s i fd : ℕ) → e ≡ Bound s i fd → ⊥) → ((s i : ℕ) → e ≡ InUse s i → ⊥)
+    → ((s i : ℕ) → e ≡ BindFailed s i → ⊥) → ((s i : ℕ) → e ≡ Adopted s i → ⊥) → ((s i : ℕ) → e ≡ AdoptFailed s i → ⊥) → ((bytes fds : List ℕ) → e ≡ Received bytes fds → ⊥) → (e ≡ NoSenderYet → ⊥) → (e ≡ ReceiveFailed → ⊥)
+    → ((kind : ShutdownSignal) → e ≡ Signal kind → ⊥) → (RowMayCome core e → ⊥) × ((p : Plan) (q : Record) → fits p q e ≡ true → ⊥)
+default-row core (Moment ms) a b c d f g h i j k l m = absurd (a ms refl)
+default-row core (Ready s) a b c d f g h i j k l m = absurd (b s refl)
+default-row core (Ended s) a b c d f g h i j k l m = absurd (c s refl)
+default-row core (Bound s n fd) a b c d f g h i j k l m = absurd (d s n fd refl)
+default-row core (InUse s n) a b c d f g h i j k l m = absurd (f s n refl)
+default-row core (BindFailed s n) a b c d f g h i j k l m = absurd (g s n refl)
+default-row core (Adopted s n) a b c d f g h i j k l m = absurd (h s n refl)
+default-row core (AdoptFailed s n) a b c d f g h i j k l m = absurd (i s n refl)
+default-row core (Received bytes fds) a b c d f g h i j k l m = absurd (j bytes fds refl)
+default-row core NoSenderYet a b c d f g h i j k l m = absurd (k refl)
+default-row core ReceiveFailed a b c d f g h i j k l m = absurd (l refl)
+default-row core (Signal kind) a b c d f g h i j k l m = absurd (m kind refl)
+default-row core _ a b c d f g h i j k l m = (λ x. x, λ p q x. never (has_ended p q) x)
+  where
+    never : (b : Bool) → (not b && false) ≡ true → ⊥
+    never b x = grind arith
+
+-- nothing fits once the run has ended
+pub ended-none : (core : CoreData) (q : Record) (e : Event) → is_on core.end ≡ false → StandsFor core q → fits core.plan q e ≡ true → ⊥
+ended-none core q e off stands fit = ended (has_ended core.plan q) (step_end core.plan q) (sym (ap is_on stands.end_is) ∙ off) (goes_on core.plan q) (and_parts (not (has_ended core.plan q)) (fits_row core.plan q e) fit).0
+  where
+    goes_on : (p : Plan) (r : Record) → has_ended p r ≡ false → is_on (step_end p r) ≡ true
+    goes_on p r h = by (has_passed p r) (ends_tested p r) (ends_parent_well p r) (ends_parent_badly p r) (ends_transfer r) (ends_no_sender p r) (ends_bad_message r) h
+      where
+        by : (a b c d f g i : Bool) → ((a || b) || (((c || d) || f) || (g || i))) ≡ false
+            → is_on (if a then Served else (if b then Tested else (if c then Parent 0 else (if d then Parent 1 else (if f then EndedBy Transfer else (if g then EndedBy NoSender else (if i then EndedBy BadMessage else On))))))) ≡ true
+        by false false false false false false false k = refl
+        by true b c d f g i k = absurd (cc)
+        by false true c d f g i k = absurd (cc)
+        by false false true d f g i k = absurd (cc)
+        by false false false true f g i k = absurd (cc)
+        by false false false false true g i k = absurd (cc)
+        by false false false false false true i k = absurd (cc)
+        by false false false false false false true k = absurd (cc)
+
+    ended : (h : Bool) (end : StepEnd) → is_on end ≡ false → (h ≡ false → is_on end ≡ true) → not h ≡ true → ⊥
+    ended true end k f n = cc
+    ended false end k f n = let holds = f refl in cc

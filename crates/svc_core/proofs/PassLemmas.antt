@@ -1,37 +1,43 @@
 -- One visit of the pass.
-use Rattle.std.proofs.Common.{ℕ, Bool, true, false, ◌&&◌, ◌==◌, not, ◌⊎◌, inl, inr, List, [], ◌∷◌, ◌++◌, ◌≡◌, ◌≢◌, refl, ap, sym, ◌∙◌, subst, append_assoc, arith, ◌<◌, ◌+◌, length, slice_index}
-use Rattle.std.proofs.lemmas.Bool.{eqb-true, and_parts, or_cases, or_left, or_right, eq-eqb, ne_eqb, cases_eq}
+use Rattle.std.proofs.Common.{ℕ, Bool, true, false, ◌&&◌, ◌||◌, ◌==◌, not, ◌⊎◌, inl, inr, List, [], ◌∷◌, ◌++◌, ◌≡◌, ◌≢◌, refl, ap, sym, ◌∙◌, subst, append_assoc, append-nil, arith, ◌<◌, ◌+◌, length, slice_index, MatchBool, if◌then◌else◌}
+use Rattle.std.specs.Bool.{OnTrue}
+use Rattle.std.specs.List.{list_all, list_any}
+use Rattle.std.proofs.lemmas.Bool.{eqb-true, and_parts, and_from, or_cases, or_left, or_right, or_parts, eq-eqb, ne_eqb, cases_eq, cases_Bool}
 use Rattle.std.proofs.lemmas.Bool.Decides.{Decides-ltb}
+use Rattle.svc_graph.specs.declared.plan.Kind.TheVariants.{Bootstrap as BootstrapKind, Plain}
 use Rattle.svc_record.specs.declared.plan.Plan.{Plan}
 use Rattle.svc_record.specs.declared.entry.Entry.TheVariants.{Told}
 use Rattle.svc_record.specs.declared.action.Action.{Action}
-use Rattle.svc_record.specs.declared.action.Action.TheVariants.{Start, Bind, Adopt}
-use Rattle.svc_record.specs.Plans.{service_count, endpoints}
-use Rattle.svc_record.specs.Record.{Record, now, tell}
-use Rattle.svc_record.specs.Starts.{is_started, is_due, start_due}
+use Rattle.svc_record.specs.declared.action.Action.TheVariants.{Start, Bind, Adopt, Phase, OpenReceiver, TryReceive}
+use Rattle.svc_record.specs.declared.action.ExecutionPhase.TheVariants.{Bootstrap, BootstrapComplete}
+use Rattle.svc_record.specs.Plans.{service_count, endpoints, depends, has_kind}
+use Rattle.svc_record.specs.Record.{Record, now, tell, has, last_step, is_bootstrap_complete}
+use Rattle.svc_record.specs.Starts.{is_started, is_ready, is_due, start_due, is_ready_event, is_ended_event}
+use Rattle.svc_record.specs.Failed.{has_failed}
 use Rattle.svc_record.specs.Endpoints.{endpoint_right}
-use Rattle.svc_record.specs.Told.{Tells, IsQuiet}
-use Rattle.svc_record.specs.Validity.{IsValid, IsInOrder}
+use Rattle.svc_record.specs.Boot.{has_begun}
+use Rattle.svc_record.specs.Right.{is_quiet, is_test_step}
+use Rattle.svc_record.specs.Told.{Tells}
+use Rattle.svc_record.specs.Validity.{IsValid, IsBuilt, IsInOrder, depends_on}
 use Rattle.svc_record.proofs.Closing.{tell-append}
+use Rattle.svc_graph.proofs.Lists.{All-listed}
 use Rattle.svc_endpoints.specs.EndpointsData.{EndpointsData}
 use Rattle.svc_endpoints.specs.EndpointsState.{EndpointsStand}
 use Rattle.svc_endpoints.specs.Visits.{IsAskOf, Visited}
+use Rattle.svc_endpoints.proofs.EventLemmas.{stands-told, stands-start as ends-start}
+use Rattle.svc_endpoints.proofs.SharedLemmas.{right-bind, right-adopt, right-start}
+use Rattle.svc_boot.specs.BootData.{BootData}
+use Rattle.svc_boot.specs.BootState.{BootStands, has_come}
+use Rattle.svc_boot.specs.BootEffects.{begin_more, begin_told, begun_by, begun_with}
+use Rattle.svc_boot.specs.BootFacts.{has_no_boot_action}
+use Rattle.svc_boot.proofs.Foreign as foreign
 use Rattle.svc_core.specs.StartsData.{StartsData}
 use Rattle.svc_core.specs.StartsState.{IsStartsSized, StartsStand, AreFailed, is_flagged, starts_now, start_if, start_told}
-use Rattle.svc_core.specs.Passes.{EntriesRight, PassedUpTo, Passes}
-use Rattle.svc_endpoints.proofs.EventLemmas.{stands-told}
-use Rattle.svc_endpoints.proofs.SharedLemmas.{right-bind, right-adopt, right-start}
-use Rattle.svc_core.proofs.RecordLemmas.{IsQuiet-append, now-tell}
+use Rattle.svc_core.specs.DrainData.{DrainData}
+use Rattle.svc_core.specs.Passes.{Going, IsBootRipe, VisitedUpTo, TestedAt, PassedUpTo, Passes, Half, Starting, may_start, is_tested, is_boot_service}
+use Rattle.svc_core.proofs.RecordLemmas.{now-tell, to_true, not_true}
 use Rattle.svc_core.proofs.StartsLemmas.{is_due-grows, is_due-start, is_due-tell, starts-is, stands-start}
-
--- the entries with a start more
-entries-start : (p : Plan) (q : Record) (s : ℕ) → start_due p (Told (Start s)) q ≡ true → s < service_count p → EntriesRight p q → EntriesRight p (Told (Start s) ∷ q)
-entries-start p q s due inside h = record {
-  fits = (refl, h.fits);
-  starts = (due, h.starts);
-  moments = (refl, h.moments);
-  known_starts = ((Decides-ltb s (service_count p)).1 inside, h.known_starts);
-}
+use Rattle.svc_core.proofs.GoingLemmas.{Loose, loose-of, loose-tell, going-from, is_loose, are_loose, begun-other, begun-start-grows, begun-boots, begun-tell, no-boot-service}
 
 below_suc : (j k : ℕ) → j < k + 1 → (j < k) ⊎ (j ≡ k)
 below_suc j k h = elim (cases_eq j k) [ inl e ↦ inr e | inr ne ↦ inl (omega arith) ]
@@ -42,86 +48,95 @@ not_started_due here due h e = grind arith
 pub are-failed : (p : Plan) (d : EndpointsData) (q : Record) → EndpointsStand p d q → AreFailed p d.failed q
 are-failed p d q h s inside = h.states.failed_is s inside
 
--- between the two halves of a visit of s, the service at place k: it is started where it is due
-record Half (p : Plan) (order : List ℕ) (moment k : ℕ) (st : StartsData) (d : EndpointsData) (q : Record) : Type 0 where
-  moment_is : moment ≡ now q
-  starts : StartsStand p st q
-  ends : EndpointsStand p d q
-  entries : EntriesRight p q
-  started_due : (s : ℕ) → s < service_count p → is_started q s ≡ true → is_due p q s ≡ true
-  due_started : (j : ℕ) → j < k + 1 → is_due p q (slice_index order j) ≡ true → is_started q (slice_index order j) ≡ true
-  right : (j : ℕ) → j < k → slice_index order j ≢ slice_index order k → (i : ℕ) → i < length (endpoints p (slice_index order j)) → endpoint_right p q (slice_index order j) i ≡ true
+-- a pass that wasn't ended went to its place
+pub visited-of : (p : Plan) (order : List ℕ) (k : ℕ) (b : BootData) (q : Record) → is_tested p b ≡ false → MatchBool (is_tested p b) ((j : ℕ) × TestedAt p order j q) (VisitedUpTo p order k q) → VisitedUpTo p order k q
+visited-of p order k b q e h = pick (is_tested p b) ((j : ℕ) × TestedAt p order j q) (VisitedUpTo p order k q) e h
+  where
+    pick : (c : Bool) (A B : Type 0) → c ≡ false → MatchBool c A B → B
+    pick true A B e h = absurd (cc)
+    pick false A B e h = h
 
-module _ (p : Plan) (valid : IsValid p) (order : List ℕ) (moment k : ℕ) (place : k < length order) (in_order : IsInOrder p order)
-    (st : StartsData) (d : EndpointsData) (q : Record) (sized : IsStartsSized p st) (was : PassedUpTo p order moment k st d q) where
-  starts-same : starts_now p st d.failed (slice_index order k) ≡ (not (is_started q (slice_index order k)) && is_due p q (slice_index order k))
-  starts-same = starts-is p st d.failed q (slice_index order k) valid (in_order.inside k place) was.starts (are-failed p d q was.ends)
+as-visited : (c : Bool) (A B : Type 0) → c ≡ false → B → MatchBool c A B
+as-visited true A B e h = absurd (cc)
+as-visited false A B e h = h
 
-  start-half : starts_now p st d.failed (slice_index order k) ≡ true → Half p order moment k (start_if true (slice_index order k) st) d (Told (Start (slice_index order k)) ∷ q)
-  start-half e =
-      let inside = in_order.inside k place in
-      let due : start_due p (Told (Start (slice_index order k))) q ≡ true = sym starts-same ∙ e in
-      let both = and_parts (not (is_started q (slice_index order k))) (is_due p q (slice_index order k)) due in
-      record {
-        moment_is = was.moment_is;
-        starts = stands-start p st q (slice_index order k) sized inside was.starts;
-        ends = stands-told p d q (Start (slice_index order k)) tt was.ends;
-        entries = entries-start p q (slice_index order k) due inside was.entries;
-        started_due = λ t lt here.
-            elim (or_cases (slice_index order k == t) (is_started q t) here) [
-              | inl e ↦ subst (λ u. is_due p (Told (Start (slice_index order k)) ∷ q) u ≡ true) (eqb-true (slice_index order k) t e) (is_due-grows p q (Told (Start (slice_index order k))) (slice_index order k) both.1)
-              | inr old ↦ is_due-grows p q (Told (Start (slice_index order k))) t (was.started_due t lt old)
-            ];
-        due_started = λ j lt due.
-            elim (below_suc j k lt) [
-              | inl below ↦ or_right (slice_index order k == slice_index order j) (is_started q (slice_index order j))
-                  (was.due_started j below (sym (is_due-start p q (slice_index order k) (slice_index order j) (in_order.after j k (omega arith) place)) ∙ due))
-              | inr e ↦ or_left (slice_index order k == slice_index order j) (is_started q (slice_index order j)) (eq-eqb (slice_index order k) (slice_index order j) (ap (slice_index order) (sym e)))
-            ];
-        right = λ j lt ne i within. right-start p q (slice_index order k) (slice_index order j) i
-            (ne_eqb (slice_index order k) (slice_index order j) (λ e. ne (sym e))) (was.right j lt i within);
-      }
+as-tested : (c : Bool) (A B : Type 0) → c ≡ true → A → MatchBool c A B
+as-tested true A B e h = h
+as-tested false A B e h = absurd (cc)
 
-  wait-half : starts_now p st d.failed (slice_index order k) ≡ false → Half p order moment k st d q
-  wait-half e =
-      let due : false ≡ (not (is_started q (slice_index order k)) && is_due p q (slice_index order k)) = sym e ∙ starts-same in
-      record {
-        moment_is = was.moment_is;
-        starts = was.starts;
-        ends = was.ends;
-        entries = was.entries;
-        started_due = was.started_due;
-        due_started = λ j lt due_now.
-            elim (below_suc j k lt) [
-              | inl below ↦ was.due_started j below due_now
-              | inr same ↦ subst (λ i. is_started q (slice_index order i) ≡ true) (sym same)
-                  (not_started_due (is_started q (slice_index order k)) (is_due p q (slice_index order k)) due (subst (λ i. is_due p q (slice_index order i) ≡ true) same due_now))
-            ];
-        right = λ j lt ne. was.right j lt;
-      }
+-- what begins to bootstrap leaves what holds of the endpoints, and of services that aren't concerned
+pub begin-loose : (p : Plan) (b : BootData) (m : ℕ) → are_loose m (begin_told p b m) ≡ true
+begin-loose p b m = elim (cases_Bool b.begun) [
+  | inl begun ↦ rw begun refl
+  | inr not_begun ↦ rw not_begun (rw (eq-eqb m m refl) (more p.test p.upgrade))
+]
+  where
+    more : (test upgrade : Bool) → are_loose m (begin_more test upgrade m) ≡ true
+    more true upgrade = refl
+    more false true = refl
+    more false false = rw (eq-eqb m m refl) refl
 
-  start-halves : (b : Bool) → b ≡ starts_now p st d.failed (slice_index order k) → Half p order moment k (start_if b (slice_index order k) st) d (tell q (start_told b (slice_index order k)))
-  start-halves true e = start-half (sym e)
-  start-halves false e = wait-half (sym e)
+-- telling it, by what is told
+begin-keeps : (P : Record → Type 0) → ((q : Record) (m : ℕ) → P q → P (Told (Phase Bootstrap m) ∷ q)) → ((q : Record) (m : ℕ) → P q → P (Told (Phase BootstrapComplete m) ∷ q))
+    → ((q : Record) → P q → P (Told OpenReceiver ∷ q)) → ((q : Record) → P q → P (Told TryReceive ∷ q)) → (p : Plan) (b : BootData) (m : ℕ) (q : Record) → P q → P (tell q (begin_told p b m))
+begin-keeps P f g h k p b m q was = elim (cases_Bool b.begun) [
+  | inl begun ↦ rw begun was
+  | inr not_begun ↦ rw not_begun (more p.test p.upgrade (f q m was))
+]
+  where
+    more : (test upgrade : Bool) → P (Told (Phase Bootstrap m) ∷ q) → P (tell (Told (Phase Bootstrap m) ∷ q) (begin_more test upgrade m))
+    more true upgrade x = x
+    more false true x = k (Told OpenReceiver ∷ (Told (Phase Bootstrap m) ∷ q)) (h (Told (Phase Bootstrap m) ∷ q) x)
+    more false false x = g (Told (Phase Bootstrap m) ∷ q) m x
 
--- asks leave the other parts as they are
-pub ask-quiet : (s : ℕ) (told : List Action) → IsAskOf s told → IsQuiet told
-ask-quiet s [] h = tt
-ask-quiet s (Bind t i ∷ []) h = tt
-ask-quiet s (Adopt t i fd ∷ []) h = tt
-ask-quiet s (_ ∷ _) h = absurd h
+pub begin-ends : (p : Plan) (d : EndpointsData) (b : BootData) (m : ℕ) (q : Record) → EndpointsStand p d q → EndpointsStand p d (tell q (begin_told p b m))
+begin-ends p d b m q h =
+    begin-keeps (EndpointsStand p d) (λ r n. stands-told p d r (Phase Bootstrap n) refl) (λ r n. stands-told p d r (Phase BootstrapComplete n) refl)
+    (λ r. stands-told p d r OpenReceiver refl) (λ r. stands-told p d r TryReceive refl) p b m q h
 
-ask-starts : (p : Plan) (st : StartsData) (q : Record) (s : ℕ) (told : List Action) → IsAskOf s told → StartsStand p st q → StartsStand p st (tell q told)
-ask-starts p st q s [] a h = h
-ask-starts p st q s (Bind t i ∷ []) a h = record { started_is = h.started_is; ready_is = h.ready_is; ended_is = h.ended_is }
-ask-starts p st q s (Adopt t i fd ∷ []) a h = record { started_is = h.started_is; ready_is = h.ready_is; ended_is = h.ended_is }
-ask-starts p st q s (_ ∷ _) a h = absurd a
+begin-right : (p : Plan) (b : BootData) (m : ℕ) (q : Record) (s i : ℕ) → endpoint_right p q s i ≡ true → endpoint_right p (tell q (begin_told p b m)) s i ≡ true
+begin-right p b m q s i h =
+    begin-keeps (λ r. endpoint_right p r s i ≡ true) (λ r n k. k) (λ r n k. k) (λ r k. k) (λ r k. k) p b m q h
 
-ask-entries : (p : Plan) (q : Record) (s : ℕ) (told : List Action) → IsAskOf s told → EntriesRight p q → EntriesRight p (tell q told)
-ask-entries p q s [] a h = h
-ask-entries p q s (Bind t i ∷ []) a h = record { fits = (refl, h.fits); starts = (refl, h.starts); moments = (refl, h.moments); known_starts = (refl, h.known_starts) }
-ask-entries p q s (Adopt t i fd ∷ []) a h = record { fits = (refl, h.fits); starts = (refl, h.starts); moments = (refl, h.moments); known_starts = (refl, h.known_starts) }
-ask-entries p q s (_ ∷ _) a h = absurd a
+begin-started : (p : Plan) (b : BootData) (m : ℕ) (q : Record) (s : ℕ) → is_started (tell q (begin_told p b m)) s ≡ is_started q s
+begin-started p b m q s = begin-keeps (λ r. is_started r s ≡ is_started q s) (λ r n k. k) (λ r n k. k) (λ r k. k) (λ r k. k) p b m q refl
+
+-- whether a service is ready but for bootstrapping
+abbrev ready_apart : Plan → Record → ℕ → Bool
+ready_apart p q s = ((has (is_ready_event s) q || has (is_ended_event s) q) || has_failed p q s) || (is_started q s && has_kind p Plain s)
+
+begin-apart : (p : Plan) (b : BootData) (m : ℕ) (q : Record) (s : ℕ) → ready_apart p (tell q (begin_told p b m)) s ≡ ready_apart p q s
+begin-apart p b m q s = begin-keeps (λ r. ready_apart p r s ≡ ready_apart p q s) (λ r n k. k) (λ r n k. k) (λ r k. k) (λ r k. k) p b m q refl
+
+ready_split : (e f on plain boots complete : Bool) → (boots && on) ≡ false → ((e || f) || (on && (plain || (boots && complete)))) ≡ ((e || f) || (on && plain))
+ready_split e f on plain boots complete h = grind arith
+
+ready-apart : (p : Plan) (q : Record) (s : ℕ) → is_boot_service p q s ≡ false → is_ready p q s ≡ ready_apart p q s
+ready-apart p q s h = ready_split (has (is_ready_event s) q || has (is_ended_event s) q) (has_failed p q s) (is_started q s) (has_kind p Plain s) (has_kind p BootstrapKind s) (has is_bootstrap_complete q) h
+
+all-ready : (p : Plan) (q r : Record) (xs : List ℕ) → ((x : ℕ) → list_any (λ y. y == x) xs ≡ true → is_ready p r x ≡ is_ready p q x) → list_all (is_ready p r) xs ≡ list_all (is_ready p q) xs
+all-ready p q r [] f = refl
+all-ready p q r (x ∷ xs) f =
+    rw (f x (or_left (x == x) (list_any (λ y. y == x) xs) (eq-eqb x x refl)), all-ready p q r xs (λ y h. f y (or_right (x == y) (list_any (λ z. z == y) xs) h))) refl
+
+-- an ask is told that starts nothing
+ask-loose : (s m : ℕ) (told : List Action) → IsAskOf s told → are_loose m told ≡ true
+ask-loose s m [] h = refl
+ask-loose s m (Bind t i ∷ []) h = refl
+ask-loose s m (Adopt t i fd ∷ []) h = refl
+ask-loose s m (_ ∷ _) h = absurd h
+
+ask-others : (told : List Action) (s : ℕ) → IsAskOf s told → has_no_boot_action told ≡ true
+ask-others [] s h = refl
+ask-others (Bind t i ∷ []) s h = refl
+ask-others (Adopt t i fd ∷ []) s h = refl
+ask-others (_ ∷ _) s h = absurd h
+
+ask-calm : (q : Record) (told : List Action) (s : ℕ) → IsAskOf s told → is_quiet (last_step q) ≡ true → is_quiet (last_step (tell q told)) ≡ true
+ask-calm q [] s a h = h
+ask-calm q (Bind t i ∷ []) s a h = h
+ask-calm q (Adopt t i fd ∷ []) s a h = h
+ask-calm q (_ ∷ _) s a h = absurd a
 
 ask-started : (q : Record) (s t : ℕ) (told : List Action) → IsAskOf s told → is_started (tell q told) t ≡ is_started q t
 ask-started q s t [] a = refl
@@ -141,62 +156,360 @@ ask-right p q s t i (Bind u k ∷ []) a h = right-bind p q u k t i h
 ask-right p q s t i (Adopt u k fd ∷ []) a h = right-adopt p q u k fd t i h
 ask-right p q s t i (_ ∷ _) a h = absurd a
 
-ask-whole : (p : Plan) (order : List ℕ) (moment k : ℕ) (st : StartsData) (d d' : EndpointsData) (q : Record) (told : List Action)
-    → IsAskOf (slice_index order k) told → Visited p d' (slice_index order k) q told → Half p order moment k st d q → PassedUpTo p order moment (k + 1) st d' (tell q told)
-ask-whole p order moment k st d d' q told ask visited half = record {
-  moment_is = half.moment_is ∙ sym (now-tell q told);
-  starts = ask-starts p st q (slice_index order k) told ask half.starts;
-  ends = visited.stands;
-  entries = ask-entries p q (slice_index order k) told ask half.entries;
-  started_due = λ s inside here. is_due-tell p q told s (half.started_due s inside (sym (ask-started q (slice_index order k) s told ask) ∙ here));
-  due_started = λ j lt due. ask-started q (slice_index order k) (slice_index order j) told ask ∙ half.due_started j lt (sym (ask-due p q (slice_index order k) (slice_index order j) told ask) ∙ due);
-  right = λ j lt.
-      elim (cases_eq (slice_index order j) (slice_index order k)) [
-        | inl same ↦ subst (λ u. (i : ℕ) → i < length (endpoints p u) → endpoint_right p (tell q told) u i ≡ true) (sym same) visited.right
-        | inr ne ↦ (λ i within. ask-right p q (slice_index order k) (slice_index order j) i told ask
-            (half.right j (elim (below_suc j k lt) [ inl less ↦ less | inr e ↦ absurd (ne (ap (slice_index order) e)) ]) ne i within))
-      ];
+-- the beginning, by the flags
+pub begun-now : (p : Plan) (b : BootData) → b.begun ≡ false → (begun_by p b).begun ≡ true
+begun-now p b e = rw e (by p.test p.upgrade (record { begun = false; complete = b.complete; receiving = b.receiving; patience = b.patience }))
+  where
+    by : (test upgrade : Bool) (x : BootData) → (begun_with test upgrade x).begun ≡ true
+    by true upgrade x = refl
+    by false true x = refl
+    by false false x = refl
+
+or_grown : (e c x : Bool) → (c ≡ true → x ≡ true) → (not e || c) ≡ true → (not e || x) ≡ true
+or_grown e c x f h = grind (arith, f)
+
+may-grows : (p : Plan) (b : BootData) → may_start p b ≡ true → may_start p (begun_by p b) ≡ true
+may-grows p b h = or_grown p.eager b.complete (begun_by p b).complete (λ e. (elim (cases_Bool b.begun) [ inl begun ↦ rw begun e | inr not_begun ↦ rw not_begun (by p.test p.upgrade (record { begun = false; complete = b.complete; receiving = b.receiving; patience = b.patience }) e) ])) h
+  where
+    by : (test upgrade : Bool) (x : BootData) → x.complete ≡ true → (begun_with test upgrade x).complete ≡ true
+    by true upgrade x e = e
+    by false true x e = e
+    by false false x e = refl
+
+unripe : (begun t u h c : Bool) → begun ≡ false → c ≡ ((begun && not t) && (not u || h)) → c ≡ false
+unripe begun t u h c e k = grind arith
+
+pub ripe-begun : (p : Plan) (b : BootData) → b.begun ≡ false → IsBootRipe p b → IsBootRipe p (begun_by p b)
+ripe-begun p b e h =
+    let old : b.complete ≡ false = unripe b.begun p.test p.upgrade (has_come b.receiving) b.complete e h.complete_is in
+    elim (cases_Bool p.test) [
+      | inl tests ↦ record { goes_on = rw (e, tests) h.goes_on; complete_is = rw (e, tests) old }
+      | inr live ↦ elim (cases_Bool p.upgrade) [
+        | inl takes ↦ record { goes_on = rw (e, live, takes) refl; complete_is = rw (e, live, takes) old }
+        | inr alone ↦ record { goes_on = rw (e, live, alone) h.goes_on; complete_is = rw (e, live, alone) refl }
+      ]
+    ]
+
+pub tested-told : (p : Plan) (b : BootData) (m : ℕ) → b.begun ≡ false → p.test ≡ true → begin_told p b m ≡ Phase Bootstrap m ∷ []
+tested-told p b m e t = rw (e, t) refl
+
+tested-tests : (p : Plan) (b : BootData) → is_tested p b ≡ true → p.test ≡ true
+tested-tests p b h = (and_parts p.test b.begun h).0
+
+start_not : (here due n : Bool) → n ≡ (not here && due) → n ≡ true → here ≡ false
+start_not here due n e h = grind arith
+
+start_yes : (here due n : Bool) → n ≡ (not here && due) → n ≡ true → due ≡ true
+start_yes here due n e h = grind arith
+
+no_and : (k b : Bool) → (k && not b) ≡ false → k ≡ true → b ≡ true
+no_and k b h e = grind arith
+
+module _ (p : Plan) (valid : IsValid p) (order : List ℕ) (dr : DrainData) (k : ℕ) (place : k < length order) (in_order : IsInOrder p order)
+    (st : StartsData) (d : EndpointsData) (b : BootData) (q : Record) (sized : IsStartsSized p st) (untested : is_tested p b ≡ false) (was : PassedUpTo p order k st d b dr q) where
+  abbrev here : ℕ
+  here = slice_index order k
+
+  inside : here < service_count p
+  inside = in_order.inside k place
+
+  visited : VisitedUpTo p order k q
+  visited = visited-of p order k b q untested was.visited
+
+  starts-same : starts_now p st d.failed b.complete here ≡ (not (is_started q here) && is_due p q here)
+  starts-same = starts-is p st d.failed b.complete q here valid inside was.going.starts (are-failed p d q was.going.ends) (sym was.going.boot.begin.complete_is)
+
+  wait-half : starts_now p st d.failed b.complete here ≡ false → Half p order k st d b dr q
+  wait-half e =
+      let due : false ≡ (not (is_started q here) && is_due p q here) = sym e ∙ starts-same in
+      record {
+        going = was.going;
+        may = was.may;
+        ripe = was.ripe;
+        tested = not_true (is_tested p b) (TestedAt p order k q) untested;
+        due_started = λ j lt due_now.
+            elim (below_suc j k lt) [
+              | inl below ↦ visited.due_started j below due_now
+              | inr same ↦ subst (λ i. is_started q (slice_index order i) ≡ true) (sym same)
+                  (not_started_due (is_started q here) (is_due p q here) due (subst (λ i. is_due p q (slice_index order i) ≡ true) same due_now))
+            ];
+        right = λ j lt ne. visited.right j lt;
+        quiet = was.quiet;
+      }
+
+  -- the service is started
+  module _ (now_due : starts_now p st d.failed b.complete here ≡ true) where
+    fresh : is_started q here ≡ false
+    fresh = start_not (is_started q here) (is_due p q here) (starts_now p st d.failed b.complete here) starts-same now_due
+
+    due : is_due p q here ≡ true
+    due = start_yes (is_started q here) (is_due p q here) (starts_now p st d.failed b.complete here) starts-same now_due
+
+    -- no earlier place has it
+    apart : (j : ℕ) → j < k → (here == slice_index order j) ≡ false
+    apart j lt = ne_eqb here (slice_index order j)
+        (λ e. (let started = visited.due_started j lt (subst (λ s. is_due p q s ≡ true) e due) in let same = subst (λ s. is_started q s ≡ false) e fresh in cc))
+
+    start-loose : Loose p (start_if true here st) dr (Told (Start here) ∷ q)
+    start-loose = record {
+      drain = record { running_is = was.going.drain.running_is; moment_is = was.going.drain.moment_is };
+      starts = stands-start p st q here sized inside was.going.starts;
+      forms = (refl, was.going.forms);
+      entries = record {
+        fits = (refl, was.going.entries.fits);
+        starts = (rw (fresh, due) refl, was.going.entries.starts);
+        after_boot = (ap (λ c. not p.eager || c) was.going.boot.begin.complete_is ∙ was.may, was.going.entries.after_boot);
+        moments = (refl, was.going.entries.moments);
+        known_starts = ((Decides-ltb here (service_count p)).1 inside, was.going.entries.known_starts);
+      };
+      started_due = λ t lt on.
+          elim (or_cases (here == t) (is_started q t) on) [
+            | inl e ↦ subst (λ u. is_due p (Told (Start here) ∷ q) u ≡ true) (eqb-true here t e) (is_due-grows p q (Told (Start here)) here due)
+            | inr old ↦ is_due-grows p q (Told (Start here)) t (was.going.started_due t lt old)
+          ];
+      marks = was.going.marks;
+      no_end = was.going.no_end;
+      silent = was.going.silent;
+      earlier = was.going.earlier;
+      fails = was.going.fails;
+    }
+
+    start-ends : EndpointsStand p d (Told (Start here) ∷ q)
+    start-ends = ends-start p d q here was.going.ends
+
+    -- a start by which nothing begins
+    plain-half : (has_kind p BootstrapKind here && not b.begun) ≡ false → Half p order k (start_if true here st) d b dr (Told (Start here) ∷ q)
+    plain-half none = record {
+      going = going-from p (start_if true here st) d b dr (Told (Start here) ∷ q) start-loose start-ends (foreign.stands-told p b q (Start here) refl was.going.boot)
+          (elim (cases_Bool (has_kind p BootstrapKind here)) [
+            | inl boots ↦ (let begun = no_and (has_kind p BootstrapKind here) b.begun none boots in begun-start-grows p q here (was.going.begun_is ∙ begun) ∙ sym begun)
+            | inr other ↦ begun-other p q here other ∙ was.going.begun_is
+          ])
+          was.going.runs;
+      may = was.may;
+      ripe = was.ripe;
+      tested = not_true (is_tested p b) (TestedAt p order k (Told (Start here) ∷ q)) untested;
+      due_started = λ j lt due_now.
+          elim (below_suc j k lt) [
+            | inl below ↦ or_right (here == slice_index order j) (is_started q (slice_index order j))
+                (visited.due_started j below (sym (is_due-start p q here (slice_index order j) (in_order.after j k (omega arith) place)) ∙ due_now))
+            | inr e ↦ or_left (here == slice_index order j) (is_started q (slice_index order j)) (eq-eqb here (slice_index order j) (ap (slice_index order) (sym e)))
+          ];
+      right = λ j lt ne i within. right-start p q here (slice_index order j) i (apart j lt) (visited.right j lt i within);
+      quiet = was.quiet;
+    }
+
+    -- a start with which bootstrapping begins
+    module _ (boots : has_kind p BootstrapKind here ≡ true) (unbegun : b.begun ≡ false)
+        (stand : BootStands p (begun_by p b) (tell (Told (Start here) ∷ q) (begin_told p b dr.moment))) where
+      abbrev after : Record
+      after = tell (Told (Start here) ∷ q) (begin_told p b dr.moment)
+
+      on-after : (s : ℕ) → is_started after s ≡ ((here == s) || is_started q s)
+      on-after s = begin-started p b dr.moment (Told (Start here) ∷ q) s
+
+      no-service : (s : ℕ) → s < service_count p → (has_kind p BootstrapKind s && is_started q s) ≡ false
+      no-service s lt = no-boot-service p q s (was.going.begun_is ∙ unbegun) lt
+
+      not-here : (s : ℕ) → s < service_count p → (here == s) ≡ false → is_boot_service p after s ≡ false
+      not-here s lt other = ap (λ on. has_kind p BootstrapKind s && on) (on-after s ∙ ap (λ same. same || is_started q s) other) ∙ no-service s lt
+
+      ready-other : (s : ℕ) → s < service_count p → (here == s) ≡ false → is_ready p after s ≡ is_ready p q s
+      ready-other s lt other =
+          ready-apart p after s (not-here s lt other)
+          ∙ begin-apart p b dr.moment (Told (Start here) ∷ q) s
+          ∙ rw other refl
+          ∙ sym (ready-apart p q s (no-service s lt))
+
+      due-other : (t : ℕ) → t < service_count p → depends_on p t here ≡ false → is_due p after t ≡ is_due p q t
+      due-other t lt none =
+          all-ready p q after (depends p t)
+          (λ x there. ready-other x (All-listed (λ s. s < service_count p) (depends p t) x (valid.inside t lt) there)
+          (ne_eqb here x (λ e. (let not_there = subst (λ s. list_any (λ y. y == s) (depends p t) ≡ false) e none in cc))))
+
+      on-earlier : (j : ℕ) → j < k → is_due p after (slice_index order j) ≡ true → is_started after (slice_index order j) ≡ true
+      on-earlier j lt due_now =
+          on-after (slice_index order j)
+          ∙ or_right (here == slice_index order j) (is_started q (slice_index order j))
+          (visited.due_started j lt (sym (due-other (slice_index order j) (in_order.inside j (omega arith)) (in_order.after j k (omega arith) place)) ∙ due_now))
+
+      right-earlier : (j : ℕ) → j < k → (i : ℕ) → i < length (endpoints p (slice_index order j)) → endpoint_right p after (slice_index order j) i ≡ true
+      right-earlier j lt i within = begin-right p b dr.moment (Told (Start here) ∷ q) (slice_index order j) i (right-start p q here (slice_index order j) i (apart j lt) (visited.right j lt i within))
+
+      here-on : is_started after here ≡ true
+      here-on = on-after here ∙ or_left (here == here) (is_started q here) (eq-eqb here here refl)
+
+      tested-at : is_tested p (begun_by p b) ≡ true → TestedAt p order k after
+      tested-at e = record {
+        place = place;
+        boots = and_from (has_kind p BootstrapKind here) (is_started after here) boots here-on;
+        first = λ j lt. not-here (slice_index order j) (in_order.inside j (omega arith)) (apart j lt);
+        visited = record { due_started = on-earlier; right = right-earlier };
+        last = subst (λ told. is_test_step (now (tell (Told (Start here) ∷ q) told)) (last_step (tell (Told (Start here) ∷ q) told)) ≡ true)
+            (sym (tested-told p b dr.moment unbegun (tested-tests p (begun_by p b) e)))
+            (and_from (dr.moment == now q) (is_quiet (last_step q)) (eq-eqb dr.moment (now q) was.going.drain.moment_is) (was.quiet unbegun));
+      }
+
+      boot-half : Half p order k (start_if true here st) d (begun_by p b) dr after
+      boot-half = record {
+        going = going-from p (start_if true here st) d (begun_by p b) dr after
+            (loose-tell p (start_if true here st) dr (Told (Start here) ∷ q) (begin_told p b dr.moment)
+            (subst (λ m. are_loose m (begin_told p b dr.moment) ≡ true) was.going.drain.moment_is (begin-loose p b dr.moment)) start-loose)
+            (begin-ends p d b dr.moment (Told (Start here) ∷ q) start-ends) stand
+            (begun-tell p (Told (Start here) ∷ q) dr.moment (begin_told p b dr.moment) (begin-loose p b dr.moment) ∙ begun-boots p q here inside boots ∙ sym (begun-now p b unbegun))
+            (λ e. may-grows p b was.may);
+        may = may-grows p b was.may;
+        ripe = ripe-begun p b unbegun was.ripe;
+        tested = when (is_tested p (begun_by p b)) (TestedAt p order k after) tested-at;
+        due_started = λ j lt due_now.
+            elim (below_suc j k lt) [
+              | inl below ↦ on-earlier j below due_now
+              | inr e ↦ subst (λ i. is_started after (slice_index order i) ≡ true) (sym e) here-on
+            ];
+        right = λ j lt ne. right-earlier j lt;
+        quiet = λ e. absurd (let begun = begun-now p b unbegun in cc);
+      }
+        where
+          when : (c : Bool) (A : Type 0) → (c ≡ true → A) → OnTrue c A
+          when true A f = f refl
+          when false A f = tt
+
+-- the first half of a visit, by what it told
+pub starting-none : (p : Plan) → IsValid p → (order : List ℕ) (dr : DrainData) (k : ℕ) → k < length order → IsInOrder p order → (st : StartsData) (d : EndpointsData) (b : BootData) (before after : List Action)
+    → IsStartsSized p st → is_tested p b ≡ false → false ≡ starts_now p st d.failed b.complete (slice_index order k) → after ≡ before ++ []
+    → Starting p order dr k st st d b b before after
+starting-none p valid order dr k place in_order st d b before after sized untested e told = record {
+  told = [];
+  appended = told;
+  kept = λ q was. wait-half p valid order dr k place in_order st d b q sized untested was (sym e);
 }
 
-quiet-start : (b : Bool) (s : ℕ) → IsQuiet (start_told b s)
-quiet-start true s = tt
-quiet-start false s = tt
+pub starting-plain : (p : Plan) → IsValid p → (order : List ℕ) (dr : DrainData) (k : ℕ) → k < length order → IsInOrder p order → (st : StartsData) (d : EndpointsData) (b : BootData) (before after : List Action)
+    → IsStartsSized p st → is_tested p b ≡ false → true ≡ starts_now p st d.failed b.complete (slice_index order k) → (has_kind p BootstrapKind (slice_index order k) && not b.begun) ≡ false
+    → after ≡ before ++ Start (slice_index order k) ∷ []
+    → Starting p order dr k st (start_if true (slice_index order k) st) d b b before after
+starting-plain p valid order dr k place in_order st d b before after sized untested e none told = record {
+  told = Start (slice_index order k) ∷ [];
+  appended = told;
+  kept = λ q was. plain-half p valid order dr k place in_order st d b q sized untested was (sym e) none;
+}
 
--- one visit: a start if it is due, then an ask if there is one to make
-pub visit-passes : (p : Plan) → IsValid p → (order : List ℕ) (moment k : ℕ) → k < length order → IsInOrder p order
-    → (st : StartsData) (d d' : EndpointsData) (b : Bool) (before mid after : List Action)
-    → IsStartsSized p st
-    → b ≡ starts_now p st d.failed (slice_index order k)
-    → mid ≡ before ++ start_told b (slice_index order k)
-    → Tells mid after (λ told. IsAskOf (slice_index order k) told × ((q : Record) → moment ≡ now q → is_flagged (start_if b (slice_index order k) st).started (slice_index order k) ≡ is_started q (slice_index order k)
+pub starting-boot : (p : Plan) → IsValid p → (order : List ℕ) (dr : DrainData) (k : ℕ) → k < length order → IsInOrder p order → (st : StartsData) (d : EndpointsData) (b : BootData) (before mid after : List Action)
+    → IsStartsSized p st → is_tested p b ≡ false → true ≡ starts_now p st d.failed b.complete (slice_index order k) → has_kind p BootstrapKind (slice_index order k) ≡ true → b.begun ≡ false
+    → mid ≡ before ++ Start (slice_index order k) ∷ [] → after ≡ mid ++ begin_told p b dr.moment
+    → ((q : Record) → BootStands p b q → BootStands p (begun_by p b) (tell q (begin_told p b dr.moment)))
+    → Starting p order dr k st (start_if true (slice_index order k) st) d b (begun_by p b) before after
+starting-boot p valid order dr k place in_order st d b before mid after sized untested e boots unbegun first next stands = record {
+  told = Start (slice_index order k) ∷ begin_told p b dr.moment;
+  appended = next ∙ ap (λ w. w ++ begin_told p b dr.moment) first ∙ append_assoc before (Start (slice_index order k) ∷ []) (begin_told p b dr.moment);
+  kept = λ q was. boot-half p valid order dr k place in_order st d b q sized untested was (sym e) boots unbegun
+      (stands (Told (Start (slice_index order k)) ∷ q) (foreign.stands-told p b q (Start (slice_index order k)) refl was.going.boot));
+}
+
+-- by whether the service started, where nothing begins
+pub none-begins : (p : Plan) → IsValid p → (order : List ℕ) (dr : DrainData) (k : ℕ) → k < length order → IsInOrder p order → (st st' : StartsData) (d : EndpointsData) (b : BootData) (started : Bool) (before after : List Action)
+    → IsStartsSized p st → is_tested p b ≡ false → started ≡ starts_now p st d.failed b.complete (slice_index order k) → st' ≡ start_if started (slice_index order k) st
+    → (started ≡ true → (has_kind p BootstrapKind (slice_index order k) && not b.begun) ≡ false)
+    → after ≡ before ++ start_told started (slice_index order k)
+    → Starting p order dr k st st' d b b before after
+none-begins p valid order dr k place in_order st st' d b true before after sized untested due same none told =
+    rw same (starting-plain p valid order dr k place in_order st d b before after sized untested due (none refl) told)
+none-begins p valid order dr k place in_order st st' d b false before after sized untested due same none told =
+    rw same (starting-none p valid order dr k place in_order st d b before after sized untested due told)
+
+-- the second half: an ask if there is one to make
+ask-whole : (p : Plan) (order : List ℕ) (k : ℕ) (st : StartsData) (d d' : EndpointsData) (b : BootData) (dr : DrainData) (q : Record) (told : List Action) → is_tested p b ≡ false
+    → IsAskOf (slice_index order k) told → Visited p d' (slice_index order k) q told → Half p order k st d b dr q → PassedUpTo p order (k + 1) st d' b dr (tell q told)
+ask-whole p order k st d d' b dr q told untested ask visited half = record {
+  going = going-from p st d' b dr (tell q told)
+      (loose-tell p st dr q told (ask-loose (slice_index order k) (now q) told ask) (loose-of p st d b dr q half.going))
+      visited.stands
+      (foreign.stands-tell p b q told (ask-others told (slice_index order k) ask) half.going.boot)
+      (begun-tell p q (now q) told (ask-loose (slice_index order k) (now q) told ask) ∙ half.going.begun_is)
+      half.going.runs;
+  may = half.may;
+  ripe = half.ripe;
+  visited = as-visited (is_tested p b) ((j : ℕ) × TestedAt p order j (tell q told)) (VisitedUpTo p order (k + 1) (tell q told)) untested (record {
+    due_started = λ j lt due. ask-started q (slice_index order k) (slice_index order j) told ask ∙ half.due_started j lt (sym (ask-due p q (slice_index order k) (slice_index order j) told ask) ∙ due);
+    right = λ j lt.
+        elim (cases_eq (slice_index order j) (slice_index order k)) [
+          | inl same ↦ subst (λ u. (i : ℕ) → i < length (endpoints p u) → endpoint_right p (tell q told) u i ≡ true) (sym same) visited.right
+          | inr ne ↦ (λ i within. ask-right p q (slice_index order k) (slice_index order j) i told ask
+              (half.right j (elim (below_suc j k lt) [ inl less ↦ less | inr e ↦ absurd (ne (ap (slice_index order) e)) ]) ne i within))
+        ];
+  });
+  quiet = λ e. ask-calm q told (slice_index order k) ask (half.quiet e);
+}
+
+-- one visit: both halves
+pub visit-passes : (p : Plan) (order : List ℕ) (dr : DrainData) (k : ℕ) → k < length order → IsInOrder p order → (st st' : StartsData) (d d' : EndpointsData) (b b' : BootData) (before mid after : List Action)
+    → is_tested p b' ≡ false → Starting p order dr k st st' d b b' before mid
+    → Tells mid after (λ told. IsAskOf (slice_index order k) told × ((q : Record) → dr.moment ≡ now q → is_flagged st'.started (slice_index order k) ≡ is_started q (slice_index order k)
     → EndpointsStand p d q → Visited p d' (slice_index order k) q told))
-    → Passes p order moment k (k + 1) st (start_if b (slice_index order k) st) d d' before after
-visit-passes p valid order moment k place in_order st d d' b before mid after sized start first next = record {
-  told = start_told b (slice_index order k) ++ next.told;
-  appended = next.appended ∙ ap (λ w. w ++ next.told) first ∙ append_assoc before (start_told b (slice_index order k)) next.told;
-  kept = (
-    IsQuiet-append (start_told b (slice_index order k)) next.told (quiet-start b (slice_index order k)) (ask-quiet (slice_index order k) next.told next.kept.0),
-    λ q was. (
-        let half = start-halves p valid order moment k place in_order st d q sized was b start in
-        let on = half.starts.started_is (slice_index order k) (in_order.inside k place) in
-        subst (λ r. PassedUpTo p order moment (k + 1) (start_if b (slice_index order k) st) d' r)
-        (sym (tell-append q (start_told b (slice_index order k)) next.told))
-        (ask-whole p order moment k (start_if b (slice_index order k) st) d d' (tell q (start_told b (slice_index order k))) next.told next.kept.0
-        (next.kept.1 (tell q (start_told b (slice_index order k))) half.moment_is on half.ends) half)),
-  );
+    → Passes p order dr k (k + 1) st st' d d' b b' before after
+visit-passes p order dr k place in_order st st' d d' b b' before mid after untested first next = record {
+  told = first.told ++ next.told;
+  appended = next.appended ∙ ap (λ w. w ++ next.told) first.appended ∙ append_assoc before first.told next.told;
+  kept = λ q was. (
+      let half = first.kept q was in
+      let on = half.going.starts.started_is (slice_index order k) (in_order.inside k place) in
+      subst (λ r. PassedUpTo p order (k + 1) st' d' b' dr r) (sym (tell-append q first.told next.told))
+      (ask-whole p order k st' d d' b' dr (tell q first.told) next.told untested next.kept.0
+      (next.kept.1 (tell q first.told) half.going.drain.moment_is on half.going.ends) half));
 }
 
-pub passes-none : (p : Plan) (order : List ℕ) (moment k : ℕ) (st : StartsData) (d : EndpointsData) (before : List Action) → before ≡ before ++ [] → Passes p order moment k k st st d d before before
-passes-none p order moment k st d before e = record { told = []; appended = e; kept = (tt, λ q was. was) }
+-- a visit with which the pass ends
+pub visit-tests : (p : Plan) (order : List ℕ) (dr : DrainData) (k : ℕ) (st st' : StartsData) (d : EndpointsData) (b b' : BootData) (before after : List Action)
+    → is_tested p b' ≡ true → Starting p order dr k st st' d b b' before after → Passes p order dr k (k + 1) st st' d d b b' before after
+visit-tests p order dr k st st' d b b' before after tested first = record {
+  told = first.told;
+  appended = first.appended;
+  kept = λ q was. (let half = first.kept q was in record {
+    going = half.going;
+    may = half.may;
+    ripe = half.ripe;
+    visited = as-tested (is_tested p b') ((j : ℕ) × TestedAt p order j (tell q first.told)) (VisitedUpTo p order (k + 1) (tell q first.told)) tested
+        (k, on (is_tested p b') (TestedAt p order k (tell q first.told)) tested half.tested);
+    quiet = half.quiet;
+  });
+}
+  where
+    on : (c : Bool) (A : Type 0) → c ≡ true → OnTrue c A → A
+    on true A e h = h
+    on false A e h = absurd (cc)
+
+-- no visit
+pub passes-none : (p : Plan) (order : List ℕ) (dr : DrainData) (k : ℕ) (st : StartsData) (d : EndpointsData) (b : BootData) (before : List Action) → before ≡ before ++ [] → Passes p order dr k k st st d d b b before before
+passes-none p order dr k st d b before e = record { told = []; appended = e; kept = λ q was. was }
+
+-- a pass that has ended stays where it is
+pub passes-ended : (p : Plan) (order : List ℕ) (dr : DrainData) (i k : ℕ) (st st' : StartsData) (d d' : EndpointsData) (b b' : BootData) (before after : List Action)
+    → is_tested p b' ≡ true → Passes p order dr i k st st' d d' b b' before after → Passes p order dr i (k + 1) st st' d d' b b' before after
+passes-ended p order dr i k st st' d d' b b' before after tested done = record {
+  told = done.told;
+  appended = done.appended;
+  kept = λ q was. (let up = done.kept q was in record {
+    going = up.going;
+    may = up.may;
+    ripe = up.ripe;
+    visited = stay (is_tested p b') ((j : ℕ) × TestedAt p order j (tell q done.told)) (VisitedUpTo p order k (tell q done.told)) (VisitedUpTo p order (k + 1) (tell q done.told)) tested up.visited;
+    quiet = up.quiet;
+  });
+}
+  where
+    stay : (c : Bool) (A B C : Type 0) → c ≡ true → MatchBool c A B → MatchBool c A C
+    stay true A B C e h = h
+    stay false A B C e h = absurd (cc)
+
+-- nothing more is visited once the run was tested
+pub passes-stay : (p : Plan) (order : List ℕ) (dr : DrainData) (k : ℕ) (st : StartsData) (d : EndpointsData) (b : BootData) (before : List Action) → is_tested p b ≡ true → Passes p order dr k (k + 1) st st d d b b before before
+passes-stay p order dr k st d b before tested = passes-ended p order dr k k st st d d b b before before tested (passes-none p order dr k st d b before (sym (append-nil before)))
 
 -- visits, and then more of them
-pub passes-then : (p : Plan) (order : List ℕ) (moment i j k : ℕ) (st0 st1 st2 : StartsData) (d0 d1 d2 : EndpointsData) (a b c : List Action)
-    → Passes p order moment i j st0 st1 d0 d1 a b → Passes p order moment j k st1 st2 d1 d2 b c → Passes p order moment i k st0 st2 d0 d2 a c
-passes-then p order moment i j k st0 st1 st2 d0 d1 d2 a b c first next = record {
+pub passes-then : (p : Plan) (order : List ℕ) (dr : DrainData) (i j k : ℕ) (st0 st1 st2 : StartsData) (d0 d1 d2 : EndpointsData) (b0 b1 b2 : BootData) (a b c : List Action)
+    → Passes p order dr i j st0 st1 d0 d1 b0 b1 a b → Passes p order dr j k st1 st2 d1 d2 b1 b2 b c → Passes p order dr i k st0 st2 d0 d2 b0 b2 a c
+passes-then p order dr i j k st0 st1 st2 d0 d1 d2 b0 b1 b2 a b c first next = record {
   told = first.told ++ next.told;
   appended = next.appended ∙ ap (λ w. w ++ next.told) first.appended ∙ append_assoc a first.told next.told;
-  kept = (
-    IsQuiet-append first.told next.told first.kept.0 next.kept.0,
-    λ q was. subst (λ r. PassedUpTo p order moment k st2 d2 r) (sym (tell-append q first.told next.told)) (next.kept.1 (tell q first.told) (first.kept.1 q was)),
-  );
+  kept = λ q was. subst (λ r. PassedUpTo p order k st2 d2 b2 dr r) (sym (tell-append q first.told next.told)) (next.kept (tell q first.told) (first.kept q was));
 }

@@ -8,10 +8,9 @@ use Rattle.svc_record.specs.declared.entry.Entry.TheVariants.{Got, Told}
 use Rattle.svc_record.specs.declared.action.Action.{Action}
 use Rattle.svc_record.specs.declared.action.Action.TheVariants.{Start, Fail, Bind, Adopt, Close}
 use Rattle.svc_record.specs.declared.event.Event.TheVariants.{Signal}
-use Rattle.svc_record.specs.declared.event.ShutdownSignal.TheVariants.{FastShutdown}
 use Rattle.svc_record.specs.Record.{Record, has, times, tell, now, signal_of, is_signal, EachEntry, EachEarlier}
-use Rattle.svc_record.specs.Drain.{told_marks, has_passed}
-use Rattle.svc_record.specs.Told.{IsQuiet, IsGivingUp}
+use Rattle.svc_record.specs.Drain.{told_marks}
+use Rattle.svc_record.specs.Told.{IsGivingUp}
 
 -- a test of events doesn't see what is told
 pub has-tell : (test : Entry → Bool) → ((a : Action) → test (Told a) ≡ false) → (q : Record) (told : List Action) → has test (tell q told) ≡ has test q
@@ -46,53 +45,6 @@ signal-none [] h = refl
 signal-none (Got (Signal kind) ∷ q) h = absurd (cc)
 signal-none (Got e ∷ q) h = signal-none q h
 signal-none (Told a ∷ q) h = signal-none q h
-
-pub signal-some : (q : Record) → has is_signal q ≡ true → signal_of q ≡ Some FastShutdown
-signal-some [] h = absurd (cc)
-signal-some (Got (Signal FastShutdown) ∷ q) h = elim (cases_Bool (has is_signal q)) [
-  | inl earlier ↦ rw (signal-some q earlier) refl
-  | inr none ↦ rw (signal-none q none) refl
-]
-signal-some (Got e ∷ q) h = signal-some q h
-signal-some (Told a ∷ q) h = signal-some q h
-
--- the one kind of signal has no wait
-pub passed-signal : (p : Plan) (q : Record) → has_passed p q ≡ has is_signal q
-passed-signal p q = elim (cases_Bool (has is_signal q)) [
-  | inl came ↦ rw (signal-some q came, came) refl
-  | inr none ↦ rw (signal-none q none, none) refl
-]
-
--- a test that starts and asks fail doesn't see them
-pub has-quiet : (test : Entry → Bool) → ((s : ℕ) → test (Told (Start s)) ≡ false) → ((s i : ℕ) → test (Told (Bind s i)) ≡ false) → ((s i fd : ℕ) → test (Told (Adopt s i fd)) ≡ false)
-    → (q : Record) (told : List Action) → IsQuiet told → has test (tell q told) ≡ has test q
-has-quiet test f g k q [] h = refl
-has-quiet test f g k q (Start s ∷ told) h = has-quiet test f g k (Told (Start s) ∷ q) told h ∙ ap (λ b. b || has test q) (f s)
-has-quiet test f g k q (Bind s i ∷ told) h = has-quiet test f g k (Told (Bind s i) ∷ q) told h ∙ ap (λ b. b || has test q) (g s i)
-has-quiet test f g k q (Adopt s i fd ∷ told) h = has-quiet test f g k (Told (Adopt s i fd) ∷ q) told h ∙ ap (λ b. b || has test q) (k s i fd)
-has-quiet test f g k q (_ ∷ told) h = absurd h
-
-pub times-quiet : (test : Entry → Bool) → ((s : ℕ) → test (Told (Start s)) ≡ false) → ((s i : ℕ) → test (Told (Bind s i)) ≡ false) → ((s i fd : ℕ) → test (Told (Adopt s i fd)) ≡ false)
-    → (q : Record) (told : List Action) → IsQuiet told → times test (tell q told) ≡ times test q
-times-quiet test f g k q [] h = refl
-times-quiet test f g k q (Start s ∷ told) h = times-quiet test f g k (Told (Start s) ∷ q) told h ∙ ap (λ b. if b then times test q + 1 else times test q) (f s)
-times-quiet test f g k q (Bind s i ∷ told) h = times-quiet test f g k (Told (Bind s i) ∷ q) told h ∙ ap (λ b. if b then times test q + 1 else times test q) (g s i)
-times-quiet test f g k q (Adopt s i fd ∷ told) h = times-quiet test f g k (Told (Adopt s i fd) ∷ q) told h ∙ ap (λ b. if b then times test q + 1 else times test q) (k s i fd)
-times-quiet test f g k q (_ ∷ told) h = absurd h
-
-pub marks-quiet : (q : Record) (told : List Action) → IsQuiet told → told_marks (tell q told) ≡ told_marks q
-marks-quiet q [] h = refl
-marks-quiet q (Start s ∷ told) h = marks-quiet (Told (Start s) ∷ q) told h
-marks-quiet q (Bind s i ∷ told) h = marks-quiet (Told (Bind s i) ∷ q) told h
-marks-quiet q (Adopt s i fd ∷ told) h = marks-quiet (Told (Adopt s i fd) ∷ q) told h
-marks-quiet q (_ ∷ told) h = absurd h
-
-pub IsQuiet-append : (xs ys : List Action) → IsQuiet xs → IsQuiet ys → IsQuiet (xs ++ ys)
-IsQuiet-append [] ys h k = k
-IsQuiet-append (Start s ∷ xs) ys h k = IsQuiet-append xs ys h k
-IsQuiet-append (Bind s i ∷ xs) ys h k = IsQuiet-append xs ys h k
-IsQuiet-append (Adopt s i fd ∷ xs) ys h k = IsQuiet-append xs ys h k
-IsQuiet-append (_ ∷ xs) ys h k = absurd h
 
 -- a test that failures and closes fail doesn't see them
 pub has-giving : (test : Entry → Bool) → ((s : ℕ) → test (Told (Fail s)) ≡ false) → ((fd : ℕ) → test (Told (Close fd)) ≡ false)

@@ -3,14 +3,14 @@ use Rattle.std.proofs.Common.{ℕ, suc, Bool, true, false, ◌||◌, ◌&&◌, n
 use Rattle.std.specs.List.{list_all, list_any}
 use Rattle.std.proofs.lemmas.Bool.{eqb-true, eq-eqb, ne_eqb, and_parts, and_from, or_parts, cases_eq}
 use Rattle.std.proofs.lemmas.List.{get_or-set_same, get_or-set_other}
-use Rattle.svc_graph.specs.declared.plan.Kind.TheVariants.{Plain}
+use Rattle.svc_graph.specs.declared.plan.Kind.TheVariants.{Plain, Bootstrap}
 use Rattle.svc_record.specs.declared.plan.Plan.{Plan}
 use Rattle.svc_record.specs.declared.entry.Entry.{Entry}
 use Rattle.svc_record.specs.declared.entry.Entry.TheVariants.{Got, Told}
 use Rattle.svc_record.specs.declared.action.Action.{Action}
 use Rattle.svc_record.specs.declared.action.Action.TheVariants.{Start}
 use Rattle.svc_record.specs.declared.event.Event.TheVariants.{Ready, Ended}
-use Rattle.svc_record.specs.Record.{Record, has, times, tell, EachEntry}
+use Rattle.svc_record.specs.Record.{Record, has, times, tell, is_bootstrap_complete, EachEntry}
 use Rattle.svc_record.specs.Failed.{has_failed}
 use Rattle.svc_record.specs.Told.{IsGivingUp}
 use Rattle.svc_record.specs.Starts.{is_start, is_ready_event, is_ended_event, is_started, is_ready, is_due, start_due}
@@ -34,12 +34,14 @@ list_all-same P Q [] f = refl
 list_all-same P Q (x ∷ xs) f = rw (f 0 0 (omega arith), list_all-same P Q xs (λ k d lt. f (suc k) d (omega arith))) refl
 
 -- Boolean algebra, over plain variables
-or_grows : (a b x y c d m f g : Bool) → (((b || y) || f) || (d && c)) ≡ true → (f ≡ true → g ≡ true) → ((((a || b) || (x || y)) || g) || ((m || d) && c)) ≡ true
-or_grows a b x y c d m f g h k = grind (arith, k)
+or_grows : (a b x y i d m k c z f g : Bool) → (((b || y) || f) || (d && (i || (k && c)))) ≡ true → (f ≡ true → g ≡ true)
+    → ((((a || b) || (x || y)) || g) || ((m || d) && (i || (k && (z || c))))) ≡ true
+or_grows a b x y i d m k c z f g h e = grind (arith, e)
 
 ready-grows : (p : Plan) (q : Record) (e : Entry) (s : ℕ) → is_ready p q s ≡ true → is_ready p (e ∷ q) s ≡ true
 ready-grows p q e s h =
     or_grows (is_ready_event s e) (has (is_ready_event s) q) (is_ended_event s e) (has (is_ended_event s) q) (has_kind p Plain s) (is_started q s) (is_start s e)
+    (has_kind p Bootstrap s) (has is_bootstrap_complete q) (is_bootstrap_complete e)
     (has_failed p q s) (has_failed p (e ∷ q) s) h (failed-grows p q e s)
 
 pub is_due-grows : (p : Plan) (q : Record) (e : Entry) (s : ℕ) → is_due p q s ≡ true → is_due p (e ∷ q) s ≡ true
@@ -112,17 +114,19 @@ stands-end p st q s sized inside h = record {
 }
 
 -- the part's own tests are the record's
-pub ready-is : (p : Plan) (st : StartsData) (failed : List Bool) (q : Record) (s : ℕ) → s < service_count p → StartsStand p st q → AreFailed p failed q → ready_now p st failed s ≡ is_ready p q s
-ready-is p st failed q s inside h f = rw (h.ready_is s inside, h.ended_is s inside, h.started_is s inside, f s inside) refl
+pub ready-is : (p : Plan) (st : StartsData) (failed : List Bool) (complete : Bool) (q : Record) (s : ℕ) → s < service_count p → StartsStand p st q → AreFailed p failed q → complete ≡ has is_bootstrap_complete q
+    → ready_now p st failed complete s ≡ is_ready p q s
+ready-is p st failed complete q s inside h f c = rw (h.ready_is s inside, h.ended_is s inside, h.started_is s inside, f s inside, c) refl
 
-pub due-is : (p : Plan) (st : StartsData) (failed : List Bool) (q : Record) (s : ℕ) → IsValid p → s < service_count p → StartsStand p st q → AreFailed p failed q → due_now p st failed s ≡ is_due p q s
-due-is p st failed q s valid inside h f =
-    list_all-same (ready_now p st failed) (is_ready p q) (depends p s)
-    (λ k d lt. ready-is p st failed q (slice_index_or (depends p s) k d) (valid.inside s inside k d lt) h f)
+pub due-is : (p : Plan) (st : StartsData) (failed : List Bool) (complete : Bool) (q : Record) (s : ℕ) → IsValid p → s < service_count p → StartsStand p st q → AreFailed p failed q → complete ≡ has is_bootstrap_complete q
+    → due_now p st failed complete s ≡ is_due p q s
+due-is p st failed complete q s valid inside h f c =
+    list_all-same (ready_now p st failed complete) (is_ready p q) (depends p s)
+    (λ k d lt. ready-is p st failed complete q (slice_index_or (depends p s) k d) (valid.inside s inside k d lt) h f c)
 
-pub starts-is : (p : Plan) (st : StartsData) (failed : List Bool) (q : Record) (s : ℕ) → IsValid p → s < service_count p → StartsStand p st q → AreFailed p failed q
-    → starts_now p st failed s ≡ (not (is_started q s) && is_due p q s)
-starts-is p st failed q s valid inside h f = rw (h.started_is s inside, due-is p st failed q s valid inside h f) refl
+pub starts-is : (p : Plan) (st : StartsData) (failed : List Bool) (complete : Bool) (q : Record) (s : ℕ) → IsValid p → s < service_count p → StartsStand p st q → AreFailed p failed q → complete ≡ has is_bootstrap_complete q
+    → starts_now p st failed complete s ≡ (not (is_started q s) && is_due p q s)
+starts-is p st failed complete q s valid inside h f c = rw (h.started_is s inside, due-is p st failed complete q s valid inside h f c) refl
 
 -- what is given up and closed starts nothing
 pub stands-giving : (p : Plan) (st : StartsData) (q : Record) (told : List Action) → IsGivingUp told → StartsStand p st q → StartsStand p st (tell q told)

@@ -1,368 +1,353 @@
--- A step keeps the record right.
-use Rattle.std.proofs.Common.{ℕ, Bool, true, false, ◌&&◌, ◌||◌, not, List, [], ◌∷◌, ◌++◌, ◌≡◌, refl, ap, sym, ◌∙◌, subst, arith, ◌<◌, ◌≤◌, length, if◌then◌else◌, map, nat_le, append-nil, append_assoc}
-use Rattle.std.proofs.lemmas.Bool.{and_from, le-leb}
+-- A step keeps the record right: what each event makes of the core, before the rest of the step.
+use Rattle.std.proofs.Common.{ℕ, Bool, true, false, ◌&&◌, ◌||◌, ◌==◌, not, List, [], ◌∷◌, ◌++◌, ◌≡◌, refl, ap, sym, ◌∙◌, subst, arith, ◌<◌, ◌≤◌, length, if◌then◌else◌, MatchBool, nat_le, append-nil, append_assoc}
+use Rattle.std.specs.Bool.{OnTrue, OnFalse}
+use Rattle.std.proofs.lemmas.Bool.{and_from, and_parts, le-leb}
 use Rattle.svc_record.specs.declared.plan.Plan.{Plan}
 use Rattle.svc_record.specs.declared.entry.Entry.{Entry}
 use Rattle.svc_record.specs.declared.entry.Entry.TheVariants.{Got, Told}
 use Rattle.svc_record.specs.declared.action.Action.{Action}
-use Rattle.svc_record.specs.declared.action.Action.TheVariants.{Start, Fail, Bind, Adopt, Close}
-use Rattle.svc_record.specs.declared.action.StepEnd.TheVariants.{On, Served}
+use Rattle.svc_record.specs.declared.action.Action.TheVariants.{Fail, Close}
+use Rattle.svc_record.specs.declared.action.ExecutionPhase.TheVariants.{Running}
+use Rattle.svc_record.specs.declared.action.StepEnd.{StepEnd}
+use Rattle.svc_record.specs.declared.action.StepEnd.TheVariants.{On, Served, Tested}
 use Rattle.svc_record.specs.declared.event.Event.{Event}
-use Rattle.svc_record.specs.declared.event.Event.TheVariants.{Moment, Ready, Ended, Bound, InUse, BindFailed, Adopted, AdoptFailed, Signal}
-use Rattle.svc_record.specs.declared.event.ShutdownSignal.{ShutdownSignal}
-use Rattle.svc_record.specs.declared.event.ShutdownSignal.TheVariants.{FastShutdown}
+use Rattle.svc_record.specs.declared.event.Event.TheVariants.{Moment, Ready, Ended, Bound, InUse, BindFailed, Adopted, AdoptFailed, Received, NoSenderYet, ReceiveFailed}
 use Rattle.svc_record.specs.Plans.{service_count}
-use Rattle.svc_record.specs.Record.{Record, has, now, tell, is_signal, is_running, is_bootstrap, is_bootstrap_complete, from_the_start}
-use Rattle.svc_record.specs.AskRules.{FailsRight}
-use Rattle.svc_record.specs.Asks.{is_bind_open, is_adopt_open}
-use Rattle.svc_record.specs.Boot.{BootRight}
+use Rattle.svc_record.specs.Record.{Record, has, now, tell, last_step, is_signal, is_running}
+use Rattle.svc_record.specs.Asks.{is_bind_open, is_adopt_open, is_try_open}
+use Rattle.svc_record.specs.Boot.{has_begun, is_read, is_side_child}
 use Rattle.svc_record.specs.Descriptors.{brings}
-use Rattle.svc_record.specs.Drain.{is_ending, ascending, live_numbers}
-use Rattle.svc_record.specs.Ends.{has_ended}
-use Rattle.svc_record.specs.Fits.{fits, fits_row, may_end}
-use Rattle.svc_record.specs.Right.{Right, OpenRight, SettledRight}
-use Rattle.svc_record.specs.Starts.{is_started, is_start, is_ready_event, is_ended_event, is_due, StartsRight}
+use Rattle.svc_record.specs.Drain.{phase, marks_if, told_marks, has_passed, ascending}
+use Rattle.svc_record.specs.Ends.{has_ended, step_end, ends_tested, has_ended_early, TestedRight}
+use Rattle.svc_record.specs.Fits.{fits, fits_row, may_end, is_new, are_new}
+use Rattle.svc_record.specs.Message.{decode}
+use Rattle.svc_record.specs.Right.{Right, OpenRight, EndedRight, is_quiet}
+use Rattle.svc_record.specs.Starts.{is_started, is_start, is_ready_event, is_ended_event}
 use Rattle.svc_record.specs.Tail.{numbers_in}
-use Rattle.svc_record.specs.Told.{Tells, IsQuiet, IsGivingUp}
+use Rattle.svc_record.specs.Told.{Tells, IsGivingUp}
 use Rattle.svc_record.specs.Validity.{IsInOrder}
 use Rattle.svc_record.proofs.Closing.{tell-append, brings-in}
 use Rattle.svc_record.proofs.Tallies.{is_in, is_in-same, tally-ascending}
 use Rattle.svc_endpoints.specs.EndpointsData.{EndpointsData}
-use Rattle.svc_endpoints.specs.EndpointsState.{EndpointsStand, open_numbers}
+use Rattle.svc_endpoints.specs.EndpointsState.{EndpointsStand, all_new}
+use Rattle.svc_endpoints.proofs.EventLemmas.{stands-got}
+use Rattle.svc_boot.specs.BootData.{BootData}
+use Rattle.svc_boot.specs.BootState.{BootStands, is_refused, is_through, is_trying, has_come}
+use Rattle.svc_boot.specs.BootEffects.{end_of, missed, failed, received}
+use Rattle.svc_boot.specs.BootFacts.{is_boot_event}
+use Rattle.svc_boot.proofs.Foreign as foreign
+use Rattle.svc_boot.proofs.BootEnds.{tested-is, end-is, ended-is}
 use Rattle.svc_core.specs.StartsData.{StartsData}
 use Rattle.svc_core.specs.StartsState.{StartsStand, word_taken, end_taken}
 use Rattle.svc_core.specs.DrainData.{DrainData}
-use Rattle.svc_core.specs.DrainState.{DrainStand, shutdown_told, stop_told, end_told}
-use Rattle.svc_core.specs.CoreData.{CoreData, IsFormed}
-use Rattle.svc_core.specs.Passes.{EntriesRight, PassedUpTo, Passes}
-use Rattle.svc_core.specs.Stands.{StandsFor, StepRight, StepKeeps, ReadyMayCome, EndedMayCome, BindMayBeAnswered, BoundMayCome, AdoptMayBeAnswered}
-use Rattle.svc_endpoints.proofs.EventLemmas.{stands-got}
-use Rattle.svc_core.proofs.RecordLemmas.{passed-signal, now-tell, has-tell, has-quiet, times-quiet, marks-quiet, has-giving, times-giving, marks-giving, EachEarlier-tell, on_true, to_false}
-use Rattle.svc_core.proofs.StartsLemmas.{is_due-grows, is_due-tell, count-start, stands-word, stands-end, stands-giving}
-use Rattle.svc_core.proofs.PassLemmas.{are-failed}
-use Rattle.svc_core.proofs.OpenLemmas.{open-right, right-open, entries-of, is-open, open-running, open-marks, boot-same}
-use Rattle.svc_core.proofs.EndLemmas.{end-right, end-passed, end-running, end-now, end-starts, end-failed, end-closed, numbers-tell}
+use Rattle.svc_core.specs.DrainState.{DrainStand}
+use Rattle.svc_core.specs.CoreData.{CoreData, IsFormed, is_on, is_served}
+use Rattle.svc_core.specs.Forms.{is_built_entry}
+use Rattle.svc_core.specs.Passes.{Going, is_tested}
+use Rattle.svc_core.specs.Stands.{StandsFor, Struck, StepRight, StepKeeps, Follows, EndedSo, ReadyMayCome, EndedMayCome, BindMayBeAnswered, BoundMayCome, AdoptMayBeAnswered, ReceivedMayCome}
+use Rattle.svc_core.proofs.RecordLemmas.{signal-none, not_true, to_false}
+use Rattle.svc_core.proofs.FormLemmas.{passed-signal}
+use Rattle.svc_core.proofs.StartsLemmas.{is_due-grows, stands-word, stands-end}
+use Rattle.svc_core.proofs.GoingLemmas.{Loose, loose-tell, going-from, are_loose, begun-tell}
+use Rattle.svc_core.proofs.OpenLemmas.{has-count}
+use Rattle.svc_core.proofs.FinishLemmas.{on-end}
 
-flag : (a b : Bool) → ◌≡◌ {A = ℕ} (if a then 1 else 0) (if b then 1 else 0) → a ≡ true → b ≡ true
-flag true true h e = refl
-flag true false h e = absurd (omega arith)
-flag false b h e = absurd (cc)
+-- a core that goes on
+module _ (core : CoreData) (q : Record) (stands : StandsFor core q) (on : is_on core.end ≡ true) where
+  on-now : is_on (step_end core.plan q) ≡ true
+  on-now = sym (ap is_on stands.end_is) ∙ on
 
--- in a record that goes on, what is started is due
-started-due : (p : Plan) (q : Record) → EntriesRight p q → OpenRight p q → (s : ℕ) → s < service_count p → is_started q s ≡ true → is_due p q s ≡ true
-started-due p q entries opened s inside here =
-    let starts = on_true (from_the_start q) (StartsRight p q) (open-running p q opened.boot) opened.starts in
-    flag (is_started q s) (is_due p q s) (sym (count-start p q s entries.starts) ∙ starts.each s inside) here
+  unpassed : has_passed core.plan q ≡ false
+  unpassed = not_passed (has_passed core.plan q) (end_of core.plan core.boot) (sym (ap is_on (end-is core.plan core.boot q stands.boot)) ∙ on-now)
+    where
+      not_passed : (c : Bool) (e : StepEnd) → is_on (if c then Served else e) ≡ true → c ≡ false
+      not_passed true e h = absurd (cc)
+      not_passed false e h = refl
 
-entries-got : (p : Plan) (q : Record) (e : Event) → fits p q e ≡ true → EntriesRight p q → EntriesRight p (Got e ∷ q)
-entries-got p q e fit h = record { fits = (fit, h.fits); starts = (refl, h.starts); moments = (refl, h.moments); known_starts = (refl, h.known_starts) }
+  pub on-boot : is_on (end_of core.plan core.boot) ≡ true
+  on-boot = ap (λ c. is_on (if c then Served else end_of core.plan core.boot)) (sym unpassed) ∙ sym (ap is_on (end-is core.plan core.boot q stands.boot)) ∙ on-now
 
-entries-giving : (p : Plan) (q : Record) (told : List Action) → IsGivingUp told → EntriesRight p q → EntriesRight p (tell q told)
-entries-giving p q [] giving h = h
-entries-giving p q (Fail s ∷ told) giving h = entries-giving p (Told (Fail s) ∷ q) told giving (record { fits = (refl, h.fits); starts = (refl, h.starts); moments = (refl, h.moments); known_starts = (refl, h.known_starts) })
-entries-giving p q (Close fd ∷ told) giving h = entries-giving p (Told (Close fd) ∷ q) told giving (record { fits = (refl, h.fits); starts = (refl, h.starts); moments = (refl, h.moments); known_starts = (refl, h.known_starts) })
-entries-giving p q (_ ∷ told) giving h = absurd giving
+  pub unended : has_ended core.plan q ≡ false
+  unended = let live = on-end core.plan core.boot on-boot in
+      ended-is core.plan core.boot q stands.boot ∙ rw (unpassed, live.0, live.1) refl
 
--- an event's effect with what is given up and closed by it, before the pass
-before-pass : (p : Plan) (order : List ℕ) (moment : ℕ) (st : StartsData) (d : EndpointsData) (q : Record) (e : Event) (gave : List Action)
-    → EntriesRight p q → OpenRight p q → fits p q e ≡ true → IsGivingUp gave → moment ≡ now (Got e ∷ q)
-    → StartsStand p st (Got e ∷ q) → EndpointsStand p d (tell (Got e ∷ q) gave) → PassedUpTo p order moment 0 st d (tell (Got e ∷ q) gave)
-before-pass p order moment st d q e gave entries opened fit giving time starts ends = record {
-  moment_is = time ∙ sym (now-tell (Got e ∷ q) gave);
-  starts = stands-giving p st (Got e ∷ q) gave giving starts;
-  ends = ends;
-  entries = entries-giving p (Got e ∷ q) gave giving (entries-got p q e fit entries);
-  started_due = λ s inside here. is_due-tell p (Got e ∷ q) gave s (is_due-grows p q (Got e) s
-      (started-due p q entries opened s inside (sym (has-giving (is_start s) (λ t. refl) (λ fd. refl) (Got e ∷ q) gave giving) ∙ here)));
-  due_started = λ j lt. absurd (omega arith);
-  right = λ j lt. absurd (omega arith);
+  pub silent : has is_signal q ≡ false
+  silent = sym (passed-signal core.plan q stands.forms) ∙ unpassed
+
+  pub running-is : has is_running q ≡ core.drain.running
+  running-is = has-count is_running q core.drain.running stands.drain.running_is
+
+  pub opened : Right core.plan q → OpenRight core.plan q
+  opened right = while_open (has_ended core.plan q) (EndedRight core.plan q) (OpenRight core.plan q) unended right.settled.0
+    where
+      while_open : (c : Bool) (A B : Type 0) → c ≡ false → MatchBool c A B → B
+      while_open true A B e h = absurd (cc)
+      while_open false A B e h = h
+
+  pub going-on : not (has_ended core.plan q) ≡ true
+  going-on = ap not unended
+
+  pub marks-are : Right core.plan q → told_marks q ≡ marks_if core.drain.running (phase Running ∷ [])
+  marks-are right = (opened right).phases ∙ rw (unpassed, signal-none q silent) (ap (λ r. marks_if r (phase Running ∷ [])) running-is)
+
+-- what is given up
+pub giving-loose : (m : ℕ) (gave : List Action) → IsGivingUp gave → are_loose m gave ≡ true
+giving-loose m [] h = refl
+giving-loose m (Fail s ∷ gave) h = giving-loose m gave h
+giving-loose m (Close fd ∷ gave) h = giving-loose m gave h
+giving-loose m (_ ∷ gave) h = absurd h
+
+giving-quiet : (q : Record) (gave : List Action) → IsGivingUp gave → is_quiet (last_step q) ≡ true → is_quiet (last_step (tell q gave)) ≡ true
+giving-quiet q [] h k = k
+giving-quiet q (Fail s ∷ gave) h k = giving-quiet (Told (Fail s) ∷ q) gave h k
+giving-quiet q (Close fd ∷ gave) h k = giving-quiet (Told (Close fd) ∷ q) gave h k
+giving-quiet q (_ ∷ gave) h k = absurd h
+
+-- the core with the parts that an event leaves
+abbrev pub struck : CoreData → StartsData → EndpointsData → BootData → DrainData → CoreData
+struck core st d b dr = record { plan = core.plan; order = core.order; starts = st; endpoints = d; boot = b; drain = dr; end = core.end }
+
+through-same : (p : Plan) (b c : BootData) → p.upgrade ≡ false → c.begun ≡ b.begun → is_through p b ≡ is_through p c
+through-same p b c alone begun = rw (alone, begun) refl
+
+-- an event that isn't a signal, and what is given up by it
+pub strike : (core : CoreData) → core.plan.daemon ≡ false → (q : Record) (e : Event) (st : StartsData) (d : EndpointsData) (b : BootData) (dr : DrainData) (gave : List Action)
+    → Right core.plan q → StandsFor core q → is_on core.end ≡ true → fits core.plan q e ≡ true → is_built_entry (Got e) ≡ true → is_signal (Got e) ≡ false → IsGivingUp gave
+    → DrainStand dr (Got e ∷ q) → dr.running ≡ core.drain.running → StartsStand core.plan st (Got e ∷ q) → EndpointsStand core.plan d (tell (Got e ∷ q) gave)
+    → BootStands core.plan b (Got e ∷ q) → b.begun ≡ core.boot.begun → b.complete ≡ core.boot.complete → OnFalse (is_on (end_of core.plan b)) (EndedSo core.plan (tell (Got e ∷ q) gave))
+    → Struck (struck core st d b dr) (tell (Got e ∷ q) gave)
+strike core none q e st d b dr gave right stands on fit built plain giving drain running starts ends boot begun complete ended =
+    let open_now = opened core q stands on right in
+    let loose : Loose core.plan st dr (Got e ∷ q) = record {
+      drain = drain;
+      starts = starts;
+      forms = (built, stands.forms);
+      entries = record {
+        fits = (fit, right.fits);
+        starts = (refl, right.starts);
+        after_boot = (refl, stands.after_boot);
+        moments = (refl, right.stronger.moments);
+        known_starts = (refl, right.stronger.known_starts);
+      };
+      started_due = λ s lt here. is_due-grows core.plan q (Got e) s (stands.started_due s lt here);
+      marks = marks-are core q stands on right ∙ ap (λ r. marks_if r (phase Running ∷ [])) (sym running);
+      no_end = open_now.no_end;
+      silent = ap (λ c. c || has is_signal q) plain ∙ silent core q stands on;
+      earlier = right.settled;
+      fails = right.asks.fails;
+    } in
+    let settled = stands.settled on in
+    record {
+      going = going-from core.plan st d b dr (tell (Got e ∷ q) gave)
+          (loose-tell core.plan st dr (Got e ∷ q) gave (giving-loose (now (Got e ∷ q)) gave giving) loose)
+          ends
+          (foreign.stands-tell core.plan b (Got e ∷ q) gave (foreign.giving_up-other gave giving) boot)
+          (begun-tell core.plan (Got e ∷ q) (now (Got e ∷ q)) gave (giving-loose (now (Got e ∷ q)) gave giving)
+          ∙ begun-got core.plan q e none ∙ stands.begun_is ∙ sym begun)
+          (λ r. ap (λ c. not core.plan.eager || c) complete ∙ stands.runs (sym running ∙ r));
+      quiet = λ h. giving-quiet (Got e ∷ q) gave giving refl;
+      alone = λ h. complete ∙ settled.complete_is ∙ through-same core.plan core.boot b h begun;
+      ended = ended;
+    }
+  where
+    begun-got : (p : Plan) (r : Record) (x : Event) → p.daemon ≡ false → has_begun p (Got x ∷ r) ≡ has_begun p r
+    begun-got p r x h = rw h refl
+
+-- an event, then the rest of the step
+pub step-by : (core mid_core new : CoreData) (e : Event) (before mid after : List Action) (end : StepEnd) → new.plan ≡ core.plan
+    → Tells before mid (λ gave. (q : Record) → Right core.plan q → StandsFor core q → Struck mid_core (tell (Got e ∷ q) gave))
+    → Follows mid_core new mid after end
+    → StepKeeps core new e before after end
+step-by core mid_core new e before mid after end same first next = record {
+  told = first.told ++ next.told;
+  appended = next.appended ∙ ap (λ w. w ++ next.told) first.appended ∙ append_assoc before first.told next.told;
+  kept = λ q right stands. subst (λ r. StepRight new r end) (sym (tell-append (Got e ∷ q) first.told next.told)) (next.kept (tell (Got e ∷ q) first.told) (first.kept q right stands));
 }
 
-abbrev is_last : Event → Bool
-is_last (Signal kind) = true
-is_last _ = false
+-- nothing was told by the event itself
+pub step-silent : (core mid_core new : CoreData) (e : Event) (before after : List Action) (end : StepEnd) → new.plan ≡ core.plan
+    → ((q : Record) → Right core.plan q → StandsFor core q → Struck mid_core (Got e ∷ q))
+    → Follows mid_core new before after end
+    → StepKeeps core new e before after end
+step-silent core mid_core new e before after end same first next =
+    step-by core mid_core new e before before after end same (record { told = []; appended = sym (append-nil before); kept = first }) next
 
-no_signal : (e : Event) (q : Record) → is_last e ≡ false → has is_signal (Got e ∷ q) ≡ has is_signal q
-no_signal (Signal kind) q h = absurd (cc)
-no_signal _ q h = refl
-
-fits-silent : (p : Plan) (q : Record) (e : Event) → fits p q e ≡ true → has is_signal q ≡ false
-fits-silent p q e h = ongoing (has_ended p q) (has is_signal q) (fits_row p q e) (passed-signal p q) h
+-- a run that goes on hasn't ended so
+not-ended : (p : Plan) (b : BootData) (q : Record) → is_on (end_of p b) ≡ true → OnFalse (is_on (end_of p b)) (EndedSo p q)
+not-ended p b q h = by (is_on (end_of p b)) (EndedSo p q) h
   where
-    ongoing : (a b c : Bool) → a ≡ b → (not a && c) ≡ true → b ≡ false
-    ongoing a b c k g = grind arith
+    by : (c : Bool) (A : Type 0) → c ≡ true → OnFalse c A
+    by true A e = tt
+    by false A e = absurd (cc)
 
--- an event that isn't a signal, what is given up by it, and the pass after it
-module _ (p : Plan) (order : List ℕ) (in_order : IsInOrder p order) (st : StartsData) (d : EndpointsData) (drain : DrainData) (moment : ℕ)
-    (q : Record) (e : Event) (gave told : List Action) (right : Right p q) (fit : fits p q e ≡ true) (plain : is_last e ≡ false)
-    (giving : IsGivingUp gave) (quiet : IsQuiet told) (stands : DrainStand p drain q) (on : drain.over ≡ false)
-    (done : PassedUpTo p order moment (length order) st d (tell (tell (Got e ∷ q) gave) told)) where
-  silent : has is_signal q ≡ false
-  silent = fits-silent p q e fit
-
-  opened : OpenRight p q
-  opened = is-open p q right silent
-
-  -- a test of what neither is given up nor told in a pass doesn't see the step
-  same : (test : Entry → Bool) → ((s : ℕ) → test (Told (Fail s)) ≡ false) → ((fd : ℕ) → test (Told (Close fd)) ≡ false)
-      → ((s : ℕ) → test (Told (Start s)) ≡ false) → ((s i : ℕ) → test (Told (Bind s i)) ≡ false) → ((s i fd : ℕ) → test (Told (Adopt s i fd)) ≡ false)
-      → test (Got e) ≡ false → has test (tell (tell (Got e ∷ q) gave) told) ≡ has test q
-  same test a b f g k h = has-quiet test f g k (tell (Got e ∷ q) gave) told quiet ∙ has-giving test a b (Got e ∷ q) gave giving ∙ ap (λ x. x || has test q) h
-
-  still : has is_signal (tell (tell (Got e ∷ q) gave) told) ≡ false
-  still = has-tell is_signal (λ a. refl) (tell (Got e ∷ q) gave) told ∙ has-tell is_signal (λ a. refl) (Got e ∷ q) gave ∙ no_signal e q plain ∙ silent
-
-  runs : has is_running (tell (tell (Got e ∷ q) gave) told) ≡ has is_running q
-  runs = same is_running (λ s. refl) (λ fd. refl) (λ s. refl) (λ s i. refl) (λ s i fd. refl) refl
-
-  boot : BootRight p (tell (tell (Got e ∷ q) gave) told)
-  boot = boot-same p q (tell (tell (Got e ∷ q) gave) told)
-      (same is_bootstrap (λ s. refl) (λ fd. refl) (λ s. refl) (λ s i. refl) (λ s i fd. refl) refl)
-      (same is_bootstrap_complete (λ s. refl) (λ fd. refl) (λ s. refl) (λ s i. refl) (λ s i fd. refl) refl)
-      (times-quiet is_running (λ s. refl) (λ s i. refl) (λ s i fd. refl) (tell (Got e ∷ q) gave) told quiet ∙ times-giving is_running (λ s. refl) (λ fd. refl) (Got e ∷ q) gave giving)
-      opened.boot
-
-  whole : OpenRight p (tell (tell (Got e ∷ q) gave) told)
-  whole = open-right p order in_order moment st d (tell (tell (Got e ∷ q) gave) told) done boot
-      (marks-quiet (tell (Got e ∷ q) gave) told quiet ∙ marks-giving (Got e ∷ q) gave giving ∙ open-marks p q opened silent) (runs ∙ open-running p q opened.boot) still
-      (same is_ending (λ s. refl) (λ fd. refl) (λ s. refl) (λ s i. refl) (λ s i fd. refl) refl ∙ opened.no_end)
-
-  pub pass-right : StepRight (record { plan = p; order = order; starts = st; endpoints = d; drain = record { running = drain.running; over = drain.over; moment = moment } }) (tell (tell (Got e ∷ q) gave) told) On
-  pass-right = record {
-    stands = record {
-      drain = record { running_is = stands.running_is ∙ sym runs; over_is = on ∙ sym (passed-signal p (tell (tell (Got e ∷ q) gave) told) ∙ still); moment_is = done.moment_is };
-      starts = done.starts;
-      endpoints = λ h. done.ends;
-      failed = are-failed p d (tell (tell (Got e ∷ q) gave) told) done.ends;
-      came = done.ends.came_are;
-      closed = λ h. absurd (cc);
-    };
-    right = right-open p d (tell (tell (Got e ∷ q) gave) told) still done.entries done.ends whole
-        (EachEarlier-tell (SettledRight p) (tell (Got e ∷ q) gave) told (EachEarlier-tell (SettledRight p) (Got e ∷ q) gave (to_false (has_ended p q) (OpenRight p q) opened, right.settled.1)))
-        (EachEarlier-tell (FailsRight p) (tell (Got e ∷ q) gave) told (EachEarlier-tell (FailsRight p) (Got e ∷ q) gave right.asks.fails));
-    answer = ap (λ b. if b then Served else On) (sym (passed-signal p (tell (tell (Got e ∷ q) gave) told) ∙ still));
-  }
+-- one that the event ended, which told nothing
+ended-so : (p : Plan) (b : BootData) (q : Record) (e : Event) → BootStands p b (Got e ∷ q) → is_tested p b ≡ false → OnFalse (is_on (end_of p b)) (EndedSo p (Got e ∷ q))
+ended-so p b q e boot untested = to_false (is_on (end_of p b)) (EndedSo p (Got e ∷ q)) (record {
+  ended = record {
+    early = always (has_ended_early p (Got e ∷ q)) (last_step (Got e ∷ q) ≡ []) refl;
+    tested = not_true (ends_tested p (Got e ∷ q)) _ (tested-is p b (Got e ∷ q) boot ∙ untested);
+  };
+  tested = not_true (ends_tested p (Got e ∷ q)) (TestedRight p (Got e ∷ q)) (tested-is p b (Got e ∷ q) boot ∙ untested);
+})
+  where
+    always : (c : Bool) (A : Type 0) → A → OnTrue c A
+    always true A a = a
+    always false A a = tt
 
 -- what the core tests, fits
-going-on : (core : CoreData) (q : Record) → core.drain.over ≡ false → StandsFor core q → not (has_ended core.plan q) ≡ true
-going-on core q on stands = rw (sym stands.drain.over_is ∙ on) refl
-
-pub fits-moment : (core : CoreData) (q : Record) (ms : ℕ) → core.drain.over ≡ false → core.drain.moment ≤ ms → StandsFor core q → fits core.plan q (Moment ms) ≡ true
+pub fits-moment : (core : CoreData) (q : Record) (ms : ℕ) → is_on core.end ≡ true → core.drain.moment ≤ ms → StandsFor core q → fits core.plan q (Moment ms) ≡ true
 fits-moment core q ms on may stands =
     let time = stands.drain.moment_is in
     let later : now q ≤ ms = omega arith in
-    and_from (not (has_ended core.plan q)) (nat_le (now q) ms) (going-on core q on stands) (le-leb (now q) ms later)
+    and_from (not (has_ended core.plan q)) (nat_le (now q) ms) (going-on core q stands on) (le-leb (now q) ms later)
 
-pub fits-ready : (core : CoreData) (q : Record) (s : ℕ) → core.drain.over ≡ false → ReadyMayCome core s → StandsFor core q → fits core.plan q (Ready s) ≡ true
+pub fits-ready : (core : CoreData) (q : Record) (s : ℕ) → is_on core.end ≡ true → ReadyMayCome core s → StandsFor core q → fits core.plan q (Ready s) ≡ true
 fits-ready core q s on may stands =
     let st = stands.starts in
     let started : is_started q s ≡ true = sym (st.started_is s may.inside) ∙ may.started in
     let first : has (is_ready_event s) q ≡ false = sym (st.ready_is s may.inside) ∙ may.first in
-    and_from (not (has_ended core.plan q)) (fits_row core.plan q (Ready s)) (going-on core q on stands) (rw (may.notifies, started, first) refl)
+    and_from (not (has_ended core.plan q)) (fits_row core.plan q (Ready s)) (going-on core q stands on) (rw (may.notifies, started, first) refl)
 
-pub fits-ended : (core : CoreData) (q : Record) (s : ℕ) → core.drain.over ≡ false → EndedMayCome core s → StandsFor core q → fits core.plan q (Ended s) ≡ true
+pub fits-ended : (core : CoreData) (q : Record) (s : ℕ) → is_on core.end ≡ true → EndedMayCome core s → StandsFor core q → fits core.plan q (Ended s) ≡ true
 fits-ended core q s on may stands =
     let st = stands.starts in
     let started : is_started q s ≡ true = sym (st.started_is s may.inside) ∙ may.started in
     let first : has (is_ended_event s) q ≡ false = sym (st.ended_is s may.inside) ∙ may.first in
-    and_from (not (has_ended core.plan q)) (fits_row core.plan q (Ended s)) (going-on core q on stands)
+    and_from (not (has_ended core.plan q)) (fits_row core.plan q (Ended s)) (going-on core q stands on)
     (and_from (may_end core.plan s && is_started q s) (not (has (is_ended_event s) q)) (and_from (may_end core.plan s) (is_started q s) may.ends started) (ap not first))
 
 pub fresh : (core : CoreData) (q : Record) (fd : ℕ) → StandsFor core q → has (brings fd) q ≡ is_in fd core.endpoints.came
 fresh core q fd stands = brings-in q fd ∙ is_in-same fd (numbers_in q) (ascending (numbers_in q)) (sym (tally-ascending fd (numbers_in q))) ∙ ap (is_in fd) (sym stands.came)
 
-pub bind-open : (core : CoreData) (q : Record) (s i : ℕ) → core.drain.over ≡ false → BindMayBeAnswered core s i → StandsFor core q → is_bind_open q s i ≡ true
-bind-open core q s i on may stands = sym ((stands.endpoints on).states.each s i may.inside may.within).binding_is ∙ may.asked
+unserved : (end : StepEnd) → is_on end ≡ true → is_served end ≡ false
+unserved On h = refl
+unserved _ h = absurd (cc)
 
-pub adopt-open : (core : CoreData) (q : Record) (s i : ℕ) → core.drain.over ≡ false → AdoptMayBeAnswered core s i → StandsFor core q → is_adopt_open q s i ≡ true
-adopt-open core q s i on may stands = sym ((stands.endpoints on).states.each s i may.inside may.within).adopting_is ∙ may.asked
+pub ends-of : (core : CoreData) (q : Record) → is_on core.end ≡ true → StandsFor core q → EndpointsStand core.plan core.endpoints q
+ends-of core q on stands = stands.endpoints (unserved core.end on)
 
-pub fits-bound : (core : CoreData) (q : Record) (s i fd : ℕ) → core.drain.over ≡ false → BoundMayCome core s i fd → StandsFor core q → fits core.plan q (Bound s i fd) ≡ true
+pub bind-open : (core : CoreData) (q : Record) (s i : ℕ) → is_on core.end ≡ true → BindMayBeAnswered core s i → StandsFor core q → is_bind_open q s i ≡ true
+bind-open core q s i on may stands = sym ((ends-of core q on stands).states.each s i may.inside may.within).binding_is ∙ may.asked
+
+pub adopt-open : (core : CoreData) (q : Record) (s i : ℕ) → is_on core.end ≡ true → AdoptMayBeAnswered core s i → StandsFor core q → is_adopt_open q s i ≡ true
+adopt-open core q s i on may stands = sym ((ends-of core q on stands).states.each s i may.inside may.within).adopting_is ∙ may.asked
+
+pub fits-bound : (core : CoreData) (q : Record) (s i fd : ℕ) → is_on core.end ≡ true → BoundMayCome core s i fd → StandsFor core q → fits core.plan q (Bound s i fd) ≡ true
 fits-bound core q s i fd on may stands =
     let new : has (brings fd) q ≡ false = fresh core q fd stands ∙ may.fresh in
-    and_from (not (has_ended core.plan q)) (fits_row core.plan q (Bound s i fd)) (going-on core q on stands) (rw (bind-open core q s i on may.asked stands, new) refl)
+    and_from (not (has_ended core.plan q)) (fits_row core.plan q (Bound s i fd)) (going-on core q stands on) (rw (bind-open core q s i on may.asked stands, new) refl)
 
-pub fits-in-use : (core : CoreData) (q : Record) (s i : ℕ) → core.drain.over ≡ false → BindMayBeAnswered core s i → StandsFor core q → fits core.plan q (InUse s i) ≡ true
-fits-in-use core q s i on may stands = and_from (not (has_ended core.plan q)) (is_bind_open q s i) (going-on core q on stands) (bind-open core q s i on may stands)
+pub fits-bind : (core : CoreData) (q : Record) (s i : ℕ) → is_on core.end ≡ true → BindMayBeAnswered core s i → StandsFor core q → (not (has_ended core.plan q) && is_bind_open q s i) ≡ true
+fits-bind core q s i on may stands = and_from (not (has_ended core.plan q)) (is_bind_open q s i) (going-on core q stands on) (bind-open core q s i on may stands)
 
-pub fits-bind-failed : (core : CoreData) (q : Record) (s i : ℕ) → core.drain.over ≡ false → BindMayBeAnswered core s i → StandsFor core q → fits core.plan q (BindFailed s i) ≡ true
-fits-bind-failed core q s i on may stands = and_from (not (has_ended core.plan q)) (is_bind_open q s i) (going-on core q on stands) (bind-open core q s i on may stands)
+pub fits-adopt : (core : CoreData) (q : Record) (s i : ℕ) → is_on core.end ≡ true → AdoptMayBeAnswered core s i → StandsFor core q → (not (has_ended core.plan q) && is_adopt_open q s i) ≡ true
+fits-adopt core q s i on may stands = and_from (not (has_ended core.plan q)) (is_adopt_open q s i) (going-on core q stands on) (adopt-open core q s i on may stands)
 
-pub fits-adopted : (core : CoreData) (q : Record) (s i : ℕ) → core.drain.over ≡ false → AdoptMayBeAnswered core s i → StandsFor core q → fits core.plan q (Adopted s i) ≡ true
-fits-adopted core q s i on may stands = and_from (not (has_ended core.plan q)) (is_adopt_open q s i) (going-on core q on stands) (adopt-open core q s i on may stands)
+pub fits-try : (core : CoreData) (q : Record) → is_on core.end ≡ true → is_trying core.boot.receiving ≡ true → StandsFor core q → (not (has_ended core.plan q) && is_try_open q) ≡ true
+fits-try core q on may stands = and_from (not (has_ended core.plan q)) (is_try_open q) (going-on core q stands on) (stands.boot.receiving.trying_is ∙ may)
 
-pub fits-adopt-failed : (core : CoreData) (q : Record) (s i : ℕ) → core.drain.over ≡ false → AdoptMayBeAnswered core s i → StandsFor core q → fits core.plan q (AdoptFailed s i) ≡ true
-fits-adopt-failed core q s i on may stands = and_from (not (has_ended core.plan q)) (is_adopt_open q s i) (going-on core q on stands) (adopt-open core q s i on may stands)
+pub new-is : (core : CoreData) (q : Record) (fds : List ℕ) → StandsFor core q → are_new q fds ≡ all_new core.endpoints.came fds
+new-is core q [] stands = refl
+new-is core q (fd ∷ fds) stands = rw (fresh core q fd stands, new-is core q fds stands) refl
 
-pub fits-signal : (core : CoreData) (q : Record) (kind : ShutdownSignal) → core.drain.over ≡ false → core.drain.running ≡ true → StandsFor core q → fits core.plan q (Signal kind) ≡ true
-fits-signal core q kind on running stands =
-    and_from (not (has_ended core.plan q)) (from_the_start q) (going-on core q on stands) (sym stands.drain.running_is ∙ running)
+pub fits-received : (core : CoreData) (q : Record) (bytes fds : List ℕ) → is_on core.end ≡ true → ReceivedMayCome core fds → StandsFor core q → fits core.plan q (Received bytes fds) ≡ true
+fits-received core q bytes fds on may stands =
+    and_from (not (has_ended core.plan q)) (fits_row core.plan q (Received bytes fds)) (going-on core q stands on)
+    (and_from (is_try_open q && nat_le (length fds) 32) (are_new q fds)
+    (and_from (is_try_open q) (nat_le (length fds) 32) (stands.boot.receiving.trying_is ∙ may.trying) (le-leb (length fds) 32 may.few)) (new-is core q fds stands ∙ may.fresh))
 
--- what the endpoints' part told of the event, and what it stands for then
-abbrev pub Answers : CoreData → EndpointsData → Event → List Action → List Action → Type 0
-Answers core d e before after = Tells before after (λ told. IsGivingUp told × ((q : Record) → StandsFor core q → fits core.plan q e ≡ true → EndpointsStand core.plan d (tell (Got e ∷ q) told)))
+-- each event
+pub strike-moment : (core : CoreData) (ms : ℕ) → core.plan.daemon ≡ false → is_on core.end ≡ true → core.drain.moment ≤ ms
+    → (q : Record) → Right core.plan q → StandsFor core q → Struck (struck core core.starts core.endpoints core.boot (record { running = core.drain.running; moment = ms })) (Got (Moment ms) ∷ q)
+strike-moment core ms none on may q right stands =
+    strike core none q (Moment ms) core.starts core.endpoints core.boot (record { running = core.drain.running; moment = ms }) [] right stands on (fits-moment core q ms on may stands) refl refl tt
+    (record { running_is = stands.drain.running_is; moment_is = refl }) refl
+    (record { started_is = stands.starts.started_is; ready_is = stands.starts.ready_is; ended_is = stands.starts.ended_is })
+    (stands-got core.plan core.endpoints q (Moment ms) refl (ends-of core q on stands)) (foreign.stands-got core.plan core.boot q (Moment ms) refl stands.boot) refl refl
+    (not-ended core.plan core.boot (Got (Moment ms) ∷ q) (on-boot core q stands on))
 
--- an event that isn't a signal: its effect on the parts, then the pass
-pub step-passes : (core : CoreData) (in_order : IsInOrder core.plan core.order)
-    (st1 st2 : StartsData) (d1 d2 : EndpointsData) (moment : ℕ) (e : Event) (before mid after : List Action)
-    → core.drain.over ≡ false → is_last e ≡ false → ((q : Record) → StandsFor core q → moment ≡ now (Got e ∷ q))
+drain-got : (dr : DrainData) (q : Record) (e : Event) → now (Got e ∷ q) ≡ now q → DrainStand dr q → DrainStand dr (Got e ∷ q)
+drain-got dr q e same h = record { running_is = h.running_is; moment_is = h.moment_is ∙ sym same }
+
+pub strike-ready : (core : CoreData) (s : ℕ) → IsFormed core.plan core.order core.starts core.endpoints → is_on core.end ≡ true → ReadyMayCome core s
+    → (q : Record) → Right core.plan q → StandsFor core q → Struck (struck core (word_taken s core.starts) core.endpoints core.boot core.drain) (Got (Ready s) ∷ q)
+strike-ready core s formed on may q right stands =
+    strike core formed.built.daemon_not q (Ready s) (word_taken s core.starts) core.endpoints core.boot core.drain [] right stands on (fits-ready core q s on may stands) refl refl tt
+    (drain-got core.drain q (Ready s) refl stands.drain) refl
+    (stands-word core.plan core.starts q s formed.starts may.inside stands.starts)
+    (stands-got core.plan core.endpoints q (Ready s) refl (ends-of core q on stands)) (foreign.stands-got core.plan core.boot q (Ready s) refl stands.boot) refl refl
+    (not-ended core.plan core.boot (Got (Ready s) ∷ q) (on-boot core q stands on))
+
+pub strike-ended : (core : CoreData) (s : ℕ) → IsFormed core.plan core.order core.starts core.endpoints → is_on core.end ≡ true → EndedMayCome core s
+    → (q : Record) → Right core.plan q → StandsFor core q → Struck (struck core (end_taken s core.starts) core.endpoints core.boot core.drain) (Got (Ended s) ∷ q)
+strike-ended core s formed on may q right stands =
+    strike core formed.built.daemon_not q (Ended s) (end_taken s core.starts) core.endpoints core.boot core.drain [] right stands on (fits-ended core q s on may stands) refl refl tt
+    (drain-got core.drain q (Ended s) refl stands.drain) refl
+    (stands-end core.plan core.starts q s formed.starts may.inside stands.starts)
+    (stands-got core.plan core.endpoints q (Ended s) refl (ends-of core q on stands)) (foreign.stands-got core.plan core.boot q (Ended s) refl stands.boot) refl refl
+    (not-ended core.plan core.boot (Got (Ended s) ∷ q) (on-boot core q stands on))
+
+-- an answer to an ask of an endpoint
+pub strike-answer : (core : CoreData) (e : Event) (d : EndpointsData) (before after : List Action) → core.plan.daemon ≡ false → is_on core.end ≡ true
+    → is_built_entry (Got e) ≡ true → is_signal (Got e) ≡ false → is_boot_event e ≡ false → ((q : Record) → now (Got e ∷ q) ≡ now q)
+    → ((q : Record) → StartsStand core.plan core.starts q → StartsStand core.plan core.starts (Got e ∷ q))
     → ((q : Record) → StandsFor core q → fits core.plan q e ≡ true)
-    → ((q : Record) → StandsFor core q → StartsStand core.plan st1 (Got e ∷ q))
-    → Answers core d1 e before mid
-    → Passes core.plan core.order moment 0 (length core.order) st1 st2 d1 d2 mid after
-    → StepKeeps core (record { plan = core.plan; order = core.order; starts = st2; endpoints = d2; drain = record { running = core.drain.running; over = core.drain.over; moment = moment } }) e before after On
-step-passes core in_order st1 st2 d1 d2 moment e before mid after on plain time fit starts gave pass = record {
-  told = gave.told ++ pass.told;
-  appended = pass.appended ∙ ap (λ w. w ++ pass.told) gave.appended ∙ append_assoc before gave.told pass.told;
-  kept = λ q right stands. (
-      let silent = fits-silent core.plan q e (fit q stands) in
-      let opened = is-open core.plan q right silent in
-      let from = before-pass core.plan core.order moment st1 d1 q e gave.told (entries-of core.plan q right) opened (fit q stands) gave.kept.0 (time q stands) (starts q stands) (gave.kept.1 q stands (fit q stands)) in
-      subst (λ r. StepRight (record { plan = core.plan; order = core.order; starts = st2; endpoints = d2; drain = record { running = core.drain.running; over = core.drain.over; moment = moment } }) r On)
-      (sym (tell-append (Got e ∷ q) gave.told pass.told))
-      (pass-right core.plan core.order in_order st2 d2 core.drain moment q e gave.told pass.told right (fit q stands) plain gave.kept.0 pass.kept.0 stands.drain on
-      (pass.kept.1 (tell (Got e ∷ q) gave.told) from)));
+    → Tells before after (λ told. IsGivingUp told × ((q : Record) → core.drain.moment ≡ now q → EndpointsStand core.plan core.endpoints q → EndpointsStand core.plan d (tell (Got e ∷ q) told)))
+    → Tells before after (λ told. (q : Record) → Right core.plan q → StandsFor core q → Struck (struck core core.starts d core.boot core.drain) (tell (Got e ∷ q) told))
+strike-answer core e d before after none on built plain other time starts fit gave = record {
+  told = gave.told;
+  appended = gave.appended;
+  kept = λ q right stands.
+      strike core none q e core.starts d core.boot core.drain gave.told right stands on (fit q stands) built plain gave.kept.0
+      (drain-got core.drain q e (time q) stands.drain) refl (starts q stands.starts)
+      (gave.kept.1 q stands.drain.moment_is (ends-of core q on stands)) (foreign.stands-got core.plan core.boot q e other stands.boot) refl refl
+      (not-ended core.plan core.boot (tell (Got e ∷ q) gave.told) (on-boot core q stands on));
 }
 
--- where the endpoints' part told nothing
-silent-answers : (core : CoreData) (d : EndpointsData) (e : Event) (before : List Action)
-    → ((q : Record) → StandsFor core q → fits core.plan q e ≡ true → EndpointsStand core.plan d (Got e ∷ q)) → Answers core d e before before
-silent-answers core d e before stand = record { told = []; appended = sym (append-nil before); kept = (tt, stand) }
-
--- an answer to an ask: what the endpoints' part makes of it, then the pass
-step-answer : (core : CoreData) → IsInOrder core.plan core.order → (st2 : StartsData) (d1 d2 : EndpointsData) (e : Event) (before mid after : List Action)
-    → core.drain.over ≡ false → is_last e ≡ false → ((q : Record) → now (Got e ∷ q) ≡ now q)
-    → ((q : Record) → StandsFor core q → fits core.plan q e ≡ true)
-    → ((q : Record) → StartsStand core.plan core.starts q → StartsStand core.plan core.starts (Got e ∷ q))
-    → Tells before mid (λ told. IsGivingUp told × ((q : Record) → core.drain.moment ≡ now q → EndpointsStand core.plan core.endpoints q → EndpointsStand core.plan d1 (tell (Got e ∷ q) told)))
-    → Passes core.plan core.order core.drain.moment 0 (length core.order) core.starts st2 d1 d2 mid after
-    → StepKeeps core (record { plan = core.plan; order = core.order; starts = st2; endpoints = d2; drain = core.drain }) e before after On
-step-answer core in_order st2 d1 d2 e before mid after on plain time fit starts gave pass =
-    step-passes core in_order core.starts st2 d1 d2 core.drain.moment e before mid after on plain
-    (λ q stands. stands.drain.moment_is ∙ sym (time q)) fit (λ q stands. starts q stands.starts)
-    (record { told = gave.told; appended = gave.appended; kept = (gave.kept.0, λ q stands fitting. gave.kept.1 q stands.drain.moment_is (stands.endpoints on)) })
-    pass
-
 -- a law that needs no moment
-timeless : (p : Plan) (d d1 : EndpointsData) (moment : ℕ) (e : Event) (before mid : List Action)
+pub timeless : (p : Plan) (d d1 : EndpointsData) (moment : ℕ) (e : Event) (before mid : List Action)
     → Tells before mid (λ told. IsGivingUp told × ((q : Record) → EndpointsStand p d q → EndpointsStand p d1 (tell (Got e ∷ q) told)))
     → Tells before mid (λ told. IsGivingUp told × ((q : Record) → moment ≡ now q → EndpointsStand p d q → EndpointsStand p d1 (tell (Got e ∷ q) told)))
 timeless p d d1 moment e before mid gave = record { told = gave.told; appended = gave.appended; kept = (gave.kept.0, λ q time. gave.kept.1 q) }
 
-pub step-bound : (core : CoreData) → IsInOrder core.plan core.order → (st2 : StartsData) (d1 d2 : EndpointsData) (s i fd : ℕ) (before mid after : List Action)
-    → core.drain.over ≡ false → BoundMayCome core s i fd
-    → Tells before mid (λ told. IsGivingUp told × ((q : Record) → EndpointsStand core.plan core.endpoints q → EndpointsStand core.plan d1 (tell (Got (Bound s i fd) ∷ q) told)))
-    → Passes core.plan core.order core.drain.moment 0 (length core.order) core.starts st2 d1 d2 mid after
-    → StepKeeps core (record { plan = core.plan; order = core.order; starts = st2; endpoints = d2; drain = core.drain }) (Bound s i fd) before after On
-step-bound core in_order st2 d1 d2 s i fd before mid after on may gave pass =
-    step-answer core in_order st2 d1 d2 (Bound s i fd) before mid after on refl (λ q. refl) (λ q. fits-bound core q s i fd on may)
-    (λ q h. record { started_is = h.started_is; ready_is = h.ready_is; ended_is = h.ended_is })
-    (timeless core.plan core.endpoints d1 core.drain.moment (Bound s i fd) before mid gave) pass
-
-pub step-in-use : (core : CoreData) → IsInOrder core.plan core.order → (st2 : StartsData) (d1 d2 : EndpointsData) (s i : ℕ) (before mid after : List Action)
-    → core.drain.over ≡ false → BindMayBeAnswered core s i
-    → Tells before mid (λ told. IsGivingUp told × ((q : Record) → core.drain.moment ≡ now q → EndpointsStand core.plan core.endpoints q → EndpointsStand core.plan d1 (tell (Got (InUse s i) ∷ q) told)))
-    → Passes core.plan core.order core.drain.moment 0 (length core.order) core.starts st2 d1 d2 mid after
-    → StepKeeps core (record { plan = core.plan; order = core.order; starts = st2; endpoints = d2; drain = core.drain }) (InUse s i) before after On
-step-in-use core in_order st2 d1 d2 s i before mid after on may gave pass =
-    step-answer core in_order st2 d1 d2 (InUse s i) before mid after on refl (λ q. refl) (λ q. fits-in-use core q s i on may)
-    (λ q h. record { started_is = h.started_is; ready_is = h.ready_is; ended_is = h.ended_is }) gave pass
-
-pub step-bind-failed : (core : CoreData) → IsInOrder core.plan core.order → (st2 : StartsData) (d1 d2 : EndpointsData) (s i : ℕ) (before mid after : List Action)
-    → core.drain.over ≡ false → BindMayBeAnswered core s i
-    → Tells before mid (λ told. IsGivingUp told × ((q : Record) → EndpointsStand core.plan core.endpoints q → EndpointsStand core.plan d1 (tell (Got (BindFailed s i) ∷ q) told)))
-    → Passes core.plan core.order core.drain.moment 0 (length core.order) core.starts st2 d1 d2 mid after
-    → StepKeeps core (record { plan = core.plan; order = core.order; starts = st2; endpoints = d2; drain = core.drain }) (BindFailed s i) before after On
-step-bind-failed core in_order st2 d1 d2 s i before mid after on may gave pass =
-    step-answer core in_order st2 d1 d2 (BindFailed s i) before mid after on refl (λ q. refl) (λ q. fits-bind-failed core q s i on may)
-    (λ q h. record { started_is = h.started_is; ready_is = h.ready_is; ended_is = h.ended_is })
-    (timeless core.plan core.endpoints d1 core.drain.moment (BindFailed s i) before mid gave) pass
-
-pub step-adopt-failed : (core : CoreData) → IsInOrder core.plan core.order → (st2 : StartsData) (d1 d2 : EndpointsData) (s i : ℕ) (before mid after : List Action)
-    → core.drain.over ≡ false → AdoptMayBeAnswered core s i
-    → Tells before mid (λ told. IsGivingUp told × ((q : Record) → EndpointsStand core.plan core.endpoints q → EndpointsStand core.plan d1 (tell (Got (AdoptFailed s i) ∷ q) told)))
-    → Passes core.plan core.order core.drain.moment 0 (length core.order) core.starts st2 d1 d2 mid after
-    → StepKeeps core (record { plan = core.plan; order = core.order; starts = st2; endpoints = d2; drain = core.drain }) (AdoptFailed s i) before after On
-step-adopt-failed core in_order st2 d1 d2 s i before mid after on may gave pass =
-    step-answer core in_order st2 d1 d2 (AdoptFailed s i) before mid after on refl (λ q. refl) (λ q. fits-adopt-failed core q s i on may)
-    (λ q h. record { started_is = h.started_is; ready_is = h.ready_is; ended_is = h.ended_is })
-    (timeless core.plan core.endpoints d1 core.drain.moment (AdoptFailed s i) before mid gave) pass
-
-pub step-adopted : (core : CoreData) → IsInOrder core.plan core.order → (st2 : StartsData) (d1 d2 : EndpointsData) (s i : ℕ) (before after : List Action)
-    → core.drain.over ≡ false → AdoptMayBeAnswered core s i
-    → ((q : Record) → EndpointsStand core.plan core.endpoints q → EndpointsStand core.plan d1 (Got (Adopted s i) ∷ q))
-    → Passes core.plan core.order core.drain.moment 0 (length core.order) core.starts st2 d1 d2 before after
-    → StepKeeps core (record { plan = core.plan; order = core.order; starts = st2; endpoints = d2; drain = core.drain }) (Adopted s i) before after On
-step-adopted core in_order st2 d1 d2 s i before after on may stand pass =
-    step-passes core in_order core.starts st2 d1 d2 core.drain.moment (Adopted s i) before before after on refl
-    (λ q stands. stands.drain.moment_is) (λ q. fits-adopted core q s i on may)
-    (λ q stands. record { started_is = stands.starts.started_is; ready_is = stands.starts.ready_is; ended_is = stands.starts.ended_is })
-    (silent-answers core d1 (Adopted s i) before (λ q stands fitting. stand q (stands.endpoints on))) pass
-
-pub step-moment : (core : CoreData) → IsInOrder core.plan core.order → (st2 : StartsData) (d2 : EndpointsData) (ms : ℕ) (before after : List Action)
-    → core.drain.over ≡ false → core.drain.moment ≤ ms
-    → Passes core.plan core.order ms 0 (length core.order) core.starts st2 core.endpoints d2 before after
-    → StepKeeps core (record { plan = core.plan; order = core.order; starts = st2; endpoints = d2; drain = record { running = core.drain.running; over = core.drain.over; moment = ms } }) (Moment ms) before after On
-step-moment core in_order st2 d2 ms before after on may pass =
-    step-passes core in_order core.starts st2 core.endpoints d2 ms (Moment ms) before before after on refl
-    (λ q stands. refl) (λ q. fits-moment core q ms on may)
-    (λ q stands. record { started_is = stands.starts.started_is; ready_is = stands.starts.ready_is; ended_is = stands.starts.ended_is })
-    (silent-answers core core.endpoints (Moment ms) before (λ q stands fitting. stands-got core.plan core.endpoints q (Moment ms) tt (stands.endpoints on))) pass
-
-pub step-ready : (core : CoreData) → IsFormed core.plan core.order core.starts core.endpoints → (st2 : StartsData) (d2 : EndpointsData) (s : ℕ) (before after : List Action)
-    → core.drain.over ≡ false → ReadyMayCome core s
-    → Passes core.plan core.order core.drain.moment 0 (length core.order) (word_taken s core.starts) st2 core.endpoints d2 before after
-    → StepKeeps core (record { plan = core.plan; order = core.order; starts = st2; endpoints = d2; drain = core.drain }) (Ready s) before after On
-step-ready core formed st2 d2 s before after on may pass =
-    step-passes core formed.in_order (word_taken s core.starts) st2 core.endpoints d2 core.drain.moment (Ready s) before before after on refl
-    (λ q stands. stands.drain.moment_is) (λ q. fits-ready core q s on may)
-    (λ q stands. stands-word core.plan core.starts q s formed.starts may.inside stands.starts)
-    (silent-answers core core.endpoints (Ready s) before (λ q stands fitting. stands-got core.plan core.endpoints q (Ready s) tt (stands.endpoints on))) pass
-
-pub step-ended : (core : CoreData) → IsFormed core.plan core.order core.starts core.endpoints → (st2 : StartsData) (d2 : EndpointsData) (s : ℕ) (before after : List Action)
-    → core.drain.over ≡ false → EndedMayCome core s
-    → Passes core.plan core.order core.drain.moment 0 (length core.order) (end_taken s core.starts) st2 core.endpoints d2 before after
-    → StepKeeps core (record { plan = core.plan; order = core.order; starts = st2; endpoints = d2; drain = core.drain }) (Ended s) before after On
-step-ended core formed st2 d2 s before after on may pass =
-    step-passes core formed.in_order (end_taken s core.starts) st2 core.endpoints d2 core.drain.moment (Ended s) before before after on refl
-    (λ q stands. stands.drain.moment_is) (λ q. fits-ended core q s on may)
-    (λ q stands. stands-end core.plan core.starts q s formed.starts may.inside stands.starts)
-    (silent-answers core core.endpoints (Ended s) before (λ q stands fitting. stands-got core.plan core.endpoints q (Ended s) tt (stands.endpoints on))) pass
-
--- what is told at the end, in its three parts
-pub end-joined : (before mid closed after : List Action) (ms : ℕ) (fds : List ℕ) → mid ≡ before ++ shutdown_told ms → closed ≡ mid ++ map Close fds → after ≡ closed ++ stop_told ms
-    → after ≡ before ++ end_told ms fds
-end-joined before mid closed after ms fds first next last =
-    last
-    ∙ ap (λ w. w ++ stop_told ms) (next ∙ ap (λ w. w ++ map Close fds) first)
-    ∙ append_assoc (before ++ shutdown_told ms) (map Close fds) (stop_told ms)
-    ∙ append_assoc before (shutdown_told ms) (map Close fds ++ stop_told ms)
-
--- the signal
-pub step-signal : (core : CoreData) (kind : ShutdownSignal) (before after : List Action)
-    → core.drain.over ≡ false → core.drain.running ≡ true → after ≡ before ++ end_told core.drain.moment (open_numbers core.endpoints)
-    → StepKeeps core (record { plan = core.plan; order = core.order; starts = core.starts; endpoints = core.endpoints; drain = record { running = core.drain.running; over = true; moment = core.drain.moment } }) (Signal kind) before after Served
-step-signal core FastShutdown before after on running told = record {
-  told = end_told core.drain.moment (open_numbers core.endpoints);
-  appended = told;
-  kept = λ q right stands. (
-      let fit = fits-signal core q FastShutdown on running stands in
-      let silent = fits-silent core.plan q (Signal FastShutdown) fit in
-      let over = end-passed core.plan q right fit silent in
-      let running_is = running ∙ sym (end-running core.plan q right fit silent) in
-      let moment_is = stands.drain.moment_is ∙ sym (end-now core.plan q right fit silent) in
-      subst (λ told_now. StepRight (record { plan = core.plan; order = core.order; starts = core.starts; endpoints = core.endpoints; drain = record { running = core.drain.running; over = true; moment = core.drain.moment } }) (tell (Got (Signal FastShutdown) ∷ q) told_now) Served)
-      (ap (λ ms. end_told ms (ascending (live_numbers core.plan q))) (sym stands.drain.moment_is) ∙ ap (end_told core.drain.moment) (sym (stands.endpoints on).open_are))
-      (record {
-        stands = record {
-          drain = record { running_is = running_is; over_is = sym over; moment_is = moment_is };
-          starts = end-starts core.plan q right fit silent core.starts stands.starts;
-          endpoints = λ off. absurd (cc);
-          failed = end-failed core.plan q right fit silent core.endpoints.failed stands.failed;
-          came = stands.came ∙ ap ascending (sym (numbers-tell (Got (Signal FastShutdown) ∷ q) (end_told (now q) (ascending (live_numbers core.plan q)))));
-          closed = λ h. end-closed core.plan q right fit silent;
-        };
-        right = end-right core.plan q right fit silent;
-        answer = ap (λ b. if b then Served else On) (sym over);
-      }));
+-- an older server's message
+pub strike-received : (core : CoreData) (bytes fds : List ℕ) (good : Bool) (d : EndpointsData) (b : BootData) (before after : List Action) → core.plan.daemon ≡ false → is_on core.end ≡ true → ReceivedMayCome core fds
+    → good ≡ is_read (decode bytes (length fds)) → b ≡ received good core.boot
+    → ((q : Record) → BootStands core.plan core.boot q → BootStands core.plan b (Got (Received bytes fds) ∷ q))
+    → Tells before after (λ told. IsGivingUp told × (good ≡ false → told ≡ []) × ((q : Record) → EndpointsStand core.plan core.endpoints q → EndpointsStand core.plan d (tell (Got (Received bytes fds) ∷ q) told)))
+    → Tells before after (λ told. (q : Record) → Right core.plan q → StandsFor core q → Struck (struck core core.starts d b core.drain) (tell (Got (Received bytes fds) ∷ q) told))
+strike-received core bytes fds good d b before after none on may read now_boot boots gave = record {
+  told = gave.told;
+  appended = gave.appended;
+  kept = λ q right stands.
+      strike core none q (Received bytes fds) core.starts d b core.drain gave.told right stands on (fits-received core q bytes fds on may stands) refl refl gave.kept.0
+      (drain-got core.drain q (Received bytes fds) refl stands.drain) refl
+      (record { started_is = stands.starts.started_is; ready_is = stands.starts.ready_is; ended_is = stands.starts.ended_is })
+      (gave.kept.2 q (ends-of core q on stands)) (boots q stands.boot) (ap (λ (x : BootData). x.begun) now_boot) (ap (λ (x : BootData). x.complete) now_boot)
+      (by good refl q stands);
 }
+  where
+    by : (c : Bool) → good ≡ c → (q : Record) → StandsFor core q → OnFalse (is_on (end_of core.plan b)) (EndedSo core.plan (tell (Got (Received bytes fds) ∷ q) gave.told))
+    by true e q stands = not-ended core.plan b (tell (Got (Received bytes fds) ∷ q) gave.told)
+        (ap (λ (x : BootData). is_on (end_of core.plan x)) now_boot ∙ rw (e, (on-end core.plan core.boot (on-boot core q stands on)).0) refl)
+    by false e q stands = subst (λ told. OnFalse (is_on (end_of core.plan b)) (EndedSo core.plan (tell (Got (Received bytes fds) ∷ q) told))) (sym (gave.kept.1 e))
+        (ended-so core.plan b q (Received bytes fds) (boots q stands.boot) (ap (λ (x : BootData). core.plan.test && x.begun) now_boot ∙ (on-end core.plan core.boot (on-boot core q stands on)).0))
+
+-- no sender, or a failure
+pub strike-refused : (core : CoreData) (e : Event) (b : BootData) → core.plan.daemon ≡ false → is_on core.end ≡ true → b.begun ≡ core.boot.begun → b.complete ≡ core.boot.complete
+    → is_built_entry (Got e) ≡ true → is_signal (Got e) ≡ false → ((q : Record) → now (Got e ∷ q) ≡ now q)
+    → ((q : Record) → StandsFor core q → fits core.plan q e ≡ true)
+    → ((q : Record) → StartsStand core.plan core.starts q → StartsStand core.plan core.starts (Got e ∷ q))
+    → ((q : Record) → EndpointsStand core.plan core.endpoints q → EndpointsStand core.plan core.endpoints (Got e ∷ q))
+    → ((q : Record) → core.drain.moment ≡ now q → BootStands core.plan core.boot q → BootStands core.plan b (Got e ∷ q))
+    → (q : Record) → Right core.plan q → StandsFor core q → Struck (struck core core.starts core.endpoints b core.drain) (Got e ∷ q)
+strike-refused core e b none on begun complete built plain time fit starts ends boots q right stands =
+    strike core none q e core.starts core.endpoints b core.drain [] right stands on (fit q stands) built plain tt
+    (drain-got core.drain q e (time q) stands.drain) refl (starts q stands.starts) (ends q (ends-of core q on stands))
+    (boots q stands.drain.moment_is stands.boot) begun complete
+    (ended-so core.plan b q e (boots q stands.drain.moment_is stands.boot) (ap (λ x. core.plan.test && x) begun ∙ (on-end core.plan core.boot (on-boot core q stands on)).0))
+
+-- where the endpoints' part told nothing
+pub silently : (p : Plan) (d d1 : EndpointsData) (moment : ℕ) (e : Event) (before : List Action) → ((q : Record) → EndpointsStand p d q → EndpointsStand p d1 (Got e ∷ q))
+    → Tells before before (λ told. IsGivingUp told × ((q : Record) → moment ≡ now q → EndpointsStand p d q → EndpointsStand p d1 (tell (Got e ∷ q) told)))
+silently p d d1 moment e before stand = record { told = []; appended = sym (append-nil before); kept = (tt, λ q time. stand q) }

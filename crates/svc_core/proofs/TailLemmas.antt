@@ -1,32 +1,37 @@
 -- What the core closes at the end is what the record says.
-use Rattle.std.proofs.Common.{ℕ, Bool, true, false, inl, inr, List, ◌++◌, ◌≡◌, refl, ap, sym, ◌∙◌, Some, None, map, append_assoc, append-nil}
-use Rattle.std.proofs.lemmas.Bool.{cases_Bool}
+use Rattle.std.proofs.Common.{ℕ, Bool, true, false, not, List, [], ◌∷◌, ◌++◌, ◌==◌, ◌≡◌, refl, ap, sym, ◌∙◌, Some, None, map, filter, append_assoc, append-nil}
+use Rattle.std.specs.List.{list_any}
 use Rattle.svc_record.specs.declared.action.Action.{Action}
-use Rattle.svc_record.specs.declared.action.Action.TheVariants.{Close}
+use Rattle.svc_record.specs.declared.action.Action.TheVariants.{Cut, Close}
 use Rattle.svc_record.specs.declared.event.Event.{Event}
-use Rattle.svc_record.specs.declared.event.Event.TheVariants.{Bound}
+use Rattle.svc_record.specs.declared.entry.Entry.TheVariants.{Got}
 use Rattle.svc_record.specs.Record.{Record, has}
-use Rattle.svc_record.specs.Descriptors.{brings}
+use Rattle.svc_record.specs.Descriptors.{brings, numbers_of}
+use Rattle.svc_record.specs.Connections.{live_connections}
 use Rattle.svc_record.specs.Drain.{ascending, live_numbers}
-use Rattle.svc_record.specs.Tail.{new_numbers}
+use Rattle.svc_record.specs.Tail.{new_numbers, each_once}
 use Rattle.svc_record.proofs.Closing.{right_closes}
-use Rattle.svc_core.specs.CoreData.{CoreData}
+use Rattle.svc_core.specs.CoreData.{CoreData, is_served}
 use Rattle.svc_core.specs.Rooms.{open_numbers, left_numbers}
 use Rattle.svc_core.specs.Stands.{StandsFor, ClosesAll}
+use Rattle.svc_core.proofs.FormLemmas.{no-connections}
 use Rattle.svc_core.proofs.StepLemmas.{fresh}
 
-open-live : (core : CoreData) (q : Record) → StandsFor core q → (b : Bool) → core.drain.over ≡ b → open_numbers core ≡ ascending (live_numbers core.plan q)
+open-live : (core : CoreData) (q : Record) → StandsFor core q → (b : Bool) → is_served core.end ≡ b → open_numbers core ≡ ascending (live_numbers core.plan q)
 open-live core q stands true e = rw e (sym (ap ascending (stands.closed e)))
 open-live core q stands false e = rw e (stands.endpoints e).open_are
 
+-- the numbers that came
+left-kept : (core : CoreData) (q : Record) → StandsFor core q → (fds : List ℕ) → filter (λ n. not (list_any (λ m. m == n) core.endpoints.came)) fds ≡ filter (λ n. not (has (brings n) q)) fds
+left-kept core q stands [] = refl
+left-kept core q stands (fd ∷ fds) = rw (fresh core q fd stands, left-kept core q stands fds) refl
+
 left-new : (core : CoreData) (q : Record) (e : Event) → StandsFor core q → left_numbers core e ≡ new_numbers q (Some e)
-left-new core q (Bound s i fd) stands =
-    let e = fresh core q fd stands in
-    elim (cases_Bool (has (brings fd) q)) [
-      | inl came ↦ rw (came, sym e ∙ came) refl
-      | inr new ↦ rw (new, sym e ∙ new) refl
-    ]
-left-new core q _ stands = refl
+left-new core q e stands = ap each_once (left-kept core q stands (numbers_of (Got e)))
+
+-- nothing is cut
+none-cut : (core : CoreData) (q : Record) (told : List Action) → StandsFor core q → map (λ (c : ℕ). Cut c) (ascending (live_connections q)) ++ told ≡ told
+none-cut core q told stands = rw (no-connections q stands.forms) refl
 
 -- where no event was left unfinished
 pub closes-open : (core : CoreData) (q : Record) (before after : List Action) → after ≡ before ++ map (λ (fd : ℕ). Close fd) (open_numbers core)
@@ -35,7 +40,8 @@ closes-open core q before after told stands = record {
   told = record {
     told = map (λ (fd : ℕ). Close fd) (open_numbers core);
     appended = told;
-    kept = ap (map (λ (fd : ℕ). Close fd)) (open-live core q stands core.drain.over refl) ∙ sym (append-nil (map (λ (fd : ℕ). Close fd) (ascending (live_numbers core.plan q))));
+    kept = ap (map (λ (fd : ℕ). Close fd)) (open-live core q stands (is_served core.end) refl) ∙ sym (append-nil (map (λ (fd : ℕ). Close fd) (ascending (live_numbers core.plan q))))
+        ∙ sym (none-cut core q (map (λ (fd : ℕ). Close fd) (ascending (live_numbers core.plan q)) ++ []) stands);
   };
   closed = λ right. right_closes core.plan q None right;
 }
@@ -50,8 +56,9 @@ closes-brought core q e before mid after first next stands = record {
     appended = next
         ∙ ap (λ w. w ++ map (λ (fd : ℕ). Close fd) (left_numbers core e)) first
         ∙ append_assoc before (map (λ (fd : ℕ). Close fd) (open_numbers core)) (map (λ (fd : ℕ). Close fd) (left_numbers core e));
-    kept = ap (λ xs. map (λ (fd : ℕ). Close fd) xs ++ map (λ (fd : ℕ). Close fd) (left_numbers core e)) (open-live core q stands core.drain.over refl)
-        ∙ ap (λ xs. map (λ (fd : ℕ). Close fd) (ascending (live_numbers core.plan q)) ++ map (λ (fd : ℕ). Close fd) xs) (left-new core q e stands);
+    kept = ap (λ xs. map (λ (fd : ℕ). Close fd) xs ++ map (λ (fd : ℕ). Close fd) (left_numbers core e)) (open-live core q stands (is_served core.end) refl)
+        ∙ ap (λ xs. map (λ (fd : ℕ). Close fd) (ascending (live_numbers core.plan q)) ++ map (λ (fd : ℕ). Close fd) xs) (left-new core q e stands)
+        ∙ sym (none-cut core q (map (λ (fd : ℕ). Close fd) (ascending (live_numbers core.plan q)) ++ map (λ (fd : ℕ). Close fd) (new_numbers q (Some e))) stands);
   };
   closed = λ right. right_closes core.plan q (Some e) right;
 }

@@ -1,18 +1,19 @@
 -- What the part on the end of a run stands for, and what it tells.
-use Rattle.std.specs.Prelude.{ℕ, ◌≡◌, ◌++◌, List, [], ◌∷◌, map}
-use Rattle.svc_record.specs.declared.plan.Plan.{Plan}
+use Rattle.std.specs.Prelude.{ℕ, Bool, ◌≡◌, ◌++◌, List, [], ◌∷◌, map, if◌then◌else◌}
 use Rattle.svc_record.specs.declared.action.Action.{Action}
 use Rattle.svc_record.specs.declared.action.Action.TheVariants.{Phase, Close, Stop}
-use Rattle.svc_record.specs.declared.action.ExecutionPhase.TheVariants.{ShutdownStarted, ShutdownRuntimes, Terminated}
-use Rattle.svc_record.specs.Record.{Record, has, now, is_running}
-use Rattle.svc_record.specs.Drain.{has_passed}
+use Rattle.svc_record.specs.declared.action.ExecutionPhase.TheVariants.{Running, ShutdownStarted, ShutdownRuntimes, Terminated}
+use Rattle.svc_record.specs.Record.{Record, times, now, is_running}
 use Rattle.svc_core.specs.DrainData.{DrainData}
 
--- the flags say whether `Running` was told, and whether the signal's waits have passed; the moment is the last one
-pub record DrainStand (p : Plan) (d : DrainData) (q : Record) : Type 0 where
-  pub running_is : d.running ≡ has is_running q
-  pub over_is : d.over ≡ has_passed p q
+-- the flag says how often `Running` was told; the moment is the last one
+pub record DrainStand (d : DrainData) (q : Record) : Type 0 where
+  pub running_is : times is_running q ≡ (if d.running then 1 else 0)
   pub moment_is : d.moment ≡ now q
+
+-- what is told so that the server runs, at most once
+abbrev pub run_told : DrainData → List Action
+run_told d = if d.running then [] else Phase Running d.moment ∷ []
 
 -- what is told after a fast signal at this moment before the live descriptors close, and after it
 abbrev pub shutdown_told : ℕ → List Action

@@ -4,31 +4,32 @@ use Rattle.std.specs.List.{list_any}
 use Rattle.svc_record.specs.declared.entry.Entry.TheVariants.{Got}
 use Rattle.svc_record.specs.declared.event.Event.{Event}
 use Rattle.svc_record.specs.Descriptors.{numbers_of}
+use Rattle.svc_record.specs.Tail.{each_once}
 use Rattle.svc_conf.specs.Items.{list_of, spare}
 use Rattle.svc_record.specs.declared.action.Action.{Action}
 use Rattle.svc_endpoints.specs.EndpointsState.{open_numbers as table_numbers}
-use Rattle.svc_core.specs.CoreData.{CoreData}
+use Rattle.svc_core.specs.CoreData.{CoreData, is_served}
 
 -- the numbers of the descriptors that are open
 abbrev pub open_numbers : CoreData → List ℕ
-open_numbers core = if core.drain.over then [] else table_numbers core.endpoints
+open_numbers core = if is_served core.end then [] else table_numbers core.endpoints
 
--- the numbers that the event brings and that didn't come before
+-- the numbers that the event brings and that didn't come before, each once
 abbrev pub left_numbers : CoreData → Event → List ℕ
-left_numbers core e = filter (λ n. not (list_any (λ m. m == n) core.endpoints.came)) (numbers_of (Got e))
+left_numbers core e = each_once (filter (λ n. not (list_any (λ m. m == n) core.endpoints.came)) (numbers_of (Got e)))
 
 -- how many actions `close_all` tells at most, with an unfinished event or without one
 abbrev pub close_need : CoreData → Option Event → ℕ
 close_need core None = length (open_numbers core)
-close_need core (Some e) = length (open_numbers core) + 1
+close_need core (Some e) = length (open_numbers core) + length (numbers_of (Got e))
 
--- how many it tells at most in either case
+-- how many it tells at most in either case, for an event that brings at most 32 descriptors
 abbrev pub close_room : CoreData → ℕ
-close_room core = length (open_numbers core) + 1
+close_room core = length (open_numbers core) + 32
 
 -- how many actions the next step, and `close_all` after it, tell at most
 abbrev pub tell_room : CoreData → ℕ
-tell_room core = 2 * length core.order + length core.endpoints.table + 5
+tell_room core = 2 * length core.order + length core.endpoints.table + 72
 
 -- how many these are together with the boxes of the services that they start: at most one for each action
 abbrev pub step_room : CoreData → ℕ

@@ -1,5 +1,6 @@
 -- The records that a core stands for, and what its steps keep.
-use Rattle.std.specs.Prelude.{ℕ, true, false, ◌≡◌, ◌<◌, ◌≤◌, ◌==◌, List, [], ◌∷◌, Option, length}
+use Rattle.std.specs.Prelude.{ℕ, Bool, true, false, ◌≡◌, ◌<◌, ◌≤◌, ◌==◌, not, ◌&&◌, List, [], ◌∷◌, Option, length, MatchBool}
+use Rattle.std.specs.Bool.{OnTrue, OnFalse}
 use Rattle.std.specs.List.{list_any}
 use Rattle.svc_graph.specs.declared.plan.Kind.TheVariants.{Notifying}
 use Rattle.svc_record.specs.declared.plan.Plan.{Plan}
@@ -7,38 +8,90 @@ use Rattle.svc_record.specs.declared.action.Action.{Action}
 use Rattle.svc_record.specs.declared.action.StepEnd.{StepEnd}
 use Rattle.svc_record.specs.declared.entry.Entry.TheVariants.{Got}
 use Rattle.svc_record.specs.declared.event.Event.{Event}
-use Rattle.svc_record.specs.declared.event.Event.TheVariants.{Moment, Ready, Ended, Bound, InUse, BindFailed, Adopted, AdoptFailed, Signal}
+use Rattle.svc_record.specs.declared.event.Event.TheVariants.{Moment, Ready, Ended, Bound, InUse, BindFailed, Adopted, AdoptFailed, Received, NoSenderYet, ReceiveFailed, Signal}
+use Rattle.svc_record.specs.declared.event.ShutdownSignal.TheVariants.{FastShutdown}
 use Rattle.svc_record.specs.Plans.{service_count, endpoints, has_kind}
-use Rattle.svc_record.specs.Record.{Record, tell}
+use Rattle.svc_record.specs.Record.{Record, tell, last_step, EachEntry}
+use Rattle.svc_record.specs.Boot.{has_begun, start_after_boot}
 use Rattle.svc_record.specs.Drain.{ascending, live_numbers}
-use Rattle.svc_record.specs.Ends.{step_end}
+use Rattle.svc_record.specs.Ends.{step_end, ends_tested, TestedRight}
 use Rattle.svc_record.specs.Fits.{may_end}
-use Rattle.svc_record.specs.Right.{Right}
+use Rattle.svc_record.specs.Right.{Right, EndedRight, is_quiet}
+use Rattle.svc_record.specs.Starts.{is_started, is_due}
 use Rattle.svc_record.specs.Tail.{numbers_in, closing_actions, tail_right}
 use Rattle.svc_record.specs.Told.{Tells}
-use Rattle.svc_endpoints.specs.EndpointsState.{EndpointsStand, last_at, is_binding, is_adopting}
+use Rattle.svc_endpoints.specs.EndpointsState.{EndpointsStand, last_at, is_binding, is_adopting, all_new}
+use Rattle.svc_boot.specs.BootData.{BootData}
+use Rattle.svc_boot.specs.BootState.{BootStands, is_trying, is_through}
+use Rattle.svc_boot.specs.BootEffects.{end_of}
+use Rattle.svc_boot.specs.BootFacts.{IsBootSettled}
 use Rattle.svc_core.specs.StartsState.{StartsStand, AreFailed, is_flagged}
 use Rattle.svc_core.specs.DrainState.{DrainStand}
-use Rattle.svc_core.specs.CoreData.{CoreData}
+use Rattle.svc_core.specs.CoreData.{CoreData, is_on, is_served}
+use Rattle.svc_core.specs.Forms.{HasBuiltForms}
+use Rattle.svc_core.specs.Passes.{Going, IsBootRipe, VisitedUpTo, TestedAt, is_tested, may_start}
 
--- one clause for each part; once the run is over, which services failed and what came is all that is left of endpoints, and nothing is live
+-- one clause for each part; once the run has served, which services failed and what came is all that is left of endpoints, and nothing is live
 pub record StandsFor (core : CoreData) (q : Record) : Type 0 where
-  pub drain : DrainStand core.plan core.drain q
+  pub drain : DrainStand core.drain q
   pub starts : StartsStand core.plan core.starts q
-  pub endpoints : core.drain.over ≡ false → EndpointsStand core.plan core.endpoints q
+  pub boot : BootStands core.plan core.boot q
+  pub endpoints : is_served core.end ≡ false → EndpointsStand core.plan core.endpoints q
   pub failed : AreFailed core.plan core.endpoints.failed q
   pub came : core.endpoints.came ≡ ascending (numbers_in q)
-  pub closed : core.drain.over ≡ true → live_numbers core.plan q ≡ []
+  pub closed : is_served core.end ≡ true → live_numbers core.plan q ≡ []
+  pub forms : HasBuiltForms q
+  pub after_boot : EachEntry (λ e before. start_after_boot core.plan e before ≡ true) q
+  pub started_due : (s : ℕ) → s < service_count core.plan → is_started q s ≡ true → is_due core.plan q s ≡ true
+  pub begun_is : has_begun core.plan q ≡ core.boot.begun
+  pub runs : core.drain.running ≡ true → may_start core.plan core.boot ≡ true
+  pub settled : is_on core.end ≡ true → IsBootSettled core.plan core.boot core.drain.moment
+  pub end_is : core.end ≡ step_end core.plan q
 
 -- nothing was got or told yet
-abbrev pub HasNotBegun : CoreData → Type 0
-HasNotBegun core = StandsFor core []
+pub record HasNotBegun (core : CoreData) : Type 0 where
+  pub drain : DrainStand core.drain []
+  pub starts : StartsStand core.plan core.starts []
+  pub ends : EndpointsStand core.plan core.endpoints []
+  pub boot : BootStands core.plan core.boot []
+  pub unbegun : core.boot.begun ≡ false
+  pub idle : core.drain.running ≡ false
+
+-- how a run has ended in its bootstrapping
+pub record EndedSo (p : Plan) (q : Record) : Type 0 where
+  pub ended : EndedRight p q
+  pub tested : OnTrue (ends_tested p q) (TestedRight p q)
+
+-- an event was taken, or nothing yet, and what follows from it may be told: the parts stand for q; as long as bootstrapping hasn't begun, this step told only failures and closes; where no older server is asked, it was told that bootstrapping is complete; and where the event ended the run, it ended as is right
+pub record Struck (core : CoreData) (q : Record) : Type 0 where
+  pub going : Going core.plan core.starts core.endpoints core.boot core.drain q
+  pub quiet : core.boot.begun ≡ false → is_quiet (last_step q) ≡ true
+  pub alone : core.plan.upgrade ≡ false → core.boot.complete ≡ is_through core.plan core.boot
+  pub ended : OnFalse (is_on (end_of core.plan core.boot)) (EndedSo core.plan q)
+
+-- it was told where bootstrapping is complete, and services may be visited
+pub record Ripe (core : CoreData) (q : Record) : Type 0 where
+  pub going : Going core.plan core.starts core.endpoints core.boot core.drain q
+  pub quiet : core.boot.begun ≡ false → is_quiet (last_step q) ≡ true
+  pub goes_on : is_on (end_of core.plan core.boot) ≡ true
+  pub ripe : IsBootRipe core.plan core.boot
+
+-- the services were visited, where they may start, and what is left of the step may be told
+pub record Visited (core : CoreData) (q : Record) : Type 0 where
+  pub going : Going core.plan core.starts core.endpoints core.boot core.drain q
+  pub ripe : IsBootRipe core.plan core.boot
+  pub passed : OnTrue (may_start core.plan core.boot) (MatchBool (is_tested core.plan core.boot) ((k : ℕ) × TestedAt core.plan core.order k q) (VisitedUpTo core.plan core.order (length core.order) q))
+  pub waits : may_start core.plan core.boot ≡ false → is_tested core.plan core.boot ≡ false
 
 -- what a step gives: a right record that the core stands for, with its answer
 pub record StepRight (core : CoreData) (q : Record) (end : StepEnd) : Type 0 where
   pub stands : StandsFor core q
   pub right : Right core.plan q
   pub answer : end ≡ step_end core.plan q
+
+-- what follows from an event
+abbrev pub Follows : CoreData → CoreData → List Action → List Action → StepEnd → Type 0
+Follows old new before after end = Tells before after (λ told. (q : Record) → Struck old q → StepRight new (tell q told) end)
 
 -- the first step, from an empty record
 abbrev pub BeginKeeps : CoreData → List Action → List Action → StepEnd → Type 0
@@ -85,6 +138,12 @@ pub record AdoptMayBeAnswered (core : CoreData) (s i : ℕ) : Type 0 where
   pub within : i < length (endpoints core.plan s)
   pub asked : is_adopting (last_at core.endpoints s i) ≡ true
 
+-- a try to receive is open, and the message brings few descriptors, new ones, and no number twice
+pub record ReceivedMayCome (core : CoreData) (fds : List ℕ) : Type 0 where
+  pub trying : is_trying core.boot.receiving ≡ true
+  pub few : length fds ≤ 32
+  pub fresh : all_new core.endpoints.came fds ≡ true
+
 -- the condition of each event, by what the core holds
 abbrev pub RowMayCome : CoreData → Event → Type 0
 RowMayCome core (Moment ms) = core.drain.moment ≤ ms
@@ -95,8 +154,12 @@ RowMayCome core (InUse s i) = BindMayBeAnswered core s i
 RowMayCome core (BindFailed s i) = BindMayBeAnswered core s i
 RowMayCome core (Adopted s i) = AdoptMayBeAnswered core s i
 RowMayCome core (AdoptFailed s i) = AdoptMayBeAnswered core s i
-RowMayCome core (Signal kind) = core.drain.running ≡ true
+RowMayCome core (Received bytes fds) = ReceivedMayCome core fds
+RowMayCome core NoSenderYet = is_trying core.boot.receiving ≡ true
+RowMayCome core ReceiveFailed = is_trying core.boot.receiving ≡ true
+RowMayCome core (Signal FastShutdown) = core.drain.running ≡ true
+RowMayCome core _ = ⊥
 
 -- the event may come
 abbrev pub MayCome : CoreData → Event → Type 0
-MayCome core e = (core.drain.over ≡ false) × RowMayCome core e
+MayCome core e = (is_on core.end ≡ true) × RowMayCome core e

@@ -1,7 +1,7 @@
 -- What the part on starts stands for, and what it does.
 use Rattle.std.specs.Prelude.{ℕ, Bool, true, false, ◌≡◌, ◌<◌, ◌||◌, ◌&&◌, not, List, [], ◌∷◌, length, slice_index_or, slice_set}
 use Rattle.std.specs.List.{list_all}
-use Rattle.svc_graph.specs.declared.plan.Kind.TheVariants.{Plain}
+use Rattle.svc_graph.specs.declared.plan.Kind.TheVariants.{Plain, Bootstrap}
 use Rattle.svc_record.specs.declared.plan.Plan.{Plan}
 use Rattle.svc_record.specs.declared.action.Action.{Action}
 use Rattle.svc_record.specs.declared.action.Action.TheVariants.{Start}
@@ -37,17 +37,18 @@ pub record StartsStand (p : Plan) (st : StartsData) (q : Record) : Type 0 where
 abbrev pub AreFailed : Plan → List Bool → Record → Type 0
 AreFailed p failed q = (s : ℕ) → s < service_count p → is_flagged failed s ≡ has_failed p q s
 
--- the service is ready: its word came, or its work is done, or it has failed, or it is started and plain
-abbrev pub ready_now : Plan → StartsData → List Bool → ℕ → Bool
-ready_now p st failed s = ((is_flagged st.ready s || is_flagged st.ended s) || is_flagged failed s) || (is_flagged st.started s && has_kind p Plain s)
+-- the service is ready: its word came, or its work is done, or it has failed, or it is started and plain, or it is started, bootstraps, and bootstrapping is complete
+abbrev pub ready_now : Plan → StartsData → List Bool → Bool → ℕ → Bool
+ready_now p st failed complete s = ((is_flagged st.ready s || is_flagged st.ended s) || is_flagged failed s)
+    || (is_flagged st.started s && (has_kind p Plain s || (has_kind p Bootstrap s && complete)))
 
 -- all that it depends on is
-abbrev pub due_now : Plan → StartsData → List Bool → ℕ → Bool
-due_now p st failed s = list_all (ready_now p st failed) (depends p s)
+abbrev pub due_now : Plan → StartsData → List Bool → Bool → ℕ → Bool
+due_now p st failed complete s = list_all (ready_now p st failed complete) (depends p s)
 
 -- a visit starts it
-abbrev pub starts_now : Plan → StartsData → List Bool → ℕ → Bool
-starts_now p st failed s = not (is_flagged st.started s) && due_now p st failed s
+abbrev pub starts_now : Plan → StartsData → List Bool → Bool → ℕ → Bool
+starts_now p st failed complete s = not (is_flagged st.started s) && due_now p st failed complete s
 
 -- the part after the visit
 abbrev pub start_if : Bool → ℕ → StartsData → StartsData

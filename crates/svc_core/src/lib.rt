@@ -1,6 +1,7 @@
 //! The server core: a step for each event, and the actions that it tells.
 #![tactic(auto)]
 
+mod copies;
 mod drain;
 mod machine;
 mod pass;
@@ -11,9 +12,11 @@ mod starts;
 pub use machine::Core;
 pub use phase_reader::PhaseReader;
 pub use svc_record::{
-    Action, Actions, Entries, Entry, Event, ExecutionPhase, Plan, ServiceList, ServicePlan,
-    ShutdownSignal, StepEnd,
+    Action, Actions, BootstrapError, Entries, Entry, Event, ExecutionPhase, Plan, ServiceList,
+    ServicePlan, ShutdownSignal, Side, StepEnd,
 };
 
 #[cfg(test)]
 mod tests;
+#[cfg(test)]
+mod twice_tests;

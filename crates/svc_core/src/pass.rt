@@ -1,66 +1,125 @@
-//! The pass over the services: it starts what is due and asks for endpoints.
+//! The pass over the services: it starts what is due, asks for endpoints, and begins to bootstrap.
 
-ghost use Rattle.std.specs.Prelude.{◌≡◌, ◌+◌, ◌*◌, ◌<◌, ◌≤◌, length};
+ghost use Rattle.std.specs.Prelude.{◌≡◌, ◌+◌, ◌*◌, ◌-◌, ◌<◌, ◌≤◌, length, true, false};
 ghost use Rattle.svc_conf.specs.Items.{list_of, spare};
-ghost use Rattle.svc_record.specs.Validity.{IsValid, IsInOrder};
+ghost use Rattle.svc_record.specs.Validity.{IsValid, IsBuilt, IsInOrder};
 ghost use Rattle.svc_endpoints.specs.EndpointsState.{IsEndpointsSized};
+ghost use Rattle.svc_core.specs.Copies.{TellsBare};
 ghost use Rattle.svc_core.specs.StartsState.{IsStartsSized};
-ghost use Rattle.svc_core.specs.Passes.{Passes};
+ghost use Rattle.svc_core.specs.Passes.{Passes, Starting, is_tested, begin_room};
 
+use crate::drain::Drain;
+use crate::plans::is_bootstrap;
 use crate::starts::Starts;
+use svc_boot::Boot;
 use svc_endpoints::Endpoints;
 use svc_record::{Actions, Plan};
 
+/// The run was tested: bootstrapping has begun, and that is all.
+fn is_tested(plan: &Plan, boot: &Boot) -> bool
+    ensures { result ≡ is_tested plan.now boot.now }
+{
+    plan.test && boot.is_begun()
+}
+
+/// Starts the service at the place where it is due. With the first that bootstraps bootstrapping
+/// begins.
+fn start(
+    plan: &Plan,
+    order: &[u32],
+    k: usize,
+    drain: &Drain,
+    starts: &mut Starts,
+    endpoints: &Endpoints,
+    boot: &mut Boot,
+    actions: &mut Actions,
+)
+    requires valid { IsValid plan.now }
+    requires built { IsBuilt plan.now }
+    requires order { IsInOrder plan.now order.now }
+    requires place { k < length order.now }
+    requires starts_sized { IsStartsSized plan.now starts.old }
+    requires ends_sized { IsEndpointsSized plan.now endpoints.now.parts }
+    requires untested { is_tested plan.now boot.old ≡ false }
+    requires room { 1 + begin_room boot.old ≤ spare actions.old }
+    ensures starts_sized { IsStartsSized plan.now starts.new }
+    ensures bare { TellsBare (list_of actions.old) (list_of actions.new) }
+    ensures few { length (list_of actions.new) + begin_room boot.new ≤ length (list_of actions.old) + begin_room boot.old + 1 }
+    ensures room { spare actions.old + begin_room boot.new ≤ spare actions.new + begin_room boot.old + 1 }
+    ensures started { Starting plan.now order.now drain.now k starts.old starts.new endpoints.now.parts boot.old boot.new (list_of actions.old) (list_of actions.new) }
+{
+    let s = order[k];
+    let complete = boot.is_complete();
+    let starts_now = starts.visit(plan, endpoints.failed(), complete, s, actions);
+    if starts_now && is_bootstrap(plan, s) && !boot.is_begun() {
+        boot.begin(plan, drain.moment(), actions);
+    }
+}
+
+/// Starts the service at the place where it is due, and asks for its endpoints, unless the run was
+/// tested before or by that.
 fn visit(
     plan: &Plan,
     order: &[u32],
     k: usize,
-    moment: u64,
+    drain: &Drain,
     starts: &mut Starts,
     endpoints: &mut Endpoints,
+    boot: &mut Boot,
     actions: &mut Actions,
 )
     requires valid { IsValid plan.now }
+    requires built { IsBuilt plan.now }
     requires order { IsInOrder plan.now order.now }
     requires place { k < length order.now }
     requires starts_sized { IsStartsSized plan.now starts.old }
     requires ends_sized { IsEndpointsSized plan.now endpoints.old.parts }
-    requires room { 2 ≤ spare actions.old }
+    requires room { 2 + begin_room boot.old ≤ spare actions.old }
     ensures starts_sized { IsStartsSized plan.now starts.new }
     ensures ends_sized { IsEndpointsSized plan.now endpoints.new.parts }
     ensures table { endpoints.new.parts.table ≡ endpoints.old.parts.table }
-    ensures few { length (list_of actions.new) ≤ length (list_of actions.old) + 2 }
-    ensures room { spare actions.old ≤ spare actions.new + 2 }
-    ensures passed { Passes plan.now order.now moment k (k + 1) starts.old starts.new endpoints.old.parts endpoints.new.parts (list_of actions.old) (list_of actions.new) }
+    ensures bare { TellsBare (list_of actions.old) (list_of actions.new) }
+    ensures few { length (list_of actions.new) + begin_room boot.new ≤ length (list_of actions.old) + begin_room boot.old + 2 }
+    ensures room { spare actions.old + begin_room boot.new ≤ spare actions.new + begin_room boot.old + 2 }
+    ensures passed { Passes plan.now order.now drain.now k (k + 1) starts.old starts.new endpoints.old.parts endpoints.new.parts boot.old boot.new (list_of actions.old) (list_of actions.new) }
 {
+    if is_tested(plan, boot) {
+        return;
+    }
+    start(plan, order, k, drain, starts, endpoints, boot, actions);
+    if is_tested(plan, boot) {
+        return;
+    }
     let s = order[k];
-    starts.visit(plan, endpoints.failed(), s, actions);
     let is_started = starts.is_started(plan, s);
-    endpoints.visit(plan, s, is_started, moment, actions);
+    endpoints.visit(plan, s, is_started, drain.moment(), actions);
 }
 
-/// Visits each service once, in the startup order.
+/// Visits each service once, in the startup order, unless the run was tested at one of them.
 pub(crate) fn pass(
     plan: &Plan,
     order: &[u32],
-    moment: u64,
+    drain: &Drain,
     starts: &mut Starts,
     endpoints: &mut Endpoints,
+    boot: &mut Boot,
     actions: &mut Actions,
 )
     requires valid { IsValid plan.now }
+    requires built { IsBuilt plan.now }
     requires order { IsInOrder plan.now order.now }
     requires starts_sized { IsStartsSized plan.now starts.old }
     requires ends_sized { IsEndpointsSized plan.now endpoints.old.parts }
-    requires room { 2 * length order.now ≤ spare actions.old }
+    requires room { 2 * length order.now + begin_room boot.old ≤ spare actions.old }
     ensures starts_sized { IsStartsSized plan.now starts.new }
     ensures ends_sized { IsEndpointsSized plan.now endpoints.new.parts }
     ensures table { endpoints.new.parts.table ≡ endpoints.old.parts.table }
-    ensures few { length (list_of actions.new) ≤ length (list_of actions.old) + 2 * length order.now }
-    ensures room { spare actions.old ≤ spare actions.new + 2 * length order.now }
-    ensures passed { Passes plan.now order.now moment 0 (length order.now) starts.old starts.new endpoints.old.parts endpoints.new.parts (list_of actions.old) (list_of actions.new) }
+    ensures bare { TellsBare (list_of actions.old) (list_of actions.new) }
+    ensures few { length (list_of actions.new) + begin_room boot.new ≤ length (list_of actions.old) + begin_room boot.old + 2 * length order.now }
+    ensures room { spare actions.old + begin_room boot.new ≤ spare actions.new + begin_room boot.old + 2 * length order.now }
+    ensures passed { Passes plan.now order.now drain.now 0 (length order.now) starts.old starts.new endpoints.old.parts endpoints.new.parts boot.old boot.new (list_of actions.old) (list_of actions.new) }
 {
     for k in 0..order.len() {
-        visit(plan, order, k, moment, starts, endpoints, actions);
+        visit(plan, order, k, drain, starts, endpoints, boot, actions);
     }
 }

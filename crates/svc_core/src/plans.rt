@@ -3,7 +3,7 @@
 ghost use Rattle.std.specs.Prelude.{◌≡◌, ◌<◌, length, Some};
 ghost use Rattle.svc_record.specs.Plans.{service_count, depends, has_kind, endpoints, address};
 ghost use Rattle.svc_record.specs.Fits.{may_end};
-ghost use Rattle.svc_graph.specs.declared.plan.Kind.TheVariants.{Plain, Notifying};
+ghost use Rattle.svc_graph.specs.declared.plan.Kind.TheVariants.{Plain, Notifying, Bootstrap};
 
 use svc_conf::Text;
 use svc_graph::Kind;
@@ -41,6 +41,17 @@ pub(crate) fn is_notifying(plan: &Plan, s: u32) -> bool
         Kind::Plain => false,
         Kind::Notifying => true,
         Kind::Bootstrap => false,
+    }
+}
+
+pub(crate) fn is_bootstrap(plan: &Plan, s: u32) -> bool
+    requires { s < service_count plan.now }
+    ensures { result ≡ has_kind plan.now Bootstrap s }
+{
+    match plan.services.as_slice()[s as usize].kind {
+        Kind::Plain => false,
+        Kind::Notifying => false,
+        Kind::Bootstrap => true,
     }
 }
 

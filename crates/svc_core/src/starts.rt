@@ -6,7 +6,7 @@ ghost use Rattle.svc_record.specs.Plans.{service_count};
 ghost use Rattle.svc_record.specs.Validity.{IsValid};
 ghost use Rattle.svc_core.specs.StartsState.{IsStartsSized, IsBlank, is_flagged, ready_now, due_now, starts_now, start_if, start_told, word_taken, end_taken};
 
-use crate::plans::{depends_of, is_plain, service_count};
+use crate::plans::{depends_of, is_bootstrap, is_plain, service_count};
 use std::alloc::Global;
 use std::marker::Model;
 use svc_conf::NoMemory;
@@ -44,26 +44,28 @@ impl Starts {
         })
     }
 
-    /// The service's word came, or its work is done, or it has failed, or it is started and plain.
-    pub(crate) fn is_ready(&self, plan: &Plan, failed: &[bool], s: u32) -> bool
+    /// The service's word came, or its work is done, or it has failed, or it is started and plain, or
+    /// it is started, bootstraps, and bootstrapping is complete.
+    pub(crate) fn is_ready(&self, plan: &Plan, failed: &[bool], complete: bool, s: u32) -> bool
         requires service { s < service_count plan.now }
         requires sized { IsStartsSized plan.now self.now }
         requires flags { length failed.now ≡ service_count plan.now }
-        ensures { result ≡ ready_now plan.now self.now failed.now s }
+        ensures { result ≡ ready_now plan.now self.now failed.now complete s }
     {
         ((self.ready[s as usize] || self.ended[s as usize]) || failed[s as usize])
-            || (self.started[s as usize] && is_plain(plan, s))
+            || (self.started[s as usize]
+                && (is_plain(plan, s) || (is_bootstrap(plan, s) && complete)))
     }
 
-    fn is_due(&self, plan: &Plan, failed: &[bool], s: u32) -> bool
+    fn is_due(&self, plan: &Plan, failed: &[bool], complete: bool, s: u32) -> bool
         requires service { s < service_count plan.now }
         requires valid { IsValid plan.now }
         requires sized { IsStartsSized plan.now self.now }
         requires flags { length failed.now ≡ service_count plan.now }
-        ensures { result ≡ due_now plan.now self.now failed.now s }
+        ensures { result ≡ due_now plan.now self.now failed.now complete s }
     {
         for d in depends_of(plan, s) {
-            if !self.is_ready(plan, failed, *d) {
+            if !self.is_ready(plan, failed, complete, *d) {
                 return false;
             }
         }
@@ -121,6 +123,7 @@ impl Starts {
         &mut self,
         plan: &Plan,
         failed: &[bool],
+        complete: bool,
         s: u32,
         actions: &mut Actions,
     ) -> bool
@@ -130,13 +133,13 @@ impl Starts {
         requires flags { length failed.now ≡ service_count plan.now }
         requires room { 0 < spare actions.old }
         ensures sized { IsStartsSized plan.now self.new }
-        ensures due { result ≡ starts_now plan.now self.old failed.now s }
+        ensures due { result ≡ starts_now plan.now self.old failed.now complete s }
         ensures after { self.new ≡ start_if result s self.old }
         ensures told { list_of actions.new ≡ list_of actions.old ++ start_told result s }
         ensures few { length (list_of actions.new) ≤ length (list_of actions.old) + 1 }
         ensures room { spare actions.old ≤ spare actions.new + 1 }
     {
-        if self.started[s as usize] || !self.is_due(plan, failed, s) {
+        if self.started[s as usize] || !self.is_due(plan, failed, complete, s) {
             return false;
         }
         self.started[s as usize] = true;

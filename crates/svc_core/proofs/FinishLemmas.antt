@@ -1,0 +1,449 @@
+-- The stages of a step: bootstrapping is completed, services are visited, the server runs, and a handover is tried for again.
+use Rattle.std.proofs.Common.{ℕ, Bool, true, false, ◌||◌, ◌&&◌, ◌==◌, not, inl, inr, List, [], ◌∷◌, ◌++◌, ◌≡◌, refl, ap, sym, ◌∙◌, subst, arith, ◌<◌, ◌+◌, length, if◌then◌else◌, MatchBool, append-nil, append_assoc}
+use Rattle.std.specs.Bool.{OnTrue, OnFalse}
+use Rattle.std.proofs.lemmas.Bool.{and_parts, eq-eqb, cases_Bool}
+use Rattle.svc_record.specs.declared.plan.Plan.{Plan}
+use Rattle.svc_record.specs.declared.entry.Entry.TheVariants.{Told}
+use Rattle.svc_record.specs.declared.action.Action.{Action}
+use Rattle.svc_record.specs.declared.action.Action.TheVariants.{Phase, TryReceive}
+use Rattle.svc_record.specs.declared.action.ExecutionPhase.TheVariants.{Running, BootstrapComplete}
+use Rattle.svc_record.specs.declared.action.StepEnd.{StepEnd}
+use Rattle.svc_record.specs.declared.action.StepEnd.TheVariants.{On, Tested}
+use Rattle.svc_record.specs.Record.{Record, now, times, tell, last_step, is_running}
+use Rattle.svc_record.specs.Drain.{phase}
+use Rattle.svc_record.specs.Right.{is_quiet}
+use Rattle.svc_record.specs.Told.{Tells}
+use Rattle.svc_record.specs.Validity.{IsInOrder, IsStartupOrder}
+use Rattle.svc_record.proofs.Closing.{tell-append}
+use Rattle.svc_endpoints.specs.EndpointsData.{EndpointsData}
+use Rattle.svc_endpoints.specs.EndpointsState.{EndpointsStand}
+use Rattle.svc_endpoints.proofs.EventLemmas.{stands-told}
+use Rattle.svc_boot.specs.declared.receiving.Receiving.{Receiving}
+use Rattle.svc_boot.specs.declared.receiving.Receiving.TheVariants.{Unasked, Trying, Missed, Came, Refused}
+use Rattle.svc_boot.specs.BootData.{BootData}
+use Rattle.svc_boot.specs.BootState.{BootStands, is_refused, is_through, is_due_in, has_come, is_tried}
+use Rattle.svc_boot.specs.BootEffects.{end_of, refusal_of, is_complete_due, completed_if, complete_told, tried_if, try_told}
+use Rattle.svc_boot.specs.BootFacts.{IsBootSettled}
+use Rattle.svc_boot.proofs.Foreign.{stands-running}
+use Rattle.svc_core.specs.StartsData.{StartsData}
+use Rattle.svc_core.specs.DrainData.{DrainData}
+use Rattle.svc_core.specs.DrainState.{run_told}
+use Rattle.svc_core.specs.CoreData.{CoreData, is_on}
+use Rattle.svc_core.specs.Passes.{Going, IsBootRipe, VisitedUpTo, TestedAt, PassedUpTo, Passes, is_tested, may_start}
+use Rattle.svc_core.specs.Stands.{Struck, Ripe, Visited, StepRight, Follows, EndedSo}
+use Rattle.svc_core.proofs.RecordLemmas.{now-tell, to_true, not_true, on_false}
+use Rattle.svc_core.proofs.StartsLemmas.{is_due-grows}
+use Rattle.svc_core.proofs.GoingLemmas.{Loose, loose-of, loose-told, loose-tell, going-from, are_loose, begun-tell}
+use Rattle.svc_core.proofs.OpenLemmas.{step-on, step-ended, ended-end}
+use Rattle.svc_core.proofs.TestedLemmas.{tested-so}
+
+-- a run that goes on, by the part on bootstrapping
+pub on-by : (p : Plan) (b : BootData) → is_tested p b ≡ false → is_refused b.receiving ≡ false → is_on (end_of p b) ≡ true
+on-by p b untested goes = ap (λ c. is_on (if c then Tested else refusal_of b.receiving)) untested ∙ unrefused b.receiving goes
+  where
+    unrefused : (x : Receiving) → is_refused x ≡ false → is_on (refusal_of x) ≡ true
+    unrefused (Refused reason) h = absurd (cc)
+    unrefused Unasked h = refl
+    unrefused Trying h = refl
+    unrefused (Missed at) h = refl
+    unrefused Came h = refl
+
+-- the core with other parts
+abbrev pub with_boot : BootData → CoreData → CoreData
+with_boot b core = record { plan = core.plan; order = core.order; starts = core.starts; endpoints = core.endpoints; boot = b; drain = core.drain; end = core.end }
+
+abbrev pub with_end : StepEnd → CoreData → CoreData
+with_end end core = record { plan = core.plan; order = core.order; starts = core.starts; endpoints = core.endpoints; boot = core.boot; drain = core.drain; end = end }
+
+abbrev pub with_pass : StartsData → EndpointsData → BootData → CoreData → CoreData
+with_pass st d b core = record { plan = core.plan; order = core.order; starts = st; endpoints = d; boot = b; drain = core.drain; end = core.end }
+
+abbrev pub with_drain : DrainData → CoreData → CoreData
+with_drain dr core = record { plan = core.plan; order = core.order; starts = core.starts; endpoints = core.endpoints; boot = core.boot; drain = dr; end = core.end }
+
+-- a run that goes on wasn't refused or tested
+pub on-end : (p : Plan) (b : BootData) → is_on (end_of p b) ≡ true → (is_tested p b ≡ false) × (is_refused b.receiving ≡ false)
+on-end p b h = elim (cases_Bool (p.test && b.begun)) [
+  | inl tested ↦ absurd (let off : is_on (end_of p b) ≡ false = rw tested refl in cc)
+  | inr live ↦ (live, unrefused b.receiving (subst (λ c. is_on (if c then Tested else refusal_of b.receiving) ≡ true) live h))
+]
+  where
+    unrefused : (x : Receiving) → is_on (refusal_of x) ≡ true → is_refused x ≡ false
+    unrefused (Refused reason) k = absurd (cc)
+    unrefused Unasked k = refl
+    unrefused Trying k = refl
+    unrefused (Missed at) k = refl
+    unrefused Came k = refl
+
+-- completing
+through_after : (c h t u b due : Bool) → (c ≡ true → ((b && not t) && (not u || h)) ≡ true) → due ≡ (h && not c) → (h ≡ true → ((b && not t) && u) ≡ true) → (u ≡ false → c ≡ ((b && not t) && (not u || h)))
+    → (c || due) ≡ ((b && not t) && (not u || h))
+through_after c h t u b due f e g k = grind (arith, f, g, k)
+
+-- it was told where bootstrapping is complete
+pub ripen : (core : CoreData) (q : Record) (due : Bool) → due ≡ is_complete_due core.boot
+    → ((r : Record) → BootStands core.plan core.boot r → BootStands core.plan (completed_if due core.boot) (tell r (complete_told due core.drain.moment)))
+    → is_on (end_of core.plan core.boot) ≡ true → (core.plan.upgrade ≡ false → core.boot.complete ≡ is_through core.plan core.boot) → Struck core q
+    → Ripe (with_boot (completed_if due core.boot) core) (tell q (complete_told due core.drain.moment))
+ripen core q due e stands on alone struck =
+    let going = struck.going in
+    let loose : are_loose (now q) (complete_told due core.drain.moment) ≡ true = subst (λ m. are_loose m (complete_told due core.drain.moment) ≡ true) going.drain.moment_is (told-loose due core.drain.moment) in
+    record {
+      going = going-from core.plan core.starts core.endpoints (completed_if due core.boot) core.drain (tell q (complete_told due core.drain.moment))
+          (loose-tell core.plan core.starts core.drain q (complete_told due core.drain.moment) loose (loose-of core.plan core.starts core.endpoints core.boot core.drain q going))
+          (told-ends due) (stands q going.boot)
+          (begun-tell core.plan q (now q) (complete_told due core.drain.moment) loose ∙ going.begun_is)
+          (λ r. may-more core.plan.eager core.boot.complete due (going.runs r));
+      quiet = λ none. told-quiet due e none;
+      goes_on = on;
+      ripe = record {
+        goes_on = (on-end core.plan core.boot on).1;
+        complete_is = through_after core.boot.complete (has_come core.boot.receiving) core.plan.test core.plan.upgrade core.boot.begun due going.boot.kept.through e
+            (λ c. sym going.boot.kept.tried_is ∙ come-tried core.boot.receiving c) alone;
+      };
+    }
+  where
+    told-loose : (c : Bool) (m : ℕ) → are_loose m (complete_told c m) ≡ true
+    told-loose true m = rw (eq-eqb m m refl) refl
+    told-loose false m = refl
+
+    told-ends : (c : Bool) → EndpointsStand core.plan core.endpoints (tell q (complete_told c core.drain.moment))
+    told-ends true = stands-told core.plan core.endpoints q (Phase BootstrapComplete core.drain.moment) refl struck.going.ends
+    told-ends false = struck.going.ends
+
+    may-more : (eager complete more : Bool) → (not eager || complete) ≡ true → (not eager || (complete || more)) ≡ true
+    may-more eager complete more h = grind arith
+
+    come-tried : (x : Receiving) → has_come x ≡ true → is_tried x ≡ true
+    come-tried Came h = refl
+    come-tried Unasked h = absurd (cc)
+    come-tried Trying h = absurd (cc)
+    come-tried (Missed at) h = absurd (cc)
+    come-tried (Refused reason) h = absurd (cc)
+
+    receives_begun : (b t u : Bool) → ((b && not t) && u) ≡ true → b ≡ true
+    receives_begun b t u h = grind arith
+
+    told-quiet : (c : Bool) → c ≡ is_complete_due core.boot → core.boot.begun ≡ false → is_quiet (last_step (tell q (complete_told c core.drain.moment))) ≡ true
+    told-quiet true e none = absurd (
+        let come = (and_parts (has_come core.boot.receiving) (not core.boot.complete) (sym e)).0 in
+        let begun = receives_begun core.boot.begun core.plan.test core.plan.upgrade (sym struck.going.boot.kept.tried_is ∙ come-tried core.boot.receiving come) in
+        cc)
+    told-quiet false e none = struck.quiet none
+
+-- the services are visited
+pub start-up : (core : CoreData) (st : StartsData) (d : EndpointsData) (b : BootData) (before after : List Action) → may_start core.plan core.boot ≡ true
+    → Passes core.plan core.order core.drain 0 (length core.order) core.starts st core.endpoints d core.boot b before after
+    → Tells before after (λ told. (q : Record) → Ripe core q → Visited (with_pass st d b core) (tell q told))
+start-up core st d b before after may pass = record {
+  told = pass.told;
+  appended = pass.appended;
+  kept = λ q ripe. (
+      let none = on-end core.plan core.boot ripe.goes_on in
+      let up = pass.kept q (record {
+        going = ripe.going;
+        may = may;
+        ripe = ripe.ripe;
+        visited = unvisited (is_tested core.plan core.boot) ((j : ℕ) × TestedAt core.plan core.order j q) (VisitedUpTo core.plan core.order 0 q) none.0
+            (record { due_started = λ j lt. absurd (omega arith); right = λ j lt. absurd (omega arith) });
+        quiet = ripe.quiet;
+      }) in
+      record {
+        going = up.going;
+        ripe = up.ripe;
+        passed = to_true (may_start core.plan b) (MatchBool (is_tested core.plan b) ((k : ℕ) × TestedAt core.plan core.order k (tell q pass.told)) (VisitedUpTo core.plan core.order (length core.order) (tell q pass.told))) up.visited;
+        waits = λ off. absurd (let on = up.may in cc);
+      });
+}
+  where
+    unvisited : (c : Bool) (A B : Type 0) → c ≡ false → B → MatchBool c A B
+    unvisited true A B e h = absurd (cc)
+    unvisited false A B e h = h
+
+-- none may start yet
+pub start-none : (core : CoreData) (before : List Action) → may_start core.plan core.boot ≡ false → Tells before before (λ told. (q : Record) → Ripe core q → Visited core (tell q told))
+start-none core before off = record {
+  told = [];
+  appended = sym (append-nil before);
+  kept = λ q ripe. record {
+    going = ripe.going;
+    ripe = ripe.ripe;
+    passed = not_true (may_start core.plan core.boot) _ off;
+    waits = λ e. (on-end core.plan core.boot ripe.goes_on).0;
+  };
+}
+
+-- the run was tested: nothing more is told
+pub go-ended : (core : CoreData) (before : List Action) → IsStartupOrder core.plan core.order → IsInOrder core.plan core.order → core.plan.daemon ≡ false → is_on (end_of core.plan core.boot) ≡ false
+    → Tells before before (λ told. (q : Record) → Visited core q → StepRight (with_end (end_of core.plan core.boot) core) (tell q told) (end_of core.plan core.boot))
+go-ended core before least in_order none off = record {
+  told = [];
+  appended = sym (append-nil before);
+  kept = λ q visited. (
+      let tested = is-tested (is_tested core.plan core.boot) (is_refused core.boot.receiving) (ended-end core.plan core.boot off) visited.ripe.goes_on in
+      let may = starts (may_start core.plan core.boot) (λ e. (let untested = visited.waits e in cc)) in
+      let at = on-both (may_start core.plan core.boot) (is_tested core.plan core.boot) ((k : ℕ) × TestedAt core.plan core.order k q) (VisitedUpTo core.plan core.order (length core.order) q) may tested visited.passed in
+      step-ended (with_end (end_of core.plan core.boot) core) q visited.going off refl
+      (tested-so core.plan core.order least in_order core.starts core.endpoints core.boot core.drain q visited.going at.0 at.1 none tested visited.ripe.goes_on));
+}
+  where
+    is-tested : (a b : Bool) → (a || b) ≡ true → b ≡ false → a ≡ true
+    is-tested a b h k = grind arith
+
+    starts : (c : Bool) → (c ≡ false → ⊥) → c ≡ true
+    starts true f = refl
+    starts false f = absurd (f refl)
+
+    on-both : (c e : Bool) (A B : Type 0) → c ≡ true → e ≡ true → OnTrue c (MatchBool e A B) → A
+    on-both true true A B h k x = x
+    on-both true false A B h k x = absurd (cc)
+    on-both false e A B h k x = absurd (cc)
+
+-- the server runs, once
+abbrev running : DrainData → DrainData
+running dr = record { running = true; moment = dr.moment }
+
+one-more : (n : ℕ) → n ≡ 0 → n + 1 ≡ 1
+one-more n e = omega arith
+
+run-going : (core : CoreData) (q : Record) → may_start core.plan core.boot ≡ true → Going core.plan core.starts core.endpoints core.boot core.drain q
+    → Going core.plan core.starts core.endpoints core.boot (running core.drain) (tell q (run_told core.drain))
+run-going core q may going = by core.drain.running refl
+  where
+    by : (c : Bool) → core.drain.running ≡ c → Going core.plan core.starts core.endpoints core.boot (running core.drain) (tell q (run_told core.drain))
+    by true e = rw e (record {
+      drain = record { running_is = going.drain.running_is ∙ rw e refl; moment_is = going.drain.moment_is };
+      starts = going.starts;
+      ends = going.ends;
+      boot = going.boot;
+      forms = going.forms;
+      entries = going.entries;
+      started_due = going.started_due;
+      begun_is = going.begun_is;
+      runs = λ r. may;
+      marks = going.marks ∙ rw e refl;
+      no_end = going.no_end;
+      silent = going.silent;
+      earlier = going.earlier;
+      fails = going.fails;
+    })
+    by false e = rw e (record {
+      drain = record { running_is = one-more (times is_running q) (going.drain.running_is ∙ rw e refl); moment_is = going.drain.moment_is };
+      starts = record { started_is = going.starts.started_is; ready_is = going.starts.ready_is; ended_is = going.starts.ended_is };
+      ends = stands-told core.plan core.endpoints q (Phase Running core.drain.moment) refl going.ends;
+      boot = stands-running core.plan core.boot q core.drain.moment may going.boot;
+      forms = (refl, going.forms);
+      entries = record {
+        fits = (refl, going.entries.fits);
+        starts = (refl, going.entries.starts);
+        after_boot = (refl, going.entries.after_boot);
+        moments = (eq-eqb core.drain.moment (now q) going.drain.moment_is, going.entries.moments);
+        known_starts = (refl, going.entries.known_starts);
+      };
+      started_due = λ s lt here. is_due-grows core.plan q (Told (Phase Running core.drain.moment)) s (going.started_due s lt here);
+      begun_is = going.begun_is;
+      runs = λ r. may;
+      marks = ap (λ marks. phase Running ∷ marks) (going.marks ∙ rw e refl);
+      no_end = going.no_end;
+      silent = going.silent;
+      earlier = going.earlier;
+      fails = going.fails;
+    })
+
+run-visited : (p : Plan) (order : List ℕ) (k : ℕ) (q : Record) (dr : DrainData) → VisitedUpTo p order k q → VisitedUpTo p order k (tell q (run_told dr))
+run-visited p order k q dr h = by dr.running
+  where
+    by : (c : Bool) → VisitedUpTo p order k (tell q (if c then [] else Phase Running dr.moment ∷ []))
+    by true = h
+    by false = record { due_started = λ j lt due. h.due_started j lt due; right = λ j lt i within. h.right j lt i within }
+
+-- a handover is tried for again, and the step is done
+try-visited : (p : Plan) (order : List ℕ) (k : ℕ) (q : Record) (due : Bool) → VisitedUpTo p order k q → VisitedUpTo p order k (tell q (try_told due))
+try-visited p order k q true h = record { due_started = λ j lt due. h.due_started j lt due; right = λ j lt i within. h.right j lt i within }
+try-visited p order k q false h = h
+
+settled-by : (p : Plan) (b : BootData) (m : ℕ) (due : Bool) → due ≡ is_due_in b.receiving m → IsBootRipe p b → IsBootSettled p (tried_if due b) m
+settled-by p b m due e ripe = record {
+  goes_on = goes due;
+  no_try_due = over due e;
+  complete_is = ripe.complete_is ∙ ap (λ h. (b.begun && not p.test) && (not p.upgrade || h)) (same due e);
+}
+  where
+    goes : (c : Bool) → is_refused (if c then Trying else b.receiving) ≡ false
+    goes true = refl
+    goes false = ripe.goes_on
+
+    over : (c : Bool) → c ≡ is_due_in b.receiving m → is_due_in (if c then Trying else b.receiving) m ≡ false
+    over true k = refl
+    over false k = sym k
+
+    missed : (x : Receiving) → is_due_in x m ≡ true → has_come x ≡ false
+    missed (Missed at) k = refl
+    missed Unasked k = absurd (cc)
+    missed Trying k = absurd (cc)
+    missed Came k = absurd (cc)
+    missed (Refused reason) k = absurd (cc)
+
+    same : (c : Bool) → c ≡ is_due_in b.receiving m → has_come b.receiving ≡ has_come (if c then Trying else b.receiving)
+    same true k = missed b.receiving (sym k)
+    same false k = refl
+
+-- what is left of a step, where services may start or not
+module _ (core : CoreData) (in_order : IsInOrder core.plan core.order) (none : core.plan.daemon ≡ false) (on : is_on (end_of core.plan core.boot) ≡ true) (due : Bool)
+    (due_is : due ≡ is_due_in core.boot.receiving core.drain.moment) (dr : DrainData) (same_moment : dr.moment ≡ core.drain.moment)
+    (stands : (q : Record) → core.drain.moment ≡ now q → BootStands core.plan core.boot q → BootStands core.plan (tried_if due core.boot) (tell q (try_told due))) where
+  tries-loose : (m : ℕ) (c : Bool) → are_loose m (try_told c) ≡ true
+  tries-loose m true = refl
+  tries-loose m false = refl
+
+  tries-ends : (q : Record) (c : Bool) → EndpointsStand core.plan core.endpoints q → EndpointsStand core.plan core.endpoints (tell q (try_told c))
+  tries-ends q true h = stands-told core.plan core.endpoints q TryReceive refl h
+  tries-ends q false h = h
+
+  end-kept : (c : Bool) → c ≡ is_due_in core.boot.receiving core.drain.moment → end_of core.plan core.boot ≡ end_of core.plan (tried_if c core.boot)
+  end-kept true k = ap (λ x. if core.plan.test && core.boot.begun then Tested else x) (missed-on core.boot.receiving (sym k))
+    where
+      missed-on : (x : Receiving) → is_due_in x core.drain.moment ≡ true → refusal_of x ≡ On
+      missed-on (Missed at) h = refl
+      missed-on Unasked h = absurd (cc)
+      missed-on Trying h = absurd (cc)
+      missed-on Came h = absurd (cc)
+      missed-on (Refused reason) h = absurd (cc)
+  end-kept false k = refl
+
+  pub settle : (q : Record) → Going core.plan core.starts core.endpoints core.boot dr q → IsBootRipe core.plan core.boot → OnTrue (may_start core.plan core.boot) (VisitedUpTo core.plan core.order (length core.order) q)
+      → dr.running ≡ may_start core.plan core.boot
+      → StepRight (record { plan = core.plan; order = core.order; starts = core.starts; endpoints = core.endpoints; boot = tried_if due core.boot; drain = dr; end = end_of core.plan core.boot }) (tell q (try_told due)) (end_of core.plan core.boot)
+  settle q going ripe visited runs =
+      step-on (record { plan = core.plan; order = core.order; starts = core.starts; endpoints = core.endpoints; boot = tried_if due core.boot; drain = dr; end = end_of core.plan core.boot }) (tell q (try_told due)) in_order none
+      (going-from core.plan core.starts core.endpoints (tried_if due core.boot) dr (tell q (try_told due))
+      (loose-tell core.plan core.starts dr q (try_told due) (tries-loose (now q) due) (loose-of core.plan core.starts core.endpoints core.boot dr q going))
+      (tries-ends q due going.ends) (stands q (sym same_moment ∙ going.drain.moment_is) going.boot)
+      (begun-tell core.plan q (now q) (try_told due) (tries-loose (now q) due) ∙ going.begun_is) going.runs)
+      (subst (IsBootSettled core.plan (tried_if due core.boot)) (sym same_moment) (settled-by core.plan core.boot core.drain.moment due due_is ripe))
+      (on-end core.plan core.boot on).0
+      (map-on (may_start core.plan core.boot) (VisitedUpTo core.plan core.order (length core.order) q) (VisitedUpTo core.plan core.order (length core.order) (tell q (try_told due)))
+      (try-visited core.plan core.order (length core.order) q due) visited)
+      runs (end-kept due due_is)
+    where
+      map-on : (c : Bool) (A B : Type 0) → (A → B) → OnTrue c A → OnTrue c B
+      map-on true A B f x = f x
+      map-on false A B f x = tt
+
+untested-visited : (c : Bool) (A B : Type 0) → c ≡ false → MatchBool c A B → B
+untested-visited true A B e h = absurd (cc)
+untested-visited false A B e h = h
+
+-- the server runs
+pub go-on : (core : CoreData) (before mid after : List Action) → IsInOrder core.plan core.order → core.plan.daemon ≡ false → is_on (end_of core.plan core.boot) ≡ true → may_start core.plan core.boot ≡ true
+    → mid ≡ before ++ run_told core.drain → (due : Bool) → due ≡ is_due_in core.boot.receiving core.drain.moment → after ≡ mid ++ try_told due
+    → ((q : Record) → core.drain.moment ≡ now q → BootStands core.plan core.boot q → BootStands core.plan (tried_if due core.boot) (tell q (try_told due)))
+    → Tells before after (λ told. (q : Record) → Visited core q
+    → StepRight (record { plan = core.plan; order = core.order; starts = core.starts; endpoints = core.endpoints; boot = tried_if due core.boot; drain = running core.drain; end = end_of core.plan core.boot }) (tell q told) (end_of core.plan core.boot))
+go-on core before mid after in_order none on may first due due_is next stands = record {
+  told = run_told core.drain ++ try_told due;
+  appended = next ∙ ap (λ w. w ++ try_told due) first ∙ append_assoc before (run_told core.drain) (try_told due);
+  kept = λ q visited.
+      subst (λ r. StepRight (record { plan = core.plan; order = core.order; starts = core.starts; endpoints = core.endpoints; boot = tried_if due core.boot; drain = running core.drain; end = end_of core.plan core.boot }) r (end_of core.plan core.boot))
+      (sym (tell-append q (run_told core.drain) (try_told due)))
+      (settle core in_order none on due due_is (running core.drain) refl stands (tell q (run_told core.drain)) (run-going core q may visited.going) visited.ripe
+      (to_true (may_start core.plan core.boot) (VisitedUpTo core.plan core.order (length core.order) (tell q (run_told core.drain)))
+      (run-visited core.plan core.order (length core.order) q core.drain
+      (untested-visited (is_tested core.plan core.boot) ((k : ℕ) × TestedAt core.plan core.order k q) (VisitedUpTo core.plan core.order (length core.order) q) (on-end core.plan core.boot on).0
+      (on-this (may_start core.plan core.boot) (MatchBool (is_tested core.plan core.boot) ((k : ℕ) × TestedAt core.plan core.order k q) (VisitedUpTo core.plan core.order (length core.order) q)) may visited.passed))))
+      (sym may));
+}
+  where
+    on-this : (c : Bool) (A : Type 0) → c ≡ true → OnTrue c A → A
+    on-this true A e h = h
+    on-this false A e h = absurd (cc)
+
+-- it doesn't yet
+pub go-waiting : (core : CoreData) (before after : List Action) → IsInOrder core.plan core.order → core.plan.daemon ≡ false → is_on (end_of core.plan core.boot) ≡ true → may_start core.plan core.boot ≡ false
+    → (due : Bool) → due ≡ is_due_in core.boot.receiving core.drain.moment → after ≡ before ++ try_told due
+    → ((q : Record) → core.drain.moment ≡ now q → BootStands core.plan core.boot q → BootStands core.plan (tried_if due core.boot) (tell q (try_told due)))
+    → Tells before after (λ told. (q : Record) → Visited core q
+    → StepRight (record { plan = core.plan; order = core.order; starts = core.starts; endpoints = core.endpoints; boot = tried_if due core.boot; drain = core.drain; end = end_of core.plan core.boot }) (tell q told) (end_of core.plan core.boot))
+go-waiting core before after in_order none on off due due_is told stands = record {
+  told = try_told due;
+  appended = told;
+  kept = λ q visited.
+      settle core in_order none on due due_is core.drain refl stands q visited.going visited.ripe (not_true (may_start core.plan core.boot) _ off)
+      (idle core.drain.running (may_start core.plan core.boot) off visited.going.runs);
+}
+  where
+    idle : (r m : Bool) → m ≡ false → (r ≡ true → m ≡ true) → r ≡ m
+    idle true m e f = sym (f refl)
+    idle false m e f = sym e
+
+-- nothing follows where the event ended the run
+pub follows-ended : (core : CoreData) (before : List Action) → is_on (end_of core.plan core.boot) ≡ false → Follows core (with_end (end_of core.plan core.boot) core) before before (end_of core.plan core.boot)
+follows-ended core before off = record {
+  told = [];
+  appended = sym (append-nil before);
+  kept = λ q struck. step-ended (with_end (end_of core.plan core.boot) core) q struck.going off refl (on_false (is_on (end_of core.plan core.boot)) (EndedSo core.plan q) off struck.ended);
+}
+
+-- the stages one after the other
+pub follows-on : (core ripe_core visited_core new : CoreData) (before mid passed after : List Action) (end : StepEnd) (due : Bool)
+    → due ≡ is_complete_due core.boot → mid ≡ before ++ complete_told due core.drain.moment
+    → ((r : Record) → BootStands core.plan core.boot r → BootStands core.plan (completed_if due core.boot) (tell r (complete_told due core.drain.moment)))
+    → is_on (end_of core.plan core.boot) ≡ true → ripe_core ≡ with_boot (completed_if due core.boot) core
+    → Tells mid passed (λ told. (q : Record) → Ripe ripe_core q → Visited visited_core (tell q told))
+    → Tells passed after (λ told. (q : Record) → Visited visited_core q → StepRight new (tell q told) end)
+    → Follows core new before after end
+follows-on core ripe_core visited_core new before mid passed after end due due_is first stands on same starts goes = record {
+  told = complete_told due core.drain.moment ++ (starts.told ++ goes.told);
+  appended = goes.appended ∙ ap (λ w. w ++ goes.told) (starts.appended ∙ ap (λ w. w ++ starts.told) first)
+      ∙ append_assoc (before ++ complete_told due core.drain.moment) starts.told goes.told
+      ∙ append_assoc before (complete_told due core.drain.moment) (starts.told ++ goes.told);
+  kept = λ q struck.
+      subst (λ r. StepRight new r end)
+      (sym (tell-append q (complete_told due core.drain.moment) (starts.told ++ goes.told) ∙ tell-append (tell q (complete_told due core.drain.moment)) starts.told goes.told))
+      (goes.kept (tell (tell q (complete_told due core.drain.moment)) starts.told)
+      (starts.kept (tell q (complete_told due core.drain.moment))
+      (subst (λ c. Ripe c (tell q (complete_told due core.drain.moment))) (sym same) (ripen core q due due_is stands on struck.alone struck))));
+}
+
+-- the same with what the calls gave
+pub go-ended-at : (core : CoreData) (end : StepEnd) (before : List Action) → end ≡ end_of core.plan core.boot → IsStartupOrder core.plan core.order → IsInOrder core.plan core.order → core.plan.daemon ≡ false → is_on end ≡ false
+    → Tells before before (λ told. (q : Record) → Visited core q → StepRight (with_end end core) (tell q told) end)
+go-ended-at core end before same least in_order none off =
+    subst (λ e. Tells before before (λ told. (q : Record) → Visited core q → StepRight (with_end e core) (tell q told) e)) (sym same) (go-ended core before least in_order none (sym (ap is_on same) ∙ off))
+
+pub go-on-at : (core : CoreData) (end : StepEnd) (b : BootData) (dr : DrainData) (before mid after : List Action) (due : Bool) → end ≡ end_of core.plan core.boot → b ≡ tried_if due core.boot → dr ≡ record { running = true; moment = core.drain.moment }
+    → IsInOrder core.plan core.order → core.plan.daemon ≡ false → is_on end ≡ true → may_start core.plan core.boot ≡ true
+    → mid ≡ before ++ run_told core.drain → due ≡ is_due_in core.boot.receiving core.drain.moment → after ≡ mid ++ try_told due
+    → ((q : Record) → core.drain.moment ≡ now q → BootStands core.plan core.boot q → BootStands core.plan b (tell q (try_told due)))
+    → Tells before after (λ told. (q : Record) → Visited core q
+    → StepRight (record { plan = core.plan; order = core.order; starts = core.starts; endpoints = core.endpoints; boot = b; drain = dr; end = end }) (tell q told) end)
+go-on-at core end b dr before mid after due same boots drains in_order none on may first due_is next stands =
+    rw (same, boots, drains) (go-on core before mid after in_order none (sym (ap is_on same) ∙ on) may first due due_is next (rw boots at stands))
+
+pub go-waiting-at : (core : CoreData) (end : StepEnd) (b : BootData) (before after : List Action) (due : Bool) → end ≡ end_of core.plan core.boot → b ≡ tried_if due core.boot
+    → IsInOrder core.plan core.order → core.plan.daemon ≡ false → is_on end ≡ true → may_start core.plan core.boot ≡ false
+    → due ≡ is_due_in core.boot.receiving core.drain.moment → after ≡ before ++ try_told due
+    → ((q : Record) → core.drain.moment ≡ now q → BootStands core.plan core.boot q → BootStands core.plan b (tell q (try_told due)))
+    → Tells before after (λ told. (q : Record) → Visited core q
+    → StepRight (record { plan = core.plan; order = core.order; starts = core.starts; endpoints = core.endpoints; boot = b; drain = core.drain; end = end }) (tell q told) end)
+go-waiting-at core end b before after due same boots in_order none on off due_is told stands =
+    rw (same, boots) (go-waiting core before after in_order none (sym (ap is_on same) ∙ on) off due due_is told (rw boots at stands))
+
+pub follows-ended-at : (core : CoreData) (end : StepEnd) (before : List Action) → end ≡ end_of core.plan core.boot → is_on end ≡ false → Follows core (with_end end core) before before end
+follows-ended-at core end before same off = subst (λ e. Follows core (with_end e core) before before e) (sym same) (follows-ended core before (sym (ap is_on same) ∙ off))
+
+pub follows-on-at : (core ripe_core visited_core new : CoreData) (held end : StepEnd) (b : BootData) (before mid passed after : List Action) (due : Bool)
+    → held ≡ end_of core.plan core.boot → is_on held ≡ true → due ≡ is_complete_due core.boot → b ≡ completed_if due core.boot → mid ≡ before ++ complete_told due core.drain.moment
+    → ((r : Record) → BootStands core.plan core.boot r → BootStands core.plan b (tell r (complete_told due core.drain.moment)))
+    → ripe_core ≡ record { plan = core.plan; order = core.order; starts = core.starts; endpoints = core.endpoints; boot = b; drain = core.drain; end = held }
+    → Tells mid passed (λ told. (q : Record) → Ripe ripe_core q → Visited visited_core (tell q told))
+    → Tells passed after (λ told. (q : Record) → Visited visited_core q → StepRight new (tell q told) end)
+    → Follows core new before after end
+follows-on-at core ripe_core visited_core new held end b before mid passed after due same on due_is boots first stands ripe starts goes =
+    let follows = follows-on (with_end held core) ripe_core visited_core new before mid passed after end due due_is first (rw boots at stands) (sym (ap is_on same) ∙ on)
+    (ripe ∙ ap (λ (x : BootData). record { plan = core.plan; order = core.order; starts = core.starts; endpoints = core.endpoints; boot = x; drain = core.drain; end = held }) boots) starts goes in
+    record {
+      told = follows.told;
+      appended = follows.appended;
+      kept = λ q struck. follows.kept q (record { going = struck.going; quiet = struck.quiet; alone = struck.alone; ended = struck.ended });
+    }
