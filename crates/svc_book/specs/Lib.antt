@@ -1,0 +1,3 @@
+pub mod BookData
+pub mod Journals
+pub mod Refusals

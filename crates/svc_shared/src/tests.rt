@@ -1,0 +1,383 @@
+ghost use Rattle.std.specs.Prelude.{◌≡◌, IfOk};
+ghost use Rattle.svc_shared.specs.Feeding.{IsFed};
+ghost use Rattle.svc_shared.specs.Posting.{IsOf, hand_in};
+ghost use Rattle.svc_shared.specs.Views.{IsWhole};
+
+use crate::{Fed, Feed, Gate, Pass, Post, PostReason, SharedServer, SplitReason};
+use std::alloc::Global;
+use std::process::Abort;
+use std::sync::atomic::{AtomicU64, Ordering};
+use std::test::Fail;
+use std::thread;
+use std::thread::join;
+use svc_conf::{Numbers, Text};
+use svc_core::Core;
+use svc_graph::{EndpointList, Kind};
+use svc_record::{
+    Action, Actions, Event, ExecutionPhase, Plan, ServiceList, ServicePlan, ShutdownSignal, StepEnd,
+};
+
+fn service(alloc: Global, name: &str, kind: Kind, after: &[u32]) -> Result<ServicePlan, Fail> {
+    let mut depends = Numbers::new(alloc);
+    for dependency in after {
+        depends.push(alloc, *dependency)?;
+    }
+    Ok(ServicePlan {
+        name: Text::new(alloc, name)?,
+        kind,
+        depends,
+        declared: None,
+        endpoints: EndpointList::new(alloc),
+    })
+}
+
+/// A service that waits for another one to say that it is ready.
+fn plan(alloc: Global) -> Result<Plan, Fail> {
+    let mut services = ServiceList::new(alloc);
+    services.push(alloc, service(alloc, "a", Kind::Notifying, &[])?)?;
+    services.push(alloc, service(alloc, "b", Kind::Plain, &[0])?)?;
+    Ok(Plan {
+        services,
+        grace: 300,
+        stop: 5,
+        tasks: 1,
+        limit: 5,
+        upgrade: false,
+        test: false,
+        eager: false,
+        daemon: false,
+        wait: false,
+        ready_timeout: 600,
+    })
+}
+
+/// A server over that plan, with the one pass and what it told.
+fn opened<R: Abort>(
+    rt: &R,
+    alloc: Global,
+    limit: u32,
+) -> Result<(SharedServer, Pass, Actions), Fail>
+    ensures of { IfOk result (λ r. IsOf r.0 r.1) }
+    ensures whole { IfOk result (λ r. IsWhole (hand_in r.1)) }
+{
+    let plan = plan(alloc)?;
+    let is_valid = plan.valid(alloc)?;
+    assert!(rt; is_valid);
+    assert!(rt; plan.is_built());
+    Ok(SharedServer::new(alloc, plan, limit as u64)?)
+}
+
+fn told(rt: &impl Abort, actions: &Actions, expected: &[Action]) {
+    assert_eq!(rt; actions.as_slice(), expected);
+}
+
+/// Whether one core that gets the posts' events, one after the other, tells what they tell.
+fn replays(
+    rt: &impl Abort,
+    alloc: Global,
+    opening: &Actions,
+    posts: &[Post],
+) -> Result<bool, Fail> {
+    let plan = plan(alloc)?;
+    let is_valid = plan.valid(alloc)?;
+    assert!(rt; is_valid);
+    assert!(rt; plan.is_built());
+    let mut core = Core::new(alloc, plan)?;
+    let mut begun = Actions::new(alloc);
+    core.begin(alloc, &mut begun)?;
+    if begun.as_slice() != opening.as_slice() {
+        return Ok(false);
+    }
+    for post in posts {
+        if !core.fits(&post.event) {
+            return Ok(false);
+        }
+        let mut actions = Actions::new(alloc);
+        core.step(alloc, &post.event, post.said, &mut actions)?;
+        if actions.as_slice() != post.actions.as_slice() {
+            return Ok(false);
+        }
+    }
+    Ok(true)
+}
+
+#[test]
+fn two_passes_make_one_journal(rt: HostRuntime) -> Result<(), Fail> {
+    let alloc = rt.alloc();
+    let (server, pass, opening) = opened(&rt, alloc, 2)?;
+    told(
+        &rt,
+        &opening,
+        &[Action::Start(0), Action::Phase(ExecutionPhase::Running, 0)],
+    );
+    let Ok((first, second)) = server.split(&rt, alloc, pass) else {
+        panic!(rt; "split")
+    };
+    assert_eq!(rt; server.seat(&first), 0);
+    assert_eq!(rt; server.seat(&second), 1);
+    let Ok(one) = server.try_post(alloc, first, Event::Ready(0), true) else {
+        panic!(rt; "first")
+    };
+    assert_eq!(rt; one.place, 1);
+    assert_eq!(rt; one.end, StepEnd::On);
+    told(&rt, &one.actions, &[Action::Start(1)]);
+    let signal = Event::Signal(ShutdownSignal::FastShutdown);
+    let Ok(two) = server.post(&rt, alloc, second, signal, true) else {
+        panic!(rt; "second")
+    };
+    assert_eq!(rt; two.place, 2);
+    assert_eq!(rt; two.end, StepEnd::Served);
+    let end = [
+        Action::Phase(ExecutionPhase::ShutdownStarted, 0),
+        Action::Phase(ExecutionPhase::ShutdownRuntimes, 0),
+        Action::Stop(0),
+        Action::Phase(ExecutionPhase::Terminated, 0),
+    ];
+    told(&rt, &two.actions, &end);
+    let Err(full) = server.try_post(alloc, one.pass, Event::Moment(1), true) else {
+        panic!(rt; "third")
+    };
+    assert_eq!(rt; full.reason, PostReason::Full);
+    assert!(rt; full.event == Event::Moment(1));
+    let whole = server.join(full.pass, two.pass);
+    let Ok(posts) = server.close(alloc, whole) else {
+        panic!(rt; "close")
+    };
+    assert_eq!(rt; posts.len(), 2);
+    assert!(rt; posts[0].seat == 0 && posts[0].event == Event::Ready(0) && posts[0].said);
+    told(&rt, &posts[0].actions, &[Action::Start(1)]);
+    assert!(rt; posts[1].seat == 1 && posts[1].said);
+    told(&rt, &posts[1].actions, &end);
+    Ok(())
+}
+
+#[test]
+fn a_post_after_the_end_is_stray(rt: HostRuntime) -> Result<(), Fail> {
+    let alloc = rt.alloc();
+    let (server, pass, _) = opened(&rt, alloc, 3)?;
+    let Ok(one) = server.post(&rt, alloc, pass, Event::Ready(0), true) else {
+        panic!(rt; "first")
+    };
+    let signal = Event::Signal(ShutdownSignal::FastShutdown);
+    let Ok(two) = server.post(&rt, alloc, one.pass, signal, true) else {
+        panic!(rt; "second")
+    };
+    let Err(stray) = server.post(&rt, alloc, two.pass, Event::Moment(1), true) else {
+        panic!(rt; "third")
+    };
+    assert_eq!(rt; stray.reason, PostReason::Stray(2));
+    Ok(())
+}
+
+#[test]
+fn one_pass_never_finds_the_turn_taken(rt: HostRuntime) -> Result<(), Fail> {
+    let alloc = rt.alloc();
+    let (server, pass, _) = opened(&rt, alloc, 2)?;
+    let Ok(one) = server.try_post(alloc, pass, Event::Ready(0), true) else {
+        panic!(rt; "first")
+    };
+    let Err(stray) = server.try_post(alloc, one.pass, Event::Ready(0), true) else {
+        panic!(rt; "second")
+    };
+    assert_eq!(rt; stray.reason, PostReason::Stray(1));
+    assert!(rt; stray.event == Event::Ready(0));
+    let Ok(posts) = server.close(alloc, stray.pass) else {
+        panic!(rt; "close")
+    };
+    assert_eq!(rt; posts.len(), 1);
+    Ok(())
+}
+
+#[test]
+fn the_65th_split_is_thin(rt: HostRuntime) -> Result<(), Fail> {
+    let alloc = rt.alloc();
+    let (server, mut pass, _) = opened(&rt, alloc, 2)?;
+    for _ in 0..64 {
+        let Ok((first, _second)) = server.split(&rt, alloc, pass) else {
+            panic!(rt; "split")
+        };
+        pass = first;
+    }
+    let Err(refused) = server.split(&rt, alloc, pass) else {
+        panic!(rt; "thin")
+    };
+    assert_eq!(rt; refused.reason, SplitReason::Thin);
+    Ok(())
+}
+
+/// Each worker waits after its first answer for the other's first.
+#[derive(Drop)]
+struct Turnstile {
+    left: AtomicU64,
+    right: AtomicU64,
+    late: AtomicU64,
+}
+
+impl Gate for Turnstile {
+    fn after(&self, worker: u32, answered: u64) {
+        let (mine, theirs) = if worker == 0 {
+            (&self.left, &self.right)
+        } else {
+            (&self.right, &self.left)
+        };
+        mine.fetch_add(1, Ordering::SeqCst);
+        if answered > 1 {
+            return;
+        }
+        for _ in 0..10_000_000 {
+            if theirs.load(Ordering::SeqCst) > 0 {
+                return;
+            }
+            thread::yield_now();
+        }
+        self.late.store(1, Ordering::SeqCst);
+    }
+}
+
+#[test]
+fn two_workers_post_at_once(rt: HostRuntime) -> Result<(), Fail> {
+    let alloc = rt.alloc();
+    let (server, pass, _) = opened(&rt, alloc, 4)?;
+    let Ok((left, right)) = server.split(&rt, alloc, pass) else {
+        panic!(rt; "split")
+    };
+    let gate = Turnstile {
+        left: AtomicU64::new(0),
+        right: AtomicU64::new(0),
+        late: AtomicU64::new(0),
+    };
+    let left = Feed {
+        pass: left,
+        events: vec![in alloc; Event::Ready(0), Event::Moment(1)]?,
+    };
+    let right = Feed {
+        pass: right,
+        events: vec![in alloc; Event::Moment(1), Event::Ended(0)]?,
+    };
+    let (one, two) = server.post_two(&rt, alloc, left, right, &gate);
+    assert_eq!(rt; gate.late.load(Ordering::SeqCst), 0);
+    assert!(rt; one.rest.is_empty() && one.refused.is_none());
+    assert!(rt; two.rest.is_empty() && two.refused.is_none());
+    let whole = server.join(one.pass, two.pass);
+    let Ok(posts) = server.close(alloc, whole) else {
+        panic!(rt; "close")
+    };
+    assert_eq!(rt; posts.len(), 4);
+    Ok(())
+}
+
+/// Holds nobody.
+#[derive(Drop)]
+struct OpenGate;
+
+impl Gate for OpenGate {
+    fn after(&self, _worker: u32, _answered: u64) {}
+}
+
+fn feed_of_moments(alloc: Global, pass: Pass) -> Result<Feed, Fail>
+    ensures { IfOk result (λ feed. feed.pass ≡ pass) }
+{
+    Ok(Feed {
+        pass,
+        events: vec![in alloc; Event::Moment(1), Event::Moment(1), Event::Moment(1)]?,
+    })
+}
+
+#[test]
+fn two_threads_make_a_legal_journal(rt: HostRuntime) -> Result<(), Fail> {
+    let alloc = rt.alloc();
+    let (server, pass, opening) = opened(&rt, alloc, 100)?;
+    let Ok((left, right)) = server.split(&rt, alloc, pass) else {
+        panic!(rt; "split")
+    };
+    let left = Feed {
+        pass: left,
+        events: vec![in alloc;
+            Event::Ready(0),
+            Event::Moment(1),
+            Event::Moment(1),
+            Event::Ended(0),
+        ]?,
+    };
+    let right = Feed {
+        pass: right,
+        events: vec![in alloc;
+            Event::Moment(1),
+            Event::Moment(1),
+            Event::Moment(1),
+            Event::Moment(1),
+        ]?,
+    };
+    let (one, two) = server.post_two(&rt, alloc, left, right, &OpenGate);
+    assert!(rt; one.rest.is_empty() && two.rest.is_empty());
+    let whole = server.join(one.pass, two.pass);
+    let Ok(posts) = server.close(alloc, whole) else {
+        panic!(rt; "close")
+    };
+    assert_eq!(rt; posts.len(), 8);
+    let is_legal = replays(&rt, alloc, &opening, &posts)?;
+    assert!(rt; is_legal);
+    Ok(())
+}
+
+#[test]
+fn four_threads_make_a_legal_journal(rt: HostRuntime) -> Result<(), Fail> {
+    let alloc = rt.alloc();
+    let (server, pass, opening) = opened(&rt, alloc, 100)?;
+    let Ok((low, high)) = server.split(&rt, alloc, pass) else {
+        panic!(rt; "split")
+    };
+    let Ok((first, second)) = server.split(&rt, alloc, low) else {
+        panic!(rt; "split")
+    };
+    let Ok((third, fourth)) = server.split(&rt, alloc, high) else {
+        panic!(rt; "split")
+    };
+    let first = Feed {
+        pass: first,
+        events: vec![in alloc; Event::Ready(0), Event::Moment(1), Event::Ended(0)]?,
+    };
+    let second = feed_of_moments(alloc, second)?;
+    let third = feed_of_moments(alloc, third)?;
+    let fourth = feed_of_moments(alloc, fourth)?;
+    let (shared, threads) = (&server, &rt);
+    let (low, high) = join(
+        &rt,
+        || -> (Fed, Fed)
+            requires { IsOf shared.now first.pass × IsOf shared.now second.pass }
+            ensures { IsFed shared.entry.now first.pass first.events.items result.0 × IsFed shared.entry.now second.pass second.events.items result.1 }
+        { shared.post_two(threads, alloc, first, second, &OpenGate) },
+        || -> (Fed, Fed)
+            requires { IsOf shared.now third.pass × IsOf shared.now fourth.pass }
+            ensures { IsFed shared.entry.now third.pass third.events.items result.0 × IsFed shared.entry.now fourth.pass fourth.events.items result.1 }
+        { shared.post_two(threads, alloc, third, fourth, &OpenGate) },
+    );
+    let (one, two) = low;
+    let (three, four) = high;
+    let lower = server.join(one.pass, two.pass);
+    let upper = server.join(three.pass, four.pass);
+    let whole = server.join(lower, upper);
+    let Ok(posts) = server.close(alloc, whole) else {
+        panic!(rt; "close")
+    };
+    assert_eq!(rt; posts.len(), 12);
+    let is_legal = replays(&rt, alloc, &opening, &posts)?;
+    assert!(rt; is_legal);
+    Ok(())
+}
+
+#[test]
+fn each_reason_has_its_text(rt: HostRuntime) -> Result<(), Fail> {
+    let alloc = rt.alloc();
+    let busy = format!(in alloc; "{}", PostReason::Busy(5))?;
+    assert_eq!(rt; busy.as_str(), "the turn isn't free: its word is 5");
+    let full = format!(in alloc; "{}", PostReason::Full)?;
+    assert_eq!(rt; full.as_str(), "the journal is full");
+    let stray = format!(in alloc; "{}", PostReason::Stray(2))?;
+    assert_eq!(rt; stray.as_str(), "the event doesn't fit after 2 posts");
+    let thin = format!(in alloc; "{}", SplitReason::Thin)?;
+    assert_eq!(rt; thin.as_str(), "the share has one number");
+    let none = format!(in alloc; "{}", SplitReason::NoNumber)?;
+    assert_eq!(rt; none.as_str(), "no seat number is left");
+    Ok(())
+}
