@@ -9,7 +9,7 @@ bind_some : (o : Option (List ℕ)) (y : ℕ) (xs : List ℕ) → (o >>= λ zs. 
 bind_some None y xs e = absurd cc
 bind_some (Some zs) y xs e = (zs, refl, cc)
 
-all_some-push : (os : List (Option ℕ)) (xs : List ℕ) (x : ℕ) → all_some os ≡ Some xs → all_some (os ++ Some x ∷ []) ≡ Some (xs ++ x ∷ [])
+pub all_some-push : (os : List (Option ℕ)) (xs : List ℕ) (x : ℕ) → all_some os ≡ Some xs → all_some (os ++ Some x ∷ []) ≡ Some (xs ++ x ∷ [])
 all_some-push [] xs x e = let h : [] ≡ xs = cc in rw (← h) refl
 all_some-push (None ∷ os) xs x e = absurd cc
 all_some-push (Some y ∷ os) xs x e =
@@ -17,7 +17,7 @@ all_some-push (Some y ∷ os) xs x e =
     let more : all_some (os ++ Some x ∷ []) ≡ Some (b.0 ++ x ∷ []) = all_some-push os b.0 x b.1 in
     rw more (ap (λ (zs : List ℕ). Some (zs ++ x ∷ [])) b.2)
 
-all_some-stop : (os : List (Option ℕ)) (k : ℕ) (d : Option ℕ) → k < length os → get_or os k d ≡ None → all_some os ≡ None
+pub all_some-stop : (os : List (Option ℕ)) (k : ℕ) (d : Option ℕ) → k < length os → get_or os k d ≡ None → all_some os ≡ None
 all_some-stop [] k d lt e = absurd (omega arith)
 all_some-stop (None ∷ os) k d lt e = refl
 all_some-stop (Some y ∷ os) zero d lt e = absurd cc

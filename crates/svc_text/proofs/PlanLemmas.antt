@@ -1,5 +1,5 @@
 -- The plan of a script's services is one that a server can be run by.
-use Rattle.std.proofs.Common.{◌≡◌, ℕ, zero, suc, ◌+◌, ◌<◌, ◌≤◌, Bool, true, false, ◌==◌, leb, ltb, List, [], ◌∷◌, length, map, get_or, None, refl, sym, ap, subst, ◌∙◌, inl, inr, arith, All, add-zero, zero-add}
+use Rattle.std.proofs.Common.{◌≡◌, ℕ, zero, suc, ◌+◌, ◌<◌, ◌≤◌, Bool, true, ◌==◌, leb, ltb, List, [], ◌∷◌, length, map, get_or, None, refl, sym, ap, subst, ◌∙◌, inl, inr, arith, All, add-zero, zero-add, false}
 use Rattle.std.specs.List.{list_any, range_with_len}
 use Rattle.std.proofs.lemmas.Bool.{and_parts, ltb-true, leb-true, eqb-true, cases_lt, both_ways}
 use Rattle.std.proofs.lemmas.List.{length-map}
@@ -7,19 +7,20 @@ use Rattle.std.proofs.lemmas.List.Elements.{All-map, All-filter, filter_passes}
 use Rattle.std.proofs.lemmas.List.Folds.{Any-from_list_any}
 use Rattle.std.proofs.lemmas.List.FromFn.{get_or-range_with_len, length-range_with_len}
 use Rattle.std.proofs.lemmas.Option.{slice_get_cases}
+use Rattle.svc_conf.specs.declared.server.configuration.Opt.{Opt}
+use Rattle.svc_conf.specs.ConfigurationText.{merged}
 use Rattle.svc_graph.specs.declared.plan.EndpointPlan.{EndpointPlan}
-use Rattle.svc_graph.specs.declared.plan.Kind.{Kind}
-use Rattle.svc_graph.specs.declared.plan.Kind.TheVariants.{Plain, Notifying, Bootstrap}
 use Rattle.svc_record.specs.declared.plan.ServicePlan.{ServicePlan}
-use Rattle.svc_record.specs.Plans.{is_kind, service_count, depends}
+use Rattle.svc_record.specs.Plans.{service_count, depends}
 use Rattle.svc_record.specs.Validity.{IsAddress, IsValid, IsBuilt, depends_on}
-use Rattle.svc_record.specs.Building.{IsPlainService}
+use Rattle.svc_record.specs.Building.{HasNoFilter}
 use Rattle.svc_record.proofs.ValidLemmas.{valid-plan}
 use Rattle.svc_record.proofs.BuiltLemmas.{built-from_tests}
 use Rattle.svc_text.specs.declared.service.EndpointLine.{EndpointLine}
 use Rattle.svc_text.specs.declared.service.ServiceLine.{ServiceLine}
 use Rattle.svc_text.specs.ServiceLines.{is_address}
 use Rattle.svc_text.specs.Accepted.{IsAccepted, AreAccepted}
+use Rattle.svc_text.specs.Script.{Parts}
 use Rattle.svc_text.specs.Dependencies.{edges_up_to, RefusesNone}
 use Rattle.svc_text.specs.ScriptPlans.{endpoint_of, depends_of, service_plan, plans_from, plan_of}
 use Rattle.svc_text.proofs.EdgeLemmas.{fewer_acyclic}
@@ -28,12 +29,12 @@ plans-length : (services : List ServiceLine) (s : ℕ) (xs : List ServiceLine) �
 plans-length services s [] = refl
 plans-length services s (x ∷ xs) = ap suc (plans-length services (s + 1) xs)
 
--- what each accepted service gives, all give
-plans-All : (P : ServicePlan → Type 0) (services : List ServiceLine) → ((s : ℕ) (x : ServiceLine) → IsAccepted x → P (service_plan services s x))
-    → (s : ℕ) (xs : List ServiceLine) → All IsAccepted xs → All P (plans_from services s xs)
-plans-All P services f s [] h k d lt = absurd (omega arith)
-plans-All P services f s (x ∷ xs) h zero d lt = f s x (h 0 x (omega arith))
-plans-All P services f s (x ∷ xs) h (suc k) d lt = plans-All P services f (s + 1) xs (λ i e below. h (suc i) e (omega arith)) k d (omega arith)
+-- what each service of a sort gives, all give
+plans-All : (P : ServicePlan → Type 0) (Q : ServiceLine → Type 0) (services : List ServiceLine) → ((s : ℕ) (x : ServiceLine) → Q x → P (service_plan services s x))
+    → (s : ℕ) (xs : List ServiceLine) → All Q xs → All P (plans_from services s xs)
+plans-All P Q services f s [] h k d lt = absurd (omega arith)
+plans-All P Q services f s (x ∷ xs) h zero d lt = f s x (h 0 x (omega arith))
+plans-All P Q services f s (x ∷ xs) h (suc k) d lt = plans-All P Q services f (s + 1) xs (λ i e below. h (suc i) e (omega arith)) k d (omega arith)
 
 plans-depends : (services : List ServiceLine) (s : ℕ) (xs : List ServiceLine) (k : ℕ) (d : ServicePlan) → k < length xs → (get_or (plans_from services s xs) k d).depends ≡ depends_of services (s + k)
 plans-depends services s [] k d lt = absurd (omega arith)
@@ -54,16 +55,8 @@ good_endpoints x h = (
   All-map IsAddress endpoint_of x.endpoints (λ k d lt. good_address (get_or x.endpoints k d) (h.addresses k d lt)),
 )
 
-pub is_no_bootstrap : (kind : Kind) → (kind ≡ Bootstrap → ⊥) → is_kind Bootstrap kind ≡ false
-is_no_bootstrap Plain h = refl
-is_no_bootstrap Notifying h = refl
-is_no_bootstrap Bootstrap h = absurd (h refl)
-
-plain_service : (services : List ServiceLine) (s : ℕ) (x : ServiceLine) → IsAccepted x → IsPlainService (service_plan services s x)
-plain_service services s x h = record {
-  boots_not = is_no_bootstrap x.kind h.boots_not;
-  unfiltered = All-map (λ (e : EndpointPlan). e.filter ≡ None) endpoint_of x.endpoints (λ k d lt. refl);
-}
+unfiltered_service : (services : List ServiceLine) (s : ℕ) (x : ServiceLine) → Unit {0} → HasNoFilter (service_plan services s x)
+unfiltered_service services s x h = All-map (λ (e : EndpointPlan). e.filter ≡ None) endpoint_of x.endpoints (λ k d lt. refl)
 
 -- ---- dependencies
 
@@ -81,8 +74,9 @@ depends_edge services a b h =
     let here : get_or (depends_of services a) found.0 found.1 ≡ b = found.3 ∙ eqb-true found.1 b found.4 in
     ap f (sym here) ∙ passes
 
-listed_depends : (services : List ServiceLine) (s : ℕ) → s < length services → depends (plan_of services) s ≡ depends_of services s
-listed_depends services s lt =
+listed_depends : (opt : Opt) (parts : Parts) (s : ℕ) → s < length parts.services → depends (plan_of opt parts) s ≡ depends_of parts.services s
+listed_depends opt parts s lt =
+    let services : List ServiceLine = parts.services in
     elim (slice_get_cases (plans_from services 0 services) s).1 [
       | inl at ↦
           let same : at.0.depends ≡ depends_of services s = ap (λ (x : ServicePlan). x.depends) (sym at.3) ∙ plans-depends services 0 services s at.0 lt ∙ ap (depends_of services) (zero-add s) in
@@ -90,38 +84,39 @@ listed_depends services s lt =
       | inr past ↦ absurd (let le = past.0 in omega (arith, plans-length services 0 services))
     ]
 
-no_depends : (services : List ServiceLine) (s : ℕ) → length services ≤ s → depends (plan_of services) s ≡ []
-no_depends services s le =
-    elim (slice_get_cases (plans_from services 0 services) s).1 [
-      | inl at ↦ absurd (let lt = at.1 in omega (arith, plans-length services 0 services))
+no_depends : (opt : Opt) (parts : Parts) (s : ℕ) → length parts.services ≤ s → depends (plan_of opt parts) s ≡ []
+no_depends opt parts s le =
+    elim (slice_get_cases (plans_from parts.services 0 parts.services) s).1 [
+      | inl at ↦ absurd (let lt = at.1 in omega (arith, plans-length parts.services 0 parts.services))
       | inr past ↦ rw past.1 refl
     ]
 
-plan_inside : (services : List ServiceLine) (s : ℕ) → s < service_count (plan_of services) → All (λ d. d < service_count (plan_of services)) (depends (plan_of services) s)
-plan_inside services s lt =
-    let count : service_count (plan_of services) ≡ length services = plans-length services 0 services in
-    let same : depends (plan_of services) s ≡ depends_of services s = listed_depends services s (omega arith) in
-    subst (All (λ d. d < service_count (plan_of services))) (sym same) (subst (λ (n : ℕ). All (λ d. d < n) (depends_of services s)) (sym count) (depends_inside services s))
+plan_inside : (opt : Opt) (parts : Parts) (s : ℕ) → s < service_count (plan_of opt parts) → All (λ d. d < service_count (plan_of opt parts)) (depends (plan_of opt parts) s)
+plan_inside opt parts s lt =
+    let services : List ServiceLine = parts.services in
+    let count : service_count (plan_of opt parts) ≡ length services = plans-length services 0 services in
+    let same : depends (plan_of opt parts) s ≡ depends_of services s = listed_depends opt parts s (omega arith) in
+    subst (All (λ d. d < service_count (plan_of opt parts))) (sym same) (subst (λ (n : ℕ). All (λ d. d < n) (depends_of services s)) (sym count) (depends_inside services s))
 
-plan_edge : (services : List ServiceLine) (a b : ℕ) → depends_on (plan_of services) a b ≡ true → edges_up_to services (length services) a b ≡ true
-plan_edge services a b h =
-    elim (cases_lt a (length services)) [
-      | inl lt ↦ depends_edge services a b (ap (list_any (λ x. x == b)) (sym (listed_depends services a lt)) ∙ h)
-      | inr le ↦ absurd (both_ways (list_any (λ x. x == b) []) refl (ap (list_any (λ x. x == b)) (sym (no_depends services a le)) ∙ h))
+plan_edge : (opt : Opt) (parts : Parts) (a b : ℕ) → depends_on (plan_of opt parts) a b ≡ true → edges_up_to parts.services (length parts.services) a b ≡ true
+plan_edge opt parts a b h =
+    elim (cases_lt a (length parts.services)) [
+      | inl lt ↦ depends_edge parts.services a b (ap (list_any (λ x. x == b)) (sym (listed_depends opt parts a lt)) ∙ h)
+      | inr le ↦ absurd (both_ways (list_any (λ x. x == b) []) refl (ap (list_any (λ x. x == b)) (sym (no_depends opt parts a le)) ∙ h))
     ]
 
 -- ---- the plan
 
-pub plan_valid : (services : List ServiceLine) → AreAccepted services → RefusesNone services → IsValid (plan_of services)
-plan_valid services h sound =
-    valid-plan (plan_of services) (record {
-      few = omega (arith, plans-length services 0 services, h.few);
-      tasks = omega arith;
-      endpoints = plans-All (λ (x : ServicePlan). (length x.endpoints ≤ 64) × All IsAddress x.endpoints) services (λ s x k. good_endpoints x k) 0 services h.each;
+pub plan_valid : (opt : Opt) (parts : Parts) → AreAccepted parts.services → RefusesNone parts.services → 0 < parts.conf.listener_tasks_per_fd → IsValid (plan_of opt parts)
+plan_valid opt parts h sound tasks =
+    valid-plan (plan_of opt parts) (record {
+      few = omega (arith, plans-length parts.services 0 parts.services, h.few);
+      tasks = tasks;
+      endpoints = plans-All (λ (x : ServicePlan). (length x.endpoints ≤ 64) × All IsAddress x.endpoints) IsAccepted parts.services (λ s x k. good_endpoints x k) 0 parts.services h.each;
     }) (record {
-      inside = plan_inside services;
-      acyclic = fewer_acyclic (depends_on (plan_of services)) (edges_up_to services (length services)) (plan_edge services) sound.acyclic;
+      inside = plan_inside opt parts;
+      acyclic = fewer_acyclic (depends_on (plan_of opt parts)) (edges_up_to parts.services (length parts.services)) (plan_edge opt parts) sound.acyclic;
     })
 
-pub plan_built : (services : List ServiceLine) → AreAccepted services → IsBuilt (plan_of services)
-plan_built services h = built-from_tests (plan_of services) refl refl (plans-All IsPlainService services (plain_service services) 0 services h.each)
+pub plan_built : (opt : Opt) (parts : Parts) → (merged opt parts.conf).daemon ≡ false → IsBuilt (plan_of opt parts)
+plan_built opt parts daemon = built-from_tests (plan_of opt parts) daemon (plans-All HasNoFilter (λ x. Unit {0}) parts.services (unfiltered_service parts.services) 0 parts.services (λ k d lt. tt))

@@ -1,112 +1,25 @@
 -- The lines of a script, one after the other.
-use Rattle.std.proofs.Common.{◌≡◌, ℕ, zero, suc, ◌+◌, ◌<◌, ◌≤◌, Bool, true, false, not, ◌&&◌, ◌==◌, eqb, cond, List, [], ◌∷◌, ◌++◌, length, take, drop, get_or, count_by, find, Option, Some, None, Ok, Err, refl, sym, ap, subst, ◌∙◌, add-zero, zero-add, add-one, below_more, ltb, ◌-◌, inl, inr, arith}
-use Rattle.std.specs.List.{slice_split, onto_first, filter_map, cons_option, range_with_len}
+use Rattle.std.proofs.Common.{◌≡◌, ℕ, zero, suc, ◌+◌, ◌<◌, ◌≤◌, Bool, true, false, not, ◌||◌, cond, List, All, [], ◌∷◌, ◌++◌, length, take, drop, get_or, find, Option, Some, None, refl, sym, ap, subst, ◌∙◌, add-zero, zero-add, add-one, below_more, ltb, ◌-◌, inl, inr, arith}
+use Rattle.std.specs.List.{range_with_len}
 use Rattle.std.specs.Option.{option_to_list}
+use Rattle.std.specs.Str.Lines.{lines}
 use Rattle.std.proofs.lemmas.List.{take_more, length-drop, length-append, get_or_push, get_or_append_left}
+use Rattle.std.proofs.lemmas.List.Elements.{All-append}
 use Rattle.std.proofs.lemmas.Bool.{cases_lt, lt-ltb, le-ltb}
-use Rattle.std.proofs.lemmas.List.Sums.{sum_by_push, sum_by-cons}
-use Rattle.std.proofs.lemmas.List.Splits.{length-slice_split}
-use Rattle.std.proofs.lemmas.List.Elements.{filter_map-append}
-use Rattle.std.proofs.Math.Seq.{drop-cons, take-length}
-use Rattle.std.proofs.Math.Dec.{eqb-suc-suc, eqb-suc-zero, eqb-zero-suc}
-use Rattle.svc_text.specs.Words.{words}
+use Rattle.std.proofs.Math.Seq.{drop-cons}
 use Rattle.svc_record.specs.declared.item.Item.{Item}
-use Rattle.svc_text.specs.EventLines.{item_of}
+use Rattle.svc_text.specs.Words.{words}
 use Rattle.svc_text.specs.declared.service.ServiceLine.{ServiceLine}
 use Rattle.svc_text.specs.ServiceLines.{service_of}
 use Rattle.svc_text.specs.declared.reading.Reading.{Reading}
 use Rattle.svc_text.specs.declared.part.Part.TheVariants.{Nothing}
 use Rattle.svc_text.specs.Outcome.{After}
-use Rattle.svc_text.specs.Accepted.{AreAccepted}
+use Rattle.svc_text.specs.Accepted.{AreAccepted, BringsFew}
+use Rattle.svc_text.specs.Fronts.{HasSaid}
+use Rattle.svc_text.specs.Script.{IsLineOf, AreLines, part_number, line_fits, fits_at, first_misfit, is_header, begun, part_of, services_in, eager_in, items_in, said_services, said_eager, said_items}
 use Rattle.svc_text.proofs.AcceptLemmas.{accepted_none, accepted_line}
-use Rattle.std.specs.Str.Lines.{lines}
-use Rattle.svc_text.specs.Script.{IsLineOf, AreLines, part_number, line_fits, fits_at, first_misfit, judged, script, is_header, begun, part_of, services_in, items_in, said_services, said_items}
-
--- one more element goes to the last part
-pick : {X : Type 0} → Bool → X → List X
-pick b y = cond b (y ∷ []) []
-
-part_at : {X : Type 0} → (X → Bool) → ℕ → List X → List X
-part_at p n xs = get_or (slice_split p xs) n []
-
-part-first : {X : Type 0} (x : X) (parts : List (List X)) → 0 < length parts → get_or (onto_first x parts) 0 [] ≡ x ∷ get_or parts 0 []
-part-first x [] h = absurd (omega arith)
-part-first x (part ∷ parts) h = refl
-
-part-later : {X : Type 0} (x : X) (parts : List (List X)) (n : ℕ) → 0 < length parts → get_or (onto_first x parts) (suc n) [] ≡ get_or parts (suc n) []
-part-later x [] n h = absurd (omega arith)
-part-later x (part ∷ parts) n h = refl
-
-split_some : {X : Type 0} (p : X → Bool) (xs : List X) → 0 < length (slice_split p xs)
-split_some p xs = omega (arith, length-slice_split p xs)
-
-push_nil : {X : Type 0} (p : X → Bool) (y : X) (b : Bool) (n : ℕ) → p y ≡ b → get_or (slice_split p (y ∷ [])) n [] ≡ get_or (slice_split p []) n [] ++ pick (eqb 0 n && not (p y)) y
-unfolding pick
-push_nil p y true zero e = rw e refl
-push_nil p y true (suc zero) e = rw e refl
-push_nil p y true (suc (suc n)) e = rw (e, eqb-zero-suc) refl
-push_nil p y false zero e = rw e refl
-push_nil p y false (suc n) e = rw (e, eqb-zero-suc) refl
-
-counted : {X : Type 0} (p : X → Bool) (x : X) (xs : List X) → count_by p (x ∷ xs) ≡ cond (p x) 1 0 + count_by p xs
-counted p x xs = sum_by-cons (λ y. cond (p y) 1 0) x xs
-
-push_step : {X : Type 0} (p : X → Bool) (x : X) (xs : List X) (y : X) (b : Bool) (n : ℕ) → p x ≡ b
-    → ((k : ℕ) → get_or (slice_split p (xs ++ y ∷ [])) k [] ≡ get_or (slice_split p xs) k [] ++ pick (eqb (count_by p xs) k && not (p y)) y)
-    → get_or (slice_split p (x ∷ (xs ++ y ∷ []))) n [] ≡ get_or (slice_split p (x ∷ xs)) n [] ++ pick (eqb (count_by p (x ∷ xs)) n && not (p y)) y
-unfolding pick
-push_step p x xs y true zero e ih =
-    let c : count_by p (x ∷ xs) ≡ suc (count_by p xs) = counted p x xs ∙ rw e (omega arith) in
-    rw (c, eqb-suc-zero, e) refl
-push_step p x xs y true (suc n) e ih =
-    let c : count_by p (x ∷ xs) ≡ suc (count_by p xs) = counted p x xs ∙ rw e (omega arith) in
-    rw (c, eqb-suc-suc, e) (ih n)
-push_step p x xs y false zero e ih =
-    let c : count_by p (x ∷ xs) ≡ count_by p xs = counted p x xs ∙ rw e (omega arith) in
-    let a = part-first x (slice_split p (xs ++ y ∷ [])) (split_some p (xs ++ y ∷ [])) in
-    let d = part-first x (slice_split p xs) (split_some p xs) in
-    rw (c, e, a, d) (ap (λ (zs : List _). x ∷ zs) (ih zero))
-push_step p x xs y false (suc n) e ih =
-    let c : count_by p (x ∷ xs) ≡ count_by p xs = counted p x xs ∙ rw e (omega arith) in
-    let a = part-later x (slice_split p (xs ++ y ∷ [])) n (split_some p (xs ++ y ∷ [])) in
-    let d = part-later x (slice_split p xs) n (split_some p xs) in
-    rw (c, e, a, d) (ih (suc n))
-
-part_push : {X : Type 0} (p : X → Bool) (xs : List X) (y : X) (n : ℕ) → get_or (slice_split p (xs ++ y ∷ [])) n [] ≡ get_or (slice_split p xs) n [] ++ pick (eqb (count_by p xs) n && not (p y)) y
-part_push p [] y n = push_nil p y (p y) n refl
-part_push p (x ∷ xs) y n = push_step p x xs y (p x) n refl (λ k. part_push p xs y k)
-
-count_push : {X : Type 0} (p : X → Bool) (xs : List X) (y : X) → count_by p (xs ++ y ∷ []) ≡ count_by p xs + cond (p y) 1 0
-count_push p xs y = sum_by_push (λ x. cond (p x) 1 0) xs y
-
-one_said : {Y : Type 0} (o : Option Y) → cons_option o [] ≡ option_to_list o
-one_said None = refl
-one_said (Some z) = refl
-
-said_pick : {X Y : Type 0} (f : X → Option Y) (b : Bool) (x : X) → filter_map f (pick b x) ≡ cond b (option_to_list (f x)) []
-unfolding pick
-said_pick f false x = refl
-said_pick f true x = one_said (f x)
-
-pub begun-push : (ls : List (List ℕ)) (l : List ℕ) → begun (ls ++ l ∷ []) ≡ begun ls + cond (is_header l) 1 0
-unfolding begun
-begun-push ls l = count_push is_header ls l
-
-said_push : {Y : Type 0} (f : List ℕ → Option Y) (n : ℕ) (ls : List (List ℕ)) (l : List ℕ)
-    → filter_map f (part_of n (ls ++ l ∷ [])) ≡ filter_map f (part_of n ls) ++ cond ((begun ls == n) && not (is_header l)) (option_to_list (f l)) []
-unfolding part_of begun
-said_push f n ls l =
-    ap (filter_map f) (part_push is_header ls l n)
-    ∙ filter_map-append f (part_of n ls) (pick ((begun ls == n) && not (is_header l)) l)
-    ∙ ap (λ (ys : List _). filter_map f (part_of n ls) ++ ys) (said_pick f _ l)
-
-pub services-push : (ls : List (List ℕ)) (l : List ℕ) → services_in (ls ++ l ∷ []) ≡ services_in ls ++ said_services (begun ls) l
-unfolding services_in said_services
-services-push ls l = said_push (λ x. service_of (words x)) 2 ls l
-
-pub items-push : (ls : List (List ℕ)) (l : List ℕ) → items_in (ls ++ l ∷ []) ≡ items_in ls ++ said_items (begun ls) l
-unfolding items_in said_items
-items-push ls l = said_push (λ x. item_of (words x)) 3 ls l
+use Rattle.svc_text.proofs.FewLemmas.{few_none, few_said}
+use Rattle.svc_text.proofs.PartLemmas.{begun-push, services-push, eager-push, items-push}
 
 -- ---- the first line that does not fit
 
@@ -152,21 +65,15 @@ pub record HasRead (all rest : List ℕ) (n : ℕ) (r : Reading) : Type 0 where
   pub rest_is : lines rest ≡ drop n (lines all)
   pub within : n ≤ length (lines all)
   pub fit : FitUpTo (lines all) n
-  pub part : part_number r.part ≡ begun (take n (lines all))
-  pub services : r.services.items ≡ services_in (take n (lines all))
-  pub items : r.items.items ≡ items_in (take n (lines all))
-  pub accepted : AreAccepted r.services.items
+  pub said : HasSaid (take n (lines all)) r
 
-pub none_read : (all : List ℕ) (r : Reading) → r.part ≡ Nothing → r.services.items ≡ [] → r.items.items ≡ [] → HasRead all all 0 r
-unfolding begun services_in items_in part_of
-none_read all r p s e = record {
+pub none_read : (all : List ℕ) (r : Reading) → r.part ≡ Nothing → r.services.items ≡ [] → r.eager ≡ false → r.items.items ≡ [] → HasRead all all 0 r
+unfolding begun services_in eager_in items_in part_of
+none_read all r p s b e = record {
   rest_is = refl;
   within = omega arith;
   fit = record { below = λ k lt. absurd (omega arith) };
-  part = ap part_number p;
-  services = s;
-  items = e;
-  accepted = subst AreAccepted (sym s) accepted_none;
+  said = record { part = ap part_number p; services = s; eager = b; items = e; accepted = subst AreAccepted (sym s) accepted_none; few = subst (All BringsFew) (sym e) few_none };
 }
 
 -- the next line, and those after it
@@ -191,58 +98,34 @@ next_line all rest line after n r h e =
     record { here = p.0; is = p.1; more = p.2; rest = p.3 }
 
 -- the reading's test is the definition's
-pub fits_next : (all rest line after : List ℕ) (n : ℕ) (r : Reading) → HasRead all rest n r → Next all n line after → fits_at (lines all) n ≡ line_fits (part_number r.part) (r.services.items) line
+pub fits_next : (all rest line after : List ℕ) (n : ℕ) (r : Reading) → HasRead all rest n r → Next all n line after → fits_at (lines all) n ≡ line_fits (part_number r.part) r.eager r.services.items line
 unfolding fits_at
-fits_next all rest line after n r h e = rw (h.part, h.services, e.is) refl
+fits_next all rest line after n r h e = rw (h.said.part, h.said.eager, h.said.services, e.is) refl
 
 both : {X Y : Type 0} (f : X → ℕ → Y) {x y : X} {m n : ℕ} → x ≡ y → m ≡ n → f x m ≡ f y n
 both f {x} {y} {m} {n} e g = ap (λ z. f z m) e ∙ ap (f y) g
 
+-- what one more line adds
+said_more : (ls : List (List ℕ)) (line : List ℕ) (r s : Reading) → HasSaid ls r → line_fits (part_number r.part) r.eager r.services.items line ≡ true → After r line s → HasSaid (ls ++ line ∷ []) s
+said_more ls line r s h t a = record {
+  part = a.part ∙ ap (λ (m : ℕ). m + cond (is_header line) 1 0) h.part ∙ sym (begun-push ls line);
+  services = a.services ∙ both (λ (xs : List ServiceLine) m. xs ++ said_services m line) h.services h.part ∙ sym (services-push ls line);
+  eager = a.eager ∙ both (λ (b : Bool) m. b || said_eager m line) h.eager h.part ∙ sym (eager-push ls line);
+  items = a.items ∙ both (λ (xs : List Item) m. xs ++ said_items m line) h.items h.part ∙ sym (items-push ls line);
+  accepted = subst AreAccepted (sym a.services) (accepted_line (part_number r.part) r.eager r.services.items line h.accepted t);
+  few = subst (All BringsFew) (sym a.items) (All-append BringsFew r.items.items (said_items (part_number r.part) line) h.few (few_said (part_number r.part) line));
+}
+
 pub reads_more : (all rest line after : List ℕ) (n : ℕ) (r s : Reading) → HasRead all rest n r → lines rest ≡ line ∷ lines after
-    → line_fits (part_number r.part) (r.services.items) line ≡ true → After r line s → HasRead all after (n + 1) s
+    → line_fits (part_number r.part) r.eager r.services.items line ≡ true → After r line s → HasRead all after (n + 1) s
 reads_more all rest line after n r s h e t a =
     let next = next_line all rest line after n r h e in
     record {
       rest_is = next.rest;
       within = omega (arith, next.here);
       fit = fit_more (lines all) n h.fit (fits_next all rest line after n r h next ∙ t);
-      part = a.part ∙ ap (λ (m : ℕ). m + cond (is_header line) 1 0) h.part ∙ sym (ap begun next.more ∙ begun-push (take n (lines all)) line);
-      services = a.services ∙ both (λ (xs : List ServiceLine) m. xs ++ said_services m line) h.services h.part ∙ sym (ap services_in next.more ∙ services-push (take n (lines all)) line);
-      items = a.items ∙ both (λ (xs : List Item) m. xs ++ said_items m line) h.items h.part ∙ sym (ap items_in next.more ∙ items-push (take n (lines all)) line);
-      accepted = subst AreAccepted (sym a.services) (accepted_line (part_number r.part) r.services.items line h.accepted t);
+      said = subst (λ (ls : List (List ℕ)). HasSaid ls s) (sym next.more) (said_more (take n (lines all)) line r s h.said t a);
     }
-
-pub refuses : (all rest line after : List ℕ) (n : ℕ) (r : Reading) → HasRead all rest n r → lines rest ≡ line ∷ lines after
-    → line_fits (part_number r.part) (r.services.items) line ≡ false → script all ≡ Err (n + 1)
-unfolding script judged
-refuses all rest line after n r h e f =
-    let next = next_line all rest line after n r h e in
-    let m : first_misfit (lines all) ≡ Some n = misfit_at (lines all) n h.fit next.here (fits_next all rest line after n r h next ∙ f) in
-    rw m refl
-
-ended : (ls : List (List ℕ)) (n : ℕ) → n ≤ length ls → drop n ls ≡ [] → (n ≡ length ls) × (take n ls ≡ ls)
-ended ls n le d =
-    let e : n ≡ length ls = omega (arith, length-drop n ls, ap length d) in
-    (e, rw e (take-length ls))
-
-pub lacks_part : (all rest : List ℕ) (n : ℕ) (r : Reading) → HasRead all rest n r → lines rest ≡ [] → (part_number r.part == 3) ≡ false → script all ≡ Err (n + 1)
-unfolding script judged
-lacks_part all rest n r h e f =
-    let z = ended (lines all) n h.within (sym h.rest_is ∙ e) in
-    let m : first_misfit (lines all) ≡ None = misfit_none (lines all) (subst (FitUpTo (lines all)) z.0 h.fit) in
-    let b : (begun (lines all) == 3) ≡ false = ap (λ (ls : List (List ℕ)). begun ls == 3) (sym z.1) ∙ ap (λ (k : ℕ). k == 3) (sym h.part) ∙ f in
-    rw (m, b) (ap (λ (k : ℕ). Err (k + 1)) (sym z.0))
-
-pub reads_all : (all rest : List ℕ) (n : ℕ) (r : Reading) → HasRead all rest n r → lines rest ≡ [] → (part_number r.part == 3) ≡ true
-    → script all ≡ Ok (record { services = r.services.items; items = r.items.items })
-unfolding script judged
-reads_all all rest n r h e t =
-    let z = ended (lines all) n h.within (sym h.rest_is ∙ e) in
-    let m : first_misfit (lines all) ≡ None = misfit_none (lines all) (subst (FitUpTo (lines all)) z.0 h.fit) in
-    let b : (begun (lines all) == 3) ≡ true = ap (λ (ls : List (List ℕ)). begun ls == 3) (sym z.1) ∙ ap (λ (k : ℕ). k == 3) (sym h.part) ∙ t in
-    let ss : services_in (lines all) ≡ r.services.items = ap services_in (sym z.1) ∙ sym h.services in
-    let es : items_in (lines all) ≡ r.items.items = ap items_in (sym z.1) ∙ sym h.items in
-    rw (m, b, ss, es) refl
 
 -- ---- the lines of the services
 
@@ -289,8 +172,8 @@ pub lines_more : (all rest after line : List ℕ) (n : ℕ) (r s : Reading) (ns 
     → ms ≡ cond (ltb (length ns) (length s.services.items)) (ns ++ (n + 1) ∷ []) ns → AreLines (lines all) (length s.services.items) ms
 lines_more all rest after line n r s ns ms h j a old e =
     let few = few_more r s line a in
-    let before : length (services_in (take n (lines all))) ≡ length r.services.items = ap length (sym h.services) in
-    let behind : length (services_in (take (n + 1) (lines all))) ≡ length s.services.items = ap length (sym j.services) in
+    let before : length (services_in (take n (lines all))) ≡ length r.services.items = ap length (sym h.said.services) in
+    let behind : length (services_in (take (n + 1) (lines all))) ≡ length s.services.items = ap length (sym j.said.services) in
     elim (cases_lt (length ns) (length s.services.items)) [
       | inl lt ↦
           let t : ltb (length ns) (length s.services.items) ≡ true = lt-ltb _ _ lt in

@@ -21,6 +21,10 @@ pub record IsWord (w : List ℕ) : Type 0 where
   pub visible : is_visible w ≡ true
   pub some : 0 < length w
 
+pub visible_append : (xs ys : List ℕ) → is_visible xs ≡ true → is_visible ys ≡ true → is_visible (xs ++ ys) ≡ true
+visible_append [] ys p q = q
+visible_append (x ∷ xs) ys p q = let r = and_parts _ _ p in and_from _ _ r.0 (visible_append xs ys r.1 q)
+
 digits_visible : (ds : List ℕ) → AllDigits 10 ds → is_visible ds ≡ true
 digits_visible [] h = refl
 digits_visible (d ∷ ds) h =

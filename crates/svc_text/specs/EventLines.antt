@@ -1,120 +1,131 @@
 -- What a line of words says, where it is an event or a fault.
-use Rattle.std.specs.Prelude.{ℕ, Bool, false, ◌^◌, if◌then◌else◌, List, [], ◌∷◌, codes, Option, Some, None}
-use Rattle.std.specs.Option.{option_map, option_map_or}
+use Rattle.std.specs.Prelude.{ℕ, Bool, true, false, ◌+◌, ◌-◌, ◌*◌, ◌^◌, ◌&&◌, ◌==◌, nat_le, if◌then◌else◌, List, [], ◌∷◌, length, map, codes, Option, Some, None}
+use Rattle.std.specs.Option.{option_map}
+use Rattle.std.specs.List.{slice_split}
 use Rattle.std.specs.Str.{bytes_eq}
 use Rattle.svc_text.specs.Words.{◌>>=◌, number_of}
+use Rattle.svc_text.specs.ServiceLines.{all_some}
+use Rattle.svc_socket.specs.ReadPeers.{peer_of}
 use Rattle.svc_record.specs.declared.event.ShutdownSignal.{ShutdownSignal}
-use Rattle.svc_record.specs.declared.event.ShutdownSignal.TheVariants.{FastShutdown}
+use Rattle.svc_record.specs.declared.event.ShutdownSignal.TheVariants.{FastShutdown, GracefulTerminate, GracefulUpgrade}
+use Rattle.svc_record.specs.declared.event.Side.{Side}
+use Rattle.svc_record.specs.declared.event.Side.TheVariants.{Child, Parent}
 use Rattle.svc_record.specs.declared.event.Event.{Event}
-use Rattle.svc_record.specs.declared.event.Event.TheVariants.{Moment, Ready, Ended, Bound, InUse, BindFailed, Adopted, AdoptFailed, Signal}
+use Rattle.svc_record.specs.declared.event.Event.TheVariants as events
 use Rattle.svc_record.specs.declared.item.Item.{Item}
 use Rattle.svc_record.specs.declared.item.Item.TheVariants as item
 
--- the one word that there is
-unfoldable pub only_of : List (List ℕ) → Option (List ℕ)
-only_of (w ∷ []) = Some w
-only_of _ = None
-
--- the two words that there are
-unfoldable pub two_of : List (List ℕ) → Option (List ℕ × List ℕ)
-two_of (v ∷ w ∷ []) = Some (v, w)
-two_of _ = None
-
--- the three words that there are
-unfoldable pub three_of : List (List ℕ) → Option (List ℕ × List ℕ × List ℕ)
-three_of (v ∷ w ∷ x ∷ []) = Some (v, w, x)
-three_of _ = None
-
 -- the signal that a word names
 unfoldable pub signal_of : List ℕ → Option ShutdownSignal
-signal_of word = if bytes_eq word (codes "fast") then Some FastShutdown else None
+signal_of word =
+    if bytes_eq word (codes "fast") then Some FastShutdown
+    else (if bytes_eq word (codes "terminate") then Some GracefulTerminate
+    else (if bytes_eq word (codes "upgrade") then Some GracefulUpgrade else None))
 
--- what follows the word `moment`
-unfoldable pub moment_of : List (List ℕ) → Option Event
-moment_of args = do
-  word ← only_of args
-  ms ← number_of (2 ^ 64) word
-  Some (Moment ms)
+-- the side of a fork that a word names
+unfoldable pub side_of : List ℕ → Option Side
+side_of word = if bytes_eq word (codes "child") then Some Child else (if bytes_eq word (codes "parent") then Some Parent else None)
 
--- what follows the word `ready`
-unfoldable pub ready_of : List (List ℕ) → Option Event
-ready_of args = do
-  s ← only_of args
-  service ← number_of (2 ^ 32) s
-  Some (Ready service)
+-- what a word says of an answer
+unfoldable pub ok_of : List ℕ → Option Bool
+ok_of word = if bytes_eq word (codes "ok") then Some true else (if bytes_eq word (codes "no") then Some false else None)
 
--- what follows the word `ended`
-unfoldable pub ended_of : List (List ℕ) → Option Event
-ended_of args = do
-  s ← only_of args
-  service ← number_of (2 ^ 32) s
-  Some (Ended service)
+-- the value of a hexadecimal digit, which is lower-case
+unfoldable pub hex_digit_of : ℕ → Option ℕ
+hex_digit_of b = if nat_le 48 b && nat_le b 57 then Some (b - 48) else (if nat_le 97 b && nat_le b 102 then Some (b - 87) else None)
 
--- what follows the word `bound`
-unfoldable pub bound_of : List (List ℕ) → Option Event
-bound_of args = do
-  a ← three_of args
-  service ← number_of (2 ^ 32) a.0
-  endpoint ← number_of (2 ^ 32) a.1
-  descriptor ← number_of (2 ^ 64) a.2
-  Some (Bound service endpoint descriptor)
+-- the byte of two digits
+unfoldable pub hex_byte_of : ℕ → ℕ → Option ℕ
+hex_byte_of high low = hex_digit_of high >>= λ h. hex_digit_of low >>= λ l. Some (16 * h + l)
 
--- the service and the endpoint that two words number
-unfoldable pub place_of : List (List ℕ) → Option (ℕ × ℕ)
-place_of args = do
-  a ← two_of args
-  service ← number_of (2 ^ 32) a.0
-  endpoint ← number_of (2 ^ 32) a.1
-  Some (service, endpoint)
+-- bytes, of two digits each
+unfoldable pub hex_of : List ℕ → Option (List ℕ)
+hex_of [] = Some []
+hex_of (high ∷ []) = None
+hex_of (high ∷ low ∷ more) = hex_byte_of high low >>= λ byte. option_map (λ bytes. byte ∷ bytes) (hex_of more)
 
--- what follows the word `inuse`
-unfoldable pub in_use_of : List (List ℕ) → Option Event
-in_use_of args = do
-  p ← place_of args
-  Some (InUse p.0 p.1)
+-- the bytes that a word has in hexadecimal; a dash for none
+unfoldable pub bytes_of : List ℕ → Option (List ℕ)
+bytes_of word = if bytes_eq word (codes "-") then Some [] else hex_of word
 
--- what follows the word `bindfailed`
-unfoldable pub bind_failed_of : List (List ℕ) → Option Event
-bind_failed_of args = do
-  p ← place_of args
-  Some (BindFailed p.0 p.1)
+-- numbers joined by commas
+unfoldable pub joined_of : List ℕ → Option (List ℕ)
+joined_of word = all_some (map (number_of (2 ^ 64)) (slice_split (λ b. b == 44) word))
 
--- what follows the word `adopted`
-unfoldable pub adopted_of : List (List ℕ) → Option Event
-adopted_of args = do
-  p ← place_of args
-  Some (Adopted p.0 p.1)
+-- the numbers that a word lists; a dash for none
+unfoldable pub listed_of : List ℕ → Option (List ℕ)
+listed_of word = if bytes_eq word (codes "-") then Some [] else joined_of word
 
--- what follows the word `adoptfailed`
-unfoldable pub adopt_failed_of : List (List ℕ) → Option Event
-adopt_failed_of args = do
-  p ← place_of args
-  Some (AdoptFailed p.0 p.1)
+-- at most 32 descriptors
+unfoldable pub descriptors_of : List ℕ → Option (List ℕ)
+descriptors_of word = listed_of word >>= λ fds. if nat_le (length fds) 32 then Some fds else None
 
--- what follows the word `signal`
-unfoldable pub signalled_of : List (List ℕ) → Option Event
-signalled_of args = do
-  word ← only_of args
-  kind ← signal_of word
-  Some (Signal kind)
+-- the event of a key alone
+unfoldable pub bare_event : List ℕ → Option Event
+bare_event key =
+    if bytes_eq key (codes "nosender") then Some events.NoSenderYet
+    else (if bytes_eq key (codes "receivefailed") then Some events.ReceiveFailed
+    else (if bytes_eq key (codes "connected") then Some events.Connected
+    else (if bytes_eq key (codes "notthere") then Some events.NotThere
+    else (if bytes_eq key (codes "connecting") then Some events.StillConnecting
+    else (if bytes_eq key (codes "connectfailed") then Some events.ConnectFailed
+    else (if bytes_eq key (codes "sent") then Some events.Sent
+    else (if bytes_eq key (codes "sendbusy") then Some events.SendBusy
+    else (if bytes_eq key (codes "sendfailed") then Some events.SendFailed
+    else (if bytes_eq key (codes "childready") then Some events.ChildReady
+    else (if bytes_eq key (codes "childgone") then Some events.ChildGone
+    else (if bytes_eq key (codes "dropfailed") then Some events.DropFailed else None)))))))))))
+
+-- the event of a key and a word
+unfoldable pub event_of_one : List ℕ → List ℕ → Option Event
+event_of_one key first =
+    if bytes_eq key (codes "moment") then (number_of (2 ^ 64) first >>= λ ms. Some (events.Moment ms))
+    else (if bytes_eq key (codes "ready") then (number_of (2 ^ 32) first >>= λ service. Some (events.Ready service))
+    else (if bytes_eq key (codes "ended") then (number_of (2 ^ 32) first >>= λ service. Some (events.Ended service))
+    else (if bytes_eq key (codes "finished") then (number_of (2 ^ 64) first >>= λ connection. Some (events.Finished connection))
+    else (if bytes_eq key (codes "signal") then (signal_of first >>= λ kind. Some (events.Signal kind))
+    else (if bytes_eq key (codes "side") then (side_of first >>= λ side. Some (events.Side side)) else None)))))
+
+-- of a key and two words
+unfoldable pub event_of_two : List ℕ → List ℕ → List ℕ → Option Event
+event_of_two key first second =
+    if bytes_eq key (codes "inuse") then (number_of (2 ^ 32) first >>= λ service. number_of (2 ^ 32) second >>= λ endpoint. Some (events.InUse service endpoint))
+    else (if bytes_eq key (codes "bindfailed") then (number_of (2 ^ 32) first >>= λ service. number_of (2 ^ 32) second >>= λ endpoint. Some (events.BindFailed service endpoint))
+    else (if bytes_eq key (codes "adopted") then (number_of (2 ^ 32) first >>= λ service. number_of (2 ^ 32) second >>= λ endpoint. Some (events.Adopted service endpoint))
+    else (if bytes_eq key (codes "adoptfailed") then (number_of (2 ^ 32) first >>= λ service. number_of (2 ^ 32) second >>= λ endpoint. Some (events.AdoptFailed service endpoint))
+    else (if bytes_eq key (codes "set") then (number_of (2 ^ 64) first >>= λ connection. ok_of second >>= λ ok. Some (events.Set connection ok))
+    else (if bytes_eq key (codes "shaken") then (number_of (2 ^ 64) first >>= λ connection. ok_of second >>= λ ok. Some (events.Shaken connection ok)) else None)))))
+
+-- of a key and three words
+unfoldable pub event_of_three : List ℕ → List ℕ → List ℕ → List ℕ → Option Event
+event_of_three key first second third =
+    if bytes_eq key (codes "bound") then (number_of (2 ^ 32) first >>= λ service. number_of (2 ^ 32) second >>= λ endpoint. number_of (2 ^ 64) third >>= λ descriptor. Some (events.Bound service endpoint descriptor))
+    else (if bytes_eq key (codes "acceptfailed") then (number_of (2 ^ 32) first >>= λ service. number_of (2 ^ 32) second >>= λ endpoint. number_of (2 ^ 32) third >>= λ error. Some (events.AcceptFailed service endpoint error))
+    else (if bytes_eq key (codes "loopended") then (number_of (2 ^ 32) first >>= λ service. number_of (2 ^ 32) second >>= λ endpoint. number_of (2 ^ 64) third >>= λ number. Some (events.LoopEnded service endpoint number)) else None))
+
+-- of a key and four words
+unfoldable pub event_of_four : List ℕ → List ℕ → List ℕ → List ℕ → List ℕ → Option Event
+event_of_four key first second third fourth =
+    if bytes_eq key (codes "arrived") then (number_of (2 ^ 32) first >>= λ service. number_of (2 ^ 32) second >>= λ endpoint. number_of (2 ^ 64) third >>= λ connection. peer_of fourth >>= λ peer. Some (events.Arrived service endpoint connection peer)) else None
+
+-- a message with its descriptors
+unfoldable pub received_of : List ℕ → List ℕ → Option Event
+received_of first second = bytes_of first >>= λ bytes. descriptors_of second >>= λ fds. Some (events.Received bytes fds)
 
 -- the event that the words of a line say
 unfoldable pub event_of : List (List ℕ) → Option Event
 event_of [] = None
-event_of (key ∷ args) =
-    if bytes_eq key (codes "moment") then moment_of args
-    else (if bytes_eq key (codes "ready") then ready_of args
-    else (if bytes_eq key (codes "ended") then ended_of args
-    else (if bytes_eq key (codes "bound") then bound_of args
-    else (if bytes_eq key (codes "inuse") then in_use_of args
-    else (if bytes_eq key (codes "bindfailed") then bind_failed_of args
-    else (if bytes_eq key (codes "adopted") then adopted_of args
-    else (if bytes_eq key (codes "adoptfailed") then adopt_failed_of args
-    else (if bytes_eq key (codes "signal") then signalled_of args else None))))))))
+event_of (key ∷ []) = bare_event key
+event_of (key ∷ first ∷ []) = event_of_one key first
+event_of (key ∷ first ∷ second ∷ []) = if bytes_eq key (codes "received") then received_of first second else event_of_two key first second
+event_of (key ∷ first ∷ second ∷ third ∷ []) = event_of_three key first second third
+event_of (key ∷ first ∷ second ∷ third ∷ fourth ∷ []) = event_of_four key first second third fourth
+event_of (key ∷ first ∷ second ∷ third ∷ fourth ∷ fifth ∷ more) = None
 
--- the one word that there is is `fault`
+-- the only word of a line is `fault`
 unfoldable pub is_fault : List (List ℕ) → Bool
-is_fault ws = option_map_or (λ w. bytes_eq w (codes "fault")) (only_of ws) false
+is_fault (word ∷ []) = bytes_eq word (codes "fault")
+is_fault _ = false
 
 -- the item that the words of a line say: a fault, or an event
 unfoldable pub item_of : List (List ℕ) → Option Item

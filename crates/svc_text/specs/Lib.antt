@@ -3,6 +3,8 @@ pub mod EventLines
 pub mod ServiceLines
 pub mod Script
 pub mod Outcome
+pub mod ConfTexts
+pub mod Fronts
 pub mod Accepted
 pub mod Dependencies
 pub mod Edges

@@ -1,16 +1,21 @@
 -- What a script says, or which line is the first that does not fit those before it.
-use Rattle.std.specs.Prelude.{◌≡◌, ◌<◌, ℕ, ◌+◌, ◌-◌, Bool, true, false, not, ◌||◌, ◌&&◌, ◌==◌, nat_lt, if◌then◌else◌, List, [], ◌∷◌, length, take, find, count_by, codes, slice_index, Option, Some, None, is_some, Result, Ok, Err}
-use Rattle.std.specs.List.{slice_split, slice_index_or, filter_map, range_with_len}
+use Rattle.std.specs.Prelude.{◌≡◌, ◌<◌, ℕ, ◌+◌, ◌-◌, Bool, true, false, not, ◌||◌, ◌&&◌, ◌==◌, nat_lt, if◌then◌else◌, List, [], ◌∷◌, length, take, find, count_by, codes, slice_index, Option, Some, None, is_some, is_none, unwrap_or, Result, Ok, Err}
+use Rattle.std.specs.List.{slice_split, slice_index_or, filter_map, list_any, range_with_len}
 use Rattle.std.specs.Option.{option_to_list}
 use Rattle.std.specs.Str.{bytes_eq, is_utf8}
 use Rattle.std.specs.Str.Lines.{lines}
+use Rattle.svc_conf.specs.declared.server.configuration.ServerConf.{ServerConf}
+use Rattle.svc_conf.specs.declared.server.configuration.read_error.ReadError.{ReadError}
+use Rattle.svc_conf.specs.declared.server.configuration.read_error.ReadError.TheVariants as errors
+use Rattle.svc_conf.specs.Configuration.{defaults}
+use Rattle.svc_conf.specs.ConfigurationText.{said_from, overridden_by}
 use Rattle.svc_text.specs.Words.{words}
 use Rattle.svc_record.specs.declared.item.Item.{Item}
 use Rattle.svc_text.specs.EventLines.{item_of}
 use Rattle.svc_text.specs.declared.part.Part.{Part}
 use Rattle.svc_text.specs.declared.part.Part.TheVariants.{Nothing, Conf, Services, Events}
 use Rattle.svc_text.specs.declared.service.ServiceLine.{ServiceLine}
-use Rattle.svc_text.specs.ServiceLines.{service_of}
+use Rattle.svc_text.specs.ServiceLines.{service_of, is_eager}
 
 -- the number of headers from the start to this part's
 abbrev pub part_number : Part → ℕ
@@ -42,6 +47,14 @@ part_of n ls = slice_index_or (slice_split is_header ls) n []
 unfoldable pub services_in : List (List ℕ) → List ServiceLine
 services_in ls = filter_map (λ l. service_of (words l)) (part_of 2 ls)
 
+-- one of the lines is `eager`
+unfoldable pub eager_in : List (List ℕ) → Bool
+eager_in ls = list_any (λ l. is_eager (words l)) (part_of 2 ls)
+
+-- what the lines of the configuration say, or which of them is refused
+unfoldable pub conf_in : List (List ℕ) → Result ServerConf ReadError
+conf_in ls = overridden_by defaults (said_from [] (part_of 1 ls))
+
 -- the items that the lines say
 unfoldable pub items_in : List (List ℕ) → List Item
 items_in ls = filter_map (λ l. item_of (words l)) (part_of 3 ls)
@@ -55,44 +68,74 @@ is_skipped (w ∷ ws) = slice_index w 0 == 35
 abbrev pub is_next : List ServiceLine → Option ServiceLine → Bool
 is_next services o = is_some o && nat_lt (length services) 1024
 
--- the words may stand in the part
-unfoldable pub says_item : ℕ → List ServiceLine → List (List ℕ) → Bool
-says_item part services ws = if part == 2 then is_next services (service_of ws) else (if part == 3 then is_some (item_of ws) else false)
+-- the words may stand in the part of the services
+unfoldable pub says_service : Bool → List ServiceLine → List (List ℕ) → Bool
+says_service eager services ws = if is_eager ws then not eager else is_next services (service_of ws)
 
--- a line, which may begin a part, fits its place
-unfoldable pub place_fits : ℕ → List ServiceLine → List ℕ → Option Part → Bool
-place_fits part services line (Some p) = part_number p == part + 1
-place_fits part services line None = is_skipped (words line) || says_item part services (words line)
+-- the words may stand in the part
+unfoldable pub says_item : ℕ → Bool → List ServiceLine → List (List ℕ) → Bool
+says_item part eager services ws = if part == 2 then says_service eager services ws else (if part == 3 then is_some (item_of ws) else false)
+
+-- a line, which may begin a part, fits its place; those of the configuration are looked at together
+unfoldable pub place_fits : ℕ → Bool → List ServiceLine → List ℕ → Option Part → Bool
+place_fits part eager services line (Some p) = part_number p == part + 1
+place_fits part eager services line None = (part == 1) || (is_skipped (words line) || says_item part eager services (words line))
 
 -- a line fits what was said before it
-unfoldable pub line_fits : ℕ → List ServiceLine → List ℕ → Bool
-line_fits part services line = is_utf8 line && place_fits part services line (header_of line)
+unfoldable pub line_fits : ℕ → Bool → List ServiceLine → List ℕ → Bool
+line_fits part eager services line = is_utf8 line && place_fits part eager services line (header_of line)
 
 -- the line at index k fits those before it
 unfoldable pub fits_at : List (List ℕ) → ℕ → Bool
-fits_at ls k = line_fits (begun (take k ls)) (services_in (take k ls)) (slice_index_or ls k [])
+fits_at ls k = line_fits (begun (take k ls)) (eager_in (take k ls)) (services_in (take k ls)) (slice_index_or ls k [])
 
 -- the index of the first line that does not fit
 unfoldable pub first_misfit : List (List ℕ) → Option ℕ
 first_misfit ls = find (λ k. not (fits_at ls k)) (range_with_len 0 (length ls))
 
+-- the lines before the first that does not fit, or all
+unfoldable pub fitting : List (List ℕ) → List (List ℕ)
+fitting ls = take (unwrap_or (first_misfit ls) (length ls)) ls
+
 -- what a script says
 pub record Parts : Type 0 where
+  pub conf : ServerConf
   pub services : List ServiceLine
+  pub eager : Bool
   pub items : List Item
 
--- lines are numbered from 1; where all fit and a part is missing, the line behind the last is refused
-unfoldable pub judged : Option ℕ → List (List ℕ) → Result Parts ℕ
-judged (Some k) ls = Err (k + 1)
-judged None ls = if begun ls == 3 then Ok (record { services = services_in ls; items = items_in ls }) else Err (length ls + 1)
+-- the line that a refusal names, from 1
+abbrev pub refused_line : ReadError → ℕ
+refused_line (errors.Line n) = n
+refused_line (errors.Value key n) = n
+refused_line _ = 0
+
+-- how many lines stand before those of the configuration
+abbrev pub lines_before : List (List ℕ) → ℕ
+lines_before ls = length (part_of 0 ls) + 1
+
+-- what lines that fit, which are all or not, say: a refused line of the configuration comes first; else the line behind them is refused, where they aren't all or a part is missing
+unfoldable pub judged : Bool → Result ServerConf ReadError → List (List ℕ) → Result Parts ℕ
+judged all (Err e) ls = Err (lines_before ls + refused_line e)
+judged all (Ok conf) ls =
+    if all && (begun ls == 3) then Ok (record { conf = conf; services = services_in ls; eager = eager_in ls; items = items_in ls })
+    else Err (length ls + 1)
+
+-- what lines say as a script, or the number of the first refused one, from 1
+unfoldable pub script_of : List (List ℕ) → Result Parts ℕ
+script_of ls = judged (is_none (first_misfit ls)) (conf_in (fitting ls)) (fitting ls)
 
 -- what the bytes say as a script, or the number of the first refused line
 unfoldable pub script : List ℕ → Result Parts ℕ
-script bytes = judged (first_misfit (lines bytes)) (lines bytes)
+script bytes = script_of (lines bytes)
 
 -- the services that one more line says
 unfoldable pub said_services : ℕ → List ℕ → List ServiceLine
 said_services part line = if (part == 2) && not (is_header line) then option_to_list (service_of (words line)) else []
+
+-- one more line is `eager`
+unfoldable pub said_eager : ℕ → List ℕ → Bool
+said_eager part line = ((part == 2) && not (is_header line)) && is_eager (words line)
 
 -- the items that one more line says
 unfoldable pub said_items : ℕ → List ℕ → List Item

@@ -1,10 +1,10 @@
 -- What a service line says.
-use Rattle.std.specs.Prelude.{◌≡◌, ℕ, ◌^◌, Bool, true, false, not, ◌&&◌, ◌==◌, nat_lt, nat_le, if◌then◌else◌, List, [], ◌∷◌, ◌++◌, length, map, codes, slice_index, Option, Some, None, is_none}
+use Rattle.std.specs.Prelude.{◌≡◌, ℕ, ◌^◌, Bool, true, false, not, ◌&&◌, ◌||◌, ◌==◌, nat_lt, nat_le, if◌then◌else◌, List, [], ◌∷◌, ◌++◌, length, map, codes, slice_index, Option, Some, None, is_none}
 use Rattle.std.specs.Option.{option_map}
 use Rattle.std.specs.List.{slice_split}
 use Rattle.std.specs.Str.{bytes_eq}
 use Rattle.svc_graph.specs.declared.plan.Kind.{Kind}
-use Rattle.svc_graph.specs.declared.plan.Kind.TheVariants.{Plain, Notifying}
+use Rattle.svc_graph.specs.declared.plan.Kind.TheVariants.{Plain, Notifying, Bootstrap}
 use Rattle.svc_text.specs.Words.{◌>>=◌, number_of, text_in}
 use Rattle.svc_text.specs.declared.service.EndpointLine.{EndpointLine}
 use Rattle.svc_text.specs.declared.service.ServiceLine.{ServiceLine}
@@ -19,7 +19,16 @@ name_of word = if is_name word then text_in word else None
 
 -- the kind that a word names
 unfoldable pub kind_of : List ℕ → Option Kind
-kind_of word = if bytes_eq word (codes "plain") then Some Plain else (if bytes_eq word (codes "notify") then Some Notifying else None)
+kind_of word =
+    if bytes_eq word (codes "plain") then Some Plain
+    else (if bytes_eq word (codes "notify") then Some Notifying
+    else (if bytes_eq word (codes "bootstrap") then Some Bootstrap else None))
+
+-- a service of this kind bootstraps
+abbrev pub boots : Kind → Bool
+boots Plain = false
+boots Notifying = false
+boots Bootstrap = true
 
 -- all of them, where each is there
 abbrev pub all_some : {A : Type 0} → List (Option A) → Option (List A)
@@ -51,22 +60,42 @@ unfoldable pub with_endpoint : ServiceLine → Bool → List ℕ → Option Serv
 with_endpoint s unix value =
     if nat_lt (length s.endpoints) 64 then option_map (λ address. record s { endpoints = s.endpoints ++ endpoint_at unix address ∷ [] }) (address_of value) else None
 
--- the service with one more item
+-- the service with one more declared address
+unfoldable pub with_claim : ServiceLine → List ℕ → Option ServiceLine
+with_claim s value = option_map (λ address. record s { claims = s.claims ++ address ∷ [] }) (address_of value)
+
+-- the service that doesn't declare its addresses, where it is not said yet and it doesn't bootstrap
+unfoldable pub with_undeclared : ServiceLine → Option ServiceLine
+with_undeclared s = if s.undeclared || boots s.kind then None else Some (record s { undeclared = true })
+
+-- the service with one more address
+unfoldable pub with_address : ServiceLine → List ℕ → List ℕ → Option ServiceLine
+with_address s key value =
+    if bytes_eq key (codes "tcp") then with_endpoint s false value
+    else (if bytes_eq key (codes "unix") then with_endpoint s true value
+    else (if bytes_eq key (codes "claim") then with_claim s value else None))
+
+-- the service with one more item, which is a pair of words; one that bootstraps has no addresses
 unfoldable pub with_item : ServiceLine → List ℕ → List ℕ → Option ServiceLine
 with_item s key value =
     if bytes_eq key (codes "after") then with_after s value
-    else (if bytes_eq key (codes "tcp") then with_endpoint s false value
-    else (if bytes_eq key (codes "unix") then with_endpoint s true value else None))
+    else (if boots s.kind then None else with_address s key value)
 
--- the items of a line are pairs of words
+-- the word that is an item by itself
+abbrev pub is_undeclared : List ℕ → Bool
+is_undeclared word = bytes_eq word (codes "undeclared")
+
+-- the items of a line are this word and pairs of words
 unfoldable pub with_items : ServiceLine → List (List ℕ) → Option ServiceLine
 with_items s [] = Some s
-with_items s (key ∷ []) = None
-with_items s (key ∷ value ∷ more) = with_item s key value >>= λ t. with_items t more
+with_items s (key ∷ []) = if is_undeclared key then with_undeclared s else None
+with_items s (key ∷ value ∷ more) =
+    if is_undeclared key then (with_undeclared s >>= λ t. with_items t (value ∷ more))
+    else (with_item s key value >>= λ t. with_items t more)
 
 -- a service without items
 abbrev pub bare : List ℕ → Kind → ServiceLine
-bare name kind = record { name = name; kind = kind; after = None; endpoints = [] }
+bare name kind = record { name = name; kind = kind; after = None; undeclared = false; claims = []; endpoints = [] }
 
 -- the service that the words of a line say
 unfoldable pub service_of : List (List ℕ) → Option ServiceLine
@@ -78,3 +107,8 @@ service_of (name ∷ kind ∷ items) = name_of name >>= λ n. kind_of kind >>= �
 abbrev pub Takes : Bool → Option ServiceLine → ServiceLine → Type 0
 Takes true made now = made ≡ Some now
 Takes false made now = made ≡ None
+
+-- the one word `eager`
+unfoldable pub is_eager : List (List ℕ) → Bool
+is_eager (w ∷ []) = bytes_eq w (codes "eager")
+is_eager _ = false

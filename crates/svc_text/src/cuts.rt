@@ -3,6 +3,7 @@
 ghost use Rattle.std.specs.Prelude.{◌≡◌, ◌<◌, ◌+◌, [], ◌∷◌, length, position, MatchOption, IfSome};
 ghost use Rattle.std.specs.Str.Lines.{lines, strip_carriage_return};
 ghost use Rattle.svc_text.specs.Words.{is_blank, is_feed, is_filled, words};
+ghost use Rattle.svc_text.specs.ConfTexts.{IsCut};
 
 fn is_blank(b: u8) -> bool
     ensures { result ≡ is_blank b }
@@ -54,6 +55,7 @@ fn without_return(line: &[u8]) -> &[u8]
 pub fn split_line(text: &[u8]) -> Option<(&[u8], &[u8])>
     ensures first { MatchOption result (lines text.now ≡ []) (λ cut. lines text.now ≡ cut.0.now ∷ lines cut.1.now) }
     ensures shorter { IfSome result (λ cut. length cut.1.now < length text.now) }
+    ensures cut { IfSome result (λ cut. IsCut text.now cut.0.now cut.1.now) }
 {
     if text.is_empty() {
         return None;

@@ -1,13 +1,16 @@
 //! What a line says as an event, or as a fault.
 
-ghost use Rattle.std.specs.Prelude.{◌≡◌, ◌^◌};
-ghost use Rattle.std.specs.Option.{option_copied, option_map};
-ghost use Rattle.svc_text.specs.Words.{words, number_of};
-ghost use Rattle.svc_text.specs.EventLines.{only_of, two_of, three_of, signal_of, moment_of, ready_of, ended_of, bound_of, place_of, in_use_of, bind_failed_of, adopted_of, adopt_failed_of, signalled_of, event_of, is_fault, item_of};
+ghost use Rattle.std.specs.Prelude.{◌≡◌, IfOk};
+ghost use Rattle.svc_text.specs.Words.{words};
+ghost use Rattle.svc_text.specs.EventLines.{signal_of, side_of, ok_of, bare_event, event_of_one, event_of_two, event_of_three, event_of_four, received_of, event_of, is_fault, item_of};
 
 use crate::cuts::split_word;
+use crate::message_words::{bytes_of, descriptors_of};
 use crate::numbers::{number, number32};
-use svc_record::{Event, Item, ShutdownSignal};
+use std::alloc::Global;
+use svc_conf::NoMemory;
+use svc_record::{Event, Item, ShutdownSignal, Side};
+use svc_socket::read_peer_word;
 
 #[tactic(auto, unfolding(crate::specs::EventLines::signal_of))]
 fn signal_of(word: &[u8]) -> Option<ShutdownSignal>
@@ -15,161 +18,208 @@ fn signal_of(word: &[u8]) -> Option<ShutdownSignal>
 {
     if word == b"fast".as_slice() {
         Some(ShutdownSignal::FastShutdown)
+    } else if word == b"terminate".as_slice() {
+        Some(ShutdownSignal::GracefulTerminate)
+    } else if word == b"upgrade".as_slice() {
+        Some(ShutdownSignal::GracefulUpgrade)
     } else {
         None
     }
 }
 
-/// The only word of a line.
-#[tactic(auto, unfolding(crate::specs::EventLines::only_of))]
-fn only_of(line: &[u8]) -> Option<&[u8]>
-    ensures { option_copied result ≡ only_of (words line.now) }
+#[tactic(auto, unfolding(crate::specs::EventLines::side_of))]
+fn side_of(word: &[u8]) -> Option<Side>
+    ensures { result ≡ side_of word.now }
 {
-    let (word, rest) = split_word(line)?;
-    match split_word(rest) {
-        None => Some(word),
-        Some(_) => None,
+    if word == b"child".as_slice() {
+        Some(Side::Child)
+    } else if word == b"parent".as_slice() {
+        Some(Side::Parent)
+    } else {
+        None
     }
 }
 
-/// The two words of a line.
-#[tactic(auto, unfolding(crate::specs::EventLines::two_of))]
-fn two_of(line: &[u8]) -> Option<(&[u8], &[u8])>
-    ensures { option_map (λ w. (w.0.now, w.1.now)) result ≡ two_of (words line.now) }
+#[tactic(auto, unfolding(crate::specs::EventLines::ok_of))]
+fn ok_of(word: &[u8]) -> Option<bool>
+    ensures { result ≡ ok_of word.now }
 {
-    let (first, rest) = split_word(line)?;
-    let (second, rest) = split_word(rest)?;
-    match split_word(rest) {
-        None => Some((first, second)),
-        Some(_) => None,
+    if word == b"ok".as_slice() {
+        Some(true)
+    } else if word == b"no".as_slice() {
+        Some(false)
+    } else {
+        None
     }
 }
 
-/// The three words of a line.
-#[tactic(auto, unfolding(crate::specs::EventLines::three_of))]
-fn three_of(line: &[u8]) -> Option<(&[u8], &[u8], &[u8])>
-    ensures { option_map (λ w. (w.0.now, w.1.now, w.2.now)) result ≡ three_of (words line.now) }
+/// The event of a key alone.
+#[tactic(auto, unfolding(crate::specs::EventLines::bare_event))]
+fn bare_event(key: &[u8]) -> Option<Event>
+    ensures { result ≡ bare_event key.now }
 {
-    let (first, rest) = split_word(line)?;
-    let (second, rest) = split_word(rest)?;
-    let (third, rest) = split_word(rest)?;
-    match split_word(rest) {
-        None => Some((first, second, third)),
-        Some(_) => None,
+    if key == b"nosender".as_slice() {
+        Some(Event::NoSenderYet)
+    } else if key == b"receivefailed".as_slice() {
+        Some(Event::ReceiveFailed)
+    } else if key == b"connected".as_slice() {
+        Some(Event::Connected)
+    } else if key == b"notthere".as_slice() {
+        Some(Event::NotThere)
+    } else if key == b"connecting".as_slice() {
+        Some(Event::StillConnecting)
+    } else if key == b"connectfailed".as_slice() {
+        Some(Event::ConnectFailed)
+    } else if key == b"sent".as_slice() {
+        Some(Event::Sent)
+    } else if key == b"sendbusy".as_slice() {
+        Some(Event::SendBusy)
+    } else if key == b"sendfailed".as_slice() {
+        Some(Event::SendFailed)
+    } else if key == b"childready".as_slice() {
+        Some(Event::ChildReady)
+    } else if key == b"childgone".as_slice() {
+        Some(Event::ChildGone)
+    } else if key == b"dropfailed".as_slice() {
+        Some(Event::DropFailed)
+    } else {
+        None
     }
 }
 
-#[tactic(auto, unfolding(crate::specs::EventLines::moment_of))]
-fn moment_of(args: &[u8]) -> Option<Event>
-    ensures { result ≡ moment_of (words args.now) }
+/// The event of a key and a word.
+#[tactic(auto, unfolding(crate::specs::EventLines::event_of_one))]
+fn event_of_one(key: &[u8], first: &[u8]) -> Option<Event>
+    ensures { result ≡ event_of_one key.now first.now }
 {
-    let word = only_of(args)?;
-    Some(Event::Moment(number(word)?))
+    if key == b"moment".as_slice() {
+        Some(Event::Moment(number(first)?))
+    } else if key == b"ready".as_slice() {
+        Some(Event::Ready(number32(first)?))
+    } else if key == b"ended".as_slice() {
+        Some(Event::Ended(number32(first)?))
+    } else if key == b"finished".as_slice() {
+        Some(Event::Finished(number(first)?))
+    } else if key == b"signal".as_slice() {
+        Some(Event::Signal(signal_of(first)?))
+    } else if key == b"side".as_slice() {
+        Some(Event::Side(side_of(first)?))
+    } else {
+        None
+    }
 }
 
-#[tactic(auto, unfolding(crate::specs::EventLines::ready_of))]
-fn ready_of(args: &[u8]) -> Option<Event>
-    ensures { result ≡ ready_of (words args.now) }
+/// The event of a key and two words. Messages are read apart.
+#[tactic(auto, unfolding(crate::specs::EventLines::event_of_two))]
+fn event_of_two(key: &[u8], first: &[u8], second: &[u8]) -> Option<Event>
+    ensures { result ≡ event_of_two key.now first.now second.now }
 {
-    let word = only_of(args)?;
-    Some(Event::Ready(number32(word)?))
+    if key == b"inuse".as_slice() {
+        let service = number32(first)?;
+        Some(Event::InUse(service, number32(second)?))
+    } else if key == b"bindfailed".as_slice() {
+        let service = number32(first)?;
+        Some(Event::BindFailed(service, number32(second)?))
+    } else if key == b"adopted".as_slice() {
+        let service = number32(first)?;
+        Some(Event::Adopted(service, number32(second)?))
+    } else if key == b"adoptfailed".as_slice() {
+        let service = number32(first)?;
+        Some(Event::AdoptFailed(service, number32(second)?))
+    } else if key == b"set".as_slice() {
+        let connection = number(first)?;
+        Some(Event::Set(connection, ok_of(second)?))
+    } else if key == b"shaken".as_slice() {
+        let connection = number(first)?;
+        Some(Event::Shaken(connection, ok_of(second)?))
+    } else {
+        None
+    }
 }
 
-#[tactic(auto, unfolding(crate::specs::EventLines::ended_of))]
-fn ended_of(args: &[u8]) -> Option<Event>
-    ensures { result ≡ ended_of (words args.now) }
+/// The event of a key and three words.
+#[tactic(auto, unfolding(crate::specs::EventLines::event_of_three))]
+fn event_of_three(key: &[u8], first: &[u8], second: &[u8], third: &[u8]) -> Option<Event>
+    ensures { result ≡ event_of_three key.now first.now second.now third.now }
 {
-    let word = only_of(args)?;
-    Some(Event::Ended(number32(word)?))
+    if key == b"bound".as_slice() {
+        let service = number32(first)?;
+        let endpoint = number32(second)?;
+        Some(Event::Bound(service, endpoint, number(third)?))
+    } else if key == b"acceptfailed".as_slice() {
+        let service = number32(first)?;
+        let endpoint = number32(second)?;
+        Some(Event::AcceptFailed(service, endpoint, number32(third)?))
+    } else if key == b"loopended".as_slice() {
+        let service = number32(first)?;
+        let endpoint = number32(second)?;
+        Some(Event::LoopEnded(service, endpoint, number(third)?))
+    } else {
+        None
+    }
 }
 
-#[tactic(auto, unfolding(crate::specs::EventLines::bound_of))]
-fn bound_of(args: &[u8]) -> Option<Event>
-    ensures { result ≡ bound_of (words args.now) }
+/// The event of a key and four words.
+#[tactic(auto, unfolding(crate::specs::EventLines::event_of_four))]
+fn event_of_four(
+    key: &[u8],
+    first: &[u8],
+    second: &[u8],
+    third: &[u8],
+    fourth: &[u8],
+) -> Option<Event>
+    ensures { result ≡ event_of_four key.now first.now second.now third.now fourth.now }
 {
-    let (service, endpoint, descriptor) = three_of(args)?;
-    let service = number32(service)?;
-    let endpoint = number32(endpoint)?;
-    Some(Event::Bound(service, endpoint, number(descriptor)?))
+    if key != b"arrived".as_slice() {
+        return None;
+    }
+    let service = number32(first)?;
+    let endpoint = number32(second)?;
+    let connection = number(third)?;
+    Some(Event::Arrived(service, endpoint, connection, read_peer_word(fourth)?))
 }
 
-/// The service and the endpoint that two words number.
-#[tactic(auto, unfolding(crate::specs::EventLines::place_of))]
-fn place_of(args: &[u8]) -> Option<(u32, u32)>
-    ensures { result ≡ place_of (words args.now) }
+/// A message with its descriptors.
+#[tactic(auto, unfolding(crate::specs::EventLines::received_of))]
+fn received_of(alloc: Global, first: &[u8], second: &[u8]) -> Result<Option<Event>, NoMemory>
+    ensures { IfOk result (λ o. o ≡ received_of first.now second.now) }
 {
-    let (service, endpoint) = two_of(args)?;
-    let service = number32(service)?;
-    Some((service, number32(endpoint)?))
-}
-
-#[tactic(auto, unfolding(crate::specs::EventLines::in_use_of))]
-fn in_use_of(args: &[u8]) -> Option<Event>
-    ensures { result ≡ in_use_of (words args.now) }
-{
-    let (service, endpoint) = place_of(args)?;
-    Some(Event::InUse(service, endpoint))
-}
-
-#[tactic(auto, unfolding(crate::specs::EventLines::bind_failed_of))]
-fn bind_failed_of(args: &[u8]) -> Option<Event>
-    ensures { result ≡ bind_failed_of (words args.now) }
-{
-    let (service, endpoint) = place_of(args)?;
-    Some(Event::BindFailed(service, endpoint))
-}
-
-#[tactic(auto, unfolding(crate::specs::EventLines::adopted_of))]
-fn adopted_of(args: &[u8]) -> Option<Event>
-    ensures { result ≡ adopted_of (words args.now) }
-{
-    let (service, endpoint) = place_of(args)?;
-    Some(Event::Adopted(service, endpoint))
-}
-
-#[tactic(auto, unfolding(crate::specs::EventLines::adopt_failed_of))]
-fn adopt_failed_of(args: &[u8]) -> Option<Event>
-    ensures { result ≡ adopt_failed_of (words args.now) }
-{
-    let (service, endpoint) = place_of(args)?;
-    Some(Event::AdoptFailed(service, endpoint))
-}
-
-#[tactic(auto, unfolding(crate::specs::EventLines::signalled_of))]
-fn signalled_of(args: &[u8]) -> Option<Event>
-    ensures { result ≡ signalled_of (words args.now) }
-{
-    let word = only_of(args)?;
-    Some(Event::Signal(signal_of(word)?))
+    let Some(bytes) = bytes_of(alloc, first)? else {
+        return Ok(None);
+    };
+    let Some(fds) = descriptors_of(alloc, second)? else {
+        return Ok(None);
+    };
+    Ok(Some(Event::Received(bytes, fds)))
 }
 
 /// The event that a line says.
 #[tactic(auto, unfolding(crate::specs::EventLines::event_of))]
-pub fn event_of_line(line: &[u8]) -> Option<Event>
-    ensures { result ≡ event_of (words line.now) }
+pub fn event_of_line(alloc: Global, line: &[u8]) -> Result<Option<Event>, NoMemory>
+    ensures { IfOk result (λ o. o ≡ event_of (words line.now)) }
 {
-    let (key, args) = split_word(line)?;
-    if key == b"moment".as_slice() {
-        moment_of(args)
-    } else if key == b"ready".as_slice() {
-        ready_of(args)
-    } else if key == b"ended".as_slice() {
-        ended_of(args)
-    } else if key == b"bound".as_slice() {
-        bound_of(args)
-    } else if key == b"inuse".as_slice() {
-        in_use_of(args)
-    } else if key == b"bindfailed".as_slice() {
-        bind_failed_of(args)
-    } else if key == b"adopted".as_slice() {
-        adopted_of(args)
-    } else if key == b"adoptfailed".as_slice() {
-        adopt_failed_of(args)
-    } else if key == b"signal".as_slice() {
-        signalled_of(args)
-    } else {
-        None
+    let Some((key, rest)) = split_word(line) else {
+        return Ok(None);
+    };
+    let Some((first, rest)) = split_word(rest) else {
+        return Ok(bare_event(key));
+    };
+    let Some((second, rest)) = split_word(rest) else {
+        return Ok(event_of_one(key, first));
+    };
+    let Some((third, rest)) = split_word(rest) else {
+        if key == b"received".as_slice() {
+            return received_of(alloc, first, second);
+        }
+        return Ok(event_of_two(key, first, second));
+    };
+    let Some((fourth, rest)) = split_word(rest) else {
+        return Ok(event_of_three(key, first, second, third));
+    };
+    if split_word(rest).is_some() {
+        return Ok(None);
     }
+    Ok(event_of_four(key, first, second, third, fourth))
 }
 
 /// The line is the word `fault` alone.
@@ -177,19 +227,25 @@ pub fn event_of_line(line: &[u8]) -> Option<Event>
 fn is_fault(line: &[u8]) -> bool
     ensures { result ≡ is_fault (words line.now) }
 {
-    match only_of(line) {
-        Some(word) => word == b"fault".as_slice(),
+    match split_word(line) {
+        Some((word, rest)) => word == b"fault".as_slice() && split_word(rest).is_none(),
         None => false,
     }
 }
 
 /// The item that a line says: an event, or the fault of the host.
 #[tactic(auto, unfolding(crate::specs::EventLines::item_of))]
-pub fn item_of_line(line: &[u8]) -> Option<Item>
-    ensures { result ≡ item_of (words line.now) }
+pub fn item_of_line(alloc: Global, line: &[u8]) -> Result<Option<Item>, NoMemory>
+    ensures { IfOk result (λ o. o ≡ item_of (words line.now)) }
 {
     if is_fault(line) {
-        return Some(Item::Fault);
+        return Ok(Some(Item::Fault));
     }
-    Some(Item::Event(event_of_line(line)?))
+    match event_of_line(alloc, line)? {
+        Some(event) => Ok(Some(Item::Event(event))),
+        None => Ok(None),
+    }
 }
+
+#[cfg(test)]
+mod tests;

@@ -1,9 +1,13 @@
 //! The script that a run is read from, and the text of its record.
 #![tactic(auto)]
 
+mod conf_text;
 mod cuts;
 mod event_lines;
+mod fitting;
+mod front;
 mod lists;
+mod message_words;
 mod numbers;
 mod parsing;
 mod part;

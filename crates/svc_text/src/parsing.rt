@@ -1,24 +1,29 @@
-//! A script is read line by line.
+//! What a script says.
 
-ghost use Rattle.std.specs.Prelude.{◌≡◌, ◌++◌, ◌∷◌, [], nat_lt, if◌then◌else◌, length, IfOk, OnOk};
+ghost use Rattle.std.specs.Prelude.{◌≡◌, ◌+◌, ◌<◌, ◌^◌, length, All, IfOk};
 ghost use Rattle.std.specs.Str.Lines.{lines};
 ghost use Rattle.svc_text.specs.Script.{script, AreLines};
 ghost use Rattle.svc_text.specs.Outcome.{Gives};
-ghost use Rattle.svc_text.specs.Accepted.{AreAccepted};
+ghost use Rattle.svc_text.specs.Fronts.{finished};
+ghost use Rattle.svc_text.specs.Accepted.{AreAccepted, BringsFew};
 
-use crate::cuts::split_line;
-use crate::reading::{LineError, Reading};
+use crate::conf_text::read_conf;
+use crate::front::{Front, front_of};
 use crate::service::ServiceLine;
 use std::alloc::Global;
-use svc_conf::NoMemory;
+use svc_conf::ServerConf;
 use svc_record::Item;
 use thiserror::Error;
 
 /// What a script says.
-#[derive(Debug, Drop)]
+#[derive(Drop)]
 pub struct Script {
+    /// What the configuration says: the defaults, overridden by its keys.
+    pub conf: ServerConf,
     /// The services, numbered from 0 in the order of their lines.
     pub services: Vec<ServiceLine>,
+    /// Bootstrapping comes first.
+    pub eager: bool,
     /// The events, and where the host fails.
     pub items: Vec<Item>,
     /// The number of each service's line.
@@ -36,45 +41,39 @@ pub enum ScriptError {
     NoMemory,
 }
 
-/// Notes a line's number, where it said a service.
-fn note_line(lines: &mut Vec<usize>, services: usize, number: usize) -> Result<(), NoMemory>
-    ensures { OnOk result (lines.new.items ≡ (if nat_lt (length lines.old.items) services then lines.old.items ++ number ∷ [] else lines.old.items)) }
+/// What a script says, of the lines that fit and the configuration.
+fn finished(front: Front, conf: ServerConf) -> Result<Script, ScriptError>
+    requires { front.number + 1 < 2 ^ 64 }
+    ensures { result ≡ finished front conf }
 {
-    if lines.len() < services {
-        lines.push(number)?;
+    let next = front.number + 1;
+    if front.refused || front.reading.part.number() != 3 {
+        return Err(ScriptError::Line(next));
     }
-    Ok(())
+    let Front { reading, lines, .. } = front;
+    Ok(Script {
+        conf,
+        services: reading.services,
+        eager: reading.eager,
+        items: reading.items,
+        lines,
+    })
 }
 
 /// What the bytes say as a script, or the first refused line.
 pub fn parse(alloc: Global, bytes: &[u8]) -> Result<Script, ScriptError>
     ensures parts { Gives result (script bytes.now) }
     ensures accepted { IfOk result (λ s. AreAccepted s.services.items) }
+    ensures few { IfOk result (λ s. All BringsFew s.items.items) }
     ensures numbers { IfOk result (λ s. AreLines (lines bytes.now) (length s.services.items) s.lines.items) }
 {
-    let mut lines = Vec::new(alloc);
-    let mut reading = Reading::new(alloc);
-    let mut rest = bytes;
-    let mut number = 0usize;
-    while let Some((line, after)) = split_line(rest) {
-        match reading.take_line(alloc, line) {
-            Ok(()) => {}
-            Err(LineError::Refused) => return Err(ScriptError::Line(number + 1)),
-            Err(LineError::NoMemory) => return Err(ScriptError::NoMemory),
-        }
-        rest = after;
-        number += 1;
-        match note_line(&mut lines, reading.services.len(), number) {
-            Ok(()) => {}
-            Err(_) => return Err(ScriptError::NoMemory),
-        }
-    }
-    if reading.part.number() != 3 {
-        return Err(ScriptError::Line(number + 1));
-    }
-    Ok(Script {
-        services: reading.services,
-        items: reading.items,
-        lines,
-    })
+    let Ok(front) = front_of(alloc, bytes) else {
+        return Err(ScriptError::NoMemory);
+    };
+    let text = &bytes[front.conf.start..front.conf.end];
+    let conf = match read_conf(alloc, text, front.conf.before) {
+        Ok(conf) => conf,
+        Err(error) => return Err(error),
+    };
+    finished(front, conf)
 }

@@ -4,15 +4,11 @@ ghost use Rattle.std.specs.Prelude.{◌≡◌, List, All, IfOk, OnOk, string_byt
 ghost use Rattle.svc_record.specs.declared.entry.Entry.{Entry};
 ghost use Rattle.svc_record.specs.Text.{text_of, EntryFits};
 
+use crate::fitting::read_entry;
 use std::alloc::Global;
 use std::fmt::Write;
 use svc_conf::NoMemory;
 use svc_record::Entry;
-
-/// The numbers of an entry are those of its types.
-fn read_entry(value: Entry)
-    ensures { EntryFits value }
-{}
 
 /// The text of a record: a line for each entry, the oldest first. Each ends with a line feed.
 pub fn record_text(alloc: Global, entries: &[Entry]) -> Result<String, NoMemory>
@@ -21,9 +17,8 @@ pub fn record_text(alloc: Global, entries: &[Entry]) -> Result<String, NoMemory>
 {
     let mut text = String::new(alloc);
     for entry in entries {
-        let value = *entry;
-        writeln!(text, "{value}")?;
-        read_entry(value);
+        writeln!(text, "{entry}")?;
+        read_entry(entry);
     }
     Ok(text)
 }
@@ -32,3 +27,6 @@ pub fn record_text(alloc: Global, entries: &[Entry]) -> Result<String, NoMemory>
 pub fn one_record()
     ensures { (r q : List Entry) → All EntryFits r → All EntryFits q → text_of r ≡ text_of q → r ≡ q }
 {}
+
+#[cfg(test)]
+mod tests;

@@ -1,19 +1,19 @@
 //! The lines of a script, one after the other.
 
-ghost use Rattle.std.specs.Prelude.{◌≡◌, ◌+◌, ◌++◌, ◌==◌, [], ◌∷◌, nat_eq, OnOk, is_some, if◌then◌else◌};
+ghost use Rattle.std.specs.Prelude.{◌≡◌, ◌+◌, ◌++◌, ◌==◌, ◌||◌, [], ◌∷◌, not, true, false, nat_eq, OnOk, is_some, if◌then◌else◌};
 ghost use Rattle.std.specs.Str.{is_utf8};
 ghost use Rattle.svc_text.specs.declared.part.Part.TheVariants.{Nothing};
-ghost use Rattle.svc_text.specs.Outcome.{After, Tests};
+ghost use Rattle.svc_text.specs.Outcome.{After, Said, Tests};
 ghost use Rattle.std.specs.Option.{option_to_list};
 ghost use Rattle.svc_text.specs.EventLines.{item_of};
 ghost use Rattle.svc_text.specs.Words.{words};
-ghost use Rattle.svc_text.specs.ServiceLines.{service_of};
-ghost use Rattle.svc_text.specs.Script.{part_number, is_skipped, is_next, says_item, line_fits};
+ghost use Rattle.svc_text.specs.ServiceLines.{service_of, is_eager};
+ghost use Rattle.svc_text.specs.Script.{part_number, is_skipped, is_next, says_service, says_item, line_fits};
 
 use crate::cuts::split_word;
 use crate::event_lines::item_of_line;
 use crate::part::{Part, header_of};
-use crate::service::{ServiceLine, service_of_line};
+use crate::service::{ServiceLine, is_eager, service_of_line};
 use std::alloc::{AllocFailed, Global};
 use std::str;
 use svc_conf::NoMemory;
@@ -51,6 +51,7 @@ impl<T: Drop> From<AllocFailed<T>> for LineError {
 pub struct Reading {
     pub part: Part,
     pub services: Vec<ServiceLine>,
+    pub eager: bool,
     pub items: Vec<Item>,
 }
 
@@ -77,11 +78,13 @@ impl Reading {
     pub fn new(alloc: Global) -> Self
         ensures part { result.part ≡ Nothing }
         ensures services { result.services.items ≡ [] }
+        ensures eager { result.eager ≡ false }
         ensures items { result.items.items ≡ [] }
     {
         Reading {
             part: Part::Nothing,
             services: Vec::new(alloc),
+            eager: false,
             items: Vec::new(alloc),
         }
     }
@@ -102,6 +105,7 @@ impl Reading {
         ensures test { Tests (is_next self.old.services.items (service_of (words line.now))) result }
         ensures services { OnOk result (self.new.services.items ≡ self.old.services.items ++ option_to_list (service_of (words line.now))) }
         ensures part { OnOk result (self.new.part ≡ self.old.part) }
+        ensures eager { OnOk result (self.new.eager ≡ self.old.eager) }
         ensures items { OnOk result (self.new.items.items ≡ self.old.items.items) }
     {
         let Some(service) = service_of_line(alloc, line)? else {
@@ -114,13 +118,40 @@ impl Reading {
         Ok(())
     }
 
-    fn take_event(&mut self, line: &[u8]) -> Result<(), LineError>
+    /// Takes the line `eager`, once.
+    fn take_eager(&mut self) -> Result<(), LineError>
+        ensures test { Tests (not self.old.eager) result }
+        ensures ok { OnOk result (self.new ≡ record self.old { eager = true }) }
+    {
+        if self.eager {
+            return Err(LineError::Refused);
+        }
+        self.eager = true;
+        Ok(())
+    }
+
+    #[tactic(auto, unfolding(crate::specs::Script::says_service, crate::specs::ServiceLines::service_of))]
+    fn take_service_line(&mut self, alloc: Global, line: &[u8]) -> Result<(), LineError>
+        ensures test { Tests (says_service self.old.eager self.old.services.items (words line.now)) result }
+        ensures services { OnOk result (self.new.services.items ≡ self.old.services.items ++ option_to_list (service_of (words line.now))) }
+        ensures eager { OnOk result (self.new.eager ≡ (self.old.eager || is_eager (words line.now))) }
+        ensures part { OnOk result (self.new.part ≡ self.old.part) }
+        ensures items { OnOk result (self.new.items.items ≡ self.old.items.items) }
+    {
+        if is_eager(line) {
+            return self.take_eager();
+        }
+        self.take_service(alloc, line)
+    }
+
+    fn take_event(&mut self, alloc: Global, line: &[u8]) -> Result<(), LineError>
         ensures test { Tests (is_some (item_of (words line.now))) result }
         ensures items { OnOk result (self.new.items.items ≡ self.old.items.items ++ option_to_list (item_of (words line.now))) }
         ensures part { OnOk result (self.new.part ≡ self.old.part) }
         ensures services { OnOk result (self.new.services.items ≡ self.old.services.items) }
+        ensures eager { OnOk result (self.new.eager ≡ self.old.eager) }
     {
-        let Some(item) = item_of_line(line) else {
+        let Some(item) = item_of_line(alloc, line)? else {
             return Err(LineError::Refused);
         };
         self.items.push(item)?;
@@ -130,21 +161,19 @@ impl Reading {
     /// Takes a line that begins no part.
     #[tactic(auto, unfolding(crate::specs::Script::says_item))]
     fn take_item(&mut self, alloc: Global, line: &[u8]) -> Result<(), LineError>
-        ensures test { Tests (says_item (part_number self.old.part) self.old.services.items (words line.now)) result }
-        ensures part { OnOk result (self.new.part ≡ self.old.part) }
-        ensures services { OnOk result (self.new.services.items ≡ self.old.services.items ++ (if part_number self.old.part == 2 then option_to_list (service_of (words line.now)) else [])) }
-        ensures items { OnOk result (self.new.items.items ≡ self.old.items.items ++ (if part_number self.old.part == 3 then option_to_list (item_of (words line.now)) else [])) }
+        ensures test { Tests (says_item (part_number self.old.part) self.old.eager self.old.services.items (words line.now)) result }
+        ensures said { OnOk result (Said self.old (words line.now) self.new) }
     {
         match self.part {
-            Part::Services => self.take_service(alloc, line),
-            Part::Events => self.take_event(line),
+            Part::Services => self.take_service_line(alloc, line),
+            Part::Events => self.take_event(alloc, line),
             Part::Nothing | Part::Conf => Err(LineError::Refused),
         }
     }
 
-    /// Takes one more line, where it fits those before it.
+    /// Takes one more line, where it fits those before it. Those of the configuration aren't looked at.
     pub fn take_line(&mut self, alloc: Global, line: &[u8]) -> Result<(), LineError>
-        ensures test { Tests (line_fits (part_number self.old.part) self.old.services.items line.now) result }
+        ensures test { Tests (line_fits (part_number self.old.part) self.old.eager self.old.services.items line.now) result }
         ensures after { OnOk result (After self.old line.now self.new) }
     {
         if !is_text(line) {
@@ -152,6 +181,9 @@ impl Reading {
         }
         if let Some(part) = header_of(line) {
             return self.begin(part);
+        }
+        if self.part.number() == 1 {
+            return Ok(());
         }
         if is_skipped(line) {
             return Ok(());

@@ -1,17 +1,17 @@
 //! What a service line says.
 
-ghost use Rattle.std.specs.Prelude.{◌≡◌, ◌^◌, [], ◌∷◌, ◌++◌, unwrap_or, IfOk, Option, Some, None, nat_le};
+ghost use Rattle.std.specs.Prelude.{◌≡◌, ◌≤◌, ◌^◌, [], ◌∷◌, ◌++◌, length, unwrap_or, IfOk, IfSome, MatchOption, Option, Some, None, nat_le};
 ghost use Rattle.std.specs.Option.{option_map};
 ghost use Rattle.std.specs.Str.{is_utf8};
 ghost use Rattle.svc_text.specs.Words.{words, number_of, text_in};
-ghost use Rattle.svc_text.specs.ServiceLines.{is_name, name_of, kind_of, numbers_of, is_address, address_of, with_after, with_endpoint, with_item, with_items, service_of, Takes};
+ghost use Rattle.svc_text.specs.ServiceLines.{is_name, name_of, kind_of, numbers_of, is_address, address_of, boots, with_after, with_endpoint, with_claim, with_undeclared, with_address, with_item, with_items, service_of, is_eager, Takes};
 
 use crate::cuts::split_word;
 use crate::lists::push_item;
 use crate::numbers::number32;
 use std::alloc::Global;
 use std::str;
-use svc_conf::{Items, NoMemory, Numbers, Text};
+use svc_conf::{Items, NoMemory, Numbers, Text, Texts};
 use svc_graph::Kind;
 
 /// An endpoint that a service line names.
@@ -30,6 +30,10 @@ pub struct ServiceLine {
     pub kind: Kind,
     /// The services that it depends on, where the line says so.
     pub after: Option<Numbers>,
+    /// It doesn't declare its addresses: none of the server's is unclaimed.
+    pub undeclared: bool,
+    /// The addresses that it declares beside those of its endpoints.
+    pub claims: Texts,
     /// Its endpoints, in the order of the line: at most 64.
     pub endpoints: Items<EndpointLine>,
 }
@@ -83,8 +87,20 @@ fn kind_of(word: &[u8]) -> Option<Kind>
         Some(Kind::Plain)
     } else if word == b"notify".as_slice() {
         Some(Kind::Notifying)
+    } else if word == b"bootstrap".as_slice() {
+        Some(Kind::Bootstrap)
     } else {
         None
+    }
+}
+
+/// A service of this kind bootstraps.
+fn boots(kind: Kind) -> bool
+    ensures { result ≡ boots kind }
+{
+    match kind {
+        Kind::Plain | Kind::Notifying => false,
+        Kind::Bootstrap => true,
     }
 }
 
@@ -160,6 +176,53 @@ fn take_endpoint(
     }
 }
 
+/// Adds a declared address.
+#[tactic(auto, unfolding(crate::specs::ServiceLines::with_claim))]
+fn take_claim(alloc: Global, service: &mut ServiceLine, value: &[u8]) -> Result<bool, NoMemory>
+    ensures { IfOk result (λ taken. Takes taken (with_claim service.old value.now) service.new) }
+{
+    match address_of(alloc, value)? {
+        Some(address) => {
+            push_item(alloc, &mut service.claims, address)?;
+            Ok(true)
+        }
+        None => Ok(false),
+    }
+}
+
+/// Notes that the addresses aren't declared, once and where the service doesn't bootstrap.
+#[tactic(auto, unfolding(crate::specs::ServiceLines::with_undeclared))]
+fn take_undeclared(service: &mut ServiceLine) -> bool
+    ensures { Takes result (with_undeclared service.old) service.new }
+{
+    if service.undeclared || boots(service.kind) {
+        return false;
+    }
+    service.undeclared = true;
+    true
+}
+
+#[tactic(auto, unfolding(crate::specs::ServiceLines::with_address))]
+fn take_address(
+    alloc: Global,
+    service: &mut ServiceLine,
+    key: &[u8],
+    value: &[u8],
+) -> Result<bool, NoMemory>
+    ensures { IfOk result (λ taken. Takes taken (with_address service.old key.now value.now) service.new) }
+{
+    if key == b"tcp".as_slice() {
+        take_endpoint(alloc, service, false, value)
+    } else if key == b"unix".as_slice() {
+        take_endpoint(alloc, service, true, value)
+    } else if key == b"claim".as_slice() {
+        take_claim(alloc, service, value)
+    } else {
+        Ok(false)
+    }
+}
+
+/// Takes an item that is a pair of words.
 #[tactic(auto, unfolding(crate::specs::ServiceLines::with_item))]
 fn take_item(
     alloc: Global,
@@ -171,27 +234,49 @@ fn take_item(
 {
     if key == b"after".as_slice() {
         take_after(alloc, service, value)
-    } else if key == b"tcp".as_slice() {
-        take_endpoint(alloc, service, false, value)
-    } else if key == b"unix".as_slice() {
-        take_endpoint(alloc, service, true, value)
-    } else {
+    } else if boots(service.kind) {
         Ok(false)
+    } else {
+        take_address(alloc, service, key, value)
     }
+}
+
+/// Takes an item that begins with this word. It answers what follows the item.
+fn take_next<'a>(
+    alloc: Global,
+    service: &mut ServiceLine,
+    key: &[u8],
+    after: &'a [u8],
+) -> Result<Option<&'a [u8]>, NoMemory>
+    ensures items { IfOk result (λ more. MatchOption more
+        (with_items service.old (key.now ∷ words after.now) ≡ None)
+        (λ rest. with_items service.old (key.now ∷ words after.now) ≡ with_items service.new (words rest.now))) }
+    ensures shorter { IfOk result (λ more. IfSome more (λ rest. length rest.now ≤ length after.now)) }
+{
+    if key == b"undeclared".as_slice() {
+        if take_undeclared(service) {
+            return Ok(Some(after));
+        }
+        return Ok(None);
+    }
+    let Some((value, rest)) = split_word(after) else {
+        return Ok(None);
+    };
+    if take_item(alloc, service, key, value)? {
+        return Ok(Some(rest));
+    }
+    Ok(None)
 }
 
 fn take_items(alloc: Global, service: &mut ServiceLine, items: &[u8]) -> Result<bool, NoMemory>
     ensures { IfOk result (λ taken. Takes taken (with_items service.old (words items.now)) service.new) }
 {
     let mut rest = items;
-    while let Some((key, after_key)) = split_word(rest) {
-        let Some((value, after_value)) = split_word(after_key) else {
-            return Ok(false);
-        };
-        if !take_item(alloc, service, key, value)? {
-            return Ok(false);
+    while let Some((key, after)) = split_word(rest) {
+        match take_next(alloc, service, key, after)? {
+            Some(more) => rest = more,
+            None => return Ok(false),
         }
-        rest = after_value;
     }
     Ok(true)
 }
@@ -217,11 +302,24 @@ pub fn service_of_line(alloc: Global, line: &[u8]) -> Result<Option<ServiceLine>
         name,
         kind,
         after: None,
+        undeclared: false,
+        claims: Texts::new(alloc),
         endpoints: Items::new(alloc),
     };
     if take_items(alloc, &mut service, items)? {
         Ok(Some(service))
     } else {
         Ok(None)
+    }
+}
+
+/// The line is the one word `eager`.
+#[tactic(auto, unfolding(crate::specs::ServiceLines::is_eager))]
+pub fn is_eager(line: &[u8]) -> bool
+    ensures { result ≡ is_eager (words line.now) }
+{
+    match split_word(line) {
+        Some((word, rest)) => word == b"eager".as_slice() && split_word(rest).is_none(),
+        None => false,
     }
 }

@@ -3,7 +3,7 @@ use std::alloc::Global;
 use std::fmt::Write;
 use std::test::Fail;
 use svc_graph::{DependencyGraph, Kind};
-use svc_record::{Action, Entry, Event, ExecutionPhase, Item, ShutdownSignal};
+use svc_record::{Event, Item, ShutdownSignal};
 
 fn refused_line(alloc: Global, bytes: &[u8]) -> Option<usize> {
     match parse(alloc, bytes) {
@@ -73,15 +73,15 @@ fn names_the_first_refused_line(rt: HostRuntime) {
         (b"x\n%conf\n", 1),
         (b"%services\n%conf\n%events\n", 1),
         (b"%conf \n%services\n%events\n", 1),
-        (b"%conf\nversion: 1\n%services\n%events\n", 2),
         (b"%conf\n%conf\n%services\n%events\n", 2),
         (b"%conf\n# \xff\n%services\n%events\n", 2),
         (b"%conf\n%services\na plain\n", 4),
         (b"%conf\n%services\na\n%events\n", 3),
-        (b"%conf\n%services\na bootstrap\n%events\n", 3),
+        (b"%conf\n%services\na boot\n%events\n", 3),
         (b"%conf\n%services\n%a plain\n%events\n", 3),
-        (b"%conf\n%services\neager\n%events\n", 3),
-        (b"%conf\n%services\na plain undeclared\n%events\n", 3),
+        (b"%conf\n%services\neager\n\teager \n%events\n", 4),
+        (b"%conf\n%services\neager x\n%events\n", 3),
+        (b"%conf\neager\n%services\n%events\n", 2),
         (b"%conf\n%services\na plain tcp\n%events\n", 3),
         (b"%conf\n%services\na plain tcp x dscp 1\n%events\n", 3),
         (b"%conf\n%services\na plain after 01\n%events\n", 3),
@@ -95,7 +95,7 @@ fn names_the_first_refused_line(rt: HostRuntime) {
             b"%conf\n%services\n%events\nbound 0 0 18446744073709551616\n",
             4,
         ),
-        (b"%conf\n%services\n%events\nsignal terminate\n", 4),
+        (b"%conf\n%services\n%events\nsignal now\n", 4),
         (
             b"%conf\n%services\n%events\nmoment 18446744073709551616\n",
             4,
@@ -113,6 +113,67 @@ fn names_the_first_refused_line(rt: HostRuntime) {
     ] {
         assert_eq!(rt; refused_line(rt.alloc(), text), Some(line), "{text:?}");
     }
+}
+
+#[test]
+fn names_the_first_refused_line_of_a_configuration(rt: HostRuntime) {
+    for (text, line) in [
+        (
+            b"%conf\nversion: 1\nversion: 1\n%services\n%events\n".as_slice(),
+            3,
+        ),
+        (b"\n#\n%conf\n\nthreads: 03\n%services\nx\n%events\n", 5),
+        (b"%conf\nthreads: 3\n grace: 1\n%conf\n", 3),
+        (b"%conf\nclient_bind_to_ipv4:\n%services\n- a\n%events\n", 2),
+        (b"%conf\nclient_bind_to_ipv4:\n- a\n - \n# \xff\n", 4),
+        (b"%conf\nversion: 1\n\xff\nx\n", 3),
+        (b"%conf\nversion: 1\n %services\n%events\n", 3),
+        (b"%conf\nversion: 1\n", 3),
+        (b"%conf\nversion: 1\r", 3),
+        (b"%conf\ndaemon: 1", 2),
+        (b"%conf\nversion: 1\n%events\n", 3),
+        (b"%conf\nversion: 1\n%services\nx\n%events\n", 4),
+    ] {
+        assert_eq!(rt; refused_line(rt.alloc(), text), Some(line), "{text:?}");
+    }
+}
+
+#[test]
+fn reads_a_configuration(rt: HostRuntime) -> Result<(), Fail> {
+    let text =
+        b"#\n%conf\r\n---\r\ngrace_period_seconds: 1\n# c\nclient_bind_to_ipv6:\n  - a\r\r\n\n- \"b\"\nlistener_tasks_per_fd: 2\ndaemon: true\n%services\n eager\t\n%events\nsignal fast";
+    let script = parse(rt.alloc(), text).ok().ok_or("a script")?;
+    assert_eq!(rt; script.conf.grace_period_seconds, Some(1));
+    assert_eq!(rt; script.conf.listener_tasks_per_fd, 2);
+    assert!(rt; script.conf.daemon);
+    assert_eq!(rt; script.conf.version, 0);
+    assert_eq!(rt; script.conf.client_bind_to_ipv6.len(), 2);
+    assert!(rt; script.eager);
+    assert_eq!(rt; script.services.len(), 0);
+    assert_eq!(rt; script.items.len(), 1);
+    Ok(())
+}
+
+#[test]
+fn reads_what_services_declare(rt: HostRuntime) -> Result<(), Fail> {
+    let text =
+        b"%conf\n%services\nb bootstrap\neager\nw plain claim x undeclared tcp y claim x after 0\nv notify undeclared\neager plain\nu bootstrap after 1,2\n%events\n";
+    let script = parse(rt.alloc(), text).ok().ok_or("a script")?;
+    assert_eq!(rt; script.lines.as_slice(), [3usize, 5, 6, 7, 8].as_slice());
+    assert!(rt; script.eager);
+    let boot = &script.services[0];
+    assert_eq!(rt; boot.kind, Kind::Bootstrap);
+    assert!(rt; !boot.undeclared);
+    let web = &script.services[1];
+    assert!(rt; web.undeclared);
+    assert_eq!(rt; web.claims.len(), 2);
+    assert_eq!(rt; endpoints_text(rt.alloc(), web)?.as_str(), " tcp y");
+    assert!(rt; web.after.is_some());
+    assert!(rt; script.services[2].undeclared);
+    assert_eq!(rt; script.services[3].name.as_str(), "eager");
+    let after = script.services[4].after.as_ref().ok_or("dependencies")?;
+    assert_eq!(rt; after.as_slice(), [1u32, 2].as_slice());
+    Ok(())
 }
 
 #[test]
@@ -144,8 +205,15 @@ fn takes_service_lines(rt: HostRuntime) -> Result<(), Fail> {
 #[test]
 fn refuses_service_lines(rt: HostRuntime) -> Result<(), Fail> {
     for line in [
-        b"a bootstrap".as_slice(),
-        b"eager",
+        b"a bootstrap tcp x".as_slice(),
+        b"a bootstrap unix x",
+        b"a bootstrap claim x",
+        b"a bootstrap undeclared",
+        b"a bootstrap after 0 after 1",
+        b"a plain undeclared undeclared",
+        b"a plain undeclared tcp x undeclared",
+        b"a plain claim",
+        b"a plain claim x undeclared y",
         b"a plain unix",
         b"a plain tcp x unix",
         b"a plain unix x y",
@@ -156,8 +224,6 @@ fn refuses_service_lines(rt: HostRuntime) -> Result<(), Fail> {
         b"a plain tcp x rcvbuf 1",
         b"a plain tcp x keepalive 1,2,3,4",
         b"a plain tcp x block 127.0.0.1",
-        b"a plain tcp x claim y",
-        b"a plain tcp x undeclared",
     ] {
         let text = script_of(rt.alloc(), line)?;
         assert_eq!(rt;
@@ -170,35 +236,22 @@ fn refuses_service_lines(rt: HostRuntime) -> Result<(), Fail> {
 }
 
 #[test]
-fn reads_event_lines(rt: HostRuntime) {
-    for (line, event) in [
-        (b"inuse 1 2".as_slice(), Some(Event::InUse(1, 2))),
-        (b"bindfailed 0 63", Some(Event::BindFailed(0, 63))),
-        (
-            b"adopted 4294967295 0",
-            Some(Event::Adopted(4_294_967_295, 0)),
-        ),
-        (b" adoptfailed\t3  4 ", Some(Event::AdoptFailed(3, 4))),
-        (b"inuse 1", None),
-        (b"inuse 1 2 3", None),
-        (b"inuse 4294967296 0", None),
-        (b"bindfailed 0 01", None),
-        (b"bind failed 0 1", None),
-        (b"adopted 0 4294967296", None),
-        (b"adopted 0 0 7", None),
-        (b"adoptfailed", None),
-        (b"adoptfailed +0 0", None),
-    ] {
-        assert_eq!(rt; event_of_line(line), event, "{line:?}");
-    }
-}
-
-#[test]
 fn limits_names_and_addresses(rt: HostRuntime) -> Result<(), Fail> {
     for (name, address, line) in [(255, 4096, None), (256, 1, Some(3)), (1, 4097, Some(3))] {
         let mut text = b"%conf\n%services\n".to_vec(rt.alloc())?;
         text.extend_from_slice(vec![in rt.alloc(); b'n'; name]?.as_slice())?;
         text.extend_from_slice(b" plain tcp ")?;
+        text.extend_from_slice(vec![in rt.alloc(); b'a'; address]?.as_slice())?;
+        text.extend_from_slice(b"\n%events\n")?;
+        assert_eq!(rt; refused_line(rt.alloc(), text.as_slice()), line);
+    }
+    Ok(())
+}
+
+#[test]
+fn limits_a_claim(rt: HostRuntime) -> Result<(), Fail> {
+    for (address, line) in [(4096, None), (4097, Some(3))] {
+        let mut text = b"%conf\n%services\na plain claim ".to_vec(rt.alloc())?;
         text.extend_from_slice(vec![in rt.alloc(); b'a'; address]?.as_slice())?;
         text.extend_from_slice(b"\n%events\n")?;
         assert_eq!(rt; refused_line(rt.alloc(), text.as_slice()), line);
@@ -240,35 +293,6 @@ fn limits_the_services(rt: HostRuntime) -> Result<(), Fail> {
     assert_eq!(rt; refused_line(rt.alloc(), text.as_slice()), Some(1027));
     text.extend_from_slice(b"s plain\n%events\n")?;
     assert_eq!(rt; refused_line(rt.alloc(), text.as_slice()), Some(1027));
-    Ok(())
-}
-
-#[test]
-fn prints_a_record(rt: HostRuntime) -> Result<(), Fail> {
-    let entries = [
-        Entry::Told(Action::Start(0)),
-        Entry::Told(Action::Phase(ExecutionPhase::Running, 0)),
-        Entry::Got(Event::Ready(0)),
-        Entry::Got(Event::Moment(5)),
-        Entry::Got(Event::Ended(0)),
-        Entry::Told(Action::Bind(1, 0)),
-        Entry::Got(Event::Bound(1, 0, 7)),
-        Entry::Told(Action::Adopt(2, 0, 7)),
-        Entry::Got(Event::InUse(1, 1)),
-        Entry::Got(Event::BindFailed(1, 2)),
-        Entry::Told(Action::Fail(1)),
-        Entry::Got(Event::Adopted(2, 0)),
-        Entry::Got(Event::AdoptFailed(2, 1)),
-        Entry::Got(Event::Signal(ShutdownSignal::FastShutdown)),
-        Entry::Told(Action::Phase(ExecutionPhase::ShutdownStarted, 0)),
-        Entry::Told(Action::Close(7)),
-        Entry::Told(Action::Stop(0)),
-    ];
-    let text = record_text(rt.alloc(), &entries)?;
-    assert_eq!(rt;
-        text.as_str(),
-        "start 0\nphase Running 0\ngot ready 0\ngot moment 5\ngot ended 0\nbind 1 0\ngot bound 1 0 7\nadopt 2 0 7\ngot inuse 1 1\ngot bindfailed 1 2\nfail 1\ngot adopted 2 0\ngot adoptfailed 2 1\ngot signal fast\nphase ShutdownStarted 0\nclose 7\nstop 0\n"
-    );
     Ok(())
 }
 

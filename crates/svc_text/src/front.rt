@@ -1,0 +1,78 @@
+//! The lines of a script up to the first that doesn't fit those before it.
+
+ghost use Rattle.std.specs.Prelude.{◌≡◌, ◌++◌, ◌∷◌, [], nat_lt, if◌then◌else◌, length, IfOk, OnOk};
+ghost use Rattle.svc_text.specs.Fronts.{IsFront};
+
+use crate::conf_text::ConfText;
+use crate::cuts::split_line;
+use crate::reading::{LineError, Reading};
+use std::alloc::Global;
+use svc_conf::NoMemory;
+
+/// The lines of a script up to the first that doesn't fit those before it. Those of the configuration
+/// are found, and not yet looked at.
+#[derive(Debug, Drop)]
+pub struct Front {
+    /// How many lines fit.
+    pub number: usize,
+    /// The next line doesn't fit.
+    pub refused: bool,
+    /// Where the text of the configuration stands.
+    pub conf: ConfText,
+    /// What the lines say, where all fit.
+    pub reading: Reading,
+    /// The number of each service's line.
+    pub lines: Vec<usize>,
+}
+
+/// Notes a line's number, where it said a service.
+fn note_line(lines: &mut Vec<usize>, services: usize, number: usize) -> Result<(), NoMemory>
+    ensures { OnOk result (lines.new.items ≡ (if nat_lt (length lines.old.items) services then lines.old.items ++ number ∷ [] else lines.old.items)) }
+{
+    if lines.len() < services {
+        lines.push(number)?;
+    }
+    Ok(())
+}
+
+/// The lines of these bytes that fit.
+pub fn front_of(alloc: Global, bytes: &[u8]) -> Result<Front, NoMemory>
+    ensures { IfOk result (λ front. IsFront bytes.now front) }
+{
+    let mut lines = Vec::new(alloc);
+    let mut reading = Reading::new(alloc);
+    let mut conf = ConfText {
+        before: 1,
+        start: 0,
+        end: 0,
+    };
+    let mut rest = bytes;
+    let mut number = 0usize;
+    while let Some((line, after)) = split_line(rest) {
+        let was = reading.part;
+        match reading.take_line(alloc, line) {
+            Ok(()) => {}
+            Err(LineError::Refused) => {
+                return Ok(Front {
+                    number,
+                    refused: true,
+                    conf,
+                    reading,
+                    lines,
+                });
+            }
+            Err(LineError::NoMemory) => return Err(NoMemory),
+        }
+        rest = after;
+        number += 1;
+        conf.pass(was, reading.part, bytes.len() - rest.len());
+        note_line(&mut lines, reading.services.len(), number)?;
+    }
+    Ok(Front {
+        number,
+        refused: false,
+        conf,
+        reading,
+        lines,
+    })
+}
