@@ -12,31 +12,20 @@ use Rattle.svc_graph.specs.GraphData.{GraphData}
 use Rattle.svc_graph.specs.HandleData.{HandleData}
 use Rattle.svc_graph.specs.Graphs.{node_count, with_node}
 use Rattle.svc_graph.specs.declared.plan.EndpointPlan.{EndpointPlan}
-use Rattle.svc_graph.specs.declared.plan.Kind.TheVariants.{Bootstrap}
 use Rattle.svc_record.specs.declared.plan.ServicePlan.{ServicePlan}
-use Rattle.svc_record.specs.Plans.{is_kind}
 use Rattle.svc_record.specs.Validity.{IsAddress}
-use Rattle.svc_record.specs.Building.{IsPlainService}
+use Rattle.svc_record.specs.Building.{HasNoFilter}
 use Rattle.svc_server.specs.declared.server.refusals.AddError.{AddError}
-use Rattle.svc_server.specs.declared.server.refusals.AddError.TheVariants.{TooMany, TooManyEndpoints, BadAddressText, UnknownFilter, Unbuilt}
+use Rattle.svc_server.specs.declared.server.refusals.AddError.TheVariants.{TooMany, TooManyEndpoints, BadAddressText, UnknownFilter}
 use Rattle.svc_graph.specs.declared.services.ServiceWithDependents.{Ghosts}
 use Rattle.svc_server.specs.Servers.{answer_of, answers_of, IsSound}
 use Rattle.svc_server.specs.Additions.{is_bad_address, has_filter, cause_if, first_cause, endpoint_causes, fault_of, IsReason, with_nodes, handles_from, AddsFirst, RefusesAt}
 
 -- ---- causes
 
-option_or_none : (a : Option AddError) → option_or a None ≡ a
-option_or_none None = refl
-option_or_none (Some x) = refl
-
 or_none_parts : (a b : Option AddError) → option_or a b ≡ None → (a ≡ None) × (b ≡ None)
 or_none_parts None b e = (refl, e)
 or_none_parts (Some x) b e = absurd (cc)
-
-pub first_cause-append : (xs ys : List (Option AddError)) → first_cause (xs ++ ys) ≡ option_or (first_cause xs) (first_cause ys)
-first_cause-append [] ys = refl
-first_cause-append (None ∷ xs) ys = first_cause-append xs ys
-first_cause-append (Some x ∷ xs) ys = refl
 
 no_cause : (b : Bool) (cause : AddError) → cause_if b cause ≡ None → b ≡ false
 no_cause true cause e = absurd (cc)
@@ -67,34 +56,30 @@ no_position p xs e = none p xs (past (position_or_len p xs) (length xs) e)
 -- ---- a server with one service more
 
 -- where no cause stands
-record NoCause (full many : Bool) (bad filtered : Option ℕ) (boots : Bool) : Type 0 where
+record NoCause (full many : Bool) (bad filtered : Option ℕ) : Type 0 where
   room : full ≡ false
   few : many ≡ false
   addresses : bad ≡ None
   filters : filtered ≡ None
-  boots_not : boots ≡ false
 
-no_causes : (full many : Bool) (bad filtered : Option ℕ) (boots : Bool)
-    → first_cause (cause_if full TooMany ∷ cause_if many TooManyEndpoints ∷ option_map BadAddressText bad ∷ option_map UnknownFilter filtered ∷ cause_if boots Unbuilt ∷ []) ≡ None
-    → NoCause full many bad filtered boots
-no_causes full many bad filtered boots none =
-    let a = or_none_parts (cause_if full TooMany) (first_cause (cause_if many TooManyEndpoints ∷ option_map BadAddressText bad ∷ option_map UnknownFilter filtered ∷ cause_if boots Unbuilt ∷ [])) none in
-    let b = or_none_parts (cause_if many TooManyEndpoints) (first_cause (option_map BadAddressText bad ∷ option_map UnknownFilter filtered ∷ cause_if boots Unbuilt ∷ [])) a.1 in
-    let c = or_none_parts (option_map BadAddressText bad) (first_cause (option_map UnknownFilter filtered ∷ cause_if boots Unbuilt ∷ [])) b.1 in
-    let d = or_none_parts (option_map UnknownFilter filtered) (first_cause (cause_if boots Unbuilt ∷ [])) c.1 in
-    let e = or_none_parts (cause_if boots Unbuilt) None d.1 in
+no_causes : (full many : Bool) (bad filtered : Option ℕ)
+    → first_cause (cause_if full TooMany ∷ cause_if many TooManyEndpoints ∷ option_map BadAddressText bad ∷ option_map UnknownFilter filtered ∷ []) ≡ None → NoCause full many bad filtered
+no_causes full many bad filtered none =
+    let a = or_none_parts (cause_if full TooMany) (first_cause (cause_if many TooManyEndpoints ∷ option_map BadAddressText bad ∷ option_map UnknownFilter filtered ∷ [])) none in
+    let b = or_none_parts (cause_if many TooManyEndpoints) (first_cause (option_map BadAddressText bad ∷ option_map UnknownFilter filtered ∷ [])) a.1 in
+    let c = or_none_parts (option_map BadAddressText bad) (first_cause (option_map UnknownFilter filtered ∷ [])) b.1 in
+    let d = or_none_parts (option_map UnknownFilter filtered) None c.1 in
     record {
       room = no_cause full TooMany a.0;
       few = no_cause many TooManyEndpoints b.0;
       addresses = unmapped BadAddressText bad c.0;
       filters = unmapped UnknownFilter filtered d.0;
-      boots_not = no_cause boots Unbuilt e.0;
     }
 
 -- what is known of a service that can be added
 record IsGood (s : ServicePlan) : Type 0 where
   limits : (length s.endpoints ≤ 64) × All IsAddress s.endpoints
-  plain : IsPlainService s
+  unfiltered : HasNoFilter s
 
 good-address : (e : EndpointPlan) → is_bad_address e ≡ false → IsAddress e
 good-address e good =
@@ -105,15 +90,14 @@ good-address e good =
 
 good : (g : GraphData) (s : ServicePlan) → fault_of g s ≡ None → IsGood s
 good g s none =
-    let said = no_causes (nat_le 1024 (node_count g)) (nat_lt 64 (length s.endpoints)) (position is_bad_address s.endpoints) (position has_filter s.endpoints)
-    (is_kind Bootstrap s.kind) none in
+    let said = no_causes (nat_le 1024 (node_count g)) (nat_lt 64 (length s.endpoints)) (position is_bad_address s.endpoints) (position has_filter s.endpoints) none in
     let filters = no_position has_filter s.endpoints said.filters in
     record {
       limits = (
         ltb-false 64 (length s.endpoints) said.few,
         λ k d lt. good-address (get_or s.endpoints k d) (no_position is_bad_address s.endpoints said.addresses k d lt),
       );
-      plain = record { boots_not = said.boots_not; unfiltered = λ k d lt. not_some (get_or s.endpoints k d).filter (filters k d lt) };
+      unfiltered = λ k d lt. not_some (get_or s.endpoints k d).filter (filters k d lt);
     }
 
 -- a sound server stays so with a service that can be added
@@ -123,7 +107,7 @@ sound-push g answers s none sound =
     record {
       names = ap (λ (names : List (List ℕ)). names ++ s.name ∷ []) sound.names ∙ sym (map_push (λ (x : ServicePlan). x.name) answers s);
       limits = All-push (λ (x : ServicePlan). (length x.endpoints ≤ 64) × All IsAddress x.endpoints) answers s sound.limits known.limits;
-      plain = All-push IsPlainService answers s sound.plain known.plain;
+      unfiltered = All-push HasNoFilter answers s sound.unfiltered known.unfiltered;
     }
 
 -- ---- the first cause, step by step
@@ -132,17 +116,8 @@ pub fault-full : (g : GraphData) (s : ServicePlan) → 1024 ≤ node_count g →
 fault-full g s full = rw (le-leb 1024 (node_count g) full) refl
 
 -- where there is room, the other causes decide
-pub fault-room : (g : GraphData) (s : ServicePlan) → node_count g < 1024 → fault_of g s ≡ option_or (first_cause (endpoint_causes s.endpoints)) (cause_if (is_kind Bootstrap s.kind) Unbuilt)
-fault-room g s room =
-    let free : nat_le 1024 (node_count g) ≡ false = lt-leb 1024 (node_count g) room in
-    rw free (first_cause-append (endpoint_causes s.endpoints) (cause_if (is_kind Bootstrap s.kind) Unbuilt ∷ [])
-    ∙ ap (λ (c : Option AddError). option_or (first_cause (endpoint_causes s.endpoints)) c) (option_or_none (cause_if (is_kind Bootstrap s.kind) Unbuilt)))
-
-pub fault-none : (g : GraphData) (s : ServicePlan) → node_count g < 1024 → first_cause (endpoint_causes s.endpoints) ≡ None → is_kind Bootstrap s.kind ≡ false → fault_of g s ≡ None
-fault-none g s room fine built =
-    fault-room g s room
-    ∙ ap (λ (c : Option AddError). option_or c (cause_if (is_kind Bootstrap s.kind) Unbuilt)) fine
-    ∙ ap (λ (b : Bool). cause_if b Unbuilt) built
+pub fault-room : (g : GraphData) (s : ServicePlan) → node_count g < 1024 → fault_of g s ≡ first_cause (endpoint_causes s.endpoints)
+fault-room g s room = let free : nat_le 1024 (node_count g) ≡ false = lt-leb 1024 (node_count g) room in rw free refl
 
 -- the server after a service was added
 pub add-sound : {B : Type 0} (means : Ghosts B) (g h : GraphData) (old new : List B) (b : B) → h ≡ with_node g (means.named b) → new ≡ old ++ b ∷ [] → fault_of g (answer_of means b) ≡ None

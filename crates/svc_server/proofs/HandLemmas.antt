@@ -96,31 +96,40 @@ none-taken left account p q s h due taken = let named = start-name left account 
 
 -- ---- the actions one by one
 
-due-at : (p : Plan) (q : Record) (actions : List Action) (k : ℕ) (d : Action) → k < length actions → DueStarts p q actions → DueStart p (tell q (take k actions)) (get_or actions k d)
-due-at p q [] k d lt due = absurd (omega arith)
-due-at p q (x ∷ xs) zero d lt due = due.0
-due-at p q (x ∷ xs) (suc k) d lt due = due-at p (Told x ∷ q) xs k d (omega arith) due.1
+-- an action that is no start may be told
+pub may-other : (a : Action) (account : Option Account) → ((s : ℕ) → a ≡ Start s → ⊥) → IfSome account (MayTell a)
+may-other a None other = tt
+may-other (Start s) (Some x) other = absurd (other s refl)
+may-other _ (Some x) other = tt
 
-tell-suc : (q : Record) (actions : List Action) (k : ℕ) (d : Action) → k < length actions → tell q (take (suc k) actions) ≡ Told (get_or actions k d) ∷ tell q (take k actions)
-tell-suc q [] k d lt = absurd (omega arith)
-tell-suc q (x ∷ xs) zero d lt = refl
-tell-suc q (x ∷ xs) (suc k) d lt = tell-suc (Told x ∷ q) xs k d (omega arith)
+-- after some record the rest of the actions are due, and lead to the whole
+pub record Leads (left : List (Option (List ℕ))) (account : Option Account) (p : Plan) (rest : List Action) (whole : Record) : Type 0 where
+  pub told : Record
+  pub hands : Hands left account p told
+  pub due : DueStarts p told rest
+  pub leads : tell told rest ≡ whole
 
--- one more action was told
-pub hands-more : (left left_before left_now : List (Option (List ℕ))) (account account_before account_now : Option Account) (p : Plan) (q : Record) (actions : List Action) (k : ℕ) (d : Action)
-    → k < length actions
-    → ((r : Plan) (t : Record) → Hands left account r t → DueStarts r t actions → Hands left_before account_before r (tell t (take k actions)))
-    → ((r : Plan) (t : Record) → Hands left_before account_before r t → DueStart r t (get_or actions k d) → Hands left_now account_now r (Told (get_or actions k d) ∷ t))
-    → Hands left account p q → DueStarts p q actions → Hands left_now account_now p (tell q (take (k + 1) actions))
-hands-more left left_before left_now account account_before account_now p q actions k d lt before step h due =
-    let told : tell q (take (k + 1) actions) ≡ Told (get_or actions k d) ∷ tell q (take k actions) = rw add-one (tell-suc q actions k d lt) in
-    subst (Hands left_now account_now p) (sym told) (step p (tell q (take k actions)) (before p q h due) (due-at p q actions k d lt due))
+pub leads-first : (left : List (Option (List ℕ))) (account : Option Account) (p : Plan) (q : Record) (actions : List Action) → Hands left account p q → DueStarts p q actions → Leads left account p actions (tell q actions)
+leads-first left account p q actions h due = record { told = q; hands = h; due = due; leads = refl }
+
+-- the next action was told
+pub leads-more : (left now_left : List (Option (List ℕ))) (account now_account : Option Account) (p : Plan) (rest more : List Action) (a : Action) (whole : Record) → rest ≡ a ∷ more
+    → ((r : Plan) (t : Record) → Hands left account r t → DueStart r t a → Hands now_left now_account r (Told a ∷ t))
+    → Leads left account p rest whole → Leads now_left now_account p more whole
+leads-more left now_left account now_account p rest more a whole is step h =
+    let due : DueStarts p h.told (a ∷ more) = subst (DueStarts p h.told) is h.due in
+    record { told = Told a ∷ h.told; hands = step p h.told h.hands due.0; due = due.1; leads = sym (ap (tell h.told) is) ∙ h.leads }
+
+-- all were told
+pub leads-all : (left : List (Option (List ℕ))) (account : Option Account) (p : Plan) (rest : List Action) (whole : Record) → rest ≡ [] → Leads left account p rest whole → Hands left account p whole
+leads-all left account p rest whole none h = subst (Hands left account p) (sym (ap (tell h.told) none) ∙ h.leads) h.hands
 
 -- the next action may be told
-pub may-next : (left left_before : List (Option (List ℕ))) (account account_before : Option Account) (actions : List Action) (k : ℕ) (d : Action)
-    → k < length actions
-    → ((r : Plan) (t : Record) → Hands left account r t → DueStarts r t actions → Hands left_before account_before r (tell t (take k actions)))
-    → MayHandAll left account actions → MayHand left_before account_before (get_or actions k d)
-may-next left left_before account account_before actions k d lt before may =
-    let p = may.0 in let q = may.1.0 in
-    (p, (tell q (take k actions), (before p q may.1.1.0 may.1.1.1, due-at p q actions k d lt may.1.1.1)))
+pub may-next : (left now_left : List (Option (List ℕ))) (account now_account : Option Account) (actions rest more : List Action) (a : Action) → rest ≡ a ∷ more
+    → ((p : Plan) (q : Record) → Hands left account p q → DueStarts p q actions → Leads now_left now_account p rest (tell q actions))
+    → MayHandAll left account actions → MayHand now_left now_account a
+may-next left now_left account now_account actions rest more a is before may =
+    let p = may.0 in
+    let h = before p may.1.0 may.1.1.0 may.1.1.1 in
+    let due : DueStarts p h.told (a ∷ more) = subst (DueStarts p h.told) is h.due in
+    (p, (h.told, (h.hands, due.0)))

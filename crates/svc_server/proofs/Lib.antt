@@ -4,8 +4,10 @@ pub mod CloseLemmas
 pub mod StepLemmas
 pub mod AnswerOfStep
 pub mod TurnLemmas
+pub mod CountLemmas
 pub mod ScriptLemmas
 pub mod PlanLemmas
 pub mod AddLemmas
 pub mod AddressLemmas
 pub mod RunLemmas
+pub mod MakingLemmas

@@ -17,7 +17,7 @@ use Rattle.svc_record.specs.declared.plan.Plan.{Plan}
 use Rattle.svc_record.specs.declared.plan.ServicePlan.{ServicePlan}
 use Rattle.svc_record.specs.Plans.{service_count, depends}
 use Rattle.svc_record.specs.Validity.{IsAddress, IsValid, IsBuilt, depends_on}
-use Rattle.svc_record.specs.Building.{DependsWell, IsPlainService}
+use Rattle.svc_record.specs.Building.{DependsWell, HasNoFilter}
 use Rattle.svc_record.proofs.ValidLemmas.{valid-plan}
 use Rattle.svc_record.proofs.BuiltLemmas.{built-from_tests}
 use Rattle.svc_conf.specs.declared.server.configuration.ServerConf.{ServerConf}
@@ -163,9 +163,9 @@ slice_get-with_depends g s (x ∷ xs) (suc k) lt =
 
 -- ---- the whole plan
 
-module _ (conf : ServerConf) (options : Option Opt) (g : GraphData) (answers : List ServicePlan) (graph : IsGraph g) (sound : IsSound g answers) where
+module _ (conf : ServerConf) (options : Option Opt) (eager : Bool) (g : GraphData) (answers : List ServicePlan) (graph : IsGraph g) (sound : IsSound g answers) where
   abbrev whole : Plan
-  whole = plan_of conf options g answers
+  whole = plan_of conf options eager g answers
 
   size : service_count whole ≡ node_count g
   size = length-with_depends g 0 answers ∙ sym (length-map answers (λ (x : ServicePlan). x.name)) ∙ sym (ap (λ (names : List (List ℕ)). length names) sound.names)
@@ -209,8 +209,7 @@ module _ (conf : ServerConf) (options : Option Opt) (g : GraphData) (answers : L
   }) depends-well
 
   pub whole-built : conf.daemon ≡ false → IsBuilt whole
-  whole-built no_daemon = built-from_tests whole refl no_daemon
-      (All-with_depends IsPlainService (λ x ds h. record { boots_not = h.boots_not; unfiltered = h.unfiltered }) g 0 answers sound.plain)
+  whole-built no_daemon = built-from_tests whole no_daemon (All-with_depends HasNoFilter (λ x ds h. h) g 0 answers sound.unfiltered)
 
 -- there are as many services as nodes
 pub count-sound : {B : Type 0} (means : Ghosts B) (services : List B) (g : GraphData) → IsSound g (answers_of means services) → length services ≡ node_count g
@@ -220,15 +219,16 @@ count-sound means services g sound =
     ∙ sym (ap (λ (names : List (List ℕ)). length names) sound.names)
 
 -- the names of the plan's services are those that the services answer
-pub names-plan_of : {B : Type 0} (means : Ghosts B) (services : List B) (conf : ServerConf) (options : Option Opt) (g : GraphData) → map means.named services ≡ names_of (plan_of conf options g (answers_of means services))
-names-plan_of {B = B} means services conf options g = names services ∙ sym (names-with_depends g 0 (answers_of means services))
+pub names-plan_of : {B : Type 0} (means : Ghosts B) (services : List B) (conf : ServerConf) (options : Option Opt) (eager : Bool) (g : GraphData)
+    → map means.named services ≡ names_of (plan_of conf options eager g (answers_of means services))
+names-plan_of {B = B} means services conf options eager g = names services ∙ sym (names-with_depends g 0 (answers_of means services))
   where
     names : (bs : List B) → map means.named bs ≡ map (λ (x : ServicePlan). x.name) (answers_of means bs)
     names [] = refl
     names (b ∷ bs) = ap (λ xs. means.named b ∷ xs) (names bs)
 
 -- a plan with these settings is the server's
-pub plan-is : (conf : ServerConf) (options : Option Opt) (g : GraphData) (answers services : List ServicePlan) (grace stop limit ready : ℕ) (upgrade test : Bool)
+pub plan-is : (conf : ServerConf) (options : Option Opt) (eager : Bool) (g : GraphData) (answers services : List ServicePlan) (grace stop limit ready : ℕ) (upgrade test : Bool)
     → services ≡ with_depends g 0 answers → grace ≡ unwrap_or conf.grace_period_seconds 300 → stop ≡ unwrap_or conf.graceful_shutdown_timeout_seconds 5
     → limit ≡ unwrap_or conf.upgrade_sock_connect_accept_max_retries 5 → upgrade ≡ is_upgrade options → test ≡ is_test options → ready ≡ unwrap_or conf.daemon_ready_timeout_seconds 600
     → ◌≡◌ {A = Plan} (record {
@@ -239,9 +239,9 @@ pub plan-is : (conf : ServerConf) (options : Option Opt) (g : GraphData) (answer
       limit = limit;
       upgrade = upgrade;
       test = test;
-      eager = false;
+      eager = eager;
       daemon = conf.daemon;
       wait = conf.daemon_wait_for_ready;
       ready_timeout = ready;
-    }) (plan_of conf options g answers)
-plan-is conf options g answers services grace stop limit ready upgrade test e f h i j k l = cc
+    }) (plan_of conf options eager g answers)
+plan-is conf options eager g answers services grace stop limit ready upgrade test e f h i j k l = cc

@@ -1,6 +1,6 @@
 -- What giving one more item of a script keeps.
-use Rattle.std.proofs.Common.{◌≡◌, ℕ, zero, suc, ◌+◌, ◌≤◌, List, [], ◌∷◌, ◌++◌, take, drop, reverse, Some, None, refl, ap, arith, add-one}
-use Rattle.std.specs.List.{slice_get}
+use Rattle.std.proofs.Common.{◌≡◌, ℕ, zero, suc, ◌+◌, ◌<◌, ◌≤◌, List, [], ◌∷◌, ◌++◌, length, reverse, get_or, All, refl, ap, sym, subst, ◌∙◌, arith, length-append}
+use Rattle.std.specs.Prelude.{Option, Some, None, slice_get}
 use Rattle.std.proofs.lemmas.List.{reverse-append, append-nil}
 use Rattle.svc_record.specs.declared.action.ExecutionPhase.{ExecutionPhase}
 use Rattle.svc_record.specs.declared.entry.Entry.{Entry}
@@ -9,76 +9,136 @@ use Rattle.svc_record.specs.declared.event.Event.{Event}
 use Rattle.svc_record.specs.declared.item.Item.{Item}
 use Rattle.svc_record.specs.declared.item.Item.TheVariants as items
 use Rattle.svc_record.specs.Record.{Record}
-use Rattle.svc_server.specs.ScriptHosts.{item_events, item_faults, KeepsScript}
+use Rattle.svc_server.specs.declared.host.Next.{Next}
+use Rattle.svc_server.specs.declared.host.Next.TheVariants as nexts
+use Rattle.svc_server.specs.Hosts.{Handed, Account}
+use Rattle.svc_server.specs.Runs.{events_of}
+use Rattle.svc_server.specs.ScriptHosts.{item_events, item_faults, items_given, event_count, got_event, last_event, GivesFew, KeepsScript}
 
-pub take_one : (xs : List Item) (i : ℕ) (x : Item) → slice_get xs i ≡ Some x → take (suc i) xs ≡ take i xs ++ x ∷ []
-take_one [] i x h = cc
-take_one (y ∷ ys) zero x h = let e : y ≡ x = cc in rw e refl
-take_one (y ∷ ys) (suc i) x h = ap (λ (zs : List Item). y ∷ zs) (take_one ys i x h)
+event_count-append : (xs ys : List Next) → event_count (xs ++ ys) ≡ event_count xs + event_count ys
+event_count-append [] ys = omega arith
+event_count-append (nexts.Event ∷ xs) ys = omega (arith, event_count-append xs ys)
+event_count-append (nexts.Failed ∷ xs) ys = event_count-append xs ys
+event_count-append (nexts.None ∷ xs) ys = event_count-append xs ys
 
-pub drop_one : (xs : List Item) (i : ℕ) (x : Item) → slice_get xs i ≡ Some x → drop i xs ≡ x ∷ drop (suc i) xs
-drop_one [] i x h = cc
-drop_one (y ∷ ys) zero x h = let e : y ≡ x = cc in rw e refl
-drop_one (y ∷ ys) (suc i) x h = drop_one ys i x h
+-- the events of the items are those that were given
+events-given : (answers : List Next) (events : List Event) → event_count answers ≡ length events → item_events (items_given answers events) ≡ events
+events-given [] [] count = refl
+events-given [] (e ∷ events) count = absurd (omega arith)
+events-given (nexts.Event ∷ more) [] count = absurd (omega arith)
+events-given (nexts.Event ∷ more) (e ∷ events) count = ap (λ (es : List Event). e ∷ es) (events-given more events (omega arith))
+events-given (nexts.Failed ∷ more) events count = events-given more events count
+events-given (nexts.None ∷ more) events count = events-given more events count
 
-pub drop_past : (xs : List Item) (i : ℕ) → slice_get xs i ≡ None → drop i xs ≡ []
-drop_past [] zero h = refl
-drop_past [] (suc i) h = refl
-drop_past (y ∷ ys) zero h = cc
-drop_past (y ∷ ys) (suc i) h = drop_past ys i h
+-- one more event is no fault
+faults-event : (answers : List Next) (events : List Event) (e : Event) → event_count answers ≡ length events
+    → item_faults (items_given (answers ++ nexts.Event ∷ []) (events ++ e ∷ [])) ≡ item_faults (items_given answers events)
+faults-event [] [] e count = refl
+faults-event [] (x ∷ events) e count = absurd (omega arith)
+faults-event (nexts.Event ∷ more) [] e count = absurd (omega arith)
+faults-event (nexts.Event ∷ more) (x ∷ events) e count = faults-event more events e (omega arith)
+faults-event (nexts.Failed ∷ more) events e count = ap (λ (n : ℕ). n + 1) (faults-event more events e count)
+faults-event (nexts.None ∷ more) events e count = faults-event more events e count
 
-item_events-append : (xs ys : List Item) → item_events (xs ++ ys) ≡ item_events xs ++ item_events ys
-item_events-append [] ys = refl
-item_events-append (items.Event e ∷ xs) ys = ap (λ (zs : List Event). e ∷ zs) (item_events-append xs ys)
-item_events-append (items.Fault ∷ xs) ys = item_events-append xs ys
+-- one more fault
+faults-more : (answers : List Next) (events : List Event) → item_faults (items_given (answers ++ nexts.Failed ∷ []) events) ≡ item_faults (items_given answers events) + 1
+faults-more [] events = refl
+faults-more (nexts.Event ∷ more) [] = faults-more more []
+faults-more (nexts.Event ∷ more) (e ∷ events) = faults-more more events
+faults-more (nexts.Failed ∷ more) events = ap (λ (n : ℕ). n + 1) (faults-more more events)
+faults-more (nexts.None ∷ more) events = faults-more more events
 
-item_faults-append : (xs ys : List Item) → item_faults (xs ++ ys) ≡ item_faults xs + item_faults ys
-item_faults-append [] ys = omega arith
-item_faults-append (items.Event e ∷ xs) ys = item_faults-append xs ys
-item_faults-append (items.Fault ∷ xs) ys = omega (arith, item_faults-append xs ys)
+-- there are no more faults than answers
+pub faults-given : (answers : List Next) (events : List Event) → item_faults (items_given answers events) ≤ length answers
+faults-given [] events = omega arith
+faults-given (nexts.Event ∷ more) [] = omega (arith, faults-given more [])
+faults-given (nexts.Event ∷ more) (e ∷ events) = omega (arith, faults-given more events)
+faults-given (nexts.Failed ∷ more) events = omega (arith, faults-given more events)
+faults-given (nexts.None ∷ more) events = omega (arith, faults-given more events)
 
--- no more items of a front are faults than it has
-pub item_faults-take : (i : ℕ) (xs : List Item) → item_faults (take i xs) ≤ i
-item_faults-take zero xs = omega arith
-item_faults-take (suc i) [] = omega arith
-item_faults-take (suc i) (items.Event e ∷ xs) = omega (arith, item_faults-take i xs)
-item_faults-take (suc i) (items.Fault ∷ xs) = omega (arith, item_faults-take i xs)
+few-more : (x : Item) (left more : List Item) → left ≡ x ∷ more → All GivesFew left → All GivesFew more
+few-more x left more is few k d lt =
+    let all : All GivesFew (x ∷ more) = subst (λ (xs : List Item). All GivesFew xs) is few in
+    all (suc k) d (omega arith)
 
--- no item is left, so none comes
-nothing_left : (xs : List Item) (i : ℕ) (x : Item) → slice_get xs i ≡ Some x → drop i xs ≡ [] → drop (suc i) xs ≡ []
-nothing_left xs i x h e = let d = drop_one xs i x h in cc
+-- the next item brings few
+pub few-first : (x : Item) (left more : List Item) → left ≡ x ∷ more → All GivesFew left → GivesFew x
+few-first x left more is few =
+    let all : All GivesFew (x ∷ more) = subst (λ (xs : List Item). All GivesFew xs) is few in
+    all 0 x (omega arith)
 
-pub keeps_event : (script : List Item) (given : ℕ) (old now : List Entry) (phases : List ExecutionPhase) (faults idles : ℕ) (e : Event) → slice_get script given ≡ Some (items.Event e) → now ≡ old ++ Got e ∷ [] → KeepsScript script given (reverse old) phases faults idles → KeepsScript script (given + 1) (reverse now) phases faults idles
-keeps_event script given old now phases faults idles e at put kept =
-    let taken = take_one script given (items.Event e) at in
-    let told : reverse now ≡ Got e ∷ reverse old = rw put (reverse-append old (Got e ∷ [])) in
-    rw (told, add-one given) (record {
+pub keeps_event : (answers now_answers : List Next) (left more : List Item) (size now_size : ℕ) (old now : List Entry) (phases : List ExecutionPhase) (faults idles : ℕ) (e : Event) → left ≡ items.Event e ∷ more → now_size + 1 ≡ size
+    → now_answers ≡ answers ++ nexts.Event ∷ [] → now ≡ old ++ Got e ∷ [] → KeepsScript answers left size (reverse old) phases faults idles → KeepsScript now_answers more now_size (reverse now) phases faults idles
+keeps_event answers now_answers left more size now_size old now phases faults idles e is less answered put kept =
+    let told : reverse now ≡ Got e ∷ reverse old = ap (λ (xs : List Entry). reverse xs) put ∙ reverse-append old (Got e ∷ []) in
+    let counted : event_count (answers ++ nexts.Event ∷ []) ≡ length (events_of (reverse old) ++ e ∷ []) =
+    omega (arith, event_count-append answers (nexts.Event ∷ []), kept.counted, length-append (events_of (reverse old)) (e ∷ [])) in
+    subst (λ (r : Record). KeepsScript now_answers more now_size r phases faults idles) (sym told)
+    (subst (λ (xs : List Next). KeepsScript xs more now_size (Got e ∷ reverse old) phases faults idles) (sym answered)
+    (record {
       follows = record {
-        events = rw (taken, item_events-append) (ap (λ (zs : List Event). zs ++ e ∷ []) kept.follows.events);
-        faulted = rw (taken, item_faults-append) (omega (arith, kept.follows.faulted));
-        finished = λ h. nothing_left script given (items.Event e) at (kept.follows.finished h);
+        events = sym (events-given (answers ++ nexts.Event ∷ []) (events_of (reverse old) ++ e ∷ []) counted);
+        faulted = kept.follows.faulted ∙ sym (faults-event answers (events_of (reverse old)) e kept.counted);
+        finished = λ h. absurd (let none : left ≡ [] = kept.follows.finished h in cc);
       };
+      counted = counted;
       phases_told = kept.phases_told;
+      few = few-more (items.Event e) left more is kept.few;
+      sized = (omega (arith, kept.sized, ap (λ (xs : List Item). length xs) is, less));
+    }))
+
+pub keeps_fault : (answers now_answers : List Next) (left more : List Item) (size now_size : ℕ) (r : Record) (phases : List ExecutionPhase) (faults idles : ℕ) → left ≡ items.Fault ∷ more → now_size + 1 ≡ size
+    → now_answers ≡ answers ++ nexts.Failed ∷ [] → KeepsScript answers left size r phases faults idles → KeepsScript now_answers more now_size r phases (faults + 1) idles
+keeps_fault answers now_answers left more size now_size r phases faults idles is less answered kept =
+    let counted : event_count (answers ++ nexts.Failed ∷ []) ≡ length (events_of r) = omega (arith, event_count-append answers (nexts.Failed ∷ []), kept.counted) in
+    subst (λ (xs : List Next). KeepsScript xs more now_size r phases (faults + 1) idles) (sym answered)
+    (record {
+      follows = record {
+        events = sym (events-given (answers ++ nexts.Failed ∷ []) (events_of r) counted);
+        faulted = ap (λ (n : ℕ). n + 1) kept.follows.faulted ∙ sym (faults-more answers (events_of r));
+        finished = λ h. absurd (let none : left ≡ [] = kept.follows.finished h in cc);
+      };
+      counted = counted;
+      phases_told = kept.phases_told;
+      few = few-more items.Fault left more is kept.few;
+      sized = (omega (arith, kept.sized, ap (λ (xs : List Item). length xs) is, less));
     })
 
-pub keeps_fault : (script : List Item) (given : ℕ) (r : Record) (phases : List ExecutionPhase) (faults idles : ℕ) → slice_get script given ≡ Some items.Fault → KeepsScript script given r phases faults idles → KeepsScript script (given + 1) r phases (faults + 1) idles
-keeps_fault script given r phases faults idles at kept =
-    let taken = take_one script given items.Fault at in
-    rw (add-one given) (record {
-      follows = record {
-        events = rw (taken, item_events-append, append-nil) kept.follows.events;
-        faulted = rw (taken, item_faults-append) (omega (arith, kept.follows.faulted));
-        finished = λ h. nothing_left script given items.Fault at (kept.follows.finished h);
-      };
-      phases_told = kept.phases_told;
-    })
+none-left : (left : List Item) → 0 ≡ length left → left ≡ []
+none-left [] h = refl
+none-left (x ∷ xs) h = absurd (omega arith)
 
-pub keeps_end : (script : List Item) (given : ℕ) (r : Record) (phases : List ExecutionPhase) (faults idles idled : ℕ) → slice_get script given ≡ None → KeepsScript script given r phases faults idles → KeepsScript script given r phases faults idled
-keeps_end script given r phases faults idles idled at kept = record {
+-- what is left, where nothing comes
+pub left-none : (answers : List Next) (left : List Item) (size : ℕ) (r : Record) (phases : List ExecutionPhase) (faults idles : ℕ) → size ≡ 0 → KeepsScript answers left size r phases faults idles → left ≡ []
+left-none answers left size r phases faults idles none kept = none-left left (sym none ∙ kept.sized)
+
+-- nothing more comes
+pub keeps_end : (answers : List Next) (left more : List Item) (size now_size : ℕ) (r : Record) (phases : List ExecutionPhase) (faults idles idled : ℕ) → more ≡ left → now_size ≡ size → size ≡ 0
+    → KeepsScript answers left size r phases faults idles → KeepsScript answers more now_size r phases faults idled
+keeps_end answers left more size now_size r phases faults idles idled same same_size none kept = record {
   follows = record {
     events = kept.follows.events;
     faulted = kept.follows.faulted;
-    finished = λ _. drop_past script given at;
+    finished = λ _. same ∙ left-none answers left size r phases faults idles none kept;
   };
+  counted = kept.counted;
   phases_told = kept.phases_told;
+  few = subst (λ (xs : List Item). All GivesFew xs) (sym same) kept.few;
+  sized = same_size ∙ kept.sized ∙ ap (λ (xs : List Item). length xs) (sym same);
 }
+
+get-end : (xs : List Entry) (x : Entry) → slice_get (xs ++ x ∷ []) (length xs) ≡ Some x
+get-end [] x = refl
+get-end (y ∷ ys) x = get-end ys x
+
+-- the event that was put last
+pub last-put : (old now slice : List Entry) (e : Event) → slice ≡ old → now ≡ old ++ Got e ∷ [] → last_event now (Some (length slice)) ≡ Some e
+last-put old now slice e same put =
+    ap (λ (n : ℕ). last_event now (Some n)) (ap (λ (xs : List Entry). length xs) same) ∙ ap (λ (xs : List Entry). last_event xs (Some (length old))) put ∙ ap got_event (get-end old (Got e))
+
+pub told-put : (old now : List Entry) (e : Event) (handed : List Handed) → now ≡ old ++ Got e ∷ []
+    → ◌≡◌ {A = Option Account} (Some (record { entries = reverse now; handed = handed })) (Some (record { entries = Got e ∷ reverse old; handed = handed }))
+told-put old now e handed put = ap (λ (r : Record). account r) (ap (λ (xs : List Entry). reverse xs) put ∙ reverse-append old (Got e ∷ []))
+  where
+    account : Record → Option Account
+    account r = Some (record { entries = r; handed = handed })

@@ -1,5 +1,5 @@
 -- What a step of the core told, as it is told to a host.
-use Rattle.std.proofs.Common.{ℕ, ◌≡◌, true, not, List, [], ◌∷◌, ◌++◌, Option, ap, subst, sym, ◌∙◌}
+use Rattle.std.proofs.Common.{ℕ, ◌≡◌, true, not, List, [], ◌∷◌, ◌++◌, Option, Some, ap, subst, sym, ◌∙◌}
 use Rattle.std.proofs.lemmas.Bool.{not-true, ltb-true}
 use Rattle.svc_record.specs.declared.plan.Plan.{Plan}
 use Rattle.svc_record.specs.declared.event.Event.{Event}
@@ -70,7 +70,7 @@ stepped old core e before after told end q keeps empty same right stands =
     subst (λ xs. StepRight core (tell (Got e ∷ q) xs) end) (sym (same ∙ (keeps.appended ∙ ap (λ xs. xs ++ keeps.told) empty))) (keeps.kept q right stands)
 
 pub may-step : (old core : CoreData) (left : List (Option (List ℕ))) (account : Option Account) (e : Event) (before after told : List Action) (end : StepEnd)
-    → StepKeeps old core e before after end → before ≡ [] → told ≡ after → core.plan ≡ old.plan → CanTake old left account e → MayHandAll left account told
+    → StepKeeps old core e before after end → before ≡ [] → told ≡ after → core.plan ≡ old.plan → CanTake old left account (Some e) → MayHandAll left account told
 may-step old core left account e before after told end keeps empty same plan can =
     let q = can.0 in
     (old.plan, (Got e ∷ q, (can.1.1, due-step core old.plan (Got e ∷ q) told end plan (stepped old core e before after told end q keeps empty same can.1.0.1 can.1.0.0))))

@@ -1,5 +1,5 @@
 -- How a turn goes on, and how a run ends, from what the core and the closes leave.
-use Rattle.std.proofs.Common.{ℕ, ◌≡◌, ◌+◌, ◌<◌, ◌≤◌, false, List, [], ◌∷◌, ◌++◌, length, map, Option, Some, None, Ok, Err, refl, ap, sym, subst, ◌∙◌, arith, length-append, append_assoc, inl, inr}
+use Rattle.std.proofs.Common.{ℕ, ◌≡◌, ◌+◌, ◌<◌, ◌≤◌, true, false, List, [], ◌∷◌, ◌++◌, length, map, Option, Some, None, Ok, Err, refl, ap, sym, subst, ◌∙◌, arith, length-append, append_assoc, inl, inr}
 use Rattle.std.specs.Prelude.{IfSome, Result}
 use Rattle.std.specs.Option.{option_map}
 use Rattle.std.proofs.lemmas.List.{map-append}
@@ -12,23 +12,23 @@ use Rattle.svc_record.specs.declared.action.StepEnd.TheVariants as ends
 use Rattle.svc_record.specs.declared.item.Item.{Item}
 use Rattle.svc_record.specs.declared.item.Item.TheVariants as items
 use Rattle.svc_record.specs.Record.{Record, tell}
-use Rattle.svc_record.specs.Ends.{has_ended}
+use Rattle.svc_record.specs.Ends.{step_end, has_ended}
 use Rattle.svc_record.specs.Fits.{Fits}
 use Rattle.svc_record.specs.Right.{Right}
 use Rattle.svc_record.specs.Tail.{with_event, closing_actions}
 use Rattle.svc_record.proofs.Closing.{right_closes}
-use Rattle.svc_core.specs.CoreData.{CoreData}
+use Rattle.svc_core.specs.CoreData.{CoreData, is_served}
 use Rattle.svc_core.specs.Stands.{StandsFor}
 use Rattle.svc_server.specs.declared.run.Outcome.{Outcome}
-use Rattle.svc_server.specs.declared.run.Outcome.TheVariants.{Served}
+use Rattle.svc_server.specs.declared.run.Outcome.TheVariants.{Served, TestPassed, Parent}
 use Rattle.svc_server.specs.declared.run.RunError.{RunError}
-use Rattle.svc_server.specs.declared.run.RunError.TheVariants.{HostFault, Stray, TurnsSpent, OutOfEvents, NoMemory}
+use Rattle.svc_server.specs.declared.run.RunError.TheVariants.{HostFault, Bootstrap, Stray, TurnsSpent, OutOfEvents, NoMemory}
 use Rattle.svc_server.specs.declared.host.Next.TheVariants as nexts
-use Rattle.svc_server.specs.Hosts.{Account, no_account, AheadAfter, item_of, account_after, with_entry}
-use Rattle.svc_server.specs.Runs.{events_of, names_of, IsClosed, RunEnds, RunTells, RunTakes, taken_items, LeavesNothing}
+use Rattle.svc_server.specs.Hosts.{Account, no_account, ComesWith, AheadAfter, item_of, account_after, with_entry}
+use Rattle.svc_server.specs.Runs.{events_of, names_of, IsClosed, IsEndedSo, RunEnds, RunTells, RunTakes, taken_items, LeavesNothing, answer_of}
 use Rattle.svc_server.specs.Handing.{account_of, names_by, Hands}
-use Rattle.svc_server.specs.Turns.{IsAt, IsAtEvent, IsAhead, Leaves, RunGives, TurnGives}
-use Rattle.svc_server.proofs.AnswerOfStep.{served_from_answer, on_from_answer}
+use Rattle.svc_server.specs.Turns.{IsAt, IsAtEvent, IsSomewhereAtEvent, IsAhead, CanClose, ClosesTo, CanTake, Leaves, RunGives, TurnGives, EventGives, FailsBy}
+use Rattle.svc_server.proofs.AnswerOfStep.{served_from_answer, on_from_answer, failure_from_answer}
 
 -- what is told adds no event
 pub events-tell : (q : Record) (told : List Action) → events_of (tell q told) ≡ events_of q
@@ -81,53 +81,62 @@ plan-now p now turns answer account before ahead e h = subst (λ x. RunGives x t
 closed : (p : Plan) (q : Record) (also : Option Event) → Right p q → has_ended p q ≡ false → IsClosed p (tell (with_event also q) (closing_actions p q also)) q also
 closed p q also right on = record { right = right; goes_on = on; closed = refl; closed_once = right_closes p q also right }
 
--- the closes of the record q were told, and k events stand in it
-pub record ClosedAt (p : Plan) (account : Option Account) (k : ℕ) (q r : Record) : Type 0 where
+-- the closes of the record q were told, in which k events stand, and which leaves the run so
+pub record ClosedAt (p : Plan) (account : Option Account) (k : ℕ) (end : StepEnd) (q r : Record) : Type 0 where
   pub told : IfSome account (λ a. a ≡ account_of p r)
-  pub is_closed : IsClosed p r q None
+  pub right : Right p q
+  pub answer : end ≡ step_end p q
+  pub all : r ≡ tell q (closing_actions p q None)
   pub events : events_of r ≡ events_of q
   pub count : length (events_of q) ≡ k
 
+is-closed : (p : Plan) (account : Option Account) (k : ℕ) (q r : Record) → ClosedAt p account k ends.On q r → IsClosed p r q None
+is-closed p account k q r c = record { right = c.right; goes_on = on_from_answer p q c.answer; closed = c.all; closed_once = right_closes p q None c.right }
+
+is-ended : (p : Plan) (account : Option Account) (k : ℕ) (end : StepEnd) (q r : Record) → ClosedAt p account k end q r → IsEndedSo p end r q
+is-ended p account k end q r c = record { right = c.right; ended = c.answer; closed = c.all; closed_once = right_closes p q None c.right }
+
 -- a core, services and a host that are what they were close what was there
-pub closed-at : (core core2 : CoreData) (left left2 now_left : List (Option (List ℕ))) (account account2 now_account : Option Account) (k : ℕ) (q : Record) → core2 ≡ core → left2 ≡ left → account2 ≡ account
-    → IsAt core left account k q
-    → ((t : Record) → StandsFor core2 t → Hands left2 account2 core2.plan t → Hands now_left now_account core2.plan (tell t (closing_actions core2.plan t None)))
-    → ClosedAt core.plan now_account k q (tell q (closing_actions core.plan q None))
-closed-at core core2 left left2 now_left account account2 now_account k q same_core same_left same_account at close =
-    let step : (t : Record) → StandsFor core t → Hands left account core.plan t → Hands now_left now_account core.plan (tell t (closing_actions core.plan t None)) =
-    subst (λ (x : CoreData). (t : Record) → StandsFor x t → Hands left account x.plan t → Hands now_left now_account x.plan (tell t (closing_actions x.plan t None))) same_core
-    (subst (λ o. (t : Record) → StandsFor core2 t → Hands left o core2.plan t → Hands now_left now_account core2.plan (tell t (closing_actions core2.plan t None))) same_account
-    (subst (λ xs. (t : Record) → StandsFor core2 t → Hands xs account2 core2.plan t → Hands now_left now_account core2.plan (tell t (closing_actions core2.plan t None))) same_left close)) in
-    record {
-      told = (step q at.stands at.hands).told_is;
-      is_closed = closed core.plan q None at.right at.goes_on;
-      events = events-tell q (closing_actions core.plan q None);
-      count = at.count;
-    }
+closes-same : (core core2 : CoreData) (left left2 now_left : List (Option (List ℕ))) (account account2 now_account : Option Account) (also : Option Event) → core2 ≡ core → left2 ≡ left → account2 ≡ account
+    → ClosesTo core2 left2 now_left account2 now_account also → ClosesTo core left now_left account now_account also
+closes-same core core2 left left2 now_left account account2 now_account also same_core same_left same_account close =
+    subst (λ (x : CoreData). ClosesTo x left now_left account now_account also) same_core
+    (subst (λ o. ClosesTo core2 left now_left o now_account also) same_account (subst (λ xs. ClosesTo core2 xs now_left account2 now_account also) same_left close))
 
-few-closed : (p : Plan) (account : Option Account) (k turns : ℕ) (q r : Record) → ClosedAt p account k q r → k ≤ turns → length (events_of r) ≤ turns
-few-closed p account k turns q r c le = omega (arith, ap length c.events, c.count)
+pub closed-at : (core core2 : CoreData) (left left2 now_left : List (Option (List ℕ))) (account account2 now_account : Option Account) (k : ℕ) (end : StepEnd) (q : Record) → core2 ≡ core → left2 ≡ left
+    → account2 ≡ account → IsAt core left account k end q → ClosesTo core2 left2 now_left account2 now_account None → ClosedAt core.plan now_account k end q (tell q (closing_actions core.plan q None))
+closed-at core core2 left left2 now_left account account2 now_account k end q same_core same_left same_account at close = record {
+  told = (closes-same core core2 left left2 now_left account account2 now_account None same_core same_left same_account close q at.stands at.hands).told_is;
+  right = at.right;
+  answer = at.answer;
+  all = refl;
+  events = events-tell q (closing_actions core.plan q None);
+  count = at.count;
+}
 
-pub gives-no_memory : (p : Plan) (account : Option Account) (k turns : ℕ) (q r : Record) (before now : Option (List Item)) → ClosedAt p account k q r → k < turns → IsAhead before now q
+few-closed : (p : Plan) (account : Option Account) (k turns : ℕ) (end : StepEnd) (q r : Record) → ClosedAt p account k end q r → k ≤ turns → length (events_of r) ≤ turns
+few-closed p account k turns end q r c le = omega (arith, ap length c.events, c.count)
+
+pub gives-no_memory : (p : Plan) (account : Option Account) (k turns : ℕ) (q r : Record) (before now : Option (List Item)) → ClosedAt p account k ends.On q r → k < turns → IsAhead before now q
     → RunGives p turns (Err NoMemory) account before now
 gives-no_memory p account k turns q r before now c lt ahead =
-    gives account p turns (Err NoMemory) r before now c.told (inr (q, (None, c.is_closed))) (few-closed p account k turns q r c (omega arith)) (ahead-same before now q r c.events ahead)
+    gives account p turns (Err NoMemory) r before now c.told (inr (q, (None, is-closed p account k q r c))) (few-closed p account k turns ends.On q r c (omega arith)) (ahead-same before now q r c.events ahead)
     (none-said now (LeavesNothing (Err NoMemory)) (λ n. tt))
 
-pub gives-spent : (p : Plan) (account : Option Account) (turns : ℕ) (q r : Record) (before now : Option (List Item)) → ClosedAt p account turns q r → IsAhead before now q
+pub gives-spent : (p : Plan) (account : Option Account) (turns : ℕ) (q r : Record) (before now : Option (List Item)) → ClosedAt p account turns ends.On q r → IsAhead before now q
     → RunGives p turns (Err TurnsSpent) account before now
 gives-spent p account turns q r before now c ahead =
-    gives account p turns (Err TurnsSpent) r before now c.told (q, record { closed = c.is_closed; count = c.count }) (few-closed p account turns turns q r c (omega arith))
+    gives account p turns (Err TurnsSpent) r before now c.told (q, record { closed = is-closed p account turns q r c; count = c.count }) (few-closed p account turns turns ends.On q r c (omega arith))
     (ahead-same before now q r c.events ahead) (none-said now (LeavesNothing (Err TurnsSpent)) (λ n. tt))
 
 -- nothing was left, so nothing is
 left-none : (middle now : Option (List Item)) → now ≡ middle → IfSome middle (λ rest. rest ≡ []) → IfSome now (λ rest. rest ≡ [])
 left-none middle now e h = subst (λ o. IfSome o (λ rest. rest ≡ [])) (sym e) h
 
-pub gives-idle : (p : Plan) (account : Option Account) (k turns : ℕ) (q r : Record) (before middle now : Option (List Item)) → ClosedAt p account k q r → k < turns → IsAhead before middle q
+pub gives-idle : (p : Plan) (account : Option Account) (k turns : ℕ) (q r : Record) (before middle now : Option (List Item)) → ClosedAt p account k ends.On q r → k < turns → IsAhead before middle q
     → now ≡ middle → IfSome middle (λ rest. rest ≡ []) → RunGives p turns (Err OutOfEvents) account before now
 gives-idle p account k turns q r before middle now c lt ahead same none =
-    gives account p turns (Err OutOfEvents) r before now c.told (q, c.is_closed) (few-closed p account k turns q r c (omega arith))
+    gives account p turns (Err OutOfEvents) r before now c.told (q, is-closed p account k q r c) (few-closed p account k turns ends.On q r c (omega arith))
     (ahead-same before now q r c.events (ahead-now before middle now q same ahead)) (left-none middle now same none)
 
 map-both : (f g : List Item → List Item) (o : Option (List Item)) → option_map f (option_map g o) ≡ option_map (λ rest. f (g rest)) o
@@ -145,10 +154,10 @@ ahead-more before middle now front item e f =
     e ∙ (ap (option_map (λ rest. front ++ rest)) f ∙ (map-both (λ rest. front ++ rest) (λ rest. item ∷ rest) now
     ∙ map-same (λ rest. front ++ (item ∷ rest)) (λ rest. (front ++ item ∷ []) ++ rest) now (λ rest. sym (append_assoc front (item ∷ []) rest))))
 
-pub gives-fault : (p : Plan) (account : Option Account) (k turns : ℕ) (q r : Record) (before middle now : Option (List Item)) → ClosedAt p account k q r → k < turns → IsAhead before middle q
+pub gives-fault : (p : Plan) (account : Option Account) (k turns : ℕ) (q r : Record) (before middle now : Option (List Item)) → ClosedAt p account k ends.On q r → k < turns → IsAhead before middle q
     → middle ≡ option_map (λ rest. items.Fault ∷ rest) now → RunGives p turns (Err HostFault) account before now
 gives-fault p account k turns q r before middle now c lt ahead step =
-    gives account p turns (Err HostFault) r before now c.told (q, c.is_closed) (few-closed p account k turns q r c (omega arith))
+    gives account p turns (Err HostFault) r before now c.told (q, is-closed p account k q r c) (few-closed p account k turns ends.On q r c (omega arith))
     (ahead-more before middle now (map items.Event (events_of r)) items.Fault (ahead-same before middle q r c.events ahead) step) (none-said now (LeavesNothing (Err HostFault)) (λ n. tt))
 
 -- the next event was taken of what lay ahead
@@ -159,52 +168,47 @@ ahead-event before middle now q e h step =
 
 -- ---- an event that came
 
-pub gives-stray : (core core2 : CoreData) (left now_left : List (Option (List ℕ))) (account now_account : Option Account) (k turns : ℕ) (e : Event) (q : Record) (before middle now : Option (List Item))
-    → core2 ≡ core → IsAtEvent core left account k e q → (Fits core.plan q e → ⊥)
-    → (StandsFor core q → Hands left account core.plan (Got e ∷ q) → Hands now_left now_account core.plan (tell (Got e ∷ q) (closing_actions core.plan q (Some e))))
-    → k < turns → IsAhead before middle (Got e ∷ q) → now ≡ middle → RunGives core2.plan turns (Err (Stray (k + 1))) now_account before now
-gives-stray core core2 left now_left account now_account k turns e q before middle now same at misfit close lt ahead same_ahead =
-    let p = core.plan in
-    let r : Record = tell (Got e ∷ q) (closing_actions p q (Some e)) in
-    let events : events_of r ≡ events_of (Got e ∷ q) = events-tell (Got e ∷ q) (closing_actions p q (Some e)) in
-    let counted = events-count q e k at.count in
-    plan-now p core2.plan turns (Err (Stray (k + 1))) now_account before now (ap (λ (x : CoreData). x.plan) same)
-    (gives now_account p turns (Err (Stray (k + 1))) r before now (close at.stands at.hands).told_is
-    (q, (e, record { closed = closed p q (Some e) at.right at.goes_on; misfit = misfit; number = ap (λ n. n + 1) (sym at.count) }))
-    (omega (arith, ap length events, counted)) (ahead-same before now (Got e ∷ q) r events (ahead-now before middle now (Got e ∷ q) same_ahead ahead))
+-- what was left unfinished was closed
+pub record UnfinishedAt (core : CoreData) (account : Option Account) (k : ℕ) (e : Event) (q r : Record) : Type 0 where
+  pub told : IfSome account (λ a. a ≡ account_of core.plan r)
+  pub is_closed : IsClosed core.plan r q (Some e)
+  pub events : events_of r ≡ events_of (Got e ∷ q)
+  pub count : length (events_of q) ≡ k
+  pub more : length (events_of r) ≡ k + 1
+
+pub unfinished-at : (core core2 : CoreData) (left left2 now_left : List (Option (List ℕ))) (account account2 now_account : Option Account) (k : ℕ) (e : Event) (q : Record) → core2 ≡ core → left2 ≡ left
+    → account2 ≡ account → IsAtEvent core left account k e q → ClosesTo core2 left2 now_left account2 now_account (Some e)
+    → UnfinishedAt core now_account k e q (tell (Got e ∷ q) (closing_actions core.plan q (Some e)))
+unfinished-at core core2 left left2 now_left account account2 now_account k e q same_core same_left same_account at close =
+    let events = events-tell (Got e ∷ q) (closing_actions core.plan q (Some e)) in
+    record {
+      told = (closes-same core core2 left left2 now_left account account2 now_account (Some e) same_core same_left same_account close q at.stands at.hands).told_is;
+      is_closed = closed core.plan q (Some e) at.right at.goes_on;
+      events = events;
+      count = at.count;
+      more = ap length events ∙ events-count q e k at.count;
+    }
+
+pub gives-stray : (core core2 : CoreData) (account : Option Account) (k turns : ℕ) (e : Event) (q r : Record) (before middle now : Option (List Item)) → core2 ≡ core → UnfinishedAt core account k e q r
+    → (Fits core.plan q e → ⊥) → k < turns → IsAhead before middle (Got e ∷ q) → now ≡ middle → RunGives core2.plan turns (Err (Stray (k + 1))) account before now
+gives-stray core core2 account k turns e q r before middle now same u misfit lt ahead same_ahead =
+    plan-now core.plan core2.plan turns (Err (Stray (k + 1))) account before now (ap (λ (x : CoreData). x.plan) same)
+    (gives account core.plan turns (Err (Stray (k + 1))) r before now u.told (q, (e, record { closed = u.is_closed; misfit = misfit; number = ap (λ n. n + 1) (sym u.count) }))
+    (omega (arith, u.more)) (ahead-same before now (Got e ∷ q) r u.events (ahead-now before middle now (Got e ∷ q) same_ahead ahead))
     (none-said now (LeavesNothing (Err (Stray (k + 1)))) (λ n. tt)))
 
 -- memory was refused for its step
-pub gives-refused : (core core2 core3 : CoreData) (left left2 now_left : List (Option (List ℕ))) (account account2 now_account : Option Account) (k turns : ℕ) (e : Event) (q : Record) (before middle now : Option (List Item))
-    → core2 ≡ core → core3 ≡ core2 → left2 ≡ left → account2 ≡ account → IsAtEvent core left account k e q
-    → ((t : Record) → StandsFor core2 t → Hands left2 account2 core2.plan (Got e ∷ t) → Hands now_left now_account core2.plan (tell (Got e ∷ t) (closing_actions core2.plan t (Some e))))
-    → k < turns → IsAhead before middle (Got e ∷ q) → now ≡ middle → RunGives core3.plan turns (Err NoMemory) now_account before now
-gives-refused core core2 core3 left left2 now_left account account2 now_account k turns e q before middle now same same3 same_left same_account at close lt ahead same_ahead =
-    let p = core.plan in
-    let r : Record = tell (Got e ∷ q) (closing_actions p q (Some e)) in
-    let events : events_of r ≡ events_of (Got e ∷ q) = events-tell (Got e ∷ q) (closing_actions p q (Some e)) in
-    let counted = events-count q e k at.count in
-    let step : (t : Record) → StandsFor core t → Hands left account core.plan (Got e ∷ t) → Hands now_left now_account core.plan (tell (Got e ∷ t) (closing_actions core.plan t (Some e))) =
-    subst (λ (x : CoreData). (t : Record) → StandsFor x t → Hands left account x.plan (Got e ∷ t) → Hands now_left now_account x.plan (tell (Got e ∷ t) (closing_actions x.plan t (Some e)))) same
-    (subst (λ o. (t : Record) → StandsFor core2 t → Hands left o core2.plan (Got e ∷ t) → Hands now_left now_account core2.plan (tell (Got e ∷ t) (closing_actions core2.plan t (Some e)))) same_account
-    (subst (λ xs. (t : Record) → StandsFor core2 t → Hands xs account2 core2.plan (Got e ∷ t) → Hands now_left now_account core2.plan (tell (Got e ∷ t) (closing_actions core2.plan t (Some e)))) same_left close)) in
-    plan-now p core3.plan turns (Err NoMemory) now_account before now (ap (λ (x : CoreData). x.plan) (same3 ∙ same))
-    (gives now_account p turns (Err NoMemory) r before now (step q at.stands at.hands).told_is (inr (q, (Some e, closed p q (Some e) at.right at.goes_on)))
-    (omega (arith, ap length events, counted)) (ahead-same before now (Got e ∷ q) r events (ahead-now before middle now (Got e ∷ q) same_ahead ahead))
-    (none-said now (LeavesNothing (Err NoMemory)) (λ n. tt)))
+pub gives-refused : (core core2 : CoreData) (account : Option Account) (k turns : ℕ) (e : Event) (q r : Record) (before middle now : Option (List Item)) → core2 ≡ core → UnfinishedAt core account k e q r
+    → k < turns → IsAhead before middle (Got e ∷ q) → now ≡ middle → RunGives core2.plan turns (Err NoMemory) account before now
+gives-refused core core2 account k turns e q r before middle now same u lt ahead same_ahead =
+    plan-now core.plan core2.plan turns (Err NoMemory) account before now (ap (λ (x : CoreData). x.plan) same)
+    (gives account core.plan turns (Err NoMemory) r before now u.told (inr (q, (Some e, u.is_closed))) (omega (arith, u.more))
+    (ahead-same before now (Got e ∷ q) r u.events (ahead-now before middle now (Got e ∷ q) same_ahead ahead)) (none-said now (LeavesNothing (Err NoMemory)) (λ n. tt)))
 
-served-gives : (core : CoreData) (left : List (Option (List ℕ))) (account : Option Account) (turns : ℕ) (q : Record) (before now : Option (List Item)) → (h : Leaves core left account ends.Served q)
-    → length (events_of q) ≤ turns → IsAhead before now q → RunGives core.plan turns (Ok Served) account before now
-served-gives core left account turns q before now h few ahead =
-    let r : Record = tell q h.told in
-    let events : events_of r ≡ events_of q = events-tell q h.told in
-    gives account core.plan turns (Ok Served) r before now h.hands.told_is
-    (record { served = served_from_answer core.plan r h.step.right h.step.answer; right = h.step.right })
-    (omega (arith, ap length events, few)) (ahead-same before now q r events ahead) (none-said now (LeavesNothing (Ok Served)) (λ n. tt))
-
-pub on-gives : (core : CoreData) (left : List (Option (List ℕ))) (account : Option Account) (k : ℕ) (q : Record) (before now : Option (List Item)) → (h : Leaves core left account ends.On q)
-    → length (events_of q) ≡ k → IsAhead before now q → (t : Record) × (IsAt core left account k t × IsAhead before now t)
-on-gives core left account k q before now h count ahead =
+-- after a step: the next point, or the last
+pub leaves-at : (core : CoreData) (left : List (Option (List ℕ))) (account : Option Account) (k : ℕ) (end : StepEnd) (q : Record) (before now : Option (List Item)) → (h : Leaves core left account end q)
+    → length (events_of q) ≡ k → IsAhead before now q → (t : Record) × (IsAt core left account k end t × IsAhead before now t)
+leaves-at core left account k end q before now h count ahead =
     let r : Record = tell q h.told in
     let events : events_of r ≡ events_of q = events-tell q h.told in (
       r,
@@ -212,7 +216,7 @@ on-gives core left account k q before now h count ahead =
         record {
           stands = h.step.stands;
           right = h.step.right;
-          goes_on = on_from_answer core.plan r h.step.answer;
+          answer = h.step.answer;
           hands = h.hands;
           count = ap length events ∙ count;
         },
@@ -222,47 +226,113 @@ on-gives core left account k q before now h count ahead =
 
 -- the step of an event
 pub gives-step : (core : CoreData) (left now_left : List (Option (List ℕ))) (account now_account : Option Account) (old : CoreData) (k turns : ℕ) (e : Event) (q : Record) (end : StepEnd) (before middle now : Option (List Item))
-    → IsAtEvent old left account k e q → Leaves core now_left now_account end (Got e ∷ q) → k < turns → IsAhead before middle (Got e ∷ q) → now ≡ middle
+    → IsAtEvent old left account k e q → Leaves core now_left now_account end (Got e ∷ q) → IsAhead before middle (Got e ∷ q) → now ≡ middle
     → TurnGives core now_left now_account k turns (Ok end) before now
-gives-step core left now_left account now_account old k turns e q ends.On before middle now at h lt ahead same =
-    on-gives core now_left now_account (k + 1) (Got e ∷ q) before now h (events-count q e k at.count) (ahead-now before middle now (Got e ∷ q) same ahead)
-gives-step core left now_left account now_account old k turns e q ends.Served before middle now at h lt ahead same =
-    let counted = events-count q e k at.count in
-    served-gives core now_left now_account turns (Got e ∷ q) before now h (omega (arith, counted)) (ahead-now before middle now (Got e ∷ q) same ahead)
+gives-step core left now_left account now_account old k turns e q end before middle now at h ahead same =
+    leaves-at core now_left now_account (k + 1) end (Got e ∷ q) before now h (events-count q e k at.count) (ahead-now before middle now (Got e ∷ q) same ahead)
+
+-- receiving failed only at an event that tells it
+pub fails-by : (core now_core : CoreData) (left now_left : List (Option (List ℕ))) (account now_account : Option Account) (k : ℕ) (end : StepEnd) (last : Option Event) (e : Event) → last ≡ Some e
+    → now_core.plan ≡ core.plan → IsSomewhereAtEvent core left account k last
+    → ((q : Record) → StandsFor core q → Right core.plan q → Hands left account core.plan (Got e ∷ q) → Leaves now_core now_left now_account end (Got e ∷ q)) → IfSome last (FailsBy (Ok end))
+fails-by core now_core left now_left account now_account k end last e same plan somewhere leaves =
+    let there : IsSomewhereAtEvent core left account k (Some e) = subst (λ (o : Option Event). IsSomewhereAtEvent core left account k o) same somewhere in
+    let q = there.1.0 in
+    let at : IsAtEvent core left account k e q = there.1.1 in
+    let h = leaves q at.stands at.right at.hands in
+    subst (λ (o : Option Event). IfSome o (FailsBy (Ok end))) (sym same)
+    (λ is. failure_from_answer core.plan q e h.told at.goes_on (sym is ∙ h.step.answer ∙ ap (λ (p : Plan). step_end p (tell (Got e ∷ q) h.told)) plan))
+
+-- ---- a run that has ended
+
+pub gives-served : (core : CoreData) (left : List (Option (List ℕ))) (account : Option Account) (k turns : ℕ) (end : StepEnd) (answer : Result Outcome RunError) (q : Record) (before now : Option (List Item))
+    → is_served end ≡ true → answer_of end ≡ Some answer → IsAt core left account k end q → k ≤ turns → IsAhead before now q → RunGives core.plan turns answer account before now
+gives-served core left account k turns ends.On answer q before now served is at le ahead = absurd (cc)
+gives-served core left account k turns ends.Served answer q before now served is at le ahead =
+    let same : Ok Served ≡ answer = cc in
+    subst (λ (a : Result Outcome RunError). RunGives core.plan turns a account before now) same
+    (gives account core.plan turns (Ok Served) q before now at.hands.told_is (record { served = served_from_answer core.plan q at.right at.answer; right = at.right })
+    (omega (arith, at.count)) ahead (none-said now (LeavesNothing (Ok Served)) (λ n. tt)))
+gives-served core left account k turns ends.Tested answer q before now served is at le ahead = absurd (cc)
+gives-served core left account k turns (ends.Parent n) answer q before now served is at le ahead = absurd (cc)
+gives-served core left account k turns (ends.Ended x) answer q before now served is at le ahead = absurd (cc)
+
+-- otherwise than by its shutdown
+pub gives-ended : (p : Plan) (account : Option Account) (k turns : ℕ) (end : StepEnd) (answer : Result Outcome RunError) (q r : Record) (before now : Option (List Item)) → is_served end ≡ false
+    → answer_of end ≡ Some answer → ClosedAt p account k end q r → k ≤ turns → IsAhead before now q → RunGives p turns answer account before now
+gives-ended p account k turns ends.On answer q r before now other is c le ahead = absurd (cc)
+gives-ended p account k turns ends.Served answer q r before now other is c le ahead = absurd (cc)
+gives-ended p account k turns ends.Tested answer q r before now other is c le ahead =
+    let same : Ok TestPassed ≡ answer = cc in
+    subst (λ (a : Result Outcome RunError). RunGives p turns a account before now) same
+    (gives account p turns (Ok TestPassed) r before now c.told (q, is-ended p account k ends.Tested q r c) (few-closed p account k turns ends.Tested q r c le) (ahead-same before now q r c.events ahead)
+    (none-said now (LeavesNothing (Ok TestPassed)) (λ n. tt)))
+gives-ended p account k turns (ends.Parent n) answer q r before now other is c le ahead =
+    let same : Ok (Parent n) ≡ answer = cc in
+    subst (λ (a : Result Outcome RunError). RunGives p turns a account before now) same
+    (gives account p turns (Ok (Parent n)) r before now c.told (q, is-ended p account k (ends.Parent n) q r c) (few-closed p account k turns (ends.Parent n) q r c le) (ahead-same before now q r c.events ahead)
+    (none-said now (LeavesNothing (Ok (Parent n))) (λ m. tt)))
+gives-ended p account k turns (ends.Ended x) answer q r before now other is c le ahead =
+    let same : Err (Bootstrap x) ≡ answer = cc in
+    subst (λ (a : Result Outcome RunError). RunGives p turns a account before now) same
+    (gives account p turns (Err (Bootstrap x)) r before now c.told (q, is-ended p account k (ends.Ended x) q r c) (few-closed p account k turns (ends.Ended x) q r c le) (ahead-same before now q r c.events ahead)
+    (none-said now (LeavesNothing (Err (Bootstrap x))) (λ n. tt)))
 
 -- nothing was taken yet
 pub ahead-first : (before now : Option (List Item)) → now ≡ before → IsAhead before now []
 ahead-first before None same = sym same
 ahead-first before (Some x) same = sym same
 
--- the first step, where it ends the run
-pub gives-first : (core : CoreData) (left : List (Option (List ℕ))) (account : Option Account) (turns : ℕ) (before now : Option (List Item)) → Leaves core left account ends.Served [] → now ≡ before
-    → RunGives core.plan turns (Ok Served) account before now
-gives-first core left account turns before now h same = served-gives core left account turns [] before now h (omega arith) (ahead-first before now same)
-
 -- ---- an event comes
-
-pub came-account : (last : Option Event) (e : Event) (account now : Option Account) → last ≡ Some e → now ≡ account_after nexts.Event last account → now ≡ option_map (with_entry (Got e)) account
-came-account last e account now same h = subst (λ o. now ≡ account_after nexts.Event o account) same h
-
-pub came-ahead : (last : Option Event) (e : Event) (before now : Option (List Item)) → last ≡ Some e → AheadAfter (item_of nexts.Event last) before now → before ≡ option_map (λ rest. items.Event e ∷ rest) now
-came-ahead last e before now same h = subst (λ o. AheadAfter (item_of nexts.Event o) before now) same h
 
 told-event : (account : Option Account) (p : Plan) (q : Record) (e : Event) → IfSome account (λ a. a ≡ account_of p q) → IfSome (option_map (with_entry (Got e)) account) (λ a. a ≡ account_of p (Got e ∷ q))
 told-event None p q e h = tt
 told-event (Some a) p q e h = ap (with_entry (Got e)) h
 
 pub at-event : (core core2 : CoreData) (left left2 : List (Option (List ℕ))) (account account2 : Option Account) (k : ℕ) (e : Event) (q : Record) → core2 ≡ core → left2 ≡ left
-    → account2 ≡ option_map (with_entry (Got e)) account → IsAt core left account k q → IsAtEvent core2 left2 account2 k e q
+    → account2 ≡ option_map (with_entry (Got e)) account → IsAt core left account k ends.On q → IsAtEvent core2 left2 account2 k e q
 at-event core core2 left left2 account account2 k e q same_core same_left same_account at =
     subst (λ x. IsAtEvent x left2 account2 k e q) (sym same_core) (record {
       stands = at.stands;
       right = at.right;
-      goes_on = at.goes_on;
+      goes_on = on_from_answer core.plan q at.answer;
       hands = subst (λ xs. Hands xs account2 core.plan (Got e ∷ q)) (sym same_left) (subst (λ o. Hands left o core.plan (Got e ∷ q)) (sym same_account)
           (record { left_is = at.hands.left_is; told_is = told-event account core.plan q e at.hands.told_is }));
       count = at.count;
     })
+
+-- what is so of the event that came
+pub if-came : (P : Event → Type 0) (last : Option Event) (e : Event) → last ≡ Some e → P e → IfSome last P
+if-came P last e same h = subst (λ o. IfSome o P) (sym same) h
+
+-- a turn in which an event came
+pub gives-came : (core core2 core3 : CoreData) (left left2 now_left : List (Option (List ℕ))) (account middle account2 now_account : Option Account) (k turns : ℕ) (answer : Result StepEnd RunError)
+    (before ahead middle_ahead ahead2 now : Option (List Item)) (last : Option Event) (q : Record) → ComesWith nexts.Event last → core2 ≡ core → left2 ≡ left → middle ≡ account → account2 ≡ account_after nexts.Event last middle
+    → middle_ahead ≡ ahead → AheadAfter (item_of nexts.Event last) middle_ahead ahead2 → IfSome last (EventGives core2 core3 left2 now_left account2 now_account k answer ahead2 now)
+    → k < turns → IsAt core left account k ends.On q → IsAhead before ahead q → TurnGives core3 now_left now_account k turns answer before now
+gives-came core core2 core3 left left2 now_left account middle account2 now_account k turns answer before ahead middle_ahead ahead2 now None q comes same_core same_left same_account after same_ahead step gives lt at is = absurd comes
+gives-came core core2 core3 left left2 now_left account middle account2 now_account k turns answer before ahead middle_ahead ahead2 now (Some e) q comes same_core same_left same_account after same_ahead step gives lt at is =
+    gives turns before q lt (at-event core core2 left left2 account account2 k e q same_core same_left (after ∙ ap (option_map (with_entry (Got e))) same_account) at)
+    (ahead-event before middle_ahead ahead2 q e (ahead-now before ahead middle_ahead q same_ahead is) step)
+
+pub at-came : (core core2 : CoreData) (left left2 : List (Option (List ℕ))) (account middle account2 : Option Account) (k : ℕ) (last : Option Event) (q : Record) → ComesWith nexts.Event last → core2 ≡ core → left2 ≡ left
+    → middle ≡ account → account2 ≡ account_after nexts.Event last middle → IsAt core left account k ends.On q → IsSomewhereAtEvent core2 left2 account2 k last
+at-came core core2 left left2 account middle account2 k None q comes same_core same_left same_account after at = comes
+at-came core core2 left left2 account middle account2 k (Some e) q comes same_core same_left same_account after at =
+    (comes, (q, at-event core core2 left left2 account account2 k e q same_core same_left (after ∙ ap (option_map (with_entry (Got e))) same_account) at))
+
+-- what came brings few, can be taken, and can be closed
+pub few-at-event : (core : CoreData) (left : List (Option (List ℕ))) (account : Option Account) (k : ℕ) (last : Option Event) → IsSomewhereAtEvent core left account k last → ComesWith nexts.Event last
+few-at-event core left account k None h = h
+few-at-event core left account k (Some e) h = h.0
+
+pub close-at-event : (core : CoreData) (left : List (Option (List ℕ))) (account : Option Account) (k : ℕ) (last : Option Event) → IsSomewhereAtEvent core left account k last → CanClose core left account last
+close-at-event core left account k None h = absurd h
+close-at-event core left account k (Some e) h = (h.1.0, (h.1.1.stands, h.1.1.hands))
+
+pub take-at-event : (core : CoreData) (left : List (Option (List ℕ))) (account : Option Account) (k : ℕ) (last : Option Event) → IsSomewhereAtEvent core left account k last → CanTake core left account last
+take-at-event core left account k None h = h
+take-at-event core left account k (Some e) h = (h.1.0, ((h.1.1.stands, h.1.1.right), h.1.1.hands))
 
 -- ---- the first step
 

@@ -6,12 +6,10 @@ use Rattle.svc_graph.specs.Graphs.{node_count, with_node}
 use Rattle.svc_graph.specs.HandleData.{HandleData}
 use Rattle.svc_graph.specs.declared.services.ServiceWithDependents.{Ghosts}
 use Rattle.svc_graph.specs.declared.plan.EndpointPlan.{EndpointPlan}
-use Rattle.svc_graph.specs.declared.plan.Kind.TheVariants.{Bootstrap}
 use Rattle.svc_record.specs.declared.plan.ServicePlan.{ServicePlan}
-use Rattle.svc_record.specs.Plans.{is_kind}
 use Rattle.svc_server.specs.Servers.{answer_of}
 use Rattle.svc_server.specs.declared.server.refusals.AddError.{AddError}
-use Rattle.svc_server.specs.declared.server.refusals.AddError.TheVariants.{TooMany, TooManyEndpoints, BadAddressText, UnknownFilter, Unbuilt, NoMemory}
+use Rattle.svc_server.specs.declared.server.refusals.AddError.TheVariants.{TooMany, TooManyEndpoints, BadAddressText, UnknownFilter, NoMemory}
 
 -- the address is empty or has over 4,096 bytes
 abbrev pub is_bad_address : EndpointPlan → Bool
@@ -39,11 +37,9 @@ endpoint_causes endpoints =
     option_map UnknownFilter (position has_filter endpoints) ∷
     []
 
--- why the service can't be added to a server with this graph: the first cause that stands. A service that bootstraps isn't built yet.
+-- why the service can't be added to a server with this graph: the first cause that stands
 abbrev pub fault_of : GraphData → ServicePlan → Option AddError
-fault_of g s =
-    first_cause (cause_if (nat_le 1024 (node_count g)) TooMany ∷
-    (endpoint_causes s.endpoints ++ cause_if (is_kind Bootstrap s.kind) Unbuilt ∷ []))
+fault_of g s = first_cause (cause_if (nat_le 1024 (node_count g)) TooMany ∷ endpoint_causes s.endpoints)
 
 -- the reason of a refusal: want of memory, or the cause that stands
 abbrev pub IsReason : Option AddError → AddError → Type 0

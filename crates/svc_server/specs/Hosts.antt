@@ -1,16 +1,17 @@
 -- What a host tells of a run, and what its calls leave of that.
-use Rattle.std.specs.Prelude.{ℕ, Bool, true, false, ◌≡◌, List, [], ◌∷◌, map, Option, Some, None, IfSome, MatchBool}
+use Rattle.std.specs.Prelude.{ℕ, Bool, true, false, ◌≡◌, ◌≤◌, List, [], ◌∷◌, length, map, Option, Some, None, IfSome, MatchBool}
 use Rattle.std.specs.Option.{option_map}
 use Rattle.svc_conf.specs.Streams.{Rose}
 use Rattle.svc_record.specs.declared.action.Action.{Action}
 use Rattle.svc_record.specs.declared.action.Action.TheVariants.{Start}
 use Rattle.svc_record.specs.declared.event.Event.{Event}
-use Rattle.svc_record.specs.declared.event.Event.TheVariants.{BindFailed, AdoptFailed}
+use Rattle.svc_record.specs.declared.event.Event.TheVariants.{BindFailed, AdoptFailed, ReceiveFailed, ConnectFailed, SendFailed, AcceptFailed}
 use Rattle.svc_record.specs.declared.entry.Entry.{Entry}
 use Rattle.svc_record.specs.declared.entry.Entry.TheVariants.{Got, Told}
 use Rattle.svc_record.specs.declared.item.Item.{Item}
 use Rattle.svc_record.specs.declared.item.Item.TheVariants as items
 use Rattle.svc_record.specs.Record.{Record}
+use Rattle.svc_record.specs.Descriptors.{numbers_of}
 use Rattle.svc_server.specs.declared.host.Next.{Next}
 use Rattle.svc_server.specs.declared.host.Next.TheVariants as nexts
 
@@ -42,11 +43,26 @@ pub record Counts : Type 0 where
   pub idles : ℕ
   pub failures : ℕ
 
--- the event tells that an ask failed
+-- the event tells that an ask, or accepting, failed
 abbrev pub tells_failure : Event → Bool
 tells_failure (BindFailed s i) = true
 tells_failure (AdoptFailed s i) = true
+tells_failure ReceiveFailed = true
+tells_failure ConnectFailed = true
+tells_failure SendFailed = true
+tells_failure (AcceptFailed s i n) = true
 tells_failure _ = false
+
+-- the event brings at most 32 descriptors
+abbrev pub BringsFew : Event → Type 0
+BringsFew e = length (numbers_of (Got e)) ≤ 32
+
+-- an answer of `next` is an event only where one came, and it brings few descriptors
+abbrev pub ComesWith : Next → Option Event → Type 0
+ComesWith nexts.Event None = ⊥
+ComesWith nexts.Event (Some e) = BringsFew e
+ComesWith nexts.Failed e = Unit {0}
+ComesWith nexts.None e = Unit {0}
 
 -- exactly the count of what was answered has risen
 abbrev pub CountsAfter : Next → Option Event → Counts → Counts → Type 0

@@ -7,3 +7,4 @@ pub mod ScriptHosts
 pub mod Servers
 pub mod Additions
 pub mod Addresses
+pub mod Making

@@ -1,6 +1,9 @@
 -- How a run went, by what it answers. `p` is the plan, `r` the record, whose newest entry stands first.
-use Rattle.std.specs.Prelude.{ℕ, true, false, ◌≡◌, ◌+◌, ◌≤◌, ◌⊎◌, List, [], ◌∷◌, ◌++◌, length, map, Option, Some, None, Result, Ok, Err}
+use Rattle.std.specs.Prelude.{ℕ, true, false, ◌≡◌, ◌+◌, ◌≤◌, ◌⊎◌, List, [], ◌∷◌, ◌++◌, length, map, Option, Some, None, IfSome, Result, Ok, Err}
 use Rattle.svc_conf.specs.Streams.{Rose}
+use Rattle.svc_record.specs.declared.action.BootstrapError.TheVariants as boots
+use Rattle.svc_record.specs.declared.action.StepEnd.{StepEnd}
+use Rattle.svc_record.specs.declared.action.StepEnd.TheVariants as ends
 use Rattle.svc_record.specs.declared.plan.Plan.{Plan}
 use Rattle.svc_record.specs.declared.plan.ServicePlan.{ServicePlan}
 use Rattle.svc_record.specs.declared.event.Event.{Event}
@@ -10,14 +13,14 @@ use Rattle.svc_record.specs.declared.item.Item.{Item}
 use Rattle.svc_record.specs.declared.item.Item.TheVariants as items
 use Rattle.svc_record.specs.Plans.{service}
 use Rattle.svc_record.specs.Record.{Record, tell}
-use Rattle.svc_record.specs.Ends.{has_ended}
+use Rattle.svc_record.specs.Ends.{step_end, has_ended}
 use Rattle.svc_record.specs.Fits.{Fits}
 use Rattle.svc_record.specs.Right.{Right, Served as ServedRecord}
 use Rattle.svc_record.specs.Tail.{with_event, closing_actions, tail_right}
 use Rattle.svc_server.specs.declared.run.Outcome.{Outcome}
-use Rattle.svc_server.specs.declared.run.Outcome.TheVariants.{Served}
+use Rattle.svc_server.specs.declared.run.Outcome.TheVariants.{Served, TestPassed, Parent}
 use Rattle.svc_server.specs.declared.run.RunError.{RunError}
-use Rattle.svc_server.specs.declared.run.RunError.TheVariants.{Config, HostFault, Stray, TurnsSpent, OutOfEvents, NoMemory}
+use Rattle.svc_server.specs.declared.run.RunError.TheVariants.{Config, HostFault, Bootstrap, Stray, TurnsSpent, OutOfEvents, NoMemory}
 use Rattle.svc_server.specs.Hosts.{Handed, Account, Counts}
 
 -- the events of a record, the oldest first
@@ -56,6 +59,21 @@ pub record IsClosed (p : Plan) (r finished : Record) (also : Option Event) : Typ
   pub closed : r ≡ tell (with_event also finished) (closing_actions p finished also)
   pub closed_once : tail_right finished also (closing_actions p finished also) ≡ true
 
+-- what stands of a run that ended otherwise than by its shutdown: a right record of finished steps in which it ended so, and then a close of each descriptor that isn't closed, so that each that came is closed once
+pub record IsEndedSo (p : Plan) (end : StepEnd) (r finished : Record) : Type 0 where
+  pub right : Right p finished
+  pub ended : end ≡ step_end p finished
+  pub closed : r ≡ tell finished (closing_actions p finished None)
+  pub closed_once : tail_right finished None (closing_actions p finished None) ≡ true
+
+-- what a run answers that has ended so, if it has ended
+abbrev pub answer_of : StepEnd → Option (Result Outcome RunError)
+answer_of ends.On = None
+answer_of ends.Served = Some (Ok Served)
+answer_of ends.Tested = Some (Ok TestPassed)
+answer_of (ends.Parent n) = Some (Ok (Parent n))
+answer_of (ends.Ended error) = Some (Err (Bootstrap error))
+
 -- as many events as there are turns were taken, and the run goes on
 pub record IsSpent (p : Plan) (turns : ℕ) (r finished : Record) : Type 0 where
   pub closed : IsClosed p r finished None
@@ -74,6 +92,9 @@ IsRefused p r = (r ≡ []) ⊎ ((finished : Record) × ((also : Option Event) ×
 -- the record of the run of a plan with so many turns, by its answer
 abbrev pub RunEnds : Plan → ℕ → Result Outcome RunError → Record → Type 0
 RunEnds p turns (Ok Served) r = IsServed p r
+RunEnds p turns (Ok TestPassed) r = (finished : Record) × IsEndedSo p ends.Tested r finished
+RunEnds p turns (Ok (Parent n)) r = (finished : Record) × IsEndedSo p (ends.Parent n) r finished
+RunEnds p turns (Err (Bootstrap error)) r = (finished : Record) × IsEndedSo p (ends.Ended error) r finished
 RunEnds p turns (Err (Config key)) r = r ≡ []
 RunEnds p turns (Err HostFault) r = (finished : Record) × IsClosed p r finished None
 RunEnds p turns (Err (Stray k)) r = (finished : Record) × ((e : Event) × IsStray p k r finished e)
@@ -87,15 +108,22 @@ pub record RunTells (p : Plan) (turns : ℕ) (answer : Result Outcome RunError) 
   pub few : length (events_of a.entries) ≤ turns
   pub handed : a.handed ≡ handed_of p a.entries
 
--- the counts of the host: faults rise in a run only where it answers so, and idles too
+-- neither faults nor idles rose
+abbrev pub IsUnfailed : Counts → Counts → Type 0
+IsUnfailed before now = (now.faults ≡ before.faults) × (now.idles ≡ before.idles)
+
+-- the counts of the host: faults rise in a run only where it answers so, and idles too; where receiving failed, the count of failures rose
 abbrev pub RunCounts : Result Outcome RunError → Counts → Counts → Type 0
+RunCounts (Ok outcome) before now = IsUnfailed before now
 RunCounts (Err HostFault) before now = Rose before.faults now.faults × (now.idles ≡ before.idles)
 RunCounts (Err OutOfEvents) before now = (now.faults ≡ before.faults) × Rose before.idles now.idles
-RunCounts (Ok Served) before now = (now.faults ≡ before.faults) × (now.idles ≡ before.idles)
-RunCounts (Err (Config key)) before now = (now.faults ≡ before.faults) × (now.idles ≡ before.idles)
-RunCounts (Err (Stray k)) before now = (now.faults ≡ before.faults) × (now.idles ≡ before.idles)
-RunCounts (Err TurnsSpent) before now = (now.faults ≡ before.faults) × (now.idles ≡ before.idles)
-RunCounts (Err NoMemory) before now = (now.faults ≡ before.faults) × (now.idles ≡ before.idles)
+RunCounts (Err (Bootstrap boots.Transfer)) before now = IsUnfailed before now × Rose before.failures now.failures
+RunCounts (Err (Bootstrap boots.NoSender)) before now = IsUnfailed before now
+RunCounts (Err (Bootstrap boots.BadMessage)) before now = IsUnfailed before now
+RunCounts (Err (Config key)) before now = IsUnfailed before now
+RunCounts (Err (Stray k)) before now = IsUnfailed before now
+RunCounts (Err TurnsSpent) before now = IsUnfailed before now
+RunCounts (Err NoMemory) before now = IsUnfailed before now
 
 -- the answer isn't that the configuration is refused
 abbrev pub IsConfigured : {T : Type 0} → Result T RunError → Type 0
@@ -116,3 +144,9 @@ LeavesNothing answer left = Unit {0}
 pub record RunTakes (answer : Result Outcome RunError) (r : Record) (before now : List Item) : Type 0 where
   pub taken : before ≡ taken_items answer r ++ now
   pub left : LeavesNothing answer now
+
+-- what a run leaves that answers so
+pub record RunLeaves (p : Plan) (turns : ℕ) (answer : Result Outcome RunError) (account : Option Account) (old now : Counts) (before ahead : Option (List Item)) : Type 0 where
+  pub tells : IfSome account (RunTells p turns answer)
+  pub counts : RunCounts answer old now
+  pub takes : IfSome account (λ a. IfSome before (λ b. IfSome ahead (RunTakes answer a.entries b)))

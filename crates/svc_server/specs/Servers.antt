@@ -12,10 +12,10 @@ use Rattle.svc_graph.specs.declared.services.ServiceWithDependents.{Ghosts}
 use Rattle.svc_record.specs.declared.plan.Plan.{Plan}
 use Rattle.svc_record.specs.declared.plan.ServicePlan.{ServicePlan}
 use Rattle.svc_server.specs.declared.run.Outcome.{Outcome}
-use Rattle.svc_server.specs.declared.run.Outcome.TheVariants.{Served}
+use Rattle.svc_server.specs.declared.run.Outcome.TheVariants.{Served, TestPassed, Parent}
 use Rattle.svc_server.specs.declared.run.RunError.{RunError}
 use Rattle.svc_record.specs.Validity.{IsAddress}
-use Rattle.svc_record.specs.Building.{IsPlainService}
+use Rattle.svc_record.specs.Building.{HasNoFilter}
 
 -- what a service answers, by the meanings of its calls; what it depends on isn't among it
 abbrev pub answer_of : {B : Type 0} → Ghosts B → B → ServicePlan
@@ -44,9 +44,9 @@ abbrev pub is_test : Option Opt → Bool
 is_test (Some opt) = opt.test
 is_test None = false
 
--- the plan of a server: its services as they answer, their dependencies from the graph, and the settings, with what stands for those that are unset
-abbrev pub plan_of : ServerConf → Option Opt → GraphData → List ServicePlan → Plan
-plan_of conf options g answers = record {
+-- the plan of a server: its services as they answer, their dependencies from the graph, whether it bootstraps before them, and the settings, with what stands for those that are unset
+abbrev pub plan_of : ServerConf → Option Opt → Bool → GraphData → List ServicePlan → Plan
+plan_of conf options eager g answers = record {
   services = with_depends g 0 answers;
   grace = unwrap_or conf.grace_period_seconds 300;
   stop = unwrap_or conf.graceful_shutdown_timeout_seconds 5;
@@ -54,7 +54,7 @@ plan_of conf options g answers = record {
   limit = unwrap_or conf.upgrade_sock_connect_accept_max_retries 5;
   upgrade = is_upgrade options;
   test = is_test options;
-  eager = false;
+  eager = eager;
   daemon = conf.daemon;
   wait = conf.daemon_wait_for_ready;
   ready_timeout = unwrap_or conf.daemon_ready_timeout_seconds 600;
@@ -64,7 +64,7 @@ plan_of conf options g answers = record {
 pub record IsSound (g : GraphData) (answers : List ServicePlan) : Type 0 where
   pub names : g.names ≡ map (λ (x : ServicePlan). x.name) answers
   pub limits : All (λ (s : ServicePlan). (length s.endpoints ≤ 64) × All IsAddress s.endpoints) answers
-  pub plain : All IsPlainService answers
+  pub unfiltered : All HasNoFilter answers
 
 -- the configuration with what the flags set in it
 abbrev pub merged : Option Opt → ServerConf → ServerConf
@@ -80,7 +80,9 @@ and_then (Err key) next = Err key
 abbrev pub runnable : ServerConf → Result (Unit {0}) Key
 runnable conf = and_then (judged conf) (if conf.daemon then Err Daemon else Ok tt)
 
--- the outcome of a run that answers such a status
-abbrev pub outcome_of : Result ℕ RunError → Result Outcome RunError
-outcome_of (Ok status) = Ok Served
-outcome_of (Err error) = Err error
+-- the status to end with after such an answer: the parent's, and else 0
+abbrev pub status_of : Result Outcome RunError → Result ℕ RunError
+status_of (Ok Served) = Ok 0
+status_of (Ok TestPassed) = Ok 0
+status_of (Ok (Parent n)) = Ok n
+status_of (Err error) = Err error

@@ -57,17 +57,17 @@ impl<B: ServiceWithDependents> Boxes<B> {
     pub(crate) fn note_event(&mut self, event: &Event)
         ensures { self.new ≡ self.old }
     {
-        if let Event::Moment(ms) = *event {
-            self.moment = ms;
+        if let Event::Moment(ms) = event {
+            self.moment = *ms;
         }
     }
 
     /// Notes when the server runs.
-    pub(crate) fn note(&mut self, action: Action)
+    pub(crate) fn note(&mut self, action: &Action)
         ensures { self.new ≡ self.old }
     {
         if let Action::Phase(ExecutionPhase::Running, ms) = action {
-            self.running = Some(ms);
+            self.running = Some(*ms);
         }
     }
 

@@ -1,6 +1,7 @@
 //! Actions are told to a host; before a start the service is handed over.
 
-ghost use Rattle.std.specs.Prelude.{◌≡◌, ◌+◌, ◌*◌, ◌≤◌, ◌∷◌, length};
+ghost use Rattle.std.specs.Prelude.{◌≡◌, ◌+◌, ◌*◌, ◌≤◌, ◌∷◌, [], length};
+ghost use Rattle.svc_conf.specs.Items.{list_of};
 ghost use Rattle.svc_record.specs.declared.plan.Plan.{Plan};
 ghost use Rattle.svc_record.specs.declared.action.Action.TheVariants.{Start};
 ghost use Rattle.svc_record.specs.declared.entry.Entry.TheVariants.{Told};
@@ -10,7 +11,7 @@ ghost use Rattle.svc_server.specs.Handing.{names_by, Hands, DueStart, DueStarts,
 use crate::boxes::Boxes;
 use crate::host::Host;
 use svc_graph::services::ServiceWithDependents;
-use svc_record::{Action, Plan};
+use svc_record::{Action, Actions, Plan};
 
 /// Hands the service over, and tells its start.
 fn start<B: ServiceWithDependents, H: Host<Service = B>>(
@@ -51,36 +52,31 @@ fn tell_one<B: ServiceWithDependents, H: Host<Service = B>>(
     ensures counts { H.counts host.new ≡ H.counts host.old }
     ensures ahead { H.ahead host.new ≡ H.ahead host.old }
 {
-    boxes.note(action);
+    boxes.note(&action);
     match action {
         Action::Start(s) => start(plan, boxes, s, host),
-        Action::Fail(_)
-        | Action::Bind(_, _)
-        | Action::Adopt(_, _, _)
-        | Action::Close(_)
-        | Action::Phase(_, _)
-        | Action::Stop(_) => {
-            host.tell(action);
-        }
+        other => host.tell(other),
     }
 }
 
-/// Tells the actions, in order; each service that starts is handed over right before its start.
+/// Tells the actions, in order, and leaves the list empty; each service that starts is handed over
+/// right before its start.
 pub(crate) fn tell_all<B: ServiceWithDependents, H: Host<Service = B>>(
     plan: &Plan,
     boxes: &mut Boxes<B>,
-    actions: &[Action],
+    actions: &mut Actions,
     host: &mut H,
 )
-    requires room { 2 * length actions.now ≤ H.spare host.old }
-    requires may { MayHandAll (names_by B.named boxes.old) (H.account host.old) actions.now }
-    ensures hands { (p : Plan) (q : Record) → Hands (names_by B.named boxes.old) (H.account host.old) p q → DueStarts p q actions.now
-        → Hands (names_by B.named boxes.new) (H.account host.new) p (tell q actions.now) }
-    ensures room { H.spare host.old ≤ H.spare host.new + 2 * length actions.now }
+    requires room { 2 * length (list_of actions.old) ≤ H.spare host.old }
+    requires may { MayHandAll (names_by B.named boxes.old) (H.account host.old) (list_of actions.old) }
+    ensures hands { (p : Plan) (q : Record) → Hands (names_by B.named boxes.old) (H.account host.old) p q → DueStarts p q (list_of actions.old)
+        → Hands (names_by B.named boxes.new) (H.account host.new) p (tell q (list_of actions.old)) }
+    ensures told { list_of actions.new ≡ [] }
+    ensures room { H.spare host.old ≤ H.spare host.new + 2 * length (list_of actions.old) }
     ensures counts { H.counts host.new ≡ H.counts host.old }
     ensures ahead { H.ahead host.new ≡ H.ahead host.old }
 {
-    for action in actions {
-        tell_one(plan, boxes, *action, host);
+    while let Some(action) = actions.pop_first() {
+        tell_one(plan, boxes, action, host);
     }
 }

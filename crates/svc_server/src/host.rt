@@ -5,7 +5,7 @@ ghost use Rattle.std.specs.Option.{option_map};
 ghost use Rattle.svc_record.specs.declared.event.Event.{Event};
 ghost use Rattle.svc_record.specs.declared.item.Item.{Item};
 ghost use Rattle.svc_record.specs.declared.entry.Entry.TheVariants.{Told};
-ghost use Rattle.svc_server.specs.Hosts.{Account, Counts, CountsAfter, AheadAfter, MayTell, account_after, item_of, with_entry, with_handed};
+ghost use Rattle.svc_server.specs.Hosts.{Account, Counts, ComesWith, CountsAfter, AheadAfter, MayTell, account_after, item_of, with_entry, with_handed};
 
 use std::alloc::Global;
 use svc_conf::NoMemory;
@@ -68,11 +68,12 @@ pub trait Host {
         ensures counts { counts self.new ≡ counts self.old }
         ensures ahead { ahead self.new ≡ ahead self.old };
 
-    /// Takes the next event, if one comes. It needs room for one, and uses it.
+    /// Takes the next event, if one comes. It needs room for one, and uses it. An event brings at
+    /// most 32 descriptors.
     fn next(&mut self) -> Next
         requires room { 0 < spare self.old }
         ensures room { spare self.old ≤ spare self.new + 1 }
-        ensures event { result ≡ Next.Event → IsSome (last self.new) }
+        ensures event { ComesWith result (last self.new) }
         ensures account { account self.new ≡ account_after result (last self.new) (account self.old) }
         ensures counts { CountsAfter result (last self.new) (counts self.old) (counts self.new) }
         ensures ahead { AheadAfter (item_of result (last self.new)) (ahead self.old) (ahead self.new) };

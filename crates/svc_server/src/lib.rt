@@ -12,4 +12,4 @@ mod turns;
 pub use host::{Host, Next};
 pub use run::{Outcome, RunArgs, RunError};
 pub use script_host::ScriptHost;
-pub use server::{AddAllRefused, AddError, AddRefused, ReadError, Server};
+pub use server::{AddAllRefused, AddError, AddRefused, Server};

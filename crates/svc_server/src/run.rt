@@ -1,6 +1,7 @@
 //! What a run takes and answers.
 
 use svc_conf::Key;
+use svc_record::BootstrapError;
 use thiserror::Error;
 
 /// How a run went well.
@@ -8,10 +9,15 @@ use thiserror::Error;
 pub enum Outcome {
     /// It went through its shutdown.
     Served,
+    /// It tested that it can start.
+    TestPassed,
+    /// This process is the parent of the server's, and ends with this status.
+    Parent(u8),
 }
 
 /// Why a run ended before its shutdown was through. After each of these, want of memory among them,
-/// every descriptor that an event brought was told to be closed.
+/// every descriptor that an event brought was told to be closed; so it was where the run tested that
+/// it can start, or this process is the parent.
 #[derive(Clone, Copy, PartialEq, Eq, Debug, Error)]
 pub enum RunError {
     /// The configuration is refused for this key; nothing was told.
@@ -20,6 +26,9 @@ pub enum RunError {
     /// The host failed.
     #[error("the host failed")]
     HostFault,
+    /// The server couldn't take over an older one's sockets.
+    #[error("the handover failed: {}", handover_fault(*.0))]
+    Bootstrap(BootstrapError),
     /// The event with this number, from 1, didn't fit.
     #[error("event {0} doesn't fit")]
     Stray(u64),
@@ -31,6 +40,15 @@ pub enum RunError {
     OutOfEvents,
     #[error("out of memory")]
     NoMemory,
+}
+
+/// What the error says.
+fn handover_fault(error: BootstrapError) -> &'static str {
+    match error {
+        BootstrapError::Transfer => "receiving failed",
+        BootstrapError::NoSender => "no older server was there",
+        BootstrapError::BadMessage => "what came is no message",
+    }
 }
 
 impl From<svc_conf::NoMemory> for RunError {

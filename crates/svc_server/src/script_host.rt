@@ -1,63 +1,71 @@
 //! A host that is made from a list of what it gives.
 
-ghost use Rattle.std.specs.Prelude.{◌≡◌, ◌+◌, ◌<◌, ◌≤◌, ◌++◌, ℕ, List, [], map, reverse, Some, None, IsSome, IfSome, MatchBool, OnOk, slice_get};
+ghost use Rattle.std.specs.Prelude.{◌≡◌, ◌+◌, ◌<◌, ◌≤◌, ◌++◌, ◌∷◌, ℕ, List, [], length, map, reverse, All, Some, None, IsSome, IfSome, MatchBool, OnOk};
 ghost use Rattle.svc_conf.specs.Items.{list_of, spare};
 ghost use Rattle.svc_conf.specs.Streams.{Rose};
 ghost use Rattle.svc_server.specs.Hosts.{no_account, tells_failure};
-ghost use Rattle.svc_server.specs.ScriptHosts.{FollowsScript, action_phase, phases_of, counts_with, handed_with};
+ghost use Rattle.svc_server.specs.ScriptHosts.{FollowsScript, GivesFew, action_phase, phases_of, counts_with, handed_with, last_event};
 
 use crate::host::{Host, Next};
 use std::alloc::Global;
 use std::marker::Model;
+use std::vec;
 use svc_conf::{NoMemory, Reserved};
 use svc_graph::services::ServiceWithDependents;
 use svc_record::{Action, Entries, Entry, Event, ExecutionPhase, Item};
 
 /// A host that gives the items of a list, one after the other. It keeps what it gave and was told,
-/// and the services that it was handed, to its end. `reserve` makes so much room in each of its lists.
+/// and the services that it was handed, to its end: an item is moved into its record. `reserve` makes
+/// so much room in each of its lists.
 ///
 /// Contracts see the items that it gave and those that are left, its record, the services, its counts,
 /// its room and the last event.
 #[derive(Drop)]
 pub struct ScriptHost<B> {
-    script: Vec<Item>,
-    /// How many items were given.
-    given: usize,
+    /// The items that are left.
+    script: vec::IntoIter<Item>,
+    /// What `next` answered so far.
+    answers: Reserved<Next>,
     entries: Entries,
     handed: Reserved<(u32, B)>,
     phases: Reserved<ExecutionPhase>,
-    last: Option<Event>,
+    /// Where the last event that came stands among the entries.
+    last: Option<usize>,
     faults: u64,
     idles: u64,
     failures: u64,
 }
 
 impl<B> Model for ScriptHost<B> {
-    ghost use Rattle.std.specs.Prelude.{take, drop, reverse, min};
+    ghost use Rattle.std.specs.Prelude.{reverse, min};
+    ghost use Rattle.std.specs.Vec.Iter.{into_iter_items, into_iter_len};
     ghost use Rattle.svc_conf.specs.Items.{list_of, spare};
     ghost use Rattle.svc_server.specs.ScriptHostData.{ScriptHostData};
-    ghost use Rattle.svc_server.specs.ScriptHosts.{KeepsScript};
+    ghost use Rattle.svc_server.specs.ScriptHosts.{KeepsScript, items_given, last_event};
+    ghost use Rattle.svc_server.specs.Runs.{events_of};
 
     ghost Value = { ScriptHostData B };
 
     ghost view = { λ a. record {
-      taken = take a.given a.script.items;
-      left = drop a.given a.script.items;
+      taken = items_given (list_of a.answers) (events_of (reverse (list_of a.entries)));
+      left = into_iter_items a.script;
       entries = reverse (list_of a.entries);
       handed = reverse (list_of a.handed);
       faults = a.faults;
       idles = a.idles;
       failures = a.failures;
-      spare = min (spare a.entries) (min (spare a.handed) (spare a.phases));
-      last = a.last;
+      spare = min (min (spare a.answers) (spare a.entries)) (min (spare a.handed) (spare a.phases));
+      last = last_event (list_of a.entries) a.last;
     } };
 
-    ghost invariant = { λ a. KeepsScript a.script.items a.given (reverse (list_of a.entries)) (list_of a.phases) a.faults a.idles };
+    ghost invariant = { λ a. KeepsScript (list_of a.answers) (into_iter_items a.script) (into_iter_len a.script) (reverse (list_of a.entries)) (list_of a.phases) a.faults a.idles };
 }
 
 impl<B: ServiceWithDependents> ScriptHost<B> {
-    /// A host that gives these items, in order. It makes no memory of its own.
+    /// A host that gives these items, in order, of which none brings more than 32 descriptors. It
+    /// makes no memory of its own.
     pub fn new(alloc: Global, items: Vec<Item>) -> Self
+        requires { All GivesFew items.items }
         ensures taken { result.taken ≡ [] }
         ensures ahead { ⟦<ScriptHost<B> as Host>⟧.ahead result ≡ Some items.items }
         ensures account { ⟦<ScriptHost<B> as Host>⟧.account result ≡ Some no_account }
@@ -65,8 +73,8 @@ impl<B: ServiceWithDependents> ScriptHost<B> {
         ensures last { ⟦<ScriptHost<B> as Host>⟧.last result ≡ None }
     {
         ScriptHost {
-            script: items,
-            given: 0,
+            script: items.into_iter(),
+            answers: Reserved::new(alloc),
             entries: Reserved::new(alloc),
             handed: Reserved::new(alloc),
             phases: Reserved::new(alloc),
@@ -93,21 +101,34 @@ impl<B: ServiceWithDependents> ScriptHost<B> {
     }
 }
 
-/// The item with this index, if there is one.
-fn item_at(script: &[Item], index: usize) -> Option<Item>
-    ensures { result ≡ slice_get script.now index }
+/// The event at this place of the entries.
+fn event_at(entries: &[Entry], place: Option<usize>) -> &Event
+    requires { IsSome (last_event entries.now place) }
+    ensures { last_event entries.now place ≡ Some result.now }
 {
-    script.get(index).copied()
+    let Some(i) = place else { unreachable!() };
+    match entries.get(i) {
+        Some(Entry::Got(event)) => event,
+        _ => unreachable!(),
+    }
+}
+
+/// One more fault, of which there are no more than answers.
+fn one_more(faults: u64, answers: &[Next]) -> u64
+    requires { faults ≤ length answers.now }
+    ensures { result ≡ faults + 1 }
+{
+    faults + 1
 }
 
 /// Appends the phase that the action publishes, if it publishes one.
-fn put_phase(phases: &mut Reserved<ExecutionPhase>, action: Action)
+fn put_phase(phases: &mut Reserved<ExecutionPhase>, action: &Action)
     requires { 0 < spare phases.old }
-    ensures phases { list_of phases.new ≡ list_of phases.old ++ action_phase action }
+    ensures phases { list_of phases.new ≡ list_of phases.old ++ action_phase action.now }
     ensures room { spare phases.old ≤ spare phases.new + 1 }
 {
     if let Action::Phase(phase, _) = action {
-        phases.put(phase);
+        phases.put(*phase);
     }
 }
 
@@ -115,8 +136,13 @@ fn put_phase(phases: &mut Reserved<ExecutionPhase>, action: Action)
 fn failures_with(failures: u64, event: &Event) -> u64
     ensures { MatchBool (tells_failure event.now) (Rose failures result) (result ≡ failures) }
 {
-    match *event {
-        Event::BindFailed(..) | Event::AdoptFailed(..) => failures.saturating_add(1),
+    match event {
+        Event::BindFailed(..)
+        | Event::AdoptFailed(..)
+        | Event::ReceiveFailed
+        | Event::ConnectFailed
+        | Event::SendFailed
+        | Event::AcceptFailed(..) => failures.saturating_add(1),
         _ => failures,
     }
 }
@@ -148,23 +174,24 @@ impl<B: ServiceWithDependents> Host for ScriptHost<B> {
     }
 
     fn reserve(&mut self, alloc: Global, n: u64) -> Result<(), NoMemory> {
+        self.answers.reserve(alloc, n)?;
         self.entries.reserve(alloc, n)?;
         self.handed.reserve(alloc, n)?;
         self.phases.reserve(alloc, n)
     }
 
     fn next(&mut self) -> Next {
-        match item_at(self.script.as_slice(), self.given) {
+        match self.script.next() {
             Some(Item::Event(event)) => {
-                self.given += 1;
                 self.failures = failures_with(self.failures, &event);
+                self.last = Some(self.entries.as_slice().len());
                 self.entries.put(Entry::Got(event));
-                self.last = Some(event);
+                self.answers.put(Next::Event);
                 Next::Event
             }
             Some(Item::Fault) => {
-                self.given += 1;
-                self.faults += 1;
+                self.faults = one_more(self.faults, self.answers.as_slice());
+                self.answers.put(Next::Failed);
                 Next::Failed
             }
             None => {
@@ -175,10 +202,7 @@ impl<B: ServiceWithDependents> Host for ScriptHost<B> {
     }
 
     fn event(&self) -> &Event {
-        match &self.last {
-            Some(event) => event,
-            None => unreachable!(),
-        }
+        event_at(self.entries.as_slice(), self.last)
     }
 
     fn hand(&mut self, s: u32, service: B) {
@@ -186,7 +210,7 @@ impl<B: ServiceWithDependents> Host for ScriptHost<B> {
     }
 
     fn tell(&mut self, action: Action) {
-        put_phase(&mut self.phases, action);
+        put_phase(&mut self.phases, &action);
         self.entries.put(Entry::Told(action));
     }
 }

@@ -3,6 +3,7 @@
 mod adding;
 mod addresses;
 mod lists;
+mod making;
 mod planning;
 mod refusals;
 
@@ -11,14 +12,14 @@ use crate::run::{Outcome, RunArgs, RunError};
 use crate::server::adding::fault_of;
 use crate::server::addresses::expected_addresses;
 use crate::server::lists::turn_round;
-use crate::server::planning::{is_test, is_upgrade, runnable, service_plans};
+use crate::server::planning::{is_test, is_upgrade, runnable, service_plans, status_of};
 use crate::turns::run_plan;
-pub use refusals::{AddAllRefused, AddError, AddRefused, ReadError};
+pub use refusals::{AddAllRefused, AddError, AddRefused};
 use std::alloc::Global;
-use svc_conf::{NoMemory, Opt, ServerConf, Text};
+use svc_conf::{NoMemory, Opt, ReadError, ServerConf, Text};
 use svc_core::PhaseReader;
 use svc_graph::services::ServiceWithDependents;
-use svc_graph::{DependencyGraph, ServiceHandle};
+use svc_graph::{DependencyGraph, Kind, ServiceHandle};
 use svc_record::Plan;
 
 /// A server whose services have the type `B`, which is `Box<dyn ServiceWithDependents>` for most.
@@ -31,18 +32,22 @@ pub struct Server<B> {
     /// Which service depends on which. Its nodes are the services, by number and name.
     pub dependencies: DependencyGraph,
     services: Vec<B>,
+    /// Whether the server bootstraps before its services start.
+    eager: bool,
 }
 
 impl<B: ServiceWithDependents> Server<B> {
-    ghost use Rattle.std.specs.Prelude.{◌≡◌, ◌<◌, Ok, Err, None, false, [], ◌∷◌, ◌++◌, IfOk, IfSome, ◌↔◌, IfErr, OnOk, OnErr, drop, vec_len, vec_capacity};
+    ghost use Rattle.std.specs.Prelude.{◌≡◌, ◌<◌, Ok, Err, None, false, true, [], ◌∷◌, ◌++◌, Result, IfOk, IfSome, ◌↔◌, IfErr, OnOk, OnErr, drop, vec_len, vec_capacity};
     ghost use Rattle.svc_conf.specs.Configuration.{judged};
     ghost use Rattle.svc_record.specs.Validity.{IsValid, IsBuilt};
     ghost use Rattle.svc_record.specs.Right.{Served as ServedRecord};
     ghost use Rattle.svc_server.specs.Hosts.{no_account};
-    ghost use Rattle.svc_server.specs.Runs.{RunTells, RunCounts, RunTakes};
+    ghost use Rattle.svc_server.specs.declared.run.Outcome.{Outcome};
+    ghost use Rattle.svc_server.specs.declared.run.RunError.{RunError};
+    ghost use Rattle.svc_server.specs.Runs.{RunTells, RunCounts, RunTakes, RunLeaves};
     ghost use Rattle.svc_graph.specs.Graphs.{node_count, with_node};
     ghost use Rattle.svc_server.specs.Additions.{fault_of, IsReason, AddsFirst, RefusesAt};
-    ghost use Rattle.svc_server.specs.Servers.{answer_of, answers_of, plan_of, merged, runnable, outcome_of, IsSound};
+    ghost use Rattle.svc_server.specs.Servers.{answer_of, answers_of, plan_of, merged, runnable, status_of, IsSound};
     ghost use Rattle.svc_server.specs.Addresses.{expected_of};
     ghost use Rattle.std.specs.Option.{option_map};
 
@@ -59,6 +64,7 @@ impl<B: ServiceWithDependents> Server<B> {
         ensures nodes { IfOk result
             (λ server. server.dependencies ≡ record { names = []; depends = [] }) }
         ensures services { IfOk result (λ server. server.services.items ≡ []) }
+        ensures eager { IfOk result (λ server. server.eager ≡ false) }
         ensures accepted { OnOk result (judged (merged opt conf) ≡ Ok tt) }
         ensures refused { IfErr result
             (λ error. (key : _) × (error ≡ ReadError.Invalid key) × (judged (merged opt conf) ≡ Err key)) }
@@ -76,6 +82,7 @@ impl<B: ServiceWithDependents> Server<B> {
             options: opt,
             dependencies: DependencyGraph::new(alloc),
             services: Vec::new(alloc),
+            eager: false,
         })
     }
 
@@ -83,6 +90,7 @@ impl<B: ServiceWithDependents> Server<B> {
     fn prepare(&mut self, alloc: Global, service: &B) -> Result<ServiceHandle, AddError>
         ensures configuration { self.new.configuration ≡ self.old.configuration }
         ensures options { self.new.options ≡ self.old.options }
+        ensures eager { self.new.eager ≡ self.old.eager }
         ensures services { self.new.services.items ≡ self.old.services.items }
         ensures room { OnOk result (vec_len self.new.services < vec_capacity self.new.services) }
         ensures handle { IfOk result (λ handle. handle
@@ -113,6 +121,7 @@ impl<B: ServiceWithDependents> Server<B> {
     pub fn add_service(&mut self, alloc: Global, service: B) -> Result<ServiceHandle, AddRefused<B>>
         ensures configuration { self.new.configuration ≡ self.old.configuration }
         ensures options { self.new.options ≡ self.old.options }
+        ensures eager { self.new.eager ≡ self.old.eager }
 
         // It is taken exactly where no cause stands, want of memory aside.
         ensures handle { IfOk result (λ handle. handle
@@ -152,6 +161,42 @@ impl<B: ServiceWithDependents> Server<B> {
     ) -> Result<ServiceHandle, AddRefused<B>>
         ensures configuration { self.new.configuration ≡ self.old.configuration }
         ensures options { self.new.options ≡ self.old.options }
+        ensures eager { self.new.eager ≡ self.old.eager }
+
+        // It is taken exactly where no cause stands, want of memory aside.
+        ensures handle { IfOk result (λ handle. handle
+            ≡ record { id = node_count self.old.dependencies; name = B.named service }) }
+        ensures added { OnOk result (self.new.services.items ≡ self.old.services.items ++ service ∷ []) }
+        ensures node { OnOk result (self.new.dependencies
+            ≡ with_node self.old.dependencies (B.named service)) }
+        ensures good { OnOk result (fault_of self.old.dependencies
+            (answer_of B.ServiceWithDependents service) ≡ None) }
+
+        // Else the cause is told, and nothing changes.
+        ensures cause { IfErr result (λ refused. IsReason (fault_of self.old.dependencies
+            (answer_of B.ServiceWithDependents service)) refused.reason) }
+        ensures back { IfErr result (λ refused. refused.service ≡ service) }
+        ensures same_services { OnErr result (self.new.services.items ≡ self.old.services.items) }
+        ensures same_nodes { OnErr result (self.new.dependencies ≡ self.old.dependencies) }
+
+        ensures sound { IsSound self.old.dependencies
+            (answers_of B.ServiceWithDependents self.old.services.items)
+            → IsSound self.new.dependencies
+            (answers_of B.ServiceWithDependents self.new.services.items) }
+    {
+        self.add_service(alloc, service)
+    }
+
+    /// Adds the service in which the server bootstraps, as `add_service` does.
+    pub fn bootstrap_as_a_service(
+        &mut self,
+        alloc: Global,
+        service: B,
+    ) -> Result<ServiceHandle, AddRefused<B>>
+        requires kind { B.of_kind service ≡ Kind.Bootstrap }
+        ensures configuration { self.new.configuration ≡ self.old.configuration }
+        ensures options { self.new.options ≡ self.old.options }
+        ensures eager { self.new.eager ≡ self.old.eager }
 
         // It is taken exactly where no cause stands, want of memory aside.
         ensures handle { IfOk result (λ handle. handle
@@ -186,6 +231,7 @@ impl<B: ServiceWithDependents> Server<B> {
     ) -> Result<Vec<ServiceHandle>, AddAllRefused<B>>
         ensures configuration { self.new.configuration ≡ self.old.configuration }
         ensures options { self.new.options ≡ self.old.options }
+        ensures eager { self.new.eager ≡ self.old.eager }
         ensures all { IfOk result (λ handles. AddsFirst B.ServiceWithDependents
             self.old.dependencies self.new.dependencies self.old.services.items
             self.new.services.items services.items (vec_len services) handles.items) }
@@ -232,6 +278,13 @@ impl<B: ServiceWithDependents> Server<B> {
         Ok(handles)
     }
 
+    /// Lets the server bootstrap before its services start. A second call changes nothing.
+    pub fn bootstrap(&mut self)
+        ensures { self.new ≡ record self.old { eager = true } }
+    {
+        self.eager = true;
+    }
+
     /// All addresses that the services declare, each once, in the order in which they first come;
     /// None where one of the services declares None.
     pub fn expected_addresses(&self, alloc: Global) -> Result<Option<Vec<Text>>, NoMemory>
@@ -250,13 +303,14 @@ impl<B: ServiceWithDependents> Server<B> {
 
     /// What the server is run by: its services as they answer, their dependencies, and the settings,
     /// with 300 seconds of grace, 5 seconds to stop, 5 retries and 600 seconds of waiting for a
-    /// daemon where they are unset. It is valid where the configuration is, and has only forms that
-    /// are built where no daemon is asked for.
+    /// daemon where they are unset. It bootstraps before the services where `bootstrap` was called. It
+    /// is valid where the configuration is, and has only forms that are built where no daemon is asked
+    /// for.
     pub fn plan(&self, alloc: Global) -> Result<Plan, NoMemory>
         requires sound { IsSound self.now.dependencies
             (answers_of B.ServiceWithDependents self.now.services.items) }
         ensures plan { IfOk result (λ plan. plan
-            ≡ plan_of self.now.configuration self.now.options self.now.dependencies
+            ≡ plan_of self.now.configuration self.now.options self.now.eager self.now.dependencies
             (answers_of B.ServiceWithDependents self.now.services.items)) }
         ensures valid { judged self.now.configuration ≡ Ok tt → IfOk result IsValid }
         ensures built { self.now.configuration.daemon ≡ false → IfOk result IsBuilt }
@@ -271,15 +325,15 @@ impl<B: ServiceWithDependents> Server<B> {
             limit: conf.upgrade_sock_connect_accept_max_retries.unwrap_or(5),
             upgrade: is_upgrade(&self.options),
             test: is_test(&self.options),
-            eager: false,
+            eager: self.eager,
             daemon: conf.daemon,
             wait: conf.daemon_wait_for_ready,
             ready_timeout: conf.daemon_ready_timeout_seconds.unwrap_or(600),
         })
     }
 
-    /// Runs the server over a host until its shutdown is through, with at most so many events as there
-    /// are turns. `Config` with the offending key where no server can be run with the configuration,
+    /// Runs the server over a host until its shutdown is through, or until it has tested that it can
+    /// start, or this process is the parent, with at most so many events as there are turns. `Config` with the offending key where no server can be run with the configuration,
     /// and with `daemon` where it asks for a daemon, which isn't built yet; the other errors are those
     /// of the run. Each service is handed to the host right before its start.
     pub fn run<H: Host<Service = B>>(
@@ -294,12 +348,12 @@ impl<B: ServiceWithDependents> Server<B> {
 
         // The headline: where the host tells its account, its record is a served one of the plan.
         ensures served { result ≡ Ok Outcome.Served → IfSome (H.account host.new) (λ a.
-            ServedRecord (plan_of self.configuration self.options self.dependencies
+            ServedRecord (plan_of self.configuration self.options self.eager self.dependencies
             (answers_of B.ServiceWithDependents self.services.items)) a.entries) }
 
         // The record, and what was handed over, by each answer.
         ensures tells { IfSome (H.account host.new) (RunTells (plan_of self.configuration
-            self.options self.dependencies
+            self.options self.eager self.dependencies
             (answers_of B.ServiceWithDependents self.services.items)) args.turns result) }
         ensures counts { RunCounts result (H.counts host.old) (H.counts host.new) }
         ensures takes { IfSome (H.account host.new) (λ a. IfSome (H.ahead host.old) (λ before.
@@ -316,12 +370,13 @@ impl<B: ServiceWithDependents> Server<B> {
             options: _,
             dependencies: _,
             services,
+            eager: _,
         } = self;
         run_plan(alloc, plan, services, args.turns, host)
     }
 
-    /// Runs as `run` does with the turns of `RunArgs::default`, and answers the status to end with: 0
-    /// where it served.
+    /// Runs as `run` does with the turns of `RunArgs::default`, and answers the status to end with: the
+    /// parent's where this process is the parent, and else 0.
     pub fn run_forever<H: Host<Service = B>>(
         self,
         alloc: Global,
@@ -330,23 +385,17 @@ impl<B: ServiceWithDependents> Server<B> {
         requires sound { IsSound self.dependencies
             (answers_of B.ServiceWithDependents self.services.items) }
         requires first { IfSome (H.account host.old) (λ a. a ≡ no_account) }
-        ensures status { IfOk result (λ status. status ≡ 0) }
-        ensures served { OnOk result (IfSome (H.account host.new) (λ a.
-            ServedRecord (plan_of self.configuration self.options self.dependencies
-            (answers_of B.ServiceWithDependents self.services.items)) a.entries)) }
-        ensures tells { IfSome (H.account host.new) (RunTells (plan_of self.configuration
-            self.options self.dependencies
-            (answers_of B.ServiceWithDependents self.services.items)) 1000000 (outcome_of result)) }
-        ensures counts { RunCounts (outcome_of result) (H.counts host.old) (H.counts host.new) }
-        ensures takes { IfSome (H.account host.new) (λ a. IfSome (H.ahead host.old) (λ before.
-            IfSome (H.ahead host.new) (RunTakes (outcome_of result) a.entries before))) }
+
+        // The run answered something with this status, and left what such a run leaves.
+        ensures leaves { (answer : Result Outcome RunError) × ((result ≡ status_of answer)
+            × RunLeaves (plan_of self.configuration self.options self.eager self.dependencies
+            (answers_of B.ServiceWithDependents self.services.items)) 1000000 answer
+            (H.account host.new) (H.counts host.old) (H.counts host.new) (H.ahead host.old) (H.ahead host.new)) }
         ensures config { (key : _) → (result ≡ Err (RunError.Config key))
             ↔ (runnable self.configuration ≡ Err key) }
     {
-        match self.run(alloc, RunArgs::default(), host) {
-            Ok(Outcome::Served) => Ok(0),
-            Err(error) => Err(error),
-        }
+        let answer = self.run(alloc, RunArgs::default(), host);
+        status_of(answer)
     }
 }
 

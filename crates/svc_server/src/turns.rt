@@ -1,21 +1,19 @@
 //! The run of a plan over a host, turn by turn.
 
 ghost use Rattle.std.specs.Prelude.{◌≡◌, ◌+◌, ◌*◌, ◌<◌, ◌≤◌, ℕ, [], ◌∷◌, List, Option, Some, None, map, Ok, Err, IfSome, IfOk, OnOk, OnErr, IsSome};
-ghost use Rattle.std.specs.Option.{option_copied};
 ghost use Rattle.svc_conf.specs.Items.{list_of, spare};
-ghost use Rattle.svc_record.specs.declared.action.StepEnd.TheVariants as ends;
 ghost use Rattle.svc_record.specs.declared.entry.Entry.TheVariants.{Got};
 ghost use Rattle.svc_record.specs.declared.item.Item.{Item};
-ghost use Rattle.svc_record.specs.Record.{Record, tell};
+ghost use Rattle.svc_record.specs.Record.{Record};
 ghost use Rattle.svc_record.specs.Right.{Right};
-ghost use Rattle.svc_record.specs.Tail.{with_event, closing_actions};
 ghost use Rattle.svc_record.specs.Validity.{IsValid, IsBuilt};
+ghost use Rattle.svc_core.specs.CoreData.{is_served};
 ghost use Rattle.svc_core.specs.Rooms.{tell_room, close_room};
 ghost use Rattle.svc_core.specs.Stands.{StandsFor, HasNotBegun, MayCome};
-ghost use Rattle.svc_server.specs.Hosts.{no_account};
+ghost use Rattle.svc_server.specs.Hosts.{ComesWith, no_account};
 ghost use Rattle.svc_server.specs.Handing.{names_by, Hands};
-ghost use Rattle.svc_server.specs.Turns.{IsAt, IsAtEvent, IsSomewhere, IsSomewhereAtEvent, IsAhead, HasRoom, CanClose, CanTake, Leaves, RunGives, TurnGives, TurnCounts};
-ghost use Rattle.svc_server.specs.Runs.{RunTells, RunCounts, RunTakes, IsConfigured, names_of};
+ghost use Rattle.svc_server.specs.Turns.{IsAt, IsSomewhere, IsSomewhereAtEvent, IsAhead, HasRoom, CanClose, ClosesTo, CanTake, Leaves, RunGives, TurnGives, TurnCounts, EventGives, FailsBy, AnswersEvent};
+ghost use Rattle.svc_server.specs.Runs.{RunTells, RunCounts, RunTakes, IsConfigured, answer_of, names_of};
 
 use crate::boxes::Boxes;
 use crate::handing::tell_all;
@@ -25,7 +23,7 @@ use std::alloc::Global;
 use svc_conf::NoMemory;
 use svc_core::Core;
 use svc_graph::services::ServiceWithDependents;
-use svc_record::{Actions, Event, Plan, StepEnd};
+use svc_record::{Actions, Plan, StepEnd};
 
 /// A run on its way: the core, the services that aren't handed over yet, and an empty list that has
 /// room for the closes of all.
@@ -55,25 +53,31 @@ impl<B: ServiceWithDependents> Machine<B> {
         })
     }
 
-    /// Closes all, with what the event brought that was left unfinished.
-    fn close<H: Host<Service = B>>(&mut self, also: Option<&Event>, host: &mut H)
+    /// Closes all.
+    fn close<H: Host<Service = B>>(&mut self, host: &mut H)
         requires room { HasRoom self.old.core self.old.closing (H.spare host.old) }
-        requires can { CanClose self.old.core (names_by B.named self.old.boxes) (H.account host.old) (option_copied also) }
-        ensures closed { (q : Record) → StandsFor self.old.core q
-            → Hands (names_by B.named self.old.boxes) (H.account host.old) self.old.core.plan (with_event (option_copied also.entry) q)
-            → Hands (names_by B.named self.new.boxes) (H.account host.new) self.old.core.plan
-            (tell (with_event (option_copied also.entry) q) (closing_actions self.old.core.plan q (option_copied also.entry))) }
+        requires can { CanClose self.old.core (names_by B.named self.old.boxes) (H.account host.old) None }
+        ensures closed { ClosesTo self.old.core (names_by B.named self.old.boxes) (names_by B.named self.new.boxes) (H.account host.old) (H.account host.new) None }
         ensures core { self.new.core ≡ self.old.core }
         ensures counts { H.counts host.new ≡ H.counts host.old }
         ensures ahead { H.ahead host.new ≡ H.ahead host.old }
     {
-        self.core.close_all(also, &mut self.closing);
-        tell_all(
-            self.core.plan(),
-            &mut self.boxes,
-            self.closing.as_slice(),
-            host,
-        );
+        self.core.close_all(None, &mut self.closing);
+        tell_all(self.core.plan(), &mut self.boxes, &mut self.closing, host);
+    }
+
+    /// Closes all, with what the host's last event brought, which is left unfinished.
+    fn close_with_event<H: Host<Service = B>>(&mut self, host: &mut H)
+        requires room { HasRoom self.old.core self.old.closing (H.spare host.old) }
+        requires few { ComesWith Next.Event (H.last host.old) }
+        requires can { CanClose self.old.core (names_by B.named self.old.boxes) (H.account host.old) (H.last host.old) }
+        ensures closed { ClosesTo self.old.core (names_by B.named self.old.boxes) (names_by B.named self.new.boxes) (H.account host.old) (H.account host.new) (H.last host.old) }
+        ensures core { self.new.core ≡ self.old.core }
+        ensures counts { H.counts host.new ≡ H.counts host.old }
+        ensures ahead { H.ahead host.new ≡ H.ahead host.old }
+    {
+        self.core.close_all(Some(host.event()), &mut self.closing);
+        tell_all(self.core.plan(), &mut self.boxes, &mut self.closing, host);
     }
 
     /// Takes the memory of the next step, and of the closes after it.
@@ -118,24 +122,24 @@ impl<B: ServiceWithDependents> Machine<B> {
         host.reserve(alloc, room)?;
         let mut actions = Actions::new(alloc);
         let end = self.core.begin(alloc, &mut actions)?;
-        tell_all(self.core.plan(), &mut self.boxes, actions.as_slice(), host);
+        tell_all(self.core.plan(), &mut self.boxes, &mut actions, host);
         Ok(end)
     }
 
-    /// The step of an event that fits, with its actions told. After `NoMemory` nothing has changed.
+    /// The step of the host's last event, which fits, with its actions told. After `NoMemory` nothing
+    /// has changed.
     fn take<H: Host<Service = B>>(
         &mut self,
         alloc: Global,
-        event: &Event,
         host: &mut H,
     ) -> Result<StepEnd, NoMemory>
-        requires fits { MayCome self.old.core event.now }
+        requires fits { IfSome (H.last host.old) (MayCome self.old.core) }
         requires room { 2 * tell_room self.old.core ≤ H.spare host.old }
-        requires can { CanTake self.old.core (names_by B.named self.old.boxes) (H.account host.old) event.now }
+        requires can { CanTake self.old.core (names_by B.named self.old.boxes) (H.account host.old) (H.last host.old) }
         ensures plan { IfOk result (λ _. self.new.core.plan ≡ self.old.core.plan) }
-        ensures leaves { IfOk result (λ end. (q : Record) → StandsFor self.old.core q → Right self.old.core.plan q
-            → Hands (names_by B.named self.old.boxes) (H.account host.old) self.old.core.plan (Got event.now ∷ q)
-            → Leaves self.new.core (names_by B.named self.new.boxes) (H.account host.new) end (Got event.now ∷ q)) }
+        ensures leaves { IfOk result (λ end. IfSome (H.last host.old) (λ e. (q : Record) → StandsFor self.old.core q → Right self.old.core.plan q
+            → Hands (names_by B.named self.old.boxes) (H.account host.old) self.old.core.plan (Got e ∷ q)
+            → Leaves self.new.core (names_by B.named self.new.boxes) (H.account host.new) end (Got e ∷ q))) }
         ensures room { OnOk result (2 * close_room self.new.core ≤ H.spare host.new) }
         ensures few { OnOk result (close_room self.new.core ≤ tell_room self.old.core) }
         ensures refused { OnErr result (self.new ≡ self.old) }
@@ -145,9 +149,9 @@ impl<B: ServiceWithDependents> Machine<B> {
         ensures ahead { H.ahead host.new ≡ H.ahead host.old }
     {
         let mut actions = Actions::new(alloc);
-        let end = self.core.step(alloc, event, true, &mut actions)?;
-        self.boxes.note_event(event);
-        tell_all(self.core.plan(), &mut self.boxes, actions.as_slice(), host);
+        let end = self.core.step(alloc, host.event(), true, &mut actions)?;
+        self.boxes.note_event(host.event());
+        tell_all(self.core.plan(), &mut self.boxes, &mut actions, host);
         Ok(end)
     }
 
@@ -156,31 +160,29 @@ impl<B: ServiceWithDependents> Machine<B> {
         &mut self,
         alloc: Global,
         k: u64,
-        event: &Event,
         host: &mut H,
     ) -> Result<StepEnd, RunError>
         requires small { k < u64.MAX }
         requires room { HasRoom self.old.core self.old.closing (H.spare host.old) }
         requires list { tell_room self.old.core ≤ spare self.old.closing }
         requires told { 2 * tell_room self.old.core ≤ H.spare host.old }
-        requires at { IsSomewhereAtEvent self.old.core (names_by B.named self.old.boxes) (H.account host.old) k event.now }
-        ensures gives { (turns : ℕ) (before : Option (List Item)) (q : Record) → k < turns
-            → IsAtEvent self.old.core (names_by B.named self.old.boxes) (H.account host.old) k event.now q
-            → IsAhead before (H.ahead host.old) (Got event.now ∷ q)
-            → TurnGives self.new.core (names_by B.named self.new.boxes) (H.account host.new) k turns result before (H.ahead host.new) }
+        requires at { IsSomewhereAtEvent self.old.core (names_by B.named self.old.boxes) (H.account host.old) k (H.last host.old) }
+        ensures gives { IfSome (H.last host.old) (EventGives self.old.core self.new.core (names_by B.named self.old.boxes) (names_by B.named self.new.boxes)
+            (H.account host.old) (H.account host.new) k result (H.ahead host.old) (H.ahead host.new)) }
         ensures room { OnOk result (HasRoom self.new.core self.new.closing (H.spare host.new)) }
         ensures plan { self.new.core.plan ≡ self.old.core.plan }
-        ensures counts { TurnCounts result (H.counts host.old) (H.counts host.new) }
-        ensures configured { IsConfigured result }
+        ensures failed { IfSome (H.last host.old) (FailsBy result) }
+        ensures cause { AnswersEvent result }
+        ensures counts { H.counts host.new ≡ H.counts host.old }
     {
-        if !self.core.fits(event) {
-            self.close(Some(event), host);
+        if !self.core.fits(host.event()) {
+            self.close_with_event(host);
             return Err(RunError::Stray(k + 1));
         }
-        match self.take(alloc, event, host) {
+        match self.take(alloc, host) {
             Ok(end) => Ok(end),
             Err(NoMemory) => {
-                self.close(Some(event), host);
+                self.close_with_event(host);
                 Err(RunError::NoMemory)
             }
         }
@@ -195,9 +197,9 @@ impl<B: ServiceWithDependents> Machine<B> {
     ) -> Result<StepEnd, RunError>
         requires small { k < u64.MAX }
         requires room { HasRoom self.old.core self.old.closing (H.spare host.old) }
-        requires at { IsSomewhere self.old.core (names_by B.named self.old.boxes) (H.account host.old) k }
+        requires at { IsSomewhere self.old.core (names_by B.named self.old.boxes) (H.account host.old) k StepEnd.On }
         ensures gives { (turns : ℕ) (before : Option (List Item)) (q : Record) → k < turns
-            → IsAt self.old.core (names_by B.named self.old.boxes) (H.account host.old) k q
+            → IsAt self.old.core (names_by B.named self.old.boxes) (H.account host.old) k StepEnd.On q
             → IsAhead before (H.ahead host.old) q
             → TurnGives self.new.core (names_by B.named self.new.boxes) (H.account host.new) k turns result before (H.ahead host.new) }
         ensures room { OnOk result (HasRoom self.new.core self.new.closing (H.spare host.new)) }
@@ -206,23 +208,44 @@ impl<B: ServiceWithDependents> Machine<B> {
         ensures configured { IsConfigured result }
     {
         if self.make_room(alloc, host).is_err() {
-            self.close(None, host);
+            self.close(host);
             return Err(RunError::NoMemory);
         }
         match host.next() {
-            Next::Event => {
-                let event = *host.event();
-                self.take_event(alloc, k, &event, host)
-            }
+            Next::Event => self.take_event(alloc, k, host),
             Next::None => {
-                self.close(None, host);
+                self.close(host);
                 Err(RunError::OutOfEvents)
             }
             Next::Failed => {
-                self.close(None, host);
+                self.close(host);
                 Err(RunError::HostFault)
             }
         }
+    }
+
+    /// Ends a run that has ended so, with its answer. Where it didn't serve, all is closed.
+    fn finish<H: Host<Service = B>>(
+        &mut self,
+        end: StepEnd,
+        answer: Result<Outcome, RunError>,
+        host: &mut H,
+    ) -> Result<Outcome, RunError>
+        requires answers { answer_of end ≡ Some answer }
+        requires room { HasRoom self.old.core self.old.closing (H.spare host.old) }
+        requires at { (k : ℕ) × IsSomewhere self.old.core (names_by B.named self.old.boxes) (H.account host.old) k end }
+        ensures gives { (k turns : ℕ) (before : Option (List Item)) (q : Record) → k ≤ turns
+            → IsAt self.old.core (names_by B.named self.old.boxes) (H.account host.old) k end q
+            → IsAhead before (H.ahead host.old) q
+            → RunGives self.old.core.plan turns result (H.account host.new) before (H.ahead host.new) }
+        ensures answers { result ≡ answer }
+        ensures counts { H.counts host.new ≡ H.counts host.old }
+    {
+        if has_served(end) {
+            return answer;
+        }
+        self.close(host);
+        answer
     }
 
     /// Turn after turn, until the run ends or they are spent.
@@ -233,22 +256,25 @@ impl<B: ServiceWithDependents> Machine<B> {
         host: &mut H,
     ) -> Result<Outcome, RunError>
         requires room { HasRoom self.old.core self.old.closing (H.spare host.old) }
-        requires at { IsSomewhere self.old.core (names_by B.named self.old.boxes) (H.account host.old) 0 }
+        requires at { IsSomewhere self.old.core (names_by B.named self.old.boxes) (H.account host.old) 0 StepEnd.On }
         ensures gives { (before : Option (List Item)) (q : Record)
-            → IsAt self.old.core (names_by B.named self.old.boxes) (H.account host.old) 0 q
+            → IsAt self.old.core (names_by B.named self.old.boxes) (H.account host.old) 0 StepEnd.On q
             → IsAhead before (H.ahead host.old) q
             → RunGives self.old.core.plan turns result (H.account host.new) before (H.ahead host.new) }
         ensures counts { RunCounts result (H.counts host.old) (H.counts host.new) }
         ensures configured { IsConfigured result }
     {
         for k in 0..turns {
-            match self.turn(alloc, k, host) {
-                Ok(StepEnd::On) => {}
-                Ok(StepEnd::Served) => return Ok(Outcome::Served),
+            let end = match self.turn(alloc, k, host) {
+                Ok(end) => end,
                 Err(error) => return Err(error),
+            };
+            match answer_of(end) {
+                Some(answer) => return self.finish(end, answer, host),
+                None => {}
             }
         }
-        self.close(None, host);
+        self.close(host);
         Err(RunError::TurnsSpent)
     }
 
@@ -266,11 +292,34 @@ impl<B: ServiceWithDependents> Machine<B> {
         ensures counts { RunCounts result (H.counts host.old) (H.counts host.new) }
         ensures configured { IsConfigured result }
     {
-        match self.begin(alloc, host) {
-            Ok(StepEnd::On) => self.take_turns(alloc, turns, host),
-            Ok(StepEnd::Served) => Ok(Outcome::Served),
-            Err(NoMemory) => Err(RunError::NoMemory),
+        let end = match self.begin(alloc, host) {
+            Ok(end) => end,
+            Err(NoMemory) => return Err(RunError::NoMemory),
+        };
+        match answer_of(end) {
+            Some(answer) => self.finish(end, answer, host),
+            None => self.take_turns(alloc, turns, host),
         }
+    }
+}
+
+/// The run went through its shutdown.
+fn has_served(end: StepEnd) -> bool
+    ensures { result ≡ is_served end }
+{
+    matches!(end, StepEnd::Served)
+}
+
+/// What a run answers that has ended so; none where it goes on.
+fn answer_of(end: StepEnd) -> Option<Result<Outcome, RunError>>
+    ensures { result ≡ answer_of end }
+{
+    match end {
+        StepEnd::On => None,
+        StepEnd::Served => Some(Ok(Outcome::Served)),
+        StepEnd::Tested => Some(Ok(Outcome::TestPassed)),
+        StepEnd::Parent(status) => Some(Ok(Outcome::Parent(status))),
+        StepEnd::Ended(error) => Some(Err(RunError::Bootstrap(error))),
     }
 }
 

@@ -1,5 +1,6 @@
-ghost use Rattle.std.specs.Prelude.{◌≡◌, ◌<◌, codes, IfSome};
-ghost use Rattle.svc_server.specs.Hosts.{no_account};
+ghost use Rattle.std.specs.Prelude.{◌≡◌, ◌<◌, All, codes, IfOk, IfSome};
+ghost use Rattle.svc_server.specs.Hosts.{BringsFew, no_account};
+ghost use Rattle.svc_server.specs.ScriptHosts.{GivesFew};
 
 use super::ScriptHost;
 use crate::host::{Host, Next};
@@ -53,13 +54,30 @@ impl ServiceWithDependents for Clock {
 }
 
 /// Takes the next event, if one comes.
-fn take<H: Host>(host: &mut H) -> (Next, Option<Event>)
+fn take<H: Host>(alloc: Global, host: &mut H) -> Result<(Next, Option<Event>), NoMemory>
     requires { 0 < H.spare host.old }
 {
     match host.next() {
-        Next::Event => (Next::Event, Some(*host.event())),
-        other => (other, None),
+        Next::Event => Ok((Next::Event, Some(host.event().copy(alloc)?))),
+        other => Ok((other, None)),
     }
+}
+
+/// The fast signal.
+fn fast() -> Event
+    ensures { BringsFew result }
+{
+    Event::Signal(ShutdownSignal::FastShutdown)
+}
+
+/// The items, and one more.
+fn with(mut items: Vec<Item>, item: Item) -> Result<Vec<Item>, Fail>
+    requires all { All GivesFew items.items }
+    requires few { GivesFew item }
+    ensures { IfOk result (λ more. All GivesFew more.items) }
+{
+    items.push(item)?;
+    Ok(items)
 }
 
 /// Hands a service over, tells its start and a phase, and takes the next event.
@@ -74,32 +92,29 @@ fn start_one<H: Host>(
     host.hand(0, service);
     host.tell(Action::Start(0));
     host.tell(Action::Phase(ExecutionPhase::Running, 20));
-    Ok(take(host))
+    take(alloc, host)
 }
 
 #[test]
 fn gives_events_and_faults_in_turn(rt: HostRuntime) -> Result<(), Fail> {
     let alloc = rt.alloc();
-    let signal = Event::Signal(ShutdownSignal::FastShutdown);
-    let items = vec![in alloc;
-        Item::Event(Event::Ready(4)),
-        Item::Fault,
-        Item::Event(signal),
-    ]?;
+    let items = with(Vec::new(alloc), Item::Event(Event::Ready(4)))?;
+    let items = with(items, Item::Fault)?;
+    let items = with(items, Item::Event(fast()))?;
     let mut host: ScriptHost<Clock> = ScriptHost::new(alloc, items);
     for (answer, event, faults, idles) in [
         (Next::Event, Some(Event::Ready(4)), 0, 0),
         (Next::Failed, None, 1, 0),
-        (Next::Event, Some(signal), 1, 0),
+        (Next::Event, Some(fast()), 1, 0),
         (Next::None, None, 1, 1),
         (Next::None, None, 1, 2),
     ] {
         host.reserve(alloc, 1)?;
-        assert_eq!(rt; take(&mut host), (answer, event));
+        assert_eq!(rt; take(alloc, &mut host)?, (answer, event));
         let counts = (host.faults(), host.idles(), host.failures());
         assert_eq!(rt; counts, (faults, idles, 0));
     }
-    let expected = [Entry::Got(Event::Ready(4)), Entry::Got(signal)];
+    let expected = [Entry::Got(Event::Ready(4)), Entry::Got(fast())];
     assert_eq!(rt; host.entries().as_slice(), expected.as_slice());
     assert!(rt; host.phases().is_empty());
     Ok(())
@@ -108,7 +123,7 @@ fn gives_events_and_faults_in_turn(rt: HostRuntime) -> Result<(), Fail> {
 #[test]
 fn keeps_what_it_was_told(rt: HostRuntime) -> Result<(), Fail> {
     let alloc = rt.alloc();
-    let items = vec![in alloc; Item::Event(Event::Ready(0))]?;
+    let items = with(Vec::new(alloc), Item::Event(Event::Ready(0)))?;
     let mut host = ScriptHost::new(alloc, items);
     let answer = start_one(alloc, &mut host, Clock)?;
     assert_eq!(rt; answer, (Next::Event, Some(Event::Ready(0))));

@@ -1,8 +1,6 @@
 //! Why a service can't be added to a server.
 
 ghost use Rattle.std.specs.Prelude.{◌≡◌, IfOk, position};
-ghost use Rattle.svc_graph.specs.declared.plan.Kind.TheVariants.{Bootstrap};
-ghost use Rattle.svc_record.specs.Plans.{is_kind};
 ghost use Rattle.svc_server.specs.Servers.{answer_of};
 ghost use Rattle.svc_server.specs.Additions.{is_bad_address, has_filter, endpoint_causes, first_cause, fault_of};
 
@@ -10,7 +8,7 @@ use crate::server::refusals::AddError;
 use std::alloc::Global;
 use svc_conf::NoMemory;
 use svc_graph::services::ServiceWithDependents;
-use svc_graph::{DependencyGraph, EndpointPlan, Kind, NODE_LIMIT};
+use svc_graph::{DependencyGraph, EndpointPlan, NODE_LIMIT};
 
 /// How many endpoints a service has at most.
 const ENDPOINT_LIMIT: usize = 64;
@@ -63,13 +61,6 @@ fn endpoints_fault(endpoints: &[EndpointPlan]) -> Option<AddError>
     }
 }
 
-/// The service bootstraps the server.
-fn boots(kind: Kind) -> bool
-    ensures { result ≡ is_kind Bootstrap kind }
-{
-    matches!(kind, Kind::Bootstrap)
-}
-
 /// Why the service can't be added to a server with this graph, if it can't.
 pub(super) fn fault_of<B: ServiceWithDependents>(
     alloc: Global,
@@ -84,11 +75,5 @@ pub(super) fn fault_of<B: ServiceWithDependents>(
         return Ok(Some(AddError::TooMany));
     }
     let endpoints = service.listener_configs(alloc)?;
-    if let Some(fault) = endpoints_fault(&endpoints) {
-        return Ok(Some(fault));
-    }
-    if boots(service.kind()) {
-        return Ok(Some(AddError::Unbuilt));
-    }
-    Ok(None)
+    Ok(endpoints_fault(&endpoints))
 }

@@ -3,8 +3,9 @@
 ghost use Rattle.std.specs.Prelude.{◌≡◌, ◌<◌, ◌+◌, length, IfOk, OnOk, [], ◌∷◌, ◌++◌};
 ghost use Rattle.std.specs.Option.{option_map};
 ghost use Rattle.svc_graph.specs.Graphs.{node_count, IsGraph};
-ghost use Rattle.svc_server.specs.Servers.{answer_of, answers_of, depends_of, with_depends, is_upgrade, is_test, runnable};
+ghost use Rattle.svc_server.specs.Servers.{answer_of, answers_of, depends_of, with_depends, is_upgrade, is_test, runnable, status_of};
 
+use crate::run::{Outcome, RunError};
 use std::alloc::Global;
 use svc_conf::{Items, Key, NoMemory, Opt, ServerConf, Text, Texts};
 use svc_graph::DependencyGraph;
@@ -110,4 +111,16 @@ pub(super) fn runnable(conf: &ServerConf) -> Result<(), Key>
         return Err(Key::Daemon);
     }
     Ok(())
+}
+
+/// The status to end with after such an answer.
+pub(super) fn status_of(answer: Result<Outcome, RunError>) -> Result<u8, RunError>
+    ensures { result ≡ status_of answer }
+{
+    match answer {
+        Ok(Outcome::Served) => Ok(0),
+        Ok(Outcome::TestPassed) => Ok(0),
+        Ok(Outcome::Parent(status)) => Ok(status),
+        Err(error) => Err(error),
+    }
 }

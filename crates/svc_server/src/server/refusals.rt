@@ -1,16 +1,8 @@
-//! Why a server isn't made, and why a service isn't added.
+//! Why a service isn't added.
 
-use svc_conf::{Key, NoMemory};
+use svc_conf::NoMemory;
 use svc_graph::ServiceHandle;
 use thiserror::Error;
-
-/// Why a configuration isn't taken.
-#[derive(Clone, Copy, PartialEq, Eq, Debug, Error)]
-pub enum ReadError {
-    /// The setting with this key is one that no server can run with.
-    #[error("the configuration is refused for {}", .0.name())]
-    Invalid(Key),
-}
 
 /// Why a service isn't added to a server. The first of these that stands is answered, but for want
 /// of memory, which may come instead of each.
@@ -29,9 +21,6 @@ pub enum AddError {
     /// The endpoint with this index, from 0, is the first with a filter that the server doesn't have.
     #[error("endpoint {0} has an unknown filter")]
     UnknownFilter(u64),
-    /// The service bootstraps.
-    #[error("the service has a form that isn't built yet")]
-    Unbuilt,
     #[error("out of memory")]
     NoMemory,
 }

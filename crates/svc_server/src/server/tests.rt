@@ -1,17 +1,19 @@
-ghost use Rattle.std.specs.Prelude.{[], codes, map, Some, None, OnOk, if◌then◌else◌};
+ghost use Rattle.std.specs.Prelude.{[], All, codes, map, Some, None, OnOk, if◌then◌else◌};
+ghost use Rattle.svc_server.specs.ScriptHosts.{GivesFew};
 ghost use Rattle.svc_server.specs.Servers.{answers_of, IsSound};
 
-use super::{AddError, ReadError, Server};
+use super::{AddError, Server};
+use crate::host::Host;
 use crate::run::{Outcome, RunArgs, RunError};
 use crate::script_host::ScriptHost;
 use std::alloc::Global;
 use std::cell::Cell;
 use std::process::Abort;
 use std::rc::Rc;
-use svc_conf::{Key, NoMemory, ServerConf, Settings, Text, Texts};
+use svc_conf::{Key, NoMemory, Opt, ReadError, ServerConf, Settings, Text, Texts};
 use svc_graph::services::{RunPoll, ServiceReadyNotifier, ServiceWithDependents, StartPoll};
 use svc_graph::{DependencyError, EndpointPlan, Kind, ServiceHandle};
-use svc_record::{Action, Entry, Event, ExecutionPhase, Item, ShutdownSignal};
+use svc_record::{Action, BootstrapError, Entry, Event, ExecutionPhase, Item, ShutdownSignal};
 
 /// A service that listens on some addresses, all alike.
 #[derive(Drop)]
@@ -154,12 +156,9 @@ fn is_refused(
 fn expects_what_all_declare(rt: HostRuntime) {
     let alloc = rt.alloc();
     let mut server = server(&rt, alloc);
-    let _ = added(
-        &rt,
-        alloc,
-        &mut server,
-        listening(&rt, alloc, "still", "", 0),
-    );
+    let mut boot = listening(&rt, alloc, "boot", "", 0);
+    boot.kind = Kind::Bootstrap;
+    assert!(rt; server.bootstrap_as_a_service(alloc, boot).is_ok());
     let found = server.expected_addresses(alloc).expect(&rt, "memory");
     assert_eq!(rt; found.map(|texts| texts.len()), Some(0));
     let mut silent = listening(&rt, alloc, "silent", "", 0);
@@ -187,10 +186,9 @@ fn endpoint_refusals_have_texts(rt: HostRuntime) {
 }
 
 #[test]
-fn refuses_forms_that_are_not_built(rt: HostRuntime) {
+fn takes_services_of_each_form(rt: HostRuntime) {
     let alloc = rt.alloc();
     let mut server = server(&rt, alloc);
-    let text = "the service has a form that isn't built yet";
     let _ = added(
         &rt,
         alloc,
@@ -204,7 +202,19 @@ fn refuses_forms_that_are_not_built(rt: HostRuntime) {
     let _ = added(&rt, alloc, &mut server, unix);
     let mut bootstrap = listening(&rt, alloc, "bootstrap", "", 0);
     bootstrap.kind = Kind::Bootstrap;
-    assert!(rt; is_refused(&rt, alloc, &mut server, bootstrap, text));
+    assert!(rt; server.bootstrap_as_a_service(alloc, bootstrap).is_ok());
+}
+
+#[test]
+fn a_server_is_marked_to_bootstrap_first(rt: HostRuntime) {
+    let alloc = rt.alloc();
+    let mut server = two_services(&rt, alloc);
+    let plan = server.plan(alloc).expect(&rt, "memory");
+    assert!(rt; !plan.eager);
+    server.bootstrap();
+    server.bootstrap();
+    let plan = server.plan(alloc).expect(&rt, "memory");
+    assert!(rt; plan.eager);
 }
 
 #[test]
@@ -309,18 +319,35 @@ fn two_services(rt: &impl Abort, alloc: Global) -> Server<Listener>
     }
 }
 
+/// The items, and one more.
+fn with(rt: &impl Abort, mut items: Vec<Item>, item: Item) -> Vec<Item>
+    requires all { All GivesFew items.items }
+    requires few { GivesFew item }
+    ensures { All GivesFew result.items }
+{
+    items.push(item).expect(rt, "memory");
+    items
+}
+
+/// The fast signal comes.
+fn fast() -> Item
+    ensures { GivesFew result }
+{
+    Item::Event(Event::Signal(ShutdownSignal::FastShutdown))
+}
+
 /// What the run of a server over these items answers, and what its host was told.
 fn run_of(
-    rt: &impl Abort,
     alloc: Global,
     server: Server<Listener>,
-    items: &[Item],
+    items: Vec<Item>,
     turns: u64,
 ) -> (Result<Outcome, RunError>, ScriptHost<Listener>)
-    requires { IsSound server.dependencies
+    requires sound { IsSound server.dependencies
         (answers_of ⟦<Listener as ServiceWithDependents>⟧ server.services.items) }
+    requires few { All GivesFew items.items }
 {
-    let mut host = ScriptHost::new(alloc, items.to_vec(alloc).expect(rt, "memory"));
+    let mut host = ScriptHost::new(alloc, items);
     let answer = server.run(alloc, RunArgs { turns }, &mut host);
     (answer, host)
 }
@@ -328,12 +355,13 @@ fn run_of(
 #[test]
 fn turns_are_counted(rt: HostRuntime) {
     let alloc = rt.alloc();
-    let signal = [Item::Event(Event::Signal(ShutdownSignal::FastShutdown))];
-    let (answer, host) = run_of(&rt, alloc, server(&rt, alloc), &signal, 0);
+    let signal = with(&rt, Vec::new(alloc), fast());
+    let (answer, host) = run_of(alloc, server(&rt, alloc), signal, 0);
     assert_eq!(rt; answer, Err(RunError::TurnsSpent));
     let told = [Entry::Told(Action::Phase(ExecutionPhase::Running, 0))];
     assert_eq!(rt; host.entries().as_slice(), told.as_slice());
-    let (answer, host) = run_of(&rt, alloc, server(&rt, alloc), &signal, 1);
+    let signal = with(&rt, Vec::new(alloc), fast());
+    let (answer, host) = run_of(alloc, server(&rt, alloc), signal, 1);
     assert_eq!(rt; answer, Ok(Outcome::Served));
     assert_eq!(rt;
         host.phases().last().copied(),
@@ -344,38 +372,81 @@ fn turns_are_counted(rt: HostRuntime) {
 #[test]
 fn closes_all_when_the_turns_are_spent(rt: HostRuntime) {
     let alloc = rt.alloc();
-    let items = [
-        Item::Event(Event::Ready(0)),
-        Item::Event(Event::Bound(1, 0, 7)),
-        Item::Event(Event::Signal(ShutdownSignal::FastShutdown)),
-    ];
-    let (answer, host) = run_of(&rt, alloc, two_services(&rt, alloc), &items, 2);
+    let items = with(&rt, Vec::new(alloc), Item::Event(Event::Ready(0)));
+    let items = with(&rt, items, Item::Event(Event::Bound(1, 0, 7)));
+    let items = with(&rt, items, fast());
+    let (answer, host) = run_of(alloc, two_services(&rt, alloc), items, 2);
     assert_eq!(rt; answer, Err(RunError::TurnsSpent));
-    let told = host.entries().as_slice().last().copied();
-    assert_eq!(rt; told, Some(Entry::Told(Action::Close(7))));
+    assert!(rt;
+        matches!(
+            host.entries().as_slice().last(),
+            Some(Entry::Told(Action::Close(7)))
+        )
+    );
+}
+
+/// A server that bootstraps first, with these flags.
+fn bootstrapping(rt: &impl Abort, alloc: Global, opt: Opt) -> Server<Listener>
+    ensures { IsSound result.dependencies
+        (answers_of ⟦<Listener as ServiceWithDependents>⟧ result.services.items) }
+{
+    let conf = ServerConf::default(alloc).expect(rt, "memory");
+    match Server::new_with_opt_and_conf(alloc, Some(opt), conf) {
+        Ok(mut server) => {
+            server.bootstrap();
+            server
+        }
+        Err(_) => panic!(rt; "refused"),
+    }
+}
+
+#[test]
+fn a_test_ends_as_it_bootstraps(rt: HostRuntime) {
+    let alloc = rt.alloc();
+    let mut opt = Opt::default();
+    opt.test = true;
+    let server = bootstrapping(&rt, alloc, opt);
+    let (answer, host) = run_of(alloc, server, Vec::new(alloc), 9);
+    assert_eq!(rt; answer, Ok(Outcome::TestPassed));
+    let told = [Entry::Told(Action::Phase(ExecutionPhase::Bootstrap, 0))];
+    assert_eq!(rt; host.entries().as_slice(), told.as_slice());
+}
+
+#[test]
+fn ends_where_receiving_failed(rt: HostRuntime) {
+    let alloc = rt.alloc();
+    let mut opt = Opt::default();
+    opt.upgrade = true;
+    let server = bootstrapping(&rt, alloc, opt);
+    let items = with(&rt, Vec::new(alloc), Item::Event(Event::ReceiveFailed));
+    let (answer, host) = run_of(alloc, server, items, 9);
+    let error = RunError::Bootstrap(BootstrapError::Transfer);
+    assert_eq!(rt; answer, Err(error));
+    assert_eq!(rt; host.failures(), 1);
+    let text = format!(in alloc; "{error}").expect(&rt, "memory");
+    assert_eq!(rt; text.as_str(), "the handover failed: receiving failed");
+}
+
+/// A run over these items ends with this error, which has this text.
+fn ends_with(rt: &impl Abort, alloc: Global, items: Vec<Item>, error: RunError, text: &str)
+    requires { All GivesFew items.items }
+{
+    let (answer, _) = run_of(alloc, two_services(rt, alloc), items, 9);
+    assert_eq!(rt; answer, Err(error));
+    let told = format!(in alloc; "{error}").expect(rt, "memory");
+    assert_eq!(rt; told.as_str(), text);
 }
 
 #[test]
 fn ends_with_its_cause(rt: HostRuntime) {
     let alloc = rt.alloc();
-    for (item, error, text) in [
-        (None, RunError::OutOfEvents, "out of events"),
-        (Some(Item::Fault), RunError::HostFault, "the host failed"),
-        (
-            Some(Item::Event(Event::Ready(1))),
-            RunError::Stray(1),
-            "event 1 doesn't fit",
-        ),
-    ] {
-        let mut items = Vec::with_capacity(alloc, 1).expect(&rt, "memory");
-        if let Some(item) = item {
-            items.push_reserved(item);
-        }
-        let (answer, _) = run_of(&rt, alloc, two_services(&rt, alloc), &items, 9);
-        assert_eq!(rt; answer, Err(error));
-        let told = format!(in alloc; "{error}").expect(&rt, "memory");
-        assert_eq!(rt; told.as_str(), text);
-    }
+    let none = Vec::new(alloc);
+    ends_with(&rt, alloc, none, RunError::OutOfEvents, "out of events");
+    let fault = with(&rt, Vec::new(alloc), Item::Fault);
+    ends_with(&rt, alloc, fault, RunError::HostFault, "the host failed");
+    let stray = with(&rt, Vec::new(alloc), Item::Event(Event::Ready(1)));
+    let text = "event 1 doesn't fit";
+    ends_with(&rt, alloc, stray, RunError::Stray(1), text);
 }
 
 #[test]
@@ -383,7 +454,7 @@ fn no_daemon_is_run_yet(rt: HostRuntime) {
     let alloc = rt.alloc();
     let mut server = two_services(&rt, alloc);
     server.configuration.daemon = true;
-    let (answer, host) = run_of(&rt, alloc, server, &[], 9);
+    let (answer, host) = run_of(alloc, server, Vec::new(alloc), 9);
     assert_eq!(rt; answer, Err(RunError::Config(Key::Daemon)));
     assert!(rt; host.entries().as_slice().is_empty());
     let told = format!(in alloc; "{}", RunError::Config(Key::Daemon)).expect(&rt, "memory");
@@ -401,10 +472,7 @@ fn boxed_services_run_forever(rt: HostRuntime) {
             let web = listening(&rt, alloc, "web", "127.0.0.1:80", 1);
             let web: Box<dyn ServiceWithDependents> = Box::new(alloc, web).expect(&rt, "memory");
             assert!(rt; server.add_boxed_service(alloc, web).is_ok());
-            let signal = Item::Event(Event::Signal(ShutdownSignal::FastShutdown));
-            let mut items = Vec::with_capacity(alloc, 1).expect(&rt, "memory");
-            items.push_reserved(signal);
-            let mut host = ScriptHost::new(alloc, items);
+            let mut host = ScriptHost::new(alloc, with(&rt, Vec::new(alloc), fast()));
             assert_eq!(rt; server.run_forever(alloc, &mut host), Ok(0));
             assert_eq!(rt; host.entries().len(), 8);
         }
@@ -480,11 +548,9 @@ fn a_service_is_told_how_long_it_waited(rt: HostRuntime) {
     let alloc = rt.alloc();
     let waited = Rc::new(alloc, Cell::new(0)).expect(&rt, "memory");
     let server = late_services(&rt, alloc, &waited);
-    let items = [
-        Item::Event(Event::Moment(700)),
-        Item::Event(Event::Ready(0)),
-    ];
-    let mut host = ScriptHost::new(alloc, items.to_vec(alloc).expect(&rt, "memory"));
+    let items = with(&rt, Vec::new(alloc), Item::Event(Event::Moment(700)));
+    let items = with(&rt, items, Item::Event(Event::Ready(0)));
+    let mut host = ScriptHost::new(alloc, items);
     let _ = server.run(alloc, RunArgs { turns: 2 }, &mut host);
     assert_eq!(rt; waited.get(), 700);
 }

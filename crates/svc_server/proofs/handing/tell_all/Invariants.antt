@@ -1,14 +1,19 @@
-use Rattle.std.proofs.Common.{◌≡◌, ◌≤◌, ◌+◌, ◌*◌, take}
+use Rattle.std.proofs.Common.{◌≡◌, ◌≤◌, ◌+◌, ◌*◌, length}
+use Rattle.svc_conf.specs.Items.{list_of}
 use Rattle.svc_record.specs.declared.plan.Plan.{Plan}
 use Rattle.svc_record.specs.Record.{Record, tell}
 use Rattle.svc_server.specs.Handing.{names_by, Hands, DueStarts}
+use Rattle.svc_server.proofs.HandLemmas.{Leads}
 use Rattle.svc_server.proofs.handing.tell_all.Given as goal
 
 abbrev pub invariant-loop-action : goal.invariant-loop-action
 invariant-loop-action g l = record {
-  hands : (p : Plan) (q : Record) → Hands (names_by g.B.ServiceWithDependents.named l.initial.boxes) (g.H.Host.account l.initial.host) p q → DueStarts p q l.actions
-      → Hands (names_by g.B.ServiceWithDependents.named l.boxes) (g.H.Host.account l.host) p (tell q (take l.action-index l.actions));
-  room : g.H.Host.spare l.initial.host ≤ g.H.Host.spare l.host + 2 * l.action-index;
+  hands : (p : Plan) (q : Record) → Hands (names_by g.B.ServiceWithDependents.named l.initial.boxes) (g.H.Host.account l.initial.host) p q → DueStarts p q (list_of l.initial.actions)
+      → Leads (names_by g.B.ServiceWithDependents.named l.boxes) (g.H.Host.account l.host) p (list_of l.actions) (tell q (list_of l.initial.actions));
+  room : g.H.Host.spare l.initial.host + 2 * length (list_of l.actions) ≤ g.H.Host.spare l.host + 2 * length (list_of l.initial.actions);
   counts : g.H.Host.counts l.host ≡ g.H.Host.counts l.initial.host;
   ahead : g.H.Host.ahead l.host ≡ g.H.Host.ahead l.initial.host;
 }
+
+abbrev pub decreases-loop-action : goal.decreases-loop-action
+decreases-loop-action g l = length (list_of l.actions)

@@ -18,6 +18,7 @@ loop-service-preserved g c =
       left = next.2 ∙ ap (λ (k : ℕ). reverse (drop k c.args.services.items)) (sym c.push_reserved.ensures.len);
       configuration = c.in-Ok.ensures.configuration ∙ known.configuration;
       options = c.in-Ok.ensures.options ∙ known.options;
+      eager = c.in-Ok.ensures.eager ∙ known.eager;
       room = omega (arith, known.room, c.in-Some.ensures.cases, c.push_reserved.ensures.len, c.push_reserved.ensures.capacity);
       sound = λ sound. c.in-Ok.ensures.sound (known.sound sound);
     }

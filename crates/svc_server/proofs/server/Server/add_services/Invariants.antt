@@ -11,6 +11,7 @@ invariant-loop-service g l =
       left : l.services.items ≡ reverse (drop (vec_len l.handles) l.fn.services.items);
       configuration : l.self.configuration ≡ l.fn.self.configuration;
       options : l.self.options ≡ l.fn.self.options;
+      eager : l.self.eager ≡ l.fn.self.eager;
       room : vec_len l.services + vec_len l.handles ≤ vec_capacity l.handles;
       sound : IsSound l.fn.self.dependencies (answers_of means l.fn.self.services.items) → IsSound l.self.dependencies (answers_of means l.self.services.items);
     }

@@ -13,7 +13,7 @@ service_plans-requires g c =
 pub returns-clause-plan : goal.returns-clause-plan
 returns-clause-plan g c =
     let server = c.args.self.now in
-    plan-is server.configuration server.options server.dependencies (answers_of g.B.ServiceWithDependents server.services.items) _ _ _ _ _ _ _
+    plan-is server.configuration server.options server.eager server.dependencies (answers_of g.B.ServiceWithDependents server.services.items) _ _ _ _ _ _ _
     (c.in_ok-services.ensures.plans ∙ ap (λ (bs : List g.row.B.Denot). with_depends server.dependencies 0 (answers_of g.B.ServiceWithDependents bs)) c.deref.ensures.value)
     c.unwrap_or.ensures c.unwrap_or-2.ensures c.unwrap_or-3.ensures c.is_upgrade.ensures c.is_test.ensures c.unwrap_or-4.ensures
 
@@ -21,10 +21,10 @@ pub returns-clause-valid : goal.returns-clause-valid
 returns-clause-valid g c = λ accepted.
     let server = c.args.self.now in
     subst (λ (p : Plan). IsValid p) (sym (returns-clause-plan g c))
-    (whole-valid server.configuration server.options server.dependencies (answers_of g.B.ServiceWithDependents server.services.items) c.in_ok-services.ensures.graph c.requires.sound accepted)
+    (whole-valid server.configuration server.options server.eager server.dependencies (answers_of g.B.ServiceWithDependents server.services.items) c.in_ok-services.ensures.graph c.requires.sound accepted)
 
 pub returns-clause-built : goal.returns-clause-built
 returns-clause-built g c = λ no_daemon.
     let server = c.args.self.now in
     subst (λ (p : Plan). IsBuilt p) (sym (returns-clause-plan g c))
-    (whole-built server.configuration server.options server.dependencies (answers_of g.B.ServiceWithDependents server.services.items) c.in_ok-services.ensures.graph c.requires.sound no_daemon)
+    (whole-built server.configuration server.options server.eager server.dependencies (answers_of g.B.ServiceWithDependents server.services.items) c.in_ok-services.ensures.graph c.requires.sound no_daemon)

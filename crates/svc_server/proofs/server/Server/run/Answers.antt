@@ -16,5 +16,5 @@ run_plan-requires-clause-built g c =
 pub run_plan-requires-clause-names : goal.run_plan-requires-clause-names
 run_plan-requires-clause-names g c =
     let server = c.args.self in
-    names-plan_of g.B.ServiceWithDependents server.services.items server.configuration server.options server.dependencies
+    names-plan_of g.B.ServiceWithDependents server.services.items server.configuration server.options server.eager server.dependencies
     ∙ ap (λ (p : Plan). names_of p) (sym c.in_ok-plan.ensures.plan)

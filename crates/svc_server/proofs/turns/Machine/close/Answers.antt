@@ -1,4 +1,4 @@
-use Rattle.std.specs.Option.{option_copied}
+use Rattle.std.proofs.Common.{None}
 use Rattle.svc_conf.specs.Items.{list_of}
 use Rattle.svc_server.specs.Handing.{names_by}
 use Rattle.svc_server.proofs.CloseLemmas.{may-close, closed}
@@ -6,11 +6,11 @@ use Rattle.svc_server.proofs.turns.Machine.close.Goals as goal
 
 pub tell_all-requires-clause-may : goal.tell_all-requires-clause-may
 tell_all-requires-clause-may g c =
-    may-close c.args.self.now.core (names_by g.B.ServiceWithDependents.named c.args.self.now.boxes) (g.H.Host.account c.args.host.now) (option_copied c.args.also)
-    (list_of c.args.self.now.closing) (list_of c.close_all.new.actions) c.as_slice.result.now c.close_all.ensures.closes c.requires.room.empty c.as_slice.ensures c.requires.can
+    may-close c.args.self.now.core (names_by g.B.ServiceWithDependents.named c.args.self.now.boxes) (g.H.Host.account c.args.host.now) None (list_of c.args.self.now.closing)
+    (list_of c.close_all.new.actions) c.close_all.ensures.closes c.requires.room.empty c.requires.can
 
 pub returns-clause-closed : goal.returns-clause-closed
 returns-clause-closed g c =
-    closed c.args.self.now.core (names_by g.B.ServiceWithDependents.named c.args.self.now.boxes) (names_by g.B.ServiceWithDependents.named c.tell_all.new.boxes) (g.H.Host.account c.args.host.now)
-    (g.H.Host.account c.tell_all.new.host) (option_copied c.args.also) (list_of c.args.self.now.closing) (list_of c.close_all.new.actions) c.as_slice.result.now c.close_all.ensures.closes
-    c.requires.room.empty c.as_slice.ensures c.tell_all.ensures.hands
+    let named = g.B.ServiceWithDependents.named in
+    closed c.args.self.now.core (names_by named c.args.self.now.boxes) (names_by named c.tell_all.new.boxes) (g.H.Host.account c.args.host.now) (g.H.Host.account c.tell_all.new.host) None
+    (list_of c.args.self.now.closing) (list_of c.close_all.new.actions) c.close_all.ensures.closes c.requires.room.empty c.tell_all.ensures.hands

@@ -1,26 +1,85 @@
-use Rattle.std.proofs.Common.{ap, ◌∙◌}
+use Rattle.std.proofs.Common.{◌∷◌, ◌+◌, Option, Ok, Err, refl, ap, sym, subst, ◌∙◌}
 use mathlib.Core.Bool.{false≢true}
-use Rattle.svc_server.specs.Handing.{names_by}
-use Rattle.svc_server.proofs.TurnLemmas.{gives-stray, gives-refused, gives-step}
+use Rattle.svc_record.specs.declared.event.Event.{Event}
+use Rattle.svc_record.specs.declared.entry.Entry.TheVariants.{Got}
+use Rattle.svc_record.specs.Record.{Record, tell}
+use Rattle.svc_record.specs.Tail.{closing_actions}
+use Rattle.std.specs.Prelude.{Some, IfSome}
+use Rattle.svc_record.specs.Right.{Right}
+use Rattle.svc_core.specs.Stands.{StandsFor}
+use Rattle.svc_server.specs.declared.run.RunError.TheVariants as errors
+use Rattle.svc_server.specs.Handing.{names_by, Hands}
+use Rattle.svc_server.specs.Turns.{ClosesTo, Leaves, EventGives}
+use Rattle.svc_server.proofs.TurnLemmas.{if-came, unfinished-at, gives-stray, gives-refused, gives-step, fails-by}
 use Rattle.svc_server.proofs.turns.Machine.take_event.Goals as goal
 
 pub returns-then-not-fits-clause-gives : goal.returns-then-not-fits-clause-gives
-returns-then-not-fits-clause-gives g c = λ turns before q lt at ahead.
+returns-then-not-fits-clause-gives g c =
     let named = g.B.ServiceWithDependents.named in
-    gives-stray c.args.self.now.core c.close.new.self.core (names_by named c.args.self.now.boxes) (names_by named c.close.new.self.boxes) (g.H.Host.account c.args.host.now) (g.H.Host.account c.close.new.host)
-    c.args.k turns c.args.event.now q before (g.H.Host.ahead c.args.host.now) (g.H.Host.ahead c.close.new.host) c.close.ensures.core at
-    (λ fit. false≢true ((c.if-not-fits.ensures.means q at.stands).1 fit)) (c.close.ensures.closed q) lt ahead c.close.ensures.ahead
+    let core = c.args.self.now.core in
+    let now_core = c.close_with_event.new.self.core in
+    let left = names_by named c.args.self.now.boxes in
+    let now_left = names_by named c.close_with_event.new.self.boxes in
+    let account = g.H.Host.account c.args.host.now in
+    let now_account = g.H.Host.account c.close_with_event.new.host in
+    let e = c.event.result.now in
+    if-came (EventGives core now_core left now_left account now_account c.args.k (Err (errors.Stray (c.args.k + 1))) (g.H.Host.ahead c.args.host.now) (g.H.Host.ahead c.close_with_event.new.host)) (g.H.Host.last c.args.host.now) e c.event.ensures
+    (λ turns before q lt at ahead.
+    gives-stray core now_core now_account c.args.k turns e q (tell (Got e ∷ q) (closing_actions core.plan q (Some e))) before (g.H.Host.ahead c.args.host.now) (g.H.Host.ahead c.close_with_event.new.host)
+    c.close_with_event.ensures.core
+    (unfinished-at core core left left now_left account account now_account c.args.k e q refl refl refl at
+    (subst (λ (o : Option Event). ClosesTo core left now_left account now_account o) c.event.ensures c.close_with_event.ensures.closed))
+    (λ fit. false≢true ((c.if-not-fits.ensures.means q at.stands).1 fit)) lt ahead c.close_with_event.ensures.ahead)
 
 pub returns-in-Ok-clause-gives : goal.returns-in-Ok-clause-gives
-returns-in-Ok-clause-gives g c = λ turns before q lt at ahead.
+returns-in-Ok-clause-gives g c =
     let named = g.B.ServiceWithDependents.named in
-    gives-step c.take.new.self.core (names_by named c.args.self.now.boxes) (names_by named c.take.new.self.boxes) (g.H.Host.account c.args.host.now) (g.H.Host.account c.take.new.host) c.args.self.now.core
-    c.args.k turns c.args.event.now q c.in-Ok.end before (g.H.Host.ahead c.args.host.now) (g.H.Host.ahead c.take.new.host) at (c.in-Ok.ensures.leaves q at.stands at.right at.hands) lt ahead c.take.ensures.ahead
+    let core = c.args.self.now.core in
+    let now_core = c.take.new.self.core in
+    let left = names_by named c.args.self.now.boxes in
+    let now_left = names_by named c.take.new.self.boxes in
+    let account = g.H.Host.account c.args.host.now in
+    let now_account = g.H.Host.account c.take.new.host in
+    let e = c.event.result.now in
+    let leaves : (q : Record) → StandsFor core q → Right core.plan q → Hands left account core.plan (Got e ∷ q) → Leaves now_core now_left now_account c.in-Ok.end (Got e ∷ q) =
+    subst (λ (o : Option Event). IfSome o (λ x. (q : Record) → StandsFor core q → Right core.plan q → Hands left account core.plan (Got x ∷ q) → Leaves now_core now_left now_account c.in-Ok.end (Got x ∷ q))) c.event.ensures c.in-Ok.ensures.leaves in
+    if-came (EventGives core now_core left now_left account now_account c.args.k (Ok c.in-Ok.end) (g.H.Host.ahead c.args.host.now) (g.H.Host.ahead c.take.new.host)) (g.H.Host.last c.args.host.now) e c.event.ensures
+    (λ turns before q lt at ahead.
+    gives-step now_core left now_left account now_account core c.args.k turns e q c.in-Ok.end before (g.H.Host.ahead c.args.host.now) (g.H.Host.ahead c.take.new.host) at
+    (leaves q at.stands at.right at.hands) ahead c.take.ensures.ahead)
 
 pub returns-in-Err-clause-gives : goal.returns-in-Err-clause-gives
-returns-in-Err-clause-gives g c = λ turns before q lt at ahead.
+returns-in-Err-clause-gives g c =
     let named = g.B.ServiceWithDependents.named in
-    gives-refused c.args.self.now.core c.take.new.self.core c.close-in-Err.new.self.core (names_by named c.args.self.now.boxes) (names_by named c.take.new.self.boxes) (names_by named c.close-in-Err.new.self.boxes)
-    (g.H.Host.account c.args.host.now) (g.H.Host.account c.take.new.host) (g.H.Host.account c.close-in-Err.new.host) c.args.k turns c.args.event.now q before (g.H.Host.ahead c.args.host.now)
-    (g.H.Host.ahead c.close-in-Err.new.host) (ap (λ m. m.core) c.in-Err.ensures.refused) c.close-in-Err.ensures.core (ap (λ m. names_by named m.boxes) c.in-Err.ensures.refused)
-    (ap g.H.Host.account c.in-Err.ensures.untold) at c.close-in-Err.ensures.closed lt ahead (c.close-in-Err.ensures.ahead ∙ c.take.ensures.ahead)
+    let core = c.args.self.now.core in
+    let now_core = c.close_with_event-in-Err.new.self.core in
+    let left = names_by named c.args.self.now.boxes in
+    let left2 = names_by named c.take.new.self.boxes in
+    let now_left = names_by named c.close_with_event-in-Err.new.self.boxes in
+    let account = g.H.Host.account c.args.host.now in
+    let account2 = g.H.Host.account c.take.new.host in
+    let now_account = g.H.Host.account c.close_with_event-in-Err.new.host in
+    let e = c.event.result.now in
+    let last = ap g.H.Host.last c.in-Err.ensures.untold ∙ c.event.ensures in
+    let same_core = ap (λ m. m.core) c.in-Err.ensures.refused in
+    if-came (EventGives core now_core left now_left account now_account c.args.k (Err errors.NoMemory) (g.H.Host.ahead c.args.host.now) (g.H.Host.ahead c.close_with_event-in-Err.new.host)) (g.H.Host.last c.args.host.now) e c.event.ensures
+    (λ turns before q lt at ahead.
+    gives-refused core now_core now_account c.args.k turns e q (tell (Got e ∷ q) (closing_actions core.plan q (Some e))) before (g.H.Host.ahead c.args.host.now) (g.H.Host.ahead c.close_with_event-in-Err.new.host)
+    (c.close_with_event-in-Err.ensures.core ∙ same_core)
+    (unfinished-at core c.take.new.self.core left left2 now_left account account2 now_account c.args.k e q same_core (ap (λ m. names_by named m.boxes) c.in-Err.ensures.refused) (ap g.H.Host.account c.in-Err.ensures.untold) at
+    (subst (λ (o : Option Event). ClosesTo c.take.new.self.core left2 now_left account2 now_account o) last c.close_with_event-in-Err.ensures.closed))
+    lt ahead (c.close_with_event-in-Err.ensures.ahead ∙ c.take.ensures.ahead))
+
+pub returns-in-Ok-clause-failed : goal.returns-in-Ok-clause-failed
+returns-in-Ok-clause-failed g c =
+    let named = g.B.ServiceWithDependents.named in
+    let core = c.args.self.now.core in
+    let now_core = c.take.new.self.core in
+    let left = names_by named c.args.self.now.boxes in
+    let now_left = names_by named c.take.new.self.boxes in
+    let account = g.H.Host.account c.args.host.now in
+    let now_account = g.H.Host.account c.take.new.host in
+    let e = c.event.result.now in
+    let leaves : (q : Record) → StandsFor core q → Right core.plan q → Hands left account core.plan (Got e ∷ q) → Leaves now_core now_left now_account c.in-Ok.end (Got e ∷ q) =
+    subst (λ (o : Option Event). IfSome o (λ x. (q : Record) → StandsFor core q → Right core.plan q → Hands left account core.plan (Got x ∷ q) → Leaves now_core now_left now_account c.in-Ok.end (Got x ∷ q))) c.event.ensures c.in-Ok.ensures.leaves in
+    fails-by core now_core left now_left account now_account c.args.k c.in-Ok.end (g.H.Host.last c.args.host.now) e c.event.ensures c.in-Ok.ensures.plan c.requires.at leaves

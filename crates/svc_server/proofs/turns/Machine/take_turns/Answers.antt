@@ -1,13 +1,19 @@
-use Rattle.std.proofs.Common.{◌≡◌, ◌++◌, map, None, Ok, refl, subst, sym, ◌∙◌, arith}
+use Rattle.std.proofs.Common.{◌≡◌, ◌+◌, ◌++◌, map, None, Ok, refl, subst, sym, ◌∙◌, arith}
 use Rattle.std.specs.Option.{option_map}
 use Rattle.svc_record.specs.declared.item.Item.TheVariants as items
 use Rattle.svc_record.specs.declared.action.StepEnd.{StepEnd}
+use Rattle.svc_record.specs.declared.action.StepEnd.TheVariants as ends
+use Rattle.svc_server.specs.declared.run.Outcome.{Outcome}
+use Rattle.svc_server.specs.declared.run.RunError.{RunError}
+use Rattle.std.specs.Prelude.{Result}
+use Rattle.svc_server.specs.Hosts.{Counts}
 use Rattle.svc_record.specs.Record.{Record, tell}
 use Rattle.svc_record.specs.Tail.{closing_actions}
-use Rattle.svc_server.specs.Runs.{events_of}
+use Rattle.svc_server.specs.Runs.{events_of, RunCounts, IsConfigured}
 use Rattle.svc_server.specs.Handing.{names_by}
-use Rattle.svc_server.specs.Turns.{TurnGives}
+use Rattle.svc_server.specs.Turns.{TurnGives, EndCounts}
 use Rattle.svc_server.proofs.TurnLemmas.{ClosedAt, closed-at, gives-spent, plan-now, ahead-now}
+use Rattle.svc_server.proofs.CountLemmas.{counts-after, counts-joined, counts-end, configured-end, on-end}
 use Rattle.svc_server.proofs.turns.Machine.take_turns.Goals as goal
 
 pub turn-requires-clause-at : goal.turn-requires-clause-at
@@ -22,25 +28,52 @@ returns-in-Err-clause-gives g c = λ before q at ahead.
     plan-now c.turn.new.self.core.plan c.args.self.now.core.plan c.args.turns _ (g.H.Host.account c.turn.new.host) before (g.H.Host.ahead c.turn.new.host)
     (sym (c.turn.ensures.plan ∙ c.loop-k.invariant.plan)) (c.in-Err.ensures.gives c.args.turns before t.0 c.loop-k-test.true t.1.0 t.1.1)
 
-pub returns-in-Ok-Served-clause-gives : goal.returns-in-Ok-Served-clause-gives
-returns-in-Ok-Served-clause-gives g c = λ before q at ahead.
+pub returns-in-Err-clause-counts : goal.returns-in-Err-clause-counts
+returns-in-Err-clause-counts g c =
+    counts-after c.in-Err.error (g.H.Host.counts c.args.host.now) (g.H.Host.counts c.loop-k.host) (g.H.Host.counts c.turn.new.host) c.loop-k.invariant.unfailed c.loop-k.invariant.failures c.in-Err.ensures.counts
+
+pub finish-requires-clause-at : goal.finish-requires-clause-at
+finish-requires-clause-at g c =
+    let q = c.requires.at.0 in
+    let before = option_map (λ rest. map items.Event (events_of q) ++ rest) (g.H.Host.ahead c.args.host.now) in
+    let t = c.loop-k.invariant.at before q c.requires.at.1 refl in
+    let u = c.in-Ok.ensures.gives c.args.turns before t.0 c.loop-k-test.true t.1.0 t.1.1 in
+    (c.loop-k.k + 1, (u.0, u.1.0))
+
+pub returns-in-Some-clause-gives : goal.returns-in-Some-clause-gives
+returns-in-Some-clause-gives g c = λ before q at ahead.
     let t = c.loop-k.invariant.at before q at ahead in
-    plan-now c.turn.new.self.core.plan c.args.self.now.core.plan c.args.turns _ (g.H.Host.account c.turn.new.host) before (g.H.Host.ahead c.turn.new.host)
-    (sym (c.turn.ensures.plan ∙ c.loop-k.invariant.plan))
-    (subst (λ (end : StepEnd). TurnGives c.turn.new.self.core (names_by g.B.ServiceWithDependents.named c.turn.new.self.boxes) (g.H.Host.account c.turn.new.host) c.loop-k.k c.args.turns (Ok end) before (g.H.Host.ahead c.turn.new.host))
-    c.in-Ok-Served.field-0-is (c.in-Ok-Served.ensures.gives c.args.turns before t.0 c.loop-k-test.true t.1.0 t.1.1))
+    let u = c.in-Ok.ensures.gives c.args.turns before t.0 c.loop-k-test.true t.1.0 t.1.1 in
+    plan-now c.turn.new.self.core.plan c.args.self.now.core.plan c.args.turns _ (g.H.Host.account c.finish.new.host) before (g.H.Host.ahead c.finish.new.host)
+    (sym (c.turn.ensures.plan ∙ c.loop-k.invariant.plan)) (c.finish.ensures.gives (c.loop-k.k + 1) c.args.turns before u.0 (omega (arith, c.loop-k-test.true)) u.1.0 u.1.1)
+
+pub returns-in-Some-clause-counts : goal.returns-in-Some-clause-counts
+returns-in-Some-clause-counts g c =
+    let before = g.H.Host.counts c.args.host.now in
+    let now = g.H.Host.counts c.finish.new.host in
+    subst (λ (answer : Result Outcome RunError). RunCounts answer before now) (sym c.finish.ensures.answers)
+    (counts-end c.in-Ok.end c.in-Some.answer before now (sym c.answer_of.ensures ∙ c.in-Some.is)
+    (subst (λ (x : Counts). EndCounts c.in-Ok.end before x) (sym c.finish.ensures.counts)
+    (counts-joined c.in-Ok.end before (g.H.Host.counts c.loop-k.host) (g.H.Host.counts c.turn.new.host) c.loop-k.invariant.unfailed c.loop-k.invariant.failures c.in-Ok.ensures.counts)))
+
+pub returns-in-Some-clause-configured : goal.returns-in-Some-clause-configured
+returns-in-Some-clause-configured g c =
+    subst (λ (answer : Result Outcome RunError). IsConfigured answer) (sym c.finish.ensures.answers) (configured-end c.in-Ok.end c.in-Some.answer (sym c.answer_of.ensures ∙ c.in-Some.is))
 
 pub loop-k-preserved : goal.loop-k-preserved
-loop-k-preserved g c = record {
-  at = λ before q at ahead. (
-      let t = c.loop-k.invariant.at before q at ahead in
-      subst (λ (end : StepEnd). TurnGives c.turn.new.self.core (names_by g.B.ServiceWithDependents.named c.turn.new.self.boxes) (g.H.Host.account c.turn.new.host) c.loop-k.k c.args.turns (Ok end) before (g.H.Host.ahead c.turn.new.host))
-      c.in-Ok-On.field-0-is (c.in-Ok-On.ensures.gives c.args.turns before t.0 c.loop-k-test.true t.1.0 t.1.1));
-  room = c.in-Ok-On.ensures.room;
-  plan = c.turn.ensures.plan ∙ c.loop-k.invariant.plan;
-  faults = c.in-Ok-On.ensures.counts.0 ∙ c.loop-k.invariant.faults;
-  idles = c.in-Ok-On.ensures.counts.1 ∙ c.loop-k.invariant.idles;
-}
+loop-k-preserved g c =
+    let on : c.in-Ok.end ≡ ends.On = on-end c.in-Ok.end (sym c.answer_of.ensures ∙ c.in-None.is) in
+    let counts = counts-joined c.in-Ok.end (g.H.Host.counts c.args.host.now) (g.H.Host.counts c.loop-k.host) (g.H.Host.counts c.turn.new.host) c.loop-k.invariant.unfailed c.loop-k.invariant.failures c.in-Ok.ensures.counts in
+    record {
+      at = λ before q at ahead. (
+          let t = c.loop-k.invariant.at before q at ahead in
+          subst (λ (end : StepEnd). TurnGives c.turn.new.self.core (names_by g.B.ServiceWithDependents.named c.turn.new.self.boxes) (g.H.Host.account c.turn.new.host) c.loop-k.k c.args.turns (Ok end) before (g.H.Host.ahead c.turn.new.host))
+          on (c.in-Ok.ensures.gives c.args.turns before t.0 c.loop-k-test.true t.1.0 t.1.1));
+      room = c.in-Ok.ensures.room;
+      plan = c.turn.ensures.plan ∙ c.loop-k.invariant.plan;
+      unfailed = counts.unfailed;
+      failures = counts.failures;
+    }
 
 pub close-requires-clause-can : goal.close-requires-clause-can
 close-requires-clause-can g c =
@@ -57,7 +90,7 @@ returns-clause-gives g c = λ before q at ahead.
     let account = g.H.Host.account c.loop-k.host in
     let r : Record = tell t.0 (closing_actions core.plan t.0 None) in
     let spent : c.loop-k.k ≡ c.args.turns = omega arith in
-    let closed = closed-at core core left left (names_by named c.close.new.self.boxes) account account (g.H.Host.account c.close.new.host) c.loop-k.k t.0 refl refl refl t.1.0 c.close.ensures.closed in
+    let closed = closed-at core core left left (names_by named c.close.new.self.boxes) account account (g.H.Host.account c.close.new.host) c.loop-k.k ends.On t.0 refl refl refl t.1.0 c.close.ensures.closed in
     plan-now core.plan c.args.self.now.core.plan c.args.turns _ (g.H.Host.account c.close.new.host) before (g.H.Host.ahead c.close.new.host) (sym c.loop-k.invariant.plan)
     (gives-spent core.plan (g.H.Host.account c.close.new.host) c.args.turns t.0 r before (g.H.Host.ahead c.close.new.host)
-    (subst (λ n. ClosedAt core.plan (g.H.Host.account c.close.new.host) n t.0 r) spent closed) (ahead-now before (g.H.Host.ahead c.loop-k.host) (g.H.Host.ahead c.close.new.host) t.0 c.close.ensures.ahead t.1.1))
+    (subst (λ n. ClosedAt core.plan (g.H.Host.account c.close.new.host) n ends.On t.0 r) spent closed) (ahead-now before (g.H.Host.ahead c.loop-k.host) (g.H.Host.ahead c.close.new.host) t.0 c.close.ensures.ahead t.1.1))

@@ -1,17 +1,19 @@
 use Rattle.std.proofs.Common.{◌≡◌, List, Option}
 use Rattle.svc_record.specs.declared.item.Item.{Item}
+use Rattle.svc_record.specs.declared.action.StepEnd.TheVariants as ends
 use Rattle.svc_record.specs.Record.{Record}
+use Rattle.svc_server.specs.Runs.{IsUnfailed}
 use Rattle.svc_server.specs.Handing.{names_by}
-use Rattle.svc_server.specs.Turns.{IsAt, IsAhead, HasRoom}
+use Rattle.svc_server.specs.Turns.{IsAt, IsAhead, HasRoom, HasNotFallen}
 use Rattle.svc_server.proofs.turns.Machine.take_turns.Given as goal
 
 abbrev pub invariant-loop-k : goal.invariant-loop-k
 invariant-loop-k g l = record {
-  at : (before : Option (List Item)) (q : Record) → IsAt l.initial.self.core (names_by g.B.ServiceWithDependents.named l.initial.self.boxes) (g.H.Host.account l.initial.host) 0 q
+  at : (before : Option (List Item)) (q : Record) → IsAt l.initial.self.core (names_by g.B.ServiceWithDependents.named l.initial.self.boxes) (g.H.Host.account l.initial.host) 0 ends.On q
       → IsAhead before (g.H.Host.ahead l.initial.host) q
-      → (t : Record) × (IsAt l.self.core (names_by g.B.ServiceWithDependents.named l.self.boxes) (g.H.Host.account l.host) l.k t × IsAhead before (g.H.Host.ahead l.host) t);
+      → (t : Record) × (IsAt l.self.core (names_by g.B.ServiceWithDependents.named l.self.boxes) (g.H.Host.account l.host) l.k ends.On t × IsAhead before (g.H.Host.ahead l.host) t);
   room : HasRoom l.self.core l.self.closing (g.H.Host.spare l.host);
   plan : l.self.core.plan ≡ l.initial.self.core.plan;
-  faults : (g.H.Host.counts l.host).faults ≡ (g.H.Host.counts l.initial.host).faults;
-  idles : (g.H.Host.counts l.host).idles ≡ (g.H.Host.counts l.initial.host).idles;
+  unfailed : IsUnfailed (g.H.Host.counts l.initial.host) (g.H.Host.counts l.host);
+  failures : HasNotFallen (g.H.Host.counts l.initial.host).failures (g.H.Host.counts l.host).failures;
 }

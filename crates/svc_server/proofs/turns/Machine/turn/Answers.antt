@@ -1,12 +1,12 @@
 use Rattle.std.proofs.Common.{◌∷◌, None, ap, ◌∙◌, sym}
 use Rattle.std.specs.Option.{option_map}
-use Rattle.svc_record.specs.declared.entry.Entry.TheVariants.{Got}
+use Rattle.svc_record.specs.declared.action.StepEnd.TheVariants as ends
 use Rattle.svc_record.specs.declared.item.Item.TheVariants as items
 use Rattle.svc_record.specs.Record.{tell}
-use Rattle.svc_server.specs.Hosts.{with_entry}
 use Rattle.svc_record.specs.Tail.{closing_actions}
 use Rattle.svc_server.specs.Handing.{names_by}
-use Rattle.svc_server.proofs.TurnLemmas.{closed-at, gives-no_memory, gives-idle, gives-fault, plan-now, ahead-now, ahead-event, came-account, came-ahead, at-event}
+use Rattle.svc_server.proofs.TurnLemmas.{closed-at, gives-no_memory, gives-idle, gives-fault, plan-now, ahead-now, gives-came, at-came}
+use Rattle.svc_server.proofs.CountLemmas.{counts-came, configured-event}
 use Rattle.svc_server.proofs.turns.Machine.turn.Goals as goal
 
 pub returns-then-is_err-clause-gives : goal.returns-then-is_err-clause-gives
@@ -16,23 +16,34 @@ returns-then-is_err-clause-gives g c = λ turns before q lt at ahead.
     let left = names_by named c.args.self.now.boxes in
     let same_left = ap (names_by named) c.make_room.ensures.boxes in
     let closed = closed-at core c.make_room.new.self.core left (names_by named c.make_room.new.self.boxes) (names_by named c.close.new.self.boxes) (g.H.Host.account c.args.host.now)
-    (g.H.Host.account c.make_room.new.host) (g.H.Host.account c.close.new.host) c.args.k q c.make_room.ensures.core same_left c.make_room.ensures.account at c.close.ensures.closed in
+    (g.H.Host.account c.make_room.new.host) (g.H.Host.account c.close.new.host) c.args.k ends.On q c.make_room.ensures.core same_left c.make_room.ensures.account at c.close.ensures.closed in
     plan-now core.plan c.close.new.self.core.plan turns _ (g.H.Host.account c.close.new.host) before (g.H.Host.ahead c.close.new.host) (ap (λ x. x.plan) (c.close.ensures.core ∙ c.make_room.ensures.core))
     (gives-no_memory core.plan (g.H.Host.account c.close.new.host) c.args.k turns q (tell q (closing_actions core.plan q None)) before (g.H.Host.ahead c.close.new.host) closed lt
     (ahead-now before (g.H.Host.ahead c.args.host.now) (g.H.Host.ahead c.close.new.host) q (c.close.ensures.ahead ∙ c.make_room.ensures.ahead) ahead))
 
+pub take_event-requires-clause-at : goal.take_event-requires-clause-at
+take_event-requires-clause-at g c =
+    let named = g.B.ServiceWithDependents.named in
+    at-came c.args.self.now.core c.make_room.new.self.core (names_by named c.args.self.now.boxes) (names_by named c.make_room.new.self.boxes) (g.H.Host.account c.args.host.now) (g.H.Host.account c.make_room.new.host)
+    (g.H.Host.account c.next.new.self) c.args.k (g.H.Host.last c.next.new.self) c.requires.at.0 c.in-Event.ensures.event c.make_room.ensures.core (ap (names_by named) c.make_room.ensures.boxes) c.make_room.ensures.account
+    c.in-Event.ensures.account c.requires.at.1
+
 pub returns-in-Event-clause-gives : goal.returns-in-Event-clause-gives
 returns-in-Event-clause-gives g c = λ turns before q lt at ahead.
     let named = g.B.ServiceWithDependents.named in
-    let e = c.event.result.now in
-    let account = came-account (g.H.Host.last c.next.new.self) e (g.H.Host.account c.make_room.new.host) (g.H.Host.account c.next.new.self) c.event.ensures c.in-Event.ensures.account in
-    let next_ahead = came-ahead (g.H.Host.last c.next.new.self) e (g.H.Host.ahead c.make_room.new.host) (g.H.Host.ahead c.next.new.self) c.event.ensures c.in-Event.ensures.ahead in
-    c.take_event.ensures.gives turns before q lt
-    (at-event c.args.self.now.core c.make_room.new.self.core (names_by named c.args.self.now.boxes) (names_by named c.make_room.new.self.boxes) (g.H.Host.account c.args.host.now)
-    (g.H.Host.account c.next.new.self) c.args.k e q c.make_room.ensures.core (ap (names_by named) c.make_room.ensures.boxes)
-    (account ∙ ap (option_map (with_entry (Got e))) c.make_room.ensures.account) at)
-    (ahead-event before (g.H.Host.ahead c.make_room.new.host) (g.H.Host.ahead c.next.new.self) q e
-    (ahead-now before (g.H.Host.ahead c.args.host.now) (g.H.Host.ahead c.make_room.new.host) q c.make_room.ensures.ahead ahead) next_ahead)
+    gives-came c.args.self.now.core c.make_room.new.self.core c.take_event.new.self.core (names_by named c.args.self.now.boxes) (names_by named c.make_room.new.self.boxes) (names_by named c.take_event.new.self.boxes)
+    (g.H.Host.account c.args.host.now) (g.H.Host.account c.make_room.new.host) (g.H.Host.account c.next.new.self) (g.H.Host.account c.take_event.new.host) c.args.k turns c.take_event.result before
+    (g.H.Host.ahead c.args.host.now) (g.H.Host.ahead c.make_room.new.host) (g.H.Host.ahead c.next.new.self) (g.H.Host.ahead c.take_event.new.host) (g.H.Host.last c.next.new.self) q
+    c.in-Event.ensures.event c.make_room.ensures.core (ap (names_by named) c.make_room.ensures.boxes) c.make_room.ensures.account c.in-Event.ensures.account c.make_room.ensures.ahead c.in-Event.ensures.ahead
+    c.take_event.ensures.gives lt at ahead
+
+pub returns-in-Event-clause-counts : goal.returns-in-Event-clause-counts
+returns-in-Event-clause-counts g c =
+    counts-came (g.H.Host.last c.next.new.self) c.take_event.result (g.H.Host.counts c.args.host.now) (g.H.Host.counts c.make_room.new.host) (g.H.Host.counts c.next.new.self) (g.H.Host.counts c.take_event.new.host)
+    c.in-Event.ensures.event c.in-Event.ensures.counts c.take_event.ensures.failed c.take_event.ensures.cause c.make_room.ensures.counts c.take_event.ensures.counts
+
+pub returns-in-Event-clause-configured : goal.returns-in-Event-clause-configured
+returns-in-Event-clause-configured g c = configured-event c.take_event.result c.take_event.ensures.cause
 
 pub returns-in-None-clause-gives : goal.returns-in-None-clause-gives
 returns-in-None-clause-gives g c = λ turns before q lt at ahead.
@@ -41,7 +52,7 @@ returns-in-None-clause-gives g c = λ turns before q lt at ahead.
     let left = names_by named c.args.self.now.boxes in
     let same_left = ap (names_by named) c.make_room.ensures.boxes in
     let closed = closed-at core c.make_room.new.self.core left (names_by named c.make_room.new.self.boxes) (names_by named c.close-in-None.new.self.boxes) (g.H.Host.account c.args.host.now)
-    (g.H.Host.account c.next.new.self) (g.H.Host.account c.close-in-None.new.host) c.args.k q c.make_room.ensures.core same_left (c.in-None.ensures.account ∙ c.make_room.ensures.account) at c.close-in-None.ensures.closed in
+    (g.H.Host.account c.next.new.self) (g.H.Host.account c.close-in-None.new.host) c.args.k ends.On q c.make_room.ensures.core same_left (c.in-None.ensures.account ∙ c.make_room.ensures.account) at c.close-in-None.ensures.closed in
     plan-now core.plan c.close-in-None.new.self.core.plan turns _ (g.H.Host.account c.close-in-None.new.host) before (g.H.Host.ahead c.close-in-None.new.host)
     (ap (λ x. x.plan) (c.close-in-None.ensures.core ∙ c.make_room.ensures.core))
     (gives-idle core.plan (g.H.Host.account c.close-in-None.new.host) c.args.k turns q (tell q (closing_actions core.plan q None)) before (g.H.Host.ahead c.make_room.new.host)
@@ -55,7 +66,7 @@ returns-in-Failed-clause-gives g c = λ turns before q lt at ahead.
     let left = names_by named c.args.self.now.boxes in
     let same_left = ap (names_by named) c.make_room.ensures.boxes in
     let closed = closed-at core c.make_room.new.self.core left (names_by named c.make_room.new.self.boxes) (names_by named c.close-in-Failed.new.self.boxes) (g.H.Host.account c.args.host.now)
-    (g.H.Host.account c.next.new.self) (g.H.Host.account c.close-in-Failed.new.host) c.args.k q c.make_room.ensures.core same_left (c.in-Failed.ensures.account ∙ c.make_room.ensures.account) at
+    (g.H.Host.account c.next.new.self) (g.H.Host.account c.close-in-Failed.new.host) c.args.k ends.On q c.make_room.ensures.core same_left (c.in-Failed.ensures.account ∙ c.make_room.ensures.account) at
     c.close-in-Failed.ensures.closed in
     plan-now core.plan c.close-in-Failed.new.self.core.plan turns _ (g.H.Host.account c.close-in-Failed.new.host) before (g.H.Host.ahead c.close-in-Failed.new.host)
     (ap (λ x. x.plan) (c.close-in-Failed.ensures.core ∙ c.make_room.ensures.core))
