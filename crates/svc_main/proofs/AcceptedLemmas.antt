@@ -8,17 +8,14 @@ use Rattle.std.proofs.lemmas.List.{length-map}
 use Rattle.svc_graph.specs.GraphData.{GraphData}
 use Rattle.svc_graph.specs.Graphs.{node_count}
 use Rattle.svc_graph.specs.declared.plan.EndpointPlan.{EndpointPlan}
-use Rattle.svc_graph.specs.declared.plan.Kind.{Kind}
-use Rattle.svc_graph.specs.declared.plan.Kind.TheVariants.{Plain, Notifying, Bootstrap}
 use Rattle.svc_record.specs.declared.plan.ServicePlan.{ServicePlan}
-use Rattle.svc_record.specs.Plans.{is_kind}
 use Rattle.svc_text.specs.declared.service.EndpointLine.{EndpointLine}
 use Rattle.svc_text.specs.declared.service.ServiceLine.{ServiceLine}
 use Rattle.svc_text.specs.ScriptPlans.{endpoint_of}
 use Rattle.svc_text.specs.ServiceLines.{is_address}
 use Rattle.svc_text.specs.Accepted.{AreAccepted, IsAccepted}
 use Rattle.svc_server.specs.declared.server.refusals.AddError.{AddError}
-use Rattle.svc_server.specs.declared.server.refusals.AddError.TheVariants.{TooMany, TooManyEndpoints, BadAddressText, UnknownFilter, Unbuilt, NoMemory}
+use Rattle.svc_server.specs.declared.server.refusals.AddError.TheVariants.{TooMany, TooManyEndpoints, BadAddressText, UnknownFilter, NoMemory}
 use Rattle.svc_server.specs.Additions.{fault_of, cause_if, first_cause, has_filter, is_bad_address, IsReason}
 use Rattle.svc_main.specs.Services.{answered}
 use Rattle.svc_main.proofs.ServerLemmas.{HasFirst}
@@ -29,11 +26,6 @@ good_address e h =
     let some : 0 < length e.address = ltb-true 0 (length e.address) parts.0 in
     let few : length e.address ≤ 4096 = leb-true (length e.address) 4096 parts.1 in
     rw (ne_eqb (length e.address) 0 (omega arith), le-ltb 4096 (length e.address) few) refl
-
-boots_not : (kind : Kind) → (kind ≡ Bootstrap → ⊥) → is_kind Bootstrap kind ≡ false
-boots_not Plain h = refl
-boots_not Notifying h = refl
-boots_not Bootstrap h = absurd (h refl)
 
 -- where no line's endpoint passes a test, none is found
 past_all : (p : EndpointPlan → Bool) (lines : List EndpointLine) → All (λ e. p (endpoint_of e) ≡ false) lines → position_or_len p (map endpoint_of lines) ≡ length lines
@@ -49,9 +41,9 @@ found_none p lines none =
     rw (le-ltb (position_or_len p (map endpoint_of lines)) (length (map endpoint_of lines)) past) refl
 
 -- of these causes none stands
-none_stands : (full many boots : Bool) (bad filtered : Option ℕ) → full ≡ false → many ≡ false → bad ≡ None → filtered ≡ None → boots ≡ false
-    → first_cause (cause_if full TooMany ∷ cause_if many TooManyEndpoints ∷ option_map BadAddressText bad ∷ option_map UnknownFilter filtered ∷ cause_if boots Unbuilt ∷ []) ≡ None
-none_stands full many boots bad filtered ef em eb ei eo = rw (ef, em, eb, ei, eo) refl
+none_stands : (full many : Bool) (bad filtered : Option ℕ) → full ≡ false → many ≡ false → bad ≡ None → filtered ≡ None
+    → first_cause (cause_if full TooMany ∷ cause_if many TooManyEndpoints ∷ option_map BadAddressText bad ∷ option_map UnknownFilter filtered ∷ []) ≡ None
+none_stands full many bad filtered ef em eb ei = rw (ef, em, eb, ei) refl
 
 -- no cause stands against the next service
 no_cause : (lines : List ServiceLine) (k : ℕ) (line : ServiceLine) (g : GraphData) (answers : List ServicePlan) → AreAccepted lines → HasFirst lines k g answers → k < length lines → line ≡ get_or lines k line
@@ -59,13 +51,12 @@ no_cause : (lines : List ServiceLine) (k : ℕ) (line : ServiceLine) (g : GraphD
 no_cause lines k line g answers ok first lt read =
     let good : IsAccepted line = rw read (ok.each k line lt) in
     let few : length (map endpoint_of line.endpoints) ≤ 64 = omega (arith, good.few_endpoints, length-map line.endpoints endpoint_of) in
-    none_stands (nat_le 1024 (node_count g)) (nat_lt 64 (length (map endpoint_of line.endpoints))) (is_kind Bootstrap line.kind)
+    none_stands (nat_le 1024 (node_count g)) (nat_lt 64 (length (map endpoint_of line.endpoints)))
     (position is_bad_address (map endpoint_of line.endpoints)) (position has_filter (map endpoint_of line.endpoints))
     (lt-leb 1024 (node_count g) (omega (arith, first.nodes.count, ok.few)))
     (le-ltb 64 (length (map endpoint_of line.endpoints)) few)
     (found_none is_bad_address line.endpoints (λ i d below. good_address (get_or line.endpoints i d) (good.addresses i d below)))
     (found_none has_filter line.endpoints (λ i d below. refl))
-    (boots_not line.kind good.boots_not)
 
 reason_is : (fault : Option AddError) (reason : AddError) → fault ≡ None → IsReason fault reason → reason ≡ NoMemory
 reason_is fault reason none (inl memory) = memory

@@ -1,11 +1,12 @@
 -- The server that a script's services are in, and the plan that it is run by.
-use Rattle.std.proofs.Common.{◌≡◌, ℕ, List, [], ◌∷◌, ◌++◌, length, map, take, get_or, Option, None, refl, ap, sym, ◌∙◌, arith, ◌+◌, ◌<◌, filter}
+use Rattle.std.proofs.Common.{◌≡◌, ◌||◌, ℕ, Bool, false, List, [], ◌∷◌, ◌++◌, length, map, take, get_or, Option, Some, None, refl, ap, subst, sym, ◌∙◌, arith, ◌+◌, ◌<◌, filter}
 use Rattle.std.specs.List.{range_with_len}
 use Rattle.std.proofs.lemmas.List.{map-append, map_more, take_all}
 use Rattle.std.proofs.lemmas.List.Elements.{filter_agree}
 use Rattle.svc_conf.specs.declared.server.configuration.ServerConf.{ServerConf}
 use Rattle.svc_conf.specs.declared.server.configuration.Opt.{Opt}
-use Rattle.svc_conf.specs.Configuration.{defaults}
+use Rattle.svc_conf.specs.ConfigurationText.{merged}
+use Rattle.svc_text.specs.Script.{Parts}
 use Rattle.svc_graph.specs.GraphData.{GraphData}
 use Rattle.svc_graph.specs.Graphs.{is_edge, with_node}
 use Rattle.svc_record.specs.declared.plan.ServicePlan.{ServicePlan}
@@ -15,7 +16,7 @@ use Rattle.svc_text.specs.Edges.{HasEdges}
 use Rattle.svc_text.proofs.EdgeLemmas.{HasNodes, nodes_none, nodes_more, nodes_start}
 use Rattle.svc_text.specs.ScriptPlans as script
 use Rattle.svc_server.specs.Servers.{depends_of, with_depends, plan_of, IsSound}
-use Rattle.svc_main.specs.Services.{answered, HasLines}
+use Rattle.svc_main.specs.Services.{answered, HasLines, IsServerOf}
 
 -- ---- the plan
 
@@ -32,14 +33,25 @@ same_services services g s (x ∷ xs) h =
     ap (λ (ds : List ℕ). record (answered x) { depends = ds } ∷ with_depends g (s + 1) (map answered xs)) (same_depends services g s h)
     ∙ ap (λ (more : List ServicePlan). script.service_plan services s x ∷ more) (same_services services g (s + 1) xs h)
 
--- the server of a script's services is run by the plan that the lines say
-pub same_plan : (conf : ServerConf) (options : Option Opt) (services : List ServiceLine) (g : GraphData) (answers : List ServicePlan) → conf ≡ defaults → options ≡ None → HasLines services (length services) g answers
-    → plan_of conf options g answers ≡ script.plan_of services
-same_plan conf options services g answers c o h =
-    ap (λ (x : ServerConf). plan_of x options g answers) c
-    ∙ ap (λ (x : Option Opt). plan_of defaults x g answers) o
-    ∙ ap (plan_of defaults None g) h.answers_are
-    ∙ ap (λ (x : List ServicePlan). record (script.plan_of services) { services = x }) (same_services services g 0 services h.edges)
+-- the server of a script is run by the plan of the script's parts with the flags
+pub same_plan : (opt : Opt) (parts : Parts) (conf : ServerConf) (options : Option Opt) (eager : Bool) (g : GraphData) (answers : List ServicePlan) → IsServerOf opt parts conf options eager g answers
+    → plan_of conf options eager g answers ≡ script.plan_of opt parts
+same_plan opt parts conf options eager g answers h =
+    ap (λ (x : ServerConf). plan_of x options eager g answers) h.configuration
+    ∙ ap (λ (x : Option Opt). plan_of (merged opt parts.conf) x eager g answers) h.flags
+    ∙ ap (λ (x : Bool). plan_of (merged opt parts.conf) (Some opt) x g answers) h.boots_first
+    ∙ ap (plan_of (merged opt parts.conf) (Some opt) parts.eager g) h.lines.answers_are
+    ∙ ap (λ (x : List ServicePlan). record (script.plan_of opt parts) { services = x }) (same_services parts.services g 0 parts.services h.lines.edges)
+
+-- a server with the script's services that was configured is the script's
+pub server_is : (opt : Opt) (parts : Parts) (conf : ServerConf) (options : Option Opt) (before eager : Bool) (g h : GraphData) (answers more : List ServicePlan) → conf ≡ merged opt parts.conf → options ≡ Some opt
+    → before ≡ false → eager ≡ (before || parts.eager) → h ≡ g → more ≡ answers → HasLines parts.services (length parts.services) g answers → IsServerOf opt parts conf options eager h more
+server_is opt parts conf options before eager g h answers more c o b e same_graph same_answers lines = record {
+  configuration = c;
+  flags = o;
+  boots_first = e ∙ ap (λ (x : Bool). x || parts.eager) b;
+  lines = subst (λ (x : GraphData). HasLines parts.services (length parts.services) x more) (sym same_graph) (subst (HasLines parts.services (length parts.services) g) (sym same_answers) lines);
+}
 
 -- ---- the graph and the services
 
@@ -48,7 +60,7 @@ pub with_edges : (lines : List ServiceLine) (g h : GraphData) (answers : List Se
 with_edges lines g h answers old edges names = record {
   answers_are = old.answers_are;
   edges = edges;
-  sound = record { names = names ∙ old.sound.names; limits = old.sound.limits; plain = old.sound.plain };
+  sound = record { names = names ∙ old.sound.names; limits = old.sound.limits; unfiltered = old.sound.unfiltered };
 }
 
 -- ---- one service after the other

@@ -1,82 +1,35 @@
--- A whole script whose events run through is served, unless memory runs out.
-use Rattle.std.proofs.Common.{◌≡◌, ℕ, Bool, true, false, inl, inr, List, [], ◌∷◌, ◌++◌, map, length, Option, Some, None, Ok, Err, ap, sym, ◌∙◌, subst, arith, refl, append-nil, append_assoc, length-append}
+-- A whole script is served.
+use Rattle.std.proofs.Common.{◌≡◌, ℕ, true, inl, inr, List, [], ◌∷◌, ◌++◌, map, length, Option, Some, None, Ok, Err, ap, sym, ◌∙◌, subst, arith, refl, append-nil, append_assoc}
 use mathlib.Core.Bool.{false≢true}
+use Rattle.svc_conf.specs.Streams.{Rose}
+use Rattle.svc_conf.specs.declared.server.configuration.Opt.{Opt}
+use Rattle.svc_conf.specs.ConfigurationText.{merged}
+use Rattle.svc_record.specs.declared.plan.Plan.{Plan}
+use Rattle.svc_record.specs.declared.action.StepEnd.{StepEnd}
+use Rattle.svc_record.specs.declared.action.StepEnd.TheVariants as ends
+use Rattle.svc_record.specs.declared.entry.Entry.TheVariants.{Got}
+use Rattle.svc_record.specs.declared.event.Event.{Event}
+use Rattle.svc_record.specs.declared.item.Item.{Item}
+use Rattle.svc_record.specs.declared.item.Item.TheVariants as items
+use Rattle.svc_record.specs.Record.{Record}
+use Rattle.svc_record.specs.Drain.{has_passed}
+use Rattle.svc_record.specs.Ends.{has_ended}
+use Rattle.svc_record.specs.Tail.{closing_actions}
 use Rattle.svc_text.specs.Dependencies.{RefusesAt}
 use Rattle.svc_text.proofs.EdgeLemmas.{refused_some}
 use Rattle.svc_text.specs.Script.{Parts, script}
 use Rattle.svc_text.specs.ScriptPlans.{plan_of}
-use Rattle.svc_conf.specs.Streams.{Rose}
-use Rattle.svc_main.specs.declared.outcome.StatusLine.{StatusLine}
-use Rattle.svc_main.specs.declared.outcome.RunEnd.{RunEnd}
-use Rattle.svc_main.specs.declared.outcome.StatusLine.TheVariants.{Words, Line, ReadFault, Run}
-use Rattle.svc_main.specs.declared.outcome.RunEnd.TheVariants.{Served, HostFault, Stray, OutOfEvents}
-use Rattle.svc_main.specs.Status.{status_of}
-use Rattle.svc_record.specs.declared.plan.Plan.{Plan}
-use Rattle.svc_record.specs.declared.entry.Entry.TheVariants.{Got, Told}
-use Rattle.svc_record.specs.declared.event.Event.{Event}
-use Rattle.svc_record.specs.declared.event.Event.TheVariants.{Moment, Ready, Ended, Bound, InUse, BindFailed, Adopted, AdoptFailed, Signal}
-use Rattle.svc_record.specs.declared.event.ShutdownSignal.{ShutdownSignal}
-use Rattle.svc_record.specs.declared.event.ShutdownSignal.TheVariants.{FastShutdown}
-use Rattle.svc_record.specs.declared.item.Item.{Item}
-use Rattle.svc_record.specs.declared.item.Item.TheVariants as items
-use Rattle.svc_record.specs.Record.{Record, first_or, signal_of}
-use Rattle.svc_record.specs.Ends.{has_ended}
-use Rattle.svc_record.specs.Drain.{has_passed_by}
-use Rattle.svc_record.specs.Tail.{closing_actions}
 use Rattle.svc_server.specs.declared.run.RunError.TheVariants as errors
-use Rattle.svc_server.specs.Runs.{events_of, IsClosed, IsStray, RunTakes}
+use Rattle.svc_server.specs.Runs.{events_of, IsClosed, IsEndedSo, IsStray, RunTakes}
+use Rattle.svc_server.specs.Servers.{runnable}
 use Rattle.svc_server.proofs.TurnLemmas.{events-tell}
-use Rattle.svc_main.specs.Program.{RanText, RunText, IsAnswer, Faults, RunsThrough, IsWholeScript, RefusesIn}
-
--- ---- a record whose last event is the signal has passed
-
--- the last of the events, if there is one, else e
-abbrev last_event : Event → List Event → Event
-last_event e [] = e
-last_event e (x ∷ more) = last_event x more
-
-last-append : (e x : Event) (es : List Event) → last_event e (es ++ x ∷ []) ≡ x
-last-append e x [] = refl
-last-append e x (y ∷ es) = last-append y x es
-
--- the event is a signal
-abbrev is_signal_event : Event → Bool
-is_signal_event (Signal kind) = true
-is_signal_event _ = false
-
--- there is a signal
-abbrev is_some_signal : Option ShutdownSignal → Bool
-is_some_signal (Some kind) = true
-is_some_signal None = false
-
-first_or-some : (o : Option ShutdownSignal) (kind : ShutdownSignal) → is_some_signal (first_or o kind) ≡ true
-first_or-some (Some earlier) kind = refl
-first_or-some None kind = refl
-
--- the last event is this one
-last_is : (x : Event) (es front : List Event) → es ++ x ∷ [] ≡ front ++ Signal FastShutdown ∷ [] → x ≡ Signal FastShutdown
-last_is x es front h = sym (last-append x x es) ∙ (ap (last_event x) h ∙ last-append x (Signal FastShutdown) front)
-
-signalled : (q : Record) (front : List Event) → events_of q ≡ front ++ Signal FastShutdown ∷ [] → is_some_signal (signal_of q) ≡ true
-signalled [] front h = absurd (omega (arith, ap length h, length-append front (Signal FastShutdown ∷ [])))
-signalled (Told a ∷ q) front h = signalled q front h
-signalled (Got (Signal kind) ∷ q) front h = first_or-some (signal_of q) kind
-signalled (Got (Ready s) ∷ q) front h = absurd (false≢true (ap is_signal_event (last_is (Ready s) (events_of q) front h)))
-signalled (Got (Moment ms) ∷ q) front h = absurd (false≢true (ap is_signal_event (last_is (Moment ms) (events_of q) front h)))
-signalled (Got (Ended s) ∷ q) front h = absurd (false≢true (ap is_signal_event (last_is (Ended s) (events_of q) front h)))
-signalled (Got (Bound s i fd) ∷ q) front h = absurd (false≢true (ap is_signal_event (last_is (Bound s i fd) (events_of q) front h)))
-signalled (Got (InUse s i) ∷ q) front h = absurd (false≢true (ap is_signal_event (last_is (InUse s i) (events_of q) front h)))
-signalled (Got (BindFailed s i) ∷ q) front h = absurd (false≢true (ap is_signal_event (last_is (BindFailed s i) (events_of q) front h)))
-signalled (Got (Adopted s i) ∷ q) front h = absurd (false≢true (ap is_signal_event (last_is (Adopted s i) (events_of q) front h)))
-signalled (Got (AdoptFailed s i) ∷ q) front h = absurd (false≢true (ap is_signal_event (last_is (AdoptFailed s i) (events_of q) front h)))
-
-passed_by : (p : Plan) (q : Record) (o : Option ShutdownSignal) → is_some_signal o ≡ true → has_passed_by p q o ≡ true
-passed_by p q (Some FastShutdown) h = refl
-passed_by p q None h = absurd (false≢true h)
-
--- a record that got the signal last has ended
-ended_by_signal : (p : Plan) (q : Record) (front : List Event) → events_of q ≡ front ++ Signal FastShutdown ∷ [] → has_ended p q ≡ true
-ended_by_signal p q front h = passed_by p q (signal_of q) (signalled q front h)
+use Rattle.svc_main.specs.declared.outcome.StatusLine.{StatusLine}
+use Rattle.svc_main.specs.declared.outcome.StatusLine.TheVariants.{Words, Line, ReadFault, Run}
+use Rattle.svc_main.specs.declared.outcome.RunEnd.{RunEnd}
+use Rattle.svc_main.specs.declared.outcome.RunEnd.TheVariants.{Served, Tested, Parent, Config, HostFault, Bootstrap, Stray, OutOfEvents}
+use Rattle.svc_main.specs.Status.{end_status, status_of}
+use Rattle.svc_main.specs.CommandWords.{AcceptsWords, RefusesWords, flags_of}
+use Rattle.svc_main.specs.Program.{IsRunOf, RanText, RunText, IsAnswer, Faults, EndsServed, RunsThrough, IsWholeScript, RefusesIn}
 
 -- ---- what was taken of items that are events alone
 
@@ -120,7 +73,17 @@ not_out p script_items left r finished t s takes =
     let events : events_of r ≡ events_of finished = ap events_of s.closed ∙ events-tell finished (closing_actions p finished None) in
     let all : map items.Event t.events ≡ map items.Event (events_of finished) =
     sym t.only_events ∙ takes.taken ∙ ap (λ (xs : List Item). map items.Event (events_of r) ++ xs) takes.left ∙ append-nil (map items.Event (events_of r)) ∙ ap (map items.Event) events in
-    false≢true (sym s.goes_on ∙ ended_by_signal p finished t.signal.0 (sym (same_events t.events (events_of finished) all) ∙ t.signal.1))
+    let passed : has_passed p finished ≡ true = t.passes finished s.right (same_events t.events (events_of finished) all) in
+    let ended : has_ended p finished ≡ true = rw passed refl in
+    false≢true (sym s.goes_on ∙ ended)
+
+-- it doesn't end otherwise than by its shutdown
+not_early : (p : Plan) (end : StepEnd) (script_items left : List Item) (r finished : Record) → (EndsServed end → ⊥) → RunsThrough p script_items → IsEndedSo p end r finished → script_items ≡ map items.Event (events_of r) ++ left → ⊥
+not_early p end script_items left r finished never t s taken =
+    let events : events_of r ≡ events_of finished = ap events_of s.closed ∙ events-tell finished (closing_actions p finished None) in
+    let begin : map items.Event t.events ≡ map items.Event (events_of finished) ++ left = sym t.only_events ∙ taken ∙ ap (λ (xs : List Event). map items.Event xs ++ left) events in
+    let more = front_of t.events (events_of finished) left begin in
+    never (subst EndsServed (sym s.ended) (t.ends_served finished more.0 s.right more.1))
 
 not_fault : (p : Plan) (script_items left : List Item) (r : Record) → RunsThrough p script_items → RunTakes (Err errors.HostFault) r script_items left → ⊥
 not_fault p script_items left r t takes = no_fault t.events (events_of r) left (sym t.only_events ∙ takes.taken)
@@ -130,15 +93,30 @@ one_script : (bytes : List ℕ) (p q : Parts) → script bytes ≡ Ok p → scri
 one_script bytes p q e f = cc
 
 -- a text of the run of a script is one of this script's
-ran_of : (bytes : List ℕ) (parts : Parts) (end : RunEnd) (out : List ℕ) → script bytes ≡ Ok parts → RunText (Some bytes) end out → RanText parts end out
-ran_of bytes parts end out says t = subst (λ (q : Parts). RanText q end out) (one_script bytes t.0 parts t.1.1.says says) t.1.0
+ran_of : (opt : Opt) (bytes : List ℕ) (parts : Parts) (end : RunEnd) (out : List ℕ) → script bytes ≡ Ok parts → RunText opt (Some bytes) end out → RanText opt parts end out
+ran_of opt bytes parts end out says t = subst (λ (q : Parts). RanText opt q end out) (one_script bytes t.0 parts t.1.1.says says) t.1.0
+
+-- words that are taken aren't refused
+not_refused : (words : List (List ℕ)) → AcceptsWords words → RefusesWords words → ⊥
+not_refused words a (inl never) = never a.run
+not_refused words a (inr refused) = refused.not_taken a.flags
+
+-- a run over items that run through, with a configuration that is accepted, ends with the status 0
+through_served : (opt : Opt) (parts : Parts) (end : RunEnd) (out : List ℕ) (r : Record) → runnable (merged opt parts.conf) ≡ Ok tt → RunsThrough (plan_of opt parts) parts.items → IsRunOf opt parts end out r → end_status end ≡ 0
+through_served opt parts Served out r c t run = refl
+through_served opt parts Tested out r c t run = refl
+through_served opt parts (Parent n) out r c t run = absurd (not_early (plan_of opt parts) (ends.Parent n) parts.items run.left r run.ends.0 (λ e. e) t run.ends.1 run.takes.taken)
+through_served opt parts (Config key) out r c t run = absurd (let refused = run.judged in cc)
+through_served opt parts HostFault out r c t run = absurd (not_fault (plan_of opt parts) parts.items run.left r t run.takes)
+through_served opt parts (Bootstrap error) out r c t run = absurd (not_early (plan_of opt parts) (ends.Ended error) parts.items run.left r run.ends.0 (λ e. e) t run.ends.1 run.takes.taken)
+through_served opt parts (Stray k) out r c t run = absurd (not_stray (plan_of opt parts) parts.items run.left k r run.ends.0 run.ends.1.0 t run.ends.1.1 run.takes)
+through_served opt parts OutOfEvents out r c t run = absurd (not_out (plan_of opt parts) parts.items run.left r run.ends.0 t run.ends.1 run.takes)
 
 -- the line of the answer to a whole script says that the run served, or that the source failed
 pub whole_is_served : (words : List (List ℕ)) (bytes : List ℕ) (parts : Parts) (line : StatusLine) (out : List ℕ) (before now : ℕ)
     → IsWholeScript words bytes parts → IsAnswer words (Some bytes) line out → Faults line before now → (Rose before now → ⊥) → status_of line ≡ 0
-whole_is_served words bytes parts Words out before now w a f n = absurd (a.0 w.takes)
+whole_is_served words bytes parts Words out before now w a f n = absurd (not_refused words w.takes a.0)
 whole_is_served words bytes parts ReadFault out before now w a f n = absurd (n f)
-whole_is_served words bytes parts (Run Served) out before now w a f n = refl
 whole_is_served words bytes parts (Line k) out before now w a f n = absurd (by a.2)
   where
     by : RefusesIn bytes k → ⊥
@@ -146,12 +124,6 @@ whole_is_served words bytes parts (Line k) out before now w a f n = absurd (by a
     by (inr (inl edge)) =
         refused_some parts.services edge.1.1.0 (subst (λ (q : Parts). RefusesAt q.services edge.1.1.0) (one_script bytes edge.0 parts edge.1.0 w.is_script.says) edge.1.1.1.0) w.is_script.edges
     by (inr (inr long)) = let short = w.short in omega (arith, long.1)
-whole_is_served words bytes parts (Run HostFault) out before now w a f n =
-    let run = ran_of bytes parts HostFault out w.is_script.says a.1 in
-    absurd (not_fault (plan_of parts.services) parts.items run.1.left run.0 w.through run.1.takes)
-whole_is_served words bytes parts (Run (Stray k)) out before now w a f n =
-    let run = ran_of bytes parts (Stray k) out w.is_script.says a.1 in
-    absurd (not_stray (plan_of parts.services) parts.items run.1.left k run.0 run.1.ends.0 run.1.ends.1.0 w.through run.1.ends.1.1 run.1.takes)
-whole_is_served words bytes parts (Run OutOfEvents) out before now w a f n =
-    let run = ran_of bytes parts OutOfEvents out w.is_script.says a.1 in
-    absurd (not_out (plan_of parts.services) parts.items run.1.left run.0 run.1.ends.0 w.through run.1.ends.1 run.1.takes)
+whole_is_served words bytes parts (Run end) out before now w a f n =
+    let run = ran_of (flags_of words) bytes parts end out w.is_script.says a.1 in
+    through_served (flags_of words) parts end out run.0 w.runs w.through run.1

@@ -1,3 +1,4 @@
 pub mod Status
 pub mod Services
+pub mod CommandWords
 pub mod Program

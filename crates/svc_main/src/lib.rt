@@ -1,10 +1,13 @@
 //! The program as one call: a script in, the record of its run and a status line out.
 #![tactic(auto)]
 
+mod answering;
 mod outcome;
 mod program;
 mod runs;
+mod script_service;
 mod services;
+mod words;
 
 pub use outcome::{RunEnd, StatusLine};
 pub use program::{one_answer, serve_script};

@@ -2,15 +2,24 @@ ghost use Rattle.std.specs.Prelude.{◌≡◌, Some};
 ghost use Rattle.svc_main.specs.Status.{end_text, status_text, status_of};
 
 use std::fmt;
-use svc_conf::Status;
+use svc_conf::{Key, Status};
+use svc_record::BootstrapError;
 
 /// How a run ended.
 #[derive(Clone, Copy, Debug, PartialEq, Eq)]
 pub enum RunEnd {
     /// It went through its shutdown.
     Served,
+    /// It tested that it can start.
+    Tested,
+    /// This process is the parent of the server's, which ends with this status.
+    Parent(u8),
+    /// The configuration is refused for this key.
+    Config(Key),
     /// The script's next item was a fault.
     HostFault,
+    /// The sockets of an older server couldn't be taken over.
+    Bootstrap(BootstrapError),
     /// The event with this number, from 1, didn't fit.
     Stray(u64),
     /// The events were used up before the shutdown.
@@ -35,7 +44,13 @@ impl fmt::Display for RunEnd {
     fn fmt<W: fmt::Write>(&self, f: &mut fmt::Formatter<W>) -> fmt::Result {
         match self {
             RunEnd::Served => write!(f, "served"),
+            RunEnd::Tested => write!(f, "tested"),
+            RunEnd::Parent(n) => write!(f, "parent {n}"),
+            RunEnd::Config(key) => write!(f, "config {}", key.name()),
             RunEnd::HostFault => write!(f, "host fault"),
+            RunEnd::Bootstrap(BootstrapError::Transfer) => write!(f, "transfer"),
+            RunEnd::Bootstrap(BootstrapError::NoSender) => write!(f, "no sender"),
+            RunEnd::Bootstrap(BootstrapError::BadMessage) => write!(f, "bad message"),
             RunEnd::Stray(k) => write!(f, "stray {k}"),
             RunEnd::OutOfEvents => write!(f, "out of events"),
         }
@@ -64,7 +79,8 @@ impl StatusLine {
             StatusLine::Words => Status(2),
             StatusLine::Line(_) => Status(3),
             StatusLine::ReadFault => Status(5),
-            StatusLine::Run(RunEnd::Served) => Status(0),
+            StatusLine::Run(RunEnd::Served | RunEnd::Tested | RunEnd::Parent(0)) => Status(0),
+            StatusLine::Run(RunEnd::Parent(_)) => Status(1),
             StatusLine::Run(_) => Status(4),
         }
     }

@@ -1,17 +1,18 @@
 //! The run of a script's server, and how it ended.
 
-ghost use Rattle.std.specs.Prelude.{◌≡◌, ◌<◌, length, None, Some, List, IfOk};
-ghost use Rattle.svc_conf.specs.Configuration.{defaults};
+ghost use Rattle.std.specs.Prelude.{◌≡◌, ◌<◌, length, Some, List, IfOk};
+ghost use Rattle.svc_conf.specs.declared.server.configuration.Opt.{Opt};
 ghost use Rattle.svc_text.specs.declared.service.ServiceLine.{ServiceLine};
 ghost use Rattle.svc_text.specs.ScriptPlans.{plan_of};
 ghost use Rattle.svc_server.specs.Hosts.{no_account};
 ghost use Rattle.svc_server.specs.Runs.{RunEnds, RunTakes};
 ghost use Rattle.svc_server.specs.Servers.{answers_of};
-ghost use Rattle.svc_main.specs.Services.{HasLines};
-ghost use Rattle.svc_main.specs.Program.{answer_of};
+ghost use Rattle.svc_text.specs.Script.{Parts};
+ghost use Rattle.svc_main.specs.Services.{HasLines, IsServerOf};
+ghost use Rattle.svc_main.specs.Program.{answer_of, Judges};
 
 use crate::outcome::RunEnd;
-use crate::services::ScriptService;
+use crate::script_service::ScriptService;
 use std::alloc::Global;
 use svc_conf::NoMemory;
 use svc_graph::services::ServiceWithDependents;
@@ -24,25 +25,27 @@ pub(crate) fn run_items(
     turns: u64,
     host: &mut ScriptHost<ScriptService>,
 ) -> Result<RunEnd, NoMemory>
-    requires configuration { server.configuration ≡ defaults }
-    requires options { server.options ≡ None }
     requires lines { (services : List ServiceLine) × HasLines services (length services) server.dependencies
         (answers_of ⟦<ScriptService as ServiceWithDependents>⟧ server.services.items) }
     requires first { ⟦<ScriptHost<ScriptService> as Host>⟧.account host.old ≡ Some no_account }
     requires few { length host.old.left < turns }
-    ensures ends { (services : List ServiceLine) → HasLines services (length services) server.dependencies
-        (answers_of ⟦<ScriptService as ServiceWithDependents>⟧ server.services.items)
-        → IfOk result (λ end. RunEnds (plan_of services) turns (answer_of end) host.new.entries) }
+    ensures ends { (opt : Opt) (parts : Parts) → IsServerOf opt parts server.configuration server.options server.eager
+        server.dependencies (answers_of ⟦<ScriptService as ServiceWithDependents>⟧ server.services.items)
+        → IfOk result (λ end. RunEnds (plan_of opt parts) turns (answer_of end) host.new.entries) }
+    ensures judged { IfOk result (λ end. Judges end server.configuration) }
     ensures takes { IfOk result (λ end. RunTakes (answer_of end) host.new.entries host.old.left host.new.left) }
 {
     match server.run(alloc, RunArgs { turns }, host) {
         Ok(Outcome::Served) => Ok(RunEnd::Served),
+        Ok(Outcome::TestPassed) => Ok(RunEnd::Tested),
+        Ok(Outcome::Parent(n)) => Ok(RunEnd::Parent(n)),
+        Err(RunError::Config(key)) => Ok(RunEnd::Config(key)),
+        Err(RunError::Bootstrap(error)) => Ok(RunEnd::Bootstrap(error)),
         Err(RunError::HostFault) => Ok(RunEnd::HostFault),
         Err(RunError::Stray(k)) => Ok(RunEnd::Stray(k)),
         Err(RunError::OutOfEvents) => Ok(RunEnd::OutOfEvents),
         Err(RunError::NoMemory) => Err(NoMemory),
-        // The default configuration is accepted, and the items are used up before the turns.
-        Err(RunError::Config(_)) => unreachable!(),
+        // The items are used up before the turns.
         Err(RunError::TurnsSpent) => unreachable!(),
     }
 }

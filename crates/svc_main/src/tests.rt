@@ -117,3 +117,118 @@ fn faults_have_their_statuses(rt: HostRuntime) -> Result<(), Fail> {
     }
     Ok(())
 }
+
+#[test]
+fn a_new_server_takes_over_the_sockets_of_an_older_one(rt: HostRuntime) -> Result<(), Fail> {
+    for (words, conf, rest, code, out) in [
+        (
+            ["run", "-u"].as_slice(),
+            "",
+            "%services\neager\nweb plain tcp 127.0.0.1:80\n%events\nreceived 3132372e302e302e313a3830203132372e302e302e313a39303930 3,4\nadopted 0 0\nsignal fast\n",
+            0,
+            "phase Bootstrap 0\nopenreceiver\ntryreceive\ngot received 3132372e302e302e313a3830203132372e302e302e313a39303930 3,4\nclose 4\nphase BootstrapComplete 0\nstart 0\nadopt 0 0 3\nphase Running 0\ngot adopted 0 0\ngot signal fast\nphase ShutdownStarted 0\nphase ShutdownRuntimes 0\nclose 3\nstop 0\nphase Terminated 0\nstatus served\n",
+        ),
+        (
+            ["run", "--upgrade"].as_slice(),
+            "",
+            "%services\neager\nweb plain tcp 127.0.0.1:80\nodd plain undeclared\n%events\nreceived 3132372e302e302e313a3830203132372e302e302e313a39303930 3,4\nadopted 0 0\nsignal fast\n",
+            0,
+            "phase Bootstrap 0\nopenreceiver\ntryreceive\ngot received 3132372e302e302e313a3830203132372e302e302e313a39303930 3,4\nphase BootstrapComplete 0\nstart 0\nadopt 0 0 3\nstart 1\nphase Running 0\ngot adopted 0 0\ngot signal fast\nphase ShutdownStarted 0\nphase ShutdownRuntimes 0\nclose 3\nclose 4\nstop 0\nphase Terminated 0\nstatus served\n",
+        ),
+        (
+            ["run", "-u"].as_slice(),
+            "",
+            "%services\neager\nweb plain tcp 127.0.0.1:80 claim 127.0.0.1:9090\n%events\nreceived 3132372e302e302e313a3830203132372e302e302e313a39303930 3,4\nadopted 0 0\nsignal fast\n",
+            0,
+            "phase Bootstrap 0\nopenreceiver\ntryreceive\ngot received 3132372e302e302e313a3830203132372e302e302e313a39303930 3,4\nphase BootstrapComplete 0\nstart 0\nadopt 0 0 3\nphase Running 0\ngot adopted 0 0\ngot signal fast\nphase ShutdownStarted 0\nphase ShutdownRuntimes 0\nclose 3\nclose 4\nstop 0\nphase Terminated 0\nstatus served\n",
+        ),
+        (
+            ["run", "-u"].as_slice(),
+            "",
+            "%services\nweb plain tcp 127.0.0.1:80\nboot bootstrap\n%events\nreceived 3132372e302e302e313a3830 3\nbound 0 0 9\nadopted 0 0\nsignal fast\n",
+            0,
+            "start 0\nbind 0 0\nstart 1\nphase Bootstrap 0\nopenreceiver\ntryreceive\nphase Running 0\ngot received 3132372e302e302e313a3830 3\nphase BootstrapComplete 0\ngot bound 0 0 9\nclose 9\nadopt 0 0 3\ngot adopted 0 0\ngot signal fast\nphase ShutdownStarted 0\nphase ShutdownRuntimes 0\nclose 3\nstop 0\nphase Terminated 0\nstatus served\n",
+        ),
+        (
+            ["run", "-u"].as_slice(),
+            "",
+            "%services\neager\nweb plain tcp 127.0.0.1:80\n%events\nreceived 613a3120613a31 3,4\n",
+            4,
+            "phase Bootstrap 0\nopenreceiver\ntryreceive\ngot received 613a3120613a31 3,4\nclose 3\nclose 4\nstatus bad message\n",
+        ),
+        (
+            ["run", "-u"].as_slice(),
+            "upgrade_sock_connect_accept_max_retries: 0\n",
+            "%services\neager\n%events\nnosender\n",
+            4,
+            "phase Bootstrap 0\nopenreceiver\ntryreceive\ngot nosender\nstatus no sender\n",
+        ),
+        (
+            ["run", "-u"].as_slice(),
+            "upgrade_sock_connect_accept_max_retries: 0\n",
+            "%services\neager\n%events\nreceivefailed\n",
+            4,
+            "phase Bootstrap 0\nopenreceiver\ntryreceive\ngot receivefailed\nstatus transfer\n",
+        ),
+    ] {
+        let text = format!(in rt.alloc(); "%conf\n{conf}{rest}")?;
+        let (status, bytes) = serve(rt.alloc(), words, text.as_str(), &[], &[])?;
+        assert_eq!(rt; status, Status(code), "at {rest}");
+        assert_eq!(rt; bytes.as_slice(), out.as_bytes(), "at {rest}");
+    }
+    Ok(())
+}
+
+#[test]
+fn the_configuration_and_the_flags_are_used(rt: HostRuntime) -> Result<(), Fail> {
+    for (words, conf, rest, code, out) in [
+        (
+            ["run", "-t"].as_slice(),
+            "",
+            "%services\neager\n%events\n",
+            0,
+            "phase Bootstrap 0\nstatus tested\n",
+        ),
+        (
+            ["run"].as_slice(),
+            "max_blocking_threads: 0\n",
+            "%services\n%events\nsignal fast\n",
+            4,
+            "status config max_blocking_threads\n",
+        ),
+        (
+            ["run"].as_slice(),
+            "version: 1\nthreads: 03\n",
+            "%services\n%events\nsignal fast\n",
+            3,
+            "status line 3\n",
+        ),
+        (
+            ["run", "--help"].as_slice(),
+            "",
+            "%services\n%events\nsignal fast\n",
+            2,
+            "status words\n",
+        ),
+        (
+            ["run", "-u", "-u"].as_slice(),
+            "",
+            "%services\n%events\nsignal fast\n",
+            2,
+            "status words\n",
+        ),
+        (
+            ["run", "-c", "none.yaml"].as_slice(),
+            "",
+            "%services\n%events\nsignal fast\n",
+            0,
+            "phase Running 0\ngot signal fast\nphase ShutdownStarted 0\nphase ShutdownRuntimes 0\nstop 0\nphase Terminated 0\nstatus served\n",
+        ),
+    ] {
+        let text = format!(in rt.alloc(); "%conf\n{conf}{rest}")?;
+        let (status, bytes) = serve(rt.alloc(), words, text.as_str(), &[], &[])?;
+        assert_eq!(rt; status, Status(code), "at {rest}");
+        assert_eq!(rt; bytes.as_slice(), out.as_bytes(), "at {rest}");
+    }
+    Ok(())
+}

@@ -1,6 +1,6 @@
 use Rattle.std.proofs.Common.{arith, ap, ◌∙◌}
 use Rattle.svc_server.specs.Servers.{answer_of}
-use Rattle.svc_main.specs.contracts.services.ScriptServiceServiceWithDependents as services
+use Rattle.svc_main.specs.contracts.script_service.ScriptServiceServiceWithDependents as services
 use Rattle.svc_main.proofs.ServerLemmas.{first_more, first_all}
 use Rattle.svc_main.proofs.AcceptedLemmas.{only_memory}
 use Rattle.svc_main.proofs.services.server_of.Goals as goal
@@ -12,8 +12,7 @@ memory_alone-requires c =
 
 pub loop-line-preserved : goal.loop-line-preserved
 loop-line-preserved c = record {
-  configuration = c.add_service.ensures.configuration ∙ c.loop-line.invariant.configuration;
-  options = c.add_service.ensures.options ∙ c.loop-line.invariant.options;
+  eager = c.add_service.ensures.eager ∙ c.loop-line.invariant.eager;
   first =
       first_more (answer_of services.TheImpl.ghosts) c.args.lines.now c.loop-line.line-index c.line-item.result _ _ _ _ _ c.in_ok-service.service c.loop-line.invariant.first (omega arith) c.line-item.is
       (ap (answer_of services.TheImpl.ghosts) c.in_ok-service.ensures) c.in-Ok.ensures.node c.in-Ok.ensures.added (c.add_service.ensures.sound c.loop-line.invariant.first.sound);

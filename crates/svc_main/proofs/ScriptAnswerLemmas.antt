@@ -1,0 +1,49 @@
+-- The answer to a script is the program's answer.
+use Rattle.std.proofs.Common.{◌≡◌, ℕ, ◌<◌, List, get_or, length, Option, Some, None, Result, Ok, Err, IfOk, inl, inr, sym, subst, IfSome}
+use Rattle.std.specs.Io.KnownBytes.{IsAtEnd}
+use Rattle.std.specs.Str.Lines.{lines}
+use Rattle.svc_conf.specs.declared.server.configuration.Opt.{Opt}
+use Rattle.svc_text.specs.Script.{Parts, IsLineOf, AreLines, script}
+use Rattle.svc_text.specs.Dependencies.{RefusesNone}
+use Rattle.svc_main.specs.declared.outcome.RunEnd.{RunEnd}
+use Rattle.svc_main.specs.declared.outcome.StatusLine.{StatusLine}
+use Rattle.svc_main.specs.declared.outcome.StatusLine.TheVariants.{Words, Line, ReadFault, Run}
+use Rattle.svc_main.specs.CommandWords.{TakesWords, flags_of}
+use Rattle.svc_main.specs.Program.{IsScript, RanText, RefusesIn, AnswersScript, IsAnswer, Ends, Faults}
+
+-- what is so of the bytes that were read is so of those that the source tells
+of_left : (left : Option (List ℕ)) (read : List ℕ) (P : List ℕ → Type 0) → IfSome left (λ bytes. read ≡ bytes) → P read → IfSome left P
+of_left None read P e h = tt
+of_left (Some bytes) read P e h = subst P e h
+
+pub script_answer : (words : List (List ℕ)) (left : Option (List ℕ)) (read numbers : List ℕ) (opt : Opt) (parts : Parts) (line : StatusLine) (out : List ℕ)
+    → TakesWords words → opt ≡ flags_of words → IfSome left (λ bytes. read ≡ bytes) → script read ≡ Ok parts → AreLines (lines read) (length parts.services) numbers
+    → AnswersScript opt parts numbers line out → IsAnswer words left line out
+script_answer words left read numbers opt parts (Run end) out takes flags same says places (edges, ran) =
+    (takes, (parts, (subst (λ (o : Opt). RanText o parts end out) flags ran, of_left left read (λ bytes. IsScript bytes parts) same (record { says = says; edges = edges }))))
+script_answer words left read numbers opt parts (Line n) out takes flags same says places (printed, refusal) =
+    let k : ℕ = refusal.0 in
+    let place : IsLineOf (lines read) k n = subst (IsLineOf (lines read) k) (sym refusal.1.1) (places.each k refusal.1.0.here) in
+    (takes, printed, of_left left read (λ bytes. RefusesIn bytes n) same (inr (inl (parts, (says, (k, (refusal.1.0, place)))))))
+script_answer words left read numbers opt parts Words out takes flags same says places h = absurd h
+script_answer words left read numbers opt parts ReadFault out takes flags same says places h = absurd h
+
+pub script_ends : (line : StatusLine) (left : Option (List ℕ)) → IsAtEnd left → Ends line left
+script_ends (Run end) left h = h
+script_ends (Line n) left h = λ some. h
+script_ends Words left h = tt
+script_ends ReadFault left h = tt
+
+pub script_faults : (opt : Opt) (parts : Parts) (numbers : List ℕ) (line : StatusLine) (out : List ℕ) (before now : ℕ) → AnswersScript opt parts numbers line out → Faults line before now
+script_faults opt parts numbers (Run end) out before now h = tt
+script_faults opt parts numbers (Line n) out before now h = tt
+script_faults opt parts numbers Words out before now h = absurd h
+script_faults opt parts numbers ReadFault out before now h = absurd h
+
+pub if_ok : {A B : Type 0} (P Q : A → Type 0) (r : Result A B) → IfOk r P → ((x : A) → P x → Q x) → IfOk r Q
+if_ok P Q (Ok x) p f = f x p
+if_ok P Q (Err e) p f = tt
+
+-- the run of a script whose dependencies are sound answers it
+pub ran_answer : (opt : Opt) (parts : Parts) (numbers : List ℕ) (line : StatusLine) (out : List ℕ) → RefusesNone parts.services → (end : RunEnd) × (line ≡ Run end) × RanText opt parts end out → AnswersScript opt parts numbers line out
+ran_answer opt parts numbers line out edges (end, is, ran) = subst (λ (l : StatusLine). AnswersScript opt parts numbers l out) (sym is) (edges, ran)

@@ -1,0 +1,97 @@
+//! What is answered to a script.
+
+ghost use Rattle.std.specs.Prelude.{◌≡◌, ◌++◌, length, List, All, IfOk, OnOk, string_bytes};
+ghost use Rattle.svc_record.specs.Text.{text_of, EntryFits};
+ghost use Rattle.svc_text.specs.Accepted.{AreAccepted, BringsFew};
+ghost use Rattle.svc_conf.specs.declared.server.configuration.Opt.{Opt};
+ghost use Rattle.svc_text.specs.declared.service.ServiceLine.{ServiceLine};
+ghost use Rattle.svc_text.specs.Script.{Parts};
+ghost use Rattle.svc_text.specs.Outcome.{parts_of};
+ghost use Rattle.svc_server.specs.Servers.{answers_of};
+ghost use Rattle.svc_main.specs.declared.outcome.RunEnd.{RunEnd};
+ghost use Rattle.svc_main.specs.declared.outcome.StatusLine.TheVariants.{Run as RunLine};
+ghost use Rattle.svc_main.specs.Status.{status_line, StatusFits};
+ghost use Rattle.svc_main.specs.Services.{HasLines, IsServerOf};
+ghost use Rattle.svc_main.specs.Program.{RanText, AnswersScript};
+
+use crate::outcome::{RunEnd, StatusLine};
+use crate::runs::run_items;
+use crate::script_service::ScriptService;
+use crate::services::{configured, server_of_script};
+use std::alloc::Global;
+use std::fmt::Write;
+use svc_conf::{NoMemory, Opt};
+use svc_graph::services::ServiceWithDependents;
+use svc_record::{Entry, Item};
+use svc_server::{ScriptHost, Server};
+use svc_text::{Script, ScriptError, record_text};
+
+/// A status line, and what is to be written with it.
+#[derive(Debug, Drop)]
+pub(crate) struct Answer {
+    pub line: StatusLine,
+    pub text: String,
+}
+
+/// A status line alone.
+pub(crate) fn said(alloc: Global, line: StatusLine) -> Result<Answer, NoMemory>
+    ensures { IfOk result (λ a. (a.line ≡ line) × (string_bytes a.text ≡ status_line line)) }
+{
+    let mut text = String::new(alloc);
+    writeln!(text, "{line}")?;
+    Ok(Answer { line, text })
+}
+
+/// The number of a status line is one of its type.
+fn read_line(line: StatusLine)
+    ensures { StatusFits line }
+{}
+
+/// The record of a run, and its status line.
+fn ran(alloc: Global, end: RunEnd, entries: &[Entry]) -> Result<Answer, NoMemory>
+    ensures text { IfOk result (λ a. (a.line ≡ RunLine end) × (string_bytes a.text ≡ text_of entries.now ++ status_line (RunLine end))) }
+    ensures numbers { OnOk result (All EntryFits entries.now × StatusFits (RunLine end)) }
+{
+    let line = StatusLine::Run(end);
+    read_line(line);
+    let mut text = record_text(alloc, entries)?;
+    writeln!(text, "{line}")?;
+    Ok(Answer { line, text })
+}
+
+/// Runs the server of a script over the script's items, and gives what its run leaves.
+fn run_script(
+    alloc: Global,
+    server: Server<ScriptService>,
+    items: Vec<Item>,
+) -> Result<Answer, NoMemory>
+    requires few { All BringsFew items.items }
+    requires lines { (services : List ServiceLine) × HasLines services (length services) server.dependencies
+        (answers_of ⟦<ScriptService as ServiceWithDependents>⟧ server.services.items) }
+    ensures { (opt : Opt) (parts : Parts) → IsServerOf opt parts server.configuration server.options server.eager
+        server.dependencies (answers_of ⟦<ScriptService as ServiceWithDependents>⟧ server.services.items)
+        → parts.items ≡ items.items
+        → IfOk result (λ a. (end : RunEnd) × (a.line ≡ RunLine end) × RanText opt parts end (string_bytes a.text)) }
+{
+    let turns = items.len() as u64 + 1;
+    let mut host = ScriptHost::new(alloc, items);
+    let end = run_items(alloc, server, turns, &mut host)?;
+    ran(alloc, end, host.entries().as_slice())
+}
+
+/// The answer to a script with these flags.
+pub(crate) fn answer_script(alloc: Global, opt: Opt, script: Script) -> Result<Answer, NoMemory>
+    requires accepted { AreAccepted script.services.items }
+    requires few { All BringsFew script.items.items }
+    requires lines { length script.lines.items ≡ length script.services.items }
+    ensures { IfOk result (λ a. AnswersScript opt (parts_of script) script.lines.items a.line (string_bytes a.text)) }
+{
+    match server_of_script(alloc, &script) {
+        Ok(server) => {
+            let server = configured(server, script.conf, opt, script.eager);
+            run_script(alloc, server, script.items)
+        }
+        Err(ScriptError::Line(n)) => said(alloc, StatusLine::Line(n as u64)),
+        Err(ScriptError::NoMemory) => Err(NoMemory),
+    }
+}
