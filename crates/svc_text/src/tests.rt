@@ -129,7 +129,7 @@ fn names_the_first_refused_line_of_a_configuration(rt: HostRuntime) {
         (b"%conf\nversion: 1\n\xff\nx\n", 3),
         (b"%conf\nversion: 1\n %services\n%events\n", 3),
         (b"%conf\nversion: 1\n", 3),
-        (b"%conf\nversion: 1\r", 3),
+        (b"%conf\nversion: 1\r", 2),
         (b"%conf\ndaemon: 1", 2),
         (b"%conf\nversion: 1\n%events\n", 3),
         (b"%conf\nversion: 1\n%services\nx\n%events\n", 4),
