@@ -23,6 +23,9 @@ pub mod Clauses
 pub mod Refused
 pub mod RefusedBeginnings
 pub mod RefusedConnections
+pub mod GraceWait
+pub mod OfferedSockets
+pub mod RefusedOffers
 pub mod Tallies
 pub mod Closing
 pub mod OneLive

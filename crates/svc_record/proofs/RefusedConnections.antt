@@ -36,15 +36,15 @@ connect_in_last_step : IsRefusedBy plan (ended_with (Told Connect ∷ [])) (Last
 connect_in_last_step = (refl, refl)
 
 -- an upgrade is asked for, and no successor is
-connect_left_out : IsRefusedBy plan (offering) (EventFits ∷ OneAsk ∷ OfferGoes ∷ [])
+connect_left_out : IsRefusedBy plan (offering) (OneAsk ∷ OfferGoes ∷ [])
 connect_left_out = (refl, refl)
 
 -- nobody was there, and it is tried again at once
-connect_at_once : IsRefusedBy plan (Told Connect ∷ Got NotThere ∷ Told Connect ∷ offering) (EventFits ∷ RetryInTurn ∷ OneAsk ∷ [])
+connect_at_once : IsRefusedBy plan (Told Connect ∷ Got NotThere ∷ Told Connect ∷ offering) (RetryInTurn ∷ OneAsk ∷ [])
 connect_at_once = (refl, refl)
 
 -- the successor was busy, and the table is sent again at once
-send_at_once : IsRefusedBy plan (Told (Send (codes "127.0.0.1:80") (7 ∷ [])) ∷ Got SendBusy ∷ sending) (EventFits ∷ RetryInTurn ∷ OneAsk ∷ [])
+send_at_once : IsRefusedBy plan (Told (Send (codes "127.0.0.1:80") (7 ∷ [])) ∷ Got SendBusy ∷ sending) (RetryInTurn ∷ OneAsk ∷ [])
 send_at_once = (refl, refl)
 
 -- a connection is judged that never arrived

@@ -12,7 +12,7 @@ use Rattle.svc_record.specs.Descriptors.{Descriptor, opened_descriptors, is_open
 use Rattle.svc_record.specs.Asks.{is_adopt_open, last_adopt}
 use Rattle.svc_record.specs.Failed.{has_failed}
 use Rattle.svc_record.specs.Endpoints.{is_held_by, serves}
-use Rattle.svc_record.specs.Offer.{is_offered, is_over}
+use Rattle.svc_record.specs.Offer.{is_held_back}
 
 -- some service names the address, and all that name it have failed
 abbrev pub is_abandoned : Plan → Record → List ℕ → Bool
@@ -70,7 +70,7 @@ is_address_abandoned p q None = false
 -- received and unclaimed, or doubled, or abandoned and no longer on offer, or drained
 abbrev pub is_gone : Plan → Record → ℕ → Bool
 is_gone p q fd = (((is_received p q fd && is_address_unclaimed p (address_of p q fd)) || is_doubled p q fd)
-    || (is_address_abandoned p q (address_of p q fd) && not (is_offered p q fd && not (is_over p q))))
+    || (is_address_abandoned p q (address_of p q fd) && not (is_held_back p q fd)))
     || is_drained p q fd
 
 -- the descriptor has one close if it is gone, else none

@@ -1,18 +1,19 @@
 -- Which event may come after a record.
-use Rattle.std.specs.Prelude.{ℕ, Bool, true, ◌==◌, ◌≡◌, false, not, ◌&&◌, ◌||◌, List, [], ◌∷◌, length, nat_le}
+use Rattle.std.specs.Prelude.{ℕ, Bool, true, ◌==◌, ◌≡◌, false, not, ◌&&◌, ◌||◌, List, [], ◌∷◌, length, nat_le, nat_lt}
 use Rattle.std.specs.List.{list_any}
 use Rattle.svc_record.specs.declared.plan.Plan.{Plan}
 use Rattle.svc_graph.specs.declared.plan.Kind.TheVariants.{Plain, Notifying}
 use Rattle.svc_record.specs.declared.entry.Entry.{Entry}
 use Rattle.svc_record.specs.declared.entry.Entry.TheVariants.{Got}
 use Rattle.svc_record.specs.declared.event.Event.{Event}
-use Rattle.svc_record.specs.declared.event.Event.TheVariants.{Moment, Ready, Ended, Bound, InUse, BindFailed, Adopted, AdoptFailed, Received, NoSenderYet, ReceiveFailed, Signal}
-use Rattle.svc_record.specs.declared.event.ShutdownSignal.TheVariants.{FastShutdown}
+use Rattle.svc_record.specs.declared.event.Event.TheVariants.{Moment, Ready, Ended, Bound, InUse, BindFailed, Adopted, AdoptFailed, Received, NoSenderYet, ReceiveFailed, Connected, NotThere, StillConnecting, ConnectFailed, Sent, SendBusy, SendFailed, LoopEnded, Signal}
 use Rattle.svc_record.specs.Record.{Record, has, now, from_the_start}
-use Rattle.svc_record.specs.Plans.{has_kind, endpoints}
+use Rattle.svc_record.specs.Plans.{has_kind, endpoints, is_endpoint}
 use Rattle.svc_record.specs.Descriptors.{brings}
-use Rattle.svc_record.specs.Asks.{is_bind_open, is_adopt_open, is_try_open}
+use Rattle.svc_record.specs.Asks.{is_bind_open, is_adopt_open, is_try_open, is_connect_open, is_send_open}
 use Rattle.svc_record.specs.Starts.{is_started, is_ready_event, is_ended_event}
+use Rattle.svc_record.specs.Endpoints.{serves}
+use Rattle.svc_record.specs.Closes.{is_broadcast, is_loop_end}
 use Rattle.svc_record.specs.Ends.{has_ended}
 
 -- no earlier event brought the descriptor's number
@@ -41,7 +42,15 @@ fits_row p q (AdoptFailed s i) = is_adopt_open q s i
 fits_row p q (Received bytes fds) = (is_try_open q && nat_le (length fds) 32) && are_new q fds
 fits_row p q NoSenderYet = is_try_open q
 fits_row p q ReceiveFailed = is_try_open q
-fits_row p q (Signal FastShutdown) = from_the_start q
+fits_row p q Connected = is_connect_open q
+fits_row p q NotThere = is_connect_open q
+fits_row p q StillConnecting = is_connect_open q
+fits_row p q ConnectFailed = is_connect_open q
+fits_row p q Sent = is_send_open q
+fits_row p q SendBusy = is_send_open q
+fits_row p q SendFailed = is_send_open q
+fits_row p q (LoopEnded s i j) = ((has is_broadcast q && serves p q s) && is_endpoint p s i) && (nat_lt j p.tasks && not (has (is_loop_end s i j) q))
+fits_row p q (Signal kind) = from_the_start q
 fits_row p q _ = false
 
 -- the event may come: the run hasn't ended, and the event's condition holds

@@ -68,6 +68,10 @@ is_answered p q = (has is_last_answer q || nat_lt p.limit (times is_not_there q)
 abbrev pub is_over : Plan → Record → Bool
 is_over p q = is_upgrade (signal_of q) && ((not (is_empty_table (table p q)) && not (is_written (encode (table p q)))) || is_answered p q)
 
+-- the descriptor is on offer: it is among what is offered, and the offer isn't over
+abbrev pub is_held_back : Plan → Record → ℕ → Bool
+is_held_back p q fd = is_offered p q fd && not (is_over p q)
+
 -- the moment of the first entry since which the offer is over
 abbrev pub over_moment : Plan → Record → ℕ
 over_moment p [] = 0
