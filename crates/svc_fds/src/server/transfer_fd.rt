@@ -14,11 +14,10 @@ use crate::fd::Fd;
 use crate::place::{Place, place_of, replace_at};
 use crate::transfer::{MAX_RETRY, close_all};
 pub use crate::transfer::{get_fds_from, send_fds_to};
-use crate::words::{has_repeat, words_of};
+use crate::words::{decode, has_repeat};
 use std::alloc::Global;
 use std::collections::BTreeSet;
 use std::marker::Model;
-use std::str;
 use svc_conf::{Items, NoMemory, Text};
 
 /// Numbers of descriptors.
@@ -361,23 +360,9 @@ impl Fds {
         ensures back { IfErr result (λ refused. refused.fds.items ≡ fds.items) }
         ensures ascending { IfOk result (λ table. IsAscending table.entries) }
     {
-        let text = match str::from_utf8(bytes) {
-            Ok(text) => text,
-            Err(_) => {
-                return Err(DecodeRefused {
-                    reason: DecodeError::NotUtf8,
-                    fds,
-                });
-            }
-        };
-        let binds = match words_of(alloc, text) {
+        let binds = match decode(alloc, bytes, fds.len()) {
             Ok(binds) => binds,
-            Err(_) => {
-                return Err(DecodeRefused {
-                    reason: DecodeError::NoMemory,
-                    fds,
-                });
-            }
+            Err(reason) => return Err(DecodeRefused { reason, fds }),
         };
         let mut table = Fds::new(alloc);
         match table.deserialize(alloc, binds, fds) {
