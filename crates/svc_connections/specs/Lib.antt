@@ -1,0 +1,5 @@
+pub mod ConnectionsData
+pub mod ConnectionsState
+pub mod ConnectionsEffects
+pub mod ConnectionsFacts
+pub mod Places

@@ -1,0 +1,7 @@
+pub mod Records
+pub mod Signalled
+pub mod GoingOn
+pub mod Foreign
+pub mod Passing
+pub mod Broadcasts
+pub mod Ending

@@ -1,0 +1,4 @@
+pub mod DrainData
+pub mod DrainState
+pub mod DrainEffects
+pub mod DrainFacts

@@ -1,0 +1,4 @@
+pub mod OfferData
+pub mod OfferState
+pub mod OfferEffects
+pub mod OfferFacts
