@@ -95,7 +95,7 @@ module _ (p : Plan) (d : EndpointsData) (s i fd : ℕ) (sized : IsEndpointsSized
   kept-number was = record { asking_free = was.asking_free; turn = was.turn; live = was.live; one = was.one; distinct = was.distinct }
 
   pub kept-again : StatesKept p d → StatesKept p (bound_again d s i fd)
-  kept-again was = kept-put p (with_number fd d) s i in_rows in_row (kept-number was) (record { last = Unasked; refusals = refusals_at d s i }) (asking_not_holding (last_at d s i) (binding_asks (last_at d s i) binds)) (λ e. absurd (cc)) (λ f e. absurd (cc))
+  kept-again was = kept-put p (with_number fd d) s i in_rows in_row (kept-number was) (record { last = Unasked; refusals = refusals_at d s i }) (asking_not_holding (last_at d s i) (binding_asks (last_at d s i) binds)) (λ e. absurd (cc)) (λ early f e. absurd (cc))
 
   -- the table has one more descriptor, of an address that it had none of
   kept-more : (text : List ℕ) → Some text ≡ address p s i → has_open d.table (address p s i) ≡ false → IsFresh d.table fd
@@ -103,9 +103,9 @@ module _ (p : Plan) (d : EndpointsData) (s i fd : ℕ) (sized : IsEndpointsSized
   kept-more text is none fresh was = let more = more_with text is none in record {
     asking_free = was.asking_free;
     turn = was.turn;
-    live = λ t k f h. more (address p t k) ∙ elim (cases_Bool (same_address (address p s i) (address p t k))) [
-      | inl y ↦ absurd (fd_not_nil (last_at d t k) h (sym (was.live t k f h) ∙ subst (λ a. numbers_with d.table a ≡ []) (same_eq (address p s i) (address p t k) y) (empty_nil (numbers_with d.table (address p s i)) none)))
-      | inr n ↦ rw n (was.live t k f h)
+    live = λ early t k f h. more (address p t k) ∙ elim (cases_Bool (same_address (address p s i) (address p t k))) [
+      | inl y ↦ absurd (fd_not_nil (last_at d t k) h (sym (was.live early t k f h) ∙ subst (λ a. numbers_with d.table a ≡ []) (same_eq (address p s i) (address p t k) y) (empty_nil (numbers_with d.table (address p s i)) none)))
+      | inr n ↦ rw n (was.live early t k f h)
     ];
     one = λ a. subst (λ (w : List ℕ). length w ≤ 1) (sym (more a)) (short (same_address (address p s i) a) (numbers_with d.table a) (was.one a));
     distinct = λ a b n h g. apart a b n (same_address (address p s i) a) (same_address (address p s i) b) refl refl (ap (is_in n) (sym (more a)) ∙ h) (ap (is_in n) (sym (more b)) ∙ g);
@@ -134,4 +134,4 @@ module _ (p : Plan) (d : EndpointsData) (s i fd : ℕ) (sized : IsEndpointsSized
   pub kept-bound : (text : List ℕ) → Some text ≡ address p s i → has_open d.table (address p s i) ≡ false → IsFresh d.table fd
       → StatesKept p d → StatesKept p (bound d s i fd text)
   kept-bound text is none fresh was = kept-put p (with_open fd text d) s i in_rows in_row (kept-more text is none fresh was) (record { last = Holding fd; refusals = refusals_at d s i })
-      (asking_not_holding (last_at d s i) (binding_asks (last_at d s i) binds)) (λ e. absurd (cc)) (λ f e. more_with text is none (address p s i) ∙ (rw (same_this text is) refl))
+      (asking_not_holding (last_at d s i) (binding_asks (last_at d s i) binds)) (λ e. absurd (cc)) (λ early f e. more_with text is none (address p s i) ∙ (rw (same_this text is) refl))

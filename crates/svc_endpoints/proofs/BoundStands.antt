@@ -1,6 +1,6 @@
 -- What a bind that brought a descriptor leaves, with the close of a doubled one.
-use Rattle.std.proofs.Common.{ℕ, Bool, true, false, ◌||◌, ◌&&◌, ◌==◌, not, inl, inr, List, [], ◌∷◌, ◌++◌, ◌≡◌, refl, ap, sym, ◌∙◌, subst, arith, ◌<◌, ◌≤◌, ◌+◌, length, nat_lt, map, Option, Some, if◌then◌else◌}
-use Rattle.std.proofs.lemmas.Bool.{cases_Bool, cases_eq, and_from, or_left, or_right, eq-eqb, ne_eqb}
+use Rattle.std.proofs.Common.{ℕ, Bool, true, false, ◌&&◌, ◌==◌, not, inl, inr, List, [], ◌∷◌, ◌++◌, ◌≡◌, refl, ap, sym, ◌∙◌, subst, arith, ◌<◌, ◌≤◌, ◌+◌, length, nat_lt, map, slice_index_or, ◌||◌, Option, Some, if◌then◌else◌}
+use Rattle.std.proofs.lemmas.Bool.{cases_Bool, cases_eq, and_from, and_left, or_left, or_right, eq-eqb, ne_eqb}
 use Rattle.svc_record.specs.declared.plan.Plan.{Plan}
 use Rattle.svc_record.specs.declared.entry.Entry.TheVariants.{Got, Told}
 use Rattle.svc_record.specs.declared.action.Action.{Action}
@@ -10,20 +10,26 @@ use Rattle.svc_record.specs.Record.{Record, has, times, tell}
 use Rattle.svc_record.specs.Plans.{service_count, endpoints, address}
 use Rattle.svc_record.specs.Descriptors.{Descriptor, has_live, is_close, is_opened, is_doubled, address_of, brings}
 use Rattle.svc_record.specs.Drain.{ascending, put_number}
-use Rattle.svc_record.specs.Closes.{is_received, is_address_unclaimed, is_address_abandoned, is_abandoned}
+use Rattle.svc_record.specs.Closes.{is_gone, is_drained, is_received, is_address_unclaimed, is_address_abandoned, is_abandoned}
 use Rattle.svc_record.specs.Fits.{is_new}
+use Rattle.svc_record.specs.Offer.{is_held_back}
 use Rattle.svc_record.specs.Tail.{numbers_in}
 use Rattle.svc_record.specs.Told.{Tells, IsGivingUp}
 use Rattle.svc_record.proofs.ClosesOnce.{closed_once}
 use Rattle.svc_endpoints.specs.declared.table.Open.{Open}
+use Rattle.svc_endpoints.specs.declared.states.Last.{Last}
+use Rattle.svc_endpoints.specs.declared.states.Last.TheVariants.{Unasked, Holding}
 use Rattle.svc_endpoints.specs.EndpointsData.{EndpointsData}
-use Rattle.svc_endpoints.specs.EndpointsState.{IsEndpointsSized, EndpointsStand, last_at, failed_at, is_binding, is_in, distinct, numbers_with}
-use Rattle.svc_endpoints.specs.Effects.{has_open, put_open, bound, bound_again, bound_or_again, close_told}
-use Rattle.svc_endpoints.proofs.CalmLemmas.{is_turned, is_gone_early, calm-told, calm-got, closes-early, closes-right}
+use Rattle.svc_endpoints.specs.Uses.{uses, is_drained_by}
+use Rattle.svc_endpoints.specs.EndpointsState.{IsEndpointsSized, EndpointsStand, last_at, failed_at, refusals_at, idle, is_binding, is_holding, is_done, is_in, distinct, numbers_with}
+use Rattle.svc_endpoints.specs.Effects.{has_open, put_last, with_open, with_number, put_open, bound, bound_again, bound_or_again, close_told}
+use Rattle.svc_endpoints.proofs.GoneLemmas.{is_turned, is_gone_now, loops-told, loops-got}
+use Rattle.svc_endpoints.proofs.UseLemmas.{drained-is, used-not_drained}
+use Rattle.svc_endpoints.proofs.ChangeLemmas.{Changed, loops-changed, drained-same, changed-not_done, changed-put, put-here, binding-unused}
 use Rattle.svc_endpoints.proofs.GrowLemmas.{gone-same, address-same}
 use Rattle.svc_endpoints.proofs.NumberLemmas.{any-ascending, not_in}
 use Rattle.svc_endpoints.proofs.StatesLemmas.{has_open-is}
-use Rattle.svc_endpoints.proofs.KeptLemmas.{asks_free_binding}
+use Rattle.svc_endpoints.proofs.KeptLemmas.{asks_free_binding, asking_not_holding, binding_asks}
 use Rattle.svc_endpoints.proofs.TableLemmas.{numbers_of-put}
 use Rattle.svc_endpoints.proofs.LiveLemmas.{live-bound, live-doubled}
 use Rattle.svc_endpoints.proofs.OpenedLemmas.{brings-in, opened-in, doubled-opened, received-opened, live-opened}
@@ -84,37 +90,77 @@ module _ (p : Plan) (d : EndpointsData) (q : Record) (s i fd : ℕ) (text : List
       (not_true_false (is_abandoned p q text) (λ h. unneeded p d.failed d refl text (abandoned-is p d q stand.states text ∙ h) s i inside free (sym is)))
 
   -- what was opened before is gone as it was
-  other_gone : (g : ℕ) → (fd == g) ≡ false → is_gone_early p (Got (Bound s i fd) ∷ q) g ≡ is_gone_early p q g
-  other_gone g off = gone-same p q (Got (Bound s i fd) ∷ q) (λ t. refl) g (rw off refl) (rw off refl)
+  other_gone : (g : ℕ) → (fd == g) ≡ false → is_drained p (Got (Bound s i fd) ∷ q) g ≡ is_drained p q g → is_gone p (Got (Bound s i fd) ∷ q) g ≡ is_gone p q g
+  other_gone g off drained = gone-same p q (Got (Bound s i fd) ∷ q) (λ t. refl) g (rw off refl) (rw off refl) refl drained
 
   opened_before : (g : ℕ) → (fd == g) ≡ false → is_opened p (Got (Bound s i fd) ∷ q) g ≡ true → is_opened p q g ≡ true
   opened_before g off h = rw off at h
 
   -- a new descriptor that is alone with its address isn't gone
-  new_stays : has_live p q (address p s i) ≡ false → is_gone_early p (Got (Bound s i fd) ∷ q) fd ≡ false
-  new_stays alone = rw (eq-eqb fd fd refl, alone, not_doubled, not_received) (address-same p q (Got (Bound s i fd) ∷ q) (λ t. refl) (address p s i) ∙ needed)
+  new_now : has_live p q (address p s i) ≡ false → is_gone_now p (Got (Bound s i fd) ∷ q) fd ≡ false
+  new_now alone = rw (eq-eqb fd fd refl, alone, not_doubled, not_received) (and_left (is_address_abandoned p (Got (Bound s i fd) ∷ q) (address p s i)) (not (is_held_back p q fd)) (address-same p q (Got (Bound s i fd) ∷ q) (λ t. refl) (address p s i) ∙ needed))
 
-  new_goes : has_live p q (address p s i) ≡ true → is_gone_early p (Got (Bound s i fd) ∷ q) fd ≡ true
-  new_goes taken = or_left (is_turned p (Got (Bound s i fd) ∷ q) fd) _ (or_right (is_received p (Got (Bound s i fd) ∷ q) fd && is_address_unclaimed p (address_of p (Got (Bound s i fd) ∷ q) fd)) (is_doubled p (Got (Bound s i fd) ∷ q) fd) (rw (eq-eqb fd fd refl, taken) refl))
+  new_stays : has_live p q (address p s i) ≡ false → is_drained p (Got (Bound s i fd) ∷ q) fd ≡ false → is_gone p (Got (Bound s i fd) ∷ q) fd ≡ false
+  new_stays alone drained = ap (λ b. b || is_drained p (Got (Bound s i fd) ∷ q) fd) (new_now alone) ∙ drained
+
+  new_goes : has_live p q (address p s i) ≡ true → is_gone p (Got (Bound s i fd) ∷ q) fd ≡ true
+  new_goes taken = or_left (is_gone_now p (Got (Bound s i fd) ∷ q) fd) (is_drained p (Got (Bound s i fd) ∷ q) fd) (or_left (is_turned p (Got (Bound s i fd) ∷ q) fd) _ (or_right (is_received p (Got (Bound s i fd) ∷ q) fd && is_address_unclaimed p (address_of p (Got (Bound s i fd) ∷ q) fd)) (is_doubled p (Got (Bound s i fd) ∷ q) fd) (rw (eq-eqb fd fd refl, taken) refl)))
+
+  in_rows : s < length d.rows
+  in_rows = omega (arith, sized.services)
+
+  in_row : i < length (slice_index_or d.rows s [])
+  in_row = omega (arith, sized.each s inside)
+
+  -- only this endpoint changes
+  only_at : (m : EndpointsData) (x : Last) → m.rows ≡ d.rows → m.failed ≡ d.failed → Changed p m (put_last m s i x) s i
+  only_at m x rows flags = changed-put p m s i false (record { last = x; refusals = refusals_at m s i }) (omega (arith, ap length rows, in_rows)) (omega (arith, ap (λ r. length (slice_index_or r s [])) rows, in_row))
+      (omega (arith, ap length flags, sized.failed)) within (ap (λ r. is_holding (slice_index_or (slice_index_or r s []) i idle).last) rows ∙ asking_not_holding (last_at d s i) (binding_asks (last_at d s i) binds))
+
+  only_bound : (text : List ℕ) → Changed p d (bound d s i fd text) s i
+  only_bound text = let h = only_at (with_open fd text d) (Holding fd) refl refl in record { loops = h.loops; last = h.last; failed = h.failed; within = h.within; idle = h.idle }
+
+  only_again : Changed p d (bound_again d s i fd) s i
+  only_again = let h = only_at (with_number fd d) Unasked refl refl in record { loops = h.loops; last = h.last; failed = h.failed; within = h.within; idle = h.idle }
+
+  bound_drained : (text : List ℕ) (g : ℕ) → (fd == g) ≡ false → is_drained_by p (bound d s i fd text) g ≡ is_drained_by p d g
+  bound_drained text g off = drained-same p d (bound d s i fd text) s i (only_bound text) q stand.loops g refl
+      (ap (uses g (failed_at d s) (is_done p d s i)) (put-here p (with_open fd text d) s i false (record { last = Holding fd; refusals = refusals_at d s i }) in_rows in_row) ∙ other (not (failed_at d s) && not (is_done p d s i)) (fd == g) off
+      ∙ sym (binding-unused g (failed_at d s) (is_done p d s i) (last_at d s i) binds))
+    where
+      other : (a b : Bool) → b ≡ false → (a && b) ≡ false
+      other a b h = grind arith
+
+  again_drained : (g : ℕ) → is_drained_by p (bound_again d s i fd) g ≡ is_drained_by p d g
+  again_drained g = drained-same p d (bound_again d s i fd) s i only_again q stand.loops g refl
+      (ap (uses g (failed_at d s) (is_done p d s i)) (put-here p (with_number fd d) s i false (record { last = Unasked; refusals = refusals_at d s i }) in_rows in_row)
+      ∙ sym (binding-unused g (failed_at d s) (is_done p d s i) (last_at d s i) binds))
+
+  -- what holds it now isn't drained
+  held_undrained : is_drained_by p (bound d s i fd text) fd ≡ false
+  held_undrained = used-not_drained p (bound d s i fd text) fd s i inside within
+      (ap (uses fd (failed_at d s) (is_done p d s i)) (put-here p (with_open fd text d) s i false (record { last = Holding fd; refusals = refusals_at d s i }) in_rows in_row)
+      ∙ (rw (free, changed-not_done p d (bound d s i fd text) s i (only_bound text) q stand.loops fd i, eq-eqb fd fd refl) refl))
 
   pub after-bound : has_open d.table (address p s i) ≡ false → EndpointsStand p (bound d s i fd text) (Got (Bound s i fd) ∷ q)
   after-bound none =
       let states = stands-bound p d s i fd sized inside within binds free q text new is none stand.states in
       let kept = kept-bound p d s i fd sized inside within binds free text is none not_in_table stand.kept in
       let alone : has_live p q (address p s i) ≡ false = sym (has_open-is p d q stand.states (address p s i)) ∙ none in
-      let calm = calm-got (Bound s i fd) q refl stand.calm in
+      let loops = loops-got p (bound d s i fd text) q (Bound s i fd) refl (loops-changed p d (bound d s i fd text) s i (only_bound text) q stand.loops) in
       record {
-        calm = calm;
         states = states;
+        loops = loops;
         kept = kept;
         asks_due = (refl, stand.asks_due);
         asks_known = (refl, stand.asks_known);
         closes_once = (refl, stand.closes_once);
         fails = stand.fails;
-        closes = closes-right p (Got (Bound s i fd) ∷ q) calm (λ g came. elim (cases_eq fd g) [
-          | inl e ↦ subst (λ n. times (is_close n) q ≡ (if is_gone_early p (Got (Bound s i fd) ∷ q) n then 1 else 0)) e (no_close ∙ ap (λ b. if b then 1 else 0) (sym (new_stays alone)))
-          | inr ne ↦ (let off = ne_eqb fd g ne in closes-early p q stand.calm stand.closes g (opened_before g off came) ∙ ap (λ b. if b then 1 else 0) (sym (other_gone g off)))
-        ]);
+        closes = λ g came. elim (cases_eq fd g) [
+          | inl e ↦ subst (λ n. times (is_close n) q ≡ (if is_gone p (Got (Bound s i fd) ∷ q) n then 1 else 0)) e (no_close ∙ ap (λ b. if b then 1 else 0) (sym (new_stays alone (drained-is p (bound d s i fd text) (Got (Bound s i fd) ∷ q) states loops fd ∙ held_undrained))))
+          | inr ne ↦ (let off = ne_eqb fd g ne in stand.closes g (opened_before g off came) ∙ ap (λ b. if b then 1 else 0) (sym (other_gone g off
+              (drained-is p (bound d s i fd text) (Got (Bound s i fd) ∷ q) states loops g ∙ bound_drained text g off ∙ sym (drained-is p d q stand.states stand.loops g)))))
+        ];
         one_live = one_live-is p (bound d s i fd text) (Got (Bound s i fd) ∷ q) kept states;
         open_are = numbers_of-put (record { fd = fd; address = Some text }) d.table ∙ ap (put_number fd) stand.open_are
             ∙ ap (λ w. ascending (map (λ (x : Descriptor). x.number) w)) (sym (live-bound p q s i fd new not_closed));
@@ -127,19 +173,20 @@ module _ (p : Plan) (d : EndpointsData) (q : Record) (s i fd : ℕ) (text : List
       let states = stands-again p d s i fd sized inside within binds free q new some stand.states in
       let kept = kept-again p d s i fd sized inside within binds free stand.kept in
       let taken : has_live p q (address p s i) ≡ true = sym (has_open-is p d q stand.states (address p s i)) ∙ some in
-      let calm = calm-told (Close fd) (Got (Bound s i fd) ∷ q) refl (calm-got (Bound s i fd) q refl stand.calm) in
+      let loops = loops-told p (bound_again d s i fd) (Got (Bound s i fd) ∷ q) (Close fd) (loops-got p (bound_again d s i fd) q (Bound s i fd) refl (loops-changed p d (bound_again d s i fd) s i only_again q stand.loops)) in
       record {
-        calm = calm;
         states = states;
+        loops = loops;
         kept = kept;
         asks_due = (refl, (refl, stand.asks_due));
         asks_known = (refl, (refl, stand.asks_known));
         closes_once = (and_from (is_opened p (Got (Bound s i fd) ∷ q) fd) (not (has (is_close fd) q)) (or_left (fd == fd) (is_opened p q fd) (eq-eqb fd fd refl)) (not_in (has (is_close fd) q) not_closed), (refl, stand.closes_once));
         fails = stand.fails;
-        closes = closes-right p (Told (Close fd) ∷ Got (Bound s i fd) ∷ q) calm (λ g came. elim (cases_eq fd g) [
-          | inl e ↦ subst (λ n. times (is_close n) (Told (Close fd) ∷ Got (Bound s i fd) ∷ q) ≡ (if is_gone_early p (Got (Bound s i fd) ∷ q) n then 1 else 0)) e (closed_up ∙ ap (λ b. if b then 1 else 0) (sym (new_goes taken)))
-          | inr ne ↦ (let off = ne_eqb fd g ne in not_counted g off ∙ closes-early p q stand.calm stand.closes g (opened_before g off came) ∙ ap (λ b. if b then 1 else 0) (sym (other_gone g off)))
-        ]);
+        closes = λ g came. elim (cases_eq fd g) [
+          | inl e ↦ subst (λ n. times (is_close n) (Told (Close fd) ∷ Got (Bound s i fd) ∷ q) ≡ (if is_gone p (Got (Bound s i fd) ∷ q) n then 1 else 0)) e (closed_up ∙ ap (λ b. if b then 1 else 0) (sym (new_goes taken)))
+          | inr ne ↦ (let off = ne_eqb fd g ne in not_counted g off ∙ stand.closes g (opened_before g off came) ∙ ap (λ b. if b then 1 else 0) (sym (other_gone g off
+              (drained-is p (bound_again d s i fd) (Told (Close fd) ∷ Got (Bound s i fd) ∷ q) states loops g ∙ again_drained g ∙ sym (drained-is p d q stand.states stand.loops g)))))
+        ];
         one_live = one_live-is p (bound_again d s i fd) (Told (Close fd) ∷ Got (Bound s i fd) ∷ q) kept states;
         open_are = stand.open_are ∙ ap (λ w. ascending (map (λ (x : Descriptor). x.number) w)) (sym (live-doubled p q s i fd new));
         came_are = ap (put_number fd) stand.came_are;

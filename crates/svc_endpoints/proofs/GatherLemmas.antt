@@ -4,7 +4,6 @@ use Rattle.std.specs.Option.{option_to_list}
 use Rattle.std.proofs.lemmas.Bool.{cases_Bool, and_parts, or_left, eq-eqb, eqb-true}
 use Rattle.std.proofs.lemmas.List.{drop_more, take_more, map-append}
 use Rattle.std.proofs.lemmas.List.Elements.{filter-append}
-use Rattle.std.proofs.lemmas.List.Folds.{list_any-append}
 use Rattle.svc_record.specs.declared.action.Action.{Action}
 use Rattle.svc_record.specs.declared.action.Action.TheVariants.{Close}
 use Rattle.svc_record.specs.Plans.{same_address}

@@ -10,10 +10,11 @@ use Rattle.svc_record.specs.Record.{Record, has, tell}
 use Rattle.svc_record.specs.Plans.{services, names, endpoint_numbers, address}
 use Rattle.svc_record.specs.Descriptors.{has_live, address_of}
 use Rattle.svc_record.specs.Failed.{has_failed, is_failure, is_in_use, in_use_count, in_use_limit}
-use Rattle.svc_record.specs.Closes.{is_abandoned, is_address_abandoned}
+use Rattle.svc_record.specs.Closes.{is_abandoned, is_address_abandoned, is_gone, is_drained}
 use Rattle.svc_endpoints.proofs.RangeLemmas.{any-grows}
 use Rattle.svc_endpoints.proofs.NumberLemmas.{all-grows}
-use Rattle.svc_endpoints.proofs.CalmLemmas.{is_turned, is_gone_early}
+use Rattle.svc_record.specs.Offer.{is_held_back}
+use Rattle.svc_endpoints.proofs.GoneLemmas.{is_turned, is_gone_now}
 
 failed_more : (x h b : Bool) (l c : ℕ) → (h || nat_le l c) ≡ true → ((x || h) || nat_le l (if b then c + 1 else c)) ≡ true
 failed_more x h true l c e = grind arith
@@ -43,11 +44,25 @@ module _ (p : Plan) (q r : Record) (grows : (s : ℕ) → has_failed p q s ≡ t
   address_grows (Some a) h = abandoned-grows a h
   address_grows None h = h
 
-  -- what is gone stays gone, where its opening stays as it was
-  pub gone-grows : (fd : ℕ) → is_turned p r fd ≡ is_turned p q fd → address_of p r fd ≡ address_of p q fd → is_gone_early p q fd ≡ true → is_gone_early p r fd ≡ true
-  gone-grows fd turned place h = elim (or_cases (is_turned p q fd) (is_address_abandoned p q (address_of p q fd)) h) [
-    | inl d ↦ or_left (is_turned p r fd) (is_address_abandoned p r (address_of p r fd)) (turned ∙ d)
-    | inr a ↦ or_right (is_turned p r fd) (is_address_abandoned p r (address_of p r fd)) (subst (λ w. is_address_abandoned p r w ≡ true) (sym place) (address_grows (address_of p q fd) a))
+  gone_now_grows : (fd : ℕ) → is_turned p r fd ≡ is_turned p q fd → address_of p r fd ≡ address_of p q fd → (is_held_back p r fd ≡ true → is_held_back p q fd ≡ true) → is_gone_now p q fd ≡ true → is_gone_now p r fd ≡ true
+  gone_now_grows fd turned place held h = elim (or_cases (is_turned p q fd) (is_address_abandoned p q (address_of p q fd) && not (is_held_back p q fd)) h) [
+    | inl d ↦ or_left (is_turned p r fd) (is_address_abandoned p r (address_of p r fd) && not (is_held_back p r fd)) (turned ∙ d)
+    | inr a ↦ (let parts = and_parts (is_address_abandoned p q (address_of p q fd)) (not (is_held_back p q fd)) a in
+        or_right (is_turned p r fd) (is_address_abandoned p r (address_of p r fd) && not (is_held_back p r fd))
+        (and_from (is_address_abandoned p r (address_of p r fd)) (not (is_held_back p r fd))
+        (subst (λ w. is_address_abandoned p r w ≡ true) (sym place) (address_grows (address_of p q fd) parts.0))
+        (still_not (is_held_back p q fd) (is_held_back p r fd) held parts.1)))
+  ]
+    where
+      still_not : (a b : Bool) → (b ≡ true → a ≡ true) → not a ≡ true → not b ≡ true
+      still_not a true f h = rw (f refl) at h
+      still_not a false f h = refl
+
+  -- what is gone stays gone, where its opening stays as it was, nothing comes on offer, and what is drained stays so
+  pub gone-grows : (fd : ℕ) → is_turned p r fd ≡ is_turned p q fd → address_of p r fd ≡ address_of p q fd → (is_held_back p r fd ≡ true → is_held_back p q fd ≡ true) → (is_drained p q fd ≡ true → is_drained p r fd ≡ true) → is_gone p q fd ≡ true → is_gone p r fd ≡ true
+  gone-grows fd turned place held drained h = elim (or_cases (is_gone_now p q fd) (is_drained p q fd) h) [
+    | inl g ↦ or_left (is_gone_now p r fd) (is_drained p r fd) (gone_now_grows fd turned place held g)
+    | inr g ↦ or_right (is_gone_now p r fd) (is_drained p r fd) (drained g)
   ]
 
 all-same : (f g : ℕ → Bool) (xs : List ℕ) → ((k : ℕ) → f k ≡ g k) → list_all f xs ≡ list_all g xs
@@ -60,7 +75,11 @@ module _ (p : Plan) (q r : Record) (same : (s : ℕ) → has_failed p r s ≡ ha
       (all-same (λ s. not (names p s a) || has_failed p r s) (λ s. not (names p s a) || has_failed p q s) (services p) (λ s. ap (λ b. not (names p s a) || b) (same s)))
   address-same None = refl
 
-  -- what is gone is the same, where no service fails
-  pub gone-same : (fd : ℕ) → is_turned p r fd ≡ is_turned p q fd → address_of p r fd ≡ address_of p q fd → is_gone_early p r fd ≡ is_gone_early p q fd
-  gone-same fd turned place = ap (λ b. b || is_address_abandoned p r (address_of p r fd)) turned
-      ∙ ap (λ b. is_turned p q fd || b) (ap (is_address_abandoned p r) place ∙ address-same (address_of p q fd))
+  gone_now_same : (fd : ℕ) → is_turned p r fd ≡ is_turned p q fd → address_of p r fd ≡ address_of p q fd → is_held_back p r fd ≡ is_held_back p q fd → is_gone_now p r fd ≡ is_gone_now p q fd
+  gone_now_same fd turned place held = ap (λ b. b || (is_address_abandoned p r (address_of p r fd) && not (is_held_back p r fd))) turned
+      ∙ ap (λ b. is_turned p q fd || (b && not (is_held_back p r fd))) (ap (is_address_abandoned p r) place ∙ address-same (address_of p q fd))
+      ∙ ap (λ b. is_turned p q fd || (is_address_abandoned p q (address_of p q fd) && not b)) held
+
+  -- what is gone is the same, where no service fails, and the same is on offer and drained
+  pub gone-same : (fd : ℕ) → is_turned p r fd ≡ is_turned p q fd → address_of p r fd ≡ address_of p q fd → is_held_back p r fd ≡ is_held_back p q fd → is_drained p r fd ≡ is_drained p q fd → is_gone p r fd ≡ is_gone p q fd
+  gone-same fd turned place held drained = ap (λ b. b || is_drained p r fd) (gone_now_same fd turned place held) ∙ ap (λ b. is_gone_now p q fd || b) drained

@@ -61,7 +61,7 @@ module _ (p : Plan) (d : EndpointsData) (s i : ℕ) (inside : s < length d.rows)
 
   pub kept-put : is_holding (last_at d s i) ≡ false
       → (is_asking x.last ≡ true → (failed_at d s ≡ false) × ((k : ℕ) → k < i → is_holding (last_at d s k) ≡ true))
-      → (failed_at d s ≡ false → has_fd x.last ≡ true → numbers_with d.table (address p s i) ≡ fd_of x.last)
+      → (d.loops ≡ [] → failed_at d s ≡ false → has_fd x.last ≡ true → numbers_with d.table (address p s i) ≡ fd_of x.last)
       → StatesKept p (put d s i x)
   kept-put was_free asks has = record {
     asking_free = λ t k h. elim (place t k) [
@@ -78,10 +78,10 @@ module _ (p : Plan) (d : EndpointsData) (s i : ℕ) (inside : s < length d.rows)
         | inr nf ↦ was.turn t k j (sym (ap is_asking (at_other t k nf)) ∙ h) lt
       ]
     ];
-    live = λ t k free h. elim (place t k) [
+    live = λ early t k free h. elim (place t k) [
       | inl e ↦ subst (λ (u : ℕ). numbers_with d.table (address p u k) ≡ fd_of (last_at (put d s i x) t k)) (sym e.0) (subst (λ (j : ℕ). numbers_with d.table (address p s j) ≡ fd_of (last_at (put d s i x) t k)) (sym e.1)
-          (has (subst (λ (u : ℕ). failed_at d u ≡ false) e.0 free) (sym (ap has_fd (at_same_of t k e)) ∙ h) ∙ sym (ap fd_of (at_same_of t k e))))
-      | inr ne ↦ was.live t k free (sym (ap has_fd (at_other t k ne)) ∙ h) ∙ sym (ap fd_of (at_other t k ne))
+          (has early (subst (λ (u : ℕ). failed_at d u ≡ false) e.0 free) (sym (ap has_fd (at_same_of t k e)) ∙ h) ∙ sym (ap fd_of (at_same_of t k e))))
+      | inr ne ↦ was.live early t k free (sym (ap has_fd (at_other t k ne)) ∙ h) ∙ sym (ap fd_of (at_other t k ne))
     ];
     one = was.one;
     distinct = was.distinct;
@@ -102,7 +102,7 @@ kept-fail p d true s lt was none = record {
     | inr ne ↦ rw (ne_eqb s t ne) (or_still (failed_at d t) (was.asking_free t k h))
   ];
   turn = was.turn;
-  live = λ t k free h. was.live t k (or_was (failed_at d t) ((s == t) && true) (sym (failed_at-fail p d s true lt t) ∙ free)) h;
+  live = λ early t k free h. was.live early t k (or_was (failed_at d t) ((s == t) && true) (sym (failed_at-fail p d s true lt t) ∙ free)) h;
   one = was.one;
   distinct = was.distinct;
 }
@@ -116,7 +116,7 @@ kept-fail p d true s lt was none = record {
 pub binding_asks : (x : Last) → is_binding x ≡ true → is_asking x ≡ true
 binding_asks x e = rw e refl
 
-adopting_asks : (x : Last) → is_adopting x ≡ true → is_asking x ≡ true
+pub adopting_asks : (x : Last) → is_adopting x ≡ true → is_asking x ≡ true
 adopting_asks Unasked e = absurd (cc)
 adopting_asks Binding e = refl
 adopting_asks (Busied at) e = absurd (cc)
@@ -153,7 +153,7 @@ module _ (p : Plan) (d : EndpointsData) (s i : ℕ) (sized : IsEndpointsSized p 
   -- the ask of the endpoint ends with no descriptor
   kept-end : (b : Bool) (x : EndState) → is_asking (last_at d s i) ≡ true → is_asking x.last ≡ false → has_fd x.last ≡ false → StatesKept p (fail_if b s (put d s i x))
   kept-end b x asks done none = kept-fail p (put d s i x) b s in_failed
-      (kept-put p d s i in_rows in_row was x (asking_not_holding (last_at d s i) asks) (λ e. absurd (cc)) (λ free e. absurd (cc)))
+      (kept-put p d s i in_rows in_row was x (asking_not_holding (last_at d s i) asks) (λ e. absurd (cc)) (λ early free e. absurd (cc)))
       (none_asks p d s i in_rows in_row was x asks done)
 
   pub kept-refused : (now : ℕ) → is_binding (last_at d s i) ≡ true → StatesKept p (refused p d s i now)
@@ -168,13 +168,13 @@ module _ (p : Plan) (d : EndpointsData) (s i : ℕ) (sized : IsEndpointsSized p 
   pub kept-adopted : is_adopting (last_at d s i) ≡ true → StatesKept p (adopted d s i)
   kept-adopted a = kept-put p d s i in_rows in_row was (record { last = held_now (last_at d s i); refusals = refusals_at d s i }) (asking_not_holding (last_at d s i) (adopting_asks (last_at d s i) a))
       (λ e. let no = held_now_asks (last_at d s i) a in absurd (cc))
-      (λ free e. was.live s i free (rw a refl) ∙ sym (held_now_fd (last_at d s i)))
+      (λ early free e. was.live early s i free (rw a refl) ∙ sym (held_now_fd (last_at d s i)))
 
   pub kept-asked : failed_at d s ≡ false → is_holding (last_at d s i) ≡ false → ((k : ℕ) → k < i → is_holding (last_at d s k) ≡ true) → StatesKept p (asked d s i)
-  kept-asked free none before = kept-put p d s i in_rows in_row was (record { last = Binding; refusals = refusals_at d s i }) none (λ e. (free, before)) (λ f e. absurd (cc))
+  kept-asked free none before = kept-put p d s i in_rows in_row was (record { last = Binding; refusals = refusals_at d s i }) none (λ e. (free, before)) (λ early f e. absurd (cc))
 
   pub kept-offered : (fd : ℕ) → failed_at d s ≡ false → is_holding (last_at d s i) ≡ false → ((k : ℕ) → k < i → is_holding (last_at d s k) ≡ true) → numbers_with d.table (address p s i) ≡ fd ∷ [] → StatesKept p (offered d s i fd)
-  kept-offered fd free none before has = kept-put p d s i in_rows in_row was (record { last = Adopting fd; refusals = refusals_at d s i }) none (λ e. (free, before)) (λ f e. has)
+  kept-offered fd free none before has = kept-put p d s i in_rows in_row was (record { last = Adopting fd; refusals = refusals_at d s i }) none (λ e. (free, before)) (λ early f e. has)
 
   pub asks_free_binding : is_binding (last_at d s i) ≡ true → failed_at d s ≡ false
   asks_free_binding b = was.asking_free s i (binding_asks (last_at d s i) b)

@@ -58,7 +58,7 @@ unneeded p failed d same a h s i lt free e =
     clash : (n f : Bool) → n ≡ true → f ≡ false → (not n || f) ≡ true → ⊥
     clash n f h g e = grind arith
 
-all-same : (f g : ℕ → Bool) (a n : ℕ) → ((k : ℕ) → k < a + n → f k ≡ g k) → list_all f (range_with_len a n) ≡ list_all g (range_with_len a n)
+pub all-same : (f g : ℕ → Bool) (a n : ℕ) → ((k : ℕ) → k < a + n → f k ≡ g k) → list_all f (range_with_len a n) ≡ list_all g (range_with_len a n)
 all-same f g a zero h = refl
 all-same f g a (suc n) h = rw (h a (omega arith), all-same f g (a + 1) n (λ k lt. h k (omega arith))) refl
 

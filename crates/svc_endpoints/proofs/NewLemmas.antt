@@ -1,5 +1,5 @@
 -- The blank states stand for the empty record.
-use Rattle.std.proofs.Common.{ℕ, Bool, true, false, [], ◌≡◌, refl, ap, sym, ◌∙◌, subst, arith, length, nat_le, if◌then◌else◌}
+use Rattle.std.proofs.Common.{ℕ, Bool, true, false, [], ◌≡◌, refl, ap, sym, ◌∙◌, subst, arith, ◌<◌, length, nat_le, if◌then◌else◌}
 use Rattle.svc_record.specs.declared.plan.Plan.{Plan}
 use Rattle.svc_record.specs.Plans.{endpoints, is_unix}
 use Rattle.svc_record.specs.Failed.{has_failed}
@@ -14,7 +14,7 @@ none_limit : (u : Bool) → nat_le (if u then 1 else 30) 0 ≡ false
 none_limit true = refl
 none_limit false = refl
 
-module _ (p : Plan) (d : EndpointsData) (blank : (s i : ℕ) → state_at d s i ≡ idle) (free : (s : ℕ) → failed_at d s ≡ false) (empty : d.table ≡ []) (nothing : d.came ≡ []) where
+module _ (p : Plan) (d : EndpointsData) (blank : (s i : ℕ) → state_at d s i ≡ idle) (free : (s : ℕ) → failed_at d s ≡ false) (no_end : d.loops ≡ []) (empty : d.table ≡ []) (nothing : d.came ≡ []) (some_tasks : 0 < p.tasks) where
   last_is : (s i : ℕ) → last_at d s i ≡ Unasked
   last_is s i = ap (λ (x : EndState). x.last) (blank s i)
 
@@ -36,15 +36,15 @@ module _ (p : Plan) (d : EndpointsData) (blank : (s i : ℕ) → state_at d s i 
   kept-new = record {
     asking_free = λ s i e. free s;
     turn = λ s i k e lt. let none : is_asking Unasked ≡ true = sym (ap is_asking (last_is s i)) ∙ e in absurd (cc);
-    live = λ s i f e. let none : has_fd Unasked ≡ true = sym (ap has_fd (last_is s i)) ∙ e in absurd (cc);
+    live = λ early s i f e. let none : has_fd Unasked ≡ true = sym (ap has_fd (last_is s i)) ∙ e in absurd (cc);
     one = λ a. rw empty (omega arith);
     distinct = λ a b fd h g. absurd (let none = rw empty at h in cc);
   }
 
   pub stands-new : EndpointsStand p d []
   stands-new = record {
-    calm = record { no_broadcast = refl; no_upgrade = refl };
     states = states-new;
+    loops = record { some_tasks = some_tasks; ends_are = λ s i j. rw no_end refl; counts = λ s i. rw no_end refl; told = λ s i j h. absurd (let none = rw no_end at h in cc); serve = λ s i j h. absurd (let none = rw no_end at h in cc) };
     kept = kept-new;
     asks_due = tt;
     asks_known = tt;

@@ -49,15 +49,15 @@ opens_here fd f (x ∷ xs) more h = elim (or_cases (x.number == fd && f x) (list
   | inr later ↦ or_right (x.number == fd) (list_any (has_number fd) (xs ++ more)) (opens_here fd f xs more later)
 ]
 
-opens_later : (fd : ℕ) (xs more : List Descriptor) → list_any (has_number fd) more ≡ true → list_any (has_number fd) (xs ++ more) ≡ true
-opens_later fd [] more h = h
-opens_later fd (x ∷ xs) more h = or_right (x.number == fd) (list_any (has_number fd) (xs ++ more)) (opens_later fd xs more h)
+pub opens-later : (fd : ℕ) (xs more : List Descriptor) → list_any (has_number fd) more ≡ true → list_any (has_number fd) (xs ++ more) ≡ true
+opens-later fd [] more h = h
+opens-later fd (x ∷ xs) more h = or_right (x.number == fd) (list_any (has_number fd) (xs ++ more)) (opens-later fd xs more h)
 
 pub doubled-opened : (p : Plan) (q : Record) (fd : ℕ) → is_doubled p q fd ≡ true → is_opened p q fd ≡ true
 doubled-opened p [] fd h = h
 doubled-opened p (e ∷ q) fd h = elim (or_cases (list_any (λ (d : Descriptor). d.number == fd && has_live p q d.address) (descriptors_of p e)) (is_doubled p q fd) h) [
   | inl now ↦ opens_here fd (λ (d : Descriptor). has_live p q d.address) (descriptors_of p e) (opened_descriptors p q) now
-  | inr earlier ↦ opens_later fd (descriptors_of p e) (opened_descriptors p q) (doubled-opened p q fd earlier)
+  | inr earlier ↦ opens-later fd (descriptors_of p e) (opened_descriptors p q) (doubled-opened p q fd earlier)
 ]
 
 -- what was received was opened
@@ -159,3 +159,25 @@ live_distinct f (x ∷ xs) h =
 
 pub live-distinct : (p : Plan) (q : Record) → distinct (numbers_in q) ≡ true → distinct (live_numbers p q) ≡ true
 live-distinct p q h = live_distinct (λ (d : Descriptor). not (has (is_close d.number) q)) (opened_descriptors p q) (ap distinct (opened-numbers p q) ∙ h)
+
+live_listed : (q : Record) (fd : ℕ) (xs : List Descriptor) → is_in fd (map (λ (d : Descriptor). d.number) (filter (λ (d : Descriptor). not (has (is_close d.number) q)) xs)) ≡ (list_any (has_number fd) xs && not (has (is_close fd) q))
+live_listed q fd [] = refl
+live_listed q fd (x ∷ xs) = elim (cases_Bool (has (is_close x.number) q)) [
+  | inl c ↦ rw c (live_listed q fd xs ∙ skip (x.number == fd) (list_any (has_number fd) xs) (has (is_close fd) q) (λ e. subst (λ n. has (is_close n) q ≡ true) (eqb-true x.number fd e) c))
+  | inr o ↦ rw o (ap (λ b. (x.number == fd) || b) (live_listed q fd xs) ∙ here (x.number == fd) (list_any (has_number fd) xs) (has (is_close fd) q) (λ e. subst (λ n. has (is_close n) q ≡ false) (eqb-true x.number fd e) o))
+]
+  where
+    skip : (a b c : Bool) → (a ≡ true → c ≡ true) → (b && not c) ≡ ((a || b) && not c)
+    skip true b c f = rw (f refl) (none b)
+      where
+        none : (b : Bool) → (b && false) ≡ (true && false)
+        none b = grind arith
+    skip false b c f = refl
+
+    here : (a b c : Bool) → (a ≡ true → c ≡ false) → (a || (b && not c)) ≡ ((a || b) && not c)
+    here true b c f = rw (f refl) refl
+    here false b c f = refl
+
+-- live is what was opened and isn't closed
+pub live-is : (p : Plan) (q : Record) (fd : ℕ) → is_in fd (live_numbers p q) ≡ (is_opened p q fd && not (has (is_close fd) q))
+live-is p q fd = live_listed q fd (opened_descriptors p q)

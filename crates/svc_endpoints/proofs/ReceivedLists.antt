@@ -1,5 +1,5 @@
 -- What a message opens, as a list.
-use Rattle.std.proofs.Common.{ℕ, Bool, true, false, ◌||◌, ◌&&◌, ◌==◌, not, ◌⊎◌, inl, inr, List, [], ◌∷◌, ◌++◌, ◌≡◌, refl, ap, sym, ◌∙◌, subst, arith, ◌≤◌, ◌+◌, length, map, filter, Option, Some, None, bytes_eq, if◌then◌else◌}
+use Rattle.std.proofs.Common.{ℕ, Bool, true, false, ◌||◌, ◌&&◌, ◌==◌, not, inl, inr, List, [], ◌∷◌, ◌++◌, ◌≡◌, refl, ap, ◌∙◌, subst, arith, ◌≤◌, length, map, filter, Option, Some, None, bytes_eq}
 use Rattle.std.specs.List.{list_any}
 use Rattle.std.proofs.lemmas.Bool.{cases_Bool, and_parts, or_parts, or_left, or_right, eq-eqb, eqb-true}
 use Rattle.std.proofs.lemmas.Slice.Eq.{bytes_eq-Decides}
@@ -10,8 +10,7 @@ use Rattle.svc_record.specs.Descriptors.{Descriptor, with_words, is_close}
 use Rattle.svc_endpoints.specs.declared.table.Open.{Open}
 use Rattle.svc_endpoints.specs.EndpointsState.{is_in, distinct, all_new, numbers_with, numbers_of_table}
 use Rattle.svc_endpoints.specs.Effects.{passes, opens_of, numbers_out, without_numbers}
-use Rattle.svc_endpoints.proofs.NumberLemmas.{apart_from, any-ascending}
-use Rattle.svc_endpoints.proofs.CloseLemmas.{left_out}
+use Rattle.svc_endpoints.proofs.NumberLemmas.{apart_from}
 use Rattle.svc_endpoints.proofs.OpenedLemmas.{first_address}
 
 -- a received descriptor
@@ -110,19 +109,6 @@ words-one (fd ∷ fds) (v ∷ words) w h =
     ]
 
 -- by numbers
-pub with-without : (ns : List ℕ) (t : List Open) (a : Option (List ℕ)) → numbers_with (without_numbers ns t) a ≡ left_out ns (numbers_with t a)
-with-without ns [] a = refl
-with-without ns (o ∷ more) a = elim (cases_Bool (is_in o.fd ns)) [
-  | inl y ↦ elim (cases_Bool (same_address o.address a)) [
-    | inl s ↦ rw (y, s, y) (with-without ns more a)
-    | inr n ↦ rw (y, n) (with-without ns more a)
-  ]
-  | inr off ↦ elim (cases_Bool (same_address o.address a)) [
-    | inl s ↦ rw (off, s, off) (ap (λ w. o.fd ∷ w) (with-without ns more a))
-    | inr n ↦ rw (off, n) (with-without ns more a)
-  ]
-]
-
 pub without-same : (ns ms : List ℕ) (t : List Open) → ((g : ℕ) → is_in g ms ≡ is_in g ns) → without_numbers ms t ≡ without_numbers ns t
 without-same ns ms [] same = refl
 without-same ns ms (o ∷ more) same = elim (cases_Bool (is_in o.fd ns)) [

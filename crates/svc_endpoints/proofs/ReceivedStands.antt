@@ -5,41 +5,41 @@ use Rattle.std.proofs.lemmas.Bool.{cases_Bool, or_cases, or_parts, or_left}
 use Rattle.std.proofs.lemmas.List.{map-append}
 use Rattle.std.proofs.lemmas.List.Elements.{filter-append}
 use Rattle.std.proofs.lemmas.List.Folds.{list_any-append}
-use Rattle.svc_fds.specs.Lists.{has_repeat}
 use Rattle.svc_record.specs.declared.plan.Plan.{Plan}
-use Rattle.svc_record.specs.declared.entry.Entry.TheVariants.{Got, Told}
+use Rattle.svc_record.specs.declared.entry.Entry.TheVariants.{Got}
 use Rattle.svc_record.specs.declared.action.Action.TheVariants.{Close}
 use Rattle.svc_record.specs.declared.event.Event.TheVariants.{Received}
-use Rattle.svc_record.specs.Record.{Record, has, times, tell, EachEntry}
+use Rattle.svc_record.specs.Record.{Record, has, tell, EachEntry}
 use Rattle.svc_record.specs.Message.{decode}
 use Rattle.svc_record.specs.Plans.{service_count, endpoints, address, same_address, is_unclaimed}
 use Rattle.svc_record.specs.Descriptors.{Descriptor, words_or_none, descriptors_of, opened_descriptors, live_descriptors, live_numbers_with, has_live, is_opened, is_close, is_doubled, address_of, has_number, brings}
 use Rattle.svc_record.specs.Drain.{ascending, live_numbers}
 use Rattle.svc_record.specs.Failed.{has_failed, in_use_count}
 use Rattle.svc_record.specs.AskRules.{FailsRight, ask_due, ask_known}
-use Rattle.svc_record.specs.Closes.{is_received, is_address_unclaimed, is_address_abandoned, is_abandoned, close_once}
+use Rattle.svc_record.specs.Closes.{is_gone, is_drained, is_received, is_address_unclaimed, is_address_abandoned, close_once}
 use Rattle.svc_record.specs.Fits.{is_new}
+use Rattle.svc_record.specs.Offer.{is_held_back}
 use Rattle.svc_record.specs.Tail.{numbers_in}
 use Rattle.svc_record.proofs.ClosesOnce.{closed_once}
 use Rattle.svc_endpoints.specs.declared.states.Last.{Last}
 use Rattle.svc_endpoints.specs.declared.states.Last.TheVariants.{Unasked, Binding, Busied, Adopting, Holding, Lost}
 use Rattle.svc_endpoints.specs.declared.table.Open.{Open}
 use Rattle.svc_endpoints.specs.EndpointsData.{EndpointsData}
-use Rattle.svc_endpoints.specs.EndpointsState.{Calm, StatesKept, StatesStand, StandsAt, EndpointsStand, is_in, distinct, all_new, numbers_with, numbers_of_table, open_numbers, last_at, failed_at, refusals_at, has_fd, fd_of}
-use Rattle.svc_endpoints.specs.Effects.{passes, has_open, not_empty, is_abandoned_by, turns_away, opens_of, numbers_out, without_numbers, put_opens, put_numbers, turned_away, received}
+use Rattle.svc_endpoints.specs.EndpointsState.{LoopsStand, StatesKept, StatesStand, StandsAt, EndpointsStand, is_in, distinct, all_new, numbers_with, numbers_of_table, open_numbers, last_at, failed_at, refusals_at, has_fd, fd_of}
+use Rattle.svc_endpoints.specs.Effects.{passes, has_open, not_empty, is_abandoned_by, turns_away, opens_of, numbers_out, without_numbers, put_numbers, turned_away, received}
 use Rattle.svc_endpoints.proofs.NumberLemmas.{any-ascending, apart_from, not_in, distinct-ascending}
-use Rattle.svc_endpoints.proofs.CalmLemmas.{is_turned, is_gone_early, calm-told, calm-got, closes-early, closes-right}
+use Rattle.svc_endpoints.proofs.GoneLemmas.{is_turned, is_gone_now, loops-got, loops-closes, loops-table, closed-is, drained-opened}
+use Rattle.svc_endpoints.proofs.OfferLemmas.{held-opened}
 use Rattle.svc_endpoints.proofs.CloseLemmas.{along-closes, closed-tell, opened-tell, with-tell, numbers-tell, once-tell, left_out}
 use Rattle.svc_endpoints.proofs.GrowLemmas.{gone-same, address-same}
-use Rattle.svc_endpoints.proofs.RestLemmas.{rest, rest-gone, rest-stays, left-none, with-None, part_in, part-by-number, distinct-part, numbers-without}
+use Rattle.svc_endpoints.proofs.RestLemmas.{rest, rest-gone, rest-stays, left-none, with-None, part_in, part-by-number, distinct-part, numbers-without, with-without}
 use Rattle.svc_endpoints.proofs.OpenedLemmas.{brings-in, opened-in, live-opened, live-address, doubled-opened, first_address, opened-numbers}
 use Rattle.svc_endpoints.proofs.StatesLemmas.{has_open-is}
 use Rattle.svc_endpoints.proofs.NamedLemmas.{abandoned-is}
 use Rattle.svc_endpoints.proofs.OneLiveLemmas.{one_live-is}
-use Rattle.svc_endpoints.proofs.ClearLemmas.{closed-is}
 use Rattle.svc_endpoints.proofs.GatherLemmas.{puts-ascending, numbers-puts, with-puts, numbers-opens}
 use Rattle.svc_endpoints.proofs.DecodeLemmas.{read-apart}
-use Rattle.svc_endpoints.proofs.ReceivedLists.{as_received, words-descriptors, numbers-received, with-received, open-received, none-received, none-listed, first-later, some-received, one-received, out-received, words-one, with-without, without-same, new-in, new-apart, new-distinct, new-same}
+use Rattle.svc_endpoints.proofs.ReceivedLists.{as_received, words-descriptors, numbers-received, with-received, open-received, none-received, none-listed, first-later, some-received, one-received, out-received, words-one, without-same, new-in, new-apart, new-distinct, new-same}
 
 clash : (b : Bool) → b ≡ true → b ≡ false → ⊥
 clash b h g = cc
@@ -213,7 +213,7 @@ module _ (p : Plan) (d : EndpointsData) (q : Record) (bytes fds : List ℕ) (fre
   states_kept = record {
     asking_free = stand.kept.asking_free;
     turn = stand.kept.turn;
-    live = λ s i free h. (let was = stand.kept.live s i free h in let a = address p s i in
+    live = λ early s i free h. (let was = stand.kept.live early s i free h in let a = address p s i in
         let none = none_before (numbers_with kept a) (numbers_with d.table a) (one_kept a) (ap length was ∙ fd_one (last_at d s i) h) in
         table_with a ∙ ap (λ w. w ++ numbers_with d.table a) none ∙ was);
     one = λ a. subst (λ (w : List ℕ). length w ≤ 1) (sym (table_with a)) (one_kept a);
@@ -242,29 +242,41 @@ module _ (p : Plan) (d : EndpointsData) (q : Record) (bytes fds : List ℕ) (fre
   in_os : (fd : ℕ) (b : Bool) → is_in fd fds ≡ b → is_in fd (numbers_of_table os) ≡ b
   in_os fd b h = ap (is_in fd) numbers_os ∙ h
 
-  new_gone : (fd : ℕ) → is_in fd fds ≡ true → is_gone_early p q1 fd ≡ is_in fd ns
-  new_gone fd h =
+  new_gone_now : (fd : ℕ) → is_in fd fds ≡ true → is_gone_now p q1 fd ≡ is_in fd ns
+  new_gone_now fd h =
       let a = first_address fd (map as_received os ++ opened_descriptors p q) in
       let here = in_os fd true h in
       let rec : is_received p q1 fd ≡ true = received1 fd ∙ some-received fd os (opened_descriptors p q) here in
       let old : is_doubled p q fd ≡ false = false_where (is_doubled p q fd) (λ y. clash (is_opened p q fd) (doubled-opened p q fd y) (not_opened fd h)) in
       let dou : is_doubled p q1 fd ≡ has_live p q a = doubled1 fd ∙ or_first (list_any (λ (x : Descriptor). x.number == fd && has_live p q x.address) (map as_received os)) old ∙ one-received (has_live p q) fd os (opened_descriptors p q) apart_os here in
       let aba : is_address_abandoned p q1 (address_of p q1 fd) ≡ is_address_abandoned p q a = ap (is_address_abandoned p q1) (place1 fd) ∙ address-same p q q1 (λ t. refl) a in
-      ap (λ b. ((b && is_address_unclaimed p (address_of p q1 fd)) || is_doubled p q1 fd) || is_address_abandoned p q1 (address_of p q1 fd)) rec
+      let free : is_held_back p q1 fd ≡ false = false_where (is_held_back p q fd) (λ y. clash (is_opened p q fd) (held-opened p q fd y) (not_opened fd h)) in
+      unheld (is_turned p q1 fd) (is_address_abandoned p q1 (address_of p q1 fd)) (is_held_back p q1 fd) free
+      ∙ ap (λ b. ((b && is_address_unclaimed p (address_of p q1 fd)) || is_doubled p q1 fd) || is_address_abandoned p q1 (address_of p q1 fd)) rec
       ∙ ap (λ b. (is_address_unclaimed p b || is_doubled p q1 fd) || is_address_abandoned p q1 (address_of p q1 fd)) (place1 fd)
       ∙ ap (λ b. (is_address_unclaimed p a || b) || is_address_abandoned p q1 (address_of p q1 fd)) dou
       ∙ ap (λ b. (is_address_unclaimed p a || has_live p q a) || b) aba
       ∙ gone_by a
       ∙ sym (in_ns fd ∙ out-received gone fd os ∙ one-received (passes gone) fd os (opened_descriptors p q) apart_os here)
     where
+      unheld : (a b h : Bool) → h ≡ false → (a || (b && not h)) ≡ (a || b)
+      unheld a b h e = grind (arith, e)
+
       or_first : (x : Bool) {y : Bool} → y ≡ false → (x || y) ≡ x
       or_first x k = rw k (plain x)
         where
           plain : (x : Bool) → (x || false) ≡ x
           plain x = grind arith
 
+  new_gone : (fd : ℕ) → is_in fd fds ≡ true → is_gone p q1 fd ≡ is_in fd ns
+  new_gone fd h = ap (λ b. is_gone_now p q1 fd || b) (false_where (is_drained p q fd) (λ y. clash (is_opened p q fd) (drained-opened p q fd stand.asks_due y) (not_opened fd h)))
+      ∙ or_none (is_gone_now p q1 fd) ∙ new_gone_now fd h
+    where
+      or_none : (b : Bool) → (b || false) ≡ b
+      or_none b = grind arith
+
   -- what was opened before is gone as it was
-  old_gone : (fd : ℕ) → is_in fd fds ≡ false → is_gone_early p q1 fd ≡ is_gone_early p q fd
+  old_gone : (fd : ℕ) → is_in fd fds ≡ false → is_gone p q1 fd ≡ is_gone p q fd
   old_gone fd h =
       let none = in_os fd false h in
       let place : address_of p q1 fd ≡ address_of p q fd = place1 fd ∙ first-later fd os (opened_descriptors p q) none in
@@ -274,18 +286,18 @@ module _ (p : Plan) (d : EndpointsData) (q : Record) (bytes fds : List ℕ) (fre
       (ap (λ b. (b && is_address_unclaimed p (address_of p q1 fd)) || is_doubled p q1 fd) rec
       ∙ ap (λ b. (is_received p q fd && is_address_unclaimed p b) || is_doubled p q1 fd) place
       ∙ ap (λ b. (is_received p q fd && is_address_unclaimed p (address_of p q fd)) || b) dou)
-      place
+      place refl refl
 
   once : EachEntry (λ x before. close_once p x before ≡ true) r
   once = once-tell p ns q1 (distinct-ascending (numbers_out gone os) (distinct-part (λ (o : Open). passes gone o.address) os apart_os))
       (λ g there. (opened-in p q1 g ∙ list_any-append (λ n. n == g) fds (numbers_in q) ∙ or_left (is_in g fds) (is_in g (numbers_in q)) (ns_came g there), not_closed g (ns_came g there)))
       (refl, stand.closes_once)
 
-  closed_gone : (fd : ℕ) → is_opened p q1 fd ≡ true → has (is_close fd) r ≡ is_gone_early p q1 fd
+  closed_gone : (fd : ℕ) → is_opened p q1 fd ≡ true → has (is_close fd) r ≡ is_gone p q1 fd
   closed_gone fd came = closed-tell q1 ns fd ∙ elim (cases_Bool (is_in fd fds)) [
     | inl y ↦ ap (λ b. b || is_in fd ns) (not_closed fd y) ∙ sym (new_gone fd y)
     | inr n ↦ ap (λ b. has (is_close fd) q || b) (ns_old fd n) ∙ or_none (has (is_close fd) q)
-        ∙ closed-is p q fd stand.closes_once (closes-early p q stand.calm stand.closes fd (old_opened n)) ∙ sym (old_gone fd n)
+        ∙ closed-is p q fd stand.closes_once (stand.closes fd (old_opened n)) ∙ sym (old_gone fd n)
   ]
     where
       or_none : (b : Bool) → (b || false) ≡ b
@@ -297,8 +309,8 @@ module _ (p : Plan) (d : EndpointsData) (q : Record) (bytes fds : List ℕ) (fre
           second : (a b : Bool) → (a || b) ≡ true → a ≡ false → b ≡ true
           second a b h g = grind (arith, h)
 
-  calm : Calm r
-  calm = along-closes Calm (λ x n h. calm-told (Close n) x refl h) q1 ns (calm-got (Received bytes fds) q refl stand.calm)
+  loops : LoopsStand p e r
+  loops = loops-table p d r e.table e.came (loops-closes p d q1 ns (loops-got p d q (Received bytes fds) refl stand.loops))
 
   numbers_open : open_numbers e ≡ ascending (live_numbers p r)
   numbers_open = numbers-puts kept d.table ∙ ap (λ w. put_numbers w (numbers_of_table d.table)) (numbers-without ns os ∙ ap (left_out ns) numbers_os)
@@ -327,15 +339,15 @@ module _ (p : Plan) (d : EndpointsData) (q : Record) (bytes fds : List ℕ) (fre
 
   pub stands-received : EndpointsStand p e r
   stands-received = record {
-    calm = calm;
     states = states;
+    loops = loops;
     kept = states_kept;
     asks_due = along-closes (EachEntry (λ x before. ask_due p x before ≡ true)) (λ x n h. (refl, h)) q1 ns (refl, stand.asks_due);
     asks_known = along-closes (EachEntry (λ x before. ask_known p x before ≡ true)) (λ x n h. (refl, h)) q1 ns (refl, stand.asks_known);
     closes_once = once;
     fails = along-closes (FailsRight p) (λ x n h. h) q1 ns stand.fails;
-    closes = closes-right p r calm (λ fd came. (let before : is_opened p q1 fd ≡ true = ap (list_any (has_number fd)) (sym (opened-tell p q1 ns)) ∙ came in
-        closed_once p r fd once ∙ ap (λ b. if b then 1 else 0) (closed_gone fd before ∙ sym (along-closes (λ x. is_gone_early p x fd ≡ is_gone_early p q1 fd) (λ x n h. h) q1 ns refl))));
+    closes = λ fd came. (let before : is_opened p q1 fd ≡ true = ap (list_any (has_number fd)) (sym (opened-tell p q1 ns)) ∙ came in
+        closed_once p r fd once ∙ ap (λ b. if b then 1 else 0) (closed_gone fd before ∙ sym (along-closes (λ x. is_gone p x fd ≡ is_gone p q1 fd) (λ x n h. h) q1 ns refl)));
     one_live = one_live-is p e r states_kept states;
     open_are = numbers_open;
     came_are = ap (put_numbers fds) stand.came_are ∙ puts-ascending fds (numbers_in q) ∙ ap ascending (sym came_then);

@@ -1,5 +1,5 @@
 -- What is told after a message, and how much.
-use Rattle.std.proofs.Common.{ℕ, Bool, true, false, ◌==◌, List, [], ◌∷◌, ◌++◌, ◌≡◌, refl, ap, sym, ◌∙◌, subst, arith, ◌≤◌, ◌+◌, length, length-append, map, Option, Some, None}
+use Rattle.std.proofs.Common.{ℕ, Bool, true, false, ◌==◌, List, [], ◌∷◌, ◌++◌, ◌≡◌, refl, ap, sym, ◌∙◌, subst, arith, ◌+◌, length, length-append, map, Option, Some, None}
 use Rattle.svc_record.specs.declared.plan.Plan.{Plan}
 use Rattle.svc_record.specs.declared.entry.Entry.TheVariants.{Got}
 use Rattle.svc_record.specs.declared.action.Action.{Action}
@@ -13,7 +13,7 @@ use Rattle.svc_record.specs.Drain.{ascending}
 use Rattle.svc_record.specs.Told.{Tells, IsGivingUp}
 use Rattle.svc_endpoints.specs.declared.table.Open.{Open}
 use Rattle.svc_endpoints.specs.EndpointsData.{EndpointsData}
-use Rattle.svc_endpoints.specs.EndpointsState.{EndpointsStand, all_new, distinct, numbers_of_table}
+use Rattle.svc_endpoints.specs.EndpointsState.{EndpointsStand, all_new, distinct}
 use Rattle.svc_endpoints.specs.Effects.{passes, turns_away, turned_away, received, opens_of, numbers_out, without_numbers, put_numbers}
 use Rattle.svc_endpoints.proofs.NumberLemmas.{any-ascending}
 use Rattle.svc_endpoints.proofs.RestLemmas.{rest-out-length, part-by-number}

@@ -1,7 +1,7 @@
 -- A table without the descriptors of some addresses.
 use Rattle.std.proofs.Common.{ℕ, Bool, true, false, ◌==◌, not, inl, inr, List, [], ◌∷◌, ◌≡◌, refl, ap, sym, ◌∙◌, subst, arith, ◌+◌, length, Option, Some, None, filter}
 use Rattle.std.specs.List.{list_any}
-use Rattle.std.proofs.lemmas.Bool.{cases_Bool, and_parts, and_from, or_left, or_right, or_cases, or_parts, eq-eqb, ne_eqb}
+use Rattle.std.proofs.lemmas.Bool.{cases_Bool, and_parts, and_from, or_left, or_right, or_cases, or_parts, eq-eqb, eqb-true, ne_eqb}
 use Rattle.svc_record.specs.Plans.{same_address}
 use Rattle.svc_endpoints.specs.declared.table.Open.{Open}
 use Rattle.svc_endpoints.specs.EndpointsState.{is_in, distinct, numbers_with, numbers_of_table}
@@ -95,41 +95,50 @@ numbers-without ns (o ∷ more) = elim (cases_Bool (is_in o.fd ns)) [
   | inr n ↦ rw n (ap (λ w. o.fd ∷ w) (numbers-without ns more))
 ]
 
-module _ (gone : List ℕ → Bool) where
-  -- what stays, and the numbers of the others
-  abbrev pub rest : List Open → List Open
-  rest t = filter (λ (o : Open). not (passes gone o.address)) t
+pub with-without : (ns : List ℕ) (t : List Open) (a : Option (List ℕ)) → numbers_with (without_numbers ns t) a ≡ left_out ns (numbers_with t a)
+with-without ns [] a = refl
+with-without ns (o ∷ more) a = elim (cases_Bool (is_in o.fd ns)) [
+  | inl y ↦ elim (cases_Bool (same_address o.address a)) [
+    | inl s ↦ rw (y, s, y) (with-without ns more a)
+    | inr n ↦ rw (y, n) (with-without ns more a)
+  ]
+  | inr off ↦ elim (cases_Bool (same_address o.address a)) [
+    | inl s ↦ rw (off, s, off) (ap (λ w. o.fd ∷ w) (with-without ns more a))
+    | inr n ↦ rw (off, n) (with-without ns more a)
+  ]
+]
 
-  abbrev pub out : List Open → List ℕ
-  out t = numbers_out gone t
+-- the numbers of those that pass a test
+abbrev pub picked : (Open → Bool) → List Open → List ℕ
+picked f t = numbers_of_table (filter f t)
 
-  pub some-passes : (a : Option (List ℕ)) → passes gone a ≡ true → (w : List ℕ) × (a ≡ Some w) × (gone w ≡ true)
-  some-passes (Some w) h = (w, refl, h)
-  some-passes None h = absurd (cc)
+-- those that don't
+abbrev pub unpicked : (Open → Bool) → List Open → List Open
+unpicked f t = filter (λ (o : Open). not (f o)) t
 
-  passes_at : (a : Option (List ℕ)) (w : List ℕ) (b : Bool) → same_address a (Some w) ≡ true → gone w ≡ b → passes gone a ≡ b
-  passes_at a w b same h = ap (passes gone) (same_eq a (Some w) same) ∙ h
-
-  pub rest-gone : (w : List ℕ) → gone w ≡ true → (t : List Open) → numbers_with (rest t) (Some w) ≡ []
-  rest-gone w h [] = refl
-  rest-gone w h (o ∷ more) = elim (cases_Bool (passes gone o.address)) [
-    | inl y ↦ rw y (rest-gone w h more)
-    | inr n ↦ elim (cases_Bool (same_address o.address (Some w))) [
-      | inl s ↦ absurd (clash (passes gone o.address) (passes_at o.address w true s h) n)
-      | inr m ↦ rw (n, m) (rest-gone w h more)
-    ]
+module _ (f : Open → Bool) where
+  pub picked-length : (t : List Open) → length (unpicked f t) + length (picked f t) ≡ length t
+  picked-length [] = refl
+  picked-length (o ∷ more) = let h = picked-length more in elim (cases_Bool (f o)) [
+    | inl y ↦ rw y (omega (arith, h))
+    | inr n ↦ rw n (omega (arith, h))
   ]
 
-  pub rest-stays : (w : List ℕ) → gone w ≡ false → (t : List Open) → numbers_with (rest t) (Some w) ≡ numbers_with t (Some w)
-  rest-stays w h [] = refl
-  rest-stays w h (o ∷ more) = elim (cases_Bool (passes gone o.address)) [
-    | inl y ↦ elim (cases_Bool (same_address o.address (Some w))) [
-      | inl s ↦ absurd (clash (passes gone o.address) y (passes_at o.address w false s h))
-      | inr m ↦ rw (y, m) (rest-stays w h more)
-    ]
-    | inr n ↦ elim (cases_Bool (same_address o.address (Some w))) [
-      | inl s ↦ rw (n, s) (ap (λ v. o.fd ∷ v) (rest-stays w h more))
-      | inr m ↦ rw (n, m) (rest-stays w h more)
+  -- where no number stands twice
+  pub picked-numbers : (t : List Open) → distinct (numbers_of_table t) ≡ true → numbers_of_table (unpicked f t) ≡ left_out (picked f t) (numbers_of_table t)
+  picked-numbers t apart = ap numbers_of_table (sym (part-by-number f t apart)) ∙ numbers-without (picked f t) t
+
+  pub picked-with : (t : List Open) → distinct (numbers_of_table t) ≡ true → (a : Option (List ℕ)) → numbers_with (unpicked f t) a ≡ left_out (picked f t) (numbers_with t a)
+  picked-with t apart a = ap (λ w. numbers_with w a) (sym (part-by-number f t apart)) ∙ with-without (picked f t) t a
+
+  -- where none with this address passes
+  pub picked-stays : (a : Option (List ℕ)) → ((o : Open) → same_address o.address a ≡ true → f o ≡ false) → (t : List Open) → numbers_with (unpicked f t) a ≡ numbers_with t a
+  picked-stays a none [] = refl
+  picked-stays a none (o ∷ more) = elim (cases_Bool (same_address o.address a)) [
+    | inl s ↦ rw (none o s, s) (ap (λ v. o.fd ∷ v) (picked-stays a none more))
+    | inr m ↦ elim (cases_Bool (f o)) [
+      | inl y ↦ rw (y, m) (picked-stays a none more)
+      | inr n ↦ rw (n, m) (picked-stays a none more)
     ]
   ]
 
@@ -144,62 +153,72 @@ module _ (gone : List ℕ → Bool) where
       let same : same_address o.address (Some w) ≡ true = subst (λ v. same_address v (Some w) ≡ true) (sym e) (same_self w) in
       rw same (or_left (o.fd == g) (is_in g (numbers_with more (Some w))) first)
 
-  out_more : (o : Open) (more : List Open) (g : ℕ) → is_in g (out more) ≡ true → is_in g (out (o ∷ more)) ≡ true
-  out_more o more g h = elim (cases_Bool (passes gone o.address)) [
-    | inl s ↦ rw s (or_right (o.fd == g) (is_in g (out more)) h)
-    | inr n ↦ rw n h
-  ]
-
-  pub out-gone : (w : List ℕ) → gone w ≡ true → (t : List Open) (g : ℕ) → is_in g (numbers_with t (Some w)) ≡ true → is_in g (out t) ≡ true
-  out-gone w h [] g e = absurd (cc)
-  out-gone w h (o ∷ more) g e = elim (cases_Bool (same_address o.address (Some w))) [
-    | inl s ↦ (let here = passes_at o.address w true s h in
-        elim (or_cases (o.fd == g) (is_in g (numbers_with more (Some w))) (rw s at e)) [
-          | inl first ↦ rw here (or_left (o.fd == g) (is_in g (out more)) first)
-          | inr later ↦ out_more o more g (out-gone w h more g later)
-        ])
-    | inr n ↦ out_more o more g (out-gone w h more g (rw n at e))
-  ]
-
-  pub out-from : (t : List Open) (g : ℕ) → is_in g (out t) ≡ true → (w : List ℕ) × (gone w ≡ true) × (is_in g (numbers_with t (Some w)) ≡ true)
-  out-from [] g e = absurd (cc)
-  out-from (o ∷ more) g e = elim (cases_Bool (passes gone o.address)) [
-    | inl y ↦ elim (or_cases (o.fd == g) (is_in g (out more)) (rw y at e)) [
-      | inl first ↦ (let at = some-passes o.address y in (at.0, at.2, in_here o more g at.0 at.1 first))
-      | inr later ↦ (let r = out-from more g later in (r.0, r.1, in_more o more g (Some r.0) r.2))
+  -- a number of one that passes, and where it stands
+  pub picked-from : (t : List Open) (g : ℕ) → is_in g (picked f t) ≡ true → (o : Open) × (f o ≡ true) × ((o.fd == g) ≡ true) × ((w : List ℕ) → o.address ≡ Some w → is_in g (numbers_with t (Some w)) ≡ true)
+  picked-from [] g e = absurd (cc)
+  picked-from (o ∷ more) g e = elim (cases_Bool (f o)) [
+    | inl y ↦ elim (or_cases (o.fd == g) (is_in g (picked f more)) (rw y at e)) [
+      | inl first ↦ (o, y, first, λ w at. in_here o more g w at first)
+      | inr later ↦ (let r = picked-from more g later in (r.0, r.1, r.2, λ w at. in_more o more g (Some w) (r.3 w at)))
     ]
-    | inr n ↦ (let r = out-from more g (rw n at e) in (r.0, r.1, in_more o more g (Some r.0) r.2))
+    | inr n ↦ (let r = picked-from more g (rw n at e) in (r.0, r.1, r.2, λ w at. in_more o more g (Some w) (r.3 w at)))
   ]
 
-  pub none-left : (t : List Open) → list_any (λ (o : Open). passes gone o.address) (rest t) ≡ false
-  none-left [] = refl
-  none-left (o ∷ more) = elim (cases_Bool (passes gone o.address)) [
-    | inl y ↦ rw y (none-left more)
-    | inr n ↦ rw (n, n) (none-left more)
+  pub none-picked : (t : List Open) → list_any f (unpicked f t) ≡ false
+  none-picked [] = refl
+  none-picked (o ∷ more) = elim (cases_Bool (f o)) [
+    | inl y ↦ rw y (none-picked more)
+    | inr n ↦ rw (n, n) (none-picked more)
+  ]
+
+  -- a number of the address, where each with both passes
+  pub picks-some : (g : ℕ) (w : List ℕ) → ((o : Open) → o.address ≡ Some w → o.fd ≡ g → f o ≡ true) → (t : List Open) → is_in g (numbers_with t (Some w)) ≡ true → list_any f t ≡ true
+  picks-some g w each [] h = absurd (cc)
+  picks-some g w each (o ∷ more) h = elim (cases_Bool (same_address o.address (Some w))) [
+    | inl s ↦ elim (or_cases (o.fd == g) (is_in g (numbers_with more (Some w))) (rw s at h)) [
+      | inl here ↦ or_left (f o) (list_any f more) (each o (same_eq o.address (Some w) s) (eqb-true o.fd g here))
+      | inr later ↦ or_right (f o) (list_any f more) (picks-some g w each more later)
+    ]
+    | inr n ↦ or_right (f o) (list_any f more) (picks-some g w each more (rw n at h))
+  ]
+
+module _ (gone : List ℕ → Bool) where
+  -- what stays, and the numbers of the others
+  abbrev pub rest : List Open → List Open
+  rest t = filter (λ (o : Open). not (passes gone o.address)) t
+
+  abbrev pub out : List Open → List ℕ
+  out t = numbers_out gone t
+
+  pub some-passes : (a : Option (List ℕ)) → passes gone a ≡ true → (w : List ℕ) × (a ≡ Some w) × (gone w ≡ true)
+  some-passes (Some w) h = (w, refl, h)
+  some-passes None h = absurd (cc)
+
+  pub passes-at : (a : Option (List ℕ)) (w : List ℕ) (b : Bool) → same_address a (Some w) ≡ true → gone w ≡ b → passes gone a ≡ b
+  passes-at a w b same h = ap (passes gone) (same_eq a (Some w) same) ∙ h
+
+  pub rest-gone : (w : List ℕ) → gone w ≡ true → (t : List Open) → numbers_with (rest t) (Some w) ≡ []
+  rest-gone w h [] = refl
+  rest-gone w h (o ∷ more) = elim (cases_Bool (passes gone o.address)) [
+    | inl y ↦ rw y (rest-gone w h more)
+    | inr n ↦ elim (cases_Bool (same_address o.address (Some w))) [
+      | inl s ↦ absurd (clash (passes gone o.address) (passes-at o.address w true s h) n)
+      | inr m ↦ rw (n, m) (rest-gone w h more)
+    ]
+  ]
+
+  pub rest-stays : (w : List ℕ) → gone w ≡ false → (t : List Open) → numbers_with (rest t) (Some w) ≡ numbers_with t (Some w)
+  rest-stays w h [] = refl
+  rest-stays w h (o ∷ more) = elim (cases_Bool (passes gone o.address)) [
+    | inl y ↦ elim (cases_Bool (same_address o.address (Some w))) [
+      | inl s ↦ absurd (clash (passes gone o.address) y (passes-at o.address w false s h))
+      | inr m ↦ rw (y, m) (rest-stays w h more)
+    ]
+    | inr n ↦ elim (cases_Bool (same_address o.address (Some w))) [
+      | inl s ↦ rw (n, s) (ap (λ v. o.fd ∷ v) (rest-stays w h more))
+      | inr m ↦ rw (n, m) (rest-stays w h more)
+    ]
   ]
 
   pub rest-out-length : (t : List Open) → length (rest t) + length (out t) ≡ length t
-  rest-out-length [] = refl
-  rest-out-length (o ∷ more) = let h = rest-out-length more in elim (cases_Bool (passes gone o.address)) [
-    | inl y ↦ rw y (omega (arith, h))
-    | inr n ↦ rw n (omega (arith, h))
-  ]
-
-  -- where no number stands twice
-  pub rest-numbers : (t : List Open) → distinct (numbers_of_table t) ≡ true → numbers_of_table (rest t) ≡ left_out (out t) (numbers_of_table t)
-  rest-numbers t apart = ap numbers_of_table (sym (part-by-number (λ (o : Open). passes gone o.address) t apart)) ∙ numbers-without (out t) t
-
-  -- where no number has two addresses
-  module _ (t : List Open) (apart : (a b : Option (List ℕ)) (g : ℕ) → is_in g (numbers_with t a) ≡ true → is_in g (numbers_with t b) ≡ true → a ≡ b) where
-    stays_in : (w : List ℕ) (g : ℕ) → gone w ≡ false → is_in g (numbers_with t (Some w)) ≡ true → is_in g (out t) ≡ false
-    stays_in w g h there = elim (cases_Bool (is_in g (out t))) [
-      | inl y ↦ absurd (let r = out-from t g y in clash (gone w) (subst (λ v. gone v ≡ true) (some_same r.0 w (apart (Some r.0) (Some w) g r.2 there)) r.1) h)
-      | inr n ↦ n
-    ]
-
-    pub rest-with : (a : Option (List ℕ)) → numbers_with (rest t) a ≡ left_out (out t) (numbers_with t a)
-    rest-with (Some w) = elim (cases_Bool (gone w)) [
-      | inl y ↦ rest-gone w y t ∙ sym (left-all (out t) (numbers_with t (Some w)) (λ g there. out-gone w y t g there))
-      | inr n ↦ rest-stays w n t ∙ sym (left-none (out t) (numbers_with t (Some w)) (λ g there. stays_in w g n there))
-    ]
-    rest-with None = with-None (rest t) ∙ sym (ap (left_out (out t)) (with-None t))
+  rest-out-length t = picked-length (λ (o : Open). passes gone o.address) t

@@ -10,7 +10,7 @@ use Rattle.svc_record.specs.Descriptors.{has_live}
 use Rattle.svc_record.specs.Asks.{is_bind_open, is_adopt_open}
 use Rattle.svc_record.specs.Failed.{has_failed}
 use Rattle.svc_record.specs.Starts.{is_started}
-use Rattle.svc_record.specs.Endpoints.{is_held, holds, in_use_within, rests, is_busy, is_busy_elsewhere, waits_at, waits, first_missing, is_at_work, endpoint_right}
+use Rattle.svc_record.specs.Endpoints.{is_held, holds, in_use_within, rests, is_busy, is_busy_elsewhere, waits_at, waits, first_missing, is_at_work, endpoint_right, endpoint_right_late}
 use Rattle.svc_endpoints.proofs.RangeLemmas.{any-grows}
 
 busy_asked : (here b a r w l : Bool) → ((b || a) || ((r && w) && l)) ≡ true → (((if here then true else b) || a) || ((r && (if here then false else w)) && l)) ≡ true
@@ -74,6 +74,9 @@ module _ (p : Plan) (q : Record) (t k : ℕ) where
   pub right-bind : (s i : ℕ) → endpoint_right p q s i ≡ true → endpoint_right p (Told (Bind t k) ∷ q) s i ≡ true
   right-bind s i h = grow_right (is_at_work p q s) (is_at_work p q s) (holds p q s i) (waits p q s i) (waits p (Told (Bind t k) ∷ q) s i) (λ e. e) (waits-bind s i) h
 
+  pub late-bind : (s i : ℕ) → endpoint_right_late p q s i ≡ true → endpoint_right_late p (Told (Bind t k) ∷ q) s i ≡ true
+  late-bind s i h = grow_right (is_at_work p q s) (is_at_work p q s) (is_held p q s i) (waits p q s i) (waits p (Told (Bind t k) ∷ q) s i) (λ e. e) (waits-bind s i) h
+
 module _ (p : Plan) (q : Record) (t k fd : ℕ) where
   waits_at-adopt : (s j : ℕ) → waits_at p q s j ≡ true → waits_at p (Told (Adopt t k fd) ∷ q) s j ≡ true
   waits_at-adopt s j h = grow_waits_at (is_busy p q s j) (is_busy p (Told (Adopt t k fd) ∷ q) s j) (not (has_live p q (address p s j))) (is_busy_elsewhere p q (address p s j)) (is_busy_elsewhere p (Told (Adopt t k fd) ∷ q) (address p s j)) (busy-adopt p q t k fd s j)
@@ -88,6 +91,9 @@ module _ (p : Plan) (q : Record) (t k fd : ℕ) where
 
   pub right-adopt : (s i : ℕ) → endpoint_right p q s i ≡ true → endpoint_right p (Told (Adopt t k fd) ∷ q) s i ≡ true
   right-adopt s i h = grow_right (is_at_work p q s) (is_at_work p q s) (holds p q s i) (waits p q s i) (waits p (Told (Adopt t k fd) ∷ q) s i) (λ e. e) (waits-adopt s i) h
+
+  pub late-adopt : (s i : ℕ) → endpoint_right_late p q s i ≡ true → endpoint_right_late p (Told (Adopt t k fd) ∷ q) s i ≡ true
+  late-adopt s i h = grow_right (is_at_work p q s) (is_at_work p q s) (is_held p q s i) (waits p q s i) (waits p (Told (Adopt t k fd) ∷ q) s i) (λ e. e) (waits-adopt s i) h
 
 module _ (p : Plan) (q : Record) (t : ℕ) where
   waits_at-start : (s j : ℕ) → waits_at p q s j ≡ true → waits_at p (Told (Start t) ∷ q) s j ≡ true
@@ -104,3 +110,6 @@ module _ (p : Plan) (q : Record) (t : ℕ) where
   -- at each service but the one that starts
   pub right-start : (s i : ℕ) → (t == s) ≡ false → endpoint_right p q s i ≡ true → endpoint_right p (Told (Start t) ∷ q) s i ≡ true
   right-start s i other h = grow_right (is_at_work p q s) (is_at_work p (Told (Start t) ∷ q) s) (holds p q s i) (waits p q s i) (waits p (Told (Start t) ∷ q) s i) (λ e. rw other at e) (waits-start s i) h
+
+  pub late-start : (s i : ℕ) → (t == s) ≡ false → endpoint_right_late p q s i ≡ true → endpoint_right_late p (Told (Start t) ∷ q) s i ≡ true
+  late-start s i other h = grow_right (is_at_work p q s) (is_at_work p (Told (Start t) ∷ q) s) (is_held p q s i) (waits p q s i) (waits p (Told (Start t) ∷ q) s i) (λ e. rw other at e) (waits-start s i) h

@@ -11,8 +11,8 @@ use Rattle.svc_record.specs.declared.action.Action.TheVariants.{Close}
 use Rattle.svc_record.specs.Drain.{put_number}
 use Rattle.svc_endpoints.specs.EndpointsState.{numbers_with, numbers_of_table}
 use Rattle.svc_record.specs.Plans.{same_address}
-use Rattle.svc_endpoints.specs.Effects.{put_open, passes}
-use Rattle.svc_endpoints.proofs.RestLemmas.{out}
+use Rattle.svc_endpoints.specs.Effects.{put_open}
+use Rattle.svc_endpoints.proofs.RestLemmas.{picked}
 
 front : (table : List Open) (k : ℕ) (x : Open) → k < length table → x ≡ get_or table k x → drop k table ≡ x ∷ drop (k + 1) table
 front table k x lt e = let one : suc k ≡ k + 1 = omega arith in drop-cons table k x lt ∙ ap (λ y. y ∷ drop (suc k) table) (sym e) ∙ ap (λ n. x ∷ drop n table) one
@@ -53,39 +53,39 @@ numbers-next table k fd x lt e here below j less = elim (cases_eq j k) [
 ]
 
 -- what goes of one more of them
-module _ (gone : List ℕ → Bool) (table : List Open) (k : ℕ) (x : Open) (lt : k < length table) (is : x ≡ get_or table k x) where
-  out_next : out gone (take (k + 1) table) ≡ out gone (take k table) ++ numbers_of_table (filter (λ (o : Open). passes gone o.address) (x ∷ []))
-  out_next = ap (out gone) (take_more table k x lt ∙ ap (λ y. take k table ++ y ∷ []) (sym is))
-      ∙ ap numbers_of_table (filter-append (λ (o : Open). passes gone o.address) (take k table) (x ∷ []))
-      ∙ map-append (λ (o : Open). o.fd) (filter (λ (o : Open). passes gone o.address) (take k table)) (filter (λ (o : Open). passes gone o.address) (x ∷ []))
+module _ (done : Open → Bool) (table : List Open) (k : ℕ) (x : Open) (lt : k < length table) (is : x ≡ get_or table k x) where
+  picked_next : picked done (take (k + 1) table) ≡ picked done (take k table) ++ numbers_of_table (filter done (x ∷ []))
+  picked_next = ap (picked done) (take_more table k x lt ∙ ap (λ y. take k table ++ y ∷ []) (sym is))
+      ∙ ap numbers_of_table (filter-append done (take k table) (x ∷ []))
+      ∙ map-append (λ (o : Open). o.fd) (filter done (take k table)) (filter done (x ∷ []))
 
-  pub out-here : passes gone x.address ≡ true → out gone (take (k + 1) table) ≡ out gone (take k table) ++ x.fd ∷ []
-  out-here h = out_next ∙ (rw h refl)
+  pub picked-here : done x ≡ true → picked done (take (k + 1) table) ≡ picked done (take k table) ++ x.fd ∷ []
+  picked-here h = picked_next ∙ (rw h refl)
 
-  pub out-past : passes gone x.address ≡ false → out gone (take (k + 1) table) ≡ out gone (take k table)
-  out-past h = out_next ∙ (rw h (append-nil (out gone (take k table))))
+  pub picked-past : done x ≡ false → picked done (take (k + 1) table) ≡ picked done (take k table)
+  picked-past h = picked_next ∙ (rw h (append-nil (picked done (take k table))))
 
--- of the first k descriptors those of these addresses are closed
-pub record ClosedUpTo (gone : List ℕ → Bool) (table : List Open) (start here : List Action × ℕ) (k : ℕ) : Type 0 where
-  pub few : length (out gone (take k table)) ≤ k
-  pub room : spare start ≤ spare here + length (out gone (take k table))
-  pub told : list_of here ≡ list_of start ++ map Close (out gone (take k table))
+-- of the first k descriptors those that pass the test are closed
+pub record ClosedUpTo (done : Open → Bool) (table : List Open) (start here : List Action × ℕ) (k : ℕ) : Type 0 where
+  pub few : length (picked done (take k table)) ≤ k
+  pub room : spare start ≤ spare here + length (picked done (take k table))
+  pub told : list_of here ≡ list_of start ++ map Close (picked done (take k table))
 
-module _ (gone : List ℕ → Bool) (table : List Open) (k : ℕ) (x : Open) (lt : k < length table) (is : x ≡ get_or table k x) (start here : List Action × ℕ) (was : ClosedUpTo gone table start here k) where
-  pub closes-past : passes gone x.address ≡ false → ClosedUpTo gone table start here (k + 1)
-  closes-past h = let same = out-past gone table k x lt is h in record {
+module _ (done : Open → Bool) (table : List Open) (k : ℕ) (x : Open) (lt : k < length table) (is : x ≡ get_or table k x) (start here : List Action × ℕ) (was : ClosedUpTo done table start here k) where
+  pub closes-past : done x ≡ false → ClosedUpTo done table start here (k + 1)
+  closes-past h = let same = picked-past done table k x lt is h in record {
     few = rw same (let few = was.few in omega arith);
     room = rw same was.room;
     told = rw same was.told;
   }
 
-  pub closes-here : (next : List Action × ℕ) → passes gone x.address ≡ true → list_of next ≡ list_of here ++ Close x.fd ∷ [] → spare here ≤ spare next + 1 → ClosedUpTo gone table start next (k + 1)
+  pub closes-here : (next : List Action × ℕ) → done x ≡ true → list_of next ≡ list_of here ++ Close x.fd ∷ [] → spare here ≤ spare next + 1 → ClosedUpTo done table start next (k + 1)
   closes-here next h told room =
-      let more = out-here gone table k x lt is h in
-      let longer : length (out gone (take (k + 1) table)) ≡ length (out gone (take k table)) + 1 = ap length more ∙ length-append (out gone (take k table)) (x.fd ∷ []) in
+      let more = picked-here done table k x lt is h in
+      let longer : length (picked done (take (k + 1) table)) ≡ length (picked done (take k table)) + 1 = ap length more ∙ length-append (picked done (take k table)) (x.fd ∷ []) in
       record {
         few = let few = was.few in omega (arith, longer);
         room = let before = was.room in omega (arith, longer);
-        told = told ∙ ap (λ w. w ++ Close x.fd ∷ []) was.told ∙ append_assoc (list_of start) (map Close (out gone (take k table))) (Close x.fd ∷ [])
-            ∙ ap (λ w. list_of start ++ w) (sym (ap (map Close) more ∙ map-append Close (out gone (take k table)) (x.fd ∷ [])));
+        told = told ∙ ap (λ w. w ++ Close x.fd ∷ []) was.told ∙ append_assoc (list_of start) (map Close (picked done (take k table))) (Close x.fd ∷ [])
+            ∙ ap (λ w. list_of start ++ w) (sym (ap (map Close) more ∙ map-append Close (picked done (take k table)) (x.fd ∷ [])));
       }

@@ -1,5 +1,5 @@
 -- What a visit leaves.
-use Rattle.std.proofs.Common.{ℕ, Bool, true, false, ◌||◌, ◌&&◌, not, inl, inr, List, ◌≡◌, refl, ap, sym, ◌∙◌, subst, arith, ◌<◌, length, Option, nat_lt}
+use Rattle.std.proofs.Common.{ℕ, Bool, true, false, ◌||◌, ◌&&◌, not, inl, inr, List, ◌≡◌, refl, ap, sym, ◌∙◌, subst, arith, ◌<◌, length, Option, nat_lt, []}
 use Rattle.std.proofs.lemmas.Bool.{cases_Bool, cases_lt, and_parts, or_cases, eq-eqb}
 use Rattle.svc_record.specs.declared.plan.Plan.{Plan}
 use Rattle.svc_record.specs.Record.{Record, now}
@@ -98,8 +98,8 @@ module _ (p : Plan) (d : EndpointsData) (q : Record) (sized : IsEndpointsSized p
   pub ask_open-is : (s i : ℕ) → s < service_count p → i < length (endpoints p s) → is_ask_open q s i ≡ is_asking (last_at d s i)
   ask_open-is s i inside within = rw (← ((was.each s i inside within).binding_is), ← ((was.each s i inside within).adopting_is)) refl
 
-  pub holds-is : (s i : ℕ) → s < service_count p → i < length (endpoints p s) → failed_at d s ≡ false → is_holding (last_at d s i) ≡ true → holds p q s i ≡ true
-  holds-is s i inside within free h = rw (← (was.with_is (address p s i)), kept.live s i free (holding_fd (last_at d s i) h), ← ((was.each s i inside within).held_is)) (holds_one (last_at d s i) h)
+  pub holds-is : d.loops ≡ [] → (s i : ℕ) → s < service_count p → i < length (endpoints p s) → failed_at d s ≡ false → is_holding (last_at d s i) ≡ true → holds p q s i ≡ true
+  holds-is early s i inside within free h = rw (← (was.with_is (address p s i)), kept.live early s i free (holding_fd (last_at d s i) h), ← ((was.each s i inside within).held_is)) (holds_one (last_at d s i) h)
 
   pub busy-is : (s i : ℕ) → s < service_count p → i < length (endpoints p s) → has_live p q (address p s i) ≡ false → is_busy p q s i ≡ busy_in d (now q) s i
   busy-is s i inside within none = rw (← ((was.each s i inside within).binding_is), ← ((was.each s i inside within).adopting_is), ← (was.failed_is s inside))

@@ -1,5 +1,5 @@
 -- Numbers with the words at their places.
-use Rattle.std.proofs.Common.{ℕ, Bool, true, false, ◌||◌, ◌&&◌, ◌==◌, List, [], ◌∷◌, ◌++◌, ◌≡◌, refl, ap, map}
+use Rattle.std.proofs.Common.{ℕ, ◌||◌, ◌==◌, List, [], ◌∷◌, ◌++◌, ◌≡◌, refl, ap, map}
 use Rattle.std.specs.List.{list_any}
 use Rattle.svc_record.specs.Descriptors.{Descriptor, with_words, has_number}
 use Rattle.svc_endpoints.specs.EndpointsState.{is_in}

@@ -1,5 +1,5 @@
 -- What each answer makes of the states.
-use Rattle.std.specs.Prelude.{ℕ, Bool, false, true, not, ◌&&◌, ◌||◌, ◌+◌, List, [], ◌∷◌, Option, Some, None, map, filter, slice_index_or, slice_set, nat_le, nat_lt, if◌then◌else◌}
+use Rattle.std.specs.Prelude.{ℕ, Bool, false, true, not, ◌&&◌, ◌||◌, ◌+◌, List, [], ◌∷◌, ◌++◌, Option, Some, None, map, filter, slice_index_or, slice_set, nat_le, nat_lt, if◌then◌else◌}
 use Rattle.std.specs.List.{list_any, list_all}
 use Rattle.svc_record.specs.declared.plan.Plan.{Plan}
 use Rattle.svc_record.specs.Plans.{services, address, names, is_unclaimed}
@@ -13,6 +13,7 @@ use Rattle.svc_endpoints.specs.declared.states.EndState.{EndState}
 use Rattle.svc_endpoints.specs.declared.table.Open.{Open}
 use Rattle.svc_endpoints.specs.EndpointsData.{EndpointsData}
 use Rattle.svc_endpoints.specs.EndpointsState.{last_at, refusals_at, numbers_with, numbers_of_table, is_in}
+use Rattle.svc_endpoints.specs.Uses.{is_drained_by}
 
 -- the first of them
 abbrev pub first_of : List ℕ → Option ℕ
@@ -113,33 +114,41 @@ abbrev pub passes : (List ℕ → Bool) → Option (List ℕ) → Bool
 passes test (Some a) = test a
 passes test None = false
 
--- the descriptor's address is abandoned
-abbrev pub is_done_for : Plan → List Bool → Open → Bool
-is_done_for p failed o = passes (is_abandoned_by p failed) o.address
+-- the descriptor's address is abandoned, and its number isn't among these, which are on offer to a successor
+abbrev pub is_done_for : Plan → List Bool → List ℕ → Open → Bool
+is_done_for p failed kept o = passes (is_abandoned_by p failed) o.address && not (is_in o.fd kept)
 
--- the numbers of the table's descriptors whose addresses are abandoned
-abbrev pub abandoned_numbers : Plan → List Bool → List Open → List ℕ
-abandoned_numbers p failed table = numbers_of_table (filter (is_done_for p failed) table)
+-- that, or the descriptor is drained
+abbrev pub goes : Plan → List ℕ → EndpointsData → Open → Bool
+goes p kept d o = is_done_for p d.failed kept o || is_drained_by p d o.fd
+
+-- the numbers of those in the table of which this holds
+abbrev pub gone_numbers : Plan → List ℕ → EndpointsData → List Open → List ℕ
+gone_numbers p kept d table = numbers_of_table (filter (goes p kept d) table)
 
 -- the table without them
-abbrev pub without_abandoned : Plan → List Bool → List Open → List Open
-without_abandoned p failed table = filter (λ (o : Open). not (is_done_for p failed o)) table
+abbrev pub without_gone : Plan → List ℕ → EndpointsData → List Open → List Open
+without_gone p kept d table = filter (λ (o : Open). not (goes p kept d o)) table
+
+-- a loop of the endpoint ended
+abbrev pub loop_ended : EndpointsData → ℕ → ℕ → ℕ → EndpointsData
+loop_ended d s i j = record d { loops = d.loops ++ (record { service = s; endpoint = i; number = j } ∷ []) }
 
 -- the states without them
-abbrev pub cleared : Plan → EndpointsData → EndpointsData
-cleared p d = record d { table = without_abandoned p d.failed d.table }
+abbrev pub cleared : Plan → List ℕ → EndpointsData → EndpointsData
+cleared p kept d = record d { table = without_gone p kept d d.table }
 
--- a service is given up, and what is abandoned now is closed
-abbrev pub given_up : Plan → ℕ → EndpointsData → List Action
-given_up p s d = Fail s ∷ map Close (abandoned_numbers p d.failed d.table)
+-- a service is given up, and what goes is closed
+abbrev pub given_up : Plan → ℕ → List ℕ → EndpointsData → List Action
+given_up p s kept d = Fail s ∷ map Close (gone_numbers p kept d d.table)
 
 -- the same where b says so
-abbrev pub cleared_if : Bool → Plan → EndpointsData → EndpointsData
-cleared_if b p d = if b then cleared p d else d
+abbrev pub cleared_if : Bool → Plan → List ℕ → EndpointsData → EndpointsData
+cleared_if b p kept d = if b then cleared p kept d else d
 
 -- what is told where b says so
-abbrev pub given_up_if : Bool → Plan → ℕ → EndpointsData → List Action
-given_up_if b p s d = if b then given_up p s d else []
+abbrev pub given_up_if : Bool → Plan → ℕ → List ℕ → EndpointsData → List Action
+given_up_if b p s kept d = if b then given_up p s kept d else []
 
 -- a received descriptor with this address closes at once: a live one has the address, or no service claims it, or it is abandoned
 abbrev pub turns_away : Plan → EndpointsData → List ℕ → Bool

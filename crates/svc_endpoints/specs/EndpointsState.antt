@@ -1,14 +1,14 @@
 -- The records that the states of endpoints stand for.
-use Rattle.std.specs.Prelude.{ℕ, Bool, true, false, ◌==◌, ◌≡◌, ◌<◌, ◌≤◌, ◌-◌, not, ◌&&◌, ◌||◌, List, [], ◌∷◌, Option, Some, length, map, slice_index_or, nat_lt, if◌then◌else◌}
+use Rattle.std.specs.Prelude.{ℕ, Bool, true, false, ◌==◌, ◌≡◌, ◌<◌, ◌≤◌, ◌-◌, not, ◌&&◌, ◌||◌, List, [], ◌∷◌, Option, length, map, slice_index_or, nat_lt, if◌then◌else◌}
 use Rattle.std.specs.List.{list_any}
 use Rattle.svc_record.specs.declared.plan.Plan.{Plan}
 use Rattle.svc_record.specs.Plans.{service_count, endpoints, address, same_address}
-use Rattle.svc_record.specs.Record.{Record, has, signal_of, EachEntry}
+use Rattle.svc_record.specs.Record.{Record, has, EachEntry}
 use Rattle.svc_record.specs.Descriptors.{live_numbers_with, is_close, one_live}
 use Rattle.svc_record.specs.Asks.{is_bind_open, is_adopt_open, last_adopt}
 use Rattle.svc_record.specs.AskRules.{FailsRight, ask_due, ask_known}
-use Rattle.svc_record.specs.Closes.{ClosesRight, close_once, is_broadcast}
-use Rattle.svc_record.specs.Offer.{is_upgrade}
+use Rattle.svc_record.specs.Closes.{ClosesRight, close_once, is_broadcast, is_loop_end, ended_loops}
+use Rattle.svc_record.specs.Offer.{is_held_back}
 use Rattle.svc_record.specs.Drain.{ascending, live_numbers}
 use Rattle.svc_record.specs.Endpoints.{held_numbers, in_use_within}
 use Rattle.svc_record.specs.Failed.{has_failed, in_use_count}
@@ -20,6 +20,7 @@ use Rattle.svc_endpoints.specs.declared.states.Last.TheVariants.{Unasked, Bindin
 use Rattle.svc_endpoints.specs.declared.states.EndState.{EndState}
 use Rattle.svc_endpoints.specs.declared.table.Open.{Open}
 use Rattle.svc_endpoints.specs.EndpointsData.{EndpointsData}
+use Rattle.svc_endpoints.specs.Loops.{has_loop, loop_count}
 
 -- a bind of it is open
 abbrev pub is_binding : Last → Bool
@@ -131,11 +132,11 @@ pub record IsEndpointsSized (p : Plan) (d : EndpointsData) : Type 0 where
   pub each : (s : ℕ) → s < service_count p → length (slice_index_or d.rows s []) ≡ length (endpoints p s)
   pub few : (s : ℕ) → s < service_count p → length (endpoints p s) ≤ 64
 
--- what the states keep among themselves: an ask is of a service that hasn't failed, whose earlier endpoints are held; what is held or offered is the one live descriptor of its address; no address has two, and no descriptor two addresses
+-- what the states keep among themselves: an ask is of a service that hasn't failed, whose earlier endpoints are held; while no loop ended, what is held or offered is the one live descriptor of its address; no address has two, and no descriptor two addresses
 pub record StatesKept (p : Plan) (d : EndpointsData) : Type 0 where
   pub asking_free : (s i : ℕ) → is_asking (last_at d s i) ≡ true → failed_at d s ≡ false
   pub turn : (s i k : ℕ) → is_asking (last_at d s i) ≡ true → k < i → is_holding (last_at d s k) ≡ true
-  pub live : (s i : ℕ) → failed_at d s ≡ false → has_fd (last_at d s i) ≡ true → numbers_with d.table (address p s i) ≡ fd_of (last_at d s i)
+  pub live : d.loops ≡ [] → (s i : ℕ) → failed_at d s ≡ false → has_fd (last_at d s i) ≡ true → numbers_with d.table (address p s i) ≡ fd_of (last_at d s i)
   pub one : (a : Option (List ℕ)) → length (numbers_with d.table a) ≤ 1
   pub distinct : (a b : Option (List ℕ)) (fd : ℕ) → is_in fd (numbers_with d.table a) ≡ true → is_in fd (numbers_with d.table b) ≡ true → a ≡ b
 
@@ -161,15 +162,33 @@ pub record StatesStand (p : Plan) (d : EndpointsData) (q : Record) : Type 0 wher
   pub lost : (s i : ℕ) → is_lost (last_at d s i) ≡ true → failed_at d s ≡ true
   pub closed_came : (fd : ℕ) → is_new q fd ≡ true → has (is_close fd) q ≡ false
 
--- no broadcast was told, and no signal asked for an upgrade
-pub record Calm (q : Record) : Type 0 where
-  pub no_broadcast : has is_broadcast q ≡ false
-  pub no_upgrade : is_upgrade (signal_of q) ≡ false
+-- each loop of the endpoint has ended
+abbrev pub is_done : Plan → EndpointsData → ℕ → ℕ → Bool
+is_done p d s i = loop_count d.loops s i == p.tasks
 
--- while the run goes on: nothing was broadcast or offered yet; the parts say what the record says; each ask was due and of an endpoint of the plan, and each close of a descriptor that was open; exactly what has failed is given up, and exactly what is gone is closed; no address has two live descriptors, and no number came twice
+-- the endpoint is one of a service that hasn't failed, and whose endpoints are all held
+pub record ServesIn (p : Plan) (d : EndpointsData) (s i : ℕ) : Type 0 where
+  pub inside : s < service_count p
+  pub within : i < length (endpoints p s)
+  pub free : failed_at d s ≡ false
+  pub held : (k : ℕ) → k < length (endpoints p s) → is_holding (last_at d s k) ≡ true
+
+-- the loops that ended are those of which the record says it, and count alike; they ended after the broadcast, each of a service that serves
+pub record LoopsStand (p : Plan) (d : EndpointsData) (q : Record) : Type 0 where
+  pub some_tasks : 0 < p.tasks
+  pub ends_are : (s i j : ℕ) → has_loop d.loops s i j ≡ has (is_loop_end s i j) q
+  pub counts : (s i : ℕ) → loop_count d.loops s i ≡ ended_loops p q s i
+  pub told : (s i j : ℕ) → has_loop d.loops s i j ≡ true → has is_broadcast q ≡ true
+  pub serve : (s i j : ℕ) → has_loop d.loops s i j ≡ true → ServesIn p d s i
+
+-- these are the numbers of the descriptors on offer to a successor
+abbrev pub AreOnOffer : Plan → List ℕ → Record → Type 0
+AreOnOffer p kept q = (fd : ℕ) → is_in fd kept ≡ is_held_back p q fd
+
+-- while the run goes on: the parts say what the record says; each ask was due and of an endpoint of the plan, and each close of a descriptor that was open; exactly what has failed is given up, and exactly what is gone is closed; no address has two live descriptors, and no number came twice
 pub record EndpointsStand (p : Plan) (d : EndpointsData) (q : Record) : Type 0 where
-  pub calm : Calm q
   pub states : StatesStand p d q
+  pub loops : LoopsStand p d q
   pub kept : StatesKept p d
   pub asks_due : EachEntry (λ e before. ask_due p e before ≡ true) q
   pub asks_known : EachEntry (λ e before. ask_known p e before ≡ true) q

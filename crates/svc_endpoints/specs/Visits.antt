@@ -5,8 +5,9 @@ use Rattle.svc_record.specs.declared.plan.Plan.{Plan}
 use Rattle.svc_record.specs.declared.action.Action.{Action}
 use Rattle.svc_record.specs.declared.action.Action.TheVariants.{Bind, Adopt}
 use Rattle.svc_record.specs.Plans.{endpoints, address, any_with, same_address, endpoint_numbers}
-use Rattle.svc_record.specs.Record.{Record, tell}
-use Rattle.svc_record.specs.Endpoints.{endpoint_right}
+use Rattle.svc_record.specs.Record.{Record, has, tell}
+use Rattle.svc_record.specs.Endpoints.{endpoint_right, endpoint_right_late}
+use Rattle.svc_record.specs.Closes.{is_broadcast}
 use Rattle.svc_endpoints.specs.declared.states.Last.{Last}
 use Rattle.svc_endpoints.specs.declared.visit.Visit.{Visit}
 use Rattle.svc_endpoints.specs.declared.visit.Visit.TheVariants.{Nothing, Asks, Offers}
@@ -75,7 +76,8 @@ IsAskOf s (Bind t i ∷ []) = t ≡ s
 IsAskOf s (Adopt t i fd ∷ []) = t ≡ s
 IsAskOf s _ = ⊥
 
--- after a visit the parts stand for the longer record, and each endpoint of the service holds or waits, where the service is at work
+-- after a visit the parts stand for the longer record, and each endpoint of the service is held or waits, where the service is at work; before the broadcast what is held is live
 pub record Visited (p : Plan) (d : EndpointsData) (s : ℕ) (q : Record) (told : List Action) : Type 0 where
   pub stands : EndpointsStand p d (tell q told)
-  pub right : (i : ℕ) → i < length (endpoints p s) → endpoint_right p (tell q told) s i ≡ true
+  pub right : has is_broadcast q ≡ false → (i : ℕ) → i < length (endpoints p s) → endpoint_right p (tell q told) s i ≡ true
+  pub right_late : (i : ℕ) → i < length (endpoints p s) → endpoint_right_late p (tell q told) s i ≡ true

@@ -1,18 +1,28 @@
 //! What answers to asks make of the endpoints.
 
-ghost use Rattle.std.specs.Prelude.{◌≡◌, ◌+◌, ◌<◌, ◌≤◌, ◌++◌, ◌∷◌, ◌==◌, [], length, slice_index_or, ℕ, Some, None, Option, map, true, false};
+ghost use Rattle.std.specs.Prelude.{◌≡◌, ◌+◌, ◌<◌, ◌≤◌, ◌++◌, ◌∷◌, ◌==◌, [], length, slice_index_or, ℕ, Some, None, Option, map, true, false, not, ◌&&◌, nat_lt};
 ghost use Rattle.std.specs.List.{list_any};
 ghost use Rattle.svc_conf.specs.Items.{list_of, spare};
 ghost use Rattle.svc_record.specs.declared.entry.Entry.TheVariants.{Got};
-ghost use Rattle.svc_record.specs.declared.event.Event.TheVariants.{Bound, InUse, BindFailed, Adopted, AdoptFailed};
-ghost use Rattle.svc_record.specs.Plans.{service_count, endpoints, address};
-ghost use Rattle.svc_record.specs.Record.{Record, now, tell};
+ghost use Rattle.svc_record.specs.declared.event.Event.{Event};
+ghost use Rattle.svc_record.specs.declared.event.Event.TheVariants.{Bound, InUse, BindFailed, Adopted, AdoptFailed, LoopEnded};
+ghost use Rattle.svc_record.specs.Offer.{is_held_back};
+ghost use Rattle.svc_record.specs.Plans.{service_count, endpoints, address, is_endpoint};
+ghost use Rattle.svc_record.specs.Closes.{is_loop_end};
+ghost use Rattle.svc_record.specs.Endpoints.{serves};
+ghost use Rattle.svc_record.specs.Fits.{fits_row};
+ghost use Rattle.svc_record.specs.Starts.{is_started};
+ghost use Rattle.svc_record.specs.Record.{Record, has, now, tell};
 ghost use Rattle.svc_record.specs.Told.{Tells, IsGivingUp};
-ghost use Rattle.svc_endpoints.specs.EndpointsState.{IsEndpointsSized, EndpointsStand, last_at, is_binding, is_adopting};
+ghost use Rattle.svc_endpoints.specs.EndpointsState.{IsEndpointsSized, EndpointsStand, AreOnOffer, last_at, is_binding, is_adopting};
+ghost use Rattle.svc_endpoints.specs.Foreign.{is_endpoints_event};
 ghost use Rattle.svc_endpoints.specs.Effects.{is_last_refusal, refused, bind_failed, adopt_failed, adopted, bound_or_again, has_open, cleared_if, given_up_if, close_told};
+ghost use Rattle.svc_endpoints.specs.Loops.{has_loop};
+ghost use Rattle.svc_endpoints.specs.Uses.{serves_by};
 
 use crate::endpoints::Endpoints;
-use crate::naming::{address_of, limit};
+use crate::loops::has_loop;
+use crate::naming::{address_of, endpoint_count, limit};
 use crate::states::{EndState, Last, held_now};
 use svc_conf::Text;
 use svc_record::{Action, Actions, Plan};
@@ -46,37 +56,53 @@ impl Endpoints {
     }
 
     /// The address of the endpoint was in use at the moment, in milliseconds. The endpoint rests,
-    /// or its service fails, is given up, and what nobody needs any more is closed.
-    pub fn take_in_use(&mut self, plan: &Plan, s: u32, i: u32, moment: u64, actions: &mut Actions)
+    /// or its service fails, is given up, and what nobody needs any more is closed. What is on offer
+    /// to a successor is kept.
+    pub fn take_in_use(
+        &mut self,
+        plan: &Plan,
+        s: u32,
+        i: u32,
+        moment: u64,
+        kept: &[u64],
+        actions: &mut Actions,
+    )
         requires sized { IsEndpointsSized plan.now self.old.parts }
         requires service { s < service_count plan.now }
         requires endpoint { i < length (endpoints plan.now s) }
         requires asks { is_binding (last_at self.old.parts s i) ≡ true }
         requires room { length self.old.parts.table + 2 ≤ spare actions.old }
         ensures sized { IsEndpointsSized plan.now self.new.parts }
-        ensures stands { Tells (list_of actions.old) (list_of actions.new) (λ told. IsGivingUp told × ((q : Record) → moment ≡ now q → EndpointsStand plan.now self.old.parts q → EndpointsStand plan.now self.new.parts (tell (Got (InUse s i) ∷ q) told))) }
+        ensures stands { Tells (list_of actions.old) (list_of actions.new) (λ told. IsGivingUp told × ((q : Record) → moment ≡ now q → AreOnOffer plan.now kept.now q → EndpointsStand plan.now self.old.parts q → EndpointsStand plan.now self.new.parts (tell (Got (InUse s i) ∷ q) told))) }
         ensures room { spare actions.old + length self.new.parts.table ≤ spare actions.new + length self.old.parts.table + 2 }
         ensures few { length (list_of actions.new) + length self.new.parts.table ≤ length (list_of actions.old) + length self.old.parts.table + 2 }
     {
         let fails = self.refuse(plan, s, i, moment);
-        self.give_up_if(fails, plan, s, actions);
+        self.give_up_if(fails, plan, s, kept, actions);
     }
 
     /// The endpoint couldn't be bound: its service fails, is given up, and what nobody needs any
-    /// more is closed.
-    pub fn take_bind_failed(&mut self, plan: &Plan, s: u32, i: u32, actions: &mut Actions)
+    /// more is closed. What is on offer to a successor is kept.
+    pub fn take_bind_failed(
+        &mut self,
+        plan: &Plan,
+        s: u32,
+        i: u32,
+        kept: &[u64],
+        actions: &mut Actions,
+    )
         requires sized { IsEndpointsSized plan.now self.old.parts }
         requires service { s < service_count plan.now }
         requires endpoint { i < length (endpoints plan.now s) }
         requires asks { is_binding (last_at self.old.parts s i) ≡ true }
         requires room { length self.old.parts.table + 2 ≤ spare actions.old }
         ensures sized { IsEndpointsSized plan.now self.new.parts }
-        ensures stands { Tells (list_of actions.old) (list_of actions.new) (λ told. IsGivingUp told × ((q : Record) → EndpointsStand plan.now self.old.parts q → EndpointsStand plan.now self.new.parts (tell (Got (BindFailed s i) ∷ q) told))) }
+        ensures stands { Tells (list_of actions.old) (list_of actions.new) (λ told. IsGivingUp told × ((q : Record) → AreOnOffer plan.now kept.now q → EndpointsStand plan.now self.old.parts q → EndpointsStand plan.now self.new.parts (tell (Got (BindFailed s i) ∷ q) told))) }
         ensures room { spare actions.old + length self.new.parts.table ≤ spare actions.new + length self.old.parts.table + 2 }
         ensures few { length (list_of actions.new) + length self.new.parts.table ≤ length (list_of actions.old) + length self.old.parts.table + 2 }
     {
         self.end_bind(plan, s, i);
-        self.give_up_if(true, plan, s, actions);
+        self.give_up_if(true, plan, s, kept, actions);
     }
 
     /// The endpoint holds the descriptor that it was offered.
@@ -93,20 +119,98 @@ impl Endpoints {
     }
 
     /// The endpoint couldn't take the descriptor that it was offered: its service fails, is given
-    /// up, and what nobody needs any more is closed.
-    pub fn take_adopt_failed(&mut self, plan: &Plan, s: u32, i: u32, actions: &mut Actions)
+    /// up, and what nobody needs any more is closed. What is on offer to a successor is kept.
+    pub fn take_adopt_failed(
+        &mut self,
+        plan: &Plan,
+        s: u32,
+        i: u32,
+        kept: &[u64],
+        actions: &mut Actions,
+    )
         requires sized { IsEndpointsSized plan.now self.old.parts }
         requires service { s < service_count plan.now }
         requires endpoint { i < length (endpoints plan.now s) }
         requires asks { is_adopting (last_at self.old.parts s i) ≡ true }
         requires room { length self.old.parts.table + 2 ≤ spare actions.old }
         ensures sized { IsEndpointsSized plan.now self.new.parts }
-        ensures stands { Tells (list_of actions.old) (list_of actions.new) (λ told. IsGivingUp told × ((q : Record) → EndpointsStand plan.now self.old.parts q → EndpointsStand plan.now self.new.parts (tell (Got (AdoptFailed s i) ∷ q) told))) }
+        ensures stands { Tells (list_of actions.old) (list_of actions.new) (λ told. IsGivingUp told × ((q : Record) → AreOnOffer plan.now kept.now q → EndpointsStand plan.now self.old.parts q → EndpointsStand plan.now self.new.parts (tell (Got (AdoptFailed s i) ∷ q) told))) }
         ensures room { spare actions.old + length self.new.parts.table ≤ spare actions.new + length self.old.parts.table + 2 }
         ensures few { length (list_of actions.new) + length self.new.parts.table ≤ length (list_of actions.old) + length self.old.parts.table + 2 }
     {
         self.end_adopt(plan, s, i);
-        self.give_up_if(true, plan, s, actions);
+        self.give_up_if(true, plan, s, kept, actions);
+    }
+
+    /// A loop of an endpoint ended: what is drained by that is closed. What is on offer to a
+    /// successor is kept. Room for the loop was reserved.
+    pub fn take_loop_ended(
+        &mut self,
+        plan: &Plan,
+        s: u32,
+        i: u32,
+        j: u64,
+        kept: &[u64],
+        actions: &mut Actions,
+    )
+        requires sized { IsEndpointsSized plan.now self.old.parts }
+        requires memory { 0 < self.old.loop_room }
+        requires room { length self.old.parts.table ≤ spare actions.old }
+        ensures sized { IsEndpointsSized plan.now self.new.parts }
+        ensures stands { Tells (list_of actions.old) (list_of actions.new) (λ told. IsGivingUp told × ((q : Record) → fits_row plan.now q (LoopEnded s i j) ≡ true → AreOnOffer plan.now kept.now q → EndpointsStand plan.now self.old.parts q → EndpointsStand plan.now self.new.parts (tell (Got (LoopEnded s i j) ∷ q) told))) }
+        ensures failed { self.new.parts.failed ≡ self.old.parts.failed }
+        ensures came { self.new.parts.came ≡ self.old.parts.came }
+        ensures room { spare actions.old + length self.new.parts.table ≤ spare actions.new + length self.old.parts.table }
+        ensures few { length (list_of actions.new) + length self.new.parts.table ≤ length (list_of actions.old) + length self.old.parts.table }
+    {
+        self.end_loop(s, i, j);
+        self.clear(plan, kept, actions);
+    }
+
+    /// Whether the loop is one of an endpoint of a service that serves, and hasn't ended yet. Says
+    /// nothing of the broadcast.
+    pub fn loop_fits(&self, plan: &Plan, s: u32, i: u32, j: u64, started: bool) -> bool
+        requires sized { IsEndpointsSized plan.now self.now.parts }
+        requires service { s < service_count plan.now }
+        ensures is { result ≡ (serves_by plan.now self.now.parts started s && (is_endpoint plan.now s i && (nat_lt j plan.now.tasks && not (has_loop self.now.parts.loops s i j)))) }
+        ensures means { (q : Record) → started ≡ is_started q s → EndpointsStand plan.now self.now.parts q → result ≡ ((serves plan.now q s && is_endpoint plan.now s i) && (nat_lt j plan.now.tasks && not (has (is_loop_end s i j) q))) }
+    {
+        self.serves(plan, s, started) && self.goes_on(plan, s, i, j)
+    }
+
+    /// The service is started where the flag says so, hasn't failed, and all its endpoints are held.
+    fn serves(&self, plan: &Plan, s: u32, started: bool) -> bool
+        requires sized { IsEndpointsSized plan.now self.now.parts }
+        requires service { s < service_count plan.now }
+        ensures { result ≡ serves_by plan.now self.now.parts started s }
+    {
+        if !started || self.has_failed(s as usize) {
+            return false;
+        }
+        self.first_missing(plan, s) as usize >= endpoint_count(plan, s as usize)
+    }
+
+    /// The loop is one of an endpoint of the service, and hasn't ended yet.
+    fn goes_on(&self, plan: &Plan, s: u32, i: u32, j: u64) -> bool
+        requires service { s < service_count plan.now }
+        ensures { result ≡ (is_endpoint plan.now s i && (nat_lt j plan.now.tasks && not (has_loop self.now.parts.loops s i j))) }
+    {
+        (i as usize) < endpoint_count(plan, s as usize)
+            && (j < plan.tasks && !has_loop(self.ended_loops(), s as usize, i as usize, j))
+    }
+
+    /// The offer to a successor is over: what is abandoned is closed now, in ascending number.
+    pub fn release(&mut self, plan: &Plan, actions: &mut Actions)
+        requires sized { IsEndpointsSized plan.now self.old.parts }
+        requires room { length self.old.parts.table ≤ spare actions.old }
+        ensures sized { IsEndpointsSized plan.now self.new.parts }
+        ensures stands { Tells (list_of actions.old) (list_of actions.new) (λ told. IsGivingUp told × ((q : Record) (e : Event) → is_endpoints_event e ≡ false → ((fd : ℕ) → is_held_back plan.now (Got e ∷ q) fd ≡ false) → EndpointsStand plan.now self.old.parts q → EndpointsStand plan.now self.new.parts (tell (Got e ∷ q) told))) }
+        ensures failed { self.new.parts.failed ≡ self.old.parts.failed }
+        ensures came { self.new.parts.came ≡ self.old.parts.came }
+        ensures room { spare actions.old + length self.new.parts.table ≤ spare actions.new + length self.old.parts.table }
+        ensures few { length (list_of actions.new) + length self.new.parts.table ≤ length (list_of actions.old) + length self.old.parts.table }
+    {
+        self.clear(plan, &[], actions);
     }
 
     /// The descriptor holds the endpoint, or is closed again where a live one has its address.
@@ -200,16 +304,17 @@ impl Endpoints {
         );
     }
 
-    /// Where the service fails, it is given up, and what nobody needs any more is closed.
-    fn give_up_if(&mut self, fails: bool, plan: &Plan, s: u32, actions: &mut Actions)
-        requires flags { length self.old.parts.failed ≡ service_count plan.now }
+    /// Where the service fails, it is given up, and what nobody needs any more is closed, but for
+    /// what is kept.
+    fn give_up_if(&mut self, fails: bool, plan: &Plan, s: u32, kept: &[u64], actions: &mut Actions)
+        requires sized { IsEndpointsSized plan.now self.old.parts }
         requires room { length self.old.parts.table + 1 ≤ spare actions.old }
-        ensures after { self.new.parts ≡ cleared_if fails plan.now self.old.parts }
-        ensures told { list_of actions.new ≡ list_of actions.old ++ given_up_if fails plan.now s self.old.parts }
+        ensures after { self.new.parts ≡ cleared_if fails plan.now kept.now self.old.parts }
+        ensures told { list_of actions.new ≡ list_of actions.old ++ given_up_if fails plan.now s kept.now self.old.parts }
         ensures room { spare actions.old + length self.new.parts.table ≤ spare actions.new + length self.old.parts.table + 1 }
     {
         if fails {
-            self.give_up(plan, s, actions);
+            self.give_up(plan, s, kept, actions);
         }
     }
 }

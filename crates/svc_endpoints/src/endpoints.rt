@@ -8,23 +8,25 @@ ghost use Rattle.svc_record.specs.Plans.{service_count, endpoints, address};
 ghost use Rattle.svc_record.specs.Tail.{each_once};
 ghost use Rattle.svc_record.specs.Validity.{IsValid};
 ghost use Rattle.svc_endpoints.specs.EndpointsState.{IsEndpointsSized, EndpointsStand, last_at, failed_at, state_at, open_numbers, numbers_with, is_binding, is_adopting, is_holding, is_in, all_new};
-ghost use Rattle.svc_endpoints.specs.Effects.{put, put_last, fail_if, has_open, first_of, with_number, with_open, cleared, given_up, is_abandoned_by, put_opens, put_numbers, opens_of, without_numbers};
+ghost use Rattle.svc_endpoints.specs.Effects.{put, put_last, fail_if, has_open, first_of, with_number, with_open, cleared, given_up, gone_numbers, loop_ended, is_abandoned_by, put_opens, put_numbers, opens_of, without_numbers};
 
 use crate::came::{Came, contains};
+use crate::loops::{LoopEnd, Loops};
 use crate::naming::{is_abandoned, service_count};
 use crate::states::{EndState, Last, Row, is_adopting, is_binding, new_flags, new_rows};
-use crate::table::Table;
+use crate::table::{Open, Table};
 use std::alloc::Global;
 use std::marker::Model;
 use svc_conf::{NoMemory, Text};
 use svc_record::{Action, Actions, Plan};
 
-/// The state of each endpoint, which services have failed, the live descriptors with their
-/// addresses, and the numbers of all descriptors that came.
+/// The state of each endpoint, which services have failed, the loops that ended, the live
+/// descriptors with their addresses, and the numbers of all descriptors that came.
 #[derive(Drop)]
 pub struct Endpoints {
     rows: Vec<Row>,
     failed: Vec<bool>,
+    loops: Loops,
     table: Table,
     came: Came,
 }
@@ -36,7 +38,7 @@ impl Model for Endpoints {
 
     ghost Value = { EndpointsRoom };
 
-    ghost view = { λ e. record { parts = record { rows = e.rows.items; failed = e.failed.items; table = list_of e.table; came = list_of e.came }; room = min (spare e.table) (spare e.came) } };
+    ghost view = { λ e. record { parts = record { rows = e.rows.items; failed = e.failed.items; loops = list_of e.loops; table = list_of e.table; came = list_of e.came }; room = min (spare e.table) (spare e.came); loop_room = spare e.loops } };
 }
 
 impl Endpoints {
@@ -51,6 +53,7 @@ impl Endpoints {
         Ok(Endpoints {
             rows,
             failed,
+            loops: Loops::new(alloc),
             table: Table::new(alloc),
             came: Came::new(alloc),
         })
@@ -71,6 +74,14 @@ impl Endpoints {
     {
         self.table.reserve(count)?;
         self.came.reserve(count)
+    }
+
+    /// After it there is memory for one more loop that ends.
+    pub fn reserve_loop(&mut self) -> Result<(), NoMemory>
+        ensures parts { self.new.parts ≡ self.old.parts }
+        ensures room { OnOk result (0 < self.new.loop_room) }
+    {
+        self.loops.reserve()
     }
 
     /// Which services have failed.
@@ -227,6 +238,25 @@ impl Endpoints {
         self.failed[s] = true;
     }
 
+    /// The loops that ended, in order.
+    pub(crate) fn ended_loops(&self) -> &[LoopEnd]
+        ensures { result.now ≡ self.now.parts.loops }
+    {
+        self.loops.as_slice()
+    }
+
+    /// A loop of the endpoint ended.
+    pub(crate) fn end_loop(&mut self, s: u32, i: u32, j: u64)
+        requires { 0 < self.old.loop_room }
+        ensures { self.new.parts ≡ loop_ended self.old.parts s i j }
+    {
+        self.loops.add(LoopEnd {
+            service: s as usize,
+            endpoint: i as usize,
+            number: j,
+        });
+    }
+
     /// The first endpoint of the service that isn't held, else their number.
     pub(crate) fn first_missing(&self, plan: &Plan, s: u32) -> u32
         requires sized { IsEndpointsSized plan.now self.now.parts }
@@ -237,6 +267,13 @@ impl Endpoints {
     {
         let row = &self.rows[s as usize];
         row.first_missing()
+    }
+
+    /// The live descriptors, in ascending number.
+    pub(crate) fn opens(&self) -> &[Open]
+        ensures { result.now ≡ self.now.parts.table }
+    {
+        self.table.opens()
     }
 
     /// The live descriptor with this address.
@@ -280,15 +317,34 @@ impl Endpoints {
         self.came.add(fd);
     }
 
-    /// Says that the service is given up, and closes what nobody needs any more.
-    pub(crate) fn give_up(&mut self, plan: &Plan, s: u32, actions: &mut Actions)
-        requires flags { length self.old.parts.failed ≡ service_count plan.now }
+    /// Says that the service is given up, and closes what nobody needs any more, but for what is
+    /// kept.
+    pub(crate) fn give_up(&mut self, plan: &Plan, s: u32, kept: &[u64], actions: &mut Actions)
+        requires sized { IsEndpointsSized plan.now self.old.parts }
         requires room { length self.old.parts.table + 1 ≤ spare actions.old }
-        ensures after { self.new.parts ≡ cleared plan.now self.old.parts }
-        ensures told { list_of actions.new ≡ list_of actions.old ++ given_up plan.now s self.old.parts }
+        ensures after { self.new.parts ≡ cleared plan.now kept.now self.old.parts }
+        ensures told { list_of actions.new ≡ list_of actions.old ++ given_up plan.now s kept.now self.old.parts }
         ensures room { spare actions.old + length self.new.parts.table ≤ spare actions.new + length self.old.parts.table + 1 }
     {
         actions.put(Action::Fail(s));
-        self.table.close_abandoned(plan, &self.failed, actions);
+        self.clear(plan, kept, actions);
+    }
+
+    /// Closes what nobody needs any more, but for what is kept.
+    pub(crate) fn clear(&mut self, plan: &Plan, kept: &[u64], actions: &mut Actions)
+        requires sized { IsEndpointsSized plan.now self.old.parts }
+        requires room { length self.old.parts.table ≤ spare actions.old }
+        ensures after { self.new.parts ≡ cleared plan.now kept.now self.old.parts }
+        ensures told { list_of actions.new ≡ list_of actions.old ++ map Close (gone_numbers plan.now kept.now self.old.parts self.old.parts.table) }
+        ensures room { spare actions.old + length self.new.parts.table ≤ spare actions.new + length self.old.parts.table }
+    {
+        self.table.close_gone(
+            plan,
+            &self.rows,
+            &self.failed,
+            self.loops.as_slice(),
+            kept,
+            actions,
+        );
     }
 }

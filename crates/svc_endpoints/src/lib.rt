@@ -5,10 +5,13 @@
 mod answers;
 mod came;
 mod endpoints;
+mod loops;
+mod message;
 mod naming;
 mod received;
 mod states;
 mod table;
+mod uses;
 mod visit;
 
 pub use endpoints::Endpoints;

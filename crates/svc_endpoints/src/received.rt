@@ -1,6 +1,6 @@
 //! What an older server's message brings.
 
-ghost use Rattle.std.specs.Prelude.{◌≡◌, ◌+◌, ◌<◌, ◌≤◌, ◌++◌, ◌∷◌, [], length, ℕ, Some, None, Option, IfOk, OnErr, MatchOption, slice_get, map, true, false};
+ghost use Rattle.std.specs.Prelude.{◌≡◌, ◌+◌, ◌<◌, ◌≤◌, ◌++◌, ◌∷◌, [], length, ℕ, Some, None, Option, IfOk, OnErr, slice_get, map, true, false};
 ghost use Rattle.svc_conf.specs.Items.{list_of, spare};
 ghost use Rattle.svc_record.specs.declared.action.Action.TheVariants.{Close};
 ghost use Rattle.svc_record.specs.declared.entry.Entry.TheVariants.{Got};
@@ -18,25 +18,9 @@ use crate::came::Came;
 use crate::endpoints::Endpoints;
 use crate::naming::is_unclaimed;
 use std::alloc::Global;
-use std::str;
 use svc_conf::{NoMemory, Text};
-use svc_fds::words::{has_repeat, words_of};
+use svc_fds::{DecodeError, words};
 use svc_record::{Action, Actions, Plan};
-
-/// The words of a message that came with so many descriptors, if it can be read.
-fn decode(alloc: Global, bytes: &[u8], count: usize) -> Result<Option<Vec<Text>>, NoMemory>
-    ensures { IfOk result (λ found. MatchOption found (decode bytes.now count ≡ None) (λ words. decode bytes.now count ≡ Some words.items)) }
-{
-    let text = match str::from_utf8(bytes) {
-        Ok(text) => text,
-        Err(_) => return Ok(None),
-    };
-    let words = words_of(alloc, text)?;
-    if words.len() != count || has_repeat(&words) {
-        return Ok(None);
-    }
-    Ok(Some(words))
-}
 
 /// Whether a message that came with so many descriptors can be read, and its words, none where it
 /// can't.
@@ -44,9 +28,14 @@ fn read(alloc: Global, bytes: &[u8], count: usize) -> Result<(bool, Vec<Text>), 
     ensures good { IfOk result (λ found. found.0 ≡ is_read (decode bytes.now count)) }
     ensures words { IfOk result (λ found. found.1.items ≡ words_or_none (decode bytes.now count)) }
 {
-    match decode(alloc, bytes, count)? {
-        Some(words) => Ok((true, words)),
-        None => Ok((false, Vec::new(alloc))),
+    match words::decode(alloc, bytes, count) {
+        Ok(words) => Ok((true, words)),
+        Err(reason) => {
+            if reason == DecodeError::NoMemory {
+                return Err(NoMemory);
+            }
+            Ok((false, Vec::new(alloc)))
+        }
     }
 }
 
@@ -75,7 +64,6 @@ impl Endpoints {
         actions: &mut Actions,
     ) -> Result<bool, NoMemory>
         requires sized { IsEndpointsSized plan.now self.old.parts }
-        requires few { length fds.now ≤ 32 }
         requires new { all_new self.old.parts.came fds.now ≡ true }
         requires room { length fds.now ≤ spare actions.old }
         ensures refused { OnErr result (self.new.parts ≡ self.old.parts) }

@@ -9,10 +9,14 @@ ghost use Rattle.svc_record.specs.declared.action.Action.TheVariants.{Close};
 ghost use Rattle.svc_record.specs.Drain.{put_number};
 ghost use Rattle.svc_record.specs.Plans.{service_count, same_address};
 ghost use Rattle.svc_endpoints.specs.EndpointsState.{numbers_with, numbers_of_table};
-ghost use Rattle.svc_endpoints.specs.Effects.{first_of, put_open, put_opens, opens_of, without_numbers, is_done_for, abandoned_numbers, without_abandoned};
+ghost use Rattle.svc_endpoints.specs.Effects.{first_of, put_open, put_opens, opens_of, without_numbers, passes, is_abandoned_by, is_done_for, goes, gone_numbers, without_gone};
+ghost use Rattle.svc_endpoints.specs.Uses.{AreStatesSized, states_of};
 
-use crate::came::Came;
+use crate::came::{Came, contains};
+use crate::loops::LoopEnd;
 use crate::naming::is_abandoned;
+use crate::states::Row;
+use crate::uses::is_drained;
 use std::alloc::Global;
 use std::marker::Model;
 use svc_conf::{NoMemory, Text};
@@ -50,14 +54,37 @@ fn has_address(entry: &Open, address: &str) -> bool
 }
 
 /// The descriptor has an address, and it is abandoned.
-fn is_done(entry: &Open, plan: &Plan, failed: &[bool]) -> bool
+fn is_left(entry: &Open, plan: &Plan, failed: &[bool]) -> bool
     requires { length failed.now ≡ service_count plan.now }
-    ensures { result ≡ is_done_for plan.now failed.now entry.now }
+    ensures { result ≡ passes (is_abandoned_by plan.now failed.now) entry.now.address }
 {
     match &entry.address {
         Some(text) => is_abandoned(plan, failed, text.as_str()),
         None => false,
     }
+}
+
+/// The same, and it isn't kept.
+fn is_done(entry: &Open, plan: &Plan, failed: &[bool], kept: &[u64]) -> bool
+    requires { length failed.now ≡ service_count plan.now }
+    ensures { result ≡ is_done_for plan.now failed.now kept.now entry.now }
+{
+    is_left(entry, plan, failed) && !contains(kept, entry.fd)
+}
+
+/// The same, or it is drained.
+fn goes(
+    entry: &Open,
+    plan: &Plan,
+    rows: &[Row],
+    failed: &[bool],
+    loops: &[LoopEnd],
+    kept: &[u64],
+) -> bool
+    requires { AreStatesSized plan.now rows.now failed.now }
+    ensures { result ≡ goes plan.now kept.now (states_of rows.now failed.now loops.now) entry.now }
+{
+    is_done(entry, plan, failed, kept) || is_drained(plan, rows, failed, loops, entry.fd)
 }
 
 /// The next word is taken out, if there is one.
@@ -117,26 +144,41 @@ fn close_each(table: &[Open], actions: &mut Actions)
     }
 }
 
-/// Closes those whose addresses are abandoned.
-fn close_done(table: &[Open], plan: &Plan, failed: &[bool], actions: &mut Actions)
-    requires flags { length failed.now ≡ service_count plan.now }
+/// Closes those that are drained, or abandoned and not kept.
+fn close_done(
+    table: &[Open],
+    plan: &Plan,
+    rows: &[Row],
+    failed: &[bool],
+    loops: &[LoopEnd],
+    kept: &[u64],
+    actions: &mut Actions,
+)
+    requires sized { AreStatesSized plan.now rows.now failed.now }
     requires room { length table.now ≤ spare actions.old }
-    ensures told { list_of actions.new ≡ list_of actions.old ++ map Close (abandoned_numbers plan.now failed.now table.now) }
-    ensures room { spare actions.old ≤ spare actions.new + length (abandoned_numbers plan.now failed.now table.now) }
+    ensures told { list_of actions.new ≡ list_of actions.old ++ map Close (gone_numbers plan.now kept.now (states_of rows.now failed.now loops.now) table.now) }
+    ensures room { spare actions.old ≤ spare actions.new + length (gone_numbers plan.now kept.now (states_of rows.now failed.now loops.now) table.now) }
 {
     for entry in table {
-        if is_done(entry, plan, failed) {
+        if goes(entry, plan, rows, failed, loops, kept) {
             actions.put(Action::Close(entry.fd));
         }
     }
 }
 
-/// Takes those out whose addresses are abandoned.
-fn remove_done(table: &mut Vec<Open>, plan: &Plan, failed: &[bool])
-    requires flags { length failed.now ≡ service_count plan.now }
-    ensures { table.new.items ≡ without_abandoned plan.now failed.now table.old.items }
+/// Takes them out.
+fn remove_done(
+    table: &mut Vec<Open>,
+    plan: &Plan,
+    rows: &[Row],
+    failed: &[bool],
+    loops: &[LoopEnd],
+    kept: &[u64],
+)
+    requires sized { AreStatesSized plan.now rows.now failed.now }
+    ensures { table.new.items ≡ without_gone plan.now kept.now (states_of rows.now failed.now loops.now) table.old.items }
 {
-    table.retain(|entry| !is_done(entry, plan, failed));
+    table.retain(|entry| !goes(entry, plan, rows, failed, loops, kept));
 }
 
 impl Table {
@@ -164,6 +206,13 @@ impl Table {
         ensures length { result ≡ length (list_of self.now) }
     {
         self.entries.as_slice().len()
+    }
+
+    /// The live descriptors, in ascending number.
+    pub(crate) fn opens(&self) -> &[Open]
+        ensures { result.now ≡ list_of self.now }
+    {
+        &self.entries
     }
 
     /// The live descriptor with this address.
@@ -206,16 +255,24 @@ impl Table {
         }
     }
 
-    /// Closes the descriptors whose addresses are abandoned, in ascending number.
-    pub(crate) fn close_abandoned(&mut self, plan: &Plan, failed: &[bool], actions: &mut Actions)
-        requires flags { length failed.now ≡ service_count plan.now }
+    /// Closes the descriptors that are drained, or abandoned and not kept, in ascending number.
+    pub(crate) fn close_gone(
+        &mut self,
+        plan: &Plan,
+        rows: &[Row],
+        failed: &[bool],
+        loops: &[LoopEnd],
+        kept: &[u64],
+        actions: &mut Actions,
+    )
+        requires sized { AreStatesSized plan.now rows.now failed.now }
         requires room { length (list_of self.old) ≤ spare actions.old }
-        ensures after { list_of self.new ≡ without_abandoned plan.now failed.now (list_of self.old) }
-        ensures told { list_of actions.new ≡ list_of actions.old ++ map Close (abandoned_numbers plan.now failed.now (list_of self.old)) }
-        ensures room { spare actions.old ≤ spare actions.new + length (abandoned_numbers plan.now failed.now (list_of self.old)) }
+        ensures after { list_of self.new ≡ without_gone plan.now kept.now (states_of rows.now failed.now loops.now) (list_of self.old) }
+        ensures told { list_of actions.new ≡ list_of actions.old ++ map Close (gone_numbers plan.now kept.now (states_of rows.now failed.now loops.now) (list_of self.old)) }
+        ensures room { spare actions.old ≤ spare actions.new + length (gone_numbers plan.now kept.now (states_of rows.now failed.now loops.now) (list_of self.old)) }
     {
-        close_done(&self.entries, plan, failed, actions);
-        remove_done(&mut self.entries, plan, failed);
+        close_done(&self.entries, plan, rows, failed, loops, kept, actions);
+        remove_done(&mut self.entries, plan, rows, failed, loops, kept);
     }
 
     /// Closes each descriptor, in ascending number.

@@ -1,6 +1,6 @@
-ghost use Rattle.std.specs.Prelude.{◌<◌, ◌≤◌};
+ghost use Rattle.std.specs.Prelude.{◌<◌, ◌≤◌, length};
 ghost use Rattle.svc_conf.specs.Items.{spare};
-ghost use Rattle.svc_record.specs.Plans.{service_count};
+ghost use Rattle.svc_record.specs.Plans.{service_count, endpoints};
 ghost use Rattle.svc_endpoints.specs.EndpointsState.{IsEndpointsSized};
 
 use super::*;
@@ -30,15 +30,15 @@ fn service(alloc: Global, address: &str) -> Result<ServicePlan, Fail> {
     })
 }
 
-/// One service, with an endpoint.
-fn plan(alloc: Global) -> Result<Plan, Fail> {
+/// One service, with an endpoint that has so many loops.
+fn plan(alloc: Global, tasks: u64) -> Result<Plan, Fail> {
     let mut services = ServiceList::new(alloc);
     services.push(alloc, service(alloc, "127.0.0.1:80")?)?;
     Ok(Plan {
         services,
         grace: 300,
         stop: 5,
-        tasks: 1,
+        tasks,
         limit: 5,
         upgrade: false,
         test: false,
@@ -80,7 +80,7 @@ fn visit(
 #[test]
 fn tries_a_busy_port_again(rt: HostRuntime) -> Result<(), Fail> {
     let alloc = rt.alloc();
-    let plan = plan(alloc)?;
+    let plan = plan(alloc, 1)?;
     let is_valid = plan.valid(alloc)?;
     assert!(rt; is_valid);
     assert_eq!(rt; service_count(&plan), 1);
@@ -91,7 +91,7 @@ fn tries_a_busy_port_again(rt: HostRuntime) -> Result<(), Fail> {
     assert!(rt; part.is_binding(&plan, 0, 0));
     assert!(rt; part.open_len() < 2);
     let mut actions = room(&rt, alloc);
-    part.take_in_use(&plan, 0, 0, 5, &mut actions);
+    part.take_in_use(&plan, 0, 0, 5, &[], &mut actions);
     assert!(rt; actions.is_empty());
     let none = Actions::new(alloc);
     visit(&rt, alloc, &mut part, &plan, 0, 1004, none.as_slice());
@@ -102,7 +102,7 @@ fn tries_a_busy_port_again(rt: HostRuntime) -> Result<(), Fail> {
 #[test]
 fn takes_what_a_message_brings(rt: HostRuntime) -> Result<(), Fail> {
     let alloc = rt.alloc();
-    let plan = plan(alloc)?;
+    let plan = plan(alloc, 1)?;
     let is_valid = plan.valid(alloc)?;
     assert!(rt; is_valid);
     assert_eq!(rt; service_count(&plan), 1);
@@ -121,4 +121,83 @@ fn takes_what_a_message_brings(rt: HostRuntime) -> Result<(), Fail> {
     let adopt = [Action::Adopt(0, 0, 4)];
     visit(&rt, alloc, &mut part, &plan, 0, 5, adopt.as_slice());
     Ok(())
+}
+
+#[test]
+fn offers_what_is_live_in_byte_order(rt: HostRuntime) -> Result<(), Fail> {
+    let alloc = rt.alloc();
+    let plan = plan(alloc, 1)?;
+    let is_valid = plan.valid(alloc)?;
+    assert!(rt; is_valid);
+    let mut part = Endpoints::new(alloc, &plan)?;
+    assert!(rt; !part.offers_anything());
+    let mut actions = room(&rt, alloc);
+    let fds = [4, 9];
+    let are_new = part.are_new(fds.as_slice());
+    assert!(rt; are_new);
+    let text = "127.0.0.1:81 127.0.0.1:80";
+    let good = part.take_received(alloc, &plan, text.as_bytes(), fds.as_slice(), &mut actions)?;
+    assert!(rt; good);
+    assert!(rt; part.offers_anything());
+    let message = part.message(alloc)?.ok_or("no message")?;
+    let bytes = "127.0.0.1:80 127.0.0.1:81";
+    assert_eq!(rt; message.bytes.as_slice(), bytes.as_bytes());
+    assert_eq!(rt; message.fds.as_slice(), [9, 4].as_slice());
+    Ok(())
+}
+
+/// Ends a loop of the first endpoint, and says what that told.
+fn end(
+    rt: &impl Abort,
+    alloc: Global,
+    part: &mut Endpoints,
+    plan: &Plan,
+    j: u64,
+    told: &[Action],
+) -> Result<(), Fail>
+    requires { IsEndpointsSized plan.now part.old.parts }
+    ensures { IsEndpointsSized plan.now part.new.parts }
+{
+    assert!(rt; part.open_len() < 8);
+    part.reserve_loop()?;
+    let mut actions = room(rt, alloc);
+    part.take_loop_ended(plan, 0, 0, j, &[], &mut actions);
+    assert_eq!(rt; actions.as_slice(), told);
+    Ok(())
+}
+
+/// The first endpoint holds what a message brought.
+fn hold(rt: &impl Abort, alloc: Global, part: &mut Endpoints, plan: &Plan) -> Result<(), Fail>
+    requires sized { IsEndpointsSized plan.now part.old.parts }
+    requires service { 0 < service_count plan.now }
+    requires endpoint { 0 < length (endpoints plan.now 0) }
+    ensures { IsEndpointsSized plan.now part.new.parts }
+{
+    let fds = [4];
+    assert!(rt; part.are_new(fds.as_slice()));
+    let mut actions = room(rt, alloc);
+    let text = "127.0.0.1:80";
+    let good = part.take_received(alloc, plan, text.as_bytes(), fds.as_slice(), &mut actions)?;
+    assert!(rt; good);
+    let mut asks = room(rt, alloc);
+    part.visit(plan, 0, true, 5, &mut asks);
+    assert!(rt; part.is_adopting(plan, 0, 0));
+    part.take_adopted(plan, 0, 0);
+    Ok(())
+}
+
+#[test]
+fn closes_what_is_drained(rt: HostRuntime) -> Result<(), Fail> {
+    let alloc = rt.alloc();
+    let plan = plan(alloc, 2)?;
+    let is_valid = plan.valid(alloc)?;
+    assert!(rt; is_valid);
+    assert_eq!(rt; service_count(&plan), 1);
+    assert_eq!(rt; endpoint_count(&plan, 0), 1);
+    let mut part = Endpoints::new(alloc, &plan)?;
+    hold(&rt, alloc, &mut part, &plan)?;
+    let none = Actions::new(alloc);
+    end(&rt, alloc, &mut part, &plan, 1, none.as_slice())?;
+    let close = [Action::Close(4)];
+    end(&rt, alloc, &mut part, &plan, 0, close.as_slice())
 }

@@ -1,9 +1,5 @@
-use Rattle.std.proofs.Common.{ℕ, Bool, true, false, List, [], ◌∷◌, ◌++◌, arith, sym, ap, ◌∙◌, ◌≡◌, ◌≤◌, ◌+◌, ◌&&◌, not, filter, map, take, get_or, if◌then◌else◌}
-use Rattle.svc_conf.specs.Items.{list_of, spare}
-use Rattle.svc_record.specs.declared.action.Action.{Action}
-use Rattle.svc_record.specs.declared.action.Action.TheVariants.{Close}
-use Rattle.svc_record.specs.Tail.{each_once}
-use Rattle.svc_endpoints.specs.EndpointsState.{is_in}
+use Rattle.std.proofs.Common.{arith, sym, ◌∙◌}
+use Rattle.svc_conf.specs.Items.{list_of}
 use Rattle.svc_endpoints.proofs.GatherLemmas.{closes-new, closes-old}
 use Rattle.svc_endpoints.proofs.endpoints.Endpoints.close_new.Goals as goal
 use Rattle.svc_endpoints.proofs.endpoints.Endpoints.close_new.Goals.{then-is_new_after, else-is_new_after}

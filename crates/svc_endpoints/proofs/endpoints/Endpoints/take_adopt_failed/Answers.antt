@@ -7,11 +7,11 @@ use Rattle.svc_endpoints.proofs.endpoints.Endpoints.take_adopt_failed.Goals as g
 
 pub returns-clause-stands : goal.returns-clause-stands
 returns-clause-stands c =
-    tells-answer c.args.plan.now c.args.self.now.parts (adopt_failed c.args.self.now.parts c.args.s c.args.i) c.end_adopt.new.self.parts c.give_up_if.new.self.parts (AdoptFailed c.args.s c.args.i) true c.args.s
+    tells-answer c.args.plan.now c.args.self.now.parts (adopt_failed c.args.self.now.parts c.args.s c.args.i) c.end_adopt.new.self.parts c.give_up_if.new.self.parts (AdoptFailed c.args.s c.args.i) true c.args.s c.args.kept.now
     (list_of c.args.actions.now) (list_of c.give_up_if.new.actions) c.end_adopt.ensures c.give_up_if.ensures.after c.give_up_if.ensures.told
-    (λ q stand. after-adopt_failed c.args.plan.now c.args.self.now.parts q c.args.s c.args.i c.requires.sized c.requires.service c.requires.endpoint stand c.requires.asks)
+    (λ q offer stand. after-adopt_failed c.args.plan.now c.args.self.now.parts q c.args.s c.args.i c.requires.sized c.requires.service c.requires.endpoint c.args.kept.now offer stand c.requires.asks)
 
 pub returns-clause-few : goal.returns-clause-few
 returns-clause-few c =
-    few-answer c.args.plan.now c.args.self.now.parts (adopt_failed c.args.self.now.parts c.args.s c.args.i) c.end_adopt.new.self.parts c.give_up_if.new.self.parts (AdoptFailed c.args.s c.args.i) true c.args.s
+    few-answer c.args.plan.now c.args.self.now.parts (adopt_failed c.args.self.now.parts c.args.s c.args.i) c.end_adopt.new.self.parts c.give_up_if.new.self.parts (AdoptFailed c.args.s c.args.i) true c.args.s c.args.kept.now
     (list_of c.args.actions.now) (list_of c.give_up_if.new.actions) c.end_adopt.ensures c.give_up_if.ensures.after c.give_up_if.ensures.told refl

@@ -8,11 +8,11 @@ use Rattle.svc_endpoints.proofs.endpoints.Endpoints.take_in_use.Goals as goal
 pub returns-clause-stands : goal.returns-clause-stands
 returns-clause-stands c =
     tells-answer_at c.args.plan.now c.args.self.now.parts (refused c.args.plan.now c.args.self.now.parts c.args.s c.args.i c.args.moment) c.refuse-fails.new.self.parts c.give_up_if.new.self.parts (InUse c.args.s c.args.i)
-    c.refuse-fails.result c.args.s (list_of c.args.actions.now) (list_of c.give_up_if.new.actions) c.refuse-fails.ensures.after c.give_up_if.ensures.after c.give_up_if.ensures.told c.args.moment
-    (λ q at stand. after-in_use c.args.plan.now c.args.self.now.parts q c.args.s c.args.i c.requires.sized c.requires.service c.requires.endpoint stand c.args.moment at c.requires.asks c.refuse-fails.result (sym c.refuse-fails.ensures.last))
+    c.refuse-fails.result c.args.s c.args.kept.now (list_of c.args.actions.now) (list_of c.give_up_if.new.actions) c.refuse-fails.ensures.after c.give_up_if.ensures.after c.give_up_if.ensures.told c.args.moment
+    (λ q at offer stand. after-in_use c.args.plan.now c.args.self.now.parts q c.args.s c.args.i c.requires.sized c.requires.service c.requires.endpoint c.args.kept.now offer stand c.args.moment at c.requires.asks c.refuse-fails.result (sym c.refuse-fails.ensures.last))
 
 pub returns-clause-few : goal.returns-clause-few
 returns-clause-few c =
     few-answer c.args.plan.now c.args.self.now.parts (refused c.args.plan.now c.args.self.now.parts c.args.s c.args.i c.args.moment) c.refuse-fails.new.self.parts c.give_up_if.new.self.parts (InUse c.args.s c.args.i)
-    c.refuse-fails.result c.args.s (list_of c.args.actions.now) (list_of c.give_up_if.new.actions) c.refuse-fails.ensures.after c.give_up_if.ensures.after c.give_up_if.ensures.told
+    c.refuse-fails.result c.args.s c.args.kept.now (list_of c.args.actions.now) (list_of c.give_up_if.new.actions) c.refuse-fails.ensures.after c.give_up_if.ensures.after c.give_up_if.ensures.told
     (table-refused c.args.plan.now c.args.self.now.parts c.args.s c.args.i c.args.moment)

@@ -1,4 +1,4 @@
-use Rattle.std.proofs.Common.{arith, ap, ◌∙◌, ◌≡◌, ◌++◌, length, map}
+use Rattle.std.proofs.Common.{arith, ap, ◌∙◌, ◌++◌, length, map}
 use Rattle.svc_conf.specs.Items.{list_of}
 use Rattle.svc_record.specs.declared.action.Action.TheVariants.{Close}
 use Rattle.svc_endpoints.specs.EndpointsData.{EndpointsData}

@@ -1,9 +1,8 @@
-use Rattle.std.proofs.Common.{ℕ, List, arith, sym, ap, ◌∙◌, ◌≡◌, ◌++◌, length, map}
+use Rattle.std.proofs.Common.{arith, ap, ◌∙◌, ◌++◌, length, map}
 use Rattle.svc_conf.specs.Items.{list_of}
 use Rattle.svc_record.specs.declared.action.Action.TheVariants.{Close}
-use Rattle.svc_endpoints.specs.EndpointsData.{EndpointsData}
 use Rattle.svc_endpoints.specs.EndpointsState.{all_new}
-use Rattle.svc_endpoints.specs.Effects.{turns_away, turned_away, opens_of, put_opens, put_numbers, without_numbers}
+use Rattle.svc_endpoints.specs.Effects.{turns_away, opens_of, put_opens, put_numbers, without_numbers}
 use Rattle.svc_endpoints.proofs.GatherLemmas.{all-fresh, away-few}
 use Rattle.svc_endpoints.proofs.ReceivedTells.{away-is}
 use Rattle.svc_endpoints.proofs.endpoints.Endpoints.take_words.Goals as goal

@@ -1,0 +1,9 @@
+use Rattle.svc_conf.specs.Items.{list_of}
+use Rattle.svc_endpoints.proofs.ReleaseLemmas.{tells-release, few-release}
+use Rattle.svc_endpoints.proofs.endpoints.Endpoints.release.Goals as goal
+
+pub returns-clause-stands : goal.returns-clause-stands
+returns-clause-stands c = tells-release c.args.plan.now c.args.self.now.parts c.clear.new.self.parts (list_of c.args.actions.now) (list_of c.clear.new.actions) c.clear.ensures.after c.clear.ensures.told
+
+pub returns-clause-few : goal.returns-clause-few
+returns-clause-few c = few-release c.args.plan.now c.args.self.now.parts c.clear.new.self.parts (list_of c.args.actions.now) (list_of c.clear.new.actions) c.clear.ensures.after c.clear.ensures.told

@@ -1,0 +1,146 @@
+//! Which descriptors are drained: held, and no longer used.
+
+ghost use Rattle.std.specs.Prelude.{◌≡◌, ◌<◌, ◌||◌, ◌&&◌, not, ◌==◌, [], length, ℕ, slice_index_or, false, true};
+ghost use Rattle.svc_record.specs.declared.plan.Plan.{Plan};
+ghost use Rattle.svc_record.specs.Plans.{service_count, endpoints};
+ghost use Rattle.svc_endpoints.specs.EndpointsState.{idle};
+ghost use Rattle.svc_endpoints.specs.Uses.{AreStatesSized, states_of, has_held, uses, is_holder_by, is_user, any_holder, any_user, any_endpoint, is_drained_by};
+
+use crate::loops::{LoopEnd, is_done};
+use crate::naming::{endpoint_count, service_count};
+use crate::states::{Last, Row};
+use svc_record::Plan;
+
+/// The descriptor holds the endpoint.
+fn has_held(last: Last, fd: u64) -> bool
+    ensures { result ≡ has_held fd last }
+{
+    match last {
+        Last::Holding(n) => n == fd,
+        _ => false,
+    }
+}
+
+/// The descriptor is offered to the endpoint, or holds it, and its service hasn't failed and isn't
+/// done with it.
+fn uses(last: Last, failed: bool, done: bool, fd: u64) -> bool
+    ensures { result ≡ uses fd failed done last }
+{
+    match last {
+        Last::Adopting(n) => n == fd,
+        Last::Holding(n) => (!failed && !done) && n == fd,
+        _ => false,
+    }
+}
+
+fn last_of(rows: &[Row], s: usize, i: usize) -> Last
+    requires service { s < length rows.now }
+    requires endpoint { i < length (slice_index_or rows.now s []) }
+    ensures { result ≡ (slice_index_or (slice_index_or rows.now s []) i idle).last }
+{
+    rows[s].get(i).last
+}
+
+/// Some endpoint of a service that hasn't failed holds the descriptor.
+fn is_held(plan: &Plan, rows: &[Row], failed: &[bool], fd: u64) -> bool
+    requires sized { AreStatesSized plan.now rows.now failed.now }
+    ensures { result ≡ any_endpoint plan.now (is_holder_by (states_of rows.now failed.now []) fd) }
+{
+    for s in 0..service_count(plan) {
+        if is_held_in(plan, rows, failed, fd, s) {
+            return true;
+        }
+    }
+    false
+}
+
+/// Some endpoint of the service does.
+fn is_held_in(plan: &Plan, rows: &[Row], failed: &[bool], fd: u64, s: usize) -> bool
+    requires sized { AreStatesSized plan.now rows.now failed.now }
+    requires service { s < service_count plan.now }
+    ensures { result ≡ any_holder plan.now (states_of rows.now failed.now []) fd s }
+{
+    for i in 0..endpoint_count(plan, s) {
+        if is_held_at(plan, rows, failed, fd, s, i) {
+            return true;
+        }
+    }
+    false
+}
+
+/// This endpoint does.
+fn is_held_at(plan: &Plan, rows: &[Row], failed: &[bool], fd: u64, s: usize, i: usize) -> bool
+    requires sized { AreStatesSized plan.now rows.now failed.now }
+    requires service { s < service_count plan.now }
+    requires endpoint { i < length (endpoints plan.now s) }
+    ensures { result ≡ is_holder_by (states_of rows.now failed.now []) fd s i }
+{
+    !failed[s] && has_held(last_of(rows, s, i), fd)
+}
+
+/// Some endpoint uses the descriptor.
+fn is_used(plan: &Plan, rows: &[Row], failed: &[bool], loops: &[LoopEnd], fd: u64) -> bool
+    requires sized { AreStatesSized plan.now rows.now failed.now }
+    ensures { result ≡ any_endpoint plan.now (is_user plan.now (states_of rows.now failed.now loops.now) fd) }
+{
+    for s in 0..service_count(plan) {
+        if is_used_in(plan, rows, failed, loops, fd, s) {
+            return true;
+        }
+    }
+    false
+}
+
+/// Some endpoint of the service does.
+fn is_used_in(
+    plan: &Plan,
+    rows: &[Row],
+    failed: &[bool],
+    loops: &[LoopEnd],
+    fd: u64,
+    s: usize,
+) -> bool
+    requires sized { AreStatesSized plan.now rows.now failed.now }
+    requires service { s < service_count plan.now }
+    ensures { result ≡ any_user plan.now (states_of rows.now failed.now loops.now) fd s }
+{
+    for i in 0..endpoint_count(plan, s) {
+        if is_used_at(plan, rows, failed, loops, fd, s, i) {
+            return true;
+        }
+    }
+    false
+}
+
+/// This endpoint does.
+fn is_used_at(
+    plan: &Plan,
+    rows: &[Row],
+    failed: &[bool],
+    loops: &[LoopEnd],
+    fd: u64,
+    s: usize,
+    i: usize,
+) -> bool
+    requires sized { AreStatesSized plan.now rows.now failed.now }
+    requires service { s < service_count plan.now }
+    requires endpoint { i < length (endpoints plan.now s) }
+    ensures { result ≡ is_user plan.now (states_of rows.now failed.now loops.now) fd s i }
+{
+    let done = is_done(loops, plan.tasks, s, i);
+    uses(last_of(rows, s, i), failed[s], done, fd)
+}
+
+/// Some endpoint of a service that hasn't failed holds the descriptor, and none uses it any more.
+pub(crate) fn is_drained(
+    plan: &Plan,
+    rows: &[Row],
+    failed: &[bool],
+    loops: &[LoopEnd],
+    fd: u64,
+) -> bool
+    requires sized { AreStatesSized plan.now rows.now failed.now }
+    ensures { result ≡ is_drained_by plan.now (states_of rows.now failed.now loops.now) fd }
+{
+    is_held(plan, rows, failed, fd) && !is_used(plan, rows, failed, loops, fd)
+}
