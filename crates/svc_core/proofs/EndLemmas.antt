@@ -1,49 +1,60 @@
 -- What the end of a run leaves is right.
-use Rattle.std.proofs.Common.{ℕ, Bool, true, false, ◌&&◌, ◌||◌, not, ◌==◌, List, [], ◌∷◌, ◌≡◌, refl, ap, sym, ◌∙◌, subst, arith, if◌then◌else◌, map, ◌<◌, ◌≤◌, append-nil, MatchBool}
+use Rattle.std.proofs.Common.{ℕ, Bool, true, false, ◌&&◌, ◌||◌, not, ◌==◌, List, [], ◌∷◌, ◌++◌, ◌≡◌, refl, ap, sym, ◌∙◌, subst, arith, if◌then◌else◌, map, ◌<◌, ◌≤◌, append-nil, MatchBool, length, inl, inr}
 use Rattle.std.specs.Bool.{OnTrue}
 use Rattle.std.specs.Prelude.{None}
 use Rattle.std.specs.List.{filter, list_any}
-use Rattle.std.proofs.lemmas.Bool.{and_parts, or_parts, or_left, or_right, eq-eqb}
+use Rattle.std.proofs.lemmas.Bool.{and_parts, or_parts, or_left, or_right, eq-eqb, cases_Bool}
 use Rattle.svc_record.specs.declared.plan.Plan.{Plan}
 use Rattle.svc_record.specs.declared.entry.Entry.{Entry}
 use Rattle.svc_record.specs.declared.entry.Entry.TheVariants.{Got, Told}
 use Rattle.svc_record.specs.declared.action.Action.{Action}
 use Rattle.svc_record.specs.declared.action.Action.TheVariants.{Close, Phase, Stop}
-use Rattle.svc_record.specs.declared.action.ExecutionPhase.TheVariants.{Running, ShutdownStarted, ShutdownRuntimes, Terminated}
+use Rattle.svc_record.specs.declared.action.ExecutionPhase.TheVariants.{ShutdownRuntimes, Terminated}
+use Rattle.svc_record.specs.declared.action.StepEnd.TheVariants.{Served as ServedEnd}
 use Rattle.svc_record.specs.declared.event.Event.{Event}
-use Rattle.svc_record.specs.declared.event.Event.TheVariants.{Signal}
-use Rattle.svc_record.specs.declared.event.ShutdownSignal.TheVariants.{FastShutdown}
 use Rattle.svc_record.specs.Record.{Record, has, now, times, tell, is_signal, is_running, from_the_start, before_runtimes, EachEntry, EachEarlier}
 use Rattle.svc_record.specs.AskRules.{FailsRight, ask_due, ask_known}
 use Rattle.svc_record.specs.Boot.{BootRight, has_begun, runs, start_after_boot}
-use Rattle.svc_record.specs.Closes.{ClosesRight, close_once, is_gone}
+use Rattle.svc_record.specs.Closes.{ClosesRight, close_once}
 use Rattle.svc_record.specs.Descriptors.{Descriptor, opened_descriptors, is_opened, is_close}
-use Rattle.svc_record.specs.Drain.{phase, Drain, told_marks, PhasesRight, is_ending, has_passed, every_moment_right, last_actions, live_numbers, ascending}
+use Rattle.svc_record.specs.Drain.{Drain, PhasesRight, is_ending, has_passed, every_moment_right, last_actions, live_numbers, ascending}
 use Rattle.svc_record.specs.Ends.{has_ended, has_ended_early, ends_tested, TestedRight}
-use Rattle.svc_record.specs.Endpoints.{EndpointsRight, EndpointsRightLate}
+use Rattle.svc_record.specs.Endpoints.{EndpointsRight}
 use Rattle.svc_record.specs.Failed.{has_failed, is_fail}
 use Rattle.svc_record.specs.Fits.{fits, fits_row, event_fits}
+use Rattle.svc_record.specs.Offer.{one_ask}
 use Rattle.svc_record.specs.Right.{Right, OpenRight, EndedRight, SettledRight, ServesRight, LastStepRight, PassedRight, Served, in_service, close_due}
 use Rattle.svc_record.specs.Starts.{StartsRight, is_due, is_started, is_start, is_ready_event, is_ended_event, start_due, start_known}
 use Rattle.svc_record.specs.Tail.{numbers_in, closing_actions}
+use Rattle.svc_record.specs.Validity.{IsInOrder}
 use Rattle.svc_record.proofs.Closing.{tell-append, is_opened-in, numbers-opened, in_live, tally_live, all_closed}
 use Rattle.svc_record.proofs.Tallies.{is_in, tally, if_kept, one_if}
 use Rattle.svc_graph.specs.declared.plan.Kind.TheVariants.{Bootstrap as BootstrapKind}
 use Rattle.svc_record.specs.Plans.{service_count, services, has_kind}
-use Rattle.svc_boot.specs.BootData.{BootData}
+use Rattle.svc_endpoints.specs.EndpointsState.{open_numbers}
 use Rattle.svc_boot.specs.BootState.{BootStands}
 use Rattle.svc_boot.specs.BootFacts.{IsBootSettled, has_no_boot_action}
 use Rattle.svc_boot.proofs.Foreign as foreign
 use Rattle.svc_boot.proofs.BootEnds.{boot-right, tested-is, early-is}
+use Rattle.svc_offer.specs.OfferState.{OfferStands, IsOfferSettled, over_since}
+use Rattle.svc_offer.specs.OfferFacts.{has_no_offer_action}
+use Rattle.svc_offer.proofs.Foreign as offers
+use Rattle.svc_offer.proofs.OfferRules.{offer-right, one-ask, forward-fits}
+use Rattle.svc_drain.specs.DrainState.{passes}
+use Rattle.svc_drain.specs.DrainEffects.{end_told, stop_after}
+use Rattle.svc_drain.proofs.Passing.{passed-is, passed-tell, unsignalled-unpassed}
+use Rattle.svc_drain.proofs.Ending.{ending-is, marks-at-end}
+use Rattle.svc_core.specs.CoreData.{CoreData, with_end}
 use Rattle.svc_core.specs.Forms.{is_built_entry, HasBuiltForms}
-use Rattle.svc_core.specs.Passes.{is_tested, may_start}
-use Rattle.svc_core.proofs.StartsLemmas.{is_due-grows, is_due-tell}
-use Rattle.svc_core.proofs.FormLemmas.{passed-signal, signal-fast, offer-right, retries-right, one-asks, no-arrivals, connections-right, connections-known}
-use Rattle.svc_core.specs.StartsData.{StartsData}
+use Rattle.svc_core.specs.Passes.{VisitedUpTo, may_start}
+use Rattle.svc_core.specs.Stands.{Answered, StepRight}
+use Rattle.svc_core.proofs.StartsLemmas.{is_due-tell}
+use Rattle.svc_core.proofs.FormLemmas.{no-arrivals, no-connections, connections-right, connections-known}
 use Rattle.svc_core.specs.StartsState.{StartsStand, AreFailed}
-use Rattle.svc_core.specs.DrainState.{end_told}
-use Rattle.svc_core.proofs.ClosesLemmas.{has-closes, times-other, marks-closes, runtimes-closes, failed-closes, each-closes, closes-once, has-times}
-use Rattle.svc_core.proofs.RecordLemmas.{EachEarlier-tell, EachEarlier-weaker, EachEntry-weaker, now-tell, signal-none, has-stays, has-tell, on_true, to_false, to_true, not_false, not_true}
+use Rattle.svc_core.proofs.PassLemmas.{are-failed}
+use Rattle.svc_core.proofs.OpenLemmas.{starts-right, endpoints-late, running-right}
+use Rattle.svc_core.proofs.ClosesLemmas.{has-closes, times-other, runtimes-closes, failed-closes, each-closes, closes-once, has-times}
+use Rattle.svc_core.proofs.RecordLemmas.{EachEarlier-tell, EachEarlier-weaker, EachEntry-weaker, now-tell, signal-none, has-stays, on_true, to_false, to_true, not_false, not_true}
 
 on_and : (a b : Bool) (P : Type 0) → OnTrue a P → OnTrue (a && b) P
 on_and true true P h = h
@@ -117,277 +128,312 @@ and_first a b h = grind arith
 and_second : (a b : Bool) → (not a && b) ≡ true → b ≡ true
 and_second a b h = grind arith
 
--- the record before `ShutdownRuntimes`, with that phase, with the closes, and as it ends
-abbrev last_at : Record → Record
-last_at q = Told (Phase ShutdownStarted (now q)) ∷ (Got (Signal FastShutdown) ∷ q)
+module _ (core : CoreData) (q : Record) (in_order : IsInOrder core.plan core.order) (none : core.plan.daemon ≡ false) (at : Answered core q) (waits : passes core.plan core.drain ≡ true) where
+  -- the actions of the end, and the record with `ShutdownRuntimes`, with the closes, and as it ends
+  abbrev p : Plan
+  p = core.plan
 
-abbrev runtimes_at : Record → Record
-runtimes_at q = Told (Phase ShutdownRuntimes (now q)) ∷ last_at q
+  abbrev fds : List ℕ
+  fds = ascending (live_numbers core.plan q)
 
-abbrev closed_at : Plan → Record → Record
-closed_at p q = tell (runtimes_at q) (map Close (ascending (live_numbers p q)))
+  abbrev last : List Action
+  last = end_told core.plan core.drain (ascending (live_numbers core.plan q))
 
-abbrev pub ended_at : Plan → Record → Record
-ended_at p q = tell (Got (Signal FastShutdown) ∷ q) (end_told (now q) (ascending (live_numbers p q)))
+  abbrev runtimes_at : Record
+  runtimes_at = Told (Phase ShutdownRuntimes core.drain.moment) ∷ q
 
-module _ (p : Plan) (q : Record) (right : Right p q) (fit : fits p q (Signal FastShutdown) ≡ true) (silent : has is_signal q ≡ false)
-    (opened : OpenRight p q) (running : has is_running q ≡ true) (forms : HasBuiltForms q) (none : p.daemon ≡ false) (b : BootData) (boot : BootStands p b q)
-    (begun : has_begun p q ≡ b.begun) (settled : IsBootSettled p b (now q)) (untested : is_tested p b ≡ false) (runs_now : times is_running q ≡ 1) (may : may_start p b ≡ true)
-    (after : EachEntry (λ e before. start_after_boot p e before ≡ true) q) where
-  split : ended_at p q ≡ Told (Phase Terminated (now q)) ∷ (Told (Stop 0) ∷ closed_at p q)
-  split = tell-append (runtimes_at q) (map Close (ascending (live_numbers p q))) (Stop 0 ∷ Phase Terminated (now q) ∷ [])
+  abbrev closed_at : Record
+  closed_at = tell (Told (Phase ShutdownRuntimes core.drain.moment) ∷ q) (map Close (ascending (live_numbers core.plan q)))
+
+  abbrev ended_at : Record
+  ended_at = tell q (end_told core.plan core.drain (ascending (live_numbers core.plan q)))
+
+  split : ended_at ≡ Told (Phase Terminated core.drain.moment) ∷ (Told (Stop (stop_after core.plan core.drain)) ∷ closed_at)
+  split = tell-append runtimes_at (map Close fds) (Stop (stop_after core.plan core.drain) ∷ Phase Terminated core.drain.moment ∷ [])
+
+  time : core.drain.moment ≡ now q
+  time = at.going.drain.moment_is
 
   -- what a test that neither closes, phases nor `Stop` pass still sees
-  has-end : (test : Entry → Bool) → ((f : ℕ) → test (Told (Close f)) ≡ false) → test (Told (Phase Terminated (now q))) ≡ false → test (Told (Stop 0)) ≡ false
-      → has test (ended_at p q) ≡ has test (runtimes_at q)
-  has-end test f a b = ap (has test) split ∙ rw (a, b) (has-closes test f (runtimes_at q) (ascending (live_numbers p q)))
+  has-end : (test : Entry → Bool) → ((f : ℕ) → test (Told (Close f)) ≡ false) → test (Told (Phase Terminated core.drain.moment)) ≡ false → test (Told (Stop (stop_after core.plan core.drain))) ≡ false
+      → test (Told (Phase ShutdownRuntimes core.drain.moment)) ≡ false → has test ended_at ≡ has test q
+  has-end test f a b c = ap (has test) split ∙ rw (a, b) (has-closes test f runtimes_at fds ∙ ap (λ x. x || has test q) c)
 
   -- a test that closes pass holds of each entry where it holds of the others
   each-end : (test : Entry → Record → Bool) → ((f : ℕ) (b : Record) → test (Told (Close f)) b ≡ true)
-      → test (Told (Phase Terminated (now q))) (Told (Stop 0) ∷ closed_at p q) ≡ true → test (Told (Stop 0)) (closed_at p q) ≡ true
-      → test (Told (Phase ShutdownRuntimes (now q))) (last_at q) ≡ true → test (Told (Phase ShutdownStarted (now q))) (Got (Signal FastShutdown) ∷ q) ≡ true
-      → test (Got (Signal FastShutdown)) q ≡ true → EachEntry (λ e before. test e before ≡ true) q → EachEntry (λ e before. test e before ≡ true) (ended_at p q)
-  each-end test c a b f g e h =
+      → test (Told (Phase Terminated core.drain.moment)) (Told (Stop (stop_after core.plan core.drain)) ∷ closed_at) ≡ true → test (Told (Stop (stop_after core.plan core.drain))) closed_at ≡ true
+      → test (Told (Phase ShutdownRuntimes core.drain.moment)) q ≡ true → EachEntry (λ e before. test e before ≡ true) q → EachEntry (λ e before. test e before ≡ true) ended_at
+  each-end test c a b f h =
       subst (EachEntry (λ e before. test e before ≡ true)) (sym split)
-      (a, (b, each-closes test c (runtimes_at q) (ascending (live_numbers p q)) (f, (g, (e, h)))))
+      (a, (b, each-closes test c runtimes_at fds (f, h)))
 
-  pub end-forms : HasBuiltForms (ended_at p q)
-  end-forms = each-end (λ e before. is_built_entry e) (λ f c. refl) refl refl refl refl refl forms
+  end-forms : HasBuiltForms ended_at
+  end-forms = each-end (λ e before. is_built_entry e) (λ f c. refl) refl refl refl at.going.forms
 
-  came : has is_signal (ended_at p q) ≡ true
-  came = has-tell is_signal (λ a. refl) (Got (Signal FastShutdown) ∷ q) (end_told (now q) (ascending (live_numbers p q)))
+  passed : has_passed p q ≡ true
+  passed = passed-is core.plan core.drain (over_since core.offer.state) q at.going.drain at.drain ∙ waits
 
-  closed-now : now (closed_at p q) ≡ now q
-  closed-now = now-tell (runtimes_at q) (map Close (ascending (live_numbers p q)))
+  end-passed : has_passed p ended_at ≡ true
+  end-passed = passed-tell p q last ∙ passed
 
-  pub end-passed : has_passed p (ended_at p q) ≡ true
-  end-passed = passed-signal p (ended_at p q) end-forms ∙ came
+  -- a signal came, so the server runs
+  came : has is_signal q ≡ true
+  came = elim (cases_Bool (has is_signal q)) [
+    | inl there ↦ there
+    | inr silent ↦ absurd (let off = unsignalled-unpassed p q (signal-none q silent) in let on = passed in cc)
+  ]
 
-  pub end-running : has is_running (ended_at p q) ≡ true
-  end-running = has-stays is_running (Got (Signal FastShutdown) ∷ q) (end_told (now q) (ascending (live_numbers p q))) running
+  end-came : has is_signal ended_at ≡ true
+  end-came = has-stays is_signal q last came
 
-  pub end-now : now (ended_at p q) ≡ now q
-  end-now = now-tell (Got (Signal FastShutdown) ∷ q) (end_told (now q) (ascending (live_numbers p q)))
+  running : core.drain.running ≡ true
+  running = elim (cases_Bool core.drain.running) [
+    | inl on ↦ on
+    | inr idle ↦ absurd (let off = unsignalled-unpassed p q (sym at.going.drain.signal_is ∙ at.going.drain.unsignalled idle) in let on = passed in cc)
+  ]
+
+  may : may_start p core.boot ≡ true
+  may = sym at.runs_now ∙ running
+
+  visited : VisitedUpTo p core.order (length core.order) q
+  visited = on_true (may_start p core.boot) (VisitedUpTo p core.order (length core.order) q) may at.visited
+
+  closed-now : now closed_at ≡ now q
+  closed-now = now-tell runtimes_at (map Close fds)
+
+  end-now : now ended_at ≡ now q
+  end-now = now-tell q last
 
   -- the end starts nothing, and fails nothing
-  pub end-starts : (st : StartsData) → StartsStand p st q → StartsStand p st (ended_at p q)
-  end-starts st stands = record {
-    started_is = λ s inside. stands.started_is s inside ∙ sym (has-end (is_start s) (λ f. refl) refl refl);
-    ready_is = λ s inside. stands.ready_is s inside ∙ sym (has-end (is_ready_event s) (λ f. refl) refl refl);
-    ended_is = λ s inside. stands.ended_is s inside ∙ sym (has-end (is_ended_event s) (λ f. refl) refl refl);
+  end-starts : StartsStand p core.starts ended_at
+  end-starts = record {
+    started_is = λ s inside. at.going.starts.started_is s inside ∙ sym (has-end (is_start s) (λ f. refl) refl refl refl);
+    ready_is = λ s inside. at.going.starts.ready_is s inside ∙ sym (has-end (is_ready_event s) (λ f. refl) refl refl refl);
+    ended_is = λ s inside. at.going.starts.ended_is s inside ∙ sym (has-end (is_ended_event s) (λ f. refl) refl refl refl);
   }
 
-  end-failing : (s : ℕ) → has_failed p (ended_at p q) s ≡ has_failed p q s
-  end-failing s = ap (λ r. has_failed p r s) split ∙ failed-closes p (runtimes_at q) (ascending (live_numbers p q)) s
+  end-failing : (s : ℕ) → has_failed p ended_at s ≡ has_failed p q s
+  end-failing s = ap (λ r. has_failed p r s) split ∙ failed-closes p runtimes_at fds s
 
-  pub end-failed : (failed : List Bool) → AreFailed p failed q → AreFailed p failed (ended_at p q)
-  end-failed failed h s inside = h s inside ∙ sym (end-failing s)
+  end-failed : AreFailed p core.endpoints.failed ended_at
+  end-failed s inside = are-failed p core.endpoints q at.going.ends s inside ∙ sym (end-failing s)
 
-  end-fails : FailsRight p (ended_at p q)
+  end-fails : FailsRight p ended_at
   end-fails s inside =
       ap (times (is_fail s)) split
-      ∙ times-other (is_fail s) (λ f. refl) (runtimes_at q) (ascending (live_numbers p q))
-      ∙ right.asks.fails.0 s inside
+      ∙ times-other (is_fail s) (λ f. refl) runtimes_at fds
+      ∙ at.going.ends.fails s inside
       ∙ ap (λ b. if b then 1 else 0) (sym (end-failing s))
 
-  got-fits : EachEntry (λ e before. event_fits p e before ≡ true) (runtimes_at q)
-  got-fits = (refl, (refl, (fit, right.fits)))
+  got-fits : EachEntry (λ e before. event_fits p e before ≡ true) runtimes_at
+  got-fits = (refl, at.going.entries.fits)
 
-  got-closes : EachEntry (λ e before. close_once p e before ≡ true) (runtimes_at q)
-  got-closes = (refl, (refl, (refl, right.stronger.closes)))
+  got-closes : EachEntry (λ e before. close_once p e before ≡ true) runtimes_at
+  got-closes = (refl, at.going.ends.closes_once)
 
-  none-cut : closing_actions p (runtimes_at q) None ≡ map Close (ascending (live_numbers p q))
-  none-cut = rw (no-arrivals q forms) (append-nil (map Close (ascending (live_numbers p q))))
+  none-cut : closing_actions p runtimes_at None ≡ map Close fds
+  none-cut = rw (no-arrivals q at.going.forms) (append-nil (map Close fds))
 
   -- what came is then closed, once
-  pub closed-at-end : (fd : ℕ) → is_in fd (numbers_in q) ≡ true → times (is_close fd) (ended_at p q) ≡ 1
+  closed-at-end : (fd : ℕ) → is_in fd (numbers_in q) ≡ true → times (is_close fd) ended_at ≡ 1
   closed-at-end fd there =
       ap (times (is_close fd)) split
-      ∙ ap (λ told. times (is_close fd) (tell (runtimes_at q) told)) (sym none-cut)
-      ∙ all_closed p (runtimes_at q) None fd got-fits got-closes there
+      ∙ ap (λ told. times (is_close fd) (tell runtimes_at told)) (sym none-cut)
+      ∙ all_closed p runtimes_at None fd got-fits got-closes there
 
-  end-closes : EachEntry (λ e before. close_once p e before ≡ true) (ended_at p q)
+  end-closes : EachEntry (λ e before. close_once p e before ≡ true) ended_at
   end-closes =
       subst (EachEntry (λ e before. close_once p e before ≡ true)) (sym split) (
         refl,
         (
           refl,
-          closes-once p (runtimes_at q) (ascending (live_numbers p q))
-              (λ g. kept_at_most (not (has (is_close g) (runtimes_at q))) (is_in g (numbers_in (runtimes_at q))) (tally g (ascending (live_numbers p q))) (tally_live p (runtimes_at q) g got-fits))
-              (λ g there. is_opened-in p (runtimes_at q) g ∙ and_second (has (is_close g) q) (is_in g (numbers_in q)) (sym (in_live p q g) ∙ there))
+          closes-once p runtimes_at fds
+              (λ g. kept_at_most (not (has (is_close g) runtimes_at)) (is_in g (numbers_in runtimes_at)) (tally g fds) (tally_live p runtimes_at g got-fits))
+              (λ g there. is_opened-in p runtimes_at g ∙ and_second (has (is_close g) q) (is_in g (numbers_in q)) (sym (in_live p q g) ∙ there))
               (λ g there. and_first (has (is_close g) q) (is_in g (numbers_in q)) (sym (in_live p q g) ∙ there))
               got-closes,
         ),
       )
 
-  end-at : before_runtimes (ended_at p q) ≡ last_at q
-  end-at = ap before_runtimes split ∙ runtimes-closes (runtimes_at q) (ascending (live_numbers p q))
+  end-at : before_runtimes ended_at ≡ q
+  end-at = ap before_runtimes split ∙ runtimes-closes runtimes_at fds
 
-  unpassed : has_passed p q ≡ false
-  unpassed = unpassed-before p q (unended-before p q (Signal FastShutdown) fit)
+  end-marks : PhasesRight p ended_at
+  end-marks = marks-at-end core.plan core.drain (over_since core.offer.state) q fds at.going.drain at.drain waits
 
-  open-marks : told_marks q ≡ phase Running ∷ []
-  open-marks = opened.phases ∙ rw (unpassed, signal-none q silent, running) refl
+  end-actions : ended_at ≡ tell q (last_actions p q)
+  end-actions = ap (tell q) (ending-is core.plan core.drain (over_since core.offer.state) q at.going.drain (no-connections q at.going.forms))
 
-  end-marks : PhasesRight p (ended_at p q)
-  end-marks =
-      let told : told_marks (ended_at p q) ≡ phase Terminated ∷ (phase ShutdownRuntimes ∷ (phase ShutdownStarted ∷ (phase Running ∷ []))) =
-      ap told_marks split
-      ∙ ap (λ xs. phase Terminated ∷ xs) (marks-closes (runtimes_at q) (ascending (live_numbers p q)))
-      ∙ ap (λ xs. phase Terminated ∷ (phase ShutdownRuntimes ∷ (phase ShutdownStarted ∷ xs))) (open-marks) in
-      rw (told, end-passed, signal-fast (ended_at p q) end-forms came, end-running) refl
+  end-moments : EachEntry (λ e before. every_moment_right e before ≡ true) ended_at
+  end-moments = each-end every_moment_right (λ f b. refl) (eq-eqb core.drain.moment (now closed_at) (time ∙ sym closed-now)) refl (eq-eqb core.drain.moment (now q) time) at.going.entries.moments
 
-  end-actions : ended_at p q ≡ tell (last_at q) (last_actions p (last_at q))
-  end-actions = rw (signal-none q silent, no-arrivals q forms) refl
+  end-fits : EachEntry (λ e before. event_fits p e before ≡ true) ended_at
+  end-fits = each-end (event_fits p) (λ f b. refl) refl refl refl at.going.entries.fits
 
-  end-moments : EachEntry (λ e before. every_moment_right e before ≡ true) (ended_at p q)
-  end-moments = each-end every_moment_right (λ f b. refl) (eq-eqb (now q) (now (closed_at p q)) (sym closed-now)) refl (eq-eqb (now q) (now q) refl) (eq-eqb (now q) (now q) refl) refl right.stronger.moments
+  earlier-open : EachEarlier (OpenRight p) q
+  earlier-open = open-earlier p q at.going.entries.fits at.going.earlier
 
-  end-fits : EachEntry (λ e before. event_fits p e before ≡ true) (ended_at p q)
-  end-fits = each-end (event_fits p) (λ f b. refl) refl refl refl refl fit right.fits
-
-  end-drain : Drain p (ended_at p q)
+  end-drain : Drain p ended_at
   end-drain = record {
     passes = end-passed;
-    first = EachEarlier-tell (λ before. has_passed p before ≡ false) (Got (Signal FastShutdown) ∷ q) (end_told (now q) (ascending (live_numbers p q)))
-        (unpassed, silent-earlier p q right.fits);
-    phases = (
-      end-marks,
-      EachEarlier-tell (PhasesRight p) (Got (Signal FastShutdown) ∷ q) (end_told (now q) (ascending (live_numbers p q)))
-          (opened.phases, EachEarlier-weaker (OpenRight p) (PhasesRight p) (λ b h. h.phases) q (open-earlier p q right.fits right.settled.1)),
-    );
+    first = EachEarlier-tell (λ before. has_passed p before ≡ false) q last (silent-earlier p q at.going.entries.fits);
+    phases = (end-marks, EachEarlier-tell (PhasesRight p) q last (EachEarlier-weaker (OpenRight p) (PhasesRight p) (λ b h. h.phases) q earlier-open));
     moments = end-moments;
-    ends = subst (λ b. ended_at p q ≡ tell b (last_actions p b)) (sym end-at) end-actions;
-    nowhere_else = ap (has is_ending) end-at ∙ opened.no_end;
+    ends = subst (λ b. ended_at ≡ tell b (last_actions p b)) (sym end-at) end-actions;
+    nowhere_else = ap (has is_ending) end-at ∙ at.going.no_end;
   }
 
-  end-serves : ServesRight p (ended_at p q)
+  end-serves : ServesRight p ended_at
   end-serves = record {
-    closes = not_false (has is_signal (ended_at p q)) (ClosesRight p (ended_at p q)) came;
-    starts = not_true (in_service (ended_at p q)) (StartsRight p (ended_at p q)) (and_not (from_the_start (ended_at p q)) (has is_signal (ended_at p q)) came);
-    endpoints = not_true (in_service (ended_at p q)) (EndpointsRight p (ended_at p q)) (and_not (from_the_start (ended_at p q)) (has is_signal (ended_at p q)) came);
+    closes = not_false (has is_signal ended_at) (ClosesRight p ended_at) end-came;
+    starts = not_true (in_service ended_at) (StartsRight p ended_at) (and_not (from_the_start ended_at) (has is_signal ended_at) end-came);
+    endpoints = not_true (in_service ended_at) (EndpointsRight p ended_at) (and_not (from_the_start ended_at) (has is_signal ended_at) end-came);
   }
 
-  -- the signal and what follows belong to no bootstrapping
-  ends-other : (fds : List ℕ) → has_no_boot_action (end_told (now q) fds) ≡ true
-  ends-other [] = refl
-  ends-other (fd ∷ fds) = ends-other fds
+  -- what is told at the end belongs to no bootstrapping and to no offer
+  ends-other : (m n : ℕ) (closes : List ℕ) → has_no_boot_action (Phase ShutdownRuntimes m ∷ (map Close closes ++ Stop n ∷ Phase Terminated m ∷ [])) ≡ true
+  ends-other m n [] = refl
+  ends-other m n (fd ∷ closes) = ends-other m n closes
 
-  pub end-boot-stands : BootStands p b (ended_at p q)
-  end-boot-stands = foreign.stands-tell p b (Got (Signal FastShutdown) ∷ q) (end_told (now q) (ascending (live_numbers p q))) (ends-other (ascending (live_numbers p q)))
-      (foreign.stands-got p b q (Signal FastShutdown) refl boot)
+  ends-unasked : (m n : ℕ) (closes : List ℕ) → has_no_offer_action (Phase ShutdownRuntimes m ∷ (map Close closes ++ Stop n ∷ Phase Terminated m ∷ [])) ≡ true
+  ends-unasked m n [] = refl
+  ends-unasked m n (fd ∷ closes) = ends-unasked m n closes
 
-  last-boot-stands : BootStands p b (last_at q)
-  last-boot-stands = foreign.stands-told p b (Got (Signal FastShutdown) ∷ q) (Phase ShutdownStarted (now q)) refl (foreign.stands-got p b q (Signal FastShutdown) refl boot)
+  end-boot-stands : BootStands p core.boot ended_at
+  end-boot-stands = foreign.stands-tell p core.boot q last (ends-other core.drain.moment (stop_after core.plan core.drain) fds) at.going.boot
 
-  runs-right : (r : Record) → BootStands p b r → times is_running r ≡ 1 → times is_running r ≡ (if runs p r then 1 else 0)
-  runs-right r stand n = n ∙ ap (λ c. if c then 1 else 0) (sym may ∙ sym (rw none (ap (λ c. not p.eager || c) stand.begin.complete_is)))
+  end-offer-stands : OfferStands p core.offer ended_at
+  end-offer-stands = offers.stands-tell p core.offer q last (ends-unasked core.drain.moment (stop_after core.plan core.drain) fds) at.going.offer
 
-  gone-at : (fd : ℕ) → is_gone p (last_at q) fd ≡ is_gone p q fd
-  gone-at fd = rw (signal-none q silent) refl
+  offer-settled : IsOfferSettled core.offer (now ended_at)
+  offer-settled = subst (IsOfferSettled core.offer) (time ∙ sym end-now) at.offer
 
-  begun-at : (r : Record) → ((s : ℕ) → is_started r s ≡ is_started q s) → has_begun p r ≡ has_begun p q
-  begun-at r same = rw none (ap (λ w. (p.eager && true) || w) (any-same r same (services p)))
+  boot-settled : IsBootSettled p core.boot (now q)
+  boot-settled = subst (IsBootSettled p core.boot) time at.settled
+
+  end-started : (s : ℕ) → is_started ended_at s ≡ is_started q s
+  end-started s = has-end (is_start s) (λ f. refl) refl refl refl
+
+  end-begun : has_begun p ended_at ≡ core.boot.begun
+  end-begun = rw none (ap (λ w. (p.eager && true) || w) (any-same (services p))) ∙ at.going.begun_is
     where
-      any-same : (r : Record) → ((s : ℕ) → is_started r s ≡ is_started q s) → (xs : List ℕ) → list_any (λ s. has_kind p BootstrapKind s && is_started r s) xs ≡ list_any (λ s. has_kind p BootstrapKind s && is_started q s) xs
-      any-same r same [] = refl
-      any-same r same (x ∷ xs) = rw (same x, any-same r same xs) refl
+      any-same : (xs : List ℕ) → list_any (λ s. has_kind p BootstrapKind s && is_started ended_at s) xs ≡ list_any (λ s. has_kind p BootstrapKind s && is_started q s) xs
+      any-same [] = refl
+      any-same (x ∷ xs) = rw (end-started x, any-same xs) refl
 
-  last-step : LastStepRight p (last_at q)
-  last-step =
-      let starts = on_true (from_the_start q) (StartsRight p q) running opened.starts in
-      record {
-        starts = record { each = starts.each; in_turn = (refl, (refl, starts.in_turn)) };
-        endpoints = on_true (from_the_start q) (EndpointsRightLate p q) running opened.endpoints_late;
-        closes = λ fd there. opened.closes fd there ∙ ap (λ c. if c then 1 else 0) (sym (gone-at fd));
-        boot = boot-right p b (last_at q) last-boot-stands (begun-at (last_at q) (λ s. refl) ∙ begun) settled none (runs-right (last_at q) last-boot-stands runs_now) (refl, (refl, after));
-        offer = offer-right p (last_at q) (refl, (refl, forms));
-        connections = connections-right p (last_at q) (refl, (refl, forms));
-      }
+  now-running : times is_running q ≡ (if runs p q then 1 else 0)
+  now-running = running-right p core.starts core.endpoints core.boot core.offer core.drain q at.going none at.runs_now
 
-  end-started : (s : ℕ) → is_started (ended_at p q) s ≡ is_started q s
-  end-started s = has-end (is_start s) (λ f. refl) refl refl
+  end-running : times is_running ended_at ≡ (if runs p ended_at then 1 else 0)
+  end-running =
+      ap (times is_running) split ∙ times-other is_running (λ f. refl) runtimes_at fds ∙ at.going.drain.running_is
+      ∙ ap (λ c. if c then 1 else 0) (at.runs_now ∙ sym (rw none (ap (λ c. not p.eager || c) end-boot-stands.begin.complete_is)))
 
-  pub end-after : EachEntry (λ e before. start_after_boot p e before ≡ true) (ended_at p q)
-  end-after = each-end (start_after_boot p) (λ f c. refl) refl refl refl refl refl after
+  last-step : LastStepRight p q
+  last-step = record {
+    starts = starts-right p core.order in_order q at.going.entries at.going.started_due visited;
+    endpoints = endpoints-late p core.order in_order q at.going.entries at.going.started_due visited;
+    closes = at.going.ends.closes;
+    boot = boot-right p core.boot q at.going.boot at.going.begun_is boot-settled none now-running at.going.entries.after_boot;
+    offer = offer-right p core.offer q at.going.offer (subst (IsOfferSettled core.offer) time at.offer);
+    connections = connections-right p q at.going.forms;
+  }
+
+  end-after : EachEntry (λ e before. start_after_boot p e before ≡ true) ended_at
+  end-after = each-end (start_after_boot p) (λ f c. refl) refl refl refl at.going.entries.after_boot
 
   -- what is started then was due
-  pub end-due : ((s : ℕ) → s < service_count p → is_started q s ≡ true → is_due p q s ≡ true) → (s : ℕ) → s < service_count p → is_started (ended_at p q) s ≡ true → is_due p (ended_at p q) s ≡ true
-  end-due due s lt here = is_due-tell p (Got (Signal FastShutdown) ∷ q) (end_told (now q) (ascending (live_numbers p q))) s (is_due-grows p q (Got (Signal FastShutdown)) s (due s lt (sym (end-started s) ∙ here)))
+  end-due : (s : ℕ) → s < service_count p → is_started ended_at s ≡ true → is_due p ended_at s ≡ true
+  end-due s lt here = is_due-tell p q last s (at.going.started_due s lt (sym (end-started s) ∙ here))
 
-  pub end-begun : has_begun p (ended_at p q) ≡ b.begun
-  end-begun = begun-at (ended_at p q) end-started ∙ begun
+  end-boot : BootRight p ended_at
+  end-boot = boot-right p core.boot ended_at end-boot-stands end-begun (subst (IsBootSettled p core.boot) (sym end-now) boot-settled) none end-running end-after
 
-  pub end-runs : times is_running (ended_at p q) ≡ 1
-  end-runs = ap (times is_running) split ∙ times-other is_running (λ f. refl) (runtimes_at q) (ascending (live_numbers p q)) ∙ runs_now
+  end-untested : ends_tested p ended_at ≡ false
+  end-untested = tested-is p core.boot ended_at end-boot-stands ∙ at.untested
 
-  end-boot : BootRight p (ended_at p q)
-  end-boot = boot-right p b (ended_at p q) end-boot-stands end-begun (subst (IsBootSettled p b) (sym end-now) settled) none (runs-right (ended_at p q) end-boot-stands end-runs) end-after
-
-  end-untested : ends_tested p (ended_at p q) ≡ false
-  end-untested = tested-is p b (ended_at p q) end-boot-stands ∙ untested
-
-  end-ended : EndedRight p (ended_at p q)
+  end-ended : EndedRight p ended_at
   end-ended = record {
-    early = not_true (has_ended_early p (ended_at p q)) _ (early-is p b (ended_at p q) end-boot-stands ∙ settled.goes_on);
-    tested = not_true (ends_tested p (ended_at p q)) _ end-untested;
+    early = not_true (has_ended_early p ended_at) _ (early-is p core.boot ended_at end-boot-stands ∙ at.settled.goes_on);
+    tested = not_true (ends_tested p ended_at) _ end-untested;
   }
 
-  has-ended : has_ended p (ended_at p q) ≡ true
+  has-ended : has_ended p ended_at ≡ true
   has-ended = rw end-passed refl
 
-  end-earlier : EachEarlier (SettledRight p) (ended_at p q)
-  end-earlier = EachEarlier-tell (SettledRight p) (Got (Signal FastShutdown) ∷ q) (end_told (now q) (ascending (live_numbers p q)))
-      right.settled
+  opened-numbers : map (λ (d : Descriptor). d.number) (opened_descriptors p ended_at) ≡ numbers_in q
+  opened-numbers = numbers-opened p ended_at ∙ numbers-tell q last
 
-  opened-numbers : map (λ (d : Descriptor). d.number) (opened_descriptors p (ended_at p q)) ≡ numbers_in q
-  opened-numbers = numbers-opened p (ended_at p q) ∙ numbers-tell (Got (Signal FastShutdown) ∷ q) (end_told (now q) (ascending (live_numbers p q)))
+  end-asks : one_ask p ended_at ≡ true
+  end-asks = one-ask p core.offer ended_at end-offer-stands offer-settled (forward-fits p ended_at end-fits)
 
-  end-served : Served p (ended_at p q)
+  end-served : Served p ended_at
   end-served = record {
     fits = end-fits;
     drain = end-drain;
-    serves = (
-      end-serves,
-      EachEarlier-tell (ServesRight p) (Got (Signal FastShutdown) ∷ q) (end_told (now q) (ascending (live_numbers p q)))
-          (serves-open p q opened, EachEarlier-weaker (OpenRight p) (ServesRight p) (serves-open p) q (open-earlier p q right.fits right.settled.1)),
-    );
-    closed_once = λ fd there. closed-at-end fd
-        (ap (is_in fd) (sym (numbers-tell (Got (Signal FastShutdown) ∷ q) (end_told (now q) (ascending (live_numbers p q))))) ∙ sym (is_opened-in p (ended_at p q) fd) ∙ there);
-    closed_after = EachEntry-weaker (λ e before. close_once p e before ≡ true) (λ e before. close_due p e before ≡ true) (close-due p) (ended_at p q) end-closes;
+    serves = (end-serves, EachEarlier-tell (ServesRight p) q last (EachEarlier-weaker (OpenRight p) (ServesRight p) (serves-open p) q earlier-open));
+    closed_once = λ fd there. closed-at-end fd (ap (is_in fd) (sym (numbers-tell q last)) ∙ sym (is_opened-in p ended_at fd) ∙ there);
+    closed_after = EachEntry-weaker (λ e before. close_once p e before ≡ true) (λ e before. close_due p e before ≡ true) (close-due p) ended_at end-closes;
     stronger = record {
       boots = end-boot-stands.boots_due;
       tries = end-boot-stands.tries_due;
-      retries = retries-right (ended_at p q) end-forms;
-      one_ask = one-asks p (ended_at p q) end-forms;
-      tested = not_true (ends_tested p (ended_at p q)) (TestedRight p (ended_at p q)) end-untested;
+      retries = end-offer-stands.retries_due;
+      one_ask = (end-asks, EachEarlier-tell (λ before. one_ask p before ≡ true) q last at.going.asks);
+      tested = not_true (ends_tested p ended_at) (TestedRight p ended_at) end-untested;
       closes = end-closes;
-      last_step = to_true (has_passed p (ended_at p q)) (LastStepRight p (before_runtimes (ended_at p q))) (subst (LastStepRight p) (sym end-at) last-step);
+      last_step = to_true (has_passed p ended_at) (LastStepRight p (before_runtimes ended_at)) (subst (LastStepRight p) (sym end-at) last-step);
       moments = end-moments;
-      known_starts = each-end (start_known p) (λ f b. refl) refl refl refl refl refl right.stronger.known_starts;
-      known_asks = each-end (ask_known p) (λ f b. refl) refl refl refl refl refl right.stronger.known_asks;
-      known_connections = connections-known p (ended_at p q) end-forms;
+      known_starts = each-end (start_known p) (λ f b. refl) refl refl refl at.going.entries.known_starts;
+      known_asks = each-end (ask_known p) (λ f b. refl) refl refl refl at.going.ends.asks_known;
+      known_connections = connections-known p ended_at end-forms;
     };
   }
 
-  pub end-right : Right p (ended_at p q)
+  end-right : Right p ended_at
   end-right = record {
     fits = end-fits;
-    starts = each-end (start_due p) (λ f b. refl) refl refl refl refl refl right.starts;
-    settled = (ended-case (has_ended p (ended_at p q)) (EndedRight p (ended_at p q)) (OpenRight p (ended_at p q)) has-ended end-ended, end-earlier);
+    starts = each-end (start_due p) (λ f b. refl) refl refl refl at.going.entries.starts;
+    settled = (ended-case (has_ended p ended_at) (EndedRight p ended_at) (OpenRight p ended_at) has-ended end-ended, EachEarlier-tell (SettledRight p) q last at.going.earlier);
     asks = record {
-      in_turn = each-end (ask_due p) (λ f b. refl) refl refl refl refl refl right.asks.in_turn;
-      fails = (end-fails, EachEarlier-tell (FailsRight p) (Got (Signal FastShutdown) ∷ q) (end_told (now q) (ascending (live_numbers p q))) right.asks.fails);
+      in_turn = each-end (ask_due p) (λ f b. refl) refl refl refl at.going.ends.asks_due;
+      fails = (end-fails, EachEarlier-tell (FailsRight p) q last at.going.fails);
     };
-    passed = to_true (has_passed p (ended_at p q)) (PassedRight p (ended_at p q)) (record {
+    passed = to_true (has_passed p ended_at) (PassedRight p ended_at) (record {
       served = end-served;
       boot = end-boot;
-      offer = offer-right p (ended_at p q) end-forms;
-      connections = connections-right p (ended_at p q) end-forms;
+      offer = offer-right p core.offer ended_at end-offer-stands offer-settled;
+      connections = connections-right p ended_at end-forms;
     });
     stronger = end-served.stronger;
   }
 
-  pub end-closed : live_numbers p (ended_at p q) ≡ []
-  end-closed = ap (map (λ (d : Descriptor). d.number)) (none-open (ended_at p q) (opened_descriptors p (ended_at p q)) (λ fd there.
-      has-times (is_close fd) (ended_at p q) (closed-at-end fd (ap (is_in fd) (sym opened-numbers) ∙ there))))
+  end-closed : live_numbers p ended_at ≡ []
+  end-closed = ap (map (λ (d : Descriptor). d.number)) (none-open ended_at (opened_descriptors p ended_at) (λ fd there.
+      has-times (is_close fd) ended_at (closed-at-end fd (ap (is_in fd) (sym opened-numbers) ∙ there))))
+
+  step-whole : StepRight (with_end ServedEnd core) ended_at ServedEnd
+  step-whole = record {
+    stands = record {
+      drain = λ e. absurd (cc);
+      offer = λ e. absurd (cc);
+      starts = end-starts;
+      boot = end-boot-stands;
+      endpoints = λ e. absurd (cc);
+      failed = end-failed;
+      came = at.going.ends.came_are ∙ ap ascending (sym (numbers-tell q last));
+      closed = λ e. end-closed;
+      forms = end-forms;
+      after_boot = end-after;
+      started_due = end-due;
+      begun_is = end-begun;
+      runs = at.going.runs;
+      settled = λ e. absurd (cc);
+      end_is = sym (rw end-passed refl);
+    };
+    right = end-right;
+    answer = sym (rw end-passed refl);
+  }
+
+  -- the run has served
+  pub step-served : StepRight (with_end ServedEnd core) (tell q (end_told core.plan core.drain (open_numbers core.endpoints))) ServedEnd
+  step-served = subst (λ closes. StepRight (with_end ServedEnd core) (tell q (end_told core.plan core.drain closes)) ServedEnd) (sym at.going.ends.open_are) step-whole

@@ -1,16 +1,15 @@
 -- The stages of a step: bootstrapping is completed, services are visited, the server runs, and a handover is tried for again.
-use Rattle.std.proofs.Common.{ℕ, Bool, true, false, ◌||◌, ◌&&◌, ◌==◌, not, inl, inr, List, [], ◌∷◌, ◌++◌, ◌≡◌, refl, ap, sym, ◌∙◌, subst, arith, ◌<◌, ◌+◌, length, if◌then◌else◌, MatchBool, append-nil, append_assoc}
-use Rattle.std.specs.Bool.{OnTrue, OnFalse}
+use Rattle.std.proofs.Common.{ℕ, Bool, true, false, ◌||◌, ◌&&◌, not, inl, inr, List, [], ◌∷◌, ◌++◌, ◌≡◌, refl, ap, sym, ◌∙◌, subst, arith, length, if◌then◌else◌, MatchBool, append-nil, append_assoc}
+use Rattle.std.specs.Bool.{OnTrue}
+use Rattle.std.specs.Prelude.{Option}
 use Rattle.std.proofs.lemmas.Bool.{and_parts, eq-eqb, cases_Bool}
 use Rattle.svc_record.specs.declared.plan.Plan.{Plan}
-use Rattle.svc_record.specs.declared.entry.Entry.TheVariants.{Told}
 use Rattle.svc_record.specs.declared.action.Action.{Action}
 use Rattle.svc_record.specs.declared.action.Action.TheVariants.{Phase, TryReceive}
 use Rattle.svc_record.specs.declared.action.ExecutionPhase.TheVariants.{Running, BootstrapComplete}
 use Rattle.svc_record.specs.declared.action.StepEnd.{StepEnd}
 use Rattle.svc_record.specs.declared.action.StepEnd.TheVariants.{On, Tested}
-use Rattle.svc_record.specs.Record.{Record, now, times, tell, last_step, is_running}
-use Rattle.svc_record.specs.Drain.{phase}
+use Rattle.svc_record.specs.Record.{Record, now, tell, last_step}
 use Rattle.svc_record.specs.Right.{is_quiet}
 use Rattle.svc_record.specs.Told.{Tells}
 use Rattle.svc_record.specs.Validity.{IsInOrder, IsStartupOrder}
@@ -25,16 +24,20 @@ use Rattle.svc_boot.specs.BootState.{BootStands, is_refused, is_through, is_due_
 use Rattle.svc_boot.specs.BootEffects.{end_of, refusal_of, is_complete_due, completed_if, complete_told, tried_if, try_told}
 use Rattle.svc_boot.specs.BootFacts.{IsBootSettled}
 use Rattle.svc_boot.proofs.Foreign.{stands-running}
+use Rattle.svc_fds.specs.declared.encoding.Message.{Message}
+use Rattle.svc_offer.specs.OfferState.{over_since, is_send_due}
+use Rattle.svc_offer.specs.OfferFacts.{has_no_offer_action}
+use Rattle.svc_offer.proofs.Foreign as offers
+use Rattle.svc_drain.specs.DrainData.{DrainData}
+use Rattle.svc_drain.specs.DrainState.{DrainStands}
+use Rattle.svc_drain.specs.DrainEffects.{run, run_told}
 use Rattle.svc_core.specs.StartsData.{StartsData}
-use Rattle.svc_core.specs.DrainData.{DrainData}
-use Rattle.svc_core.specs.DrainState.{run_told}
-use Rattle.svc_core.specs.CoreData.{CoreData, is_on}
-use Rattle.svc_core.specs.Passes.{Going, IsBootRipe, VisitedUpTo, TestedAt, PassedUpTo, Passes, is_tested, may_start}
-use Rattle.svc_core.specs.Stands.{Struck, Ripe, Visited, StepRight, Follows, EndedSo}
-use Rattle.svc_core.proofs.RecordLemmas.{now-tell, to_true, not_true, on_false}
-use Rattle.svc_core.proofs.StartsLemmas.{is_due-grows}
-use Rattle.svc_core.proofs.GoingLemmas.{Loose, loose-of, loose-told, loose-tell, going-from, are_loose, begun-tell}
-use Rattle.svc_core.proofs.OpenLemmas.{step-on, step-ended, ended-end}
+use Rattle.svc_core.specs.CoreData.{CoreData, is_on, with_end}
+use Rattle.svc_core.specs.Passes.{Going, IsBootRipe, VisitedUpTo, TestedAt, Passes, AreStarted, is_tested, may_start}
+use Rattle.svc_core.specs.Stands.{Struck, Ripe, Visited, Tried, StepRight, Follows, EndedSo, HasCopy}
+use Rattle.svc_core.proofs.RecordLemmas.{to_true, not_true, on_false}
+use Rattle.svc_core.proofs.GoingLemmas.{base-of, base-tell, loose-of, loose-tell, may-tell, going-from, are_free, are_loose, begun-frees, begun-tell}
+use Rattle.svc_core.proofs.OpenLemmas.{step-ended, ended-end}
 use Rattle.svc_core.proofs.TestedLemmas.{tested-so}
 
 -- a run that goes on, by the part on bootstrapping
@@ -50,16 +53,10 @@ on-by p b untested goes = ap (λ c. is_on (if c then Tested else refusal_of b.re
 
 -- the core with other parts
 abbrev pub with_boot : BootData → CoreData → CoreData
-with_boot b core = record { plan = core.plan; order = core.order; starts = core.starts; endpoints = core.endpoints; boot = b; drain = core.drain; end = core.end }
-
-abbrev pub with_end : StepEnd → CoreData → CoreData
-with_end end core = record { plan = core.plan; order = core.order; starts = core.starts; endpoints = core.endpoints; boot = core.boot; drain = core.drain; end = end }
+with_boot b core = record { plan = core.plan; order = core.order; starts = core.starts; endpoints = core.endpoints; boot = b; offer = core.offer; drain = core.drain; end = core.end }
 
 abbrev pub with_pass : StartsData → EndpointsData → BootData → CoreData → CoreData
-with_pass st d b core = record { plan = core.plan; order = core.order; starts = st; endpoints = d; boot = b; drain = core.drain; end = core.end }
-
-abbrev pub with_drain : DrainData → CoreData → CoreData
-with_drain dr core = record { plan = core.plan; order = core.order; starts = core.starts; endpoints = core.endpoints; boot = core.boot; drain = dr; end = core.end }
+with_pass st d b core = record { plan = core.plan; order = core.order; starts = st; endpoints = d; boot = b; offer = core.offer; drain = core.drain; end = core.end }
 
 -- a run that goes on wasn't refused or tested
 pub on-end : (p : Plan) (b : BootData) → is_on (end_of p b) ≡ true → (is_tested p b ≡ false) × (is_refused b.receiving ≡ false)
@@ -75,22 +72,30 @@ on-end p b h = elim (cases_Bool (p.test && b.begun)) [
     unrefused (Missed at) k = refl
     unrefused Came k = refl
 
+-- a message came by a try
+pub come-tried : (x : Receiving) → has_come x ≡ true → is_tried x ≡ true
+come-tried Came h = refl
+come-tried Unasked h = absurd (cc)
+come-tried Trying h = absurd (cc)
+come-tried (Missed at) h = absurd (cc)
+come-tried (Refused reason) h = absurd (cc)
+
 -- completing
 through_after : (c h t u b due : Bool) → (c ≡ true → ((b && not t) && (not u || h)) ≡ true) → due ≡ (h && not c) → (h ≡ true → ((b && not t) && u) ≡ true) → (u ≡ false → c ≡ ((b && not t) && (not u || h)))
     → (c || due) ≡ ((b && not t) && (not u || h))
 through_after c h t u b due f e g k = grind (arith, f, g, k)
 
 -- it was told where bootstrapping is complete
-pub ripen : (core : CoreData) (q : Record) (due : Bool) → due ≡ is_complete_due core.boot
+pub ripen : (core : CoreData) (copy : Option Message) (q : Record) (due : Bool) → due ≡ is_complete_due core.boot
     → ((r : Record) → BootStands core.plan core.boot r → BootStands core.plan (completed_if due core.boot) (tell r (complete_told due core.drain.moment)))
-    → is_on (end_of core.plan core.boot) ≡ true → (core.plan.upgrade ≡ false → core.boot.complete ≡ is_through core.plan core.boot) → Struck core q
-    → Ripe (with_boot (completed_if due core.boot) core) (tell q (complete_told due core.drain.moment))
-ripen core q due e stands on alone struck =
+    → is_on (end_of core.plan core.boot) ≡ true → (core.plan.upgrade ≡ false → core.boot.complete ≡ is_through core.plan core.boot) → Struck core copy q
+    → Ripe (with_boot (completed_if due core.boot) core) copy (tell q (complete_told due core.drain.moment))
+ripen core copy q due e stands on alone struck =
     let going = struck.going in
     let loose : are_loose (now q) (complete_told due core.drain.moment) ≡ true = subst (λ m. are_loose m (complete_told due core.drain.moment) ≡ true) going.drain.moment_is (told-loose due core.drain.moment) in
     record {
-      going = going-from core.plan core.starts core.endpoints (completed_if due core.boot) core.drain (tell q (complete_told due core.drain.moment))
-          (loose-tell core.plan core.starts core.drain q (complete_told due core.drain.moment) loose (loose-of core.plan core.starts core.endpoints core.boot core.drain q going))
+      going = going-from core.plan core.starts core.endpoints (completed_if due core.boot) core.offer core.drain (tell q (complete_told due core.drain.moment))
+          (loose-tell core.plan core.starts core.offer core.drain q (complete_told due core.drain.moment) loose (loose-of core.plan core.starts core.endpoints core.boot core.offer core.drain q going))
           (told-ends due) (stands q going.boot)
           (begun-tell core.plan q (now q) (complete_told due core.drain.moment) loose ∙ going.begun_is)
           (λ r. may-more core.plan.eager core.boot.complete due (going.runs r));
@@ -101,6 +106,11 @@ ripen core q due e stands on alone struck =
         complete_is = through_after core.boot.complete (has_come core.boot.receiving) core.plan.test core.plan.upgrade core.boot.begun due going.boot.kept.through e
             (λ c. sym going.boot.kept.tried_is ∙ come-tried core.boot.receiving c) alone;
       };
+      calm = elim struck.calm [
+        | inl all ↦ inl (all-started due (e ∙ all.1) all.0)
+        | inr may ↦ inr (may-tell core.plan (now q) q (complete_told due core.drain.moment) loose may)
+      ];
+      copied = struck.copied;
     }
   where
     told-loose : (c : Bool) (m : ℕ) → are_loose m (complete_told c m) ≡ true
@@ -114,12 +124,9 @@ ripen core q due e stands on alone struck =
     may-more : (eager complete more : Bool) → (not eager || complete) ≡ true → (not eager || (complete || more)) ≡ true
     may-more eager complete more h = grind arith
 
-    come-tried : (x : Receiving) → has_come x ≡ true → is_tried x ≡ true
-    come-tried Came h = refl
-    come-tried Unasked h = absurd (cc)
-    come-tried Trying h = absurd (cc)
-    come-tried (Missed at) h = absurd (cc)
-    come-tried (Refused reason) h = absurd (cc)
+    all-started : (c : Bool) → c ≡ false → AreStarted core.plan q → AreStarted core.plan (tell q (complete_told c core.drain.moment))
+    all-started true k all = absurd (cc)
+    all-started false k all = all
 
     receives_begun : (b t u : Bool) → ((b && not t) && u) ≡ true → b ≡ true
     receives_begun b t u h = grind arith
@@ -134,25 +141,27 @@ ripen core q due e stands on alone struck =
 -- the services are visited
 pub start-up : (core : CoreData) (st : StartsData) (d : EndpointsData) (b : BootData) (before after : List Action) → may_start core.plan core.boot ≡ true
     → Passes core.plan core.order core.drain 0 (length core.order) core.starts st core.endpoints d core.boot b before after
-    → Tells before after (λ told. (q : Record) → Ripe core q → Visited (with_pass st d b core) (tell q told))
+    → Tells before after (λ told. (copy : Option Message) (q : Record) → Ripe core copy q → Visited (with_pass st d b core) copy (tell q told))
 start-up core st d b before after may pass = record {
   told = pass.told;
   appended = pass.appended;
-  kept = λ q ripe. (
+  kept = λ copy q ripe. (
       let none = on-end core.plan core.boot ripe.goes_on in
-      let up = pass.kept q (record {
+      let up = pass.kept core.offer q (record {
         going = ripe.going;
         may = may;
         ripe = ripe.ripe;
         visited = unvisited (is_tested core.plan core.boot) ((j : ℕ) × TestedAt core.plan core.order j q) (VisitedUpTo core.plan core.order 0 q) none.0
-            (record { due_started = λ j lt. absurd (omega arith); right = λ j lt. absurd (omega arith) });
+            (record { due_started = λ j lt. absurd (omega arith); right = λ none j lt. absurd (omega arith); late = λ j lt. absurd (omega arith) });
         quiet = ripe.quiet;
+        calm = ripe.calm;
       }) in
       record {
         going = up.going;
         ripe = up.ripe;
         passed = to_true (may_start core.plan b) (MatchBool (is_tested core.plan b) ((k : ℕ) × TestedAt core.plan core.order k (tell q pass.told)) (VisitedUpTo core.plan core.order (length core.order) (tell q pass.told))) up.visited;
         waits = λ off. absurd (let on = up.may in cc);
+        copied = ripe.copied;
       });
 }
   where
@@ -161,22 +170,23 @@ start-up core st d b before after may pass = record {
     unvisited false A B e h = h
 
 -- none may start yet
-pub start-none : (core : CoreData) (before : List Action) → may_start core.plan core.boot ≡ false → Tells before before (λ told. (q : Record) → Ripe core q → Visited core (tell q told))
+pub start-none : (core : CoreData) (before : List Action) → may_start core.plan core.boot ≡ false → Tells before before (λ told. (copy : Option Message) (q : Record) → Ripe core copy q → Visited core copy (tell q told))
 start-none core before off = record {
   told = [];
   appended = sym (append-nil before);
-  kept = λ q ripe. record {
+  kept = λ copy q ripe. record {
     going = ripe.going;
     ripe = ripe.ripe;
     passed = not_true (may_start core.plan core.boot) _ off;
     waits = λ e. (on-end core.plan core.boot ripe.goes_on).0;
+    copied = ripe.copied;
   };
 }
 
 -- the run was tested: nothing more is told
-pub go-ended : (core : CoreData) (before : List Action) → IsStartupOrder core.plan core.order → IsInOrder core.plan core.order → core.plan.daemon ≡ false → is_on (end_of core.plan core.boot) ≡ false
-    → Tells before before (λ told. (q : Record) → Visited core q → StepRight (with_end (end_of core.plan core.boot) core) (tell q told) (end_of core.plan core.boot))
-go-ended core before least in_order none off = record {
+pub go-ended : (core : CoreData) (copy : Option Message) (before : List Action) → IsStartupOrder core.plan core.order → IsInOrder core.plan core.order → core.plan.daemon ≡ false → is_on (end_of core.plan core.boot) ≡ false
+    → Tells before before (λ told. (q : Record) → Visited core copy q → StepRight (with_end (end_of core.plan core.boot) core) (tell q told) (end_of core.plan core.boot))
+go-ended core copy before least in_order none off = record {
   told = [];
   appended = sym (append-nil before);
   kept = λ q visited. (
@@ -184,7 +194,7 @@ go-ended core before least in_order none off = record {
       let may = starts (may_start core.plan core.boot) (λ e. (let untested = visited.waits e in cc)) in
       let at = on-both (may_start core.plan core.boot) (is_tested core.plan core.boot) ((k : ℕ) × TestedAt core.plan core.order k q) (VisitedUpTo core.plan core.order (length core.order) q) may tested visited.passed in
       step-ended (with_end (end_of core.plan core.boot) core) q visited.going off refl
-      (tested-so core.plan core.order least in_order core.starts core.endpoints core.boot core.drain q visited.going at.0 at.1 none tested visited.ripe.goes_on));
+      (tested-so core.plan core.order least in_order core.starts core.endpoints core.boot core.offer core.drain q visited.going at.0 at.1 none tested visited.ripe.goes_on));
 }
   where
     is-tested : (a b : Bool) → (a || b) ≡ true → b ≡ false → a ≡ true
@@ -200,66 +210,49 @@ go-ended core before least in_order none off = record {
     on-both false e A B h k x = absurd (cc)
 
 -- the server runs, once
-abbrev running : DrainData → DrainData
-running dr = record { running = true; moment = dr.moment }
+run-free : (c : Bool) (m : ℕ) → are_free m (if c then [] else Phase Running m ∷ []) ≡ true
+run-free true m = refl
+run-free false m = rw (eq-eqb m m refl) refl
 
-one-more : (n : ℕ) → n ≡ 0 → n + 1 ≡ 1
-one-more n e = omega arith
+run-unasked : (c : Bool) (m : ℕ) → has_no_offer_action (if c then [] else Phase Running m ∷ []) ≡ true
+run-unasked true m = refl
+run-unasked false m = refl
 
-run-going : (core : CoreData) (q : Record) → may_start core.plan core.boot ≡ true → Going core.plan core.starts core.endpoints core.boot core.drain q
-    → Going core.plan core.starts core.endpoints core.boot (running core.drain) (tell q (run_told core.drain))
-run-going core q may going = by core.drain.running refl
-  where
-    by : (c : Bool) → core.drain.running ≡ c → Going core.plan core.starts core.endpoints core.boot (running core.drain) (tell q (run_told core.drain))
-    by true e = rw e (record {
-      drain = record { running_is = going.drain.running_is ∙ rw e refl; moment_is = going.drain.moment_is };
-      starts = going.starts;
-      ends = going.ends;
-      boot = going.boot;
-      forms = going.forms;
-      entries = going.entries;
-      started_due = going.started_due;
-      begun_is = going.begun_is;
-      runs = λ r. may;
-      marks = going.marks ∙ rw e refl;
-      no_end = going.no_end;
-      silent = going.silent;
-      earlier = going.earlier;
-      fails = going.fails;
+run-boot : (p : Plan) (b : BootData) (q : Record) (c : Bool) (m : ℕ) → may_start p b ≡ true → BootStands p b q → BootStands p b (tell q (if c then [] else Phase Running m ∷ []))
+run-boot p b q true m may h = h
+run-boot p b q false m may h = stands-running p b q m may h
+
+run-ends : (p : Plan) (d : EndpointsData) (q : Record) (c : Bool) (m : ℕ) → EndpointsStand p d q → EndpointsStand p d (tell q (if c then [] else Phase Running m ∷ []))
+run-ends p d q true m h = h
+run-ends p d q false m h = stands-told p d q (Phase Running m) refl h
+
+run-going : (core : CoreData) (q : Record) → may_start core.plan core.boot ≡ true
+    → ((p : Plan) (over : Option ℕ) (r : Record) → DrainStands p core.drain over r → DrainStands p (run core.drain) over (tell r (run_told core.drain)))
+    → Going core.plan core.starts core.endpoints core.boot core.offer core.drain q
+    → Going core.plan core.starts core.endpoints core.boot core.offer (run core.drain) (tell q (run_told core.drain))
+run-going core q may runs going =
+    let free : are_free (now q) (run_told core.drain) ≡ true = subst (λ m. are_free m (run_told core.drain) ≡ true) going.drain.moment_is (run-free core.drain.running core.drain.moment) in
+    going-from core.plan core.starts core.endpoints core.boot core.offer (run core.drain) (tell q (run_told core.drain))
+    (record {
+      base = base-tell core.plan core.starts q (run_told core.drain) free (base-of core.plan core.starts core.endpoints core.boot core.offer core.drain q going);
+      drain = runs core.plan (over_since core.offer.state) q going.drain;
+      offer = offers.stands-tell core.plan core.offer q (run_told core.drain) (run-unasked core.drain.running core.drain.moment) going.offer;
     })
-    by false e = rw e (record {
-      drain = record { running_is = one-more (times is_running q) (going.drain.running_is ∙ rw e refl); moment_is = going.drain.moment_is };
-      starts = record { started_is = going.starts.started_is; ready_is = going.starts.ready_is; ended_is = going.starts.ended_is };
-      ends = stands-told core.plan core.endpoints q (Phase Running core.drain.moment) refl going.ends;
-      boot = stands-running core.plan core.boot q core.drain.moment may going.boot;
-      forms = (refl, going.forms);
-      entries = record {
-        fits = (refl, going.entries.fits);
-        starts = (refl, going.entries.starts);
-        after_boot = (refl, going.entries.after_boot);
-        moments = (eq-eqb core.drain.moment (now q) going.drain.moment_is, going.entries.moments);
-        known_starts = (refl, going.entries.known_starts);
-      };
-      started_due = λ s lt here. is_due-grows core.plan q (Told (Phase Running core.drain.moment)) s (going.started_due s lt here);
-      begun_is = going.begun_is;
-      runs = λ r. may;
-      marks = ap (λ marks. phase Running ∷ marks) (going.marks ∙ rw e refl);
-      no_end = going.no_end;
-      silent = going.silent;
-      earlier = going.earlier;
-      fails = going.fails;
-    })
+    (run-ends core.plan core.endpoints q core.drain.running core.drain.moment going.ends)
+    (run-boot core.plan core.boot q core.drain.running core.drain.moment may going.boot)
+    (begun-frees core.plan q (now q) (run_told core.drain) free ∙ going.begun_is)
+    (λ r. may)
 
 run-visited : (p : Plan) (order : List ℕ) (k : ℕ) (q : Record) (dr : DrainData) → VisitedUpTo p order k q → VisitedUpTo p order k (tell q (run_told dr))
 run-visited p order k q dr h = by dr.running
   where
     by : (c : Bool) → VisitedUpTo p order k (tell q (if c then [] else Phase Running dr.moment ∷ []))
     by true = h
-    by false = record { due_started = λ j lt due. h.due_started j lt due; right = λ j lt i within. h.right j lt i within }
+    by false = record { due_started = λ j lt due. h.due_started j lt due; right = λ none j lt i within. h.right none j lt i within; late = λ j lt i within. h.late j lt i within }
 
 -- a handover is tried for again, and the step is done
 try-visited : (p : Plan) (order : List ℕ) (k : ℕ) (q : Record) (due : Bool) → VisitedUpTo p order k q → VisitedUpTo p order k (tell q (try_told due))
-try-visited p order k q true h = record { due_started = λ j lt due. h.due_started j lt due; right = λ j lt i within. h.right j lt i within }
+try-visited p order k q true h = record { due_started = λ j lt due. h.due_started j lt due; right = λ none j lt i within. h.right none j lt i within; late = λ j lt i within. h.late j lt i within }
 try-visited p order k q false h = h
 
 settled-by : (p : Plan) (b : BootData) (m : ℕ) (due : Bool) → due ≡ is_due_in b.receiving m → IsBootRipe p b → IsBootSettled p (tried_if due b) m
@@ -311,20 +304,23 @@ module _ (core : CoreData) (in_order : IsInOrder core.plan core.order) (none : c
       missed-on (Refused reason) h = absurd (cc)
   end-kept false k = refl
 
-  pub settle : (q : Record) → Going core.plan core.starts core.endpoints core.boot dr q → IsBootRipe core.plan core.boot → OnTrue (may_start core.plan core.boot) (VisitedUpTo core.plan core.order (length core.order) q)
-      → dr.running ≡ may_start core.plan core.boot
-      → StepRight (record { plan = core.plan; order = core.order; starts = core.starts; endpoints = core.endpoints; boot = tried_if due core.boot; drain = dr; end = end_of core.plan core.boot }) (tell q (try_told due)) (end_of core.plan core.boot)
-  settle q going ripe visited runs =
-      step-on (record { plan = core.plan; order = core.order; starts = core.starts; endpoints = core.endpoints; boot = tried_if due core.boot; drain = dr; end = end_of core.plan core.boot }) (tell q (try_told due)) in_order none
-      (going-from core.plan core.starts core.endpoints (tried_if due core.boot) dr (tell q (try_told due))
-      (loose-tell core.plan core.starts dr q (try_told due) (tries-loose (now q) due) (loose-of core.plan core.starts core.endpoints core.boot dr q going))
-      (tries-ends q due going.ends) (stands q (sym same_moment ∙ going.drain.moment_is) going.boot)
-      (begun-tell core.plan q (now q) (try_told due) (tries-loose (now q) due) ∙ going.begun_is) going.runs)
-      (subst (IsBootSettled core.plan (tried_if due core.boot)) (sym same_moment) (settled-by core.plan core.boot core.drain.moment due due_is ripe))
-      (on-end core.plan core.boot on).0
-      (map-on (may_start core.plan core.boot) (VisitedUpTo core.plan core.order (length core.order) q) (VisitedUpTo core.plan core.order (length core.order) (tell q (try_told due)))
-      (try-visited core.plan core.order (length core.order) q due) visited)
-      runs (end-kept due due_is)
+  pub settle : (copy : Option Message) (q : Record) → Going core.plan core.starts core.endpoints core.boot core.offer dr q → IsBootRipe core.plan core.boot
+      → OnTrue (may_start core.plan core.boot) (VisitedUpTo core.plan core.order (length core.order) q) → dr.running ≡ may_start core.plan core.boot → HasCopy core copy
+      → Tried (record { plan = core.plan; order = core.order; starts = core.starts; endpoints = core.endpoints; boot = tried_if due core.boot; offer = core.offer; drain = dr; end = end_of core.plan core.boot }) copy (tell q (try_told due))
+  settle copy q going ripe visited runs copied = record {
+    going = going-from core.plan core.starts core.endpoints (tried_if due core.boot) core.offer dr (tell q (try_told due))
+        (loose-tell core.plan core.starts core.offer dr q (try_told due) (tries-loose (now q) due) (loose-of core.plan core.starts core.endpoints core.boot core.offer dr q going))
+        (tries-ends q due going.ends) (stands q (sym same_moment ∙ going.drain.moment_is) going.boot)
+        (begun-tell core.plan q (now q) (try_told due) (tries-loose (now q) due) ∙ going.begun_is) going.runs;
+    settled = subst (IsBootSettled core.plan (tried_if due core.boot)) (sym same_moment) (settled-by core.plan core.boot core.drain.moment due due_is ripe);
+    untested = (on-end core.plan core.boot on).0;
+    visited = map-on (may_start core.plan core.boot) (VisitedUpTo core.plan core.order (length core.order) q) (VisitedUpTo core.plan core.order (length core.order) (tell q (try_told due)))
+        (try-visited core.plan core.order (length core.order) q due) visited;
+    runs_now = runs;
+    on = on;
+    end_is = end-kept due due_is;
+    copied = subst (λ m. is_send_due core.offer.state m ≡ true → copy ≡ core.offer.message) (sym same_moment) copied;
+  }
     where
       map-on : (c : Bool) (A B : Type 0) → (A → B) → OnTrue c A → OnTrue c B
       map-on true A B f x = f x
@@ -335,23 +331,24 @@ untested-visited true A B e h = absurd (cc)
 untested-visited false A B e h = h
 
 -- the server runs
-pub go-on : (core : CoreData) (before mid after : List Action) → IsInOrder core.plan core.order → core.plan.daemon ≡ false → is_on (end_of core.plan core.boot) ≡ true → may_start core.plan core.boot ≡ true
+pub go-on : (core : CoreData) (copy : Option Message) (before mid after : List Action) → IsInOrder core.plan core.order → core.plan.daemon ≡ false → is_on (end_of core.plan core.boot) ≡ true → may_start core.plan core.boot ≡ true
+    → ((p : Plan) (over : Option ℕ) (r : Record) → DrainStands p core.drain over r → DrainStands p (run core.drain) over (tell r (run_told core.drain)))
     → mid ≡ before ++ run_told core.drain → (due : Bool) → due ≡ is_due_in core.boot.receiving core.drain.moment → after ≡ mid ++ try_told due
     → ((q : Record) → core.drain.moment ≡ now q → BootStands core.plan core.boot q → BootStands core.plan (tried_if due core.boot) (tell q (try_told due)))
-    → Tells before after (λ told. (q : Record) → Visited core q
-    → StepRight (record { plan = core.plan; order = core.order; starts = core.starts; endpoints = core.endpoints; boot = tried_if due core.boot; drain = running core.drain; end = end_of core.plan core.boot }) (tell q told) (end_of core.plan core.boot))
-go-on core before mid after in_order none on may first due due_is next stands = record {
+    → Tells before after (λ told. (q : Record) → Visited core copy q
+    → Tried (record { plan = core.plan; order = core.order; starts = core.starts; endpoints = core.endpoints; boot = tried_if due core.boot; offer = core.offer; drain = run core.drain; end = end_of core.plan core.boot }) copy (tell q told))
+go-on core copy before mid after in_order none on may runs first due due_is next stands = record {
   told = run_told core.drain ++ try_told due;
   appended = next ∙ ap (λ w. w ++ try_told due) first ∙ append_assoc before (run_told core.drain) (try_told due);
   kept = λ q visited.
-      subst (λ r. StepRight (record { plan = core.plan; order = core.order; starts = core.starts; endpoints = core.endpoints; boot = tried_if due core.boot; drain = running core.drain; end = end_of core.plan core.boot }) r (end_of core.plan core.boot))
+      subst (λ r. Tried (record { plan = core.plan; order = core.order; starts = core.starts; endpoints = core.endpoints; boot = tried_if due core.boot; offer = core.offer; drain = run core.drain; end = end_of core.plan core.boot }) copy r)
       (sym (tell-append q (run_told core.drain) (try_told due)))
-      (settle core in_order none on due due_is (running core.drain) refl stands (tell q (run_told core.drain)) (run-going core q may visited.going) visited.ripe
+      (settle core in_order none on due due_is (run core.drain) refl stands copy (tell q (run_told core.drain)) (run-going core q may runs visited.going) visited.ripe
       (to_true (may_start core.plan core.boot) (VisitedUpTo core.plan core.order (length core.order) (tell q (run_told core.drain)))
       (run-visited core.plan core.order (length core.order) q core.drain
       (untested-visited (is_tested core.plan core.boot) ((k : ℕ) × TestedAt core.plan core.order k q) (VisitedUpTo core.plan core.order (length core.order) q) (on-end core.plan core.boot on).0
       (on-this (may_start core.plan core.boot) (MatchBool (is_tested core.plan core.boot) ((k : ℕ) × TestedAt core.plan core.order k q) (VisitedUpTo core.plan core.order (length core.order) q)) may visited.passed))))
-      (sym may));
+      (sym may) visited.copied);
 }
   where
     on-this : (c : Bool) (A : Type 0) → c ≡ true → OnTrue c A → A
@@ -359,17 +356,17 @@ go-on core before mid after in_order none on may first due due_is next stands = 
     on-this false A e h = absurd (cc)
 
 -- it doesn't yet
-pub go-waiting : (core : CoreData) (before after : List Action) → IsInOrder core.plan core.order → core.plan.daemon ≡ false → is_on (end_of core.plan core.boot) ≡ true → may_start core.plan core.boot ≡ false
+pub go-waiting : (core : CoreData) (copy : Option Message) (before after : List Action) → IsInOrder core.plan core.order → core.plan.daemon ≡ false → is_on (end_of core.plan core.boot) ≡ true → may_start core.plan core.boot ≡ false
     → (due : Bool) → due ≡ is_due_in core.boot.receiving core.drain.moment → after ≡ before ++ try_told due
     → ((q : Record) → core.drain.moment ≡ now q → BootStands core.plan core.boot q → BootStands core.plan (tried_if due core.boot) (tell q (try_told due)))
-    → Tells before after (λ told. (q : Record) → Visited core q
-    → StepRight (record { plan = core.plan; order = core.order; starts = core.starts; endpoints = core.endpoints; boot = tried_if due core.boot; drain = core.drain; end = end_of core.plan core.boot }) (tell q told) (end_of core.plan core.boot))
-go-waiting core before after in_order none on off due due_is told stands = record {
+    → Tells before after (λ told. (q : Record) → Visited core copy q
+    → Tried (record { plan = core.plan; order = core.order; starts = core.starts; endpoints = core.endpoints; boot = tried_if due core.boot; offer = core.offer; drain = core.drain; end = end_of core.plan core.boot }) copy (tell q told))
+go-waiting core copy before after in_order none on off due due_is told stands = record {
   told = try_told due;
   appended = told;
   kept = λ q visited.
-      settle core in_order none on due due_is core.drain refl stands q visited.going visited.ripe (not_true (may_start core.plan core.boot) _ off)
-      (idle core.drain.running (may_start core.plan core.boot) off visited.going.runs);
+      settle core in_order none on due due_is core.drain refl stands copy q visited.going visited.ripe (not_true (may_start core.plan core.boot) _ off)
+      (idle core.drain.running (may_start core.plan core.boot) off visited.going.runs) visited.copied;
 }
   where
     idle : (r m : Bool) → m ≡ false → (r ≡ true → m ≡ true) → r ≡ m
@@ -377,22 +374,22 @@ go-waiting core before after in_order none on off due due_is told stands = recor
     idle false m e f = sym e
 
 -- nothing follows where the event ended the run
-pub follows-ended : (core : CoreData) (before : List Action) → is_on (end_of core.plan core.boot) ≡ false → Follows core (with_end (end_of core.plan core.boot) core) before before (end_of core.plan core.boot)
-follows-ended core before off = record {
+pub follows-ended : (core : CoreData) (copy : Option Message) (before : List Action) → is_on (end_of core.plan core.boot) ≡ false → Follows core (with_end (end_of core.plan core.boot) core) copy before before (end_of core.plan core.boot)
+follows-ended core copy before off = record {
   told = [];
   appended = sym (append-nil before);
   kept = λ q struck. step-ended (with_end (end_of core.plan core.boot) core) q struck.going off refl (on_false (is_on (end_of core.plan core.boot)) (EndedSo core.plan q) off struck.ended);
 }
 
 -- the stages one after the other
-pub follows-on : (core ripe_core visited_core new : CoreData) (before mid passed after : List Action) (end : StepEnd) (due : Bool)
+pub follows-on : (core ripe_core visited_core new : CoreData) (copy : Option Message) (before mid passed after : List Action) (end : StepEnd) (due : Bool)
     → due ≡ is_complete_due core.boot → mid ≡ before ++ complete_told due core.drain.moment
     → ((r : Record) → BootStands core.plan core.boot r → BootStands core.plan (completed_if due core.boot) (tell r (complete_told due core.drain.moment)))
     → is_on (end_of core.plan core.boot) ≡ true → ripe_core ≡ with_boot (completed_if due core.boot) core
-    → Tells mid passed (λ told. (q : Record) → Ripe ripe_core q → Visited visited_core (tell q told))
-    → Tells passed after (λ told. (q : Record) → Visited visited_core q → StepRight new (tell q told) end)
-    → Follows core new before after end
-follows-on core ripe_core visited_core new before mid passed after end due due_is first stands on same starts goes = record {
+    → Tells mid passed (λ told. (copy : Option Message) (q : Record) → Ripe ripe_core copy q → Visited visited_core copy (tell q told))
+    → Tells passed after (λ told. (q : Record) → Visited visited_core copy q → StepRight new (tell q told) end)
+    → Follows core new copy before after end
+follows-on core ripe_core visited_core new copy before mid passed after end due due_is first stands on same starts goes = record {
   told = complete_told due core.drain.moment ++ (starts.told ++ goes.told);
   appended = goes.appended ∙ ap (λ w. w ++ goes.told) (starts.appended ∙ ap (λ w. w ++ starts.told) first)
       ∙ append_assoc (before ++ complete_told due core.drain.moment) starts.told goes.told
@@ -401,49 +398,61 @@ follows-on core ripe_core visited_core new before mid passed after end due due_i
       subst (λ r. StepRight new r end)
       (sym (tell-append q (complete_told due core.drain.moment) (starts.told ++ goes.told) ∙ tell-append (tell q (complete_told due core.drain.moment)) starts.told goes.told))
       (goes.kept (tell (tell q (complete_told due core.drain.moment)) starts.told)
-      (starts.kept (tell q (complete_told due core.drain.moment))
-      (subst (λ c. Ripe c (tell q (complete_told due core.drain.moment))) (sym same) (ripen core q due due_is stands on struck.alone struck))));
+      (starts.kept copy (tell q (complete_told due core.drain.moment))
+      (subst (λ c. Ripe c copy (tell q (complete_told due core.drain.moment))) (sym same) (ripen core copy q due due_is stands on struck.alone struck))));
 }
 
 -- the same with what the calls gave
-pub go-ended-at : (core : CoreData) (end : StepEnd) (before : List Action) → end ≡ end_of core.plan core.boot → IsStartupOrder core.plan core.order → IsInOrder core.plan core.order → core.plan.daemon ≡ false → is_on end ≡ false
-    → Tells before before (λ told. (q : Record) → Visited core q → StepRight (with_end end core) (tell q told) end)
-go-ended-at core end before same least in_order none off =
-    subst (λ e. Tells before before (λ told. (q : Record) → Visited core q → StepRight (with_end e core) (tell q told) e)) (sym same) (go-ended core before least in_order none (sym (ap is_on same) ∙ off))
+pub go-ended-at : (core : CoreData) (copy : Option Message) (end : StepEnd) (before : List Action) → end ≡ end_of core.plan core.boot → IsStartupOrder core.plan core.order → IsInOrder core.plan core.order → core.plan.daemon ≡ false → is_on end ≡ false
+    → Tells before before (λ told. (q : Record) → Visited core copy q → StepRight (with_end end core) (tell q told) end)
+go-ended-at core copy end before same least in_order none off =
+    subst (λ e. Tells before before (λ told. (q : Record) → Visited core copy q → StepRight (with_end e core) (tell q told) e)) (sym same) (go-ended core copy before least in_order none (sym (ap is_on same) ∙ off))
 
-pub go-on-at : (core : CoreData) (end : StepEnd) (b : BootData) (dr : DrainData) (before mid after : List Action) (due : Bool) → end ≡ end_of core.plan core.boot → b ≡ tried_if due core.boot → dr ≡ record { running = true; moment = core.drain.moment }
+-- and then what is told of the offer and of the signal
+pub go-then : (core mid_core new : CoreData) (copy : Option Message) (before mid after : List Action) (end : StepEnd)
+    → Tells before mid (λ told. (q : Record) → Visited core copy q → Tried mid_core copy (tell q told))
+    → Tells mid after (λ told. (q : Record) → Tried mid_core copy q → StepRight new (tell q told) end)
+    → Tells before after (λ told. (q : Record) → Visited core copy q → StepRight new (tell q told) end)
+go-then core mid_core new copy before mid after end first next = record {
+  told = first.told ++ next.told;
+  appended = next.appended ∙ ap (λ w. w ++ next.told) first.appended ∙ append_assoc before first.told next.told;
+  kept = λ q visited. subst (λ r. StepRight new r end) (sym (tell-append q first.told next.told)) (next.kept (tell q first.told) (first.kept q visited));
+}
+
+pub go-on-at : (core : CoreData) (copy : Option Message) (end : StepEnd) (b : BootData) (dr : DrainData) (before mid after : List Action) (due : Bool) → end ≡ end_of core.plan core.boot → b ≡ tried_if due core.boot → dr ≡ run core.drain
     → IsInOrder core.plan core.order → core.plan.daemon ≡ false → is_on end ≡ true → may_start core.plan core.boot ≡ true
+    → ((p : Plan) (over : Option ℕ) (r : Record) → DrainStands p core.drain over r → DrainStands p dr over (tell r (run_told core.drain)))
     → mid ≡ before ++ run_told core.drain → due ≡ is_due_in core.boot.receiving core.drain.moment → after ≡ mid ++ try_told due
     → ((q : Record) → core.drain.moment ≡ now q → BootStands core.plan core.boot q → BootStands core.plan b (tell q (try_told due)))
-    → Tells before after (λ told. (q : Record) → Visited core q
-    → StepRight (record { plan = core.plan; order = core.order; starts = core.starts; endpoints = core.endpoints; boot = b; drain = dr; end = end }) (tell q told) end)
-go-on-at core end b dr before mid after due same boots drains in_order none on may first due_is next stands =
-    rw (same, boots, drains) (go-on core before mid after in_order none (sym (ap is_on same) ∙ on) may first due due_is next (rw boots at stands))
+    → Tells before after (λ told. (q : Record) → Visited core copy q
+    → Tried (record { plan = core.plan; order = core.order; starts = core.starts; endpoints = core.endpoints; boot = b; offer = core.offer; drain = dr; end = end }) copy (tell q told))
+go-on-at core copy end b dr before mid after due same boots drains in_order none on may runs first due_is next stands =
+    rw (same, boots, drains) (go-on core copy before mid after in_order none (sym (ap is_on same) ∙ on) may (rw drains at runs) first due due_is next (rw boots at stands))
 
-pub go-waiting-at : (core : CoreData) (end : StepEnd) (b : BootData) (before after : List Action) (due : Bool) → end ≡ end_of core.plan core.boot → b ≡ tried_if due core.boot
+pub go-waiting-at : (core : CoreData) (copy : Option Message) (end : StepEnd) (b : BootData) (before after : List Action) (due : Bool) → end ≡ end_of core.plan core.boot → b ≡ tried_if due core.boot
     → IsInOrder core.plan core.order → core.plan.daemon ≡ false → is_on end ≡ true → may_start core.plan core.boot ≡ false
     → due ≡ is_due_in core.boot.receiving core.drain.moment → after ≡ before ++ try_told due
     → ((q : Record) → core.drain.moment ≡ now q → BootStands core.plan core.boot q → BootStands core.plan b (tell q (try_told due)))
-    → Tells before after (λ told. (q : Record) → Visited core q
-    → StepRight (record { plan = core.plan; order = core.order; starts = core.starts; endpoints = core.endpoints; boot = b; drain = core.drain; end = end }) (tell q told) end)
-go-waiting-at core end b before after due same boots in_order none on off due_is told stands =
-    rw (same, boots) (go-waiting core before after in_order none (sym (ap is_on same) ∙ on) off due due_is told (rw boots at stands))
+    → Tells before after (λ told. (q : Record) → Visited core copy q
+    → Tried (record { plan = core.plan; order = core.order; starts = core.starts; endpoints = core.endpoints; boot = b; offer = core.offer; drain = core.drain; end = end }) copy (tell q told))
+go-waiting-at core copy end b before after due same boots in_order none on off due_is told stands =
+    rw (same, boots) (go-waiting core copy before after in_order none (sym (ap is_on same) ∙ on) off due due_is told (rw boots at stands))
 
-pub follows-ended-at : (core : CoreData) (end : StepEnd) (before : List Action) → end ≡ end_of core.plan core.boot → is_on end ≡ false → Follows core (with_end end core) before before end
-follows-ended-at core end before same off = subst (λ e. Follows core (with_end e core) before before e) (sym same) (follows-ended core before (sym (ap is_on same) ∙ off))
+pub follows-ended-at : (core : CoreData) (copy : Option Message) (end : StepEnd) (before : List Action) → end ≡ end_of core.plan core.boot → is_on end ≡ false → Follows core (with_end end core) copy before before end
+follows-ended-at core copy end before same off = subst (λ e. Follows core (with_end e core) copy before before e) (sym same) (follows-ended core copy before (sym (ap is_on same) ∙ off))
 
-pub follows-on-at : (core ripe_core visited_core new : CoreData) (held end : StepEnd) (b : BootData) (before mid passed after : List Action) (due : Bool)
+pub follows-on-at : (core ripe_core visited_core new : CoreData) (copy : Option Message) (held end : StepEnd) (b : BootData) (before mid passed after : List Action) (due : Bool)
     → held ≡ end_of core.plan core.boot → is_on held ≡ true → due ≡ is_complete_due core.boot → b ≡ completed_if due core.boot → mid ≡ before ++ complete_told due core.drain.moment
     → ((r : Record) → BootStands core.plan core.boot r → BootStands core.plan b (tell r (complete_told due core.drain.moment)))
-    → ripe_core ≡ record { plan = core.plan; order = core.order; starts = core.starts; endpoints = core.endpoints; boot = b; drain = core.drain; end = held }
-    → Tells mid passed (λ told. (q : Record) → Ripe ripe_core q → Visited visited_core (tell q told))
-    → Tells passed after (λ told. (q : Record) → Visited visited_core q → StepRight new (tell q told) end)
-    → Follows core new before after end
-follows-on-at core ripe_core visited_core new held end b before mid passed after due same on due_is boots first stands ripe starts goes =
-    let follows = follows-on (with_end held core) ripe_core visited_core new before mid passed after end due due_is first (rw boots at stands) (sym (ap is_on same) ∙ on)
-    (ripe ∙ ap (λ (x : BootData). record { plan = core.plan; order = core.order; starts = core.starts; endpoints = core.endpoints; boot = x; drain = core.drain; end = held }) boots) starts goes in
+    → ripe_core ≡ record { plan = core.plan; order = core.order; starts = core.starts; endpoints = core.endpoints; boot = b; offer = core.offer; drain = core.drain; end = held }
+    → Tells mid passed (λ told. (copy : Option Message) (q : Record) → Ripe ripe_core copy q → Visited visited_core copy (tell q told))
+    → Tells passed after (λ told. (q : Record) → Visited visited_core copy q → StepRight new (tell q told) end)
+    → Follows core new copy before after end
+follows-on-at core ripe_core visited_core new copy held end b before mid passed after due same on due_is boots first stands ripe starts goes =
+    let follows = follows-on (with_end held core) ripe_core visited_core new copy before mid passed after end due due_is first (rw boots at stands) (sym (ap is_on same) ∙ on)
+    (ripe ∙ ap (λ (x : BootData). record { plan = core.plan; order = core.order; starts = core.starts; endpoints = core.endpoints; boot = x; offer = core.offer; drain = core.drain; end = held }) boots) starts goes in
     record {
       told = follows.told;
       appended = follows.appended;
-      kept = λ q struck. follows.kept q (record { going = struck.going; quiet = struck.quiet; alone = struck.alone; ended = struck.ended });
+      kept = λ q struck. follows.kept q (record { going = struck.going; quiet = struck.quiet; alone = struck.alone; ended = struck.ended; calm = struck.calm; copied = struck.copied });
     }

@@ -10,25 +10,29 @@ use Rattle.svc_record.specs.declared.entry.Entry.{Entry}
 use Rattle.svc_record.specs.declared.entry.Entry.TheVariants.{Got, Told}
 use Rattle.svc_record.specs.declared.action.Action.TheVariants.{Bind, Adopt}
 use Rattle.svc_record.specs.declared.event.Event.{Event}
-use Rattle.svc_record.specs.declared.event.Event.TheVariants.{Moment, Ready, Ended, Bound, InUse, BindFailed, Adopted, AdoptFailed, Received, NoSenderYet, ReceiveFailed, Signal}
+use Rattle.svc_record.specs.declared.event.Event.TheVariants.{Moment, Ready, Ended, Bound, InUse, BindFailed, Adopted, AdoptFailed, Received, NoSenderYet, ReceiveFailed, Connected, NotThere, StillConnecting, ConnectFailed, Sent, SendBusy, SendFailed, LoopEnded, Signal}
 use Rattle.svc_record.specs.declared.event.ShutdownSignal.{ShutdownSignal}
-use Rattle.svc_record.specs.declared.event.ShutdownSignal.TheVariants.{FastShutdown, GracefulTerminate, GracefulUpgrade}
 use Rattle.svc_record.specs.Plans.{service_count, service, endpoints, is_endpoint, has_kind}
 use Rattle.svc_record.specs.Record.{Record, has, now, from_the_start, EachEntry}
 use Rattle.svc_record.specs.AskRules.{ask_known}
-use Rattle.svc_record.specs.Asks.{is_open, is_bind, is_bind_answer, is_bind_open, is_adopt, is_adopt_answer, is_adopt_open, is_try_open}
+use Rattle.svc_record.specs.Asks.{is_open, is_bind, is_bind_answer, is_bind_open, is_adopt, is_adopt_answer, is_adopt_open, is_try_open, is_connect_open, is_send_open}
 use Rattle.svc_record.specs.Descriptors.{brings}
 use Rattle.svc_record.specs.declared.action.StepEnd.{StepEnd}
 use Rattle.svc_record.specs.declared.action.StepEnd.TheVariants.{On, Served, Tested, Parent, Ended as EndedBy}
 use Rattle.svc_record.specs.declared.action.BootstrapError.TheVariants.{Transfer, NoSender, BadMessage}
 use Rattle.svc_record.specs.Drain.{has_passed}
 use Rattle.svc_record.specs.Ends.{has_ended, step_end, ends_tested, ends_parent_well, ends_parent_badly, ends_transfer, ends_no_sender, ends_bad_message}
+use Rattle.svc_record.specs.Closes.{is_broadcast, is_loop_end}
+use Rattle.svc_record.specs.Endpoints.{serves}
 use Rattle.svc_record.specs.Fits.{Fits, fits, fits_row, is_new, are_new, may_end}
 use Rattle.svc_record.specs.Starts.{is_started, is_ready_event, is_ended_event}
+use Rattle.svc_endpoints.specs.EndpointsState.{IsEndpointsSized}
 use Rattle.svc_boot.specs.BootState.{is_trying}
+use Rattle.svc_offer.specs.OfferState.{is_connecting, is_sending}
 use Rattle.svc_core.specs.CoreData.{CoreData, is_on}
-use Rattle.svc_core.specs.Stands.{StandsFor, RowMayCome, ReadyMayCome, EndedMayCome, BindMayBeAnswered, BoundMayCome, AdoptMayBeAnswered, ReceivedMayCome}
-use Rattle.svc_core.proofs.StepLemmas.{fits-moment, fits-ready, fits-ended, fits-bound, fits-bind, fits-adopt, fits-try, fits-received, fresh, new-is, ends-of, going-on, running-is}
+use Rattle.svc_core.specs.Stands.{StandsFor, RowMayCome, ReadyMayCome, EndedMayCome, BindMayBeAnswered, BoundMayCome, AdoptMayBeAnswered, LoopMayEnd, ReceivedMayCome}
+use Rattle.svc_core.proofs.StepLemmas.{fits-loop, loop-same, broadcast-told, fits-moment, fits-ready, fits-ended, fits-bound, fits-bind, fits-adopt, fits-try, fits-received, fresh, new-is, ends-of, drain-of, offer-of, going-on, running-is}
+use Rattle.svc_core.proofs.SignalLemmas.{fits-connect, fits-send}
 
 get-cases : (xs : List ServicePlan) (s : ℕ) → (slice_get xs s ≡ None) ⊎ (s < length xs)
 get-cases [] s = inl refl
@@ -93,17 +97,17 @@ module _ (core : CoreData) (q : Record) (on : is_on core.end ≡ true) (stands :
   module _ (s i : ℕ) where
     bind-means : is_bind_open q s i ≡ true → BindMayBeAnswered core s i
     bind-means asked =
-        let known = open-known core.plan (is_bind s i) (is_bind_answer s i) s i (bind-here core.plan s i) q (ends-of core q on stands).asks_known asked in
+        let known = open-known core.plan (is_bind s i) (is_bind_answer s i) s i (bind-here core.plan s i) q (ends-of core q stands on).asks_known asked in
         let inside = endpoint-inside core.plan s i known in
         let within = (Decides-ltb i (length (endpoints core.plan s))).0 known in
-        record { inside = inside; within = within; asked = ((ends-of core q on stands).states.each s i inside within).binding_is ∙ asked }
+        record { inside = inside; within = within; asked = ((ends-of core q stands on).states.each s i inside within).binding_is ∙ asked }
 
     adopt-means : is_adopt_open q s i ≡ true → AdoptMayBeAnswered core s i
     adopt-means asked =
-        let known = open-known core.plan (is_adopt s i) (is_adopt_answer s i) s i (adopt-here core.plan s i) q (ends-of core q on stands).asks_known asked in
+        let known = open-known core.plan (is_adopt s i) (is_adopt_answer s i) s i (adopt-here core.plan s i) q (ends-of core q stands on).asks_known asked in
         let inside = endpoint-inside core.plan s i known in
         let within = (Decides-ltb i (length (endpoints core.plan s))).0 known in
-        record { inside = inside; within = within; asked = ((ends-of core q on stands).states.each s i inside within).adopting_is ∙ asked }
+        record { inside = inside; within = within; asked = ((ends-of core q stands on).states.each s i inside within).adopting_is ∙ asked }
 
     pub bound-fits : (fd : ℕ) → (BoundMayCome core s i fd → Fits core.plan q (Bound s i fd)) × (Fits core.plan q (Bound s i fd) → BoundMayCome core s i fd)
     bound-fits fd = (
@@ -144,25 +148,39 @@ module _ (core : CoreData) (q : Record) (on : is_on core.end ≡ true) (stands :
   pub moment-fits : (ms : ℕ) → (core.drain.moment ≤ ms → Fits core.plan q (Moment ms)) × (Fits core.plan q (Moment ms) → core.drain.moment ≤ ms)
   moment-fits ms = (
     λ may. fits-moment core q ms on may stands,
-    λ fit. subst (λ m. m ≤ ms) (sym stands.drain.moment_is) (leb-true (now q) ms (and_parts (not (has_ended core.plan q)) (nat_le (now q) ms) fit).1),
+    λ fit. subst (λ m. m ≤ ms) (sym (drain-of core q stands on).moment_is) (leb-true (now q) ms (and_parts (not (has_ended core.plan q)) (nat_le (now q) ms) fit).1),
   )
 
-  pub signal-fits : (core.drain.running ≡ true → Fits core.plan q (Signal FastShutdown)) × (Fits core.plan q (Signal FastShutdown) → core.drain.running ≡ true)
-  signal-fits = (
+  pub kind-fits : (kind : ShutdownSignal) → (core.drain.running ≡ true → Fits core.plan q (Signal kind)) × (Fits core.plan q (Signal kind) → core.drain.running ≡ true)
+  kind-fits kind = (
     λ may. and_from (not (has_ended core.plan q)) (from_the_start q) (going-on core q stands on) (running-is core q stands on ∙ may),
     λ fit. sym (running-is core q stands on) ∙ (and_parts (not (has_ended core.plan q)) (from_the_start q) fit).1,
   )
 
-  pub kind-fits : (kind : ShutdownSignal) → (RowMayCome core (Signal kind) → Fits core.plan q (Signal kind)) × (Fits core.plan q (Signal kind) → RowMayCome core (Signal kind))
-  kind-fits FastShutdown = signal-fits
-  kind-fits GracefulTerminate = ((λ may. absurd may), (λ fit. never (has_ended core.plan q) fit))
-    where
-      never : (b : Bool) → (not b && false) ≡ true → ⊥
-      never b x = grind arith
-  kind-fits GracefulUpgrade = ((λ may. absurd may), (λ fit. never (has_ended core.plan q) fit))
-    where
-      never : (b : Bool) → (not b && false) ≡ true → ⊥
-      never b x = grind arith
+  -- the end of a loop
+  pub loop-fits : IsEndpointsSized core.plan core.endpoints → (s i j : ℕ) → (LoopMayEnd core s i j → Fits core.plan q (LoopEnded s i j)) × (Fits core.plan q (LoopEnded s i j) → LoopMayEnd core s i j)
+  loop-fits sized s i j = (
+    λ may. fits-loop core q s i j sized on stands may,
+    λ fit. (
+        let row = (and_parts (not (has_ended core.plan q)) (fits_row core.plan q (LoopEnded s i j)) fit).1 in
+        let both = and_parts ((has is_broadcast q && serves core.plan q s) && is_endpoint core.plan s i) (nat_lt j core.plan.tasks && not (has (is_loop_end s i j) q)) row in
+        let first = and_parts (has is_broadcast q && serves core.plan q s) (is_endpoint core.plan s i) both.0 in
+        let lead = and_parts (has is_broadcast q) (serves core.plan q s) first.0 in
+        let inside = endpoint-inside core.plan s i first.1 in
+        record {
+          told = sym (broadcast-told core q s i j sized on stands) ∙ lead.0;
+          inside = inside;
+          goes_on = loop-same core q s i j sized on stands inside
+              ∙ and_from (serves core.plan q s && is_endpoint core.plan s i) (nat_lt j core.plan.tasks && not (has (is_loop_end s i j) q)) (and_from (serves core.plan q s) (is_endpoint core.plan s i) lead.1 first.1) both.1;
+        }),
+  )
+
+  -- an answer to a connect, and to a send
+  pub connect-fits : (is_connecting core.offer.state ≡ true → (not (has_ended core.plan q) && is_connect_open q) ≡ true) × ((not (has_ended core.plan q) && is_connect_open q) ≡ true → is_connecting core.offer.state ≡ true)
+  connect-fits = ((λ may. fits-connect core q on may stands), (λ fit. sym (offer-of core q stands on).connecting_is ∙ (and_parts (not (has_ended core.plan q)) (is_connect_open q) fit).1))
+
+  pub send-fits : (is_sending core.offer.state ≡ true → (not (has_ended core.plan q) && is_send_open q) ≡ true) × ((not (has_ended core.plan q) && is_send_open q) ≡ true → is_sending core.offer.state ≡ true)
+  send-fits = ((λ may. fits-send core q on may stands), (λ fit. sym (offer-of core q stands on).sending_is ∙ (and_parts (not (has_ended core.plan q)) (is_send_open q) fit).1))
 
   pub ready-fits : (s : ℕ) → (ReadyMayCome core s → Fits core.plan q (Ready s)) × (Fits core.plan q (Ready s) → ReadyMayCome core s)
   ready-fits s = (
@@ -200,22 +218,29 @@ module _ (core : CoreData) (q : Record) (on : is_on core.end ≡ true) (stands :
       either a b c h = grind arith
 
 -- an event of a form that isn't built
-pub default-row : (core : CoreData) (e : Event) → ((ms : ℕ) → e ≡ Moment ms → ⊥) → ((s : ℕ) → e ≡ Ready s → ⊥) → ((s : ℕ) → e ≡ Ended s → ⊥) → ((s i fd : ℕ) → e ≡ Bound s i fd → ⊥) → ((s i : ℕ) → e ≡ InUse s i → ⊥)
-    → ((s i : ℕ) → e ≡ BindFailed s i → ⊥) → ((s i : ℕ) → e ≡ Adopted s i → ⊥) → ((s i : ℕ) → e ≡ AdoptFailed s i → ⊥) → ((bytes fds : List ℕ) → e ≡ Received bytes fds → ⊥) → (e ≡ NoSenderYet → ⊥) → (e ≡ ReceiveFailed → ⊥)
-    → ((kind : ShutdownSignal) → e ≡ Signal kind → ⊥) → (RowMayCome core e → ⊥) × ((p : Plan) (q : Record) → fits p q e ≡ true → ⊥)
-default-row core (Moment ms) a b c d f g h i j k l m = absurd (a ms refl)
-default-row core (Ready s) a b c d f g h i j k l m = absurd (b s refl)
-default-row core (Ended s) a b c d f g h i j k l m = absurd (c s refl)
-default-row core (Bound s n fd) a b c d f g h i j k l m = absurd (d s n fd refl)
-default-row core (InUse s n) a b c d f g h i j k l m = absurd (f s n refl)
-default-row core (BindFailed s n) a b c d f g h i j k l m = absurd (g s n refl)
-default-row core (Adopted s n) a b c d f g h i j k l m = absurd (h s n refl)
-default-row core (AdoptFailed s n) a b c d f g h i j k l m = absurd (i s n refl)
-default-row core (Received bytes fds) a b c d f g h i j k l m = absurd (j bytes fds refl)
-default-row core NoSenderYet a b c d f g h i j k l m = absurd (k refl)
-default-row core ReceiveFailed a b c d f g h i j k l m = absurd (l refl)
-default-row core (Signal kind) a b c d f g h i j k l m = absurd (m kind refl)
-default-row core _ a b c d f g h i j k l m = (λ x. x, λ p q x. never (has_ended p q) x)
+pub default-row : (core : CoreData) (e : Event) → ((ms : ℕ) → e ≡ Moment ms → ⊥) → ((s : ℕ) → e ≡ Ready s → ⊥) → ((s : ℕ) → e ≡ Ended s → ⊥) → ((s x fd : ℕ) → e ≡ Bound s x fd → ⊥) → ((s x : ℕ) → e ≡ InUse s x → ⊥) → ((s x : ℕ) → e ≡ BindFailed s x → ⊥) → ((s x : ℕ) → e ≡ Adopted s x → ⊥) → ((s x : ℕ) → e ≡ AdoptFailed s x → ⊥) → ((bytes fds : List ℕ) → e ≡ Received bytes fds → ⊥) → (e ≡ NoSenderYet → ⊥) → (e ≡ ReceiveFailed → ⊥) → (e ≡ Connected → ⊥) → (e ≡ NotThere → ⊥) → (e ≡ StillConnecting → ⊥) → (e ≡ ConnectFailed → ⊥) → (e ≡ Sent → ⊥) → (e ≡ SendBusy → ⊥) → (e ≡ SendFailed → ⊥) → ((s x n : ℕ) → e ≡ LoopEnded s x n → ⊥) → ((kind : ShutdownSignal) → e ≡ Signal kind → ⊥)
+    → (RowMayCome core e → ⊥) × ((p : Plan) (q : Record) → fits p q e ≡ true → ⊥)
+default-row core (Moment ms) a b c d f g h i j k l n o r t u v w y m = absurd (a ms refl)
+default-row core (Ready s) a b c d f g h i j k l n o r t u v w y m = absurd (b s refl)
+default-row core (Ended s) a b c d f g h i j k l n o r t u v w y m = absurd (c s refl)
+default-row core (Bound s x fd) a b c d f g h i j k l n o r t u v w y m = absurd (d s x fd refl)
+default-row core (InUse s x) a b c d f g h i j k l n o r t u v w y m = absurd (f s x refl)
+default-row core (BindFailed s x) a b c d f g h i j k l n o r t u v w y m = absurd (g s x refl)
+default-row core (Adopted s x) a b c d f g h i j k l n o r t u v w y m = absurd (h s x refl)
+default-row core (AdoptFailed s x) a b c d f g h i j k l n o r t u v w y m = absurd (i s x refl)
+default-row core (Received bytes fds) a b c d f g h i j k l n o r t u v w y m = absurd (j bytes fds refl)
+default-row core NoSenderYet a b c d f g h i j k l n o r t u v w y m = absurd (k refl)
+default-row core ReceiveFailed a b c d f g h i j k l n o r t u v w y m = absurd (l refl)
+default-row core Connected a b c d f g h i j k l n o r t u v w y m = absurd (n refl)
+default-row core NotThere a b c d f g h i j k l n o r t u v w y m = absurd (o refl)
+default-row core StillConnecting a b c d f g h i j k l n o r t u v w y m = absurd (r refl)
+default-row core ConnectFailed a b c d f g h i j k l n o r t u v w y m = absurd (t refl)
+default-row core Sent a b c d f g h i j k l n o r t u v w y m = absurd (u refl)
+default-row core SendBusy a b c d f g h i j k l n o r t u v w y m = absurd (v refl)
+default-row core SendFailed a b c d f g h i j k l n o r t u v w y m = absurd (w refl)
+default-row core (LoopEnded s x n) a b c d f g h i j k l q o r t u v w y m = absurd (y s x n refl)
+default-row core (Signal kind) a b c d f g h i j k l n o r t u v w y m = absurd (m kind refl)
+default-row core _ a b c d f g h i j k l n o r t u v w y m = (λ x. x, λ p q x. never (has_ended p q) x)
   where
     never : (b : Bool) → (not b && false) ≡ true → ⊥
     never b x = grind arith

@@ -1,81 +1,149 @@
 -- What is told in a step keeps what holds all through it.
-use Rattle.std.proofs.Common.{ℕ, zero, suc, Bool, true, false, ◌&&◌, ◌||◌, ◌==◌, not, inl, inr, List, [], ◌∷◌, ◌≡◌, refl, ap, sym, ◌∙◌, subst, arith, ◌<◌, ◌≤◌, ◌+◌, if◌then◌else◌}
+use Rattle.std.proofs.Common.{ℕ, zero, suc, Bool, true, false, ◌&&◌, ◌||◌, ◌==◌, not, inl, inr, List, [], ◌∷◌, ◌≡◌, refl, ap, sym, ◌∙◌, subst, arith, ◌<◌, ◌≤◌, ◌+◌}
 use Rattle.std.specs.List.{list_any, range_with_len}
-use Rattle.std.proofs.lemmas.Bool.{eqb-true, eq-eqb, ne_eqb, or_left, or_right, or_from, or_parts, and_parts, and_from, cases_eq, cases_Bool}
-use Rattle.std.proofs.lemmas.Bool.Decides.{Decides-ltb}
+use Rattle.std.proofs.lemmas.Bool.{eqb-true, eq-eqb, or_left, or_right, or_parts, and_parts, and_from, cases_eq, cases_Bool}
 use Rattle.svc_graph.specs.declared.plan.Kind.TheVariants.{Bootstrap as BootstrapKind}
 use Rattle.svc_record.specs.declared.plan.Plan.{Plan}
-use Rattle.svc_record.specs.declared.entry.Entry.{Entry}
-use Rattle.svc_record.specs.declared.entry.Entry.TheVariants.{Got, Told}
+use Rattle.svc_record.specs.declared.entry.Entry.TheVariants.{Told}
 use Rattle.svc_record.specs.declared.action.Action.{Action}
-use Rattle.svc_record.specs.declared.action.Action.TheVariants.{Start, Fail, Bind, Adopt, Close, OpenReceiver, TryReceive, Phase}
-use Rattle.svc_record.specs.declared.action.ExecutionPhase.TheVariants.{Bootstrap, BootstrapComplete, Running}
+use Rattle.svc_record.specs.declared.action.Action.TheVariants.{Start, Fail, Bind, Adopt, Close, OpenReceiver, TryReceive, Connect, Send, Broadcast, Phase}
+use Rattle.svc_record.specs.declared.action.ExecutionPhase.TheVariants.{Bootstrap, BootstrapComplete}
 use Rattle.svc_record.specs.Plans.{service_count, services, has_kind}
-use Rattle.svc_record.specs.Record.{Record, now, tell, has, times, is_running, is_signal, EachEarlier}
+use Rattle.svc_record.specs.Record.{Record, now, tell, has, EachEarlier}
 use Rattle.svc_record.specs.Starts.{is_started, is_due, start_due, start_known}
 use Rattle.svc_record.specs.AskRules.{FailsRight}
 use Rattle.svc_record.specs.Boot.{has_begun, start_after_boot, is_side_child}
-use Rattle.svc_record.specs.Drain.{phase, marks_if, told_marks, is_ending, every_moment_right}
+use Rattle.svc_record.specs.Drain.{is_ending, every_moment_right}
+use Rattle.svc_record.specs.Offer.{one_ask}
 use Rattle.svc_record.specs.Right.{SettledRight}
 use Rattle.svc_endpoints.specs.EndpointsData.{EndpointsData}
 use Rattle.svc_endpoints.specs.EndpointsState.{EndpointsStand}
 use Rattle.svc_boot.specs.BootData.{BootData}
 use Rattle.svc_boot.specs.BootState.{BootStands}
+use Rattle.svc_offer.specs.OfferData.{OfferData}
+use Rattle.svc_offer.specs.OfferState.{OfferStands, over_since}
+use Rattle.svc_offer.specs.OfferFacts.{is_offer_action}
+use Rattle.svc_offer.proofs.Foreign as offers
+use Rattle.svc_drain.specs.DrainData.{DrainData}
+use Rattle.svc_drain.specs.DrainState.{DrainStands}
+use Rattle.svc_drain.specs.DrainFacts.{is_drain_action}
+use Rattle.svc_drain.proofs.Foreign as drains
 use Rattle.svc_core.specs.StartsData.{StartsData}
 use Rattle.svc_core.specs.StartsState.{StartsStand}
-use Rattle.svc_core.specs.DrainData.{DrainData}
-use Rattle.svc_core.specs.DrainState.{DrainStand}
 use Rattle.svc_core.specs.Forms.{is_built_entry, HasBuiltForms}
-use Rattle.svc_core.specs.Passes.{EntriesRight, Going, may_start}
+use Rattle.svc_core.specs.Passes.{EntriesRight, Going, MayEnd, may_start}
 use Rattle.svc_core.proofs.StartsLemmas.{is_due-grows}
 
--- the same without the parts on endpoints and on bootstrapping
-pub record Loose (p : Plan) (st : StartsData) (dr : DrainData) (q : Record) : Type 0 where
-  pub drain : DrainStand dr q
+-- the same without the parts but that on starts
+pub record Base (p : Plan) (st : StartsData) (q : Record) : Type 0 where
   pub starts : StartsStand p st q
   pub forms : HasBuiltForms q
   pub entries : EntriesRight p q
   pub started_due : (s : ℕ) → s < service_count p → is_started q s ≡ true → is_due p q s ≡ true
-  pub marks : told_marks q ≡ marks_if dr.running (phase Running ∷ [])
   pub no_end : has is_ending q ≡ false
-  pub silent : has is_signal q ≡ false
   pub earlier : EachEarlier (SettledRight p) q
   pub fails : EachEarlier (FailsRight p) q
+  pub asks : EachEarlier (λ before. one_ask p before ≡ true) q
 
-pub loose-of : (p : Plan) (st : StartsData) (d : EndpointsData) (b : BootData) (dr : DrainData) (q : Record) → Going p st d b dr q → Loose p st dr q
-loose-of p st d b dr q h = record {
-  drain = h.drain;
+-- the same without the parts on endpoints and on bootstrapping
+pub record Loose (p : Plan) (st : StartsData) (o : OfferData) (dr : DrainData) (q : Record) : Type 0 where
+  pub base : Base p st q
+  pub drain : DrainStands p dr (over_since o.state) q
+  pub offer : OfferStands p o q
+
+pub base-of : (p : Plan) (st : StartsData) (d : EndpointsData) (b : BootData) (o : OfferData) (dr : DrainData) (q : Record) → Going p st d b o dr q → Base p st q
+base-of p st d b o dr q h = record {
   starts = h.starts;
   forms = h.forms;
   entries = h.entries;
   started_due = h.started_due;
-  marks = h.marks;
   no_end = h.no_end;
-  silent = h.silent;
   earlier = h.earlier;
   fails = h.fails;
+  asks = h.asks;
 }
 
-pub going-from : (p : Plan) (st : StartsData) (d : EndpointsData) (b : BootData) (dr : DrainData) (q : Record) → Loose p st dr q → EndpointsStand p d q → BootStands p b q
-    → has_begun p q ≡ b.begun → (dr.running ≡ true → may_start p b ≡ true) → Going p st d b dr q
-going-from p st d b dr q h ends boot begun runs = record {
+pub loose-of : (p : Plan) (st : StartsData) (d : EndpointsData) (b : BootData) (o : OfferData) (dr : DrainData) (q : Record) → Going p st d b o dr q → Loose p st o dr q
+loose-of p st d b o dr q h = record { base = base-of p st d b o dr q h; drain = h.drain; offer = h.offer }
+
+pub going-from : (p : Plan) (st : StartsData) (d : EndpointsData) (b : BootData) (o : OfferData) (dr : DrainData) (q : Record) → Loose p st o dr q → EndpointsStand p d q → BootStands p b q
+    → has_begun p q ≡ b.begun → (dr.running ≡ true → may_start p b ≡ true) → Going p st d b o dr q
+going-from p st d b o dr q h ends boot begun runs = record {
   drain = h.drain;
-  starts = h.starts;
+  offer = h.offer;
+  starts = h.base.starts;
   ends = ends;
   boot = boot;
-  forms = h.forms;
-  entries = h.entries;
-  started_due = h.started_due;
+  forms = h.base.forms;
+  entries = h.base.entries;
+  started_due = h.base.started_due;
   begun_is = begun;
   runs = runs;
-  marks = h.marks;
-  no_end = h.no_end;
-  silent = h.silent;
-  earlier = h.earlier;
-  fails = h.fails;
+  no_end = h.base.no_end;
+  earlier = h.base.earlier;
+  fails = h.base.fails;
+  asks = h.base.asks;
 }
 
--- an action that starts nothing and is no phase but bootstrap's two, which carry the moment
+-- an action that starts nothing and doesn't belong to the end, with the moment in a phase
+abbrev pub is_free : ℕ → Action → Bool
+is_free m (Fail s) = true
+is_free m (Bind s i) = true
+is_free m (Adopt s i fd) = true
+is_free m (Close fd) = true
+is_free m OpenReceiver = true
+is_free m TryReceive = true
+is_free m Connect = true
+is_free m (Send bytes fds) = true
+is_free m Broadcast = true
+is_free m (Phase x ms) = ms == m
+is_free m _ = false
+
+base-one : (p : Plan) (st : StartsData) (q : Record) (a : Action) → ((s : ℕ) → is_started (Told a ∷ q) s ≡ is_started q s)
+    → is_built_entry (Told a) ≡ true → start_due p (Told a) q ≡ true → start_after_boot p (Told a) q ≡ true → every_moment_right (Told a) q ≡ true → start_known p (Told a) q ≡ true
+    → is_ending (Told a) ≡ false → Base p st q → Base p st (Told a ∷ q)
+base-one p st q a starts built due after moment known ends h = record {
+  starts = record { started_is = λ s lt. h.starts.started_is s lt ∙ sym (starts s); ready_is = h.starts.ready_is; ended_is = h.starts.ended_is };
+  forms = (built, h.forms);
+  entries = record {
+    fits = (refl, h.entries.fits);
+    starts = (due, h.entries.starts);
+    after_boot = (after, h.entries.after_boot);
+    moments = (moment, h.entries.moments);
+    known_starts = (known, h.entries.known_starts);
+  };
+  started_due = λ s lt here. is_due-grows p q (Told a) s (h.started_due s lt (sym (starts s) ∙ here));
+  no_end = ap (λ b. b || has is_ending q) ends ∙ h.no_end;
+  earlier = h.earlier;
+  fails = h.fails;
+  asks = h.asks;
+}
+
+pub base-told : (p : Plan) (st : StartsData) (q : Record) (a : Action) → is_free (now q) a ≡ true → Base p st q → Base p st (Told a ∷ q)
+base-told p st q (Fail s) k h = base-one p st q (Fail s) (λ t. refl) refl refl refl refl refl refl h
+base-told p st q (Bind s i) k h = base-one p st q (Bind s i) (λ t. refl) refl refl refl refl refl refl h
+base-told p st q (Adopt s i fd) k h = base-one p st q (Adopt s i fd) (λ t. refl) refl refl refl refl refl refl h
+base-told p st q (Close fd) k h = base-one p st q (Close fd) (λ t. refl) refl refl refl refl refl refl h
+base-told p st q OpenReceiver k h = base-one p st q OpenReceiver (λ t. refl) refl refl refl refl refl refl h
+base-told p st q TryReceive k h = base-one p st q TryReceive (λ t. refl) refl refl refl refl refl refl h
+base-told p st q Connect k h = base-one p st q Connect (λ t. refl) refl refl refl refl refl refl h
+base-told p st q (Send bytes fds) k h = base-one p st q (Send bytes fds) (λ t. refl) refl refl refl refl refl refl h
+base-told p st q Broadcast k h = base-one p st q Broadcast (λ t. refl) refl refl refl refl refl refl h
+base-told p st q (Phase x ms) k h = base-one p st q (Phase x ms) (λ t. refl) refl refl refl k refl refl h
+base-told p st q _ k h = absurd (cc)
+
+-- such actions, one after the other
+abbrev pub are_free : ℕ → List Action → Bool
+are_free m [] = true
+are_free m (a ∷ told) = is_free m a && are_free m told
+
+pub base-tell : (p : Plan) (st : StartsData) (q : Record) (told : List Action) → are_free (now q) told ≡ true → Base p st q → Base p st (tell q told)
+base-tell p st q [] k h = h
+base-tell p st q (a ∷ told) k h =
+    let parts = and_parts (is_free (now q) a) (are_free (now q) told) k in
+    base-tell p st (Told a ∷ q) told parts.1 (base-told p st q a parts.0 h)
+
+-- one that belongs to no offer and to no shutdown either
 abbrev pub is_loose : ℕ → Action → Bool
 is_loose m (Fail s) = true
 is_loose m (Bind s i) = true
@@ -87,49 +155,47 @@ is_loose m (Phase Bootstrap ms) = ms == m
 is_loose m (Phase BootstrapComplete ms) = ms == m
 is_loose m _ = false
 
-loose-one : (p : Plan) (st : StartsData) (dr : DrainData) (q : Record) (a : Action) → times is_running (Told a ∷ q) ≡ times is_running q → ((s : ℕ) → is_started (Told a ∷ q) s ≡ is_started q s)
-    → is_built_entry (Told a) ≡ true → start_due p (Told a) q ≡ true → start_after_boot p (Told a) q ≡ true → every_moment_right (Told a) q ≡ true → start_known p (Told a) q ≡ true
-    → told_marks (Told a ∷ q) ≡ told_marks q → is_ending (Told a) ≡ false → Loose p st dr q → Loose p st dr (Told a ∷ q)
-loose-one p st dr q a runs starts built due after moment known marks ends h = record {
-  drain = record { running_is = runs ∙ h.drain.running_is; moment_is = h.drain.moment_is };
-  starts = record { started_is = λ s lt. h.starts.started_is s lt ∙ sym (starts s); ready_is = h.starts.ready_is; ended_is = h.starts.ended_is };
-  forms = (built, h.forms);
-  entries = record {
-    fits = (refl, h.entries.fits);
-    starts = (due, h.entries.starts);
-    after_boot = (after, h.entries.after_boot);
-    moments = (moment, h.entries.moments);
-    known_starts = (known, h.entries.known_starts);
-  };
-  started_due = λ s lt here. is_due-grows p q (Told a) s (h.started_due s lt (sym (starts s) ∙ here));
-  marks = marks ∙ h.marks;
-  no_end = ap (λ b. b || has is_ending q) ends ∙ h.no_end;
-  silent = h.silent;
-  earlier = h.earlier;
-  fails = h.fails;
-}
+-- what such an action is
+pub record IsLoose (p : Plan) (m : ℕ) (q : Record) (a : Action) : Type 0 where
+  pub free : is_free m a ≡ true
+  pub drain : is_drain_action a ≡ false
+  pub offer : is_offer_action a ≡ false
+  pub may : MayEnd p q → MayEnd p (Told a ∷ q)
 
-pub loose-told : (p : Plan) (st : StartsData) (dr : DrainData) (q : Record) (a : Action) → is_loose (now q) a ≡ true → Loose p st dr q → Loose p st dr (Told a ∷ q)
-loose-told p st dr q (Fail s) k h = loose-one p st dr q (Fail s) refl (λ t. refl) refl refl refl refl refl refl refl h
-loose-told p st dr q (Bind s i) k h = loose-one p st dr q (Bind s i) refl (λ t. refl) refl refl refl refl refl refl refl h
-loose-told p st dr q (Adopt s i fd) k h = loose-one p st dr q (Adopt s i fd) refl (λ t. refl) refl refl refl refl refl refl refl h
-loose-told p st dr q (Close fd) k h = loose-one p st dr q (Close fd) refl (λ t. refl) refl refl refl refl refl refl refl h
-loose-told p st dr q OpenReceiver k h = loose-one p st dr q OpenReceiver refl (λ t. refl) refl refl refl refl refl refl refl h
-loose-told p st dr q TryReceive k h = loose-one p st dr q TryReceive refl (λ t. refl) refl refl refl refl refl refl refl h
-loose-told p st dr q (Phase Bootstrap ms) k h = loose-one p st dr q (Phase Bootstrap ms) refl (λ t. refl) refl refl refl k refl refl refl h
-loose-told p st dr q (Phase BootstrapComplete ms) k h = loose-one p st dr q (Phase BootstrapComplete ms) refl (λ t. refl) refl refl refl k refl refl refl h
-loose-told p st dr q _ k h = absurd (cc)
+pub loose-is : (p : Plan) (m : ℕ) (q : Record) (a : Action) → is_loose m a ≡ true → IsLoose p m q a
+loose-is p m q (Fail s) k = record { free = refl; drain = refl; offer = refl; may = λ h. record { unpassed = h.unpassed; asks = h.asks } }
+loose-is p m q (Bind s i) k = record { free = refl; drain = refl; offer = refl; may = λ h. record { unpassed = h.unpassed; asks = h.asks } }
+loose-is p m q (Adopt s i fd) k = record { free = refl; drain = refl; offer = refl; may = λ h. record { unpassed = h.unpassed; asks = h.asks } }
+loose-is p m q (Close fd) k = record { free = refl; drain = refl; offer = refl; may = λ h. record { unpassed = h.unpassed; asks = h.asks } }
+loose-is p m q OpenReceiver k = record { free = refl; drain = refl; offer = refl; may = λ h. record { unpassed = h.unpassed; asks = h.asks } }
+loose-is p m q TryReceive k = record { free = refl; drain = refl; offer = refl; may = λ h. record { unpassed = h.unpassed; asks = h.asks } }
+loose-is p m q (Phase Bootstrap ms) k = record { free = k; drain = refl; offer = refl; may = λ h. record { unpassed = h.unpassed; asks = h.asks } }
+loose-is p m q (Phase BootstrapComplete ms) k = record { free = k; drain = refl; offer = refl; may = λ h. record { unpassed = h.unpassed; asks = h.asks } }
+loose-is p m q _ k = absurd (cc)
+
+pub loose-told : (p : Plan) (st : StartsData) (o : OfferData) (dr : DrainData) (q : Record) (a : Action) → is_loose (now q) a ≡ true → Loose p st o dr q → Loose p st o dr (Told a ∷ q)
+loose-told p st o dr q a k h = let is = loose-is p (now q) q a k in record {
+  base = base-told p st q a is.free h.base;
+  drain = drains.stands-told p dr (over_since o.state) q a is.drain h.drain;
+  offer = offers.stands-told p o q a is.offer h.offer;
+}
 
 -- such actions, one after the other
 abbrev pub are_loose : ℕ → List Action → Bool
 are_loose m [] = true
 are_loose m (a ∷ told) = is_loose m a && are_loose m told
 
-pub loose-tell : (p : Plan) (st : StartsData) (dr : DrainData) (q : Record) (told : List Action) → are_loose (now q) told ≡ true → Loose p st dr q → Loose p st dr (tell q told)
-loose-tell p st dr q [] k h = h
-loose-tell p st dr q (a ∷ told) k h =
+pub loose-tell : (p : Plan) (st : StartsData) (o : OfferData) (dr : DrainData) (q : Record) (told : List Action) → are_loose (now q) told ≡ true → Loose p st o dr q → Loose p st o dr (tell q told)
+loose-tell p st o dr q [] k h = h
+loose-tell p st o dr q (a ∷ told) k h =
     let parts = and_parts (is_loose (now q) a) (are_loose (now q) told) k in
-    loose-tell p st dr (Told a ∷ q) told parts.1 (loose-told p st dr q a parts.0 h)
+    loose-tell p st o dr (Told a ∷ q) told parts.1 (loose-told p st o dr q a parts.0 h)
+
+pub may-tell : (p : Plan) (m : ℕ) (q : Record) (told : List Action) → are_loose m told ≡ true → MayEnd p q → MayEnd p (tell q told)
+may-tell p m q [] k h = h
+may-tell p m q (a ∷ told) k h =
+    let parts = and_parts (is_loose m a) (are_loose m told) k in
+    may-tell p m (Told a ∷ q) told parts.1 ((loose-is p m q a parts.0).may h)
 
 -- bootstrapping has begun
 list_any-same : (f g : ℕ → Bool) → ((x : ℕ) → f x ≡ g x) → (xs : List ℕ) → list_any f xs ≡ list_any g xs
@@ -186,17 +252,25 @@ begun-boots p q s lt h =
     (range-any (λ t. has_kind p BootstrapKind t && ((s == t) || is_started q t)) (service_count p) 0 s (omega arith) (omega arith)
     (and_from (has_kind p BootstrapKind s) ((s == s) || is_started q s) h (or_left (s == s) (is_started q s) (eq-eqb s s refl))))
 
-pub begun-told : (p : Plan) (q : Record) (m : ℕ) (a : Action) → is_loose m a ≡ true → has_begun p (Told a ∷ q) ≡ has_begun p q
-begun-told p q m (Fail s) k = refl
-begun-told p q m (Bind s i) k = refl
-begun-told p q m (Adopt s i fd) k = refl
-begun-told p q m (Close fd) k = refl
-begun-told p q m OpenReceiver k = refl
-begun-told p q m TryReceive k = refl
-begun-told p q m (Phase Bootstrap ms) k = refl
-begun-told p q m (Phase BootstrapComplete ms) k = refl
-begun-told p q m _ k = absurd (cc)
+begun-free : (p : Plan) (q : Record) (m : ℕ) (a : Action) → is_free m a ≡ true → has_begun p (Told a ∷ q) ≡ has_begun p q
+begun-free p q m (Fail s) k = refl
+begun-free p q m (Bind s i) k = refl
+begun-free p q m (Adopt s i fd) k = refl
+begun-free p q m (Close fd) k = refl
+begun-free p q m OpenReceiver k = refl
+begun-free p q m TryReceive k = refl
+begun-free p q m Connect k = refl
+begun-free p q m (Send bytes fds) k = refl
+begun-free p q m Broadcast k = refl
+begun-free p q m (Phase x ms) k = refl
+begun-free p q m _ k = absurd (cc)
+
+pub begun-frees : (p : Plan) (q : Record) (m : ℕ) (told : List Action) → are_free m told ≡ true → has_begun p (tell q told) ≡ has_begun p q
+begun-frees p q m [] k = refl
+begun-frees p q m (a ∷ told) k = let parts = and_parts (is_free m a) (are_free m told) k in begun-frees p (Told a ∷ q) m told parts.1 ∙ begun-free p q m a parts.0
 
 pub begun-tell : (p : Plan) (q : Record) (m : ℕ) (told : List Action) → are_loose m told ≡ true → has_begun p (tell q told) ≡ has_begun p q
 begun-tell p q m [] k = refl
-begun-tell p q m (a ∷ told) k = let parts = and_parts (is_loose m a) (are_loose m told) k in begun-tell p (Told a ∷ q) m told parts.1 ∙ begun-told p q m a parts.0
+begun-tell p q m (a ∷ told) k =
+    let parts = and_parts (is_loose m a) (are_loose m told) k in
+    begun-tell p (Told a ∷ q) m told parts.1 ∙ begun-free p q m a (loose-is p m q a parts.0).free

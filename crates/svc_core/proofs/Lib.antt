@@ -7,11 +7,13 @@ pub mod ClosesLemmas
 pub mod OpenLemmas
 pub mod TestedLemmas
 pub mod FinishLemmas
+pub mod LateLemmas
+pub mod EndLemmas
+pub mod AnswerLemmas
 pub mod StepLemmas
+pub mod SignalLemmas
 pub mod CopyLemmas
 pub mod BeginLemmas
-pub mod EndLemmas
-pub mod SignalLemmas
 pub mod FitsLemmas
 pub mod TailLemmas
 pub mod CloseCounts

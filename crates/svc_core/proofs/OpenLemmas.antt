@@ -1,24 +1,22 @@
 -- What a step leaves is right, while the run goes on, and where it ended in its bootstrapping.
-use Rattle.std.proofs.Common.{ℕ, zero, suc, Bool, true, false, ◌||◌, ◌&&◌, ◌==◌, not, inl, inr, List, [], ◌∷◌, ◌≡◌, refl, ap, sym, ◌∙◌, subst, arith, ◌<◌, ◌+◌, length, if◌then◌else◌, nat_lt, MatchBool, slice_index}
-use Rattle.std.specs.Bool.{OnTrue, OnFalse}
-use Rattle.std.specs.List.{list_any}
-use Rattle.std.proofs.lemmas.Bool.{and_parts, or_right, eqb-true, cases_Bool}
-use Rattle.std.proofs.lemmas.Bool.Decides.{Decides-ltb}
+use Rattle.std.proofs.Common.{ℕ, Bool, true, false, ◌||◌, ◌&&◌, not, inl, inr, List, [], ◌∷◌, ◌≡◌, refl, ap, sym, ◌∙◌, subst, arith, ◌<◌, ◌+◌, length, if◌then◌else◌, MatchBool}
+use Rattle.std.specs.Bool.{OnTrue}
+use Rattle.std.proofs.lemmas.Bool.{and_parts, or_right, cases_Bool}
 use Rattle.svc_record.specs.declared.plan.Plan.{Plan}
 use Rattle.svc_record.specs.declared.entry.Entry.{Entry}
 use Rattle.svc_record.specs.declared.entry.Entry.TheVariants.{Got, Told}
 use Rattle.svc_record.specs.declared.action.Action.TheVariants.{Phase}
-use Rattle.svc_record.specs.declared.action.ExecutionPhase.TheVariants.{Running}
 use Rattle.svc_record.specs.declared.action.StepEnd.{StepEnd}
 use Rattle.svc_record.specs.declared.action.StepEnd.TheVariants.{Served, Tested}
-use Rattle.svc_record.specs.Plans.{service_count, endpoints, address}
-use Rattle.svc_record.specs.Record.{Record, now, has, times, is_signal, is_running, from_the_start, EachEntry}
+use Rattle.svc_record.specs.Plans.{service_count, endpoints}
+use Rattle.svc_record.specs.Record.{Record, has, times, is_signal, is_running, from_the_start}
 use Rattle.svc_record.specs.Starts.{is_started, is_due, StartsRight}
-use Rattle.svc_record.specs.Descriptors.{live_numbers_with}
-use Rattle.svc_record.specs.Boot.{BootRight, runs, start_after_boot}
-use Rattle.svc_record.specs.Drain.{phase, marks_if, told_marks, due_marks, every_moment_right, moment_right, is_boot_phase, has_passed, PhasesRight}
+use Rattle.svc_record.specs.Boot.{runs}
+use Rattle.svc_record.specs.Drain.{every_moment_right, moment_right, is_boot_phase, has_passed}
+use Rattle.svc_record.specs.Offer.{one_ask}
 use Rattle.svc_record.specs.Ends.{has_ended, ends_tested, step_end, TestedRight}
-use Rattle.svc_record.specs.Endpoints.{held_numbers, holds, is_one_of, waits, is_held, is_at_work, endpoint_right, endpoint_right_late, EndpointsRight, EndpointsRightLate}
+use Rattle.svc_record.specs.Endpoints.{endpoint_right, endpoint_right_late, EndpointsRight, EndpointsRightLate}
+use Rattle.svc_record.specs.Closes.{is_broadcast}
 use Rattle.svc_record.specs.Right.{Right, OpenRight, EndedRight, PassedRight, in_service}
 use Rattle.svc_record.specs.Validity.{IsInOrder}
 use Rattle.svc_endpoints.specs.EndpointsData.{EndpointsData}
@@ -29,13 +27,19 @@ use Rattle.svc_boot.specs.BootState.{is_refused}
 use Rattle.svc_boot.specs.BootEffects.{end_of, refusal_of}
 use Rattle.svc_boot.specs.BootFacts.{IsBootSettled}
 use Rattle.svc_boot.proofs.BootEnds.{boot-right, tested-is, end-is, ended-is}
+use Rattle.svc_offer.specs.OfferData.{OfferData}
+use Rattle.svc_offer.specs.OfferState.{IsOfferSettled, over_since}
+use Rattle.svc_offer.proofs.OfferRules.{offer-right, one-ask, forward-fits}
+use Rattle.svc_drain.specs.DrainData.{DrainData}
+use Rattle.svc_drain.specs.DrainState.{IsDrainSettled, passes}
+use Rattle.svc_drain.proofs.Passing.{passed-is, marks-right}
+use Rattle.svc_drain.proofs.Broadcasts.{unsignalled-silent}
 use Rattle.svc_core.specs.StartsData.{StartsData}
-use Rattle.svc_core.specs.DrainData.{DrainData}
 use Rattle.svc_core.specs.CoreData.{CoreData, is_on, is_served}
 use Rattle.svc_core.specs.Passes.{EntriesRight, Going, VisitedUpTo, is_tested, may_start}
-use Rattle.svc_core.specs.Stands.{StandsFor, EndedSo, StepRight}
-use Rattle.svc_core.proofs.RecordLemmas.{signal-none, EachEntry-weaker, on_false, to_false, to_true, not_true}
-use Rattle.svc_core.proofs.FormLemmas.{passed-signal, offer-right, retries-right, one-asks, connections-right, connections-known}
+use Rattle.svc_core.specs.Stands.{EndedSo, Answered, StepRight}
+use Rattle.svc_core.proofs.RecordLemmas.{EachEntry-weaker, not_true, signal-none}
+use Rattle.svc_core.proofs.FormLemmas.{connections-right, connections-known}
 use Rattle.svc_core.proofs.StartsLemmas.{count-start}
 use Rattle.svc_core.proofs.PassLemmas.{are-failed}
 
@@ -71,21 +75,8 @@ moment-weaker (Told (Phase x ms)) b h = or_right (is_boot_phase x) (every_moment
 moment-weaker (Told _) b h = h
 moment-weaker (Got e) b h = h
 
--- what holds is held
-some-held : (fd : ℕ) (held : List ℕ) → list_any (λ n. n == fd) held ≡ true → nat_lt 0 (length held) ≡ true
-some-held fd [] h = absurd (cc)
-some-held fd (n ∷ held) h = (Decides-ltb 0 (length (n ∷ held))).1 (omega arith)
-
-one-held : (lives held : List ℕ) → is_one_of lives held ≡ true → nat_lt 0 (length held) ≡ true
-one-held [] held h = absurd (cc)
-one-held (fd ∷ []) held h = some-held fd held h
-one-held (fd ∷ n ∷ more) held h = absurd (cc)
-
-or_weaker : (w h x g : Bool) → (h ≡ true → g ≡ true) → (not w || (h || x)) ≡ true → (not w || (g || x)) ≡ true
-or_weaker w h x g f k = grind (arith, f)
-
-pub right-late : (p : Plan) (q : Record) (s i : ℕ) → endpoint_right p q s i ≡ true → endpoint_right_late p q s i ≡ true
-right-late p q s i h = or_weaker (is_at_work p q s) (holds p q s i) (waits p q s i) (is_held p q s i) (one-held (live_numbers_with p q (address p s i)) (held_numbers p q s i)) h
+not_not : (b : Bool) → not b ≡ true → b ≡ false
+not_not b h = grind arith
 
 when : (c : Bool) (A : Type 0) → (c ≡ true → A) → OnTrue c A
 when true A f = f refl
@@ -99,7 +90,7 @@ module _ (p : Plan) (order : List ℕ) (in_order : IsInOrder p order) (q : Recor
       let at = in_order.each s inside in
       subst (λ t. is_started q t ≡ true) at.2 (visited.due_started at.0 at.1 (subst (λ t. is_due p q t ≡ true) (sym at.2) due))
 
-  starts-right : StartsRight p q
+  pub starts-right : StartsRight p q
   starts-right = record {
     each = λ s inside.
         count-start p q s entries.starts
@@ -107,70 +98,72 @@ module _ (p : Plan) (order : List ℕ) (in_order : IsInOrder p order) (q : Recor
     in_turn = entries.starts;
   }
 
-  endpoints-right : EndpointsRight p q
-  endpoints-right s i inside =
+  endpoints-right : has is_broadcast q ≡ false → EndpointsRight p q
+  endpoints-right none s i inside =
       let at = in_order.each s inside in
-      subst (λ t. i < length (endpoints p t) → endpoint_right p q t i ≡ true) at.2 (visited.right at.0 at.1 i)
+      subst (λ t. i < length (endpoints p t) → endpoint_right p q t i ≡ true) at.2 (visited.right none at.0 at.1 i)
 
-  endpoints-late : EndpointsRightLate p q
-  endpoints-late s i inside within = right-late p q s i (endpoints-right s i inside within)
+  pub endpoints-late : EndpointsRightLate p q
+  endpoints-late s i inside =
+      let at = in_order.each s inside in
+      subst (λ t. i < length (endpoints p t) → endpoint_right_late p q t i ≡ true) at.2 (visited.late at.0 at.1 i)
 
 -- what holds of a record by its parts
-module _ (p : Plan) (st : StartsData) (d : EndpointsData) (b : BootData) (dr : DrainData) (q : Record) (going : Going p st d b dr q) where
-  unpassed : has_passed p q ≡ false
-  unpassed = passed-signal p q going.forms ∙ going.silent
-
-  running-is : has is_running q ≡ dr.running
+module _ (p : Plan) (st : StartsData) (d : EndpointsData) (b : BootData) (o : OfferData) (dr : DrainData) (q : Record) (going : Going p st d b o dr q) where
+  pub running-is : has is_running q ≡ dr.running
   running-is = has-count is_running q dr.running going.drain.running_is
 
-  phases-right : PhasesRight p q
-  phases-right = going.marks ∙ ap (λ r. marks_if r (phase Running ∷ [])) (sym running-is) ∙ sym (rw (unpassed, signal-none q going.silent) refl)
-
-  end-same : step_end p q ≡ end_of p b
-  end-same = end-is p b q going.boot ∙ ap (λ c. if c then Served else end_of p b) unpassed
-
-  ended-same : has_ended p q ≡ (is_tested p b || is_refused b.receiving)
-  ended-same = ended-is p b q going.boot ∙ ap (λ c. c || (is_tested p b || is_refused b.receiving)) unpassed
-
-  tested-same : ends_tested p q ≡ is_tested p b
+  pub tested-same : ends_tested p q ≡ is_tested p b
   tested-same = tested-is p b q going.boot
 
-  -- whatever it is otherwise, it is right where each settled prefix is
-  pub right-of : MatchBool (has_ended p q) (EndedRight p q) (OpenRight p q) → OnTrue (ends_tested p q) (TestedRight p q) → Right p q
-  right-of settled tested = record {
-    fits = going.entries.fits;
-    starts = going.entries.starts;
-    settled = (settled, going.earlier);
-    asks = record { in_turn = going.ends.asks_due; fails = (going.ends.fails, going.fails) };
-    passed = not_true (has_passed p q) (PassedRight p q) unpassed;
-    stronger = record {
-      boots = going.boot.boots_due;
-      tries = going.boot.tries_due;
-      retries = retries-right q going.forms;
-      one_ask = one-asks p q going.forms;
-      tested = tested;
-      closes = going.ends.closes_once;
-      last_step = not_true (has_passed p q) _ unpassed;
-      moments = going.entries.moments;
-      known_starts = going.entries.known_starts;
-      known_asks = going.ends.asks_known;
-      known_connections = connections-known p q going.forms;
-    };
-  }
+  pub running-right : p.daemon ≡ false → dr.running ≡ may_start p b → times is_running q ≡ (if runs p q then 1 else 0)
+  running-right none runs_now = going.drain.running_is ∙ ap (λ c. if c then 1 else 0) (runs_now ∙ sym (rw none (ap (λ c. not p.eager || c) going.boot.begin.complete_is)))
+
+  -- where its waits haven't passed
+  module _ (unpassed : has_passed p q ≡ false) where
+    pub end-same : step_end p q ≡ end_of p b
+    end-same = end-is p b q going.boot ∙ ap (λ c. if c then Served else end_of p b) unpassed
+
+    pub ended-same : has_ended p q ≡ (is_tested p b || is_refused b.receiving)
+    ended-same = ended-is p b q going.boot ∙ ap (λ c. c || (is_tested p b || is_refused b.receiving)) unpassed
+
+    -- whatever it is otherwise, it is right where each settled prefix is
+    pub right-of : one_ask p q ≡ true → MatchBool (has_ended p q) (EndedRight p q) (OpenRight p q) → OnTrue (ends_tested p q) (TestedRight p q) → Right p q
+    right-of asks settled tested = record {
+      fits = going.entries.fits;
+      starts = going.entries.starts;
+      settled = (settled, going.earlier);
+      asks = record { in_turn = going.ends.asks_due; fails = (going.ends.fails, going.fails) };
+      passed = not_true (has_passed p q) (PassedRight p q) unpassed;
+      stronger = record {
+        boots = going.boot.boots_due;
+        tries = going.boot.tries_due;
+        retries = going.offer.retries_due;
+        one_ask = (asks, going.asks);
+        tested = tested;
+        closes = going.ends.closes_once;
+        last_step = not_true (has_passed p q) _ unpassed;
+        moments = going.entries.moments;
+        known_starts = going.entries.known_starts;
+        known_asks = going.ends.asks_known;
+        known_connections = connections-known p q going.forms;
+      };
+    }
 
   -- where the server runs and services may start, they were visited
-  pub open-right : (order : List ℕ) → IsInOrder p order → p.daemon ≡ false → IsBootSettled p b dr.moment → OnTrue (may_start p b) (VisitedUpTo p order (length order) q)
-      → dr.running ≡ may_start p b → OpenRight p q
-  open-right order in_order none settled visited runs_now = record {
-    boot = boot-right p b q going.boot going.begun_is (subst (IsBootSettled p b) going.drain.moment_is settled) none running-right going.entries.after_boot;
-    offer = offer-right p q going.forms;
+  pub open-right : (order : List ℕ) → IsInOrder p order → p.daemon ≡ false → IsBootSettled p b dr.moment → IsDrainSettled dr (over_since o.state) → IsOfferSettled o dr.moment → passes p dr ≡ false
+      → OnTrue (may_start p b) (VisitedUpTo p order (length order) q) → dr.running ≡ may_start p b → OpenRight p q
+  open-right order in_order none settled told asked waits visited runs_now = record {
+    boot = boot-right p b q going.boot going.begun_is (subst (IsBootSettled p b) going.drain.moment_is settled) none (running-right none runs_now) going.entries.after_boot;
+    offer = offer-right p o q going.offer (subst (IsOfferSettled o) going.drain.moment_is asked);
     connections = connections-right p q going.forms;
     closes = going.ends.closes;
     one_live = going.ends.one_live;
     starts = when (from_the_start q) (StartsRight p q) (λ e. starts-right p order in_order q going.entries going.started_due (at e));
-    endpoints = when (in_service q) (EndpointsRight p q) (λ e. endpoints-right p order in_order q going.entries going.started_due (at (and_parts (from_the_start q) (not (has is_signal q)) e).0));
+    endpoints = when (in_service q) (EndpointsRight p q) (λ e. (let parts = and_parts (from_the_start q) (not (has is_signal q)) e in
+        endpoints-right p order in_order q going.entries going.started_due (at parts.0) (unsignalled-silent p dr (over_since o.state) q (going.drain.signal_is ∙ signal-none q (not_not (has is_signal q) parts.1)) going.drain)));
     endpoints_late = when (from_the_start q) (EndpointsRightLate p q) (λ e. endpoints-late p order in_order q going.entries going.started_due (at e));
-    phases = phases-right;
+    phases = marks-right p dr (over_since o.state) q waits told going.drain;
     moments = EachEntry-weaker (λ e before. every_moment_right e before ≡ true) (λ e before. moment_right e before ≡ true) moment-weaker q going.entries.moments;
     no_end = going.no_end;
   }
@@ -181,9 +174,6 @@ module _ (p : Plan) (st : StartsData) (d : EndpointsData) (b : BootData) (dr : D
           on : (c : Bool) (A : Type 0) → c ≡ true → OnTrue c A → A
           on true A e h = h
           on false A e h = absurd (cc)
-
-      running-right : times is_running q ≡ (if runs p q then 1 else 0)
-      running-right = going.drain.running_is ∙ ap (λ c. if c then 1 else 0) (runs_now ∙ sym (rw none (ap (λ c. not p.eager || c) going.boot.begin.complete_is)))
 
 -- bootstrapping doesn't serve
 pub served-not : (p : Plan) (b : BootData) (end : StepEnd) → end ≡ end_of p b → is_served end ≡ false
@@ -215,43 +205,47 @@ ended-end p b off = elim (cases_Bool (p.test && b.begun)) [
     refused Came h = absurd (cc)
 
 -- the run goes on
-pub step-on : (core : CoreData) (q : Record) → IsInOrder core.plan core.order → core.plan.daemon ≡ false → Going core.plan core.starts core.endpoints core.boot core.drain q
-    → IsBootSettled core.plan core.boot core.drain.moment → is_tested core.plan core.boot ≡ false → OnTrue (may_start core.plan core.boot) (VisitedUpTo core.plan core.order (length core.order) q)
-    → core.drain.running ≡ may_start core.plan core.boot → core.end ≡ end_of core.plan core.boot → StepRight core q core.end
-step-on core q in_order none going settled untested visited runs_now end = record {
-  stands = record {
-    drain = going.drain;
-    starts = going.starts;
-    boot = going.boot;
-    endpoints = λ e. going.ends;
-    failed = are-failed core.plan core.endpoints q going.ends;
-    came = going.ends.came_are;
-    closed = λ e. absurd (let unserved = served-not core.plan core.boot core.end end in cc);
-    forms = going.forms;
-    after_boot = going.entries.after_boot;
-    started_due = going.started_due;
-    begun_is = going.begun_is;
-    runs = going.runs;
-    settled = λ e. settled;
-    end_is = end ∙ sym (end-same core.plan core.starts core.endpoints core.boot core.drain q going);
-  };
-  right = right-of core.plan core.starts core.endpoints core.boot core.drain q going
-      (opened (has_ended core.plan q) (EndedRight core.plan q) (OpenRight core.plan q)
-      (ended-same core.plan core.starts core.endpoints core.boot core.drain q going ∙ rw (untested, settled.goes_on) refl)
-      (open-right core.plan core.starts core.endpoints core.boot core.drain q going core.order in_order none settled visited runs_now))
-      (not_true (ends_tested core.plan q) (TestedRight core.plan q) (tested-same core.plan core.starts core.endpoints core.boot core.drain q going ∙ untested));
-  answer = end ∙ sym (end-same core.plan core.starts core.endpoints core.boot core.drain q going);
-}
+pub step-on : (core : CoreData) (q : Record) → IsInOrder core.plan core.order → core.plan.daemon ≡ false → Answered core q → passes core.plan core.drain ≡ false → StepRight core q core.end
+step-on core q in_order none at waits =
+    let going = at.going in
+    let unpassed : has_passed core.plan q ≡ false = passed-is core.plan core.drain (over_since core.offer.state) q going.drain at.drain ∙ waits in
+    record {
+      stands = record {
+        drain = λ e. going.drain;
+        offer = λ e. going.offer;
+        starts = going.starts;
+        boot = going.boot;
+        endpoints = λ e. going.ends;
+        failed = are-failed core.plan core.endpoints q going.ends;
+        came = going.ends.came_are;
+        closed = λ e. absurd (let unserved = served-not core.plan core.boot core.end at.end_is in cc);
+        forms = going.forms;
+        after_boot = going.entries.after_boot;
+        started_due = going.started_due;
+        begun_is = going.begun_is;
+        runs = going.runs;
+        settled = λ e. record { boot = at.settled; drain = at.drain; offer = at.offer; waits = waits };
+        end_is = at.end_is ∙ sym (end-same core.plan core.starts core.endpoints core.boot core.offer core.drain q going unpassed);
+      };
+      right = right-of core.plan core.starts core.endpoints core.boot core.offer core.drain q going unpassed
+          (one-ask core.plan core.offer q going.offer (subst (IsOfferSettled core.offer) going.drain.moment_is at.offer) (forward-fits core.plan q going.entries.fits))
+          (opened (has_ended core.plan q) (EndedRight core.plan q) (OpenRight core.plan q)
+          (ended-same core.plan core.starts core.endpoints core.boot core.offer core.drain q going unpassed ∙ rw (at.untested, at.settled.goes_on) refl)
+          (open-right core.plan core.starts core.endpoints core.boot core.offer core.drain q going core.order in_order none at.settled at.drain at.offer waits at.visited at.runs_now))
+          (not_true (ends_tested core.plan q) (TestedRight core.plan q) (tested-same core.plan core.starts core.endpoints core.boot core.offer core.drain q going ∙ at.untested));
+      answer = at.end_is ∙ sym (end-same core.plan core.starts core.endpoints core.boot core.offer core.drain q going unpassed);
+    }
   where
     opened : (c : Bool) (A B : Type 0) → c ≡ false → B → MatchBool c A B
     opened true A B e h = absurd (cc)
     opened false A B e h = h
 
 -- the run has ended
-pub step-ended : (core : CoreData) (q : Record) → Going core.plan core.starts core.endpoints core.boot core.drain q → is_on core.end ≡ false → core.end ≡ end_of core.plan core.boot → EndedSo core.plan q → StepRight core q core.end
+pub step-ended : (core : CoreData) (q : Record) → Going core.plan core.starts core.endpoints core.boot core.offer core.drain q → is_on core.end ≡ false → core.end ≡ end_of core.plan core.boot → EndedSo core.plan q → StepRight core q core.end
 step-ended core q going off end so = record {
   stands = record {
-    drain = going.drain;
+    drain = λ e. going.drain;
+    offer = λ e. going.offer;
     starts = going.starts;
     boot = going.boot;
     endpoints = λ e. going.ends;
@@ -264,12 +258,12 @@ step-ended core q going off end so = record {
     begun_is = going.begun_is;
     runs = going.runs;
     settled = λ e. absurd (cc);
-    end_is = end ∙ sym (end-same core.plan core.starts core.endpoints core.boot core.drain q going);
+    end_is = end ∙ sym (end-same core.plan core.starts core.endpoints core.boot core.offer core.drain q going so.may_end.unpassed);
   };
-  right = right-of core.plan core.starts core.endpoints core.boot core.drain q going
+  right = right-of core.plan core.starts core.endpoints core.boot core.offer core.drain q going so.may_end.unpassed so.may_end.asks
       (ended (has_ended core.plan q) (EndedRight core.plan q) (OpenRight core.plan q)
-      (ended-same core.plan core.starts core.endpoints core.boot core.drain q going ∙ ended-end core.plan core.boot (sym (ap is_on end) ∙ off)) so.ended) so.tested;
-  answer = end ∙ sym (end-same core.plan core.starts core.endpoints core.boot core.drain q going);
+      (ended-same core.plan core.starts core.endpoints core.boot core.offer core.drain q going so.may_end.unpassed ∙ ended-end core.plan core.boot (sym (ap is_on end) ∙ off)) so.ended) so.tested;
+  answer = end ∙ sym (end-same core.plan core.starts core.endpoints core.boot core.offer core.drain q going so.may_end.unpassed);
 }
   where
     ended : (c : Bool) (A B : Type 0) → c ≡ true → A → MatchBool c A B

@@ -1,8 +1,8 @@
 -- One visit of the pass.
-use Rattle.std.proofs.Common.{ℕ, Bool, true, false, ◌&&◌, ◌||◌, ◌==◌, not, ◌⊎◌, inl, inr, List, [], ◌∷◌, ◌++◌, ◌≡◌, ◌≢◌, refl, ap, sym, ◌∙◌, subst, append_assoc, append-nil, arith, ◌<◌, ◌+◌, length, slice_index, MatchBool, if◌then◌else◌}
+use Rattle.std.proofs.Common.{ℕ, Bool, true, false, ◌&&◌, ◌||◌, ◌==◌, not, ◌⊎◌, inl, inr, List, [], ◌∷◌, ◌++◌, ◌≡◌, ◌≢◌, refl, ap, sym, ◌∙◌, subst, append_assoc, append-nil, arith, ◌<◌, ◌+◌, length, slice_index, MatchBool}
 use Rattle.std.specs.Bool.{OnTrue}
 use Rattle.std.specs.List.{list_all, list_any}
-use Rattle.std.proofs.lemmas.Bool.{eqb-true, and_parts, and_from, or_cases, or_left, or_right, or_parts, eq-eqb, ne_eqb, cases_eq, cases_Bool}
+use Rattle.std.proofs.lemmas.Bool.{eqb-true, and_parts, and_from, or_cases, or_left, or_right, eq-eqb, ne_eqb, cases_eq, cases_Bool}
 use Rattle.std.proofs.lemmas.Bool.Decides.{Decides-ltb}
 use Rattle.svc_graph.specs.declared.plan.Kind.TheVariants.{Bootstrap as BootstrapKind, Plain}
 use Rattle.svc_record.specs.declared.plan.Plan.{Plan}
@@ -12,32 +12,36 @@ use Rattle.svc_record.specs.declared.action.Action.TheVariants.{Start, Bind, Ado
 use Rattle.svc_record.specs.declared.action.ExecutionPhase.TheVariants.{Bootstrap, BootstrapComplete}
 use Rattle.svc_record.specs.Plans.{service_count, endpoints, depends, has_kind}
 use Rattle.svc_record.specs.Record.{Record, now, tell, has, last_step, is_bootstrap_complete}
-use Rattle.svc_record.specs.Starts.{is_started, is_ready, is_due, start_due, is_ready_event, is_ended_event}
+use Rattle.svc_record.specs.Starts.{is_started, is_ready, is_due, is_ready_event, is_ended_event}
 use Rattle.svc_record.specs.Failed.{has_failed}
-use Rattle.svc_record.specs.Endpoints.{endpoint_right}
-use Rattle.svc_record.specs.Boot.{has_begun}
+use Rattle.svc_record.specs.Endpoints.{endpoint_right, endpoint_right_late}
+use Rattle.svc_record.specs.Closes.{is_broadcast}
 use Rattle.svc_record.specs.Right.{is_quiet, is_test_step}
 use Rattle.svc_record.specs.Told.{Tells}
-use Rattle.svc_record.specs.Validity.{IsValid, IsBuilt, IsInOrder, depends_on}
+use Rattle.svc_record.specs.Validity.{IsValid, IsInOrder, depends_on}
 use Rattle.svc_record.proofs.Closing.{tell-append}
 use Rattle.svc_graph.proofs.Lists.{All-listed}
 use Rattle.svc_endpoints.specs.EndpointsData.{EndpointsData}
 use Rattle.svc_endpoints.specs.EndpointsState.{EndpointsStand}
 use Rattle.svc_endpoints.specs.Visits.{IsAskOf, Visited}
 use Rattle.svc_endpoints.proofs.EventLemmas.{stands-told, stands-start as ends-start}
-use Rattle.svc_endpoints.proofs.SharedLemmas.{right-bind, right-adopt, right-start}
+use Rattle.svc_endpoints.proofs.SharedLemmas.{right-bind, right-adopt, right-start, late-bind, late-adopt, late-start}
 use Rattle.svc_boot.specs.BootData.{BootData}
 use Rattle.svc_boot.specs.BootState.{BootStands, has_come}
 use Rattle.svc_boot.specs.BootEffects.{begin_more, begin_told, begun_by, begun_with}
 use Rattle.svc_boot.specs.BootFacts.{has_no_boot_action}
 use Rattle.svc_boot.proofs.Foreign as foreign
+use Rattle.svc_offer.specs.OfferData.{OfferData}
+use Rattle.svc_offer.specs.OfferState.{over_since}
+use Rattle.svc_offer.proofs.Foreign as offers
+use Rattle.svc_drain.specs.DrainData.{DrainData}
+use Rattle.svc_drain.proofs.Foreign as drains
 use Rattle.svc_core.specs.StartsData.{StartsData}
-use Rattle.svc_core.specs.StartsState.{IsStartsSized, StartsStand, AreFailed, is_flagged, starts_now, start_if, start_told}
-use Rattle.svc_core.specs.DrainData.{DrainData}
-use Rattle.svc_core.specs.Passes.{Going, IsBootRipe, VisitedUpTo, TestedAt, PassedUpTo, Passes, Half, Starting, may_start, is_tested, is_boot_service}
-use Rattle.svc_core.proofs.RecordLemmas.{now-tell, to_true, not_true}
-use Rattle.svc_core.proofs.StartsLemmas.{is_due-grows, is_due-start, is_due-tell, starts-is, stands-start}
-use Rattle.svc_core.proofs.GoingLemmas.{Loose, loose-of, loose-tell, going-from, is_loose, are_loose, begun-other, begun-start-grows, begun-boots, begun-tell, no-boot-service}
+use Rattle.svc_core.specs.StartsState.{IsStartsSized, AreFailed, is_flagged, starts_now, start_if, start_told}
+use Rattle.svc_core.specs.Passes.{IsBootRipe, VisitedUpTo, TestedAt, PassedUpTo, Passes, Half, Starting, MayEnd, may_start, is_tested, is_boot_service}
+use Rattle.svc_core.proofs.RecordLemmas.{not_true}
+use Rattle.svc_core.proofs.StartsLemmas.{is_due-grows, is_due-start, starts-is, stands-start}
+use Rattle.svc_core.proofs.GoingLemmas.{Loose, may-tell, loose-of, loose-tell, going-from, are_loose, begun-other, begun-start-grows, begun-boots, begun-tell, no-boot-service}
 
 below_suc : (j k : ℕ) → j < k + 1 → (j < k) ⊎ (j ≡ k)
 below_suc j k h = elim (cases_eq j k) [ inl e ↦ inr e | inr ne ↦ inl (omega arith) ]
@@ -98,6 +102,13 @@ begin-right : (p : Plan) (b : BootData) (m : ℕ) (q : Record) (s i : ℕ) → e
 begin-right p b m q s i h =
     begin-keeps (λ r. endpoint_right p r s i ≡ true) (λ r n k. k) (λ r n k. k) (λ r k. k) (λ r k. k) p b m q h
 
+begin-late : (p : Plan) (b : BootData) (m : ℕ) (q : Record) (s i : ℕ) → endpoint_right_late p q s i ≡ true → endpoint_right_late p (tell q (begin_told p b m)) s i ≡ true
+begin-late p b m q s i h =
+    begin-keeps (λ r. endpoint_right_late p r s i ≡ true) (λ r n k. k) (λ r n k. k) (λ r k. k) (λ r k. k) p b m q h
+
+begin-silent : (p : Plan) (b : BootData) (m : ℕ) (q : Record) → has is_broadcast (tell q (begin_told p b m)) ≡ has is_broadcast q
+begin-silent p b m q = begin-keeps (λ r. has is_broadcast r ≡ has is_broadcast q) (λ r n k. k) (λ r n k. k) (λ r k. k) (λ r k. k) p b m q refl
+
 begin-started : (p : Plan) (b : BootData) (m : ℕ) (q : Record) (s : ℕ) → is_started (tell q (begin_told p b m)) s ≡ is_started q s
 begin-started p b m q s = begin-keeps (λ r. is_started r s ≡ is_started q s) (λ r n k. k) (λ r n k. k) (λ r k. k) (λ r k. k) p b m q refl
 
@@ -132,11 +143,11 @@ ask-others (Bind t i ∷ []) s h = refl
 ask-others (Adopt t i fd ∷ []) s h = refl
 ask-others (_ ∷ _) s h = absurd h
 
-ask-calm : (q : Record) (told : List Action) (s : ℕ) → IsAskOf s told → is_quiet (last_step q) ≡ true → is_quiet (last_step (tell q told)) ≡ true
-ask-calm q [] s a h = h
-ask-calm q (Bind t i ∷ []) s a h = h
-ask-calm q (Adopt t i fd ∷ []) s a h = h
-ask-calm q (_ ∷ _) s a h = absurd a
+ask-quiet : (q : Record) (told : List Action) (s : ℕ) → IsAskOf s told → is_quiet (last_step q) ≡ true → is_quiet (last_step (tell q told)) ≡ true
+ask-quiet q [] s a h = h
+ask-quiet q (Bind t i ∷ []) s a h = h
+ask-quiet q (Adopt t i fd ∷ []) s a h = h
+ask-quiet q (_ ∷ _) s a h = absurd a
 
 ask-started : (q : Record) (s t : ℕ) (told : List Action) → IsAskOf s told → is_started (tell q told) t ≡ is_started q t
 ask-started q s t [] a = refl
@@ -155,6 +166,18 @@ ask-right p q s t i [] a h = h
 ask-right p q s t i (Bind u k ∷ []) a h = right-bind p q u k t i h
 ask-right p q s t i (Adopt u k fd ∷ []) a h = right-adopt p q u k fd t i h
 ask-right p q s t i (_ ∷ _) a h = absurd a
+
+ask-late : (p : Plan) (q : Record) (s t i : ℕ) (told : List Action) → IsAskOf s told → endpoint_right_late p q t i ≡ true → endpoint_right_late p (tell q told) t i ≡ true
+ask-late p q s t i [] a h = h
+ask-late p q s t i (Bind u k ∷ []) a h = late-bind p q u k t i h
+ask-late p q s t i (Adopt u k fd ∷ []) a h = late-adopt p q u k fd t i h
+ask-late p q s t i (_ ∷ _) a h = absurd a
+
+ask-silent : (q : Record) (s : ℕ) (told : List Action) → IsAskOf s told → has is_broadcast (tell q told) ≡ has is_broadcast q
+ask-silent q s [] a = refl
+ask-silent q s (Bind u k ∷ []) a = refl
+ask-silent q s (Adopt u k fd ∷ []) a = refl
+ask-silent q s (_ ∷ _) a = absurd a
 
 -- the beginning, by the flags
 pub begun-now : (p : Plan) (b : BootData) → b.begun ≡ false → (begun_by p b).begun ≡ true
@@ -206,7 +229,7 @@ no_and : (k b : Bool) → (k && not b) ≡ false → k ≡ true → b ≡ true
 no_and k b h e = grind arith
 
 module _ (p : Plan) (valid : IsValid p) (order : List ℕ) (dr : DrainData) (k : ℕ) (place : k < length order) (in_order : IsInOrder p order)
-    (st : StartsData) (d : EndpointsData) (b : BootData) (q : Record) (sized : IsStartsSized p st) (untested : is_tested p b ≡ false) (was : PassedUpTo p order k st d b dr q) where
+    (st : StartsData) (d : EndpointsData) (b : BootData) (o : OfferData) (q : Record) (sized : IsStartsSized p st) (untested : is_tested p b ≡ false) (was : PassedUpTo p order k st d b o dr q) where
   abbrev here : ℕ
   here = slice_index order k
 
@@ -219,7 +242,7 @@ module _ (p : Plan) (valid : IsValid p) (order : List ℕ) (dr : DrainData) (k :
   starts-same : starts_now p st d.failed b.complete here ≡ (not (is_started q here) && is_due p q here)
   starts-same = starts-is p st d.failed b.complete q here valid inside was.going.starts (are-failed p d q was.going.ends) (sym was.going.boot.begin.complete_is)
 
-  wait-half : starts_now p st d.failed b.complete here ≡ false → Half p order k st d b dr q
+  wait-half : starts_now p st d.failed b.complete here ≡ false → Half p order k st d b o dr q
   wait-half e =
       let due : false ≡ (not (is_started q here) && is_due p q here) = sym e ∙ starts-same in
       record {
@@ -233,8 +256,10 @@ module _ (p : Plan) (valid : IsValid p) (order : List ℕ) (dr : DrainData) (k :
               | inr same ↦ subst (λ i. is_started q (slice_index order i) ≡ true) (sym same)
                   (not_started_due (is_started q here) (is_due p q here) due (subst (λ i. is_due p q (slice_index order i) ≡ true) same due_now))
             ];
-        right = λ j lt ne. visited.right j lt;
+        right = λ none j lt ne. visited.right none j lt;
+        late = λ j lt ne. visited.late j lt;
         quiet = was.quiet;
+        calm = was.calm;
       }
 
   -- the service is started
@@ -250,37 +275,49 @@ module _ (p : Plan) (valid : IsValid p) (order : List ℕ) (dr : DrainData) (k :
     apart j lt = ne_eqb here (slice_index order j)
         (λ e. (let started = visited.due_started j lt (subst (λ s. is_due p q s ≡ true) e due) in let same = subst (λ s. is_started q s ≡ false) e fresh in cc))
 
-    start-loose : Loose p (start_if true here st) dr (Told (Start here) ∷ q)
+    -- so the run may end by it
+    may-end : MayEnd p q
+    may-end = elim was.calm [
+      | inl all ↦ absurd (let on = all here inside due in let off = fresh in cc)
+      | inr may ↦ may
+    ]
+
+    start-may : MayEnd p (Told (Start here) ∷ q)
+    start-may = record { unpassed = may-end.unpassed; asks = may-end.asks }
+
+    start-loose : Loose p (start_if true here st) o dr (Told (Start here) ∷ q)
     start-loose = record {
-      drain = record { running_is = was.going.drain.running_is; moment_is = was.going.drain.moment_is };
-      starts = stands-start p st q here sized inside was.going.starts;
-      forms = (refl, was.going.forms);
-      entries = record {
-        fits = (refl, was.going.entries.fits);
-        starts = (rw (fresh, due) refl, was.going.entries.starts);
-        after_boot = (ap (λ c. not p.eager || c) was.going.boot.begin.complete_is ∙ was.may, was.going.entries.after_boot);
-        moments = (refl, was.going.entries.moments);
-        known_starts = ((Decides-ltb here (service_count p)).1 inside, was.going.entries.known_starts);
+      base = record {
+        starts = stands-start p st q here sized inside was.going.starts;
+        forms = (refl, was.going.forms);
+        entries = record {
+          fits = (refl, was.going.entries.fits);
+          starts = (rw (fresh, due) refl, was.going.entries.starts);
+          after_boot = (ap (λ c. not p.eager || c) was.going.boot.begin.complete_is ∙ was.may, was.going.entries.after_boot);
+          moments = (refl, was.going.entries.moments);
+          known_starts = ((Decides-ltb here (service_count p)).1 inside, was.going.entries.known_starts);
+        };
+        started_due = λ t lt on.
+            elim (or_cases (here == t) (is_started q t) on) [
+              | inl e ↦ subst (λ u. is_due p (Told (Start here) ∷ q) u ≡ true) (eqb-true here t e) (is_due-grows p q (Told (Start here)) here due)
+              | inr old ↦ is_due-grows p q (Told (Start here)) t (was.going.started_due t lt old)
+            ];
+        no_end = was.going.no_end;
+        earlier = was.going.earlier;
+        fails = was.going.fails;
+        asks = was.going.asks;
       };
-      started_due = λ t lt on.
-          elim (or_cases (here == t) (is_started q t) on) [
-            | inl e ↦ subst (λ u. is_due p (Told (Start here) ∷ q) u ≡ true) (eqb-true here t e) (is_due-grows p q (Told (Start here)) here due)
-            | inr old ↦ is_due-grows p q (Told (Start here)) t (was.going.started_due t lt old)
-          ];
-      marks = was.going.marks;
-      no_end = was.going.no_end;
-      silent = was.going.silent;
-      earlier = was.going.earlier;
-      fails = was.going.fails;
+      drain = drains.stands-told p dr (over_since o.state) q (Start here) refl was.going.drain;
+      offer = offers.stands-told p o q (Start here) refl was.going.offer;
     }
 
     start-ends : EndpointsStand p d (Told (Start here) ∷ q)
     start-ends = ends-start p d q here was.going.ends
 
     -- a start by which nothing begins
-    plain-half : (has_kind p BootstrapKind here && not b.begun) ≡ false → Half p order k (start_if true here st) d b dr (Told (Start here) ∷ q)
+    plain-half : (has_kind p BootstrapKind here && not b.begun) ≡ false → Half p order k (start_if true here st) d b o dr (Told (Start here) ∷ q)
     plain-half none = record {
-      going = going-from p (start_if true here st) d b dr (Told (Start here) ∷ q) start-loose start-ends (foreign.stands-told p b q (Start here) refl was.going.boot)
+      going = going-from p (start_if true here st) d b o dr (Told (Start here) ∷ q) start-loose start-ends (foreign.stands-told p b q (Start here) refl was.going.boot)
           (elim (cases_Bool (has_kind p BootstrapKind here)) [
             | inl boots ↦ (let begun = no_and (has_kind p BootstrapKind here) b.begun none boots in begun-start-grows p q here (was.going.begun_is ∙ begun) ∙ sym begun)
             | inr other ↦ begun-other p q here other ∙ was.going.begun_is
@@ -295,8 +332,10 @@ module _ (p : Plan) (valid : IsValid p) (order : List ℕ) (dr : DrainData) (k :
                 (visited.due_started j below (sym (is_due-start p q here (slice_index order j) (in_order.after j k (omega arith) place)) ∙ due_now))
             | inr e ↦ or_left (here == slice_index order j) (is_started q (slice_index order j)) (eq-eqb here (slice_index order j) (ap (slice_index order) (sym e)))
           ];
-      right = λ j lt ne i within. right-start p q here (slice_index order j) i (apart j lt) (visited.right j lt i within);
+      right = λ silent j lt ne i within. right-start p q here (slice_index order j) i (apart j lt) (visited.right silent j lt i within);
+      late = λ j lt ne i within. late-start p q here (slice_index order j) i (apart j lt) (visited.late j lt i within);
       quiet = was.quiet;
+      calm = inr start-may;
     }
 
     -- a start with which bootstrapping begins
@@ -333,27 +372,35 @@ module _ (p : Plan) (valid : IsValid p) (order : List ℕ) (dr : DrainData) (k :
           ∙ or_right (here == slice_index order j) (is_started q (slice_index order j))
           (visited.due_started j lt (sym (due-other (slice_index order j) (in_order.inside j (omega arith)) (in_order.after j k (omega arith) place)) ∙ due_now))
 
-      right-earlier : (j : ℕ) → j < k → (i : ℕ) → i < length (endpoints p (slice_index order j)) → endpoint_right p after (slice_index order j) i ≡ true
-      right-earlier j lt i within = begin-right p b dr.moment (Told (Start here) ∷ q) (slice_index order j) i (right-start p q here (slice_index order j) i (apart j lt) (visited.right j lt i within))
+      right-earlier : has is_broadcast after ≡ false → (j : ℕ) → j < k → (i : ℕ) → i < length (endpoints p (slice_index order j)) → endpoint_right p after (slice_index order j) i ≡ true
+      right-earlier silent j lt i within = begin-right p b dr.moment (Told (Start here) ∷ q) (slice_index order j) i
+          (right-start p q here (slice_index order j) i (apart j lt) (visited.right (sym (begin-silent p b dr.moment (Told (Start here) ∷ q)) ∙ silent) j lt i within))
+
+      late-earlier : (j : ℕ) → j < k → (i : ℕ) → i < length (endpoints p (slice_index order j)) → endpoint_right_late p after (slice_index order j) i ≡ true
+      late-earlier j lt i within = begin-late p b dr.moment (Told (Start here) ∷ q) (slice_index order j) i (late-start p q here (slice_index order j) i (apart j lt) (visited.late j lt i within))
 
       here-on : is_started after here ≡ true
       here-on = on-after here ∙ or_left (here == here) (is_started q here) (eq-eqb here here refl)
+
+      begun-may : MayEnd p after
+      begun-may = may-tell p dr.moment (Told (Start here) ∷ q) (begin_told p b dr.moment) (begin-loose p b dr.moment) start-may
 
       tested-at : is_tested p (begun_by p b) ≡ true → TestedAt p order k after
       tested-at e = record {
         place = place;
         boots = and_from (has_kind p BootstrapKind here) (is_started after here) boots here-on;
         first = λ j lt. not-here (slice_index order j) (in_order.inside j (omega arith)) (apart j lt);
-        visited = record { due_started = on-earlier; right = right-earlier };
+        visited = record { due_started = on-earlier; right = right-earlier; late = late-earlier };
         last = subst (λ told. is_test_step (now (tell (Told (Start here) ∷ q) told)) (last_step (tell (Told (Start here) ∷ q) told)) ≡ true)
             (sym (tested-told p b dr.moment unbegun (tested-tests p (begun_by p b) e)))
             (and_from (dr.moment == now q) (is_quiet (last_step q)) (eq-eqb dr.moment (now q) was.going.drain.moment_is) (was.quiet unbegun));
+        may_end = begun-may;
       }
 
-      boot-half : Half p order k (start_if true here st) d (begun_by p b) dr after
+      boot-half : Half p order k (start_if true here st) d (begun_by p b) o dr after
       boot-half = record {
-        going = going-from p (start_if true here st) d (begun_by p b) dr after
-            (loose-tell p (start_if true here st) dr (Told (Start here) ∷ q) (begin_told p b dr.moment)
+        going = going-from p (start_if true here st) d (begun_by p b) o dr after
+            (loose-tell p (start_if true here st) o dr (Told (Start here) ∷ q) (begin_told p b dr.moment)
             (subst (λ m. are_loose m (begin_told p b dr.moment) ≡ true) was.going.drain.moment_is (begin-loose p b dr.moment)) start-loose)
             (begin-ends p d b dr.moment (Told (Start here) ∷ q) start-ends) stand
             (begun-tell p (Told (Start here) ∷ q) dr.moment (begin_told p b dr.moment) (begin-loose p b dr.moment) ∙ begun-boots p q here inside boots ∙ sym (begun-now p b unbegun))
@@ -366,8 +413,10 @@ module _ (p : Plan) (valid : IsValid p) (order : List ℕ) (dr : DrainData) (k :
               | inl below ↦ on-earlier j below due_now
               | inr e ↦ subst (λ i. is_started after (slice_index order i) ≡ true) (sym e) here-on
             ];
-        right = λ j lt ne. right-earlier j lt;
+        right = λ silent j lt ne. right-earlier silent j lt;
+        late = λ j lt ne. late-earlier j lt;
         quiet = λ e. absurd (let begun = begun-now p b unbegun in cc);
+        calm = inr begun-may;
       }
         where
           when : (c : Bool) (A : Type 0) → (c ≡ true → A) → OnTrue c A
@@ -381,7 +430,7 @@ pub starting-none : (p : Plan) → IsValid p → (order : List ℕ) (dr : DrainD
 starting-none p valid order dr k place in_order st d b before after sized untested e told = record {
   told = [];
   appended = told;
-  kept = λ q was. wait-half p valid order dr k place in_order st d b q sized untested was (sym e);
+  kept = λ o q was. wait-half p valid order dr k place in_order st d b o q sized untested was (sym e);
 }
 
 pub starting-plain : (p : Plan) → IsValid p → (order : List ℕ) (dr : DrainData) (k : ℕ) → k < length order → IsInOrder p order → (st : StartsData) (d : EndpointsData) (b : BootData) (before after : List Action)
@@ -391,7 +440,7 @@ pub starting-plain : (p : Plan) → IsValid p → (order : List ℕ) (dr : Drain
 starting-plain p valid order dr k place in_order st d b before after sized untested e none told = record {
   told = Start (slice_index order k) ∷ [];
   appended = told;
-  kept = λ q was. plain-half p valid order dr k place in_order st d b q sized untested was (sym e) none;
+  kept = λ o q was. plain-half p valid order dr k place in_order st d b o q sized untested was (sym e) none;
 }
 
 pub starting-boot : (p : Plan) → IsValid p → (order : List ℕ) (dr : DrainData) (k : ℕ) → k < length order → IsInOrder p order → (st : StartsData) (d : EndpointsData) (b : BootData) (before mid after : List Action)
@@ -402,7 +451,7 @@ pub starting-boot : (p : Plan) → IsValid p → (order : List ℕ) (dr : DrainD
 starting-boot p valid order dr k place in_order st d b before mid after sized untested e boots unbegun first next stands = record {
   told = Start (slice_index order k) ∷ begin_told p b dr.moment;
   appended = next ∙ ap (λ w. w ++ begin_told p b dr.moment) first ∙ append_assoc before (Start (slice_index order k) ∷ []) (begin_told p b dr.moment);
-  kept = λ q was. boot-half p valid order dr k place in_order st d b q sized untested was (sym e) boots unbegun
+  kept = λ o q was. boot-half p valid order dr k place in_order st d b o q sized untested was (sym e) boots unbegun
       (stands (Told (Start (slice_index order k)) ∷ q) (foreign.stands-told p b q (Start (slice_index order k)) refl was.going.boot));
 }
 
@@ -418,11 +467,11 @@ none-begins p valid order dr k place in_order st st' d b false before after size
     rw same (starting-none p valid order dr k place in_order st d b before after sized untested due told)
 
 -- the second half: an ask if there is one to make
-ask-whole : (p : Plan) (order : List ℕ) (k : ℕ) (st : StartsData) (d d' : EndpointsData) (b : BootData) (dr : DrainData) (q : Record) (told : List Action) → is_tested p b ≡ false
-    → IsAskOf (slice_index order k) told → Visited p d' (slice_index order k) q told → Half p order k st d b dr q → PassedUpTo p order (k + 1) st d' b dr (tell q told)
-ask-whole p order k st d d' b dr q told untested ask visited half = record {
-  going = going-from p st d' b dr (tell q told)
-      (loose-tell p st dr q told (ask-loose (slice_index order k) (now q) told ask) (loose-of p st d b dr q half.going))
+ask-whole : (p : Plan) (order : List ℕ) (k : ℕ) (st : StartsData) (d d' : EndpointsData) (b : BootData) (o : OfferData) (dr : DrainData) (q : Record) (told : List Action) → is_tested p b ≡ false
+    → IsAskOf (slice_index order k) told → Visited p d' (slice_index order k) q told → Half p order k st d b o dr q → PassedUpTo p order (k + 1) st d' b o dr (tell q told)
+ask-whole p order k st d d' b o dr q told untested ask visited half = record {
+  going = going-from p st d' b o dr (tell q told)
+      (loose-tell p st o dr q told (ask-loose (slice_index order k) (now q) told ask) (loose-of p st d b o dr q half.going))
       visited.stands
       (foreign.stands-tell p b q told (ask-others told (slice_index order k) ask) half.going.boot)
       (begun-tell p q (now q) told (ask-loose (slice_index order k) (now q) told ask) ∙ half.going.begun_is)
@@ -431,15 +480,29 @@ ask-whole p order k st d d' b dr q told untested ask visited half = record {
   ripe = half.ripe;
   visited = as-visited (is_tested p b) ((j : ℕ) × TestedAt p order j (tell q told)) (VisitedUpTo p order (k + 1) (tell q told)) untested (record {
     due_started = λ j lt due. ask-started q (slice_index order k) (slice_index order j) told ask ∙ half.due_started j lt (sym (ask-due p q (slice_index order k) (slice_index order j) told ask) ∙ due);
-    right = λ j lt.
+    right = λ silent j lt.
         elim (cases_eq (slice_index order j) (slice_index order k)) [
-          | inl same ↦ subst (λ u. (i : ℕ) → i < length (endpoints p u) → endpoint_right p (tell q told) u i ≡ true) (sym same) visited.right
-          | inr ne ↦ (λ i within. ask-right p q (slice_index order k) (slice_index order j) i told ask
-              (half.right j (elim (below_suc j k lt) [ inl less ↦ less | inr e ↦ absurd (ne (ap (slice_index order) e)) ]) ne i within))
+          | inl same ↦ subst (λ u. (i : ℕ) → i < length (endpoints p u) → endpoint_right p (tell q told) u i ≡ true) (sym same) (visited.right (before silent))
+          | inr ne ↦ (λ i within. ask-right p q (slice_index order k) (slice_index order j) i told ask (half.right (before silent) j (less j lt ne) ne i within))
+        ];
+    late = λ j lt.
+        elim (cases_eq (slice_index order j) (slice_index order k)) [
+          | inl same ↦ subst (λ u. (i : ℕ) → i < length (endpoints p u) → endpoint_right_late p (tell q told) u i ≡ true) (sym same) visited.right_late
+          | inr ne ↦ (λ i within. ask-late p q (slice_index order k) (slice_index order j) i told ask (half.late j (less j lt ne) ne i within))
         ];
   });
-  quiet = λ e. ask-calm q told (slice_index order k) ask (half.quiet e);
+  quiet = λ e. ask-quiet q told (slice_index order k) ask (half.quiet e);
+  calm = elim half.calm [
+    | inl all ↦ inl (λ s lt due. ask-started q (slice_index order k) s told ask ∙ all s lt (sym (ask-due p q (slice_index order k) s told ask) ∙ due))
+    | inr may ↦ inr (may-tell p (now q) q told (ask-loose (slice_index order k) (now q) told ask) may)
+  ];
 }
+  where
+    before : has is_broadcast (tell q told) ≡ false → has is_broadcast q ≡ false
+    before silent = sym (ask-silent q (slice_index order k) told ask) ∙ silent
+
+    less : (j : ℕ) → j < k + 1 → slice_index order j ≢ slice_index order k → j < k
+    less j lt ne = elim (below_suc j k lt) [ inl below ↦ below | inr e ↦ absurd (ne (ap (slice_index order) e)) ]
 
 -- one visit: both halves
 pub visit-passes : (p : Plan) (order : List ℕ) (dr : DrainData) (k : ℕ) → k < length order → IsInOrder p order → (st st' : StartsData) (d d' : EndpointsData) (b b' : BootData) (before mid after : List Action)
@@ -450,11 +513,11 @@ pub visit-passes : (p : Plan) (order : List ℕ) (dr : DrainData) (k : ℕ) → 
 visit-passes p order dr k place in_order st st' d d' b b' before mid after untested first next = record {
   told = first.told ++ next.told;
   appended = next.appended ∙ ap (λ w. w ++ next.told) first.appended ∙ append_assoc before first.told next.told;
-  kept = λ q was. (
-      let half = first.kept q was in
+  kept = λ o q was. (
+      let half = first.kept o q was in
       let on = half.going.starts.started_is (slice_index order k) (in_order.inside k place) in
-      subst (λ r. PassedUpTo p order (k + 1) st' d' b' dr r) (sym (tell-append q first.told next.told))
-      (ask-whole p order k st' d d' b' dr (tell q first.told) next.told untested next.kept.0
+      subst (λ r. PassedUpTo p order (k + 1) st' d' b' o dr r) (sym (tell-append q first.told next.told))
+      (ask-whole p order k st' d d' b' o dr (tell q first.told) next.told untested next.kept.0
       (next.kept.1 (tell q first.told) half.going.drain.moment_is on half.going.ends) half));
 }
 
@@ -464,13 +527,14 @@ pub visit-tests : (p : Plan) (order : List ℕ) (dr : DrainData) (k : ℕ) (st s
 visit-tests p order dr k st st' d b b' before after tested first = record {
   told = first.told;
   appended = first.appended;
-  kept = λ q was. (let half = first.kept q was in record {
+  kept = λ o q was. (let half = first.kept o q was in record {
     going = half.going;
     may = half.may;
     ripe = half.ripe;
     visited = as-tested (is_tested p b') ((j : ℕ) × TestedAt p order j (tell q first.told)) (VisitedUpTo p order (k + 1) (tell q first.told)) tested
         (k, on (is_tested p b') (TestedAt p order k (tell q first.told)) tested half.tested);
     quiet = half.quiet;
+    calm = half.calm;
   });
 }
   where
@@ -480,7 +544,7 @@ visit-tests p order dr k st st' d b b' before after tested first = record {
 
 -- no visit
 pub passes-none : (p : Plan) (order : List ℕ) (dr : DrainData) (k : ℕ) (st : StartsData) (d : EndpointsData) (b : BootData) (before : List Action) → before ≡ before ++ [] → Passes p order dr k k st st d d b b before before
-passes-none p order dr k st d b before e = record { told = []; appended = e; kept = λ q was. was }
+passes-none p order dr k st d b before e = record { told = []; appended = e; kept = λ o q was. was }
 
 -- a pass that has ended stays where it is
 pub passes-ended : (p : Plan) (order : List ℕ) (dr : DrainData) (i k : ℕ) (st st' : StartsData) (d d' : EndpointsData) (b b' : BootData) (before after : List Action)
@@ -488,12 +552,13 @@ pub passes-ended : (p : Plan) (order : List ℕ) (dr : DrainData) (i k : ℕ) (s
 passes-ended p order dr i k st st' d d' b b' before after tested done = record {
   told = done.told;
   appended = done.appended;
-  kept = λ q was. (let up = done.kept q was in record {
+  kept = λ o q was. (let up = done.kept o q was in record {
     going = up.going;
     may = up.may;
     ripe = up.ripe;
     visited = stay (is_tested p b') ((j : ℕ) × TestedAt p order j (tell q done.told)) (VisitedUpTo p order k (tell q done.told)) (VisitedUpTo p order (k + 1) (tell q done.told)) tested up.visited;
     quiet = up.quiet;
+    calm = up.calm;
   });
 }
   where
@@ -511,5 +576,5 @@ pub passes-then : (p : Plan) (order : List ℕ) (dr : DrainData) (i j k : ℕ) (
 passes-then p order dr i j k st0 st1 st2 d0 d1 d2 b0 b1 b2 a b c first next = record {
   told = first.told ++ next.told;
   appended = next.appended ∙ ap (λ w. w ++ next.told) first.appended ∙ append_assoc a first.told next.told;
-  kept = λ q was. subst (λ r. PassedUpTo p order k st2 d2 b2 dr r) (sym (tell-append q first.told next.told)) (next.kept (tell q first.told) (first.kept q was));
+  kept = λ o q was. subst (λ r. PassedUpTo p order k st2 d2 b2 o dr r) (sym (tell-append q first.told next.told)) (next.kept o (tell q first.told) (first.kept o q was));
 }

@@ -1,14 +1,15 @@
 -- Laws on records and what is told in them.
-use Rattle.std.proofs.Common.{ℕ, Bool, true, false, ◌||◌, inl, inr, List, [], ◌∷◌, ◌++◌, ◌≡◌, refl, ap, ◌∙◌, Some, None, ◌+◌, if◌then◌else◌}
+use Rattle.std.proofs.Common.{ℕ, Bool, true, false, ◌||◌, List, [], ◌∷◌, ◌≡◌, refl, ap, ◌∙◌, Some, None, ◌+◌, if◌then◌else◌}
+use Rattle.std.specs.Prelude.{Option, is_some}
 use Rattle.std.specs.Bool.{OnTrue, OnFalse}
-use Rattle.std.proofs.lemmas.Bool.{or_right, cases_Bool}
-use Rattle.svc_record.specs.declared.plan.Plan.{Plan}
+use Rattle.std.proofs.lemmas.Bool.{or_right}
 use Rattle.svc_record.specs.declared.entry.Entry.{Entry}
 use Rattle.svc_record.specs.declared.entry.Entry.TheVariants.{Got, Told}
 use Rattle.svc_record.specs.declared.action.Action.{Action}
-use Rattle.svc_record.specs.declared.action.Action.TheVariants.{Start, Fail, Bind, Adopt, Close}
+use Rattle.svc_record.specs.declared.action.Action.TheVariants.{Fail, Close}
 use Rattle.svc_record.specs.declared.event.Event.TheVariants.{Signal}
-use Rattle.svc_record.specs.Record.{Record, has, times, tell, now, signal_of, is_signal, EachEntry, EachEarlier}
+use Rattle.svc_record.specs.declared.event.ShutdownSignal.{ShutdownSignal}
+use Rattle.svc_record.specs.Record.{Record, has, times, tell, now, signal_of, first_or, is_signal, EachEntry, EachEarlier}
 use Rattle.svc_record.specs.Drain.{told_marks}
 use Rattle.svc_record.specs.Told.{IsGivingUp}
 
@@ -45,6 +46,17 @@ signal-none [] h = refl
 signal-none (Got (Signal kind) ∷ q) h = absurd (cc)
 signal-none (Got e ∷ q) h = signal-none q h
 signal-none (Told a ∷ q) h = signal-none q h
+
+first-some : (x : Option ShutdownSignal) (kind : ShutdownSignal) → true ≡ is_some (first_or x kind)
+first-some (Some earlier) kind = refl
+first-some None kind = refl
+
+-- a signal came exactly where there is a first one
+pub signal-is : (q : Record) → has is_signal q ≡ is_some (signal_of q)
+signal-is [] = refl
+signal-is (Got (Signal kind) ∷ q) = first-some (signal_of q) kind
+signal-is (Got e ∷ q) = signal-is q
+signal-is (Told a ∷ q) = signal-is q
 
 -- a test that failures and closes fail doesn't see them
 pub has-giving : (test : Entry → Bool) → ((s : ℕ) → test (Told (Fail s)) ≡ false) → ((fd : ℕ) → test (Told (Close fd)) ≡ false)

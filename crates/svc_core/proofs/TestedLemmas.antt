@@ -1,31 +1,28 @@
 -- A run that was tested ended as is right.
-use Rattle.std.proofs.Common.{ℕ, zero, suc, Bool, true, false, ◌||◌, ◌&&◌, ◌==◌, not, inl, inr, List, [], ◌∷◌, ◌≡◌, refl, ap, sym, ◌∙◌, subst, arith, ◌<◌, ◌≤◌, ◌+◌, length, take, slice_index, slice_index_or, if◌then◌else◌, MatchBool}
+use Rattle.std.proofs.Common.{ℕ, zero, suc, Bool, true, false, ◌==◌, inl, inr, List, [], ◌∷◌, ◌≡◌, refl, ap, sym, ◌∙◌, subst, arith, ◌<◌, ◌≤◌, length, take, slice_index, if◌then◌else◌}
 use Rattle.std.specs.Bool.{OnTrue, OnFalse}
 use Rattle.std.specs.List.{list_any}
 use Rattle.std.proofs.lemmas.List.{get_or-take}
-use Rattle.std.proofs.lemmas.Bool.{and_parts, eqb-true, or_cases, cases_Bool, cases_lt}
-use Rattle.svc_graph.specs.declared.plan.Kind.TheVariants.{Bootstrap as BootstrapKind}
+use Rattle.std.proofs.lemmas.Bool.{and_parts, eqb-true, or_cases, cases_lt}
 use Rattle.svc_record.specs.declared.plan.Plan.{Plan}
-use Rattle.svc_record.specs.Plans.{service_count, endpoints, has_kind}
-use Rattle.svc_record.specs.Record.{Record, has, times, is_bootstrap}
-use Rattle.svc_record.specs.Starts.{is_started, is_due, is_start, startup_order}
-use Rattle.svc_record.specs.Closes.{ClosesRight}
-use Rattle.svc_record.specs.Ends.{before_boot, visited_services, is_visited, ends_tested, has_ended_early, TestedRight}
-use Rattle.svc_record.specs.Endpoints.{endpoint_right, endpoint_right_late}
-use Rattle.svc_record.specs.Right.{EndedRight}
+use Rattle.svc_record.specs.Plans.{service_count, endpoints}
+use Rattle.svc_record.specs.Record.{Record, times}
+use Rattle.svc_record.specs.Starts.{is_started, is_due, is_start}
+use Rattle.svc_record.specs.Ends.{before_boot, is_visited, ends_tested, has_ended_early, TestedRight}
+use Rattle.svc_record.specs.Endpoints.{endpoint_right_late}
 use Rattle.svc_record.specs.Validity.{IsInOrder, IsStartupOrder}
 use Rattle.svc_record.proofs.StartupLemmas.{startup-is, take-within}
 use Rattle.svc_endpoints.specs.EndpointsData.{EndpointsData}
 use Rattle.svc_boot.specs.BootData.{BootData}
 use Rattle.svc_boot.specs.BootState.{is_refused}
-use Rattle.svc_boot.proofs.BootEnds.{tested-is, early-is}
+use Rattle.svc_boot.proofs.BootEnds.{early-is}
+use Rattle.svc_offer.specs.OfferData.{OfferData}
+use Rattle.svc_drain.specs.DrainData.{DrainData}
 use Rattle.svc_core.specs.StartsData.{StartsData}
-use Rattle.svc_core.specs.DrainData.{DrainData}
-use Rattle.svc_core.specs.Passes.{Going, TestedAt, VisitedUpTo, is_tested, is_boot_service}
+use Rattle.svc_core.specs.Passes.{Going, TestedAt, is_tested, is_boot_service}
 use Rattle.svc_core.specs.Stands.{EndedSo}
 use Rattle.svc_core.proofs.RecordLemmas.{not_true}
 use Rattle.svc_core.proofs.StartsLemmas.{count-start}
-use Rattle.svc_core.proofs.OpenLemmas.{right-late}
 
 -- what stands before the first service that bootstraps
 record IsBefore (p : Plan) (q : Record) (xs : List ℕ) (s : ℕ) : Type 0 where
@@ -65,8 +62,8 @@ is-before : (p : Plan) (q : Record) (xs : List ℕ) (s : ℕ) → list_any (λ n
 is-before p q [] s h = absurd (cc)
 is-before p q (x ∷ xs) s h = before-cons p q x xs s (is_boot_service p q x) refl (is-before p q xs s) h
 
-module _ (p : Plan) (order : List ℕ) (least : IsStartupOrder p order) (in_order : IsInOrder p order) (st : StartsData) (d : EndpointsData) (b : BootData) (dr : DrainData) (q : Record)
-    (going : Going p st d b dr q) (k : ℕ) (at : TestedAt p order k q) where
+module _ (p : Plan) (order : List ℕ) (least : IsStartupOrder p order) (in_order : IsInOrder p order) (st : StartsData) (d : EndpointsData) (b : BootData) (o : OfferData) (dr : DrainData) (q : Record)
+    (going : Going p st d b o dr q) (k : ℕ) (at : TestedAt p order k q) where
   -- a service that was visited stands before that place
   visited-place : (s : ℕ) → is_visited p q s ≡ true → (j : ℕ) × (j < k) × (slice_index order j ≡ s)
   visited-place s h =
@@ -97,7 +94,7 @@ module _ (p : Plan) (order : List ℕ) (least : IsStartupOrder p order) (in_orde
   late : (s i : ℕ) → is_visited p q s ≡ true → i < length (endpoints p s) → endpoint_right_late p q s i ≡ true
   late s i h within =
       let found = visited-place s h in
-      right-late p q s i (subst (λ n. i < length (endpoints p n) → endpoint_right p q n i ≡ true) found.2 (at.visited.right found.0 found.1 i) within)
+      subst (λ n. i < length (endpoints p n) → endpoint_right_late p q n i ≡ true) found.2 (at.visited.late found.0 found.1 i) within
 
   on_false : (c : Bool) (A : Type 0) → A → OnFalse c A
   on_false true A a = tt
@@ -120,4 +117,5 @@ module _ (p : Plan) (order : List ℕ) (least : IsStartupOrder p order) (in_orde
       starts = on_false p.eager _ counted;
       endpoints = on_false p.eager _ late;
     });
+    may_end = at.may_end;
   }

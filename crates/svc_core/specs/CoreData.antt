@@ -1,5 +1,5 @@
 -- What contracts see of a core.
-use Rattle.std.specs.Prelude.{ℕ, Bool, true, false, ◌≡◌, List}
+use Rattle.std.specs.Prelude.{ℕ, Bool, true, false, List}
 use Rattle.svc_record.specs.declared.plan.Plan.{Plan}
 use Rattle.svc_record.specs.declared.action.StepEnd.{StepEnd}
 use Rattle.svc_record.specs.declared.action.StepEnd.TheVariants.{On, Served}
@@ -7,9 +7,10 @@ use Rattle.svc_record.specs.Validity.{IsValid, IsBuilt, IsStartupOrder, IsInOrde
 use Rattle.svc_endpoints.specs.EndpointsData.{EndpointsData}
 use Rattle.svc_endpoints.specs.EndpointsState.{IsEndpointsSized}
 use Rattle.svc_boot.specs.BootData.{BootData}
+use Rattle.svc_offer.specs.OfferData.{OfferData}
+use Rattle.svc_drain.specs.DrainData.{DrainData}
 use Rattle.svc_core.specs.StartsData.{StartsData}
 use Rattle.svc_core.specs.StartsState.{IsStartsSized}
-use Rattle.svc_core.specs.DrainData.{DrainData}
 
 -- the plan, the services in their startup order, the parts, and what the last step left of the run
 pub record CoreData : Type 0 where
@@ -18,6 +19,7 @@ pub record CoreData : Type 0 where
   pub starts : StartsData
   pub endpoints : EndpointsData
   pub boot : BootData
+  pub offer : OfferData
   pub drain : DrainData
   pub end : StepEnd
 
@@ -30,6 +32,10 @@ is_on _ = false
 abbrev pub is_served : StepEnd → Bool
 is_served Served = true
 is_served _ = false
+
+-- the core with this end
+abbrev pub with_end : StepEnd → CoreData → CoreData
+with_end end core = record { plan = core.plan; order = core.order; starts = core.starts; endpoints = core.endpoints; boot = core.boot; offer = core.offer; drain = core.drain; end = end }
 
 -- the order and the parts fit the plan
 pub record IsFormed (p : Plan) (order : List ℕ) (st : StartsData) (d : EndpointsData) : Type 0 where

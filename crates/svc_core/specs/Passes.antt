@@ -1,17 +1,18 @@
 -- What a pass over the services keeps.
-use Rattle.std.specs.Prelude.{ℕ, Bool, true, false, not, ◌≡◌, ◌≢◌, ◌<◌, ◌+◌, ◌||◌, ◌&&◌, List, [], ◌∷◌, length, slice_index, MatchBool, if◌then◌else◌}
+use Rattle.std.specs.Prelude.{ℕ, Bool, true, false, not, ◌≡◌, ◌≢◌, ◌<◌, ◌+◌, ◌||◌, ◌&&◌, ◌⊎◌, List, length, slice_index, MatchBool, if◌then◌else◌}
 use Rattle.std.specs.Bool.{OnTrue}
 use Rattle.svc_graph.specs.declared.plan.Kind.TheVariants.{Bootstrap}
 use Rattle.svc_record.specs.declared.plan.Plan.{Plan}
 use Rattle.svc_record.specs.declared.action.Action.{Action}
-use Rattle.svc_record.specs.declared.action.ExecutionPhase.TheVariants.{Running}
 use Rattle.svc_record.specs.Plans.{service_count, endpoints, has_kind}
-use Rattle.svc_record.specs.Record.{Record, now, tell, has, last_step, is_signal, EachEntry, EachEarlier}
+use Rattle.svc_record.specs.Record.{Record, now, tell, has, last_step, EachEntry, EachEarlier}
 use Rattle.svc_record.specs.Starts.{is_started, is_due, start_due, start_known}
-use Rattle.svc_record.specs.Endpoints.{endpoint_right}
+use Rattle.svc_record.specs.Endpoints.{endpoint_right, endpoint_right_late}
+use Rattle.svc_record.specs.Closes.{is_broadcast}
 use Rattle.svc_record.specs.AskRules.{FailsRight}
 use Rattle.svc_record.specs.Boot.{has_begun, start_after_boot}
-use Rattle.svc_record.specs.Drain.{phase, marks_if, told_marks, is_ending, every_moment_right}
+use Rattle.svc_record.specs.Drain.{is_ending, every_moment_right, has_passed}
+use Rattle.svc_record.specs.Offer.{one_ask}
 use Rattle.svc_record.specs.Fits.{event_fits}
 use Rattle.svc_record.specs.Right.{SettledRight, is_quiet, is_test_step}
 use Rattle.svc_record.specs.Told.{Tells}
@@ -19,10 +20,12 @@ use Rattle.svc_endpoints.specs.EndpointsData.{EndpointsData}
 use Rattle.svc_endpoints.specs.EndpointsState.{EndpointsStand}
 use Rattle.svc_boot.specs.BootData.{BootData}
 use Rattle.svc_boot.specs.BootState.{BootStands, is_refused, is_through}
+use Rattle.svc_offer.specs.OfferData.{OfferData}
+use Rattle.svc_offer.specs.OfferState.{OfferStands, over_since}
+use Rattle.svc_drain.specs.DrainData.{DrainData}
+use Rattle.svc_drain.specs.DrainState.{DrainStands}
 use Rattle.svc_core.specs.StartsData.{StartsData}
 use Rattle.svc_core.specs.StartsState.{StartsStand}
-use Rattle.svc_core.specs.DrainData.{DrainData}
-use Rattle.svc_core.specs.DrainState.{DrainStand}
 use Rattle.svc_core.specs.Forms.{HasBuiltForms}
 
 -- each event, start and phase is right, with what stands before it
@@ -46,9 +49,10 @@ pub record IsBootRipe (p : Plan) (b : BootData) : Type 0 where
   pub goes_on : is_refused b.receiving ≡ false
   pub complete_is : b.complete ≡ is_through p b
 
--- what holds of the parts all through a step, before a signal: they stand for q; each entry is right; what is started is due; bootstrapping has begun where it was to; and what stands before each event is right
-pub record Going (p : Plan) (st : StartsData) (d : EndpointsData) (b : BootData) (dr : DrainData) (q : Record) : Type 0 where
-  pub drain : DrainStand dr q
+-- what holds of the parts all through a step: they stand for q; each entry is right; what is started is due; bootstrapping has begun where it was to; the run hasn't told its end; and what stands before each event is right
+pub record Going (p : Plan) (st : StartsData) (d : EndpointsData) (b : BootData) (o : OfferData) (dr : DrainData) (q : Record) : Type 0 where
+  pub drain : DrainStands p dr (over_since o.state) q
+  pub offer : OfferStands p o q
   pub starts : StartsStand p st q
   pub ends : EndpointsStand p d q
   pub boot : BootStands p b q
@@ -57,16 +61,25 @@ pub record Going (p : Plan) (st : StartsData) (d : EndpointsData) (b : BootData)
   pub started_due : (s : ℕ) → s < service_count p → is_started q s ≡ true → is_due p q s ≡ true
   pub begun_is : has_begun p q ≡ b.begun
   pub runs : dr.running ≡ true → may_start p b ≡ true
-  pub marks : told_marks q ≡ marks_if dr.running (phase Running ∷ [])
   pub no_end : has is_ending q ≡ false
-  pub silent : has is_signal q ≡ false
   pub earlier : EachEarlier (SettledRight p) q
   pub fails : EachEarlier (FailsRight p) q
+  pub asks : EachEarlier (λ before. one_ask p before ≡ true) q
 
--- each of the first k services of the order is started where it is due, and each of its endpoints is right
+-- each service that is due is started
+abbrev pub AreStarted : Plan → Record → Type 0
+AreStarted p q = (s : ℕ) → s < service_count p → is_due p q s ≡ true → is_started q s ≡ true
+
+-- the waits after a signal haven't passed, and nothing is to be asked of a successor, so that the run may end in its bootstrapping
+pub record MayEnd (p : Plan) (q : Record) : Type 0 where
+  pub unpassed : has_passed p q ≡ false
+  pub asks : one_ask p q ≡ true
+
+-- each of the first k services of the order is started where it is due, and each of its endpoints is held or waits; what is held is live where the broadcast wasn't told
 pub record VisitedUpTo (p : Plan) (order : List ℕ) (k : ℕ) (q : Record) : Type 0 where
   pub due_started : (j : ℕ) → j < k → is_due p q (slice_index order j) ≡ true → is_started q (slice_index order j) ≡ true
-  pub right : (j : ℕ) → j < k → (i : ℕ) → i < length (endpoints p (slice_index order j)) → endpoint_right p q (slice_index order j) i ≡ true
+  pub right : has is_broadcast q ≡ false → (j : ℕ) → j < k → (i : ℕ) → i < length (endpoints p (slice_index order j)) → endpoint_right p q (slice_index order j) i ≡ true
+  pub late : (j : ℕ) → j < k → (i : ℕ) → i < length (endpoints p (slice_index order j)) → endpoint_right_late p q (slice_index order j) i ≡ true
 
 -- the service bootstraps, and is started
 abbrev pub is_boot_service : Plan → Record → ℕ → Bool
@@ -79,29 +92,33 @@ pub record TestedAt (p : Plan) (order : List ℕ) (k : ℕ) (q : Record) : Type 
   pub first : (j : ℕ) → j < k → is_boot_service p q (slice_index order j) ≡ false
   pub visited : VisitedUpTo p order k q
   pub last : is_test_step (now q) (last_step q) ≡ true
+  pub may_end : MayEnd p q
 
--- a pass is at the place k of the order, or ended before it; and as long as bootstrapping hasn't begun, this step told only starts, asks, failures and closes
-pub record PassedUpTo (p : Plan) (order : List ℕ) (k : ℕ) (st : StartsData) (d : EndpointsData) (b : BootData) (dr : DrainData) (q : Record) : Type 0 where
-  pub going : Going p st d b dr q
+-- a pass is at the place k of the order, or ended before it; as long as bootstrapping hasn't begun, this step told only starts, asks, failures and closes; and where something is still to be started, the run may end in its bootstrapping
+pub record PassedUpTo (p : Plan) (order : List ℕ) (k : ℕ) (st : StartsData) (d : EndpointsData) (b : BootData) (o : OfferData) (dr : DrainData) (q : Record) : Type 0 where
+  pub going : Going p st d b o dr q
   pub may : may_start p b ≡ true
   pub ripe : IsBootRipe p b
   pub visited : MatchBool (is_tested p b) ((j : ℕ) × TestedAt p order j q) (VisitedUpTo p order k q)
   pub quiet : b.begun ≡ false → is_quiet (last_step q) ≡ true
+  pub calm : AreStarted p q ⊎ MayEnd p q
 
 -- between the two halves of a visit of the service at the place k: it is started where it is due, and where that tested the run, the pass ends
-pub record Half (p : Plan) (order : List ℕ) (k : ℕ) (st : StartsData) (d : EndpointsData) (b : BootData) (dr : DrainData) (q : Record) : Type 0 where
-  pub going : Going p st d b dr q
+pub record Half (p : Plan) (order : List ℕ) (k : ℕ) (st : StartsData) (d : EndpointsData) (b : BootData) (o : OfferData) (dr : DrainData) (q : Record) : Type 0 where
+  pub going : Going p st d b o dr q
   pub may : may_start p b ≡ true
   pub ripe : IsBootRipe p b
   pub tested : OnTrue (is_tested p b) (TestedAt p order k q)
   pub due_started : (j : ℕ) → j < k + 1 → is_due p q (slice_index order j) ≡ true → is_started q (slice_index order j) ≡ true
-  pub right : (j : ℕ) → j < k → slice_index order j ≢ slice_index order k → (i : ℕ) → i < length (endpoints p (slice_index order j)) → endpoint_right p q (slice_index order j) i ≡ true
+  pub right : has is_broadcast q ≡ false → (j : ℕ) → j < k → slice_index order j ≢ slice_index order k → (i : ℕ) → i < length (endpoints p (slice_index order j)) → endpoint_right p q (slice_index order j) i ≡ true
+  pub late : (j : ℕ) → j < k → slice_index order j ≢ slice_index order k → (i : ℕ) → i < length (endpoints p (slice_index order j)) → endpoint_right_late p q (slice_index order j) i ≡ true
   pub quiet : b.begun ≡ false → is_quiet (last_step q) ≡ true
+  pub calm : AreStarted p q ⊎ MayEnd p q
 
 -- the first half of a visit of the service at the place k
 abbrev pub Starting : Plan → List ℕ → DrainData → ℕ → StartsData → StartsData → EndpointsData → BootData → BootData → List Action → List Action → Type 0
 Starting p order dr k st st' d b b' before after =
-    Tells before after (λ told. (q : Record) → PassedUpTo p order k st d b dr q → Half p order k st' d b' dr (tell q told))
+    Tells before after (λ told. (o : OfferData) (q : Record) → PassedUpTo p order k st d b o dr q → Half p order k st' d b' o dr (tell q told))
 
 -- how many actions the beginning of bootstrapping may still tell
 abbrev pub begin_room : BootData → ℕ
@@ -110,4 +127,4 @@ begin_room b = if b.begun then 0 else 3
 -- visits went from the place j of the order to the place k
 abbrev pub Passes : Plan → List ℕ → DrainData → ℕ → ℕ → StartsData → StartsData → EndpointsData → EndpointsData → BootData → BootData → List Action → List Action → Type 0
 Passes p order dr j k st st' d d' b b' before after =
-    Tells before after (λ told. (q : Record) → PassedUpTo p order j st d b dr q → PassedUpTo p order k st' d' b' dr (tell q told))
+    Tells before after (λ told. (o : OfferData) (q : Record) → PassedUpTo p order j st d b o dr q → PassedUpTo p order k st' d' b' o dr (tell q told))

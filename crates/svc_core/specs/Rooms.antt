@@ -29,7 +29,7 @@ close_room core = length (open_numbers core) + 32
 
 -- how many actions the next step, and `close_all` after it, tell at most
 abbrev pub tell_room : CoreData → ℕ
-tell_room core = 2 * length core.order + length core.endpoints.table + 72
+tell_room core = 2 * length core.order + length core.endpoints.table + 80
 
 -- how many these are together with the boxes of the services that they start: at most one for each action
 abbrev pub step_room : CoreData → ℕ

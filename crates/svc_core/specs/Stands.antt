@@ -1,5 +1,5 @@
 -- The records that a core stands for, and what its steps keep.
-use Rattle.std.specs.Prelude.{ℕ, Bool, true, false, ◌≡◌, ◌<◌, ◌≤◌, ◌==◌, not, ◌&&◌, List, [], ◌∷◌, Option, length, MatchBool}
+use Rattle.std.specs.Prelude.{ℕ, Bool, true, false, not, ◌&&◌, ◌≡◌, ◌<◌, ◌≤◌, ◌==◌, ◌⊎◌, List, [], ◌∷◌, Option, None, length, MatchBool, nat_lt}
 use Rattle.std.specs.Bool.{OnTrue, OnFalse}
 use Rattle.std.specs.List.{list_any}
 use Rattle.svc_graph.specs.declared.plan.Kind.TheVariants.{Notifying}
@@ -8,9 +8,9 @@ use Rattle.svc_record.specs.declared.action.Action.{Action}
 use Rattle.svc_record.specs.declared.action.StepEnd.{StepEnd}
 use Rattle.svc_record.specs.declared.entry.Entry.TheVariants.{Got}
 use Rattle.svc_record.specs.declared.event.Event.{Event}
-use Rattle.svc_record.specs.declared.event.Event.TheVariants.{Moment, Ready, Ended, Bound, InUse, BindFailed, Adopted, AdoptFailed, Received, NoSenderYet, ReceiveFailed, Signal}
-use Rattle.svc_record.specs.declared.event.ShutdownSignal.TheVariants.{FastShutdown}
-use Rattle.svc_record.specs.Plans.{service_count, endpoints, has_kind}
+use Rattle.svc_record.specs.declared.event.Event.TheVariants.{Moment, Ready, Ended, Bound, InUse, BindFailed, Adopted, AdoptFailed, Received, NoSenderYet, ReceiveFailed, Connected, NotThere, StillConnecting, ConnectFailed, Sent, SendBusy, SendFailed, LoopEnded, Signal}
+use Rattle.svc_fds.specs.declared.encoding.Message.{Message}
+use Rattle.svc_record.specs.Plans.{service_count, endpoints, has_kind, is_endpoint}
 use Rattle.svc_record.specs.Record.{Record, tell, last_step, EachEntry}
 use Rattle.svc_record.specs.Boot.{has_begun, start_after_boot}
 use Rattle.svc_record.specs.Drain.{ascending, live_numbers}
@@ -21,19 +21,29 @@ use Rattle.svc_record.specs.Starts.{is_started, is_due}
 use Rattle.svc_record.specs.Tail.{numbers_in, closing_actions, tail_right}
 use Rattle.svc_record.specs.Told.{Tells}
 use Rattle.svc_endpoints.specs.EndpointsState.{EndpointsStand, last_at, is_binding, is_adopting, all_new}
-use Rattle.svc_boot.specs.BootData.{BootData}
+use Rattle.svc_endpoints.specs.Loops.{has_loop}
+use Rattle.svc_endpoints.specs.Uses.{serves_by}
 use Rattle.svc_boot.specs.BootState.{BootStands, is_trying, is_through}
-use Rattle.svc_boot.specs.BootEffects.{end_of}
+use Rattle.svc_boot.specs.BootEffects.{end_of, is_complete_due}
 use Rattle.svc_boot.specs.BootFacts.{IsBootSettled}
+use Rattle.svc_offer.specs.OfferState.{OfferStands, IsOfferSettled, over_since, is_connecting, is_sending, is_send_due}
+use Rattle.svc_drain.specs.DrainState.{DrainStands, IsDrainSettled, passes, is_broadcast_told}
 use Rattle.svc_core.specs.StartsState.{StartsStand, AreFailed, is_flagged}
-use Rattle.svc_core.specs.DrainState.{DrainStand}
 use Rattle.svc_core.specs.CoreData.{CoreData, is_on, is_served}
 use Rattle.svc_core.specs.Forms.{HasBuiltForms}
-use Rattle.svc_core.specs.Passes.{Going, IsBootRipe, VisitedUpTo, TestedAt, is_tested, may_start}
+use Rattle.svc_core.specs.Passes.{Going, IsBootRipe, VisitedUpTo, TestedAt, AreStarted, MayEnd, is_tested, may_start}
 
--- one clause for each part; once the run has served, which services failed and what came is all that is left of endpoints, and nothing is live
+-- what was due at the last moment was told: of bootstrapping, of the offer and of the shutdown, whose waits haven't passed
+pub record IsSettled (core : CoreData) : Type 0 where
+  pub boot : IsBootSettled core.plan core.boot core.drain.moment
+  pub drain : IsDrainSettled core.drain (over_since core.offer.state)
+  pub offer : IsOfferSettled core.offer core.drain.moment
+  pub waits : passes core.plan core.drain ≡ false
+
+-- one clause for each part; once the run has served, which services failed and what came is all that is left of endpoints, and nothing is live, offered or waited for
 pub record StandsFor (core : CoreData) (q : Record) : Type 0 where
-  pub drain : DrainStand core.drain q
+  pub drain : is_served core.end ≡ false → DrainStands core.plan core.drain (over_since core.offer.state) q
+  pub offer : is_served core.end ≡ false → OfferStands core.plan core.offer q
   pub starts : StartsStand core.plan core.starts q
   pub boot : BootStands core.plan core.boot q
   pub endpoints : is_served core.end ≡ false → EndpointsStand core.plan core.endpoints q
@@ -45,43 +55,79 @@ pub record StandsFor (core : CoreData) (q : Record) : Type 0 where
   pub started_due : (s : ℕ) → s < service_count core.plan → is_started q s ≡ true → is_due core.plan q s ≡ true
   pub begun_is : has_begun core.plan q ≡ core.boot.begun
   pub runs : core.drain.running ≡ true → may_start core.plan core.boot ≡ true
-  pub settled : is_on core.end ≡ true → IsBootSettled core.plan core.boot core.drain.moment
+  pub settled : is_on core.end ≡ true → IsSettled core
   pub end_is : core.end ≡ step_end core.plan q
 
 -- nothing was got or told yet
 pub record HasNotBegun (core : CoreData) : Type 0 where
-  pub drain : DrainStand core.drain []
+  pub drain : DrainStands core.plan core.drain None []
+  pub offer : OfferStands core.plan core.offer []
   pub starts : StartsStand core.plan core.starts []
   pub ends : EndpointsStand core.plan core.endpoints []
   pub boot : BootStands core.plan core.boot []
   pub unbegun : core.boot.begun ≡ false
   pub idle : core.drain.running ≡ false
+  pub unoffered : over_since core.offer.state ≡ None
+  pub unasked : is_send_due core.offer.state core.drain.moment ≡ false
 
 -- how a run has ended in its bootstrapping
 pub record EndedSo (p : Plan) (q : Record) : Type 0 where
   pub ended : EndedRight p q
   pub tested : OnTrue (ends_tested p q) (TestedRight p q)
+  pub may_end : MayEnd p q
 
--- an event was taken, or nothing yet, and what follows from it may be told: the parts stand for q; as long as bootstrapping hasn't begun, this step told only failures and closes; where no older server is asked, it was told that bootstrapping is complete; and where the event ended the run, it ended as is right
-pub record Struck (core : CoreData) (q : Record) : Type 0 where
-  pub going : Going core.plan core.starts core.endpoints core.boot core.drain q
+-- the copy is the message, where its send is due
+abbrev pub HasCopy : CoreData → Option Message → Type 0
+HasCopy core copy = is_send_due core.offer.state core.drain.moment ≡ true → copy ≡ core.offer.message
+
+-- an event was taken, or nothing yet, and what follows from it may be told: the parts stand for q; as long as bootstrapping hasn't begun, this step told only failures and closes; where no older server is asked, it was told that bootstrapping is complete; where the event ended the run, it ended as is right; and where it may let services start, the run may end by that
+pub record Struck (core : CoreData) (copy : Option Message) (q : Record) : Type 0 where
+  pub going : Going core.plan core.starts core.endpoints core.boot core.offer core.drain q
   pub quiet : core.boot.begun ≡ false → is_quiet (last_step q) ≡ true
   pub alone : core.plan.upgrade ≡ false → core.boot.complete ≡ is_through core.plan core.boot
   pub ended : OnFalse (is_on (end_of core.plan core.boot)) (EndedSo core.plan q)
+  pub calm : (AreStarted core.plan q × (is_complete_due core.boot ≡ false)) ⊎ MayEnd core.plan q
+  pub copied : HasCopy core copy
 
 -- it was told where bootstrapping is complete, and services may be visited
-pub record Ripe (core : CoreData) (q : Record) : Type 0 where
-  pub going : Going core.plan core.starts core.endpoints core.boot core.drain q
+pub record Ripe (core : CoreData) (copy : Option Message) (q : Record) : Type 0 where
+  pub going : Going core.plan core.starts core.endpoints core.boot core.offer core.drain q
   pub quiet : core.boot.begun ≡ false → is_quiet (last_step q) ≡ true
   pub goes_on : is_on (end_of core.plan core.boot) ≡ true
   pub ripe : IsBootRipe core.plan core.boot
+  pub calm : AreStarted core.plan q ⊎ MayEnd core.plan q
+  pub copied : HasCopy core copy
 
 -- the services were visited, where they may start, and what is left of the step may be told
-pub record Visited (core : CoreData) (q : Record) : Type 0 where
-  pub going : Going core.plan core.starts core.endpoints core.boot core.drain q
+pub record Visited (core : CoreData) (copy : Option Message) (q : Record) : Type 0 where
+  pub going : Going core.plan core.starts core.endpoints core.boot core.offer core.drain q
   pub ripe : IsBootRipe core.plan core.boot
   pub passed : OnTrue (may_start core.plan core.boot) (MatchBool (is_tested core.plan core.boot) ((k : ℕ) × TestedAt core.plan core.order k q) (VisitedUpTo core.plan core.order (length core.order) q))
   pub waits : may_start core.plan core.boot ≡ false → is_tested core.plan core.boot ≡ false
+  pub copied : HasCopy core copy
+
+-- the run goes on in its bootstrapping: it runs where it may, and what is due of bootstrapping was told
+pub record Tried (core : CoreData) (copy : Option Message) (q : Record) : Type 0 where
+  pub going : Going core.plan core.starts core.endpoints core.boot core.offer core.drain q
+  pub settled : IsBootSettled core.plan core.boot core.drain.moment
+  pub untested : is_tested core.plan core.boot ≡ false
+  pub visited : OnTrue (may_start core.plan core.boot) (VisitedUpTo core.plan core.order (length core.order) q)
+  pub runs_now : core.drain.running ≡ may_start core.plan core.boot
+  pub on : is_on core.end ≡ true
+  pub end_is : core.end ≡ end_of core.plan core.boot
+  pub copied : HasCopy core copy
+
+-- what is due of the offer and of the signal was told too
+pub record Answered (core : CoreData) (q : Record) : Type 0 where
+  pub going : Going core.plan core.starts core.endpoints core.boot core.offer core.drain q
+  pub settled : IsBootSettled core.plan core.boot core.drain.moment
+  pub untested : is_tested core.plan core.boot ≡ false
+  pub visited : OnTrue (may_start core.plan core.boot) (VisitedUpTo core.plan core.order (length core.order) q)
+  pub runs_now : core.drain.running ≡ may_start core.plan core.boot
+  pub on : is_on core.end ≡ true
+  pub end_is : core.end ≡ end_of core.plan core.boot
+  pub drain : IsDrainSettled core.drain (over_since core.offer.state)
+  pub offer : IsOfferSettled core.offer core.drain.moment
 
 -- what a step gives: a right record that the core stands for, with its answer
 pub record StepRight (core : CoreData) (q : Record) (end : StepEnd) : Type 0 where
@@ -90,8 +136,8 @@ pub record StepRight (core : CoreData) (q : Record) (end : StepEnd) : Type 0 whe
   pub answer : end ≡ step_end core.plan q
 
 -- what follows from an event
-abbrev pub Follows : CoreData → CoreData → List Action → List Action → StepEnd → Type 0
-Follows old new before after end = Tells before after (λ told. (q : Record) → Struck old q → StepRight new (tell q told) end)
+abbrev pub Follows : CoreData → CoreData → Option Message → List Action → List Action → StepEnd → Type 0
+Follows old new copy before after end = Tells before after (λ told. (q : Record) → Struck old copy q → StepRight new (tell q told) end)
 
 -- the first step, from an empty record
 abbrev pub BeginKeeps : CoreData → List Action → List Action → StepEnd → Type 0
@@ -138,6 +184,16 @@ pub record AdoptMayBeAnswered (core : CoreData) (s i : ℕ) : Type 0 where
   pub within : i < length (endpoints core.plan s)
   pub asked : is_adopting (last_at core.endpoints s i) ≡ true
 
+-- the service serves, by the parts, and loop j is one of its endpoint i and hasn't ended yet
+abbrev pub is_loop_on : CoreData → ℕ → ℕ → ℕ → Bool
+is_loop_on core s i j = serves_by core.plan core.endpoints (is_flagged core.starts.started s) s && (is_endpoint core.plan s i && (nat_lt j core.plan.tasks && not (has_loop core.endpoints.loops s i j)))
+
+-- the broadcast was told, and s serves, with an endpoint i whose loop j goes on
+pub record LoopMayEnd (core : CoreData) (s i j : ℕ) : Type 0 where
+  pub told : is_broadcast_told core.drain ≡ true
+  pub inside : s < service_count core.plan
+  pub goes_on : is_loop_on core s i j ≡ true
+
 -- a try to receive is open, and the message brings few descriptors, new ones, and no number twice
 pub record ReceivedMayCome (core : CoreData) (fds : List ℕ) : Type 0 where
   pub trying : is_trying core.boot.receiving ≡ true
@@ -157,7 +213,15 @@ RowMayCome core (AdoptFailed s i) = AdoptMayBeAnswered core s i
 RowMayCome core (Received bytes fds) = ReceivedMayCome core fds
 RowMayCome core NoSenderYet = is_trying core.boot.receiving ≡ true
 RowMayCome core ReceiveFailed = is_trying core.boot.receiving ≡ true
-RowMayCome core (Signal FastShutdown) = core.drain.running ≡ true
+RowMayCome core Connected = is_connecting core.offer.state ≡ true
+RowMayCome core NotThere = is_connecting core.offer.state ≡ true
+RowMayCome core StillConnecting = is_connecting core.offer.state ≡ true
+RowMayCome core ConnectFailed = is_connecting core.offer.state ≡ true
+RowMayCome core Sent = is_sending core.offer.state ≡ true
+RowMayCome core SendBusy = is_sending core.offer.state ≡ true
+RowMayCome core SendFailed = is_sending core.offer.state ≡ true
+RowMayCome core (LoopEnded s i j) = LoopMayEnd core s i j
+RowMayCome core (Signal kind) = core.drain.running ≡ true
 RowMayCome core _ = ⊥
 
 -- the event may come

@@ -2,7 +2,6 @@
 #![tactic(auto)]
 
 mod copies;
-mod drain;
 mod machine;
 mod pass;
 mod phase_reader;
@@ -16,6 +15,8 @@ pub use svc_record::{
     ServicePlan, ShutdownSignal, Side, StepEnd,
 };
 
+#[cfg(test)]
+mod signal_tests;
 #[cfg(test)]
 mod tests;
 #[cfg(test)]

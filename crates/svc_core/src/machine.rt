@@ -1,13 +1,15 @@
 //! The core: one step for each event.
 
-ghost use Rattle.std.specs.Prelude.{◌≡◌, ◌+◌, ◌*◌, ◌<◌, ◌≤◌, ◌++◌, [], ◌∷◌, length, ℕ, false, true, IfOk, OnErr, OnOk, IsTrue, ◌↔◌, List, Option, map};
+ghost use Rattle.std.specs.Prelude.{◌≡◌, ◌+◌, ◌*◌, ◌<◌, ◌≤◌, ◌++◌, ◌&&◌, [], ◌∷◌, length, not, is_some, ℕ, false, true, IfOk, OnErr, OnOk, IsTrue, ◌↔◌, List, Option, Some, None, map};
 ghost use Rattle.svc_record.specs.declared.action.Action.{Action};
 ghost use Rattle.svc_record.specs.declared.action.Action.TheVariants.{Close};
 ghost use Rattle.svc_record.specs.declared.entry.Entry.TheVariants.{Got};
+ghost use Rattle.svc_record.specs.declared.event.ShutdownSignal.{ShutdownSignal};
 ghost use Rattle.std.specs.Option.{option_copied};
 ghost use Rattle.svc_conf.specs.Items.{list_of, spare};
 ghost use Rattle.svc_record.specs.Record.{Record, tell};
-ghost use Rattle.svc_record.specs.Descriptors.{numbers_of};
+ghost use Rattle.svc_record.specs.Descriptors.{numbers_of, live_table};
+ghost use Rattle.svc_record.specs.Offer.{is_upgrade, is_empty_table};
 ghost use Rattle.svc_record.specs.Plans.{service_count};
 ghost use Rattle.svc_record.specs.Starts.{is_ready};
 ghost use Rattle.svc_record.specs.Fits.{Fits};
@@ -15,14 +17,19 @@ ghost use Rattle.svc_record.specs.Right.{Right};
 ghost use Rattle.svc_record.specs.Told.{Tells, TellsBoth};
 ghost use Rattle.svc_record.specs.Validity.{IsValid, IsBuilt};
 ghost use Rattle.svc_boot.specs.BootState.{is_trying};
-ghost use Rattle.svc_core.specs.Copies.{TellsBare};
-ghost use Rattle.svc_core.specs.CoreData.{is_on, is_served};
+ghost use Rattle.svc_fds.specs.declared.encoding.Message.{Message};
+ghost use Rattle.svc_endpoints.specs.EndpointsState.{EndpointsStand, open_numbers as table_numbers};
+ghost use Rattle.svc_offer.specs.OfferState.{is_connecting};
+ghost use Rattle.svc_offer.specs.OfferEffects.{event_of, is_awaited};
+ghost use Rattle.svc_drain.specs.DrainEffects.{end_told};
+ghost use Rattle.svc_core.specs.Copies.{TellsBare, TellsCopied, copy_at};
+ghost use Rattle.svc_core.specs.CoreData.{is_on, is_served, with_end};
 ghost use Rattle.svc_core.specs.Passes.{may_start, begin_room};
-ghost use Rattle.svc_core.specs.Stands.{StandsFor, HasNotBegun, Follows, Ripe, Visited, StepRight, MayCome, RowMayCome, ReadyMayCome, EndedMayCome, ReceivedMayCome, BoundMayCome, BindMayBeAnswered, AdoptMayBeAnswered, StepKeeps, BeginKeeps, ClosesAll};
+ghost use Rattle.svc_core.specs.Stands.{StandsFor, HasNotBegun, Follows, Ripe, Visited, Tried, StepRight, MayCome, RowMayCome, ReadyMayCome, EndedMayCome, ReceivedMayCome, BoundMayCome, BindMayBeAnswered, AdoptMayBeAnswered, LoopMayEnd, StepKeeps, BeginKeeps, ClosesAll};
+ghost use Rattle.svc_core.specs.Signals.{offers_by, is_reached};
 ghost use Rattle.svc_core.specs.Rooms.{TellsWithin, KeepsRoom, tell_room, step_room, close_room, close_need, open_numbers, left_numbers};
 
 use crate::copies::repeat;
-use crate::drain::Drain;
 use crate::pass::pass;
 use crate::plans::{address_of, endpoint_count, is_notifying, may_end, service_count};
 use crate::starts::Starts;
@@ -30,9 +37,12 @@ use std::alloc::Global;
 use std::marker::Model;
 use svc_boot::Boot;
 use svc_conf::NoMemory;
+use svc_drain::Drain;
 use svc_endpoints::Endpoints;
+use svc_fds::{Message, SendAnswer};
 use svc_graph::services::ServiceReadyWatch;
-use svc_record::{Action, Actions, Event, Plan, ShutdownSignal, StepEnd, startup_order};
+use svc_offer::Offer;
+use svc_record::{Actions, Event, Plan, ShutdownSignal, StepEnd, startup_order};
 
 /// The lifecycle of one server: what it is told, step by step, and what it tells.
 #[derive(Drop)]
@@ -42,6 +52,7 @@ pub struct Core {
     starts: Starts,
     endpoints: Endpoints,
     boot: Boot,
+    offer: Offer,
     drain: Drain,
     end: StepEnd,
 }
@@ -51,7 +62,7 @@ impl Model for Core {
 
     ghost Value = { CoreData };
 
-    ghost view = { λ c. record { plan = c.plan; order = c.order.items; starts = c.starts; endpoints = c.endpoints.parts; boot = c.boot; drain = c.drain; end = c.end } };
+    ghost view = { λ c. record { plan = c.plan; order = c.order.items; starts = c.starts; endpoints = c.endpoints.parts; boot = c.boot; offer = c.offer; drain = c.drain; end = c.end } };
 
     ghost invariant = { λ c. IsFormed c.plan c.order.items c.starts c.endpoints.parts };
 }
@@ -82,12 +93,14 @@ impl Core {
         let starts = Starts::new(alloc, &plan)?;
         let endpoints = Endpoints::new(alloc, &plan)?;
         let boot = Boot::new(plan.limit);
+        let offer = Offer::new(plan.limit);
         Ok(Core {
             plan,
             order,
             starts,
             endpoints,
             boot,
+            offer,
             drain: Drain::new(),
             end: StepEnd::On,
         })
@@ -105,14 +118,14 @@ impl Core {
     pub fn step_room(&self) -> u64
         ensures { result ≡ step_room self.now }
     {
-        4 * self.order.len() as u64 + 2 * self.endpoints.open_len() as u64 + 144
+        4 * self.order.len() as u64 + 2 * self.endpoints.open_len() as u64 + 160
     }
 
     /// How many actions the next step, and a `close_all` after it, tell at most.
     fn tell_room(&self) -> u64
         ensures { result ≡ tell_room self.now }
     {
-        2 * self.order.len() as u64 + self.endpoints.open_len() as u64 + 72
+        2 * self.order.len() as u64 + self.endpoints.open_len() as u64 + 80
     }
 
     /// Whether the watched service is ready: its word came, or its work is done, or it has failed,
@@ -149,18 +162,16 @@ impl Core {
             Event::Received(_, fds) => self.received_fits(fds.as_slice()),
             Event::NoSenderYet => self.boot.is_trying(),
             Event::ReceiveFailed => self.boot.is_trying(),
-            Event::Signal(kind) => self.signal_fits(*kind),
+            Event::Connected => self.offer.is_connecting(),
+            Event::NotThere => self.offer.is_connecting(),
+            Event::StillConnecting => self.offer.is_connecting(),
+            Event::ConnectFailed => self.offer.is_connecting(),
+            Event::Sent => self.offer.is_sending(),
+            Event::SendBusy => self.offer.is_sending(),
+            Event::SendFailed => self.offer.is_sending(),
+            Event::LoopEnded(s, i, j) => self.loop_fits(*s, *i, *j),
+            Event::Signal(_) => self.drain.is_running(),
             _ => false,
-        }
-    }
-
-    fn signal_fits(&self, kind: ShutdownSignal) -> bool
-        ensures { IsTrue result ↔ RowMayCome self.now (Event.Signal kind) }
-    {
-        match kind {
-            ShutdownSignal::FastShutdown => self.drain.is_running(),
-            ShutdownSignal::GracefulTerminate => false,
-            ShutdownSignal::GracefulUpgrade => false,
         }
     }
 
@@ -215,6 +226,17 @@ impl Core {
         self.endpoints.is_adopting(&self.plan, s, i)
     }
 
+    /// The broadcast was told, the service serves, and the loop is one of its endpoint's and goes on.
+    fn loop_fits(&self, s: u32, i: u32, j: u64) -> bool
+        ensures { IsTrue result ↔ LoopMayEnd self.now s i j }
+    {
+        if s as usize >= service_count(&self.plan) || !self.drain.has_broadcast() {
+            return false;
+        }
+        let started = self.starts.is_started(&self.plan, s);
+        self.endpoints.loop_fits(&self.plan, s, i, j, started)
+    }
+
     /// The first step: it begins to bootstrap where that comes first, starts what is due, asks for
     /// endpoints, and tells that the server runs. After `NoMemory` nothing has changed.
     pub fn begin(&mut self, alloc: Global, actions: &mut Actions) -> Result<StepEnd, NoMemory>
@@ -229,9 +251,9 @@ impl Core {
         actions.reserve(alloc, self.tell_room())?;
         if self.is_eager() {
             self.boot.begin(&self.plan, self.drain.moment(), actions);
-            return Ok(self.finish(actions));
+            return Ok(self.finish(None, actions));
         }
-        Ok(self.finish(actions))
+        Ok(self.finish(None, actions))
     }
 
     /// Bootstrapping comes before the services.
@@ -242,17 +264,15 @@ impl Core {
     }
 
     /// What follows from an event: bootstrapping is completed, services are visited, the server runs,
-    /// and a handover is tried for again. Where the event ended the run, nothing follows.
-    fn finish(&mut self, actions: &mut Actions) -> StepEnd
-        requires room { 2 * length self.old.order + begin_room self.old.boot + 3 ≤ spare actions.old }
+    /// a handover is tried for again, and what is due of the offer and of the signal is told. Where
+    /// the event ended the run, nothing follows. The copy is of the message, where its send is due.
+    fn finish(&mut self, copy: Option<Message>, actions: &mut Actions) -> StepEnd
+        requires room { 2 * length self.old.order + begin_room self.old.boot + length self.old.endpoints.table + 11 ≤ spare actions.old }
         ensures plan { self.new.plan ≡ self.old.plan }
-        ensures order { self.new.order ≡ self.old.order }
-        ensures table { self.new.endpoints.table ≡ self.old.endpoints.table }
-        ensures unserved { is_served self.new.end ≡ false }
-        ensures kept { Follows self.old self.new (list_of actions.old) (list_of actions.new) result }
-        ensures bare { TellsBare (list_of actions.old) (list_of actions.new) }
-        ensures few { length (list_of actions.new) ≤ length (list_of actions.old) + (2 * length self.old.order + begin_room self.old.boot + 3) }
-        ensures room { spare actions.old ≤ spare actions.new + (2 * length self.old.order + begin_room self.old.boot + 3) }
+        ensures kept { Follows self.old self.new copy (list_of actions.old) (list_of actions.new) result }
+        ensures copied { TellsCopied copy (list_of actions.old) (list_of actions.new) }
+        ensures few { length (list_of actions.new) + length (open_numbers self.new) ≤ length (list_of actions.old) + (2 * length self.old.order + begin_room self.old.boot + length self.old.endpoints.table + 11) }
+        ensures room { spare actions.old + length (open_numbers self.new) ≤ spare actions.new + (2 * length self.old.order + begin_room self.old.boot + length self.old.endpoints.table + 11) }
     {
         self.end = self.boot.end(&self.plan);
         if !is_on(self.end) {
@@ -260,7 +280,7 @@ impl Core {
         }
         self.boot.complete(self.drain.moment(), actions);
         self.start_up(actions);
-        self.go_on(actions)
+        self.go_on(copy, actions)
     }
 
     /// Visits the services, where they may start.
@@ -269,7 +289,7 @@ impl Core {
         ensures plan { self.new.plan ≡ self.old.plan }
         ensures order { self.new.order ≡ self.old.order }
         ensures table { self.new.endpoints.table ≡ self.old.endpoints.table }
-        ensures kept { Tells (list_of actions.old) (list_of actions.new) (λ told. (q : Record) → Ripe self.old q → Visited self.new (tell q told)) }
+        ensures kept { Tells (list_of actions.old) (list_of actions.new) (λ told. (copy : Option Message) (q : Record) → Ripe self.old copy q → Visited self.new copy (tell q told)) }
         ensures bare { TellsBare (list_of actions.old) (list_of actions.new) }
         ensures few { length (list_of actions.new) ≤ length (list_of actions.old) + (2 * length self.old.order + begin_room self.old.boot) }
         ensures room { spare actions.old ≤ spare actions.new + (2 * length self.old.order + begin_room self.old.boot) }
@@ -294,17 +314,15 @@ impl Core {
         !self.plan.eager || self.boot.is_complete()
     }
 
-    /// The server runs, and a handover is tried for again, unless the run was tested.
-    fn go_on(&mut self, actions: &mut Actions) -> StepEnd
-        requires room { 2 ≤ spare actions.old }
+    /// The server runs, a handover is tried for again, and the offer and the signal are answered,
+    /// unless the run was tested.
+    fn go_on(&mut self, copy: Option<Message>, actions: &mut Actions) -> StepEnd
+        requires room { length self.old.endpoints.table + 10 ≤ spare actions.old }
         ensures plan { self.new.plan ≡ self.old.plan }
-        ensures order { self.new.order ≡ self.old.order }
-        ensures table { self.new.endpoints.table ≡ self.old.endpoints.table }
-        ensures unserved { is_served self.new.end ≡ false }
-        ensures kept { Tells (list_of actions.old) (list_of actions.new) (λ told. (q : Record) → Visited self.old q → StepRight self.new (tell q told) result) }
-        ensures bare { TellsBare (list_of actions.old) (list_of actions.new) }
-        ensures few { length (list_of actions.new) ≤ length (list_of actions.old) + 2 }
-        ensures room { spare actions.old ≤ spare actions.new + 2 }
+        ensures kept { Tells (list_of actions.old) (list_of actions.new) (λ told. (q : Record) → Visited self.old copy q → StepRight self.new (tell q told) result) }
+        ensures copied { TellsCopied copy (list_of actions.old) (list_of actions.new) }
+        ensures few { length (list_of actions.new) + length (open_numbers self.new) ≤ length (list_of actions.old) + length self.old.endpoints.table + 10 }
+        ensures room { spare actions.old + length (open_numbers self.new) ≤ spare actions.new + length self.old.endpoints.table + 10 }
     {
         self.end = self.boot.end(&self.plan);
         if !is_on(self.end) {
@@ -312,10 +330,44 @@ impl Core {
         }
         if !self.may_start() {
             self.boot.try_again(self.drain.moment(), actions);
-            return self.end;
+            return self.answer(copy, actions);
         }
         self.drain.run_once(actions);
         self.boot.try_again(self.drain.moment(), actions);
+        self.answer(copy, actions)
+    }
+
+    /// Tells what follows the signal, and asks the successor for what is due of the offer. The run
+    /// ends where all the signal's waits have passed.
+    fn answer(&mut self, copy: Option<Message>, actions: &mut Actions) -> StepEnd
+        requires room { length self.old.endpoints.table + 8 ≤ spare actions.old }
+        ensures plan { self.new.plan ≡ self.old.plan }
+        ensures kept { Tells (list_of actions.old) (list_of actions.new) (λ told. (q : Record) → Tried self.old copy q → StepRight self.new (tell q told) result) }
+        ensures copied { TellsCopied copy (list_of actions.old) (list_of actions.new) }
+        ensures few { length (list_of actions.new) + length (open_numbers self.new) ≤ length (list_of actions.old) + length self.old.endpoints.table + 8 }
+        ensures room { spare actions.old + length (open_numbers self.new) ≤ spare actions.new + length self.old.endpoints.table + 8 }
+    {
+        let over = self.offer.over_since();
+        let passed = self.drain.go_on(&self.plan, over, actions);
+        self.offer.ask(self.drain.moment(), copy, actions);
+        if passed {
+            return self.end_run(actions);
+        }
+        self.end
+    }
+
+    /// The live descriptors close, and the run ends.
+    fn end_run(&mut self, actions: &mut Actions) -> StepEnd
+        requires room { length self.old.endpoints.table + 3 ≤ spare actions.old }
+        ensures after { self.new ≡ with_end StepEnd.Served self.old }
+        ensures end { result ≡ StepEnd.Served }
+        ensures told { list_of actions.new ≡ list_of actions.old ++ end_told self.old.plan self.old.drain (table_numbers self.old.endpoints) }
+        ensures room { spare actions.old ≤ spare actions.new + (length self.old.endpoints.table + 3) }
+    {
+        self.drain.shut_down(actions);
+        self.endpoints.close_open(actions);
+        self.drain.stop(&self.plan, actions);
+        self.end = StepEnd::Served;
         self.end
     }
 
@@ -333,13 +385,14 @@ impl Core {
         ensures refused { OnErr result (self.new ≡ self.old) }
         ensures untold { OnErr result (list_of actions.new ≡ list_of actions.old) }
         ensures kept { IfOk result (λ end. StepKeeps self.old self.new event.now (list_of actions.old) (list_of actions.new) end) }
-        ensures bare { OnOk result (TellsBare (list_of actions.old) (list_of actions.new)) }
+        ensures later { (kind : ShutdownSignal) → event.now ≡ Event.Signal kind → is_some self.old.drain.signal ≡ true → OnOk result (self.new ≡ self.old) × OnOk result (list_of actions.new ≡ list_of actions.old) }
+        ensures copied { OnOk result (TellsCopied (copy_at self.old event.now) (list_of actions.old) (list_of actions.new)) }
         ensures few { OnOk result (TellsWithin self.old self.new actions.old actions.new) }
         ensures room { KeepsRoom self.old self.new actions.old actions.new }
     {
         actions.reserve(alloc, self.tell_room())?;
         match event {
-            Event::Moment(ms) => Ok(self.step_moment(*ms, actions)),
+            Event::Moment(ms) => self.step_moment(alloc, *ms, actions),
             Event::Ready(s) => Ok(self.step_ready(*s, actions)),
             Event::Ended(s) => Ok(self.step_ended(*s, actions)),
             Event::Bound(s, i, fd) => self.step_bound(alloc, *s, *i, *fd, actions),
@@ -352,7 +405,15 @@ impl Core {
             }
             Event::NoSenderYet => Ok(self.step_no_sender(actions)),
             Event::ReceiveFailed => Ok(self.step_receive_failed(actions)),
-            Event::Signal(kind) => Ok(self.step_signal(*kind, actions)),
+            Event::Connected => self.step_connected(alloc, actions),
+            Event::NotThere => Ok(self.step_answer(SendAnswer::NotThere, actions)),
+            Event::StillConnecting => Ok(self.step_answer(SendAnswer::StillConnecting, actions)),
+            Event::ConnectFailed => Ok(self.step_answer(SendAnswer::ConnectFailed, actions)),
+            Event::Sent => Ok(self.step_answer(SendAnswer::Sent, actions)),
+            Event::SendBusy => Ok(self.step_answer(SendAnswer::SendBusy, actions)),
+            Event::SendFailed => Ok(self.step_answer(SendAnswer::SendFailed, actions)),
+            Event::LoopEnded(s, i, j) => self.step_loop_ended(*s, *i, *j, actions),
+            Event::Signal(kind) => self.step_signal(alloc, *kind, actions),
             _ => unreachable!(),
         }
     }
@@ -378,25 +439,44 @@ impl Core {
         ensures room { KeepsRoom self.old self.new actions.old actions.new }
     {
         again.reserve(alloc, self.tell_room())?;
+        let copy = self.copy_at(alloc, event)?;
         let from = actions.len() as usize;
         let end = self.step(alloc, event, said, actions)?;
-        repeat(&actions.as_slice()[from..], again);
+        repeat(&actions.as_slice()[from..], copy, again);
         Ok(end)
     }
 
-    /// Rests that are over end with it.
-    fn step_moment(&mut self, ms: u64, actions: &mut Actions) -> StepEnd
+    /// A copy of the message, where the event lets its send fall due.
+    fn copy_at(&self, alloc: Global, event: &Event) -> Result<Option<Message>, NoMemory>
+        ensures { IfOk result (λ copy. copy ≡ copy_at self.now event.now) }
+    {
+        if !self.offer.sends_at(event) {
+            return Ok(None);
+        }
+        self.offer.copy_for(alloc, event)
+    }
+
+    /// Rests and waits that are over end with it.
+    fn step_moment(
+        &mut self,
+        alloc: Global,
+        ms: u64,
+        actions: &mut Actions,
+    ) -> Result<StepEnd, NoMemory>
         requires on { is_on self.old.end ≡ true }
         requires may { self.old.drain.moment ≤ ms }
         requires room { tell_room self.old ≤ spare actions.old }
-        ensures plan { self.new.plan ≡ self.old.plan }
-        ensures kept { StepKeeps self.old self.new (Event.Moment ms) (list_of actions.old) (list_of actions.new) result }
-        ensures bare { TellsBare (list_of actions.old) (list_of actions.new) }
-        ensures few { TellsWithin self.old self.new actions.old actions.new }
-        ensures room { close_room self.new ≤ spare actions.new }
+        ensures plan { IfOk result (λ _. self.new.plan ≡ self.old.plan) }
+        ensures refused { OnErr result (self.new ≡ self.old) }
+        ensures untold { OnErr result (list_of actions.new ≡ list_of actions.old) }
+        ensures kept { IfOk result (λ end. StepKeeps self.old self.new (Event.Moment ms) (list_of actions.old) (list_of actions.new) end) }
+        ensures copied { OnOk result (TellsCopied (copy_at self.old (Event.Moment ms)) (list_of actions.old) (list_of actions.new)) }
+        ensures few { OnOk result (TellsWithin self.old self.new actions.old actions.new) }
+        ensures room { KeepsRoom self.old self.new actions.old actions.new }
     {
+        let copy = self.copy_at(alloc, &Event::Moment(ms))?;
         self.drain.take_moment(ms);
-        self.finish(actions)
+        Ok(self.finish(copy, actions))
     }
 
     /// What waited for the service's word starts.
@@ -411,7 +491,7 @@ impl Core {
         ensures room { close_room self.new ≤ spare actions.new }
     {
         self.starts.take_ready(&self.plan, s);
-        self.finish(actions)
+        self.finish(None, actions)
     }
 
     /// What waited for the end of the service's work starts.
@@ -426,7 +506,7 @@ impl Core {
         ensures room { close_room self.new ≤ spare actions.new }
     {
         self.starts.take_ended(&self.plan, s);
-        self.finish(actions)
+        self.finish(None, actions)
     }
 
     /// The descriptor is held, or closed again where its address has one.
@@ -453,7 +533,7 @@ impl Core {
         self.endpoints.reserve()?;
         self.endpoints
             .take_bound(&self.plan, s, i, fd, address, actions);
-        Ok(self.finish(actions))
+        Ok(self.finish(None, actions))
     }
 
     /// The endpoint rests, or its service fails.
@@ -467,9 +547,11 @@ impl Core {
         ensures few { TellsWithin self.old self.new actions.old actions.new }
         ensures room { close_room self.new ≤ spare actions.new }
     {
+        let moment = self.drain.moment();
+        let kept = self.offer.numbers_on_offer();
         self.endpoints
-            .take_in_use(&self.plan, s, i, self.drain.moment(), actions);
-        self.finish(actions)
+            .take_in_use(&self.plan, s, i, moment, kept, actions);
+        self.finish(None, actions)
     }
 
     /// The service fails.
@@ -483,8 +565,10 @@ impl Core {
         ensures few { TellsWithin self.old self.new actions.old actions.new }
         ensures room { close_room self.new ≤ spare actions.new }
     {
-        self.endpoints.take_bind_failed(&self.plan, s, i, actions);
-        self.finish(actions)
+        let kept = self.offer.numbers_on_offer();
+        self.endpoints
+            .take_bind_failed(&self.plan, s, i, kept, actions);
+        self.finish(None, actions)
     }
 
     /// The endpoint is held.
@@ -499,7 +583,7 @@ impl Core {
         ensures room { close_room self.new ≤ spare actions.new }
     {
         self.endpoints.take_adopted(&self.plan, s, i);
-        self.finish(actions)
+        self.finish(None, actions)
     }
 
     /// The service fails.
@@ -513,8 +597,10 @@ impl Core {
         ensures few { TellsWithin self.old self.new actions.old actions.new }
         ensures room { close_room self.new ≤ spare actions.new }
     {
-        self.endpoints.take_adopt_failed(&self.plan, s, i, actions);
-        self.finish(actions)
+        let kept = self.offer.numbers_on_offer();
+        self.endpoints
+            .take_adopt_failed(&self.plan, s, i, kept, actions);
+        self.finish(None, actions)
     }
 
     /// What an older server sent is held, or closed where nobody needs it; and bootstrapping is
@@ -541,7 +627,7 @@ impl Core {
             .endpoints
             .take_received(alloc, &self.plan, bytes, fds, actions)?;
         self.boot.take_received(good);
-        Ok(self.finish(actions))
+        Ok(self.finish(None, actions))
     }
 
     /// The handover is tried for again later, or given up.
@@ -556,7 +642,7 @@ impl Core {
         ensures room { close_room self.new ≤ spare actions.new }
     {
         self.boot.take_no_sender(self.drain.moment());
-        self.finish(actions)
+        self.finish(None, actions)
     }
 
     /// The run ends.
@@ -571,25 +657,112 @@ impl Core {
         ensures room { close_room self.new ≤ spare actions.new }
     {
         self.boot.take_failed();
-        self.finish(actions)
+        self.finish(None, actions)
     }
 
-    /// The run ends at once.
-    fn step_signal(&mut self, kind: ShutdownSignal, actions: &mut Actions) -> StepEnd
+    /// The successor is there: the message is sent.
+    fn step_connected(&mut self, alloc: Global, actions: &mut Actions) -> Result<StepEnd, NoMemory>
         requires on { is_on self.old.end ≡ true }
-        requires may { RowMayCome self.old (Event.Signal kind) }
+        requires may { is_connecting self.old.offer.state ≡ true }
+        requires room { tell_room self.old ≤ spare actions.old }
+        ensures plan { IfOk result (λ _. self.new.plan ≡ self.old.plan) }
+        ensures refused { OnErr result (self.new ≡ self.old) }
+        ensures untold { OnErr result (list_of actions.new ≡ list_of actions.old) }
+        ensures kept { IfOk result (λ end. StepKeeps self.old self.new Event.Connected (list_of actions.old) (list_of actions.new) end) }
+        ensures copied { OnOk result (TellsCopied (copy_at self.old Event.Connected) (list_of actions.old) (list_of actions.new)) }
+        ensures few { OnOk result (TellsWithin self.old self.new actions.old actions.new) }
+        ensures room { KeepsRoom self.old self.new actions.old actions.new }
+    {
+        let copy = self.copy_at(alloc, &Event::Connected)?;
+        self.offer.take(SendAnswer::Connected, self.drain.moment());
+        Ok(self.finish(copy, actions))
+    }
+
+    /// The offer goes on later, or is over. Once it is over, what is abandoned and was on offer
+    /// closes.
+    fn step_answer(&mut self, answer: SendAnswer, actions: &mut Actions) -> StepEnd
+        requires on { is_on self.old.end ≡ true }
+        requires may { is_awaited self.old.offer.state answer ≡ true }
+        requires rests { is_reached answer ≡ false }
         requires room { tell_room self.old ≤ spare actions.old }
         ensures plan { self.new.plan ≡ self.old.plan }
-        ensures kept { StepKeeps self.old self.new (Event.Signal kind) (list_of actions.old) (list_of actions.new) result }
+        ensures kept { StepKeeps self.old self.new (event_of answer) (list_of actions.old) (list_of actions.new) result }
         ensures bare { TellsBare (list_of actions.old) (list_of actions.new) }
         ensures few { TellsWithin self.old self.new actions.old actions.new }
         ensures room { close_room self.new ≤ spare actions.new }
     {
-        self.drain.shut_down(actions);
-        self.endpoints.close_open(actions);
-        self.drain.stop(actions);
-        self.end = StepEnd::Served;
-        self.end
+        self.offer.take(answer, self.drain.moment());
+        if self.offer.over_since().is_some() {
+            self.endpoints.release(&self.plan, actions);
+            return self.finish(None, actions);
+        }
+        self.finish(None, actions)
+    }
+
+    /// A loop of an endpoint ended: a descriptor that no loop uses any more closes.
+    fn step_loop_ended(
+        &mut self,
+        s: u32,
+        i: u32,
+        j: u64,
+        actions: &mut Actions,
+    ) -> Result<StepEnd, NoMemory>
+        requires on { is_on self.old.end ≡ true }
+        requires may { LoopMayEnd self.old s i j }
+        requires room { tell_room self.old ≤ spare actions.old }
+        ensures plan { IfOk result (λ _. self.new.plan ≡ self.old.plan) }
+        ensures refused { OnErr result (self.new ≡ self.old) }
+        ensures untold { OnErr result (list_of actions.new ≡ list_of actions.old) }
+        ensures kept { IfOk result (λ end. StepKeeps self.old self.new (Event.LoopEnded s i j) (list_of actions.old) (list_of actions.new) end) }
+        ensures bare { OnOk result (TellsBare (list_of actions.old) (list_of actions.new)) }
+        ensures few { OnOk result (TellsWithin self.old self.new actions.old actions.new) }
+        ensures room { KeepsRoom self.old self.new actions.old actions.new }
+    {
+        self.endpoints.reserve_loop()?;
+        let kept = self.offer.numbers_on_offer();
+        self.endpoints
+            .take_loop_ended(&self.plan, s, i, j, kept, actions);
+        Ok(self.finish(None, actions))
+    }
+
+    /// The first signal begins the shutdown. By an upgrade what is live is offered. A later signal
+    /// changes nothing.
+    fn step_signal(
+        &mut self,
+        alloc: Global,
+        kind: ShutdownSignal,
+        actions: &mut Actions,
+    ) -> Result<StepEnd, NoMemory>
+        requires on { is_on self.old.end ≡ true }
+        requires may { self.old.drain.running ≡ true }
+        requires room { tell_room self.old ≤ spare actions.old }
+        ensures plan { IfOk result (λ _. self.new.plan ≡ self.old.plan) }
+        ensures refused { OnErr result (self.new ≡ self.old) }
+        ensures untold { OnErr result (list_of actions.new ≡ list_of actions.old) }
+        ensures kept { IfOk result (λ end. StepKeeps self.old self.new (Event.Signal kind) (list_of actions.old) (list_of actions.new) end) }
+        ensures later { is_some self.old.drain.signal ≡ true → OnOk result (self.new ≡ self.old) × OnOk result (list_of actions.new ≡ list_of actions.old) }
+        ensures bare { OnOk result (TellsBare (list_of actions.old) (list_of actions.new)) }
+        ensures few { OnOk result (TellsWithin self.old self.new actions.old actions.new) }
+        ensures room { KeepsRoom self.old self.new actions.old actions.new }
+    {
+        if self.drain.signal().is_some() {
+            return Ok(self.end);
+        }
+        if self.offers_by(kind) {
+            let message = self.endpoints.message(alloc)?;
+            self.offer.begin(message, self.drain.moment());
+            self.drain.take_signal(kind, true);
+            return Ok(self.finish(None, actions));
+        }
+        self.drain.take_signal(kind, false);
+        Ok(self.finish(None, actions))
+    }
+
+    /// The signal asks for an upgrade, and something is live that can be offered.
+    fn offers_by(&self, kind: ShutdownSignal) -> bool
+        ensures { (q : Record) → EndpointsStand self.now.plan self.now.endpoints q → result ≡ offers_by kind (is_empty_table (live_table self.now.plan q)) }
+    {
+        matches!(kind, ShutdownSignal::GracefulUpgrade) && self.endpoints.offers_anything()
     }
 
     /// Closes each live descriptor in ascending number, and then what the event brought that was

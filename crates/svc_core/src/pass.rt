@@ -8,10 +8,10 @@ ghost use Rattle.svc_core.specs.Copies.{TellsBare};
 ghost use Rattle.svc_core.specs.StartsState.{IsStartsSized};
 ghost use Rattle.svc_core.specs.Passes.{Passes, Starting, is_tested, begin_room};
 
-use crate::drain::Drain;
 use crate::plans::is_bootstrap;
 use crate::starts::Starts;
 use svc_boot::Boot;
+use svc_drain::Drain;
 use svc_endpoints::Endpoints;
 use svc_record::{Actions, Plan};
 

@@ -11,7 +11,7 @@ use svc_graph::services::ServiceReadyWatch;
 use svc_graph::{EndpointList, EndpointPlan, Kind};
 
 /// A service that declares the addresses on which it listens.
-fn service(
+pub(crate) fn service(
     alloc: Global,
     name: &str,
     kind: Kind,
@@ -55,7 +55,7 @@ fn endpoints(alloc: Global, tcp: &[&str]) -> Result<EndpointList, Fail> {
 
 /// A plan that takes over an older server's sockets, and tries that twice at most, or that takes
 /// over nothing.
-fn plan_of(services: ServiceList, upgrade: bool, eager: bool) -> Plan {
+pub(crate) fn plan_of(services: ServiceList, upgrade: bool, eager: bool) -> Plan {
     Plan {
         services,
         grace: 300,
@@ -83,7 +83,7 @@ fn plan(alloc: Global) -> Result<Plan, Fail> {
 }
 
 /// A core of the plan that has begun, which told this and ended so.
-fn begun_by(
+pub(crate) fn begun_by(
     rt: &impl Abort,
     alloc: Global,
     plan: Plan,
@@ -101,7 +101,7 @@ fn begun_by(
 }
 
 /// Steps over an event that fits, and says what it told.
-fn step(
+pub(crate) fn step(
     rt: &impl Abort,
     alloc: Global,
     core: &mut Core,
@@ -116,7 +116,7 @@ fn step(
 }
 
 /// Steps over a row of events, each with what it tells, and the run goes on.
-fn go_on(
+pub(crate) fn go_on(
     rt: &impl Abort,
     alloc: Global,
     core: &mut Core,

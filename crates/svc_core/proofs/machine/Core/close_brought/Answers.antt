@@ -1,4 +1,3 @@
-use Rattle.std.proofs.Common.{subst, sym, ap, refl, ◌∙◌, ◌≡◌, true, false, Bool, List, ℕ}
 use Rattle.svc_core.proofs.CloseCounts.{few-left}
 use Rattle.svc_core.proofs.machine.Core.close_brought.Goals as goal
 
