@@ -274,47 +274,52 @@ impl Gate for OpenGate {
     fn after(&self, _worker: u32, _answered: u64) {}
 }
 
+/// How many events each thread posts where the journals are long.
+const POSTS: usize = 10_000;
+
+/// So many moments after the events that are there.
+fn push_moments(events: &mut Vec<Event>, count: usize) -> Result<(), Fail> {
+    for _ in 0..count {
+        events.push(Event::Moment(1))?;
+    }
+    Ok(())
+}
+
+/// A feed with moments alone.
 fn feed_of_moments(alloc: Global, pass: Pass) -> Result<Feed, Fail>
     ensures { IfOk result (λ feed. feed.pass ≡ pass) }
 {
-    Ok(Feed {
-        pass,
-        events: vec![in alloc; Event::Moment(1), Event::Moment(1), Event::Moment(1)]?,
-    })
+    let mut events = Vec::new(alloc);
+    push_moments(&mut events, POSTS)?;
+    Ok(Feed { pass, events })
+}
+
+/// A feed of as many events, in which the first service is ready at first and ends at last.
+fn feed_of_a_service(alloc: Global, pass: Pass) -> Result<Feed, Fail>
+    ensures { IfOk result (λ feed. feed.pass ≡ pass) }
+{
+    let mut events = vec![in alloc; Event::Ready(0)]?;
+    push_moments(&mut events, POSTS - 2)?;
+    events.push(Event::Ended(0))?;
+    Ok(Feed { pass, events })
 }
 
 #[test]
 fn two_threads_make_a_legal_journal(rt: HostRuntime) -> Result<(), Fail> {
     let alloc = rt.alloc();
-    let (server, pass, opening) = opened(&rt, alloc, 100)?;
+    let (server, pass, opening) = opened(&rt, alloc, 20_010)?;
     let Ok((left, right)) = server.split(&rt, alloc, pass) else {
         panic!(rt; "split")
     };
-    let left = Feed {
-        pass: left,
-        events: vec![in alloc;
-            Event::Ready(0),
-            Event::Moment(1),
-            Event::Moment(1),
-            Event::Ended(0),
-        ]?,
-    };
-    let right = Feed {
-        pass: right,
-        events: vec![in alloc;
-            Event::Moment(1),
-            Event::Moment(1),
-            Event::Moment(1),
-            Event::Moment(1),
-        ]?,
-    };
+    let left = feed_of_a_service(alloc, left)?;
+    let right = feed_of_moments(alloc, right)?;
     let (one, two) = server.post_two(&rt, alloc, left, right, &OpenGate);
     assert!(rt; one.rest.is_empty() && two.rest.is_empty());
     let whole = server.join(one.pass, two.pass);
     let Ok(posts) = server.close(alloc, whole) else {
         panic!(rt; "close")
     };
-    assert_eq!(rt; posts.len(), 8);
+    assert_eq!(rt; posts.len(), 2 * POSTS);
     let is_legal = replays(&rt, alloc, &opening, &posts)?;
     assert!(rt; is_legal);
     Ok(())
@@ -323,7 +328,7 @@ fn two_threads_make_a_legal_journal(rt: HostRuntime) -> Result<(), Fail> {
 #[test]
 fn four_threads_make_a_legal_journal(rt: HostRuntime) -> Result<(), Fail> {
     let alloc = rt.alloc();
-    let (server, pass, opening) = opened(&rt, alloc, 100)?;
+    let (server, pass, opening) = opened(&rt, alloc, 40_010)?;
     let Ok((low, high)) = server.split(&rt, alloc, pass) else {
         panic!(rt; "split")
     };
@@ -333,10 +338,7 @@ fn four_threads_make_a_legal_journal(rt: HostRuntime) -> Result<(), Fail> {
     let Ok((third, fourth)) = server.split(&rt, alloc, high) else {
         panic!(rt; "split")
     };
-    let first = Feed {
-        pass: first,
-        events: vec![in alloc; Event::Ready(0), Event::Moment(1), Event::Ended(0)]?,
-    };
+    let first = feed_of_a_service(alloc, first)?;
     let second = feed_of_moments(alloc, second)?;
     let third = feed_of_moments(alloc, third)?;
     let fourth = feed_of_moments(alloc, fourth)?;
@@ -360,7 +362,7 @@ fn four_threads_make_a_legal_journal(rt: HostRuntime) -> Result<(), Fail> {
     let Ok(posts) = server.close(alloc, whole) else {
         panic!(rt; "close")
     };
-    assert_eq!(rt; posts.len(), 12);
+    assert_eq!(rt; posts.len(), 4 * POSTS);
     let is_legal = replays(&rt, alloc, &opening, &posts)?;
     assert!(rt; is_legal);
     Ok(())
