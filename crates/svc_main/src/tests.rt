@@ -232,3 +232,64 @@ fn the_configuration_and_the_flags_are_used(rt: HostRuntime) -> Result<(), Fail>
     }
     Ok(())
 }
+
+#[test]
+fn a_shutdown_waits_and_offers_its_sockets(rt: HostRuntime) -> Result<(), Fail> {
+    for (text, code, out) in [
+        (
+            "%conf\ngrace_period_seconds: 2\n%services\n%events\nsignal terminate\nmoment 1999\nmoment 2000\n",
+            0,
+            "phase Running 0\ngot signal terminate\nbroadcast\nphase GracefulTerminate 0\nphase ShutdownStarted 0\nphase ShutdownGracePeriod 0\ngot moment 1999\ngot moment 2000\nphase ShutdownRuntimes 2000\nstop 5\nphase Terminated 2000\nstatus served\n",
+        ),
+        (
+            "%conf\ngrace_period_seconds: 0\n%services\n%events\nsignal terminate\n",
+            0,
+            "phase Running 0\ngot signal terminate\nbroadcast\nphase GracefulTerminate 0\nphase ShutdownStarted 0\nphase ShutdownGracePeriod 0\nphase ShutdownRuntimes 0\nstop 5\nphase Terminated 0\nstatus served\n",
+        ),
+        (
+            "%conf\ngrace_period_seconds: 0\n%services\n%events\nsignal upgrade\n",
+            0,
+            "phase Running 0\ngot signal upgrade\nphase GracefulUpgradeTransferringFds 0\nbroadcast\nphase ShutdownStarted 0\nphase ShutdownGracePeriod 0\nphase ShutdownRuntimes 0\nstop 5\nphase Terminated 0\nstatus served\n",
+        ),
+        (
+            "%conf\ngrace_period_seconds: 0\n%services\nweb plain tcp 127.0.0.1:80\n%events\nbound 0 0 7\nsignal upgrade\nconnected\nsendfailed\nmoment 4999\nmoment 5000\n",
+            0,
+            "start 0\nbind 0 0\nphase Running 0\ngot bound 0 0 7\ngot signal upgrade\nphase GracefulUpgradeTransferringFds 0\nconnect\ngot connected\nsend 3132372e302e302e313a3830 7\ngot sendfailed\nphase GracefulUpgradeCloseTimeout 0\ngot moment 4999\ngot moment 5000\nbroadcast\nphase ShutdownStarted 5000\nphase ShutdownGracePeriod 5000\nphase ShutdownRuntimes 5000\nclose 7\nstop 5\nphase Terminated 5000\nstatus served\n",
+        ),
+        (
+            "%conf\ngrace_period_seconds: 0\nupgrade_sock_connect_accept_max_retries: 2\n%services\nweb plain tcp 127.0.0.1:80\n%events\nbound 0 0 7\nsignal upgrade\nnotthere\nmoment 1000\nnotthere\nmoment 2000\nnotthere\n",
+            4,
+            "start 0\nbind 0 0\nphase Running 0\ngot bound 0 0 7\ngot signal upgrade\nphase GracefulUpgradeTransferringFds 0\nconnect\ngot notthere\ngot moment 1000\nconnect\ngot notthere\ngot moment 2000\nconnect\ngot notthere\nphase GracefulUpgradeCloseTimeout 2000\nclose 7\nstatus out of events\n",
+        ),
+        (
+            "%conf\ngrace_period_seconds: 0\nupgrade_sock_connect_accept_max_retries: 0\n%services\nweb plain tcp 127.0.0.1:80\n%events\nbound 0 0 7\nsignal upgrade\nnotthere\n",
+            4,
+            "start 0\nbind 0 0\nphase Running 0\ngot bound 0 0 7\ngot signal upgrade\nphase GracefulUpgradeTransferringFds 0\nconnect\ngot notthere\nphase GracefulUpgradeCloseTimeout 0\nclose 7\nstatus out of events\n",
+        ),
+        (
+            "%conf\nlistener_tasks_per_fd: 2\ngrace_period_seconds: 1\n%services\nw plain tcp 127.0.0.1:80\n%events\nbound 0 0 7\nsignal terminate\nloopended 0 0 0\nloopended 0 0 1\nmoment 1000\n",
+            0,
+            "start 0\nbind 0 0\nphase Running 0\ngot bound 0 0 7\ngot signal terminate\nbroadcast\nphase GracefulTerminate 0\nphase ShutdownStarted 0\nphase ShutdownGracePeriod 0\ngot loopended 0 0 0\ngot loopended 0 0 1\nclose 7\ngot moment 1000\nphase ShutdownRuntimes 1000\nstop 5\nphase Terminated 1000\nstatus served\n",
+        ),
+        (
+            "%conf\n%services\nw plain tcp 127.0.0.1:80\n%events\nbound 0 0 7\nloopended 0 0 0\n",
+            4,
+            "start 0\nbind 0 0\nphase Running 0\ngot bound 0 0 7\ngot loopended 0 0 0\nclose 7\nstatus stray 2\n",
+        ),
+        (
+            "%conf\ngrace_period_seconds: 18446744073709551615\n%services\n%events\nsignal terminate\nmoment 18446744073709551615\n",
+            4,
+            "phase Running 0\ngot signal terminate\nbroadcast\nphase GracefulTerminate 0\nphase ShutdownStarted 0\nphase ShutdownGracePeriod 0\ngot moment 18446744073709551615\nstatus out of events\n",
+        ),
+        (
+            "%conf\ngrace_period_seconds: 0\n%services\nw plain tcp a:1 tcp b:2\n%events\nbound 0 0 7\nsignal upgrade\nbindfailed 0 1\nconnected\nsent\nmoment 5000\n",
+            0,
+            "start 0\nbind 0 0\nphase Running 0\ngot bound 0 0 7\nbind 0 1\ngot signal upgrade\nphase GracefulUpgradeTransferringFds 0\nconnect\ngot bindfailed 0 1\nfail 0\ngot connected\nsend 613a31 7\ngot sent\nclose 7\nphase GracefulUpgradeCloseTimeout 0\ngot moment 5000\nbroadcast\nphase ShutdownStarted 5000\nphase ShutdownGracePeriod 5000\nphase ShutdownRuntimes 5000\nstop 5\nphase Terminated 5000\nstatus served\n",
+        ),
+    ] {
+        let (status, bytes) = serve(rt.alloc(), &["run"], text, &[], &[])?;
+        assert_eq!(rt; status, Status(code), "at {text}");
+        assert_eq!(rt; bytes.as_slice(), out.as_bytes(), "at {text}");
+    }
+    Ok(())
+}

@@ -333,7 +333,7 @@ fn with(rt: &impl Abort, mut items: Vec<Item>, item: Item) -> Vec<Item>
 fn fast() -> Item
     ensures { GivesFew result }
 {
-    Item::Event(Event::Signal(ShutdownSignal::FastShutdown))
+    signal(ShutdownSignal::FastShutdown)
 }
 
 /// What the run of a server over these items answers, and what its host was told.
@@ -383,6 +383,58 @@ fn closes_all_when_the_turns_are_spent(rt: HostRuntime) {
             Some(Entry::Told(Action::Close(7)))
         )
     );
+}
+
+/// The signal comes.
+fn signal(kind: ShutdownSignal) -> Item
+    ensures { GivesFew result }
+{
+    Item::Event(Event::Signal(kind))
+}
+
+/// The moment comes, in milliseconds.
+fn moment(ms: u64) -> Item
+    ensures { GivesFew result }
+{
+    Item::Event(Event::Moment(ms))
+}
+
+/// The phase was told at this moment.
+fn phase(phase: ExecutionPhase, ms: u64) -> Entry {
+    Entry::Told(Action::Phase(phase, ms))
+}
+
+#[test]
+fn a_shutdown_waits_as_it_is_configured(rt: HostRuntime) {
+    let alloc = rt.alloc();
+    let mut server = server(&rt, alloc);
+    server.configuration.grace_period_seconds = Some(2);
+    server.configuration.graceful_shutdown_timeout_seconds = Some(9);
+    let items = with(
+        &rt,
+        Vec::new(alloc),
+        signal(ShutdownSignal::GracefulTerminate),
+    );
+    let items = with(&rt, items, moment(1999));
+    let items = with(&rt, items, signal(ShutdownSignal::FastShutdown));
+    let items = with(&rt, items, moment(2000));
+    let (answer, host) = run_of(alloc, server, items, 4);
+    assert_eq!(rt; answer, Ok(Outcome::Served));
+    let told = [
+        phase(ExecutionPhase::Running, 0),
+        Entry::Got(Event::Signal(ShutdownSignal::GracefulTerminate)),
+        Entry::Told(Action::Broadcast),
+        phase(ExecutionPhase::GracefulTerminate, 0),
+        phase(ExecutionPhase::ShutdownStarted, 0),
+        phase(ExecutionPhase::ShutdownGracePeriod, 0),
+        Entry::Got(Event::Moment(1999)),
+        Entry::Got(Event::Signal(ShutdownSignal::FastShutdown)),
+        Entry::Got(Event::Moment(2000)),
+        phase(ExecutionPhase::ShutdownRuntimes, 2000),
+        Entry::Told(Action::Stop(9)),
+        phase(ExecutionPhase::Terminated, 2000),
+    ];
+    assert_eq!(rt; host.entries().as_slice(), told.as_slice());
 }
 
 /// A server that bootstraps first, with these flags.
