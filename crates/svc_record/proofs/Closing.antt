@@ -13,10 +13,10 @@ use Rattle.svc_record.specs.declared.action.Action.TheVariants.{Cut, Close}
 use Rattle.svc_record.specs.Record.{Record, has, times, tell, EachEntry}
 use Rattle.svc_record.specs.Message.{decode}
 use Rattle.svc_record.specs.Descriptors.{Descriptor, descriptors_of, opened_descriptors, with_words, words_or_none, is_opened, has_number, is_close, numbers_of, brings}
-use Rattle.svc_record.specs.Connections.{Arrival, arrivals, live_connections, goes_on, is_cut}
+use Rattle.svc_record.specs.Connections.{arrived_numbers, live_connections, goes_on, is_arrival, is_cut}
 use Rattle.svc_record.specs.Closes.{close_once}
 use Rattle.svc_record.specs.Drain.{ascending, live_numbers}
-use Rattle.svc_record.specs.Fits.{event_fits, fits, is_new, are_new}
+use Rattle.svc_record.specs.Fits.{event_fits, fits, is_new, are_new, accepts}
 use Rattle.svc_record.specs.Asks.{is_bind_open, is_try_open}
 use Rattle.svc_record.specs.Ends.{has_ended}
 use Rattle.svc_record.specs.Right.{Right}
@@ -86,18 +86,22 @@ came_once p [] fd h = refl
 came_once p (Got e ∷ before) fd h = came_more before fd (numbers_of (Got e)) (brought_new p before e h.0) (came_once p before fd h.1)
 came_once p (Told a ∷ before) fd h = came_once p before fd h.1
 
--- where events fit, no connection arrived
-pub none_arrived : (p : Plan) (q : Record) → EachEntry (λ e before. event_fits p e before ≡ true) q → live_connections q ≡ []
-none_arrived p q fit = ap (λ xs. filter (λ c. goes_on q c && not (has (is_cut c) q)) (map (λ (x : Arrival). x.number) xs)) (arrivals_none p q fit)
-  where
-    never : (p : Plan) (before : Record) (e : Event) → fits p before e ≡ true → arrivals (Got e ∷ before) ≡ arrivals before
-    never p before (Arrived s i c peer) e = absurd (false≢true (both (not (has_ended p before)) false e).1)
-    never p before _ e = refl
+-- the record knows each number that arrived
+pub arrival-in : (c : ℕ) (q : Record) → has (is_arrival c) q ≡ is_in c (arrived_numbers q)
+arrival-in c [] = refl
+arrival-in c (Got (Arrived s i n peer) ∷ q) = ap (λ b. (n == c) || b) (arrival-in c q)
+arrival-in c (_ ∷ q) = arrival-in c q
 
-    arrivals_none : (p : Plan) (q : Record) → EachEntry (λ e before. event_fits p e before ≡ true) q → arrivals q ≡ []
-    arrivals_none p [] fit = refl
-    arrivals_none p (Got e ∷ before) fit = never p before e fit.0 ∙ arrivals_none p before fit.1
-    arrivals_none p (Told a ∷ before) fit = arrivals_none p before fit.1
+-- where events fit, each connection arrived once
+pub arrived_once : (p : Plan) (q : Record) (c : ℕ) → EachEntry (λ e before. event_fits p e before ≡ true) q → tally c (arrived_numbers q) ≡ one_if (is_in c (arrived_numbers q))
+arrived_once p [] c h = refl
+arrived_once p (Got (Arrived s i n peer) ∷ before) c h = fresh (n == c) (is_in c (arrived_numbers before)) (tally c (arrived_numbers before))
+    (λ same. subst (λ m. is_in m (arrived_numbers before) ≡ false) (eqb-true n c same) (sym (arrival-in n before) ∙ not-true (has (is_arrival n) before) new))
+    (arrived_once p before c h.1)
+  where
+    new : not (has (is_arrival n) before) ≡ true
+    new = (both (accepts p before s i) (not (has (is_arrival n) before)) (both (not (has_ended p before)) (accepts p before s i && not (has (is_arrival n) before)) h.0).1).1
+arrived_once p (_ ∷ before) c h = arrived_once p before c h.1
 
 filter-numbers : (test : ℕ → Bool) (ds : List Descriptor) → map (λ (d : Descriptor). d.number) (filter (λ (d : Descriptor). test d.number) ds) ≡ filter test (map (λ (d : Descriptor). d.number) ds)
 filter-numbers test [] = refl
@@ -213,12 +217,31 @@ only_of p q also = cuts_of (live_connections q) _ (ascending (live_connections q
     new_came : (fd : ℕ) → is_in fd (new_numbers q also) ≡ true → is_in fd (numbers_in (with_event also q)) ≡ true
     new_came fd h = in_either q also fd ∙ or_left (is_in fd (event_numbers also)) (is_in fd (numbers_in q)) (both (not (has (brings fd) q)) (is_in fd (event_numbers also)) (sym (in_new q also fd) ∙ h)).1
 
+times-closing : (c : ℕ) (cs fds more : List ℕ) (r : Record) → times (is_cut c) (tell r (map Cut cs ++ (map Close fds ++ map Close more))) ≡ tally c cs + times (is_cut c) r
+times-closing c [] [] [] r = sym (zero-add (times (is_cut c) r))
+times-closing c [] [] (fd ∷ more) r = times-closing c [] [] more (Told (Close fd) ∷ r)
+times-closing c [] (fd ∷ fds) more r = times-closing c [] fds more (Told (Close fd) ∷ r)
+times-closing c (m ∷ cs) fds more r = one_more (m == c) _ (tally c cs) (times (is_cut c) r) (times-closing c cs fds more (Told (Cut m) ∷ r))
+
+one-kept : (g a : Bool) → g ≡ true → a ≡ true → if_kept g (one_if a) + 0 ≡ 1
+one-kept g a x y = rw (x, y) refl
+
+-- each live connection then has one cut
+all_cut : (p : Plan) (q : Record) (also : Option Event) → EachEntry (λ e before. event_fits p e before ≡ true) q → list_all (λ c. times (is_cut c) (tell [] (closing_actions p q also)) == 1) (live_connections q) ≡ true
+all_cut p q also fit = each_in (λ c. times (is_cut c) (tell [] (closing_actions p q also)) == 1) (live_connections q) (λ c h.
+    let kept = both (goes_on q c && not (has (is_cut c) q)) (is_in c (arrived_numbers q)) (sym (is_in-filter c (λ n. goes_on q n && not (has (is_cut n) q)) (arrived_numbers q)) ∙ h) in
+    eq-eqb (times (is_cut c) (tell [] (closing_actions p q also))) 1 (
+    times-closing c (ascending (live_connections q)) (ascending (live_numbers p q)) (new_numbers q also) []
+    ∙ ap (λ (k : ℕ). k + 0) (tally-ascending c (live_connections q) ∙ tally-filter c (λ n. goes_on q n && not (has (is_cut n) q)) (arrived_numbers q)
+    ∙ ap (if_kept (goes_on q c && not (has (is_cut c) q))) (arrived_once p q c fit))
+    ∙ one-kept (goes_on q c && not (has (is_cut c) q)) (is_in c (arrived_numbers q)) kept.0 kept.1))
+
 pub closing_right : (p : Plan) (q : Record) (also : Option Event) → EachEntry (λ e before. event_fits p e before ≡ true) q → EachEntry (λ e before. close_once p e before ≡ true) q →
     tail_right q also (closing_actions p q also) ≡ true
 closing_right p q also fit close = and _ _
-    (and _ _ (only_of p q also) (ap (list_all (λ c. times (is_cut c) (tell [] (closing_actions p q also)) == 1)) (none_arrived p q fit)))
+    (and _ _ (only_of p q also) (all_cut p q also fit))
     (each_in (λ fd. times (is_close fd) (tell (with_event also q) (closing_actions p q also)) == 1) (numbers_in (with_event also q)) (λ fd came. eq-eqb _ _ (all_closed p q also fd fit close came)))
 
--- after a right record the closing actions close each number that came, once
+-- after a right record the closing actions cut each live connection and close each number that came, once
 pub right_closes : (p : Plan) (q : Record) (also : Option Event) → Right p q → tail_right q also (closing_actions p q also) ≡ true
 right_closes p q also right = closing_right p q also right.fits right.stronger.closes

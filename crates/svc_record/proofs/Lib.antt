@@ -33,5 +33,6 @@ pub mod GraphLemmas
 pub mod OrderLemmas
 pub mod StartupLemmas
 pub mod ValidLemmas
-pub mod BuiltLemmas
+pub mod ServedConnections
+pub mod Daemons
 pub mod SettingLemmas

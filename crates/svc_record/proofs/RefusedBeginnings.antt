@@ -273,7 +273,7 @@ fork_left_out : IsRefusedBy daemon (Told (Phase Running 0) ∷ Told (Start 0) �
 fork_left_out = (refl, refl)
 
 -- it starts a service before it is the child
-start_before_fork : IsRefusedBy daemon (Told (Phase Running 0) ∷ Got (Forked Child) ∷ Told (Start 0) ∷ Told Daemonize ∷ []) (EventFits ∷ ForkBeforeAll ∷ [])
+start_before_fork : IsRefusedBy daemon (Told (Phase Running 0) ∷ Got (Forked Child) ∷ Told (Start 0) ∷ Told Daemonize ∷ []) (ForkBeforeAll ∷ [])
 start_before_fork = (refl, refl)
 
 -- it forks after something else came

@@ -92,9 +92,9 @@ rest_in_last_step : IsRefusedBy plan (ended_with (Told (Rest 1 0) ∷ [])) (Last
 rest_in_last_step = (refl, refl)
 
 -- accepting failed since too many files are open, and the loop doesn't rest
-rest_left_out : IsRefusedBy plan (Got (AcceptFailed 1 0 24) ∷ bound) (EventFits ∷ Rests ∷ [])
+rest_left_out : IsRefusedBy plan (Got (AcceptFailed 1 0 24) ∷ bound) (Rests ∷ [])
 rest_left_out = (refl, refl)
 
 -- a connection arrived, and isn't judged
-judged_left_out : IsRefusedBy plan (Got (Arrived 1 0 3 Unix) ∷ bound) (EventFits ∷ Connections ∷ [])
+judged_left_out : IsRefusedBy plan (Got (Arrived 1 0 3 Unix) ∷ bound) (Connections ∷ [])
 judged_left_out = (refl, refl)

@@ -1,9 +1,8 @@
 -- Parts of the tests of a plan: what a graph of its services holds, and what is asked of each service.
-use Rattle.std.specs.Prelude.{ℕ, nat_lt, ◌&&◌, ◌||◌, ◌==◌, ◌≡◌, ◌<◌, ◌≤◌, List, length, All, None}
+use Rattle.std.specs.Prelude.{ℕ, nat_lt, ◌&&◌, ◌||◌, ◌==◌, ◌≡◌, ◌<◌, ◌≤◌, List, length, All}
 use Rattle.svc_graph.specs.Paths.{Edges, IsAcyclic}
 use Rattle.svc_graph.specs.GraphData.{GraphData}
 use Rattle.svc_graph.specs.Graphs.{node_count, is_edge}
-use Rattle.svc_graph.specs.declared.plan.EndpointPlan.{EndpointPlan}
 use Rattle.svc_record.specs.declared.plan.Plan.{Plan}
 use Rattle.svc_record.specs.declared.plan.ServicePlan.{ServicePlan}
 use Rattle.svc_record.specs.Plans.{service_count, depends}
@@ -28,7 +27,3 @@ with_row g s row a b = g a b || (a == s && is_listed row b)
 pub record IsGraphUpTo (p : Plan) (n : ℕ) (g : GraphData) : Type 0 where
   pub nodes : node_count g ≡ service_count p
   pub edges : (a b : ℕ) → is_edge g a b ≡ (nat_lt a n && depends_on p a b)
-
--- none of the service's endpoints has a filter
-abbrev pub HasNoFilter : ServicePlan → Type 0
-HasNoFilter s = All (λ (e : EndpointPlan). e.filter ≡ None) s.endpoints

@@ -1,6 +1,6 @@
 -- What becomes of a connection.
 use Rattle.std.specs.Prelude.{ℕ, Bool, true, false, ◌==◌, ◌≡◌, ◌++◌, not, ◌&&◌, ◌||◌, List, [], ◌∷◌, Option, Some, None, map, filter, if◌then◌else◌}
-use Rattle.std.specs.List.{list_all, find}
+use Rattle.std.specs.List.{list_any, list_all, find}
 use Rattle.svc_record.specs.declared.plan.Plan.{Plan}
 use Rattle.svc_record.specs.declared.entry.Entry.{Entry}
 use Rattle.svc_record.specs.declared.entry.Entry.TheVariants.{Got, Told}
@@ -86,9 +86,17 @@ is_shaken_as ok c _ = false
 abbrev pub goes_on : Record → ℕ → Bool
 goes_on q c = not ((has (is_refuse c) q || has (is_drop c) q) || has (is_finished c) q)
 
+-- the numbers of the connections that arrived, the newest first
+abbrev pub arrived_numbers : Record → List ℕ
+arrived_numbers q = map (λ (x : Arrival). x.number) (arrivals q)
+
 -- the numbers of the live connections, the newest first
 abbrev pub live_connections : Record → List ℕ
-live_connections q = filter (λ c. goes_on q c && not (has (is_cut c) q)) (map (λ (x : Arrival). x.number) (arrivals q))
+live_connections q = filter (λ c. goes_on q c && not (has (is_cut c) q)) (arrived_numbers q)
+
+-- the connection is live
+abbrev pub is_live_connection : Record → ℕ → Bool
+is_live_connection q c = list_any (λ n. n == c) (live_connections q)
 
 -- the two settings are equal
 abbrev pub same_keepalive : TcpKeepalive → TcpKeepalive → Bool

@@ -6,14 +6,16 @@ use Rattle.svc_graph.specs.declared.plan.Kind.TheVariants.{Plain, Notifying}
 use Rattle.svc_record.specs.declared.entry.Entry.{Entry}
 use Rattle.svc_record.specs.declared.entry.Entry.TheVariants.{Got}
 use Rattle.svc_record.specs.declared.event.Event.{Event}
-use Rattle.svc_record.specs.declared.event.Event.TheVariants.{Moment, Ready, Ended, Bound, InUse, BindFailed, Adopted, AdoptFailed, Received, NoSenderYet, ReceiveFailed, Connected, NotThere, StillConnecting, ConnectFailed, Sent, SendBusy, SendFailed, LoopEnded, Signal}
+use Rattle.svc_record.specs.declared.event.Event.TheVariants.{Moment, Ready, Ended, Bound, InUse, BindFailed, Adopted, AdoptFailed, Received, NoSenderYet, ReceiveFailed, Connected, NotThere, StillConnecting, ConnectFailed, Sent, SendBusy, SendFailed, Arrived, AcceptFailed, Set, Shaken, Finished, LoopEnded, Signal, Side, ChildReady, ChildGone, DropFailed}
 use Rattle.svc_record.specs.Record.{Record, has, now, from_the_start}
 use Rattle.svc_record.specs.Plans.{has_kind, endpoints, is_endpoint}
 use Rattle.svc_record.specs.Descriptors.{brings}
-use Rattle.svc_record.specs.Asks.{is_bind_open, is_adopt_open, is_try_open, is_connect_open, is_send_open}
+use Rattle.svc_record.specs.Asks.{is_bind_open, is_adopt_open, is_try_open, is_connect_open, is_send_open, is_settings_open, is_handshake_open, is_daemonize_open}
 use Rattle.svc_record.specs.Starts.{is_started, is_ready_event, is_ended_event}
 use Rattle.svc_record.specs.Endpoints.{serves}
-use Rattle.svc_record.specs.Closes.{is_broadcast, is_loop_end}
+use Rattle.svc_record.specs.Closes.{is_broadcast, is_loop_end, have_loops_ended}
+use Rattle.svc_record.specs.Connections.{is_arrival, is_serve, is_live_connection}
+use Rattle.svc_record.specs.Boot.{is_side_parent}
 use Rattle.svc_record.specs.Ends.{has_ended}
 
 -- no earlier event brought the descriptor's number
@@ -29,7 +31,15 @@ are_new q (fd ∷ fds) = (is_new q fd && not (list_any (λ n. n == fd) fds)) && 
 abbrev pub may_end : Plan → ℕ → Bool
 may_end p s = (has_kind p Plain s || has_kind p Notifying s) && length (endpoints p s) == 0
 
--- the condition of each event. Events of forms that aren't built yet never come.
+-- the service serves, and a loop of its endpoint goes on
+abbrev pub accepts : Plan → Record → ℕ → ℕ → Bool
+accepts p q s i = (serves p q s && is_endpoint p s i) && not (have_loops_ended p q s i)
+
+-- the process is the parent, and waits for its child
+abbrev pub parent_waits : Plan → Record → Bool
+parent_waits p q = has is_side_parent q && p.wait
+
+-- the condition of each event
 abbrev pub fits_row : Plan → Record → Event → Bool
 fits_row p q (Moment ms) = nat_le (now q) ms
 fits_row p q (Ready s) = (has_kind p Notifying s && is_started q s) && not (has (is_ready_event s) q)
@@ -49,9 +59,17 @@ fits_row p q ConnectFailed = is_connect_open q
 fits_row p q Sent = is_send_open q
 fits_row p q SendBusy = is_send_open q
 fits_row p q SendFailed = is_send_open q
+fits_row p q (Arrived s i c peer) = accepts p q s i && not (has (is_arrival c) q)
+fits_row p q (AcceptFailed s i n) = accepts p q s i
+fits_row p q (Set c ok) = is_settings_open q c
+fits_row p q (Shaken c ok) = is_handshake_open q c
+fits_row p q (Finished c) = has (is_serve c) q && is_live_connection q c
 fits_row p q (LoopEnded s i j) = ((has is_broadcast q && serves p q s) && is_endpoint p s i) && (nat_lt j p.tasks && not (has (is_loop_end s i j) q))
 fits_row p q (Signal kind) = from_the_start q
-fits_row p q _ = false
+fits_row p q (Side side) = is_daemonize_open q
+fits_row p q ChildReady = parent_waits p q
+fits_row p q ChildGone = parent_waits p q
+fits_row p q DropFailed = parent_waits p q
 
 -- the event may come: the run hasn't ended, and the event's condition holds
 abbrev pub fits : Plan → Record → Event → Bool

@@ -10,6 +10,7 @@ pub mod Offer
 pub mod Closes
 pub mod AskRules
 pub mod Connections
+pub mod Judging
 pub mod Drain
 pub mod Boot
 pub mod Ends

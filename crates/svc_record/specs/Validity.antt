@@ -1,5 +1,5 @@
 -- Which plans a server can be run by, and the order in which their services start.
-use Rattle.std.specs.Prelude.{ℕ, Bool, true, false, ◌≡◌, ◌<◌, ◌≤◌, ◌==◌, List, length, take, All, None, slice_index}
+use Rattle.std.specs.Prelude.{ℕ, Bool, true, false, ◌≡◌, ◌<◌, ◌≤◌, ◌==◌, List, length, take, All, slice_index}
 use Rattle.std.specs.List.{list_any}
 use Rattle.svc_graph.specs.Paths.{IsAcyclic}
 use Rattle.svc_graph.specs.declared.plan.EndpointPlan.{EndpointPlan}
@@ -22,11 +22,6 @@ pub record IsValid (p : Plan) : Type 0 where
   pub inside : (s : ℕ) → s < service_count p → All (λ d. d < service_count p) (depends p s)
   pub acyclic : IsAcyclic (depends_on p)
   pub tasks : 0 < p.tasks
-
--- the plan has only forms that are built: no endpoint has a filter, and nothing forks
-pub record IsBuilt (p : Plan) : Type 0 where
-  pub unfiltered : (s : ℕ) → All (λ (e : EndpointPlan). e.filter ≡ None) (endpoints p s)
-  pub daemon_not : p.daemon ≡ false
 
 -- s is among those listed
 abbrev pub is_listed : List ℕ → ℕ → Bool

@@ -8,7 +8,7 @@ use std::alloc::Global;
 use svc_conf::{Items, NoMemory};
 
 /// A list once more, item by item.
-fn copy_items<T: Copy>(alloc: Global, items: &[T]) -> Result<Items<T>, NoMemory>
+pub fn copy_items<T: Copy>(alloc: Global, items: &[T]) -> Result<Items<T>, NoMemory>
     ensures { IfOk result (λ copied. copied ≡ items.now) }
 {
     let mut copied = Items::new(alloc);

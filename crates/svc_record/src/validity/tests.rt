@@ -57,7 +57,6 @@ fn plan(alloc: Global, depends: [&[u32]; 2], addresses: [&[&str]; 2]) -> Result<
 #[test]
 fn starts_dependencies_first(rt: HostRuntime) -> Result<(), Fail> {
     let plan = plan(rt.alloc(), [&[1], &[]], [&["a"], &["b"]])?;
-    assert!(rt; plan.is_built());
     assert!(rt; plan.valid(rt.alloc())?);
     assert_eq!(rt;
         startup_order(rt.alloc(), &plan)?.as_slice(),
@@ -74,15 +73,5 @@ fn tells_plans_that_are_not_valid(rt: HostRuntime) -> Result<(), Fail> {
     assert!(rt; !unknown.valid(rt.alloc())?);
     let unnamed = plan(rt.alloc(), [&[], &[]], [&[""], &[]])?;
     assert!(rt; !unnamed.valid(rt.alloc())?);
-    Ok(())
-}
-
-#[test]
-fn tells_plans_that_are_not_built(rt: HostRuntime) -> Result<(), Fail> {
-    let mut shared = plan(rt.alloc(), [&[], &[]], [&["a", "b"], &["a"]])?;
-    shared.eager = true;
-    assert!(rt; shared.is_built());
-    shared.daemon = true;
-    assert!(rt; !shared.is_built());
     Ok(())
 }
