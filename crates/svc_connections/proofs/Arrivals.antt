@@ -13,19 +13,20 @@ use Rattle.svc_record.specs.declared.event.Event.TheVariants.{Arrived}
 use Rattle.svc_record.specs.Record.{Record, has, times, tell, is_runtimes, before_runtimes, EachEntry}
 use Rattle.svc_record.specs.Asks.{is_set, is_shaken, is_settings, is_handshake}
 use Rattle.svc_record.specs.Drain.{put_number, ascending}
-use Rattle.svc_record.specs.Connections.{Arrival, arrivals, is_arrival, goes_on, live_connections, is_known, has_filter, settings_list, same_settings, same_setting, is_judged, is_judged_as, is_refuse, is_settings_of, is_serve, is_drop, is_cut, is_finished, is_set_as, is_shaken_as, is_cut_off, connection_right, connection_known, rests_right, rest_due}
+use Rattle.svc_record.specs.Connections.{Arrival, arrivals, arrived_numbers, is_arrival, goes_on, live_connections, is_known, has_filter, settings_list, same_settings, same_setting, is_judged, is_judged_as, is_refuse, is_settings_of, is_serve, is_drop, is_cut, is_finished, is_set_as, is_shaken_as, is_cut_off, connection_right, connection_known, rests_right, rest_due}
+use Rattle.svc_record.proofs.Closing.{arrival-in}
 use Rattle.svc_connections.specs.declared.stage.Connection.{Connection}
 use Rattle.svc_connections.specs.declared.stage.Stage.{Stage}
 use Rattle.svc_connections.specs.declared.stage.Stage.TheVariants.{Setting}
 use Rattle.svc_connections.specs.ConnectionsData.{ConnectionsData}
-use Rattle.svc_connections.specs.ConnectionsState.{ConnectionsStand, NumberStands, is_in, distinct, numbers, stage_of, arrived_numbers, is_new}
+use Rattle.svc_connections.specs.ConnectionsState.{ConnectionsStand, NumberStands, is_in, distinct, numbers, stage_of, is_new}
 use Rattle.svc_connections.specs.ConnectionsEffects.{put_connection, taken_in, arrived, arrived_told}
 use Rattle.svc_connections.proofs.NumberLemmas.{any-ascending}
 use Rattle.svc_connections.proofs.StageLemmas.{eqb-sym, put-other, put-here, numbers-put, none-is, filter-same}
 use Rattle.svc_connections.proofs.Aside.{aside, right-aside}
 use Rattle.svc_connections.proofs.Parts.{joined}
 use Rattle.svc_connections.proofs.Counts.{none-times, unset-as, unshaken-as}
-use Rattle.svc_connections.proofs.Unheard.{Unheard, unheard, untold, arrival-in}
+use Rattle.svc_connections.proofs.Unheard.{Unheard, unheard, untold}
 
 -- what was told once where it is due
 once-more : (told due : Bool) (n : ℕ) → told ≡ true → due ≡ true → n ≡ 0 → ((if told then n + 1 else n) == (if due then 1 else 0)) ≡ true
@@ -46,7 +47,7 @@ same-option (Dscp n) = eq-eqb n n refl
 same-option (SndBuf n) = eq-eqb n n refl
 same-option (RcvBuf n) = eq-eqb n n refl
 
-same-list : (xs : List SettingOption) → same_settings xs xs ≡ true
+pub same-list : (xs : List SettingOption) → same_settings xs xs ≡ true
 same-list [] = refl
 same-list (x ∷ xs) = and_from (same_setting x x) (same_settings xs xs) (same-option x) (same-list xs)
 

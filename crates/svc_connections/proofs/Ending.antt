@@ -1,23 +1,23 @@
 -- After the end each live connection was cut, once, and all is right.
-use Rattle.std.proofs.Common.{ℕ, Bool, true, false, not, ◌==◌, ◌&&◌, ◌||◌, ◌+◌, ◌++◌, List, [], ◌∷◌, map, ◌≡◌, refl, ap, sym, ◌∙◌, subst, arith, zero-add, if◌then◌else◌}
+use Rattle.std.proofs.Common.{ℕ, Bool, true, false, not, ◌==◌, ◌&&◌, ◌||◌, ◌+◌, ◌++◌, List, [], ◌∷◌, map, filter, ◌≡◌, refl, ap, sym, ◌∙◌, subst, arith, zero-add, if◌then◌else◌}
 use Rattle.std.specs.List.{list_all}
-use Rattle.std.proofs.lemmas.Bool.{eqb-true, eq-eqb, and_parts}
+use Rattle.std.proofs.lemmas.Bool.{eqb-true, eq-eqb, and_parts, or_left, or_right}
 use Rattle.svc_record.specs.declared.plan.Plan.{Plan}
 use Rattle.svc_record.specs.declared.entry.Entry.TheVariants.{Told}
 use Rattle.svc_record.specs.declared.action.Action.{Action}
 use Rattle.svc_record.specs.declared.action.Action.TheVariants.{Phase, Cut, Close, Stop}
 use Rattle.svc_record.specs.declared.action.ExecutionPhase.TheVariants.{ShutdownRuntimes, Terminated}
 use Rattle.svc_record.specs.Record.{Record, has, times, tell, now, before_runtimes, EachEntry}
-use Rattle.svc_record.specs.Connections.{Arrival, arrivals, is_arrival, is_cut, is_cut_off, goes_on, live_connections, connection_right, connection_known, ConnRight, rests_right, rest_due}
+use Rattle.svc_record.specs.Connections.{Arrival, arrivals, arrived_numbers, is_arrival, is_cut, is_cut_off, goes_on, live_connections, connection_right, connection_known, ConnRight, rests_right, rest_due}
 use Rattle.svc_record.specs.Drain.{ascending, live_numbers, stop_seconds, last_actions}
+use Rattle.svc_record.proofs.Closing.{arrival-in}
 use Rattle.svc_record.proofs.Tallies.{one_if, tally, tally-ascending, if_kept, tally-filter, is_in-same, is_in-filter, each_in}
 use Rattle.svc_connections.specs.ConnectionsData.{ConnectionsData}
-use Rattle.svc_connections.specs.ConnectionsState.{ConnectionsStand, is_in, distinct, arrived_numbers}
+use Rattle.svc_connections.specs.ConnectionsState.{ConnectionsStand, is_in, distinct}
 use Rattle.svc_connections.specs.ConnectionsEffects.{cuts}
 use Rattle.svc_connections.proofs.Parts.{Parts, parts, joined, cut_right}
 use Rattle.svc_connections.proofs.Counts.{none-times}
 use Rattle.svc_connections.proofs.Foreign.{all-grows}
-use Rattle.svc_connections.proofs.Unheard.{arrival-in}
 
 -- the action is one that the end tells
 abbrev pub is_last : Action → Bool
@@ -64,7 +64,7 @@ before-last [] (fd ∷ fds) n t r = before-last [] fds n t (Told (Close fd) ∷ 
 before-last (c ∷ cs) fds n t r = before-last cs fds n t (Told (Cut c) ∷ r)
 
 -- each cut is counted once
-pub counted-more : (s : Bool) (k t r : ℕ) → k ≡ t + (if s then r + 1 else r) → k ≡ (one_if s + t) + r
+counted-more : (s : Bool) (k t r : ℕ) → k ≡ t + (if s then r + 1 else r) → k ≡ (one_if s + t) + r
 counted-more true k t r e = omega (arith, e)
 counted-more false k t r e = omega (arith, e)
 
@@ -80,7 +80,7 @@ one-sum false i k e f = zero-add k ∙ e
 plain : (b : Bool) → not b ≡ true → b ≡ false
 plain b h = grind arith
 
-pub tally-once : (c : ℕ) (ns : List ℕ) → distinct ns ≡ true → tally c ns ≡ one_if (is_in c ns)
+tally-once : (c : ℕ) (ns : List ℕ) → distinct ns ≡ true → tally c ns ≡ one_if (is_in c ns)
 tally-once c [] h = refl
 tally-once c (n ∷ ns) h = let both = and_parts (not (is_in n ns)) (distinct ns) h in
     one-sum (n == c) (is_in c ns) (tally c ns) (tally-once c ns both.1) (λ y. subst (λ (m : ℕ). is_in m ns ≡ false) (eqb-true n c y) (plain (is_in n ns) both.0))
@@ -90,6 +90,23 @@ kept-once true true = refl
 kept-once true false = refl
 kept-once false true = refl
 kept-once false false = refl
+
+goes-last : (c : ℕ) (cs fds : List ℕ) (n t : ℕ) (r : Record) → goes_on (tell r (map Cut cs ++ rest fds n t)) c ≡ goes_on r c
+goes-last c [] [] n t r = refl
+goes-last c [] (fd ∷ fds) n t r = goes-last c [] fds n t (Told (Close fd) ∷ r)
+goes-last c (m ∷ cs) fds n t r = goes-last c cs fds n t (Told (Cut m) ∷ r)
+
+cut-last : (c : ℕ) (cs fds : List ℕ) (n t : ℕ) (r : Record) → has (is_cut c) (tell r (map Cut cs ++ rest fds n t)) ≡ (is_in c cs || has (is_cut c) r)
+cut-last c [] [] n t r = refl
+cut-last c [] (fd ∷ fds) n t r = cut-last c [] fds n t (Told (Close fd) ∷ r)
+cut-last c (m ∷ cs) fds n t r = cut-last c cs fds n t (Told (Cut m) ∷ r) ∙ first (is_in c cs) (m == c) (has (is_cut c) r)
+  where
+    first : (a b h : Bool) → (a || (b || h)) ≡ ((b || a) || h)
+    first a b h = grind arith
+
+filter-none : (test : ℕ → Bool) (ns : List ℕ) → ((c : ℕ) → is_in c ns ≡ true → test c ≡ false) → filter test ns ≡ []
+filter-none test [] f = refl
+filter-none test (n ∷ ns) f = rw (f n (or_left (n == n) (is_in n ns) (eq-eqb n n refl))) (filter-none test ns (λ c h. f c (or_right (n == c) (is_in c ns) h)))
 
 -- the cuts of the end are those that are due
 module _ (p : Plan) (d : ConnectionsData) (q : Record) (w : ConnectionsStand p d q) where
@@ -132,10 +149,27 @@ module _ (p : Plan) (d : ConnectionsData) (q : Record) (w : ConnectionsStand p d
     in_turn = same-end.turns w.right.in_turn;
   }
 
+  cut-of : (c : ℕ) → is_in c cs ≡ ((goes_on q c && not (has (is_cut c) q)) && is_in c (arrived_numbers q))
+  cut-of c = is_in-same c cs (live_connections q) (tally-ascending c (live_connections q)) ∙ is_in-filter c (λ n. goes_on q n && not (has (is_cut n) q)) (arrived_numbers q)
+
+  off-live : (c : ℕ) → is_in c (arrived_numbers q) ≡ true → (goes_on end c && not (has (is_cut c) end)) ≡ false
+  off-live c came =
+      ap (λ b. b && not (has (is_cut c) end)) (goes-last c cs fds (stop_seconds p q) (now q) phase)
+      ∙ ap (λ b. goes_on q c && not b) (cut-last c cs fds (stop_seconds p q) (now q) phase)
+      ∙ gone (goes_on q c) (has (is_cut c) q) (is_in c cs) (is_in c (arrived_numbers q)) (cut-of c) came
+    where
+      gone : (g u i a : Bool) → i ≡ ((g && not u) && a) → a ≡ true → (g && not (i || u)) ≡ false
+      gone g u i a e came = grind arith
+
+  -- after the end no connection is live
+  pub none-live : live_connections end ≡ []
+  none-live = ap (λ (xs : List Arrival). filter (λ c. goes_on end c && not (has (is_cut c) end)) (map (λ (x : Arrival). x.number) xs)) same-end.arrived
+      ∙ filter-none (λ c. goes_on end c && not (has (is_cut c) end)) (arrived_numbers q) off-live
+
   -- what is cut arrived
   arrived-all : list_all (λ c. has (is_arrival c) q) cs ≡ true
   arrived-all = each_in (λ c. has (is_arrival c) q) cs (λ c h.
-      let there = sym (is_in-same c cs (live_connections q) (tally-ascending c (live_connections q)) ∙ is_in-filter c (λ n. goes_on q n && not (has (is_cut n) q)) (arrived_numbers q)) ∙ h in
+      let there = sym (cut-of c) ∙ h in
       arrival-in c q ∙ (and_parts (goes_on q c && not (has (is_cut c) q)) (is_in c (arrived_numbers q)) there).1)
 
   -- the live connections that the part cuts are those of the record

@@ -10,4 +10,4 @@ pub mod Unheard
 pub mod Arrivals
 pub mod Rests
 pub mod Ending
-pub mod Closings
+pub mod Judgements

@@ -8,15 +8,16 @@ use Rattle.svc_record.specs.declared.event.Event.TheVariants.{AcceptFailed}
 use Rattle.svc_record.specs.Record.{Record, has, times, tell}
 use Rattle.svc_record.specs.Asks.{is_settings_open, is_handshake_open}
 use Rattle.svc_record.specs.Plans.{is_endpoint}
-use Rattle.svc_record.specs.Connections.{arrivals, is_arrival, is_serve, is_cut, goes_on, live_connections, connection_right, is_rest, is_full}
+use Rattle.svc_record.specs.Connections.{arrivals, arrived_numbers, is_arrival, is_serve, is_cut, goes_on, is_live_connection, connection_right, is_rest, is_full}
+use Rattle.svc_record.proofs.Closing.{arrival-in}
 use Rattle.svc_record.proofs.Tallies.{is_in-filter}
 use Rattle.svc_connections.specs.ConnectionsData.{ConnectionsData}
-use Rattle.svc_connections.specs.ConnectionsState.{ConnectionsStand, is_in, is_new, is_setting, is_shaking, is_serving, stage_of, arrived_numbers}
+use Rattle.svc_connections.specs.ConnectionsState.{ConnectionsStand, is_in, is_new, is_setting, is_shaking, is_serving, stage_of}
 use Rattle.svc_connections.specs.ConnectionsEffects.{rest_told}
 use Rattle.svc_connections.proofs.NumberLemmas.{any-ascending}
 use Rattle.svc_connections.proofs.Aside.{aside}
 use Rattle.svc_connections.proofs.Foreign.{all-grows}
-use Rattle.svc_connections.proofs.Unheard.{unheard, untold, arrival-in}
+use Rattle.svc_connections.proofs.Unheard.{unheard, untold}
 
 one-more : (full : Bool) (a b : ℕ) → full ≡ true → (a == b) ≡ true → ((a + 1) == (if full then b + 1 else b)) ≡ true
 one-more full a b f h = rw f (eq-eqb (a + 1) (b + 1) (ap (λ (k : ℕ). k + 1) (eqb-true a b h)))
@@ -73,7 +74,7 @@ pub shaking-is-open : (p : Plan) (d : ConnectionsData) (q : Record) (c : ℕ) �
 shaking-is-open p d q c w = let at = w.stages_are c in sym at.shaking_is
 
 -- a live connection arrived, and goes on
-pub live-in : (p : Plan) (d : ConnectionsData) (q : Record) (c : ℕ) → ConnectionsStand p d q → is_in c (live_connections q) ≡ (goes_on q c && has (is_arrival c) q)
+pub live-in : (p : Plan) (d : ConnectionsData) (q : Record) (c : ℕ) → ConnectionsStand p d q → is_live_connection q c ≡ (goes_on q c && has (is_arrival c) q)
 live-in p d q c w = let at = w.stages_are c in
     is_in-filter c (λ n. goes_on q n && not (has (is_cut n) q)) (arrived_numbers q)
     ∙ ap (λ b. (goes_on q c && not (has (is_cut c) q)) && b) (sym (arrival-in c q))
@@ -82,11 +83,12 @@ live-in p d q c w = let at = w.stages_are c in
     whole : (g u a : Bool) → u ≡ false → ((g && not u) && a) ≡ (g && a)
     whole g u a h = grind arith
 
--- what is served was served and is live
-pub serving-is-live : (p : Plan) (d : ConnectionsData) (q : Record) (c : ℕ) → ConnectionsStand p d q → is_serving (stage_of d.live c) ≡ (has (is_serve c) q && is_in c (live_connections q))
-serving-is-live p d q c w = let at = w.stages_are c in
-    sym at.serving_is ∙ served (has (is_arrival c) q) (λ none. let silent = unheard q c (untold p q c w.known none) in silent.no_serve)
-    ∙ ap (λ b. has (is_serve c) q && b) (sym (live-in p d q c w))
+-- the application is done with what was served and is live: it has just that
+pub finished-row : (p : Plan) (d : ConnectionsData) (q : Record) (c : ℕ) → ConnectionsStand p d q → (has (is_serve c) q && is_live_connection q c) ≡ is_serving (stage_of d.live c)
+finished-row p d q c w = let at = w.stages_are c in
+    ap (λ b. has (is_serve c) q && b) (live-in p d q c w)
+    ∙ sym (served (has (is_arrival c) q) (λ none. let silent = unheard q c (untold p q c w.known none) in silent.no_serve))
+    ∙ at.serving_is
   where
     served-by : (v g a : Bool) → (a ≡ false → v ≡ false) → (v && g) ≡ (v && (g && a))
     served-by v g true h = grind arith

@@ -1,5 +1,5 @@
 -- Of a connection that didn't arrive nothing was told.
-use Rattle.std.proofs.Common.{ℕ, Bool, true, false, ◌==◌, ◌||◌, List, [], ◌∷◌, ◌≡◌, refl, ap, subst}
+use Rattle.std.proofs.Common.{ℕ, Bool, true, false, ◌==◌, ◌||◌, List, [], ◌∷◌, ◌≡◌, refl, subst}
 use Rattle.std.proofs.lemmas.Bool.{ne_eqb, or_parts, or_from, and_left}
 use Rattle.svc_conf.specs.declared.settings.Setting.{Setting}
 use Rattle.svc_record.specs.declared.plan.Plan.{Plan}
@@ -10,7 +10,6 @@ use Rattle.svc_record.specs.declared.event.Event.TheVariants.{Arrived}
 use Rattle.svc_record.specs.Record.{Record, has, times, EachEntry}
 use Rattle.svc_record.specs.Asks.{is_settings, is_handshake}
 use Rattle.svc_record.specs.Connections.{same_settings, is_arrival, connection_known, is_judged, is_judged_as, is_refuse, is_settings_of, is_serve, is_drop}
-use Rattle.svc_connections.specs.ConnectionsState.{is_in, arrived_numbers}
 use Rattle.svc_connections.proofs.Counts.{none-times, narrower}
 
 -- the entry tells something of the connection
@@ -104,9 +103,3 @@ unheard q c h =
       drops = none-times (is_drop c) q drop;
       no_drop = drop;
     }
-
--- the record knows each number that arrived
-pub arrival-in : (c : ℕ) (q : Record) → has (is_arrival c) q ≡ is_in c (arrived_numbers q)
-arrival-in c [] = refl
-arrival-in c (Got (Arrived s i n peer) ∷ q) = ap (λ b. (n == c) || b) (arrival-in c q)
-arrival-in c (_ ∷ q) = arrival-in c q

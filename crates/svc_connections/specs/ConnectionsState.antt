@@ -4,7 +4,7 @@ use Rattle.std.specs.List.{list_any, list_all}
 use Rattle.svc_record.specs.declared.plan.Plan.{Plan}
 use Rattle.svc_record.specs.Record.{Record, has, is_runtimes, EachEntry}
 use Rattle.svc_record.specs.Asks.{is_settings_open, is_handshake_open, is_set, is_shaken}
-use Rattle.svc_record.specs.Connections.{Arrival, arrivals, is_arrival, is_serve, is_cut, is_finished, goes_on, live_connections, ConnRight, connection_known}
+use Rattle.svc_record.specs.Connections.{arrived_numbers, is_arrival, is_serve, is_cut, is_finished, goes_on, live_connections, ConnRight, connection_known}
 use Rattle.svc_record.specs.Drain.{ascending}
 use Rattle.svc_connections.specs.declared.stage.Connection.{Connection}
 use Rattle.svc_connections.specs.declared.stage.Stage.{Stage}
@@ -57,10 +57,6 @@ is_live None = false
 -- no connection with this number arrived
 abbrev pub is_new : ConnectionsData → ℕ → Bool
 is_new d c = not (is_in c d.came)
-
--- the numbers of the connections that arrived, the newest first
-abbrev pub arrived_numbers : Record → List ℕ
-arrived_numbers q = map (λ (x : Arrival). x.number) (arrivals q)
 
 -- the record says of the connection that it has come so far; what it didn't come to wasn't answered, and nothing of one that didn't arrive
 pub record NumberStands (q : Record) (c : ℕ) (stage : Option Stage) : Type 0 where

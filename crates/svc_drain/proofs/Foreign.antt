@@ -1,5 +1,5 @@
 -- What isn't the part's changes nothing of what it stands for.
-use Rattle.std.proofs.Common.{ℕ, Bool, true, false, not, ◌||◌, ◌&&◌, List, [], ◌∷◌, ◌++◌, Option, Some, None, ◌≡◌, refl, ap, sym, ◌∙◌, arith, if◌then◌else◌}
+use Rattle.std.proofs.Common.{ℕ, Bool, true, false, not, ◌||◌, ◌&&◌, List, [], ◌∷◌, ◌++◌, Option, Some, None, ◌≡◌, refl, ap, sym, ◌∙◌, arith, if◌then◌else◌, is_some}
 use Rattle.std.proofs.lemmas.Bool.{and_parts, and_from}
 use Rattle.svc_record.specs.declared.plan.Plan.{Plan}
 use Rattle.svc_record.specs.declared.entry.Entry.TheVariants.{Got, Told}
@@ -15,7 +15,7 @@ use Rattle.svc_record.specs.Drain.{told_marks}
 use Rattle.svc_drain.specs.declared.stage.Stage.{Stage}
 use Rattle.svc_drain.specs.declared.stage.Stage.TheVariants.{Running, Offering, Resting, Grace, Ending}
 use Rattle.svc_drain.specs.DrainData.{DrainData}
-use Rattle.svc_drain.specs.DrainState.{DrainStands, IsDrainSettled, OverIs, is_since, stage_fits, is_terminate_signal, rest_from, rest_at}
+use Rattle.svc_drain.specs.DrainState.{DrainStands, IsDrainSettled, OverIs, stage_fits, is_terminate_signal, rest_from, rest_at}
 use Rattle.svc_drain.specs.DrainFacts.{is_drain_event, is_offer_event, is_drain_action, has_no_drain_action}
 use Rattle.svc_drain.proofs.Records.{rest-new}
 
@@ -69,17 +69,17 @@ fits-terms t u o true over2 h f = let e = f refl in grind arith
 fits-terms t u o false over2 h f = grind arith
 
 -- an offer stays over
-fits-later : (g : Stage) (s : Option ShutdownSignal) (o : Bool) (over over2 : Option ℕ) → stage_fits g s o over ≡ true → (is_since over ≡ true → over2 ≡ over) → stage_fits g s o over2 ≡ true
+fits-later : (g : Stage) (s : Option ShutdownSignal) (o : Bool) (over over2 : Option ℕ) → stage_fits g s o over ≡ true → (is_some over ≡ true → over2 ≡ over) → stage_fits g s o over2 ≡ true
 fits-later Running s o over over2 h f = refl
 fits-later Offering s o over over2 h f = h
 fits-later Resting s o over over2 h f =
-    let parts = and_parts (is_upgrade s && o) (is_since over) h in
-    and_from (is_upgrade s && o) (is_since over2) parts.0 (ap is_since (f parts.1) ∙ parts.1)
-fits-later (Grace at) s o over over2 h f = fits-terms (is_terminate_signal s) (is_upgrade s) o (is_since over) (is_since over2) h (λ e. ap is_since (f e) ∙ e)
+    let parts = and_parts (is_upgrade s && o) (is_some over) h in
+    and_from (is_upgrade s && o) (is_some over2) parts.0 (ap is_some (f parts.1) ∙ parts.1)
+fits-later (Grace at) s o over over2 h f = fits-terms (is_terminate_signal s) (is_upgrade s) o (is_some over) (is_some over2) h (λ e. ap is_some (f e) ∙ e)
 fits-later Ending s o over over2 h f = h
 
 -- as the offer gets over no rest is over
-rest-later : (over over2 : Option ℕ) (t : ℕ) → (is_since over ≡ true → over2 ≡ over) → (is_since over ≡ false → rest_from over2 t ≡ None) → rest_from over2 t ≡ rest_from over t
+rest-later : (over over2 : Option ℕ) (t : ℕ) → (is_some over ≡ true → over2 ≡ over) → (is_some over ≡ false → rest_from over2 t ≡ None) → rest_from over2 t ≡ rest_from over t
 rest-later None over2 t f new = new refl
 rest-later (Some at) over2 t f new = ap (λ x. rest_from x t) (f refl)
 
@@ -91,12 +91,12 @@ rest-at-later (Grace at) over over2 t e = refl
 rest-at-later Ending over over2 t e = sym e
 
 -- an event by which the offer gets over does so at its moment
-new-rest : (p : Plan) (d : DrainData) (over over2 : Option ℕ) (q : Record) (e : Event) → now (Got e ∷ q) ≡ now q → OverIs p (Got e ∷ q) over2 → DrainStands p d over q → is_since over ≡ false → rest_from over2 d.moment ≡ None
+new-rest : (p : Plan) (d : DrainData) (over over2 : Option ℕ) (q : Record) (e : Event) → now (Got e ∷ q) ≡ now q → OverIs p (Got e ∷ q) over2 → DrainStands p d over q → is_some over ≡ false → rest_from over2 d.moment ≡ None
 new-rest p d over over2 q e same overs stand not_over =
     rest-new over2 d.moment (λ at is. sym (overs.moment at is) ∙ ap (λ b. if b then over_moment p q else now (Got e ∷ q)) (stand.over_is.is ∙ not_over) ∙ same ∙ sym stand.moment_is)
 
 -- an event that isn't the part's, be it an answer by which the offer gets over
-pub stands-got : (p : Plan) (d : DrainData) (over over2 : Option ℕ) (q : Record) (e : Event) → is_drain_event e ≡ false → IsDrainSettled d over → OverIs p (Got e ∷ q) over2 → (is_since over ≡ true → over2 ≡ over)
+pub stands-got : (p : Plan) (d : DrainData) (over over2 : Option ℕ) (q : Record) (e : Event) → is_drain_event e ≡ false → IsDrainSettled d over → OverIs p (Got e ∷ q) over2 → (is_some over ≡ true → over2 ≡ over)
     → DrainStands p d over q → DrainStands p d over2 (Got e ∷ q)
 stands-got p d over over2 q (Moment ms) other settled overs stays stand = absurd (cc)
 stands-got p d over over2 q (Signal kind) other settled overs stays stand = absurd (cc)
@@ -129,7 +129,7 @@ over-got p over q SendBusy other overs = absurd (cc)
 over-got p over q (Signal kind) other overs = absurd (cc)
 over-got p over q e other overs = record {
   is = overs.is;
-  moment = λ at h. ap (λ b. if b then over_moment p q else now (Got e ∷ q)) (overs.is ∙ ap is_since h) ∙ overs.moment at h;
+  moment = λ at h. ap (λ b. if b then over_moment p q else now (Got e ∷ q)) (overs.is ∙ ap is_some h) ∙ overs.moment at h;
 }
 
 -- and so does what is told

@@ -1,5 +1,5 @@
 -- What the part stands for once it was told what is due of the shutdown.
-use Rattle.std.proofs.Common.{ℕ, Bool, true, false, not, ◌&&◌, List, [], ◌∷◌, Option, Some, None, ◌≡◌, refl, ap, sym, ◌∙◌, subst, if◌then◌else◌}
+use Rattle.std.proofs.Common.{ℕ, Bool, true, false, not, ◌&&◌, List, [], ◌∷◌, Option, Some, None, ◌≡◌, refl, ap, sym, ◌∙◌, subst, if◌then◌else◌, is_some}
 use Rattle.std.proofs.lemmas.Bool.{and_from}
 use Rattle.svc_record.specs.declared.plan.Plan.{Plan}
 use Rattle.svc_record.specs.declared.action.Action.{Action}
@@ -13,7 +13,7 @@ use Rattle.svc_record.specs.Drain.{phase, broadcast, told_marks}
 use Rattle.svc_drain.specs.declared.stage.Stage.{Stage}
 use Rattle.svc_drain.specs.declared.stage.Stage.TheVariants.{Running, Offering, Resting, Grace, Ending}
 use Rattle.svc_drain.specs.DrainData.{DrainData}
-use Rattle.svc_drain.specs.DrainState.{DrainStands, IsDrainSettled, is_since, is_told_far, is_before_rest, is_unanswered, stage_fits, marks_of, grace_from, rest_from, rest_at}
+use Rattle.svc_drain.specs.DrainState.{DrainStands, IsDrainSettled, is_told_far, is_before_rest, is_unanswered, stage_fits, marks_of, grace_from, rest_from, rest_at}
 use Rattle.svc_drain.specs.DrainEffects.{at_stage, next_stage, grace_told, gone_on, row_told}
 use Rattle.svc_drain.proofs.Records.{unmoved-tell, offer-is, rest-ends, fast-offers}
 use Rattle.svc_drain.proofs.Signalled.{offers-by}
@@ -112,8 +112,8 @@ offered p r m s c o (Some at) q stand = restage p (part r m s c o Offering) (Som
     stand
 
 -- the rest is over
-rested : (p : Plan) (r : Bool) (m : ℕ) (s : Option ShutdownSignal) (c : ℕ) (o : Bool) (over x : Option ℕ) (q : Record) → rest_from over m ≡ x → (is_since x ≡ true → x ≡ Some m) → DrainStands p (part r m s c o Resting) over q
-    → DrainStands p (part r m s c o (if is_since x then Grace m else Resting)) over (tell q (if is_since x then Broadcast ∷ grace_told m else []))
+rested : (p : Plan) (r : Bool) (m : ℕ) (s : Option ShutdownSignal) (c : ℕ) (o : Bool) (over x : Option ℕ) (q : Record) → rest_from over m ≡ x → (is_some x ≡ true → x ≡ Some m) → DrainStands p (part r m s c o Resting) over q
+    → DrainStands p (part r m s c o (if is_some x then Grace m else Resting)) over (tell q (if is_some x then Broadcast ∷ grace_told m else []))
 rested p r m s c o over None q is ends stand = stand
 rested p r m (Some GracefulUpgrade) c true over (Some k) q is ends stand = restage p (part r m (Some GracefulUpgrade) c true Resting) over q (Grace m) (Broadcast ∷ grace_told m) refl stand.fits
     (λ w. is ∙ ends refl)
@@ -143,12 +143,12 @@ gone p r m s c o Ending over q stand = stand
 pub stands-gone_on : (p : Plan) (d : DrainData) (over : Option ℕ) (q : Record) → DrainStands p d over q → DrainStands p (gone_on d over) over (tell q (row_told d over))
 stands-gone_on p d over q stand = gone p d.running d.moment d.signal d.since d.offers d.stage over q stand
 
-over-far : (s : Option ShutdownSignal) (over : Option ℕ) (t : ℕ) → rest_from over t ≡ None → is_told_far (if is_since over then Resting else Offering) s over t ≡ true
+over-far : (s : Option ShutdownSignal) (over : Option ℕ) (t : ℕ) → rest_from over t ≡ None → is_told_far (if is_some over then Resting else Offering) s over t ≡ true
 over-far s None t none = refl
-over-far s (Some at) t none = ap (λ x. not (is_since x)) none
+over-far s (Some at) t none = ap (λ x. not (is_some x)) none
 
-rest-far : (s : Option ShutdownSignal) (over x : Option ℕ) (t : ℕ) → rest_from over t ≡ x → is_told_far (if is_since x then Grace t else Resting) s over t ≡ true
-rest-far s over None t e = ap (λ x. not (is_since x)) e
+rest-far : (s : Option ShutdownSignal) (over x : Option ℕ) (t : ℕ) → rest_from over t ≡ x → is_told_far (if is_some x then Grace t else Resting) s over t ≡ true
+rest-far s over None t e = ap (λ x. not (is_some x)) e
 rest-far s over (Some k) t e = refl
 
 far : (g : Stage) (s : Option ShutdownSignal) (o : Bool) (over : Option ℕ) (t : ℕ) → (is_before_rest g ≡ true → rest_from over t ≡ None) → is_told_far (next_stage g s o over t) s over t ≡ true

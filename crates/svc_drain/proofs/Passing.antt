@@ -1,5 +1,5 @@
 -- When the waits have passed, and which phases are due until then, by the part.
-use Rattle.std.proofs.Common.{ℕ, Bool, true, false, ◌||◌, ◌&&◌, ◌+◌, List, [], ◌∷◌, ◌++◌, Option, Some, None, ◌≡◌, refl, ap, sym, ◌∙◌, arith, if◌then◌else◌}
+use Rattle.std.proofs.Common.{ℕ, Bool, true, false, ◌||◌, ◌&&◌, ◌+◌, List, [], ◌∷◌, ◌++◌, Option, Some, None, ◌≡◌, refl, ap, sym, ◌∙◌, arith, if◌then◌else◌, is_some}
 use Rattle.svc_record.specs.declared.plan.Plan.{Plan}
 use Rattle.svc_record.specs.declared.entry.Entry.{Entry}
 use Rattle.svc_record.specs.declared.entry.Entry.TheVariants.{Got, Told}
@@ -15,7 +15,7 @@ use Rattle.svc_record.specs.Drain.{Mark, phase, broadcast, marks_if, is_some_mom
 use Rattle.svc_drain.specs.declared.stage.Stage.{Stage}
 use Rattle.svc_drain.specs.declared.stage.Stage.TheVariants.{Running, Offering, Resting, Grace, Ending}
 use Rattle.svc_drain.specs.DrainData.{DrainData}
-use Rattle.svc_drain.specs.DrainState.{DrainStands, IsDrainSettled, OverIs, is_since, is_told_far, is_terminate_signal, stage_fits, stage_marks, rest_from, rest_at, passes, passes_at}
+use Rattle.svc_drain.specs.DrainState.{DrainStands, IsDrainSettled, OverIs, is_told_far, is_terminate_signal, stage_fits, stage_marks, rest_from, rest_at, passes, passes_at}
 use Rattle.svc_drain.specs.DrainFacts.{is_drain_event}
 use Rattle.svc_drain.proofs.Records.{no_moment}
 use Rattle.svc_drain.proofs.Signalled.{offers-by}
@@ -77,7 +77,7 @@ waits-stage p Ending _ o over rest t since fits far is grace plain = absurd (cc)
 
 -- the row by the stage
 row-stage : (g : Stage) (s : Option ShutdownSignal) (o : Bool) (over rest : Option ℕ) (t : ℕ) → stage_fits g s o over ≡ true → is_told_far g s over t ≡ true → (o ≡ true → rest ≡ rest_at g over t)
-    → row_over s o (is_since over) rest ≡ stage_marks g s o
+    → row_over s o (is_some over) rest ≡ stage_marks g s o
 row-stage Running None o over rest t fits far is = refl
 row-stage Running (Some kind) o over rest t fits far is = absurd (cc)
 row-stage Offering (Some GracefulUpgrade) true over rest t fits far is = let e = no_moment over far in rw (is refl, e) refl
@@ -165,7 +165,7 @@ passed-other p q e other = refl
 
 -- nor does an event that isn't the part's
 pub passed-got : (p : Plan) (d : DrainData) (over over2 : Option ℕ) (q : Record) (e : Event) → is_drain_event e ≡ false → DrainStands p d over q → IsDrainSettled d over → OverIs p (Got e ∷ q) over2
-    → (is_since over ≡ true → over2 ≡ over) → passes p d ≡ false → has_passed p (Got e ∷ q) ≡ false
+    → (is_some over ≡ true → over2 ≡ over) → passes p d ≡ false → has_passed p (Got e ∷ q) ≡ false
 passed-got p d over over2 q e other stand settled overs stays unpassed = passed-other p q e other ∙ passed-is p d over q stand settled ∙ unpassed
 
 -- before a signal nothing passes

@@ -1,5 +1,5 @@
 -- What is told changes nothing of what the record says on its signal and its waits; and what it says before and after a signal.
-use Rattle.std.proofs.Common.{ℕ, Bool, true, false, not, ◌||◌, ◌&&◌, ◌-◌, List, [], ◌∷◌, Option, Some, None, ◌≡◌, refl, ap, sym, ◌∙◌, arith, if◌then◌else◌}
+use Rattle.std.proofs.Common.{ℕ, Bool, true, false, not, ◌||◌, ◌&&◌, ◌-◌, List, [], ◌∷◌, Option, Some, None, ◌≡◌, refl, ap, sym, ◌∙◌, arith, if◌then◌else◌, is_some}
 use Rattle.std.specs.Prelude.{nat_le}
 use Rattle.svc_record.specs.declared.plan.Plan.{Plan}
 use Rattle.svc_record.specs.declared.entry.Entry.TheVariants.{Got, Told}
@@ -11,8 +11,8 @@ use Rattle.svc_record.specs.Record.{Record, has, tell, now, signal_of, before_si
 use Rattle.svc_record.specs.Message.{encode}
 use Rattle.svc_record.specs.Descriptors.{live_table}
 use Rattle.svc_record.specs.Offer.{has_offer, is_over, over_moment, is_upgrade, is_empty_table, table, is_answered, is_written}
-use Rattle.svc_record.specs.Drain.{rest_end}
-use Rattle.svc_drain.specs.DrainState.{is_since, rest_from, is_fast_signal}
+use Rattle.svc_record.specs.Drain.{rest_end, is_fast}
+use Rattle.svc_drain.specs.DrainState.{rest_from}
 
 -- r says the same as q on the moment, the signal and the offer's end
 pub record Unmoved (p : Plan) (q r : Record) : Type 0 where
@@ -110,16 +110,16 @@ unsignalled-rest p (Got e ∷ q) h = unsignalled-rest p q h
 unsignalled-rest p (Told a ∷ q) h = unsignalled-rest p q h
 
 -- what a moment adds, by since when the offer is over
-pub rest-over : (b : Bool) (m ms : ℕ) (over : Option ℕ) → b ≡ is_since over → ((at : ℕ) → over ≡ Some at → m ≡ at) → (if b && nat_le 5000 (ms - m) then Some ms else None) ≡ rest_from over ms
+pub rest-over : (b : Bool) (m ms : ℕ) (over : Option ℕ) → b ≡ is_some over → ((at : ℕ) → over ≡ Some at → m ≡ at) → (if b && nat_le 5000 (ms - m) then Some ms else None) ≡ rest_from over ms
 rest-over b m ms None is at = ap (λ c. if c && nat_le 5000 (ms - m) then Some ms else None) is
 rest-over b m ms (Some a) is at = ap (λ c. if c && nat_le 5000 (ms - m) then Some ms else None) is ∙ ap (λ n. if nat_le 5000 (ms - n) then Some ms else None) (at a refl)
 
 -- no rest ends while the offer goes on
-pub rest-none : (over : Option ℕ) (t : ℕ) → is_since over ≡ false → rest_from over t ≡ None
+pub rest-none : (over : Option ℕ) (t : ℕ) → is_some over ≡ false → rest_from over t ≡ None
 rest-none None t h = refl
 rest-none (Some at) t h = cc
 
-pub no_moment : (x : Option ℕ) → not (is_since x) ≡ true → x ≡ None
+pub no_moment : (x : Option ℕ) → not (is_some x) ≡ true → x ≡ None
 no_moment None h = refl
 no_moment (Some m) h = cc
 
@@ -132,16 +132,16 @@ rest-new (Some at) t h = ap (λ n. if nat_le 5000 n then Some t else None) (no_t
     no_time e = omega (arith, e)
 
 -- a rest that ends, ends at the moment
-pub rest-ends : (over : Option ℕ) (t : ℕ) → is_since (rest_from over t) ≡ true → rest_from over t ≡ Some t
+pub rest-ends : (over : Option ℕ) (t : ℕ) → is_some (rest_from over t) ≡ true → rest_from over t ≡ Some t
 rest-ends None t h = cc
 rest-ends (Some at) t h = by (nat_le 5000 (t - at)) h
   where
-    by : (b : Bool) → is_since (if b then Some t else None) ≡ true → (if b then Some t else None) ≡ Some t
+    by : (b : Bool) → is_some (if b then Some t else None) ≡ true → (if b then Some t else None) ≡ Some t
     by true k = refl
     by false k = cc
 
 -- only an upgrade offers
-pub fast-offers : (s : Option ShutdownSignal) (o b : Bool) → is_fast_signal s ≡ true → o ≡ (is_upgrade s && b) → o ≡ false
+pub fast-offers : (s : Option ShutdownSignal) (o b : Bool) → is_fast s ≡ true → o ≡ (is_upgrade s && b) → o ≡ false
 fast-offers (Some FastShutdown) o b f e = e
 fast-offers (Some GracefulTerminate) o b f e = cc
 fast-offers (Some GracefulUpgrade) o b f e = cc

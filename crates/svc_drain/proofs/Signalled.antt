@@ -1,5 +1,5 @@
 -- What the part stands for at its beginning, after a moment, after a signal, and where the server runs.
-use Rattle.std.proofs.Common.{ℕ, Bool, true, false, not, ◌||◌, ◌&&◌, ◌+◌, [], ◌∷◌, Option, Some, None, ◌≡◌, refl, ap, sym, ◌∙◌, subst, if◌then◌else◌}
+use Rattle.std.proofs.Common.{ℕ, Bool, true, false, not, ◌||◌, ◌&&◌, ◌+◌, [], ◌∷◌, Option, Some, None, ◌≡◌, refl, ap, sym, ◌∙◌, subst, if◌then◌else◌, is_some}
 use Rattle.svc_record.specs.declared.plan.Plan.{Plan}
 use Rattle.svc_record.specs.declared.entry.Entry.TheVariants.{Got}
 use Rattle.svc_record.specs.declared.event.Event.TheVariants.{Moment, Signal}
@@ -9,11 +9,11 @@ use Rattle.svc_record.specs.Record.{Record, has, tell, now, signal_of, before_si
 use Rattle.svc_record.specs.Descriptors.{live_table}
 use Rattle.svc_record.specs.Offer.{is_over, over_moment, is_upgrade, is_empty_table, table, is_answered, is_written}
 use Rattle.svc_record.specs.Message.{encode}
-use Rattle.svc_record.specs.Drain.{phase}
+use Rattle.svc_record.specs.Drain.{phase, is_fast}
 use Rattle.svc_drain.specs.declared.stage.Stage.{Stage}
 use Rattle.svc_drain.specs.declared.stage.Stage.TheVariants.{Running, Offering, Resting, Grace, Ending}
 use Rattle.svc_drain.specs.DrainData.{DrainData}
-use Rattle.svc_drain.specs.DrainState.{DrainStands, OverIs, IsDrainSettled, is_since, is_told_far, is_before_rest, is_unanswered, is_fast_signal, stage_fits, rest_from, rest_at}
+use Rattle.svc_drain.specs.DrainState.{DrainStands, OverIs, IsDrainSettled, is_told_far, is_before_rest, is_unanswered, stage_fits, rest_from, rest_at}
 use Rattle.svc_drain.specs.DrainEffects.{still, at_moment, signalled, run, run_told}
 use Rattle.svc_drain.proofs.Records.{signal-none, first-later, unsignalled-over, unsignalled-rest, or_rest, rest_now, rest-step, rest-over, rest-none, rest-new, no_moment, fast-offers}
 
@@ -47,10 +47,10 @@ pub offers-by : (p : Plan) (d : DrainData) (over : Option ℕ) (q : Record) → 
 offers-by p d over q stand = stand.offers_is ∙ ap (λ s. is_upgrade s && not (is_empty_table (table p q))) (sym stand.signal_is)
 
 -- without a signal no offer is over
-pub none-over : (p : Plan) (d : DrainData) (over : Option ℕ) (q : Record) → DrainStands p d over q → d.signal ≡ None → is_since over ≡ false
+pub none-over : (p : Plan) (d : DrainData) (over : Option ℕ) (q : Record) → DrainStands p d over q → d.signal ≡ None → is_some over ≡ false
 none-over p d over q stand none = sym stand.over_is.is ∙ unsignalled-over p q (sym stand.signal_is ∙ none)
 
-moment-unrested : (g : Stage) (s : Option ShutdownSignal) (over : Option ℕ) (t ms : ℕ) → is_told_far g s over t ≡ true → is_before_rest g ≡ true → (s ≡ None → is_since over ≡ false) → rest_from over ms ≡ None
+moment-unrested : (g : Stage) (s : Option ShutdownSignal) (over : Option ℕ) (t ms : ℕ) → is_told_far g s over t ≡ true → is_before_rest g ≡ true → (s ≡ None → is_some over ≡ false) → rest_from over ms ≡ None
 moment-unrested Running None over t ms far before f = rest-none over ms (f refl)
 moment-unrested Running (Some kind) over t ms far before f = cc
 moment-unrested Offering s over t ms far before f = ap (λ x. rest_from x ms) (no_moment over far)
@@ -68,7 +68,7 @@ moment-answered Ending s over t far h = cc
 
 -- what a moment adds to the rest of a stage
 moment-rest : (g : Stage) (s : Option ShutdownSignal) (o : Bool) (over : Option ℕ) (t ms : ℕ) → is_told_far g s over t ≡ true → stage_fits g s o over ≡ true → (is_before_rest g ≡ true → rest_from over t ≡ None)
-    → (is_fast_signal s ≡ true → o ≡ false) → o ≡ true → or_rest (rest_at g over t) (rest_from over ms) ≡ rest_at g over ms
+    → (is_fast s ≡ true → o ≡ false) → o ≡ true → or_rest (rest_at g over t) (rest_from over ms) ≡ rest_at g over ms
 moment-rest Running s o over t ms far fits f fast offers = ap (λ x. or_rest x (rest_from over ms)) (f refl)
 moment-rest Offering s o over t ms far fits f fast offers = ap (λ x. or_rest x (rest_from over ms)) (f refl)
 moment-rest Resting s o over t ms far fits f fast offers = ap (λ x. or_rest x (rest_from over ms)) (no_moment (rest_from over t) far)
@@ -85,7 +85,7 @@ stands-moment p d over q ms settled stand = record {
   offers_is = stand.offers_is;
   over_is = record {
     is = stand.over_is.is;
-    moment = λ at e. ap (λ b. if b then over_moment p q else ms) (stand.over_is.is ∙ ap is_since e) ∙ stand.over_is.moment at e;
+    moment = λ at e. ap (λ b. if b then over_moment p q else ms) (stand.over_is.is ∙ ap is_some e) ∙ stand.over_is.moment at e;
   };
   fits = stand.fits;
   rest_is = λ o. rest-step p q ms
@@ -180,7 +180,7 @@ later-record p d kind over q came stand =
           ∙ ap (λ s. is_upgrade s && not (is_empty_table (live_table p (before_signal (Got (Signal kind) ∷ q))))) (sym same);
       over_is = record {
         is = overs ∙ stand.over_is.is;
-        moment = λ at e. ap (λ b. if b then over_moment p q else now q) (stand.over_is.is ∙ ap is_since e) ∙ stand.over_is.moment at e;
+        moment = λ at e. ap (λ b. if b then over_moment p q else now q) (stand.over_is.is ∙ ap is_some e) ∙ stand.over_is.moment at e;
       };
       fits = stand.fits;
       rest_is = stand.rest_is;

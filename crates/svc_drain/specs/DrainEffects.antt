@@ -1,16 +1,17 @@
 -- What each call makes of the part on the end of a run, and what it tells.
-use Rattle.std.specs.Prelude.{ℕ, Bool, true, false, ◌++◌, ◌&&◌, List, [], ◌∷◌, map, Option, Some, None, if◌then◌else◌}
+use Rattle.std.specs.Prelude.{ℕ, Bool, true, false, ◌++◌, ◌&&◌, List, [], ◌∷◌, map, Option, Some, None, if◌then◌else◌, is_some}
 use Rattle.svc_record.specs.declared.plan.Plan.{Plan}
 use Rattle.svc_record.specs.declared.action.Action.{Action}
-use Rattle.svc_record.specs.declared.action.Action.TheVariants.{Phase, Broadcast, Close, Stop}
+use Rattle.svc_record.specs.declared.action.Action.TheVariants.{Phase, Broadcast, Cut, Close, Stop}
 use Rattle.svc_record.specs.declared.action.ExecutionPhase.TheVariants.{Running as RunningPhase, GracefulUpgradeTransferringFds, GracefulUpgradeCloseTimeout, GracefulTerminate, ShutdownStarted, ShutdownGracePeriod, ShutdownRuntimes, Terminated}
 use Rattle.svc_record.specs.declared.event.ShutdownSignal.{ShutdownSignal}
 use Rattle.svc_record.specs.declared.event.ShutdownSignal.TheVariants.{FastShutdown, GracefulTerminate as TerminateSignal, GracefulUpgrade}
 use Rattle.svc_record.specs.Offer.{is_upgrade}
+use Rattle.svc_record.specs.Drain.{is_fast}
 use Rattle.svc_drain.specs.declared.stage.Stage.{Stage}
 use Rattle.svc_drain.specs.declared.stage.Stage.TheVariants.{Running, Offering, Resting, Grace, Ending}
 use Rattle.svc_drain.specs.DrainData.{DrainData}
-use Rattle.svc_drain.specs.DrainState.{is_since, rest_from, is_fast_signal}
+use Rattle.svc_drain.specs.DrainState.{rest_from}
 
 -- nothing has happened
 abbrev pub still : DrainData
@@ -46,15 +47,15 @@ next_stage Running None offers over t = Running
 next_stage Running (Some FastShutdown) offers over t = Ending
 next_stage Running (Some TerminateSignal) offers over t = Grace t
 next_stage Running (Some GracefulUpgrade) false over t = Grace t
-next_stage Running (Some GracefulUpgrade) true over t = if is_since over then Resting else Offering
-next_stage Offering signal offers over t = if is_since over then Resting else Offering
-next_stage Resting signal offers over t = if is_since (rest_from over t) then Grace t else Resting
+next_stage Running (Some GracefulUpgrade) true over t = if is_some over then Resting else Offering
+next_stage Offering signal offers over t = if is_some over then Resting else Offering
+next_stage Resting signal offers over t = if is_some (rest_from over t) then Grace t else Resting
 next_stage (Grace at) signal offers over t = Grace at
 next_stage Ending signal offers over t = Ending
 
 -- what is told as the offer is over, at the moment t
 abbrev pub timeout_told : Option ℕ → ℕ → List Action
-timeout_told over t = if is_since over then Phase GracefulUpgradeCloseTimeout t ∷ [] else []
+timeout_told over t = if is_some over then Phase GracefulUpgradeCloseTimeout t ∷ [] else []
 
 -- what is told as the grace period begins
 abbrev pub grace_told : ℕ → List Action
@@ -62,7 +63,7 @@ grace_told t = Phase ShutdownStarted t ∷ Phase ShutdownGracePeriod t ∷ []
 
 -- what is told as the rest is over
 abbrev pub rested_told : Option ℕ → ℕ → List Action
-rested_told over t = if is_since (rest_from over t) then Broadcast ∷ grace_told t else []
+rested_told over t = if is_some (rest_from over t) then Broadcast ∷ grace_told t else []
 
 -- what is told then
 abbrev pub stage_told : Stage → Option ShutdownSignal → Bool → Option ℕ → ℕ → List Action
@@ -86,9 +87,9 @@ row_told d over = stage_told d.stage d.signal d.offers over d.moment
 
 -- the seconds that the services' workers have to stop
 abbrev pub stop_after : Plan → DrainData → ℕ
-stop_after p d = if is_fast_signal d.signal then 0 else p.stop
+stop_after p d = if is_fast d.signal then 0 else p.stop
 
--- what is told as the run ends, before the live descriptors close
+-- what is told as the run ends, before the live connections are cut and the live descriptors close
 abbrev pub shutdown_told : DrainData → List Action
 shutdown_told d = Phase ShutdownRuntimes d.moment ∷ []
 
@@ -96,6 +97,6 @@ shutdown_told d = Phase ShutdownRuntimes d.moment ∷ []
 abbrev pub stop_told : Plan → DrainData → List Action
 stop_told p d = Stop (stop_after p d) ∷ Phase Terminated d.moment ∷ []
 
--- all that is told then, where these descriptors are live
-abbrev pub end_told : Plan → DrainData → List ℕ → List Action
-end_told p d fds = shutdown_told d ++ (map Close fds ++ stop_told p d)
+-- all that is told then, where these connections and descriptors are live
+abbrev pub end_told : Plan → DrainData → List ℕ → List ℕ → List Action
+end_told p d cuts closes = shutdown_told d ++ (map Cut cuts ++ (map Close closes ++ stop_told p d))

@@ -1,30 +1,20 @@
 -- The records that the part on the end of a run stands for.
-use Rattle.std.specs.Prelude.{ℕ, Bool, true, false, ◌≡◌, ◌-◌, ◌++◌, not, ◌&&◌, ◌||◌, List, [], ◌∷◌, Option, Some, None, nat_le, if◌then◌else◌}
+use Rattle.std.specs.Prelude.{ℕ, Bool, true, false, ◌≡◌, ◌-◌, ◌++◌, not, ◌&&◌, ◌||◌, List, [], ◌∷◌, Option, Some, None, nat_le, if◌then◌else◌, is_some}
 use Rattle.svc_record.specs.declared.plan.Plan.{Plan}
 use Rattle.svc_record.specs.declared.event.ShutdownSignal.{ShutdownSignal}
-use Rattle.svc_record.specs.declared.event.ShutdownSignal.TheVariants.{FastShutdown, GracefulTerminate as TerminateSignal, GracefulUpgrade}
+use Rattle.svc_record.specs.declared.event.ShutdownSignal.TheVariants.{GracefulTerminate as TerminateSignal, GracefulUpgrade}
 use Rattle.svc_record.specs.declared.action.ExecutionPhase.TheVariants.{Running as RunningPhase, GracefulUpgradeTransferringFds, GracefulUpgradeCloseTimeout, GracefulTerminate, ShutdownStarted, ShutdownGracePeriod}
 use Rattle.svc_record.specs.Record.{Record, times, now, signal_of, before_signal, is_running}
 use Rattle.svc_record.specs.Offer.{is_upgrade, has_offer, is_over, over_moment}
-use Rattle.svc_record.specs.Drain.{Mark, phase, broadcast, marks_if, told_marks, rest_end, grace_over}
+use Rattle.svc_record.specs.Drain.{Mark, phase, broadcast, marks_if, told_marks, rest_end, grace_over, is_fast}
 use Rattle.svc_drain.specs.declared.stage.Stage.{Stage}
 use Rattle.svc_drain.specs.declared.stage.Stage.TheVariants.{Running, Offering, Resting, Grace, Ending}
 use Rattle.svc_drain.specs.DrainData.{DrainData}
 
--- there is a moment
-abbrev pub is_since : Option ℕ → Bool
-is_since (Some at) = true
-is_since None = false
-
 -- since when the offer is over, if it is
 pub record OverIs (p : Plan) (q : Record) (over : Option ℕ) : Type 0 where
-  pub is : is_over p q ≡ is_since over
+  pub is : is_over p q ≡ is_some over
   pub moment : (at : ℕ) → over ≡ Some at → over_moment p q ≡ at
-
--- the signal ends the run at once
-abbrev pub is_fast_signal : Option ShutdownSignal → Bool
-is_fast_signal (Some FastShutdown) = true
-is_fast_signal _ = false
 
 -- the signal ends it after the grace period
 abbrev pub is_terminate_signal : Option ShutdownSignal → Bool
@@ -35,9 +25,9 @@ is_terminate_signal _ = false
 abbrev pub stage_fits : Stage → Option ShutdownSignal → Bool → Option ℕ → Bool
 stage_fits Running signal offers over = true
 stage_fits Offering signal offers over = is_upgrade signal && offers
-stage_fits Resting signal offers over = (is_upgrade signal && offers) && is_since over
-stage_fits (Grace at) signal offers over = is_terminate_signal signal || (is_upgrade signal && (not offers || is_since over))
-stage_fits Ending signal offers over = is_fast_signal signal
+stage_fits Resting signal offers over = (is_upgrade signal && offers) && is_some over
+stage_fits (Grace at) signal offers over = is_terminate_signal signal || (is_upgrade signal && (not offers || is_some over))
+stage_fits Ending signal offers over = is_fast signal
 
 -- the phases and the broadcast that were told since the signal, the newest first
 abbrev pub stage_marks : Stage → Option ShutdownSignal → Bool → List Mark
@@ -111,8 +101,8 @@ is_broadcast_told d = is_grace d.stage
 abbrev pub is_told_far : Stage → Option ShutdownSignal → Option ℕ → ℕ → Bool
 is_told_far Running None over t = true
 is_told_far Running (Some kind) over t = false
-is_told_far Offering signal over t = not (is_since over)
-is_told_far Resting signal over t = not (is_since (rest_from over t))
+is_told_far Offering signal over t = not (is_some over)
+is_told_far Resting signal over t = not (is_some (rest_from over t))
 is_told_far (Grace at) signal over t = true
 is_told_far Ending signal over t = true
 

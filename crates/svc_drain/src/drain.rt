@@ -1,6 +1,6 @@
 //! The end of a run, from the first signal to the last action.
 
-ghost use Rattle.std.specs.Prelude.{◌≡◌, ◌+◌, ◌≤◌, ◌++◌, [], ◌∷◌, length, not, ℕ, Option, Some, None, true, false, if◌then◌else◌};
+ghost use Rattle.std.specs.Prelude.{◌≡◌, ◌+◌, ◌≤◌, ◌++◌, [], ◌∷◌, length, not, ℕ, Option, Some, None, true, false, if◌then◌else◌, is_some};
 ghost use Rattle.svc_conf.specs.Items.{list_of, spare};
 ghost use Rattle.svc_record.specs.declared.plan.Plan.{Plan};
 ghost use Rattle.svc_record.specs.declared.entry.Entry.TheVariants.{Got};
@@ -12,7 +12,7 @@ ghost use Rattle.svc_record.specs.Record.{Record, tell, has, is_signal};
 ghost use Rattle.svc_record.specs.Descriptors.{live_table};
 ghost use Rattle.svc_record.specs.Offer.{is_upgrade, is_empty_table};
 ghost use Rattle.svc_drain.specs.declared.stage.Stage.TheVariants.{Running, Offering, Resting, Grace, Ending};
-ghost use Rattle.svc_drain.specs.DrainState.{DrainStands, IsDrainSettled, OverIs, passes, is_since, rest_from, is_broadcast_told};
+ghost use Rattle.svc_drain.specs.DrainState.{DrainStands, IsDrainSettled, OverIs, passes, rest_from, is_broadcast_told};
 ghost use Rattle.svc_drain.specs.DrainEffects.{still, at_moment, signalled, run, run_told, at_stage, next_stage, gone_on, row_told, stage_told, timeout_told, grace_told, rested_told, shutdown_told, stop_after, stop_told};
 
 use crate::stage::Stage;
@@ -251,7 +251,7 @@ impl Drain {
     /// Where the offer is over, it is waited.
     fn end_offer(&mut self, over: Option<u64>, actions: &mut Actions)
         requires room { 1 ≤ spare actions.old }
-        ensures after { self.new ≡ at_stage (if is_since over then Resting else self.old.stage) self.old }
+        ensures after { self.new ≡ at_stage (if is_some over then Resting else self.old.stage) self.old }
         ensures told { list_of actions.new ≡ list_of actions.old ++ timeout_told over self.old.moment }
         ensures room { spare actions.old ≤ spare actions.new + 1 }
         ensures few { length (list_of actions.new) ≤ length (list_of actions.old) + 1 }
@@ -264,7 +264,7 @@ impl Drain {
 
     /// It was waited long enough since the offer is over.
     fn has_rested(&self, over: Option<u64>) -> bool
-        ensures { result ≡ is_since (rest_from over self.now.moment) }
+        ensures { result ≡ is_some (rest_from over self.now.moment) }
     {
         match over {
             Some(at) => CLOSE_TIMEOUT <= self.moment.saturating_sub(at),
@@ -275,7 +275,7 @@ impl Drain {
     /// Where that has passed, the services are told to end.
     fn end_rest(&mut self, over: Option<u64>, actions: &mut Actions)
         requires room { 3 ≤ spare actions.old }
-        ensures after { self.new ≡ at_stage (if is_since (rest_from over self.old.moment) then Grace self.old.moment else self.old.stage) self.old }
+        ensures after { self.new ≡ at_stage (if is_some (rest_from over self.old.moment) then Grace self.old.moment else self.old.stage) self.old }
         ensures told { list_of actions.new ≡ list_of actions.old ++ rested_told over self.old.moment }
         ensures room { spare actions.old ≤ spare actions.new + 3 }
         ensures few { length (list_of actions.new) ≤ length (list_of actions.old) + 3 }

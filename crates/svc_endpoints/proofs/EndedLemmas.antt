@@ -12,7 +12,7 @@ use Rattle.svc_record.specs.Plans.{service_count, endpoints, endpoint_numbers, i
 use Rattle.svc_record.specs.Descriptors.{is_close, is_opened}
 use Rattle.svc_record.specs.Drain.{ascending}
 use Rattle.svc_record.specs.Failed.{has_failed}
-use Rattle.svc_record.specs.Fits.{fits_row}
+use Rattle.svc_record.specs.Fits.{fits_row, accepts}
 use Rattle.svc_record.specs.Starts.{is_started}
 use Rattle.svc_record.specs.Endpoints.{is_held, is_at_work, serves}
 use Rattle.svc_record.specs.Closes.{is_gone, is_drained, is_broadcast, is_loop_end, ended_loops}
@@ -23,7 +23,7 @@ use Rattle.svc_endpoints.specs.declared.loops.LoopEnd.{LoopEnd}
 use Rattle.svc_endpoints.specs.EndpointsData.{EndpointsData}
 use Rattle.svc_endpoints.specs.EndpointsState.{IsEndpointsSized, AreOnOffer, ServesIn, LoopsStand, StatesKept, StatesStand, EndpointsStand, last_at, failed_at, is_holding, is_done}
 use Rattle.svc_endpoints.specs.Loops.{is_loop, has_loop, loop_count}
-use Rattle.svc_endpoints.specs.Uses.{uses, serves_by}
+use Rattle.svc_endpoints.specs.Uses.{uses, serves_by, accepts_by}
 use Rattle.svc_endpoints.specs.Effects.{loop_ended, cleared, gone_numbers}
 use Rattle.svc_endpoints.proofs.RangeLemmas.{fails0, all0}
 use Rattle.svc_endpoints.proofs.LoopLemmas.{ended-less, has_loop-more, loop_count-more}
@@ -203,16 +203,26 @@ module _ (p : Plan) (d mid new : EndpointsData) (s i j : ℕ) (keep : List ℕ) 
       let rest = ap (λ (m : EndpointsData). length m.table) new_is in
       omega (arith, few, told, rest)
 
--- which loops may end, by the states
-module _ (p : Plan) (d : EndpointsData) (q : Record) (sized : IsEndpointsSized p d) (s i j : ℕ) (on : Bool) (inside : s < service_count p) (begun : on ≡ is_started q s) (stand : EndpointsStand p d q) where
+-- which services serve, and which of their endpoints accept, by the states
+module _ (p : Plan) (d : EndpointsData) (q : Record) (sized : IsEndpointsSized p d) (s : ℕ) (on : Bool) (inside : s < service_count p) (begun : on ≡ is_started q s) (stand : EndpointsStand p d q) where
   serves_same : serves_by p d on s ≡ serves p q s
   serves_same = ap (λ b. (b && not (failed_at d s)) && list_all (λ k. is_holding (last_at d s k)) (endpoint_numbers p s)) begun
       ∙ ap (λ b. (is_started q s && not b) && list_all (λ k. is_holding (last_at d s k)) (endpoint_numbers p s)) (stand.states.failed_is s inside)
       ∙ ap (λ b. is_at_work p q s && b) (all-same (λ k. is_holding (last_at d s k)) (is_held p q s) 0 (length (endpoints p s))
       (λ k lt. sym (held-is p d q sized stand.kept stand.states s k inside (omega (arith, lt)))))
 
+  pub accepts-is : (i : ℕ) → accepts_by p d on s i ≡ accepts p q s i
+  accepts-is i = ap (λ b. (b && is_endpoint p s i) && not (is_done p d s i)) serves_same
+      ∙ ap (λ (n : ℕ). (serves p q s && is_endpoint p s i) && not (n == p.tasks)) (stand.loops.counts s i)
+
+  pub accept-fits : (i : ℕ) (a b : Bool) → a ≡ serves_by p d on s → (a ≡ true → b ≡ (is_endpoint p s i && not (is_done p d s i))) → (a ≡ false → b ≡ false) → b ≡ accepts p q s i
+  accept-fits i true b e f g = f refl ∙ ap (λ c. (c && is_endpoint p s i) && not (is_done p d s i)) e ∙ accepts-is i
+  accept-fits i false b e f g = g refl ∙ ap (λ c. (c && is_endpoint p s i) && not (is_done p d s i)) e ∙ accepts-is i
+
+-- which loops may end, by the states
+module _ (p : Plan) (d : EndpointsData) (q : Record) (sized : IsEndpointsSized p d) (s i j : ℕ) (on : Bool) (inside : s < service_count p) (begun : on ≡ is_started q s) (stand : EndpointsStand p d q) where
   whole : (serves_by p d on s && (is_endpoint p s i && (nat_lt j p.tasks && not (has_loop d.loops s i j)))) ≡ ((serves p q s && is_endpoint p s i) && (nat_lt j p.tasks && not (has (is_loop_end s i j) q)))
-  whole = ap (λ b. b && (is_endpoint p s i && (nat_lt j p.tasks && not (has_loop d.loops s i j)))) serves_same
+  whole = ap (λ b. b && (is_endpoint p s i && (nat_lt j p.tasks && not (has_loop d.loops s i j)))) (serves_same p d q sized s on inside begun stand)
       ∙ ap (λ b. serves p q s && (is_endpoint p s i && (nat_lt j p.tasks && not b))) (stand.loops.ends_are s i j)
       ∙ apart (serves p q s) (is_endpoint p s i) (nat_lt j p.tasks && not (has (is_loop_end s i j) q))
     where

@@ -2,7 +2,7 @@
 use Rattle.std.specs.Prelude.{ℕ, Bool, false, ◌==◌, ◌≡◌, ◌<◌, not, ◌&&◌, List, [], length, slice_index_or}
 use Rattle.std.specs.List.{list_any, list_all}
 use Rattle.svc_record.specs.declared.plan.Plan.{Plan}
-use Rattle.svc_record.specs.Plans.{service_count, services, endpoints, endpoint_numbers}
+use Rattle.svc_record.specs.Plans.{service_count, services, endpoints, endpoint_numbers, is_endpoint}
 use Rattle.svc_endpoints.specs.declared.states.Last.{Last}
 use Rattle.svc_endpoints.specs.declared.states.Last.TheVariants.{Adopting, Holding}
 use Rattle.svc_endpoints.specs.declared.states.EndState.{EndState}
@@ -67,3 +67,7 @@ is_drained_by p d fd = any_endpoint p (is_holder_by d fd) && not (any_endpoint p
 -- the service is started where on says so, hasn't failed, and all its endpoints are held
 abbrev pub serves_by : Plan → EndpointsData → Bool → ℕ → Bool
 serves_by p d on s = (on && not (failed_at d s)) && list_all (λ i. is_holding (last_at d s i)) (endpoint_numbers p s)
+
+-- it serves, and a loop of its endpoint goes on
+abbrev pub accepts_by : Plan → EndpointsData → Bool → ℕ → ℕ → Bool
+accepts_by p d on s i = (serves_by p d on s && is_endpoint p s i) && not (is_done p d s i)

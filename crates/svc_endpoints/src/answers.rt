@@ -10,18 +10,18 @@ ghost use Rattle.svc_record.specs.Offer.{is_held_back};
 ghost use Rattle.svc_record.specs.Plans.{service_count, endpoints, address, is_endpoint};
 ghost use Rattle.svc_record.specs.Closes.{is_loop_end};
 ghost use Rattle.svc_record.specs.Endpoints.{serves};
-ghost use Rattle.svc_record.specs.Fits.{fits_row};
+ghost use Rattle.svc_record.specs.Fits.{fits_row, accepts};
 ghost use Rattle.svc_record.specs.Starts.{is_started};
 ghost use Rattle.svc_record.specs.Record.{Record, has, now, tell};
 ghost use Rattle.svc_record.specs.Told.{Tells, IsGivingUp};
-ghost use Rattle.svc_endpoints.specs.EndpointsState.{IsEndpointsSized, EndpointsStand, AreOnOffer, last_at, is_binding, is_adopting};
+ghost use Rattle.svc_endpoints.specs.EndpointsState.{IsEndpointsSized, EndpointsStand, AreOnOffer, last_at, is_binding, is_adopting, is_done};
 ghost use Rattle.svc_endpoints.specs.Foreign.{is_endpoints_event};
 ghost use Rattle.svc_endpoints.specs.Effects.{is_last_refusal, refused, bind_failed, adopt_failed, adopted, bound_or_again, has_open, cleared_if, given_up_if, close_told};
 ghost use Rattle.svc_endpoints.specs.Loops.{has_loop};
-ghost use Rattle.svc_endpoints.specs.Uses.{serves_by};
+ghost use Rattle.svc_endpoints.specs.Uses.{serves_by, accepts_by};
 
 use crate::endpoints::Endpoints;
-use crate::loops::has_loop;
+use crate::loops::{has_loop, is_done};
 use crate::naming::{address_of, endpoint_count, limit};
 use crate::states::{EndState, Last, held_now};
 use svc_conf::Text;
@@ -178,6 +178,17 @@ impl Endpoints {
         self.serves(plan, s, started) && self.goes_on(plan, s, i, j)
     }
 
+    /// Whether the service serves and a loop of its endpoint goes on. The flag says whether it is
+    /// started.
+    pub fn accepts(&self, plan: &Plan, s: u32, i: u32, started: bool) -> bool
+        requires sized { IsEndpointsSized plan.now self.now.parts }
+        requires service { s < service_count plan.now }
+        ensures is { result ≡ accepts_by plan.now self.now.parts started s i }
+        ensures means { (q : Record) → started ≡ is_started q s → EndpointsStand plan.now self.now.parts q → result ≡ accepts plan.now q s i }
+    {
+        self.serves(plan, s, started) && self.has_loop_left(plan, s, i)
+    }
+
     /// The service is started where the flag says so, hasn't failed, and all its endpoints are held.
     fn serves(&self, plan: &Plan, s: u32, started: bool) -> bool
         requires sized { IsEndpointsSized plan.now self.now.parts }
@@ -197,6 +208,15 @@ impl Endpoints {
     {
         (i as usize) < endpoint_count(plan, s as usize)
             && (j < plan.tasks && !has_loop(self.ended_loops(), s as usize, i as usize, j))
+    }
+
+    /// The endpoint is one of the service, and not each of its loops has ended.
+    fn has_loop_left(&self, plan: &Plan, s: u32, i: u32) -> bool
+        requires service { s < service_count plan.now }
+        ensures { result ≡ (is_endpoint plan.now s i && not (is_done plan.now self.now.parts s i)) }
+    {
+        (i as usize) < endpoint_count(plan, s as usize)
+            && !is_done(self.ended_loops(), plan.tasks, s as usize, i as usize)
     }
 
     /// The offer to a successor is over: what is abandoned is closed now, in ascending number.

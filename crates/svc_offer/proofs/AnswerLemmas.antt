@@ -1,5 +1,5 @@
 -- What the part on the offer stands for after an answer to an open ask.
-use Rattle.std.proofs.Common.{ℕ, Bool, true, false, not, ◌||◌, ◌&&◌, ◌+◌, ◌-◌, ◌∷◌, ◌≡◌, refl, ap, sym, ◌∙◌, subst, Some, arith, if◌then◌else◌}
+use Rattle.std.proofs.Common.{ℕ, Bool, true, false, not, ◌||◌, ◌&&◌, ◌+◌, ◌-◌, ◌∷◌, ◌≡◌, refl, ap, sym, ◌∙◌, subst, Some, arith, if◌then◌else◌, is_some}
 use Rattle.std.specs.Prelude.{nat_le, nat_lt}
 use Rattle.std.proofs.lemmas.Bool.{and_parts, or_parts}
 use Rattle.std.proofs.lemmas.Bool.Decides.{nat_tests}
@@ -17,7 +17,7 @@ use Rattle.svc_record.specs.Offer.{table, is_empty_table, is_written, is_upgrade
 use Rattle.svc_offer.specs.declared.offering.Offering.{Offering}
 use Rattle.svc_offer.specs.declared.offering.Offering.TheVariants as steps
 use Rattle.svc_offer.specs.OfferData.{OfferData}
-use Rattle.svc_offer.specs.OfferState.{OfferStands, is_offering, is_connecting, is_sending, is_asking, is_going, is_since, over_since, rests_in, sends_in}
+use Rattle.svc_offer.specs.OfferState.{OfferStands, is_offering, is_connecting, is_sending, is_asking, is_going, over_since, rests_in, sends_in}
 use Rattle.svc_offer.specs.OfferEffects.{answered, answered_state, patience_after, event_of, is_awaited}
 use Rattle.svc_offer.proofs.StateFacts.{since-here, going-offers, going-on, next-going, connecting-asks, sending-asks, asking-goes}
 
@@ -53,7 +53,7 @@ record Leaves (p : Plan) (d : OfferData) (q : Record) (e : Event) (x : Offering)
   quiet : is_asking x ≡ false
   offers : has_offer p (Got e ∷ q) ≡ has_offer p q
   same_table : table p (Got e ∷ q) ≡ table p q
-  over : is_over p (Got e ∷ q) ≡ is_since (over_since x)
+  over : is_over p (Got e ∷ q) ≡ is_some (over_since x)
   moment_is : (at : ℕ) → over_since x ≡ Some at → moment ≡ at
   now_is : now (Got e ∷ q) ≡ moment
   connect_answered : is_connect_open (Got e ∷ q) ≡ false
@@ -120,13 +120,13 @@ left-quiet : (last : Bool) (x : Offering) (moment : ℕ) → is_asking x ≡ fal
 left-quiet true x moment h = refl
 left-quiet false x moment h = h
 
-left-over : (last : Bool) (x : Offering) (moment : ℕ) → is_since (over_since x) ≡ false → last ≡ is_since (over_since (left last x moment))
+left-over : (last : Bool) (x : Offering) (moment : ℕ) → is_some (over_since x) ≡ false → last ≡ is_some (over_since (left last x moment))
 left-over true x moment h = refl
 left-over false x moment h = sym h
 
-left-moment : (last : Bool) (x : Offering) (moment at : ℕ) → is_since (over_since x) ≡ false → over_since (left last x moment) ≡ Some at → moment ≡ at
+left-moment : (last : Bool) (x : Offering) (moment at : ℕ) → is_some (over_since x) ≡ false → over_since (left last x moment) ≡ Some at → moment ≡ at
 left-moment true x moment at h e = cc
-left-moment false x moment at h e = let k : is_since (over_since x) ≡ true = ap is_since e in cc
+left-moment false x moment at h e = let k : is_some (over_since x) ≡ true = ap is_some e in cc
 
 left-rests : (last : Bool) (x : Offering) (moment t : ℕ) (rests : Bool) → rests ≡ rests_in x t → is_going (left last x moment) ≡ true → rests ≡ rests_in (left last x moment) t
 left-rests true x moment t rests h g = cc

@@ -1,5 +1,5 @@
 -- What the part on the offer stands for after what it asks of the successor.
-use Rattle.std.proofs.Common.{ℕ, Bool, true, false, not, ◌||◌, ◌&&◌, ◌-◌, [], ◌∷◌, ◌≡◌, refl, ap, sym, ◌∙◌, subst, Option, Some, None, arith, if◌then◌else◌}
+use Rattle.std.proofs.Common.{ℕ, Bool, true, false, not, ◌||◌, ◌&&◌, ◌-◌, [], ◌∷◌, ◌≡◌, refl, ap, sym, ◌∙◌, subst, Option, Some, None, arith, if◌then◌else◌, is_some}
 use Rattle.std.specs.Prelude.{nat_le, nat_lt}
 use Rattle.std.proofs.lemmas.Bool.{and_from, or_parts}
 use Rattle.std.proofs.lemmas.Bool.Decides.{nat_tests}
@@ -15,7 +15,7 @@ use Rattle.svc_record.specs.Offer.{table, is_written, has_offer, is_over, goes_o
 use Rattle.svc_offer.specs.declared.offering.Offering.{Offering}
 use Rattle.svc_offer.specs.declared.offering.Offering.TheVariants.{Unasked, Connecting, Connected, Sending, Absent, Delayed, Stalled}
 use Rattle.svc_offer.specs.OfferData.{OfferData}
-use Rattle.svc_offer.specs.OfferState.{OfferStands, IsOfferSettled, is_offering, is_connecting, is_sending, is_going, is_since, over_since, rests_in, sends_in, tells_next, is_connect_due, is_send_due}
+use Rattle.svc_offer.specs.OfferState.{OfferStands, IsOfferSettled, is_offering, is_connecting, is_sending, is_going, over_since, rests_in, sends_in, tells_next, is_connect_due, is_send_due}
 use Rattle.svc_offer.specs.OfferEffects.{asked, ask_with, send_told}
 use Rattle.svc_offer.proofs.StateFacts.{going-offers, going-on, next-going, next-rests}
 
@@ -55,7 +55,7 @@ goes-by true false false offering since o s w = let k : (offering && not since) 
 
 -- the state says whether the offer goes on
 pub goes_on-is : (p : Plan) (d : OfferData) (q : Record) → OfferStands p d q → goes_on p q ≡ is_going d.state
-goes_on-is p d q s = goes-by (has_offer p q) (is_written (encode (table p q))) (is_over p q) (is_offering d.state) (is_since (over_since d.state)) s.offers_is s.over_is
+goes_on-is p d q s = goes-by (has_offer p q) (is_written (encode (table p q))) (is_over p q) (is_offering d.state) (is_some (over_since d.state)) s.offers_is s.over_is
     (λ h. ap is_written (sym (s.message_is h)) ∙ is_written-some d.message (s.written h))
 
 due-all : (goes busy sends : Bool) → goes ≡ true → busy ≡ false → sends ≡ false → ((goes && not busy) && not sends) ≡ true

@@ -1,5 +1,5 @@
 -- What is no ask of the offer, no answer to one and no signal changes nothing of the offer; nor does a later signal.
-use Rattle.std.proofs.Common.{ℕ, Bool, true, false, not, List, [], ◌∷◌, ◌++◌, ◌≡◌, refl, ap, ◌∙◌, arith}
+use Rattle.std.proofs.Common.{ℕ, Bool, true, false, not, List, [], ◌∷◌, ◌++◌, ◌≡◌, refl, ap, ◌∙◌, arith, is_some}
 use Rattle.std.specs.Prelude.{nat_le}
 use Rattle.std.proofs.lemmas.Bool.{and_parts, and_from}
 use Rattle.std.proofs.lemmas.Bool.Decides.{nat_tests}
@@ -12,7 +12,7 @@ use Rattle.svc_record.specs.declared.event.Event.TheVariants.{Moment, Connected,
 use Rattle.svc_record.specs.Record.{Record, now, tell}
 use Rattle.svc_record.specs.Offer.{is_over, over_moment}
 use Rattle.svc_offer.specs.OfferData.{OfferData}
-use Rattle.svc_offer.specs.OfferState.{OfferStands, is_since, goes_forward}
+use Rattle.svc_offer.specs.OfferState.{OfferStands, goes_forward}
 use Rattle.svc_offer.specs.OfferFacts.{is_offer_event, is_offer_action, has_no_offer_action}
 use Rattle.svc_offer.proofs.StateFacts.{since-kept}
 pub use Rattle.svc_offer.proofs.Signals.{stands-later, stands-unoffered}
@@ -57,7 +57,7 @@ stands-got p d q (Signal kind) other s = cc
 stands-got p d q (Moment ms) other s = record {
   offers_is = s.offers_is;
   over_is = s.over_is;
-  since_is = λ at h. since-kept (is_over p q) (over_moment p q) ms at (s.over_is ∙ ap is_since h) (s.since_is at h);
+  since_is = λ at h. since-kept (is_over p q) (over_moment p q) ms at (s.over_is ∙ ap is_some h) (s.since_is at h);
   connecting_is = s.connecting_is;
   sending_is = s.sending_is;
   rests_is = s.rests_is;
@@ -76,7 +76,7 @@ stands-got p d q (Moment ms) other s = record {
 stands-got p d q e other s = record {
   offers_is = s.offers_is;
   over_is = s.over_is;
-  since_is = λ at h. since-kept (is_over p q) (over_moment p q) (now q) at (s.over_is ∙ ap is_since h) (s.since_is at h);
+  since_is = λ at h. since-kept (is_over p q) (over_moment p q) (now q) at (s.over_is ∙ ap is_some h) (s.since_is at h);
   connecting_is = s.connecting_is;
   sending_is = s.sending_is;
   rests_is = s.rests_is;

@@ -1,5 +1,5 @@
 -- What the state of the offer says of a settled record, and of the descriptors that are on offer.
-use Rattle.std.proofs.Common.{ℕ, Bool, true, false, not, ◌||◌, ◌&&◌, ◌==◌, ◌-◌, List, [], ◌∷◌, ◌≡◌, refl, ap, sym, ◌∙◌, Option, Some, None, arith, if◌then◌else◌}
+use Rattle.std.proofs.Common.{ℕ, Bool, true, false, not, ◌||◌, ◌&&◌, ◌==◌, ◌-◌, List, [], ◌∷◌, ◌≡◌, refl, ap, sym, ◌∙◌, Option, Some, None, arith, if◌then◌else◌, is_some}
 use Rattle.std.specs.Prelude.{nat_le, nat_lt}
 use Rattle.std.specs.List.{list_any}
 use Rattle.std.proofs.lemmas.Bool.{and_parts, and_from}
@@ -24,7 +24,7 @@ use Rattle.svc_record.specs.Offer.{OfferRight, table, is_empty_table, is_upgrade
 use Rattle.svc_offer.specs.declared.offering.Offering.{Offering}
 use Rattle.svc_offer.specs.declared.offering.Offering.TheVariants.{Nothing, Unasked, Connecting, Connected, Sending, Absent, Delayed, Stalled, Over}
 use Rattle.svc_offer.specs.OfferData.{OfferData}
-use Rattle.svc_offer.specs.OfferState.{OfferStands, IsOfferSettled, is_offering, is_connecting, is_sending, is_asking, is_going, is_since, over_since, rests_in, tells_next, is_connect_due, is_send_due, message_numbers, numbers_on_offer, goes_forward, is_forward}
+use Rattle.svc_offer.specs.OfferState.{OfferStands, IsOfferSettled, is_offering, is_connecting, is_sending, is_asking, is_going, over_since, rests_in, tells_next, is_connect_due, is_send_due, message_numbers, numbers_on_offer, goes_forward, is_forward}
 use Rattle.svc_offer.specs.OfferEffects.{event_of}
 use Rattle.svc_offer.specs.OfferFacts.{is_offer_event}
 use Rattle.svc_offer.proofs.AskLemmas.{goes_on-is}
@@ -141,7 +141,7 @@ held-on : (up more among over : Bool) → (up && more) ≡ true → over ≡ fal
 held-on up more among over h k = grind arith
 
 -- once the offer is over nothing is on offer
-pub released : (p : Plan) (d : OfferData) (q : Record) → OfferStands p d q → is_since (over_since d.state) ≡ true → (fd : ℕ) → is_held_back p q fd ≡ false
+pub released : (p : Plan) (d : OfferData) (q : Record) → OfferStands p d q → is_some (over_since d.state) ≡ true → (fd : ℕ) → is_held_back p q fd ≡ false
 released p d q s over fd = held-over (is_upgrade (signal_of q)) (list_any (λ (x : TableEntry). x.1 == fd) (table p q)) (is_over p q) (s.over_is ∙ over)
 
 -- nor where nothing was offered
@@ -152,12 +152,12 @@ unoffered p d q s none fd = held-none (is_upgrade (signal_of q)) (is_empty_table
 offered-by : (p : Plan) (d : OfferData) (q : Record) → OfferStands p d q → (x : Offering) → x ≡ d.state → (fd : ℕ)
     → list_any (λ n. n == fd) (if is_going x then message_numbers d.message else []) ≡ is_held_back p q fd
 offered-by p d q s Nothing is fd = sym (unoffered p d q s (ap is_offering (sym is)) fd)
-offered-by p d q s (Over at) is fd = sym (released p d q s (ap (λ x. is_since (over_since x)) (sym is)) fd)
+offered-by p d q s (Over at) is fd = sym (released p d q s (ap (λ x. is_some (over_since x)) (sym is)) fd)
 offered-by p d q s x is fd = let going : is_going d.state ≡ true = ap is_going (sym is) in
     ap (λ m. list_any (λ n. n == fd) (message_numbers m)) (s.message_is going)
     ∙ numbers-by (is_encodable (table p q)) fd (table p q) (λ e. s.written going (s.message_is going ∙ e))
     ∙ held-on (is_upgrade (signal_of q)) (not (is_empty_table (table p q))) (list_any (λ (x : TableEntry). x.1 == fd) (table p q)) (is_over p q)
-    (s.offers_is ∙ ap is_offering (sym is)) (s.over_is ∙ ap (λ x. is_since (over_since x)) (sym is))
+    (s.offers_is ∙ ap is_offering (sym is)) (s.over_is ∙ ap (λ x. is_some (over_since x)) (sym is))
 
 -- the numbers on offer are those that the record says are
 pub on-offer : (p : Plan) (d : OfferData) (q : Record) → OfferStands p d q → (fd : ℕ) → list_any (λ n. n == fd) (numbers_on_offer d) ≡ is_held_back p q fd
@@ -196,6 +196,6 @@ offered-answer p q answers.SendFailed fd = refl
 
 -- and an answer after which the offer is as far as before
 pub held-back-answer : (p : Plan) (d d2 : OfferData) (q : Record) (answer : SendAnswer) (fd : ℕ) → OfferStands p d q → OfferStands p d2 (Got (event_of answer) ∷ q)
-    → is_since (over_since d.state) ≡ is_since (over_since d2.state) → is_held_back p (Got (event_of answer) ∷ q) fd ≡ is_held_back p q fd
+    → is_some (over_since d.state) ≡ is_some (over_since d2.state) → is_held_back p (Got (event_of answer) ∷ q) fd ≡ is_held_back p q fd
 held-back-answer p d d2 q answer fd s s2 same =
     ap (λ b. b && not (is_over p (Got (event_of answer) ∷ q))) (offered-answer p q answer fd) ∙ ap (λ b. is_offered p q fd && not b) (s2.over_is ∙ sym same ∙ sym s.over_is)

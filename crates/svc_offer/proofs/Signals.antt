@@ -1,5 +1,5 @@
 -- What a signal leaves of the offer: the first one begins it where something is offered, and a later one changes nothing.
-use Rattle.std.proofs.Common.{ℕ, Bool, true, false, not, ◌||◌, ◌&&◌, ◌∷◌, ◌≡◌, refl, ap, sym, ◌∙◌, subst, Option, Some, None, arith}
+use Rattle.std.proofs.Common.{ℕ, Bool, true, false, not, ◌||◌, ◌&&◌, ◌∷◌, ◌≡◌, refl, ap, sym, ◌∙◌, subst, Option, Some, None, arith, is_some}
 use Rattle.std.specs.Prelude.{nat_le, nat_lt}
 use Rattle.std.proofs.lemmas.Bool.Decides.{nat_tests}
 use Rattle.svc_fds.specs.declared.encoding.Message.{Message}
@@ -15,7 +15,7 @@ use Rattle.svc_record.specs.Offer.{table, is_empty_table, is_written, is_upgrade
 use Rattle.svc_offer.specs.declared.offering.Offering.{Offering}
 use Rattle.svc_offer.specs.declared.offering.Offering.TheVariants.{Nothing}
 use Rattle.svc_offer.specs.OfferData.{OfferData}
-use Rattle.svc_offer.specs.OfferState.{OfferStands, is_offering, is_going, is_since, over_since, is_connecting, is_sending}
+use Rattle.svc_offer.specs.OfferState.{OfferStands, is_offering, is_going, over_since, is_connecting, is_sending}
 use Rattle.svc_offer.specs.OfferEffects.{begun, first_state}
 use Rattle.svc_offer.proofs.StateFacts.{since-kept, since-here, not-going, not-over}
 use Rattle.svc_offer.proofs.RecordFacts.{Unanswered, unanswered, no-kind, later-kind, later-before, first-before}
@@ -39,7 +39,7 @@ pub stands-later : (p : Plan) (d : OfferData) (q : Record) (kind : ShutdownSigna
 stands-later p d q kind h s = record {
   offers_is = offer-later p q kind h ∙ s.offers_is;
   over_is = over-later p q kind h ∙ s.over_is;
-  since_is = λ at e. since-kept (is_over p q) (over_moment p q) (now q) at (s.over_is ∙ ap is_since e) (s.since_is at e);
+  since_is = λ at e. since-kept (is_over p q) (over_moment p q) (now q) at (s.over_is ∙ ap is_some e) (s.since_is at e);
   connecting_is = s.connecting_is;
   sending_is = s.sending_is;
   rests_is = s.rests_is;
@@ -98,14 +98,14 @@ pub stands-unoffered : (p : Plan) (d : OfferData) (q : Record) (kind : ShutdownS
 stands-unoffered p d q kind h empty s =
     let none : is_offering d.state ≡ false = sym s.offers_is ∙ offers-none p q h in
     let still : is_going d.state ≡ false = not-going d.state none in
-    let open_end : is_since (over_since d.state) ≡ false = not-over d.state none in
+    let open_end : is_some (over_since d.state) ≡ false = not-over d.state none in
     let u : Unanswered q = unanswered q (s.unasked none).1 in
     record {
       offers_is = offer-first p q kind h ∙ empty-none (is_upgrade (Some kind)) (is_empty_table (live_table p q)) empty ∙ sym none;
       over_is = over-first p q kind h
           ∙ empty-on (is_upgrade (Some kind)) (is_empty_table (live_table p q)) (not (is_written (encode (live_table p q)))) (is_answered p q) empty (answered-none p q u)
           ∙ sym open_end;
-      since_is = λ at e. let k : is_since (over_since d.state) ≡ true = ap is_since e in cc;
+      since_is = λ at e. let k : is_some (over_since d.state) ≡ true = ap is_some e in cc;
       connecting_is = s.connecting_is;
       sending_is = s.sending_is;
       rests_is = s.rests_is;
@@ -123,7 +123,7 @@ stands-unoffered p d q kind h empty s =
     }
 
 first-over : (message : Option Message) (moment : ℕ) (empty answered : Bool) → empty ≡ false → answered ≡ false
-    → ((not empty && not (is_written message)) || answered) ≡ is_since (over_since (first_state message moment))
+    → ((not empty && not (is_written message)) || answered) ≡ is_some (over_since (first_state message moment))
 first-over (Some w) moment empty answered e a = grind arith
 first-over None moment empty answered e a = grind arith
 

@@ -1,8 +1,8 @@
 -- What the steps of an offer say of one another.
-use Rattle.std.proofs.Common.{ℕ, Bool, true, false, ◌≡◌, refl, if◌then◌else◌}
+use Rattle.std.proofs.Common.{ℕ, Bool, true, false, ◌≡◌, refl, if◌then◌else◌, is_some}
 use Rattle.svc_offer.specs.declared.offering.Offering.{Offering}
 use Rattle.svc_offer.specs.declared.offering.Offering.TheVariants.{Nothing, Connecting, Sending, Over}
-use Rattle.svc_offer.specs.OfferState.{is_offering, is_connecting, is_sending, is_asking, is_going, is_since, over_since, tells_next}
+use Rattle.svc_offer.specs.OfferState.{is_offering, is_connecting, is_sending, is_asking, is_going, over_since, tells_next}
 
 -- a moment that stays
 pub since-kept : (over : Bool) (before t at : ℕ) → over ≡ true → before ≡ at → (if over then before else t) ≡ at
@@ -18,7 +18,7 @@ pub not-going : (x : Offering) → is_offering x ≡ false → is_going x ≡ fa
 not-going Nothing h = refl
 not-going _ h = cc
 
-pub not-over : (x : Offering) → is_offering x ≡ false → is_since (over_since x) ≡ false
+pub not-over : (x : Offering) → is_offering x ≡ false → is_some (over_since x) ≡ false
 not-over Nothing h = refl
 not-over _ h = cc
 
@@ -26,11 +26,11 @@ pub going-offers : (x : Offering) → is_going x ≡ true → is_offering x ≡ 
 going-offers Nothing h = cc
 going-offers _ h = refl
 
-pub going-on : (x : Offering) → is_going x ≡ true → is_since (over_since x) ≡ false
+pub going-on : (x : Offering) → is_going x ≡ true → is_some (over_since x) ≡ false
 going-on (Over at) h = cc
 going-on _ h = refl
 
-pub over-stops : (x : Offering) → is_since (over_since x) ≡ true → is_going x ≡ false
+pub over-stops : (x : Offering) → is_some (over_since x) ≡ true → is_going x ≡ false
 over-stops (Over at) h = refl
 over-stops _ h = cc
 

@@ -1,5 +1,5 @@
 -- The records that the part on the offer stands for.
-use Rattle.std.specs.Prelude.{ℕ, Bool, true, false, ◌≡◌, ◌-◌, not, ◌&&◌, ◌||◌, List, [], Option, Some, None, nat_lt, nat_le, if◌then◌else◌}
+use Rattle.std.specs.Prelude.{ℕ, Bool, true, false, ◌≡◌, ◌-◌, not, ◌&&◌, ◌||◌, List, [], Option, Some, None, nat_lt, nat_le, if◌then◌else◌, is_some}
 use Rattle.svc_fds.specs.declared.encoding.Message.{Message}
 use Rattle.svc_record.specs.declared.plan.Plan.{Plan}
 use Rattle.svc_record.specs.declared.entry.Entry.{Entry}
@@ -33,14 +33,9 @@ abbrev pub over_since : Offering → Option ℕ
 over_since (Over at) = Some at
 over_since _ = None
 
--- there is one
-abbrev pub is_since : Option ℕ → Bool
-is_since (Some at) = true
-is_since None = false
-
 -- the offer goes on
 abbrev pub is_going : Offering → Bool
-is_going x = is_offering x && not (is_since (over_since x))
+is_going x = is_offering x && not (is_some (over_since x))
 
 -- the last answer leaves a rest that isn't over at the moment t
 abbrev pub rests_in : Offering → ℕ → Bool
@@ -115,7 +110,7 @@ is_offer_ask e = is_connect e || is_send e
 -- the part says what the record says, and each ask was due as it was told; where nothing is offered, nothing was asked or answered
 pub record OfferStands (p : Plan) (d : OfferData) (q : Record) : Type 0 where
   pub offers_is : has_offer p q ≡ is_offering d.state
-  pub over_is : is_over p q ≡ is_since (over_since d.state)
+  pub over_is : is_over p q ≡ is_some (over_since d.state)
   pub since_is : (at : ℕ) → over_since d.state ≡ Some at → over_moment p q ≡ at
   pub connecting_is : is_connect_open q ≡ is_connecting d.state
   pub sending_is : is_send_open q ≡ is_sending d.state

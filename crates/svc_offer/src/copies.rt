@@ -3,21 +3,9 @@
 ghost use Rattle.std.specs.Prelude.{◌≡◌, IfOk};
 
 use std::alloc::Global;
-use svc_conf::{Items, NoMemory};
+use svc_conf::NoMemory;
 use svc_fds::Message;
-
-/// A list once more, item by item.
-fn copy_items<T: Copy>(alloc: Global, items: &[T]) -> Result<Items<T>, NoMemory>
-    ensures { IfOk result (λ copied. copied ≡ items.now) }
-{
-    let mut copied = Items::new(alloc);
-    for item in items {
-        if let Err(refused) = copied.push(alloc, *item) {
-            return Err(refused.reason);
-        }
-    }
-    Ok(copied)
-}
+use svc_record::copy_items;
 
 /// The same message once more.
 pub(crate) fn copy_message(alloc: Global, message: &Message) -> Result<Message, NoMemory>
