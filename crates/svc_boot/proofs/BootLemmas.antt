@@ -1,20 +1,32 @@
--- What the part on bootstrapping stands for after an answer to an open try.
-use Rattle.std.proofs.Common.{ℕ, Bool, true, false, not, ◌||◌, ◌&&◌, ◌+◌, ◌-◌, List, ◌∷◌, length, ◌≡◌, refl, ap, sym, ◌∙◌, subst, arith, if◌then◌else◌}
+-- What the part on bootstrapping stands for after each of its calls.
+use Rattle.std.proofs.Common.{ℕ, Bool, true, false, not, ◌||◌, ◌&&◌, ◌+◌, ◌-◌, List, [], ◌∷◌, length, ◌≡◌, refl, ap, sym, ◌∙◌, subst, arith, if◌then◌else◌}
 use Rattle.std.specs.Prelude.{nat_le, nat_lt}
 use Rattle.std.proofs.lemmas.Bool.Decides.{nat_tests}
 use Rattle.svc_record.specs.declared.plan.Plan.{Plan}
-use Rattle.svc_record.specs.declared.entry.Entry.TheVariants.{Got}
-use Rattle.svc_record.specs.declared.action.BootstrapError.TheVariants.{NoSender, BadMessage}
-use Rattle.svc_record.specs.declared.event.Event.TheVariants.{Received, NoSenderYet}
+use Rattle.svc_record.specs.declared.entry.Entry.TheVariants.{Got, Told}
+use Rattle.svc_record.specs.declared.action.Action.TheVariants.{Daemonize}
+use Rattle.svc_record.specs.declared.action.BootstrapError.TheVariants.{Transfer, NoSender, BadMessage}
+use Rattle.svc_record.specs.declared.event.Event.{Event}
+use Rattle.svc_record.specs.declared.event.Event.TheVariants.{Moment, Received, NoSenderYet, ReceiveFailed, Side as Forked, ChildReady, ChildGone, DropFailed}
+use Rattle.svc_record.specs.declared.event.Side.{Side}
 use Rattle.svc_record.specs.Record.{Record, now, times}
 use Rattle.svc_record.specs.Message.{decode}
 use Rattle.svc_record.specs.Boot.{is_read}
-use Rattle.svc_record.specs.Ends.{is_no_sender}
+use Rattle.svc_record.specs.Ends.{is_no_sender, is_parent_failure}
+use Rattle.svc_boot.specs.declared.fork.Fork.{Fork}
+use Rattle.svc_boot.specs.declared.fork.Fork.TheVariants.{Asked, Over}
 use Rattle.svc_boot.specs.declared.receiving.Receiving.{Receiving}
 use Rattle.svc_boot.specs.declared.receiving.Receiving.TheVariants.{Unasked, Trying, Missed, Came, Refused}
 use Rattle.svc_boot.specs.BootData.{BootData}
+use Rattle.svc_boot.specs.ForkState.{ForkStands, is_asked, is_waiting, is_parent_over}
 use Rattle.svc_boot.specs.BootState.{BootStands, BootKept, ReceivingStands, is_tried, is_trying, has_come, is_missing}
-use Rattle.svc_boot.specs.BootEffects.{missed, received}
+use Rattle.svc_boot.specs.BootFacts.{is_fork_event}
+use Rattle.svc_boot.specs.BootEffects.{unbegun, forked, side_taken, waited, missed, failed, received}
+use Rattle.svc_boot.proofs.ForkLemmas.{fork-new, fork-asked, fork-got, fork-side, fork-ready, fork-failure, fork-waited}
+
+-- the same part, as it is after a call
+pub same-stands : (p : Plan) (d new : BootData) (q : Record) → new ≡ d → BootStands p d q → BootStands p new q
+same-stands p d new q is stand = subst (λ (x : BootData). BootStands p x q) (sym is) stand
 
 -- the answers to an open try
 missed-stands : (x : Receiving) (q : Record) (moment : ℕ) (last : Bool) → is_trying x ≡ true → moment ≡ now q
@@ -80,9 +92,9 @@ through-grows : (begun test upgrade come later : Bool) → ((begun && not test) 
 through-grows begun test upgrade come later h e = grind arith
 
 -- a try that was open was answered
-kept-answered : (p : Plan) (begun complete : Bool) (patience patience2 : ℕ) (x y : Receiving) → is_trying x ≡ true → is_tried y ≡ true
-    → BootKept p (record { begun = begun; complete = complete; receiving = x; patience = patience }) → BootKept p (record { begun = begun; complete = complete; receiving = y; patience = patience2 })
-kept-answered p begun complete patience patience2 x y trying tried kept = record {
+kept-answered : (p : Plan) (f : Fork) (begun complete : Bool) (patience patience2 : ℕ) (x y : Receiving) → is_trying x ≡ true → is_tried y ≡ true
+    → BootKept p (record { fork = f; begun = begun; complete = complete; receiving = x; patience = patience }) → BootKept p (record { fork = f; begun = begun; complete = complete; receiving = y; patience = patience2 })
+kept-answered p f begun complete patience patience2 x y trying tried kept = record {
   tried_is = tried ∙ sym (tried-trying x trying) ∙ kept.tried_is;
   through = λ h. through-grows begun p.test p.upgrade (has_come x) (has_come y) (kept.through h) (not_come x trying);
   alone = kept.alone;
@@ -94,13 +106,14 @@ tried-missed false moment = refl
 
 -- an open try met no sender
 pub stands-no_sender : (p : Plan) (d : BootData) (q : Record) (moment : ℕ) → is_trying d.receiving ≡ true → moment ≡ now q → BootStands p d q → BootStands p (missed moment d) (Got NoSenderYet ∷ q)
-stands-no_sender p d q moment trying at stand = let b = stand.begin in let u = stand.unforked in let last : Bool = nat_lt d.patience 1 in record {
-  kept = kept-answered p d.begun d.complete d.patience (d.patience - 1) d.receiving (if last then Refused NoSender else Missed moment) trying (tried-missed last moment) stand.kept;
+stands-no_sender p d q moment trying at stand = let b = stand.begin in let last : Bool = nat_lt d.patience 1 in record {
+  kept = kept-answered p d.fork d.begun d.complete d.patience (d.patience - 1) d.receiving (if last then Refused NoSender else Missed moment) trying (tried-missed last moment) stand.kept;
   begin = record { begun_is = b.begun_is; begun_times = b.begun_times; complete_is = b.complete_is; complete_times = b.complete_times };
   receiving = missed-stands d.receiving q moment last trying at stand.receiving;
   missing_is = one_too_many p.limit (times is_no_sender q) d.patience (stand.missing_is ∙ not_missing d.receiving trying) stand.patience_is ∙ sym (missing-if last moment);
   patience_is = let e = stand.patience_is in omega arith;
-  unforked = record { no_fork = u.no_fork; no_fork_at_all = u.no_fork_at_all; no_notify = u.no_notify; no_parent = u.no_parent };
+  notified_times = stand.notified_times;
+  fork = fork-got p d.fork q NoSenderYet refl stand.fork;
   boots_due = (refl, stand.boots_due);
   tries_due = (refl, stand.tries_due);
 }
@@ -148,13 +161,14 @@ missing-received false = refl
 -- it brought a message
 pub stands-received : (p : Plan) (d : BootData) (q : Record) (bytes fds : List ℕ) (good : Bool) → good ≡ is_read (decode bytes (length fds)) → is_trying d.receiving ≡ true
     → BootStands p d q → BootStands p (received good d) (Got (Received bytes fds) ∷ q)
-stands-received p d q bytes fds good reads trying stand = let b = stand.begin in let u = stand.unforked in record {
-  kept = kept-answered p d.begun d.complete d.patience d.patience d.receiving (if good then Came else Refused BadMessage) trying (tried-received good) stand.kept;
+stands-received p d q bytes fds good reads trying stand = let b = stand.begin in record {
+  kept = kept-answered p d.fork d.begun d.complete d.patience d.patience d.receiving (if good then Came else Refused BadMessage) trying (tried-received good) stand.kept;
   begin = record { begun_is = b.begun_is; begun_times = b.begun_times; complete_is = b.complete_is; complete_times = b.complete_times };
   receiving = received-stands d.receiving q bytes fds good reads trying stand.receiving;
   missing_is = stand.missing_is ∙ not_missing d.receiving trying ∙ sym (missing-received good);
   patience_is = stand.patience_is;
-  unforked = record { no_fork = u.no_fork; no_fork_at_all = u.no_fork_at_all; no_notify = u.no_notify; no_parent = u.no_parent };
+  notified_times = stand.notified_times;
+  fork = fork-got p d.fork q (Received bytes fds) refl stand.fork;
   boots_due = (refl, stand.boots_due);
   tries_due = (refl, stand.tries_due);
 }
@@ -169,3 +183,133 @@ pub after-no_sender : (p : Plan) (d new : BootData) (q : Record) (moment : ℕ) 
     → BootStands p d q → BootStands p new (Got NoSenderYet ∷ q)
 after-no_sender p d new q moment after trying at stand =
     subst (λ (x : BootData). BootStands p x (Got NoSenderYet ∷ q)) (sym after) (stands-no_sender p d q moment trying at stand)
+
+failed-stands : (x : Receiving) (q : Record) → is_trying x ≡ true → ReceivingStands x q → ReceivingStands (Refused Transfer) (Got ReceiveFailed ∷ q)
+failed-stands Unasked q trying x = cc
+failed-stands (Missed before) q trying x = cc
+failed-stands Came q trying x = cc
+failed-stands (Refused reason) q trying x = cc
+failed-stands Trying q trying x = record {
+  opened_is = x.opened_is;
+  opened_times = x.opened_times;
+  tried_is = x.tried_is;
+  trying_is = refl;
+  may_is = λ h t. cc;
+  rests_is = λ h t. cc;
+  good_is = x.good_is;
+  bad_is = x.bad_is;
+  failed_is = refl;
+}
+
+-- it failed
+pub stands-failed : (p : Plan) (d : BootData) (q : Record) → is_trying d.receiving ≡ true → BootStands p d q → BootStands p (failed d) (Got ReceiveFailed ∷ q)
+stands-failed p d q trying stand = let b = stand.begin in record {
+  kept = kept-answered p d.fork d.begun d.complete d.patience d.patience d.receiving (Refused Transfer) trying refl stand.kept;
+  begin = record { begun_is = b.begun_is; begun_times = b.begun_times; complete_is = b.complete_is; complete_times = b.complete_times };
+  receiving = failed-stands d.receiving q trying stand.receiving;
+  missing_is = stand.missing_is ∙ not_missing d.receiving trying;
+  patience_is = stand.patience_is;
+  notified_times = stand.notified_times;
+  fork = fork-got p d.fork q ReceiveFailed refl stand.fork;
+  boots_due = (refl, stand.boots_due);
+  tries_due = (refl, stand.tries_due);
+}
+
+-- nothing has happened
+pub stands-new : (p : Plan) (limit : ℕ) → p.limit ≡ limit → BootStands p (unbegun limit) []
+stands-new p limit is = record {
+  kept = record { tried_is = refl; through = λ h. cc; alone = λ h. cc };
+  begin = record { begun_is = refl; begun_times = refl; complete_is = refl; complete_times = refl };
+  receiving = record {
+    opened_is = refl;
+    opened_times = refl;
+    tried_is = refl;
+    trying_is = refl;
+    may_is = λ h t. refl;
+    rests_is = λ h t. refl;
+    good_is = refl;
+    bad_is = refl;
+    failed_is = refl;
+  };
+  missing_is = none_below p.limit;
+  patience_is = omega arith;
+  notified_times = refl;
+  fork = fork-new p;
+  boots_due = tt;
+  tries_due = tt;
+}
+  where
+    none_below : (n : ℕ) → nat_lt n 0 ≡ false
+    none_below n = grind (arith, nat_tests)
+
+-- the fork is asked for, before all else
+pub stands-asked : (p : Plan) (d : BootData) → p.daemon ≡ true → BootStands p d [] → BootStands p (forked Asked d) (Told Daemonize ∷ [])
+stands-asked p d daemon stand = let k = stand.kept in let b = stand.begin in let x = stand.receiving in record {
+  kept = record { tried_is = k.tried_is; through = k.through; alone = k.alone };
+  begin = record { begun_is = b.begun_is; begun_times = b.begun_times; complete_is = b.complete_is; complete_times = b.complete_times };
+  receiving = record {
+    opened_is = x.opened_is;
+    opened_times = x.opened_times;
+    tried_is = x.tried_is;
+    trying_is = x.trying_is;
+    may_is = x.may_is;
+    rests_is = x.rests_is;
+    good_is = x.good_is;
+    bad_is = x.bad_is;
+    failed_is = x.failed_is;
+  };
+  missing_is = stand.missing_is;
+  patience_is = stand.patience_is;
+  notified_times = stand.notified_times;
+  fork = fork-asked p daemon;
+  boots_due = (refl, tt);
+  tries_due = (refl, tt);
+}
+
+-- an event changed the fork alone, or nothing
+stands-forked : (p : Plan) (d : BootData) (f : Fork) (q : Record) (e : Event) → is_fork_event e ≡ true → ForkStands p f (Got e ∷ q) → BootStands p d q → BootStands p (forked f d) (Got e ∷ q)
+stands-forked p d f q (Received bytes fds) is fork stand = cc
+stands-forked p d f q NoSenderYet is fork stand = cc
+stands-forked p d f q ReceiveFailed is fork stand = cc
+stands-forked p d f q e is fork stand = let k = stand.kept in let b = stand.begin in let x = stand.receiving in record {
+  kept = record { tried_is = k.tried_is; through = k.through; alone = k.alone };
+  begin = record { begun_is = b.begun_is; begun_times = b.begun_times; complete_is = b.complete_is; complete_times = b.complete_times };
+  receiving = record {
+    opened_is = x.opened_is;
+    opened_times = x.opened_times;
+    tried_is = x.tried_is;
+    trying_is = x.trying_is;
+    may_is = x.may_is;
+    rests_is = x.rests_is;
+    good_is = x.good_is;
+    bad_is = x.bad_is;
+    failed_is = x.failed_is;
+  };
+  missing_is = stand.missing_is;
+  patience_is = stand.patience_is;
+  notified_times = stand.notified_times;
+  fork = fork;
+  boots_due = (refl, stand.boots_due);
+  tries_due = (refl, stand.tries_due);
+}
+
+-- the fork came
+pub stands-side : (p : Plan) (d : BootData) (q : Record) (side : Side) (m : ℕ) → is_asked d.fork ≡ true → m ≡ now q → BootStands p d q → BootStands p (forked (side_taken p.wait side m) d) (Got (Forked side) ∷ q)
+stands-side p d q side m asked at stand = stands-forked p d (side_taken p.wait side m) q (Forked side) refl (fork-side p d.fork q side m asked at stand.fork) stand
+
+-- the child is ready for which the parent waits
+pub stands-ready : (p : Plan) (d : BootData) (q : Record) → is_waiting d.fork ≡ true → BootStands p d q → BootStands p (forked (Over 0) d) (Got ChildReady ∷ q)
+stands-ready p d q waits stand = stands-forked p d (Over 0) q ChildReady refl (fork-ready p d.fork q waits stand.fork) stand
+
+fails-fork : (e : Event) → is_parent_failure (Got e) ≡ true → is_fork_event e ≡ true
+fails-fork ChildGone fails = refl
+fails-fork DropFailed fails = refl
+fails-fork e fails = cc
+
+-- it is gone, or the parent couldn't drop its rights
+pub stands-failure : (p : Plan) (d : BootData) (q : Record) (e : Event) → is_waiting d.fork ≡ true → is_parent_failure (Got e) ≡ true → BootStands p d q → BootStands p (forked (Over 1) d) (Got e ∷ q)
+stands-failure p d q e waits fails stand = stands-forked p d (Over 1) q e (fails-fork e fails) (fork-failure p d.fork q e waits fails stand.fork) stand
+
+-- a moment came
+pub stands-waited : (p : Plan) (d : BootData) (q : Record) (m : ℕ) → is_parent_over d.fork ≡ false → BootStands p d q → BootStands p (forked (waited p.ready_timeout m d.fork) d) (Got (Moment m) ∷ q)
+stands-waited p d q m on stand = stands-forked p d (waited p.ready_timeout m d.fork) q (Moment m) refl (fork-waited p d.fork q m on stand.fork) stand

@@ -1,6 +1,9 @@
 pub mod Foreign
+pub mod ForkLemmas
 pub mod RetryLemmas
 pub mod BootLemmas
+pub mod BeginLemmas
 pub mod BootEnds
 pub mod Settled
 pub mod Begun
+pub mod FreeLemmas

@@ -3,12 +3,13 @@ use Rattle.std.specs.Prelude.{ℕ, Bool, true, false, ◌≡◌, ◌-◌, not, �
 use Rattle.svc_record.specs.declared.plan.Plan.{Plan}
 use Rattle.svc_record.specs.declared.action.BootstrapError.TheVariants.{Transfer, NoSender, BadMessage}
 use Rattle.svc_record.specs.Record.{Record, has, times, is_bootstrap, is_bootstrap_complete, EachEntry}
-use Rattle.svc_record.specs.Asks.{is_daemonize, is_try, is_try_open}
-use Rattle.svc_record.specs.Boot.{is_notify, is_open_receiver, is_good_message, is_bad_message, is_side_parent, may_try, try_rests, boot_due, try_due}
+use Rattle.svc_record.specs.Asks.{is_try, is_try_open}
+use Rattle.svc_record.specs.Boot.{is_notify, is_open_receiver, is_good_message, is_bad_message, may_try, try_rests, boot_due, try_due}
 use Rattle.svc_record.specs.Ends.{is_no_sender, is_receive_failure, ends_no_sender}
 use Rattle.svc_boot.specs.declared.receiving.Receiving.{Receiving}
 use Rattle.svc_boot.specs.declared.receiving.Receiving.TheVariants.{Unasked, Trying, Missed, Came, Refused}
 use Rattle.svc_boot.specs.BootData.{BootData}
+use Rattle.svc_boot.specs.ForkState.{ForkStands}
 
 -- once where it holds, else not at all
 abbrev pub count_of : Bool → ℕ
@@ -85,18 +86,19 @@ is_through p d = (d.begun && not p.test) && (not p.upgrade || has_come d.receivi
 abbrev pub is_alone : Plan → BootData → Bool
 is_alone p d = (d.begun && not p.test) && not p.upgrade
 
+-- a daemon's child notifies its parent, which waits for it
+abbrev pub notifies : Plan → Bool
+notifies p = p.daemon && p.wait
+
+-- the parent was notified
+abbrev pub has_notified : Plan → BootData → Bool
+has_notified p d = (d.begun && not p.test) && notifies p
+
 -- what the part keeps by itself: it was tried exactly where a message is received, what is complete has nothing left to receive, and what had nothing to receive is complete
 pub record BootKept (p : Plan) (d : BootData) : Type 0 where
   pub tried_is : is_tried d.receiving ≡ receives p d
   pub through : d.complete ≡ true → is_through p d ≡ true
   pub alone : is_alone p d ≡ true → d.complete ≡ true
-
--- nothing of a daemon happened
-pub record Unforked (q : Record) : Type 0 where
-  pub no_fork : times is_daemonize q ≡ 0
-  pub no_fork_at_all : has is_daemonize q ≡ false
-  pub no_notify : times is_notify q ≡ 0
-  pub no_parent : has is_side_parent q ≡ false
 
 -- what was told of the beginning
 pub record BeginStands (d : BootData) (q : Record) : Type 0 where
@@ -117,13 +119,14 @@ pub record ReceivingStands (x : Receiving) (q : Record) : Type 0 where
   pub bad_is : has is_bad_message q ≡ is_spoiled x
   pub failed_is : has is_receive_failure q ≡ is_transfer x
 
--- the part says what the record says, and each entry of bootstrapping stands where it is due
+-- the part says what the record says, the parent was notified where it is to be, and each entry of bootstrapping stands where it is due
 pub record BootStands (p : Plan) (d : BootData) (q : Record) : Type 0 where
   pub kept : BootKept p d
   pub begin : BeginStands d q
   pub receiving : ReceivingStands d.receiving q
   pub missing_is : ends_no_sender p q ≡ is_missing d.receiving
   pub patience_is : d.patience ≡ p.limit - times is_no_sender q
-  pub unforked : Unforked q
+  pub notified_times : times is_notify q ≡ count_of (has_notified p d)
+  pub fork : ForkStands p d.fork q
   pub boots_due : EachEntry (λ e before. boot_due p e before ≡ true) q
   pub tries_due : EachEntry (λ e before. try_due e before ≡ true) q

@@ -11,8 +11,8 @@ use svc_fds::laws;
 pub fn second_bootstrapping()
     ensures unchanged { (test upgrade again takes : Bool) (d : BootData)
         → begun_from again takes (begun_from test upgrade d) ≡ begun_from test upgrade d }
-    ensures untold { (test upgrade again takes : Bool) (d : BootData) (moment : ℕ)
-        → told_from again takes (begun_from test upgrade d) moment ≡ [] }
+    ensures untold { (test upgrade again notify takes : Bool) (d : BootData) (moment : ℕ)
+        → told_from again notify takes (begun_from test upgrade d) moment ≡ [] }
 {}
 
 /// What came is pruned to the expected addresses and then put into an empty table, or all of it is

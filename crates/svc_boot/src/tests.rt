@@ -11,7 +11,7 @@ use svc_conf::{Opt, ServerConf, Text};
 use svc_fds::{AddFdRefused, Fd};
 use svc_graph::Kind;
 use svc_graph::services::{RunPoll, ServiceReadyNotifier, ServiceWithDependents};
-use svc_record::{Action, Actions, ExecutionPhase, Plan, ServiceList, StepEnd};
+use svc_record::{Action, Actions, ExecutionPhase, Plan, ServiceList, Side, StepEnd};
 
 /// A plan without services.
 fn plan(alloc: Global, upgrade: bool, test: bool) -> Plan {
@@ -28,6 +28,28 @@ fn plan(alloc: Global, upgrade: bool, test: bool) -> Plan {
         wait: false,
         ready_timeout: 600,
     }
+}
+
+/// A daemon's plan, whose parent waits two seconds or not.
+fn daemon(alloc: Global, wait: bool) -> Plan {
+    let mut plan = plan(alloc, false, false);
+    plan.daemon = true;
+    plan.wait = wait;
+    plan.ready_timeout = 2;
+    plan
+}
+
+/// A part that asked for the fork, and got this side of it at this moment.
+fn side_of(rt: &impl Abort, alloc: Global, plan: &Plan, side: Side, moment: u64) -> Boot {
+    let mut boot = Boot::new(1);
+    let mut actions = room(rt, alloc);
+    boot.ask_fork(&mut actions);
+    assert_eq!(rt; actions.as_slice(), [Action::Daemonize].as_slice());
+    assert!(rt; boot.is_fork_asked());
+    assert!(rt; !boot.is_free(plan));
+    boot.take_side(plan, side, moment);
+    assert!(rt; !boot.is_fork_asked());
+    boot
 }
 
 /// Room for what is told.
@@ -80,6 +102,48 @@ fn a_test_ends_the_run(rt: HostRuntime) {
 }
 
 #[test]
+fn a_child_notifies_its_parent(rt: HostRuntime) {
+    let alloc = rt.alloc();
+    let plan = daemon(alloc, true);
+    let mut boot = side_of(&rt, alloc, &plan, Side::Child, 0);
+    let mut actions = room(&rt, alloc);
+    assert!(rt; boot.is_free(&plan));
+    boot.wait_on(&plan, 5000);
+    boot.begin(&plan, 0, &mut actions);
+    let told = [
+        Action::Phase(ExecutionPhase::Bootstrap, 0),
+        Action::NotifyParent,
+        Action::Phase(ExecutionPhase::BootstrapComplete, 0),
+    ];
+    assert_eq!(rt; actions.as_slice(), told.as_slice());
+    assert!(rt; boot.end(&plan) == StepEnd::On);
+}
+
+#[test]
+fn a_parent_waits_for_its_child(rt: HostRuntime) {
+    let alloc = rt.alloc();
+    let plan = daemon(alloc, true);
+    let mut late = side_of(&rt, alloc, &plan, Side::Parent, 500);
+    late.wait_on(&plan, 2499);
+    assert!(rt; late.is_parent_waiting());
+    assert!(rt; late.end(&plan) == StepEnd::On);
+    late.wait_on(&plan, 2500);
+    assert!(rt; late.end(&plan) == StepEnd::Parent(1));
+    let mut ready = side_of(&rt, alloc, &plan, Side::Parent, 0);
+    assert!(rt; ready.is_parent_waiting());
+    ready.take_child_ready();
+    assert!(rt; ready.is_over(&plan));
+    assert!(rt; ready.end(&plan) == StepEnd::Parent(0));
+    let mut gone = side_of(&rt, alloc, &plan, Side::Parent, 0);
+    assert!(rt; gone.is_parent_waiting());
+    gone.take_parent_failure();
+    assert!(rt; gone.end(&plan) == StepEnd::Parent(1));
+    let alone = daemon(alloc, false);
+    let parent = side_of(&rt, alloc, &alone, Side::Parent, 0);
+    assert!(rt; parent.end(&alone) == StepEnd::Parent(0));
+}
+
+#[test]
 fn a_message_comes_at_the_second_try(rt: HostRuntime) {
     let alloc = rt.alloc();
     let plan = plan(alloc, true, false);
@@ -120,6 +184,22 @@ fn it_bootstraps_up_to_the_first_try(rt: HostRuntime) -> Result<(), Fail> {
         Action::Phase(ExecutionPhase::Bootstrap, 0),
         Action::OpenReceiver,
         Action::TryReceive,
+    ];
+    assert_eq!(rt; actions.as_slice(), told.as_slice());
+    Ok(())
+}
+
+#[test]
+fn it_notifies_a_parent_by_itself(rt: HostRuntime) -> Result<(), Fail> {
+    let alloc = rt.alloc();
+    let mut actions = Actions::new(alloc);
+    let mut bootstrap = bootstrap(alloc, false)?;
+    bootstrap.set_notify_parent_pid(7);
+    assert!(rt; bootstrap.bootstrap(alloc, &mut actions)? == StepEnd::On);
+    let told = [
+        Action::Phase(ExecutionPhase::Bootstrap, 0),
+        Action::NotifyParent,
+        Action::Phase(ExecutionPhase::BootstrapComplete, 0),
     ];
     assert_eq!(rt; actions.as_slice(), told.as_slice());
     Ok(())

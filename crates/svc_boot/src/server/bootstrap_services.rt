@@ -1,6 +1,6 @@
 //! Bootstrapping by itself, and the service as which a server bootstraps.
 
-ghost use Rattle.std.specs.Prelude.{◌≡◌, ◌++◌, [], Some, true, codes, unwrap_or, OnOk, OnErr, IfOk};
+ghost use Rattle.std.specs.Prelude.{◌≡◌, ◌++◌, [], Some, None, true, codes, is_some, unwrap_or, OnOk, OnErr, IfOk};
 ghost use Rattle.std.specs.Borrow.{sem};
 ghost use Rattle.std.specs.Option.{option_copied};
 ghost use Rattle.svc_conf.specs.Items.{list_of};
@@ -20,11 +20,12 @@ use svc_graph::services::{RunPoll, ServiceReadyNotifier, ServiceWithDependents, 
 use svc_graph::{EndpointPlan, Kind};
 use svc_record::{Actions, StepEnd};
 
-/// What a server is bootstrapped with: its flags, and the table of the sockets that it takes over.
-/// When it is dropped, the descriptors that it still holds are spent.
+/// What a server is bootstrapped with: its flags, the parent that is notified, and the table of the
+/// sockets that it takes over. When it is dropped, the descriptors that it still holds are spent.
 pub struct Bootstrap {
     test: bool,
     upgrade: bool,
+    notify_parent_pid: Option<u32>,
     boot: Boot,
     fds: Fds,
 }
@@ -34,7 +35,7 @@ impl Model for Bootstrap {
 
     ghost Value = { BootstrapData };
 
-    ghost view = { λ b. record { test = b.test; upgrade = b.upgrade; boot = b.boot; fds = b.fds } };
+    ghost view = { λ b. record { test = b.test; upgrade = b.upgrade; parent = b.notify_parent_pid; boot = b.boot; fds = b.fds } };
 }
 
 /// Spends each descriptor of a table.
@@ -50,6 +51,7 @@ impl Drop for Bootstrap {
         let Bootstrap {
             test: _,
             upgrade: _,
+            notify_parent_pid: _,
             boot: _,
             fds,
         } = self;
@@ -58,10 +60,12 @@ impl Drop for Bootstrap {
 }
 
 impl Bootstrap {
-    /// Nothing has begun, and the table is empty. Without flags the run neither tests nor takes over.
+    /// Nothing has begun, no parent is notified, and the table is empty. Without flags the run neither
+    /// tests nor takes over.
     pub fn new(alloc: Global, options: Option<&Opt>, conf: &ServerConf) -> Bootstrap
         ensures flags { (result.test ≡ tests (option_copied options.entry)) × (result.upgrade ≡ takes_over (option_copied options.entry)) }
         ensures boot { result.boot ≡ unbegun (unwrap_or conf.now.upgrade_sock_connect_accept_max_retries MAX_RETRY) }
+        ensures alone { result.parent ≡ None }
         ensures empty { result.fds.entries ≡ [] }
     {
         let (test, upgrade) = match options {
@@ -74,9 +78,17 @@ impl Bootstrap {
         Bootstrap {
             test,
             upgrade,
+            notify_parent_pid: None,
             boot: Boot::new(limit),
             fds: Fds::new(alloc),
         }
+    }
+
+    /// The process with this number is the parent, which is notified as bootstrapping begins.
+    pub fn set_notify_parent_pid(&mut self, pid: u32)
+        ensures { self.new ≡ record self.old { parent = Some pid } }
+    {
+        self.notify_parent_pid = Some(pid);
     }
 
     /// Takes the sockets out of the table whose addresses aren't expected. They come back in
@@ -91,6 +103,7 @@ impl Bootstrap {
         ensures left { OnOk result (self.new.fds.entries ≡ kept addrs.keys self.old.fds.entries) }
         ensures out { IfOk result (λ out. out.items ≡ unclaimed addrs.keys self.old.fds.entries) }
         ensures flags { (self.new.test ≡ self.old.test) × (self.new.upgrade ≡ self.old.upgrade) }
+        ensures parent { self.new.parent ≡ self.old.parent }
         ensures boot { self.new.boot ≡ self.old.boot }
         ensures unchanged { OnErr result (self.new ≡ self.old) }
     {
@@ -98,17 +111,20 @@ impl Bootstrap {
     }
 
     /// Tells at the moment 0 how the server bootstraps, up to the first try to receive where it takes
-    /// over. The caller puts what came into the table. A second call tells and changes nothing.
+    /// over. The parent is notified where its number was set and the run doesn't test. The caller puts
+    /// what came into the table. A second call tells and changes nothing.
     pub fn bootstrap(&mut self, alloc: Global, actions: &mut Actions) -> Result<StepEnd, NoMemory>
-        ensures told { OnOk result (list_of actions.new ≡ list_of actions.old ++ told_from self.old.test self.old.upgrade self.old.boot 0) }
+        ensures told { OnOk result (list_of actions.new ≡ list_of actions.old ++ told_from self.old.test (is_some self.old.parent) self.old.upgrade self.old.boot 0) }
         ensures after { OnOk result (self.new ≡ record self.old { boot = begun_from self.old.test self.old.upgrade self.old.boot }) }
         ensures end { IfOk result (λ end. end ≡ end_from self.new.test self.new.boot) }
         ensures once { self.old.boot.begun ≡ true → (self.new ≡ self.old) × (list_of actions.new ≡ list_of actions.old) }
         ensures unchanged { OnErr result (self.new ≡ self.old) }
         ensures untold { OnErr result (list_of actions.new ≡ list_of actions.old) }
     {
-        actions.reserve(alloc, 3)?;
-        self.boot.begin_with(self.test, self.upgrade, 0, actions);
+        actions.reserve(alloc, 4)?;
+        let notify = self.notify_parent_pid.is_some();
+        self.boot
+            .begin_with(self.test, notify, self.upgrade, 0, actions);
         Ok(self.boot.end_with(self.test))
     }
 
@@ -133,6 +149,7 @@ impl Bootstrap {
 pub struct BootstrapService;
 
 impl BootstrapService {
+    /// The service. There is only one value of it.
     pub fn new() -> Self {
         BootstrapService
     }
