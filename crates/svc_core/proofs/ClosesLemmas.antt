@@ -1,10 +1,10 @@
--- What told closes leave of a record.
+-- What told cuts and closes leave of a record.
 use Rattle.std.proofs.Common.{ℕ, Bool, true, false, ◌||◌, not, ◌==◌, inl, inr, List, [], ◌∷◌, ◌≡◌, refl, ap, sym, ◌∙◌, subst, arith, ◌+◌, ◌≤◌, if◌then◌else◌, map}
 use Rattle.std.proofs.lemmas.Bool.{eq-eqb, ne_eqb, and_from, or_parts, or_left, or_right, cases_Bool, not_from_false}
 use Rattle.svc_record.specs.declared.plan.Plan.{Plan}
 use Rattle.svc_record.specs.declared.entry.Entry.{Entry}
 use Rattle.svc_record.specs.declared.entry.Entry.TheVariants.{Told}
-use Rattle.svc_record.specs.declared.action.Action.TheVariants.{Close}
+use Rattle.svc_record.specs.declared.action.Action.TheVariants.{Cut, Close}
 use Rattle.svc_record.specs.Record.{Record, has, times, tell, before_runtimes, EachEntry}
 use Rattle.svc_record.specs.Closes.{close_once}
 use Rattle.svc_record.specs.Descriptors.{is_opened, is_close}
@@ -19,6 +19,27 @@ has-closes test f q (fd ∷ fds) = has-closes test f (Told (Close fd) ∷ q) fds
 pub times-other : (test : Entry → Bool) → ((f : ℕ) → test (Told (Close f)) ≡ false) → (q : Record) (fds : List ℕ) → times test (tell q (map Close fds)) ≡ times test q
 times-other test f q [] = refl
 times-other test f q (fd ∷ fds) = times-other test f (Told (Close fd) ∷ q) fds ∙ ap (λ b. if b then times test q + 1 else times test q) (f fd)
+
+pub has-cuts : (test : Entry → Bool) → ((c : ℕ) → test (Told (Cut c)) ≡ false) → (q : Record) (cs : List ℕ) → has test (tell q (map Cut cs)) ≡ has test q
+has-cuts test f q [] = refl
+has-cuts test f q (c ∷ cs) = has-cuts test f (Told (Cut c) ∷ q) cs ∙ ap (λ b. b || has test q) (f c)
+
+pub times-cuts : (test : Entry → Bool) → ((c : ℕ) → test (Told (Cut c)) ≡ false) → (q : Record) (cs : List ℕ) → times test (tell q (map Cut cs)) ≡ times test q
+times-cuts test f q [] = refl
+times-cuts test f q (c ∷ cs) = times-cuts test f (Told (Cut c) ∷ q) cs ∙ ap (λ b. if b then times test q + 1 else times test q) (f c)
+
+pub runtimes-cuts : (q : Record) (cs : List ℕ) → before_runtimes (tell q (map Cut cs)) ≡ before_runtimes q
+runtimes-cuts q [] = refl
+runtimes-cuts q (c ∷ cs) = runtimes-cuts (Told (Cut c) ∷ q) cs
+
+pub failed-cuts : (p : Plan) (q : Record) (cs : List ℕ) (s : ℕ) → has_failed p (tell q (map Cut cs)) s ≡ has_failed p q s
+failed-cuts p q [] s = refl
+failed-cuts p q (c ∷ cs) s = failed-cuts p (Told (Cut c) ∷ q) cs s
+
+pub each-cuts : (test : Entry → Record → Bool) → ((c : ℕ) (b : Record) → test (Told (Cut c)) b ≡ true) → (q : Record) (cs : List ℕ)
+    → EachEntry (λ e before. test e before ≡ true) q → EachEntry (λ e before. test e before ≡ true) (tell q (map Cut cs))
+each-cuts test k q [] h = h
+each-cuts test k q (c ∷ cs) h = each-cuts test k (Told (Cut c) ∷ q) cs (k c q, h)
 
 pub marks-closes : (q : Record) (fds : List ℕ) → told_marks (tell q (map Close fds)) ≡ told_marks q
 marks-closes q [] = refl

@@ -2,13 +2,13 @@
 use Rattle.std.proofs.Common.{ℕ, Bool, true, false, ◌||◌, ◌&&◌, not, inl, inr, List, [], ◌∷◌, ◌++◌, ◌≡◌, refl, ap, sym, ◌∙◌, subst, arith, length, if◌then◌else◌, MatchBool, append-nil, append_assoc}
 use Rattle.std.specs.Bool.{OnTrue}
 use Rattle.std.specs.Prelude.{Option}
-use Rattle.std.proofs.lemmas.Bool.{and_parts, eq-eqb, cases_Bool}
+use Rattle.std.proofs.lemmas.Bool.{and_parts, eq-eqb, or_from, cases_Bool}
 use Rattle.svc_record.specs.declared.plan.Plan.{Plan}
 use Rattle.svc_record.specs.declared.action.Action.{Action}
 use Rattle.svc_record.specs.declared.action.Action.TheVariants.{Phase, TryReceive}
 use Rattle.svc_record.specs.declared.action.ExecutionPhase.TheVariants.{Running, BootstrapComplete}
 use Rattle.svc_record.specs.declared.action.StepEnd.{StepEnd}
-use Rattle.svc_record.specs.declared.action.StepEnd.TheVariants.{On, Tested}
+use Rattle.svc_record.specs.declared.action.StepEnd.TheVariants.{Tested}
 use Rattle.svc_record.specs.Record.{Record, now, tell, last_step}
 use Rattle.svc_record.specs.Right.{is_quiet}
 use Rattle.svc_record.specs.Told.{Tells}
@@ -19,11 +19,15 @@ use Rattle.svc_endpoints.specs.EndpointsState.{EndpointsStand}
 use Rattle.svc_endpoints.proofs.EventLemmas.{stands-told}
 use Rattle.svc_boot.specs.declared.receiving.Receiving.{Receiving}
 use Rattle.svc_boot.specs.declared.receiving.Receiving.TheVariants.{Unasked, Trying, Missed, Came, Refused}
+use Rattle.svc_boot.specs.declared.fork.Fork.{Fork}
+use Rattle.svc_boot.specs.declared.fork.Fork.TheVariants.{Unforked, Asked, Child, Waiting, Over}
 use Rattle.svc_boot.specs.BootData.{BootData}
+use Rattle.svc_boot.specs.ForkState.{is_forked, is_parent_over, is_free}
 use Rattle.svc_boot.specs.BootState.{BootStands, is_refused, is_through, is_due_in, has_come, is_tried}
-use Rattle.svc_boot.specs.BootEffects.{end_of, refusal_of, is_complete_due, completed_if, complete_told, tried_if, try_told}
+use Rattle.svc_boot.specs.BootEffects.{end_of, early_end, refusal_of, is_complete_due, completed_if, complete_told, tried_if, try_told}
 use Rattle.svc_boot.specs.BootFacts.{IsBootSettled}
 use Rattle.svc_boot.proofs.Foreign.{stands-running}
+use Rattle.svc_boot.proofs.Settled.{free-forked, free-on, free-end}
 use Rattle.svc_fds.specs.declared.encoding.Message.{Message}
 use Rattle.svc_offer.specs.OfferState.{over_since, is_send_due}
 use Rattle.svc_offer.specs.OfferFacts.{has_no_offer_action}
@@ -31,18 +35,21 @@ use Rattle.svc_offer.proofs.Foreign as offers
 use Rattle.svc_drain.specs.DrainData.{DrainData}
 use Rattle.svc_drain.specs.DrainState.{DrainStands}
 use Rattle.svc_drain.specs.DrainEffects.{run, run_told}
+use Rattle.svc_connections.specs.ConnectionsFacts.{has_no_connection_action}
+use Rattle.svc_connections.proofs.Foreign as sockets
 use Rattle.svc_core.specs.StartsData.{StartsData}
 use Rattle.svc_core.specs.CoreData.{CoreData, is_on, with_end}
 use Rattle.svc_core.specs.Passes.{Going, IsBootRipe, VisitedUpTo, TestedAt, Passes, AreStarted, is_tested, may_start}
 use Rattle.svc_core.specs.Stands.{Struck, Ripe, Visited, Tried, StepRight, Follows, EndedSo, HasCopy}
 use Rattle.svc_core.proofs.RecordLemmas.{to_true, not_true, on_false}
 use Rattle.svc_core.proofs.GoingLemmas.{base-of, base-tell, loose-of, loose-tell, may-tell, going-from, are_free, are_loose, begun-frees, begun-tell}
+use Rattle.svc_core.proofs.PassLemmas.{may-free, may-complete}
 use Rattle.svc_core.proofs.OpenLemmas.{step-ended, ended-end}
 use Rattle.svc_core.proofs.TestedLemmas.{tested-so}
 
 -- a run that goes on, by the part on bootstrapping
-pub on-by : (p : Plan) (b : BootData) → is_tested p b ≡ false → is_refused b.receiving ≡ false → is_on (end_of p b) ≡ true
-on-by p b untested goes = ap (λ c. is_on (if c then Tested else refusal_of b.receiving)) untested ∙ unrefused b.receiving goes
+pub on-by : (p : Plan) (b : BootData) → is_tested p b ≡ false → is_refused b.receiving ≡ false → is_parent_over b.fork ≡ false → is_on (end_of p b) ≡ true
+on-by p b untested goes alive = ap (λ c. is_on (if c then Tested else early_end b.fork b.receiving)) untested ∙ ap is_on (free-end b.fork b.receiving alive) ∙ unrefused b.receiving goes
   where
     unrefused : (x : Receiving) → is_refused x ≡ false → is_on (refusal_of x) ≡ true
     unrefused (Refused reason) h = absurd (cc)
@@ -53,18 +60,28 @@ on-by p b untested goes = ap (λ c. is_on (if c then Tested else refusal_of b.re
 
 -- the core with other parts
 abbrev pub with_boot : BootData → CoreData → CoreData
-with_boot b core = record { plan = core.plan; order = core.order; starts = core.starts; endpoints = core.endpoints; boot = b; offer = core.offer; drain = core.drain; end = core.end }
+with_boot b core = record { plan = core.plan; order = core.order; starts = core.starts; endpoints = core.endpoints; boot = b; offer = core.offer; drain = core.drain; connections = core.connections; end = core.end }
 
 abbrev pub with_pass : StartsData → EndpointsData → BootData → CoreData → CoreData
-with_pass st d b core = record { plan = core.plan; order = core.order; starts = st; endpoints = d; boot = b; offer = core.offer; drain = core.drain; end = core.end }
+with_pass st d b core = record { plan = core.plan; order = core.order; starts = st; endpoints = d; boot = b; offer = core.offer; drain = core.drain; connections = core.connections; end = core.end }
 
--- a run that goes on wasn't refused or tested
-pub on-end : (p : Plan) (b : BootData) → is_on (end_of p b) ≡ true → (is_tested p b ≡ false) × (is_refused b.receiving ≡ false)
+-- a run that goes on wasn't tested or refused, and isn't that of a parent which ends
+pub on-end : (p : Plan) (b : BootData) → is_on (end_of p b) ≡ true → (is_tested p b ≡ false) × (is_refused b.receiving ≡ false) × (is_parent_over b.fork ≡ false)
 on-end p b h = elim (cases_Bool (p.test && b.begun)) [
   | inl tested ↦ absurd (let off : is_on (end_of p b) ≡ false = rw tested refl in cc)
-  | inr live ↦ (live, unrefused b.receiving (subst (λ c. is_on (if c then Tested else refusal_of b.receiving) ≡ true) live h))
+  | inr live ↦ (
+      let goes = subst (λ c. is_on (if c then Tested else early_end b.fork b.receiving) ≡ true) live h in
+      let alive = no-parent b.fork b.receiving goes in
+      (live, unrefused b.receiving (sym (ap is_on (free-end b.fork b.receiving alive)) ∙ goes), alive))
 ]
   where
+    no-parent : (f : Fork) (x : Receiving) → is_on (early_end f x) ≡ true → is_parent_over f ≡ false
+    no-parent (Over status) x k = absurd (cc)
+    no-parent Unforked x k = refl
+    no-parent Asked x k = refl
+    no-parent Child x k = refl
+    no-parent (Waiting at) x k = refl
+
     unrefused : (x : Receiving) → is_on (refusal_of x) ≡ true → is_refused x ≡ false
     unrefused (Refused reason) k = absurd (cc)
     unrefused Unasked k = refl
@@ -87,18 +104,19 @@ through_after c h t u b due f e g k = grind (arith, f, g, k)
 
 -- it was told where bootstrapping is complete
 pub ripen : (core : CoreData) (copy : Option Message) (q : Record) (due : Bool) → due ≡ is_complete_due core.boot
-    → ((r : Record) → BootStands core.plan core.boot r → BootStands core.plan (completed_if due core.boot) (tell r (complete_told due core.drain.moment)))
+    → ((r : Record) → is_free core.plan core.boot.fork ≡ true → BootStands core.plan core.boot r → BootStands core.plan (completed_if due core.boot) (tell r (complete_told due core.drain.moment)))
     → is_on (end_of core.plan core.boot) ≡ true → (core.plan.upgrade ≡ false → core.boot.complete ≡ is_through core.plan core.boot) → Struck core copy q
     → Ripe (with_boot (completed_if due core.boot) core) copy (tell q (complete_told due core.drain.moment))
 ripen core copy q due e stands on alone struck =
     let going = struck.going in
     let loose : are_loose (now q) (complete_told due core.drain.moment) ≡ true = subst (λ m. are_loose m (complete_told due core.drain.moment) ≡ true) going.drain.moment_is (told-loose due core.drain.moment) in
     record {
-      going = going-from core.plan core.starts core.endpoints (completed_if due core.boot) core.offer core.drain (tell q (complete_told due core.drain.moment))
-          (loose-tell core.plan core.starts core.offer core.drain q (complete_told due core.drain.moment) loose (loose-of core.plan core.starts core.endpoints core.boot core.offer core.drain q going))
-          (told-ends due) (stands q going.boot)
+      going = going-from core.plan core.starts core.endpoints (completed_if due core.boot) core.offer core.drain core.connections (tell q (complete_told due core.drain.moment))
+          (loose-tell core.plan core.starts core.offer core.drain core.connections q (complete_told due core.drain.moment) loose (loose-of core.plan core.starts core.endpoints core.boot core.offer core.drain core.connections q going))
+          (told-ends due) (stands q struck.free going.boot)
           (begun-tell core.plan q (now q) (complete_told due core.drain.moment) loose ∙ going.begun_is)
-          (λ r. may-more core.plan.eager core.boot.complete due (going.runs r));
+          (λ r. may-more (is_free core.plan core.boot.fork) core.plan.eager core.boot.complete due (going.runs r));
+      free = struck.free;
       quiet = λ none. told-quiet due e none;
       goes_on = on;
       ripe = record {
@@ -121,8 +139,8 @@ ripen core copy q due e stands on alone struck =
     told-ends true = stands-told core.plan core.endpoints q (Phase BootstrapComplete core.drain.moment) refl struck.going.ends
     told-ends false = struck.going.ends
 
-    may-more : (eager complete more : Bool) → (not eager || complete) ≡ true → (not eager || (complete || more)) ≡ true
-    may-more eager complete more h = grind arith
+    may-more : (free eager complete more : Bool) → (free && (not eager || complete)) ≡ true → (free && (not eager || (complete || more))) ≡ true
+    may-more free eager complete more h = grind arith
 
     all-started : (c : Bool) → c ≡ false → AreStarted core.plan q → AreStarted core.plan (tell q (complete_told c core.drain.moment))
     all-started true k all = absurd (cc)
@@ -147,7 +165,7 @@ start-up core st d b before after may pass = record {
   appended = pass.appended;
   kept = λ copy q ripe. (
       let none = on-end core.plan core.boot ripe.goes_on in
-      let up = pass.kept core.offer q (record {
+      let up = pass.kept core.offer core.connections q (record {
         going = ripe.going;
         may = may;
         ripe = ripe.ripe;
@@ -158,6 +176,7 @@ start-up core st d b before after may pass = record {
       }) in
       record {
         going = up.going;
+        free = may-free core.plan b up.may;
         ripe = up.ripe;
         passed = to_true (may_start core.plan b) (MatchBool (is_tested core.plan b) ((k : ℕ) × TestedAt core.plan core.order k (tell q pass.told)) (VisitedUpTo core.plan core.order (length core.order) (tell q pass.told))) up.visited;
         waits = λ off. absurd (let on = up.may in cc);
@@ -176,6 +195,7 @@ start-none core before off = record {
   appended = sym (append-nil before);
   kept = λ copy q ripe. record {
     going = ripe.going;
+    free = ripe.free;
     ripe = ripe.ripe;
     passed = not_true (may_start core.plan core.boot) _ off;
     waits = λ e. (on-end core.plan core.boot ripe.goes_on).0;
@@ -184,17 +204,18 @@ start-none core before off = record {
 }
 
 -- the run was tested: nothing more is told
-pub go-ended : (core : CoreData) (copy : Option Message) (before : List Action) → IsStartupOrder core.plan core.order → IsInOrder core.plan core.order → core.plan.daemon ≡ false → is_on (end_of core.plan core.boot) ≡ false
+pub go-ended : (core : CoreData) (copy : Option Message) (before : List Action) → IsStartupOrder core.plan core.order → IsInOrder core.plan core.order → is_on (end_of core.plan core.boot) ≡ false
     → Tells before before (λ told. (q : Record) → Visited core copy q → StepRight (with_end (end_of core.plan core.boot) core) (tell q told) (end_of core.plan core.boot))
-go-ended core copy before least in_order none off = record {
+go-ended core copy before least in_order off = record {
   told = [];
   appended = sym (append-nil before);
   kept = λ q visited. (
-      let tested = is-tested (is_tested core.plan core.boot) (is_refused core.boot.receiving) (ended-end core.plan core.boot off) visited.ripe.goes_on in
+      let tested = is-tested (is_tested core.plan core.boot) (is_parent_over core.boot.fork || is_refused core.boot.receiving) (ended-end core.plan core.boot off)
+      (or_from (is_parent_over core.boot.fork) (is_refused core.boot.receiving) (free-on core.plan core.boot q visited.going.boot visited.free) visited.ripe.goes_on) in
       let may = starts (may_start core.plan core.boot) (λ e. (let untested = visited.waits e in cc)) in
       let at = on-both (may_start core.plan core.boot) (is_tested core.plan core.boot) ((k : ℕ) × TestedAt core.plan core.order k q) (VisitedUpTo core.plan core.order (length core.order) q) may tested visited.passed in
       step-ended (with_end (end_of core.plan core.boot) core) q visited.going off refl
-      (tested-so core.plan core.order least in_order core.starts core.endpoints core.boot core.offer core.drain q visited.going at.0 at.1 none tested visited.ripe.goes_on));
+      (tested-so core.plan core.order least in_order core.starts core.endpoints core.boot core.offer core.drain core.connections q visited.going at.0 at.1 visited.free tested visited.ripe.goes_on));
 }
   where
     is-tested : (a b : Bool) → (a || b) ≡ true → b ≡ false → a ≡ true
@@ -218,9 +239,13 @@ run-unasked : (c : Bool) (m : ℕ) → has_no_offer_action (if c then [] else Ph
 run-unasked true m = refl
 run-unasked false m = refl
 
+run-apart : (c : Bool) (m : ℕ) → has_no_connection_action (if c then [] else Phase Running m ∷ []) ≡ true
+run-apart true m = refl
+run-apart false m = refl
+
 run-boot : (p : Plan) (b : BootData) (q : Record) (c : Bool) (m : ℕ) → may_start p b ≡ true → BootStands p b q → BootStands p b (tell q (if c then [] else Phase Running m ∷ []))
 run-boot p b q true m may h = h
-run-boot p b q false m may h = stands-running p b q m may h
+run-boot p b q false m may h = stands-running p b q m (may-complete p b may) (may-free p b may) h
 
 run-ends : (p : Plan) (d : EndpointsData) (q : Record) (c : Bool) (m : ℕ) → EndpointsStand p d q → EndpointsStand p d (tell q (if c then [] else Phase Running m ∷ []))
 run-ends p d q true m h = h
@@ -228,15 +253,16 @@ run-ends p d q false m h = stands-told p d q (Phase Running m) refl h
 
 run-going : (core : CoreData) (q : Record) → may_start core.plan core.boot ≡ true
     → ((p : Plan) (over : Option ℕ) (r : Record) → DrainStands p core.drain over r → DrainStands p (run core.drain) over (tell r (run_told core.drain)))
-    → Going core.plan core.starts core.endpoints core.boot core.offer core.drain q
-    → Going core.plan core.starts core.endpoints core.boot core.offer (run core.drain) (tell q (run_told core.drain))
+    → Going core.plan core.starts core.endpoints core.boot core.offer core.drain core.connections q
+    → Going core.plan core.starts core.endpoints core.boot core.offer (run core.drain) core.connections (tell q (run_told core.drain))
 run-going core q may runs going =
     let free : are_free (now q) (run_told core.drain) ≡ true = subst (λ m. are_free m (run_told core.drain) ≡ true) going.drain.moment_is (run-free core.drain.running core.drain.moment) in
-    going-from core.plan core.starts core.endpoints core.boot core.offer (run core.drain) (tell q (run_told core.drain))
+    going-from core.plan core.starts core.endpoints core.boot core.offer (run core.drain) core.connections (tell q (run_told core.drain))
     (record {
-      base = base-tell core.plan core.starts q (run_told core.drain) free (base-of core.plan core.starts core.endpoints core.boot core.offer core.drain q going);
+      base = base-tell core.plan core.starts q (run_told core.drain) free (base-of core.plan core.starts core.endpoints core.boot core.offer core.drain core.connections q going);
       drain = runs core.plan (over_since core.offer.state) q going.drain;
       offer = offers.stands-tell core.plan core.offer q (run_told core.drain) (run-unasked core.drain.running core.drain.moment) going.offer;
+      connections = sockets.stands-tell core.plan core.connections q (run_told core.drain) (run-apart core.drain.running core.drain.moment) going.connections;
     })
     (run-ends core.plan core.endpoints q core.drain.running core.drain.moment going.ends)
     (run-boot core.plan core.boot q core.drain.running core.drain.moment may going.boot)
@@ -255,8 +281,10 @@ try-visited : (p : Plan) (order : List ℕ) (k : ℕ) (q : Record) (due : Bool) 
 try-visited p order k q true h = record { due_started = λ j lt due. h.due_started j lt due; right = λ none j lt i within. h.right none j lt i within; late = λ j lt i within. h.late j lt i within }
 try-visited p order k q false h = h
 
-settled-by : (p : Plan) (b : BootData) (m : ℕ) (due : Bool) → due ≡ is_due_in b.receiving m → IsBootRipe p b → IsBootSettled p (tried_if due b) m
-settled-by p b m due e ripe = record {
+settled-by : (p : Plan) (b : BootData) (m : ℕ) (due : Bool) → due ≡ is_due_in b.receiving m → is_forked b.fork ≡ p.daemon → is_parent_over b.fork ≡ false → IsBootRipe p b → IsBootSettled p (tried_if due b) m
+settled-by p b m due e forks alive ripe = record {
+  forked_is = forks;
+  no_parent_over = alive;
   goes_on = goes due;
   no_try_due = over due e;
   complete_is = ripe.complete_is ∙ ap (λ h. (b.begun && not p.test) && (not p.upgrade || h)) (same due e);
@@ -282,9 +310,9 @@ settled-by p b m due e ripe = record {
     same false k = refl
 
 -- what is left of a step, where services may start or not
-module _ (core : CoreData) (in_order : IsInOrder core.plan core.order) (none : core.plan.daemon ≡ false) (on : is_on (end_of core.plan core.boot) ≡ true) (due : Bool)
+module _ (core : CoreData) (in_order : IsInOrder core.plan core.order) (on : is_on (end_of core.plan core.boot) ≡ true) (due : Bool)
     (due_is : due ≡ is_due_in core.boot.receiving core.drain.moment) (dr : DrainData) (same_moment : dr.moment ≡ core.drain.moment)
-    (stands : (q : Record) → core.drain.moment ≡ now q → BootStands core.plan core.boot q → BootStands core.plan (tried_if due core.boot) (tell q (try_told due))) where
+    (stands : (q : Record) → core.drain.moment ≡ now q → is_free core.plan core.boot.fork ≡ true → BootStands core.plan core.boot q → BootStands core.plan (tried_if due core.boot) (tell q (try_told due))) where
   tries-loose : (m : ℕ) (c : Bool) → are_loose m (try_told c) ≡ true
   tries-loose m true = refl
   tries-loose m false = refl
@@ -296,23 +324,25 @@ module _ (core : CoreData) (in_order : IsInOrder core.plan core.order) (none : c
   end-kept : (c : Bool) → c ≡ is_due_in core.boot.receiving core.drain.moment → end_of core.plan core.boot ≡ end_of core.plan (tried_if c core.boot)
   end-kept true k = ap (λ x. if core.plan.test && core.boot.begun then Tested else x) (missed-on core.boot.receiving (sym k))
     where
-      missed-on : (x : Receiving) → is_due_in x core.drain.moment ≡ true → refusal_of x ≡ On
-      missed-on (Missed at) h = refl
+      missed-on : (x : Receiving) → is_due_in x core.drain.moment ≡ true → early_end core.boot.fork x ≡ early_end core.boot.fork Trying
+      missed-on (Missed at) h = free-end core.boot.fork (Missed at) (on-end core.plan core.boot on).2 ∙ sym (free-end core.boot.fork Trying (on-end core.plan core.boot on).2)
       missed-on Unasked h = absurd (cc)
       missed-on Trying h = absurd (cc)
       missed-on Came h = absurd (cc)
       missed-on (Refused reason) h = absurd (cc)
   end-kept false k = refl
 
-  pub settle : (copy : Option Message) (q : Record) → Going core.plan core.starts core.endpoints core.boot core.offer dr q → IsBootRipe core.plan core.boot
+  pub settle : (copy : Option Message) (q : Record) → Going core.plan core.starts core.endpoints core.boot core.offer dr core.connections q → is_free core.plan core.boot.fork ≡ true → IsBootRipe core.plan core.boot
       → OnTrue (may_start core.plan core.boot) (VisitedUpTo core.plan core.order (length core.order) q) → dr.running ≡ may_start core.plan core.boot → HasCopy core copy
-      → Tried (record { plan = core.plan; order = core.order; starts = core.starts; endpoints = core.endpoints; boot = tried_if due core.boot; offer = core.offer; drain = dr; end = end_of core.plan core.boot }) copy (tell q (try_told due))
-  settle copy q going ripe visited runs copied = record {
-    going = going-from core.plan core.starts core.endpoints (tried_if due core.boot) core.offer dr (tell q (try_told due))
-        (loose-tell core.plan core.starts core.offer dr q (try_told due) (tries-loose (now q) due) (loose-of core.plan core.starts core.endpoints core.boot core.offer dr q going))
-        (tries-ends q due going.ends) (stands q (sym same_moment ∙ going.drain.moment_is) going.boot)
+      → Tried (record { plan = core.plan; order = core.order; starts = core.starts; endpoints = core.endpoints; boot = tried_if due core.boot; offer = core.offer; drain = dr; connections = core.connections; end = end_of core.plan core.boot }) copy (tell q (try_told due))
+  settle copy q going free ripe visited runs copied = record {
+    going = going-from core.plan core.starts core.endpoints (tried_if due core.boot) core.offer dr core.connections (tell q (try_told due))
+        (loose-tell core.plan core.starts core.offer dr core.connections q (try_told due) (tries-loose (now q) due) (loose-of core.plan core.starts core.endpoints core.boot core.offer dr core.connections q going))
+        (tries-ends q due going.ends) (stands q (sym same_moment ∙ going.drain.moment_is) free going.boot)
         (begun-tell core.plan q (now q) (try_told due) (tries-loose (now q) due) ∙ going.begun_is) going.runs;
-    settled = subst (IsBootSettled core.plan (tried_if due core.boot)) (sym same_moment) (settled-by core.plan core.boot core.drain.moment due due_is ripe);
+    free = free;
+    settled = subst (IsBootSettled core.plan (tried_if due core.boot)) (sym same_moment)
+        (settled-by core.plan core.boot core.drain.moment due due_is (free-forked core.plan core.boot q going.boot free) (free-on core.plan core.boot q going.boot free) ripe);
     untested = (on-end core.plan core.boot on).0;
     visited = map-on (may_start core.plan core.boot) (VisitedUpTo core.plan core.order (length core.order) q) (VisitedUpTo core.plan core.order (length core.order) (tell q (try_told due)))
         (try-visited core.plan core.order (length core.order) q due) visited;
@@ -331,19 +361,19 @@ untested-visited true A B e h = absurd (cc)
 untested-visited false A B e h = h
 
 -- the server runs
-pub go-on : (core : CoreData) (copy : Option Message) (before mid after : List Action) → IsInOrder core.plan core.order → core.plan.daemon ≡ false → is_on (end_of core.plan core.boot) ≡ true → may_start core.plan core.boot ≡ true
+pub go-on : (core : CoreData) (copy : Option Message) (before mid after : List Action) → IsInOrder core.plan core.order → is_on (end_of core.plan core.boot) ≡ true → may_start core.plan core.boot ≡ true
     → ((p : Plan) (over : Option ℕ) (r : Record) → DrainStands p core.drain over r → DrainStands p (run core.drain) over (tell r (run_told core.drain)))
     → mid ≡ before ++ run_told core.drain → (due : Bool) → due ≡ is_due_in core.boot.receiving core.drain.moment → after ≡ mid ++ try_told due
-    → ((q : Record) → core.drain.moment ≡ now q → BootStands core.plan core.boot q → BootStands core.plan (tried_if due core.boot) (tell q (try_told due)))
+    → ((q : Record) → core.drain.moment ≡ now q → is_free core.plan core.boot.fork ≡ true → BootStands core.plan core.boot q → BootStands core.plan (tried_if due core.boot) (tell q (try_told due)))
     → Tells before after (λ told. (q : Record) → Visited core copy q
-    → Tried (record { plan = core.plan; order = core.order; starts = core.starts; endpoints = core.endpoints; boot = tried_if due core.boot; offer = core.offer; drain = run core.drain; end = end_of core.plan core.boot }) copy (tell q told))
-go-on core copy before mid after in_order none on may runs first due due_is next stands = record {
+    → Tried (record { plan = core.plan; order = core.order; starts = core.starts; endpoints = core.endpoints; boot = tried_if due core.boot; offer = core.offer; drain = run core.drain; connections = core.connections; end = end_of core.plan core.boot }) copy (tell q told))
+go-on core copy before mid after in_order on may runs first due due_is next stands = record {
   told = run_told core.drain ++ try_told due;
   appended = next ∙ ap (λ w. w ++ try_told due) first ∙ append_assoc before (run_told core.drain) (try_told due);
   kept = λ q visited.
-      subst (λ r. Tried (record { plan = core.plan; order = core.order; starts = core.starts; endpoints = core.endpoints; boot = tried_if due core.boot; offer = core.offer; drain = run core.drain; end = end_of core.plan core.boot }) copy r)
+      subst (λ r. Tried (record { plan = core.plan; order = core.order; starts = core.starts; endpoints = core.endpoints; boot = tried_if due core.boot; offer = core.offer; drain = run core.drain; connections = core.connections; end = end_of core.plan core.boot }) copy r)
       (sym (tell-append q (run_told core.drain) (try_told due)))
-      (settle core in_order none on due due_is (run core.drain) refl stands copy (tell q (run_told core.drain)) (run-going core q may runs visited.going) visited.ripe
+      (settle core in_order on due due_is (run core.drain) refl stands copy (tell q (run_told core.drain)) (run-going core q may runs visited.going) visited.free visited.ripe
       (to_true (may_start core.plan core.boot) (VisitedUpTo core.plan core.order (length core.order) (tell q (run_told core.drain)))
       (run-visited core.plan core.order (length core.order) q core.drain
       (untested-visited (is_tested core.plan core.boot) ((k : ℕ) × TestedAt core.plan core.order k q) (VisitedUpTo core.plan core.order (length core.order) q) (on-end core.plan core.boot on).0
@@ -356,16 +386,16 @@ go-on core copy before mid after in_order none on may runs first due due_is next
     on-this false A e h = absurd (cc)
 
 -- it doesn't yet
-pub go-waiting : (core : CoreData) (copy : Option Message) (before after : List Action) → IsInOrder core.plan core.order → core.plan.daemon ≡ false → is_on (end_of core.plan core.boot) ≡ true → may_start core.plan core.boot ≡ false
+pub go-waiting : (core : CoreData) (copy : Option Message) (before after : List Action) → IsInOrder core.plan core.order → is_on (end_of core.plan core.boot) ≡ true → may_start core.plan core.boot ≡ false
     → (due : Bool) → due ≡ is_due_in core.boot.receiving core.drain.moment → after ≡ before ++ try_told due
-    → ((q : Record) → core.drain.moment ≡ now q → BootStands core.plan core.boot q → BootStands core.plan (tried_if due core.boot) (tell q (try_told due)))
+    → ((q : Record) → core.drain.moment ≡ now q → is_free core.plan core.boot.fork ≡ true → BootStands core.plan core.boot q → BootStands core.plan (tried_if due core.boot) (tell q (try_told due)))
     → Tells before after (λ told. (q : Record) → Visited core copy q
-    → Tried (record { plan = core.plan; order = core.order; starts = core.starts; endpoints = core.endpoints; boot = tried_if due core.boot; offer = core.offer; drain = core.drain; end = end_of core.plan core.boot }) copy (tell q told))
-go-waiting core copy before after in_order none on off due due_is told stands = record {
+    → Tried (record { plan = core.plan; order = core.order; starts = core.starts; endpoints = core.endpoints; boot = tried_if due core.boot; offer = core.offer; drain = core.drain; connections = core.connections; end = end_of core.plan core.boot }) copy (tell q told))
+go-waiting core copy before after in_order on off due due_is told stands = record {
   told = try_told due;
   appended = told;
   kept = λ q visited.
-      settle core in_order none on due due_is core.drain refl stands copy q visited.going visited.ripe (not_true (may_start core.plan core.boot) _ off)
+      settle core in_order on due due_is core.drain refl stands copy q visited.going visited.free visited.ripe (not_true (may_start core.plan core.boot) _ off)
       (idle core.drain.running (may_start core.plan core.boot) off visited.going.runs) visited.copied;
 }
   where
@@ -384,7 +414,7 @@ follows-ended core copy before off = record {
 -- the stages one after the other
 pub follows-on : (core ripe_core visited_core new : CoreData) (copy : Option Message) (before mid passed after : List Action) (end : StepEnd) (due : Bool)
     → due ≡ is_complete_due core.boot → mid ≡ before ++ complete_told due core.drain.moment
-    → ((r : Record) → BootStands core.plan core.boot r → BootStands core.plan (completed_if due core.boot) (tell r (complete_told due core.drain.moment)))
+    → ((r : Record) → is_free core.plan core.boot.fork ≡ true → BootStands core.plan core.boot r → BootStands core.plan (completed_if due core.boot) (tell r (complete_told due core.drain.moment)))
     → is_on (end_of core.plan core.boot) ≡ true → ripe_core ≡ with_boot (completed_if due core.boot) core
     → Tells mid passed (λ told. (copy : Option Message) (q : Record) → Ripe ripe_core copy q → Visited visited_core copy (tell q told))
     → Tells passed after (λ told. (q : Record) → Visited visited_core copy q → StepRight new (tell q told) end)
@@ -403,10 +433,10 @@ follows-on core ripe_core visited_core new copy before mid passed after end due 
 }
 
 -- the same with what the calls gave
-pub go-ended-at : (core : CoreData) (copy : Option Message) (end : StepEnd) (before : List Action) → end ≡ end_of core.plan core.boot → IsStartupOrder core.plan core.order → IsInOrder core.plan core.order → core.plan.daemon ≡ false → is_on end ≡ false
+pub go-ended-at : (core : CoreData) (copy : Option Message) (end : StepEnd) (before : List Action) → end ≡ end_of core.plan core.boot → IsStartupOrder core.plan core.order → IsInOrder core.plan core.order → is_on end ≡ false
     → Tells before before (λ told. (q : Record) → Visited core copy q → StepRight (with_end end core) (tell q told) end)
-go-ended-at core copy end before same least in_order none off =
-    subst (λ e. Tells before before (λ told. (q : Record) → Visited core copy q → StepRight (with_end e core) (tell q told) e)) (sym same) (go-ended core copy before least in_order none (sym (ap is_on same) ∙ off))
+go-ended-at core copy end before same least in_order off =
+    subst (λ e. Tells before before (λ told. (q : Record) → Visited core copy q → StepRight (with_end e core) (tell q told) e)) (sym same) (go-ended core copy before least in_order (sym (ap is_on same) ∙ off))
 
 -- and then what is told of the offer and of the signal
 pub go-then : (core mid_core new : CoreData) (copy : Option Message) (before mid after : List Action) (end : StepEnd)
@@ -420,39 +450,39 @@ go-then core mid_core new copy before mid after end first next = record {
 }
 
 pub go-on-at : (core : CoreData) (copy : Option Message) (end : StepEnd) (b : BootData) (dr : DrainData) (before mid after : List Action) (due : Bool) → end ≡ end_of core.plan core.boot → b ≡ tried_if due core.boot → dr ≡ run core.drain
-    → IsInOrder core.plan core.order → core.plan.daemon ≡ false → is_on end ≡ true → may_start core.plan core.boot ≡ true
+    → IsInOrder core.plan core.order → is_on end ≡ true → may_start core.plan core.boot ≡ true
     → ((p : Plan) (over : Option ℕ) (r : Record) → DrainStands p core.drain over r → DrainStands p dr over (tell r (run_told core.drain)))
     → mid ≡ before ++ run_told core.drain → due ≡ is_due_in core.boot.receiving core.drain.moment → after ≡ mid ++ try_told due
-    → ((q : Record) → core.drain.moment ≡ now q → BootStands core.plan core.boot q → BootStands core.plan b (tell q (try_told due)))
+    → ((q : Record) → core.drain.moment ≡ now q → is_free core.plan core.boot.fork ≡ true → BootStands core.plan core.boot q → BootStands core.plan b (tell q (try_told due)))
     → Tells before after (λ told. (q : Record) → Visited core copy q
-    → Tried (record { plan = core.plan; order = core.order; starts = core.starts; endpoints = core.endpoints; boot = b; offer = core.offer; drain = dr; end = end }) copy (tell q told))
-go-on-at core copy end b dr before mid after due same boots drains in_order none on may runs first due_is next stands =
-    rw (same, boots, drains) (go-on core copy before mid after in_order none (sym (ap is_on same) ∙ on) may (rw drains at runs) first due due_is next (rw boots at stands))
+    → Tried (record { plan = core.plan; order = core.order; starts = core.starts; endpoints = core.endpoints; boot = b; offer = core.offer; drain = dr; connections = core.connections; end = end }) copy (tell q told))
+go-on-at core copy end b dr before mid after due same boots drains in_order on may runs first due_is next stands =
+    rw (same, boots, drains) (go-on core copy before mid after in_order (sym (ap is_on same) ∙ on) may (rw drains at runs) first due due_is next (rw boots at stands))
 
 pub go-waiting-at : (core : CoreData) (copy : Option Message) (end : StepEnd) (b : BootData) (before after : List Action) (due : Bool) → end ≡ end_of core.plan core.boot → b ≡ tried_if due core.boot
-    → IsInOrder core.plan core.order → core.plan.daemon ≡ false → is_on end ≡ true → may_start core.plan core.boot ≡ false
+    → IsInOrder core.plan core.order → is_on end ≡ true → may_start core.plan core.boot ≡ false
     → due ≡ is_due_in core.boot.receiving core.drain.moment → after ≡ before ++ try_told due
-    → ((q : Record) → core.drain.moment ≡ now q → BootStands core.plan core.boot q → BootStands core.plan b (tell q (try_told due)))
+    → ((q : Record) → core.drain.moment ≡ now q → is_free core.plan core.boot.fork ≡ true → BootStands core.plan core.boot q → BootStands core.plan b (tell q (try_told due)))
     → Tells before after (λ told. (q : Record) → Visited core copy q
-    → Tried (record { plan = core.plan; order = core.order; starts = core.starts; endpoints = core.endpoints; boot = b; offer = core.offer; drain = core.drain; end = end }) copy (tell q told))
-go-waiting-at core copy end b before after due same boots in_order none on off due_is told stands =
-    rw (same, boots) (go-waiting core copy before after in_order none (sym (ap is_on same) ∙ on) off due due_is told (rw boots at stands))
+    → Tried (record { plan = core.plan; order = core.order; starts = core.starts; endpoints = core.endpoints; boot = b; offer = core.offer; drain = core.drain; connections = core.connections; end = end }) copy (tell q told))
+go-waiting-at core copy end b before after due same boots in_order on off due_is told stands =
+    rw (same, boots) (go-waiting core copy before after in_order (sym (ap is_on same) ∙ on) off due due_is told (rw boots at stands))
 
 pub follows-ended-at : (core : CoreData) (copy : Option Message) (end : StepEnd) (before : List Action) → end ≡ end_of core.plan core.boot → is_on end ≡ false → Follows core (with_end end core) copy before before end
 follows-ended-at core copy end before same off = subst (λ e. Follows core (with_end e core) copy before before e) (sym same) (follows-ended core copy before (sym (ap is_on same) ∙ off))
 
 pub follows-on-at : (core ripe_core visited_core new : CoreData) (copy : Option Message) (held end : StepEnd) (b : BootData) (before mid passed after : List Action) (due : Bool)
     → held ≡ end_of core.plan core.boot → is_on held ≡ true → due ≡ is_complete_due core.boot → b ≡ completed_if due core.boot → mid ≡ before ++ complete_told due core.drain.moment
-    → ((r : Record) → BootStands core.plan core.boot r → BootStands core.plan b (tell r (complete_told due core.drain.moment)))
-    → ripe_core ≡ record { plan = core.plan; order = core.order; starts = core.starts; endpoints = core.endpoints; boot = b; offer = core.offer; drain = core.drain; end = held }
+    → ((r : Record) → is_free core.plan core.boot.fork ≡ true → BootStands core.plan core.boot r → BootStands core.plan b (tell r (complete_told due core.drain.moment)))
+    → ripe_core ≡ record { plan = core.plan; order = core.order; starts = core.starts; endpoints = core.endpoints; boot = b; offer = core.offer; drain = core.drain; connections = core.connections; end = held }
     → Tells mid passed (λ told. (copy : Option Message) (q : Record) → Ripe ripe_core copy q → Visited visited_core copy (tell q told))
     → Tells passed after (λ told. (q : Record) → Visited visited_core copy q → StepRight new (tell q told) end)
     → Follows core new copy before after end
 follows-on-at core ripe_core visited_core new copy held end b before mid passed after due same on due_is boots first stands ripe starts goes =
     let follows = follows-on (with_end held core) ripe_core visited_core new copy before mid passed after end due due_is first (rw boots at stands) (sym (ap is_on same) ∙ on)
-    (ripe ∙ ap (λ (x : BootData). record { plan = core.plan; order = core.order; starts = core.starts; endpoints = core.endpoints; boot = x; offer = core.offer; drain = core.drain; end = held }) boots) starts goes in
+    (ripe ∙ ap (λ (x : BootData). record { plan = core.plan; order = core.order; starts = core.starts; endpoints = core.endpoints; boot = x; offer = core.offer; drain = core.drain; connections = core.connections; end = held }) boots) starts goes in
     record {
       told = follows.told;
       appended = follows.appended;
-      kept = λ q struck. follows.kept q (record { going = struck.going; quiet = struck.quiet; alone = struck.alone; ended = struck.ended; calm = struck.calm; copied = struck.copied });
+      kept = λ q struck. follows.kept q (record { going = struck.going; free = struck.free; quiet = struck.quiet; alone = struck.alone; ended = struck.ended; calm = struck.calm; copied = struck.copied });
     }

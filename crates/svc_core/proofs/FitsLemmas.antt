@@ -10,29 +10,37 @@ use Rattle.svc_record.specs.declared.entry.Entry.{Entry}
 use Rattle.svc_record.specs.declared.entry.Entry.TheVariants.{Got, Told}
 use Rattle.svc_record.specs.declared.action.Action.TheVariants.{Bind, Adopt}
 use Rattle.svc_record.specs.declared.event.Event.{Event}
-use Rattle.svc_record.specs.declared.event.Event.TheVariants.{Moment, Ready, Ended, Bound, InUse, BindFailed, Adopted, AdoptFailed, Received, NoSenderYet, ReceiveFailed, Connected, NotThere, StillConnecting, ConnectFailed, Sent, SendBusy, SendFailed, LoopEnded, Signal}
+use Rattle.svc_record.specs.declared.event.Event.TheVariants.{Moment, Ready, Ended, Bound, Received, Arrived, AcceptFailed, Set, Shaken, Finished, LoopEnded, Signal, Side as SideCame}
 use Rattle.svc_record.specs.declared.event.ShutdownSignal.{ShutdownSignal}
+use Rattle.svc_record.specs.declared.event.Side.{Side}
+use Rattle.svc_socket.specs.declared.peer.Peer.{Peer}
 use Rattle.svc_record.specs.Plans.{service_count, service, endpoints, is_endpoint, has_kind}
 use Rattle.svc_record.specs.Record.{Record, has, now, from_the_start, EachEntry}
 use Rattle.svc_record.specs.AskRules.{ask_known}
-use Rattle.svc_record.specs.Asks.{is_open, is_bind, is_bind_answer, is_bind_open, is_adopt, is_adopt_answer, is_adopt_open, is_try_open, is_connect_open, is_send_open}
+use Rattle.svc_record.specs.Asks.{is_open, is_daemonize_open, is_settings_open, is_handshake_open, is_bind, is_bind_answer, is_bind_open, is_adopt, is_adopt_answer, is_adopt_open, is_try_open, is_connect_open, is_send_open}
 use Rattle.svc_record.specs.Descriptors.{brings}
 use Rattle.svc_record.specs.declared.action.StepEnd.{StepEnd}
 use Rattle.svc_record.specs.declared.action.StepEnd.TheVariants.{On, Served, Tested, Parent, Ended as EndedBy}
 use Rattle.svc_record.specs.declared.action.BootstrapError.TheVariants.{Transfer, NoSender, BadMessage}
 use Rattle.svc_record.specs.Drain.{has_passed}
 use Rattle.svc_record.specs.Ends.{has_ended, step_end, ends_tested, ends_parent_well, ends_parent_badly, ends_transfer, ends_no_sender, ends_bad_message}
-use Rattle.svc_record.specs.Closes.{is_broadcast, is_loop_end}
+use Rattle.svc_record.specs.Closes.{is_broadcast, is_loop_end, have_loops_ended}
+use Rattle.svc_record.specs.Connections.{is_arrival, is_serve, is_live_connection}
 use Rattle.svc_record.specs.Endpoints.{serves}
-use Rattle.svc_record.specs.Fits.{Fits, fits, fits_row, is_new, are_new, may_end}
+use Rattle.svc_record.specs.Fits.{Fits, fits, fits_row, is_new, are_new, may_end, accepts, parent_waits}
 use Rattle.svc_record.specs.Starts.{is_started, is_ready_event, is_ended_event}
 use Rattle.svc_endpoints.specs.EndpointsState.{IsEndpointsSized}
+use Rattle.svc_boot.specs.ForkState.{is_asked, is_waiting}
 use Rattle.svc_boot.specs.BootState.{is_trying}
 use Rattle.svc_offer.specs.OfferState.{is_connecting, is_sending}
+use Rattle.svc_connections.specs.ConnectionsState.{is_setting, is_shaking, is_serving, stage_of}
+use Rattle.svc_connections.proofs.Rests.{finished-row}
 use Rattle.svc_core.specs.CoreData.{CoreData, is_on}
-use Rattle.svc_core.specs.Stands.{StandsFor, RowMayCome, ReadyMayCome, EndedMayCome, BindMayBeAnswered, BoundMayCome, AdoptMayBeAnswered, LoopMayEnd, ReceivedMayCome}
-use Rattle.svc_core.proofs.StepLemmas.{fits-loop, loop-same, broadcast-told, fits-moment, fits-ready, fits-ended, fits-bound, fits-bind, fits-adopt, fits-try, fits-received, fresh, new-is, ends-of, drain-of, offer-of, going-on, running-is}
+use Rattle.svc_core.specs.Stands.{StandsFor, MayAccept, ArrivedMayCome, ReadyMayCome, EndedMayCome, BindMayBeAnswered, BoundMayCome, AdoptMayBeAnswered, LoopMayEnd, ReceivedMayCome}
+use Rattle.svc_core.proofs.StepLemmas.{fits-loop, loop-same, broadcast-told, fits-moment, fits-ready, fits-ended, fits-bound, fits-bind, fits-adopt, fits-try, fits-received, fresh, new-is, ends-of, drain-of, offer-of, connections-of, going-on, running-is}
 use Rattle.svc_core.proofs.SignalLemmas.{fits-connect, fits-send}
+use Rattle.svc_core.proofs.HeldLemmas.{fits-side, fits-parent, parent-same}
+use Rattle.svc_core.proofs.ConnectionLemmas.{accepts-same, arrived-is, fits-accept, fits-arrived, fits-set, fits-shaken, fits-finished}
 
 get-cases : (xs : List ServicePlan) (s : ℕ) → (slice_get xs s ≡ None) ⊎ (s < length xs)
 get-cases [] s = inl refl
@@ -217,33 +225,60 @@ module _ (core : CoreData) (q : Record) (on : is_on core.end ≡ true) (stands :
       either : (a b c : Bool) → ((a || b) && c) ≡ true → (b || a) ≡ true
       either a b c h = grind arith
 
--- an event of a form that isn't built
-pub default-row : (core : CoreData) (e : Event) → ((ms : ℕ) → e ≡ Moment ms → ⊥) → ((s : ℕ) → e ≡ Ready s → ⊥) → ((s : ℕ) → e ≡ Ended s → ⊥) → ((s x fd : ℕ) → e ≡ Bound s x fd → ⊥) → ((s x : ℕ) → e ≡ InUse s x → ⊥) → ((s x : ℕ) → e ≡ BindFailed s x → ⊥) → ((s x : ℕ) → e ≡ Adopted s x → ⊥) → ((s x : ℕ) → e ≡ AdoptFailed s x → ⊥) → ((bytes fds : List ℕ) → e ≡ Received bytes fds → ⊥) → (e ≡ NoSenderYet → ⊥) → (e ≡ ReceiveFailed → ⊥) → (e ≡ Connected → ⊥) → (e ≡ NotThere → ⊥) → (e ≡ StillConnecting → ⊥) → (e ≡ ConnectFailed → ⊥) → (e ≡ Sent → ⊥) → (e ≡ SendBusy → ⊥) → (e ≡ SendFailed → ⊥) → ((s x n : ℕ) → e ≡ LoopEnded s x n → ⊥) → ((kind : ShutdownSignal) → e ≡ Signal kind → ⊥)
-    → (RowMayCome core e → ⊥) × ((p : Plan) (q : Record) → fits p q e ≡ true → ⊥)
-default-row core (Moment ms) a b c d f g h i j k l n o r t u v w y m = absurd (a ms refl)
-default-row core (Ready s) a b c d f g h i j k l n o r t u v w y m = absurd (b s refl)
-default-row core (Ended s) a b c d f g h i j k l n o r t u v w y m = absurd (c s refl)
-default-row core (Bound s x fd) a b c d f g h i j k l n o r t u v w y m = absurd (d s x fd refl)
-default-row core (InUse s x) a b c d f g h i j k l n o r t u v w y m = absurd (f s x refl)
-default-row core (BindFailed s x) a b c d f g h i j k l n o r t u v w y m = absurd (g s x refl)
-default-row core (Adopted s x) a b c d f g h i j k l n o r t u v w y m = absurd (h s x refl)
-default-row core (AdoptFailed s x) a b c d f g h i j k l n o r t u v w y m = absurd (i s x refl)
-default-row core (Received bytes fds) a b c d f g h i j k l n o r t u v w y m = absurd (j bytes fds refl)
-default-row core NoSenderYet a b c d f g h i j k l n o r t u v w y m = absurd (k refl)
-default-row core ReceiveFailed a b c d f g h i j k l n o r t u v w y m = absurd (l refl)
-default-row core Connected a b c d f g h i j k l n o r t u v w y m = absurd (n refl)
-default-row core NotThere a b c d f g h i j k l n o r t u v w y m = absurd (o refl)
-default-row core StillConnecting a b c d f g h i j k l n o r t u v w y m = absurd (r refl)
-default-row core ConnectFailed a b c d f g h i j k l n o r t u v w y m = absurd (t refl)
-default-row core Sent a b c d f g h i j k l n o r t u v w y m = absurd (u refl)
-default-row core SendBusy a b c d f g h i j k l n o r t u v w y m = absurd (v refl)
-default-row core SendFailed a b c d f g h i j k l n o r t u v w y m = absurd (w refl)
-default-row core (LoopEnded s x n) a b c d f g h i j k l q o r t u v w y m = absurd (y s x n refl)
-default-row core (Signal kind) a b c d f g h i j k l n o r t u v w y m = absurd (m kind refl)
-default-row core _ a b c d f g h i j k l n o r t u v w y m = (λ x. x, λ p q x. never (has_ended p q) x)
-  where
-    never : (b : Bool) → (not b && false) ≡ true → ⊥
-    never b x = grind arith
+-- an arrival and a failed accept, by the parts
+module _ (core : CoreData) (q : Record) (on : is_on core.end ≡ true) (stands : StandsFor core q) (sized : IsEndpointsSized core.plan core.endpoints) where
+  accept-means : (s i : ℕ) → accepts core.plan q s i ≡ true → MayAccept core s i
+  accept-means s i h =
+      let both = and_parts (serves core.plan q s && is_endpoint core.plan s i) (not (have_loops_ended core.plan q s i)) h in
+      let known = (and_parts (serves core.plan q s) (is_endpoint core.plan s i) both.0).1 in
+      let inside = endpoint-inside core.plan s i known in
+      record { inside = inside; within = (Decides-ltb i (length (endpoints core.plan s))).0 known; goes_on = accepts-same core q s i sized on stands inside ∙ h }
+
+  pub accept-fits : (s i n : ℕ) → (MayAccept core s i → Fits core.plan q (AcceptFailed s i n)) × (Fits core.plan q (AcceptFailed s i n) → MayAccept core s i)
+  accept-fits s i n = (
+    λ may. fits-accept core q s i n sized on stands may,
+    λ fit. accept-means s i (and_parts (not (has_ended core.plan q)) (accepts core.plan q s i) fit).1,
+  )
+
+  pub arrived-fits : (s i c : ℕ) (peer : Peer) → (ArrivedMayCome core s i c → Fits core.plan q (Arrived s i c peer)) × (Fits core.plan q (Arrived s i c peer) → ArrivedMayCome core s i c)
+  arrived-fits s i c peer = (
+    λ may. fits-arrived core q s i c peer sized on stands may,
+    λ fit. (
+        let row = (and_parts (not (has_ended core.plan q)) (fits_row core.plan q (Arrived s i c peer)) fit).1 in
+        let both = and_parts (accepts core.plan q s i) (not (has (is_arrival c) q)) row in
+        record { accepts = accept-means s i both.0; fresh = ap not (sym (arrived-is core q c on stands)) ∙ both.1 }),
+  )
+
+-- an answer to the settings, and to the handshake, and the end of a connection
+module _ (core : CoreData) (q : Record) (on : is_on core.end ≡ true) (stands : StandsFor core q) (c : ℕ) where
+  pub set-fits : (ok : Bool) → (is_setting (stage_of core.connections.live c) ≡ true → Fits core.plan q (Set c ok)) × (Fits core.plan q (Set c ok) → is_setting (stage_of core.connections.live c) ≡ true)
+  set-fits ok = (
+    λ may. fits-set core q c ok on stands may,
+    λ fit. sym ((connections-of core q stands on).stages_are c).setting_is ∙ (and_parts (not (has_ended core.plan q)) (is_settings_open q c) fit).1,
+  )
+
+  pub shaken-fits : (ok : Bool) → (is_shaking (stage_of core.connections.live c) ≡ true → Fits core.plan q (Shaken c ok)) × (Fits core.plan q (Shaken c ok) → is_shaking (stage_of core.connections.live c) ≡ true)
+  shaken-fits ok = (
+    λ may. fits-shaken core q c ok on stands may,
+    λ fit. sym ((connections-of core q stands on).stages_are c).shaking_is ∙ (and_parts (not (has_ended core.plan q)) (is_handshake_open q c) fit).1,
+  )
+
+  pub finished-fits : (is_serving (stage_of core.connections.live c) ≡ true → Fits core.plan q (Finished c)) × (Fits core.plan q (Finished c) → is_serving (stage_of core.connections.live c) ≡ true)
+  finished-fits = (
+    λ may. fits-finished core q c on stands may,
+    λ fit. sym (finished-row core.plan core.connections q c (connections-of core q stands on)) ∙ (and_parts (not (has_ended core.plan q)) (has (is_serve c) q && is_live_connection q c) fit).1,
+  )
+
+-- the fork that is awaited, and what comes to a parent that waits
+module _ (core : CoreData) (q : Record) (on : is_on core.end ≡ true) (stands : StandsFor core q) where
+  pub side-fits : (side : Side) → (is_asked core.boot.fork ≡ true → Fits core.plan q (SideCame side)) × (Fits core.plan q (SideCame side) → is_asked core.boot.fork ≡ true)
+  side-fits side = ((λ may. fits-side core q side on may stands), (λ fit. sym stands.boot.fork.asked_is ∙ (and_parts (not (has_ended core.plan q)) (is_daemonize_open q) fit).1))
+
+  pub parent-fits : (e : Event) → fits_row core.plan q e ≡ parent_waits core.plan q → (is_waiting core.boot.fork ≡ true → Fits core.plan q e) × (Fits core.plan q e → is_waiting core.boot.fork ≡ true)
+  parent-fits e row = (
+    λ may. fits-parent core q e row on may stands,
+    λ fit. sym (parent-same core q on stands) ∙ sym row ∙ (and_parts (not (has_ended core.plan q)) (fits_row core.plan q e) fit).1,
+  )
 
 -- nothing fits once the run has ended
 pub ended-none : (core : CoreData) (q : Record) (e : Event) → is_on core.end ≡ false → StandsFor core q → fits core.plan q e ≡ true → ⊥

@@ -6,7 +6,7 @@ use Rattle.svc_graph.specs.declared.plan.Kind.TheVariants.{Bootstrap as Bootstra
 use Rattle.svc_record.specs.declared.plan.Plan.{Plan}
 use Rattle.svc_record.specs.declared.entry.Entry.TheVariants.{Told}
 use Rattle.svc_record.specs.declared.action.Action.{Action}
-use Rattle.svc_record.specs.declared.action.Action.TheVariants.{Start, Fail, Bind, Adopt, Close, OpenReceiver, TryReceive, Connect, Send, Broadcast, Phase}
+use Rattle.svc_record.specs.declared.action.Action.TheVariants.{Start, Fail, Bind, Adopt, Close, OpenReceiver, TryReceive, NotifyParent, Daemonize, Connect, Send, Broadcast, Phase, Judged, Refuse, Settings as TellSettings, Handshake, Serve, Drop, Rest}
 use Rattle.svc_record.specs.declared.action.ExecutionPhase.TheVariants.{Bootstrap, BootstrapComplete}
 use Rattle.svc_record.specs.Plans.{service_count, services, has_kind}
 use Rattle.svc_record.specs.Record.{Record, now, tell, has, EachEarlier}
@@ -28,16 +28,18 @@ use Rattle.svc_drain.specs.DrainData.{DrainData}
 use Rattle.svc_drain.specs.DrainState.{DrainStands}
 use Rattle.svc_drain.specs.DrainFacts.{is_drain_action}
 use Rattle.svc_drain.proofs.Foreign as drains
+use Rattle.svc_connections.specs.ConnectionsData.{ConnectionsData}
+use Rattle.svc_connections.specs.ConnectionsState.{ConnectionsStand}
+use Rattle.svc_connections.specs.ConnectionsFacts.{touches_connections}
+use Rattle.svc_connections.proofs.Foreign as sockets
 use Rattle.svc_core.specs.StartsData.{StartsData}
 use Rattle.svc_core.specs.StartsState.{StartsStand}
-use Rattle.svc_core.specs.Forms.{is_built_entry, HasBuiltForms}
 use Rattle.svc_core.specs.Passes.{EntriesRight, Going, MayEnd, may_start}
 use Rattle.svc_core.proofs.StartsLemmas.{is_due-grows}
 
 -- the same without the parts but that on starts
 pub record Base (p : Plan) (st : StartsData) (q : Record) : Type 0 where
   pub starts : StartsStand p st q
-  pub forms : HasBuiltForms q
   pub entries : EntriesRight p q
   pub started_due : (s : ℕ) → s < service_count p → is_started q s ≡ true → is_due p q s ≡ true
   pub no_end : has is_ending q ≡ false
@@ -46,15 +48,15 @@ pub record Base (p : Plan) (st : StartsData) (q : Record) : Type 0 where
   pub asks : EachEarlier (λ before. one_ask p before ≡ true) q
 
 -- the same without the parts on endpoints and on bootstrapping
-pub record Loose (p : Plan) (st : StartsData) (o : OfferData) (dr : DrainData) (q : Record) : Type 0 where
+pub record Loose (p : Plan) (st : StartsData) (o : OfferData) (dr : DrainData) (cn : ConnectionsData) (q : Record) : Type 0 where
   pub base : Base p st q
   pub drain : DrainStands p dr (over_since o.state) q
   pub offer : OfferStands p o q
+  pub connections : ConnectionsStand p cn q
 
-pub base-of : (p : Plan) (st : StartsData) (d : EndpointsData) (b : BootData) (o : OfferData) (dr : DrainData) (q : Record) → Going p st d b o dr q → Base p st q
-base-of p st d b o dr q h = record {
+pub base-of : (p : Plan) (st : StartsData) (d : EndpointsData) (b : BootData) (o : OfferData) (dr : DrainData) (cn : ConnectionsData) (q : Record) → Going p st d b o dr cn q → Base p st q
+base-of p st d b o dr cn q h = record {
   starts = h.starts;
-  forms = h.forms;
   entries = h.entries;
   started_due = h.started_due;
   no_end = h.no_end;
@@ -63,18 +65,18 @@ base-of p st d b o dr q h = record {
   asks = h.asks;
 }
 
-pub loose-of : (p : Plan) (st : StartsData) (d : EndpointsData) (b : BootData) (o : OfferData) (dr : DrainData) (q : Record) → Going p st d b o dr q → Loose p st o dr q
-loose-of p st d b o dr q h = record { base = base-of p st d b o dr q h; drain = h.drain; offer = h.offer }
+pub loose-of : (p : Plan) (st : StartsData) (d : EndpointsData) (b : BootData) (o : OfferData) (dr : DrainData) (cn : ConnectionsData) (q : Record) → Going p st d b o dr cn q → Loose p st o dr cn q
+loose-of p st d b o dr cn q h = record { base = base-of p st d b o dr cn q h; drain = h.drain; offer = h.offer; connections = h.connections }
 
-pub going-from : (p : Plan) (st : StartsData) (d : EndpointsData) (b : BootData) (o : OfferData) (dr : DrainData) (q : Record) → Loose p st o dr q → EndpointsStand p d q → BootStands p b q
-    → has_begun p q ≡ b.begun → (dr.running ≡ true → may_start p b ≡ true) → Going p st d b o dr q
-going-from p st d b o dr q h ends boot begun runs = record {
+pub going-from : (p : Plan) (st : StartsData) (d : EndpointsData) (b : BootData) (o : OfferData) (dr : DrainData) (cn : ConnectionsData) (q : Record) → Loose p st o dr cn q → EndpointsStand p d q → BootStands p b q
+    → has_begun p q ≡ b.begun → (dr.running ≡ true → may_start p b ≡ true) → Going p st d b o dr cn q
+going-from p st d b o dr cn q h ends boot begun runs = record {
   drain = h.drain;
   offer = h.offer;
+  connections = h.connections;
   starts = h.base.starts;
   ends = ends;
   boot = boot;
-  forms = h.base.forms;
   entries = h.base.entries;
   started_due = h.base.started_due;
   begun_is = begun;
@@ -93,18 +95,26 @@ is_free m (Adopt s i fd) = true
 is_free m (Close fd) = true
 is_free m OpenReceiver = true
 is_free m TryReceive = true
+is_free m NotifyParent = true
+is_free m Daemonize = true
 is_free m Connect = true
 is_free m (Send bytes fds) = true
 is_free m Broadcast = true
 is_free m (Phase x ms) = ms == m
+is_free m (Judged c said) = true
+is_free m (Refuse c) = true
+is_free m (TellSettings c list) = true
+is_free m (Handshake c) = true
+is_free m (Serve c) = true
+is_free m (Drop c) = true
+is_free m (Rest s i) = true
 is_free m _ = false
 
 base-one : (p : Plan) (st : StartsData) (q : Record) (a : Action) → ((s : ℕ) → is_started (Told a ∷ q) s ≡ is_started q s)
-    → is_built_entry (Told a) ≡ true → start_due p (Told a) q ≡ true → start_after_boot p (Told a) q ≡ true → every_moment_right (Told a) q ≡ true → start_known p (Told a) q ≡ true
+    → start_due p (Told a) q ≡ true → start_after_boot p (Told a) q ≡ true → every_moment_right (Told a) q ≡ true → start_known p (Told a) q ≡ true
     → is_ending (Told a) ≡ false → Base p st q → Base p st (Told a ∷ q)
-base-one p st q a starts built due after moment known ends h = record {
+base-one p st q a starts due after moment known ends h = record {
   starts = record { started_is = λ s lt. h.starts.started_is s lt ∙ sym (starts s); ready_is = h.starts.ready_is; ended_is = h.starts.ended_is };
-  forms = (built, h.forms);
   entries = record {
     fits = (refl, h.entries.fits);
     starts = (due, h.entries.starts);
@@ -120,16 +130,25 @@ base-one p st q a starts built due after moment known ends h = record {
 }
 
 pub base-told : (p : Plan) (st : StartsData) (q : Record) (a : Action) → is_free (now q) a ≡ true → Base p st q → Base p st (Told a ∷ q)
-base-told p st q (Fail s) k h = base-one p st q (Fail s) (λ t. refl) refl refl refl refl refl refl h
-base-told p st q (Bind s i) k h = base-one p st q (Bind s i) (λ t. refl) refl refl refl refl refl refl h
-base-told p st q (Adopt s i fd) k h = base-one p st q (Adopt s i fd) (λ t. refl) refl refl refl refl refl refl h
-base-told p st q (Close fd) k h = base-one p st q (Close fd) (λ t. refl) refl refl refl refl refl refl h
-base-told p st q OpenReceiver k h = base-one p st q OpenReceiver (λ t. refl) refl refl refl refl refl refl h
-base-told p st q TryReceive k h = base-one p st q TryReceive (λ t. refl) refl refl refl refl refl refl h
-base-told p st q Connect k h = base-one p st q Connect (λ t. refl) refl refl refl refl refl refl h
-base-told p st q (Send bytes fds) k h = base-one p st q (Send bytes fds) (λ t. refl) refl refl refl refl refl refl h
-base-told p st q Broadcast k h = base-one p st q Broadcast (λ t. refl) refl refl refl refl refl refl h
-base-told p st q (Phase x ms) k h = base-one p st q (Phase x ms) (λ t. refl) refl refl refl k refl refl h
+base-told p st q (Fail s) k h = base-one p st q (Fail s) (λ t. refl) refl refl refl refl refl h
+base-told p st q (Bind s i) k h = base-one p st q (Bind s i) (λ t. refl) refl refl refl refl refl h
+base-told p st q (Adopt s i fd) k h = base-one p st q (Adopt s i fd) (λ t. refl) refl refl refl refl refl h
+base-told p st q (Close fd) k h = base-one p st q (Close fd) (λ t. refl) refl refl refl refl refl h
+base-told p st q OpenReceiver k h = base-one p st q OpenReceiver (λ t. refl) refl refl refl refl refl h
+base-told p st q TryReceive k h = base-one p st q TryReceive (λ t. refl) refl refl refl refl refl h
+base-told p st q NotifyParent k h = base-one p st q NotifyParent (λ t. refl) refl refl refl refl refl h
+base-told p st q Daemonize k h = base-one p st q Daemonize (λ t. refl) refl refl refl refl refl h
+base-told p st q Connect k h = base-one p st q Connect (λ t. refl) refl refl refl refl refl h
+base-told p st q (Send bytes fds) k h = base-one p st q (Send bytes fds) (λ t. refl) refl refl refl refl refl h
+base-told p st q Broadcast k h = base-one p st q Broadcast (λ t. refl) refl refl refl refl refl h
+base-told p st q (Phase x ms) k h = base-one p st q (Phase x ms) (λ t. refl) refl refl k refl refl h
+base-told p st q (Judged c said) k h = base-one p st q (Judged c said) (λ t. refl) refl refl refl refl refl h
+base-told p st q (Refuse c) k h = base-one p st q (Refuse c) (λ t. refl) refl refl refl refl refl h
+base-told p st q (TellSettings c list) k h = base-one p st q (TellSettings c list) (λ t. refl) refl refl refl refl refl h
+base-told p st q (Handshake c) k h = base-one p st q (Handshake c) (λ t. refl) refl refl refl refl refl h
+base-told p st q (Serve c) k h = base-one p st q (Serve c) (λ t. refl) refl refl refl refl refl h
+base-told p st q (Drop c) k h = base-one p st q (Drop c) (λ t. refl) refl refl refl refl refl h
+base-told p st q (Rest s i) k h = base-one p st q (Rest s i) (λ t. refl) refl refl refl refl refl h
 base-told p st q _ k h = absurd (cc)
 
 -- such actions, one after the other
@@ -151,6 +170,7 @@ is_loose m (Adopt s i fd) = true
 is_loose m (Close fd) = true
 is_loose m OpenReceiver = true
 is_loose m TryReceive = true
+is_loose m NotifyParent = true
 is_loose m (Phase Bootstrap ms) = ms == m
 is_loose m (Phase BootstrapComplete ms) = ms == m
 is_loose m _ = false
@@ -160,24 +180,27 @@ pub record IsLoose (p : Plan) (m : ℕ) (q : Record) (a : Action) : Type 0 where
   pub free : is_free m a ≡ true
   pub drain : is_drain_action a ≡ false
   pub offer : is_offer_action a ≡ false
+  pub connections : touches_connections a ≡ false
   pub may : MayEnd p q → MayEnd p (Told a ∷ q)
 
 pub loose-is : (p : Plan) (m : ℕ) (q : Record) (a : Action) → is_loose m a ≡ true → IsLoose p m q a
-loose-is p m q (Fail s) k = record { free = refl; drain = refl; offer = refl; may = λ h. record { unpassed = h.unpassed; asks = h.asks } }
-loose-is p m q (Bind s i) k = record { free = refl; drain = refl; offer = refl; may = λ h. record { unpassed = h.unpassed; asks = h.asks } }
-loose-is p m q (Adopt s i fd) k = record { free = refl; drain = refl; offer = refl; may = λ h. record { unpassed = h.unpassed; asks = h.asks } }
-loose-is p m q (Close fd) k = record { free = refl; drain = refl; offer = refl; may = λ h. record { unpassed = h.unpassed; asks = h.asks } }
-loose-is p m q OpenReceiver k = record { free = refl; drain = refl; offer = refl; may = λ h. record { unpassed = h.unpassed; asks = h.asks } }
-loose-is p m q TryReceive k = record { free = refl; drain = refl; offer = refl; may = λ h. record { unpassed = h.unpassed; asks = h.asks } }
-loose-is p m q (Phase Bootstrap ms) k = record { free = k; drain = refl; offer = refl; may = λ h. record { unpassed = h.unpassed; asks = h.asks } }
-loose-is p m q (Phase BootstrapComplete ms) k = record { free = k; drain = refl; offer = refl; may = λ h. record { unpassed = h.unpassed; asks = h.asks } }
+loose-is p m q (Fail s) k = record { free = refl; drain = refl; offer = refl; connections = refl; may = λ h. record { unpassed = h.unpassed; asks = h.asks } }
+loose-is p m q (Bind s i) k = record { free = refl; drain = refl; offer = refl; connections = refl; may = λ h. record { unpassed = h.unpassed; asks = h.asks } }
+loose-is p m q (Adopt s i fd) k = record { free = refl; drain = refl; offer = refl; connections = refl; may = λ h. record { unpassed = h.unpassed; asks = h.asks } }
+loose-is p m q (Close fd) k = record { free = refl; drain = refl; offer = refl; connections = refl; may = λ h. record { unpassed = h.unpassed; asks = h.asks } }
+loose-is p m q OpenReceiver k = record { free = refl; drain = refl; offer = refl; connections = refl; may = λ h. record { unpassed = h.unpassed; asks = h.asks } }
+loose-is p m q TryReceive k = record { free = refl; drain = refl; offer = refl; connections = refl; may = λ h. record { unpassed = h.unpassed; asks = h.asks } }
+loose-is p m q NotifyParent k = record { free = refl; drain = refl; offer = refl; connections = refl; may = λ h. record { unpassed = h.unpassed; asks = h.asks } }
+loose-is p m q (Phase Bootstrap ms) k = record { free = k; drain = refl; offer = refl; connections = refl; may = λ h. record { unpassed = h.unpassed; asks = h.asks } }
+loose-is p m q (Phase BootstrapComplete ms) k = record { free = k; drain = refl; offer = refl; connections = refl; may = λ h. record { unpassed = h.unpassed; asks = h.asks } }
 loose-is p m q _ k = absurd (cc)
 
-pub loose-told : (p : Plan) (st : StartsData) (o : OfferData) (dr : DrainData) (q : Record) (a : Action) → is_loose (now q) a ≡ true → Loose p st o dr q → Loose p st o dr (Told a ∷ q)
-loose-told p st o dr q a k h = let is = loose-is p (now q) q a k in record {
+pub loose-told : (p : Plan) (st : StartsData) (o : OfferData) (dr : DrainData) (cn : ConnectionsData) (q : Record) (a : Action) → is_loose (now q) a ≡ true → Loose p st o dr cn q → Loose p st o dr cn (Told a ∷ q)
+loose-told p st o dr cn q a k h = let is = loose-is p (now q) q a k in record {
   base = base-told p st q a is.free h.base;
   drain = drains.stands-told p dr (over_since o.state) q a is.drain h.drain;
   offer = offers.stands-told p o q a is.offer h.offer;
+  connections = sockets.stands-told p cn q a is.connections h.connections;
 }
 
 -- such actions, one after the other
@@ -185,11 +208,11 @@ abbrev pub are_loose : ℕ → List Action → Bool
 are_loose m [] = true
 are_loose m (a ∷ told) = is_loose m a && are_loose m told
 
-pub loose-tell : (p : Plan) (st : StartsData) (o : OfferData) (dr : DrainData) (q : Record) (told : List Action) → are_loose (now q) told ≡ true → Loose p st o dr q → Loose p st o dr (tell q told)
-loose-tell p st o dr q [] k h = h
-loose-tell p st o dr q (a ∷ told) k h =
+pub loose-tell : (p : Plan) (st : StartsData) (o : OfferData) (dr : DrainData) (cn : ConnectionsData) (q : Record) (told : List Action) → are_loose (now q) told ≡ true → Loose p st o dr cn q → Loose p st o dr cn (tell q told)
+loose-tell p st o dr cn q [] k h = h
+loose-tell p st o dr cn q (a ∷ told) k h =
     let parts = and_parts (is_loose (now q) a) (are_loose (now q) told) k in
-    loose-tell p st o dr (Told a ∷ q) told parts.1 (loose-told p st o dr q a parts.0 h)
+    loose-tell p st o dr cn (Told a ∷ q) told parts.1 (loose-told p st o dr cn q a parts.0 h)
 
 pub may-tell : (p : Plan) (m : ℕ) (q : Record) (told : List Action) → are_loose m told ≡ true → MayEnd p q → MayEnd p (tell q told)
 may-tell p m q [] k h = h
@@ -259,10 +282,19 @@ begun-free p q m (Adopt s i fd) k = refl
 begun-free p q m (Close fd) k = refl
 begun-free p q m OpenReceiver k = refl
 begun-free p q m TryReceive k = refl
+begun-free p q m NotifyParent k = refl
+begun-free p q m Daemonize k = refl
 begun-free p q m Connect k = refl
 begun-free p q m (Send bytes fds) k = refl
 begun-free p q m Broadcast k = refl
 begun-free p q m (Phase x ms) k = refl
+begun-free p q m (Judged c said) k = refl
+begun-free p q m (Refuse c) k = refl
+begun-free p q m (TellSettings c list) k = refl
+begun-free p q m (Handshake c) k = refl
+begun-free p q m (Serve c) k = refl
+begun-free p q m (Drop c) k = refl
+begun-free p q m (Rest s i) k = refl
 begun-free p q m _ k = absurd (cc)
 
 pub begun-frees : (p : Plan) (q : Record) (m : ℕ) (told : List Action) → are_free m told ≡ true → has_begun p (tell q told) ≡ has_begun p q

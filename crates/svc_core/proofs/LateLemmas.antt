@@ -1,6 +1,6 @@
 -- What is told of the offer and of the signal leaves what belongs to other parts.
-use Rattle.std.proofs.Common.{ℕ, Bool, true, false, ◌&&◌, ◌==◌, List, [], ◌∷◌, ◌≡◌, refl, sym, arith, if◌then◌else◌, nat_le, ◌-◌}
-use Rattle.std.specs.Prelude.{Option, Some, None}
+use Rattle.std.proofs.Common.{ℕ, Bool, true, false, ◌&&◌, ◌==◌, List, [], ◌∷◌, not, ◌≡◌, refl, ap, sym, arith, if◌then◌else◌, nat_le, ◌-◌}
+use Rattle.std.specs.Prelude.{Option, Some, None, is_some}
 use Rattle.std.proofs.lemmas.Bool.{and_parts, eq-eqb}
 use Rattle.svc_fds.specs.declared.encoding.Message.{Message}
 use Rattle.svc_record.specs.declared.plan.Plan.{Plan}
@@ -16,6 +16,7 @@ use Rattle.svc_endpoints.specs.EndpointsState.{EndpointsStand}
 use Rattle.svc_endpoints.specs.Foreign.{is_endpoints_action}
 use Rattle.svc_endpoints.proofs.EventLemmas.{stands-told}
 use Rattle.svc_boot.specs.BootData.{BootData}
+use Rattle.svc_boot.specs.ForkState.{is_free as goes_on}
 use Rattle.svc_boot.specs.BootState.{BootStands}
 use Rattle.svc_boot.specs.BootFacts.{is_boot_action}
 use Rattle.svc_boot.proofs.Foreign as boots
@@ -28,9 +29,10 @@ use Rattle.svc_offer.specs.OfferFacts.{has_no_offer_action}
 use Rattle.svc_drain.specs.declared.stage.Stage.{Stage}
 use Rattle.svc_drain.specs.declared.stage.Stage.TheVariants.{Running, Offering as OfferStage, Resting, Grace, Ending}
 use Rattle.svc_drain.specs.DrainData.{DrainData}
-use Rattle.svc_drain.specs.DrainState.{is_since, rest_from}
+use Rattle.svc_drain.specs.DrainState.{rest_from}
 use Rattle.svc_drain.specs.DrainEffects.{stage_told, row_told, timeout_told, grace_told, rested_told}
 use Rattle.svc_drain.specs.DrainFacts.{has_no_drain_action}
+use Rattle.svc_connections.specs.ConnectionsFacts.{touches_connections, has_no_connection_action}
 use Rattle.svc_core.specs.Passes.{VisitedUpTo}
 use Rattle.svc_core.proofs.GoingLemmas.{is_free, are_free}
 
@@ -51,17 +53,18 @@ pub record IsLate (p : Plan) (order : List ℕ) (k m : ℕ) (q : Record) (a : Ac
   pub free : is_free m a ≡ true
   pub boot : is_boot_action a ≡ false
   pub ends : is_endpoints_action a ≡ false
+  pub connections : touches_connections a ≡ false
   pub visited : VisitedUpTo p order k q → VisitedUpTo p order k (Told a ∷ q)
 
 pub late-is : (p : Plan) (order : List ℕ) (k m : ℕ) (q : Record) (a : Action) → is_late m a ≡ true → IsLate p order k m q a
-late-is p order k m q Connect h = record { free = refl; boot = refl; ends = refl; visited = λ v. record { due_started = λ j lt due. v.due_started j lt due; right = λ none j lt i within. v.right none j lt i within; late = λ j lt i within. v.late j lt i within } }
-late-is p order k m q (Send bytes fds) h = record { free = refl; boot = refl; ends = refl; visited = λ v. record { due_started = λ j lt due. v.due_started j lt due; right = λ none j lt i within. v.right none j lt i within; late = λ j lt i within. v.late j lt i within } }
-late-is p order k m q Broadcast h = record { free = refl; boot = refl; ends = refl; visited = λ v. record { due_started = λ j lt due. v.due_started j lt due; right = λ none. absurd (cc); late = λ j lt i within. v.late j lt i within } }
-late-is p order k m q (Phase GracefulUpgradeTransferringFds ms) h = record { free = h; boot = refl; ends = refl; visited = λ v. record { due_started = λ j lt due. v.due_started j lt due; right = λ none j lt i within. v.right none j lt i within; late = λ j lt i within. v.late j lt i within } }
-late-is p order k m q (Phase GracefulUpgradeCloseTimeout ms) h = record { free = h; boot = refl; ends = refl; visited = λ v. record { due_started = λ j lt due. v.due_started j lt due; right = λ none j lt i within. v.right none j lt i within; late = λ j lt i within. v.late j lt i within } }
-late-is p order k m q (Phase GracefulTerminate ms) h = record { free = h; boot = refl; ends = refl; visited = λ v. record { due_started = λ j lt due. v.due_started j lt due; right = λ none j lt i within. v.right none j lt i within; late = λ j lt i within. v.late j lt i within } }
-late-is p order k m q (Phase ShutdownStarted ms) h = record { free = h; boot = refl; ends = refl; visited = λ v. record { due_started = λ j lt due. v.due_started j lt due; right = λ none j lt i within. v.right none j lt i within; late = λ j lt i within. v.late j lt i within } }
-late-is p order k m q (Phase ShutdownGracePeriod ms) h = record { free = h; boot = refl; ends = refl; visited = λ v. record { due_started = λ j lt due. v.due_started j lt due; right = λ none j lt i within. v.right none j lt i within; late = λ j lt i within. v.late j lt i within } }
+late-is p order k m q Connect h = record { free = refl; boot = refl; ends = refl; connections = refl; visited = λ v. record { due_started = λ j lt due. v.due_started j lt due; right = λ none j lt i within. v.right none j lt i within; late = λ j lt i within. v.late j lt i within } }
+late-is p order k m q (Send bytes fds) h = record { free = refl; boot = refl; ends = refl; connections = refl; visited = λ v. record { due_started = λ j lt due. v.due_started j lt due; right = λ none j lt i within. v.right none j lt i within; late = λ j lt i within. v.late j lt i within } }
+late-is p order k m q Broadcast h = record { free = refl; boot = refl; ends = refl; connections = refl; visited = λ v. record { due_started = λ j lt due. v.due_started j lt due; right = λ none. absurd (cc); late = λ j lt i within. v.late j lt i within } }
+late-is p order k m q (Phase GracefulUpgradeTransferringFds ms) h = record { free = h; boot = refl; ends = refl; connections = refl; visited = λ v. record { due_started = λ j lt due. v.due_started j lt due; right = λ none j lt i within. v.right none j lt i within; late = λ j lt i within. v.late j lt i within } }
+late-is p order k m q (Phase GracefulUpgradeCloseTimeout ms) h = record { free = h; boot = refl; ends = refl; connections = refl; visited = λ v. record { due_started = λ j lt due. v.due_started j lt due; right = λ none j lt i within. v.right none j lt i within; late = λ j lt i within. v.late j lt i within } }
+late-is p order k m q (Phase GracefulTerminate ms) h = record { free = h; boot = refl; ends = refl; connections = refl; visited = λ v. record { due_started = λ j lt due. v.due_started j lt due; right = λ none j lt i within. v.right none j lt i within; late = λ j lt i within. v.late j lt i within } }
+late-is p order k m q (Phase ShutdownStarted ms) h = record { free = h; boot = refl; ends = refl; connections = refl; visited = λ v. record { due_started = λ j lt due. v.due_started j lt due; right = λ none j lt i within. v.right none j lt i within; late = λ j lt i within. v.late j lt i within } }
+late-is p order k m q (Phase ShutdownGracePeriod ms) h = record { free = h; boot = refl; ends = refl; connections = refl; visited = λ v. record { due_started = λ j lt due. v.due_started j lt due; right = λ none j lt i within. v.right none j lt i within; late = λ j lt i within. v.late j lt i within } }
 late-is p order k m q _ h = absurd (cc)
 
 -- such actions, one after the other
@@ -72,23 +75,25 @@ are_late m (a ∷ told) = is_late m a && are_late m told
 -- what is told so leaves the other parts
 pub record Keeps (p : Plan) (order : List ℕ) (k m : ℕ) (d : EndpointsData) (b : BootData) (q : Record) (told : List Action) : Type 0 where
   pub free : are_free m told ≡ true
+  pub apart : has_no_connection_action told ≡ true
   pub ends : EndpointsStand p d q → EndpointsStand p d (tell q told)
-  pub boot : BootStands p b q → BootStands p b (tell q told)
+  pub boot : goes_on p b.fork ≡ true → BootStands p b q → BootStands p b (tell q told)
   pub visited : VisitedUpTo p order k q → VisitedUpTo p order k (tell q told)
 
 both-free : (a b : Bool) → a ≡ true → b ≡ true → (a && b) ≡ true
 both-free a b h k = grind arith
 
 pub late-keeps : (p : Plan) (order : List ℕ) (k m : ℕ) (d : EndpointsData) (b : BootData) (q : Record) (told : List Action) → are_late m told ≡ true → Keeps p order k m d b q told
-late-keeps p order k m d b q [] h = record { free = refl; ends = λ e. e; boot = λ e. e; visited = λ v. v }
+late-keeps p order k m d b q [] h = record { free = refl; apart = refl; ends = λ e. e; boot = λ free e. e; visited = λ v. v }
 late-keeps p order k m d b q (a ∷ told) h =
     let parts = and_parts (is_late m a) (are_late m told) h in
     let here = late-is p order k m q a parts.0 in
     let rest = late-keeps p order k m d b (Told a ∷ q) told parts.1 in
     record {
       free = both-free (is_free m a) (are_free m told) here.free rest.free;
+      apart = both-free (not (touches_connections a)) (has_no_connection_action told) (ap not here.connections) rest.apart;
       ends = λ e. rest.ends (stands-told p d q a here.ends e);
-      boot = λ e. rest.boot (boots.stands-told p b q a here.boot e);
+      boot = λ free e. rest.boot free (boots.stands-told p b q a here.boot free e);
       visited = λ v. rest.visited (here.visited v);
     }
 
@@ -153,7 +158,7 @@ grace-late : (t : ℕ) → are_late t (grace_told t) ≡ true
 grace-late t = rw (eq-eqb t t refl) refl
 
 rested-late : (over : Option ℕ) (t : ℕ) → are_late t (rested_told over t) ≡ true
-rested-late over t = by (is_since (rest_from over t))
+rested-late over t = by (is_some (rest_from over t))
   where
     by : (c : Bool) → are_late t (if c then Broadcast ∷ grace_told t else []) ≡ true
     by true = grace-late t
@@ -178,7 +183,7 @@ timeout-other (Some at) t = refl
 timeout-other None t = refl
 
 rested-other : (over : Option ℕ) (t : ℕ) → has_no_offer_action (rested_told over t) ≡ true
-rested-other over t = by (is_since (rest_from over t))
+rested-other over t = by (is_some (rest_from over t))
   where
     by : (c : Bool) → has_no_offer_action (if c then Broadcast ∷ grace_told t else []) ≡ true
     by true = refl

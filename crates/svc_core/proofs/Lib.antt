@@ -1,5 +1,4 @@
 pub mod RecordLemmas
-pub mod FormLemmas
 pub mod StartsLemmas
 pub mod GoingLemmas
 pub mod PassLemmas
@@ -12,8 +11,11 @@ pub mod EndLemmas
 pub mod AnswerLemmas
 pub mod StepLemmas
 pub mod SignalLemmas
+pub mod ConnectionLemmas
+pub mod JudgedLemmas
 pub mod CopyLemmas
 pub mod BeginLemmas
+pub mod HeldLemmas
 pub mod FitsLemmas
 pub mod TailLemmas
 pub mod CloseCounts

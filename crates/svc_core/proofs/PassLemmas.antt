@@ -8,7 +8,7 @@ use Rattle.svc_graph.specs.declared.plan.Kind.TheVariants.{Bootstrap as Bootstra
 use Rattle.svc_record.specs.declared.plan.Plan.{Plan}
 use Rattle.svc_record.specs.declared.entry.Entry.TheVariants.{Told}
 use Rattle.svc_record.specs.declared.action.Action.{Action}
-use Rattle.svc_record.specs.declared.action.Action.TheVariants.{Start, Bind, Adopt, Phase, OpenReceiver, TryReceive}
+use Rattle.svc_record.specs.declared.action.Action.TheVariants.{Start, Bind, Adopt, Phase, OpenReceiver, TryReceive, NotifyParent}
 use Rattle.svc_record.specs.declared.action.ExecutionPhase.TheVariants.{Bootstrap, BootstrapComplete}
 use Rattle.svc_record.specs.Plans.{service_count, endpoints, depends, has_kind}
 use Rattle.svc_record.specs.Record.{Record, now, tell, has, last_step, is_bootstrap_complete}
@@ -27,15 +27,19 @@ use Rattle.svc_endpoints.specs.Visits.{IsAskOf, Visited}
 use Rattle.svc_endpoints.proofs.EventLemmas.{stands-told, stands-start as ends-start}
 use Rattle.svc_endpoints.proofs.SharedLemmas.{right-bind, right-adopt, right-start, late-bind, late-adopt, late-start}
 use Rattle.svc_boot.specs.BootData.{BootData}
-use Rattle.svc_boot.specs.BootState.{BootStands, has_come}
-use Rattle.svc_boot.specs.BootEffects.{begin_more, begin_told, begun_by, begun_with}
+use Rattle.svc_boot.specs.ForkState.{is_free}
+use Rattle.svc_boot.specs.BootState.{BootStands, has_come, notifies}
+use Rattle.svc_boot.specs.BootEffects.{begin_more, begin_told, begun_by, begun_with, receive_told}
 use Rattle.svc_boot.specs.BootFacts.{has_no_boot_action}
 use Rattle.svc_boot.proofs.Foreign as foreign
+use Rattle.svc_boot.proofs.Settled.{fork-begin}
 use Rattle.svc_offer.specs.OfferData.{OfferData}
 use Rattle.svc_offer.specs.OfferState.{over_since}
 use Rattle.svc_offer.proofs.Foreign as offers
 use Rattle.svc_drain.specs.DrainData.{DrainData}
 use Rattle.svc_drain.proofs.Foreign as drains
+use Rattle.svc_connections.specs.ConnectionsData.{ConnectionsData}
+use Rattle.svc_connections.proofs.Foreign as sockets
 use Rattle.svc_core.specs.StartsData.{StartsData}
 use Rattle.svc_core.specs.StartsState.{IsStartsSized, AreFailed, is_flagged, starts_now, start_if, start_told}
 use Rattle.svc_core.specs.Passes.{IsBootRipe, VisitedUpTo, TestedAt, PassedUpTo, Passes, Half, Starting, MayEnd, may_start, is_tested, is_boot_service}
@@ -72,52 +76,58 @@ as-tested false A B e h = absurd (cc)
 pub begin-loose : (p : Plan) (b : BootData) (m : ℕ) → are_loose m (begin_told p b m) ≡ true
 begin-loose p b m = elim (cases_Bool b.begun) [
   | inl begun ↦ rw begun refl
-  | inr not_begun ↦ rw not_begun (rw (eq-eqb m m refl) (more p.test p.upgrade))
+  | inr not_begun ↦ rw not_begun (rw (eq-eqb m m refl) (more p.test (notifies p) p.upgrade))
 ]
   where
-    more : (test upgrade : Bool) → are_loose m (begin_more test upgrade m) ≡ true
-    more true upgrade = refl
-    more false true = refl
-    more false false = rw (eq-eqb m m refl) refl
+    more : (test notify upgrade : Bool) → are_loose m (begin_more test notify upgrade m) ≡ true
+    more true notify upgrade = refl
+    more false true true = refl
+    more false false true = refl
+    more false true false = rw (eq-eqb m m refl) refl
+    more false false false = rw (eq-eqb m m refl) refl
 
 -- telling it, by what is told
 begin-keeps : (P : Record → Type 0) → ((q : Record) (m : ℕ) → P q → P (Told (Phase Bootstrap m) ∷ q)) → ((q : Record) (m : ℕ) → P q → P (Told (Phase BootstrapComplete m) ∷ q))
-    → ((q : Record) → P q → P (Told OpenReceiver ∷ q)) → ((q : Record) → P q → P (Told TryReceive ∷ q)) → (p : Plan) (b : BootData) (m : ℕ) (q : Record) → P q → P (tell q (begin_told p b m))
-begin-keeps P f g h k p b m q was = elim (cases_Bool b.begun) [
+    → ((q : Record) → P q → P (Told OpenReceiver ∷ q)) → ((q : Record) → P q → P (Told TryReceive ∷ q)) → ((q : Record) → P q → P (Told NotifyParent ∷ q)) → (p : Plan) (b : BootData) (m : ℕ) (q : Record) → P q → P (tell q (begin_told p b m))
+begin-keeps P f g h k n p b m q was = elim (cases_Bool b.begun) [
   | inl begun ↦ rw begun was
-  | inr not_begun ↦ rw not_begun (more p.test p.upgrade (f q m was))
+  | inr not_begun ↦ rw not_begun (more p.test (notifies p) p.upgrade (f q m was))
 ]
   where
-    more : (test upgrade : Bool) → P (Told (Phase Bootstrap m) ∷ q) → P (tell (Told (Phase Bootstrap m) ∷ q) (begin_more test upgrade m))
-    more true upgrade x = x
-    more false true x = k (Told OpenReceiver ∷ (Told (Phase Bootstrap m) ∷ q)) (h (Told (Phase Bootstrap m) ∷ q) x)
-    more false false x = g (Told (Phase Bootstrap m) ∷ q) m x
+    receives : (upgrade : Bool) (r : Record) → P r → P (tell r (receive_told upgrade m))
+    receives true r x = k (Told OpenReceiver ∷ r) (h r x)
+    receives false r x = g r m x
+
+    more : (test notify upgrade : Bool) → P (Told (Phase Bootstrap m) ∷ q) → P (tell (Told (Phase Bootstrap m) ∷ q) (begin_more test notify upgrade m))
+    more true notify upgrade x = x
+    more false true upgrade x = receives upgrade (Told NotifyParent ∷ (Told (Phase Bootstrap m) ∷ q)) (n (Told (Phase Bootstrap m) ∷ q) x)
+    more false false upgrade x = receives upgrade (Told (Phase Bootstrap m) ∷ q) x
 
 pub begin-ends : (p : Plan) (d : EndpointsData) (b : BootData) (m : ℕ) (q : Record) → EndpointsStand p d q → EndpointsStand p d (tell q (begin_told p b m))
 begin-ends p d b m q h =
     begin-keeps (EndpointsStand p d) (λ r n. stands-told p d r (Phase Bootstrap n) refl) (λ r n. stands-told p d r (Phase BootstrapComplete n) refl)
-    (λ r. stands-told p d r OpenReceiver refl) (λ r. stands-told p d r TryReceive refl) p b m q h
+    (λ r. stands-told p d r OpenReceiver refl) (λ r. stands-told p d r TryReceive refl) (λ r. stands-told p d r NotifyParent refl) p b m q h
 
 begin-right : (p : Plan) (b : BootData) (m : ℕ) (q : Record) (s i : ℕ) → endpoint_right p q s i ≡ true → endpoint_right p (tell q (begin_told p b m)) s i ≡ true
 begin-right p b m q s i h =
-    begin-keeps (λ r. endpoint_right p r s i ≡ true) (λ r n k. k) (λ r n k. k) (λ r k. k) (λ r k. k) p b m q h
+    begin-keeps (λ r. endpoint_right p r s i ≡ true) (λ r n k. k) (λ r n k. k) (λ r k. k) (λ r k. k) (λ r k. k) p b m q h
 
 begin-late : (p : Plan) (b : BootData) (m : ℕ) (q : Record) (s i : ℕ) → endpoint_right_late p q s i ≡ true → endpoint_right_late p (tell q (begin_told p b m)) s i ≡ true
 begin-late p b m q s i h =
-    begin-keeps (λ r. endpoint_right_late p r s i ≡ true) (λ r n k. k) (λ r n k. k) (λ r k. k) (λ r k. k) p b m q h
+    begin-keeps (λ r. endpoint_right_late p r s i ≡ true) (λ r n k. k) (λ r n k. k) (λ r k. k) (λ r k. k) (λ r k. k) p b m q h
 
 begin-silent : (p : Plan) (b : BootData) (m : ℕ) (q : Record) → has is_broadcast (tell q (begin_told p b m)) ≡ has is_broadcast q
-begin-silent p b m q = begin-keeps (λ r. has is_broadcast r ≡ has is_broadcast q) (λ r n k. k) (λ r n k. k) (λ r k. k) (λ r k. k) p b m q refl
+begin-silent p b m q = begin-keeps (λ r. has is_broadcast r ≡ has is_broadcast q) (λ r n k. k) (λ r n k. k) (λ r k. k) (λ r k. k) (λ r k. k) p b m q refl
 
 begin-started : (p : Plan) (b : BootData) (m : ℕ) (q : Record) (s : ℕ) → is_started (tell q (begin_told p b m)) s ≡ is_started q s
-begin-started p b m q s = begin-keeps (λ r. is_started r s ≡ is_started q s) (λ r n k. k) (λ r n k. k) (λ r k. k) (λ r k. k) p b m q refl
+begin-started p b m q s = begin-keeps (λ r. is_started r s ≡ is_started q s) (λ r n k. k) (λ r n k. k) (λ r k. k) (λ r k. k) (λ r k. k) p b m q refl
 
 -- whether a service is ready but for bootstrapping
 abbrev ready_apart : Plan → Record → ℕ → Bool
 ready_apart p q s = ((has (is_ready_event s) q || has (is_ended_event s) q) || has_failed p q s) || (is_started q s && has_kind p Plain s)
 
 begin-apart : (p : Plan) (b : BootData) (m : ℕ) (q : Record) (s : ℕ) → ready_apart p (tell q (begin_told p b m)) s ≡ ready_apart p q s
-begin-apart p b m q s = begin-keeps (λ r. ready_apart p r s ≡ ready_apart p q s) (λ r n k. k) (λ r n k. k) (λ r k. k) (λ r k. k) p b m q refl
+begin-apart p b m q s = begin-keeps (λ r. ready_apart p r s ≡ ready_apart p q s) (λ r n k. k) (λ r n k. k) (λ r k. k) (λ r k. k) (λ r k. k) p b m q refl
 
 ready_split : (e f on plain boots complete : Bool) → (boots && on) ≡ false → ((e || f) || (on && (plain || (boots && complete)))) ≡ ((e || f) || (on && plain))
 ready_split e f on plain boots complete h = grind arith
@@ -181,18 +191,29 @@ ask-silent q s (_ ∷ _) a = absurd a
 
 -- the beginning, by the flags
 pub begun-now : (p : Plan) (b : BootData) → b.begun ≡ false → (begun_by p b).begun ≡ true
-begun-now p b e = rw e (by p.test p.upgrade (record { begun = false; complete = b.complete; receiving = b.receiving; patience = b.patience }))
+begun-now p b e = rw e (by p.test p.upgrade (record { fork = b.fork; begun = false; complete = b.complete; receiving = b.receiving; patience = b.patience }))
   where
     by : (test upgrade : Bool) (x : BootData) → (begun_with test upgrade x).begun ≡ true
     by true upgrade x = refl
     by false true x = refl
     by false false x = refl
 
-or_grown : (e c x : Bool) → (c ≡ true → x ≡ true) → (not e || c) ≡ true → (not e || x) ≡ true
-or_grown e c x f h = grind (arith, f)
+or_grown : (free e c x : Bool) → (c ≡ true → x ≡ true) → (free && (not e || c)) ≡ true → (free && (not e || x)) ≡ true
+or_grown free e c x f h = grind (arith, f)
+
+-- where services may start, no fork is awaited
+pub may-free : (p : Plan) (b : BootData) → may_start p b ≡ true → is_free p b.fork ≡ true
+may-free p b h = (and_parts (is_free p b.fork) (not p.eager || b.complete) h).0
+
+-- and bootstrapping is complete, or needn't be
+pub may-complete : (p : Plan) (b : BootData) → may_start p b ≡ true → (not p.eager || b.complete) ≡ true
+may-complete p b h = (and_parts (is_free p b.fork) (not p.eager || b.complete) h).1
 
 may-grows : (p : Plan) (b : BootData) → may_start p b ≡ true → may_start p (begun_by p b) ≡ true
-may-grows p b h = or_grown p.eager b.complete (begun_by p b).complete (λ e. (elim (cases_Bool b.begun) [ inl begun ↦ rw begun e | inr not_begun ↦ rw not_begun (by p.test p.upgrade (record { begun = false; complete = b.complete; receiving = b.receiving; patience = b.patience }) e) ])) h
+may-grows p b h =
+    ap (λ f. is_free p f && (not p.eager || (begun_by p b).complete)) (fork-begin p b)
+    ∙ or_grown (is_free p b.fork) p.eager b.complete (begun_by p b).complete
+    (λ e. (elim (cases_Bool b.begun) [ inl begun ↦ rw begun e | inr not_begun ↦ rw not_begun (by p.test p.upgrade (record { fork = b.fork; begun = false; complete = b.complete; receiving = b.receiving; patience = b.patience }) e) ])) h
   where
     by : (test upgrade : Bool) (x : BootData) → x.complete ≡ true → (begun_with test upgrade x).complete ≡ true
     by true upgrade x e = e
@@ -229,7 +250,7 @@ no_and : (k b : Bool) → (k && not b) ≡ false → k ≡ true → b ≡ true
 no_and k b h e = grind arith
 
 module _ (p : Plan) (valid : IsValid p) (order : List ℕ) (dr : DrainData) (k : ℕ) (place : k < length order) (in_order : IsInOrder p order)
-    (st : StartsData) (d : EndpointsData) (b : BootData) (o : OfferData) (q : Record) (sized : IsStartsSized p st) (untested : is_tested p b ≡ false) (was : PassedUpTo p order k st d b o dr q) where
+    (st : StartsData) (d : EndpointsData) (b : BootData) (o : OfferData) (cn : ConnectionsData) (q : Record) (sized : IsStartsSized p st) (untested : is_tested p b ≡ false) (was : PassedUpTo p order k st d b o dr cn q) where
   abbrev here : ℕ
   here = slice_index order k
 
@@ -242,7 +263,7 @@ module _ (p : Plan) (valid : IsValid p) (order : List ℕ) (dr : DrainData) (k :
   starts-same : starts_now p st d.failed b.complete here ≡ (not (is_started q here) && is_due p q here)
   starts-same = starts-is p st d.failed b.complete q here valid inside was.going.starts (are-failed p d q was.going.ends) (sym was.going.boot.begin.complete_is)
 
-  wait-half : starts_now p st d.failed b.complete here ≡ false → Half p order k st d b o dr q
+  wait-half : starts_now p st d.failed b.complete here ≡ false → Half p order k st d b o dr cn q
   wait-half e =
       let due : false ≡ (not (is_started q here) && is_due p q here) = sym e ∙ starts-same in
       record {
@@ -285,15 +306,14 @@ module _ (p : Plan) (valid : IsValid p) (order : List ℕ) (dr : DrainData) (k :
     start-may : MayEnd p (Told (Start here) ∷ q)
     start-may = record { unpassed = may-end.unpassed; asks = may-end.asks }
 
-    start-loose : Loose p (start_if true here st) o dr (Told (Start here) ∷ q)
+    start-loose : Loose p (start_if true here st) o dr cn (Told (Start here) ∷ q)
     start-loose = record {
       base = record {
         starts = stands-start p st q here sized inside was.going.starts;
-        forms = (refl, was.going.forms);
         entries = record {
           fits = (refl, was.going.entries.fits);
           starts = (rw (fresh, due) refl, was.going.entries.starts);
-          after_boot = (ap (λ c. not p.eager || c) was.going.boot.begin.complete_is ∙ was.may, was.going.entries.after_boot);
+          after_boot = (ap (λ c. not p.eager || c) was.going.boot.begin.complete_is ∙ may-complete p b was.may, was.going.entries.after_boot);
           moments = (refl, was.going.entries.moments);
           known_starts = ((Decides-ltb here (service_count p)).1 inside, was.going.entries.known_starts);
         };
@@ -309,15 +329,16 @@ module _ (p : Plan) (valid : IsValid p) (order : List ℕ) (dr : DrainData) (k :
       };
       drain = drains.stands-told p dr (over_since o.state) q (Start here) refl was.going.drain;
       offer = offers.stands-told p o q (Start here) refl was.going.offer;
+      connections = sockets.stands-told p cn q (Start here) refl was.going.connections;
     }
 
     start-ends : EndpointsStand p d (Told (Start here) ∷ q)
     start-ends = ends-start p d q here was.going.ends
 
     -- a start by which nothing begins
-    plain-half : (has_kind p BootstrapKind here && not b.begun) ≡ false → Half p order k (start_if true here st) d b o dr (Told (Start here) ∷ q)
+    plain-half : (has_kind p BootstrapKind here && not b.begun) ≡ false → Half p order k (start_if true here st) d b o dr cn (Told (Start here) ∷ q)
     plain-half none = record {
-      going = going-from p (start_if true here st) d b o dr (Told (Start here) ∷ q) start-loose start-ends (foreign.stands-told p b q (Start here) refl was.going.boot)
+      going = going-from p (start_if true here st) d b o dr cn (Told (Start here) ∷ q) start-loose start-ends (foreign.stands-told p b q (Start here) refl (may-free p b was.may) was.going.boot)
           (elim (cases_Bool (has_kind p BootstrapKind here)) [
             | inl boots ↦ (let begun = no_and (has_kind p BootstrapKind here) b.begun none boots in begun-start-grows p q here (was.going.begun_is ∙ begun) ∙ sym begun)
             | inr other ↦ begun-other p q here other ∙ was.going.begun_is
@@ -397,10 +418,10 @@ module _ (p : Plan) (valid : IsValid p) (order : List ℕ) (dr : DrainData) (k :
         may_end = begun-may;
       }
 
-      boot-half : Half p order k (start_if true here st) d (begun_by p b) o dr after
+      boot-half : Half p order k (start_if true here st) d (begun_by p b) o dr cn after
       boot-half = record {
-        going = going-from p (start_if true here st) d (begun_by p b) o dr after
-            (loose-tell p (start_if true here st) o dr (Told (Start here) ∷ q) (begin_told p b dr.moment)
+        going = going-from p (start_if true here st) d (begun_by p b) o dr cn after
+            (loose-tell p (start_if true here st) o dr cn (Told (Start here) ∷ q) (begin_told p b dr.moment)
             (subst (λ m. are_loose m (begin_told p b dr.moment) ≡ true) was.going.drain.moment_is (begin-loose p b dr.moment)) start-loose)
             (begin-ends p d b dr.moment (Told (Start here) ∷ q) start-ends) stand
             (begun-tell p (Told (Start here) ∷ q) dr.moment (begin_told p b dr.moment) (begin-loose p b dr.moment) ∙ begun-boots p q here inside boots ∙ sym (begun-now p b unbegun))
@@ -430,7 +451,7 @@ pub starting-none : (p : Plan) → IsValid p → (order : List ℕ) (dr : DrainD
 starting-none p valid order dr k place in_order st d b before after sized untested e told = record {
   told = [];
   appended = told;
-  kept = λ o q was. wait-half p valid order dr k place in_order st d b o q sized untested was (sym e);
+  kept = λ o cn q was. wait-half p valid order dr k place in_order st d b o cn q sized untested was (sym e);
 }
 
 pub starting-plain : (p : Plan) → IsValid p → (order : List ℕ) (dr : DrainData) (k : ℕ) → k < length order → IsInOrder p order → (st : StartsData) (d : EndpointsData) (b : BootData) (before after : List Action)
@@ -440,19 +461,19 @@ pub starting-plain : (p : Plan) → IsValid p → (order : List ℕ) (dr : Drain
 starting-plain p valid order dr k place in_order st d b before after sized untested e none told = record {
   told = Start (slice_index order k) ∷ [];
   appended = told;
-  kept = λ o q was. plain-half p valid order dr k place in_order st d b o q sized untested was (sym e) none;
+  kept = λ o cn q was. plain-half p valid order dr k place in_order st d b o cn q sized untested was (sym e) none;
 }
 
 pub starting-boot : (p : Plan) → IsValid p → (order : List ℕ) (dr : DrainData) (k : ℕ) → k < length order → IsInOrder p order → (st : StartsData) (d : EndpointsData) (b : BootData) (before mid after : List Action)
     → IsStartsSized p st → is_tested p b ≡ false → true ≡ starts_now p st d.failed b.complete (slice_index order k) → has_kind p BootstrapKind (slice_index order k) ≡ true → b.begun ≡ false
     → mid ≡ before ++ Start (slice_index order k) ∷ [] → after ≡ mid ++ begin_told p b dr.moment
-    → ((q : Record) → BootStands p b q → BootStands p (begun_by p b) (tell q (begin_told p b dr.moment)))
+    → ((q : Record) → is_free p b.fork ≡ true → BootStands p b q → BootStands p (begun_by p b) (tell q (begin_told p b dr.moment)))
     → Starting p order dr k st (start_if true (slice_index order k) st) d b (begun_by p b) before after
 starting-boot p valid order dr k place in_order st d b before mid after sized untested e boots unbegun first next stands = record {
   told = Start (slice_index order k) ∷ begin_told p b dr.moment;
   appended = next ∙ ap (λ w. w ++ begin_told p b dr.moment) first ∙ append_assoc before (Start (slice_index order k) ∷ []) (begin_told p b dr.moment);
-  kept = λ o q was. boot-half p valid order dr k place in_order st d b o q sized untested was (sym e) boots unbegun
-      (stands (Told (Start (slice_index order k)) ∷ q) (foreign.stands-told p b q (Start (slice_index order k)) refl was.going.boot));
+  kept = λ o cn q was. boot-half p valid order dr k place in_order st d b o cn q sized untested was (sym e) boots unbegun
+      (stands (Told (Start (slice_index order k)) ∷ q) (may-free p b was.may) (foreign.stands-told p b q (Start (slice_index order k)) refl (may-free p b was.may) was.going.boot));
 }
 
 -- by whether the service started, where nothing begins
@@ -467,13 +488,13 @@ none-begins p valid order dr k place in_order st st' d b false before after size
     rw same (starting-none p valid order dr k place in_order st d b before after sized untested due told)
 
 -- the second half: an ask if there is one to make
-ask-whole : (p : Plan) (order : List ℕ) (k : ℕ) (st : StartsData) (d d' : EndpointsData) (b : BootData) (o : OfferData) (dr : DrainData) (q : Record) (told : List Action) → is_tested p b ≡ false
-    → IsAskOf (slice_index order k) told → Visited p d' (slice_index order k) q told → Half p order k st d b o dr q → PassedUpTo p order (k + 1) st d' b o dr (tell q told)
-ask-whole p order k st d d' b o dr q told untested ask visited half = record {
-  going = going-from p st d' b o dr (tell q told)
-      (loose-tell p st o dr q told (ask-loose (slice_index order k) (now q) told ask) (loose-of p st d b o dr q half.going))
+ask-whole : (p : Plan) (order : List ℕ) (k : ℕ) (st : StartsData) (d d' : EndpointsData) (b : BootData) (o : OfferData) (dr : DrainData) (cn : ConnectionsData) (q : Record) (told : List Action) → is_tested p b ≡ false
+    → IsAskOf (slice_index order k) told → Visited p d' (slice_index order k) q told → Half p order k st d b o dr cn q → PassedUpTo p order (k + 1) st d' b o dr cn (tell q told)
+ask-whole p order k st d d' b o dr cn q told untested ask visited half = record {
+  going = going-from p st d' b o dr cn (tell q told)
+      (loose-tell p st o dr cn q told (ask-loose (slice_index order k) (now q) told ask) (loose-of p st d b o dr cn q half.going))
       visited.stands
-      (foreign.stands-tell p b q told (ask-others told (slice_index order k) ask) half.going.boot)
+      (foreign.stands-tell p b q told (ask-others told (slice_index order k) ask) (may-free p b half.may) half.going.boot)
       (begun-tell p q (now q) told (ask-loose (slice_index order k) (now q) told ask) ∙ half.going.begun_is)
       half.going.runs;
   may = half.may;
@@ -513,11 +534,11 @@ pub visit-passes : (p : Plan) (order : List ℕ) (dr : DrainData) (k : ℕ) → 
 visit-passes p order dr k place in_order st st' d d' b b' before mid after untested first next = record {
   told = first.told ++ next.told;
   appended = next.appended ∙ ap (λ w. w ++ next.told) first.appended ∙ append_assoc before first.told next.told;
-  kept = λ o q was. (
-      let half = first.kept o q was in
+  kept = λ o cn q was. (
+      let half = first.kept o cn q was in
       let on = half.going.starts.started_is (slice_index order k) (in_order.inside k place) in
-      subst (λ r. PassedUpTo p order (k + 1) st' d' b' o dr r) (sym (tell-append q first.told next.told))
-      (ask-whole p order k st' d d' b' o dr (tell q first.told) next.told untested next.kept.0
+      subst (λ r. PassedUpTo p order (k + 1) st' d' b' o dr cn r) (sym (tell-append q first.told next.told))
+      (ask-whole p order k st' d d' b' o dr cn (tell q first.told) next.told untested next.kept.0
       (next.kept.1 (tell q first.told) half.going.drain.moment_is on half.going.ends) half));
 }
 
@@ -527,7 +548,7 @@ pub visit-tests : (p : Plan) (order : List ℕ) (dr : DrainData) (k : ℕ) (st s
 visit-tests p order dr k st st' d b b' before after tested first = record {
   told = first.told;
   appended = first.appended;
-  kept = λ o q was. (let half = first.kept o q was in record {
+  kept = λ o cn q was. (let half = first.kept o cn q was in record {
     going = half.going;
     may = half.may;
     ripe = half.ripe;
@@ -544,7 +565,7 @@ visit-tests p order dr k st st' d b b' before after tested first = record {
 
 -- no visit
 pub passes-none : (p : Plan) (order : List ℕ) (dr : DrainData) (k : ℕ) (st : StartsData) (d : EndpointsData) (b : BootData) (before : List Action) → before ≡ before ++ [] → Passes p order dr k k st st d d b b before before
-passes-none p order dr k st d b before e = record { told = []; appended = e; kept = λ o q was. was }
+passes-none p order dr k st d b before e = record { told = []; appended = e; kept = λ o cn q was. was }
 
 -- a pass that has ended stays where it is
 pub passes-ended : (p : Plan) (order : List ℕ) (dr : DrainData) (i k : ℕ) (st st' : StartsData) (d d' : EndpointsData) (b b' : BootData) (before after : List Action)
@@ -552,7 +573,7 @@ pub passes-ended : (p : Plan) (order : List ℕ) (dr : DrainData) (i k : ℕ) (s
 passes-ended p order dr i k st st' d d' b b' before after tested done = record {
   told = done.told;
   appended = done.appended;
-  kept = λ o q was. (let up = done.kept o q was in record {
+  kept = λ o cn q was. (let up = done.kept o cn q was in record {
     going = up.going;
     may = up.may;
     ripe = up.ripe;
@@ -576,5 +597,5 @@ pub passes-then : (p : Plan) (order : List ℕ) (dr : DrainData) (i j k : ℕ) (
 passes-then p order dr i j k st0 st1 st2 d0 d1 d2 b0 b1 b2 a b c first next = record {
   told = first.told ++ next.told;
   appended = next.appended ∙ ap (λ w. w ++ next.told) first.appended ∙ append_assoc a first.told next.told;
-  kept = λ o q was. subst (λ r. PassedUpTo p order k st2 d2 b2 o dr r) (sym (tell-append q first.told next.told)) (next.kept o (tell q first.told) (first.kept o q was));
+  kept = λ o cn q was. subst (λ r. PassedUpTo p order k st2 d2 b2 o dr cn r) (sym (tell-append q first.told next.told)) (next.kept o cn (tell q first.told) (first.kept o cn q was));
 }

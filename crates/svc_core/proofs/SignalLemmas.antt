@@ -1,7 +1,7 @@
 -- Moments, signals and answers to the asks of the offer: what each makes of the core, before the rest of the step.
 use Rattle.std.proofs.Common.{ℕ, Bool, true, false, ◌&&◌, ◌||◌, not, List, [], ◌∷◌, ◌≡◌, refl, ap, sym, ◌∙◌, subst, arith, ◌≤◌, ◌-◌, if◌then◌else◌, MatchBool, nat_le, append-nil, inl, inr}
 use Rattle.std.specs.Prelude.{Option, Some, None, is_some}
-use Rattle.std.proofs.lemmas.Bool.{and_from, cases_Bool}
+use Rattle.std.proofs.lemmas.Bool.{and_from, or_from, cases_Bool}
 use Rattle.std.proofs.lemmas.Bool.Decides.{nat_tests}
 use Rattle.svc_fds.specs.declared.encoding.Message.{Message}
 use Rattle.svc_fds.specs.declared.retry.SendAnswer.{SendAnswer}
@@ -17,6 +17,7 @@ use Rattle.svc_record.specs.declared.event.ShutdownSignal.TheVariants.{FastShutd
 use Rattle.svc_record.specs.Record.{Record, has, now, tell, is_signal, signal_of, from_the_start}
 use Rattle.svc_record.specs.Asks.{is_connect_open, is_send_open}
 use Rattle.svc_record.specs.Descriptors.{live_table}
+use Rattle.svc_record.specs.Boot.{is_side_child}
 use Rattle.svc_record.specs.Drain.{has_passed}
 use Rattle.svc_record.specs.Ends.{has_ended, ends_tested, TestedRight}
 use Rattle.svc_record.specs.Fits.{fits}
@@ -30,21 +31,23 @@ use Rattle.svc_endpoints.specs.EndpointsData.{EndpointsData}
 use Rattle.svc_endpoints.specs.EndpointsState.{EndpointsStand}
 use Rattle.svc_endpoints.specs.Foreign.{is_endpoints_event}
 use Rattle.svc_endpoints.proofs.EventLemmas.{stands-got, stands-signal}
-use Rattle.svc_boot.specs.BootFacts.{is_boot_event, IsBootSettled}
+use Rattle.svc_boot.specs.BootFacts.{is_boot_event, is_fork_event, IsBootSettled}
+use Rattle.svc_boot.specs.ForkState.{is_free, is_parent_over}
 use Rattle.svc_boot.specs.BootState.{is_refused}
-use Rattle.svc_boot.specs.BootEffects.{end_of}
+use Rattle.svc_boot.specs.BootEffects.{end_of, is_early}
 use Rattle.svc_boot.proofs.BootEnds.{boot-right}
 use Rattle.svc_boot.proofs.Foreign as foreign
+use Rattle.svc_boot.proofs.Settled.{free-no_parent}
 use Rattle.svc_offer.specs.declared.offering.Offering.{Offering}
 use Rattle.svc_offer.specs.declared.offering.Offering.TheVariants.{Nothing, Unasked, Connecting, Connected, Sending, Absent, Delayed, Stalled, Over}
 use Rattle.svc_offer.specs.OfferData.{OfferData}
-use Rattle.svc_offer.specs.OfferState.{OfferStands, IsOfferSettled, over_since, is_since as offer_since, is_offering, is_connecting, is_sending, is_send_due}
+use Rattle.svc_offer.specs.OfferState.{OfferStands, IsOfferSettled, over_since, is_offering, is_connecting, is_sending, is_send_due}
 use Rattle.svc_offer.specs.OfferEffects.{event_of, is_awaited, begun, answered, ends_by, state_after, sends_at, first_state}
 use Rattle.svc_offer.proofs.Foreign as offers
 use Rattle.svc_offer.proofs.Signals.{stands-later, stands-unoffered}
 use Rattle.svc_offer.proofs.OfferRules.{held-back-got, held-back-answer, released, offer-right, one-ask, forward-fits}
 use Rattle.svc_drain.specs.DrainData.{DrainData}
-use Rattle.svc_drain.specs.DrainState.{DrainStands, IsDrainSettled, OverIs, is_since}
+use Rattle.svc_drain.specs.DrainState.{DrainStands, IsDrainSettled, OverIs}
 use Rattle.svc_drain.specs.DrainEffects.{at_moment, signalled}
 use Rattle.svc_drain.specs.DrainFacts.{is_drain_event}
 use Rattle.svc_drain.proofs.Foreign as drains
@@ -52,18 +55,17 @@ use Rattle.svc_drain.proofs.Signalled.{stands-later as drain-later}
 use Rattle.svc_drain.proofs.Passing.{passed-got, passed-is, marks-right, unsignalled-unpassed}
 use Rattle.svc_core.specs.StartsState.{StartsStand}
 use Rattle.svc_core.specs.CoreData.{CoreData, is_on}
-use Rattle.svc_core.specs.Copies.{copy_at}
-use Rattle.svc_core.specs.Forms.{is_built_entry}
+use Rattle.svc_core.specs.Copies.{message_at}
 use Rattle.svc_core.specs.Passes.{Going, AreStarted, MayEnd, is_tested}
 use Rattle.svc_core.specs.Signals.{offers_by, is_reached}
 use Rattle.svc_core.specs.Stands.{StandsFor, Struck, StepRight, StepKeeps}
 use Rattle.svc_core.proofs.GoingLemmas.{may-tell}
 use Rattle.svc_core.proofs.RecordLemmas.{signal-is, signal-none, on_true, to_true, not_true}
-use Rattle.svc_core.proofs.FormLemmas.{connections-right}
+use Rattle.svc_connections.specs.ConnectionsFacts.{is_connection_event}
 use Rattle.svc_core.proofs.PassLemmas.{are-failed}
 use Rattle.svc_core.proofs.OpenLemmas.{running-right, right-of, end-same, ended-same, tested-same, served-not}
 use Rattle.svc_core.proofs.FinishLemmas.{on-end}
-use Rattle.svc_core.proofs.StepLemmas.{struck, strike, not-ended, drain-of, offer-of, ends-of, settled-of, on-boot, all-started, undue, over-of, giving-loose, fits-moment, going-on, running-is, opened, end-of-boot}
+use Rattle.svc_core.proofs.StepLemmas.{struck, strike, free-of, no-child, not-ended, drain-of, offer-of, ends-of, settled-of, on-boot, all-started, undue, over-of, giving-loose, fits-moment, going-on, running-is, opened, end-of-boot}
 
 -- a send that a moment lets fall due
 moment-sends : (x : Offering) (t ms : ℕ) → is_send_due x t ≡ false → is_send_due x ms ≡ true → sends_at x (events.Moment ms) ≡ true
@@ -77,25 +79,25 @@ moment-sends (Absent at) t ms h k = absurd (cc)
 moment-sends (Delayed at) t ms h k = absurd (cc)
 moment-sends (Over at) t ms h k = absurd (cc)
 
-copy-is : (core : CoreData) (e : Event) (copy : Option Message) → copy ≡ copy_at core e → sends_at core.offer.state e ≡ true → copy ≡ core.offer.message
+copy-is : (core : CoreData) (e : Event) (copy : Option Message) → copy ≡ message_at core e → sends_at core.offer.state e ≡ true → copy ≡ core.offer.message
 copy-is core e copy h k = h ∙ rw k refl
 
 -- where no signal came nothing is waited for or offered
-silent-may : (p : Plan) (q : Record) → signal_of q ≡ None → MayEnd p q
+pub silent-may : (p : Plan) (q : Record) → signal_of q ≡ None → MayEnd p q
 silent-may p q none = record { unpassed = unsignalled-unpassed p q none; asks = rw none refl }
 
 -- a moment
-pub strike-moment : (core : CoreData) (ms : ℕ) (dr : DrainData) (copy : Option Message) → core.plan.daemon ≡ false → is_on core.end ≡ true → core.drain.moment ≤ ms → dr ≡ at_moment ms core.drain
+pub strike-moment : (core : CoreData) (ms : ℕ) (dr : DrainData) (copy : Option Message) → is_on core.end ≡ true → is_free core.plan core.boot.fork ≡ true → core.drain.moment ≤ ms → dr ≡ at_moment ms core.drain
     → ((p : Plan) (over : Option ℕ) (q : Record) → IsDrainSettled core.drain over → DrainStands p core.drain over q → DrainStands p dr over (Got (events.Moment ms) ∷ q))
-    → copy ≡ copy_at core (events.Moment ms)
+    → copy ≡ message_at core (events.Moment ms)
     → (q : Record) → Right core.plan q → StandsFor core q → Struck (struck core core.starts core.endpoints core.boot core.offer dr) copy (Got (events.Moment ms) ∷ q)
-strike-moment core ms dr copy none on may after drain copied q right stands =
-    strike core none q (events.Moment ms) core.starts core.endpoints core.boot core.offer dr copy [] right stands on (fits-moment core q ms on may stands) refl tt
+strike-moment core ms dr copy on free may after drain copied q right stands =
+    strike core q (events.Moment ms) core.starts core.endpoints core.boot core.offer dr copy [] right stands on (fits-moment core q ms on may stands) free refl refl tt
     (drain core.plan (over_since core.offer.state) q (settled-of core q stands on).drain (drain-of core q stands on)) (ap (λ (x : DrainData). x.running) after)
     (offers.stands-got core.plan core.offer q (events.Moment ms) refl (offer-of core q stands on))
     (record { started_is = stands.starts.started_is; ready_is = stands.starts.ready_is; ended_is = stands.starts.ended_is })
     (stands-got core.plan core.endpoints q (events.Moment ms) refl (λ fd. held-back-got core.plan q (events.Moment ms) fd refl) (ends-of core q stands on))
-    (foreign.stands-got core.plan core.boot q (events.Moment ms) refl stands.boot) refl refl
+    (foreign.stands-moment core.plan core.boot q ms (free-no_parent core.plan core.boot q stands.boot free) stands.boot) refl refl
     (not-ended core.plan core.boot (Got (events.Moment ms) ∷ q) (on-boot core q stands on))
     (elim (cases_Bool core.drain.running) [
       | inl runs ↦ inl ((λ s lt due. all-started core q stands on right runs s lt due), undue core q stands on)
@@ -110,14 +112,14 @@ same-later d kind (Some earlier) e h = rw e refl
 same-later d kind None e h = absurd (cc)
 
 -- a signal
-module _ (core : CoreData) (kind : ShutdownSignal) (none : core.plan.daemon ≡ false) (on : is_on core.end ≡ true) (runs : core.drain.running ≡ true) (q : Record) (right : Right core.plan q) (stands : StandsFor core q) where
+module _ (core : CoreData) (kind : ShutdownSignal) (on : is_on core.end ≡ true) (runs : core.drain.running ≡ true) (q : Record) (right : Right core.plan q) (stands : StandsFor core q) where
   fits-signal : fits core.plan q (events.Signal kind) ≡ true
   fits-signal = and_from (not (has_ended core.plan q)) (from_the_start q) (going-on core q stands on) (running-is core q stands on ∙ runs)
 
   strike-signal : (o : OfferData) (dr : DrainData) → OfferStands core.plan o (Got (events.Signal kind) ∷ q) → DrainStands core.plan dr (over_since o.state) (Got (events.Signal kind) ∷ q) → dr.running ≡ core.drain.running
       → is_send_due o.state dr.moment ≡ false → Struck (struck core core.starts core.endpoints core.boot o dr) None (Got (events.Signal kind) ∷ q)
   strike-signal o dr offer drain running unsent =
-      strike core none q (events.Signal kind) core.starts core.endpoints core.boot o dr None [] right stands on fits-signal refl tt drain running offer
+      strike core q (events.Signal kind) core.starts core.endpoints core.boot o dr None [] right stands on fits-signal (free-of core q (events.Signal kind) stands fits-signal refl) refl refl tt drain running offer
       (record { started_is = stands.starts.started_is; ready_is = stands.starts.ready_is; ended_is = stands.starts.ended_is })
       (stands-signal core.plan core.endpoints q kind (ends-of core q stands on))
       (foreign.stands-got core.plan core.boot q (events.Signal kind) refl stands.boot) refl refl
@@ -132,7 +134,7 @@ module _ (core : CoreData) (kind : ShutdownSignal) (none : core.plan.daemon ≡ 
   unsignalled-over : has is_signal q ≡ false → over_since core.offer.state ≡ None
   unsignalled-over silent = by (over_since core.offer.state) (sym (offer-of core q stands on).over_is ∙ rw (signal-none q silent) refl)
     where
-      by : (x : Option ℕ) → offer_since x ≡ false → x ≡ None
+      by : (x : Option ℕ) → is_some x ≡ false → x ≡ None
       by (Some at) h = absurd (cc)
       by None h = refl
 
@@ -156,10 +158,10 @@ module _ (core : CoreData) (kind : ShutdownSignal) (none : core.plan.daemon ≡ 
         (subst (λ (x : DrainData). DrainStands core.plan x (over_since core.offer.state) (Got (events.Signal kind) ∷ q)) (same-later core.drain kind core.drain.signal refl came)
         (drain-later core.plan core.drain kind false (over_since core.offer.state) q earlier (drain-of core q stands on))) refl (settled-of core q stands on).offer.no_send
 
-    going : Going core.plan core.starts core.endpoints core.boot core.offer core.drain (Got (events.Signal kind) ∷ q)
+    going : Going core.plan core.starts core.endpoints core.boot core.offer core.drain core.connections (Got (events.Signal kind) ∷ q)
     going = later-struck.going
 
-    live : (is_tested core.plan core.boot ≡ false) × (is_refused core.boot.receiving ≡ false)
+    live : (is_tested core.plan core.boot ≡ false) × (is_refused core.boot.receiving ≡ false) × (is_parent_over core.boot.fork ≡ false)
     live = on-end core.plan core.boot (on-boot core q stands on)
 
     later-open : OpenRight core.plan (Got (events.Signal kind) ∷ q)
@@ -169,10 +171,10 @@ module _ (core : CoreData) (kind : ShutdownSignal) (none : core.plan.daemon ≡ 
         let started = on_true (from_the_start q) (StartsRight core.plan q) (running-is core q stands on ∙ runs) was.starts in
         let late = on_true (from_the_start q) (EndpointsRightLate core.plan q) (running-is core q stands on ∙ runs) was.endpoints_late in
         record {
-          boot = boot-right core.plan core.boot (Got (events.Signal kind) ∷ q) going.boot going.begun_is (subst (IsBootSettled core.plan core.boot) going.drain.moment_is settled.boot) none
-              (running-right core.plan core.starts core.endpoints core.boot core.offer core.drain (Got (events.Signal kind) ∷ q) going none (runs ∙ sym (stands.runs runs))) going.entries.after_boot;
+          boot = boot-right core.plan core.boot (Got (events.Signal kind) ∷ q) going.boot going.begun_is (subst (IsBootSettled core.plan core.boot) going.drain.moment_is settled.boot)
+              (running-right core.plan core.starts core.endpoints core.boot core.offer core.drain core.connections (Got (events.Signal kind) ∷ q) going (runs ∙ sym (stands.runs runs))) going.entries.after_boot;
           offer = offer-right core.plan core.offer (Got (events.Signal kind) ∷ q) going.offer (subst (IsOfferSettled core.offer) going.drain.moment_is settled.offer);
-          connections = connections-right core.plan (Got (events.Signal kind) ∷ q) going.forms;
+          connections = going.connections.right;
           closes = going.ends.closes;
           one_live = going.ends.one_live;
           starts = to_true (from_the_start (Got (events.Signal kind) ∷ q)) (StartsRight core.plan (Got (events.Signal kind) ∷ q)) (record { each = started.each; in_turn = (refl, started.in_turn) });
@@ -202,20 +204,22 @@ module _ (core : CoreData) (kind : ShutdownSignal) (none : core.plan.daemon ≡ 
             failed = are-failed core.plan core.endpoints (Got (events.Signal kind) ∷ q) going.ends;
             came = going.ends.came_are;
             closed = λ e. absurd (let unserved = served-not core.plan core.boot core.end end in cc);
-            forms = going.forms;
+            connections = λ e. going.connections;
+            uncut = λ e. absurd (let unserved = served-not core.plan core.boot core.end end in cc);
             after_boot = going.entries.after_boot;
             started_due = going.started_due;
             begun_is = going.begun_is;
             runs = going.runs;
             settled = λ e. settled;
-            end_is = end ∙ sym (end-same core.plan core.starts core.endpoints core.boot core.offer core.drain (Got (events.Signal kind) ∷ q) going unpassed);
+            end_is = end ∙ sym (end-same core.plan core.starts core.endpoints core.boot core.offer core.drain core.connections (Got (events.Signal kind) ∷ q) going unpassed);
           };
-          right = right-of core.plan core.starts core.endpoints core.boot core.offer core.drain (Got (events.Signal kind) ∷ q) going unpassed
+          right = right-of core.plan core.starts core.endpoints core.boot core.offer core.drain core.connections (Got (events.Signal kind) ∷ q) going unpassed
               (one-ask core.plan core.offer (Got (events.Signal kind) ∷ q) going.offer (subst (IsOfferSettled core.offer) going.drain.moment_is settled.offer) (forward-fits core.plan (Got (events.Signal kind) ∷ q) going.entries.fits))
               (while-open (has_ended core.plan (Got (events.Signal kind) ∷ q)) (EndedRight core.plan (Got (events.Signal kind) ∷ q)) (OpenRight core.plan (Got (events.Signal kind) ∷ q))
-              (ended-same core.plan core.starts core.endpoints core.boot core.offer core.drain (Got (events.Signal kind) ∷ q) going unpassed ∙ rw (live.0, live.1) refl) later-open)
-              (not_true (ends_tested core.plan (Got (events.Signal kind) ∷ q)) (TestedRight core.plan (Got (events.Signal kind) ∷ q)) (tested-same core.plan core.starts core.endpoints core.boot core.offer core.drain (Got (events.Signal kind) ∷ q) going ∙ live.0));
-          answer = end ∙ sym (end-same core.plan core.starts core.endpoints core.boot core.offer core.drain (Got (events.Signal kind) ∷ q) going unpassed);
+              (ended-same core.plan core.starts core.endpoints core.boot core.offer core.drain core.connections (Got (events.Signal kind) ∷ q) going unpassed
+              ∙ or_from (is_tested core.plan core.boot) (is_early core.boot) live.0 (or_from (is_parent_over core.boot.fork) (is_refused core.boot.receiving) live.2 live.1)) later-open)
+              (not_true (ends_tested core.plan (Got (events.Signal kind) ∷ q)) (TestedRight core.plan (Got (events.Signal kind) ∷ q)) (tested-same core.plan core.starts core.endpoints core.boot core.offer core.drain core.connections (Got (events.Signal kind) ∷ q) going ∙ live.0));
+          answer = end ∙ sym (end-same core.plan core.starts core.endpoints core.boot core.offer core.drain core.connections (Got (events.Signal kind) ∷ q) going unpassed);
         }
       where
         while-open : (c : Bool) (A B : Type 0) → c ≡ false → B → MatchBool c A B
@@ -274,31 +278,32 @@ module _ (core : CoreData) (kind : ShutdownSignal) (none : core.plan.daemon ≡ 
       unsent None t u = refl
 
 -- a further signal tells nothing, and leaves the core as it is
-pub later-keeps : (core : CoreData) (kind : ShutdownSignal) → core.plan.daemon ≡ false → is_on core.end ≡ true → core.drain.running ≡ true → is_some core.drain.signal ≡ true → (before : List Action) → StepKeeps core core (events.Signal kind) before before core.end
-later-keeps core kind none on runs came before = record {
+pub later-keeps : (core : CoreData) (kind : ShutdownSignal) → is_on core.end ≡ true → core.drain.running ≡ true → is_some core.drain.signal ≡ true → (before : List Action) → StepKeeps core core (events.Signal kind) before before core.end
+later-keeps core kind on runs came before = record {
   told = [];
   appended = sym (append-nil before);
-  kept = λ q right stands. later-step core kind none on runs q right stands came;
+  kept = λ q right stands. later-step core kind on runs q right stands came;
 }
 
 -- what the event of an answer is
 pub record IsAnswer (p : Plan) (e : Event) : Type 0 where
-  pub built : is_built_entry (Got e) ≡ true
+  pub apart : is_connection_event e ≡ false
   pub plain : is_drain_event e ≡ false
   pub boot : is_boot_event e ≡ false
+  pub fork : is_fork_event e ≡ false
   pub ends : is_endpoints_event e ≡ false
   pub time : (q : Record) → now (Got e ∷ q) ≡ now q
   pub starts : (core : CoreData) (q : Record) → StartsStand p core.starts q → StartsStand p core.starts (Got e ∷ q)
   pub started : (q : Record) → AreStarted p q → AreStarted p (Got e ∷ q)
 
 pub answer-is : (p : Plan) (a : SendAnswer) → IsAnswer p (event_of a)
-answer-is p answers.Connected = record { built = refl; plain = refl; boot = refl; ends = refl; time = λ q. refl; starts = λ core q h. record { started_is = h.started_is; ready_is = h.ready_is; ended_is = h.ended_is }; started = λ q h s lt due. h s lt due }
-answer-is p answers.NotThere = record { built = refl; plain = refl; boot = refl; ends = refl; time = λ q. refl; starts = λ core q h. record { started_is = h.started_is; ready_is = h.ready_is; ended_is = h.ended_is }; started = λ q h s lt due. h s lt due }
-answer-is p answers.StillConnecting = record { built = refl; plain = refl; boot = refl; ends = refl; time = λ q. refl; starts = λ core q h. record { started_is = h.started_is; ready_is = h.ready_is; ended_is = h.ended_is }; started = λ q h s lt due. h s lt due }
-answer-is p answers.ConnectFailed = record { built = refl; plain = refl; boot = refl; ends = refl; time = λ q. refl; starts = λ core q h. record { started_is = h.started_is; ready_is = h.ready_is; ended_is = h.ended_is }; started = λ q h s lt due. h s lt due }
-answer-is p answers.Sent = record { built = refl; plain = refl; boot = refl; ends = refl; time = λ q. refl; starts = λ core q h. record { started_is = h.started_is; ready_is = h.ready_is; ended_is = h.ended_is }; started = λ q h s lt due. h s lt due }
-answer-is p answers.SendBusy = record { built = refl; plain = refl; boot = refl; ends = refl; time = λ q. refl; starts = λ core q h. record { started_is = h.started_is; ready_is = h.ready_is; ended_is = h.ended_is }; started = λ q h s lt due. h s lt due }
-answer-is p answers.SendFailed = record { built = refl; plain = refl; boot = refl; ends = refl; time = λ q. refl; starts = λ core q h. record { started_is = h.started_is; ready_is = h.ready_is; ended_is = h.ended_is }; started = λ q h s lt due. h s lt due }
+answer-is p answers.Connected = record { apart = refl; plain = refl; boot = refl; fork = refl; ends = refl; time = λ q. refl; starts = λ core q h. record { started_is = h.started_is; ready_is = h.ready_is; ended_is = h.ended_is }; started = λ q h s lt due. h s lt due }
+answer-is p answers.NotThere = record { apart = refl; plain = refl; boot = refl; fork = refl; ends = refl; time = λ q. refl; starts = λ core q h. record { started_is = h.started_is; ready_is = h.ready_is; ended_is = h.ended_is }; started = λ q h s lt due. h s lt due }
+answer-is p answers.StillConnecting = record { apart = refl; plain = refl; boot = refl; fork = refl; ends = refl; time = λ q. refl; starts = λ core q h. record { started_is = h.started_is; ready_is = h.ready_is; ended_is = h.ended_is }; started = λ q h s lt due. h s lt due }
+answer-is p answers.ConnectFailed = record { apart = refl; plain = refl; boot = refl; fork = refl; ends = refl; time = λ q. refl; starts = λ core q h. record { started_is = h.started_is; ready_is = h.ready_is; ended_is = h.ended_is }; started = λ q h s lt due. h s lt due }
+answer-is p answers.Sent = record { apart = refl; plain = refl; boot = refl; fork = refl; ends = refl; time = λ q. refl; starts = λ core q h. record { started_is = h.started_is; ready_is = h.ready_is; ended_is = h.ended_is }; started = λ q h s lt due. h s lt due }
+answer-is p answers.SendBusy = record { apart = refl; plain = refl; boot = refl; fork = refl; ends = refl; time = λ q. refl; starts = λ core q h. record { started_is = h.started_is; ready_is = h.ready_is; ended_is = h.ended_is }; started = λ q h s lt due. h s lt due }
+answer-is p answers.SendFailed = record { apart = refl; plain = refl; boot = refl; fork = refl; ends = refl; time = λ q. refl; starts = λ core q h. record { started_is = h.started_is; ready_is = h.ready_is; ended_is = h.ended_is }; started = λ q h s lt due. h s lt due }
 
 -- an ask that is open is answered
 pub fits-connect : (core : CoreData) (q : Record) → is_on core.end ≡ true → is_connecting core.offer.state ≡ true → StandsFor core q → (not (has_ended core.plan q) && is_connect_open q) ≡ true
@@ -386,7 +391,7 @@ awaited-runs core a on may q stands = elim (cases_Bool core.drain.running) [
 ]
 
 -- an answer to an ask of the offer
-module _ (core : CoreData) (a : SendAnswer) (none : core.plan.daemon ≡ false) (on : is_on core.end ≡ true) (may : is_awaited core.offer.state a ≡ true) (o : OfferData) (after : o ≡ answered a core.drain.moment core.offer)
+module _ (core : CoreData) (a : SendAnswer) (on : is_on core.end ≡ true) (may : is_awaited core.offer.state a ≡ true) (o : OfferData) (after : o ≡ answered a core.drain.moment core.offer)
     (takes : (p : Plan) (r : Record) → core.drain.moment ≡ now r → OfferStands p core.offer r → OfferStands p o (Got (event_of a) ∷ r)) (q : Record) (right : Right core.plan q) (stands : StandsFor core q) where
   answer-offer : OfferStands core.plan o (Got (event_of a) ∷ q)
   answer-offer = takes core.plan q (drain-of core q stands on).moment_is (offer-of core q stands on)
@@ -394,27 +399,33 @@ module _ (core : CoreData) (a : SendAnswer) (none : core.plan.daemon ≡ false) 
   answer-over : OverIs core.plan (Got (event_of a) ∷ q) (over_since o.state)
   answer-over = over-of core.plan o (Got (event_of a) ∷ q) answer-offer
 
-  not-over : is_since (over_since core.offer.state) ≡ true → over_since o.state ≡ over_since core.offer.state
-  not-over h = absurd (let off = awaited-none core.offer.state a may in let no : is_since (over_since core.offer.state) ≡ false = rw off refl in cc)
+  not-over : is_some (over_since core.offer.state) ≡ true → over_since o.state ≡ over_since core.offer.state
+  not-over h = absurd (let off = awaited-none core.offer.state a may in let no : is_some (over_since core.offer.state) ≡ false = rw off refl in cc)
 
   answer-drain : DrainStands core.plan core.drain (over_since o.state) (Got (event_of a) ∷ q)
   answer-drain = drains.stands-got core.plan core.drain (over_since core.offer.state) (over_since o.state) q (event_of a) (answer-is core.plan a).plain (settled-of core q stands on).drain answer-over not-over (drain-of core q stands on)
 
+  answer-free : is_free core.plan core.boot.fork ≡ true
+  answer-free = free-of core q (event_of a) stands (fits-answer core q a on may stands) (answer-is core.plan a).fork
+
+  answer-other : is_side_child (Got (event_of a)) ≡ false
+  answer-other = no-child (event_of a) (answer-is core.plan a).fork
+
   -- by which it isn't over
-  pub strike-going : (copy : Option Message) → offer_since (over_since o.state) ≡ false → (is_send_due o.state core.drain.moment ≡ true → copy ≡ o.message) → core.drain.running ≡ true
+  pub strike-going : (copy : Option Message) → is_some (over_since o.state) ≡ false → (is_send_due o.state core.drain.moment ≡ true → copy ≡ o.message) → core.drain.running ≡ true
       → Struck (struck core core.starts core.endpoints core.boot o core.drain) copy (Got (event_of a) ∷ q)
   strike-going copy goes copied runs =
-      strike core none q (event_of a) core.starts core.endpoints core.boot o core.drain copy [] right stands on (fits-answer core q a on may stands) (answer-is core.plan a).built tt
+      strike core q (event_of a) core.starts core.endpoints core.boot o core.drain copy [] right stands on (fits-answer core q a on may stands) answer-free answer-other (answer-is core.plan a).apart tt
       answer-drain refl answer-offer ((answer-is core.plan a).starts core q stands.starts)
       (stands-got core.plan core.endpoints q (event_of a) (answer-is core.plan a).ends
-      (λ fd. held-back-answer core.plan core.offer o q a fd (offer-of core q stands on) answer-offer (ap offer_since (awaited-none core.offer.state a may) ∙ sym goes)) (ends-of core q stands on))
+      (λ fd. held-back-answer core.plan core.offer o q a fd (offer-of core q stands on) answer-offer (ap is_some (awaited-none core.offer.state a may) ∙ sym goes)) (ends-of core q stands on))
       (foreign.stands-got core.plan core.boot q (event_of a) (answer-is core.plan a).boot stands.boot) refl refl
       (not-ended core.plan core.boot (Got (event_of a) ∷ q) (on-boot core q stands on))
       (inl ((answer-is core.plan a).started q (all-started core q stands on right runs), undue core q stands on))
       copied
 
   -- by which it is over
-  pub strike-over : (d : EndpointsData) (gave : List Action) → offer_since (over_since o.state) ≡ true → is_reached a ≡ false → IsGivingUp gave
+  pub strike-over : (d : EndpointsData) (gave : List Action) → is_some (over_since o.state) ≡ true → is_reached a ≡ false → IsGivingUp gave
       → ((r : Record) (e : Event) → is_endpoints_event e ≡ false → ((fd : ℕ) → is_held_back core.plan (Got e ∷ r) fd ≡ false) → EndpointsStand core.plan core.endpoints r → EndpointsStand core.plan d (tell (Got e ∷ r) gave))
       → Struck (struck core core.starts d core.boot o core.drain) None (tell (Got (event_of a) ∷ q) gave)
   strike-over d gave over rests giving ends =
@@ -422,7 +433,7 @@ module _ (core : CoreData) (a : SendAnswer) (none : core.plan.daemon ≡ false) 
         unpassed = passed-got core.plan core.drain (over_since core.offer.state) (over_since o.state) q (event_of a) (answer-is core.plan a).plain (drain-of core q stands on) (settled-of core q stands on).drain answer-over not-over (settled-of core q stands on).waits;
         asks = over-asks core.plan (Got (event_of a) ∷ q) (answer-offer.over_is ∙ over);
       } in
-      strike core none q (event_of a) core.starts d core.boot o core.drain None gave right stands on (fits-answer core q a on may stands) (answer-is core.plan a).built giving
+      strike core q (event_of a) core.starts d core.boot o core.drain None gave right stands on (fits-answer core q a on may stands) answer-free answer-other (answer-is core.plan a).apart giving
       answer-drain refl answer-offer ((answer-is core.plan a).starts core q stands.starts)
       (ends q (event_of a) (answer-is core.plan a).ends (released core.plan o (Got (event_of a) ∷ q) answer-offer over) (ends-of core q stands on))
       (foreign.stands-got core.plan core.boot q (event_of a) (answer-is core.plan a).boot stands.boot) refl refl
@@ -437,42 +448,42 @@ module _ (core : CoreData) (a : SendAnswer) (none : core.plan.daemon ≡ false) 
           by x y = grind arith
 
 -- the successor is there
-pub strike-connected : (core : CoreData) (o : OfferData) (copy : Option Message) → core.plan.daemon ≡ false → is_on core.end ≡ true → is_connecting core.offer.state ≡ true → o ≡ answered answers.Connected core.drain.moment core.offer
-    → ((p : Plan) (r : Record) → core.drain.moment ≡ now r → OfferStands p core.offer r → OfferStands p o (Got events.Connected ∷ r)) → copy ≡ copy_at core events.Connected
+pub strike-connected : (core : CoreData) (o : OfferData) (copy : Option Message) → is_on core.end ≡ true → is_connecting core.offer.state ≡ true → o ≡ answered answers.Connected core.drain.moment core.offer
+    → ((p : Plan) (r : Record) → core.drain.moment ≡ now r → OfferStands p core.offer r → OfferStands p o (Got events.Connected ∷ r)) → copy ≡ message_at core events.Connected
     → (q : Record) → Right core.plan q → StandsFor core q → Struck (struck core core.starts core.endpoints core.boot o core.drain) copy (Got events.Connected ∷ q)
-strike-connected core o copy none on may after takes copied q right stands =
-    strike-going core answers.Connected none on may o after takes q right stands copy
-    (ap (λ (x : OfferData). offer_since (over_since x.state)) after)
+strike-connected core o copy on may after takes copied q right stands =
+    strike-going core answers.Connected on may o after takes q right stands copy
+    (ap (λ (x : OfferData). is_some (over_since x.state)) after)
     (λ due. copy-is core events.Connected copy copied may ∙ sym (ap (λ (x : OfferData). x.message) after))
     (awaited-runs core answers.Connected on may q stands)
 
 -- the offer goes on later
-pub strike-rests : (core : CoreData) (a : SendAnswer) → core.plan.daemon ≡ false → is_on core.end ≡ true → is_awaited core.offer.state a ≡ true → (o : OfferData) → o ≡ answered a core.drain.moment core.offer
+pub strike-rests : (core : CoreData) (a : SendAnswer) → is_on core.end ≡ true → is_awaited core.offer.state a ≡ true → (o : OfferData) → o ≡ answered a core.drain.moment core.offer
     → ((p : Plan) (r : Record) → core.drain.moment ≡ now r → OfferStands p core.offer r → OfferStands p o (Got (event_of a) ∷ r))
     → (over : Option ℕ) → over ≡ over_since o.state → is_some over ≡ false → is_reached a ≡ false
     → (q : Record) → Right core.plan q → StandsFor core q → Struck (struck core core.starts core.endpoints core.boot o core.drain) None (Got (event_of a) ∷ q)
-strike-rests core a none on may o after takes over over_is goes rests q right stands =
-    strike-going core a none on may o after takes q right stands None
+strike-rests core a on may o after takes over over_is goes rests q right stands =
+    strike-going core a on may o after takes q right stands None
     (none-since over (over_since o.state) over_is goes)
     (λ due. absurd (let unsent = ap (λ (x : OfferData). is_send_due x.state core.drain.moment) after ∙ answer-rests core.offer.patience a core.drain.moment rests in cc))
     (awaited-runs core a on may q stands)
   where
-    none-since : (x y : Option ℕ) → x ≡ y → is_some x ≡ false → offer_since y ≡ false
+    none-since : (x y : Option ℕ) → x ≡ y → is_some x ≡ false → is_some y ≡ false
     none-since (Some at) y e h = absurd (cc)
-    none-since None y e h = subst (λ z. offer_since z ≡ false) e refl
+    none-since None y e h = subst (λ z. is_some z ≡ false) e refl
 
 -- it is over
-pub strike-ends : (core : CoreData) (a : SendAnswer) → core.plan.daemon ≡ false → is_on core.end ≡ true → is_awaited core.offer.state a ≡ true → (o : OfferData) → o ≡ answered a core.drain.moment core.offer
+pub strike-ends : (core : CoreData) (a : SendAnswer) → is_on core.end ≡ true → is_awaited core.offer.state a ≡ true → (o : OfferData) → o ≡ answered a core.drain.moment core.offer
     → ((p : Plan) (r : Record) → core.drain.moment ≡ now r → OfferStands p core.offer r → OfferStands p o (Got (event_of a) ∷ r))
     → (d : EndpointsData) (before mid : List Action) (over : Option ℕ) → over ≡ over_since o.state → is_some over ≡ true → is_reached a ≡ false
     → Tells before mid (λ told. IsGivingUp told × ((r : Record) (e : Event) → is_endpoints_event e ≡ false → ((fd : ℕ) → is_held_back core.plan (Got e ∷ r) fd ≡ false) → EndpointsStand core.plan core.endpoints r → EndpointsStand core.plan d (tell (Got e ∷ r) told)))
     → Tells before mid (λ told. (q : Record) → Right core.plan q → StandsFor core q → Struck (struck core core.starts d core.boot o core.drain) None (tell (Got (event_of a) ∷ q) told))
-strike-ends core a none on may o after takes d before mid over over_is done rests gave = record {
+strike-ends core a on may o after takes d before mid over over_is done rests gave = record {
   told = gave.told;
   appended = gave.appended;
-  kept = λ q right stands. strike-over core a none on may o after takes q right stands d gave.told (some-since over (over_since o.state) over_is done) rests gave.kept.0 gave.kept.1;
+  kept = λ q right stands. strike-over core a on may o after takes q right stands d gave.told (some-since over (over_since o.state) over_is done) rests gave.kept.0 gave.kept.1;
 }
   where
-    some-since : (x y : Option ℕ) → x ≡ y → is_some x ≡ true → offer_since y ≡ true
-    some-since (Some at) y e h = subst (λ z. offer_since z ≡ true) e refl
+    some-since : (x y : Option ℕ) → x ≡ y → is_some x ≡ true → is_some y ≡ true
+    some-since (Some at) y e h = subst (λ z. is_some z ≡ true) e refl
     some-since None y e h = absurd (cc)

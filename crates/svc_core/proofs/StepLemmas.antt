@@ -1,8 +1,8 @@
 -- A step keeps the record right: what each event makes of the core, before the rest of the step.
 use Rattle.std.proofs.Common.{ℕ, Bool, true, false, ◌&&◌, ◌||◌, not, List, [], ◌∷◌, ◌++◌, ◌≡◌, refl, ap, sym, ◌∙◌, subst, arith, ◌≤◌, ◌<◌, length, if◌then◌else◌, MatchBool, nat_le, nat_lt, append-nil, append_assoc, inr}
-use Rattle.std.specs.Prelude.{Option, Some, None, ◌⊎◌}
+use Rattle.std.specs.Prelude.{Option, None, ◌⊎◌}
 use Rattle.std.specs.Bool.{OnTrue, OnFalse}
-use Rattle.std.proofs.lemmas.Bool.{and_from, le-leb}
+use Rattle.std.proofs.lemmas.Bool.{and_from, and_parts, le-leb, or_from}
 use Rattle.svc_record.specs.declared.plan.Plan.{Plan}
 use Rattle.svc_record.specs.declared.entry.Entry.TheVariants.{Got, Told}
 use Rattle.svc_record.specs.declared.action.Action.{Action}
@@ -10,10 +10,10 @@ use Rattle.svc_record.specs.declared.action.Action.TheVariants.{Fail, Close}
 use Rattle.svc_record.specs.declared.action.StepEnd.{StepEnd}
 use Rattle.svc_record.specs.declared.action.StepEnd.TheVariants.{On, Served}
 use Rattle.svc_record.specs.declared.event.Event.{Event}
-use Rattle.svc_record.specs.declared.event.Event.TheVariants.{Moment, Ready, Ended, Bound, Received, LoopEnded}
+use Rattle.svc_record.specs.declared.event.Event.TheVariants.{Moment, Ready, Ended, Bound, Received, NoSenderYet, ReceiveFailed, LoopEnded, Side}
 use Rattle.svc_record.specs.Record.{Record, has, now, tell, last_step, is_running, from_the_start}
 use Rattle.svc_record.specs.Asks.{is_bind_open, is_adopt_open, is_try_open}
-use Rattle.svc_record.specs.Boot.{has_begun, is_read}
+use Rattle.svc_record.specs.Boot.{has_begun, is_read, is_side_child}
 use Rattle.svc_record.specs.Descriptors.{brings}
 use Rattle.svc_record.specs.Drain.{has_passed, ascending}
 use Rattle.svc_record.specs.Ends.{has_ended, step_end, ends_tested, has_ended_early, TestedRight}
@@ -35,27 +35,31 @@ use Rattle.svc_endpoints.specs.Uses.{serves_by}
 use Rattle.svc_endpoints.proofs.EndedLemmas.{loop-fits}
 use Rattle.svc_endpoints.proofs.EventLemmas.{stands-got}
 use Rattle.svc_boot.specs.BootData.{BootData}
-use Rattle.svc_boot.specs.BootState.{BootStands, is_through, is_trying, has_come}
-use Rattle.svc_boot.specs.BootEffects.{end_of, is_complete_due, received}
-use Rattle.svc_boot.specs.BootFacts.{is_boot_event}
+use Rattle.svc_boot.specs.ForkState.{is_free, is_parent_over}
+use Rattle.svc_boot.specs.BootState.{BootStands, is_refused, is_through, is_trying, has_come}
+use Rattle.svc_boot.specs.BootEffects.{end_of, is_complete_due, is_early, received}
+use Rattle.svc_boot.specs.BootFacts.{is_boot_event, is_fork_event}
 use Rattle.svc_boot.proofs.Foreign as foreign
 use Rattle.svc_boot.proofs.BootEnds.{tested-is, end-is, ended-is}
+use Rattle.svc_boot.proofs.FreeLemmas.{fit-free}
 use Rattle.svc_fds.specs.declared.encoding.Message.{Message}
 use Rattle.svc_offer.specs.OfferData.{OfferData}
-use Rattle.svc_offer.specs.OfferState.{OfferStands, IsOfferSettled, over_since, is_since as offer_since, is_send_due, numbers_on_offer}
+use Rattle.svc_offer.specs.OfferState.{OfferStands, IsOfferSettled, over_since, is_send_due, numbers_on_offer}
 use Rattle.svc_offer.specs.OfferFacts.{is_offer_event}
 use Rattle.svc_offer.proofs.Foreign as offers
 use Rattle.svc_offer.proofs.OfferRules.{one-ask, forward-fits, on-offer, held-back-got}
 use Rattle.svc_drain.specs.DrainData.{DrainData}
-use Rattle.svc_drain.specs.DrainState.{DrainStands, OverIs, is_since, is_broadcast_told}
+use Rattle.svc_drain.specs.DrainState.{DrainStands, OverIs, is_broadcast_told}
 use Rattle.svc_drain.specs.DrainFacts.{is_drain_event}
 use Rattle.svc_drain.proofs.Foreign as drains
 use Rattle.svc_drain.proofs.Passing.{passed-got}
 use Rattle.svc_drain.proofs.Broadcasts.{broadcast-is}
+use Rattle.svc_connections.specs.ConnectionsState.{ConnectionsStand}
+use Rattle.svc_connections.specs.ConnectionsFacts.{is_connection_event}
+use Rattle.svc_connections.proofs.Foreign as sockets
 use Rattle.svc_core.specs.StartsData.{StartsData}
 use Rattle.svc_core.specs.StartsState.{StartsStand, is_flagged, word_taken, end_taken}
 use Rattle.svc_core.specs.CoreData.{CoreData, IsFormed, is_on, is_served}
-use Rattle.svc_core.specs.Forms.{is_built_entry}
 use Rattle.svc_core.specs.Passes.{AreStarted, MayEnd, is_tested}
 use Rattle.svc_core.specs.Stands.{StandsFor, IsSettled, Struck, StepRight, StepKeeps, Follows, EndedSo, ReadyMayCome, EndedMayCome, BindMayBeAnswered, BoundMayCome, AdoptMayBeAnswered, LoopMayEnd, ReceivedMayCome, is_loop_on}
 use Rattle.svc_core.proofs.RecordLemmas.{not_true, to_false, on_true}
@@ -63,7 +67,8 @@ use Rattle.svc_core.proofs.ClosesLemmas.{has-times}
 use Rattle.svc_core.proofs.StartsLemmas.{is_due-grows, stands-word, stands-end}
 use Rattle.svc_core.proofs.GoingLemmas.{Loose, loose-tell, may-tell, going-from, are_loose, begun-tell}
 use Rattle.svc_core.proofs.OpenLemmas.{has-count}
-use Rattle.svc_core.proofs.FinishLemmas.{on-end, come-tried}
+use Rattle.svc_core.proofs.PassLemmas.{may-complete}
+use Rattle.svc_core.proofs.FinishLemmas.{on-by, on-end, come-tried}
 
 unserved : (end : StepEnd) → is_on end ≡ true → is_served end ≡ false
 unserved On h = refl
@@ -89,7 +94,9 @@ module _ (core : CoreData) (q : Record) (stands : StandsFor core q) (on : is_on 
 
   pub unended : has_ended core.plan q ≡ false
   unended = let live = on-end core.plan core.boot on-boot in
-      ended-is core.plan core.boot q stands.boot ∙ rw (unpassed, live.0, live.1) refl
+      ended-is core.plan core.boot q stands.boot
+      ∙ or_from (has_passed core.plan q) (is_tested core.plan core.boot || is_early core.boot) unpassed
+      (or_from (is_tested core.plan core.boot) (is_early core.boot) live.0 (or_from (is_parent_over core.boot.fork) (is_refused core.boot.receiving) live.2 live.1))
 
   pub drain-of : DrainStands core.plan core.drain (over_since core.offer.state) q
   drain-of = stands.drain (unserved core.end on)
@@ -99,6 +106,9 @@ module _ (core : CoreData) (q : Record) (stands : StandsFor core q) (on : is_on 
 
   pub ends-of : EndpointsStand core.plan core.endpoints q
   ends-of = stands.endpoints (unserved core.end on)
+
+  pub connections-of : ConnectionsStand core.plan core.connections q
+  connections-of = stands.connections (unserved core.end on)
 
   pub settled-of : IsSettled core
   settled-of = stands.settled on
@@ -144,88 +154,104 @@ giving-quiet q (_ ∷ gave) h k = absurd h
 
 -- the core with the parts that an event leaves
 abbrev pub struck : CoreData → StartsData → EndpointsData → BootData → OfferData → DrainData → CoreData
-struck core st d b o dr = record { plan = core.plan; order = core.order; starts = st; endpoints = d; boot = b; offer = o; drain = dr; end = core.end }
+struck core st d b o dr = record { plan = core.plan; order = core.order; starts = st; endpoints = d; boot = b; offer = o; drain = dr; connections = core.connections; end = core.end }
 
 through-same : (p : Plan) (b c : BootData) → p.upgrade ≡ false → c.begun ≡ b.begun → is_through p b ≡ is_through p c
 through-same p b c alone begun = rw (alone, begun) refl
 
--- an event, and what is given up by it
-pub strike : (core : CoreData) → core.plan.daemon ≡ false → (q : Record) (e : Event) (st : StartsData) (d : EndpointsData) (b : BootData) (o : OfferData) (dr : DrainData) (copy : Option Message) (gave : List Action)
-    → Right core.plan q → StandsFor core q → is_on core.end ≡ true → fits core.plan q e ≡ true → is_built_entry (Got e) ≡ true → IsGivingUp gave
+-- an event that isn't of the fork comes only to a server that goes on
+pub free-of : (core : CoreData) (q : Record) (e : Event) → StandsFor core q → fits core.plan q e ≡ true → is_fork_event e ≡ false → is_free core.plan core.boot.fork ≡ true
+free-of core q e stands fit other = fit-free core.plan core.boot q stands.boot e other (and_parts (not (has_ended core.plan q)) (fits_row core.plan q e) fit).1
+
+pub no-child : (e : Event) → is_fork_event e ≡ false → is_side_child (Got e) ≡ false
+no-child (Side side) h = absurd (cc)
+no-child e h = refl
+
+pub no-fork : (e : Event) → is_boot_event e ≡ false → is_fork_event e ≡ false
+no-fork (Received bytes fds) h = absurd (cc)
+no-fork NoSenderYet h = absurd (cc)
+no-fork ReceiveFailed h = absurd (cc)
+no-fork e h = h
+
+-- an event other than that the process is the child begins nothing
+pub begun-got : (p : Plan) (r : Record) (x : Event) → is_side_child (Got x) ≡ false → has_begun p (Got x ∷ r) ≡ has_begun p r
+begun-got p r x h = rw h refl
+
+-- an event, by the parts but those on endpoints and on bootstrapping
+pub got-loose : (core : CoreData) (q : Record) (e : Event) (st : StartsData) (o : OfferData) (dr : DrainData) → Right core.plan q → StandsFor core q → is_on core.end ≡ true → fits core.plan q e ≡ true → is_connection_event e ≡ false
+    → DrainStands core.plan dr (over_since o.state) (Got e ∷ q) → OfferStands core.plan o (Got e ∷ q) → StartsStand core.plan st (Got e ∷ q) → Loose core.plan st o dr core.connections (Got e ∷ q)
+got-loose core q e st o dr right stands on fit apart drain offer starts = record {
+  base = record {
+    starts = starts;
+    entries = record {
+      fits = (fit, right.fits);
+      starts = (refl, right.starts);
+      after_boot = (refl, stands.after_boot);
+      moments = (refl, right.stronger.moments);
+      known_starts = (refl, right.stronger.known_starts);
+    };
+    started_due = λ s lt here. is_due-grows core.plan q (Got e) s (stands.started_due s lt here);
+    no_end = (opened core q stands on right).no_end;
+    earlier = right.settled;
+    fails = right.asks.fails;
+    asks = right.stronger.one_ask;
+  };
+  drain = drain;
+  offer = offer;
+  connections = sockets.stands-got core.plan core.connections q e apart (connections-of core q stands on);
+}
+
+-- an event, and what is given up by it, where no fork is awaited
+pub strike : (core : CoreData) (q : Record) (e : Event) (st : StartsData) (d : EndpointsData) (b : BootData) (o : OfferData) (dr : DrainData) (copy : Option Message) (gave : List Action)
+    → Right core.plan q → StandsFor core q → is_on core.end ≡ true → fits core.plan q e ≡ true → is_free core.plan b.fork ≡ true → is_side_child (Got e) ≡ false → is_connection_event e ≡ false → IsGivingUp gave
     → DrainStands core.plan dr (over_since o.state) (Got e ∷ q) → dr.running ≡ core.drain.running → OfferStands core.plan o (Got e ∷ q) → StartsStand core.plan st (Got e ∷ q) → EndpointsStand core.plan d (tell (Got e ∷ q) gave)
     → BootStands core.plan b (Got e ∷ q) → b.begun ≡ core.boot.begun → b.complete ≡ core.boot.complete → OnFalse (is_on (end_of core.plan b)) (EndedSo core.plan (tell (Got e ∷ q) gave))
     → (AreStarted core.plan (tell (Got e ∷ q) gave) × (is_complete_due b ≡ false)) ⊎ MayEnd core.plan (tell (Got e ∷ q) gave)
     → (is_send_due o.state dr.moment ≡ true → copy ≡ o.message)
     → Struck (struck core st d b o dr) copy (tell (Got e ∷ q) gave)
-strike core none q e st d b o dr copy gave right stands on fit built giving drain running offer starts ends boot begun complete ended calm copied =
-    let open_now = opened core q stands on right in
-    let loose : Loose core.plan st o dr (Got e ∷ q) = record {
-      base = record {
-        starts = starts;
-        forms = (built, stands.forms);
-        entries = record {
-          fits = (fit, right.fits);
-          starts = (refl, right.starts);
-          after_boot = (refl, stands.after_boot);
-          moments = (refl, right.stronger.moments);
-          known_starts = (refl, right.stronger.known_starts);
-        };
-        started_due = λ s lt here. is_due-grows core.plan q (Got e) s (stands.started_due s lt here);
-        no_end = open_now.no_end;
-        earlier = right.settled;
-        fails = right.asks.fails;
-        asks = right.stronger.one_ask;
-      };
-      drain = drain;
-      offer = offer;
-    } in
+strike core q e st d b o dr copy gave right stands on fit free other apart giving drain running offer starts ends boot begun complete ended calm copied =
+    let loose = got-loose core q e st o dr right stands on fit apart drain offer starts in
     let settled = (settled-of core q stands on).boot in
     record {
-      going = going-from core.plan st d b o dr (tell (Got e ∷ q) gave)
-          (loose-tell core.plan st o dr (Got e ∷ q) gave (giving-loose (now (Got e ∷ q)) gave giving) loose)
+      going = going-from core.plan st d b o dr core.connections (tell (Got e ∷ q) gave)
+          (loose-tell core.plan st o dr core.connections (Got e ∷ q) gave (giving-loose (now (Got e ∷ q)) gave giving) loose)
           ends
-          (foreign.stands-tell core.plan b (Got e ∷ q) gave (foreign.giving_up-other gave giving) boot)
+          (foreign.stands-tell core.plan b (Got e ∷ q) gave (foreign.giving_up-other gave giving) free boot)
           (begun-tell core.plan (Got e ∷ q) (now (Got e ∷ q)) gave (giving-loose (now (Got e ∷ q)) gave giving)
-          ∙ begun-got core.plan q e none ∙ stands.begun_is ∙ sym begun)
-          (λ r. ap (λ c. not core.plan.eager || c) complete ∙ stands.runs (sym running ∙ r));
+          ∙ begun-got core.plan q e other ∙ stands.begun_is ∙ sym begun)
+          (λ r. and_from (is_free core.plan b.fork) (not core.plan.eager || b.complete) free (ap (λ c. not core.plan.eager || c) complete ∙ may-complete core.plan core.boot (stands.runs (sym running ∙ r))));
+      free = free;
       quiet = λ h. giving-quiet (Got e ∷ q) gave giving refl;
       alone = λ h. complete ∙ settled.complete_is ∙ through-same core.plan core.boot b h begun;
       ended = ended;
       calm = calm;
       copied = copied;
     }
-  where
-    begun-got : (p : Plan) (r : Record) (x : Event) → p.daemon ≡ false → has_begun p (Got x ∷ r) ≡ has_begun p r
-    begun-got p r x h = rw h refl
 
 -- since when the offer is over, as the part on the end of a run is told
-since-same : (over : Option ℕ) (b : Bool) → b ≡ offer_since over → b ≡ is_since over
-since-same (Some at) b h = h
-since-same None b h = h
-
 pub over-of : (p : Plan) (o : OfferData) (q : Record) → OfferStands p o q → OverIs p q (over_since o.state)
-over-of p o q h = record { is = since-same (over_since o.state) _ h.over_is; moment = h.since_is }
+over-of p o q h = record { is = h.over_is; moment = h.since_is }
 
 -- an event that is no moment, no signal and no answer to an ask of the offer
 module _ (core : CoreData) (q : Record) (e : Event) (right : Right core.plan q) (stands : StandsFor core q) (on : is_on core.end ≡ true) (fit : fits core.plan q e ≡ true)
     (plain : is_drain_event e ≡ false) (foreign_event : is_offer_event e ≡ false) where
-  same-time : now (Got e ∷ q) ≡ now q
+  pub same-time : now (Got e ∷ q) ≡ now q
   same-time = by e plain
     where
       by : (x : Event) → is_drain_event x ≡ false → now (Got x ∷ q) ≡ now q
       by (Moment ms) h = absurd (cc)
       by x h = refl
 
-  plain-offer : OfferStands core.plan core.offer (Got e ∷ q)
+  pub plain-offer : OfferStands core.plan core.offer (Got e ∷ q)
   plain-offer = offers.stands-got core.plan core.offer q e foreign_event (offer-of core q stands on)
 
-  plain-over : OverIs core.plan (Got e ∷ q) (over_since core.offer.state)
+  pub plain-over : OverIs core.plan (Got e ∷ q) (over_since core.offer.state)
   plain-over = over-of core.plan core.offer (Got e ∷ q) plain-offer
 
-  plain-drain : DrainStands core.plan core.drain (over_since core.offer.state) (Got e ∷ q)
+  pub plain-drain : DrainStands core.plan core.drain (over_since core.offer.state) (Got e ∷ q)
   plain-drain = drains.stands-got core.plan core.drain (over_since core.offer.state) (over_since core.offer.state) q e plain (settled-of core q stands on).drain plain-over (λ h. refl) (drain-of core q stands on)
 
-  plain-may : MayEnd core.plan (Got e ∷ q)
+  pub plain-may : MayEnd core.plan (Got e ∷ q)
   plain-may = record {
     unpassed = passed-got core.plan core.drain (over_since core.offer.state) (over_since core.offer.state) q e plain (drain-of core q stands on) (settled-of core q stands on).drain plain-over (λ h. refl) (settled-of core q stands on).waits;
     asks = one-ask core.plan core.offer (Got e ∷ q) plain-offer
@@ -233,14 +259,14 @@ module _ (core : CoreData) (q : Record) (e : Event) (right : Right core.plan q) 
         (forward-fits core.plan (Got e ∷ q) (fit, right.fits));
   }
 
-  pub strike-plain : core.plan.daemon ≡ false → (st : StartsData) (d : EndpointsData) (b : BootData) (gave : List Action) → is_built_entry (Got e) ≡ true → IsGivingUp gave
+  pub strike-plain : is_fork_event e ≡ false → (st : StartsData) (d : EndpointsData) (b : BootData) (gave : List Action) → is_connection_event e ≡ false → IsGivingUp gave
       → StartsStand core.plan st (Got e ∷ q) → EndpointsStand core.plan d (tell (Got e ∷ q) gave)
-      → BootStands core.plan b (Got e ∷ q) → b.begun ≡ core.boot.begun → b.complete ≡ core.boot.complete
+      → BootStands core.plan b (Got e ∷ q) → b.fork ≡ core.boot.fork → b.begun ≡ core.boot.begun → b.complete ≡ core.boot.complete
       → (MayEnd core.plan (tell (Got e ∷ q) gave) → OnFalse (is_on (end_of core.plan b)) (EndedSo core.plan (tell (Got e ∷ q) gave)))
       → Struck (struck core st d b core.offer core.drain) None (tell (Got e ∷ q) gave)
-  strike-plain none st d b gave built giving starts ends boot begun complete ended =
+  strike-plain other st d b gave apart giving starts ends boot fork begun complete ended =
       let may = may-tell core.plan (now q) (Got e ∷ q) gave (giving-loose (now q) gave giving) plain-may in
-      strike core none q e st d b core.offer core.drain None gave right stands on fit built giving plain-drain refl plain-offer starts ends boot begun complete (ended may) (inr may)
+      strike core q e st d b core.offer core.drain None gave right stands on fit (ap (is_free core.plan) fork ∙ free-of core q e stands fit other) (no-child e other) apart giving plain-drain refl plain-offer starts ends boot begun complete (ended may) (inr may)
       (λ due. absurd (let none_due = (settled-of core q stands on).offer.no_send in cc))
 
 -- an event, then the rest of the step
@@ -369,34 +395,34 @@ module _ (core : CoreData) (q : Record) (s i j : ℕ) (sized : IsEndpointsSized 
 pub strike-ready : (core : CoreData) (s : ℕ) → IsFormed core.plan core.order core.starts core.endpoints → is_on core.end ≡ true → ReadyMayCome core s
     → (q : Record) → Right core.plan q → StandsFor core q → Struck (struck core (word_taken s core.starts) core.endpoints core.boot core.offer core.drain) None (Got (Ready s) ∷ q)
 strike-ready core s formed on may q right stands =
-    strike-plain core q (Ready s) right stands on (fits-ready core q s on may stands) refl refl formed.built.daemon_not (word_taken s core.starts) core.endpoints core.boot [] refl tt
+    strike-plain core q (Ready s) right stands on (fits-ready core q s on may stands) refl refl refl (word_taken s core.starts) core.endpoints core.boot [] refl tt
     (stands-word core.plan core.starts q s formed.starts may.inside stands.starts)
-    (stands-got core.plan core.endpoints q (Ready s) refl (λ fd. held-back-got core.plan q (Ready s) fd refl) (ends-of core q stands on)) (foreign.stands-got core.plan core.boot q (Ready s) refl stands.boot) refl refl
+    (stands-got core.plan core.endpoints q (Ready s) refl (λ fd. held-back-got core.plan q (Ready s) fd refl) (ends-of core q stands on)) (foreign.stands-got core.plan core.boot q (Ready s) refl stands.boot) refl refl refl
     (λ m. not-ended core.plan core.boot (Got (Ready s) ∷ q) (on-boot core q stands on))
 
 pub strike-ended : (core : CoreData) (s : ℕ) → IsFormed core.plan core.order core.starts core.endpoints → is_on core.end ≡ true → EndedMayCome core s
     → (q : Record) → Right core.plan q → StandsFor core q → Struck (struck core (end_taken s core.starts) core.endpoints core.boot core.offer core.drain) None (Got (Ended s) ∷ q)
 strike-ended core s formed on may q right stands =
-    strike-plain core q (Ended s) right stands on (fits-ended core q s on may stands) refl refl formed.built.daemon_not (end_taken s core.starts) core.endpoints core.boot [] refl tt
+    strike-plain core q (Ended s) right stands on (fits-ended core q s on may stands) refl refl refl (end_taken s core.starts) core.endpoints core.boot [] refl tt
     (stands-end core.plan core.starts q s formed.starts may.inside stands.starts)
-    (stands-got core.plan core.endpoints q (Ended s) refl (λ fd. held-back-got core.plan q (Ended s) fd refl) (ends-of core q stands on)) (foreign.stands-got core.plan core.boot q (Ended s) refl stands.boot) refl refl
+    (stands-got core.plan core.endpoints q (Ended s) refl (λ fd. held-back-got core.plan q (Ended s) fd refl) (ends-of core q stands on)) (foreign.stands-got core.plan core.boot q (Ended s) refl stands.boot) refl refl refl
     (λ m. not-ended core.plan core.boot (Got (Ended s) ∷ q) (on-boot core q stands on))
 
 -- an answer to an ask of an endpoint
-pub strike-answer : (core : CoreData) (e : Event) (d : EndpointsData) (before after : List Action) → core.plan.daemon ≡ false → is_on core.end ≡ true
-    → is_built_entry (Got e) ≡ true → is_drain_event e ≡ false → is_offer_event e ≡ false → is_boot_event e ≡ false
+pub strike-answer : (core : CoreData) (e : Event) (d : EndpointsData) (before after : List Action) → is_on core.end ≡ true
+    → is_connection_event e ≡ false → is_drain_event e ≡ false → is_offer_event e ≡ false → is_boot_event e ≡ false
     → ((q : Record) → StartsStand core.plan core.starts q → StartsStand core.plan core.starts (Got e ∷ q))
     → ((q : Record) → StandsFor core q → fits core.plan q e ≡ true)
     → Tells before after (λ told. IsGivingUp told × ((q : Record) → core.drain.moment ≡ now q → AreOnOffer core.plan (numbers_on_offer core.offer) q → EndpointsStand core.plan core.endpoints q → EndpointsStand core.plan d (tell (Got e ∷ q) told)))
     → Tells before after (λ told. (q : Record) → Right core.plan q → StandsFor core q → Struck (struck core core.starts d core.boot core.offer core.drain) None (tell (Got e ∷ q) told))
-strike-answer core e d before after none on built plain asks other starts fit gave = record {
+strike-answer core e d before after on apart plain asks other starts fit gave = record {
   told = gave.told;
   appended = gave.appended;
   kept = λ q right stands.
-      strike-plain core q e right stands on (fit q stands) plain asks none core.starts d core.boot gave.told built gave.kept.0
+      strike-plain core q e right stands on (fit q stands) plain asks (no-fork e other) core.starts d core.boot gave.told apart gave.kept.0
       (starts q stands.starts)
       (gave.kept.1 q (drain-of core q stands on).moment_is (on-offer core.plan core.offer q (offer-of core q stands on)) (ends-of core q stands on))
-      (foreign.stands-got core.plan core.boot q e other stands.boot) refl refl
+      (foreign.stands-got core.plan core.boot q e other stands.boot) refl refl refl
       (λ m. not-ended core.plan core.boot (tell (Got e ∷ q) gave.told) (on-boot core q stands on));
 }
 
@@ -417,53 +443,54 @@ pub silently : (p : Plan) (d d1 : EndpointsData) (moment : ℕ) (kept : List ℕ
 silently p d d1 moment kept e before stand = record { told = []; appended = sym (append-nil before); kept = (tt, λ q time held. stand q) }
 
 -- an older server's message
-pub strike-received : (core : CoreData) (bytes fds : List ℕ) (good : Bool) (d : EndpointsData) (b : BootData) (before after : List Action) → core.plan.daemon ≡ false → is_on core.end ≡ true → ReceivedMayCome core fds
+pub strike-received : (core : CoreData) (bytes fds : List ℕ) (good : Bool) (d : EndpointsData) (b : BootData) (before after : List Action) → is_on core.end ≡ true → ReceivedMayCome core fds
     → good ≡ is_read (decode bytes (length fds)) → b ≡ received good core.boot
     → ((q : Record) → BootStands core.plan core.boot q → BootStands core.plan b (Got (Received bytes fds) ∷ q))
     → Tells before after (λ told. IsGivingUp told × (good ≡ false → told ≡ []) × ((q : Record) → EndpointsStand core.plan core.endpoints q → EndpointsStand core.plan d (tell (Got (Received bytes fds) ∷ q) told)))
     → Tells before after (λ told. (q : Record) → Right core.plan q → StandsFor core q → Struck (struck core core.starts d b core.offer core.drain) None (tell (Got (Received bytes fds) ∷ q) told))
-strike-received core bytes fds good d b before after none on may read now_boot boots gave = record {
+strike-received core bytes fds good d b before after on may read now_boot boots gave = record {
   told = gave.told;
   appended = gave.appended;
   kept = λ q right stands.
-      strike-plain core q (Received bytes fds) right stands on (fits-received core q bytes fds on may stands) refl refl none core.starts d b gave.told refl gave.kept.0
+      strike-plain core q (Received bytes fds) right stands on (fits-received core q bytes fds on may stands) refl refl refl core.starts d b gave.told refl gave.kept.0
       (record { started_is = stands.starts.started_is; ready_is = stands.starts.ready_is; ended_is = stands.starts.ended_is })
-      (gave.kept.2 q (ends-of core q stands on)) (boots q stands.boot) (ap (λ (x : BootData). x.begun) now_boot) (ap (λ (x : BootData). x.complete) now_boot)
+      (gave.kept.2 q (ends-of core q stands on)) (boots q stands.boot) (ap (λ (x : BootData). x.fork) now_boot) (ap (λ (x : BootData). x.begun) now_boot) (ap (λ (x : BootData). x.complete) now_boot)
       (by good refl q stands);
 }
   where
     by : (c : Bool) → good ≡ c → (q : Record) → StandsFor core q → MayEnd core.plan (tell (Got (Received bytes fds) ∷ q) gave.told) → OnFalse (is_on (end_of core.plan b)) (EndedSo core.plan (tell (Got (Received bytes fds) ∷ q) gave.told))
     by true e q stands m = not-ended core.plan b (tell (Got (Received bytes fds) ∷ q) gave.told)
-        (ap (λ (x : BootData). is_on (end_of core.plan x)) now_boot ∙ rw (e, (on-end core.plan core.boot (on-boot core q stands on)).0) refl)
+        (ap (λ (x : BootData). is_on (end_of core.plan x)) now_boot ∙ ap (λ (g : Bool). is_on (end_of core.plan (received g core.boot))) e
+        ∙ on-by core.plan (received true core.boot) (on-end core.plan core.boot (on-boot core q stands on)).0 refl (on-end core.plan core.boot (on-boot core q stands on)).2)
     by false e q stands m = subst (λ told. OnFalse (is_on (end_of core.plan b)) (EndedSo core.plan (tell (Got (Received bytes fds) ∷ q) told))) (sym (gave.kept.1 e))
         (ended-so core.plan b q (Received bytes fds) (boots q stands.boot) (ap (λ (x : BootData). core.plan.test && x.begun) now_boot ∙ (on-end core.plan core.boot (on-boot core q stands on)).0)
         (subst (λ told. MayEnd core.plan (tell (Got (Received bytes fds) ∷ q) told)) (gave.kept.1 e) m))
 
 -- the end of a loop
-pub strike-loop : (core : CoreData) (s i j : ℕ) (d : EndpointsData) (before after : List Action) → core.plan.daemon ≡ false → IsEndpointsSized core.plan core.endpoints → is_on core.end ≡ true → LoopMayEnd core s i j
+pub strike-loop : (core : CoreData) (s i j : ℕ) (d : EndpointsData) (before after : List Action) → IsEndpointsSized core.plan core.endpoints → is_on core.end ≡ true → LoopMayEnd core s i j
     → Tells before after (λ told. IsGivingUp told × ((q : Record) → fits_row core.plan q (LoopEnded s i j) ≡ true → AreOnOffer core.plan (numbers_on_offer core.offer) q → EndpointsStand core.plan core.endpoints q → EndpointsStand core.plan d (tell (Got (LoopEnded s i j) ∷ q) told)))
     → Tells before after (λ told. (q : Record) → Right core.plan q → StandsFor core q → Struck (struck core core.starts d core.boot core.offer core.drain) None (tell (Got (LoopEnded s i j) ∷ q) told))
-strike-loop core s i j d before after none sized on may gave = record {
+strike-loop core s i j d before after sized on may gave = record {
   told = gave.told;
   appended = gave.appended;
   kept = λ q right stands.
-      strike-plain core q (LoopEnded s i j) right stands on (fits-loop core q s i j sized on stands may) refl refl none core.starts d core.boot gave.told refl gave.kept.0
+      strike-plain core q (LoopEnded s i j) right stands on (fits-loop core q s i j sized on stands may) refl refl refl core.starts d core.boot gave.told refl gave.kept.0
       (record { started_is = stands.starts.started_is; ready_is = stands.starts.ready_is; ended_is = stands.starts.ended_is })
       (gave.kept.1 q (loop-row core q s i j sized on stands may) (on-offer core.plan core.offer q (offer-of core q stands on)) (ends-of core q stands on))
-      (foreign.stands-got core.plan core.boot q (LoopEnded s i j) refl stands.boot) refl refl
+      (foreign.stands-got core.plan core.boot q (LoopEnded s i j) refl stands.boot) refl refl refl
       (λ m. not-ended core.plan core.boot (tell (Got (LoopEnded s i j) ∷ q) gave.told) (on-boot core q stands on));
 }
 
 -- no sender, or a failure
-pub strike-refused : (core : CoreData) (e : Event) (b : BootData) → core.plan.daemon ≡ false → is_on core.end ≡ true → b.begun ≡ core.boot.begun → b.complete ≡ core.boot.complete
-    → is_built_entry (Got e) ≡ true → is_drain_event e ≡ false → is_offer_event e ≡ false
+pub strike-refused : (core : CoreData) (e : Event) (b : BootData) → is_fork_event e ≡ false → is_on core.end ≡ true → b.fork ≡ core.boot.fork → b.begun ≡ core.boot.begun → b.complete ≡ core.boot.complete
+    → is_connection_event e ≡ false → is_drain_event e ≡ false → is_offer_event e ≡ false
     → ((q : Record) → StandsFor core q → fits core.plan q e ≡ true)
     → ((q : Record) → StartsStand core.plan core.starts q → StartsStand core.plan core.starts (Got e ∷ q))
     → ((q : Record) → EndpointsStand core.plan core.endpoints q → EndpointsStand core.plan core.endpoints (Got e ∷ q))
     → ((q : Record) → core.drain.moment ≡ now q → BootStands core.plan core.boot q → BootStands core.plan b (Got e ∷ q))
     → (q : Record) → Right core.plan q → StandsFor core q → Struck (struck core core.starts core.endpoints b core.offer core.drain) None (Got e ∷ q)
-strike-refused core e b none on begun complete built plain asks fit starts ends boots q right stands =
-    strike-plain core q e right stands on (fit q stands) plain asks none core.starts core.endpoints b [] built tt
+strike-refused core e b other on fork begun complete apart plain asks fit starts ends boots q right stands =
+    strike-plain core q e right stands on (fit q stands) plain asks other core.starts core.endpoints b [] apart tt
     (starts q stands.starts) (ends q (ends-of core q stands on))
-    (boots q (drain-of core q stands on).moment_is stands.boot) begun complete
+    (boots q (drain-of core q stands on).moment_is stands.boot) fork begun complete
     (ended-so core.plan b q e (boots q (drain-of core q stands on).moment_is stands.boot) (ap (λ x. core.plan.test && x) begun ∙ (on-end core.plan core.boot (on-boot core q stands on)).0))

@@ -11,10 +11,11 @@ use Rattle.svc_record.specs.Connections.{live_connections}
 use Rattle.svc_record.specs.Drain.{ascending, live_numbers}
 use Rattle.svc_record.specs.Tail.{new_numbers, each_once}
 use Rattle.svc_record.proofs.Closing.{right_closes}
+use Rattle.svc_connections.specs.ConnectionsState.{numbers}
+use Rattle.svc_connections.specs.ConnectionsEffects.{cuts}
 use Rattle.svc_core.specs.CoreData.{CoreData, is_served}
-use Rattle.svc_core.specs.Rooms.{open_numbers, left_numbers}
+use Rattle.svc_core.specs.Rooms.{open_numbers, open_connections, left_numbers}
 use Rattle.svc_core.specs.Stands.{StandsFor, ClosesAll}
-use Rattle.svc_core.proofs.FormLemmas.{no-connections}
 use Rattle.svc_core.proofs.StepLemmas.{fresh}
 
 open-live : (core : CoreData) (q : Record) → StandsFor core q → (b : Bool) → is_served core.end ≡ b → open_numbers core ≡ ascending (live_numbers core.plan q)
@@ -29,36 +30,39 @@ left-kept core q stands (fd ∷ fds) = rw (fresh core q fd stands, left-kept cor
 left-new : (core : CoreData) (q : Record) (e : Event) → StandsFor core q → left_numbers core e ≡ new_numbers q (Some e)
 left-new core q e stands = ap each_once (left-kept core q stands (numbers_of (Got e)))
 
--- nothing is cut
-none-cut : (core : CoreData) (q : Record) (told : List Action) → StandsFor core q → map (λ (c : ℕ). Cut c) (ascending (live_connections q)) ++ told ≡ told
-none-cut core q told stands = rw (no-connections q stands.forms) refl
+-- the connections that are live
+cut-live : (core : CoreData) (q : Record) → StandsFor core q → (b : Bool) → is_served core.end ≡ b → numbers (open_connections core) ≡ ascending (live_connections q)
+cut-live core q stands true e = rw e (sym (ap ascending (stands.uncut e)))
+cut-live core q stands false e = rw e (stands.connections e).live_is
 
 -- where no event was left unfinished
-pub closes-open : (core : CoreData) (q : Record) (before after : List Action) → after ≡ before ++ map (λ (fd : ℕ). Close fd) (open_numbers core)
+pub closes-open : (core : CoreData) (q : Record) (before after : List Action) → after ≡ before ++ (cuts (open_connections core) ++ map (λ (fd : ℕ). Close fd) (open_numbers core))
     → StandsFor core q → ClosesAll core.plan q None before after
 closes-open core q before after told stands = record {
   told = record {
-    told = map (λ (fd : ℕ). Close fd) (open_numbers core);
+    told = cuts (open_connections core) ++ map (λ (fd : ℕ). Close fd) (open_numbers core);
     appended = told;
-    kept = ap (map (λ (fd : ℕ). Close fd)) (open-live core q stands (is_served core.end) refl) ∙ sym (append-nil (map (λ (fd : ℕ). Close fd) (ascending (live_numbers core.plan q))))
-        ∙ sym (none-cut core q (map (λ (fd : ℕ). Close fd) (ascending (live_numbers core.plan q)) ++ []) stands);
+    kept = ap (λ cs. map (λ (c : ℕ). Cut c) cs ++ map (λ (fd : ℕ). Close fd) (open_numbers core)) (cut-live core q stands (is_served core.end) refl)
+        ∙ ap (λ fds. map (λ (c : ℕ). Cut c) (ascending (live_connections q)) ++ map (λ (fd : ℕ). Close fd) fds) (open-live core q stands (is_served core.end) refl)
+        ∙ ap (λ told. map (λ (c : ℕ). Cut c) (ascending (live_connections q)) ++ told) (sym (append-nil (map (λ (fd : ℕ). Close fd) (ascending (live_numbers core.plan q)))));
   };
   closed = λ right. right_closes core.plan q None right;
 }
 
 -- where one was
 pub closes-brought : (core : CoreData) (q : Record) (e : Event) (before mid after : List Action)
-    → mid ≡ before ++ map (λ (fd : ℕ). Close fd) (open_numbers core) → after ≡ mid ++ map (λ (fd : ℕ). Close fd) (left_numbers core e)
+    → mid ≡ before ++ (cuts (open_connections core) ++ map (λ (fd : ℕ). Close fd) (open_numbers core)) → after ≡ mid ++ map (λ (fd : ℕ). Close fd) (left_numbers core e)
     → StandsFor core q → ClosesAll core.plan q (Some e) before after
 closes-brought core q e before mid after first next stands = record {
   told = record {
-    told = map (λ (fd : ℕ). Close fd) (open_numbers core) ++ map (λ (fd : ℕ). Close fd) (left_numbers core e);
+    told = (cuts (open_connections core) ++ map (λ (fd : ℕ). Close fd) (open_numbers core)) ++ map (λ (fd : ℕ). Close fd) (left_numbers core e);
     appended = next
         ∙ ap (λ w. w ++ map (λ (fd : ℕ). Close fd) (left_numbers core e)) first
-        ∙ append_assoc before (map (λ (fd : ℕ). Close fd) (open_numbers core)) (map (λ (fd : ℕ). Close fd) (left_numbers core e));
-    kept = ap (λ xs. map (λ (fd : ℕ). Close fd) xs ++ map (λ (fd : ℕ). Close fd) (left_numbers core e)) (open-live core q stands (is_served core.end) refl)
-        ∙ ap (λ xs. map (λ (fd : ℕ). Close fd) (ascending (live_numbers core.plan q)) ++ map (λ (fd : ℕ). Close fd) xs) (left-new core q e stands)
-        ∙ sym (none-cut core q (map (λ (fd : ℕ). Close fd) (ascending (live_numbers core.plan q)) ++ map (λ (fd : ℕ). Close fd) (new_numbers q (Some e))) stands);
+        ∙ append_assoc before (cuts (open_connections core) ++ map (λ (fd : ℕ). Close fd) (open_numbers core)) (map (λ (fd : ℕ). Close fd) (left_numbers core e));
+    kept = append_assoc (cuts (open_connections core)) (map (λ (fd : ℕ). Close fd) (open_numbers core)) (map (λ (fd : ℕ). Close fd) (left_numbers core e))
+        ∙ ap (λ cs. map (λ (c : ℕ). Cut c) cs ++ (map (λ (fd : ℕ). Close fd) (open_numbers core) ++ map (λ (fd : ℕ). Close fd) (left_numbers core e))) (cut-live core q stands (is_served core.end) refl)
+        ∙ ap (λ fds. map (λ (c : ℕ). Cut c) (ascending (live_connections q)) ++ (map (λ (fd : ℕ). Close fd) fds ++ map (λ (fd : ℕ). Close fd) (left_numbers core e))) (open-live core q stands (is_served core.end) refl)
+        ∙ ap (λ fds. map (λ (c : ℕ). Cut c) (ascending (live_connections q)) ++ (map (λ (fd : ℕ). Close fd) (ascending (live_numbers core.plan q)) ++ map (λ (fd : ℕ). Close fd) fds)) (left-new core q e stands);
   };
   closed = λ right. right_closes core.plan q (Some e) right;
 }

@@ -3,7 +3,7 @@ use Rattle.std.proofs.Common.{ℕ, zero, suc, Bool, true, false, ◌==◌, inl, 
 use Rattle.std.specs.Bool.{OnTrue, OnFalse}
 use Rattle.std.specs.List.{list_any}
 use Rattle.std.proofs.lemmas.List.{get_or-take}
-use Rattle.std.proofs.lemmas.Bool.{and_parts, eqb-true, or_cases, cases_lt}
+use Rattle.std.proofs.lemmas.Bool.{and_parts, eqb-true, or_cases, or_from, cases_lt}
 use Rattle.svc_record.specs.declared.plan.Plan.{Plan}
 use Rattle.svc_record.specs.Plans.{service_count, endpoints}
 use Rattle.svc_record.specs.Record.{Record, times}
@@ -14,10 +14,14 @@ use Rattle.svc_record.specs.Validity.{IsInOrder, IsStartupOrder}
 use Rattle.svc_record.proofs.StartupLemmas.{startup-is, take-within}
 use Rattle.svc_endpoints.specs.EndpointsData.{EndpointsData}
 use Rattle.svc_boot.specs.BootData.{BootData}
+use Rattle.svc_boot.specs.ForkState.{is_free, is_parent_over}
 use Rattle.svc_boot.specs.BootState.{is_refused}
 use Rattle.svc_boot.proofs.BootEnds.{early-is}
+use Rattle.svc_boot.proofs.Settled.{free-on}
+use Rattle.svc_boot.proofs.Begun.{may_begin-is}
 use Rattle.svc_offer.specs.OfferData.{OfferData}
 use Rattle.svc_drain.specs.DrainData.{DrainData}
+use Rattle.svc_connections.specs.ConnectionsData.{ConnectionsData}
 use Rattle.svc_core.specs.StartsData.{StartsData}
 use Rattle.svc_core.specs.Passes.{Going, TestedAt, is_tested, is_boot_service}
 use Rattle.svc_core.specs.Stands.{EndedSo}
@@ -62,8 +66,8 @@ is-before : (p : Plan) (q : Record) (xs : List ℕ) (s : ℕ) → list_any (λ n
 is-before p q [] s h = absurd (cc)
 is-before p q (x ∷ xs) s h = before-cons p q x xs s (is_boot_service p q x) refl (is-before p q xs s) h
 
-module _ (p : Plan) (order : List ℕ) (least : IsStartupOrder p order) (in_order : IsInOrder p order) (st : StartsData) (d : EndpointsData) (b : BootData) (o : OfferData) (dr : DrainData) (q : Record)
-    (going : Going p st d b o dr q) (k : ℕ) (at : TestedAt p order k q) where
+module _ (p : Plan) (order : List ℕ) (least : IsStartupOrder p order) (in_order : IsInOrder p order) (st : StartsData) (d : EndpointsData) (b : BootData) (o : OfferData) (dr : DrainData) (cn : ConnectionsData) (q : Record)
+    (going : Going p st d b o dr cn q) (k : ℕ) (at : TestedAt p order k q) where
   -- a service that was visited stands before that place
   visited-place : (s : ℕ) → is_visited p q s ≡ true → (j : ℕ) × (j < k) × (slice_index order j ≡ s)
   visited-place s h =
@@ -104,14 +108,14 @@ module _ (p : Plan) (order : List ℕ) (least : IsStartupOrder p order) (in_orde
   on_true true A a = a
   on_true false A a = tt
 
-  pub tested-so : p.daemon ≡ false → is_tested p b ≡ true → is_refused b.receiving ≡ false → EndedSo p q
-  tested-so none tested goes = record {
+  pub tested-so : is_free p b.fork ≡ true → is_tested p b ≡ true → is_refused b.receiving ≡ false → EndedSo p q
+  tested-so free tested goes = record {
     ended = record {
-      early = not_true (has_ended_early p q) _ (early-is p b q going.boot ∙ goes);
+      early = not_true (has_ended_early p q) _ (early-is p b q going.boot ∙ or_from (is_parent_over b.fork) (is_refused b.receiving) (free-on p b q going.boot free) goes);
       tested = on_true (ends_tested p q) _ (at.last, going.ends.closes);
     };
     tested = on_true (ends_tested p q) (TestedRight p q) (record {
-      forked = rw none refl;
+      forked = may_begin-is p b q going.boot ∙ free;
       begun = going.begun_is ∙ (and_parts p.test b.begun tested).1;
       in_turn = going.entries.after_boot;
       starts = on_false p.eager _ counted;

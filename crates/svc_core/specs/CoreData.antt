@@ -3,12 +3,13 @@ use Rattle.std.specs.Prelude.{ℕ, Bool, true, false, List}
 use Rattle.svc_record.specs.declared.plan.Plan.{Plan}
 use Rattle.svc_record.specs.declared.action.StepEnd.{StepEnd}
 use Rattle.svc_record.specs.declared.action.StepEnd.TheVariants.{On, Served}
-use Rattle.svc_record.specs.Validity.{IsValid, IsBuilt, IsStartupOrder, IsInOrder}
+use Rattle.svc_record.specs.Validity.{IsValid, IsStartupOrder, IsInOrder}
 use Rattle.svc_endpoints.specs.EndpointsData.{EndpointsData}
 use Rattle.svc_endpoints.specs.EndpointsState.{IsEndpointsSized}
 use Rattle.svc_boot.specs.BootData.{BootData}
 use Rattle.svc_offer.specs.OfferData.{OfferData}
 use Rattle.svc_drain.specs.DrainData.{DrainData}
+use Rattle.svc_connections.specs.ConnectionsData.{ConnectionsData}
 use Rattle.svc_core.specs.StartsData.{StartsData}
 use Rattle.svc_core.specs.StartsState.{IsStartsSized}
 
@@ -21,6 +22,7 @@ pub record CoreData : Type 0 where
   pub boot : BootData
   pub offer : OfferData
   pub drain : DrainData
+  pub connections : ConnectionsData
   pub end : StepEnd
 
 -- the run goes on
@@ -35,12 +37,11 @@ is_served _ = false
 
 -- the core with this end
 abbrev pub with_end : StepEnd → CoreData → CoreData
-with_end end core = record { plan = core.plan; order = core.order; starts = core.starts; endpoints = core.endpoints; boot = core.boot; offer = core.offer; drain = core.drain; end = end }
+with_end end core = record { plan = core.plan; order = core.order; starts = core.starts; endpoints = core.endpoints; boot = core.boot; offer = core.offer; drain = core.drain; connections = core.connections; end = end }
 
 -- the order and the parts fit the plan
 pub record IsFormed (p : Plan) (order : List ℕ) (st : StartsData) (d : EndpointsData) : Type 0 where
   pub valid : IsValid p
-  pub built : IsBuilt p
   pub in_order : IsInOrder p order
   pub least : IsStartupOrder p order
   pub starts : IsStartsSized p st

@@ -1,6 +1,5 @@
 pub mod StartsData
 pub mod StartsState
-pub mod Forms
 pub mod Copies
 pub mod CoreData
 pub mod Passes
@@ -8,7 +7,9 @@ pub mod Rooms
 pub mod Stands
 pub mod Signals
 pub use Rattle.svc_record.specs.Told
+pub use Rattle.svc_record.specs.Judging
 pub use Rattle.svc_boot.specs.BootData
+pub use Rattle.svc_boot.specs.ForkState
 pub use Rattle.svc_boot.specs.BootState
 pub use Rattle.svc_boot.specs.BootEffects
 pub use Rattle.svc_boot.specs.BootFacts
@@ -22,6 +23,10 @@ pub use Rattle.svc_drain.specs.DrainEffects
 pub use Rattle.svc_drain.specs.DrainFacts
 pub use Rattle.svc_endpoints.specs.EndpointsData
 pub use Rattle.svc_endpoints.specs.EndpointsState
+pub use Rattle.svc_connections.specs.ConnectionsData
+pub use Rattle.svc_connections.specs.ConnectionsState
+pub use Rattle.svc_connections.specs.ConnectionsEffects
+pub use Rattle.svc_connections.specs.ConnectionsFacts
 pub use Rattle.svc_record.specs.Record
 pub use Rattle.svc_record.specs.Plans
 pub use Rattle.svc_record.specs.Message

@@ -19,14 +19,16 @@ use Rattle.svc_record.specs.Told.{Tells}
 use Rattle.svc_endpoints.specs.EndpointsData.{EndpointsData}
 use Rattle.svc_endpoints.specs.EndpointsState.{EndpointsStand}
 use Rattle.svc_boot.specs.BootData.{BootData}
+use Rattle.svc_boot.specs.ForkState.{is_free}
 use Rattle.svc_boot.specs.BootState.{BootStands, is_refused, is_through}
 use Rattle.svc_offer.specs.OfferData.{OfferData}
 use Rattle.svc_offer.specs.OfferState.{OfferStands, over_since}
 use Rattle.svc_drain.specs.DrainData.{DrainData}
 use Rattle.svc_drain.specs.DrainState.{DrainStands}
+use Rattle.svc_connections.specs.ConnectionsData.{ConnectionsData}
+use Rattle.svc_connections.specs.ConnectionsState.{ConnectionsStand}
 use Rattle.svc_core.specs.StartsData.{StartsData}
 use Rattle.svc_core.specs.StartsState.{StartsStand}
-use Rattle.svc_core.specs.Forms.{HasBuiltForms}
 
 -- each event, start and phase is right, with what stands before it
 pub record EntriesRight (p : Plan) (q : Record) : Type 0 where
@@ -40,9 +42,9 @@ pub record EntriesRight (p : Plan) (q : Record) : Type 0 where
 abbrev pub is_tested : Plan → BootData → Bool
 is_tested p b = p.test && b.begun
 
--- services may start: bootstrapping is complete, or needn't be
+-- services may start: no fork is awaited, and bootstrapping is complete, or needn't be
 abbrev pub may_start : Plan → BootData → Bool
-may_start p b = not p.eager || b.complete
+may_start p b = is_free p b.fork && (not p.eager || b.complete)
 
 -- receiving hasn't ended the run, and bootstrapping is told to be complete exactly where nothing is left to receive
 pub record IsBootRipe (p : Plan) (b : BootData) : Type 0 where
@@ -50,13 +52,13 @@ pub record IsBootRipe (p : Plan) (b : BootData) : Type 0 where
   pub complete_is : b.complete ≡ is_through p b
 
 -- what holds of the parts all through a step: they stand for q; each entry is right; what is started is due; bootstrapping has begun where it was to; the run hasn't told its end; and what stands before each event is right
-pub record Going (p : Plan) (st : StartsData) (d : EndpointsData) (b : BootData) (o : OfferData) (dr : DrainData) (q : Record) : Type 0 where
+pub record Going (p : Plan) (st : StartsData) (d : EndpointsData) (b : BootData) (o : OfferData) (dr : DrainData) (cn : ConnectionsData) (q : Record) : Type 0 where
   pub drain : DrainStands p dr (over_since o.state) q
   pub offer : OfferStands p o q
+  pub connections : ConnectionsStand p cn q
   pub starts : StartsStand p st q
   pub ends : EndpointsStand p d q
   pub boot : BootStands p b q
-  pub forms : HasBuiltForms q
   pub entries : EntriesRight p q
   pub started_due : (s : ℕ) → s < service_count p → is_started q s ≡ true → is_due p q s ≡ true
   pub begun_is : has_begun p q ≡ b.begun
@@ -95,8 +97,8 @@ pub record TestedAt (p : Plan) (order : List ℕ) (k : ℕ) (q : Record) : Type 
   pub may_end : MayEnd p q
 
 -- a pass is at the place k of the order, or ended before it; as long as bootstrapping hasn't begun, this step told only starts, asks, failures and closes; and where something is still to be started, the run may end in its bootstrapping
-pub record PassedUpTo (p : Plan) (order : List ℕ) (k : ℕ) (st : StartsData) (d : EndpointsData) (b : BootData) (o : OfferData) (dr : DrainData) (q : Record) : Type 0 where
-  pub going : Going p st d b o dr q
+pub record PassedUpTo (p : Plan) (order : List ℕ) (k : ℕ) (st : StartsData) (d : EndpointsData) (b : BootData) (o : OfferData) (dr : DrainData) (cn : ConnectionsData) (q : Record) : Type 0 where
+  pub going : Going p st d b o dr cn q
   pub may : may_start p b ≡ true
   pub ripe : IsBootRipe p b
   pub visited : MatchBool (is_tested p b) ((j : ℕ) × TestedAt p order j q) (VisitedUpTo p order k q)
@@ -104,8 +106,8 @@ pub record PassedUpTo (p : Plan) (order : List ℕ) (k : ℕ) (st : StartsData) 
   pub calm : AreStarted p q ⊎ MayEnd p q
 
 -- between the two halves of a visit of the service at the place k: it is started where it is due, and where that tested the run, the pass ends
-pub record Half (p : Plan) (order : List ℕ) (k : ℕ) (st : StartsData) (d : EndpointsData) (b : BootData) (o : OfferData) (dr : DrainData) (q : Record) : Type 0 where
-  pub going : Going p st d b o dr q
+pub record Half (p : Plan) (order : List ℕ) (k : ℕ) (st : StartsData) (d : EndpointsData) (b : BootData) (o : OfferData) (dr : DrainData) (cn : ConnectionsData) (q : Record) : Type 0 where
+  pub going : Going p st d b o dr cn q
   pub may : may_start p b ≡ true
   pub ripe : IsBootRipe p b
   pub tested : OnTrue (is_tested p b) (TestedAt p order k q)
@@ -118,13 +120,13 @@ pub record Half (p : Plan) (order : List ℕ) (k : ℕ) (st : StartsData) (d : E
 -- the first half of a visit of the service at the place k
 abbrev pub Starting : Plan → List ℕ → DrainData → ℕ → StartsData → StartsData → EndpointsData → BootData → BootData → List Action → List Action → Type 0
 Starting p order dr k st st' d b b' before after =
-    Tells before after (λ told. (o : OfferData) (q : Record) → PassedUpTo p order k st d b o dr q → Half p order k st' d b' o dr (tell q told))
+    Tells before after (λ told. (o : OfferData) (cn : ConnectionsData) (q : Record) → PassedUpTo p order k st d b o dr cn q → Half p order k st' d b' o dr cn (tell q told))
 
 -- how many actions the beginning of bootstrapping may still tell
 abbrev pub begin_room : BootData → ℕ
-begin_room b = if b.begun then 0 else 3
+begin_room b = if b.begun then 0 else 4
 
 -- visits went from the place j of the order to the place k
 abbrev pub Passes : Plan → List ℕ → DrainData → ℕ → ℕ → StartsData → StartsData → EndpointsData → EndpointsData → BootData → BootData → List Action → List Action → Type 0
 Passes p order dr j k st st' d d' b b' before after =
-    Tells before after (λ told. (o : OfferData) (q : Record) → PassedUpTo p order j st d b o dr q → PassedUpTo p order k st' d' b' o dr (tell q told))
+    Tells before after (λ told. (o : OfferData) (cn : ConnectionsData) (q : Record) → PassedUpTo p order j st d b o dr cn q → PassedUpTo p order k st' d' b' o dr cn (tell q told))

@@ -2,10 +2,31 @@
 
 ghost use Rattle.std.specs.Prelude.{◌≡◌, ◌+◌, ◌≤◌, ◌++◌, ◌∷◌, [], length, true};
 ghost use Rattle.svc_conf.specs.Items.{list_of, spare};
-ghost use Rattle.svc_core.specs.Copies.{is_bare, is_copied, are_copied, left_of};
+ghost use Rattle.svc_core.specs.Copies.{is_bare, is_copied, are_copied, left_of, copy_of};
 
+use svc_conf::Settings;
 use svc_fds::Message;
 use svc_record::{Action, Actions};
+
+/// What a step may tell that owns memory, copied before the step.
+#[derive(Drop)]
+pub(crate) enum SecondCopy {
+    Nothing,
+    OfMessage(Message),
+    OfSettings(Settings),
+}
+
+impl SecondCopy {
+    /// The message, if there is one.
+    pub(crate) fn of_message(message: Option<Message>) -> SecondCopy
+        ensures { result ≡ copy_of message }
+    {
+        match message {
+            Some(message) => SecondCopy::OfMessage(message),
+            None => SecondCopy::Nothing,
+        }
+    }
+}
 
 /// The same action again, which owns no memory.
 fn copy_bare(action: &Action) -> Action
@@ -20,17 +41,25 @@ fn copy_bare(action: &Action) -> Action
         Action::Close(fd) => Action::Close(*fd),
         Action::OpenReceiver => Action::OpenReceiver,
         Action::TryReceive => Action::TryReceive,
+        Action::NotifyParent => Action::NotifyParent,
         Action::Connect => Action::Connect,
-        Action::Broadcast => Action::Broadcast,
         Action::Phase(p, ms) => Action::Phase(*p, *ms),
+        Action::Broadcast => Action::Broadcast,
+        Action::Refuse(c) => Action::Refuse(*c),
+        Action::Handshake(c) => Action::Handshake(*c),
+        Action::Serve(c) => Action::Serve(*c),
+        Action::Drop(c) => Action::Drop(*c),
+        Action::Rest(s, i) => Action::Rest(*s, *i),
+        Action::Cut(c) => Action::Cut(*c),
         Action::Stop(seconds) => Action::Stop(*seconds),
+        Action::Daemonize => Action::Daemonize,
         _ => unreachable!(),
     }
 }
 
-/// Appends the same action, which owns no memory, or is the send of the message. What is left of
-/// the message.
-fn repeat_one(action: &Action, copy: Option<Message>, again: &mut Actions) -> Option<Message>
+/// Appends the same action, which owns no memory, judges a connection, or is what the copy is of.
+/// What is left of the copy.
+fn repeat_one(action: &Action, copy: SecondCopy, again: &mut Actions) -> SecondCopy
     requires copied { is_copied copy action.now ≡ true }
     requires room { 1 ≤ spare again.old }
     ensures told { list_of again.new ≡ list_of again.old ++ action.now ∷ [] }
@@ -39,10 +68,20 @@ fn repeat_one(action: &Action, copy: Option<Message>, again: &mut Actions) -> Op
 {
     match action {
         Action::Send(_, _) => {
-            if let Some(message) = copy {
+            if let SecondCopy::OfMessage(message) = copy {
                 again.put(Action::Send(message.bytes, message.fds));
             }
-            None
+            SecondCopy::Nothing
+        }
+        Action::Settings(c, _) => {
+            if let SecondCopy::OfSettings(settings) = copy {
+                again.put(Action::Settings(*c, settings));
+            }
+            SecondCopy::Nothing
+        }
+        Action::Judged(c, said) => {
+            again.put(Action::Judged(*c, *said));
+            copy
         }
         _ => {
             again.put(copy_bare(action));
@@ -52,8 +91,8 @@ fn repeat_one(action: &Action, copy: Option<Message>, again: &mut Actions) -> Op
 }
 
 /// Appends the told actions to another list, which has room for them. They own no memory, but for
-/// the send of the message, of which a copy is handed in.
-pub(crate) fn repeat(told: &[Action], copy: Option<Message>, again: &mut Actions)
+/// one of which a copy is handed in.
+pub(crate) fn repeat(told: &[Action], copy: SecondCopy, again: &mut Actions)
     requires copied { are_copied copy told.now ≡ true }
     requires room { length told.now ≤ spare again.old }
     ensures { list_of again.new ≡ list_of again.old ++ told.now }

@@ -2,6 +2,7 @@
 #![tactic(auto)]
 
 mod copies;
+mod ends;
 mod machine;
 mod pass;
 mod phase_reader;
@@ -15,6 +16,10 @@ pub use svc_record::{
     ServicePlan, ShutdownSignal, Side, StepEnd,
 };
 
+#[cfg(test)]
+mod connection_tests;
+#[cfg(test)]
+mod fork_tests;
 #[cfg(test)]
 mod signal_tests;
 #[cfg(test)]

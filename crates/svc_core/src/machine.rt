@@ -12,31 +12,40 @@ ghost use Rattle.svc_record.specs.Descriptors.{numbers_of, live_table};
 ghost use Rattle.svc_record.specs.Offer.{is_upgrade, is_empty_table};
 ghost use Rattle.svc_record.specs.Plans.{service_count};
 ghost use Rattle.svc_record.specs.Starts.{is_ready};
-ghost use Rattle.svc_record.specs.Fits.{Fits};
 ghost use Rattle.svc_record.specs.Right.{Right};
 ghost use Rattle.svc_record.specs.Told.{Tells, TellsBoth};
-ghost use Rattle.svc_record.specs.Validity.{IsValid, IsBuilt};
+ghost use Rattle.svc_record.specs.Validity.{IsValid};
+ghost use Rattle.svc_record.specs.Judging.{TellsJudged, judged_at, asked_filter};
 ghost use Rattle.svc_boot.specs.BootState.{is_trying};
 ghost use Rattle.svc_fds.specs.declared.encoding.Message.{Message};
 ghost use Rattle.svc_endpoints.specs.EndpointsState.{EndpointsStand, open_numbers as table_numbers};
 ghost use Rattle.svc_offer.specs.OfferState.{is_connecting};
 ghost use Rattle.svc_offer.specs.OfferEffects.{event_of, is_awaited};
 ghost use Rattle.svc_drain.specs.DrainEffects.{end_told};
-ghost use Rattle.svc_core.specs.Copies.{TellsBare, TellsCopied, copy_at};
+ghost use Rattle.svc_connections.specs.ConnectionsState.{numbers};
+ghost use Rattle.svc_connections.specs.ConnectionsEffects.{cuts};
+ghost use Rattle.svc_core.specs.Copies.{TellsBare, TellsCopied, copy_of, message_at, copy_at};
 ghost use Rattle.svc_core.specs.CoreData.{is_on, is_served, with_end};
 ghost use Rattle.svc_core.specs.Passes.{may_start, begin_room};
 ghost use Rattle.svc_core.specs.Stands.{StandsFor, HasNotBegun, Follows, Ripe, Visited, Tried, StepRight, MayCome, RowMayCome, ReadyMayCome, EndedMayCome, ReceivedMayCome, BoundMayCome, BindMayBeAnswered, AdoptMayBeAnswered, LoopMayEnd, StepKeeps, BeginKeeps, ClosesAll};
 ghost use Rattle.svc_core.specs.Signals.{offers_by, is_reached};
-ghost use Rattle.svc_core.specs.Rooms.{TellsWithin, KeepsRoom, tell_room, step_room, close_room, close_need, open_numbers, left_numbers};
+ghost use Rattle.svc_core.specs.Rooms.{TellsWithin, KeepsRoom, tell_room, step_room, close_room, close_need, open_numbers, open_connections, open_count, most_open, left_numbers};
 
-use crate::copies::repeat;
+mod closing;
+mod connecting;
+mod fitting;
+mod forking;
+
+use crate::copies::{SecondCopy, repeat};
+use crate::ends::{is_on, is_served};
 use crate::pass::pass;
-use crate::plans::{address_of, endpoint_count, is_notifying, may_end, service_count};
+use crate::plans::{address_of, asked_filter};
 use crate::starts::Starts;
 use std::alloc::Global;
 use std::marker::Model;
 use svc_boot::Boot;
 use svc_conf::NoMemory;
+use svc_connections::{Connections, settings_of};
 use svc_drain::Drain;
 use svc_endpoints::Endpoints;
 use svc_fds::{Message, SendAnswer};
@@ -54,6 +63,7 @@ pub struct Core {
     boot: Boot,
     offer: Offer,
     drain: Drain,
+    connections: Connections,
     end: StepEnd,
 }
 
@@ -62,30 +72,15 @@ impl Model for Core {
 
     ghost Value = { CoreData };
 
-    ghost view = { λ c. record { plan = c.plan; order = c.order.items; starts = c.starts; endpoints = c.endpoints.parts; boot = c.boot; offer = c.offer; drain = c.drain; end = c.end } };
+    ghost view = { λ c. record { plan = c.plan; order = c.order.items; starts = c.starts; endpoints = c.endpoints.parts; boot = c.boot; offer = c.offer; drain = c.drain; connections = c.connections.parts; end = c.end } };
 
     ghost invariant = { λ c. IsFormed c.plan c.order.items c.starts c.endpoints.parts };
-}
-
-/// The run goes on.
-fn is_on(end: StepEnd) -> bool
-    ensures { result ≡ is_on end }
-{
-    matches!(end, StepEnd::On)
-}
-
-/// The run went through its shutdown.
-fn is_served(end: StepEnd) -> bool
-    ensures { result ≡ is_served end }
-{
-    matches!(end, StepEnd::Served)
 }
 
 impl Core {
     /// A core that has told nothing yet.
     pub fn new(alloc: Global, plan: Plan) -> Result<Core, NoMemory>
         requires valid { IsValid plan }
-        requires built { IsBuilt plan }
         ensures plan { IfOk result (λ core. core.plan ≡ plan) }
         ensures first { IfOk result HasNotBegun }
     {
@@ -94,6 +89,7 @@ impl Core {
         let endpoints = Endpoints::new(alloc, &plan)?;
         let boot = Boot::new(plan.limit);
         let offer = Offer::new(plan.limit);
+        let connections = Connections::new(alloc);
         Ok(Core {
             plan,
             order,
@@ -102,6 +98,7 @@ impl Core {
             boot,
             offer,
             drain: Drain::new(),
+            connections,
             end: StepEnd::On,
         })
     }
@@ -118,14 +115,16 @@ impl Core {
     pub fn step_room(&self) -> u64
         ensures { result ≡ step_room self.now }
     {
-        4 * self.order.len() as u64 + 2 * self.endpoints.open_len() as u64 + 160
+        let open = self.endpoints.open_len() as u64 + self.connections.live_len() as u64;
+        4 * self.order.len() as u64 + 2 * open + 160
     }
 
     /// How many actions the next step, and a `close_all` after it, tell at most.
     fn tell_room(&self) -> u64
         ensures { result ≡ tell_room self.now }
     {
-        2 * self.order.len() as u64 + self.endpoints.open_len() as u64 + 80
+        let open = self.endpoints.open_len() as u64 + self.connections.live_len() as u64;
+        2 * self.order.len() as u64 + open + 80
     }
 
     /// Whether the watched service is ready: its word came, or its work is done, or it has failed,
@@ -142,137 +141,44 @@ impl Core {
         )
     }
 
-    /// Whether the event may come now.
-    pub fn fits(&self, event: &Event) -> bool
-        ensures may { IsTrue result ↔ MayCome self.now event.now }
-        ensures means { (q : Record) → StandsFor self.now q → IsTrue result ↔ Fits self.now.plan q event.now }
+    /// The filter that is asked at the event: the endpoint's, where a connection arrived whose peer
+    /// is known.
+    pub fn asks(&self, event: &Event) -> Option<u32>
+        ensures { result ≡ asked_filter self.now.plan event.now }
     {
-        if !is_on(self.end) {
-            return false;
-        }
-        match event {
-            Event::Moment(ms) => self.drain.moment() <= *ms,
-            Event::Ready(s) => self.ready_fits(*s),
-            Event::Ended(s) => self.ended_fits(*s),
-            Event::Bound(s, i, fd) => self.bound_fits(*s, *i, *fd),
-            Event::InUse(s, i) => self.bind_answer_fits(*s, *i),
-            Event::BindFailed(s, i) => self.bind_answer_fits(*s, *i),
-            Event::Adopted(s, i) => self.adopt_answer_fits(*s, *i),
-            Event::AdoptFailed(s, i) => self.adopt_answer_fits(*s, *i),
-            Event::Received(_, fds) => self.received_fits(fds.as_slice()),
-            Event::NoSenderYet => self.boot.is_trying(),
-            Event::ReceiveFailed => self.boot.is_trying(),
-            Event::Connected => self.offer.is_connecting(),
-            Event::NotThere => self.offer.is_connecting(),
-            Event::StillConnecting => self.offer.is_connecting(),
-            Event::ConnectFailed => self.offer.is_connecting(),
-            Event::Sent => self.offer.is_sending(),
-            Event::SendBusy => self.offer.is_sending(),
-            Event::SendFailed => self.offer.is_sending(),
-            Event::LoopEnded(s, i, j) => self.loop_fits(*s, *i, *j),
-            Event::Signal(_) => self.drain.is_running(),
-            _ => false,
-        }
+        asked_filter(&self.plan, event)
     }
 
-    /// A try is open, and the message brings few descriptors, which are new.
-    fn received_fits(&self, fds: &[u64]) -> bool
-        ensures { IsTrue result ↔ ReceivedMayCome self.now fds.now }
-    {
-        self.boot.is_trying() && fds.len() <= 32 && self.endpoints.are_new(fds)
-    }
-
-    fn ready_fits(&self, s: u32) -> bool
-        ensures { IsTrue result ↔ ReadyMayCome self.now s }
-    {
-        if s as usize >= service_count(&self.plan) || !is_notifying(&self.plan, s) {
-            return false;
-        }
-        self.starts.is_started(&self.plan, s) && !self.starts.has_ready(&self.plan, s)
-    }
-
-    fn ended_fits(&self, s: u32) -> bool
-        ensures { IsTrue result ↔ EndedMayCome self.now s }
-    {
-        if s as usize >= service_count(&self.plan) || !may_end(&self.plan, s) {
-            return false;
-        }
-        self.starts.is_started(&self.plan, s) && !self.starts.has_ended(&self.plan, s)
-    }
-
-    fn bound_fits(&self, s: u32, i: u32, fd: u64) -> bool
-        ensures { IsTrue result ↔ BoundMayCome self.now s i fd }
-    {
-        self.bind_answer_fits(s, i) && !self.endpoints.has_number(fd)
-    }
-
-    /// The service has the endpoint, and its bind is open.
-    fn bind_answer_fits(&self, s: u32, i: u32) -> bool
-        ensures { IsTrue result ↔ BindMayBeAnswered self.now s i }
-    {
-        if s as usize >= service_count(&self.plan) || i as usize >= endpoint_count(&self.plan, s) {
-            return false;
-        }
-        self.endpoints.is_binding(&self.plan, s, i)
-    }
-
-    /// The service has the endpoint, and its adoption is open.
-    fn adopt_answer_fits(&self, s: u32, i: u32) -> bool
-        ensures { IsTrue result ↔ AdoptMayBeAnswered self.now s i }
-    {
-        if s as usize >= service_count(&self.plan) || i as usize >= endpoint_count(&self.plan, s) {
-            return false;
-        }
-        self.endpoints.is_adopting(&self.plan, s, i)
-    }
-
-    /// The broadcast was told, the service serves, and the loop is one of its endpoint's and goes on.
-    fn loop_fits(&self, s: u32, i: u32, j: u64) -> bool
-        ensures { IsTrue result ↔ LoopMayEnd self.now s i j }
-    {
-        if s as usize >= service_count(&self.plan) || !self.drain.has_broadcast() {
-            return false;
-        }
-        let started = self.starts.is_started(&self.plan, s);
-        self.endpoints.loop_fits(&self.plan, s, i, j, started)
-    }
-
-    /// The first step: it begins to bootstrap where that comes first, starts what is due, asks for
-    /// endpoints, and tells that the server runs. After `NoMemory` nothing has changed.
+    /// The first step: a daemon asks for its fork; and else it begins to bootstrap where that comes
+    /// first, starts what is due, asks for endpoints, and tells that the server runs. After `NoMemory`
+    /// nothing has changed.
     pub fn begin(&mut self, alloc: Global, actions: &mut Actions) -> Result<StepEnd, NoMemory>
         requires first { HasNotBegun self.old }
         ensures plan { IfOk result (λ _. self.new.plan ≡ self.old.plan) }
         ensures refused { OnErr result (self.new ≡ self.old) }
         ensures untold { OnErr result (list_of actions.new ≡ list_of actions.old) }
         ensures kept { IfOk result (λ end. BeginKeeps self.new (list_of actions.old) (list_of actions.new) end) }
+        ensures judged { OnOk result (TellsJudged [] (list_of actions.old) (list_of actions.new)) }
         ensures few { OnOk result (TellsWithin self.old self.new actions.old actions.new) }
         ensures room { KeepsRoom self.old self.new actions.old actions.new }
     {
         actions.reserve(alloc, self.tell_room())?;
-        if self.is_eager() {
-            self.boot.begin(&self.plan, self.drain.moment(), actions);
-            return Ok(self.finish(None, actions));
+        if self.is_daemon() {
+            return Ok(self.ask_fork(actions));
         }
-        Ok(self.finish(None, actions))
-    }
-
-    /// Bootstrapping comes before the services.
-    fn is_eager(&self) -> bool
-        ensures { result ≡ self.now.plan.eager }
-    {
-        self.plan.eager
+        Ok(self.bootstrap(actions))
     }
 
     /// What follows from an event: bootstrapping is completed, services are visited, the server runs,
     /// a handover is tried for again, and what is due of the offer and of the signal is told. Where
     /// the event ended the run, nothing follows. The copy is of the message, where its send is due.
     fn finish(&mut self, copy: Option<Message>, actions: &mut Actions) -> StepEnd
-        requires room { 2 * length self.old.order + begin_room self.old.boot + length self.old.endpoints.table + 11 ≤ spare actions.old }
+        requires room { 2 * length self.old.order + begin_room self.old.boot + most_open self.old + 11 ≤ spare actions.old }
         ensures plan { self.new.plan ≡ self.old.plan }
         ensures kept { Follows self.old self.new copy (list_of actions.old) (list_of actions.new) result }
-        ensures copied { TellsCopied copy (list_of actions.old) (list_of actions.new) }
-        ensures few { length (list_of actions.new) + length (open_numbers self.new) ≤ length (list_of actions.old) + (2 * length self.old.order + begin_room self.old.boot + length self.old.endpoints.table + 11) }
-        ensures room { spare actions.old + length (open_numbers self.new) ≤ spare actions.new + (2 * length self.old.order + begin_room self.old.boot + length self.old.endpoints.table + 11) }
+        ensures copied { TellsCopied (copy_of copy) (list_of actions.old) (list_of actions.new) }
+        ensures few { length (list_of actions.new) + open_count self.new ≤ length (list_of actions.old) + (2 * length self.old.order + begin_room self.old.boot + most_open self.old + 11) }
+        ensures room { spare actions.old + open_count self.new ≤ spare actions.new + (2 * length self.old.order + begin_room self.old.boot + most_open self.old + 11) }
     {
         self.end = self.boot.end(&self.plan);
         if !is_on(self.end) {
@@ -289,6 +195,7 @@ impl Core {
         ensures plan { self.new.plan ≡ self.old.plan }
         ensures order { self.new.order ≡ self.old.order }
         ensures table { self.new.endpoints.table ≡ self.old.endpoints.table }
+        ensures connections { self.new.connections ≡ self.old.connections }
         ensures kept { Tells (list_of actions.old) (list_of actions.new) (λ told. (copy : Option Message) (q : Record) → Ripe self.old copy q → Visited self.new copy (tell q told)) }
         ensures bare { TellsBare (list_of actions.old) (list_of actions.new) }
         ensures few { length (list_of actions.new) ≤ length (list_of actions.old) + (2 * length self.old.order + begin_room self.old.boot) }
@@ -307,22 +214,22 @@ impl Core {
         }
     }
 
-    /// Bootstrapping is complete, or needn't be.
+    /// No fork is awaited, and bootstrapping is complete, or needn't be.
     fn may_start(&self) -> bool
         ensures { result ≡ may_start self.now.plan self.now.boot }
     {
-        !self.plan.eager || self.boot.is_complete()
+        self.boot.is_free(&self.plan) && (!self.plan.eager || self.boot.is_complete())
     }
 
     /// The server runs, a handover is tried for again, and the offer and the signal are answered,
     /// unless the run was tested.
     fn go_on(&mut self, copy: Option<Message>, actions: &mut Actions) -> StepEnd
-        requires room { length self.old.endpoints.table + 10 ≤ spare actions.old }
+        requires room { most_open self.old + 10 ≤ spare actions.old }
         ensures plan { self.new.plan ≡ self.old.plan }
         ensures kept { Tells (list_of actions.old) (list_of actions.new) (λ told. (q : Record) → Visited self.old copy q → StepRight self.new (tell q told) result) }
-        ensures copied { TellsCopied copy (list_of actions.old) (list_of actions.new) }
-        ensures few { length (list_of actions.new) + length (open_numbers self.new) ≤ length (list_of actions.old) + length self.old.endpoints.table + 10 }
-        ensures room { spare actions.old + length (open_numbers self.new) ≤ spare actions.new + length self.old.endpoints.table + 10 }
+        ensures copied { TellsCopied (copy_of copy) (list_of actions.old) (list_of actions.new) }
+        ensures few { length (list_of actions.new) + open_count self.new ≤ length (list_of actions.old) + most_open self.old + 10 }
+        ensures room { spare actions.old + open_count self.new ≤ spare actions.new + most_open self.old + 10 }
     {
         self.end = self.boot.end(&self.plan);
         if !is_on(self.end) {
@@ -340,12 +247,12 @@ impl Core {
     /// Tells what follows the signal, and asks the successor for what is due of the offer. The run
     /// ends where all the signal's waits have passed.
     fn answer(&mut self, copy: Option<Message>, actions: &mut Actions) -> StepEnd
-        requires room { length self.old.endpoints.table + 8 ≤ spare actions.old }
+        requires room { most_open self.old + 8 ≤ spare actions.old }
         ensures plan { self.new.plan ≡ self.old.plan }
         ensures kept { Tells (list_of actions.old) (list_of actions.new) (λ told. (q : Record) → Tried self.old copy q → StepRight self.new (tell q told) result) }
-        ensures copied { TellsCopied copy (list_of actions.old) (list_of actions.new) }
-        ensures few { length (list_of actions.new) + length (open_numbers self.new) ≤ length (list_of actions.old) + length self.old.endpoints.table + 8 }
-        ensures room { spare actions.old + length (open_numbers self.new) ≤ spare actions.new + length self.old.endpoints.table + 8 }
+        ensures copied { TellsCopied (copy_of copy) (list_of actions.old) (list_of actions.new) }
+        ensures few { length (list_of actions.new) + open_count self.new ≤ length (list_of actions.old) + most_open self.old + 8 }
+        ensures room { spare actions.old + open_count self.new ≤ spare actions.new + most_open self.old + 8 }
     {
         let over = self.offer.over_since();
         let passed = self.drain.go_on(&self.plan, over, actions);
@@ -356,15 +263,16 @@ impl Core {
         self.end
     }
 
-    /// The live descriptors close, and the run ends.
+    /// The live connections are cut, the live descriptors close, and the run ends.
     fn end_run(&mut self, actions: &mut Actions) -> StepEnd
-        requires room { length self.old.endpoints.table + 3 ≤ spare actions.old }
+        requires room { most_open self.old + 3 ≤ spare actions.old }
         ensures after { self.new ≡ with_end StepEnd.Served self.old }
         ensures end { result ≡ StepEnd.Served }
-        ensures told { list_of actions.new ≡ list_of actions.old ++ end_told self.old.plan self.old.drain (table_numbers self.old.endpoints) }
-        ensures room { spare actions.old ≤ spare actions.new + (length self.old.endpoints.table + 3) }
+        ensures told { list_of actions.new ≡ list_of actions.old ++ end_told self.old.plan self.old.drain (numbers self.old.connections.live) (table_numbers self.old.endpoints) }
+        ensures room { spare actions.old ≤ spare actions.new + (most_open self.old + 3) }
     {
         self.drain.shut_down(actions);
+        self.connections.cut_all(actions);
         self.endpoints.close_open(actions);
         self.drain.stop(&self.plan, actions);
         self.end = StepEnd::Served;
@@ -377,7 +285,7 @@ impl Core {
         &mut self,
         alloc: Global,
         event: &Event,
-        _said: bool,
+        said: bool,
         actions: &mut Actions,
     ) -> Result<StepEnd, NoMemory>
         requires fits { MayCome self.old event.now }
@@ -387,6 +295,7 @@ impl Core {
         ensures kept { IfOk result (λ end. StepKeeps self.old self.new event.now (list_of actions.old) (list_of actions.new) end) }
         ensures later { (kind : ShutdownSignal) → event.now ≡ Event.Signal kind → is_some self.old.drain.signal ≡ true → OnOk result (self.new ≡ self.old) × OnOk result (list_of actions.new ≡ list_of actions.old) }
         ensures copied { OnOk result (TellsCopied (copy_at self.old event.now) (list_of actions.old) (list_of actions.new)) }
+        ensures judged { OnOk result (TellsJudged (judged_at self.old.plan event.now said) (list_of actions.old) (list_of actions.new)) }
         ensures few { OnOk result (TellsWithin self.old self.new actions.old actions.new) }
         ensures room { KeepsRoom self.old self.new actions.old actions.new }
     {
@@ -412,9 +321,19 @@ impl Core {
             Event::Sent => Ok(self.step_answer(SendAnswer::Sent, actions)),
             Event::SendBusy => Ok(self.step_answer(SendAnswer::SendBusy, actions)),
             Event::SendFailed => Ok(self.step_answer(SendAnswer::SendFailed, actions)),
+            Event::Arrived(s, i, c, peer) => {
+                self.step_arrived(alloc, *s, *i, *c, peer, said, actions)
+            }
+            Event::AcceptFailed(s, i, n) => Ok(self.step_accept_failed(*s, *i, *n, actions)),
+            Event::Set(c, ok) => Ok(self.step_set(*c, *ok, actions)),
+            Event::Shaken(c, ok) => Ok(self.step_shaken(*c, *ok, actions)),
+            Event::Finished(c) => Ok(self.step_finished(*c, actions)),
             Event::LoopEnded(s, i, j) => self.step_loop_ended(*s, *i, *j, actions),
             Event::Signal(kind) => self.step_signal(alloc, *kind, actions),
-            _ => unreachable!(),
+            Event::Side(side) => Ok(self.step_side(*side, actions)),
+            Event::ChildReady => Ok(self.step_child_ready(actions)),
+            Event::ChildGone => Ok(self.step_parent_failure(event, actions)),
+            Event::DropFailed => Ok(self.step_parent_failure(event, actions)),
         }
     }
 
@@ -434,6 +353,7 @@ impl Core {
         ensures untold { OnErr result (list_of actions.new ≡ list_of actions.old) }
         ensures untold_again { OnErr result (list_of again.new ≡ list_of again.old) }
         ensures kept { IfOk result (λ end. StepKeeps self.old self.new event.now (list_of actions.old) (list_of actions.new) end) }
+        ensures judged { OnOk result (TellsJudged (judged_at self.old.plan event.now said) (list_of actions.old) (list_of actions.new)) }
         ensures twice { OnOk result (TellsBoth (list_of actions.old) (list_of actions.new) (list_of again.old) (list_of again.new)) }
         ensures few { OnOk result (TellsWithin self.old self.new actions.old actions.new) }
         ensures room { KeepsRoom self.old self.new actions.old actions.new }
@@ -446,9 +366,23 @@ impl Core {
         Ok(end)
     }
 
-    /// A copy of the message, where the event lets its send fall due.
-    fn copy_at(&self, alloc: Global, event: &Event) -> Result<Option<Message>, NoMemory>
+    /// A copy of what the event's step may tell that owns memory: an endpoint's settings where a
+    /// connection arrived, else the message.
+    fn copy_at(&self, alloc: Global, event: &Event) -> Result<SecondCopy, NoMemory>
+        requires fits { MayCome self.now event.now }
         ensures { IfOk result (λ copy. copy ≡ copy_at self.now event.now) }
+    {
+        match event {
+            Event::Arrived(s, i, _, _) => Ok(SecondCopy::OfSettings(settings_of(
+                alloc, &self.plan, *s, *i,
+            )?)),
+            _ => Ok(SecondCopy::of_message(self.message_at(alloc, event)?)),
+        }
+    }
+
+    /// A copy of the message, where the event lets its send fall due.
+    fn message_at(&self, alloc: Global, event: &Event) -> Result<Option<Message>, NoMemory>
+        ensures { IfOk result (λ copy. copy ≡ message_at self.now event.now) }
     {
         if !self.offer.sends_at(event) {
             return Ok(None);
@@ -456,7 +390,7 @@ impl Core {
         self.offer.copy_for(alloc, event)
     }
 
-    /// Rests and waits that are over end with it.
+    /// Rests and waits that are over end with it, and so may the wait of a parent.
     fn step_moment(
         &mut self,
         alloc: Global,
@@ -474,7 +408,10 @@ impl Core {
         ensures few { OnOk result (TellsWithin self.old self.new actions.old actions.new) }
         ensures room { KeepsRoom self.old self.new actions.old actions.new }
     {
-        let copy = self.copy_at(alloc, &Event::Moment(ms))?;
+        if self.is_held() {
+            return Ok(self.step_waiting(ms, actions));
+        }
+        let copy = self.message_at(alloc, &Event::Moment(ms))?;
         self.drain.take_moment(ms);
         Ok(self.finish(copy, actions))
     }
@@ -673,7 +610,7 @@ impl Core {
         ensures few { OnOk result (TellsWithin self.old self.new actions.old actions.new) }
         ensures room { KeepsRoom self.old self.new actions.old actions.new }
     {
-        let copy = self.copy_at(alloc, &Event::Connected)?;
+        let copy = self.message_at(alloc, &Event::Connected)?;
         self.offer.take(SendAnswer::Connected, self.drain.moment());
         Ok(self.finish(copy, actions))
     }
@@ -763,41 +700,5 @@ impl Core {
         ensures { (q : Record) → EndpointsStand self.now.plan self.now.endpoints q → result ≡ offers_by kind (is_empty_table (live_table self.now.plan q)) }
     {
         matches!(kind, ShutdownSignal::GracefulUpgrade) && self.endpoints.offers_anything()
-    }
-
-    /// Closes each live descriptor in ascending number, and then what the event brought that was
-    /// left unfinished. A caller who had `step_room` before a step has the room after it.
-    pub fn close_all(&self, also: Option<&Event>, actions: &mut Actions)
-        requires room { close_need self.now (option_copied also) ≤ spare actions.old }
-        ensures closes { (q : Record) → StandsFor self.now q → ClosesAll self.now.plan q (option_copied also.entry) (list_of actions.old) (list_of actions.new) }
-        ensures few { length (list_of actions.new) ≤ length (list_of actions.old) + close_need self.now (option_copied also.entry) }
-    {
-        self.close_open(actions);
-        if let Some(event) = also {
-            self.close_brought(event, actions);
-        }
-    }
-
-    fn close_open(&self, actions: &mut Actions)
-        requires room { length (open_numbers self.now) ≤ spare actions.old }
-        ensures told { list_of actions.new ≡ list_of actions.old ++ map Close (open_numbers self.now) }
-        ensures room { spare actions.old ≤ spare actions.new + length (open_numbers self.now) }
-    {
-        if !is_served(self.end) {
-            self.endpoints.close_open(actions);
-        }
-    }
-
-    /// Closes what the event brought that came with no earlier one.
-    fn close_brought(&self, event: &Event, actions: &mut Actions)
-        requires room { length (numbers_of (Got event.now)) ≤ spare actions.old }
-        ensures told { list_of actions.new ≡ list_of actions.old ++ map Close (left_numbers self.now event.now) }
-        ensures few { length (left_numbers self.now event.now) ≤ length (numbers_of (Got event.now)) }
-    {
-        match event {
-            Event::Bound(_, _, fd) => self.endpoints.close_new(&[*fd], actions),
-            Event::Received(_, fds) => self.endpoints.close_new(fds.as_slice(), actions),
-            _ => {}
-        }
     }
 }

@@ -2,7 +2,7 @@
 
 ghost use Rattle.std.specs.Prelude.{◌≡◌, ◌+◌, ◌*◌, ◌-◌, ◌<◌, ◌≤◌, length, true, false};
 ghost use Rattle.svc_conf.specs.Items.{list_of, spare};
-ghost use Rattle.svc_record.specs.Validity.{IsValid, IsBuilt, IsInOrder};
+ghost use Rattle.svc_record.specs.Validity.{IsValid, IsInOrder};
 ghost use Rattle.svc_endpoints.specs.EndpointsState.{IsEndpointsSized};
 ghost use Rattle.svc_core.specs.Copies.{TellsBare};
 ghost use Rattle.svc_core.specs.StartsState.{IsStartsSized};
@@ -35,7 +35,6 @@ fn start(
     actions: &mut Actions,
 )
     requires valid { IsValid plan.now }
-    requires built { IsBuilt plan.now }
     requires order { IsInOrder plan.now order.now }
     requires place { k < length order.now }
     requires starts_sized { IsStartsSized plan.now starts.old }
@@ -69,7 +68,6 @@ fn visit(
     actions: &mut Actions,
 )
     requires valid { IsValid plan.now }
-    requires built { IsBuilt plan.now }
     requires order { IsInOrder plan.now order.now }
     requires place { k < length order.now }
     requires starts_sized { IsStartsSized plan.now starts.old }
@@ -106,7 +104,6 @@ pub(crate) fn pass(
     actions: &mut Actions,
 )
     requires valid { IsValid plan.now }
-    requires built { IsBuilt plan.now }
     requires order { IsInOrder plan.now order.now }
     requires starts_sized { IsStartsSized plan.now starts.old }
     requires ends_sized { IsEndpointsSized plan.now endpoints.old.parts }

@@ -92,7 +92,6 @@ pub(crate) fn begun_by(
 ) -> Result<Core, Fail> {
     let is_valid = plan.valid(alloc)?;
     assert!(rt; is_valid);
-    assert!(rt; plan.is_built());
     let mut core = Core::new(alloc, plan)?;
     let mut actions = Actions::new(alloc);
     assert_eq!(rt; core.begin(alloc, &mut actions)?, end);

@@ -45,7 +45,6 @@ fn a_step_tells_two_lists(rt: HostRuntime) -> Result<(), Fail> {
     let plan = plan(alloc)?;
     let is_valid = plan.valid(alloc)?;
     assert!(rt; is_valid);
-    assert!(rt; plan.is_built());
     let mut core = Core::new(alloc, plan)?;
     let mut actions = Actions::new(alloc);
     core.begin(alloc, &mut actions)?;

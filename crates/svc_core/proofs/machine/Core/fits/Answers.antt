@@ -1,10 +1,13 @@
-use Rattle.std.proofs.Common.{◌≡◌, ◌≤◌, ap, subst, true, false, sym, ◌∙◌}
+use Rattle.std.proofs.Common.{◌≡◌, ◌≤◌, ap, subst, true, false, refl, sym, ◌∙◌}
 use Rattle.std.proofs.lemmas.Bool.{leb-true, le-leb}
 use Rattle.svc_endpoints.specs.EndpointsState.{IsEndpointsSized}
+use Rattle.svc_boot.specs.ForkState.{is_asked, is_waiting}
 use Rattle.svc_boot.specs.BootState.{is_trying}
 use Rattle.svc_offer.specs.OfferState.{is_connecting, is_sending}
+use Rattle.svc_record.specs.declared.event.Event.TheVariants.{ChildReady, ChildGone, DropFailed}
+use Rattle.svc_connections.specs.ConnectionsState.{is_setting, is_shaking, is_serving, stage_of}
 use Rattle.svc_core.specs.CoreData.{CoreData, is_on}
-use Rattle.svc_core.proofs.FitsLemmas.{loop-fits, ready-fits, ended-fits, bound-fits, bind-fits, adopt-fits, received-fits, try-fits, moment-fits, connect-fits, send-fits, kind-fits, ended-none, default-row}
+use Rattle.svc_core.proofs.FitsLemmas.{loop-fits, ready-fits, ended-fits, bound-fits, bind-fits, adopt-fits, received-fits, try-fits, moment-fits, connect-fits, send-fits, kind-fits, ended-none, arrived-fits, accept-fits, set-fits, shaken-fits, finished-fits, side-fits, parent-fits}
 use Rattle.svc_core.proofs.machine.Core.fits.Goals as goal
 
 pub returns-then-not-is_on-clause-means : goal.returns-then-not-is_on-clause-means
@@ -162,12 +165,72 @@ returns-in-Signal-clause-means c = λ q stands. (
       λ fit. runs ∙ both.1 (rw c.in-Signal.is at fit),
     ))
 
-pub returns-in_default : goal.returns-in_default
-returns-in_default c =
-    let none = default-row c.args.self.now c.args.event.now c.in_default.not-Moment c.in_default.not-Ready c.in_default.not-Ended c.in_default.not-Bound c.in_default.not-InUse c.in_default.not-BindFailed c.in_default.not-Adopted
-    c.in_default.not-AdoptFailed c.in_default.not-Received c.in_default.not-NoSenderYet c.in_default.not-ReceiveFailed c.in_default.not-Connected c.in_default.not-NotThere c.in_default.not-StillConnecting c.in_default.not-ConnectFailed
-    c.in_default.not-Sent c.in_default.not-SendBusy c.in_default.not-SendFailed c.in_default.not-LoopEnded c.in_default.not-Signal in
-    record {
-      may = (λ x. absurd (let off = x in cc), λ may. absurd (none.0 may.1));
-      means = λ q stands. (λ x. absurd (let off = x in cc), λ fit. absurd (none.1 c.args.self.now.plan q fit));
-    }
+pub returns-in-Arrived-clause-means : goal.returns-in-Arrived-clause-means
+returns-in-Arrived-clause-means c = λ q stands. (
+    let both = arrived-fits c.args.self.now q (subst (λ (core : CoreData). is_on core.end ≡ true) c.self.view_is (sym c.is_on.ensures ∙ c.if-not-is_on.false)) stands (subst (λ (core : CoreData). IsEndpointsSized core.plan core.endpoints) c.self.view_is c.self.invariant.endpoints) c.in-Arrived.s c.in-Arrived.i c.in-Arrived.c c.in-Arrived.field-3 in (
+      λ holds. rw c.in-Arrived.is (both.0 (c.arrived_fits.ensures.0 holds)),
+      λ fit. c.arrived_fits.ensures.1 (both.1 (rw c.in-Arrived.is at fit)),
+    ))
+
+pub returns-in-AcceptFailed-clause-means : goal.returns-in-AcceptFailed-clause-means
+returns-in-AcceptFailed-clause-means c = λ q stands. (
+    let both = accept-fits c.args.self.now q (subst (λ (core : CoreData). is_on core.end ≡ true) c.self.view_is (sym c.is_on.ensures ∙ c.if-not-is_on.false)) stands (subst (λ (core : CoreData). IsEndpointsSized core.plan core.endpoints) c.self.view_is c.self.invariant.endpoints) c.in-AcceptFailed.s c.in-AcceptFailed.i c.in-AcceptFailed.field-2 in (
+      λ holds. rw c.in-AcceptFailed.is (both.0 (c.accepts.ensures.0 holds)),
+      λ fit. c.accepts.ensures.1 (both.1 (rw c.in-AcceptFailed.is at fit)),
+    ))
+
+pub returns-in-Set-clause-means : goal.returns-in-Set-clause-means
+returns-in-Set-clause-means c = λ q stands. (
+    let both = set-fits c.args.self.now q (subst (λ (core : CoreData). is_on core.end ≡ true) c.self.view_is (sym c.is_on.ensures ∙ c.if-not-is_on.false)) stands c.in-Set.c c.in-Set.field-1 in
+    let stage = c.is_setting.ensures ∙ ap (λ (core : CoreData). is_setting (stage_of core.connections.live c.in-Set.c)) c.self.view_is in (
+      λ holds. rw c.in-Set.is (both.0 (sym stage ∙ holds)),
+      λ fit. stage ∙ both.1 (rw c.in-Set.is at fit),
+    ))
+
+pub returns-in-Shaken-clause-means : goal.returns-in-Shaken-clause-means
+returns-in-Shaken-clause-means c = λ q stands. (
+    let both = shaken-fits c.args.self.now q (subst (λ (core : CoreData). is_on core.end ≡ true) c.self.view_is (sym c.is_on.ensures ∙ c.if-not-is_on.false)) stands c.in-Shaken.c c.in-Shaken.field-1 in
+    let stage = c.is_shaking.ensures ∙ ap (λ (core : CoreData). is_shaking (stage_of core.connections.live c.in-Shaken.c)) c.self.view_is in (
+      λ holds. rw c.in-Shaken.is (both.0 (sym stage ∙ holds)),
+      λ fit. stage ∙ both.1 (rw c.in-Shaken.is at fit),
+    ))
+
+pub returns-in-Finished-clause-means : goal.returns-in-Finished-clause-means
+returns-in-Finished-clause-means c = λ q stands. (
+    let both = finished-fits c.args.self.now q (subst (λ (core : CoreData). is_on core.end ≡ true) c.self.view_is (sym c.is_on.ensures ∙ c.if-not-is_on.false)) stands c.in-Finished.c in
+    let stage = c.is_serving.ensures ∙ ap (λ (core : CoreData). is_serving (stage_of core.connections.live c.in-Finished.c)) c.self.view_is in (
+      λ holds. rw c.in-Finished.is (both.0 (sym stage ∙ holds)),
+      λ fit. stage ∙ both.1 (rw c.in-Finished.is at fit),
+    ))
+
+pub returns-in-Side-clause-means : goal.returns-in-Side-clause-means
+returns-in-Side-clause-means c = λ q stands. (
+    let both = side-fits c.args.self.now q (subst (λ (core : CoreData). is_on core.end ≡ true) c.self.view_is (sym c.is_on.ensures ∙ c.if-not-is_on.false)) stands c.in-Side.field-0 in
+    let asks = c.is_fork_asked.ensures ∙ ap (λ (core : CoreData). is_asked core.boot.fork) c.self.view_is in (
+      λ holds. rw c.in-Side.is (both.0 (sym asks ∙ holds)),
+      λ fit. asks ∙ both.1 (rw c.in-Side.is at fit),
+    ))
+
+pub returns-in-ChildReady-clause-means : goal.returns-in-ChildReady-clause-means
+returns-in-ChildReady-clause-means c = λ q stands. (
+    let both = parent-fits c.args.self.now q (subst (λ (core : CoreData). is_on core.end ≡ true) c.self.view_is (sym c.is_on.ensures ∙ c.if-not-is_on.false)) stands ChildReady refl in
+    let waits = c.is_parent_waiting.ensures ∙ ap (λ (core : CoreData). is_waiting core.boot.fork) c.self.view_is in (
+      λ holds. rw c.in-ChildReady.is (both.0 (sym waits ∙ holds)),
+      λ fit. waits ∙ both.1 (rw c.in-ChildReady.is at fit),
+    ))
+
+pub returns-in-ChildGone-clause-means : goal.returns-in-ChildGone-clause-means
+returns-in-ChildGone-clause-means c = λ q stands. (
+    let both = parent-fits c.args.self.now q (subst (λ (core : CoreData). is_on core.end ≡ true) c.self.view_is (sym c.is_on.ensures ∙ c.if-not-is_on.false)) stands ChildGone refl in
+    let waits = c.is_parent_waiting-in-ChildGone.ensures ∙ ap (λ (core : CoreData). is_waiting core.boot.fork) c.self.view_is in (
+      λ holds. rw c.in-ChildGone.is (both.0 (sym waits ∙ holds)),
+      λ fit. waits ∙ both.1 (rw c.in-ChildGone.is at fit),
+    ))
+
+pub returns-in-DropFailed-clause-means : goal.returns-in-DropFailed-clause-means
+returns-in-DropFailed-clause-means c = λ q stands. (
+    let both = parent-fits c.args.self.now q (subst (λ (core : CoreData). is_on core.end ≡ true) c.self.view_is (sym c.is_on.ensures ∙ c.if-not-is_on.false)) stands DropFailed refl in
+    let waits = c.is_parent_waiting-in-DropFailed.ensures ∙ ap (λ (core : CoreData). is_waiting core.boot.fork) c.self.view_is in (
+      λ holds. rw c.in-DropFailed.is (both.0 (sym waits ∙ holds)),
+      λ fit. waits ∙ both.1 (rw c.in-DropFailed.is at fit),
+    ))

@@ -11,9 +11,9 @@ use Rattle.svc_core.proofs.machine.Core.start_up.Goals as goal
 
 pub returns-then-may_start-clause-kept : goal.returns-then-may_start-clause-kept
 returns-then-may_start-clause-kept c =
-    let core : CoreData = record { plan = c.self.inside.plan; order = c.self.inside.order.items; starts = c.self.inside.starts; endpoints = c.self.inside.endpoints.parts; boot = c.self.inside.boot; offer = c.self.inside.offer; drain = c.self.inside.drain; end = c.self.inside.end } in
+    let core : CoreData = record { plan = c.self.inside.plan; order = c.self.inside.order.items; starts = c.self.inside.starts; endpoints = c.self.inside.endpoints.parts; boot = c.self.inside.boot; offer = c.self.inside.offer; drain = c.self.inside.drain; connections = c.self.inside.connections.parts; end = c.self.inside.end } in
     subst (λ (old : CoreData). Tells (list_of c.args.actions.now) (list_of c.pass.new.actions) (λ told. (copy : Option Message) (q : Record) → Ripe old copy q
-    → Visited (record { plan = c.self.inside.plan; order = c.self.inside.order.items; starts = c.pass.new.starts; endpoints = c.pass.new.endpoints.parts; boot = c.pass.new.boot; offer = c.self.inside.offer; drain = c.self.inside.drain; end = c.self.inside.end }) copy (tell q told)))
+    → Visited (record { plan = c.self.inside.plan; order = c.self.inside.order.items; starts = c.pass.new.starts; endpoints = c.pass.new.endpoints.parts; boot = c.pass.new.boot; offer = c.self.inside.offer; drain = c.self.inside.drain; connections = c.self.inside.connections.parts; end = c.self.inside.end }) copy (tell q told)))
     c.self.view_is
     (start-up core c.pass.new.starts c.pass.new.endpoints.parts c.pass.new.boot (list_of c.args.actions.now) (list_of c.pass.new.actions)
     (rw (← c.self.view_is) at (sym c.may_start.ensures ∙ c.if-may_start.true))

@@ -11,10 +11,10 @@ use Rattle.svc_core.proofs.machine.Core.step_answer.Goals as goal
 
 pub returns-then-is_some-clause-kept : goal.returns-then-is_some-clause-kept
 returns-then-is_some-clause-kept c =
-    let core : CoreData = record { plan = c.self.inside.plan; order = c.self.inside.order.items; starts = c.self.inside.starts; endpoints = c.self.inside.endpoints.parts; boot = c.self.inside.boot; offer = c.self.inside.offer; drain = c.self.inside.drain; end = c.self.inside.end } in
+    let core : CoreData = record { plan = c.self.inside.plan; order = c.self.inside.order.items; starts = c.self.inside.starts; endpoints = c.self.inside.endpoints.parts; boot = c.self.inside.boot; offer = c.self.inside.offer; drain = c.self.inside.drain; connections = c.self.inside.connections.parts; end = c.self.inside.end } in
     subst (λ (old : CoreData). StepKeeps old c.finish.new.self (event_of c.args.answer) (list_of c.args.actions.now) (list_of c.finish.new.actions) c.finish.result) c.self.view_is
-    (step-by core (record { plan = c.self.inside.plan; order = c.self.inside.order.items; starts = c.self.inside.starts; endpoints = c.release.new.self.parts; boot = c.self.inside.boot; offer = c.take.new.self; drain = c.self.inside.drain; end = c.self.inside.end }) c.finish.new.self (event_of c.args.answer) None (list_of c.args.actions.now) (list_of c.release.new.actions) (list_of c.finish.new.actions) c.finish.result c.finish.ensures.plan
-    (strike-ends core c.args.answer c.self.invariant.built.daemon_not (rw (← c.self.view_is) at c.requires.on) (rw (← c.self.view_is) at c.requires.may) c.take.new.self (rw c.moment.ensures at c.take.ensures.after) (rw c.moment.ensures at c.take.ensures.stands)
+    (step-by core (record { plan = c.self.inside.plan; order = c.self.inside.order.items; starts = c.self.inside.starts; endpoints = c.release.new.self.parts; boot = c.self.inside.boot; offer = c.take.new.self; drain = c.self.inside.drain; connections = c.self.inside.connections.parts; end = c.self.inside.end }) c.finish.new.self (event_of c.args.answer) None (list_of c.args.actions.now) (list_of c.release.new.actions) (list_of c.finish.new.actions) c.finish.result c.finish.ensures.plan
+    (strike-ends core c.args.answer (rw (← c.self.view_is) at c.requires.on) (rw (← c.self.view_is) at c.requires.may) c.take.new.self (rw c.moment.ensures at c.take.ensures.after) (rw c.moment.ensures at c.take.ensures.stands)
     c.release.new.self.parts (list_of c.args.actions.now) (list_of c.release.new.actions) c.over_since.result c.over_since.ensures (sym c.is_some.ensures ∙ c.if-is_some.true) c.requires.rests c.release.ensures.stands)
     c.finish.ensures.kept)
 
@@ -25,10 +25,10 @@ returns-then-is_some-clause-bare c =
 
 pub returns-clause-kept : goal.returns-clause-kept
 returns-clause-kept c =
-    let core : CoreData = record { plan = c.self.inside.plan; order = c.self.inside.order.items; starts = c.self.inside.starts; endpoints = c.self.inside.endpoints.parts; boot = c.self.inside.boot; offer = c.self.inside.offer; drain = c.self.inside.drain; end = c.self.inside.end } in
+    let core : CoreData = record { plan = c.self.inside.plan; order = c.self.inside.order.items; starts = c.self.inside.starts; endpoints = c.self.inside.endpoints.parts; boot = c.self.inside.boot; offer = c.self.inside.offer; drain = c.self.inside.drain; connections = c.self.inside.connections.parts; end = c.self.inside.end } in
     subst (λ (old : CoreData). StepKeeps old c.finish-2.new.self (event_of c.args.answer) (list_of c.args.actions.now) (list_of c.finish-2.new.actions) c.finish-2.result) c.self.view_is
-    (step-silent core (record { plan = c.self.inside.plan; order = c.self.inside.order.items; starts = c.self.inside.starts; endpoints = c.self.inside.endpoints.parts; boot = c.self.inside.boot; offer = c.take.new.self; drain = c.self.inside.drain; end = c.self.inside.end }) c.finish-2.new.self (event_of c.args.answer) None (list_of c.args.actions.now) (list_of c.finish-2.new.actions) c.finish-2.result c.finish-2.ensures.plan
-    (strike-rests core c.args.answer c.self.invariant.built.daemon_not (rw (← c.self.view_is) at c.requires.on) (rw (← c.self.view_is) at c.requires.may) c.take.new.self (rw c.moment.ensures at c.take.ensures.after) (rw c.moment.ensures at c.take.ensures.stands)
+    (step-silent core (record { plan = c.self.inside.plan; order = c.self.inside.order.items; starts = c.self.inside.starts; endpoints = c.self.inside.endpoints.parts; boot = c.self.inside.boot; offer = c.take.new.self; drain = c.self.inside.drain; connections = c.self.inside.connections.parts; end = c.self.inside.end }) c.finish-2.new.self (event_of c.args.answer) None (list_of c.args.actions.now) (list_of c.finish-2.new.actions) c.finish-2.result c.finish-2.ensures.plan
+    (strike-rests core c.args.answer (rw (← c.self.view_is) at c.requires.on) (rw (← c.self.view_is) at c.requires.may) c.take.new.self (rw c.moment.ensures at c.take.ensures.after) (rw c.moment.ensures at c.take.ensures.stands)
     c.over_since.result c.over_since.ensures (sym c.is_some.ensures ∙ c.if-is_some.false) c.requires.rests)
     c.finish-2.ensures.kept)
 

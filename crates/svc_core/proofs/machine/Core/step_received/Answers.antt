@@ -10,10 +10,10 @@ use Rattle.svc_core.proofs.machine.Core.step_received.Goals as goal
 
 pub returns-clause-kept : goal.returns-clause-kept
 returns-clause-kept c =
-    let core : CoreData = record { plan = c.self.inside.plan; order = c.self.inside.order.items; starts = c.self.inside.starts; endpoints = c.self.inside.endpoints.parts; boot = c.self.inside.boot; offer = c.self.inside.offer; drain = c.self.inside.drain; end = c.self.inside.end } in
+    let core : CoreData = record { plan = c.self.inside.plan; order = c.self.inside.order.items; starts = c.self.inside.starts; endpoints = c.self.inside.endpoints.parts; boot = c.self.inside.boot; offer = c.self.inside.offer; drain = c.self.inside.drain; connections = c.self.inside.connections.parts; end = c.self.inside.end } in
     subst (λ (old : CoreData). StepKeeps old c.finish.new.self (Received c.args.bytes.now c.args.fds.now) (list_of c.args.actions.now) (list_of c.finish.new.actions) c.finish.result) c.self.view_is
-    (step-by core (record { plan = c.self.inside.plan; order = c.self.inside.order.items; starts = c.self.inside.starts; endpoints = c.take_received.new.self.parts; boot = c.take_received-2.new.self; offer = c.self.inside.offer; drain = c.self.inside.drain; end = c.self.inside.end }) c.finish.new.self (Received c.args.bytes.now c.args.fds.now) None (list_of c.args.actions.now) (list_of c.take_received.new.actions) (list_of c.finish.new.actions) c.finish.result c.finish.ensures.plan
-    (strike-received core c.args.bytes.now c.args.fds.now c.in_ok-good.good c.take_received.new.self.parts c.take_received-2.new.self (list_of c.args.actions.now) (list_of c.take_received.new.actions) c.self.invariant.built.daemon_not (rw (← c.self.view_is) at c.requires.on) (rw (← c.self.view_is) at c.requires.may)
+    (step-by core (record { plan = c.self.inside.plan; order = c.self.inside.order.items; starts = c.self.inside.starts; endpoints = c.take_received.new.self.parts; boot = c.take_received-2.new.self; offer = c.self.inside.offer; drain = c.self.inside.drain; connections = c.self.inside.connections.parts; end = c.self.inside.end }) c.finish.new.self (Received c.args.bytes.now c.args.fds.now) None (list_of c.args.actions.now) (list_of c.take_received.new.actions) (list_of c.finish.new.actions) c.finish.result c.finish.ensures.plan
+    (strike-received core c.args.bytes.now c.args.fds.now c.in_ok-good.good c.take_received.new.self.parts c.take_received-2.new.self (list_of c.args.actions.now) (list_of c.take_received.new.actions) (rw (← c.self.view_is) at c.requires.on) (rw (← c.self.view_is) at c.requires.may)
     c.in_ok-good.ensures.good c.take_received-2.ensures.after (λ q. c.take_received-2.ensures.stands c.self.inside.plan q c.args.bytes.now c.args.fds.now c.in_ok-good.ensures.good) c.in_ok-good.ensures.stands)
     c.finish.ensures.kept)
 
