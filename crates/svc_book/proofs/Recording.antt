@@ -4,15 +4,15 @@ use Rattle.std.proofs.lemmas.Bool.{and_from, and_parts}
 use Rattle.svc_record.specs.declared.plan.Plan.{Plan}
 use Rattle.svc_record.specs.declared.action.Action.{Action}
 use Rattle.svc_record.specs.declared.action.StepEnd.{StepEnd}
-use Rattle.svc_record.specs.declared.action.Action.TheVariants.{Judged}
-use Rattle.svc_record.specs.declared.entry.Entry.TheVariants.{Got, Told}
+use Rattle.svc_record.specs.declared.entry.Entry.TheVariants.{Got}
 use Rattle.svc_record.specs.Record.{Record, tell}
 use Rattle.svc_record.specs.Right.{Right}
 use Rattle.svc_record.specs.Ends.{step_end}
-use Rattle.svc_record.specs.Journal.{PostData, record_after, action_as_said, told_as_said, posts_as_said}
-use Rattle.svc_core.specs.Forms.{is_built_entry, HasBuiltForms}
+use Rattle.svc_record.specs.Journal.{PostData, record_after, told_as_said, posts_as_said}
+use Rattle.svc_record.specs.Judging.{judged_at, judgements, TellsJudged}
 use Rattle.svc_core.specs.CoreData.{CoreData}
 use Rattle.svc_core.specs.Stands.{StandsFor, StepKeeps, BeginKeeps}
+use Rattle.svc_core.proofs.JudgedLemmas.{judged-said}
 use Rattle.svc_book.specs.BookData.{book}
 use Rattle.svc_book.specs.Journals.{record_of, IsLegal, end_after}
 
@@ -28,20 +28,6 @@ said-more plan q (x ∷ xs) p all last =
     let parts = and_parts first (posts_as_said plan after xs) all in
     and_from first (posts_as_said plan after (xs ++ p ∷ [])) parts.0 (said-more plan after xs p parts.1 last)
 
--- no built form judges a connection
-built-said : (plan : Plan) (q : Record) (said : Bool) (a : Action) → is_built_entry (Told a) ≡ true → action_as_said plan q said a ≡ true
-built-said plan q said (Judged c judged) h = absurd (cc)
-built-said plan q said _ h = refl
-
-forms-before : (q : Record) (told : List Action) → HasBuiltForms (tell q told) → HasBuiltForms q
-forms-before q [] h = h
-forms-before q (a ∷ more) h = (forms-before (Told a ∷ q) more h).1
-
-all-said : (plan : Plan) (q : Record) (said : Bool) (r : Record) (told : List Action) → HasBuiltForms (tell r told) → told_as_said plan q said told ≡ true
-all-said plan q said r [] h = refl
-all-said plan q said r (a ∷ more) h =
-    and_from (action_as_said plan q said a) (told_as_said plan q said more) (built-said plan q said a (forms-before (Told a ∷ r) more h).0) (all-said plan q said (Told a ∷ r) more h)
-
 -- what the book keeps
 pub record Stays (core : CoreData) (opening : List Action) (limit : ℕ) (posts : List PostData) : Type 0 where
   pub stands : StandsFor core (record_of (book core.plan opening limit posts) posts)
@@ -53,15 +39,14 @@ pub record Grows (core : CoreData) (opening : List Action) (limit : ℕ) (posts 
   pub end_is : end ≡ end_after (book core.plan opening limit posts) posts
 
 pub grows : (old new : CoreData) (opening : List Action) (limit : ℕ) (posts posts' : List PostData) (p : PostData) (after : List Action) (end : StepEnd) → Stays old opening limit posts
-    → StepKeeps old new p.event [] after end → new.plan ≡ old.plan → p.actions ≡ after → posts' ≡ posts ++ p ∷ [] → Grows new opening limit posts' end
-grows old new opening limit posts posts' p after end was keeps plan kept more =
+    → StepKeeps old new p.event [] after end → TellsJudged (judged_at old.plan p.event p.said) [] after → new.plan ≡ old.plan → p.actions ≡ after → posts' ≡ posts ++ p ∷ [] → Grows new opening limit posts' end
+grows old new opening limit posts posts' p after end was keeps judges plan kept more =
     let q : Record = record_of (book old.plan opening limit posts) posts in
     let told : keeps.told ≡ p.actions = sym keeps.appended ∙ sym kept in
     let right = keeps.kept q was.legal.right was.stands in
     let now : tell (Got p.event ∷ q) keeps.told ≡ record_after (tell [] opening) posts' =
     ap (tell (Got p.event ∷ q)) told ∙ (sym (record-more (tell [] opening) posts p) ∙ ap (record_after (tell [] opening)) (sym more)) in
-    let as_said : told_as_said old.plan (Got p.event ∷ q) p.said p.actions ≡ true =
-    subst (λ (told : List Action). told_as_said old.plan (Got p.event ∷ q) p.said told ≡ true) told (all-said old.plan (Got p.event ∷ q) p.said (Got p.event ∷ q) keeps.told right.stands.forms) in
+    let as_said : told_as_said old.plan (Got p.event ∷ q) p.said p.actions ≡ true = judged-said old.plan q p.event p.said p.actions (ap judgements (kept ∙ judges.appended) ∙ judges.kept) in
     let said : posts_as_said old.plan (tell [] opening) (posts ++ p ∷ []) ≡ true = said-more old.plan (tell [] opening) posts p was.legal.said as_said in record {
       stays = record {
         stands = subst (StandsFor new) now right.stands;

@@ -1,7 +1,7 @@
 //! The book: the core with the journal of its posts.
-ghost use Rattle.std.specs.Prelude.{◌≡◌, ◌<◌, ◌≤◌, ◌^◌, [], ◌∷◌, ◌++◌, length, IfOk, IfErr, OnErr};
+ghost use Rattle.std.specs.Prelude.{◌≡◌, ◌<◌, ◌≤◌, ◌^◌, [], ◌∷◌, ◌++◌, false, length, IfOk, IfErr, OnErr};
 ghost use Rattle.svc_conf.specs.Items.{list_of};
-ghost use Rattle.svc_record.specs.Validity.{IsValid, IsBuilt};
+ghost use Rattle.svc_record.specs.Validity.{IsValid};
 ghost use Rattle.svc_record.specs.Journal.{post};
 ghost use Rattle.svc_book.specs.Journals.{IsLegal, end_after};
 ghost use Rattle.svc_book.specs.Refusals.{IsDue};
@@ -84,7 +84,6 @@ impl Book {
     /// A book whose core has begun, and the actions that it told.
     pub fn new(alloc: Global, plan: Plan, limit: u64) -> Result<(Book, Actions), NoMemory>
         requires valid { IsValid plan }
-        requires built { IsBuilt plan }
         requires limit { limit < 2 ^ 62 }
         ensures plan { IfOk result (λ r. r.0.plan ≡ plan) }
         ensures limit { IfOk result (λ r. r.0.limit ≡ limit) }

@@ -1,7 +1,7 @@
 //! Opening and closing a shared server.
-ghost use Rattle.std.specs.Prelude.{◌≡◌, ◌≤◌, [], IfOk, IfErr};
+ghost use Rattle.std.specs.Prelude.{◌≡◌, ◌≤◌, [], false, IfOk, IfErr};
 ghost use Rattle.svc_conf.specs.Items.{list_of};
-ghost use Rattle.svc_record.specs.Validity.{IsValid, IsBuilt};
+ghost use Rattle.svc_record.specs.Validity.{IsValid};
 ghost use Rattle.svc_book.specs.Journals.{IsLegal};
 ghost use Rattle.svc_shared.specs.Views.{first_view, IsWhole};
 ghost use Rattle.svc_shared.specs.Posting.{IsOf, IsClosed, IsUnclosed, origin_of, view_of, hand_in};
@@ -24,7 +24,6 @@ impl SharedServer {
         limit: u64,
     ) -> Result<(SharedServer, Pass, Actions), NoMemory>
         requires valid { IsValid plan }
-        requires built { IsBuilt plan }
         requires limit { limit ≤ 4611686018427387903 }
         ensures of { IfOk result (λ r. IsOf r.0 r.1) }
         ensures origin { IfOk result (λ r. ((origin_of r.0).plan ≡ plan) × ((origin_of r.0).limit ≡ limit) × ((origin_of r.0).opening ≡ list_of r.2)) }

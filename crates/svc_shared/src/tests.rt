@@ -63,7 +63,6 @@ fn opened<R: Abort>(
     let plan = plan(alloc)?;
     let is_valid = plan.valid(alloc)?;
     assert!(rt; is_valid);
-    assert!(rt; plan.is_built());
     Ok(SharedServer::new(alloc, plan, limit as u64)?)
 }
 
@@ -81,7 +80,6 @@ fn replays(
     let plan = plan(alloc)?;
     let is_valid = plan.valid(alloc)?;
     assert!(rt; is_valid);
-    assert!(rt; plan.is_built());
     let mut core = Core::new(alloc, plan)?;
     let mut begun = Actions::new(alloc);
     core.begin(alloc, &mut begun)?;

@@ -10,7 +10,7 @@ all c =
     let p : PostData = post c.args.seat c.args.event c.args.said (list_of c.step_twice.new.actions) in
     grows c.self.inside.core c.step_twice.new.self (list_of c.self.inside.opening) c.self.inside.limit c.self.inside.posts.items c.push_reserved.new.self.items p (list_of c.step_twice.new.actions) c.in-Ok-step_twice.end
     record { stands = c.self.invariant.0; legal = c.self.invariant.1 }
-    (rw c.new-kept.ensures at c.in-Ok-step_twice.ensures.kept) c.in-Ok-step_twice.ensures.plan refl
+    (rw c.new-kept.ensures at c.in-Ok-step_twice.ensures.kept) (rw c.new-kept.ensures at c.in-Ok-step_twice.ensures.judged) c.in-Ok-step_twice.ensures.plan refl
     (c.push_reserved.ensures.items ∙ ap (λ (xs : List PostData). xs ++ p ∷ []) c.reserve.ensures.items)
 
 pub invariant_of-self-2 : goal.invariant_of-self-2
