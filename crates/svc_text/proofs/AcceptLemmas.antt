@@ -1,14 +1,18 @@
 -- What a script takes as a service is accepted.
 use Rattle.std.proofs.Common.{◌≡◌, ℕ, ◌<◌, Bool, true, false, ◌||◌, ◌==◌, ltb, cond, List, [], ◌∷◌, ◌++◌, length, Option, Some, None, is_none, refl, sym, ap, subst, ◌∙◌, inl, inr, arith}
 use Rattle.std.specs.Option.{option_map, option_to_list}
+use Rattle.std.specs.List.{list_any}
 use Rattle.std.specs.Str.{is_utf8}
 use Rattle.std.proofs.lemmas.Bool.{ltb-true, eqb-true, and_parts, cases_Bool, both_ways}
 use Rattle.std.proofs.lemmas.List.{append-nil, length-append}
 use Rattle.std.proofs.lemmas.List.Elements.{All-push}
+use Rattle.svc_conf.specs.declared.settings.Setting.{Setting}
 use Rattle.svc_text.specs.declared.service.EndpointLine.{EndpointLine}
 use Rattle.svc_text.specs.declared.service.ServiceLine.{ServiceLine}
 use Rattle.svc_text.specs.Words.{◌>>=◌, words, text_in}
-use Rattle.svc_text.specs.ServiceLines.{name_of, kind_of, boots, numbers_of, is_address, address_of, with_after, endpoint_at, with_endpoint, with_claim, with_undeclared, with_address, with_item, is_undeclared, with_items, bare, service_of, is_eager}
+use Rattle.svc_text.specs.EndpointOptions.{same_sort, option_of, last_tcp_from, options_at, with_option_at}
+use Rattle.svc_text.proofs.OptionLemmas.{with_option_at-length, with_option_at-addresses}
+use Rattle.svc_text.specs.ServiceLines.{name_of, kind_of, boots, numbers_of, is_address, address_of, with_after, endpoint_at, with_endpoint, with_claim, with_undeclared, ip_in, with_block, with_option_of, with_setting, with_address, with_item, is_undeclared, with_items, bare, service_of, is_eager}
 use Rattle.svc_text.specs.declared.part.Part.{Part}
 use Rattle.svc_text.specs.Script.{header_of, is_next, is_skipped, says_service, says_item, place_fits, line_fits, said_services}
 use Rattle.svc_text.proofs.PlaceLemmas.{skipped_service, eager_service, header_says, item_says}
@@ -80,6 +84,36 @@ claim_keeps s t value k h e =
       claims = All-push (λ (address : List ℕ). is_address address ≡ true) s.claims m.0 h.claims (address_is value m.0 m.1);
     })
 
+block_keeps : (s t : ServiceLine) (value : List ℕ) → boots s.kind ≡ false → IsAccepted s → with_block s value ≡ Some t → IsAccepted t
+unfolding with_block
+block_keeps s t value k h e =
+    let m = mapped_some (λ ip. record s { blocked = s.blocked ++ ip ∷ [] }) (ip_in value) t e in
+    subst IsAccepted m.2 (record {
+      boots_alone = λ b. absurd (both_ways (boots s.kind) k b);
+      few_endpoints = h.few_endpoints;
+      addresses = h.addresses;
+      claims = h.claims;
+    })
+
+option_keeps : (s t : ServiceLine) (option : Setting) (n : ℕ) → boots s.kind ≡ false → IsAccepted s → with_option_of s option n ≡ Some t → IsAccepted t
+unfolding with_option_of
+option_keeps s t option n k h e =
+    let c = refused_some (list_any (same_sort option) (options_at n s.endpoints)) (Some (record s { endpoints = with_option_at n option s.endpoints })) t e in
+    let same : record s { endpoints = with_option_at n option s.endpoints } ≡ t = cc in
+    subst IsAccepted same (record {
+      boots_alone = λ b. absurd (both_ways (boots s.kind) k b);
+      few_endpoints = omega (arith, with_option_at-length n option s.endpoints, h.few_endpoints);
+      addresses = with_option_at-addresses n option s.endpoints h.addresses;
+      claims = h.claims;
+    })
+
+setting_keeps : (s t : ServiceLine) (key value : List ℕ) → boots s.kind ≡ false → IsAccepted s → with_setting s key value ≡ Some t → IsAccepted t
+unfolding with_setting
+setting_keeps s t key value k h e =
+    let o = then_some (option_of key value) (λ option. last_tcp_from 0 s.endpoints >>= λ n. with_option_of s option n) t e in
+    let n = then_some (last_tcp_from 0 s.endpoints) (λ n. with_option_of s o.0 n) t o.2 in
+    option_keeps s t o.0 n.0 k h n.2
+
 undeclared_keeps : (s t : ServiceLine) → IsAccepted s → with_undeclared s ≡ Some t → IsAccepted t
 unfolding with_undeclared
 undeclared_keeps s t h e =
@@ -98,7 +132,8 @@ unfolding with_address
 address_keeps s t key value k h e =
     either_some IsAccepted _ (with_endpoint s false value) _ t (endpoint_keeps s t false value k h)
     (either_some IsAccepted _ (with_endpoint s true value) _ t (endpoint_keeps s t true value k h)
-    (either_some IsAccepted _ (with_claim s value) None t (claim_keeps s t value k h) (λ n. absurd cc))) e
+    (either_some IsAccepted _ (with_claim s value) _ t (claim_keeps s t value k h)
+    (either_some IsAccepted _ (with_block s value) _ t (block_keeps s t value k h) (setting_keeps s t key value k h)))) e
 
 item_keeps : (s t : ServiceLine) (key value : List ℕ) → IsAccepted s → with_item s key value ≡ Some t → IsAccepted t
 unfolding with_item
@@ -123,7 +158,7 @@ said_accepted (name ∷ []) s e = absurd cc
 said_accepted (name ∷ kind ∷ items) s e =
     let n = then_some (name_of name) (λ n. kind_of kind >>= λ k. with_items (bare n k) items) s e in
     let k = then_some (kind_of kind) (λ k. with_items (bare n.0 k) items) s n.2 in
-    items_keep items (bare n.0 k.0) s (record { boots_alone = λ b. (refl, refl, refl); few_endpoints = omega arith; addresses = λ i d lt. absurd (omega arith); claims = λ i d lt. absurd (omega arith) }) k.2
+    items_keep items (bare n.0 k.0) s (record { boots_alone = λ b. (refl, refl, refl, refl); few_endpoints = omega arith; addresses = λ i d lt. absurd (omega arith); claims = λ i d lt. absurd (omega arith) }) k.2
 
 -- ---- one more service
 

@@ -11,6 +11,7 @@ pub mod EventBack
 pub mod ActionBack
 pub mod Back
 pub mod ItemLemmas
+pub mod OptionLemmas
 pub mod SkippedLemmas
 pub mod PlaceLemmas
 pub mod PartLemmas

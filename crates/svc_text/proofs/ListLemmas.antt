@@ -3,7 +3,7 @@ use Rattle.std.proofs.Common.{◌≡◌, ℕ, zero, suc, ◌+◌, ◌^◌, ◌<�
 use Rattle.std.proofs.lemmas.List.{take_more, map_push, get_or-map, length-map}
 use Rattle.std.proofs.Math.Seq.{take-length}
 use Rattle.svc_text.specs.Words.{◌>>=◌, number_of}
-use Rattle.svc_text.specs.ServiceLines.{all_some}
+use Rattle.svc_text.specs.NumberLists.{all_some}
 
 bind_some : (o : Option (List ℕ)) (y : ℕ) (xs : List ℕ) → (o >>= λ zs. Some (y ∷ zs)) ≡ Some xs → (zs : List ℕ) × (o ≡ Some zs) × (y ∷ zs ≡ xs)
 bind_some None y xs e = absurd cc

@@ -4,7 +4,7 @@ use Rattle.std.specs.List.{AllByRecursion}
 use Rattle.std.proofs.lemmas.List.{take_more, map_push, get_or-map, length-map}
 use Rattle.std.proofs.lemmas.List.Elements.{All-push}
 use Rattle.std.proofs.Math.Seq.{take-length}
-use Rattle.svc_text.specs.ServiceLines.{all_some}
+use Rattle.svc_text.specs.NumberLists.{all_some}
 use Rattle.svc_text.proofs.ListLemmas.{all_some-push, all_some-stop}
 
 -- what the pieces are, where each is read

@@ -1,5 +1,5 @@
 -- The plan of a script's services is one that a server can be run by.
-use Rattle.std.proofs.Common.{◌≡◌, ℕ, zero, suc, ◌+◌, ◌<◌, ◌≤◌, Bool, true, ◌==◌, leb, ltb, List, [], ◌∷◌, length, map, get_or, None, refl, sym, ap, subst, ◌∙◌, inl, inr, arith, All, add-zero, zero-add, false}
+use Rattle.std.proofs.Common.{◌≡◌, ℕ, zero, suc, ◌+◌, ◌<◌, ◌≤◌, Bool, true, ◌==◌, leb, ltb, List, [], ◌∷◌, length, map, take, get_or, Option, refl, sym, ap, subst, ◌∙◌, inl, inr, arith, All, add-zero, zero-add}
 use Rattle.std.specs.List.{list_any, range_with_len}
 use Rattle.std.proofs.lemmas.Bool.{and_parts, ltb-true, leb-true, eqb-true, cases_lt, both_ways}
 use Rattle.std.proofs.lemmas.List.{length-map}
@@ -8,20 +8,17 @@ use Rattle.std.proofs.lemmas.List.Folds.{Any-from_list_any}
 use Rattle.std.proofs.lemmas.List.FromFn.{get_or-range_with_len, length-range_with_len}
 use Rattle.std.proofs.lemmas.Option.{slice_get_cases}
 use Rattle.svc_conf.specs.declared.server.configuration.Opt.{Opt}
-use Rattle.svc_conf.specs.ConfigurationText.{merged}
-use Rattle.svc_graph.specs.declared.plan.EndpointPlan.{EndpointPlan}
 use Rattle.svc_record.specs.declared.plan.ServicePlan.{ServicePlan}
 use Rattle.svc_record.specs.Plans.{service_count, depends}
-use Rattle.svc_record.specs.Validity.{IsAddress, IsValid, IsBuilt, depends_on}
-use Rattle.svc_record.specs.Building.{HasNoFilter}
+use Rattle.svc_record.specs.Validity.{IsAddress, IsValid, depends_on}
 use Rattle.svc_record.proofs.ValidLemmas.{valid-plan}
-use Rattle.svc_record.proofs.BuiltLemmas.{built-from_tests}
 use Rattle.svc_text.specs.declared.service.EndpointLine.{EndpointLine}
 use Rattle.svc_text.specs.declared.service.ServiceLine.{ServiceLine}
 use Rattle.svc_text.specs.ServiceLines.{is_address}
 use Rattle.svc_text.specs.Accepted.{IsAccepted, AreAccepted}
 use Rattle.svc_text.specs.Script.{Parts}
 use Rattle.svc_text.specs.Dependencies.{edges_up_to, RefusesNone}
+use Rattle.svc_text.specs.Filters.{filter_number}
 use Rattle.svc_text.specs.ScriptPlans.{endpoint_of, depends_of, service_plan, plans_from, plan_of}
 use Rattle.svc_text.proofs.EdgeLemmas.{fewer_acyclic}
 
@@ -43,20 +40,17 @@ plans-depends services s (x ∷ xs) (suc k) d lt = let e : (s + 1) + k ≡ s + s
 
 -- ---- endpoints
 
-good_address : (e : EndpointLine) → is_address e.address ≡ true → IsAddress (endpoint_of e)
-good_address e h =
+good_address : (number : Option ℕ) (e : EndpointLine) → is_address e.address ≡ true → IsAddress (endpoint_of number e)
+good_address number e h =
     let p = and_parts (ltb 0 (length e.address)) (leb (length e.address) 4096) h in
     let some : 0 < length e.address = ltb-true 0 (length e.address) p.0 in
     (omega arith, leb-true (length e.address) 4096 p.1)
 
-pub good_endpoints : (x : ServiceLine) → IsAccepted x → (length (map endpoint_of x.endpoints) ≤ 64) × All IsAddress (map endpoint_of x.endpoints)
-good_endpoints x h = (
-  omega (arith, length-map x.endpoints endpoint_of, h.few_endpoints),
-  All-map IsAddress endpoint_of x.endpoints (λ k d lt. good_address (get_or x.endpoints k d) (h.addresses k d lt)),
+pub good_endpoints : (number : Option ℕ) (x : ServiceLine) → IsAccepted x → (length (map (endpoint_of number) x.endpoints) ≤ 64) × All IsAddress (map (endpoint_of number) x.endpoints)
+good_endpoints number x h = (
+  omega (arith, length-map x.endpoints (endpoint_of number), h.few_endpoints),
+  All-map IsAddress (endpoint_of number) x.endpoints (λ k d lt. good_address number (get_or x.endpoints k d) (h.addresses k d lt)),
 )
-
-unfiltered_service : (services : List ServiceLine) (s : ℕ) (x : ServiceLine) → Unit {0} → HasNoFilter (service_plan services s x)
-unfiltered_service services s x h = All-map (λ (e : EndpointPlan). e.filter ≡ None) endpoint_of x.endpoints (λ k d lt. refl)
 
 -- ---- dependencies
 
@@ -112,11 +106,8 @@ plan_valid opt parts h sound tasks =
     valid-plan (plan_of opt parts) (record {
       few = omega (arith, plans-length parts.services 0 parts.services, h.few);
       tasks = tasks;
-      endpoints = plans-All (λ (x : ServicePlan). (length x.endpoints ≤ 64) × All IsAddress x.endpoints) IsAccepted parts.services (λ s x k. good_endpoints x k) 0 parts.services h.each;
+      endpoints = plans-All (λ (x : ServicePlan). (length x.endpoints ≤ 64) × All IsAddress x.endpoints) IsAccepted parts.services (λ s x k. good_endpoints (filter_number (take s parts.services) x) x k) 0 parts.services h.each;
     }) (record {
       inside = plan_inside opt parts;
       acyclic = fewer_acyclic (depends_on (plan_of opt parts)) (edges_up_to parts.services (length parts.services)) (plan_edge opt parts) sound.acyclic;
     })
-
-pub plan_built : (opt : Opt) (parts : Parts) → (merged opt parts.conf).daemon ≡ false → IsBuilt (plan_of opt parts)
-plan_built opt parts daemon = built-from_tests (plan_of opt parts) daemon (plans-All HasNoFilter (λ x. Unit {0}) parts.services (unfiltered_service parts.services) 0 parts.services (λ k d lt. tt))

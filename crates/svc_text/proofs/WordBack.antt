@@ -17,8 +17,8 @@ use Rattle.svc_record.specs.declared.action.ExecutionPhase.{ExecutionPhase}
 use Rattle.svc_record.specs.declared.action.ExecutionPhase.TheVariants as phases
 use Rattle.svc_record.specs.Text.{ok_word, yes_word, signal_word, side_word, phase_word, hex_byte, bytes_word, numbers_word, setting_word, SettingFits}
 use Rattle.svc_text.specs.Words.{◌>>=◌, number_of}
-use Rattle.svc_text.specs.ServiceLines.{all_some}
-use Rattle.svc_text.specs.EventLines.{signal_of, side_of, ok_of, hex_digit_of, hex_byte_of, hex_of, bytes_of, joined_of, listed_of}
+use Rattle.svc_text.specs.NumberLists.{all_some, joined_of}
+use Rattle.svc_text.specs.EventLines.{signal_of, side_of, ok_of, hex_digit_of, hex_byte_of, hex_of, bytes_of, listed_of}
 use Rattle.svc_text.proofs.NumberLemmas.{number_of-decimal}
 use Rattle.svc_text.proofs.Visible.{is_visible, IsWord, visible_append}
 use Rattle.svc_text.proofs.DigitLemmas.{glyph_high, digits_high, digits_some, digits_word, high_without, no_dash_first, no_dash}

@@ -12,9 +12,9 @@ use Rattle.svc_text.specs.ServiceLines.{boots, is_address}
 abbrev pub after_at : List ServiceLine → ℕ → List ℕ
 after_at services k = unwrap_or (option_and_then (λ s. s.after) (slice_get services k)) []
 
--- it has no addresses, and declares that
+-- it has no addresses, declares that, and blocks none
 abbrev pub HasNoAddresses : ServiceLine → Type 0
-HasNoAddresses s = (s.endpoints ≡ []) × (s.claims ≡ []) × (s.undeclared ≡ false)
+HasNoAddresses s = (s.endpoints ≡ []) × (s.claims ≡ []) × (s.undeclared ≡ false) × (s.blocked ≡ [])
 
 -- it has at most 64 endpoints, its addresses have 1 to 4,096 bytes, and one that bootstraps has none
 pub record IsAccepted (s : ServiceLine) : Type 0 where

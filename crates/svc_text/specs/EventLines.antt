@@ -1,10 +1,9 @@
 -- What a line of words says, where it is an event or a fault.
-use Rattle.std.specs.Prelude.{ℕ, Bool, true, false, ◌+◌, ◌-◌, ◌*◌, ◌^◌, ◌&&◌, ◌==◌, nat_le, if◌then◌else◌, List, [], ◌∷◌, length, map, codes, Option, Some, None}
+use Rattle.std.specs.Prelude.{ℕ, Bool, true, false, ◌+◌, ◌-◌, ◌*◌, ◌^◌, ◌&&◌, nat_le, if◌then◌else◌, List, [], ◌∷◌, length, codes, Option, Some, None}
 use Rattle.std.specs.Option.{option_map}
-use Rattle.std.specs.List.{slice_split}
 use Rattle.std.specs.Str.{bytes_eq}
 use Rattle.svc_text.specs.Words.{◌>>=◌, number_of}
-use Rattle.svc_text.specs.ServiceLines.{all_some}
+use Rattle.svc_text.specs.NumberLists.{joined_of}
 use Rattle.svc_socket.specs.ReadPeers.{peer_of}
 use Rattle.svc_record.specs.declared.event.ShutdownSignal.{ShutdownSignal}
 use Rattle.svc_record.specs.declared.event.ShutdownSignal.TheVariants.{FastShutdown, GracefulTerminate, GracefulUpgrade}
@@ -47,10 +46,6 @@ hex_of (high ∷ low ∷ more) = hex_byte_of high low >>= λ byte. option_map (�
 -- the bytes that a word has in hexadecimal; a dash for none
 unfoldable pub bytes_of : List ℕ → Option (List ℕ)
 bytes_of word = if bytes_eq word (codes "-") then Some [] else hex_of word
-
--- numbers joined by commas
-unfoldable pub joined_of : List ℕ → Option (List ℕ)
-joined_of word = all_some (map (number_of (2 ^ 64)) (slice_split (λ b. b == 44) word))
 
 -- the numbers that a word lists; a dash for none
 unfoldable pub listed_of : List ℕ → Option (List ℕ)

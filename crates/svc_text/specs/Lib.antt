@@ -1,4 +1,6 @@
 pub mod Words
+pub mod NumberLists
+pub mod EndpointOptions
 pub mod EventLines
 pub mod ServiceLines
 pub mod Script
@@ -9,3 +11,4 @@ pub mod Accepted
 pub mod Dependencies
 pub mod Edges
 pub mod ScriptPlans
+pub mod Filters

@@ -1,21 +1,21 @@
 -- The plan that a script's services are run by.
-use Rattle.std.specs.Prelude.{ℕ, Bool, ◌+◌, List, [], ◌∷◌, ◌++◌, length, map, filter, Option, Some, None, unwrap_or, if◌then◌else◌}
+use Rattle.std.specs.Prelude.{ℕ, Bool, ◌+◌, List, [], ◌∷◌, ◌++◌, length, map, take, filter, Option, Some, None, unwrap_or, if◌then◌else◌}
 use Rattle.std.specs.List.{range_with_len}
 use Rattle.svc_conf.specs.declared.server.configuration.ServerConf.{ServerConf}
 use Rattle.svc_conf.specs.declared.server.configuration.Opt.{Opt}
 use Rattle.svc_conf.specs.ConfigurationText.{merged}
-use Rattle.svc_conf.specs.declared.settings.Setting.TheVariants.{NoDelay}
 use Rattle.svc_graph.specs.declared.plan.EndpointPlan.{EndpointPlan}
 use Rattle.svc_record.specs.declared.plan.ServicePlan.{ServicePlan}
 use Rattle.svc_record.specs.declared.plan.Plan.{Plan}
 use Rattle.svc_text.specs.declared.service.EndpointLine.{EndpointLine}
 use Rattle.svc_text.specs.declared.service.ServiceLine.{ServiceLine}
 use Rattle.svc_text.specs.Dependencies.{edges_up_to}
+use Rattle.svc_text.specs.Filters.{filter_number}
 use Rattle.svc_text.specs.Script.{Parts}
 
--- the endpoint of a line: its writes aren't held back, and it has no filter
-abbrev pub endpoint_of : EndpointLine → EndpointPlan
-endpoint_of e = record { address = e.address; unix = e.unix; options = NoDelay ∷ []; filter = None }
+-- the endpoint of a line, with the options of the line and its service's filter
+abbrev pub endpoint_of : Option ℕ → EndpointLine → EndpointPlan
+endpoint_of number e = record { address = e.address; unix = e.unix; options = e.options; filter = number }
 
 -- the addresses of a line's endpoints, in order
 abbrev pub addresses_of : ServiceLine → List (List ℕ)
@@ -36,7 +36,7 @@ service_plan services s x = record {
   kind = x.kind;
   depends = depends_of services s;
   declared = declared_of x;
-  endpoints = map endpoint_of x.endpoints;
+  endpoints = map (endpoint_of (filter_number (take s services) x)) x.endpoints;
 }
 
 -- the services from s on, of their lines

@@ -3,7 +3,9 @@
 
 mod conf_text;
 mod cuts;
+mod endpoint_lines;
 mod event_lines;
+mod filters;
 mod fitting;
 mod front;
 mod lists;
@@ -18,7 +20,9 @@ mod refused;
 mod service;
 
 pub use cuts::{split_line, split_word};
+pub use endpoint_lines::EndpointLines;
 pub use event_lines::{event_of_line, item_of_line};
+pub use filters::{blocks, filter_number, is_blocked};
 pub use numbers::number;
 pub use parsing::{Script, ScriptError, parse};
 pub use plans::accepted_plan;

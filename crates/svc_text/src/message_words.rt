@@ -1,7 +1,8 @@
 //! The two words of a message: its bytes, and the numbers of its descriptors.
 
 ghost use Rattle.std.specs.Prelude.{◌≡◌, ◌<◌, IfOk, IfSome};
-ghost use Rattle.svc_text.specs.EventLines.{hex_digit_of, hex_byte_of, hex_of, bytes_of, joined_of, listed_of, descriptors_of};
+ghost use Rattle.svc_text.specs.EventLines.{hex_digit_of, hex_byte_of, hex_of, bytes_of, listed_of, descriptors_of};
+ghost use Rattle.svc_text.specs.NumberLists.{joined_of};
 
 use crate::lists::push_item;
 use crate::numbers::number;
@@ -67,7 +68,7 @@ pub fn bytes_of(alloc: Global, word: &[u8]) -> Result<Option<Bytes>, NoMemory>
 }
 
 /// Numbers joined by commas.
-fn joined_of(alloc: Global, word: &[u8]) -> Result<Option<FdList>, NoMemory>
+pub fn joined_of(alloc: Global, word: &[u8]) -> Result<Option<FdList>, NoMemory>
     ensures { IfOk result (λ o. o ≡ joined_of word.now) }
 {
     let mut numbers = FdList::new(alloc);

@@ -28,6 +28,14 @@ pub fn number(word: &[u8]) -> Option<u64>
     }
 }
 
+/// The same for numbers of 8 bits.
+#[tactic(auto, unfolding(crate::specs::Words::number_of))]
+pub(crate) fn number8(word: &[u8]) -> Option<u8>
+    ensures { result ≡ number_of (2 ^ 8) word.now }
+{
+    u8::try_from(number(word)?).ok()
+}
+
 /// The same for numbers of 32 bits.
 #[tactic(auto, unfolding(crate::specs::Words::number_of))]
 pub(crate) fn number32(word: &[u8]) -> Option<u32>

@@ -1,18 +1,22 @@
 //! What a service line says.
 
-ghost use Rattle.std.specs.Prelude.{◌≡◌, ◌≤◌, ◌^◌, [], ◌∷◌, ◌++◌, length, unwrap_or, IfOk, IfSome, MatchOption, Option, Some, None, nat_le};
+ghost use Rattle.std.specs.Prelude.{◌≡◌, ◌<◌, ◌≤◌, ◌^◌, [], ◌∷◌, ◌++◌, length, unwrap_or, IfOk, IfSome, MatchOption, Option, Some, None, nat_le};
 ghost use Rattle.std.specs.Option.{option_map};
 ghost use Rattle.std.specs.Str.{is_utf8};
 ghost use Rattle.svc_text.specs.Words.{words, number_of, text_in};
-ghost use Rattle.svc_text.specs.ServiceLines.{is_name, name_of, kind_of, numbers_of, is_address, address_of, boots, with_after, with_endpoint, with_claim, with_undeclared, with_address, with_item, with_items, service_of, is_eager, Takes};
+ghost use Rattle.svc_text.specs.EndpointOptions.{keepalive_of, option_of};
+ghost use Rattle.svc_text.specs.ServiceLines.{is_name, name_of, kind_of, numbers_of, is_address, address_of, boots, with_after, with_endpoint, with_claim, with_undeclared, ip_in, with_block, with_option_of, with_setting, with_address, with_item, with_items, service_of, is_eager, Takes};
 
 use crate::cuts::split_word;
+use crate::endpoint_lines::EndpointLines;
 use crate::lists::push_item;
-use crate::numbers::number32;
+use crate::message_words::joined_of;
+use crate::numbers::{number, number8, number32};
 use std::alloc::Global;
 use std::str;
-use svc_conf::{Items, NoMemory, Numbers, Text, Texts};
+use svc_conf::{Items, NoMemory, Numbers, Setting, Settings, TcpKeepalive, Text, Texts};
 use svc_graph::Kind;
+use svc_socket::{IpNumber, read_ip};
 
 /// An endpoint that a service line names.
 #[derive(Debug, Drop)]
@@ -21,6 +25,8 @@ pub struct EndpointLine {
     pub address: Text,
     /// The address is a path of the Unix domain.
     pub unix: bool,
+    /// What is set on each accepted connection: at most one option of each sort.
+    pub options: Settings,
 }
 
 /// What a service line says.
@@ -34,8 +40,10 @@ pub struct ServiceLine {
     pub undeclared: bool,
     /// The addresses that it declares beside those of its endpoints.
     pub claims: Texts,
+    /// The addresses whose connections its filter refuses.
+    pub blocked: Items<IpNumber>,
     /// Its endpoints, in the order of the line: at most 64.
-    pub endpoints: Items<EndpointLine>,
+    pub endpoints: EndpointLines,
 }
 
 impl ServiceLine {
@@ -168,8 +176,12 @@ fn take_endpoint(
     }
     match address_of(alloc, value)? {
         Some(address) => {
-            let endpoint = EndpointLine { address, unix };
-            push_item(alloc, &mut service.endpoints, endpoint)?;
+            let endpoint = EndpointLine {
+                address,
+                unix,
+                options: Settings::new(alloc),
+            };
+            service.endpoints.push(endpoint)?;
             Ok(true)
         }
         None => Ok(false),
@@ -202,6 +214,101 @@ fn take_undeclared(service: &mut ServiceLine) -> bool
     true
 }
 
+#[tactic(auto, unfolding(crate::specs::ServiceLines::ip_in))]
+fn ip_in(word: &[u8]) -> Option<IpNumber>
+    ensures { result ≡ ip_in word.now }
+{
+    read_ip(text_in(word)?)
+}
+
+/// Adds a blocked address.
+#[tactic(auto, unfolding(crate::specs::ServiceLines::with_block))]
+fn take_block(alloc: Global, service: &mut ServiceLine, value: &[u8]) -> Result<bool, NoMemory>
+    ensures { IfOk result (λ taken. Takes taken (with_block service.old value.now) service.new) }
+{
+    match ip_in(value) {
+        Some(ip) => {
+            push_item(alloc, &mut service.blocked, ip)?;
+            Ok(true)
+        }
+        None => Ok(false),
+    }
+}
+
+/// The keepalive that a word says.
+#[tactic(auto, unfolding(crate::specs::EndpointOptions::keepalive_of))]
+fn keepalive_of(alloc: Global, word: &[u8]) -> Result<Option<TcpKeepalive>, NoMemory>
+    ensures { IfOk result (λ o. o ≡ keepalive_of word.now) }
+{
+    let Some(numbers) = joined_of(alloc, word)? else {
+        return Ok(None);
+    };
+    match numbers.as_slice() {
+        [idle, interval, count, user_timeout] => Ok(Some(TcpKeepalive {
+            idle: *idle,
+            interval: *interval,
+            count: *count,
+            user_timeout: *user_timeout,
+        })),
+        _ => Ok(None),
+    }
+}
+
+/// The option that a key and a word say.
+#[tactic(auto, unfolding(crate::specs::EndpointOptions::option_of))]
+fn option_of(alloc: Global, key: &[u8], word: &[u8]) -> Result<Option<Setting>, NoMemory>
+    ensures { IfOk result (λ o. o ≡ option_of key.now word.now) }
+{
+    if key == b"dscp".as_slice() {
+        Ok(number8(word).map(|n| Setting::Dscp(n)))
+    } else if key == b"sndbuf".as_slice() {
+        Ok(number(word).map(|n| Setting::SndBuf(n)))
+    } else if key == b"rcvbuf".as_slice() {
+        Ok(number(word).map(|n| Setting::RcvBuf(n)))
+    } else if key == b"keepalive".as_slice() {
+        Ok(keepalive_of(alloc, word)?.map(|keepalive| Setting::KeepAlive(keepalive)))
+    } else {
+        Ok(None)
+    }
+}
+
+/// Adds an option to endpoint k, where it has none of this sort yet.
+#[tactic(auto, unfolding(crate::specs::ServiceLines::with_option_of))]
+fn add_option(
+    alloc: Global,
+    service: &mut ServiceLine,
+    option: Setting,
+    k: usize,
+) -> Result<bool, NoMemory>
+    requires { k < length service.old.endpoints }
+    ensures { IfOk result (λ taken. Takes taken (with_option_of service.old option k) service.new) }
+{
+    if service.endpoints.has_sort(k, option) {
+        return Ok(false);
+    }
+    service.endpoints.add_option(alloc, k, option)?;
+    Ok(true)
+}
+
+/// Adds an option to the last TCP endpoint, where it has none of this sort yet.
+#[tactic(auto, unfolding(crate::specs::ServiceLines::with_setting))]
+fn take_option(
+    alloc: Global,
+    service: &mut ServiceLine,
+    key: &[u8],
+    value: &[u8],
+) -> Result<bool, NoMemory>
+    ensures { IfOk result (λ taken. Takes taken (with_setting service.old key.now value.now) service.new) }
+{
+    let Some(option) = option_of(alloc, key, value)? else {
+        return Ok(false);
+    };
+    let Some(k) = service.endpoints.last_tcp() else {
+        return Ok(false);
+    };
+    add_option(alloc, service, option, k)
+}
+
 #[tactic(auto, unfolding(crate::specs::ServiceLines::with_address))]
 fn take_address(
     alloc: Global,
@@ -217,8 +324,10 @@ fn take_address(
         take_endpoint(alloc, service, true, value)
     } else if key == b"claim".as_slice() {
         take_claim(alloc, service, value)
+    } else if key == b"block".as_slice() {
+        take_block(alloc, service, value)
     } else {
-        Ok(false)
+        take_option(alloc, service, key, value)
     }
 }
 
@@ -304,7 +413,8 @@ pub fn service_of_line(alloc: Global, line: &[u8]) -> Result<Option<ServiceLine>
         after: None,
         undeclared: false,
         claims: Texts::new(alloc),
-        endpoints: Items::new(alloc),
+        blocked: Items::new(alloc),
+        endpoints: EndpointLines::new(alloc),
     };
     if take_items(alloc, &mut service, items)? {
         Ok(Some(service))

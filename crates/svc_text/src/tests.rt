@@ -2,8 +2,10 @@ use super::*;
 use std::alloc::Global;
 use std::fmt::Write;
 use std::test::Fail;
+use svc_conf::{Setting, TcpKeepalive};
 use svc_graph::{DependencyGraph, Kind};
 use svc_record::{Event, Item, ShutdownSignal};
+use svc_socket::{IpNumber, PeerAddr};
 
 fn refused_line(alloc: Global, bytes: &[u8]) -> Option<usize> {
     match parse(alloc, bytes) {
@@ -83,7 +85,7 @@ fn names_the_first_refused_line(rt: HostRuntime) {
         (b"%conf\n%services\neager x\n%events\n", 3),
         (b"%conf\neager\n%services\n%events\n", 2),
         (b"%conf\n%services\na plain tcp\n%events\n", 3),
-        (b"%conf\n%services\na plain tcp x dscp 1\n%events\n", 3),
+        (b"%conf\n%services\na plain tcp x dscp 256\n%events\n", 3),
         (b"%conf\n%services\na plain after 01\n%events\n", 3),
         (b"%conf\n%services\na plain after 0,\n%events\n", 3),
         (b"%conf\n%services\na plain after +1\n%events\n", 3),
@@ -203,6 +205,61 @@ fn takes_service_lines(rt: HostRuntime) -> Result<(), Fail> {
 }
 
 #[test]
+fn reads_options_and_blocked_addresses(rt: HostRuntime) -> Result<(), Fail> {
+    let line =
+        b"a plain tcp x dscp 255 block 127.0.0.1 unix y keepalive 1,2,3,4 tcp z block 0:0:0:0:0:0:0:1 dscp 0 rcvbuf 6 sndbuf 5";
+    let text = script_of(rt.alloc(), line.as_slice())?;
+    let script = parse(rt.alloc(), text.as_slice()).ok().ok_or("a script")?;
+    let service = script.services.first().ok_or("a service")?;
+    let [x, y, z] = service.endpoints.as_slice() else {
+        return Err(Fail::from("three endpoints"));
+    };
+    let keepalive = TcpKeepalive {
+        idle: 1,
+        interval: 2,
+        count: 3,
+        user_timeout: 4,
+    };
+    assert_eq!(rt;
+        x.options.as_slice(),
+        [Setting::Dscp(255), Setting::KeepAlive(keepalive)].as_slice()
+    );
+    assert!(rt; y.options.is_empty());
+    assert_eq!(rt;
+        z.options.as_slice(),
+        [Setting::Dscp(0), Setting::RcvBuf(6), Setting::SndBuf(5)].as_slice()
+    );
+    assert_eq!(rt;
+        service.blocked.as_slice(),
+        [IpNumber::V4(2_130_706_433), IpNumber::V6(1)].as_slice()
+    );
+    Ok(())
+}
+
+#[test]
+fn each_service_that_blocks_has_a_filter(rt: HostRuntime) -> Result<(), Fail> {
+    let text =
+        b"%conf\n%services\na plain\nb plain block 1.2.3.4 block 0:0:0:0:0:0:0:1\nc plain\nd plain block 1.2.3.4\n%events\n";
+    let script = parse(rt.alloc(), text).ok().ok_or("a script")?;
+    let [a, b, c, d] = script.services.as_slice() else {
+        return Err(Fail::from("four services"));
+    };
+    assert_eq!(rt; filter_number(&[], a), None);
+    assert_eq!(rt; filter_number(&script.services.as_slice()[..1], b), Some(0));
+    assert_eq!(rt; filter_number(&script.services.as_slice()[..2], c), None);
+    assert_eq!(rt; filter_number(&script.services.as_slice()[..3], d), Some(1));
+    let blocked = PeerAddr::V4 {
+        ip: 16_909_060,
+        port: 80,
+    };
+    let other = PeerAddr::V6 { ip: 2, port: 80 };
+    assert!(rt; is_blocked(b.blocked.as_slice(), Some(blocked)));
+    assert!(rt; !is_blocked(b.blocked.as_slice(), Some(other)));
+    assert!(rt; !is_blocked(b.blocked.as_slice(), None));
+    Ok(())
+}
+
+#[test]
 fn refuses_service_lines(rt: HostRuntime) -> Result<(), Fail> {
     for line in [
         b"a bootstrap tcp x".as_slice(),
@@ -219,11 +276,18 @@ fn refuses_service_lines(rt: HostRuntime) -> Result<(), Fail> {
         b"a plain unix x y",
         b"a plain tcp x after 0 unix y after 0",
         b"a plain TCP x",
-        b"a plain tcp x dscp 1",
-        b"a plain tcp x sndbuf 1",
-        b"a plain tcp x rcvbuf 1",
-        b"a plain tcp x keepalive 1,2,3,4",
-        b"a plain tcp x block 127.0.0.1",
+        b"a bootstrap block 127.0.0.1",
+        b"a plain dscp 1 tcp x",
+        b"a plain unix x dscp 1",
+        b"a plain tcp x dscp 1 unix y sndbuf 1 dscp 1",
+        b"a plain tcp x sndbuf 01",
+        b"a plain tcp x rcvbuf 18446744073709551616",
+        b"a plain tcp x keepalive 1,2,3",
+        b"a plain tcp x keepalive 1,2,3,4,5",
+        b"a plain block 1.2.3",
+        b"a plain block 256.0.0.1",
+        b"a plain block 127.0.0.1:80",
+        b"a plain block 1:2:3:4:5:6:7:08",
     ] {
         let text = script_of(rt.alloc(), line)?;
         assert_eq!(rt;
