@@ -1,9 +1,9 @@
 -- Adding a service to a server.
 use Rattle.std.proofs.Common.{ℕ, zero, suc, Bool, true, false, not, ◌||◌, ◌==◌, cond, List, [], ◌∷◌, ◌++◌, ◌≡◌, refl, sym, ◌∙◌, ap, subst, inl, inr, arith, ◌+◌, ◌<◌, ◌≤◌, length, map, take, drop, reverse, get_or, All, nat_lt, nat_le}
-use Rattle.std.specs.Prelude.{Option, Some, None, position, is_some, slice_get}
+use Rattle.std.specs.Prelude.{Option, Some, None, IfSome, position, slice_get, unwrap_or}
 use Rattle.std.specs.List.{list_any, position_or_len}
 use Rattle.std.specs.Option.{option_map, option_or}
-use Rattle.std.proofs.lemmas.Bool.{and_parts, and_from, or_parts, or_from, not_from_false, ltb-false, eqb-false, false_from_ne_true, le-leb, lt-leb, cases_lt}
+use Rattle.std.proofs.lemmas.Bool.{and_parts, and_from, or_parts, or_from, not_from_false, ltb-false, leb-false, eqb-false, false_from_ne_true, le-leb, lt-leb, cases_lt}
 use Rattle.std.proofs.lemmas.List.{length-map, length-append, get_or-map, map_more, map_push, take_more, append_assoc, reverse-append, reverse-reverse}
 use Rattle.std.proofs.lemmas.Option.{get_or_from_slice_get, same_Some}
 use Rattle.std.proofs.lemmas.List.Elements.{All-push, All-cons}
@@ -14,12 +14,11 @@ use Rattle.svc_graph.specs.Graphs.{node_count, with_node}
 use Rattle.svc_graph.specs.declared.plan.EndpointPlan.{EndpointPlan}
 use Rattle.svc_record.specs.declared.plan.ServicePlan.{ServicePlan}
 use Rattle.svc_record.specs.Validity.{IsAddress}
-use Rattle.svc_record.specs.Building.{HasNoFilter}
 use Rattle.svc_server.specs.declared.server.refusals.AddError.{AddError}
 use Rattle.svc_server.specs.declared.server.refusals.AddError.TheVariants.{TooMany, TooManyEndpoints, BadAddressText, UnknownFilter}
 use Rattle.svc_graph.specs.declared.services.ServiceWithDependents.{Ghosts}
-use Rattle.svc_server.specs.Servers.{answer_of, answers_of, IsSound}
-use Rattle.svc_server.specs.Additions.{is_bad_address, has_filter, cause_if, first_cause, endpoint_causes, fault_of, IsReason, with_nodes, handles_from, AddsFirst, RefusesAt}
+use Rattle.svc_server.specs.Servers.{answer_of, answers_of, HasFilters, IsSound}
+use Rattle.svc_server.specs.Additions.{is_bad_address, is_unknown_filter, cause_if, first_cause, endpoint_causes, fault_of, IsReason, with_nodes, handles_from, AddsFirst, RefusesAt}
 
 -- ---- causes
 
@@ -35,9 +34,10 @@ unmapped : (f : ℕ → AddError) (o : Option ℕ) → option_map f o ≡ None �
 unmapped f None e = refl
 unmapped f (Some x) e = absurd (cc)
 
-not_some : {X : Type 0} (o : Option X) → is_some o ≡ false → o ≡ None
-not_some None e = refl
-not_some (Some x) e = absurd (cc)
+-- a filter that isn't unknown is one of the first n
+known : (n : ℕ) (o : Option ℕ) → unwrap_or (option_map (λ f. nat_le n f) o) false ≡ false → IfSome o (λ f. f < n)
+known n None e = tt
+known n (Some f) e = leb-false n f e
 
 -- where a test has no first element, no element passes it
 no_position : {X : Type 0} (p : X → Bool) (xs : List X) → position p xs ≡ None → All (λ x. p x ≡ false) xs
@@ -77,9 +77,9 @@ no_causes full many bad filtered none =
     }
 
 -- what is known of a service that can be added
-record IsGood (s : ServicePlan) : Type 0 where
+record IsGood (filters : ℕ) (s : ServicePlan) : Type 0 where
   limits : (length s.endpoints ≤ 64) × All IsAddress s.endpoints
-  unfiltered : HasNoFilter s
+  filtered : HasFilters filters s
 
 good-address : (e : EndpointPlan) → is_bad_address e ≡ false → IsAddress e
 good-address e good =
@@ -88,44 +88,61 @@ good-address e good =
     let few : length e.address ≤ 4096 = ltb-false 4096 (length e.address) parts.1 in
     (omega arith, few)
 
-good : (g : GraphData) (s : ServicePlan) → fault_of g s ≡ None → IsGood s
-good g s none =
-    let said = no_causes (nat_le 1024 (node_count g)) (nat_lt 64 (length s.endpoints)) (position is_bad_address s.endpoints) (position has_filter s.endpoints) none in
-    let filters = no_position has_filter s.endpoints said.filters in
+good : (g : GraphData) (n : ℕ) (s : ServicePlan) → fault_of g n s ≡ None → IsGood n s
+good g n s none =
+    let said = no_causes (nat_le 1024 (node_count g)) (nat_lt 64 (length s.endpoints)) (position is_bad_address s.endpoints) (position (is_unknown_filter n) s.endpoints) none in
+    let filters = no_position (is_unknown_filter n) s.endpoints said.filters in
     record {
       limits = (
         ltb-false 64 (length s.endpoints) said.few,
         λ k d lt. good-address (get_or s.endpoints k d) (no_position is_bad_address s.endpoints said.addresses k d lt),
       );
-      unfiltered = λ k d lt. not_some (get_or s.endpoints k d).filter (filters k d lt);
+      filtered = λ k d lt. known n (get_or s.endpoints k d).filter (filters k d lt);
     }
 
 -- a sound server stays so with a service that can be added
-pub sound-push : (g : GraphData) (answers : List ServicePlan) (s : ServicePlan) → fault_of g s ≡ None → IsSound g answers → IsSound (with_node g s.name) (answers ++ s ∷ [])
-sound-push g answers s none sound =
-    let known = good g s none in
+pub sound-push : (g : GraphData) (n : ℕ) (answers : List ServicePlan) (s : ServicePlan) → fault_of g n s ≡ None → IsSound g n answers → IsSound (with_node g s.name) n (answers ++ s ∷ [])
+sound-push g n answers s none sound =
+    let parts = good g n s none in
     record {
       names = ap (λ (names : List (List ℕ)). names ++ s.name ∷ []) sound.names ∙ sym (map_push (λ (x : ServicePlan). x.name) answers s);
-      limits = All-push (λ (x : ServicePlan). (length x.endpoints ≤ 64) × All IsAddress x.endpoints) answers s sound.limits known.limits;
-      unfiltered = All-push HasNoFilter answers s sound.unfiltered known.unfiltered;
+      limits = All-push (λ (x : ServicePlan). (length x.endpoints ≤ 64) × All IsAddress x.endpoints) answers s sound.limits parts.limits;
+      filtered = All-push (HasFilters n) answers s sound.filtered parts.filtered;
     }
+
+more-filters : (n m : ℕ) (o : Option ℕ) → n ≤ m → IfSome o (λ f. f < n) → IfSome o (λ f. f < m)
+more-filters n m None le h = tt
+more-filters n m (Some f) le h = omega (arith, h)
+
+-- a sound server stays so with more filters
+pub sound-filters : (g : GraphData) (n m : ℕ) (answers : List ServicePlan) → n ≤ m → IsSound g n answers → IsSound g m answers
+sound-filters g n m answers le sound = record {
+  names = sound.names;
+  limits = sound.limits;
+  filtered = λ k d lt j e lf. more-filters n m (get_or (get_or answers k d).endpoints j e).filter le (sound.filtered k d lt j e lf);
+}
+
+-- so it does where a filter was added, or none was
+pub sound_filters : (g h : GraphData) (n m : ℕ) (old new : List ServicePlan) → h ≡ g → new ≡ old → n ≤ m → IsSound g n old → IsSound h m new
+sound_filters g h n m old new same_graph same_answers le sound =
+    subst (λ (k : GraphData). IsSound k m new) (sym same_graph) (subst (λ (answers : List ServicePlan). IsSound g m answers) (sym same_answers) (sound-filters g n m old le sound))
 
 -- ---- the first cause, step by step
 
-pub fault-full : (g : GraphData) (s : ServicePlan) → 1024 ≤ node_count g → fault_of g s ≡ Some TooMany
-fault-full g s full = rw (le-leb 1024 (node_count g) full) refl
+pub fault-full : (g : GraphData) (n : ℕ) (s : ServicePlan) → 1024 ≤ node_count g → fault_of g n s ≡ Some TooMany
+fault-full g n s full = rw (le-leb 1024 (node_count g) full) refl
 
 -- where there is room, the other causes decide
-pub fault-room : (g : GraphData) (s : ServicePlan) → node_count g < 1024 → fault_of g s ≡ first_cause (endpoint_causes s.endpoints)
-fault-room g s room = let free : nat_le 1024 (node_count g) ≡ false = lt-leb 1024 (node_count g) room in rw free refl
+pub fault-room : (g : GraphData) (n : ℕ) (s : ServicePlan) → node_count g < 1024 → fault_of g n s ≡ first_cause (endpoint_causes n s.endpoints)
+fault-room g n s room = let free : nat_le 1024 (node_count g) ≡ false = lt-leb 1024 (node_count g) room in rw free refl
 
 -- the server after a service was added
-pub add-sound : {B : Type 0} (means : Ghosts B) (g h : GraphData) (old new : List B) (b : B) → h ≡ with_node g (means.named b) → new ≡ old ++ b ∷ [] → fault_of g (answer_of means b) ≡ None
-    → IsSound g (answers_of means old) → IsSound h (answers_of means new)
-add-sound means g h old new b node added none sound =
-    subst (λ (k : GraphData). IsSound k (answers_of means new)) (sym node)
-    (subst (λ (answers : List ServicePlan). IsSound (with_node g (means.named b)) answers) (sym (ap (λ xs. answers_of means xs) added ∙ map_push (answer_of means) old b))
-    (sound-push g (answers_of means old) (answer_of means b) none sound))
+pub add-sound : {B : Type 0} (means : Ghosts B) (g h : GraphData) (n : ℕ) (old new : List B) (b : B) → h ≡ with_node g (means.named b) → new ≡ old ++ b ∷ [] → fault_of g n (answer_of means b) ≡ None
+    → IsSound g n (answers_of means old) → IsSound h n (answers_of means new)
+add-sound means g h n old new b node added none sound =
+    subst (λ (k : GraphData). IsSound k n (answers_of means new)) (sym node)
+    (subst (λ (answers : List ServicePlan). IsSound (with_node g (means.named b)) n answers) (sym (ap (λ xs. answers_of means xs) added ∙ map_push (answer_of means) old b))
+    (sound-push g n (answers_of means old) (answer_of means b) none sound))
 
 -- ---- services one after the other
 
@@ -166,10 +183,10 @@ popped {B = B} more left now n b reversed taken =
     (inner.0, inner.1, sym (reverse-reverse now) ∙ ap (λ (l : List B). reverse l) (sym inner.2))
 
 -- one service more is added
-pub adds-more : {B : Type 0} (means : Ghosts B) (old g h : GraphData) (there services now more : List B) (n m : ℕ) (b : B) (handles : List HandleData) (handle : HandleData)
-    → AddsFirst means old g there services more n handles → n < length more → slice_get more n ≡ Some b → now ≡ services ++ b ∷ [] → h ≡ with_node g (means.named b)
-    → fault_of g (answer_of means b) ≡ None → handle ≡ record { id = node_count g; name = means.named b } → m ≡ n + 1 → AddsFirst means old h there now more m (handles ++ handle ∷ [])
-adds-more {B = B} means old g h there services now more n m b handles handle adds lt at pushed node none is step =
+pub adds-more : {B : Type 0} (means : Ghosts B) (old g h : GraphData) (filters : ℕ) (there services now more : List B) (n m : ℕ) (b : B) (handles : List HandleData) (handle : HandleData)
+    → AddsFirst means old g filters there services more n handles → n < length more → slice_get more n ≡ Some b → now ≡ services ++ b ∷ [] → h ≡ with_node g (means.named b)
+    → fault_of g filters (answer_of means b) ≡ None → handle ≡ record { id = node_count g; name = means.named b } → m ≡ n + 1 → AddsFirst means old h filters there now more m (handles ++ handle ∷ [])
+adds-more {B = B} means old g h filters there services now more n m b handles handle adds lt at pushed node none is step =
     let next : take m more ≡ take n more ++ b ∷ [] =
     ap (λ (k : ℕ). take k more) step ∙ take_more more n b lt ∙ ap (λ (x : B). take n more ++ x ∷ []) (get_or_from_slice_get more n b b at) in
     let names : map means.named (take m more) ≡ map means.named (take n more) ++ means.named b ∷ [] = ap (λ (xs : List B). map means.named xs) next ∙ map_push means.named (take n more) b in
@@ -189,20 +206,20 @@ adds-more {B = B} means old g h there services now more n m b handles handle add
             | inr late ↦ (
                 let same : k ≡ n = omega arith in
                 let this : c ≡ b = same_Some c b (sym here ∙ ap (λ (i : ℕ). slice_get more i) same ∙ at) in
-                ap (λ (i : ℕ). fault_of (with_nodes old (map means.named (take i more))) (answer_of means c)) same
-                ∙ ap (λ (x : B). fault_of (with_nodes old (map means.named (take n more))) (answer_of means x)) this
-                ∙ ap (λ (k' : GraphData). fault_of k' (answer_of means b)) (sym adds.nodes)
+                ap (λ (i : ℕ). fault_of (with_nodes old (map means.named (take i more))) filters (answer_of means c)) same
+                ∙ ap (λ (x : B). fault_of (with_nodes old (map means.named (take n more))) filters (answer_of means x)) this
+                ∙ ap (λ (k' : GraphData). fault_of k' filters (answer_of means b)) (sym adds.nodes)
                 ∙ none)
           ];
     }
 
 -- the reason for which the next service isn't added
-pub refuses-at : {B : Type 0} (means : Ghosts B) (g h : GraphData) (more : List B) (n index : ℕ) (b : B) (reason : AddError) → slice_get more n ≡ Some b → index ≡ n → h ≡ g
-    → IsReason (fault_of g (answer_of means b)) reason → RefusesAt means h more index reason
-refuses-at means g h more n index b reason at same nodes (inl wanted) = inl wanted
-refuses-at {B = B} means g h more n index b reason at same nodes (inr stands) =
+pub refuses-at : {B : Type 0} (means : Ghosts B) (g h : GraphData) (filters : ℕ) (more : List B) (n index : ℕ) (b : B) (reason : AddError) → slice_get more n ≡ Some b → index ≡ n → h ≡ g
+    → IsReason (fault_of g filters (answer_of means b)) reason → RefusesAt means h filters more index reason
+refuses-at means g h filters more n index b reason at same nodes (inl wanted) = inl wanted
+refuses-at {B = B} means g h filters more n index b reason at same nodes (inr stands) =
     inr (
       b,
       ap (λ (i : ℕ). slice_get more i) same ∙ at,
-      ap (λ (k : GraphData). fault_of k (answer_of means b)) nodes ∙ stands,
+      ap (λ (k : GraphData). fault_of k filters (answer_of means b)) nodes ∙ stands,
     )

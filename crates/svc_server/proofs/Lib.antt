@@ -1,4 +1,5 @@
 pub mod BoxLemmas
+pub mod SaidLemmas
 pub mod HandLemmas
 pub mod CloseLemmas
 pub mod StepLemmas
@@ -10,4 +11,5 @@ pub mod PlanLemmas
 pub mod AddLemmas
 pub mod AddressLemmas
 pub mod RunLemmas
+pub mod CompleteLemmas
 pub mod MakingLemmas

@@ -1,10 +1,10 @@
 -- The plan of a server: what it says of each service, and that a server can be run by it.
 use Rattle.std.proofs.Common.{ℕ, zero, suc, Bool, true, false, not, ◌||◌, ◌&&◌, ◌==◌, List, [], ◌∷◌, ◌++◌, ◌≡◌, refl, sym, ◌∙◌, ap, subst, inl, inr, arith, ◌+◌, ◌<◌, ◌≤◌, length, map, filter, take, slice_index, get_or, All}
-use Rattle.std.specs.Prelude.{Option, Some, Result, Ok, Err, slice_get, unwrap_or, if◌then◌else◌}
+use Rattle.std.specs.Prelude.{Option, Some, None, IfSome, Result, Ok, Err, slice_get, unwrap_or, if◌then◌else◌}
 use Rattle.std.specs.List.{range_with_len}
 use Rattle.std.specs.List.Sorted.{IsStrictlyIncreasing}
 use Rattle.std.proofs.lemmas.Bool.{eq-eqb, ne_eqb, cases_eq}
-use Rattle.std.proofs.lemmas.Option.{slice_get_cases, same_Some}
+use Rattle.std.proofs.lemmas.Option.{slice_get_cases, slice_get_within, get_or_from_slice_get, same_Some}
 use Rattle.std.proofs.lemmas.List.{length-map, length-take-le, map_more}
 use Rattle.std.proofs.lemmas.List.Elements.{filter_passes}
 use Rattle.svc_graph.specs.GraphData.{GraphData}
@@ -15,19 +15,19 @@ use Rattle.svc_graph.specs.declared.plan.Kind.{Kind}
 use Rattle.svc_graph.specs.declared.plan.EndpointPlan.{EndpointPlan}
 use Rattle.svc_record.specs.declared.plan.Plan.{Plan}
 use Rattle.svc_record.specs.declared.plan.ServicePlan.{ServicePlan}
-use Rattle.svc_record.specs.Plans.{service_count, depends}
-use Rattle.svc_record.specs.Validity.{IsAddress, IsValid, IsBuilt, depends_on}
-use Rattle.svc_record.specs.Building.{DependsWell, HasNoFilter}
+use Rattle.svc_record.specs.Plans.{service_count, depends, filter_of}
+use Rattle.svc_record.specs.Validity.{IsAddress, IsValid, depends_on}
+use Rattle.svc_record.specs.Building.{DependsWell}
 use Rattle.svc_record.proofs.ValidLemmas.{valid-plan}
-use Rattle.svc_record.proofs.BuiltLemmas.{built-from_tests}
 use Rattle.svc_conf.specs.declared.server.configuration.ServerConf.{ServerConf}
 use Rattle.svc_conf.specs.declared.server.configuration.Opt.{Opt}
 use Rattle.svc_conf.specs.declared.server.configuration.key.Key.{Key}
 use Rattle.svc_conf.specs.declared.server.configuration.key.Key.TheVariants.{ListenerTasksPerFd}
 use Rattle.svc_conf.specs.Configuration.{judged, first_broken, rules_of}
 use Rattle.svc_graph.specs.declared.services.ServiceWithDependents.{Ghosts}
+use Rattle.svc_server.specs.Judges.{NamesFilters}
 use Rattle.svc_server.specs.Runs.{names_of}
-use Rattle.svc_server.specs.Servers.{answer_of, answers_of, depends_of, with_depends, is_upgrade, is_test, plan_of, IsSound}
+use Rattle.svc_server.specs.Servers.{answer_of, answers_of, depends_of, with_depends, is_upgrade, is_test, plan_of, HasFilters, IsSound}
 
 abbrev some : ServicePlan → Option ServicePlan
 some x = Some x
@@ -163,7 +163,7 @@ slice_get-with_depends g s (x ∷ xs) (suc k) lt =
 
 -- ---- the whole plan
 
-module _ (conf : ServerConf) (options : Option Opt) (eager : Bool) (g : GraphData) (answers : List ServicePlan) (graph : IsGraph g) (sound : IsSound g answers) where
+module _ (conf : ServerConf) (options : Option Opt) (eager : Bool) (g : GraphData) (filters : ℕ) (answers : List ServicePlan) (graph : IsGraph g) (sound : IsSound g filters answers) where
   abbrev whole : Plan
   whole = plan_of conf options eager g answers
 
@@ -208,12 +208,45 @@ module _ (conf : ServerConf) (options : Option Opt) (eager : Bool) (g : GraphDat
     endpoints = All-with_depends (λ (s : ServicePlan). (length s.endpoints ≤ 64) × All IsAddress s.endpoints) (λ x ds h. h) g 0 answers sound.limits;
   }) depends-well
 
-  pub whole-built : conf.daemon ≡ false → IsBuilt whole
-  whole-built no_daemon = built-from_tests whole no_daemon (All-with_depends HasNoFilter (λ x ds h. h) g 0 answers sound.unfiltered)
+-- ---- the filters that a plan names
+
+all-at : {X : Type 0} (P : X → Type 0) (xs : List X) (k : ℕ) (x : X) → All P xs → slice_get xs k ≡ Some x → P x
+all-at P xs k x all at = subst P (get_or_from_slice_get xs k x x at) (all k x (slice_get_within xs k x at))
+
+filter-at : (p : Plan) (s i : ℕ) (x : ServicePlan) (e : EndpointPlan) → slice_get p.services s ≡ Some x → slice_get x.endpoints i ≡ Some e → filter_of p s i ≡ e.filter
+filter-at p s i x e at there = rw at (rw there refl)
+
+filter-past : (p : Plan) (s i : ℕ) (x : ServicePlan) → slice_get p.services s ≡ Some x → slice_get x.endpoints i ≡ None → filter_of p s i ≡ None
+filter-past p s i x at there = rw at (rw there refl)
+
+filter-beyond : (p : Plan) (s i : ℕ) → slice_get p.services s ≡ None → filter_of p s i ≡ None
+filter-beyond p s i at = rw at refl
+
+-- where the services name only the first n filters, the plan does
+names-each : (p : Plan) (n : ℕ) → All (HasFilters n) p.services → NamesFilters p n
+names-each p n all s i f is =
+    elim (slice_get_cases p.services s).1 [
+      | inl at ↦ in_service at.0 at.2
+      | inr past ↦ absurd (let none : filter_of p s i ≡ None = filter-beyond p s i past.1 in cc)
+    ]
+  where
+    in_service : (x : ServicePlan) → slice_get p.services s ≡ Some x → f < n
+    in_service x at =
+        elim (slice_get_cases x.endpoints i).1 [
+          | inl there ↦ (
+              let known : IfSome there.0.filter (λ k. k < n) = all-at (λ (e : EndpointPlan). IfSome e.filter (λ k. k < n)) x.endpoints i there.0 (all-at (HasFilters n) p.services s x all at) there.2 in
+              subst (λ (o : Option ℕ). IfSome o (λ k. k < n)) (sym (filter-at p s i x there.0 at there.2) ∙ is) known)
+          | inr past ↦ absurd (let none : filter_of p s i ≡ None = filter-past p s i x at past.1 in cc)
+        ]
+
+-- each filter that a server's plan names is one of the server's
+pub names-filters : (conf : ServerConf) (options : Option Opt) (eager : Bool) (g : GraphData) (n : ℕ) (answers : List ServicePlan) → IsSound g n answers → NamesFilters (plan_of conf options eager g answers) n
+names-filters conf options eager g n answers sound =
+    names-each (plan_of conf options eager g answers) n (All-with_depends (HasFilters n) (λ x ds h. h) g 0 answers sound.filtered)
 
 -- there are as many services as nodes
-pub count-sound : {B : Type 0} (means : Ghosts B) (services : List B) (g : GraphData) → IsSound g (answers_of means services) → length services ≡ node_count g
-count-sound means services g sound =
+pub count-sound : {B : Type 0} (means : Ghosts B) (services : List B) (g : GraphData) (n : ℕ) → IsSound g n (answers_of means services) → length services ≡ node_count g
+count-sound means services g n sound =
     sym (length-map services (answer_of means))
     ∙ sym (length-map (answers_of means services) (λ (x : ServicePlan). x.name))
     ∙ sym (ap (λ (names : List (List ℕ)). length names) sound.names)

@@ -1,5 +1,5 @@
 -- What a step of the core told, as it is told to a host.
-use Rattle.std.proofs.Common.{ℕ, ◌≡◌, true, not, List, [], ◌∷◌, ◌++◌, Option, Some, ap, subst, sym, ◌∙◌}
+use Rattle.std.proofs.Common.{ℕ, ◌≡◌, Bool, true, not, List, [], ◌∷◌, ◌++◌, Option, Some, ap, subst, sym, ◌∙◌}
 use Rattle.std.proofs.lemmas.Bool.{not-true, ltb-true}
 use Rattle.svc_record.specs.declared.plan.Plan.{Plan}
 use Rattle.svc_record.specs.declared.event.Event.{Event}
@@ -13,11 +13,15 @@ use Rattle.svc_record.specs.Record.{Record, tell, EachEntry}
 use Rattle.svc_record.specs.Right.{Right}
 use Rattle.svc_record.specs.Starts.{is_started, is_due, start_due, start_known}
 use Rattle.svc_record.proofs.Sound.{both}
+use Rattle.svc_record.specs.Connections.{Verdict}
+use Rattle.svc_record.specs.Judging.{asked_filter, judged_at, judgements, TellsJudged}
 use Rattle.svc_core.specs.CoreData.{CoreData}
 use Rattle.svc_core.specs.Stands.{StandsFor, StepRight, BeginKeeps, StepKeeps}
 use Rattle.svc_server.specs.Hosts.{Account}
+use Rattle.svc_server.specs.Judges.{peer_at, Asks, Judges}
 use Rattle.svc_server.specs.Handing.{Hands, DueStart, DueStarts, MayHandAll}
 use Rattle.svc_server.specs.Turns.{CanTake, Leaves}
+use Rattle.svc_server.proofs.SaidLemmas.{judges-untold, judges-step, judgements-told}
 
 -- what holds of each entry held before more was told
 each-front : (P : Entry → Record → Type 0) (q : Record) (told : List Action) → EachEntry P (tell q told) → EachEntry P q
@@ -39,9 +43,14 @@ due-told p q (a ∷ more) due known = (
 due-step : (core : CoreData) (p : Plan) (q : Record) (told : List Action) (end : StepEnd) → core.plan ≡ p → StepRight core (tell q told) end → DueStarts p q told
 due-step core p q told end same h = subst (λ (x : Plan). DueStarts x q told) same (due-told core.plan q told h.right.starts h.right.stronger.known_starts)
 
-leaves : (core : CoreData) (left : List (Option (List ℕ))) (account : Option Account) (p : Plan) (q : Record) (told : List Action) (end : StepEnd) → core.plan ≡ p → StepRight core (tell q told) end → Hands left account p (tell q told)
-    → Leaves core left account end q
-leaves core left account p q told end same h hands = record { told = told; step = h; hands = subst (λ (x : Plan). Hands left account x (tell q told)) (sym same) hands }
+leaves : (answers now : Verdict) (core : CoreData) (left : List (Option (List ℕ))) (account : Option Account) (p : Plan) (q : Record) (told : List Action) (end : StepEnd) → core.plan ≡ p → StepRight core (tell q told) end
+    → Hands left account p (tell q told) → ((verdict : Verdict) → Judges verdict answers p q → Judges verdict now p (tell q told)) → Leaves answers now core left account end q
+leaves answers now core left account p q told end same h hands judges = record {
+  told = told;
+  step = h;
+  hands = subst (λ (x : Plan). Hands left account x (tell q told)) (sym same) hands;
+  judges = λ verdict before. subst (λ (x : Plan). Judges verdict now x (tell q told)) (sym same) (judges verdict (subst (λ (x : Plan). Judges verdict answers x q) same before));
+}
 
 -- ---- the first step
 
@@ -54,13 +63,14 @@ pub may-begin : (core : CoreData) (p : Plan) (left : List (Option (List ℕ))) (
 may-begin core p left account before after told end keeps empty same plan hands =
     (p, ([], (hands, due-step core p [] told end plan (begun core before after told end keeps empty same))))
 
-pub begin-leaves : (core : CoreData) (p : Plan) (left now_left : List (Option (List ℕ))) (account now_account : Option Account) (before after told : List Action) (end : StepEnd)
-    → BeginKeeps core before after end → before ≡ [] → told ≡ after → core.plan ≡ p → Hands left account p []
+pub begin-leaves : (answers : Verdict) (core : CoreData) (p : Plan) (left now_left : List (Option (List ℕ))) (account now_account : Option Account) (before after told : List Action) (end : StepEnd)
+    → BeginKeeps core before after end → TellsJudged [] before after → before ≡ [] → told ≡ after → core.plan ≡ p → Hands left account p []
     → ((r : Plan) (t : Record) → Hands left account r t → DueStarts r t told → Hands now_left now_account r (tell t told))
-    → Leaves core now_left now_account end []
-begin-leaves core p left now_left account now_account before after told end keeps empty same plan hands step =
+    → Leaves answers answers core now_left now_account end []
+begin-leaves answers core p left now_left account now_account before after told end keeps judged empty same plan hands step =
     let right = begun core before after told end keeps empty same in
-    leaves core now_left now_account p [] told end plan right (step p [] hands (due-step core p [] told end plan right))
+    leaves answers answers core now_left now_account p [] told end plan right (step p [] hands (due-step core p [] told end plan right))
+    (λ verdict h. judges-untold verdict answers p [] told (judgements-told [] before after told judged empty same) h)
 
 -- ---- the step of an event
 
@@ -75,10 +85,11 @@ may-step old core left account e before after told end keeps empty same plan can
     let q = can.0 in
     (old.plan, (Got e ∷ q, (can.1.1, due-step core old.plan (Got e ∷ q) told end plan (stepped old core e before after told end q keeps empty same can.1.0.1 can.1.0.0))))
 
-pub step-leaves : (old core : CoreData) (left now_left : List (Option (List ℕ))) (account now_account : Option Account) (e : Event) (before after told : List Action) (end : StepEnd)
-    → StepKeeps old core e before after end → before ≡ [] → told ≡ after → core.plan ≡ old.plan
+pub step-leaves : (answers now : Verdict) (said : Bool) (old core : CoreData) (left now_left : List (Option (List ℕ))) (account now_account : Option Account) (e : Event) (before after told : List Action) (end : StepEnd)
+    → StepKeeps old core e before after end → TellsJudged (judged_at old.plan e said) before after → Asks answers now (asked_filter old.plan e) (peer_at e) said → before ≡ [] → told ≡ after → core.plan ≡ old.plan
     → ((r : Plan) (t : Record) → Hands left account r t → DueStarts r t told → Hands now_left now_account r (tell t told))
-    → (q : Record) → StandsFor old q → Right old.plan q → Hands left account old.plan (Got e ∷ q) → Leaves core now_left now_account end (Got e ∷ q)
-step-leaves old core left now_left account now_account e before after told end keeps empty same plan step q stands right hands =
+    → (q : Record) → StandsFor old q → Right old.plan q → Hands left account old.plan (Got e ∷ q) → Leaves answers now core now_left now_account end (Got e ∷ q)
+step-leaves answers now said old core left now_left account now_account e before after told end keeps judged asks empty same plan step q stands right hands =
     let kept = stepped old core e before after told end q keeps empty same right stands in
-    leaves core now_left now_account old.plan (Got e ∷ q) told end plan kept (step old.plan (Got e ∷ q) hands (due-step core old.plan (Got e ∷ q) told end plan kept))
+    leaves answers now core now_left now_account old.plan (Got e ∷ q) told end plan kept (step old.plan (Got e ∷ q) hands (due-step core old.plan (Got e ∷ q) told end plan kept))
+    (λ verdict h. judges-step verdict answers now old.plan q e told said (judgements-told (judged_at old.plan e said) before after told judged empty same) asks h)

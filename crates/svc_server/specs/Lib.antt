@@ -1,4 +1,5 @@
 pub mod Hosts
+pub mod Judges
 pub mod Runs
 pub mod Handing
 pub mod Turns

@@ -18,7 +18,7 @@ abbrev pub fresh : ServerConf
 fresh = record defaults { version = 1 }
 
 -- the server has what was read, merged with the flags; or the refusal is that of what was read, unless memory ran out
-abbrev pub Configures : {B : Type 0} → Option Opt → Result ServerConf ReadError → Result (Server B) ReadError → Type 0
+abbrev pub Configures : {B F : Type 0} → Option Opt → Result ServerConf ReadError → Result (Server B F) ReadError → Type 0
 Configures options read (Ok server) = (conf : ServerConf) × (read ≡ Ok conf) × (server.configuration ≡ merged options conf)
 Configures options read (Err NoMemory) = Unit {0}
 Configures options read (Err error) = read ≡ Err error

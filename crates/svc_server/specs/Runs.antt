@@ -12,9 +12,11 @@ use Rattle.svc_record.specs.declared.action.Action.TheVariants.{Start}
 use Rattle.svc_record.specs.declared.item.Item.{Item}
 use Rattle.svc_record.specs.declared.item.Item.TheVariants as items
 use Rattle.svc_record.specs.Plans.{service}
-use Rattle.svc_record.specs.Record.{Record, tell}
+use Rattle.svc_record.specs.Record.{Record, tell, EachEntry}
 use Rattle.svc_record.specs.Ends.{step_end, has_ended}
-use Rattle.svc_record.specs.Fits.{Fits}
+use Rattle.svc_record.specs.Connections.{Verdict}
+use Rattle.svc_record.specs.Drain.{has_passed}
+use Rattle.svc_record.specs.Fits.{Fits, event_fits}
 use Rattle.svc_record.specs.Right.{Right, Served as ServedRecord}
 use Rattle.svc_record.specs.Tail.{with_event, closing_actions, tail_right}
 use Rattle.svc_server.specs.declared.run.Outcome.{Outcome}
@@ -22,6 +24,7 @@ use Rattle.svc_server.specs.declared.run.Outcome.TheVariants.{Served, TestPassed
 use Rattle.svc_server.specs.declared.run.RunError.{RunError}
 use Rattle.svc_server.specs.declared.run.RunError.TheVariants.{Config, HostFault, Bootstrap, Stray, TurnsSpent, OutOfEvents, NoMemory}
 use Rattle.svc_server.specs.Hosts.{Handed, Account, Counts}
+use Rattle.svc_server.specs.Judges.{IsSaid}
 
 -- the events of a record, the oldest first
 abbrev pub events_of : Record → List Event
@@ -102,11 +105,12 @@ RunEnds p turns (Err TurnsSpent) r = (finished : Record) × IsSpent p turns r fi
 RunEnds p turns (Err OutOfEvents) r = (finished : Record) × IsClosed p r finished None
 RunEnds p turns (Err NoMemory) r = IsRefused p r
 
--- what a host tells of such a run: its record, within so many events, and each service that was started, handed over with the plan's name
-pub record RunTells (p : Plan) (turns : ℕ) (answer : Result Outcome RunError) (a : Account) : Type 0 where
+-- what a host tells of such a run, whose filters answer so: its record, within so many events; each service that was started, handed over with the plan's name; and each judgement is its filter's verdict
+pub record RunTells (verdict : Verdict) (p : Plan) (turns : ℕ) (answer : Result Outcome RunError) (a : Account) : Type 0 where
   pub ends : RunEnds p turns answer a.entries
   pub few : length (events_of a.entries) ≤ turns
   pub handed : a.handed ≡ handed_of p a.entries
+  pub said : IsSaid verdict p a.entries
 
 -- neither faults nor idles rose
 abbrev pub IsUnfailed : Counts → Counts → Type 0
@@ -124,6 +128,17 @@ RunCounts (Err (Config key)) before now = IsUnfailed before now
 RunCounts (Err (Stray k)) before now = IsUnfailed before now
 RunCounts (Err TurnsSpent) before now = IsUnfailed before now
 RunCounts (Err NoMemory) before now = IsUnfailed before now
+
+-- each event of the record fits what stands before it, and the record has passed: a signal came, and its waits are over
+pub record GoesWell (p : Plan) (r : Record) : Type 0 where
+  pub fits : EachEntry (λ e before. event_fits p e before ≡ true) r
+  pub passed : has_passed p r ≡ true
+
+-- the run served, or memory was refused
+abbrev pub GoesThrough : Result Outcome RunError → Type 0
+GoesThrough (Ok Served) = Unit {0}
+GoesThrough (Err NoMemory) = Unit {0}
+GoesThrough answer = ⊥
 
 -- the answer isn't that the configuration is refused
 abbrev pub IsConfigured : {T : Type 0} → Result T RunError → Type 0
@@ -146,7 +161,7 @@ pub record RunTakes (answer : Result Outcome RunError) (r : Record) (before now 
   pub left : LeavesNothing answer now
 
 -- what a run leaves that answers so
-pub record RunLeaves (p : Plan) (turns : ℕ) (answer : Result Outcome RunError) (account : Option Account) (old now : Counts) (before ahead : Option (List Item)) : Type 0 where
-  pub tells : IfSome account (RunTells p turns answer)
+pub record RunLeaves (verdict : Verdict) (p : Plan) (turns : ℕ) (answer : Result Outcome RunError) (account : Option Account) (old now : Counts) (before ahead : Option (List Item)) : Type 0 where
+  pub tells : IfSome account (RunTells verdict p turns answer)
   pub counts : RunCounts answer old now
   pub takes : IfSome account (λ a. IfSome before (λ b. IfSome ahead (RunTakes answer a.entries b)))

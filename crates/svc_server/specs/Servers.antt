@@ -1,13 +1,11 @@
 -- What a server's services answer, and the plan that a server is run by.
-use Rattle.std.specs.Prelude.{ℕ, Bool, true, false, ◌≡◌, ◌≤◌, ◌+◌, ◌||◌, List, [], ◌∷◌, length, map, filter, All, Option, Some, None, unwrap_or, Result, Ok, Err, if◌then◌else◌}
+use Rattle.std.specs.Prelude.{ℕ, Bool, true, false, ◌≡◌, ◌<◌, ◌≤◌, ◌+◌, ◌||◌, List, [], ◌∷◌, length, map, filter, All, Option, Some, None, IfSome, unwrap_or, Result, Ok, Err, if◌then◌else◌}
 use Rattle.std.specs.List.{range_with_len}
 use Rattle.svc_conf.specs.declared.server.configuration.ServerConf.{ServerConf}
 use Rattle.svc_conf.specs.declared.server.configuration.Opt.{Opt}
-use Rattle.svc_conf.specs.declared.server.configuration.key.Key.{Key}
-use Rattle.svc_conf.specs.declared.server.configuration.key.Key.TheVariants.{Daemon}
-use Rattle.svc_conf.specs.Configuration.{judged}
 use Rattle.svc_graph.specs.GraphData.{GraphData}
 use Rattle.svc_graph.specs.Graphs.{node_count, is_edge}
+use Rattle.svc_graph.specs.declared.plan.EndpointPlan.{EndpointPlan}
 use Rattle.svc_graph.specs.declared.services.ServiceWithDependents.{Ghosts}
 use Rattle.svc_record.specs.declared.plan.Plan.{Plan}
 use Rattle.svc_record.specs.declared.plan.ServicePlan.{ServicePlan}
@@ -15,7 +13,6 @@ use Rattle.svc_server.specs.declared.run.Outcome.{Outcome}
 use Rattle.svc_server.specs.declared.run.Outcome.TheVariants.{Served, TestPassed, Parent}
 use Rattle.svc_server.specs.declared.run.RunError.{RunError}
 use Rattle.svc_record.specs.Validity.{IsAddress}
-use Rattle.svc_record.specs.Building.{HasNoFilter}
 
 -- what a service answers, by the meanings of its calls; what it depends on isn't among it
 abbrev pub answer_of : {B : Type 0} → Ghosts B → B → ServicePlan
@@ -60,25 +57,20 @@ plan_of conf options eager g answers = record {
   ready_timeout = unwrap_or conf.daemon_ready_timeout_seconds 600;
 }
 
--- what a server's own calls keep: the graph's nodes are its services, by number and name; each service keeps the limits and has only forms that are built
-pub record IsSound (g : GraphData) (answers : List ServicePlan) : Type 0 where
+-- each filter that an endpoint of the service names is one of the first n
+abbrev pub HasFilters : ℕ → ServicePlan → Type 0
+HasFilters n s = All (λ (e : EndpointPlan). IfSome e.filter (λ f. f < n)) s.endpoints
+
+-- what a server's own calls keep: the graph's nodes are its services, by number and name; each service keeps the limits and names only filters of the server, which has so many
+pub record IsSound (g : GraphData) (filters : ℕ) (answers : List ServicePlan) : Type 0 where
   pub names : g.names ≡ map (λ (x : ServicePlan). x.name) answers
   pub limits : All (λ (s : ServicePlan). (length s.endpoints ≤ 64) × All IsAddress s.endpoints) answers
-  pub unfiltered : All HasNoFilter answers
+  pub filtered : All (HasFilters filters) answers
 
 -- the configuration with what the flags set in it
 abbrev pub merged : Option Opt → ServerConf → ServerConf
 merged (Some opt) conf = record conf { daemon = conf.daemon || opt.daemon }
 merged None conf = conf
-
--- the first answer where it refuses, else the next
-abbrev pub and_then : Result (Unit {0}) Key → Result (Unit {0}) Key → Result (Unit {0}) Key
-and_then (Ok accepted) next = next
-and_then (Err key) next = Err key
-
--- what is judged of a configuration before a run: after all else, that no daemon can be made yet
-abbrev pub runnable : ServerConf → Result (Unit {0}) Key
-runnable conf = and_then (judged conf) (if conf.daemon then Err Daemon else Ok tt)
 
 -- the status to end with after such an answer: the parent's, and else 0
 abbrev pub status_of : Result Outcome RunError → Result ℕ RunError

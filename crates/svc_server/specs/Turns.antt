@@ -15,6 +15,7 @@ use Rattle.svc_record.specs.declared.item.Item.TheVariants as items
 use Rattle.svc_record.specs.Record.{Record, tell}
 use Rattle.svc_record.specs.Ends.{step_end, has_ended}
 use Rattle.svc_record.specs.Right.{Right}
+use Rattle.svc_record.specs.Connections.{Verdict}
 use Rattle.svc_record.specs.Tail.{with_event, closing_actions}
 use Rattle.svc_core.specs.CoreData.{CoreData}
 use Rattle.svc_core.specs.Rooms.{close_room}
@@ -23,6 +24,7 @@ use Rattle.svc_server.specs.declared.run.Outcome.{Outcome}
 use Rattle.svc_server.specs.declared.run.RunError.{RunError}
 use Rattle.svc_server.specs.declared.run.RunError.TheVariants.{Stray, NoMemory}
 use Rattle.svc_server.specs.Hosts.{Account, Counts, BringsFew, tells_failure}
+use Rattle.svc_server.specs.Judges.{Judges}
 use Rattle.svc_server.specs.Runs.{events_of, RunTells, RunCounts, RunTakes, IsUnfailed}
 use Rattle.svc_server.specs.Handing.{Hands}
 
@@ -45,6 +47,10 @@ pub record IsAtEvent (core : CoreData) (left : List (Option (List ℕ))) (accoun
 -- for some record
 abbrev pub IsSomewhere : CoreData → List (Option (List ℕ)) → Option Account → ℕ → StepEnd → Type 0
 IsSomewhere core left account k end = (q : Record) × IsAt core left account k end q
+
+-- for some record, whose judgements are the verdicts of some filters that now answer so
+abbrev pub IsJudgedSomewhere : Verdict → CoreData → List (Option (List ℕ)) → Option Account → ℕ → StepEnd → Type 0
+IsJudgedSomewhere answers core left account k end = (q : Record) × (IsAt core left account k end q × ((verdict : Verdict) × Judges verdict answers core.plan q))
 
 -- for some record, where an event came
 abbrev pub IsSomewhereAtEvent : CoreData → List (Option (List ℕ)) → Option Account → ℕ → Option Event → Type 0
@@ -75,27 +81,29 @@ abbrev pub CanTake : CoreData → List (Option (List ℕ)) → Option Account �
 CanTake core left account None = ⊥
 CanTake core left account (Some e) = (q : Record) × ((StandsFor core q × Right core.plan q) × Hands left account core.plan (Got e ∷ q))
 
--- after the record q some actions were told; the record with them is right, the core stands for it, and the answer is its own
-pub record Leaves (core : CoreData) (left : List (Option (List ℕ))) (account : Option Account) (end : StepEnd) (q : Record) : Type 0 where
+-- after the record q some actions were told; the record with them is right, the core stands for it, and the answer is its own; where each judgement was its filter's verdict, it still is, with what the filters answer before and now
+pub record Leaves (before now : Verdict) (core : CoreData) (left : List (Option (List ℕ))) (account : Option Account) (end : StepEnd) (q : Record) : Type 0 where
   pub told : List Action
   pub step : StepRight core (tell q told) end
   pub hands : Hands left account core.plan (tell q told)
+  pub judges : (verdict : Verdict) → Judges verdict before core.plan q → Judges verdict now core.plan (tell q told)
 
--- what a run gives, where the host tells its account, and where it knows what lies ahead
-pub record RunGives (p : Plan) (turns : ℕ) (answer : Result Outcome RunError) (account : Option Account) (before now : Option (List Item)) : Type 0 where
-  pub tells : IfSome account (RunTells p turns answer)
+-- what a run gives whose filters answer so, where the host tells its account, and where it knows what lies ahead
+pub record RunGives (verdict : Verdict) (p : Plan) (turns : ℕ) (answer : Result Outcome RunError) (account : Option Account) (before now : Option (List Item)) : Type 0 where
+  pub tells : IfSome account (RunTells verdict p turns answer)
   pub takes : IfSome account (λ a. IfSome before (λ b. IfSome now (RunTakes answer a.entries b)))
 
--- a turn goes to the next point, or gives up the run
-abbrev pub TurnGives : CoreData → List (Option (List ℕ)) → Option Account → ℕ → ℕ → Result StepEnd RunError → Option (List Item) → Option (List Item) → Type 0
-TurnGives core left account k turns (Ok end) before now = (q : Record) × (IsAt core left account (k + 1) end q × IsAhead before now q)
-TurnGives core left account k turns (Err e) before now = RunGives core.plan turns (Err e) account before now
+-- a turn goes to the next point, with what the filters answer at first and now, or gives up the run
+abbrev pub TurnGives : Verdict → Verdict → CoreData → List (Option (List ℕ)) → Option Account → ℕ → ℕ → Result StepEnd RunError → Option (List Item) → Option (List Item) → Type 0
+TurnGives verdict answers core left account k turns (Ok end) before now =
+    (q : Record) × (IsAt core left account (k + 1) end q × (IsAhead before now q × Judges verdict answers core.plan q))
+TurnGives verdict answers core left account k turns (Err e) before now = RunGives verdict core.plan turns (Err e) account before now
 
--- what a turn gives in which the event e came, and which answers so
-abbrev pub EventGives : CoreData → CoreData → List (Option (List ℕ)) → List (Option (List ℕ)) → Option Account → Option Account → ℕ → Result StepEnd RunError → Option (List Item) → Option (List Item) → Event → Type 0
-EventGives core now_core left now_left account now_account k answer ahead now e =
-    (turns : ℕ) (before : Option (List Item)) (q : Record) → k < turns → IsAtEvent core left account k e q → IsAhead before ahead (Got e ∷ q)
-    → TurnGives now_core now_left now_account k turns answer before now
+-- what a turn gives in which the event e came, and which answers so, with what the filters answer before and after it
+abbrev pub EventGives : Verdict → Verdict → CoreData → CoreData → List (Option (List ℕ)) → List (Option (List ℕ)) → Option Account → Option Account → ℕ → Result StepEnd RunError → Option (List Item) → Option (List Item) → Event → Type 0
+EventGives answers now_answers core now_core left now_left account now_account k answer ahead now e =
+    (verdict : Verdict) (turns : ℕ) (before : Option (List Item)) (q : Record) → k < turns → IsAtEvent core left account k e q → IsAhead before ahead (Got e ∷ q)
+    → Judges verdict answers core.plan q → TurnGives verdict now_answers now_core now_left now_account k turns answer before now
 
 -- a count of 64 bits that didn't fall
 abbrev pub HasNotFallen : ℕ → ℕ → Type 0

@@ -1,6 +1,7 @@
-//! A server over any host: what it is made of, and its run.
+//! A server over any host: what it is made of, and its run; and one server that several threads share.
 #![tactic(auto)]
 
+mod asking;
 mod boxes;
 mod handing;
 mod host;
@@ -13,3 +14,7 @@ pub use host::{Host, Next};
 pub use run::{Outcome, RunArgs, RunError};
 pub use script_host::ScriptHost;
 pub use server::{AddAllRefused, AddError, AddRefused, Server};
+pub use svc_shared::{
+    CloseRefused, Fed, Feed, Gate, Pass, Post, PostReason, PostRefused, Posted, SharedServer,
+    SplitReason, SplitRefused,
+};

@@ -12,7 +12,7 @@ use crate::run::{Outcome, RunArgs, RunError};
 use crate::server::adding::fault_of;
 use crate::server::addresses::expected_addresses;
 use crate::server::lists::turn_round;
-use crate::server::planning::{is_test, is_upgrade, runnable, service_plans, status_of};
+use crate::server::planning::{is_test, is_upgrade, service_plans, status_of};
 use crate::turns::run_plan;
 pub use refusals::{AddAllRefused, AddError, AddRefused};
 use std::alloc::Global;
@@ -21,54 +21,60 @@ use svc_core::PhaseReader;
 use svc_graph::services::ServiceWithDependents;
 use svc_graph::{DependencyGraph, Kind, ServiceHandle};
 use svc_record::Plan;
+use svc_streams::{ConnectionFilter, Filters};
 
-/// A server whose services have the type `B`, which is `Box<dyn ServiceWithDependents>` for most.
+/// A server whose services have the type `B`, which is `Box<dyn ServiceWithDependents>` for most, and
+/// whose filters have the type `F`.
 #[derive(Drop)]
-pub struct Server<B> {
+pub struct Server<B, F = Box<dyn ConnectionFilter>> {
     /// What the server is configured with.
     pub configuration: ServerConf,
     /// The flags that it was started with.
     pub options: Option<Opt>,
     /// Which service depends on which. Its nodes are the services, by number and name.
     pub dependencies: DependencyGraph,
+    /// Which connections are taken: the filters that the services' endpoints name by their numbers.
+    pub filters: Filters<F>,
     services: Vec<B>,
     /// Whether the server bootstraps before its services start.
     eager: bool,
 }
 
-impl<B: ServiceWithDependents> Server<B> {
-    ghost use Rattle.std.specs.Prelude.{◌≡◌, ◌<◌, Ok, Err, None, false, true, [], ◌∷◌, ◌++◌, Result, IfOk, IfSome, ◌↔◌, IfErr, OnOk, OnErr, drop, vec_len, vec_capacity};
+impl<B: ServiceWithDependents, F: ConnectionFilter> Server<B, F> {
+    ghost use Rattle.std.specs.Prelude.{◌≡◌, ◌<◌, Ok, Err, None, false, true, [], ◌∷◌, ◌++◌, Result, IfOk, IfSome, ◌↔◌, IfErr, OnOk, OnErr, drop, length, vec_len, vec_capacity};
     ghost use Rattle.svc_conf.specs.Configuration.{judged};
-    ghost use Rattle.svc_record.specs.Validity.{IsValid, IsBuilt};
+    ghost use Rattle.svc_record.specs.Validity.{IsValid};
     ghost use Rattle.svc_record.specs.Right.{Served as ServedRecord};
+    ghost use Rattle.svc_streams.specs.Verdicts.{verdict_at};
     ghost use Rattle.svc_server.specs.Hosts.{no_account};
     ghost use Rattle.svc_server.specs.declared.run.Outcome.{Outcome};
     ghost use Rattle.svc_server.specs.declared.run.RunError.{RunError};
-    ghost use Rattle.svc_server.specs.Runs.{RunTells, RunCounts, RunTakes, RunLeaves};
+    ghost use Rattle.svc_server.specs.Runs.{RunTells, RunCounts, RunTakes, RunLeaves, GoesWell, GoesThrough};
     ghost use Rattle.svc_graph.specs.Graphs.{node_count, with_node};
     ghost use Rattle.svc_server.specs.Additions.{fault_of, IsReason, AddsFirst, RefusesAt};
-    ghost use Rattle.svc_server.specs.Servers.{answer_of, answers_of, plan_of, merged, runnable, status_of, IsSound};
+    ghost use Rattle.svc_server.specs.Servers.{answer_of, answers_of, plan_of, merged, status_of, IsSound};
     ghost use Rattle.svc_server.specs.Addresses.{expected_of};
     ghost use Rattle.std.specs.Option.{option_map};
 
-    /// A server without services. The flags are merged into the configuration, which is then
-    /// validated; the path in the flags isn't looked at. `Invalid` with the offending key where the
-    /// configuration is one that no server can run with.
+    /// A server without services and filters. The flags are merged into the configuration, which is
+    /// then validated; the path in the flags isn't looked at. `Invalid` with the offending key where
+    /// the configuration is one that no server can run with.
     pub fn new_with_opt_and_conf(
         alloc: Global,
         opt: Option<Opt>,
         mut conf: ServerConf,
-    ) -> Result<Server<B>, ReadError>
+    ) -> Result<Server<B, F>, ReadError>
         ensures configuration { IfOk result (λ server. server.configuration ≡ merged opt conf) }
         ensures options { IfOk result (λ server. server.options ≡ opt) }
         ensures nodes { IfOk result
             (λ server. server.dependencies ≡ record { names = []; depends = [] }) }
+        ensures filters { IfOk result (λ server. server.filters ≡ []) }
         ensures services { IfOk result (λ server. server.services.items ≡ []) }
         ensures eager { IfOk result (λ server. server.eager ≡ false) }
         ensures accepted { OnOk result (judged (merged opt conf) ≡ Ok tt) }
         ensures refused { IfErr result
             (λ error. (key : _) × (error ≡ ReadError.Invalid key) × (judged (merged opt conf) ≡ Err key)) }
-        ensures sound { IfOk result (λ server. IsSound server.dependencies
+        ensures sound { IfOk result (λ server. IsSound server.dependencies (length server.filters)
             (answers_of B.ServiceWithDependents server.services.items)) }
     {
         if let Some(opt) = &opt {
@@ -81,6 +87,7 @@ impl<B: ServiceWithDependents> Server<B> {
             configuration: conf,
             options: opt,
             dependencies: DependencyGraph::new(alloc),
+            filters: Filters::new(alloc),
             services: Vec::new(alloc),
             eager: false,
         })
@@ -91,6 +98,7 @@ impl<B: ServiceWithDependents> Server<B> {
         ensures configuration { self.new.configuration ≡ self.old.configuration }
         ensures options { self.new.options ≡ self.old.options }
         ensures eager { self.new.eager ≡ self.old.eager }
+        ensures filters { self.new.filters ≡ self.old.filters }
         ensures services { self.new.services.items ≡ self.old.services.items }
         ensures room { OnOk result (vec_len self.new.services < vec_capacity self.new.services) }
         ensures handle { IfOk result (λ handle. handle
@@ -99,11 +107,11 @@ impl<B: ServiceWithDependents> Server<B> {
             ≡ with_node self.old.dependencies (B.named service.now)) }
         ensures unchanged { OnErr result (self.new.dependencies ≡ self.old.dependencies) }
         ensures good { OnOk result (fault_of self.old.dependencies
-            (answer_of B.ServiceWithDependents service.now) ≡ None) }
+            (length self.old.filters) (answer_of B.ServiceWithDependents service.now) ≡ None) }
         ensures cause { IfErr result (IsReason (fault_of self.old.dependencies
-            (answer_of B.ServiceWithDependents service.now))) }
+            (length self.old.filters) (answer_of B.ServiceWithDependents service.now))) }
     {
-        if let Some(fault) = fault_of(alloc, &self.dependencies, service)? {
+        if let Some(fault) = fault_of(alloc, &self.dependencies, self.filters.len(), service)? {
             return Err(fault);
         }
         self.services.reserve(1).map_err(NoMemory::from)?;
@@ -122,6 +130,7 @@ impl<B: ServiceWithDependents> Server<B> {
         ensures configuration { self.new.configuration ≡ self.old.configuration }
         ensures options { self.new.options ≡ self.old.options }
         ensures eager { self.new.eager ≡ self.old.eager }
+        ensures filters { self.new.filters ≡ self.old.filters }
 
         // It is taken exactly where no cause stands, want of memory aside.
         ensures handle { IfOk result (λ handle. handle
@@ -130,18 +139,18 @@ impl<B: ServiceWithDependents> Server<B> {
         ensures node { OnOk result (self.new.dependencies
             ≡ with_node self.old.dependencies (B.named service)) }
         ensures good { OnOk result (fault_of self.old.dependencies
-            (answer_of B.ServiceWithDependents service) ≡ None) }
+            (length self.old.filters) (answer_of B.ServiceWithDependents service) ≡ None) }
 
         // Else the cause is told, and nothing changes.
         ensures cause { IfErr result (λ refused. IsReason (fault_of self.old.dependencies
-            (answer_of B.ServiceWithDependents service)) refused.reason) }
+            (length self.old.filters) (answer_of B.ServiceWithDependents service)) refused.reason) }
         ensures back { IfErr result (λ refused. refused.service ≡ service) }
         ensures same_services { OnErr result (self.new.services.items ≡ self.old.services.items) }
         ensures same_nodes { OnErr result (self.new.dependencies ≡ self.old.dependencies) }
 
-        ensures sound { IsSound self.old.dependencies
+        ensures sound { IsSound self.old.dependencies (length self.old.filters)
             (answers_of B.ServiceWithDependents self.old.services.items)
-            → IsSound self.new.dependencies
+            → IsSound self.new.dependencies (length self.new.filters)
             (answers_of B.ServiceWithDependents self.new.services.items) }
     {
         match self.prepare(alloc, &service) {
@@ -162,6 +171,7 @@ impl<B: ServiceWithDependents> Server<B> {
         ensures configuration { self.new.configuration ≡ self.old.configuration }
         ensures options { self.new.options ≡ self.old.options }
         ensures eager { self.new.eager ≡ self.old.eager }
+        ensures filters { self.new.filters ≡ self.old.filters }
 
         // It is taken exactly where no cause stands, want of memory aside.
         ensures handle { IfOk result (λ handle. handle
@@ -170,18 +180,18 @@ impl<B: ServiceWithDependents> Server<B> {
         ensures node { OnOk result (self.new.dependencies
             ≡ with_node self.old.dependencies (B.named service)) }
         ensures good { OnOk result (fault_of self.old.dependencies
-            (answer_of B.ServiceWithDependents service) ≡ None) }
+            (length self.old.filters) (answer_of B.ServiceWithDependents service) ≡ None) }
 
         // Else the cause is told, and nothing changes.
         ensures cause { IfErr result (λ refused. IsReason (fault_of self.old.dependencies
-            (answer_of B.ServiceWithDependents service)) refused.reason) }
+            (length self.old.filters) (answer_of B.ServiceWithDependents service)) refused.reason) }
         ensures back { IfErr result (λ refused. refused.service ≡ service) }
         ensures same_services { OnErr result (self.new.services.items ≡ self.old.services.items) }
         ensures same_nodes { OnErr result (self.new.dependencies ≡ self.old.dependencies) }
 
-        ensures sound { IsSound self.old.dependencies
+        ensures sound { IsSound self.old.dependencies (length self.old.filters)
             (answers_of B.ServiceWithDependents self.old.services.items)
-            → IsSound self.new.dependencies
+            → IsSound self.new.dependencies (length self.new.filters)
             (answers_of B.ServiceWithDependents self.new.services.items) }
     {
         self.add_service(alloc, service)
@@ -197,6 +207,7 @@ impl<B: ServiceWithDependents> Server<B> {
         ensures configuration { self.new.configuration ≡ self.old.configuration }
         ensures options { self.new.options ≡ self.old.options }
         ensures eager { self.new.eager ≡ self.old.eager }
+        ensures filters { self.new.filters ≡ self.old.filters }
 
         // It is taken exactly where no cause stands, want of memory aside.
         ensures handle { IfOk result (λ handle. handle
@@ -205,18 +216,18 @@ impl<B: ServiceWithDependents> Server<B> {
         ensures node { OnOk result (self.new.dependencies
             ≡ with_node self.old.dependencies (B.named service)) }
         ensures good { OnOk result (fault_of self.old.dependencies
-            (answer_of B.ServiceWithDependents service) ≡ None) }
+            (length self.old.filters) (answer_of B.ServiceWithDependents service) ≡ None) }
 
         // Else the cause is told, and nothing changes.
         ensures cause { IfErr result (λ refused. IsReason (fault_of self.old.dependencies
-            (answer_of B.ServiceWithDependents service)) refused.reason) }
+            (length self.old.filters) (answer_of B.ServiceWithDependents service)) refused.reason) }
         ensures back { IfErr result (λ refused. refused.service ≡ service) }
         ensures same_services { OnErr result (self.new.services.items ≡ self.old.services.items) }
         ensures same_nodes { OnErr result (self.new.dependencies ≡ self.old.dependencies) }
 
-        ensures sound { IsSound self.old.dependencies
+        ensures sound { IsSound self.old.dependencies (length self.old.filters)
             (answers_of B.ServiceWithDependents self.old.services.items)
-            → IsSound self.new.dependencies
+            → IsSound self.new.dependencies (length self.new.filters)
             (answers_of B.ServiceWithDependents self.new.services.items) }
     {
         self.add_service(alloc, service)
@@ -232,22 +243,23 @@ impl<B: ServiceWithDependents> Server<B> {
         ensures configuration { self.new.configuration ≡ self.old.configuration }
         ensures options { self.new.options ≡ self.old.options }
         ensures eager { self.new.eager ≡ self.old.eager }
+        ensures filters { self.new.filters ≡ self.old.filters }
         ensures all { IfOk result (λ handles. AddsFirst B.ServiceWithDependents
-            self.old.dependencies self.new.dependencies self.old.services.items
-            self.new.services.items services.items (vec_len services) handles.items) }
+            self.old.dependencies self.new.dependencies (length self.old.filters)
+            self.old.services.items self.new.services.items services.items (vec_len services) handles.items) }
 
         // Where one is refused: those before it, it and those after it, and the cause.
         ensures some { IfErr result (λ refused. AddsFirst B.ServiceWithDependents
-            self.old.dependencies self.new.dependencies self.old.services.items
-            self.new.services.items services.items refused.index refused.handles.items) }
+            self.old.dependencies self.new.dependencies (length self.old.filters)
+            self.old.services.items self.new.services.items services.items refused.index refused.handles.items) }
         ensures back { IfErr result
             (λ refused. refused.services.items ≡ drop refused.index services.items) }
         ensures cause { IfErr result (λ refused. RefusesAt B.ServiceWithDependents
-            self.new.dependencies services.items refused.index refused.reason) }
+            self.new.dependencies (length self.new.filters) services.items refused.index refused.reason) }
 
-        ensures sound { IsSound self.old.dependencies
+        ensures sound { IsSound self.old.dependencies (length self.old.filters)
             (answers_of B.ServiceWithDependents self.old.services.items)
-            → IsSound self.new.dependencies
+            → IsSound self.new.dependencies (length self.new.filters)
             (answers_of B.ServiceWithDependents self.new.services.items) }
     {
         let mut handles = Vec::new(alloc);
@@ -304,16 +316,14 @@ impl<B: ServiceWithDependents> Server<B> {
     /// What the server is run by: its services as they answer, their dependencies, and the settings,
     /// with 300 seconds of grace, 5 seconds to stop, 5 retries and 600 seconds of waiting for a
     /// daemon where they are unset. It bootstraps before the services where `bootstrap` was called. It
-    /// is valid where the configuration is, and has only forms that are built where no daemon is asked
-    /// for.
+    /// is valid where the configuration is.
     pub fn plan(&self, alloc: Global) -> Result<Plan, NoMemory>
-        requires sound { IsSound self.now.dependencies
+        requires sound { IsSound self.now.dependencies (length self.now.filters)
             (answers_of B.ServiceWithDependents self.now.services.items) }
         ensures plan { IfOk result (λ plan. plan
             ≡ plan_of self.now.configuration self.now.options self.now.eager self.now.dependencies
             (answers_of B.ServiceWithDependents self.now.services.items)) }
         ensures valid { judged self.now.configuration ≡ Ok tt → IfOk result IsValid }
-        ensures built { self.now.configuration.daemon ≡ false → IfOk result IsBuilt }
     {
         let conf = &self.configuration;
         let services = service_plans(alloc, &self.dependencies, &self.services)?;
@@ -333,16 +343,17 @@ impl<B: ServiceWithDependents> Server<B> {
     }
 
     /// Runs the server over a host until its shutdown is through, or until it has tested that it can
-    /// start, or this process is the parent, with at most so many events as there are turns. `Config` with the offending key where no server can be run with the configuration,
-    /// and with `daemon` where it asks for a daemon, which isn't built yet; the other errors are those
-    /// of the run. Each service is handed to the host right before its start.
+    /// start, or this process is the parent, with at most so many events as there are turns. `Config`
+    /// with the offending key where no server can be run with the configuration; the other errors are
+    /// those of the run. Each service is handed to the host right before its start. For each connection
+    /// whose peer is known the filter of its endpoint is asked, where it has one.
     pub fn run<H: Host<Service = B>>(
         self,
         alloc: Global,
         args: RunArgs,
         host: &mut H,
     ) -> Result<Outcome, RunError>
-        requires sound { IsSound self.dependencies
+        requires sound { IsSound self.dependencies (length self.filters)
             (answers_of B.ServiceWithDependents self.services.items) }
         requires first { IfSome (H.account host.old) (λ a. a ≡ no_account) }
 
@@ -351,17 +362,22 @@ impl<B: ServiceWithDependents> Server<B> {
             ServedRecord (plan_of self.configuration self.options self.eager self.dependencies
             (answers_of B.ServiceWithDependents self.services.items)) a.entries) }
 
-        // The record, and what was handed over, by each answer.
-        ensures tells { IfSome (H.account host.new) (RunTells (plan_of self.configuration
+        // The record, what was handed over, and what the filters said, by each answer.
+        ensures tells { IfSome (H.account host.new) (RunTells (verdict_at F.verdict self.filters) (plan_of self.configuration
             self.options self.eager self.dependencies
             (answers_of B.ServiceWithDependents self.services.items)) args.turns result) }
         ensures counts { RunCounts result (H.counts host.old) (H.counts host.new) }
         ensures takes { IfSome (H.account host.new) (λ a. IfSome (H.ahead host.old) (λ before.
             IfSome (H.ahead host.new) (RunTakes result a.entries before))) }
         ensures config { (key : _) → (result ≡ Err (RunError.Config key))
-            ↔ (runnable self.configuration ≡ Err key) }
+            ↔ (judged self.configuration ≡ Err key) }
+
+        // Completeness: where every event fits and a shutdown's waits have passed, it served, or memory
+        // was refused.
+        ensures complete { IfSome (H.account host.new) (λ a. GoesWell (plan_of self.configuration self.options self.eager self.dependencies
+            (answers_of B.ServiceWithDependents self.services.items)) a.entries → GoesThrough result) }
     {
-        if let Err(key) = runnable(&self.configuration) {
+        if let Err(key) = self.configuration.validate() {
             return Err(RunError::Config(key));
         }
         let plan = self.plan(alloc)?;
@@ -369,10 +385,11 @@ impl<B: ServiceWithDependents> Server<B> {
             configuration: _,
             options: _,
             dependencies: _,
+            filters,
             services,
             eager: _,
         } = self;
-        run_plan(alloc, plan, services, args.turns, host)
+        run_plan(alloc, plan, services, filters, args.turns, host)
     }
 
     /// Runs as `run` does with the turns of `RunArgs::default`, and answers the status to end with: the
@@ -382,17 +399,17 @@ impl<B: ServiceWithDependents> Server<B> {
         alloc: Global,
         host: &mut H,
     ) -> Result<u8, RunError>
-        requires sound { IsSound self.dependencies
+        requires sound { IsSound self.dependencies (length self.filters)
             (answers_of B.ServiceWithDependents self.services.items) }
         requires first { IfSome (H.account host.old) (λ a. a ≡ no_account) }
 
         // The run answered something with this status, and left what such a run leaves.
         ensures leaves { (answer : Result Outcome RunError) × ((result ≡ status_of answer)
-            × RunLeaves (plan_of self.configuration self.options self.eager self.dependencies
+            × RunLeaves (verdict_at F.verdict self.filters) (plan_of self.configuration self.options self.eager self.dependencies
             (answers_of B.ServiceWithDependents self.services.items)) 1000000 answer
             (H.account host.new) (H.counts host.old) (H.counts host.new) (H.ahead host.old) (H.ahead host.new)) }
         ensures config { (key : _) → (result ≡ Err (RunError.Config key))
-            ↔ (runnable self.configuration ≡ Err key) }
+            ↔ (judged self.configuration ≡ Err key) }
     {
         let answer = self.run(alloc, RunArgs::default(), host);
         status_of(answer)

@@ -1,20 +1,24 @@
 //! The run of a plan over a host, turn by turn.
 
-ghost use Rattle.std.specs.Prelude.{◌≡◌, ◌+◌, ◌*◌, ◌<◌, ◌≤◌, ℕ, [], ◌∷◌, List, Option, Some, None, map, Ok, Err, IfSome, IfOk, OnOk, OnErr, IsSome};
+ghost use Rattle.std.specs.Prelude.{◌≡◌, ◌+◌, ◌*◌, ◌<◌, ◌≤◌, ℕ, [], ◌∷◌, List, Option, Some, None, false, length, map, Ok, Err, IfSome, IfOk, OnOk, OnErr, IsSome};
 ghost use Rattle.svc_conf.specs.Items.{list_of, spare};
 ghost use Rattle.svc_record.specs.declared.entry.Entry.TheVariants.{Got};
 ghost use Rattle.svc_record.specs.declared.item.Item.{Item};
 ghost use Rattle.svc_record.specs.Record.{Record};
 ghost use Rattle.svc_record.specs.Right.{Right};
-ghost use Rattle.svc_record.specs.Validity.{IsValid, IsBuilt};
+ghost use Rattle.svc_record.specs.Connections.{Verdict};
+ghost use Rattle.svc_record.specs.Validity.{IsValid};
+ghost use Rattle.svc_streams.specs.Verdicts.{verdict_at};
 ghost use Rattle.svc_core.specs.CoreData.{is_served};
 ghost use Rattle.svc_core.specs.Rooms.{tell_room, close_room};
 ghost use Rattle.svc_core.specs.Stands.{StandsFor, HasNotBegun, MayCome};
 ghost use Rattle.svc_server.specs.Hosts.{ComesWith, no_account};
 ghost use Rattle.svc_server.specs.Handing.{names_by, Hands};
-ghost use Rattle.svc_server.specs.Turns.{IsAt, IsSomewhere, IsSomewhereAtEvent, IsAhead, HasRoom, CanClose, ClosesTo, CanTake, Leaves, RunGives, TurnGives, TurnCounts, EventGives, FailsBy, AnswersEvent};
+ghost use Rattle.svc_server.specs.Judges.{Judges, NamesFilters};
+ghost use Rattle.svc_server.specs.Turns.{IsAt, IsSomewhere, IsJudgedSomewhere, IsSomewhereAtEvent, IsAhead, HasRoom, CanClose, ClosesTo, CanTake, Leaves, RunGives, TurnGives, TurnCounts, EventGives, FailsBy, AnswersEvent};
 ghost use Rattle.svc_server.specs.Runs.{RunTells, RunCounts, RunTakes, IsConfigured, answer_of, names_of};
 
+use crate::asking::ask_filter;
 use crate::boxes::Boxes;
 use crate::handing::tell_all;
 use crate::host::{Host, Next};
@@ -24,24 +28,31 @@ use svc_conf::NoMemory;
 use svc_core::Core;
 use svc_graph::services::ServiceWithDependents;
 use svc_record::{Actions, Plan, StepEnd};
+use svc_streams::{ConnectionFilter, Filters};
 
-/// A run on its way: the core, the services that aren't handed over yet, and an empty list that has
-/// room for the closes of all.
+/// A run on its way: the core, the services that aren't handed over yet, the filters, and an empty
+/// list that has room for the closes of all.
 #[derive(Drop)]
-struct Machine<B> {
+struct Machine<B, F> {
     core: Core,
     boxes: Boxes<B>,
+    filters: Filters<F>,
     closing: Actions,
 }
 
-impl<B: ServiceWithDependents> Machine<B> {
+impl<B: ServiceWithDependents, F: ConnectionFilter> Machine<B, F> {
     /// Nothing was told yet, and all services are left.
-    fn new(alloc: Global, plan: Plan, services: Vec<B>) -> Result<Self, NoMemory>
+    fn new(
+        alloc: Global,
+        plan: Plan,
+        services: Vec<B>,
+        filters: Filters<F>,
+    ) -> Result<Self, NoMemory>
         requires valid { IsValid plan }
-        requires built { IsBuilt plan }
         ensures plan { IfOk result (λ machine. machine.core.plan ≡ plan) }
         ensures first { IfOk result (λ machine. HasNotBegun machine.core) }
         ensures left { IfOk result (λ machine. machine.boxes ≡ map Some services.items) }
+        ensures filters { IfOk result (λ machine. machine.filters ≡ filters) }
         ensures empty { IfOk result (λ machine. list_of machine.closing ≡ []) }
     {
         let core = Core::new(alloc, plan)?;
@@ -49,6 +60,7 @@ impl<B: ServiceWithDependents> Machine<B> {
         Ok(Machine {
             core,
             boxes,
+            filters,
             closing: Actions::new(alloc),
         })
     }
@@ -59,6 +71,7 @@ impl<B: ServiceWithDependents> Machine<B> {
         requires can { CanClose self.old.core (names_by B.named self.old.boxes) (H.account host.old) None }
         ensures closed { ClosesTo self.old.core (names_by B.named self.old.boxes) (names_by B.named self.new.boxes) (H.account host.old) (H.account host.new) None }
         ensures core { self.new.core ≡ self.old.core }
+        ensures filters { self.new.filters ≡ self.old.filters }
         ensures counts { H.counts host.new ≡ H.counts host.old }
         ensures ahead { H.ahead host.new ≡ H.ahead host.old }
     {
@@ -73,6 +86,7 @@ impl<B: ServiceWithDependents> Machine<B> {
         requires can { CanClose self.old.core (names_by B.named self.old.boxes) (H.account host.old) (H.last host.old) }
         ensures closed { ClosesTo self.old.core (names_by B.named self.old.boxes) (names_by B.named self.new.boxes) (H.account host.old) (H.account host.new) (H.last host.old) }
         ensures core { self.new.core ≡ self.old.core }
+        ensures filters { self.new.filters ≡ self.old.filters }
         ensures counts { H.counts host.new ≡ H.counts host.old }
         ensures ahead { H.ahead host.new ≡ H.ahead host.old }
     {
@@ -92,6 +106,7 @@ impl<B: ServiceWithDependents> Machine<B> {
         ensures host { OnOk result (2 * tell_room self.new.core + 1 ≤ H.spare host.new) }
         ensures core { self.new.core ≡ self.old.core }
         ensures boxes { self.new.boxes ≡ self.old.boxes }
+        ensures filters { self.new.filters ≡ self.old.filters }
         ensures account { H.account host.new ≡ H.account host.old }
         ensures counts { H.counts host.new ≡ H.counts host.old }
         ensures ahead { H.ahead host.new ≡ H.ahead host.old }
@@ -111,7 +126,9 @@ impl<B: ServiceWithDependents> Machine<B> {
         requires empty { list_of self.old.closing ≡ [] }
         requires hands { Hands (names_by B.named self.old.boxes) (H.account host.old) self.old.core.plan [] }
         ensures plan { IfOk result (λ _. self.new.core.plan ≡ self.old.core.plan) }
-        ensures leaves { IfOk result (λ end. Leaves self.new.core (names_by B.named self.new.boxes) (H.account host.new) end []) }
+        ensures filters { self.new.filters ≡ self.old.filters }
+        ensures leaves { IfOk result (λ end. Leaves (verdict_at F.verdict self.old.filters) (verdict_at F.verdict self.new.filters)
+            self.new.core (names_by B.named self.new.boxes) (H.account host.new) end []) }
         ensures room { OnOk result (HasRoom self.new.core self.new.closing (H.spare host.new)) }
         ensures untold { OnErr result (H.account host.new ≡ H.account host.old) }
         ensures counts { H.counts host.new ≡ H.counts host.old }
@@ -126,8 +143,8 @@ impl<B: ServiceWithDependents> Machine<B> {
         Ok(end)
     }
 
-    /// The step of the host's last event, which fits, with its actions told. After `NoMemory` nothing
-    /// has changed.
+    /// The step of the host's last event, which fits, with its actions told. Before it the filter is
+    /// asked that is asked at the event. After `NoMemory` nothing else has changed.
     fn take<H: Host<Service = B>>(
         &mut self,
         alloc: Global,
@@ -136,21 +153,27 @@ impl<B: ServiceWithDependents> Machine<B> {
         requires fits { IfSome (H.last host.old) (MayCome self.old.core) }
         requires room { 2 * tell_room self.old.core ≤ H.spare host.old }
         requires can { CanTake self.old.core (names_by B.named self.old.boxes) (H.account host.old) (H.last host.old) }
+        requires known { NamesFilters self.old.core.plan (length self.old.filters) }
         ensures plan { IfOk result (λ _. self.new.core.plan ≡ self.old.core.plan) }
         ensures leaves { IfOk result (λ end. IfSome (H.last host.old) (λ e. (q : Record) → StandsFor self.old.core q → Right self.old.core.plan q
             → Hands (names_by B.named self.old.boxes) (H.account host.old) self.old.core.plan (Got e ∷ q)
-            → Leaves self.new.core (names_by B.named self.new.boxes) (H.account host.new) end (Got e ∷ q))) }
+            → Leaves (verdict_at F.verdict self.old.filters) (verdict_at F.verdict self.new.filters)
+            self.new.core (names_by B.named self.new.boxes) (H.account host.new) end (Got e ∷ q))) }
         ensures room { OnOk result (2 * close_room self.new.core ≤ H.spare host.new) }
         ensures few { OnOk result (close_room self.new.core ≤ tell_room self.old.core) }
-        ensures refused { OnErr result (self.new ≡ self.old) }
+        ensures refused { OnErr result (self.new.core ≡ self.old.core) }
+        ensures left { OnErr result (self.new.boxes ≡ self.old.boxes) }
         ensures untold { OnErr result (host.new ≡ host.old) }
+        ensures filters { length self.new.filters ≡ length self.old.filters }
         ensures list { self.new.closing ≡ self.old.closing }
         ensures counts { H.counts host.new ≡ H.counts host.old }
         ensures ahead { H.ahead host.new ≡ H.ahead host.old }
     {
         let mut actions = Actions::new(alloc);
-        let end = self.core.step(alloc, host.event(), true, &mut actions)?;
-        self.boxes.note_event(host.event());
+        let event = host.event();
+        let said = ask_filter(&mut self.filters, self.core.asks(event), event);
+        let end = self.core.step(alloc, event, said, &mut actions)?;
+        self.boxes.note_event(event);
         tell_all(self.core.plan(), &mut self.boxes, &mut actions, host);
         Ok(end)
     }
@@ -167,10 +190,12 @@ impl<B: ServiceWithDependents> Machine<B> {
         requires list { tell_room self.old.core ≤ spare self.old.closing }
         requires told { 2 * tell_room self.old.core ≤ H.spare host.old }
         requires at { IsSomewhereAtEvent self.old.core (names_by B.named self.old.boxes) (H.account host.old) k (H.last host.old) }
-        ensures gives { IfSome (H.last host.old) (EventGives self.old.core self.new.core (names_by B.named self.old.boxes) (names_by B.named self.new.boxes)
+        requires known { NamesFilters self.old.core.plan (length self.old.filters) }
+        ensures gives { IfSome (H.last host.old) (EventGives (verdict_at F.verdict self.old.filters) (verdict_at F.verdict self.new.filters) self.old.core self.new.core (names_by B.named self.old.boxes) (names_by B.named self.new.boxes)
             (H.account host.old) (H.account host.new) k result (H.ahead host.old) (H.ahead host.new)) }
         ensures room { OnOk result (HasRoom self.new.core self.new.closing (H.spare host.new)) }
         ensures plan { self.new.core.plan ≡ self.old.core.plan }
+        ensures filters { length self.new.filters ≡ length self.old.filters }
         ensures failed { IfSome (H.last host.old) (FailsBy result) }
         ensures cause { AnswersEvent result }
         ensures counts { H.counts host.new ≡ H.counts host.old }
@@ -198,12 +223,15 @@ impl<B: ServiceWithDependents> Machine<B> {
         requires small { k < u64.MAX }
         requires room { HasRoom self.old.core self.old.closing (H.spare host.old) }
         requires at { IsSomewhere self.old.core (names_by B.named self.old.boxes) (H.account host.old) k StepEnd.On }
-        ensures gives { (turns : ℕ) (before : Option (List Item)) (q : Record) → k < turns
+        requires known { NamesFilters self.old.core.plan (length self.old.filters) }
+        ensures gives { (verdict : Verdict) (turns : ℕ) (before : Option (List Item)) (q : Record) → k < turns
             → IsAt self.old.core (names_by B.named self.old.boxes) (H.account host.old) k StepEnd.On q
             → IsAhead before (H.ahead host.old) q
-            → TurnGives self.new.core (names_by B.named self.new.boxes) (H.account host.new) k turns result before (H.ahead host.new) }
+            → Judges verdict (verdict_at F.verdict self.old.filters) self.old.core.plan q
+            → TurnGives verdict (verdict_at F.verdict self.new.filters) self.new.core (names_by B.named self.new.boxes) (H.account host.new) k turns result before (H.ahead host.new) }
         ensures room { OnOk result (HasRoom self.new.core self.new.closing (H.spare host.new)) }
         ensures plan { self.new.core.plan ≡ self.old.core.plan }
+        ensures filters { length self.new.filters ≡ length self.old.filters }
         ensures counts { TurnCounts result (H.counts host.old) (H.counts host.new) }
         ensures configured { IsConfigured result }
     {
@@ -234,10 +262,11 @@ impl<B: ServiceWithDependents> Machine<B> {
         requires answers { answer_of end ≡ Some answer }
         requires room { HasRoom self.old.core self.old.closing (H.spare host.old) }
         requires at { (k : ℕ) × IsSomewhere self.old.core (names_by B.named self.old.boxes) (H.account host.old) k end }
-        ensures gives { (k turns : ℕ) (before : Option (List Item)) (q : Record) → k ≤ turns
+        ensures gives { (verdict : Verdict) (k turns : ℕ) (before : Option (List Item)) (q : Record) → k ≤ turns
             → IsAt self.old.core (names_by B.named self.old.boxes) (H.account host.old) k end q
             → IsAhead before (H.ahead host.old) q
-            → RunGives self.old.core.plan turns result (H.account host.new) before (H.ahead host.new) }
+            → Judges verdict (verdict_at F.verdict self.old.filters) self.old.core.plan q
+            → RunGives verdict self.old.core.plan turns result (H.account host.new) before (H.ahead host.new) }
         ensures answers { result ≡ answer }
         ensures counts { H.counts host.new ≡ H.counts host.old }
     {
@@ -256,11 +285,13 @@ impl<B: ServiceWithDependents> Machine<B> {
         host: &mut H,
     ) -> Result<Outcome, RunError>
         requires room { HasRoom self.old.core self.old.closing (H.spare host.old) }
-        requires at { IsSomewhere self.old.core (names_by B.named self.old.boxes) (H.account host.old) 0 StepEnd.On }
-        ensures gives { (before : Option (List Item)) (q : Record)
+        requires at { IsJudgedSomewhere (verdict_at F.verdict self.old.filters) self.old.core (names_by B.named self.old.boxes) (H.account host.old) 0 StepEnd.On }
+        requires known { NamesFilters self.old.core.plan (length self.old.filters) }
+        ensures gives { (verdict : Verdict) (before : Option (List Item)) (q : Record)
             → IsAt self.old.core (names_by B.named self.old.boxes) (H.account host.old) 0 StepEnd.On q
             → IsAhead before (H.ahead host.old) q
-            → RunGives self.old.core.plan turns result (H.account host.new) before (H.ahead host.new) }
+            → Judges verdict (verdict_at F.verdict self.old.filters) self.old.core.plan q
+            → RunGives verdict self.old.core.plan turns result (H.account host.new) before (H.ahead host.new) }
         ensures counts { RunCounts result (H.counts host.old) (H.counts host.new) }
         ensures configured { IsConfigured result }
     {
@@ -288,7 +319,8 @@ impl<B: ServiceWithDependents> Machine<B> {
         requires first { HasNotBegun self.old.core }
         requires empty { list_of self.old.closing ≡ [] }
         requires hands { Hands (names_by B.named self.old.boxes) (H.account host.old) self.old.core.plan [] }
-        ensures gives { RunGives self.old.core.plan turns result (H.account host.new) (H.ahead host.old) (H.ahead host.new) }
+        requires known { NamesFilters self.old.core.plan (length self.old.filters) }
+        ensures gives { RunGives (verdict_at F.verdict self.old.filters) self.old.core.plan turns result (H.account host.new) (H.ahead host.old) (H.ahead host.new) }
         ensures counts { RunCounts result (H.counts host.old) (H.counts host.new) }
         ensures configured { IsConfigured result }
     {
@@ -323,24 +355,26 @@ fn answer_of(end: StepEnd) -> Option<Result<Outcome, RunError>>
     }
 }
 
-/// Runs a plan over a host, with at most so many events. The services are the plan's, in order.
-pub(crate) fn run_plan<B: ServiceWithDependents, H: Host<Service = B>>(
+/// Runs a plan over a host, with at most so many events. The services are the plan's, in order, and
+/// the filters those that its endpoints name.
+pub(crate) fn run_plan<B: ServiceWithDependents, F: ConnectionFilter, H: Host<Service = B>>(
     alloc: Global,
     plan: Plan,
     services: Vec<B>,
+    filters: Filters<F>,
     turns: u64,
     host: &mut H,
 ) -> Result<Outcome, RunError>
     requires valid { IsValid plan }
-    requires built { IsBuilt plan }
+    requires known { NamesFilters plan (length filters) }
     requires names { map B.named services.items ≡ names_of plan }
     requires first { IfSome (H.account host.old) (λ a. a ≡ no_account) }
-    ensures tells { IfSome (H.account host.new) (RunTells plan turns result) }
+    ensures tells { IfSome (H.account host.new) (RunTells (verdict_at F.verdict filters) plan turns result) }
     ensures counts { RunCounts result (H.counts host.old) (H.counts host.new) }
     ensures takes { IfSome (H.account host.new) (λ a. IfSome (H.ahead host.old) (λ before. IfSome (H.ahead host.new) (RunTakes result a.entries before))) }
     ensures configured { IsConfigured result }
 {
-    match Machine::new(alloc, plan, services) {
+    match Machine::new(alloc, plan, services, filters) {
         Ok(machine) => {
             let mut machine = machine;
             machine.run(alloc, turns, host)

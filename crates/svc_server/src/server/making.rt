@@ -13,6 +13,7 @@ use crate::server::Server;
 use std::alloc::Global;
 use svc_conf::{Files, Opt, ReadError, ServerConf};
 use svc_graph::services::ServiceWithDependents;
+use svc_streams::ConnectionFilter;
 
 /// The path of the file that the flags name.
 fn conf_path(opt: &Option<Opt>) -> Option<&str>
@@ -50,32 +51,33 @@ fn configured<F: Files>(
     }
 }
 
-impl<B: ServiceWithDependents> Server<B> {
-    ghost use Rattle.std.specs.Prelude.{◌≡◌, false, [], IfOk};
+impl<B: ServiceWithDependents, F: ConnectionFilter> Server<B, F> {
+    ghost use Rattle.std.specs.Prelude.{◌≡◌, false, [], length, IfOk};
     ghost use Rattle.svc_server.specs.Making.{Configures};
     ghost use Rattle.svc_server.specs.Servers.{answers_of, IsSound};
 
-    /// A server without services, configured by the file that the flags name, or by a new configuration
+    /// A server without services and filters, configured by the file that the flags name, or by a new configuration
     /// where they name none; the flags are merged into it. `Fault` where the file isn't read, `Line`,
     /// `Value` and `Invalid` where what it says is refused.
-    pub fn new<F: Files>(
+    pub fn new<R: Files>(
         alloc: Global,
         opt: Option<Opt>,
-        files: &mut F,
-    ) -> Result<Server<B>, ReadError>
+        files: &mut R,
+    ) -> Result<Server<B, F>, ReadError>
         ensures fault { IsErrOf result ReadError.Fault
-            → Rose (F.seen files.old).faults (F.seen files.new).faults }
+            → Rose (R.seen files.old).faults (R.seen files.new).faults }
         ensures configuration { MatchOption (conf_path opt)
             ((files.new ≡ files.old) × Configures opt (Ok fresh) result)
             (λ path. (answer : _)
-            × IsRead (F.seen files.old) (F.seen files.new) path answer
+            × IsRead (R.seen files.old) (R.seen files.new) path answer
             × Configures opt (loaded answer) result) }
         ensures options { IfOk result (λ server. server.options ≡ opt) }
         ensures nodes { IfOk result
             (λ server. server.dependencies ≡ record { names = []; depends = [] }) }
+        ensures filters { IfOk result (λ server. server.filters ≡ []) }
         ensures services { IfOk result (λ server. server.services.items ≡ []) }
         ensures eager { IfOk result (λ server. server.eager ≡ false) }
-        ensures sound { IfOk result (λ server. IsSound server.dependencies
+        ensures sound { IfOk result (λ server. IsSound server.dependencies (length server.filters)
             (answers_of B.ServiceWithDependents server.services.items)) }
     {
         match configured(alloc, &opt, files) {

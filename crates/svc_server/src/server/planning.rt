@@ -3,11 +3,11 @@
 ghost use Rattle.std.specs.Prelude.{◌≡◌, ◌<◌, ◌+◌, length, IfOk, OnOk, [], ◌∷◌, ◌++◌};
 ghost use Rattle.std.specs.Option.{option_map};
 ghost use Rattle.svc_graph.specs.Graphs.{node_count, IsGraph};
-ghost use Rattle.svc_server.specs.Servers.{answer_of, answers_of, depends_of, with_depends, is_upgrade, is_test, runnable, status_of};
+ghost use Rattle.svc_server.specs.Servers.{answer_of, answers_of, depends_of, with_depends, is_upgrade, is_test, status_of};
 
 use crate::run::{Outcome, RunError};
 use std::alloc::Global;
-use svc_conf::{Items, Key, NoMemory, Opt, ServerConf, Text, Texts};
+use svc_conf::{Items, NoMemory, Opt, Text, Texts};
 use svc_graph::DependencyGraph;
 use svc_graph::services::ServiceWithDependents;
 use svc_record::{ServiceList, ServicePlan};
@@ -100,17 +100,6 @@ pub(super) fn is_test(options: &Option<Opt>) -> bool
         Some(opt) => opt.test,
         None => false,
     }
-}
-
-/// Whether a server can be run with the configuration, with the offending key where it can't.
-pub(super) fn runnable(conf: &ServerConf) -> Result<(), Key>
-    ensures { result ≡ runnable conf.now }
-{
-    conf.validate()?;
-    if conf.daemon {
-        return Err(Key::Daemon);
-    }
-    Ok(())
 }
 
 /// The status to end with after such an answer.

@@ -1,4 +1,4 @@
-ghost use Rattle.std.specs.Prelude.{[], All, codes, map, Some, None, OnOk, if◌then◌else◌};
+ghost use Rattle.std.specs.Prelude.{[], All, codes, fold, length, map, not, Some, None, OnOk, if◌then◌else◌};
 ghost use Rattle.svc_server.specs.ScriptHosts.{GivesFew};
 ghost use Rattle.svc_server.specs.Servers.{answers_of, IsSound};
 
@@ -13,7 +13,11 @@ use std::rc::Rc;
 use svc_conf::{Key, NoMemory, Opt, ReadError, ServerConf, Settings, Text, Texts};
 use svc_graph::services::{RunPoll, ServiceReadyNotifier, ServiceWithDependents, StartPoll};
 use svc_graph::{DependencyError, EndpointPlan, Kind, ServiceHandle};
-use svc_record::{Action, BootstrapError, Entry, Event, ExecutionPhase, Item, ShutdownSignal};
+use svc_record::{
+    Action, BootstrapError, Entry, Event, ExecutionPhase, Item, ShutdownSignal, Side,
+};
+use svc_socket::{Peer, PeerAddr};
+use svc_streams::{AcceptAllFilter, ConnectionFilter};
 
 /// A service that listens on some addresses, all alike.
 #[derive(Drop)]
@@ -107,13 +111,31 @@ fn listening(rt: &impl Abort, alloc: Global, name: &str, address: &str, times: u
 
 /// A server without services, with the defaults.
 fn server<B: ServiceWithDependents>(rt: &impl Abort, alloc: Global) -> Server<B>
-    ensures { IsSound result.dependencies
+    ensures { IsSound result.dependencies (length result.filters)
         (answers_of B.ServiceWithDependents result.services.items) }
 {
     let conf = ServerConf::default(alloc).expect(rt, "memory");
     match Server::new_with_opt_and_conf(alloc, None, conf) {
         Ok(server) => server,
         Err(_) => panic!(rt; "refused"),
+    }
+}
+
+/// Adds a filter.
+#[tactic(auto, using(crate::proofs::AddLemmas::sound_filters))]
+fn filter_with(
+    rt: &impl Abort,
+    alloc: Global,
+    server: &mut Server<Listener>,
+    filter: Box<dyn ConnectionFilter>,
+)
+    ensures { IsSound server.old.dependencies (length server.old.filters)
+        (answers_of ⟦<Listener as ServiceWithDependents>⟧ server.old.services.items)
+        → IsSound server.new.dependencies (length server.new.filters)
+        (answers_of ⟦<Listener as ServiceWithDependents>⟧ server.new.services.items) }
+{
+    if server.filters.add(alloc, filter).is_err() {
+        panic!(rt; "refused");
     }
 }
 
@@ -124,9 +146,9 @@ fn added<B: ServiceWithDependents>(
     server: &mut Server<B>,
     service: B,
 ) -> ServiceHandle
-    ensures { IsSound server.old.dependencies
+    ensures { IsSound server.old.dependencies (length server.old.filters)
         (answers_of B.ServiceWithDependents server.old.services.items)
-        → IsSound server.new.dependencies
+        → IsSound server.new.dependencies (length server.new.filters)
         (answers_of B.ServiceWithDependents server.new.services.items) }
 {
     match server.add_boxed_service(alloc, service) {
@@ -181,6 +203,14 @@ fn endpoint_refusals_have_texts(rt: HostRuntime) {
     filtered.filter = Some(0);
     let text = "endpoint 0 has an unknown filter";
     assert!(rt; is_refused(&rt, alloc, &mut server, filtered, text));
+    let all: Box<dyn ConnectionFilter> = Box::new(alloc, AcceptAllFilter).expect(&rt, "memory");
+    filter_with(&rt, alloc, &mut server, all);
+    let mut filtered = listening(&rt, alloc, "filtered", "a:1", 1);
+    filtered.filter = Some(1);
+    assert!(rt; is_refused(&rt, alloc, &mut server, filtered, text));
+    let mut filtered = listening(&rt, alloc, "filtered", "a:1", 1);
+    filtered.filter = Some(0);
+    assert!(rt; server.add_service(alloc, filtered).is_ok());
     let text = format!(in alloc; "{}", AddError::NoMemory).expect(&rt, "memory");
     assert_eq!(rt; text.as_str(), "out of memory");
 }
@@ -304,7 +334,7 @@ fn plans_with_the_defaults(rt: HostRuntime) {
 
 /// A server where `api`, which listens, waits for the word of `db`.
 fn two_services(rt: &impl Abort, alloc: Global) -> Server<Listener>
-    ensures { IsSound result.dependencies
+    ensures { IsSound result.dependencies (length result.filters)
         (answers_of ⟦<Listener as ServiceWithDependents>⟧ result.services.items) }
 {
     let mut server = server(rt, alloc);
@@ -343,7 +373,7 @@ fn run_of(
     items: Vec<Item>,
     turns: u64,
 ) -> (Result<Outcome, RunError>, ScriptHost<Listener>)
-    requires sound { IsSound server.dependencies
+    requires sound { IsSound server.dependencies (length server.filters)
         (answers_of ⟦<Listener as ServiceWithDependents>⟧ server.services.items) }
     requires few { All GivesFew items.items }
 {
@@ -437,9 +467,73 @@ fn a_shutdown_waits_as_it_is_configured(rt: HostRuntime) {
     assert_eq!(rt; host.entries().as_slice(), told.as_slice());
 }
 
+/// A filter that refuses every second peer for which it is asked.
+#[derive(Drop)]
+struct EverySecond {
+    /// It refuses the next one.
+    refuses: bool,
+}
+
+impl ConnectionFilter for EverySecond {
+    ghost verdict = { λ filter asked _. fold (λ takes _. not takes) (not filter.refuses) asked };
+
+    fn should_accept(&mut self, _peer: Option<&PeerAddr>) -> bool {
+        let takes = !self.refuses;
+        self.refuses = takes;
+        takes
+    }
+}
+
+/// A connection to the first service arrived.
+fn arrived(number: u64, peer: Peer) -> Item
+    ensures { GivesFew result }
+{
+    Item::Event(Event::Arrived(0, 0, number, peer))
+}
+
+/// A server whose only service listens, and refuses every second peer.
+fn filtering(rt: &impl Abort, alloc: Global) -> Server<Listener>
+    ensures { IsSound result.dependencies (length result.filters)
+        (answers_of ⟦<Listener as ServiceWithDependents>⟧ result.services.items) }
+{
+    let mut server = server(rt, alloc);
+    let filter = EverySecond { refuses: false };
+    let filter: Box<dyn ConnectionFilter> = Box::new(alloc, filter).expect(rt, "memory");
+    filter_with(rt, alloc, &mut server, filter);
+    let mut web = listening(rt, alloc, "web", "127.0.0.1:80", 1);
+    web.filter = Some(0);
+    let _ = added(rt, alloc, &mut server, web);
+    server
+}
+
+#[test]
+fn a_filter_keeps_its_state_and_a_failed_setting_ends_no_run(rt: HostRuntime) {
+    let alloc = rt.alloc();
+    let address = PeerAddr::V4 {
+        ip: 0x7f000001,
+        port: 4000,
+    };
+    let items = with(&rt, Vec::new(alloc), Item::Event(Event::Bound(0, 0, 7)));
+    let items = with(&rt, items, arrived(1, Peer::Inet(address)));
+    let items = with(&rt, items, arrived(2, Peer::Unknown));
+    let items = with(&rt, items, arrived(3, Peer::Inet(address)));
+    let items = with(&rt, items, arrived(4, Peer::Unix));
+    let items = with(&rt, items, Item::Event(Event::Set(1, false)));
+    let items = with(&rt, items, fast());
+    let (answer, host) = run_of(alloc, filtering(&rt, alloc), items, 9);
+    assert_eq!(rt; answer, Ok(Outcome::Served));
+    let entries = host.entries().as_slice();
+    assert!(rt; entries.contains(&Entry::Told(Action::Judged(1, true))));
+    assert!(rt; entries.contains(&Entry::Told(Action::Drop(1))));
+    assert!(rt; entries.contains(&Entry::Told(Action::Judged(3, false))));
+    assert!(rt; entries.contains(&Entry::Told(Action::Refuse(3))));
+    assert!(rt; entries.contains(&Entry::Told(Action::Judged(4, true))));
+    assert!(rt; !entries.contains(&Entry::Told(Action::Judged(2, true))));
+}
+
 /// A server that bootstraps first, with these flags.
 fn bootstrapping(rt: &impl Abort, alloc: Global, opt: Opt) -> Server<Listener>
-    ensures { IsSound result.dependencies
+    ensures { IsSound result.dependencies (length result.filters)
         (answers_of ⟦<Listener as ServiceWithDependents>⟧ result.services.items) }
 {
     let conf = ServerConf::default(alloc).expect(rt, "memory");
@@ -502,15 +596,34 @@ fn ends_with_its_cause(rt: HostRuntime) {
 }
 
 #[test]
-fn no_daemon_is_run_yet(rt: HostRuntime) {
+fn a_daemons_parent_ends_at_once(rt: HostRuntime) {
     let alloc = rt.alloc();
     let mut server = two_services(&rt, alloc);
     server.configuration.daemon = true;
+    let items = with(&rt, Vec::new(alloc), Item::Event(Event::Side(Side::Parent)));
+    let (answer, host) = run_of(alloc, server, items, 9);
+    assert_eq!(rt; answer, Ok(Outcome::Parent(0)));
+    let told = [
+        Entry::Told(Action::Daemonize),
+        Entry::Got(Event::Side(Side::Parent)),
+    ];
+    assert_eq!(rt; host.entries().as_slice(), told.as_slice());
+}
+
+#[test]
+fn a_refused_configuration_is_told(rt: HostRuntime) {
+    let alloc = rt.alloc();
+    let mut server = two_services(&rt, alloc);
+    server.configuration.listener_tasks_per_fd = 0;
     let (answer, host) = run_of(alloc, server, Vec::new(alloc), 9);
-    assert_eq!(rt; answer, Err(RunError::Config(Key::Daemon)));
+    let refused = RunError::Config(Key::ListenerTasksPerFd);
+    assert_eq!(rt; answer, Err(refused));
     assert!(rt; host.entries().as_slice().is_empty());
-    let told = format!(in alloc; "{}", RunError::Config(Key::Daemon)).expect(&rt, "memory");
-    assert_eq!(rt; told.as_str(), "the configuration is refused for daemon");
+    let told = format!(in alloc; "{refused}").expect(&rt, "memory");
+    assert_eq!(rt;
+        told.as_str(),
+        "the configuration is refused for listener_tasks_per_fd"
+    );
 }
 
 #[test]
@@ -577,7 +690,7 @@ impl ServiceWithDependents for Late {
 
 /// A server where the second service waits for the first.
 fn late_services(rt: &impl Abort, alloc: Global, waited: &Rc<Cell<u64>>) -> Server<Late>
-    ensures { IsSound result.dependencies
+    ensures { IsSound result.dependencies (length result.filters)
         (answers_of ⟦<Late as ServiceWithDependents>⟧ result.services.items) }
 {
     let mut server = server(rt, alloc);
