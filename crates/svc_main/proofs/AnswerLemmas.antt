@@ -1,5 +1,5 @@
 -- What a status says of the answer.
-use Rattle.std.proofs.Common.{◌≡◌, ℕ, Bool, List, [], ◌∷◌, length, get_or, map, Option, sym, ap, ◌∙◌, arith, codes, Global, ◌<◌, ◌++◌, All, subst, refl, None, true}
+use Rattle.std.proofs.Common.{◌≡◌, ◌⊎◌, inl, inr, ℕ, Bool, List, [], ◌∷◌, length, get_or, map, Option, sym, ap, ◌∙◌, arith, codes, Global, ◌<◌, ◌++◌, All, subst, refl, None, true}
 use Rattle.std.specs.List.{AllByRecursion}
 use Rattle.std.specs.Fmt.{decimal}
 use Rattle.svc_conf.specs.declared.server.configuration.key.Key.{Key}
@@ -15,16 +15,37 @@ use Rattle.svc_main.specs.declared.outcome.RunEnd.{RunEnd}
 use Rattle.svc_main.specs.declared.outcome.RunEnd.TheVariants.{Served, Tested, Parent, Config, HostFault, Bootstrap, Stray, OutOfEvents}
 use Rattle.svc_main.specs.declared.outcome.StatusLine.{StatusLine}
 use Rattle.svc_main.specs.declared.outcome.StatusLine.TheVariants.{Words, Line, ReadFault, Run}
-use Rattle.svc_main.specs.Status.{end_text, status_text, status_line, EndFits, StatusFits, status_of}
-use Rattle.svc_main.specs.Program.{IsAnswer, Ends, Ran}
+use Rattle.svc_main.specs.Status.{end_text, status_text, status_line, EndFits, StatusFits, end_status, status_of}
+use Rattle.svc_main.specs.Program.{IsAnswer, Ends, Ran, Made}
+use Rattle.svc_main.proofs.WordsLemmas.{run_asks}
 
--- a run's answer by its status, which isn't one of another line
-pub ran_from : (status : ℕ) → (status ≡ 2 → ⊥) → (status ≡ 3 → ⊥) → (status ≡ 5 → ⊥) → (words : List (List ℕ)) (left now_left before now : Option (List ℕ)) (line : StatusLine) (out : List ℕ)
-    → IsAnswer words left line out → Ends line now_left → Appends before now out → status_of line ≡ status → Ran status words left now_left before now
-ran_from status two three five words left now_left before now Words out a d p e = absurd (two (sym e))
-ran_from status two three five words left now_left before now (Line n) out a d p e = absurd (three (sym e))
-ran_from status two three five words left now_left before now ReadFault out a d p e = absurd (five (sym e))
-ran_from status two three five words left now_left before now (Run end) out a d p e = (end, e, a.0, d, (out, a.1, p))
+-- an answer by its status, which isn't one of another line: of a run, or of the generator, which is served
+ran_or_made : (status : ℕ) → (status ≡ 2 → ⊥) → (status ≡ 3 → ⊥) → (status ≡ 5 → ⊥) → (words : List (List ℕ)) (left now_left before now : Option (List ℕ)) (line : StatusLine) (out : List ℕ)
+    → IsAnswer words left line out → Ends words line now_left → Appends before now out → status_of line ≡ status → Ran status words left now_left before now ⊎ ((status ≡ 0) × Made words before now)
+ran_or_made status two three five words left now_left before now Words out a d p e = absurd (two (sym e))
+ran_or_made status two three five words left now_left before now (Line n) out a d p e = absurd (three (sym e))
+ran_or_made status two three five words left now_left before now ReadFault out a d p e = absurd (five (sym e))
+ran_or_made status two three five words left now_left before now (Run end) out a d p e = by a
+  where
+    by : IsAnswer words left (Run end) out → Ran status words left now_left before now ⊎ ((status ≡ 0) × Made words before now)
+    by (inl ran) = inl (end, e, ran.0, d (run_asks words ran.0.run), (out, ran.1, p))
+    by (inr made) = inr (sym e ∙ ap end_status made.0, (out, made.1, p))
+
+pub served_from : (words : List (List ℕ)) (left now_left before now : Option (List ℕ)) (line : StatusLine) (out : List ℕ)
+    → IsAnswer words left line out → Ends words line now_left → Appends before now out → status_of line ≡ 0 → Ran 0 words left now_left before now ⊎ Made words before now
+served_from words left now_left before now line out a d p e =
+    elim (ran_or_made 0 (λ q. omega (arith, q)) (λ q. omega (arith, q)) (λ q. omega (arith, q)) words left now_left before now line out a d p e) [
+      | inl ran ↦ inl ran
+      | inr made ↦ inr made.1
+    ]
+
+pub ran_from : (status : ℕ) → (status ≡ 0 → ⊥) → (status ≡ 2 → ⊥) → (status ≡ 3 → ⊥) → (status ≡ 5 → ⊥) → (words : List (List ℕ)) (left now_left before now : Option (List ℕ)) (line : StatusLine) (out : List ℕ)
+    → IsAnswer words left line out → Ends words line now_left → Appends before now out → status_of line ≡ status → Ran status words left now_left before now
+ran_from status zero two three five words left now_left before now line out a d p e =
+    elim (ran_or_made status two three five words left now_left before now line out a d p e) [
+      | inl ran ↦ ran
+      | inr made ↦ absurd (zero made.0)
+    ]
 
 -- ---- the record is known from what was written
 

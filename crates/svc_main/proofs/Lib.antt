@@ -1,3 +1,4 @@
+pub mod GeneratorLemmas
 pub mod ServerLemmas
 pub mod AcceptedLemmas
 pub mod RunLemmas
@@ -5,3 +6,11 @@ pub mod AnswerLemmas
 pub mod WholeLemmas
 pub mod WordsLemmas
 pub mod ScriptAnswerLemmas
+pub mod MadeRecords
+pub mod MadeLists
+pub mod MadePlan
+pub mod MadeFits
+pub mod MadeRows
+pub mod MadeThrough
+pub mod MadeCounts
+pub mod MadeRuns

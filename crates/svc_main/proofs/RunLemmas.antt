@@ -1,6 +1,8 @@
 -- How the run of a script's server ends.
-use Rattle.std.proofs.Common.{◌≡◌, ℕ, List, ◌++◌, length, map, Ok, Err, None, refl, ap, sym, ◌∙◌, subst, arith, ◌<◌, length-append, All, get_or, reverse, IfOk, OnOk, string_bytes}
+use Rattle.std.proofs.Common.{◌≡◌, ℕ, zero, suc, true, not, List, [], ◌∷◌, ◌++◌, length, map, Option, Some, unwrap_or, Ok, Err, None, refl, ap, sym, ◌∙◌, subst, arith, ◌<◌, length-append, All, get_or, reverse, IfOk, OnOk, string_bytes}
 use Rattle.std.specs.Prelude.{Result}
+use Rattle.std.specs.List.{slice_get}
+use Rattle.std.specs.Option.{option_map}
 use Rattle.svc_conf.specs.declared.server.configuration.Opt.{Opt}
 use Rattle.svc_conf.specs.declared.server.configuration.ServerConf.{ServerConf}
 use Rattle.svc_conf.specs.ConfigurationText.{merged}
@@ -8,28 +10,60 @@ use Rattle.std.proofs.lemmas.List.{length-map}
 use Rattle.svc_record.specs.declared.plan.Plan.{Plan}
 use Rattle.svc_record.specs.declared.item.Item.{Item}
 use Rattle.svc_record.specs.declared.item.Item.TheVariants as items
-use Rattle.svc_record.specs.Record.{Record}
+use Rattle.svc_record.specs.Record.{Record, EachEntry}
+use Rattle.svc_record.specs.Connections.{Verdict, said_right}
+use Rattle.svc_socket.specs.declared.peer.PeerAddr.{PeerAddr}
+use Rattle.svc_socket.specs.declared.reading.IpNumber.{IpNumber}
 use Rattle.svc_record.specs.Tail.{closing_actions}
 use Rattle.svc_record.specs.declared.entry.Entry.{Entry}
 use Rattle.svc_record.specs.Text.{text_of, EntryFits}
 use Rattle.svc_text.specs.Accepted.{BringsFew}
 use Rattle.svc_text.specs.Script.{Parts}
+use Rattle.svc_text.specs.Filters.{is_blocked, script_verdict}
 use Rattle.svc_text.specs.ScriptPlans.{plan_of}
 use Rattle.svc_server.specs.ScriptHosts.{GivesFew}
 use Rattle.svc_server.specs.declared.run.Outcome.{Outcome}
 use Rattle.svc_server.specs.declared.run.RunError.{RunError}
 use Rattle.svc_server.specs.declared.run.RunError.TheVariants.{TurnsSpent}
-use Rattle.svc_server.specs.Runs.{events_of, RunEnds, RunTakes}
+use Rattle.svc_server.specs.Hosts.{Account}
+use Rattle.svc_server.specs.Runs.{events_of, RunEnds, RunTells, RunTakes}
 use Rattle.svc_server.proofs.TurnLemmas.{events-tell}
 use Rattle.svc_main.specs.declared.answering.Answer.{Answer}
 use Rattle.svc_main.specs.declared.outcome.RunEnd.{RunEnd}
 use Rattle.svc_main.specs.declared.outcome.StatusLine.TheVariants.{Run}
 use Rattle.svc_main.specs.Status.{status_line, StatusFits}
-use Rattle.svc_main.specs.Program.{answer_of, turns_of, Judges, RanText}
+use Rattle.svc_main.specs.declared.script_filter.ScriptFilter.{ScriptFilter}
+use Rattle.svc_main.specs.BlockedLists.{blocked_by}
+use Rattle.svc_main.specs.Program.{answer_of, turns_of, Judges, TellsRun, IsRunOf, RanText}
 
--- what a run answers, by another name of its plan and of its answer
-pub ends_by : (p q : Plan) (turns : ℕ) (given answer : Result Outcome RunError) (r : Record) → given ≡ answer → p ≡ q → RunEnds p turns given r → RunEnds q turns answer r
-ends_by p q turns given answer r same plan h = subst (λ (x : Plan). RunEnds x turns answer r) plan (subst (λ (x : Result Outcome RunError). RunEnds p turns x r) same h)
+-- what a run answers, by another name of its answer
+pub ends_by : (p : Plan) (turns : ℕ) (given answer : Result Outcome RunError) (r : Record) → given ≡ answer → RunEnds p turns given r → RunEnds p turns answer r
+ends_by p turns given answer r same h = subst (λ (x : Result Outcome RunError). RunEnds p turns x r) same h
+
+-- the filters of a script answer what its lines say
+pub one_verdict : (blocked : List (List IpNumber)) (filters : List ScriptFilter) (number : ℕ) (x : Option PeerAddr) → map blocked_by filters ≡ blocked
+    → unwrap_or (option_map (λ (f : ScriptFilter). not (is_blocked f.blocked x)) (slice_get filters number)) true ≡ not (is_blocked (unwrap_or (slice_get blocked number) []) x)
+one_verdict blocked filters number x are = at filters number ∙ ap (λ (lists : List (List IpNumber)). not (is_blocked (unwrap_or (slice_get lists number) []) x)) are
+  where
+    bare : (y : Option PeerAddr) → true ≡ not (is_blocked [] y)
+    bare None = refl
+    bare (Some peer) = refl
+
+    at : (fs : List ScriptFilter) (n : ℕ) → unwrap_or (option_map (λ (f : ScriptFilter). not (is_blocked f.blocked x)) (slice_get fs n)) true ≡ not (is_blocked (unwrap_or (slice_get (map blocked_by fs) n) []) x)
+    at [] n = bare x
+    at (f ∷ fs) zero = refl
+    at (f ∷ fs) (suc n) = at fs n
+
+-- what stands of a run of the script's plan
+pub tells_by : (opt : Opt) (parts : Parts) (p : Plan) (filters : List ScriptFilter) (verdict : Verdict) (turns : ℕ) (given answer : Result Outcome RunError) (a : Account) → given ≡ answer → p ≡ plan_of opt parts
+    → ((number : ℕ) (asked : List (Option PeerAddr)) (x : Option PeerAddr) → verdict number asked x ≡ script_verdict parts.services number asked x)
+    → RunTells verdict p turns given a → TellsRun parts.services (plan_of opt parts) turns answer a.entries
+tells_by opt parts p filters verdict turns given answer a same plan answers h =
+    let by_words : verdict ≡ script_verdict parts.services = λ i number asked x. answers number asked x i in
+    subst (λ (q : Plan). TellsRun parts.services q turns answer a.entries) plan (record {
+      ends = ends_by p turns given answer a.entries same h.ends;
+      said = subst (λ (v : Verdict). EachEntry (λ e before. said_right v p e before ≡ true) a.entries) by_words h.said;
+    })
 
 pub takes_by : (given answer : Result Outcome RunError) (r : Record) (before now : List Item) → given ≡ answer → RunTakes given r before now → RunTakes answer r before now
 takes_by given answer r before now same h = subst (λ (x : Result Outcome RunError). RunTakes x r before now) same h
@@ -50,28 +84,31 @@ few_one items.Fault h = tt
 pub few_given : (xs : List Item) → All BringsFew xs → All GivesFew xs
 few_given xs h k d lt = few_one (get_or xs k d) (h k d lt)
 
--- a record's text with its status line is the text of the run that left it
-pub printed_run : (opt : Opt) (parts : Parts) (end : RunEnd) (shown : List Entry) (r : Record) (conf : ServerConf) (turns : ℕ) (before left : List Item) (out : List ℕ)
-    → out ≡ text_of shown ++ status_line (Run end) → All EntryFits shown → StatusFits (Run end) → shown ≡ reverse r → conf ≡ merged opt parts.conf → Judges end conf → turns ≡ turns_of parts
-    → RunEnds (plan_of opt parts) turns (answer_of end) r → before ≡ parts.items → RunTakes (answer_of end) r before left → RanText opt parts end out
-printed_run opt parts end shown r conf turns before left out printed numbers number reversed configured judged counted ends ahead takes = (
-  r,
-  record {
-    printed = printed ∙ ap (λ es. text_of es ++ status_line (Run end)) reversed;
-    numbers = subst (All EntryFits) reversed numbers;
-    number = number;
-    judged = subst (Judges end) configured judged;
-    ends = subst (λ (n : ℕ). RunEnds (plan_of opt parts) n (answer_of end) r) counted ends;
-    left = left;
-    takes = subst (λ (b : List Item). RunTakes (answer_of end) r b left) ahead takes;
-  },
-)
+-- the run of a script, by other names of its configuration, turns and items
+pub run_is : (opt : Opt) (parts : Parts) (end : RunEnd) (r : Record) (conf : ServerConf) (turns : ℕ) (before left : List Item) → conf ≡ merged opt parts.conf → Judges end conf → turns ≡ turns_of parts
+    → TellsRun parts.services (plan_of opt parts) turns (answer_of end) r → before ≡ parts.items → RunTakes (answer_of end) r before left → IsRunOf opt parts end r
+run_is opt parts end r conf turns before left configured judged counted tells ahead takes = record {
+  judged = subst (Judges end) configured judged;
+  tells = subst (λ (n : ℕ). TellsRun parts.services (plan_of opt parts) n (answer_of end) r) counted tells;
+  left = left;
+  takes = subst (λ (b : List Item). RunTakes (answer_of end) r b left) ahead takes;
+}
 
--- the same, where memory was found for it
-pub ran_run : {E : Type 0} (opt : Opt) (parts : Parts) (end : RunEnd) (shown : List Entry) (r : Record) (conf : ServerConf) (turns : ℕ) (before left : List Item) (result : Result Answer E)
+-- where memory was found for the text of the record of a run
+pub ran_run : {E : Type 0} (opt : Opt) (parts : Parts) (end : RunEnd) (shown : List Entry) (r : Record) (result : Result Answer E)
     → IfOk result (λ (a : Answer). (a.line ≡ Run end) × (string_bytes a.text ≡ text_of shown ++ status_line (Run end))) → OnOk result (All EntryFits shown × StatusFits (Run end))
-    → shown ≡ reverse r → conf ≡ merged opt parts.conf → Judges end conf → turns ≡ turns_of parts → RunEnds (plan_of opt parts) turns (answer_of end) r → before ≡ parts.items → RunTakes (answer_of end) r before left
-    → IfOk result (λ (a : Answer). (x : RunEnd) × (a.line ≡ Run x) × RanText opt parts x (string_bytes a.text))
-ran_run opt parts end shown r conf turns before left (Ok a) said numbers reversed configured judged counted ends ahead takes =
-    (end, said.0, printed_run opt parts end shown r conf turns before left (string_bytes a.text) said.1 numbers.0 numbers.1 reversed configured judged counted ends ahead takes)
-ran_run opt parts end shown r conf turns before left (Err e) said numbers reversed configured judged counted ends ahead takes = tt
+    → shown ≡ reverse r → IsRunOf opt parts end r → IfOk result (λ (a : Answer). (x : RunEnd) × (a.line ≡ Run x) × RanText opt parts x (string_bytes a.text))
+ran_run opt parts end shown r (Ok a) said numbers reversed run = (
+  end,
+  said.0,
+  (
+    r,
+    record {
+      printed = said.1 ∙ ap (λ es. text_of es ++ status_line (Run end)) reversed;
+      numbers = subst (All EntryFits) reversed numbers.0;
+      number = numbers.1;
+      run = run;
+    },
+  ),
+)
+ran_run opt parts end shown r (Err e) said numbers reversed run = tt

@@ -1,15 +1,16 @@
 -- The answer to a script is the program's answer.
-use Rattle.std.proofs.Common.{◌≡◌, ℕ, ◌<◌, List, get_or, length, Option, Some, None, Result, Ok, Err, IfOk, inl, inr, sym, subst, IfSome}
+use Rattle.std.proofs.Common.{◌≡◌, ℕ, ◌<◌, List, get_or, length, Option, Some, None, Result, Ok, Err, IfOk, inl, inr, refl, sym, subst, ◌∙◌, IfSome}
 use Rattle.std.specs.Io.KnownBytes.{IsAtEnd}
 use Rattle.std.specs.Str.Lines.{lines}
 use Rattle.svc_conf.specs.declared.server.configuration.Opt.{Opt}
 use Rattle.svc_text.specs.Script.{Parts, IsLineOf, AreLines, script}
 use Rattle.svc_text.specs.Dependencies.{RefusesNone}
 use Rattle.svc_main.specs.declared.outcome.RunEnd.{RunEnd}
+use Rattle.svc_main.specs.declared.outcome.RunEnd.TheVariants.{Served}
 use Rattle.svc_main.specs.declared.outcome.StatusLine.{StatusLine}
 use Rattle.svc_main.specs.declared.outcome.StatusLine.TheVariants.{Words, Line, ReadFault, Run}
-use Rattle.svc_main.specs.CommandWords.{TakesWords, flags_of}
-use Rattle.svc_main.specs.Program.{IsScript, RanText, RefusesIn, AnswersScript, IsAnswer, Ends, Faults}
+use Rattle.svc_main.specs.CommandWords.{TakesWords, made_size, flags_of}
+use Rattle.svc_main.specs.Program.{IsScript, RanText, CountsText, RefusesIn, AnswersScript, IsAnswer, Ends, Faults}
 
 -- what is so of the bytes that were read is so of those that the source tells
 of_left : (left : Option (List ℕ)) (read : List ℕ) (P : List ℕ → Type 0) → IfSome left (λ bytes. read ≡ bytes) → P read → IfSome left P
@@ -20,7 +21,7 @@ pub script_answer : (words : List (List ℕ)) (left : Option (List ℕ)) (read n
     → TakesWords words → opt ≡ flags_of words → IfSome left (λ bytes. read ≡ bytes) → script read ≡ Ok parts → AreLines (lines read) (length parts.services) numbers
     → AnswersScript opt parts numbers line out → IsAnswer words left line out
 script_answer words left read numbers opt parts (Run end) out takes flags same says places (edges, ran) =
-    (takes, (parts, (subst (λ (o : Opt). RanText o parts end out) flags ran, of_left left read (λ bytes. IsScript bytes parts) same (record { says = says; edges = edges }))))
+    inl (takes, (parts, (subst (λ (o : Opt). RanText o parts end out) flags ran, of_left left read (λ bytes. IsScript bytes parts) same (record { says = says; edges = edges }))))
 script_answer words left read numbers opt parts (Line n) out takes flags same says places (printed, refusal) =
     let k : ℕ = refusal.0 in
     let place : IsLineOf (lines read) k n = subst (IsLineOf (lines read) k) (sym refusal.1.1) (places.each k refusal.1.0.here) in
@@ -28,11 +29,11 @@ script_answer words left read numbers opt parts (Line n) out takes flags same sa
 script_answer words left read numbers opt parts Words out takes flags same says places h = absurd h
 script_answer words left read numbers opt parts ReadFault out takes flags same says places h = absurd h
 
-pub script_ends : (line : StatusLine) (left : Option (List ℕ)) → IsAtEnd left → Ends line left
-script_ends (Run end) left h = h
-script_ends (Line n) left h = λ some. h
-script_ends Words left h = tt
-script_ends ReadFault left h = tt
+pub script_ends : (words : List (List ℕ)) (line : StatusLine) (left : Option (List ℕ)) → IsAtEnd left → Ends words line left
+script_ends words (Run end) left h = λ none. h
+script_ends words (Line n) left h = λ some. h
+script_ends words Words left h = tt
+script_ends words ReadFault left h = tt
 
 pub script_faults : (opt : Opt) (parts : Parts) (numbers : List ℕ) (line : StatusLine) (out : List ℕ) (before now : ℕ) → AnswersScript opt parts numbers line out → Faults line before now
 script_faults opt parts numbers (Run end) out before now h = tt
@@ -47,3 +48,17 @@ if_ok P Q (Err e) p f = tt
 -- the run of a script whose dependencies are sound answers it
 pub ran_answer : (opt : Opt) (parts : Parts) (numbers : List ℕ) (line : StatusLine) (out : List ℕ) → RefusesNone parts.services → (end : RunEnd) × (line ≡ Run end) × RanText opt parts end out → AnswersScript opt parts numbers line out
 ran_answer opt parts numbers line out edges (end, is, ran) = subst (λ (l : StatusLine). AnswersScript opt parts numbers l out) (sym is) (edges, ran)
+
+-- the run of the generator answers words that ask for it
+pub made_answer : (words : List (List ℕ)) (left : Option (List ℕ)) (n : ℕ) (line : StatusLine) (out : List ℕ) → made_size words ≡ Some n → (line ≡ Run Served) × CountsText n out → IsAnswer words left line out
+made_answer words left n line out size (is, counts) = subst (λ (l : StatusLine). IsAnswer words left l out) (sym is) (inr (refl, (n, size, counts)))
+
+pub made_ends : (words : List (List ℕ)) (left : Option (List ℕ)) (n : ℕ) (line : StatusLine) → made_size words ≡ Some n → line ≡ Run Served → Ends words line left
+made_ends words left n line size is = subst (λ (l : StatusLine). Ends words l left) (sym is) (λ none. absurd (let never : ◌≡◌ {A = Option ℕ} (Some n) None = sym size ∙ none in cc))
+
+pub made_faults : (line : StatusLine) (before now : ℕ) → line ≡ Run Served → Faults line before now
+made_faults line before now is = subst (λ (l : StatusLine). Faults l before now) (sym is) tt
+
+-- words don't ask for the generator and for none
+pub none_made : (words : List (List ℕ)) (n : ℕ) (P : Type 0) → made_size words ≡ None → made_size words ≡ Some n → P
+none_made words n P none size = absurd (let never : ◌≡◌ {A = Option ℕ} (Some n) None = sym size ∙ none in cc)

@@ -1,6 +1,7 @@
 -- A whole script is served.
 use Rattle.std.proofs.Common.{◌≡◌, ℕ, true, inl, inr, List, [], ◌∷◌, ◌++◌, map, length, Option, Some, None, Ok, Err, ap, sym, ◌∙◌, subst, arith, refl, append-nil, append_assoc}
 use mathlib.Core.Bool.{false≢true}
+use Rattle.svc_conf.specs.Configuration.{judged}
 use Rattle.svc_conf.specs.Streams.{Rose}
 use Rattle.svc_conf.specs.declared.server.configuration.Opt.{Opt}
 use Rattle.svc_conf.specs.ConfigurationText.{merged}
@@ -21,7 +22,6 @@ use Rattle.svc_text.specs.Script.{Parts, script}
 use Rattle.svc_text.specs.ScriptPlans.{plan_of}
 use Rattle.svc_server.specs.declared.run.RunError.TheVariants as errors
 use Rattle.svc_server.specs.Runs.{events_of, IsClosed, IsEndedSo, IsStray, RunTakes}
-use Rattle.svc_server.specs.Servers.{runnable}
 use Rattle.svc_server.proofs.TurnLemmas.{events-tell}
 use Rattle.svc_main.specs.declared.outcome.StatusLine.{StatusLine}
 use Rattle.svc_main.specs.declared.outcome.StatusLine.TheVariants.{Words, Line, ReadFault, Run}
@@ -29,12 +29,13 @@ use Rattle.svc_main.specs.declared.outcome.RunEnd.{RunEnd}
 use Rattle.svc_main.specs.declared.outcome.RunEnd.TheVariants.{Served, Tested, Parent, Config, HostFault, Bootstrap, Stray, OutOfEvents}
 use Rattle.svc_main.specs.Status.{end_status, status_of}
 use Rattle.svc_main.specs.CommandWords.{AcceptsWords, RefusesWords, flags_of}
+use Rattle.svc_main.proofs.WordsLemmas.{run_not_made}
 use Rattle.svc_main.specs.Program.{IsRunOf, RanText, RunText, IsAnswer, Faults, EndsServed, RunsThrough, IsWholeScript, RefusesIn}
 
 -- ---- what was taken of items that are events alone
 
 -- items that are events alone begin with these events
-front_of : (es fs : List Event) (left : List Item) → map items.Event es ≡ map items.Event fs ++ left → (more : List Event) × (es ≡ fs ++ more)
+pub front_of : (es fs : List Event) (left : List Item) → map items.Event es ≡ map items.Event fs ++ left → (more : List Event) × (es ≡ fs ++ more)
 front_of es [] left h = (es, refl)
 front_of [] (f ∷ fs) left h = absurd (cc)
 front_of (e ∷ es) (f ∷ fs) left h =
@@ -98,19 +99,19 @@ ran_of opt bytes parts end out says t = subst (λ (q : Parts). RanText opt q end
 
 -- words that are taken aren't refused
 not_refused : (words : List (List ℕ)) → AcceptsWords words → RefusesWords words → ⊥
-not_refused words a (inl never) = never a.run
-not_refused words a (inr refused) = refused.not_taken a.flags
+not_refused words a (size, inl never) = never a.run
+not_refused words a (size, inr refused) = refused.not_taken a.flags
 
--- a run over items that run through, with a configuration that is accepted, ends with the status 0
-through_served : (opt : Opt) (parts : Parts) (end : RunEnd) (out : List ℕ) (r : Record) → runnable (merged opt parts.conf) ≡ Ok tt → RunsThrough (plan_of opt parts) parts.items → IsRunOf opt parts end out r → end_status end ≡ 0
-through_served opt parts Served out r c t run = refl
-through_served opt parts Tested out r c t run = refl
-through_served opt parts (Parent n) out r c t run = absurd (not_early (plan_of opt parts) (ends.Parent n) parts.items run.left r run.ends.0 (λ e. e) t run.ends.1 run.takes.taken)
-through_served opt parts (Config key) out r c t run = absurd (let refused = run.judged in cc)
-through_served opt parts HostFault out r c t run = absurd (not_fault (plan_of opt parts) parts.items run.left r t run.takes)
-through_served opt parts (Bootstrap error) out r c t run = absurd (not_early (plan_of opt parts) (ends.Ended error) parts.items run.left r run.ends.0 (λ e. e) t run.ends.1 run.takes.taken)
-through_served opt parts (Stray k) out r c t run = absurd (not_stray (plan_of opt parts) parts.items run.left k r run.ends.0 run.ends.1.0 t run.ends.1.1 run.takes)
-through_served opt parts OutOfEvents out r c t run = absurd (not_out (plan_of opt parts) parts.items run.left r run.ends.0 t run.ends.1 run.takes)
+-- a run over items that run through, with a configuration that is accepted, goes through its shutdown
+pub through_served : (opt : Opt) (parts : Parts) (end : RunEnd) (r : Record) → judged (merged opt parts.conf) ≡ Ok tt → RunsThrough (plan_of opt parts) parts.items → IsRunOf opt parts end r → end ≡ Served
+through_served opt parts Served r c t run = refl
+through_served opt parts Tested r c t run = absurd (not_early (plan_of opt parts) ends.Tested parts.items run.left r run.tells.ends.0 (λ e. e) t run.tells.ends.1 run.takes.taken)
+through_served opt parts (Parent n) r c t run = absurd (not_early (plan_of opt parts) (ends.Parent n) parts.items run.left r run.tells.ends.0 (λ e. e) t run.tells.ends.1 run.takes.taken)
+through_served opt parts (Config key) r c t run = absurd (let refused = run.judged in cc)
+through_served opt parts HostFault r c t run = absurd (not_fault (plan_of opt parts) parts.items run.left r t run.takes)
+through_served opt parts (Bootstrap error) r c t run = absurd (not_early (plan_of opt parts) (ends.Ended error) parts.items run.left r run.tells.ends.0 (λ e. e) t run.tells.ends.1 run.takes.taken)
+through_served opt parts (Stray k) r c t run = absurd (not_stray (plan_of opt parts) parts.items run.left k r run.tells.ends.0 run.tells.ends.1.0 t run.tells.ends.1.1 run.takes)
+through_served opt parts OutOfEvents r c t run = absurd (not_out (plan_of opt parts) parts.items run.left r run.tells.ends.0 t run.tells.ends.1 run.takes)
 
 -- the line of the answer to a whole script says that the run served, or that the source failed
 pub whole_is_served : (words : List (List ℕ)) (bytes : List ℕ) (parts : Parts) (line : StatusLine) (out : List ℕ) (before now : ℕ)
@@ -125,5 +126,8 @@ whole_is_served words bytes parts (Line k) out before now w a f n = absurd (by a
         refused_some parts.services edge.1.1.0 (subst (λ (q : Parts). RefusesAt q.services edge.1.1.0) (one_script bytes edge.0 parts edge.1.0 w.is_script.says) edge.1.1.1.0) w.is_script.edges
     by (inr (inr long)) = let short = w.short in omega (arith, long.1)
 whole_is_served words bytes parts (Run end) out before now w a f n =
-    let run = ran_of (flags_of words) bytes parts end out w.is_script.says a.1 in
-    through_served (flags_of words) parts end out run.0 w.runs w.through run.1
+    by a
+  where
+    by : IsAnswer words (Some bytes) (Run end) out → end_status end ≡ 0
+    by (inl ran) = let run = ran_of (flags_of words) bytes parts end out w.is_script.says ran.1 in ap end_status (through_served (flags_of words) parts end run.0 w.runs w.through run.1.run)
+    by (inr made) = absurd (run_not_made words made.1.0 w.takes.run made.1.1)

@@ -1,5 +1,5 @@
 -- The words that the program takes.
-use Rattle.std.proofs.Common.{◌≡◌, ◌≢◌, ◌⊎◌, ℕ, Bool, true, false, List, [], ◌∷◌, length, get_or, map, Global, refl, sym, ap, subst, ◌∙◌, inl, inr, arith, codes, ◌<◌}
+use Rattle.std.proofs.Common.{◌≡◌, ◌≢◌, ◌⊎◌, ℕ, Bool, true, false, List, [], ◌∷◌, length, get_or, map, Global, Option, Some, None, refl, sym, ap, subst, ◌∙◌, inl, inr, arith, codes, ◌<◌}
 use Rattle.std.specs.Bool.{Decides}
 use Rattle.std.specs.Rc.{rc_str_bytes}
 use Rattle.std.specs.Str.{bytes_eq}
@@ -10,7 +10,7 @@ use Rattle.clap.specs.Faults.{fault_of}
 use Rattle.clap.specs.Kinds.{Kinds, IsAmong}
 use Rattle.clap.specs.declared.error.kind.ErrorKind.{ErrorKind}
 use Rattle.svc_conf.specs.OptWords.{opt_app}
-use Rattle.svc_main.specs.CommandWords.{BeginsWithRun, RefusesFlags}
+use Rattle.svc_main.specs.CommandWords.{BeginsWithRun, RefusesFlags, size_after, made_size}
 
 pub first_is_run : (words : List (RcStr Global)) (w : RcStr Global) (b : Bool) → 0 < length words → w ≡ get_or words 0 w → b ≡ bytes_eq (rc_str_bytes w) (codes "run") → Decides b (BeginsWithRun (map rc_str_bytes words))
 first_is_run [] w b n e h = absurd (omega arith)
@@ -28,3 +28,33 @@ among_some kind (x ∷ xs) h e = absurd cc
 -- words that are refused for some kind of fault have one
 pub flags_refused : (words : List (List ℕ)) (kind : ErrorKind) → takes opt_app words ≢ true → IsAmong kind (fault_of opt_app words) → RefusesFlags words
 flags_refused words kind t h = record { fault = among_some kind (fault_of opt_app words) h; not_taken = t }
+
+-- two words, and any other number of words
+pub two_words : (words : List (RcStr Global)) (a b : RcStr Global) → length words ≡ 2 → a ≡ get_or words 0 a → b ≡ get_or words 1 b → made_size (map rc_str_bytes words) ≡ size_after (rc_str_bytes a) (rc_str_bytes b)
+unfolding made_size
+two_words [] a b n e f = absurd (omega arith)
+two_words (x ∷ []) a b n e f = absurd (omega arith)
+two_words (x ∷ y ∷ []) a b n e f = ap (λ (w : RcStr Global). size_after (rc_str_bytes w) (rc_str_bytes y)) (sym e) ∙ ap (λ (w : RcStr Global). size_after (rc_str_bytes a) (rc_str_bytes w)) (sym f)
+two_words (x ∷ y ∷ z ∷ more) a b n e f = absurd (omega arith)
+
+pub other_words : (words : List (RcStr Global)) → (length words ≡ 2 → ⊥) → made_size (map rc_str_bytes words) ≡ None
+unfolding made_size
+other_words [] n = refl
+other_words (x ∷ []) n = refl
+other_words (x ∷ y ∷ []) n = absurd (n (omega arith))
+other_words (x ∷ y ∷ z ∷ more) n = refl
+
+-- words that begin with `run` ask for no generator
+run_asks_none : (more : List (List ℕ)) → made_size (codes "run" ∷ more) ≡ None
+unfolding made_size
+run_asks_none [] = refl
+run_asks_none (word ∷ []) = refl
+run_asks_none (word ∷ other ∷ more) = refl
+
+pub run_asks : (words : List (List ℕ)) → BeginsWithRun words → made_size words ≡ None
+run_asks words run = ap made_size run.1 ∙ run_asks_none run.0
+
+pub run_not_made : (words : List (List ℕ)) (n : ℕ) → BeginsWithRun words → made_size words ≡ Some n → ⊥
+run_not_made words n run made =
+    let never : ◌≡◌ {A = Option ℕ} (Some n) None = sym made ∙ run_asks words run in
+    cc

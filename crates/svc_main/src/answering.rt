@@ -1,6 +1,6 @@
-//! What is answered to a script.
+//! What is answered to a script, and by the generator.
 
-ghost use Rattle.std.specs.Prelude.{◌≡◌, ◌++◌, length, List, All, IfOk, OnOk, string_bytes};
+ghost use Rattle.std.specs.Prelude.{◌≡◌, ◌≤◌, ℕ, ◌++◌, length, map, List, All, IfOk, OnOk, string_bytes};
 ghost use Rattle.svc_record.specs.Text.{text_of, EntryFits};
 ghost use Rattle.svc_text.specs.Accepted.{AreAccepted, BringsFew};
 ghost use Rattle.svc_conf.specs.declared.server.configuration.Opt.{Opt};
@@ -9,18 +9,25 @@ ghost use Rattle.svc_text.specs.Script.{Parts};
 ghost use Rattle.svc_text.specs.Outcome.{parts_of};
 ghost use Rattle.svc_server.specs.Servers.{answers_of};
 ghost use Rattle.svc_main.specs.declared.outcome.RunEnd.{RunEnd};
+ghost use Rattle.svc_main.specs.declared.outcome.RunEnd.TheVariants.{Served};
 ghost use Rattle.svc_main.specs.declared.outcome.StatusLine.TheVariants.{Run as RunLine};
 ghost use Rattle.svc_main.specs.Status.{status_line, StatusFits};
 ghost use Rattle.svc_main.specs.Services.{HasLines, IsServerOf};
-ghost use Rattle.svc_main.specs.Program.{RanText, AnswersScript};
+ghost use Rattle.svc_record.specs.declared.item.Item.TheVariants as item;
+ghost use Rattle.svc_main.specs.Counts.{summary};
+ghost use Rattle.svc_main.specs.Generator.{made_events, made_parts, no_flags};
+ghost use Rattle.svc_main.specs.Program.{IsRunOf, RanText, CountsText, AnswersScript};
 
+use crate::counting::summary;
+use crate::generator::{made_items, made_services, no_flags};
 use crate::outcome::{RunEnd, StatusLine};
 use crate::runs::run_items;
+use crate::script_filter::ScriptFilter;
 use crate::script_service::ScriptService;
-use crate::services::{configured, server_of_script};
+use crate::services::{configured, server_of_script, server_of_services};
 use std::alloc::Global;
 use std::fmt::Write;
-use svc_conf::{NoMemory, Opt};
+use svc_conf::{NoMemory, Opt, ServerConf};
 use svc_graph::services::ServiceWithDependents;
 use svc_record::{Entry, Item};
 use svc_server::{ScriptHost, Server};
@@ -59,24 +66,88 @@ fn ran(alloc: Global, end: RunEnd, entries: &[Entry]) -> Result<Answer, NoMemory
     Ok(Answer { line, text })
 }
 
-/// Runs the server of a script over the script's items, and gives what its run leaves.
-fn run_script(
+/// What the run of a server leaves.
+#[derive(Drop)]
+struct RunLeft {
+    end: RunEnd,
+    host: ScriptHost<ScriptService>,
+}
+
+/// Runs a server over these items.
+fn run_over(
     alloc: Global,
-    server: Server<ScriptService>,
+    server: Server<ScriptService, ScriptFilter>,
     items: Vec<Item>,
-) -> Result<Answer, NoMemory>
+) -> Result<RunLeft, NoMemory>
     requires few { All BringsFew items.items }
-    requires lines { (services : List ServiceLine) × HasLines services (length services) server.dependencies
+    requires lines { (services : List ServiceLine) × HasLines services (length services) server.dependencies server.filters
         (answers_of ⟦<ScriptService as ServiceWithDependents>⟧ server.services.items) }
     ensures { (opt : Opt) (parts : Parts) → IsServerOf opt parts server.configuration server.options server.eager
-        server.dependencies (answers_of ⟦<ScriptService as ServiceWithDependents>⟧ server.services.items)
-        → parts.items ≡ items.items
-        → IfOk result (λ a. (end : RunEnd) × (a.line ≡ RunLine end) × RanText opt parts end (string_bytes a.text)) }
+        server.dependencies server.filters (answers_of ⟦<ScriptService as ServiceWithDependents>⟧ server.services.items)
+        → parts.items ≡ items.items → IfOk result (λ left. IsRunOf opt parts left.end left.host.entries) }
 {
     let turns = items.len() as u64 + 1;
     let mut host = ScriptHost::new(alloc, items);
     let end = run_items(alloc, server, turns, &mut host)?;
-    ran(alloc, end, host.entries().as_slice())
+    Ok(RunLeft { end, host })
+}
+
+/// Runs the server of a script over the script's items, and prints what its run leaves.
+fn run_script(
+    alloc: Global,
+    server: Server<ScriptService, ScriptFilter>,
+    items: Vec<Item>,
+) -> Result<Answer, NoMemory>
+    requires few { All BringsFew items.items }
+    requires lines { (services : List ServiceLine) × HasLines services (length services) server.dependencies server.filters
+        (answers_of ⟦<ScriptService as ServiceWithDependents>⟧ server.services.items) }
+    ensures { (opt : Opt) (parts : Parts) → IsServerOf opt parts server.configuration server.options server.eager
+        server.dependencies server.filters (answers_of ⟦<ScriptService as ServiceWithDependents>⟧ server.services.items)
+        → parts.items ≡ items.items
+        → IfOk result (λ a. (end : RunEnd) × (a.line ≡ RunLine end) × RanText opt parts end (string_bytes a.text)) }
+{
+    let left = run_over(alloc, server, items)?;
+    ran(alloc, left.end, left.host.entries().as_slice())
+}
+
+/// The counts of the record of a run, and its status line.
+fn counted(alloc: Global, end: RunEnd, entries: &[Entry]) -> Result<Answer, NoMemory>
+    ensures { IfOk result (λ a. (a.line ≡ RunLine end) × (string_bytes a.text ≡ summary entries.now ++ status_line (RunLine end))) }
+{
+    let line = StatusLine::Run(end);
+    let mut text = summary(alloc, entries)?;
+    writeln!(text, "{line}")?;
+    Ok(Answer { line, text })
+}
+
+/// Runs the server of the generator's services over its events, and counts what its run leaves.
+fn run_made(
+    alloc: Global,
+    server: Server<ScriptService, ScriptFilter>,
+    items: Vec<Item>,
+) -> Result<Answer, NoMemory>
+    requires few { All BringsFew items.items }
+    requires lines { (services : List ServiceLine) × HasLines services (length services) server.dependencies server.filters
+        (answers_of ⟦<ScriptService as ServiceWithDependents>⟧ server.services.items) }
+    ensures { (n : ℕ) → n ≤ 1024 → IsServerOf no_flags (made_parts n) server.configuration server.options server.eager
+        server.dependencies server.filters (answers_of ⟦<ScriptService as ServiceWithDependents>⟧ server.services.items)
+        → items.items ≡ map item.Event (made_events n)
+        → IfOk result (λ a. (a.line ≡ RunLine Served) × CountsText n (string_bytes a.text)) }
+{
+    let left = run_over(alloc, server, items)?;
+    counted(alloc, left.end, left.host.entries().as_slice())
+}
+
+/// The counts of the run of n services of the generator.
+pub(crate) fn answer_made(alloc: Global, n: u32) -> Result<Answer, NoMemory>
+    requires { n ≤ 1024 }
+    ensures { IfOk result (λ a. (a.line ≡ RunLine Served) × CountsText n (string_bytes a.text)) }
+{
+    let services = made_services(alloc, n)?;
+    let server = server_of_services(alloc, services.as_slice())?;
+    let conf = ServerConf::default(alloc)?;
+    let server = configured(server, conf, no_flags(), false);
+    run_made(alloc, server, made_items(alloc, n)?)
 }
 
 /// The answer to a script with these flags.

@@ -2,9 +2,12 @@
 #![tactic(auto)]
 
 mod answering;
+mod counting;
+mod generator;
 mod outcome;
 mod program;
 mod runs;
+mod script_filter;
 mod script_service;
 mod services;
 mod words;

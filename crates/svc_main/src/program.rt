@@ -1,6 +1,6 @@
 //! The program as one call.
 
-ghost use Rattle.std.specs.Prelude.{◌≡◌, ◌⊎◌, ◌<◌, ◌≤◌, ◌++◌, map, List, All, ℕ, IfOk, Some, string_bytes};
+ghost use Rattle.std.specs.Prelude.{◌≡◌, ◌⊎◌, ◌<◌, ◌≤◌, ◌++◌, map, List, All, ℕ, IfOk, Some, None, string_bytes};
 ghost use Rattle.std.specs.Rc.{rc_str_bytes};
 ghost use Rattle.std.specs.Io.KnownBytes.{Appends, IsAtEnd};
 ghost use Rattle.svc_conf.specs.Streams.{Rose};
@@ -8,27 +8,25 @@ ghost use Rattle.svc_record.specs.declared.entry.Entry.{Entry};
 ghost use Rattle.svc_record.specs.Text.{text_of, EntryFits};
 ghost use Rattle.svc_text.specs.Script.{Parts};
 ghost use Rattle.svc_main.specs.declared.outcome.StatusLine.{StatusLine};
-ghost use Rattle.svc_main.specs.declared.outcome.StatusLine.TheVariants.{Words, ReadFault};
+ghost use Rattle.svc_main.specs.declared.outcome.StatusLine.TheVariants.{Words, ReadFault, Run};
+ghost use Rattle.svc_main.specs.declared.outcome.RunEnd.TheVariants.{Served};
 ghost use Rattle.svc_main.specs.Status.{status_line, StatusFits, IsStatus};
-ghost use Rattle.svc_main.specs.CommandWords.{TakesWords, RefusesWords};
-ghost use Rattle.svc_main.specs.Program.{Ran, RefusedText, IsAnswer, Ends, Faults, Writes, WritesFront, IsWholeScript};
+ghost use Rattle.svc_main.specs.CommandWords.{TakesWords, RefusesWords, made_size};
+ghost use Rattle.svc_main.specs.Program.{Ran, Made, RefusedText, IsAnswer, Ends, Faults, Writes, WritesFront, IsWholeScript};
 
-use crate::answering::{Answer, answer_script, said};
+use crate::answering::{Answer, answer_made, answer_script, said};
 use crate::outcome::StatusLine;
-use crate::words::read_words;
+use crate::words::{made_size, read_words};
 use std::alloc::Global;
 use std::rc::RcStr;
 use svc_conf::{NoMemory, ReadAllError, Sink, Source, Status, read_all, write_all};
 use svc_text::{ScriptError, parse};
 
-/// What is to be written.
-fn make_answer<S: Source>(
-    alloc: Global,
-    words: &[RcStr],
-    source: &mut S,
-) -> Result<Answer, NoMemory>
+/// What is to be written, where the words don't ask for the generator.
+fn answer_run<S: Source>(alloc: Global, words: &[RcStr], source: &mut S) -> Result<Answer, NoMemory>
+    requires { made_size (map rc_str_bytes words.now) ≡ None }
     ensures answer { IfOk result (λ a. IsAnswer (map rc_str_bytes words.now) (S.left source.old) a.line (string_bytes a.text)) }
-    ensures ended { IfOk result (λ a. Ends a.line (S.left source.new)) }
+    ensures ended { IfOk result (λ a. Ends (map rc_str_bytes words.now) a.line (S.left source.new)) }
     ensures fault { IfOk result (λ a. Faults a.line (S.faulted source.old) (S.faulted source.new)) }
 {
     let Some(opt) = read_words(alloc, words)? else {
@@ -47,8 +45,28 @@ fn make_answer<S: Source>(
     }
 }
 
+/// What is to be written.
+fn make_answer<S: Source>(
+    alloc: Global,
+    words: &[RcStr],
+    source: &mut S,
+) -> Result<Answer, NoMemory>
+    ensures answer { IfOk result (λ a. IsAnswer (map rc_str_bytes words.now) (S.left source.old) a.line (string_bytes a.text)) }
+    ensures ended { IfOk result (λ a. Ends (map rc_str_bytes words.now) a.line (S.left source.new)) }
+    ensures fault { IfOk result (λ a. Faults a.line (S.faulted source.old) (S.faulted source.new)) }
+    ensures made { (n : ℕ) → made_size (map rc_str_bytes words.now) ≡ Some n → IfOk result (λ a. a.line ≡ Run Served) }
+    ensures unread { (n : ℕ) → made_size (map rc_str_bytes words.now) ≡ Some n → source.new ≡ source.old }
+{
+    match made_size(words) {
+        Some(n) => answer_made(alloc, n),
+        None => answer_run(alloc, words, source),
+    }
+}
+
 /// Serves a script: reads it from the source to its end, runs it, and writes the record and a status
-/// line to the sink. The words are those after the program's name.
+/// line to the sink. With `gen` and a number it serves so many services of the generator, and writes
+/// how many services were started, endpoints bound and descriptors closed. The words are those after
+/// the program's name.
 pub fn serve_script<S: Source, K: Sink>(
     alloc: Global,
     words: &[RcStr],
@@ -56,8 +74,14 @@ pub fn serve_script<S: Source, K: Sink>(
     sink: &mut K,
 ) -> Status
     // Served, tested, or the parent of the process that serves: what was read, to its end, is a script,
-    // and what was written is the record of its run with the flags, and how it ended.
-    ensures served { result.0 ≡ 0 → Ran 0 (map rc_str_bytes words.now) (S.left source.old) (S.left source.new) (K.written sink.old) (K.written sink.new) }
+    // and what was written is the record of its run with the flags, and how it ended. Or the words ask
+    // for the generator, and the counts of its run were written.
+    ensures served { result.0 ≡ 0 → Ran 0 (map rc_str_bytes words.now) (S.left source.old) (S.left source.new) (K.written sink.old) (K.written sink.new)
+        ⊎ Made (map rc_str_bytes words.now) (K.written sink.old) (K.written sink.new) }
+
+    // The generator's events run through, unless memory runs out or the sink fails. It reads nothing.
+    ensures made { (n : ℕ) → made_size (map rc_str_bytes words.now) ≡ Some n → (result.0 ≡ 0) ⊎ ((result.0 ≡ 6) ⊎ (result.0 ≡ 7)) }
+    ensures unread { (n : ℕ) → made_size (map rc_str_bytes words.now) ≡ Some n → source.new ≡ source.old }
 
     // The parent of a process that isn't ready.
     ensures parent { result.0 ≡ 1 → Ran 1 (map rc_str_bytes words.now) (S.left source.old) (S.left source.new) (K.written sink.old) (K.written sink.new) }

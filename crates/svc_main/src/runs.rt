@@ -5,13 +5,14 @@ ghost use Rattle.svc_conf.specs.declared.server.configuration.Opt.{Opt};
 ghost use Rattle.svc_text.specs.declared.service.ServiceLine.{ServiceLine};
 ghost use Rattle.svc_text.specs.ScriptPlans.{plan_of};
 ghost use Rattle.svc_server.specs.Hosts.{no_account};
-ghost use Rattle.svc_server.specs.Runs.{RunEnds, RunTakes};
+ghost use Rattle.svc_server.specs.Runs.{RunTakes};
 ghost use Rattle.svc_server.specs.Servers.{answers_of};
 ghost use Rattle.svc_text.specs.Script.{Parts};
 ghost use Rattle.svc_main.specs.Services.{HasLines, IsServerOf};
-ghost use Rattle.svc_main.specs.Program.{answer_of, Judges};
+ghost use Rattle.svc_main.specs.Program.{answer_of, Judges, TellsRun};
 
 use crate::outcome::RunEnd;
+use crate::script_filter::ScriptFilter;
 use crate::script_service::ScriptService;
 use std::alloc::Global;
 use svc_conf::NoMemory;
@@ -21,17 +22,17 @@ use svc_server::{Host, Outcome, RunArgs, RunError, ScriptHost, Server};
 /// Runs a script's server over a host that has fewer items ahead than there are turns.
 pub(crate) fn run_items(
     alloc: Global,
-    server: Server<ScriptService>,
+    server: Server<ScriptService, ScriptFilter>,
     turns: u64,
     host: &mut ScriptHost<ScriptService>,
 ) -> Result<RunEnd, NoMemory>
-    requires lines { (services : List ServiceLine) × HasLines services (length services) server.dependencies
+    requires lines { (services : List ServiceLine) × HasLines services (length services) server.dependencies server.filters
         (answers_of ⟦<ScriptService as ServiceWithDependents>⟧ server.services.items) }
     requires first { ⟦<ScriptHost<ScriptService> as Host>⟧.account host.old ≡ Some no_account }
     requires few { length host.old.left < turns }
-    ensures ends { (opt : Opt) (parts : Parts) → IsServerOf opt parts server.configuration server.options server.eager
-        server.dependencies (answers_of ⟦<ScriptService as ServiceWithDependents>⟧ server.services.items)
-        → IfOk result (λ end. RunEnds (plan_of opt parts) turns (answer_of end) host.new.entries) }
+    ensures tells { (opt : Opt) (parts : Parts) → IsServerOf opt parts server.configuration server.options server.eager
+        server.dependencies server.filters (answers_of ⟦<ScriptService as ServiceWithDependents>⟧ server.services.items)
+        → IfOk result (λ end. TellsRun parts.services (plan_of opt parts) turns (answer_of end) host.new.entries) }
     ensures judged { IfOk result (λ end. Judges end server.configuration) }
     ensures takes { IfOk result (λ end. RunTakes (answer_of end) host.new.entries host.old.left host.new.left) }
 {

@@ -5,9 +5,10 @@ ghost use Rattle.svc_text.specs.ScriptPlans.{endpoint_of};
 ghost use Rattle.svc_text.specs.declared.service.EndpointLine.{EndpointLine};
 
 use std::alloc::Global;
-use svc_conf::{Items, NoMemory, Setting, Settings, Text, Texts};
+use svc_conf::{Items, NoMemory, Text, Texts};
 use svc_graph::services::{RunPoll, ServiceReadyNotifier, ServiceWithDependents, StartPoll};
 use svc_graph::{EndpointPlan, Kind};
+use svc_record::copy_items;
 use svc_text::{EndpointLine, ServiceLine};
 
 /// A service of a script. It does nothing by itself: its word and its end are items of the script.
@@ -18,32 +19,37 @@ pub(crate) struct ScriptService {
     undeclared: bool,
     claims: Texts,
     endpoints: Items<EndpointLine>,
+    /// The number of the filter of its endpoints.
+    filter: Option<u32>,
 }
 
-/// The endpoint that a line names. Its writes aren't held back.
-fn endpoint_of(alloc: Global, line: &EndpointLine) -> Result<EndpointPlan, NoMemory>
-    ensures { IfOk result (λ endpoint. endpoint ≡ endpoint_of line.now) }
+/// The endpoint that a line names, with this filter.
+fn endpoint_of(
+    alloc: Global,
+    filter: Option<u32>,
+    line: &EndpointLine,
+) -> Result<EndpointPlan, NoMemory>
+    ensures { IfOk result (λ endpoint. endpoint ≡ endpoint_of filter line.now) }
 {
-    let mut options = Settings::new(alloc);
-    match options.push(alloc, Setting::NoDelay) {
-        Ok(()) => {}
-        Err(_) => return Err(NoMemory),
-    }
     Ok(EndpointPlan {
         address: line.address.copy(alloc)?,
         unix: line.unix,
-        options,
-        filter: None,
+        options: copy_items(alloc, line.options.as_slice())?,
+        filter,
     })
 }
 
-/// The endpoints that the lines name, in order.
-fn endpoints_of(alloc: Global, lines: &[EndpointLine]) -> Result<Vec<EndpointPlan>, NoMemory>
-    ensures { IfOk result (λ endpoints. endpoints.items ≡ map endpoint_of lines.now) }
+/// The endpoints that the lines name, in order, with this filter.
+fn endpoints_of(
+    alloc: Global,
+    filter: Option<u32>,
+    lines: &[EndpointLine],
+) -> Result<Vec<EndpointPlan>, NoMemory>
+    ensures { IfOk result (λ endpoints. endpoints.items ≡ map (endpoint_of filter) lines.now) }
 {
     let mut endpoints = Vec::new(alloc);
     for line in lines {
-        endpoints.push(endpoint_of(alloc, line)?)?;
+        endpoints.push(endpoint_of(alloc, filter, line)?)?;
     }
     Ok(endpoints)
 }
@@ -92,6 +98,7 @@ fn copy_of(alloc: Global, lines: &[EndpointLine]) -> Result<Items<EndpointLine>,
         let endpoint = EndpointLine {
             address: line.address.copy(alloc)?,
             unix: line.unix,
+            options: copy_items(alloc, line.options.as_slice())?,
         };
         match copy.push(alloc, endpoint) {
             Ok(()) => {}
@@ -102,9 +109,9 @@ fn copy_of(alloc: Global, lines: &[EndpointLine]) -> Result<Items<EndpointLine>,
 }
 
 impl ScriptService {
-    /// The service that a line says.
-    pub fn new(alloc: Global, line: &ServiceLine) -> Result<Self, NoMemory>
-        ensures { IfOk result (λ service. service ≡ record { name = line.now.name; kind = line.now.kind; undeclared = line.now.undeclared; claims = line.now.claims; endpoints = line.now.endpoints }) }
+    /// The service that a line says, whose endpoints have this filter.
+    pub fn new(alloc: Global, line: &ServiceLine, filter: Option<u32>) -> Result<Self, NoMemory>
+        ensures { IfOk result (λ service. service ≡ record { name = line.now.name; kind = line.now.kind; undeclared = line.now.undeclared; claims = line.now.claims; endpoints = line.now.endpoints; filter = filter }) }
     {
         Ok(ScriptService {
             name: line.name.copy(alloc)?,
@@ -112,6 +119,7 @@ impl ScriptService {
             undeclared: line.undeclared,
             claims: copy_texts(alloc, line.claims.as_slice())?,
             endpoints: copy_of(alloc, line.endpoints.as_slice())?,
+            filter,
         })
     }
 }
@@ -123,7 +131,7 @@ impl ServiceWithDependents for ScriptService {
 
     ghost declares = { λ s. if s.undeclared then None else Some (map (λ (e : EndpointLine). e.address) s.endpoints ++ s.claims) };
 
-    ghost configures = { λ s. map endpoint_of s.endpoints };
+    ghost configures = { λ s. map (endpoint_of s.filter) s.endpoints };
 
     fn poll_start(
         &mut self,
@@ -166,6 +174,6 @@ impl ServiceWithDependents for ScriptService {
     }
 
     fn listener_configs(&self, alloc: Global) -> Result<Vec<EndpointPlan>, NoMemory> {
-        endpoints_of(alloc, self.endpoints.as_slice())
+        endpoints_of(alloc, self.filter, self.endpoints.as_slice())
     }
 }

@@ -1,6 +1,6 @@
 //! The server that the services of a script are in.
 
-ghost use Rattle.std.specs.Prelude.{◌≡◌, ◌||◌, ℕ, [], length, slice_index, Some, None, false, IfOk, IfErr, OnOk};
+ghost use Rattle.std.specs.Prelude.{◌≡◌, ◌<◌, ◌||◌, ℕ, [], length, take, get_or, slice_index, Some, None, false, IfOk, IfErr, OnOk};
 ghost use Rattle.svc_conf.specs.Configuration.{defaults};
 ghost use Rattle.svc_conf.specs.ConfigurationText.{merged};
 ghost use Rattle.svc_text.specs.Accepted.{AreAccepted};
@@ -10,21 +10,23 @@ ghost use Rattle.svc_server.specs.declared.server.refusals.AddError.TheVariants 
 ghost use Rattle.svc_server.specs.Servers.{answers_of, IsSound};
 ghost use Rattle.svc_main.specs.Services.{HasLines};
 
+use crate::script_filter::{ScriptFilter, add_filters};
 use crate::script_service::ScriptService;
 use std::alloc::Global;
 use svc_conf::{NoMemory, Opt, ServerConf};
 use svc_graph::services::ServiceWithDependents;
 use svc_server::{AddError, Server};
-use svc_text::{Script, ScriptError, ServiceLine, add_dependencies};
+use svc_text::{Script, ScriptError, ServiceLine, add_dependencies, filter_number};
 
 /// A server without services, with the default configuration.
-fn empty_server(alloc: Global) -> Result<Server<ScriptService>, NoMemory>
+fn empty_server(alloc: Global) -> Result<Server<ScriptService, ScriptFilter>, NoMemory>
     ensures configuration { IfOk result (λ server. server.configuration ≡ defaults) }
     ensures options { IfOk result (λ server. server.options ≡ None) }
     ensures dependencies { IfOk result (λ server. server.dependencies ≡ record { names = []; depends = [] }) }
     ensures services { IfOk result (λ server. server.services.items ≡ []) }
     ensures eager { IfOk result (λ server. server.eager ≡ false) }
-    ensures sound { IfOk result (λ server. IsSound server.dependencies
+    ensures filters { IfOk result (λ server. server.filters ≡ []) }
+    ensures sound { IfOk result (λ server. IsSound server.dependencies (length server.filters)
         (answers_of ⟦<ScriptService as ServiceWithDependents>⟧ server.services.items)) }
 {
     let conf = ServerConf::default(alloc)?;
@@ -47,20 +49,22 @@ fn memory_alone(reason: AddError) -> NoMemory
     }
 }
 
-/// A server with the services of a script, and no dependencies yet. Against none of them a cause
-/// stands, so it is memory that is wanted.
+/// A server with the services of a script and their filters, and no dependencies yet. Against none of
+/// them a cause stands, so it is memory that is wanted.
 pub(crate) fn server_of(
     alloc: Global,
     lines: &[ServiceLine],
-) -> Result<Server<ScriptService>, NoMemory>
+) -> Result<Server<ScriptService, ScriptFilter>, NoMemory>
     requires { AreAccepted lines.now }
     ensures eager { IfOk result (λ server. server.eager ≡ false) }
-    ensures lines { IfOk result (λ server. HasLines lines.now 0 server.dependencies
+    ensures lines { IfOk result (λ server. HasLines lines.now 0 server.dependencies server.filters
         (answers_of ⟦<ScriptService as ServiceWithDependents>⟧ server.services.items)) }
 {
     let mut server = empty_server(alloc)?;
-    for line in lines {
-        let service = ScriptService::new(alloc, line)?;
+    add_filters(alloc, &mut server.filters, lines)?;
+    for k in 0..lines.len() {
+        let line = &lines[k];
+        let service = ScriptService::new(alloc, line, filter_number(&lines[..k], line))?;
         match server.add_service(alloc, service) {
             Ok(_) => {}
             Err(refused) => return Err(memory_alone(refused.reason)),
@@ -74,12 +78,12 @@ pub(crate) fn server_of(
 pub(crate) fn server_of_script(
     alloc: Global,
     script: &Script,
-) -> Result<Server<ScriptService>, ScriptError>
+) -> Result<Server<ScriptService, ScriptFilter>, ScriptError>
     requires accepted { AreAccepted script.now.services.items }
     requires lines { length script.now.lines.items ≡ length script.now.services.items }
     ensures eager { IfOk result (λ server. server.eager ≡ false) }
     ensures lines { IfOk result (λ server. HasLines script.now.services.items
-        (length script.now.services.items) server.dependencies
+        (length script.now.services.items) server.dependencies server.filters
         (answers_of ⟦<ScriptService as ServiceWithDependents>⟧ server.services.items)) }
     ensures edges { OnOk result (RefusesNone script.now.services.items) }
     ensures refused { IfErr result (λ error. (n : ℕ) → error ≡ errors.Line n
@@ -96,17 +100,37 @@ pub(crate) fn server_of_script(
     }
 }
 
+/// A server with services whose dependencies are known and close no cycle.
+pub(crate) fn server_of_services(
+    alloc: Global,
+    lines: &[ServiceLine],
+) -> Result<Server<ScriptService, ScriptFilter>, NoMemory>
+    requires accepted { AreAccepted lines.now }
+    requires edges { RefusesNone lines.now }
+    ensures eager { IfOk result (λ server. server.eager ≡ false) }
+    ensures lines { IfOk result (λ server. HasLines lines.now (length lines.now) server.dependencies server.filters
+        (answers_of ⟦<ScriptService as ServiceWithDependents>⟧ server.services.items)) }
+{
+    let mut server = server_of(alloc, lines)?;
+    match add_dependencies(alloc, &mut server.dependencies, lines) {
+        Ok(None) => Ok(server),
+        Ok(Some(_)) => unreachable!(),
+        Err(NoMemory) => Err(NoMemory),
+    }
+}
+
 /// The server with this configuration, into which the flags are merged.
 pub(crate) fn configured(
-    server: Server<ScriptService>,
+    server: Server<ScriptService, ScriptFilter>,
     conf: ServerConf,
     opt: Opt,
     eager: bool,
-) -> Server<ScriptService>
+) -> Server<ScriptService, ScriptFilter>
     ensures configuration { result.configuration ≡ merged opt conf }
     ensures options { result.options ≡ Some opt }
     ensures eager { result.eager ≡ (server.eager || eager) }
     ensures dependencies { result.dependencies ≡ server.dependencies }
+    ensures filters { result.filters ≡ server.filters }
     ensures services { result.services.items ≡ server.services.items }
 {
     let mut server = server;

@@ -293,3 +293,42 @@ fn a_shutdown_waits_and_offers_its_sockets(rt: HostRuntime) -> Result<(), Fail> 
     }
     Ok(())
 }
+
+#[test]
+fn a_filter_refuses_blocked_addresses(rt: HostRuntime) -> Result<(), Fail> {
+    let text =
+        "%conf\n%services\nweb plain tcp 127.0.0.1:80 dscp 10 block 192.168.1.1\n%events\nbound 0 0 7\narrived 0 0 1 192.168.1.1:8080\narrived 0 0 2 192.168.1.2:8080\nset 2 ok\nshaken 2 ok\narrived 0 0 3 -\nset 3 no\narrived 0 0 4 unix\nsignal fast\n";
+    let (status, out) = serve(rt.alloc(), &["run"], text, &[], &[])?;
+    assert_eq!(rt; status, Status(0));
+    assert_eq!(rt;
+        out.as_slice(),
+        b"start 0\nbind 0 0\nphase Running 0\ngot bound 0 0 7\ngot arrived 0 0 1 192.168.1.1:8080\njudged 1 no\nrefuse 1\ngot arrived 0 0 2 192.168.1.2:8080\njudged 2 yes\nsettings 2 nodelay dscp=10\ngot set 2 ok\nhandshake 2\ngot shaken 2 ok\nserve 2\ngot arrived 0 0 3 -\nsettings 3 nodelay dscp=10\ngot set 3 no\ndrop 3\ngot arrived 0 0 4 unix\njudged 4 yes\nsettings 4 nodelay dscp=10\ngot signal fast\nphase ShutdownStarted 0\nphase ShutdownRuntimes 0\ncut 2\ncut 4\nclose 7\nstop 0\nphase Terminated 0\nstatus served\n".as_slice()
+    );
+    Ok(())
+}
+
+#[test]
+fn the_run_of_the_generator_is_counted(rt: HostRuntime) -> Result<(), Fail> {
+    for (words, code, out) in [
+        (
+            ["gen", "2"].as_slice(),
+            0,
+            "starts 2\nbinds 4\ncloses 2\nstatus served\n",
+        ),
+        (
+            ["gen", "1"].as_slice(),
+            0,
+            "starts 1\nbinds 2\ncloses 1\nstatus served\n",
+        ),
+        (["gen", "0"].as_slice(), 2, "status words\n"),
+        (["gen", "1025"].as_slice(), 2, "status words\n"),
+        (["gen", "01"].as_slice(), 2, "status words\n"),
+        (["gen"].as_slice(), 2, "status words\n"),
+        (["gen", "2", "3"].as_slice(), 2, "status words\n"),
+    ] {
+        let (status, bytes) = serve(rt.alloc(), words, "", &[], &[])?;
+        assert_eq!(rt; status, Status(code));
+        assert_eq!(rt; bytes.as_slice(), out.as_bytes());
+    }
+    Ok(())
+}

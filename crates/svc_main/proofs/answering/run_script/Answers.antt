@@ -1,10 +1,7 @@
-use Rattle.std.proofs.Common.{ap, sym, ◌∙◌, arith, length, List, Option, unwrap_or, ◌+◌}
-use Rattle.svc_record.specs.declared.item.Item.{Item}
+use Rattle.std.proofs.Common.{◌∙◌}
 use Rattle.svc_main.proofs.RunLemmas.{ran_run}
 use Rattle.svc_main.proofs.answering.run_script.Goals as goal
 
 pub returns : goal.returns
 returns c = λ opt parts server items.
-    ran_run opt parts c.in_ok-end.end _ _ c.args.server.configuration (c.len.result + 1) c.new-host.result.left _ c.ran.result c.ran.ensures.text c.ran.ensures.numbers (c.as_slice.ensures ∙ c.entries.ensures.entries)
-    server.configuration c.in_ok-end.ensures.judged (omega (arith, c.len.ensures, ap length items)) (c.in_ok-end.ensures.ends opt parts server)
-    (ap (λ (o : Option (List Item)). unwrap_or o c.args.items.items) c.new-host.ensures.ahead ∙ sym items) c.in_ok-end.ensures.takes
+    ran_run opt parts c.in_ok-left.left.end _ _ c.ran.result c.ran.ensures.text c.ran.ensures.numbers (c.as_slice.ensures ∙ c.entries.ensures.entries) (c.in_ok-left.ensures opt parts server items)

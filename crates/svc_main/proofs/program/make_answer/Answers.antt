@@ -1,10 +1,22 @@
-use Rattle.svc_text.specs.Outcome.{parts_of}
-use Rattle.svc_main.proofs.ScriptAnswerLemmas.{script_answer, if_ok}
+use Rattle.std.proofs.Common.{sym}
+use Rattle.svc_main.proofs.ScriptAnswerLemmas.{if_ok, made_answer, made_ends, made_faults, none_made}
 use Rattle.svc_main.proofs.program.make_answer.Goals as goal
 
-pub returns-in-Ok-parse-clause-answer : goal.returns-in-Ok-parse-clause-answer
-returns-in-Ok-parse-clause-answer g c =
-    let taken = rw c.in-Some.is at c.in_ok-opt.ensures in
-    if_ok _ _ c.answer_script.result c.answer_script.ensures (λ a h.
-    script_answer _ (g.S.Source.left c.args.source.now) c.in-Ok.bytes.items c.in-Ok-parse.script.lines.items c.in-Some.opt (parts_of c.in-Ok-parse.script) a.line _ taken.0 taken.1
-    c.in-Ok.ensures.whole (rw c.deref.ensures.value at c.in-Ok-parse.ensures.parts) (rw c.deref.ensures.value at c.in-Ok-parse.ensures.numbers) h)
+pub returns-in-Some-clause-answer : goal.returns-in-Some-clause-answer
+returns-in-Some-clause-answer g c =
+    if_ok _ _ c.answer_made.result c.answer_made.ensures (λ a h. made_answer _ (g.S.Source.left c.args.source.now) c.in-Some.n a.line _ (sym c.in-Some.ensures.size) h)
+
+pub returns-in-Some-clause-ended : goal.returns-in-Some-clause-ended
+returns-in-Some-clause-ended g c = if_ok _ _ c.answer_made.result c.answer_made.ensures (λ a h. made_ends _ (g.S.Source.left c.args.source.now) c.in-Some.n a.line (sym c.in-Some.ensures.size) h.0)
+
+pub returns-in-Some-clause-fault : goal.returns-in-Some-clause-fault
+returns-in-Some-clause-fault g c = if_ok _ _ c.answer_made.result c.answer_made.ensures (λ a h. made_faults a.line _ _ h.0)
+
+pub returns-in-Some-clause-made : goal.returns-in-Some-clause-made
+returns-in-Some-clause-made g c = λ n size. if_ok _ _ c.answer_made.result c.answer_made.ensures (λ a h. h.0)
+
+pub returns-in-None-clause-made : goal.returns-in-None-clause-made
+returns-in-None-clause-made g c = λ n size. none_made _ n _ (sym c.in-None.ensures.size) size
+
+pub returns-in-None-clause-unread : goal.returns-in-None-clause-unread
+returns-in-None-clause-unread g c = λ n size. none_made _ n _ (sym c.in-None.ensures.size) size

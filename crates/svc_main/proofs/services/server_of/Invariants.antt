@@ -4,8 +4,8 @@ use Rattle.svc_main.specs.contracts.script_service.ScriptServiceServiceWithDepen
 use Rattle.svc_main.proofs.ServerLemmas.{HasFirst}
 use Rattle.svc_main.proofs.services.server_of.Given as goal
 
-abbrev pub invariant-loop-line : goal.invariant-loop-line
-invariant-loop-line l = record {
+abbrev pub invariant-loop-k : goal.invariant-loop-k
+invariant-loop-k l = record {
   eager : l.server.eager ≡ false;
-  first : HasFirst l.lines l.line-index l.server.dependencies (answers_of services.TheImpl.ghosts l.server.services.items);
+  first : HasFirst l.lines l.k l.server.dependencies l.server.filters (answers_of services.TheImpl.ghosts l.server.services.items);
 }

@@ -1,0 +1,33 @@
+-- What the generator's command counts in a record.
+use Rattle.std.specs.Prelude.{ℕ, Bool, true, false, List, [], ◌∷◌, ◌++◌, codes, count_by}
+use Rattle.std.specs.Fmt.{decimal}
+use Rattle.svc_record.specs.declared.entry.Entry.{Entry}
+use Rattle.svc_record.specs.declared.entry.Entry.TheVariants.{Told}
+use Rattle.svc_record.specs.declared.action.Action.TheVariants.{Start, Bind, Close}
+
+-- the entry tells `Start`
+abbrev pub is_any_start : Entry → Bool
+is_any_start (Told (Start s)) = true
+is_any_start _ = false
+
+-- the entry tells `Bind`
+abbrev pub is_any_bind : Entry → Bool
+is_any_bind (Told (Bind s i)) = true
+is_any_bind _ = false
+
+-- the entry tells `Close`
+abbrev pub is_any_close : Entry → Bool
+is_any_close (Told (Close fd)) = true
+is_any_close _ = false
+
+-- a word and a count, as a line
+abbrev pub count_line : List ℕ → ℕ → List ℕ
+count_line word count = word ++ (decimal count ++ 10 ∷ [])
+
+-- the three counts, a line each
+abbrev pub count_lines : ℕ → ℕ → ℕ → List ℕ
+count_lines starts binds closes = count_line (codes "starts ") starts ++ (count_line (codes "binds ") binds ++ count_line (codes "closes ") closes)
+
+-- how many services were started, how often an endpoint was bound, and how many descriptors were closed
+abbrev pub summary : List Entry → List ℕ
+summary entries = count_lines (count_by is_any_start entries) (count_by is_any_bind entries) (count_by is_any_close entries)
