@@ -33,4 +33,6 @@ pub use svc_streams::{
 };
 
 #[cfg(test)]
+mod accepting_tests;
+#[cfg(test)]
 mod tests;
