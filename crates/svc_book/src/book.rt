@@ -1,5 +1,5 @@
 //! The book: the core with the journal of its posts.
-ghost use Rattle.std.specs.Prelude.{◌≡◌, ◌<◌, ◌≤◌, ◌^◌, [], ◌∷◌, ◌++◌, false, length, IfOk, IfErr, OnErr};
+ghost use Rattle.std.specs.Prelude.{◌≡◌, ◌<◌, ◌≤◌, ◌^◌, [], ◌∷◌, ◌++◌, length, IfOk, IfErr, OnErr};
 ghost use Rattle.svc_conf.specs.Items.{list_of};
 ghost use Rattle.svc_record.specs.Validity.{IsValid};
 ghost use Rattle.svc_record.specs.Journal.{post};

@@ -14,19 +14,13 @@ use Rattle.svc_record.specs.Drain.{has_passed}
 use Rattle.svc_record.specs.Ends.{step_end, has_ended, has_ended_early, ends_tested}
 use Rattle.svc_record.specs.Fits.{fits, event_fits}
 use Rattle.svc_record.specs.Tail.{with_event, closing_actions}
+use Rattle.svc_drain.proofs.Passing.{passed-tell}
 use Rattle.svc_server.specs.declared.run.Outcome.{Outcome}
 use Rattle.svc_server.specs.declared.run.Outcome.TheVariants.{Served, TestPassed, Parent}
 use Rattle.svc_server.specs.declared.run.RunError.{RunError}
 use Rattle.svc_server.specs.declared.run.RunError.TheVariants.{Config, HostFault, Bootstrap, Stray, TurnsSpent, OutOfEvents, NoMemory}
 use Rattle.svc_server.specs.Hosts.{Account}
 use Rattle.svc_server.specs.Runs.{IsClosed, IsEndedSo, RunEnds, RunTells, GoesWell, GoesThrough}
-
-passed-told : (p : Plan) (q : Record) (a : Action) → has_passed p (Told a ∷ q) ≡ has_passed p q
-passed-told p q a = refl
-
-passed-tell : (p : Plan) (q : Record) (told : List Action) → has_passed p (tell q told) ≡ has_passed p q
-passed-tell p q [] = refl
-passed-tell p q (a ∷ told) = passed-tell p (Told a ∷ q) told ∙ passed-told p q a
 
 fits-before : (p : Plan) (q : Record) (told : List Action) → EachEntry (λ e before. event_fits p e before ≡ true) (tell q told) → EachEntry (λ e before. event_fits p e before ≡ true) q
 fits-before p q [] h = h
