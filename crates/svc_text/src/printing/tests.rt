@@ -1,27 +1,20 @@
 use super::*;
-use std::test::Fail;
+use std::process::Abort;
 use svc_conf::{Bytes, Setting, Settings, TcpKeepalive};
 use svc_fds::FdList;
-use svc_record::{Action, Event, ExecutionPhase, ShutdownSignal, Side};
-use svc_socket::{Peer, PeerAddr};
+use svc_record::{Action, Event, ExecutionPhase, ShutdownSignal};
 
-fn bytes_of(alloc: Global, items: &[u8]) -> Result<Bytes, Fail> {
-    let mut bytes = Bytes::new(alloc);
-    for item in items {
-        bytes.push(alloc, *item)?;
-    }
-    Ok(bytes)
+/// The entry's line is this one.
+fn prints(rt: &impl Abort, alloc: Global, entry: Entry, line: &str) {
+    let text = record_text(alloc, &[entry]).expect(rt, "memory");
+    assert_eq!(rt; text.as_str(), line);
 }
 
-fn numbers_of(alloc: Global, items: &[u64]) -> Result<FdList, Fail> {
-    let mut numbers = FdList::new(alloc);
-    for item in items {
-        numbers.push(alloc, *item)?;
-    }
-    Ok(numbers)
+fn told(rt: &impl Abort, alloc: Global, action: Action, line: &str) {
+    prints(rt, alloc, Entry::Told(action), line);
 }
 
-fn settings_of(alloc: Global) -> Result<Settings, Fail> {
+fn settings_of(rt: &impl Abort, alloc: Global) -> Settings {
     let keepalive = TcpKeepalive {
         idle: 1,
         interval: 2,
@@ -36,79 +29,57 @@ fn settings_of(alloc: Global) -> Result<Settings, Fail> {
         Setting::SndBuf(65_536),
         Setting::RcvBuf(0),
     ] {
-        settings.push(alloc, setting)?;
+        settings.push(alloc, setting).expect(rt, "memory");
     }
-    Ok(settings)
+    settings
 }
 
 #[test]
-fn prints_events(rt: HostRuntime) -> Result<(), Fail> {
-    let peer = Peer::Inet(PeerAddr::V4 {
-        ip: 0x7f00_0001,
-        port: 80,
-    });
-    let message = Event::Received(
-        bytes_of(rt.alloc(), b"127.0.0.1:80")?,
-        numbers_of(rt.alloc(), &[7, 9])?,
-    );
+fn prints_entries_in_their_order(rt: HostRuntime) {
+    let alloc = rt.alloc();
+    let signal = Event::Signal(ShutdownSignal::GracefulUpgrade);
     let entries = [
-        Entry::Got(Event::Ready(0)),
-        Entry::Got(Event::Moment(5)),
-        Entry::Got(Event::Ended(0)),
-        Entry::Got(Event::Bound(1, 0, 7)),
-        Entry::Got(Event::InUse(1, 1)),
-        Entry::Got(Event::BindFailed(1, 2)),
-        Entry::Got(Event::Adopted(2, 0)),
-        Entry::Got(Event::AdoptFailed(2, 1)),
-        Entry::Got(message),
-        Entry::Got(Event::NoSenderYet),
-        Entry::Got(Event::Arrived(0, 0, 1, peer)),
-        Entry::Got(Event::Set(1, true)),
-        Entry::Got(Event::Shaken(1, false)),
-        Entry::Got(Event::LoopEnded(0, 0, 3)),
-        Entry::Got(Event::Signal(ShutdownSignal::GracefulUpgrade)),
-        Entry::Got(Event::Side(Side::Child)),
-    ];
-    let text = record_text(rt.alloc(), &entries)?;
-    assert_eq!(rt;
-        text.as_str(),
-        "got ready 0\ngot moment 5\ngot ended 0\ngot bound 1 0 7\ngot inuse 1 1\ngot bindfailed 1 2\ngot adopted 2 0\ngot adoptfailed 2 1\ngot received 3132372e302e302e313a3830 7,9\ngot nosender\ngot arrived 0 0 1 127.0.0.1:80\ngot set 1 ok\ngot shaken 1 no\ngot loopended 0 0 3\ngot signal upgrade\ngot side child\n"
-    );
-    Ok(())
-}
-
-#[test]
-fn prints_actions(rt: HostRuntime) -> Result<(), Fail> {
-    let nothing = Action::Send(bytes_of(rt.alloc(), b"")?, numbers_of(rt.alloc(), &[])?);
-    let entries = [
-        Entry::Told(Action::Start(0)),
-        Entry::Told(Action::Fail(1)),
-        Entry::Told(Action::Bind(1, 0)),
-        Entry::Told(Action::Adopt(2, 0, 7)),
-        Entry::Told(Action::Close(7)),
-        Entry::Told(Action::OpenReceiver),
-        Entry::Told(Action::TryReceive),
-        Entry::Told(Action::NotifyParent),
-        Entry::Told(Action::Connect),
-        Entry::Told(nothing),
-        Entry::Told(Action::Phase(ExecutionPhase::ShutdownStarted, 9)),
         Entry::Told(Action::Broadcast),
-        Entry::Told(Action::Judged(1, true)),
-        Entry::Told(Action::Judged(2, false)),
-        Entry::Told(Action::Refuse(2)),
-        Entry::Told(Action::Settings(1, settings_of(rt.alloc())?)),
-        Entry::Told(Action::Handshake(1)),
-        Entry::Told(Action::Serve(1)),
-        Entry::Told(Action::Drop(3)),
-        Entry::Told(Action::Rest(0, 1)),
-        Entry::Told(Action::Cut(1)),
-        Entry::Told(Action::Stop(0)),
-        Entry::Told(Action::Daemonize),
+        Entry::Got(signal),
+        Entry::Told(Action::Close(7)),
     ];
-    let text = record_text(rt.alloc(), &entries)?;
-    assert_eq!(rt;
-        text.as_str(),
-        "start 0\nfail 1\nbind 1 0\nadopt 2 0 7\nclose 7\nopenreceiver\ntryreceive\nnotifyparent\nconnect\nsend - -\nphase ShutdownStarted 9\nbroadcast\njudged 1 yes\njudged 2 no\nrefuse 2\nsettings 1 nodelay keepalive=1,2,3,18446744073709551615 dscp=255 sndbuf=65536 rcvbuf=0\nhandshake 1\nserve 1\ndrop 3\nrest 0 1\ncut 1\nstop 0\ndaemonize\n"
-    );
-    Ok(())
+    let text = record_text(alloc, &entries).expect(&rt, "memory");
+    assert_eq!(rt; text.as_str(), "broadcast\ngot signal upgrade\nclose 7\n");
+}
+
+#[test]
+fn prints_starts_and_descriptors(rt: HostRuntime) {
+    let alloc = rt.alloc();
+    told(&rt, alloc, Action::Start(0), "start 0\n");
+    told(&rt, alloc, Action::Fail(1), "fail 1\n");
+    told(&rt, alloc, Action::Bind(1, 0), "bind 1 0\n");
+    told(&rt, alloc, Action::Adopt(2, 0, 7), "adopt 2 0 7\n");
+    told(&rt, alloc, Action::Close(7), "close 7\n");
+    told(&rt, alloc, Action::OpenReceiver, "openreceiver\n");
+    told(&rt, alloc, Action::TryReceive, "tryreceive\n");
+    told(&rt, alloc, Action::NotifyParent, "notifyparent\n");
+    told(&rt, alloc, Action::Connect, "connect\n");
+    let nothing = Action::Send(Bytes::new(alloc), FdList::new(alloc));
+    told(&rt, alloc, nothing, "send - -\n");
+}
+
+#[test]
+fn prints_phases_and_connections(rt: HostRuntime) {
+    let alloc = rt.alloc();
+    let phase = Action::Phase(ExecutionPhase::ShutdownStarted, 9);
+    told(&rt, alloc, phase, "phase ShutdownStarted 9\n");
+    told(&rt, alloc, Action::Judged(1, true), "judged 1 yes\n");
+    told(&rt, alloc, Action::Judged(2, false), "judged 2 no\n");
+    told(&rt, alloc, Action::Refuse(2), "refuse 2\n");
+    let settings = Action::Settings(1, settings_of(&rt, alloc));
+    let line =
+        "settings 1 nodelay keepalive=1,2,3,18446744073709551615 dscp=255 sndbuf=65536 rcvbuf=0\n";
+    told(&rt, alloc, settings, line);
+    told(&rt, alloc, Action::Handshake(1), "handshake 1\n");
+    told(&rt, alloc, Action::Serve(1), "serve 1\n");
+    told(&rt, alloc, Action::Drop(3), "drop 3\n");
+    told(&rt, alloc, Action::Rest(0, 1), "rest 0 1\n");
+    told(&rt, alloc, Action::Cut(1), "cut 1\n");
+    told(&rt, alloc, Action::Stop(0), "stop 0\n");
+    told(&rt, alloc, Action::Daemonize, "daemonize\n");
 }
