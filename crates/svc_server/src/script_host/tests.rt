@@ -1,15 +1,15 @@
-ghost use Rattle.std.specs.Prelude.{◌≡◌, ◌<◌, All, codes, IfOk, IfSome};
+ghost use Rattle.std.specs.Prelude.{◌≡◌, All, codes, IfSome};
 ghost use Rattle.svc_server.specs.Hosts.{BringsFew, no_account};
 ghost use Rattle.svc_server.specs.ScriptHosts.{GivesFew};
 
 use super::ScriptHost;
 use crate::host::{Host, Next};
 use std::alloc::Global;
-use std::test::Fail;
+use std::process::Abort;
 use svc_conf::{NoMemory, Text};
 use svc_graph::services::{RunPoll, ServiceReadyNotifier, ServiceWithDependents, StartPoll};
 use svc_graph::{EndpointPlan, Kind};
-use svc_record::{Action, Entry, Event, ExecutionPhase, Item, ShutdownSignal};
+use svc_record::{Action, Event, ExecutionPhase, Item, ShutdownSignal};
 
 /// A service that is ready at once and goes on until the server shuts down.
 #[derive(Drop)]
@@ -53,14 +53,38 @@ impl ServiceWithDependents for Clock {
     }
 }
 
-/// Takes the next event, if one comes.
-fn take<H: Host>(alloc: Global, host: &mut H) -> Result<(Next, Option<Event>), NoMemory>
-    requires { 0 < H.spare host.old }
-{
+/// The host's next answer, where it may not be an event.
+fn takes<H: Host>(rt: &impl Abort, alloc: Global, host: &mut H, answer: Next) {
+    host.reserve(alloc, 1).expect(rt, "memory");
+    let next = host.next();
+    assert_eq!(rt; next, answer);
+}
+
+/// The host's next event is printed so.
+fn takes_event<H: Host>(rt: &impl Abort, alloc: Global, host: &mut H, event: &str) {
+    host.reserve(alloc, 1).expect(rt, "memory");
     match host.next() {
-        Next::Event => Ok((Next::Event, Some(host.event().copy(alloc)?))),
-        other => Ok((other, None)),
+        Next::Event => {
+            let text = format!(in alloc; "{}", host.event()).expect(rt, "memory");
+            assert_eq!(rt; text.as_str(), event);
+        }
+        _ => panic!(rt; "no event"),
     }
+}
+
+/// What the host has in its record.
+fn is_told<B: ServiceWithDependents>(
+    rt: &impl Abort,
+    alloc: Global,
+    host: &ScriptHost<B>,
+    told: &str,
+) {
+    let mut text = String::new(alloc);
+    for entry in host.entries().as_slice() {
+        let line = format!(in alloc; "{entry}; ").expect(rt, "memory");
+        text.push_str(&line).expect(rt, "memory");
+    }
+    assert_eq!(rt; text.as_str(), told);
 }
 
 /// The fast signal.
@@ -71,80 +95,68 @@ fn fast() -> Event
 }
 
 /// The items, and one more.
-fn with(mut items: Vec<Item>, item: Item) -> Result<Vec<Item>, Fail>
+fn with(rt: &impl Abort, mut items: Vec<Item>, item: Item) -> Vec<Item>
     requires all { All GivesFew items.items }
     requires few { GivesFew item }
-    ensures { IfOk result (λ more. All GivesFew more.items) }
+    ensures { All GivesFew result.items }
 {
-    items.push(item)?;
-    Ok(items)
+    items.push(item).expect(rt, "memory");
+    items
 }
 
-/// Hands a service over, tells its start and a phase, and takes the next event.
-fn start_one<H: Host>(
-    alloc: Global,
-    host: &mut H,
-    service: H::Service,
-) -> Result<(Next, Option<Event>), NoMemory>
+/// Hands a service over, and tells its start and a phase.
+fn start_one<H: Host>(rt: &impl Abort, alloc: Global, host: &mut H, service: H::Service)
     requires { IfSome (H.account host.old) (λ a. a ≡ no_account) }
 {
-    host.reserve(alloc, 4)?;
+    host.reserve(alloc, 3).expect(rt, "memory");
     host.hand(0, service);
     host.tell(Action::Start(0));
     host.tell(Action::Phase(ExecutionPhase::Running, 20));
-    take(alloc, host)
 }
 
 #[test]
-fn gives_events_and_faults_in_turn(rt: HostRuntime) -> Result<(), Fail> {
+fn gives_events_and_faults_in_turn(rt: HostRuntime) {
     let alloc = rt.alloc();
-    let items = with(Vec::new(alloc), Item::Event(Event::Ready(4)))?;
-    let items = with(items, Item::Fault)?;
-    let items = with(items, Item::Event(fast()))?;
+    let items = with(&rt, Vec::new(alloc), Item::Event(Event::Ready(4)));
+    let items = with(&rt, items, Item::Fault);
+    let items = with(&rt, items, Item::Event(fast()));
     let mut host: ScriptHost<Clock> = ScriptHost::new(alloc, items);
-    for (answer, event, faults, idles) in [
-        (Next::Event, Some(Event::Ready(4)), 0, 0),
-        (Next::Failed, None, 1, 0),
-        (Next::Event, Some(fast()), 1, 0),
-        (Next::None, None, 1, 1),
-        (Next::None, None, 1, 2),
-    ] {
-        host.reserve(alloc, 1)?;
-        assert_eq!(rt; take(alloc, &mut host)?, (answer, event));
-        let counts = (host.faults(), host.idles(), host.failures());
-        assert_eq!(rt; counts, (faults, idles, 0));
-    }
-    let expected = [Entry::Got(Event::Ready(4)), Entry::Got(fast())];
-    assert_eq!(rt; host.entries().as_slice(), expected.as_slice());
+    takes_event(&rt, alloc, &mut host, "ready 4");
+    assert_eq!(rt; host.faults(), 0);
+    takes(&rt, alloc, &mut host, Next::Failed);
+    assert_eq!(rt; (host.faults(), host.idles(), host.failures()), (1, 0, 0));
+    takes_event(&rt, alloc, &mut host, "signal fast");
+    takes(&rt, alloc, &mut host, Next::None);
+    assert_eq!(rt; host.idles(), 1);
+    takes(&rt, alloc, &mut host, Next::None);
+    assert_eq!(rt; (host.faults(), host.idles(), host.failures()), (1, 2, 0));
+    is_told(&rt, alloc, &host, "got ready 4; got signal fast; ");
     assert!(rt; host.phases().is_empty());
-    Ok(())
 }
 
 #[test]
-fn keeps_what_it_was_told(rt: HostRuntime) -> Result<(), Fail> {
+fn keeps_what_it_was_told(rt: HostRuntime) {
     let alloc = rt.alloc();
-    let items = with(Vec::new(alloc), Item::Event(Event::Ready(0)))?;
+    let items = with(&rt, Vec::new(alloc), Item::Event(Event::Ready(0)));
     let mut host = ScriptHost::new(alloc, items);
-    let answer = start_one(alloc, &mut host, Clock)?;
-    assert_eq!(rt; answer, (Next::Event, Some(Event::Ready(0))));
-    let expected = [
-        Entry::Told(Action::Start(0)),
-        Entry::Told(Action::Phase(ExecutionPhase::Running, 20)),
-        Entry::Got(Event::Ready(0)),
-    ];
-    assert_eq!(rt; host.entries().as_slice(), expected.as_slice());
+    start_one(&rt, alloc, &mut host, Clock);
+    takes_event(&rt, alloc, &mut host, "ready 0");
+    is_told(
+        &rt,
+        alloc,
+        &host,
+        "start 0; phase Running 20; got ready 0; ",
+    );
     assert_eq!(rt; host.phases(), [ExecutionPhase::Running].as_slice());
-    Ok(())
 }
 
 #[test]
-fn takes_over_boxed_services(rt: HostRuntime) -> Result<(), Fail> {
+fn takes_over_boxed_services(rt: HostRuntime) {
     let alloc = rt.alloc();
     let mut host = ScriptHost::new(alloc, Vec::new(alloc));
-    let clock: Box<dyn ServiceWithDependents> = Box::new(alloc, Clock)?;
-    let answer = start_one(alloc, &mut host, clock)?;
-    assert_eq!(rt; answer, (Next::None, None));
+    let clock: Box<dyn ServiceWithDependents> = Box::new(alloc, Clock).expect(&rt, "memory");
+    start_one(&rt, alloc, &mut host, clock);
+    takes(&rt, alloc, &mut host, Next::None);
     assert_eq!(rt; host.entries().len(), 2);
     assert_eq!(rt; host.idles(), 1);
-    Ok(())
 }

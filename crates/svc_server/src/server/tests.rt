@@ -13,9 +13,7 @@ use std::rc::Rc;
 use svc_conf::{Key, NoMemory, Opt, ReadError, ServerConf, Settings, Text, Texts};
 use svc_graph::services::{RunPoll, ServiceReadyNotifier, ServiceWithDependents, StartPoll};
 use svc_graph::{DependencyError, EndpointPlan, Kind, ServiceHandle};
-use svc_record::{
-    Action, BootstrapError, Entry, Event, ExecutionPhase, Item, ShutdownSignal, Side,
-};
+use svc_record::{BootstrapError, Event, ExecutionPhase, Item, ShutdownSignal, Side};
 use svc_socket::{Peer, PeerAddr};
 use svc_streams::{AcceptAllFilter, ConnectionFilter};
 
@@ -382,14 +380,23 @@ fn run_of(
     (answer, host)
 }
 
+/// What the host has in its record.
+fn is_told(rt: &impl Abort, alloc: Global, host: &ScriptHost<Listener>, told: &str) {
+    let mut text = String::new(alloc);
+    for entry in host.entries().as_slice() {
+        let line = format!(in alloc; "{entry}; ").expect(rt, "memory");
+        text.push_str(&line).expect(rt, "memory");
+    }
+    assert_eq!(rt; text.as_str(), told);
+}
+
 #[test]
 fn turns_are_counted(rt: HostRuntime) {
     let alloc = rt.alloc();
     let signal = with(&rt, Vec::new(alloc), fast());
     let (answer, host) = run_of(alloc, server(&rt, alloc), signal, 0);
     assert_eq!(rt; answer, Err(RunError::TurnsSpent));
-    let told = [Entry::Told(Action::Phase(ExecutionPhase::Running, 0))];
-    assert_eq!(rt; host.entries().as_slice(), told.as_slice());
+    is_told(&rt, alloc, &host, "phase Running 0; ");
     let signal = with(&rt, Vec::new(alloc), fast());
     let (answer, host) = run_of(alloc, server(&rt, alloc), signal, 1);
     assert_eq!(rt; answer, Ok(Outcome::Served));
@@ -407,12 +414,9 @@ fn closes_all_when_the_turns_are_spent(rt: HostRuntime) {
     let items = with(&rt, items, fast());
     let (answer, host) = run_of(alloc, two_services(&rt, alloc), items, 2);
     assert_eq!(rt; answer, Err(RunError::TurnsSpent));
-    assert!(rt;
-        matches!(
-            host.entries().as_slice().last(),
-            Some(Entry::Told(Action::Close(7)))
-        )
-    );
+    let told =
+        "start 0; phase Running 0; got ready 0; start 1; bind 1 0; got bound 1 0 7; close 7; ";
+    is_told(&rt, alloc, &host, told);
 }
 
 /// The signal comes.
@@ -427,11 +431,6 @@ fn moment(ms: u64) -> Item
     ensures { GivesFew result }
 {
     Item::Event(Event::Moment(ms))
-}
-
-/// The phase was told at this moment.
-fn phase(phase: ExecutionPhase, ms: u64) -> Entry {
-    Entry::Told(Action::Phase(phase, ms))
 }
 
 #[test]
@@ -450,21 +449,9 @@ fn a_shutdown_waits_as_it_is_configured(rt: HostRuntime) {
     let items = with(&rt, items, moment(2000));
     let (answer, host) = run_of(alloc, server, items, 4);
     assert_eq!(rt; answer, Ok(Outcome::Served));
-    let told = [
-        phase(ExecutionPhase::Running, 0),
-        Entry::Got(Event::Signal(ShutdownSignal::GracefulTerminate)),
-        Entry::Told(Action::Broadcast),
-        phase(ExecutionPhase::GracefulTerminate, 0),
-        phase(ExecutionPhase::ShutdownStarted, 0),
-        phase(ExecutionPhase::ShutdownGracePeriod, 0),
-        Entry::Got(Event::Moment(1999)),
-        Entry::Got(Event::Signal(ShutdownSignal::FastShutdown)),
-        Entry::Got(Event::Moment(2000)),
-        phase(ExecutionPhase::ShutdownRuntimes, 2000),
-        Entry::Told(Action::Stop(9)),
-        phase(ExecutionPhase::Terminated, 2000),
-    ];
-    assert_eq!(rt; host.entries().as_slice(), told.as_slice());
+    let told =
+        "phase Running 0; got signal terminate; broadcast; phase GracefulTerminate 0; phase ShutdownStarted 0; phase ShutdownGracePeriod 0; got moment 1999; got signal fast; got moment 2000; phase ShutdownRuntimes 2000; stop 9; phase Terminated 2000; ";
+    is_told(&rt, alloc, &host, told);
 }
 
 /// A filter that refuses every second peer for which it is asked.
@@ -522,13 +509,9 @@ fn a_filter_keeps_its_state_and_a_failed_setting_ends_no_run(rt: HostRuntime) {
     let items = with(&rt, items, fast());
     let (answer, host) = run_of(alloc, filtering(&rt, alloc), items, 9);
     assert_eq!(rt; answer, Ok(Outcome::Served));
-    let entries = host.entries().as_slice();
-    assert!(rt; entries.contains(&Entry::Told(Action::Judged(1, true))));
-    assert!(rt; entries.contains(&Entry::Told(Action::Drop(1))));
-    assert!(rt; entries.contains(&Entry::Told(Action::Judged(3, false))));
-    assert!(rt; entries.contains(&Entry::Told(Action::Refuse(3))));
-    assert!(rt; entries.contains(&Entry::Told(Action::Judged(4, true))));
-    assert!(rt; !entries.contains(&Entry::Told(Action::Judged(2, true))));
+    let told =
+        "start 0; bind 0 0; phase Running 0; got bound 0 0 7; got arrived 0 0 1 127.0.0.1:4000; judged 1 yes; settings 1 nodelay; got arrived 0 0 2 -; settings 2 nodelay; got arrived 0 0 3 127.0.0.1:4000; judged 3 no; refuse 3; got arrived 0 0 4 unix; judged 4 yes; settings 4 nodelay; got set 1 no; drop 1; got signal fast; phase ShutdownStarted 0; phase ShutdownRuntimes 0; cut 2; cut 4; close 7; stop 0; phase Terminated 0; ";
+    is_told(&rt, alloc, &host, told);
 }
 
 /// A server that bootstraps first, with these flags.
@@ -554,8 +537,7 @@ fn a_test_ends_as_it_bootstraps(rt: HostRuntime) {
     let server = bootstrapping(&rt, alloc, opt);
     let (answer, host) = run_of(alloc, server, Vec::new(alloc), 9);
     assert_eq!(rt; answer, Ok(Outcome::TestPassed));
-    let told = [Entry::Told(Action::Phase(ExecutionPhase::Bootstrap, 0))];
-    assert_eq!(rt; host.entries().as_slice(), told.as_slice());
+    is_told(&rt, alloc, &host, "phase Bootstrap 0; ");
 }
 
 #[test]
@@ -603,11 +585,7 @@ fn a_daemons_parent_ends_at_once(rt: HostRuntime) {
     let items = with(&rt, Vec::new(alloc), Item::Event(Event::Side(Side::Parent)));
     let (answer, host) = run_of(alloc, server, items, 9);
     assert_eq!(rt; answer, Ok(Outcome::Parent(0)));
-    let told = [
-        Entry::Told(Action::Daemonize),
-        Entry::Got(Event::Side(Side::Parent)),
-    ];
-    assert_eq!(rt; host.entries().as_slice(), told.as_slice());
+    is_told(&rt, alloc, &host, "daemonize; got side parent; ");
 }
 
 #[test]
