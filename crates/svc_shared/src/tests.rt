@@ -1,4 +1,4 @@
-ghost use Rattle.std.specs.Prelude.{◌≡◌, IfOk};
+ghost use Rattle.std.specs.Prelude.{◌≡◌};
 ghost use Rattle.svc_shared.specs.Feeding.{IsFed};
 ghost use Rattle.svc_shared.specs.Posting.{IsOf, hand_in};
 ghost use Rattle.svc_shared.specs.Views.{IsWhole};
@@ -7,7 +7,6 @@ use crate::{Fed, Feed, Gate, Pass, Post, PostReason, SharedServer, SplitReason};
 use std::alloc::Global;
 use std::process::Abort;
 use std::sync::atomic::{AtomicU64, Ordering};
-use std::test::Fail;
 use std::thread;
 use std::thread::join;
 use svc_conf::{Numbers, Text};
@@ -17,26 +16,28 @@ use svc_record::{
     Action, Actions, Event, ExecutionPhase, Plan, ServiceList, ServicePlan, ShutdownSignal, StepEnd,
 };
 
-fn service(alloc: Global, name: &str, kind: Kind, after: &[u32]) -> Result<ServicePlan, Fail> {
+fn service(rt: &impl Abort, alloc: Global, name: &str, kind: Kind, after: &[u32]) -> ServicePlan {
     let mut depends = Numbers::new(alloc);
     for dependency in after {
-        depends.push(alloc, *dependency)?;
+        depends.push(alloc, *dependency).expect(rt, "memory");
     }
-    Ok(ServicePlan {
-        name: Text::new(alloc, name)?,
+    ServicePlan {
+        name: Text::new(alloc, name).expect(rt, "memory"),
         kind,
         depends,
         declared: None,
         endpoints: EndpointList::new(alloc),
-    })
+    }
 }
 
 /// A service that waits for another one to say that it is ready.
-fn plan(alloc: Global) -> Result<Plan, Fail> {
+fn plan(rt: &impl Abort, alloc: Global) -> Plan {
     let mut services = ServiceList::new(alloc);
-    services.push(alloc, service(alloc, "a", Kind::Notifying, &[])?)?;
-    services.push(alloc, service(alloc, "b", Kind::Plain, &[0])?)?;
-    Ok(Plan {
+    let a = service(rt, alloc, "a", Kind::Notifying, &[]);
+    services.push(alloc, a).expect(rt, "memory");
+    let b = service(rt, alloc, "b", Kind::Plain, &[0]);
+    services.push(alloc, b).expect(rt, "memory");
+    Plan {
         services,
         grace: 300,
         stop: 5,
@@ -48,22 +49,18 @@ fn plan(alloc: Global) -> Result<Plan, Fail> {
         daemon: false,
         wait: false,
         ready_timeout: 600,
-    })
+    }
 }
 
 /// A server over that plan, with the one pass and what it told.
-fn opened<R: Abort>(
-    rt: &R,
-    alloc: Global,
-    limit: u32,
-) -> Result<(SharedServer, Pass, Actions), Fail>
-    ensures of { IfOk result (λ r. IsOf r.0 r.1) }
-    ensures whole { IfOk result (λ r. IsWhole (hand_in r.1)) }
+fn opened<R: Abort>(rt: &R, alloc: Global, limit: u32) -> (SharedServer, Pass, Actions)
+    ensures of { IsOf result.0 result.1 }
+    ensures whole { IsWhole (hand_in result.1) }
 {
-    let plan = plan(alloc)?;
-    let is_valid = plan.valid(alloc)?;
+    let plan = plan(rt, alloc);
+    let is_valid = plan.valid(alloc).expect(rt, "memory");
     assert!(rt; is_valid);
-    Ok(SharedServer::new(alloc, plan, limit as u64)?)
+    SharedServer::new(alloc, plan, limit as u64).expect(rt, "memory")
 }
 
 fn told(rt: &impl Abort, actions: &Actions, expected: &[Action]) {
@@ -71,38 +68,34 @@ fn told(rt: &impl Abort, actions: &Actions, expected: &[Action]) {
 }
 
 /// Whether one core that gets the posts' events, one after the other, tells what they tell.
-fn replays(
-    rt: &impl Abort,
-    alloc: Global,
-    opening: &Actions,
-    posts: &[Post],
-) -> Result<bool, Fail> {
-    let plan = plan(alloc)?;
-    let is_valid = plan.valid(alloc)?;
+fn replays(rt: &impl Abort, alloc: Global, opening: &Actions, posts: &[Post]) -> bool {
+    let plan = plan(rt, alloc);
+    let is_valid = plan.valid(alloc).expect(rt, "memory");
     assert!(rt; is_valid);
-    let mut core = Core::new(alloc, plan)?;
+    let mut core = Core::new(alloc, plan).expect(rt, "memory");
     let mut begun = Actions::new(alloc);
-    core.begin(alloc, &mut begun)?;
+    core.begin(alloc, &mut begun).expect(rt, "memory");
     if begun.as_slice() != opening.as_slice() {
-        return Ok(false);
+        return false;
     }
     for post in posts {
         if !core.fits(&post.event) {
-            return Ok(false);
+            return false;
         }
         let mut actions = Actions::new(alloc);
-        core.step(alloc, &post.event, post.said, &mut actions)?;
+        core.step(alloc, &post.event, post.said, &mut actions)
+            .expect(rt, "memory");
         if actions.as_slice() != post.actions.as_slice() {
-            return Ok(false);
+            return false;
         }
     }
-    Ok(true)
+    true
 }
 
 #[test]
-fn two_passes_make_one_journal(rt: HostRuntime) -> Result<(), Fail> {
+fn two_passes_make_one_journal(rt: HostRuntime) {
     let alloc = rt.alloc();
-    let (server, pass, opening) = opened(&rt, alloc, 2)?;
+    let (server, pass, opening) = opened(&rt, alloc, 2);
     told(
         &rt,
         &opening,
@@ -146,13 +139,12 @@ fn two_passes_make_one_journal(rt: HostRuntime) -> Result<(), Fail> {
     told(&rt, &posts[0].actions, &[Action::Start(1)]);
     assert!(rt; posts[1].seat == 1 && posts[1].said);
     told(&rt, &posts[1].actions, &end);
-    Ok(())
 }
 
 #[test]
-fn a_post_after_the_end_is_stray(rt: HostRuntime) -> Result<(), Fail> {
+fn a_post_after_the_end_is_stray(rt: HostRuntime) {
     let alloc = rt.alloc();
-    let (server, pass, _) = opened(&rt, alloc, 3)?;
+    let (server, pass, _) = opened(&rt, alloc, 3);
     let Ok(one) = server.post(&rt, alloc, pass, Event::Ready(0), true) else {
         panic!(rt; "first")
     };
@@ -164,13 +156,12 @@ fn a_post_after_the_end_is_stray(rt: HostRuntime) -> Result<(), Fail> {
         panic!(rt; "third")
     };
     assert_eq!(rt; stray.reason, PostReason::Stray(2));
-    Ok(())
 }
 
 #[test]
-fn one_pass_never_finds_the_turn_taken(rt: HostRuntime) -> Result<(), Fail> {
+fn one_pass_never_finds_the_turn_taken(rt: HostRuntime) {
     let alloc = rt.alloc();
-    let (server, pass, _) = opened(&rt, alloc, 2)?;
+    let (server, pass, _) = opened(&rt, alloc, 2);
     let Ok(one) = server.try_post(alloc, pass, Event::Ready(0), true) else {
         panic!(rt; "first")
     };
@@ -183,13 +174,12 @@ fn one_pass_never_finds_the_turn_taken(rt: HostRuntime) -> Result<(), Fail> {
         panic!(rt; "close")
     };
     assert_eq!(rt; posts.len(), 1);
-    Ok(())
 }
 
 #[test]
-fn the_65th_split_is_thin(rt: HostRuntime) -> Result<(), Fail> {
+fn the_65th_split_is_thin(rt: HostRuntime) {
     let alloc = rt.alloc();
-    let (server, mut pass, _) = opened(&rt, alloc, 2)?;
+    let (server, mut pass, _) = opened(&rt, alloc, 2);
     for _ in 0..64 {
         let Ok((first, _second)) = server.split(&rt, alloc, pass) else {
             panic!(rt; "split")
@@ -200,7 +190,6 @@ fn the_65th_split_is_thin(rt: HostRuntime) -> Result<(), Fail> {
         panic!(rt; "thin")
     };
     assert_eq!(rt; refused.reason, SplitReason::Thin);
-    Ok(())
 }
 
 /// Each worker waits after its first answer for the other's first.
@@ -233,9 +222,9 @@ impl Gate for Turnstile {
 }
 
 #[test]
-fn two_workers_post_at_once(rt: HostRuntime) -> Result<(), Fail> {
+fn two_workers_post_at_once(rt: HostRuntime) {
     let alloc = rt.alloc();
-    let (server, pass, _) = opened(&rt, alloc, 4)?;
+    let (server, pass, _) = opened(&rt, alloc, 4);
     let Ok((left, right)) = server.split(&rt, alloc, pass) else {
         panic!(rt; "split")
     };
@@ -246,11 +235,11 @@ fn two_workers_post_at_once(rt: HostRuntime) -> Result<(), Fail> {
     };
     let left = Feed {
         pass: left,
-        events: vec![in alloc; Event::Ready(0), Event::Moment(1)]?,
+        events: vec![in alloc; Event::Ready(0), Event::Moment(1)].expect(&rt, "memory"),
     };
     let right = Feed {
         pass: right,
-        events: vec![in alloc; Event::Moment(1), Event::Ended(0)]?,
+        events: vec![in alloc; Event::Moment(1), Event::Ended(0)].expect(&rt, "memory"),
     };
     let (one, two) = server.post_two(&rt, alloc, left, right, &gate);
     assert_eq!(rt; gate.late.load(Ordering::SeqCst), 0);
@@ -261,7 +250,6 @@ fn two_workers_post_at_once(rt: HostRuntime) -> Result<(), Fail> {
         panic!(rt; "close")
     };
     assert_eq!(rt; posts.len(), 4);
-    Ok(())
 }
 
 /// Holds nobody.
@@ -276,41 +264,40 @@ impl Gate for OpenGate {
 const POSTS: usize = 10_000;
 
 /// So many moments after the events that are there.
-fn push_moments(events: &mut Vec<Event>, count: usize) -> Result<(), Fail> {
+fn push_moments(rt: &impl Abort, events: &mut Vec<Event>, count: usize) {
     for _ in 0..count {
-        events.push(Event::Moment(1))?;
+        events.push(Event::Moment(1)).expect(rt, "memory");
     }
-    Ok(())
 }
 
 /// A feed with moments alone.
-fn feed_of_moments(alloc: Global, pass: Pass) -> Result<Feed, Fail>
-    ensures { IfOk result (λ feed. feed.pass ≡ pass) }
+fn feed_of_moments(rt: &impl Abort, alloc: Global, pass: Pass) -> Feed
+    ensures { result.pass ≡ pass }
 {
     let mut events = Vec::new(alloc);
-    push_moments(&mut events, POSTS)?;
-    Ok(Feed { pass, events })
+    push_moments(rt, &mut events, POSTS);
+    Feed { pass, events }
 }
 
 /// A feed of as many events, in which the first service is ready at first and ends at last.
-fn feed_of_a_service(alloc: Global, pass: Pass) -> Result<Feed, Fail>
-    ensures { IfOk result (λ feed. feed.pass ≡ pass) }
+fn feed_of_a_service(rt: &impl Abort, alloc: Global, pass: Pass) -> Feed
+    ensures { result.pass ≡ pass }
 {
-    let mut events = vec![in alloc; Event::Ready(0)]?;
-    push_moments(&mut events, POSTS - 2)?;
-    events.push(Event::Ended(0))?;
-    Ok(Feed { pass, events })
+    let mut events = vec![in alloc; Event::Ready(0)].expect(rt, "memory");
+    push_moments(rt, &mut events, POSTS - 2);
+    events.push(Event::Ended(0)).expect(rt, "memory");
+    Feed { pass, events }
 }
 
 #[test]
-fn two_threads_make_a_legal_journal(rt: HostRuntime) -> Result<(), Fail> {
+fn two_threads_make_a_legal_journal(rt: HostRuntime) {
     let alloc = rt.alloc();
-    let (server, pass, opening) = opened(&rt, alloc, 20_010)?;
+    let (server, pass, opening) = opened(&rt, alloc, 20_010);
     let Ok((left, right)) = server.split(&rt, alloc, pass) else {
         panic!(rt; "split")
     };
-    let left = feed_of_a_service(alloc, left)?;
-    let right = feed_of_moments(alloc, right)?;
+    let left = feed_of_a_service(&rt, alloc, left);
+    let right = feed_of_moments(&rt, alloc, right);
     let (one, two) = server.post_two(&rt, alloc, left, right, &OpenGate);
     assert!(rt; one.rest.is_empty() && two.rest.is_empty());
     let whole = server.join(one.pass, two.pass);
@@ -318,15 +305,14 @@ fn two_threads_make_a_legal_journal(rt: HostRuntime) -> Result<(), Fail> {
         panic!(rt; "close")
     };
     assert_eq!(rt; posts.len(), 2 * POSTS);
-    let is_legal = replays(&rt, alloc, &opening, &posts)?;
+    let is_legal = replays(&rt, alloc, &opening, &posts);
     assert!(rt; is_legal);
-    Ok(())
 }
 
 #[test]
-fn four_threads_make_a_legal_journal(rt: HostRuntime) -> Result<(), Fail> {
+fn four_threads_make_a_legal_journal(rt: HostRuntime) {
     let alloc = rt.alloc();
-    let (server, pass, opening) = opened(&rt, alloc, 40_010)?;
+    let (server, pass, opening) = opened(&rt, alloc, 40_010);
     let Ok((low, high)) = server.split(&rt, alloc, pass) else {
         panic!(rt; "split")
     };
@@ -336,10 +322,10 @@ fn four_threads_make_a_legal_journal(rt: HostRuntime) -> Result<(), Fail> {
     let Ok((third, fourth)) = server.split(&rt, alloc, high) else {
         panic!(rt; "split")
     };
-    let first = feed_of_a_service(alloc, first)?;
-    let second = feed_of_moments(alloc, second)?;
-    let third = feed_of_moments(alloc, third)?;
-    let fourth = feed_of_moments(alloc, fourth)?;
+    let first = feed_of_a_service(&rt, alloc, first);
+    let second = feed_of_moments(&rt, alloc, second);
+    let third = feed_of_moments(&rt, alloc, third);
+    let fourth = feed_of_moments(&rt, alloc, fourth);
     let (shared, threads) = (&server, &rt);
     let (low, high) = join(
         &rt,
@@ -361,23 +347,21 @@ fn four_threads_make_a_legal_journal(rt: HostRuntime) -> Result<(), Fail> {
         panic!(rt; "close")
     };
     assert_eq!(rt; posts.len(), 4 * POSTS);
-    let is_legal = replays(&rt, alloc, &opening, &posts)?;
+    let is_legal = replays(&rt, alloc, &opening, &posts);
     assert!(rt; is_legal);
-    Ok(())
 }
 
 #[test]
-fn each_reason_has_its_text(rt: HostRuntime) -> Result<(), Fail> {
+fn each_reason_has_its_text(rt: HostRuntime) {
     let alloc = rt.alloc();
-    let busy = format!(in alloc; "{}", PostReason::Busy(5))?;
+    let busy = format!(in alloc; "{}", PostReason::Busy(5)).expect(&rt, "memory");
     assert_eq!(rt; busy.as_str(), "the turn isn't free: its word is 5");
-    let full = format!(in alloc; "{}", PostReason::Full)?;
+    let full = format!(in alloc; "{}", PostReason::Full).expect(&rt, "memory");
     assert_eq!(rt; full.as_str(), "the journal is full");
-    let stray = format!(in alloc; "{}", PostReason::Stray(2))?;
+    let stray = format!(in alloc; "{}", PostReason::Stray(2)).expect(&rt, "memory");
     assert_eq!(rt; stray.as_str(), "the event doesn't fit after 2 posts");
-    let thin = format!(in alloc; "{}", SplitReason::Thin)?;
+    let thin = format!(in alloc; "{}", SplitReason::Thin).expect(&rt, "memory");
     assert_eq!(rt; thin.as_str(), "the share has one number");
-    let none = format!(in alloc; "{}", SplitReason::NoNumber)?;
+    let none = format!(in alloc; "{}", SplitReason::NoNumber).expect(&rt, "memory");
     assert_eq!(rt; none.as_str(), "no seat number is left");
-    Ok(())
 }
