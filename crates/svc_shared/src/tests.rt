@@ -12,9 +12,7 @@ use std::thread::join;
 use svc_conf::{Numbers, Text};
 use svc_core::Core;
 use svc_graph::{EndpointList, Kind};
-use svc_record::{
-    Action, Actions, Event, ExecutionPhase, Plan, ServiceList, ServicePlan, ShutdownSignal, StepEnd,
-};
+use svc_record::{Actions, Event, Plan, ServiceList, ServicePlan, ShutdownSignal, StepEnd};
 
 fn service(rt: &impl Abort, alloc: Global, name: &str, kind: Kind, after: &[u32]) -> ServicePlan {
     let mut depends = Numbers::new(alloc);
@@ -63,8 +61,14 @@ fn opened<R: Abort>(rt: &R, alloc: Global, limit: u32) -> (SharedServer, Pass, A
     SharedServer::new(alloc, plan, limit as u64).expect(rt, "memory")
 }
 
-fn told(rt: &impl Abort, actions: &Actions, expected: &[Action]) {
-    assert_eq!(rt; actions.as_slice(), expected);
+/// What was told, each action's line ended by a semicolon.
+fn told(rt: &impl Abort, alloc: Global, actions: &Actions, expected: &str) {
+    let mut text = String::new(alloc);
+    for action in actions.as_slice() {
+        let line = format!(in alloc; "{action}; ").expect(rt, "memory");
+        text.push_str(&line).expect(rt, "memory");
+    }
+    assert_eq!(rt; text.as_str(), expected);
 }
 
 /// Whether one core that gets the posts' events, one after the other, tells what they tell.
@@ -96,11 +100,7 @@ fn replays(rt: &impl Abort, alloc: Global, opening: &Actions, posts: &[Post]) ->
 fn two_passes_make_one_journal(rt: HostRuntime) {
     let alloc = rt.alloc();
     let (server, pass, opening) = opened(&rt, alloc, 2);
-    told(
-        &rt,
-        &opening,
-        &[Action::Start(0), Action::Phase(ExecutionPhase::Running, 0)],
-    );
+    told(&rt, alloc, &opening, "start 0; phase Running 0; ");
     let Ok((first, second)) = server.split(&rt, alloc, pass) else {
         panic!(rt; "split")
     };
@@ -111,20 +111,15 @@ fn two_passes_make_one_journal(rt: HostRuntime) {
     };
     assert_eq!(rt; one.place, 1);
     assert_eq!(rt; one.end, StepEnd::On);
-    told(&rt, &one.actions, &[Action::Start(1)]);
+    told(&rt, alloc, &one.actions, "start 1; ");
     let signal = Event::Signal(ShutdownSignal::FastShutdown);
     let Ok(two) = server.post(&rt, alloc, second, signal, true) else {
         panic!(rt; "second")
     };
     assert_eq!(rt; two.place, 2);
     assert_eq!(rt; two.end, StepEnd::Served);
-    let end = [
-        Action::Phase(ExecutionPhase::ShutdownStarted, 0),
-        Action::Phase(ExecutionPhase::ShutdownRuntimes, 0),
-        Action::Stop(0),
-        Action::Phase(ExecutionPhase::Terminated, 0),
-    ];
-    told(&rt, &two.actions, &end);
+    let end = "phase ShutdownStarted 0; phase ShutdownRuntimes 0; stop 0; phase Terminated 0; ";
+    told(&rt, alloc, &two.actions, end);
     let Err(full) = server.try_post(alloc, one.pass, Event::Moment(1), true) else {
         panic!(rt; "third")
     };
@@ -136,9 +131,9 @@ fn two_passes_make_one_journal(rt: HostRuntime) {
     };
     assert_eq!(rt; posts.len(), 2);
     assert!(rt; posts[0].seat == 0 && posts[0].event == Event::Ready(0) && posts[0].said);
-    told(&rt, &posts[0].actions, &[Action::Start(1)]);
+    told(&rt, alloc, &posts[0].actions, "start 1; ");
     assert!(rt; posts[1].seat == 1 && posts[1].said);
-    told(&rt, &posts[1].actions, &end);
+    told(&rt, alloc, &posts[1].actions, end);
 }
 
 #[test]
