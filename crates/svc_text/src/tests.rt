@@ -1,6 +1,7 @@
 use super::*;
 use std::alloc::Global;
 use std::process::Abort;
+use std::test::Fail;
 use svc_conf::{Setting, TcpKeepalive};
 use svc_graph::{DependencyGraph, Kind};
 use svc_record::{Event, Item, ShutdownSignal};
@@ -178,6 +179,7 @@ fn reads_what_services_declare(rt: HostRuntime) {
         b"%conf\n%services\nb bootstrap\neager\nw plain claim x undeclared tcp y claim x after 0\nv notify undeclared\neager plain\nu bootstrap after 1,2\n%events\n";
     let script = script(&rt, rt.alloc(), text);
     assert_eq!(rt; script.lines.as_slice(), [3usize, 5, 6, 7, 8].as_slice());
+    assert_eq!(rt; script.services.len(), 5);
     assert!(rt; script.eager);
     let boot = &script.services[0];
     assert_eq!(rt; boot.kind, Kind::Bootstrap);
@@ -372,18 +374,21 @@ fn errors_have_texts(rt: HostRuntime) {
 }
 
 /// A node for each service, and then the dependencies.
-fn refused_service(rt: &impl Abort, alloc: Global, services: &[ServiceLine]) -> Option<usize> {
-    assert!(rt; services.len() <= 1024);
+fn refused_service(alloc: Global, services: &[ServiceLine]) -> Result<Option<usize>, Fail> {
+    if services.len() > 1024 {
+        return Err(Fail::from("too many services"));
+    }
     let mut graph = DependencyGraph::new(alloc);
     for service in services {
-        let name = service.name.copy(alloc).expect(rt, "memory");
-        assert!(rt; graph.add_node(alloc, name).is_ok());
+        if graph.add_node(alloc, service.name.copy(alloc)?).is_err() {
+            return Err(Fail::from("no node"));
+        }
     }
-    add_dependencies(alloc, &mut graph, services).expect(rt, "memory")
+    Ok(add_dependencies(alloc, &mut graph, services)?)
 }
 
 #[test]
-fn finds_the_first_refused_service(rt: HostRuntime) {
+fn finds_the_first_refused_service(rt: HostRuntime) -> Result<(), Fail> {
     for (text, refused) in [
         (b"%conf\n%services\n%events\n".as_slice(), None),
         (
@@ -405,6 +410,8 @@ fn finds_the_first_refused_service(rt: HostRuntime) {
         ),
     ] {
         let script = script(&rt, rt.alloc(), text);
-        assert_eq!(rt; refused_service(&rt, rt.alloc(), &script.services), refused);
+        let found = refused_service(rt.alloc(), &script.services)?;
+        assert_eq!(rt; found, refused);
     }
+    Ok(())
 }
