@@ -1,6 +1,6 @@
 //! Why the words of the command line are refused.
 
-use crate::nearest::nearest;
+use crate::spelling::nearest;
 use std::alloc::Global;
 use std::rc::RcStr;
 use svc_conf::NoMemory;

@@ -1,8 +1,8 @@
 //! Why a line of a configuration is refused, and which of its keys are misspelled.
 
-use crate::nearest::nearest;
 use crate::places::{Section, header, without_return};
 use crate::script::shown;
+use crate::spelling::nearest;
 use std::alloc::Global;
 use svc_conf::{Key, NoMemory};
 

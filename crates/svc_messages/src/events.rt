@@ -1,6 +1,6 @@
 //! Why a line isn't one of an event.
 
-use crate::nearest::nearest;
+use crate::spelling::nearest;
 use std::alloc::Global;
 use svc_conf::NoMemory;
 use svc_text::split_word;

@@ -6,18 +6,18 @@ mod configuration;
 mod dependencies;
 mod events;
 mod kept_source;
-mod nearest;
 mod places;
 mod progress;
 mod script;
 mod services;
+mod spelling;
 
 pub use command::{help, words_message};
 pub use configuration::{key_message, unknown_keys};
 pub use kept_source::KeptSource;
-pub use nearest::{is_one_off, nearest};
 pub use progress::ProgressSource;
 pub use script::{refused_message, script_message};
+pub use spelling::{is_one_off, nearest};
 
 #[cfg(test)]
 mod tests;

@@ -36,7 +36,9 @@ impl<'a, R: Clock + Eprint, S: Source> ProgressSource<'a, R, S> {
     }
 
     /// Tells how many bytes were read, once in a second.
-    fn tell(&mut self, count: usize) {
+    fn tell(&mut self, count: usize)
+        ensures { self.new.source ≡ self.old.source }
+    {
         self.read = self.read.saturating_add(count as u64);
         let Some(begun) = self.begun else {
             return;
@@ -52,7 +54,9 @@ impl<'a, R: Clock + Eprint, S: Source> ProgressSource<'a, R, S> {
     }
 
     /// Tells that all was read, where something was told before.
-    fn tell_end(&mut self) {
+    fn tell_end(&mut self)
+        ensures { self.new.source ≡ self.old.source }
+    {
         if self.told > 0 {
             let read = self.read;
             let _ = eprintln!(self.rt; "\r{read} bytes read, running");
