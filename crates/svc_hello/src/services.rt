@@ -1,6 +1,6 @@
 //! The services: a cache that fills before it is ready, and a web service that listens.
 
-ghost use Rattle.std.specs.Prelude.{◌≡◌, [], Some, None, map, IfOk};
+ghost use Rattle.std.specs.Prelude.{◌≡◌, [], Some, None, map, codes, IfOk};
 ghost use Rattle.std.specs.Option.{option_to_list};
 ghost use Rattle.svc_hello.specs.Services.{kind_of, endpoint_at};
 ghost use Rattle.svc_hello.specs.declared.services.Work.TheVariants as works;
@@ -34,7 +34,7 @@ pub struct HelloService {
 impl HelloService {
     /// A cache that is ready once so many parts are loaded. It listens nowhere.
     pub fn cache(alloc: Global, wanted: u32) -> Result<Self, NoMemory>
-        ensures { IfOk result (λ s. s ≡ record { name = "cache"; work = works.Cache 0 wanted; address = None }) }
+        ensures { IfOk result (λ s. s ≡ record { name = codes "cache"; work = works.Cache 0 wanted; address = None }) }
     {
         Ok(HelloService {
             name: Text::new(alloc, "cache")?,
@@ -45,7 +45,7 @@ impl HelloService {
 
     /// A web service that listens on the TCP address.
     pub fn web(alloc: Global, address: &str) -> Result<Self, NoMemory>
-        ensures { IfOk result (λ s. s ≡ record { name = "web"; work = works.Web; address = Some address.now }) }
+        ensures { IfOk result (λ s. s ≡ record { name = codes "web"; work = works.Web; address = Some address.now }) }
     {
         Ok(HelloService {
             name: Text::new(alloc, "web")?,
