@@ -1,9 +1,10 @@
 //! The host: it gives the server events, polls its services, and is told actions.
 
-ghost use Rattle.std.specs.Prelude.{◌≡◌, ◌-◌, map, reverse, min, All, Some, IsSome, IfSome, vec_len, vec_capacity};
+ghost use Rattle.std.specs.Prelude.{◌≡◌, ◌-◌, ◌≤◌, map, reverse, min, All, Some, IsSome, IfSome, MatchBool, vec_len, vec_capacity};
 ghost use Rattle.std.specs.VecDeque.{deque_len, deque_capacity};
 ghost use Rattle.svc_conf.specs.Items.{list_of, spare};
-ghost use Rattle.svc_server.specs.Hosts.{BringsFew, no_account};
+ghost use Rattle.svc_conf.specs.Streams.{Rose};
+ghost use Rattle.svc_server.specs.Hosts.{BringsFew, no_account, tells_failure};
 ghost use Rattle.svc_server.specs.ScriptHosts.{last_event};
 ghost use Rattle.svc_hello.specs.Handed.{handed_over};
 
@@ -29,6 +30,8 @@ pub struct HelloHost {
     answers: VecDeque<Event>,
     /// Where the last event that came stands among the entries.
     last: Option<usize>,
+    /// How many events told that something failed.
+    failures: u64,
     pub world: World,
     ghost few: { All BringsFew answers.items },
 }
@@ -45,15 +48,29 @@ fn event_at(entries: &[Entry], place: Option<usize>) -> &Event
     }
 }
 
+/// The count of events that tell a failure, with this one.
+fn failures_with(failures: u64, event: &Event) -> u64
+    ensures { MatchBool (tells_failure event.now) (Rose failures result) (result ≡ failures) }
+{
+    match event {
+        Event::BindFailed(..)
+        | Event::AdoptFailed(..)
+        | Event::ReceiveFailed
+        | Event::ConnectFailed
+        | Event::SendFailed
+        | Event::AcceptFailed(..) => failures.saturating_add(1),
+        _ => failures,
+    }
+}
+
 /// Polls the services from this one on, until one has something to tell.
 fn poll_from(services: &mut [Hosted], turn: &mut usize, shutdown: bool) -> Option<Event>
     ensures handed { map handed_over services.new ≡ map handed_over services.old }
     ensures few { IfSome result BringsFew }
 {
-    while *turn < services.len() {
-        let place = *turn;
-        *turn += 1;
+    for place in *turn..services.len() {
         if let Some(event) = services[place].poll(shutdown) {
+            *turn = place + 1;
             return Some(event);
         }
     }
@@ -72,20 +89,25 @@ impl HelloHost {
             turn: 0,
             answers: VecDeque::new(alloc),
             last: None,
+            failures: 0,
             world: World::new(visitors),
         }
     }
 
-    /// What comes next where no answer is owed: a service has something to tell, or the world.
-    fn look_round(&mut self) -> Event
+    /// What comes next: an answer that is owed, or what a service has to tell, or the world.
+    fn next_event(&mut self) -> Event
         ensures entries { self.new.entries ≡ self.old.entries }
-        ensures last { self.new.last ≡ self.old.last }
-        ensures answers { self.new.answers ≡ self.old.answers }
+        ensures failures { self.new.failures ≡ self.old.failures }
         ensures handed { map handed_over self.new.services.items ≡ map handed_over self.old.services.items }
-        ensures places { vec_len self.new.services ≡ vec_len self.old.services }
-        ensures room { vec_capacity self.new.services ≡ vec_capacity self.old.services }
+        ensures services { vec_len self.new.services ≡ vec_len self.old.services }
+        ensures places { vec_capacity self.new.services ≡ vec_capacity self.old.services }
+        ensures owed { deque_len self.new.answers ≤ deque_len self.old.answers }
+        ensures room { deque_capacity self.new.answers ≡ deque_capacity self.old.answers }
         ensures few { BringsFew result }
     {
+        if let Some(answer) = self.answers.pop_front() {
+            return answer;
+        }
         match poll_from(&mut self.services, &mut self.turn, self.world.shutdown) {
             Some(event) => event,
             None => self.world.happen(),
@@ -100,7 +122,7 @@ impl Host for HelloHost {
 
     ghost account = { λ h. Some (record { entries = reverse (list_of h.entries); handed = reverse (map handed_over h.services.items) }) };
 
-    ghost counts = { λ _. record { faults = 0; idles = 0; failures = 0 } };
+    ghost counts = { λ h. record { faults = 0; idles = 0; failures = h.failures } };
 
     ghost spare = { λ h. min (spare h.entries) (min (vec_capacity h.services - vec_len h.services) (deque_capacity h.answers - deque_len h.answers)) };
 
@@ -115,7 +137,7 @@ impl Host for HelloHost {
     }
 
     fn failures(&self) -> u64 {
-        0
+        self.failures
     }
 
     fn reserve(&mut self, alloc: Global, n: u64) -> Result<(), NoMemory> {
@@ -126,10 +148,8 @@ impl Host for HelloHost {
     }
 
     fn next(&mut self) -> Next {
-        let event = match self.answers.pop_front() {
-            Some(answer) => answer,
-            None => self.look_round(),
-        };
+        let event = self.next_event();
+        self.failures = failures_with(self.failures, &event);
         self.last = Some(self.entries.as_slice().len());
         self.entries.put(Entry::Got(event));
         Next::Event
