@@ -1,7 +1,6 @@
 -- What polling a service keeps.
 use Rattle.std.proofs.Common.{ℕ, List, ◌≡◌, map, slice_index_or, slice_set}
 use Rattle.std.proofs.Math.Seq.{map-set_same}
-use Rattle.svc_server.specs.Hosts.{Handed}
 use Rattle.svc_hello.specs.declared.hosted.Hosted.{Hosted}
 use Rattle.svc_hello.specs.Handed.{handed_over}
 

@@ -1,5 +1,5 @@
 -- The plan of the server.
-use Rattle.std.proofs.Common.{◌≡◌, Bool, List, [], ◌∷◌, Option, Some, None, false, refl, subst, sym}
+use Rattle.std.proofs.Common.{◌≡◌, Bool, List, [], ◌∷◌, Option, Some, None, false, refl}
 use Rattle.std.specs.Prelude.{codes}
 use Rattle.svc_conf.specs.Configuration.{defaults}
 use Rattle.svc_conf.specs.declared.server.configuration.ServerConf.{ServerConf}

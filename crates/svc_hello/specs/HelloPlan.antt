@@ -1,5 +1,5 @@
 -- What the server is run by.
-use Rattle.std.specs.Prelude.{[], ◌∷◌, Some, None, false, codes}
+use Rattle.std.specs.Prelude.{[], ◌∷◌, Some, false, codes}
 use Rattle.svc_graph.specs.declared.plan.Kind.TheVariants.{Plain, Notifying}
 use Rattle.svc_record.specs.declared.plan.Plan.{Plan}
 use Rattle.svc_record.specs.declared.plan.ServicePlan.{ServicePlan}

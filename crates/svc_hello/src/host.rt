@@ -116,8 +116,6 @@ impl HelloHost {
 }
 
 impl Host for HelloHost {
-    ghost use Rattle.svc_server.specs.Hosts.{Account, Counts};
-
     type Service = HelloService;
 
     ghost account = { λ h. Some (record { entries = reverse (list_of h.entries); handed = reverse (map handed_over h.services.items) }) };

@@ -1,6 +1,6 @@
 //! The services: a cache that fills before it is ready, and a web service that listens.
 
-ghost use Rattle.std.specs.Prelude.{◌≡◌, [], Some, None, map, codes, IfOk};
+ghost use Rattle.std.specs.Prelude.{◌≡◌, Some, None, map, codes, IfOk};
 ghost use Rattle.std.specs.Option.{option_to_list};
 ghost use Rattle.svc_hello.specs.Services.{kind_of, endpoint_at};
 ghost use Rattle.svc_hello.specs.declared.services.Work.TheVariants as works;

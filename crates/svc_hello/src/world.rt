@@ -1,6 +1,6 @@
 //! What is outside of the server. A real host asks the operating system here; this one answers at once.
 
-ghost use Rattle.std.specs.Prelude.{◌≡◌, IfSome};
+ghost use Rattle.std.specs.Prelude.{IfSome};
 ghost use Rattle.svc_server.specs.Hosts.{BringsFew};
 
 use svc_record::{Action, Event, ExecutionPhase, ShutdownSignal, Side};

@@ -1,4 +1,4 @@
-use Rattle.std.proofs.Common.{◌≡◌, ◌∙◌}
+use Rattle.std.proofs.Common.{◌∙◌}
 use Rattle.svc_hello.proofs.HostLemmas.{polled}
 use Rattle.svc_hello.proofs.host.poll_from.Goals as goal
 
