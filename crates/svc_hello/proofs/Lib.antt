@@ -1,2 +1,1 @@
 pub mod HostLemmas
-pub mod PlanLemmas
