@@ -77,36 +77,3 @@ pub fn run(alloc: Global, visitors: u64) -> Result<HelloHost, HelloError>
         Outcome::TestPassed | Outcome::Parent(_) => Err(HelloError::NotServed),
     }
 }
-
-#[cfg(test)]
-mod tests {
-    use super::*;
-    use std::test::Fail;
-    use svc_record::BootstrapError;
-
-    #[test]
-    fn each_error_has_a_text(rt: HostRuntime) -> Result<(), Fail> {
-        let errors = [
-            (
-                HelloError::Configuration(ReadError::NoPath),
-                "no path of a configuration file is given",
-            ),
-            (HelloError::Service(AddError::TooMany), "too many services"),
-            (
-                HelloError::Dependency(DependencyError::UnknownService),
-                "Unknown service",
-            ),
-            (
-                HelloError::Run(RunError::Bootstrap(BootstrapError::NoSender)),
-                "the handover failed: no older server was there",
-            ),
-            (HelloError::NotServed, "nobody was served"),
-            (HelloError::NoMemory(NoMemory), "out of memory"),
-        ];
-        for (error, text) in errors {
-            let told = format!(in rt.alloc(); "{error}")?;
-            assert_eq!(rt; told.as_str(), text);
-        }
-        Ok(())
-    }
-}
