@@ -1,0 +1,79 @@
+//! The server: its configuration, its services, and its run.
+
+ghost use Rattle.std.specs.Prelude.{◌≡◌, reverse, length, Some, None, IfOk};
+ghost use Rattle.svc_conf.specs.Items.{list_of};
+ghost use Rattle.svc_conf.specs.Configuration.{defaults};
+ghost use Rattle.svc_record.specs.Right.{Served};
+ghost use Rattle.svc_server.specs.Servers.{answers_of, plan_of, IsSound};
+ghost use Rattle.svc_hello.specs.HelloPlan.{hello_plan};
+
+use crate::host::HelloHost;
+use crate::services::HelloService;
+use std::alloc::Global;
+use svc_conf::{NoMemory, ReadError, ServerConf};
+use svc_graph::DependencyError;
+use svc_graph::services::ServiceWithDependents;
+use svc_server::{AddError, Outcome, RunArgs, RunError, Server};
+use thiserror::Error;
+
+/// Why the server didn't serve.
+#[derive(Clone, Copy, PartialEq, Eq, Debug, Error)]
+pub enum HelloError {
+    /// The configuration is refused.
+    #[error("{0}")]
+    Configuration(#[from] ReadError),
+    /// A service is refused.
+    #[error("{0}")]
+    Service(AddError),
+    /// A dependency is refused.
+    #[error("{0}")]
+    Dependency(#[from] DependencyError),
+    /// The run ended before its shutdown was through.
+    #[error("{0}")]
+    Run(#[from] RunError),
+    /// The run served nobody: it only tested that it can start, or this process is the parent.
+    #[error("nobody was served")]
+    NotServed,
+    #[error("{0}")]
+    NoMemory(#[from] NoMemory),
+}
+
+/// The defaults, with one second of grace.
+fn configuration(alloc: Global) -> Result<ServerConf, NoMemory>
+    ensures { IfOk result (λ conf. conf ≡ record defaults { grace_period_seconds = Some 1 }) }
+{
+    let mut conf = ServerConf::default(alloc)?;
+    conf.grace_period_seconds = Some(1);
+    Ok(conf)
+}
+
+/// The server. Its web service starts once its cache is ready.
+fn hello_server(alloc: Global) -> Result<Server<HelloService>, HelloError>
+    ensures plan { IfOk result (λ server. plan_of server.configuration server.options server.eager server.dependencies
+        (answers_of ⟦<HelloService as ServiceWithDependents>⟧ server.services.items) ≡ hello_plan) }
+    ensures sound { IfOk result (λ server. IsSound server.dependencies (length server.filters)
+        (answers_of ⟦<HelloService as ServiceWithDependents>⟧ server.services.items)) }
+{
+    let mut server = Server::new_with_opt_and_conf(alloc, None, configuration(alloc)?)?;
+    let cache = server
+        .add_service(alloc, HelloService::cache(alloc, 3)?)
+        .map_err(|refused| HelloError::Service(refused.reason))?;
+    let web = server
+        .add_service(alloc, HelloService::web(alloc, "127.0.0.1:8080")?)
+        .map_err(|refused| HelloError::Service(refused.reason))?;
+    web.add_dependency(alloc, &mut server.dependencies, &cache)?;
+    Ok(server)
+}
+
+/// Runs the server, to which so many visitors come before it is stopped, and gives the host, with the
+/// record of the run: a served record of the server's plan.
+pub fn run(alloc: Global, visitors: u64) -> Result<HelloHost, HelloError>
+    ensures served { IfOk result (λ host. Served hello_plan (reverse (list_of host.entries))) }
+{
+    let server = hello_server(alloc)?;
+    let mut host = HelloHost::new(alloc, visitors);
+    match server.run(alloc, RunArgs::default(), &mut host)? {
+        Outcome::Served => Ok(host),
+        Outcome::TestPassed | Outcome::Parent(_) => Err(HelloError::NotServed),
+    }
+}
