@@ -51,7 +51,7 @@ pub struct Echoed<D: Drop> {
 
 /// A desk after its worker's work.
 #[derive(Drop)]
-pub(crate) struct Left<D: Drop> {
+pub(crate) struct Finished<D: Drop> {
     pub desk: D,
     pub worked: Worked,
 }
@@ -73,7 +73,7 @@ fn meet_both<D: Desk>(
     right: &mut D,
 ) -> Result<(), EchoReason>
     ensures valid { OnOk result (IsValid plan.now) }
-    ensures bad { result ≡ Err EchoReason.BadPlan → IsValid plan.now → ⊥ }
+    ensures bad { IfErr result (λ reason. reason ≡ EchoReason.BadPlan → IsValid plan.now → ⊥) }
     ensures left { D.seen left.new ≡ D.seen left.old }
     ensures right { D.seen right.new ≡ D.seen right.old }
 {
@@ -115,12 +115,12 @@ fn work_at<D: Desk + Drop, G: Gate, R: Wait>(
     mut desk: D,
     gate: &G,
     turns: u64,
-) -> Left<D>
+) -> Finished<D>
     requires { IsOf shared.now pass }
     ensures { IsWorked shared.now pass turns (D.seen desk) (D.seen result.desk) result.worked }
 {
     let worked = work(rt, alloc, shared, pass, &mut desk, gate, turns);
-    Left { desk, worked }
+    Finished { desk, worked }
 }
 
 /// Both workers run until each has ended.
@@ -134,7 +134,7 @@ fn work_both<D: Desk + Drop + Send, G: Gate + Sync, R: Threads + Wait + Sync>(
     right: D,
     gate: &G,
     turns: u64,
-) -> (Left<D>, Left<D>)
+) -> (Finished<D>, Finished<D>)
     requires first { IsOf shared.now first }
     requires second { IsOf shared.now second }
     ensures left { IsWorked shared.now first turns (D.seen left) (D.seen result.0.desk) result.0.worked }
@@ -142,11 +142,11 @@ fn work_both<D: Desk + Drop + Send, G: Gate + Sync, R: Threads + Wait + Sync>(
 {
     join(
         rt,
-        || -> Left<D>
+        || -> Finished<D>
             requires { IsOf shared.now first }
             ensures { IsWorked shared.entry.now first turns (D.seen left) (D.seen result.desk) result.worked }
         { work_at(rt, alloc, shared, first, left, gate, turns) },
-        || -> Left<D>
+        || -> Finished<D>
             requires { IsOf shared.now second }
             ensures { IsWorked shared.entry.now second turns (D.seen right) (D.seen result.desk) result.worked }
         { work_at(rt, alloc, shared, second, right, gate, turns) },
@@ -210,20 +210,28 @@ pub fn serve_desks<D: Desk + Drop + Send, G: Gate + Sync, R: Threads + Wait + Sy
     let (one, two) = work_both(
         rt, alloc, &server, opened.left, opened.right, left, right, gate, turns,
     );
-    match close_both(alloc, server, one.worked.pass, two.worked.pass) {
+    let Finished {
+        desk: left,
+        worked: first,
+    } = one;
+    let Finished {
+        desk: right,
+        worked: second,
+    } = two;
+    match close_both(alloc, server, first.pass, second.pass) {
         Ok(journal) => Ok(Echoed {
-            left: one.desk,
-            right: two.desk,
-            left_end: one.worked.end,
-            right_end: two.worked.end,
-            left_strays: one.worked.strays,
-            right_strays: two.worked.strays,
+            left,
+            right,
+            left_end: first.end,
+            right_end: second.end,
+            left_strays: first.strays,
+            right_strays: second.strays,
             journal,
         }),
         Err(NoMemory) => Err(EchoRefused {
             reason: EchoReason::NoMemory,
-            left: one.desk,
-            right: two.desk,
+            left,
+            right,
         }),
     }
 }
