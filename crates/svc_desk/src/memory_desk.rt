@@ -1,7 +1,9 @@
 //! A desk in memory.
 
-ghost use Rattle.std.specs.Prelude.{◌≡◌, [], Some, IfOk};
-ghost use Rattle.svc_calls.specs.Calls.{told_of};
+ghost use Rattle.std.specs.Prelude.{◌≡◌, [], reverse, Some, IfOk};
+ghost use Rattle.svc_calls.specs.Calls.{told_of, Adds};
+ghost use Rattle.svc_desk.specs.Desks.{brought};
+ghost use Rattle.svc_desk.specs.MemoryDesks.{GivesNext};
 
 use crate::desk::{Desk, DeskAnswer};
 use std::alloc::Global;
@@ -37,6 +39,7 @@ impl MemoryDesk {
     /// A desk that gives these items, with room for so many entries in each list. `NoMemory` where
     /// there is none for them.
     pub fn new(alloc: Global, room: u64, mut items: Vec<DeskItem>) -> Result<Self, NoMemory>
+        ensures coming { IfOk result (λ desk. desk.coming.items ≡ reverse items.items) }
         ensures taken { IfOk result (λ desk. told_of desk.taken ≡ Some []) }
         ensures performed { IfOk result (λ desk. told_of desk.performed ≡ Some []) }
         ensures refused { IfOk result (λ desk. told_of desk.refused ≡ Some []) }
@@ -54,6 +57,28 @@ impl MemoryDesk {
             fault_count: 0,
             idle_count: 0,
         })
+    }
+}
+
+/// Gives the next item, and notes its event.
+fn next(alloc: Global, coming: &mut Vec<DeskItem>, taken: &mut Calls<Event>) -> DeskAnswer
+    ensures next { GivesNext result coming.old.items coming.new.items }
+    ensures taken { Adds (told_of taken.old) (told_of taken.new) (brought result) }
+{
+    match coming.pop() {
+        Some(DeskItem::Event(event)) => match event.copy(alloc) {
+            Ok(copied) => {
+                taken.note(copied);
+                DeskAnswer::Event(event)
+            }
+            Err(NoMemory) => {
+                coming.push_reserved(DeskItem::Event(event));
+                DeskAnswer::NoMemory
+            }
+        },
+        Some(DeskItem::Nothing) => DeskAnswer::Nothing,
+        Some(DeskItem::Failed) => DeskAnswer::Failed,
+        None => DeskAnswer::Closed,
     }
 }
 
@@ -85,26 +110,18 @@ impl Desk for MemoryDesk {
 
     fn take(&mut self, alloc: Global) -> DeskAnswer {
         self.takes = self.takes.saturating_add(1);
-        match self.coming.pop() {
-            Some(DeskItem::Event(event)) => match event.copy(alloc) {
-                Ok(copied) => {
-                    self.taken.note(copied);
-                    DeskAnswer::Event(event)
-                }
-                Err(NoMemory) => {
-                    self.coming.push_reserved(DeskItem::Event(event));
-                    DeskAnswer::NoMemory
-                }
-            },
-            Some(DeskItem::Nothing) => DeskAnswer::Nothing,
-            Some(DeskItem::Failed) => {
-                self.fault_count = self.fault_count.saturating_add(1);
-                DeskAnswer::Failed
-            }
-            None => {
+        match next(alloc, &mut self.coming, &mut self.taken) {
+            DeskAnswer::Event(event) => DeskAnswer::Event(event),
+            DeskAnswer::Nothing => DeskAnswer::Nothing,
+            DeskAnswer::Closed => {
                 self.idle_count = self.idle_count.saturating_add(1);
                 DeskAnswer::Closed
             }
+            DeskAnswer::Failed => {
+                self.fault_count = self.fault_count.saturating_add(1);
+                DeskAnswer::Failed
+            }
+            DeskAnswer::NoMemory => DeskAnswer::NoMemory,
         }
     }
 

@@ -92,7 +92,7 @@ fn meet_both<D: Desk>(
 fn open<R: Wait>(rt: &R, alloc: Global, plan: Plan, limit: u64) -> Result<Opened, NoMemory>
     requires valid { IsValid plan }
     requires limit { limit ≤ 4611686018427387903 }
-    ensures { IfOk result (λ o. IsOpened plan limit o.server o.left o.right (list_of o.opening)) }
+    ensures opened { IfOk result (λ o. IsOpened plan limit o.server o.left o.right (list_of o.opening)) }
 {
     let (server, pass, opening) = SharedServer::new(alloc, plan, limit)?;
     match server.split(rt, alloc, pass) {
@@ -117,7 +117,7 @@ fn work_at<D: Desk + Drop, G: Gate, R: Wait>(
     turns: u64,
 ) -> Finished<D>
     requires { IsOf shared.now pass }
-    ensures { IsWorked shared.now pass turns (D.seen desk) (D.seen result.desk) result.worked }
+    ensures worked { IsWorked shared.now pass turns (D.seen desk) (D.seen result.desk) result.worked }
 {
     let worked = work(rt, alloc, shared, pass, &mut desk, gate, turns);
     Finished { desk, worked }
@@ -161,7 +161,7 @@ fn close_both(
     right: Pass,
 ) -> Result<Vec<Post>, NoMemory>
     requires { AreSides server left right 0 1 }
-    ensures { IfOk result (λ posts. IsJournalOf server left right 0 1 posts.items) }
+    ensures journal { IfOk result (λ posts. IsJournalOf server left right 0 1 posts.items) }
 {
     let whole = server.join(left, right);
     match server.close(alloc, whole) {

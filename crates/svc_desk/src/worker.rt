@@ -71,7 +71,7 @@ pub(crate) struct Tally {
 
 /// Lets the desk perform the actions, in order.
 pub(crate) fn perform_all<D: Desk>(desk: &mut D, mut actions: Actions)
-    ensures { IsPerformed (D.seen desk.old) (D.seen desk.new) (list_of actions) }
+    ensures performed { IsPerformed (D.seen desk.old) (D.seen desk.new) (list_of actions) }
 {
     while let Some(action) = actions.pop_first() {
         desk.perform(action);
@@ -80,7 +80,7 @@ pub(crate) fn perform_all<D: Desk>(desk: &mut D, mut actions: Actions)
 
 /// What becomes of an event whose post was refused. A post that waits is never `Busy`.
 fn fate_by(reason: PostReason) -> Fate
-    ensures { result ≡ fate_by reason }
+    ensures fate { result ≡ fate_by reason }
 {
     match reason {
         PostReason::Busy(_) => Fate::NoMemory,
@@ -100,7 +100,7 @@ fn handle<D: Desk, R: Wait>(
     event: Event,
 ) -> Handled
     requires { IsOf shared.now pass }
-    ensures { IsHandled shared.now pass (D.seen desk.old) (D.seen desk.new) event result.fate result.pass }
+    ensures handled { IsHandled shared.now pass (D.seen desk.old) (D.seen desk.new) event result.fate result.pass }
 {
     let said = desk.said(&event);
     match shared.post(rt, alloc, pass, event, said) {
@@ -123,7 +123,7 @@ fn handle<D: Desk, R: Wait>(
 
 /// Why the worker stops after a post that leaves the run so, if it does.
 fn end_by(end: StepEnd) -> Option<WorkEnd>
-    ensures { result ≡ end_by end }
+    ensures end { result ≡ end_by end }
 {
     match end {
         StepEnd::On => None,
@@ -227,7 +227,7 @@ pub fn work<D: Desk, G: Gate, R: Wait>(
     turns: u64,
 ) -> Worked
     requires { IsOf shared.now pass }
-    ensures { IsWorked shared.now pass turns (D.seen desk.old) (D.seen desk.new) result }
+    ensures worked { IsWorked shared.now pass turns (D.seen desk.old) (D.seen desk.new) result }
 {
     let mut tally = Tally {
         strays: StrayList::new(alloc),

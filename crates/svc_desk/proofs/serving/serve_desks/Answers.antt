@@ -13,10 +13,10 @@ returns-in-Ok-close_both-clause-served g c =
     let one = c.work_both-one.result.0 in
     let two = c.work_both-one.result.1 in
     let valid : IsValid c.args.plan = search rules in
-    let performed = subst (λ (d : DeskData). IsPerformed d mid (list_of o.opening)) c.meet_both.ensures.left c.perform_all.ensures in
+    let performed = subst (λ (d : DeskData). IsPerformed d mid (list_of o.opening)) c.meet_both.ensures.left c.perform_all.ensures.performed in
     let right_worked = subst (λ (d : DeskData). IsWorked o.server o.right c.args.turns d (g.D.Desk.seen two.desk) two.worked) c.meet_both.ensures.right c.work_both-one.ensures.right in
     served c.args.plan c.args.limit c.args.turns o.server o.left o.right (list_of o.opening) (g.D.Desk.seen c.args.left) mid (g.D.Desk.seen c.args.right) (g.D.Desk.seen one.desk) (g.D.Desk.seen two.desk) one.worked two.worked c.in-Ok-close_both.journal.items valid
-    c.in-Ok.ensures performed c.work_both-one.ensures.left right_worked c.in-Ok-close_both.ensures
+    c.in-Ok.ensures.opened performed c.work_both-one.ensures.left right_worked c.in-Ok-close_both.ensures.journal
 
 pub returns-in-Err-close_both-clause-refused : goal.returns-in-Err-close_both-clause-refused
 returns-in-Err-close_both-clause-refused g c =
@@ -24,6 +24,6 @@ returns-in-Err-close_both-clause-refused g c =
     let mid = g.D.Desk.seen c.perform_all.new.desk in
     let one = c.work_both-one.result.0 in
     let two = c.work_both-one.result.1 in
-    let performed = subst (λ (d : DeskData). IsPerformed d mid (list_of o.opening)) c.meet_both.ensures.left c.perform_all.ensures in
+    let performed = subst (λ (d : DeskData). IsPerformed d mid (list_of o.opening)) c.meet_both.ensures.left c.perform_all.ensures.performed in
     let right_worked = subst (λ (d : DeskData). IsWorked o.server o.right c.args.turns d (g.D.Desk.seen two.desk) two.worked) c.meet_both.ensures.right c.work_both-one.ensures.right in
     back_worked c.args.plan c.args.turns o.server o.left o.right (list_of o.opening) (g.D.Desk.seen c.args.left) mid (g.D.Desk.seen c.args.right) (g.D.Desk.seen one.desk) (g.D.Desk.seen two.desk) one.worked two.worked performed c.work_both-one.ensures.left right_worked

@@ -35,4 +35,4 @@ pub returns-after-handled-clause-turned : goal.returns-after-handled-clause-turn
 returns-after-handled-clause-turned g c =
     turned_event c.args.shared.now c.args.pass (g.D.Desk.seen c.args.desk.now) (g.D.Desk.seen c.take.new.self) (g.D.Desk.seen c.handle-handled.new.desk) c.in-Event.event c.handle-handled.result.fate c.args.tally.now
     (record { strays = c.reserve.new.self; taken = c.args.tally.now.taken; answered = c.args.tally.now.answered }) c.settle-end.new.tally c.handle-handled.result.pass c.settle-end.result c.reserve.ensures.items refl c.settle-end.ensures.taken c.in-Event.ensures
-    c.handle-handled.ensures c.settle-end.ensures.settled
+    c.handle-handled.ensures.handled c.settle-end.ensures.settled
