@@ -33,7 +33,7 @@ returns-in-Some g c =
     let d = g.D.Desk.seen c.turn-turned.new.desk in
     let e = subst (λ (w : Option WorkEnd). TurnEnds s b d t.log t.hand q w) c.in-Some.is t.ends in
     let done = done-then s c.args.pass c.loop.pass q i.log t.log i.done t.done in
-    let at_desk = at_desk-then a b d i.log t.log t.hand i.at_desk t.at_desk in record {
+    let at_desk = at_desk-then a b d i.log t.log t.hand i.at_desk t.at_desk in record { worked = record {
       log = i.log ++ t.log;
       hand = t.hand;
       done = done;
@@ -48,7 +48,7 @@ returns-in-Some g c =
         follows = done.follows;
         ends = ends-then s c.args.turns a b d i.log t.log t.hand c.loop.pass q c.in-Some.end t.done.front i.at_desk i.on e;
       };
-    }
+    } }
 
 pub loop-preserved : goal.loop-preserved
 loop-preserved g c =
@@ -77,7 +77,7 @@ returns g c =
     let a = g.D.Desk.seen c.args.desk.now in
     let b = g.D.Desk.seen c.loop.desk in
     let spent : c.loop.counter ≡ c.args.turns = omega arith in
-    let grew = subst (λ (k : ℕ). Grew a.takes b.takes k) spent i.takes in record {
+    let grew = subst (λ (k : ℕ). Grew a.takes b.takes k) spent i.takes in record { worked = record {
       log = i.log;
       hand = [];
       done = i.done;
@@ -92,4 +92,4 @@ returns g c =
         follows = i.done.follows;
         ends = (refl, i.on, grew);
       };
-    }
+    } }
