@@ -111,7 +111,7 @@ closed_over s l r q m n journal x j c =
     let e : Ended = record { number = (hand_in r).number; own = own_of r } in
     let number_is : (hand_in q).number ≡ m = ap (λ (h : Hand). h.number) j.hand_is ∙ x.left_number in
     let ended_is : (hand_in q).ended ≡ e ∷ [] =
-        ap (λ (h : Hand). h.ended) j.hand_is ∙ (ap (λ (es : List Ended). (es ++ (hand_in r).ended) ++ e ∷ []) x.left_ended ∙ ap (λ (es : List Ended). es ++ e ∷ []) x.right_ended) in record {
+    ap (λ (h : Hand). h.ended) j.hand_is ∙ (ap (λ (es : List Ended). (es ++ (hand_in r).ended) ++ e ∷ []) x.left_ended ∙ ap (λ (es : List Ended). es ++ e ∷ []) x.right_ended) in record {
       front_left = begins-trans journal (seen_of q) (seen_of l) c.front j.front_left;
       front_right = begins-trans journal (seen_of q) (seen_of r) c.front j.front_right;
       legal = c.legal;

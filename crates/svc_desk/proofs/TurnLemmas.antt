@@ -193,21 +193,19 @@ settled_as s before now event (fates.Strayed seen) log hand t u q end f x grew =
 )
 settled_as s before now event fates.Full log hand t u q end f x grew = (
   x.0 ∙ (sym (append-nil (list_of t.strays)) ∙ ap (λ (l : List Deed). list_of t.strays ++ strays_from (t.taken + 1) l) (sym f.1)),
-  subst (λ (r : Option WorkEnd). TurnEnds s before now log hand q r) (sym x.1)
-      (
-        (ap length f.0, subst (λ (l : List Deed). LeavesOn (origin_of s) (seen_of q) l) (sym f.1) tt, of_front-whole (seen_of q) (origin_of s).limit (λ front. Unit {0}) (sym f.2) tt),
-        (λ (e : ends.Full ≡ ends.TurnsSpent). cc),
-        (1, (let y : 1 ≤ 1 = omega arith in y), grew),
-      ),
+  subst (λ (r : Option WorkEnd). TurnEnds s before now log hand q r) (sym x.1) (
+    (ap length f.0, subst (λ (l : List Deed). LeavesOn (origin_of s) (seen_of q) l) (sym f.1) tt, of_front-whole (seen_of q) (origin_of s).limit (λ front. Unit {0}) (sym f.2) tt),
+    (λ (e : ends.Full ≡ ends.TurnsSpent). cc),
+    (1, (let y : 1 ≤ 1 = omega arith in y), grew),
+  ),
 )
 settled_as s before now event fates.NoMemory log hand t u q end f x grew = (
   x.0 ∙ (sym (append-nil (list_of t.strays)) ∙ ap (λ (l : List Deed). list_of t.strays ++ strays_from (t.taken + 1) l) (sym f.1)),
-  subst (λ (r : Option WorkEnd). TurnEnds s before now log hand q r) (sym x.1)
-      (
-        ((let one = ap length f.0 in omega (arith, one)), subst (λ (l : List Deed). LeavesOn (origin_of s) (seen_of q) l) (sym f.1) tt),
-        (λ (e : ends.NoMemory ≡ ends.TurnsSpent). cc),
-        (1, (let y : 1 ≤ 1 = omega arith in y), grew),
-      ),
+  subst (λ (r : Option WorkEnd). TurnEnds s before now log hand q r) (sym x.1) (
+    ((let one = ap length f.0 in omega (arith, one)), subst (λ (l : List Deed). LeavesOn (origin_of s) (seen_of q) l) (sym f.1) tt),
+    (λ (e : ends.NoMemory ≡ ends.TurnsSpent). cc),
+    (1, (let y : 1 ≤ 1 = omega arith in y), grew),
+  ),
 )
 
 -- a turn with an event, after room was made for a stray

@@ -14,3 +14,5 @@ pub use stray::{StrayList, Strayed};
 pub use svc_shared::Gate;
 pub use worker::{WorkEnd, Worked, work};
 
+#[cfg(test)]
+mod tests;

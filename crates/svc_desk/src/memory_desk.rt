@@ -88,12 +88,12 @@ impl Desk for MemoryDesk {
 
     // The takes are told until their count stands at its greatest value.
     ghost seen = { λ d. record {
-        taken = told_of d.taken;
-        performed = told_of d.performed;
-        refused = told_of d.refused;
-        takes = if ltb d.takes 18446744073709551615 then Some d.takes else None;
-        faults = d.fault_count;
-        idles = d.idle_count;
+      taken = told_of d.taken;
+      performed = told_of d.performed;
+      refused = told_of d.refused;
+      takes = if ltb d.takes 18446744073709551615 then Some d.takes else None;
+      faults = d.fault_count;
+      idles = d.idle_count;
     } };
 
     fn faults(&self) -> u64 {

@@ -208,7 +208,15 @@ pub fn serve_desks<D: Desk + Drop + Send, G: Gate + Sync, R: Threads + Wait + Sy
     perform_all(&mut left, opened.opening);
     let server = opened.server;
     let (one, two) = work_both(
-        rt, alloc, &server, opened.left, opened.right, left, right, gate, turns,
+        rt,
+        alloc,
+        &server,
+        opened.left,
+        opened.right,
+        left,
+        right,
+        gate,
+        turns,
     );
     let Finished {
         desk: left,

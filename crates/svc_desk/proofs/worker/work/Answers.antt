@@ -33,22 +33,24 @@ returns-in-Some g c =
     let d = g.D.Desk.seen c.turn-turned.new.desk in
     let e = subst (λ (w : Option WorkEnd). TurnEnds s b d t.log t.hand q w) c.in-Some.is t.ends in
     let done = done-then s c.args.pass c.loop.pass q i.log t.log i.done t.done in
-    let at_desk = at_desk-then a b d i.log t.log t.hand i.at_desk t.at_desk in record { worked = record {
-      log = i.log ++ t.log;
-      hand = t.hand;
-      done = done;
-      shows = record {
-        taken = at_desk.taken;
-        performed = at_desk.performed;
-        refused = at_desk.refused;
-        takes = takes-then a b d c.loop.counter c.args.turns (omega arith) i.takes e.2;
-        faults = at_desk.faults;
-        idles = at_desk.idles;
-        strays_are = strays-joined c.loop.tally.taken (list_of c.loop.tally.strays) (list_of c.turn-turned.new.tally.strays) i.log t.log i.strays i.count t.strays;
-        follows = done.follows;
-        ends = ends-then s c.args.turns a b d i.log t.log t.hand c.loop.pass q c.in-Some.end t.done.front i.at_desk i.on e;
+    let at_desk = at_desk-then a b d i.log t.log t.hand i.at_desk t.at_desk in record {
+      worked = record {
+        log = i.log ++ t.log;
+        hand = t.hand;
+        done = done;
+        shows = record {
+          taken = at_desk.taken;
+          performed = at_desk.performed;
+          refused = at_desk.refused;
+          takes = takes-then a b d c.loop.counter c.args.turns (omega arith) i.takes e.2;
+          faults = at_desk.faults;
+          idles = at_desk.idles;
+          strays_are = strays-joined c.loop.tally.taken (list_of c.loop.tally.strays) (list_of c.turn-turned.new.tally.strays) i.log t.log i.strays i.count t.strays;
+          follows = done.follows;
+          ends = ends-then s c.args.turns a b d i.log t.log t.hand c.loop.pass q c.in-Some.end t.done.front i.at_desk i.on e;
+        };
       };
-    } }
+    }
 
 pub loop-preserved : goal.loop-preserved
 loop-preserved g c =
@@ -77,19 +79,21 @@ returns g c =
     let a = g.D.Desk.seen c.args.desk.now in
     let b = g.D.Desk.seen c.loop.desk in
     let spent : c.loop.counter ≡ c.args.turns = omega arith in
-    let grew = subst (λ (k : ℕ). Grew a.takes b.takes k) spent i.takes in record { worked = record {
-      log = i.log;
-      hand = [];
-      done = i.done;
-      shows = record {
-        taken = i.at_desk.taken;
-        performed = i.at_desk.performed;
-        refused = i.at_desk.refused;
-        takes = (c.args.turns, (let le : c.args.turns ≤ c.args.turns = omega arith in le), grew);
-        faults = i.at_desk.faults;
-        idles = i.at_desk.idles;
-        strays_are = i.strays;
-        follows = i.done.follows;
-        ends = (refl, i.on, grew);
+    let grew = subst (λ (k : ℕ). Grew a.takes b.takes k) spent i.takes in record {
+      worked = record {
+        log = i.log;
+        hand = [];
+        done = i.done;
+        shows = record {
+          taken = i.at_desk.taken;
+          performed = i.at_desk.performed;
+          refused = i.at_desk.refused;
+          takes = (c.args.turns, (let le : c.args.turns ≤ c.args.turns = omega arith in le), grew);
+          faults = i.at_desk.faults;
+          idles = i.at_desk.idles;
+          strays_are = i.strays;
+          follows = i.done.follows;
+          ends = (refl, i.on, grew);
+        };
       };
-    } }
+    }
