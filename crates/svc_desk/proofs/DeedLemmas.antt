@@ -51,7 +51,8 @@ posts-append (strayed e seen ∷ xs) ys = posts-append xs ys
 
 actions-append : (xs ys : List Deed) → actions_of (xs ++ ys) ≡ actions_of xs ++ actions_of ys
 actions-append [] ys = refl
-actions-append (posted own ∷ xs) ys = ap (λ (l : List Action). own.1.actions ++ l) (actions-append xs ys) ∙ sym (append_assoc own.1.actions (actions_of xs) (actions_of ys))
+actions-append (posted own ∷ xs) ys = ap (λ (l : List Action). own.1.actions ++ l) (actions-append xs ys) ∙ sym
+    (append_assoc own.1.actions (actions_of xs) (actions_of ys))
 actions-append (strayed e seen ∷ xs) ys = actions-append xs ys
 
 stray_events-append : (xs ys : List Deed) → stray_events (xs ++ ys) ≡ stray_events xs ++ stray_events ys
@@ -68,10 +69,12 @@ strays-append k (strayed e seen ∷ xs) ys =
     let same : (k + 1) + length xs ≡ k + length (strayed e seen ∷ xs) = omega arith in
     ap (λ (l : List Strayed). stray k seen ∷ l) (strays-append (k + 1) xs ys ∙ ap (λ (j : ℕ). strays_from (k + 1) xs ++ strays_from j ys) same)
 
-pub strays-joined : (taken : ℕ) (before now : List Strayed) (xs ys : List Deed) → before ≡ strays_from 1 xs → taken ≡ length xs → now ≡ before ++ strays_from (taken + 1) ys → now ≡ strays_from 1 (xs ++ ys)
+pub strays-joined : (taken : ℕ) (before now : List Strayed) (xs ys : List Deed) → before ≡ strays_from 1 xs → taken ≡ length xs
+    → now ≡ before ++ strays_from (taken + 1) ys → now ≡ strays_from 1 (xs ++ ys)
 strays-joined taken before now xs ys p n q =
     let same : taken + 1 ≡ 1 + length xs = omega (arith, n) in
-    q ∙ (ap (λ (l : List Strayed). l ++ strays_from (taken + 1) ys) p ∙ (ap (λ (k : ℕ). strays_from 1 xs ++ strays_from k ys) same ∙ sym (strays-append 1 xs ys)))
+    q ∙ (ap (λ (l : List Strayed). l ++ strays_from (taken + 1) ys) p
+    ∙ (ap (λ (k : ℕ). strays_from 1 xs ++ strays_from k ys) same ∙ sym (strays-append 1 xs ys)))
 
 -- FRONTS OF A JOURNAL THAT GREW
 
@@ -90,16 +93,19 @@ follows-less o journal n m [] le f = omega (arith, le, f)
 follows-less o journal n m (posted own ∷ ds) le f = ((let a = f.0 in omega (arith, le, a)), f.1)
 follows-less o journal n m (strayed e seen ∷ ds) le f = ((let a = f.0 in omega (arith, le, a)), f.1, f.2)
 
-follows-then : (o : BookData) (a b : List PostData) (n : ℕ) (xs ys : List Deed) → Begins b a → Follows o a n xs → Follows o b (length a) ys → Follows o b n (xs ++ ys)
+follows-then : (o : BookData) (a b : List PostData) (n : ℕ) (xs ys : List Deed) → Begins b a → Follows o a n xs → Follows o b (length a) ys
+    → Follows o b n (xs ++ ys)
 follows-then o a b n [] ys more f h = follows-less o b n (length a) ys f h
 follows-then o a b n (posted own ∷ xs) ys more f h = (f.0, follows-then o a b own.0 xs ys more f.1 h)
-follows-then o a b n (strayed e seen ∷ xs) ys more f h = (f.0, of_front-later a b seen (λ front. FitsAfter o front e → ⊥) more f.1, follows-then o a b seen xs ys more f.2 h)
+follows-then o a b n (strayed e seen ∷ xs) ys more f h =
+    (f.0, of_front-later a b seen (λ front. FitsAfter o front e → ⊥) more f.1, follows-then o a b seen xs ys more f.2 h)
 
 -- the same deeds against a journal that went on
 pub follows-later : (o : BookData) (a b : List PostData) (n : ℕ) (xs : List Deed) → Begins b a → Follows o a n xs → Follows o b n xs
 follows-later o a b n [] more f = (let l = begins-length b a more in omega (arith, f, l))
 follows-later o a b n (posted own ∷ xs) more f = (f.0, follows-later o a b own.0 xs more f.1)
-follows-later o a b n (strayed e seen ∷ xs) more f = (f.0, of_front-later a b seen (λ front. FitsAfter o front e → ⊥) more f.1, follows-later o a b seen xs more f.2)
+follows-later o a b n (strayed e seen ∷ xs) more f =
+    (f.0, of_front-later a b seen (λ front. FitsAfter o front e → ⊥) more f.1, follows-later o a b seen xs more f.2)
 
 pub on-later : (o : BookData) (a b : List PostData) (xs : List Deed) → Begins b a → LeavesOn o a xs → LeavesOn o b xs
 on-later o a b [] more f = tt
@@ -118,7 +124,8 @@ on-then o a b xs ys more f g = on-append o b xs ys (on-later o a b xs more f) g
 ends_run-later : (o : BookData) (a b : List PostData) (log : List Deed) → Begins b a → EndsRun o a log → EndsRun o b log
 ends_run-later o a b log more f = (f.0, f.1, f.2, on-later o a b f.0 more f.3, of_front-later a b f.1.0 (λ front. end_after o front ≢ On) more f.4)
 
-pub ends-later : (o : BookData) (a b : List PostData) (turns : ℕ) (before now : DeskData) (log : List Deed) (hand : List Event) (end : WorkEnd) → Begins b a → EndsBy o a turns before now log hand end → EndsBy o b turns before now log hand end
+pub ends-later : (o : BookData) (a b : List PostData) (turns : ℕ) (before now : DeskData) (log : List Deed) (hand : List Event) (end : WorkEnd) → Begins b a
+    → EndsBy o a turns before now log hand end → EndsBy o b turns before now log hand end
 ends-later o a b turns before now log hand ends.Over more e = (e.0, ends_run-later o a b log more e.1)
 ends-later o a b turns before now log hand ends.Closed more e = (e.0, on-later o a b log more e.1, e.2)
 ends-later o a b turns before now log hand ends.Full more e = (e.0, on-later o a b log more e.1, of_front-later a b o.limit (λ front. Unit {0}) more e.2)
@@ -152,8 +159,10 @@ pub at_desk-then : (a b c : DeskData) (xs ys : List Deed) (hand : List Event) �
 at_desk-then a b c xs ys hand f g = record {
   taken = subst (λ (l : List Event). Adds a.taken c.taken l) (joined (events_of xs) (events_of ys) (events_of (xs ++ ys)) (events-append xs ys))
       (Adds-then a.taken b.taken c.taken (events_of xs ++ []) (events_of ys ++ hand) f.taken g.taken);
-  performed = subst (λ (l : List Action). Adds a.performed c.performed l) (sym (actions-append xs ys)) (Adds-then a.performed b.performed c.performed (actions_of xs) (actions_of ys) f.performed g.performed);
-  refused = subst (λ (l : List Event). Adds a.refused c.refused l) (joined (stray_events xs) (stray_events ys) (stray_events (xs ++ ys)) (stray_events-append xs ys))
+  performed = subst (λ (l : List Action). Adds a.performed c.performed l) (sym (actions-append xs ys))
+      (Adds-then a.performed b.performed c.performed (actions_of xs) (actions_of ys) f.performed g.performed);
+  refused = subst (λ (l : List Event). Adds a.refused c.refused l)
+      (joined (stray_events xs) (stray_events ys) (stray_events (xs ++ ys)) (stray_events-append xs ys))
       (Adds-then a.refused b.refused c.refused (stray_events xs ++ []) (stray_events ys ++ hand) f.refused g.refused);
   faults = (let x = f.faults in let y = g.faults in omega (arith, x, y));
   idles = (let x = f.idles in let y = g.idles in omega (arith, x, y));
@@ -188,17 +197,27 @@ rose-later : (a b c : ℕ) → a ≤ b → Rose b c → Rose a c
 rose-later a b c le rose = omega (arith, le, rose)
 
 -- turns that left the run on, and then the last one
-pub ends-then : (s : SharedServer) (turns : ℕ) (a b c : DeskData) (xs ys : List Deed) (hand : List Event) (m q : Pass) (end : WorkEnd) → Begins (seen_of q) (seen_of m) → IsAtDesk a b xs [] → LeavesOn (origin_of s) (seen_of m) xs
+pub ends-then : (s : SharedServer) (turns : ℕ) (a b c : DeskData) (xs ys : List Deed) (hand : List Event) (m q : Pass) (end : WorkEnd)
+    → Begins (seen_of q) (seen_of m) → IsAtDesk a b xs [] → LeavesOn (origin_of s) (seen_of m) xs
     → TurnEnds s b c ys hand q (Some end) → EndsBy (origin_of s) (seen_of q) turns a c (xs ++ ys) hand end
 ends-then s turns a b c xs ys hand m q ends.Over more f on e =
     let r = e.0.1 in (
       e.0.0,
-      (xs ++ r.0, r.1, ap (λ (l : List Deed). xs ++ l) r.2 ∙ sym (append_assoc xs r.0 (posted r.1 ∷ [])), on-then (origin_of s) (seen_of m) (seen_of q) xs r.0 more on r.3, r.4),
+      (
+        xs ++ r.0,
+        r.1,
+        ap (λ (l : List Deed). xs ++ l) r.2 ∙ sym (append_assoc xs r.0 (posted r.1 ∷ [])),
+        on-then (origin_of s) (seen_of m) (seen_of q) xs r.0
+            more on r.3,
+        r.4,
+      ),
     )
-ends-then s turns a b c xs ys hand m q ends.Closed more f on e = (e.0.0, on-then (origin_of s) (seen_of m) (seen_of q) xs ys more on e.0.1, rose-later a.idles b.idles c.idles f.idles e.0.2)
+ends-then s turns a b c xs ys hand m q ends.Closed more f on e =
+    (e.0.0, on-then (origin_of s) (seen_of m) (seen_of q) xs ys more on e.0.1, rose-later a.idles b.idles c.idles f.idles e.0.2)
 ends-then s turns a b c xs ys hand m q ends.Full more f on e = (e.0.0, on-then (origin_of s) (seen_of m) (seen_of q) xs ys more on e.0.1, e.0.2)
 ends-then s turns a b c xs ys hand m q ends.TurnsSpent more f on e = absurd (e.1 refl)
-ends-then s turns a b c xs ys hand m q ends.Fault more f on e = (e.0.0, on-then (origin_of s) (seen_of m) (seen_of q) xs ys more on e.0.1, rose-later a.faults b.faults c.faults f.faults e.0.2)
+ends-then s turns a b c xs ys hand m q ends.Fault more f on e =
+    (e.0.0, on-then (origin_of s) (seen_of m) (seen_of q) xs ys more on e.0.1, rose-later a.faults b.faults c.faults f.faults e.0.2)
 ends-then s turns a b c xs ys hand m q ends.NoMemory more f on e = (e.0.0, on-then (origin_of s) (seen_of m) (seen_of q) xs ys more on e.0.1)
 
 -- so many takes, and then at most one more

@@ -51,7 +51,8 @@ never_unsplit s p q splits.NoNumber first cause =
     cc
 never_unsplit s p q splits.NoMemory first cause = absurd cause
 
-pub opened : (plan : Plan) (limit : ℕ) (s : SharedServer) (p l r : Pass) (opening : List Action) → (origin_of s).plan ≡ plan → (origin_of s).limit ≡ limit → (origin_of s).opening ≡ opening → IsLegal (origin_of s) [] → view_of p ≡ first_view (origin_of s)
+pub opened : (plan : Plan) (limit : ℕ) (s : SharedServer) (p l r : Pass) (opening : List Action) → (origin_of s).plan ≡ plan → (origin_of s).limit ≡ limit
+    → (origin_of s).opening ≡ opening → IsLegal (origin_of s) [] → view_of p ≡ first_view (origin_of s)
     → IsSplit s p l r → IsOpened plan limit s l r opening
 opened plan limit s p l r opening plan_is limit_is opening_is begun first x = record {
   plan_is = plan_is;
@@ -76,7 +77,8 @@ opened plan limit s p l r opening plan_is limit_is opening_is begun first x = re
 }
 
 -- the same two hands, after their work
-pub sides_after : (s : SharedServer) (l r q w : Pass) (m n : ℕ) → AreSides s l r m n → IsOf s q → hand_in q ≡ hand_in l → IsOf s w → hand_in w ≡ hand_in r → AreSides s q w m n
+pub sides_after : (s : SharedServer) (l r q w : Pass) (m n : ℕ) → AreSides s l r m n → IsOf s q → hand_in q ≡ hand_in l → IsOf s w → hand_in w ≡ hand_in r
+    → AreSides s q w m n
 sides_after s l r q w m n x of_left left of_right right = record {
   of_left = of_left;
   of_right = of_right;
@@ -100,18 +102,21 @@ module _ (h : Hand) (m n : ℕ) (e : Ended) (number_is : h.number ≡ m) (ended_
   one_ended (suc k) f seat at is = absurd (some-ne-none f (sym at))
 
   seat_of_two : (seat : ℕ) → IsSeatOf h seat → (seat ≡ m) ⊎ (seat ≡ n)
-  seat_of_two seat x = ⊎_elim (λ is. inl (is ∙ number_is)) (λ y. inr (one_ended y.0 y.1 seat (ap (λ (es : List Ended). get_elem? es y.0) (sym ended_is) ∙ y.2) y.3)) x
+  seat_of_two seat x = ⊎_elim (λ is. inl (is ∙ number_is))
+      (λ y. inr (one_ended y.0 y.1 seat (ap (λ (es : List Ended). get_elem? es y.0) (sym ended_is) ∙ y.2) y.3)) x
 
   of_two : (journal : List PostData) → OfSeats h journal → OfTwo m n journal
   of_two [] all = tt
   of_two (p ∷ ps) all = (seat_of_two p.seat all.0, of_two ps all.1)
 
-pub closed_over : (s : SharedServer) (l r q : Pass) (m n : ℕ) (journal : List PostData) → AreSides s l r m n → IsJoined s l r q → IsClosed s q journal → IsJournalOf s l r m n journal
+pub closed_over : (s : SharedServer) (l r q : Pass) (m n : ℕ) (journal : List PostData) → AreSides s l r m n → IsJoined s l r q → IsClosed s q journal
+    → IsJournalOf s l r m n journal
 closed_over s l r q m n journal x j c =
     let e : Ended = record { number = (hand_in r).number; own = own_of r } in
     let number_is : (hand_in q).number ≡ m = ap (λ (h : Hand). h.number) j.hand_is ∙ x.left_number in
     let ended_is : (hand_in q).ended ≡ e ∷ [] =
-    ap (λ (h : Hand). h.ended) j.hand_is ∙ (ap (λ (es : List Ended). (es ++ (hand_in r).ended) ++ e ∷ []) x.left_ended ∙ ap (λ (es : List Ended). es ++ e ∷ []) x.right_ended) in record {
+    ap (λ (h : Hand). h.ended) j.hand_is ∙ (ap (λ (es : List Ended). (es ++ (hand_in r).ended) ++ e ∷ []) x.left_ended ∙ ap
+    (λ (es : List Ended). es ++ e ∷ []) x.right_ended) in record {
       front_left = begins-trans journal (seen_of q) (seen_of l) c.front j.front_left;
       front_right = begins-trans journal (seen_of q) (seen_of r) c.front j.front_right;
       legal = c.legal;
@@ -122,7 +127,8 @@ closed_over s l r q m n journal x j c =
 
 -- WHAT THE DESKS SHOW
 
-ends-from : (o : BookData) (journal : List PostData) (turns : ℕ) (before mid now : DeskData) (log : List Deed) (hand : List Event) (end : WorkEnd) (first : List Action) → IsPerformed before mid first → EndsBy o journal turns mid now log hand end
+ends-from : (o : BookData) (journal : List PostData) (turns : ℕ) (before mid now : DeskData) (log : List Deed) (hand : List Event) (end : WorkEnd)
+    (first : List Action) → IsPerformed before mid first → EndsBy o journal turns mid now log hand end
     → EndsBy o journal turns before now log hand end
 ends-from o journal turns before mid now log hand ends.Over first p e = e
 ends-from o journal turns before mid now log hand ends.Closed first p e = (e.0, e.1, subst (λ (n : ℕ). Rose n now.idles) p.idles e.2)
@@ -132,7 +138,8 @@ ends-from o journal turns before mid now log hand ends.Fault first p e = (e.0, e
 ends-from o journal turns before mid now log hand ends.NoMemory first p e = e
 
 -- the desk performed these actions before the work
-shows-from : (o : BookData) (journal : List PostData) (n turns : ℕ) (first : List Action) (before mid now : DeskData) (log : List Deed) (hand : List Event) (strays : List Strayed) (end : WorkEnd) → IsPerformed before mid first
+shows-from : (o : BookData) (journal : List PostData) (n turns : ℕ) (first : List Action) (before mid now : DeskData) (log : List Deed) (hand : List Event)
+    (strays : List Strayed) (end : WorkEnd) → IsPerformed before mid first
     → Shows o journal n turns [] mid now log hand strays end → Shows o journal n turns first before now log hand strays end
 shows-from o journal n turns first before mid now log hand strays end p x = record {
   taken = subst (λ (k : Option (List Event)). Adds k now.taken (events_of log ++ hand)) p.taken x.taken;
@@ -147,7 +154,8 @@ shows-from o journal n turns first before mid now log hand strays end p x = reco
 }
 
 -- the journal went on
-shows-later : (o : BookData) (a b : List PostData) (n m turns : ℕ) (first : List Action) (before now : DeskData) (log : List Deed) (hand : List Event) (strays : List Strayed) (end : WorkEnd) → Begins b a → n ≡ m
+shows-later : (o : BookData) (a b : List PostData) (n m turns : ℕ) (first : List Action) (before now : DeskData) (log : List Deed) (hand : List Event)
+    (strays : List Strayed) (end : WorkEnd) → Begins b a → n ≡ m
     → Shows o a n turns first before now log hand strays end → Shows o b m turns first before now log hand strays end
 shows-later o a b n m turns first before now log hand strays end more same x = record {
   taken = x.taken;
@@ -162,17 +170,20 @@ shows-later o a b n m turns first before now log hand strays end more same x = r
 }
 
 -- a desk that performed these actions and then did its work, against the journal of its server
-pub stands_for : (s : SharedServer) (p : Pass) (turns n : ℕ) (first : List Action) (before mid now : DeskData) (r : Worked) (journal : List PostData) → IsPerformed before mid first → IsWorked s p turns mid now r → seen_of p ≡ [] → own_of p ≡ []
+pub stands_for : (s : SharedServer) (p : Pass) (turns n : ℕ) (first : List Action) (before mid now : DeskData) (r : Worked) (journal : List PostData)
+    → IsPerformed before mid first → IsWorked s p turns mid now r → seen_of p ≡ [] → own_of p ≡ []
     → own_posts journal n ≡ own_of r.pass → Begins journal (seen_of r.pass) → StandsFor (origin_of s) journal n turns first before (desk_end now r.end r.strays)
 stands_for s p turns n first before mid now r journal performed w none_seen none own front = record {
   log = w.log;
   hand = w.hand;
   posts_are = own ∙ (w.done.own_is ∙ ap (λ (l : List (ℕ × PostData)). l ++ posts_of w.log) none);
-  shows = shows-later (origin_of s) (seen_of r.pass) journal (length (seen_of p)) 0 turns first before now w.log w.hand r.strays.0 r.end front (ap length none_seen)
+  shows = shows-later (origin_of s) (seen_of r.pass) journal (length (seen_of p)) 0 turns first before now w.log w.hand r.strays.0 r.end front
+      (ap length none_seen)
       (shows-from (origin_of s) (seen_of r.pass) (length (seen_of p)) turns first before mid now w.log w.hand r.strays.0 r.end performed w.shows);
 }
 
-pub served : (plan : Plan) (limit turns : ℕ) (s : SharedServer) (p1 p2 : Pass) (opening : List Action) (left mid right one two : DeskData) (r1 r2 : Worked) (journal : List PostData) → IsValid plan → IsOpened plan limit s p1 p2 opening
+pub served : (plan : Plan) (limit turns : ℕ) (s : SharedServer) (p1 p2 : Pass) (opening : List Action) (left mid right one two : DeskData) (r1 r2 : Worked)
+    (journal : List PostData) → IsValid plan → IsOpened plan limit s p1 p2 opening
     → IsPerformed left mid opening → IsWorked s p1 turns mid one r1 → IsWorked s p2 turns right two r2 → IsJournalOf s r1.pass r2.pass 0 1 journal
     → IsServed plan limit turns left right (desk_end one r1.end r1.strays) (desk_end two r2.end r2.strays) journal
 served plan limit turns s p1 p2 opening left mid right one two r1 r2 journal valid o performed w1 w2 j = record {
@@ -201,13 +212,16 @@ same_later before now is = subst (λ (d : DeskData). IsLater before d) (sym is)
     })
 
 -- the desks weren't asked for anything
-pub back_unasked : (plan : Plan) (left right one two : DeskData) (reason : EchoReason) → (reason ≡ reasons.BadPlan → IsValid plan → ⊥) → one ≡ left → two ≡ right → IsHandedBack plan left right one two reason
+pub back_unasked : (plan : Plan) (left right one two : DeskData) (reason : EchoReason) → (reason ≡ reasons.BadPlan → IsValid plan → ⊥) → one ≡ left
+    → two ≡ right → IsHandedBack plan left right one two reason
 back_unasked plan left right one two reasons.BadPlan bad l r = (bad refl, l, r)
 back_unasked plan left right one two reasons.NoMemory bad l r = (same_later left one l, same_later right two r)
 
-worked_later : (s : SharedServer) (p : Pass) (turns : ℕ) (first : List Action) (before mid now : DeskData) (r : Worked) → IsPerformed before mid first → IsWorked s p turns mid now r → IsLater before now
+worked_later : (s : SharedServer) (p : Pass) (turns : ℕ) (first : List Action) (before mid now : DeskData) (r : Worked) → IsPerformed before mid first
+    → IsWorked s p turns mid now r → IsLater before now
 worked_later s p turns first before mid now r performed w =
-    let x = shows-from (origin_of s) (seen_of r.pass) (length (seen_of p)) turns first before mid now w.log w.hand r.strays.0 r.end performed w.shows in record {
+    let x = shows-from (origin_of s) (seen_of r.pass) (length (seen_of p)) turns first before mid now w.log w.hand r.strays.0 r.end performed w.shows in
+    record {
       taken = (events_of w.log ++ w.hand, x.taken);
       performed = (first ++ actions_of w.log, x.performed);
       refused = (stray_events w.log ++ w.hand, x.refused);
@@ -216,7 +230,14 @@ worked_later s p turns first before mid now r performed w =
     }
 
 -- the desks did their work, and the journal is lost
-pub back_worked : (plan : Plan) (turns : ℕ) (s : SharedServer) (p1 p2 : Pass) (opening : List Action) (left mid right one two : DeskData) (r1 r2 : Worked) → IsPerformed left mid opening → IsWorked s p1 turns mid one r1 → IsWorked s p2 turns right two r2
+pub back_worked : (plan : Plan) (turns : ℕ) (s : SharedServer) (p1 p2 : Pass) (opening : List Action) (left mid right one two : DeskData) (r1 r2 : Worked)
+    → IsPerformed left mid opening → IsWorked s p1 turns mid one r1 → IsWorked s p2 turns right two r2
     → IsHandedBack plan left right one two reasons.NoMemory
 back_worked plan turns s p1 p2 opening left mid right one two r1 r2 performed w1 w2 =
     (worked_later s p1 turns opening left mid one r1 performed w1, worked_later s p2 turns [] right right two r2 (performed-none right) w2)
+
+-- the same desks, as they are handed back
+pub back_as : (plan : Plan) (left right one two one' two' : DeskData) (reason : EchoReason) → one ≡ one' → two ≡ two' → reason ≡ reasons.NoMemory
+    → IsHandedBack plan left right one two reasons.NoMemory → IsHandedBack plan left right one' two' reason
+back_as plan left right one two one' two' reason l r is back = subst (λ (why : EchoReason). IsHandedBack plan left right one' two' why) (sym is)
+    (subst (λ (d : DeskData). IsLater left d) l back.0, subst (λ (d : DeskData). IsLater right d) r back.1)

@@ -57,7 +57,8 @@ strays_from k (strayed e seen ∷ ds) = stray k seen ∷ strays_from (k + 1) ds
 abbrev pub OfFront : List PostData → ℕ → (List PostData → Type 0) → Type 0
 OfFront journal k P = (front : List PostData) × (length front ≡ k) × Begins journal front × P front
 
--- n posts had been seen. Each post has a place above all that was seen before it. Each stray doesn't fit a front that has at least all posts that were seen before it
+-- n posts had been seen. Each post has a place above all that was seen before it. Each stray doesn't fit a front that has at least all posts that
+-- were seen before it
 abbrev pub Follows : BookData → List PostData → ℕ → List Deed → Type 0
 Follows b journal n [] = n ≤ length journal
 Follows b journal n (posted own ∷ ds) = (n < own.0) × Follows b journal own.0 ds
@@ -71,7 +72,8 @@ LeavesOn b journal (strayed e seen ∷ ds) = LeavesOn b journal ds
 
 -- the last event was posted, and its post is the one that didn't leave the run on
 abbrev pub EndsRun : BookData → List PostData → List Deed → Type 0
-EndsRun b journal log = (ds : List Deed) × (own : ℕ × PostData) × (log ≡ ds ++ posted own ∷ []) × LeavesOn b journal ds × OfFront journal own.0 (λ front. end_after b front ≢ On)
+EndsRun b journal log = (ds : List Deed) × (own : ℕ × PostData) × (log ≡ ds ++ posted own ∷ []) × LeavesOn b journal ds × OfFront journal own.0
+    (λ front. end_after b front ≢ On)
 
 -- why a worker stopped after these deeds, with the events in its hand that were neither posted nor strays
 abbrev pub EndsBy : BookData → List PostData → ℕ → DeskData → DeskData → List Deed → List Event → WorkEnd → Type 0
@@ -86,8 +88,10 @@ EndsBy b journal turns before now log hand NoMemory = (length hand ≤ 1) × Lea
 abbrev pub GrewUpTo : DeskData → DeskData → ℕ → Type 0
 GrewUpTo before now turns = (k : ℕ) × (k ≤ turns) × Grew before.takes now.takes k
 
--- what a desk shows of a worker's deeds, where n posts of the journal had been seen: the events that it gave, the actions that it performed, first these and then those of the posts, and the events that it took back
-pub record Shows (b : BookData) (journal : List PostData) (n turns : ℕ) (first : List Action) (before now : DeskData) (log : List Deed) (hand : List Event) (strays : List Strayed) (end : WorkEnd) : Type 0 where
+-- what a desk shows of a worker's deeds, where n posts of the journal had been seen: the events that it gave, the actions that it performed, first
+-- these and then those of the posts, and the events that it took back
+pub record Shows (b : BookData) (journal : List PostData) (n turns : ℕ) (first : List Action) (before now : DeskData) (log : List Deed) (hand : List Event)
+    (strays : List Strayed) (end : WorkEnd) : Type 0 where
   pub taken : Adds before.taken now.taken (events_of log ++ hand)
   pub performed : Adds before.performed now.performed (first ++ actions_of log)
   pub refused : Adds before.refused now.refused (stray_events log ++ hand)

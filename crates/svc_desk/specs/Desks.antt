@@ -7,7 +7,8 @@ use Rattle.svc_record.specs.declared.action.Action.{Action}
 use Rattle.svc_desk.specs.declared.desk.DeskAnswer.{DeskAnswer}
 use Rattle.svc_desk.specs.declared.desk.DeskAnswer.TheVariants as answers
 
--- the events that it gave, the actions that it performed and the events that it took back, the oldest first, and the number of its takes, each where it tells it; how often it failed, and how often nothing came any more
+-- the events that it gave, the actions that it performed and the events that it took back, the oldest first, and the number of its takes, each where
+-- it tells it; how often it failed, and how often nothing came any more
 pub record DeskData : Type 0 where
   pub taken : Option (List Event)
   pub performed : Option (List Action)

@@ -30,7 +30,8 @@ pub record IsDone (s : SharedServer) (p : Pass) (log : List Deed) (q : Pass) : T
   pub own_is : own_of q ≡ own_of p ++ posts_of log
   pub follows : Follows (origin_of s) (seen_of q) (length (seen_of p)) log
 
--- the worker's whole work: the pass keeps its number, share and ended seats, its own posts grew by those of the deeds, and the desk shows the deeds against the front that the pass has seen
+-- the worker's whole work: the pass keeps its number, share and ended seats, its own posts grew by those of the deeds, and the desk shows the deeds
+-- against the front that the pass has seen
 pub record IsWorked (s : SharedServer) (p : Pass) (turns : ℕ) (before now : DeskData) (r : Worked) : Type 0 where
   pub log : List Deed
   pub hand : List Event

@@ -49,7 +49,7 @@ pub trait Desk {
     fn take(&mut self, alloc: Global) -> DeskAnswer
         ensures { IsTaken (seen self.old) (seen self.new) result };
 
-    /// What the endpoint's filter says of an arrival; of other events it is passed on unread.
+    /// What the endpoint's filter says of an arrival. At other events the answer has no effect.
     fn said(&mut self, event: &Event) -> bool
         ensures { seen self.new ≡ seen self.old };
 

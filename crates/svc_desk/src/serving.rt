@@ -170,10 +170,23 @@ fn close_both(
     }
 }
 
-/// Serves two desks by one server, over a valid plan, and gives back the desks and the journal of at
-/// most `limit` posts. Both desks meet the plan, the left one first. The left desk performs what the
-/// server's core tells as it begins. Then a worker of each desk works at most `turns` times, on two
-/// threads; the left one's seat is 0, the right one's is 1.
+/// Both desks come back.
+fn refused<D: Drop>(reason: EchoReason, left: D, right: D) -> EchoRefused<D>
+    ensures reason { result.reason ≡ reason }
+    ensures left { result.left ≡ left }
+    ensures right { result.right ≡ right }
+{
+    EchoRefused {
+        reason,
+        left,
+        right,
+    }
+}
+
+/// Serves two desks by one server, over a valid plan, and gives back the desks and the journal. The
+/// server takes `limit` posts at most. Both desks meet the plan, the left one first. The left desk
+/// performs what the server's core tells as it begins. Then a worker of each desk asks it at most
+/// `turns` times, on two threads; the left one's seat is 0, the right one's is 1.
 ///
 /// `BadPlan` where the plan isn't valid. Both desks come back with every refusal.
 pub fn serve_desks<D: Desk + Drop + Send, G: Gate + Sync, R: Threads + Wait + Sync>(
@@ -192,18 +205,10 @@ pub fn serve_desks<D: Desk + Drop + Send, G: Gate + Sync, R: Threads + Wait + Sy
     ensures refused { IfErr result (λ r. IsHandedBack plan (D.seen left) (D.seen right) (D.seen r.left) (D.seen r.right) r.reason) }
 {
     if let Err(reason) = meet_both(alloc, &plan, &mut left, &mut right) {
-        return Err(EchoRefused {
-            reason,
-            left,
-            right,
-        });
+        return Err(refused(reason, left, right));
     }
     let Ok(opened) = open(rt, alloc, plan, limit) else {
-        return Err(EchoRefused {
-            reason: EchoReason::NoMemory,
-            left,
-            right,
-        });
+        return Err(refused(EchoReason::NoMemory, left, right));
     };
     perform_all(&mut left, opened.opening);
     let server = opened.server;
@@ -218,28 +223,18 @@ pub fn serve_desks<D: Desk + Drop + Send, G: Gate + Sync, R: Threads + Wait + Sy
         gate,
         turns,
     );
-    let Finished {
-        desk: left,
-        worked: first,
-    } = one;
-    let Finished {
-        desk: right,
-        worked: second,
-    } = two;
-    match close_both(alloc, server, first.pass, second.pass) {
-        Ok(journal) => Ok(Echoed {
-            left,
-            right,
-            left_end: first.end,
-            right_end: second.end,
-            left_strays: first.strays,
-            right_strays: second.strays,
-            journal,
-        }),
-        Err(NoMemory) => Err(EchoRefused {
-            reason: EchoReason::NoMemory,
-            left,
-            right,
-        }),
-    }
+    let (left, first) = (one.desk, one.worked);
+    let (right, second) = (two.desk, two.worked);
+    let Ok(journal) = close_both(alloc, server, first.pass, second.pass) else {
+        return Err(refused(EchoReason::NoMemory, left, right));
+    };
+    Ok(Echoed {
+        left,
+        right,
+        left_end: first.end,
+        right_end: second.end,
+        left_strays: first.strays,
+        right_strays: second.strays,
+        journal,
+    })
 }

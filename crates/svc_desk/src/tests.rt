@@ -1,13 +1,16 @@
 ghost use Rattle.std.specs.Prelude.{IfOk};
 ghost use Rattle.svc_shared.specs.Posting.{IsOf};
 
-use crate::{DeskItem, EchoReason, Gate, MemoryDesk, StrayList, WorkEnd, serve_desks, work};
+use crate::{
+    DeskItem, EchoReason, Echoed, Gate, MemoryDesk, StrayList, WorkEnd, serve_desks, work,
+};
 use std::alloc::Global;
 use std::process::Abort;
 use std::sync::Wait;
 use std::sync::atomic::{AtomicU64, Ordering};
 use std::test::Fail;
 use std::thread;
+use std::thread::Threads;
 use svc_conf::{Numbers, Settings, Text};
 use svc_graph::{EndpointList, EndpointPlan, Kind};
 use svc_record::{Action, Event, Plan, ServiceList, ServicePlan, ShutdownSignal};
@@ -106,10 +109,38 @@ fn lines(alloc: Global, actions: &[Action]) -> Result<String, Fail> {
     Ok(text)
 }
 
-#[test]
-fn one_desk_serves_a_connection_and_ends_the_run(rt: HostRuntime) -> Result<(), Fail> {
-    let alloc = rt.alloc();
-    let events = vec![in alloc;
+/// What two desks with these events come to.
+fn served<G: Gate + Sync, R: Threads + Wait + Sync>(
+    rt: &R,
+    alloc: Global,
+    plan: Plan,
+    left: Vec<Event>,
+    right: Vec<Event>,
+    gate: &G,
+) -> Result<Echoed<MemoryDesk>, Fail> {
+    let left = desk_of(alloc, left)?;
+    let right = desk_of(alloc, right)?;
+    match serve_desks(rt, alloc, plan, 10, 10, left, right, gate) {
+        Ok(echoed) => Ok(echoed),
+        Err(_) => Err(EchoReason::NoMemory)?,
+    }
+}
+
+/// The ends of both workers, and the actions that the left desk performed.
+fn ends_of(alloc: Global, echoed: &Echoed<MemoryDesk>) -> Result<String, Fail> {
+    let told = echoed
+        .left
+        .performed
+        .told()
+        .ok_or("the left desk's actions")?;
+    let actions = lines(alloc, told)?;
+    let (left, right) = (echoed.left_end, echoed.right_end);
+    Ok(format!(in alloc; "{left:?} {right:?}; {actions}")?)
+}
+
+/// The events of one connection, and a signal.
+fn connection(alloc: Global) -> Result<Vec<Event>, Fail> {
+    Ok(vec![in alloc;
         Event::Bound(0, 0, 7),
         Event::Bound(0, 1, 8),
         Event::Arrived(0, 0, 1, Peer::Unknown),
@@ -117,46 +148,47 @@ fn one_desk_serves_a_connection_and_ends_the_run(rt: HostRuntime) -> Result<(), 
         Event::Shaken(1, true),
         Event::Finished(1),
         Event::Signal(ShutdownSignal::FastShutdown),
-    ]?;
-    let left = desk_of(alloc, events)?;
-    let right = desk_of(alloc, Vec::new(alloc))?;
+    ]?)
+}
+
+#[test]
+fn one_desk_serves_a_connection_and_ends_the_run(rt: HostRuntime) -> Result<(), Fail> {
+    let alloc = rt.alloc();
     let plan = plan_of(alloc, "echo", Kind::Plain, &["a:1", "b:2"])?;
-    let Ok(echoed) = serve_desks(&rt, alloc, plan, 10, 10, left, right, &OpenGate) else {
-        panic!(rt; "refused")
-    };
+    let none = Vec::new(alloc);
+    let echoed = served(&rt, alloc, plan, connection(alloc)?, none, &OpenGate)?;
+    let text = ends_of(alloc, &echoed)?;
     assert_eq!(rt; echoed.journal.len(), 7);
-    assert_eq!(rt; echoed.left_end, WorkEnd::Over);
-    assert_eq!(rt; echoed.right_end, WorkEnd::Closed);
-    let performed = echoed
-        .left
-        .performed
-        .told()
-        .ok_or("left tells its actions")?;
-    let text = lines(alloc, performed)?;
+    assert!(rt; text.as_str().starts_with("Over Closed; "));
     let last = "close 7; close 8; stop 0; phase Terminated 0; ";
     assert!(rt; text.as_str().ends_with(last));
     Ok(())
 }
 
+/// The right desk ends the run, and the journal begins with a post of either worker.
+fn is_of_both(echoed: &Echoed<MemoryDesk>) -> bool {
+    match echoed.journal.first() {
+        Some(post) => post.event == Event::Ready(0) || post.event == Event::Moment(1),
+        None => false,
+    }
+}
+
 #[test]
 fn both_workers_work_at_once(rt: HostRuntime) -> Result<(), Fail> {
     let alloc = rt.alloc();
-    let left = desk_of(alloc, vec![in alloc; Event::Ready(0), Event::Moment(1)]?)?;
-    let fast = Event::Signal(ShutdownSignal::FastShutdown);
-    let right = desk_of(alloc, vec![in alloc; Event::Moment(1), fast]?)?;
     let gate = Turnstile {
         left: AtomicU64::new(0),
         right: AtomicU64::new(0),
         late: AtomicU64::new(0),
     };
     let plan = plan_of(alloc, "a", Kind::Notifying, &[])?;
-    let Ok(echoed) = serve_desks(&rt, alloc, plan, 10, 10, left, right, &gate) else {
-        panic!(rt; "refused")
-    };
+    let fast = Event::Signal(ShutdownSignal::FastShutdown);
+    let left = vec![in alloc; Event::Ready(0), Event::Moment(1)]?;
+    let right = vec![in alloc; Event::Moment(1), fast]?;
+    let echoed = served(&rt, alloc, plan, left, right, &gate)?;
     assert_eq!(rt; gate.late.load(Ordering::SeqCst), 0);
     assert_eq!(rt; echoed.right_end, WorkEnd::Over);
-    let first = echoed.journal.first().ok_or("no post")?;
-    assert!(rt; first.event == Event::Ready(0) || first.event == Event::Moment(1));
+    assert!(rt; is_of_both(&echoed));
     Ok(())
 }
 
@@ -206,33 +238,30 @@ fn played<R: Abort + Wait>(
     told_of(alloc, worked.end, &worked.strays, &desk)
 }
 
+/// A desk's items: these events.
+fn items_of(alloc: Global, first: Event, second: Event) -> Result<Vec<DeskItem>, Fail> {
+    Ok(vec![in alloc; DeskItem::Event(first), DeskItem::Event(second)]?)
+}
+
 #[test]
 fn a_worker_stops_for_each_cause(rt: HostRuntime) -> Result<(), Fail> {
     let alloc = rt.alloc();
     let fast = Event::Signal(ShutdownSignal::FastShutdown);
-    let over = vec![in alloc;
-        DeskItem::Event(Event::Ready(0)),
-        DeskItem::Event(Event::Ready(0)),
-        DeskItem::Event(fast),
-    ]?;
+    let over = played(&rt, alloc, items_of(alloc, Event::Ended(0), fast)?, 10, 10)?;
     let shutdown =
-        "phase ShutdownStarted 0; phase ShutdownRuntimes 0; stop 0; phase Terminated 0; ";
-    let expected = format!(in alloc; "Over; stray 2 1; {shutdown}back ready 0; ")?;
-    assert_eq!(rt; played(&rt, alloc, over, 10, 10)?, expected);
-    let full = vec![in alloc;
-        DeskItem::Event(Event::Ready(0)),
-        DeskItem::Event(Event::Moment(1)),
-    ]?;
+        "Over; stray 1 0; phase ShutdownStarted 0; phase ShutdownRuntimes 0; stop 0; phase Terminated 0; back ended 0; ";
+    assert_eq!(rt; over.as_str(), shutdown);
+    let two = items_of(alloc, Event::Ready(0), Event::Moment(1))?;
     assert_eq!(rt;
-        played(&rt, alloc, full, 1, 10)?.as_str(),
+        played(&rt, alloc, two, 1, 10)?.as_str(),
         "Full; back moment 1; "
     );
-    let closed = vec![in alloc; DeskItem::Event(Event::Ready(0))]?;
-    assert_eq!(rt; played(&rt, alloc, closed, 1, 10)?.as_str(), "Closed; ");
-    let spent = vec![in alloc; DeskItem::Nothing, DeskItem::Failed]?;
-    assert_eq!(rt; played(&rt, alloc, spent, 1, 1)?.as_str(), "TurnsSpent; ");
-    let fault = vec![in alloc; DeskItem::Nothing, DeskItem::Failed]?;
-    assert_eq!(rt; played(&rt, alloc, fault, 1, 10)?.as_str(), "Fault; ");
+    let two = items_of(alloc, Event::Ready(0), Event::Moment(1))?;
+    assert_eq!(rt; played(&rt, alloc, two, 2, 10)?.as_str(), "Closed; ");
+    let fails = vec![in alloc; DeskItem::Nothing, DeskItem::Failed]?;
+    assert_eq!(rt; played(&rt, alloc, fails, 1, 1)?.as_str(), "TurnsSpent; ");
+    let fails = vec![in alloc; DeskItem::Nothing, DeskItem::Failed]?;
+    assert_eq!(rt; played(&rt, alloc, fails, 1, 10)?.as_str(), "Fault; ");
     Ok(())
 }
 
@@ -242,10 +271,11 @@ fn a_plan_that_is_not_valid_is_refused(rt: HostRuntime) -> Result<(), Fail> {
     let left = desk_of(alloc, Vec::new(alloc))?;
     let right = desk_of(alloc, Vec::new(alloc))?;
     let plan = plan_of(alloc, "echo", Kind::Plain, &[""])?;
-    let Err(refused) = serve_desks(&rt, alloc, plan, 10, 10, left, right, &OpenGate) else {
-        panic!(rt; "served")
-    };
-    assert_eq!(rt; refused.reason, EchoReason::BadPlan);
+    let answer = serve_desks(&rt, alloc, plan, 10, 10, left, right, &OpenGate);
+    assert_eq!(rt;
+        answer.err().map(|refused| refused.reason),
+        Some(EchoReason::BadPlan)
+    );
     let bad = format!(in alloc; "{}", EchoReason::BadPlan)?;
     assert_eq!(rt; bad.as_str(), "the plan isn't valid");
     let memory = format!(in alloc; "{}", EchoReason::NoMemory)?;

@@ -45,7 +45,8 @@ returns-in-Some g c =
           takes = takes-then a b d c.loop.counter c.args.turns (omega arith) i.takes e.2;
           faults = at_desk.faults;
           idles = at_desk.idles;
-          strays_are = strays-joined c.loop.tally.taken (list_of c.loop.tally.strays) (list_of c.turn-turned.new.tally.strays) i.log t.log i.strays i.count t.strays;
+          strays_are = strays-joined c.loop.tally.taken (list_of c.loop.tally.strays) (list_of c.turn-turned.new.tally.strays) i.log t.log i.strays i.count
+              t.strays;
           follows = done.follows;
           ends = ends-then s c.args.turns a b d i.log t.log t.hand c.loop.pass q c.in-Some.end t.done.front i.at_desk i.on e;
         };
