@@ -1,0 +1,14 @@
+pub mod ChannelLemmas
+pub mod MessageLemmas
+pub mod TriesLemmas
+pub mod OfferedLemmas
+pub mod CoveredLemmas
+pub mod ReceivedLemmas
+pub mod PairLemmas
+pub mod SideLemmas
+pub mod TextLemmas
+pub mod LawLemmas
+pub mod OperatorLemmas
+pub mod ReachLemmas
+pub mod OperatorLaw
+pub mod RunLemmas

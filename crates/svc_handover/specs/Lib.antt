@@ -1,0 +1,6 @@
+pub mod Channel
+pub mod Pair
+pub mod Handover
+pub mod Operator
+pub mod Law
+pub mod Runs
