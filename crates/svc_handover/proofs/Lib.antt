@@ -12,3 +12,4 @@ pub mod OperatorLemmas
 pub mod ReachLemmas
 pub mod OperatorLaw
 pub mod RunLemmas
+pub mod LackingPremises

@@ -115,8 +115,8 @@ module _ (old new : CoreData) (w : World) (stand : PairStands old new w) (a : Li
       let law = covered old new.plan w stand.old_stands stand.old_right stand.new_right (pair-kept old new w stand) (table-text old.plan (before_signal w.old) stand.texts) in
       let all : list_all (λ (x : TableEntry). address_right old.plan new.plan w x.0) (table old.plan w.old) ≡ true = needed (is_promised old.plan w.old) (list_all (λ (x : TableEntry). address_right old.plan new.plan w x.0) (table old.plan w.old)) promised law in
       second (is_taken w.channel) (has_given_up new.plan w.new a) (is_covered old.plan new.plan w a)
-        (never-given-up new w.new a stand.new_stands stand.new_right silent named_new sound_new)
-        (picked (address_right old.plan new.plan w) a (table old.plan w.old) all (live-listed old.plan (before_signal w.old) a live))
+      (never-given-up new w.new a stand.new_stands stand.new_right silent named_new sound_new)
+      (picked (address_right old.plan new.plan w) a (table old.plan w.old) all (live-listed old.plan (before_signal w.old) a live))
     where
       needed : (x y : Bool) → x ≡ true → (not x || y) ≡ true → y ≡ true
       needed x y e h = grind arith
@@ -124,7 +124,7 @@ module _ (old new : CoreData) (w : World) (stand : PairStands old new w) (a : Li
   by-silence : has is_signal w.old ≡ false → is_covered old.plan new.plan w a ≡ true
   by-silence none = or_left (has_live old.plan w.old (Some a) || has_live new.plan w.new (Some a)) (is_in_flight w.channel && names_address a (sent_message w.old))
       (or_left (has_live old.plan w.old (Some a)) (has_live new.plan w.new (Some a))
-        (live-unsignalled old w.old a stand.old_stands stand.old_right none named_old sound_old (subst (λ b. (has_live old.plan b (Some a) || was_live old.plan b a) ≡ true) (ap (λ b. if b then before_signal w.old else w.old) none) held)))
+      (live-unsignalled old w.old a stand.old_stands stand.old_right none named_old sound_old (subst (λ b. (has_live old.plan b (Some a) || was_live old.plan b a) ≡ true) (ap (λ b. if b then before_signal w.old else w.old) none) held)))
 
   is-covered : is_covered old.plan new.plan w a ≡ true
   is-covered = elim (cases_Bool (has is_signal w.old)) [ inl came ↦ by-signal came | inr none ↦ by-silence none ]

@@ -91,10 +91,10 @@ never-given-up core q a stand right silent named sound = false_from_ne_true (has
     let opened : is_opened core.plan q g.fd ≡ true = closed_was_opened core.plan q g.fd right.stronger.closes g.closed in
     let claimed : is_address_unclaimed core.plan (address_of core.plan q g.fd) ≡ false = ap (is_address_unclaimed core.plan) g.address ∙ named-claimed (λ s. names core.plan s a) (declares_list core.plan) (services core.plan) named in
     let kept : is_address_abandoned core.plan q (address_of core.plan q g.fd) ≡ false = ap (is_address_abandoned core.plan q) g.address
-        ∙ and-second (list_any (λ s. names core.plan s a) (services core.plan)) (list_all (λ s. not (names core.plan s a) || has_failed core.plan q s) (services core.plan)) (sound-kept (λ s. names core.plan s a) (has_failed core.plan q) (services core.plan) named sound) in
+    ∙ and-second (list_any (λ s. names core.plan s a) (services core.plan)) (list_all (λ s. not (names core.plan s a) || has_failed core.plan q s) (services core.plan)) (sound-kept (λ s. names core.plan s a) (has_failed core.plan q) (services core.plan) named sound) in
     let gone : is_gone core.plan q g.fd ≡ false = gone-off (is_received core.plan q g.fd) (is_address_unclaimed core.plan (address_of core.plan q g.fd)) (is_doubled core.plan q g.fd) false (is_address_abandoned core.plan q (address_of core.plan q g.fd)) (is_held_back core.plan q g.fd) (is_drained core.plan q g.fd)
-        claimed g.single kept (ap (λ b. ((b && not (is_adopt_of_open core.plan q g.fd)) && list_any (λ s. list_any (is_holder core.plan q g.fd s) (endpoint_numbers core.plan s)) (services core.plan))
-            && each_endpoint core.plan (λ s i. not (is_holder core.plan q g.fd s i) || (serves core.plan q s && have_loops_ended core.plan q s i))) quiet) in
+    claimed g.single kept (ap (λ b. ((b && not (is_adopt_of_open core.plan q g.fd)) && list_any (λ s. list_any (is_holder core.plan q g.fd s) (endpoint_numbers core.plan s)) (services core.plan))
+    && each_endpoint core.plan (λ s i. not (is_holder core.plan q g.fd s i) || (serves core.plan q s && have_loops_ended core.plan q s i))) quiet) in
     clash (has (is_close g.fd) q) g.closed (closed-is core.plan q g.fd right.stronger.closes ((stand.endpoints unserved).closes g.fd opened) ∙ gone))
   where
     clash : (b : Bool) → b ≡ true → b ≡ false → ⊥

@@ -97,9 +97,10 @@ pub read-as-sent : (p : Plan) (q : Record) (bytes fds : List ℕ) (m : Option Me
     → (decode bytes (length fds) ≡ Some (addresses (table p q))) × (length (addresses (table p q)) ≡ length fds)
 read-as-sent p q bytes fds m same some text same_message =
     let fine : is_encodable (table p q) ≡ true = encode-some (table p q) (subst (λ x. is_written x ≡ true) same some) in
-    let parts = as-sent bytes fds (written (table p q)) (subst (λ x. is_as_sent bytes fds x ≡ true) (same ∙ encode-is (table p q) fine) same_message) in
-    (ap (λ b. decode b (length fds)) parts.0 ∙ ap (decode (joined (table p q))) parts.1 ∙ decode-written (table p q) (live-ascending p (before_signal q)) fine text,
-      length-map (table p q) (λ e. e.0) ∙ sym (length-map (table p q) (λ e. e.1)) ∙ sym parts.1)
+    let parts = as-sent bytes fds (written (table p q)) (subst (λ x. is_as_sent bytes fds x ≡ true) (same ∙ encode-is (table p q) fine) same_message) in (
+      ap (λ b. decode b (length fds)) parts.0 ∙ ap (decode (joined (table p q))) parts.1 ∙ decode-written (table p q) (live-ascending p (before_signal q)) fine text,
+      length-map (table p q) (λ e. e.0) ∙ sym (length-map (table p q) (λ e. e.1)) ∙ sym parts.1,
+    )
 
 -- never a bad message: an allowed receipt can be read
 pub receipt-reads : (p : Plan) (q : Record) (bytes fds : List ℕ) (m : Option Message) → m ≡ encode (table p q) → is_written m ≡ true → IsUtf8 (joined (table p q)) → is_as_sent bytes fds m ≡ true → is_bad_message (Got (Received bytes fds)) ≡ false
@@ -147,7 +148,7 @@ module _ (old : CoreData) (n : Plan) (w : World) (stand : StandsFor old w.old) (
         let flying : is_in_flight w.channel ≡ true = ap is_in_flight kept.read ∙ flies (has is_receipt w.new) (has is_sent w.old) (has is_join w.old) (has is_open_receiver w.new) none sent in
         let names : names_address x.0 (sent_message w.old) ≡ true = ap (names_address x.0) offers.1.0 ∙ encode-names (table old.plan w.old) x.0 (live-ascending old.plan (before_signal w.old)) fine text ∙ among in
         by-flight (is_taken w.channel && has_given_up n w.new x.0) (has_live old.plan w.old (Some x.0)) (has_live n w.new (Some x.0)) (is_in_flight w.channel && names_address x.0 (sent_message w.old))
-          (and_from (is_in_flight w.channel) (names_address x.0 (sent_message w.old)) flying names)
+        (and_from (is_in_flight w.channel) (names_address x.0 (sent_message w.old)) flying names)
 
     landed : has is_receipt w.new ≡ true → (x : TableEntry) → is_among x.0 (addresses (table old.plan w.old)) ≡ true → address_right old.plan n w x.0 ≡ true
     landed came x among =
@@ -168,8 +169,8 @@ module _ (old : CoreData) (n : Plan) (w : World) (stand : StandsFor old w.old) (
     | inr none ↦ or_left (not (is_promised old.plan w.old)) _ (ap not none)
     | inl promised ↦ (let parts = and_parts (is_upgrade (signal_of w.old)) (not (is_over old.plan w.old) || has is_sent w.old) promised in
         or_right (not (is_promised old.plan w.old)) (list_all (λ (x : TableEntry). address_right old.plan n w x.0) (table old.plan w.old))
-          (elim (or_cases (not (is_over old.plan w.old)) (has is_sent w.old) parts.1) [
-            | inl going ↦ while-offered parts.0 (not-true (is_over old.plan w.old) going)
-            | inr sent ↦ once-sent sent
-          ]))
+        (elim (or_cases (not (is_over old.plan w.old)) (has is_sent w.old) parts.1) [
+          | inl going ↦ while-offered parts.0 (not-true (is_over old.plan w.old) going)
+          | inr sent ↦ once-sent sent
+        ]))
   ]

@@ -50,7 +50,7 @@ pub runs-first : (p n : Plan) (servers : Servers) (told_old told_new : List Acti
 runs-first p n servers told_old told_new by_old by_new channel texts =
     let w : World = first_world by_old.begun.told by_new.begun.told in
     let stands : PairStands servers.old.core servers.new.core w = stands-first servers.old.core servers.old.core servers.new.core servers.new.core [] told_old [] told_new by_old.end by_new.end by_old.begun by_new.begun
-        (subst HasTexts (sym by_old.plan_is) texts) in
+    (subst HasTexts (sym by_old.plan_is) texts) in
     let laws = laws-at p n servers.old.core servers.new.core w by_old.plan_is by_new.plan_is stands in
     record {
       world = w;
@@ -130,11 +130,11 @@ grows-old old new step told side t same channel p n before runs allowed =
     let stood : PairStands new.old.core old.new.core (old_step w step t.keeps.told) = stands-old old.old.core new.old.core old.new.core w step [] told t.end side t.plan_is runs.stands may t.keeps in
     let stands : PairStands new.old.core new.new.core (pair_step w step t.keeps.told) = subst (λ v. PairStands new.old.core new.new.core v) (sym moved) (subst (λ (r : Recorded). PairStands new.old.core r.core (old_step w step t.keeps.told)) (sym same) stood) in
     let said : judgements t.keeps.told ≡ judged_at (if step.old then p else n) step.event step.said =
-        ap judgements (sym t.keeps.appended) ∙ t.judged ∙ ap (λ x. judged_at x step.event step.said) (runs.old_plan ∙ sym (ap (λ b. if b then p else n) side)) in
+    ap judgements (sym t.keeps.appended) ∙ t.judged ∙ ap (λ x. judged_at x step.event step.said) (runs.old_plan ∙ sym (ap (λ b. if b then p else n) side)) in
     grows-by p n before old new runs (record { step = step; told = t.keeps.told }) allowed said stands (t.plan_is ∙ runs.old_plan) (ap (λ (r : Recorded). r.core.plan) same ∙ runs.new_plan)
-      (taken-entries old.old new.old step told w.old t runs.old_is ∙ ap (λ (v : World). v.old) (sym moved))
-      (ap (λ (r : Recorded). reverse (list_of r.entries)) same ∙ runs.new_is ∙ ap (λ (v : World). v.new) (sym moved))
-      (channel ∙ ap (after_old step.event) runs.channel_is ∙ ap (λ (v : World). v.channel) (sym moved))
+    (taken-entries old.old new.old step told w.old t runs.old_is ∙ ap (λ (v : World). v.old) (sym moved))
+    (ap (λ (r : Recorded). reverse (list_of r.entries)) same ∙ runs.new_is ∙ ap (λ (v : World). v.new) (sym moved))
+    (channel ∙ ap (after_old step.event) runs.channel_is ∙ ap (λ (v : World). v.channel) (sym moved))
 
 -- a step of the new server
 pub grows-new : (old new : Servers) (step : PairStep) (told : List Action) → step.old ≡ false → Takes old.new new.new step told → new.old ≡ old.old → new.channel ≡ after_told told (after_new step.event old.channel) → Grows old new step
@@ -145,11 +145,11 @@ grows-new old new step told side t same channel p n before runs allowed =
     let stood : PairStands old.old.core new.new.core (new_step w step t.keeps.told) = stands-new old.old.core old.new.core new.new.core w step [] told t.end side runs.stands may t.keeps in
     let stands : PairStands new.old.core new.new.core (pair_step w step t.keeps.told) = subst (λ v. PairStands new.old.core new.new.core v) (sym moved) (subst (λ (r : Recorded). PairStands r.core new.new.core (new_step w step t.keeps.told)) (sym same) stood) in
     let said : judgements t.keeps.told ≡ judged_at (if step.old then p else n) step.event step.said =
-        ap judgements (sym t.keeps.appended) ∙ t.judged ∙ ap (λ x. judged_at x step.event step.said) (runs.new_plan ∙ sym (ap (λ b. if b then p else n) side)) in
+    ap judgements (sym t.keeps.appended) ∙ t.judged ∙ ap (λ x. judged_at x step.event step.said) (runs.new_plan ∙ sym (ap (λ b. if b then p else n) side)) in
     grows-by p n before old new runs (record { step = step; told = t.keeps.told }) allowed said stands (ap (λ (r : Recorded). r.core.plan) same ∙ runs.old_plan) (t.plan_is ∙ runs.new_plan)
-      (ap (λ (r : Recorded). reverse (list_of r.entries)) same ∙ runs.old_is ∙ ap (λ (v : World). v.old) (sym moved))
-      (taken-entries old.new new.new step told w.new t runs.new_is ∙ ap (λ (v : World). v.new) (sym moved))
-      (channel ∙ ap (after_told told) (ap (after_new step.event) runs.channel_is) ∙ ap (λ t. after_told t (after_new step.event w.channel)) t.keeps.appended ∙ ap (λ (v : World). v.channel) (sym moved))
+    (ap (λ (r : Recorded). reverse (list_of r.entries)) same ∙ runs.old_is ∙ ap (λ (v : World). v.old) (sym moved))
+    (taken-entries old.new new.new step told w.new t runs.new_is ∙ ap (λ (v : World). v.new) (sym moved))
+    (channel ∙ ap (after_told told) (ap (after_new step.event) runs.channel_is) ∙ ap (λ t. after_told t (after_new step.event w.channel)) t.keeps.appended ∙ ap (λ (v : World). v.channel) (sym moved))
 
 -- the first step that isn't allowed
 pub refuses : (p n : Plan) (schedule : List PairStep) (servers : Servers) (index : ℕ) (step : PairStep) → index < length schedule → step ≡ get_or schedule index step → (runs : Runs p n (take index schedule) servers)

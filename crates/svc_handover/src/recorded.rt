@@ -38,8 +38,7 @@ impl Recorded {
         ensures takes { IfOk result (λ told. Takes self.old self.new step.now (list_of told)) }
     {
         let mut told = Actions::new(alloc);
-        self.core
-            .step(alloc, &step.event, step.said, &mut told)?;
+        self.core.step(alloc, &step.event, step.said, &mut told)?;
         let event = step.event.copy(alloc)?;
         append(alloc, Entry::Got(event), &mut self.entries)?;
         append_told(alloc, told.as_slice(), &mut self.entries)?;

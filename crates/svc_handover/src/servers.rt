@@ -70,7 +70,7 @@ impl Servers {
         ensures may { IsTrue result → MayCome self.now.new.core event.now }
         ensures means { (p n : Plan) (before : List PairStep) → (runs : Runs p n before self.now)
             → result ≡ (fits n runs.world.new event.now
-                && new_may runs.world.channel runs.world.old event.now) }
+            && new_may runs.world.channel runs.world.old event.now) }
     {
         self.new.core.fits(event) && new_may(self.channel, self.old.entries.as_slice(), event)
     }

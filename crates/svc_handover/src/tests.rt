@@ -59,7 +59,11 @@ fn plan_of(services: ServiceList, upgrade: bool, eager: bool) -> Plan {
 fn plan(rt: &impl Abort, alloc: Global, text: &str) -> Plan {
     let (word, addresses) = text.split_once(' ').expect(rt, "a plan");
     let is_late = word == "late";
-    let kind = if is_late { Kind::Notifying } else { Kind::Plain };
+    let kind = if is_late {
+        Kind::Notifying
+    } else {
+        Kind::Plain
+    };
     let mut services = ServiceList::new(alloc);
     let web = service(rt, alloc, "web", kind, addresses);
     services.push(alloc, web).expect(rt, "memory");
@@ -72,11 +76,15 @@ fn plan(rt: &impl Abort, alloc: Global, text: &str) -> Plan {
 }
 
 fn number(rt: &impl Abort, word: Option<&str>) -> u64 {
-    word.expect(rt, "a number").parse::<u64>().expect(rt, "a number")
+    word.expect(rt, "a number")
+        .parse::<u64>()
+        .expect(rt, "a number")
 }
 
 fn small(rt: &impl Abort, word: Option<&str>) -> u32 {
-    word.expect(rt, "a number").parse::<u32>().expect(rt, "a number")
+    word.expect(rt, "a number")
+        .parse::<u32>()
+        .expect(rt, "a number")
 }
 
 /// Addresses joined by a plus sign, as a message, and the numbers after them.
@@ -125,7 +133,11 @@ fn event_of(rt: &impl Abort, alloc: Global, words: &mut SplitWhitespace<'_>) -> 
         b"signal" => Event::Signal(signal_of(rt, words.next())),
         b"moment" => Event::Moment(number(rt, words.next())),
         b"ready" => Event::Ready(small(rt, words.next())),
-        b"bound" => Event::Bound(small(rt, words.next()), small(rt, words.next()), number(rt, words.next())),
+        b"bound" => Event::Bound(
+            small(rt, words.next()),
+            small(rt, words.next()),
+            number(rt, words.next()),
+        ),
         b"inuse" => Event::InUse(small(rt, words.next()), small(rt, words.next())),
         b"bindfailed" => Event::BindFailed(small(rt, words.next()), small(rt, words.next())),
         b"adopted" => Event::Adopted(small(rt, words.next()), small(rt, words.next())),
@@ -166,7 +178,13 @@ fn start_of(word: &str) -> &str {
 }
 
 /// What the schedule leaves.
-fn run(rt: &impl Abort, alloc: Global, old: &str, new: &str, steps: &str) -> Result<PairRun, PairRefused> {
+fn run(
+    rt: &impl Abort,
+    alloc: Global,
+    old: &str,
+    new: &str,
+    steps: &str,
+) -> Result<PairRun, PairRefused> {
     let old = plan(rt, alloc, old);
     let old_is_valid = old.valid(alloc).expect(rt, "memory");
     assert!(rt; old_is_valid);
@@ -179,7 +197,10 @@ fn run(rt: &impl Abort, alloc: Global, old: &str, new: &str, steps: &str) -> Res
 
 /// The record ends in these lines, each with a semicolon behind it.
 fn ends(rt: &impl Abort, alloc: Global, entries: &[Entry], lines: &str, row: &str) {
-    let count = lines.split(';').filter(|line| !line.trim().is_empty()).count();
+    let count = lines
+        .split(';')
+        .filter(|line| !line.trim().is_empty())
+        .count();
     assert!(rt; count <= entries.len(), "{row}");
     let last = &entries[entries.len() - count..];
     for (entry, line) in last.iter().zip(lines.split(';')) {

@@ -95,8 +95,10 @@ fn a_successor_takes_the_address(rt: HostRuntime) {
     let new = "phase Bootstrap 0; openreceiver; tryreceive;
         got received 3132372e302e302e313a3830 3; phase BootstrapComplete 0; start 0;
         adopt 0 0 3; phase Running 0; got adopted 0 0;";
-    let left = run(&rt, alloc, "old 127.0.0.1:80", "new 127.0.0.1:80", steps)
-        .expect(&rt, "each step may come");
+    let left = run(&rt, alloc, "old 127.0.0.1:80", "new 127.0.0.1:80", steps).expect(
+        &rt,
+        "each step may come",
+    );
     assert_eq!(rt; left.channel, ChannelState::Taken);
     assert_eq!(rt; left.old.len(), 11);
     ends(&rt, alloc, left.old.as_slice(), old, steps);
@@ -105,7 +107,12 @@ fn a_successor_takes_the_address(rt: HostRuntime) {
 }
 
 /// So many times the answer, with a moment after each but the last, so many milliseconds later.
-fn repeated(rt: &impl Abort, alloc: Global, (start, answer): (&str, &str), (times, rest): (u64, u64)) -> String {
+fn repeated(
+    rt: &impl Abort,
+    alloc: Global,
+    (start, answer): (&str, &str),
+    (times, rest): (u64, u64),
+) -> String {
     let mut steps = String::new(alloc);
     steps.push_str(start).expect(rt, "memory");
     for k in 1..times {
@@ -118,7 +125,13 @@ fn repeated(rt: &impl Abort, alloc: Global, (start, answer): (&str, &str), (time
 }
 
 /// The old record ends so after so many answers.
-fn tries(rt: &impl Abort, alloc: Global, (word, answer): (&str, &str), bound: (u64, u64), end: &str) {
+fn tries(
+    rt: &impl Abort,
+    alloc: Global,
+    (word, answer): (&str, &str),
+    bound: (u64, u64),
+    end: &str,
+) {
     let steps = repeated(rt, alloc, (start_of(word), answer), bound);
     let left = run(rt, alloc, "old x", "new x", steps.as_str()).expect(rt, "each step may come");
     ends(rt, alloc, left.old.as_slice(), end, answer);
@@ -128,11 +141,41 @@ fn tries(rt: &impl Abort, alloc: Global, (word, answer): (&str, &str), bound: (u
 fn tries_end_at_their_bounds(rt: HostRuntime) {
     let alloc = rt.alloc();
     let busy = ("offered", "old connecting");
-    tries(&rt, alloc, busy, (19, 500), "got moment 9000; connect; got connecting;");
-    tries(&rt, alloc, busy, (20, 500), "got connecting; phase GracefulUpgradeCloseTimeout 9500;");
+    tries(
+        &rt,
+        alloc,
+        busy,
+        (19, 500),
+        "got moment 9000; connect; got connecting;",
+    );
+    tries(
+        &rt,
+        alloc,
+        busy,
+        (20, 500),
+        "got connecting; phase GracefulUpgradeCloseTimeout 9500;",
+    );
     let delayed = ("connected", "old sendbusy");
-    tries(&rt, alloc, delayed, (20, 500), "got sendbusy; phase GracefulUpgradeCloseTimeout 9500;");
+    tries(
+        &rt,
+        alloc,
+        delayed,
+        (20, 500),
+        "got sendbusy; phase GracefulUpgradeCloseTimeout 9500;",
+    );
     let in_use = ("-", "old inuse 0 0");
-    tries(&rt, alloc, in_use, (29, 1000), "got moment 28000; bind 0 0; got inuse 0 0;");
-    tries(&rt, alloc, in_use, (30, 1000), "got moment 29000; bind 0 0; got inuse 0 0; fail 0;");
+    tries(
+        &rt,
+        alloc,
+        in_use,
+        (29, 1000),
+        "got moment 28000; bind 0 0; got inuse 0 0;",
+    );
+    tries(
+        &rt,
+        alloc,
+        in_use,
+        (30, 1000),
+        "got moment 29000; bind 0 0; got inuse 0 0; fail 0;",
+    );
 }
