@@ -1,6 +1,10 @@
 pub mod ChannelLemmas
 pub mod MessageLemmas
 pub mod TriesLemmas
+pub mod TurnLemmas
+pub mod OvertakenLemmas
+pub mod BindsLemmas
+pub mod GivingUpLemmas
 pub mod OfferedLemmas
 pub mod CoveredLemmas
 pub mod ReceivedLemmas

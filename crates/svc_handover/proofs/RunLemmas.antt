@@ -11,7 +11,6 @@ use Rattle.svc_record.specs.Record.{Record, tell}
 use Rattle.svc_record.specs.Judging.{judged_at, judgements}
 use Rattle.svc_record.specs.Right.{Right}
 use Rattle.svc_core.specs.CoreData.{CoreData}
-use Rattle.svc_core.specs.Stands.{StandsFor}
 use Rattle.svc_handover.specs.declared.pair.PairStep.{PairStep}
 use Rattle.svc_handover.specs.declared.pair.ChannelState.{ChannelState}
 use Rattle.svc_handover.specs.declared.pair.ChannelState.TheVariants.{Missing}
@@ -23,11 +22,8 @@ use Rattle.svc_handover.specs.Handover.{IsKept}
 use Rattle.svc_handover.specs.Operator.{KeepsReachable}
 use Rattle.svc_handover.specs.Law.{PairStands, HasTexts, Gives, RefusesAt}
 use Rattle.svc_handover.specs.Runs.{told_entries, Begins, Takes, Runs, Grows}
-use Rattle.svc_handover.proofs.LawLemmas.{AreBindsFew, law-holds, stands-first, stands-old, stands-new, world-more, allowed-more, each-more, said-more, steps-more}
+use Rattle.svc_handover.proofs.LawLemmas.{law-holds, stands-first, stands-old, stands-new, world-more, allowed-more, each-more, said-more, steps-more}
 use Rattle.svc_handover.proofs.OperatorLaw.{keeps-reachable}
-
-few-binds : (core : CoreData) (q : Record) → StandsFor core q → Right core.plan q → AreBindsFew core.plan q
-few-binds core q stand right = ?
 
 -- a list of entries and what was told after it, the newest first
 turned-told : (xs : List Entry) (told : List Action) → reverse (xs ++ told_entries told) ≡ tell (reverse xs) told
@@ -43,7 +39,7 @@ Laws p n w = IsKept p n w × KeepsReachable p n w
 
 laws-at : (p n : Plan) (old new : CoreData) (w : World) → old.plan ≡ p → new.plan ≡ n → PairStands old new w → Laws p n w
 laws-at p n old new w old_plan new_plan s = subst (λ (x : Plan). Laws x n w) old_plan (subst (λ (y : Plan). Laws old.plan y w) new_plan
-    (law-holds old new w s (few-binds old w.old s.old_stands s.old_right) (few-binds new w.new s.new_stands s.new_right), keeps-reachable old new w s))
+    (law-holds old new w s, keeps-reachable old new w s))
 
 -- both servers have begun
 pub runs-first : (p n : Plan) (servers : Servers) (told_old told_new : List Action) → Begins p servers.old told_old → Begins n servers.new told_new → servers.channel ≡ after_told told_new Missing → HasTexts p → Runs p n [] servers

@@ -15,6 +15,7 @@ use Rattle.svc_record.specs.Boot.{is_bad_message}
 use Rattle.svc_record.specs.Ends.{is_no_sender}
 use Rattle.svc_handover.specs.Channel.{is_in_flight, is_taken, is_sent, is_receipt, sent_message, names_address}
 use Rattle.svc_handover.specs.Pair.{World}
+use Rattle.svc_handover.specs.GivingUp.{gives_up_rightly}
 
 -- a descriptor of the address is live on one of the two sides, or a message that names it is on its way
 abbrev pub is_covered : Plan → Plan → World → List ℕ → Bool
@@ -69,6 +70,7 @@ pub record SideKept (p : Plan) (q : Record) : Type 0 where
   pub busy : times is_busy_answer q ≤ 20
   pub no_sender : times is_no_sender q ≤ p.limit + 1
   pub binds : (s i : ℕ) → s < service_count p → i < length (endpoints p s) → times (is_bind s i) q ≤ bind_limit p s i
+  pub giving_up : gives_up_rightly p q ≡ true
 
 -- the law, in a world
 pub record IsKept (p n : Plan) (w : World) : Type 0 where
@@ -79,4 +81,4 @@ pub record IsKept (p n : Plan) (w : World) : Type 0 where
 
 -- the same as a test
 abbrev pub is_kept : Plan → Plan → World → Bool
-is_kept p n w = (coverage_right p n w && not (has is_bad_message w.new)) && ((receipts_right p w.old && receipts_right n w.new) && (tries_right p w.old && tries_right n w.new))
+is_kept p n w = (coverage_right p n w && not (has is_bad_message w.new)) && ((receipts_right p w.old && receipts_right n w.new) && ((tries_right p w.old && tries_right n w.new) && (gives_up_rightly p w.old && gives_up_rightly n w.new)))

@@ -1,5 +1,6 @@
 pub mod Channel
 pub mod Pair
+pub mod GivingUp
 pub mod Handover
 pub mod Operator
 pub mod Law
