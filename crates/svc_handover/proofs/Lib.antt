@@ -11,6 +11,8 @@ pub mod ReceivedLemmas
 pub mod PairLemmas
 pub mod SideLemmas
 pub mod TextLemmas
+pub mod AddressLemmas
+pub mod SentLemmas
 pub mod LawLemmas
 pub mod OperatorLemmas
 pub mod ReachLemmas

@@ -1,8 +1,8 @@
 //! The channel between an old and a new server: what moves it on, and which events it allows.
 
-ghost use Rattle.std.specs.Prelude.{◌≡◌, reverse};
+ghost use Rattle.std.specs.Prelude.{◌≡◌, reverse, if◌then◌else◌};
 ghost use Rattle.std.specs.List.{list_any};
-ghost use Rattle.svc_handover.specs.Channel.{after_old, after_new, after_told, listening_from, is_opening, old_may, new_may, is_as_sent, sent_message};
+ghost use Rattle.svc_handover.specs.Channel.{after_old, after_new, after_told, listening_from, is_opening, old_may, new_may, is_as_sent, newest_after, is_sent, sent_message};
 
 use crate::pair::ChannelState;
 use svc_core::{Action, Entry, Event};
@@ -94,13 +94,31 @@ fn is_as_sent(entries: &[Entry], bytes: &[u8], fds: &[u64]) -> bool
     let mut newest = false;
     let mut sent = false;
     for entry in entries {
-        match entry {
-            Entry::Told(Action::Send(message, numbers)) => {
-                newest = message.as_slice() == bytes && numbers.len() == fds.len() as u64;
-            }
-            Entry::Got(Event::Sent) => sent = newest,
-            _ => {}
-        }
+        sent = sent_after(entry, newest, sent);
+        newest = newest_after(entry, newest, bytes, fds);
     }
     sent
+}
+
+/// Whether the newest send, with this entry, carries these bytes and as many descriptors; before the
+/// entry it was `newest`.
+fn newest_after(entry: &Entry, newest: bool, bytes: &[u8], fds: &[u64]) -> bool
+    ensures { result ≡ newest_after bytes.now fds.now entry.now newest }
+{
+    match entry {
+        Entry::Told(Action::Send(message, numbers)) => {
+            bytes == message.as_slice() && fds.len() as u64 == numbers.len()
+        }
+        _ => newest,
+    }
+}
+
+/// The same of what was sent: where the entry says that the newest send was.
+fn sent_after(entry: &Entry, newest: bool, sent: bool) -> bool
+    ensures { result ≡ (if is_sent entry.now then newest else sent) }
+{
+    match entry {
+        Entry::Got(Event::Sent) => newest,
+        _ => sent,
+    }
 }
