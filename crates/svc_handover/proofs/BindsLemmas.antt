@@ -55,11 +55,14 @@ open-stays : (x y o : Bool) → y ≡ false → o ≡ true → (if x then true e
 open-stays true y o e h = refl
 open-stays false y o e h = rw e h
 
-spent-grows : (p : Plan) (e : Entry) (q : Record) (s i : ℕ) → is_bind_answer s i e ≡ false → is_adopt_answer s i e ≡ false → is_spent p q s i ≡ true → is_spent p (e ∷ q) s i ≡ true
+spent-grows : (p : Plan) (e : Entry) (q : Record) (s i : ℕ) → is_bind_answer s i e ≡ false → is_adopt_answer s i e ≡ false → is_spent p q s i ≡ true
+    → is_spent p (e ∷ q) s i ≡ true
 spent-grows p e q s i unbound unadopted h = elim (or_cases (is_ask_open q s i) (is_held p q s i || has_failed p q s) h) [
   | inl asked ↦ spent-asked p (e ∷ q) s i (elim (or_cases (is_bind_open q s i) (is_adopt_open q s i) asked) [
-    | inl bind ↦ or_left (is_bind_open (e ∷ q) s i) (is_adopt_open (e ∷ q) s i) (open-stays (is_bind s i e) (is_bind_answer s i e) (is_bind_open q s i) unbound bind)
-    | inr adopt ↦ or_right (is_bind_open (e ∷ q) s i) (is_adopt_open (e ∷ q) s i) (open-stays (is_adopt s i e) (is_adopt_answer s i e) (is_adopt_open q s i) unadopted adopt)
+    | inl bind ↦ or_left (is_bind_open (e ∷ q) s i) (is_adopt_open (e ∷ q) s i)
+        (open-stays (is_bind s i e) (is_bind_answer s i e) (is_bind_open q s i) unbound bind)
+    | inr adopt ↦ or_right (is_bind_open (e ∷ q) s i) (is_adopt_open (e ∷ q) s i)
+        (open-stays (is_adopt s i e) (is_adopt_answer s i e) (is_adopt_open q s i) unadopted adopt)
   ])
   | inr rest ↦ elim (or_cases (is_held p q s i) (has_failed p q s) rest) [
     | inl held ↦ spent-held p (e ∷ q) s i (held-grows p e q s i held)
@@ -83,11 +86,13 @@ runs-grows : (p : Plan) (e : Entry) (q : Record) → runs p q ≡ true → runs 
 runs-grows p e q h =
     let parts = and_parts (may_begin p q) (not p.eager || has is_bootstrap_complete q) h in
     and_from (may_begin p (e ∷ q)) (not p.eager || has is_bootstrap_complete (e ∷ q)) (or-grows (not p.daemon) (is_side_child e) (has is_side_child q) parts.0)
-      (or-grows (not p.eager) (is_bootstrap_complete e) (has is_bootstrap_complete q) parts.1)
+    (or-grows (not p.eager) (is_bootstrap_complete e) (has is_bootstrap_complete q) parts.1)
 
-started-runs : (p : Plan) (q : Record) (s : ℕ) → EachEntry (λ e before. fork_first p e before ≡ true) q → EachEntry (λ e before. start_after_boot p e before ≡ true) q → is_started q s ≡ true → runs p q ≡ true
+started-runs : (p : Plan) (q : Record) (s : ℕ) → EachEntry (λ e before. fork_first p e before ≡ true) q
+    → EachEntry (λ e before. start_after_boot p e before ≡ true) q → is_started q s ≡ true → runs p q ≡ true
 started-runs p [] s fork boot h = absurd (cc)
-started-runs p (Told (Start t) ∷ q) s fork boot h = runs-grows p (Told (Start t)) q (and_from (may_begin p q) (not p.eager || has is_bootstrap_complete q) (fork-runs p.daemon (has is_side_child q) fork.0) boot.0)
+started-runs p (Told (Start t) ∷ q) s fork boot h = runs-grows p (Told (Start t)) q
+    (and_from (may_begin p q) (not p.eager || has is_bootstrap_complete q) (fork-runs p.daemon (has is_side_child q) fork.0) boot.0)
 started-runs p (e ∷ q) s fork boot h = runs-grows p e q (started-runs p q s fork.1 boot.1 h)
 
 from-start : (p : Plan) (q : Record) (s : ℕ) → BootRight p q → is_started q s ≡ true → from_the_start q ≡ true
@@ -107,7 +112,8 @@ missing-unheld p q s (x ∷ xs) j h = elim (cases_Bool (is_held p q s x)) [
     same x j e = cc
 
 -- an endpoint whose address is live, and before which all are held, waits only for an answer
-live-waits : (p : Plan) (q : Record) (s i : ℕ) → ((k : ℕ) → k < i → is_held p q s k ≡ true) → has_live p q (address p s i) ≡ true → waits p q s i ≡ true → is_ask_open q s i ≡ true
+live-waits : (p : Plan) (q : Record) (s i : ℕ) → ((k : ℕ) → k < i → is_held p q s k ≡ true) → has_live p q (address p s i) ≡ true → waits p q s i ≡ true
+    → is_ask_open q s i ≡ true
 live-waits p q s i earlier live h = elim (cases_Option (first_missing p q s (endpoint_numbers p s))) [
   | inl none ↦ absurd (let off = subst (λ m. waits_from p q s i m ≡ true) none h in cc)
   | inr some ↦ at some.0 some.1
@@ -125,7 +131,8 @@ live-waits p q s i earlier live h = elim (cases_Option (first_missing p q s (end
           | inr ge ↦ (let low = leb-true j i parts.0 in
               let same : j ≡ i = omega (arith, low) in
               let here : waits_at p q s i ≡ true = subst (λ k. waits_at p q s k ≡ true) same parts.1 in
-              alone (is_ask_open q s i) (not (has_failed p q s)) (not (is_held p q s i)) (in_use_within (now q) q s i) (has_live p q (address p s i)) (is_busy_elsewhere p q (address p s i)) live here)
+              alone (is_ask_open q s i) (not (has_failed p q s)) (not (is_held p q s i)) (in_use_within (now q) q s i) (has_live p q (address p s i))
+              (is_busy_elsewhere p q (address p s i)) live here)
         ]
 
 -- what is known of a record and of what follows in its step: more was told, and then the step ends
@@ -172,13 +179,16 @@ module _ (p : Plan) (s i : ℕ) where
         pair = pair-later one.0 (address p s i) (descriptors_of p (Got e)) (opened_descriptors p b) pair.0;
         unclosed = stays-open p s i b e more over n.fits n.due ends.1 one.0 n.once before.closes ends.0 (live-opened p b one.0 (address p s i) one.1) pair.1;
       }
-  still-open (Told a ∷ q) more n over = let was = still-open q (a ∷ more) (step-told p a q more n) over in record { fd = was.fd; pair = was.pair; unclosed = was.unclosed }
+  still-open (Told a ∷ q) more n over =
+      let was = still-open q (a ∷ more) (step-told p a q more n) over in
+      record { fd = was.fd; pair = was.pair; unclosed = was.unclosed }
 
   -- so the address is live
   still-live : (q : Record) (more : List Action) → InStep p q more → follows_overtaken p q s i ≡ true → has_live p q (address p s i) ≡ true
   still-live q more n over =
       let open_one = still-open q more n over in
-      let unclosed = false_from_ne_true (has (is_close open_one.fd) q) (λ closed. clash (has (is_close open_one.fd) (tell q more)) (has-stays (is_close open_one.fd) q more closed) open_one.unclosed) in
+      let unclosed = false_from_ne_true (has (is_close open_one.fd) q)
+      (λ closed. clash (has (is_close open_one.fd) (tell q more)) (has-stays (is_close open_one.fd) q more closed) open_one.unclosed) in
       by (address p s i) open_one.fd open_one.pair unclosed
     where
       none-pair : (fd : ℕ) (xs : List Descriptor) → has_pair fd None xs ≡ true → ⊥
@@ -212,7 +222,8 @@ module _ (p : Plan) (s i : ℕ) where
   bind-was-open : (e : Event) (b : Record) → event_fits p (Got e) b ≡ true → is_overtaken p s i e b ≡ true → is_bind_open b s i ≡ true
   bind-was-open (InUse t j) b fit over =
       let both = and_parts (t == s) (j == i) (and_parts (t == s && j == i) (has_live p b (address p s i)) over).0 in
-      subst (λ u. is_bind_open b u i ≡ true) (eqb-true t s both.0) (subst (λ k. is_bind_open b t k ≡ true) (eqb-true j i both.1) (and_parts (not (has_ended p b)) (is_bind_open b t j) fit).1)
+      subst (λ u. is_bind_open b u i ≡ true) (eqb-true t s both.0)
+      (subst (λ k. is_bind_open b t k ≡ true) (eqb-true j i both.1) (and_parts (not (has_ended p b)) (is_bind_open b t j) fit).1)
   bind-was-open (Bound t j fd) b fit over =
       let both = and_parts (t == s) (j == i) (and_parts (t == s && j == i) (has_live p b (address p t j)) over).0 in
       let asked = (and_parts (is_bind_open b t j) (is_new b fd) (and_parts (not (has_ended p b)) (fits_row p b (Bound t j fd)) fit).1).0 in
@@ -223,11 +234,15 @@ module _ (p : Plan) (s i : ℕ) where
     pub started : is_started q s ≡ true
     pub earlier : (k : ℕ) → k < i → is_held p q s k ≡ true
 
-  was-asked : (q : Record) → EachEntry (λ e before. event_fits p e before ≡ true) q → EachEntry (λ e before. ask_due p e before ≡ true) q → follows_overtaken p q s i ≡ true → WasAsked q
+  was-asked : (q : Record) → EachEntry (λ e before. event_fits p e before ≡ true) q → EachEntry (λ e before. ask_due p e before ≡ true) q
+      → follows_overtaken p q s i ≡ true → WasAsked q
   was-asked [] fits due h = absurd (cc)
   was-asked (Got e ∷ b) fits due over =
       let asked = bind-was-open e b fits.0 over in
-      record { started = or_right (is_start s (Got e)) (is_started b s) (bind-started p s i b due.1 asked); earlier = λ k lt. held-grows p (Got e) b s k (bind-earlier p s i k lt b due.1 asked) }
+      record {
+        started = or_right (is_start s (Got e)) (is_started b s) (bind-started p s i b due.1 asked);
+        earlier = λ k lt. held-grows p (Got e) b s k (bind-earlier p s i k lt b due.1 asked);
+      }
   was-asked (Told a ∷ q) fits due over =
       let was = was-asked q fits.1 due.1 over in
       record { started = or_right (is_start s (Told a)) (is_started q s) was.started; earlier = λ k lt. held-grows p (Told a) q s k (was.earlier k lt) }
@@ -241,16 +256,18 @@ module _ (p : Plan) (s i : ℕ) where
         let late = on_true (from_the_start q) (EndpointsRightLate p q) (from-start p q s right.boot was.started) right.endpoints_late s i inside within in
         elim (cases_Bool (has_failed p q s)) [
           | inl failed ↦ spent-failed p q s i failed
-          | inr free ↦ elim (or_cases (is_held p q s i) (waits p q s i) (works (is_started q s) (has_failed p q s) (is_held p q s i || waits p q s i) was.started free late)) [
-            | inl held ↦ spent-held p q s i held
-            | inr waiting ↦ spent-asked p q s i (live-waits p q s i was.earlier (still-live q [] n over) waiting)
-          ]
+          | inr free ↦ elim (or_cases (is_held p q s i) (waits p q s i)
+              (works (is_started q s) (has_failed p q s) (is_held p q s i || waits p q s i) was.started free late)) [
+                | inl held ↦ spent-held p q s i held
+                | inr waiting ↦ spent-asked p q s i (live-waits p q s i was.earlier (still-live q [] n over) waiting)
+              ]
         ]
       where
         works : (st f x : Bool) → st ≡ true → f ≡ false → (not (st && not f) || x) ≡ true → x ≡ true
         works st f x y z h = grind arith
 
-    offered-each : (q : Record) (more : List Action) → InStep p q more → EachEarlier (λ before. follows_overtaken p before s i ≡ true → is_spent p before s i ≡ true) q
+    offered-each : (q : Record) (more : List Action) → InStep p q more
+        → EachEarlier (λ before. follows_overtaken p before s i ≡ true → is_spent p before s i ≡ true) q
     offered-each [] more n = tt
     offered-each (Got e ∷ b) more n = let was = step-got p e b more n in (offered b (going-on p e b n.fits.0) was, offered-each b [] was)
     offered-each (Told a ∷ q) more n = offered-each q (a ∷ more) (step-told p a q more n)
@@ -264,26 +281,32 @@ module _ (p : Plan) (s i : ℕ) where
     under-limit : (q : Record) → has_failed p q s ≡ false → in_use_count p q s i < bind_limit p s i
     under-limit q free = leb-false (in_use_limit p s i) (in_use_count p q s i)
         (false_from_ne_true (nat_le (in_use_limit p s i) (in_use_count p q s i)) (λ over. clash (has_failed p q s)
-          (at0 (λ k. has (is_failure s k) q || nat_le (in_use_limit p s k) (in_use_count p q s k)) (length (endpoints p s)) i within (or_right (has (is_failure s i) q) (nat_le (in_use_limit p s i) (in_use_count p q s i)) over)) free))
+        (at0 (λ k. has (is_failure s k) q || nat_le (in_use_limit p s k) (in_use_count p q s k)) (length (endpoints p s)) i within
+        (or_right (has (is_failure s i) q) (nat_le (in_use_limit p s i) (in_use_count p q s i)) over)) free))
 
     -- what is told
-    after-told : (a : Action) (q : Record) → BoundSoFar q → ask_due p (Told a) q ≡ true → (is_bind s i (Told a) && follows_overtaken p q s i) ≡ false → BoundSoFar (Told a ∷ q)
+    after-told : (a : Action) (q : Record) → BoundSoFar q → ask_due p (Told a) q ≡ true → (is_bind s i (Told a) && follows_overtaken p q s i) ≡ false
+        → BoundSoFar (Told a ∷ q)
     after-told a q was due unbound = elim (cases_Bool (is_bind s i (Told a))) [
       | inl here ↦ (let turn = (bind-turn p (Told a) q s i here due).0 in
           let few = was.free (turn-free p q s i turn) (second (is_bind s i (Told a)) (follows_overtaken p q s i) here unbound) in
           let under = under-limit q turn.free in
-          let counted : times (is_bind s i) (Told a ∷ q) ≡ times (is_bind s i) q + 1 = ap (λ b. if b then times (is_bind s i) q + 1 else times (is_bind s i) q) here in
+          let counted : times (is_bind s i) (Told a ∷ q) ≡ times (is_bind s i) q + 1 =
+          ap (λ b. if b then times (is_bind s i) q + 1 else times (is_bind s i) q) here in
           record {
             at_most = omega (arith, few, under, counted);
             one_more = omega (arith, few, counted);
-            free = λ spent over. absurd (clash (is_spent p (Told a ∷ q) s i) (spent-asked p (Told a ∷ q) s i (or_left (is_bind_open (Told a ∷ q) s i) (is_adopt_open (Told a ∷ q) s i)
-              (ap (λ b. if b then true else is_bind_open q s i) here))) spent);
+            free = λ spent over. absurd (clash (is_spent p (Told a ∷ q) s i)
+                (spent-asked p (Told a ∷ q) s i (or_left (is_bind_open (Told a ∷ q) s i) (is_adopt_open (Told a ∷ q) s i)
+                (ap (λ b. if b then true else is_bind_open q s i) here))) spent);
           })
-      | inr other ↦ (let same : times (is_bind s i) (Told a ∷ q) ≡ times (is_bind s i) q = ap (λ b. if b then times (is_bind s i) q + 1 else times (is_bind s i) q) other in
+      | inr other ↦ (let same : times (is_bind s i) (Told a ∷ q) ≡ times (is_bind s i) q =
+          ap (λ b. if b then times (is_bind s i) q + 1 else times (is_bind s i) q) other in
           record {
             at_most = rw same was.at_most;
             one_more = rw same was.one_more;
-            free = λ spent over. rw same (was.free (false_from_ne_true (is_spent p q s i) (λ before. clash (is_spent p (Told a ∷ q) s i) (spent-grows p (Told a) q s i refl refl before) spent)) over);
+            free = λ spent over. rw same (was.free (false_from_ne_true (is_spent p q s i)
+                (λ before. clash (is_spent p (Told a ∷ q) s i) (spent-grows p (Told a) q s i refl refl before) spent)) over);
           })
     ]
       where
@@ -302,8 +325,10 @@ module _ (p : Plan) (s i : ℕ) where
     here-is t j h = let both = and_parts (t == s) (j == i) h in (eqb-true t s both.0, eqb-true j i both.1)
 
     failure-fails : (e : Event) (q : Record) → is_failure s i (Got e) ≡ true → has_failed p (Got e ∷ q) s ≡ true
-    failure-fails e q h = at0 (λ k. has (is_failure s k) (Got e ∷ q) || nat_le (in_use_limit p s k) (in_use_count p (Got e ∷ q) s k)) (length (endpoints p s)) i within
-        (or_left (has (is_failure s i) (Got e ∷ q)) (nat_le (in_use_limit p s i) (in_use_count p (Got e ∷ q) s i)) (or_left (is_failure s i (Got e)) (has (is_failure s i) q) h))
+    failure-fails e q h = at0 (λ k. has (is_failure s k) (Got e ∷ q) || nat_le (in_use_limit p s k) (in_use_count p (Got e ∷ q) s k))
+        (length (endpoints p s)) i within
+        (or_left (has (is_failure s i) (Got e ∷ q)) (nat_le (in_use_limit p s i) (in_use_count p (Got e ∷ q) s i))
+        (or_left (is_failure s i (Got e)) (has (is_failure s i) q) h))
 
     answered : (e : Event) (q : Record) → event_fits p (Got e) q ≡ true → (is_bind_answer s i (Got e) || is_adopt_answer s i (Got e)) ≡ true
         → (is_spent p (Got e ∷ q) s i ≡ true) ⊎ ((is_overtaken p s i e q ≡ true) ⊎ (in_use_count p (Got e ∷ q) s i ≡ in_use_count p q s i + 1))
@@ -323,12 +348,14 @@ module _ (p : Plan) (s i : ℕ) where
     answered (AdoptFailed t j) q fit h = inl (spent-failed p (Got (AdoptFailed t j) ∷ q) s i (failure-fails (AdoptFailed t j) q h))
     answered (Adopted t j) q fit h =
         let both = here-is t j h in
-        let asked : is_adopt_open q s i ≡ true = subst (λ u. is_adopt_open q u i ≡ true) both.0 (subst (λ k. is_adopt_open q t k ≡ true) both.1 (and_parts (not (has_ended p q)) (is_adopt_open q t j) fit).1) in
+        let asked : is_adopt_open q s i ≡ true = subst (λ u. is_adopt_open q u i ≡ true) both.0
+        (subst (λ k. is_adopt_open q t k ≡ true) both.1 (and_parts (not (has_ended p q)) (is_adopt_open q t j) fit).1) in
         inl (spent-held p (Got (Adopted t j) ∷ q) s i (held-now p (Got (Adopted t j)) q s i (rw h (adopt-some p s i q asked))))
     answered _ q fit h = absurd (cc)
 
     -- what is got
-    after-got : (e : Event) (q : Record) → BoundSoFar q → event_fits p (Got e) q ≡ true → (follows_overtaken p q s i ≡ true → is_spent p q s i ≡ true) → BoundSoFar (Got e ∷ q)
+    after-got : (e : Event) (q : Record) → BoundSoFar q → event_fits p (Got e) q ≡ true → (follows_overtaken p q s i ≡ true → is_spent p q s i ≡ true)
+        → BoundSoFar (Got e ∷ q)
     after-got e q was fit offers =
         let more = counts (is_in_use s i (Got e) && not (has_live p q (address p s i))) (in_use_count p q s i) in
         let few = was.one_more in
@@ -337,8 +364,10 @@ module _ (p : Plan) (s i : ℕ) where
           one_more = omega (arith, few, more);
           free = λ spent over. elim (cases_Bool (is_bind_answer s i (Got e) || is_adopt_answer s i (Got e))) [
             | inr other ↦ (let parts = or_parts (is_bind_answer s i (Got e)) (is_adopt_answer s i (Got e)) other in
-                let unspent = false_from_ne_true (is_spent p q s i) (λ before. clash (is_spent p (Got e ∷ q) s i) (spent-grows p (Got e) q s i parts.0 parts.1 before) spent) in
-                let below = was.free unspent (false_from_ne_true (follows_overtaken p q s i) (λ was_over. clash (is_spent p q s i) (offers was_over) unspent)) in
+                let unspent = false_from_ne_true (is_spent p q s i)
+                (λ before. clash (is_spent p (Got e ∷ q) s i) (spent-grows p (Got e) q s i parts.0 parts.1 before) spent) in
+                let fresh = false_from_ne_true (follows_overtaken p q s i) (λ was_over. clash (is_spent p q s i) (offers was_over) unspent) in
+                let below = was.free unspent fresh in
                 omega (arith, below, more))
             | inl answer ↦ elim (answered e q fit answer) [
               | inl now_spent ↦ absurd (clash (is_spent p (Got e ∷ q) s i) now_spent spent)
@@ -351,7 +380,8 @@ module _ (p : Plan) (s i : ℕ) where
         }
 
     bound-so-far : (q : Record) → EachEntry (λ e before. event_fits p e before ≡ true) q → EachEntry (λ e before. ask_due p e before ≡ true) q
-        → EachEntry (λ e before. (is_bind s i e && follows_overtaken p before s i) ≡ false) q → EachEarlier (λ before. follows_overtaken p before s i ≡ true → is_spent p before s i ≡ true) q → BoundSoFar q
+        → EachEntry (λ e before. (is_bind s i e && follows_overtaken p before s i) ≡ false) q
+        → EachEarlier (λ before. follows_overtaken p before s i ≡ true → is_spent p before s i ≡ true) q → BoundSoFar q
     bound-so-far [] fits due unbound offers = record { at_most = omega arith; one_more = omega arith; free = λ spent over. omega arith }
     bound-so-far (Got e ∷ q) fits due unbound offers = after-got e q (bound-so-far q fits.1 due.1 unbound.1 offers.1) fits.0 offers.0
     bound-so-far (Told a ∷ q) fits due unbound offers = after-told a q (bound-so-far q fits.1 due.1 unbound.1 offers) due.0 unbound.0
@@ -359,5 +389,6 @@ module _ (p : Plan) (s i : ℕ) where
 -- in a right record each endpoint is bound thirty times at most, and a Unix one once
 pub binds-few : (p : Plan) (q : Record) → Right p q → (s i : ℕ) → s < service_count p → i < length (endpoints p s) → times (is_bind s i) q ≤ bind_limit p s i
 binds-few p q right s i inside within =
-    let known : InStep p q [] = record { settled = right.settled.0; once = right.stronger.closes; due = right.asks.in_turn; fits = right.fits; earlier = right.settled.1 } in
+    let known : InStep p q [] =
+    record { settled = right.settled.0; once = right.stronger.closes; due = right.asks.in_turn; fits = right.fits; earlier = right.settled.1 } in
     (bound-so-far p s i inside within q right.fits right.asks.in_turn (unbound p s i q [] known) (offered-each p s i inside within q [] known)).at_most

@@ -5,6 +5,7 @@ pub mod TurnLemmas
 pub mod OvertakenLemmas
 pub mod BindsLemmas
 pub mod GivingUpLemmas
+mod GivenUp
 pub mod OfferedLemmas
 pub mod CoveredLemmas
 pub mod ReceivedLemmas
@@ -18,4 +19,4 @@ pub mod OperatorLemmas
 pub mod ReachLemmas
 pub mod OperatorLaw
 pub mod RunLemmas
-pub mod LackingPremises
+mod LackingPremises

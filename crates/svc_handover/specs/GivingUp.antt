@@ -4,7 +4,7 @@ use Rattle.svc_record.specs.declared.plan.Plan.{Plan}
 use Rattle.svc_record.specs.declared.entry.Entry.{Entry}
 use Rattle.svc_record.specs.declared.entry.Entry.TheVariants.{Told}
 use Rattle.svc_record.specs.declared.action.Action.TheVariants.{Close}
-use Rattle.svc_record.specs.Record.{Record, before_runtimes, each_entry}
+use Rattle.svc_record.specs.Record.{Record, before_runtimes, each_entry, each_earlier}
 use Rattle.svc_record.specs.Descriptors.{address_of, is_doubled}
 use Rattle.svc_record.specs.Closes.{is_received, is_address_unclaimed, is_address_abandoned, is_drained}
 use Rattle.svc_record.specs.Offer.{is_held_back}
@@ -31,6 +31,10 @@ abbrev pub is_caused : Plan → Record → Entry → Bool
 is_caused p q (Told (Close fd)) = is_doubled p q fd || has_cause p q fd
 is_caused p q _ = true
 
--- each close before the end is so, by what is said before the end
+-- each close that q tells is so
+abbrev pub are_caused : Plan → Record → Bool
+are_caused p q = each_entry (λ e before. is_caused p q e) q
+
+-- each close before the end has its cause at the end of the step that tells it, and from then on
 abbrev pub gives_up_rightly : Plan → Record → Bool
-gives_up_rightly p q = each_entry (λ e before. is_caused p (before_end p q) e) (before_end p q)
+gives_up_rightly p q = each_earlier (are_caused p) q && are_caused p (before_end p q)
