@@ -16,6 +16,7 @@ use svc_core::Plan;
 /// The servers begin, the old one first. Each step has to fit its server's record and the channel
 /// between them; the first that doesn't is refused by its number, from one (`Stray`). No call waits,
 /// and no socket is touched: the schedule says what the system answers.
+#[tactic(none)]
 pub fn handover_law(
     alloc: Global,
     old: Plan,
@@ -27,12 +28,16 @@ pub fn handover_law(
     ensures hands_over { IfOk result (λ run. Gives old new schedule.now (list_of run.old) (list_of run.new) run.channel) }
     ensures stray { (k : ℕ) → result ≡ Err (PairRefused.Stray k) → RefusesAt old new schedule.now k }
 {
-    let mut servers = Servers::begin(alloc, old, new)?;
+    let Ok(mut servers) = Servers::begin(alloc, old, new) else {
+        return Err(PairRefused::NoMemory);
+    };
     for (index, step) in schedule.iter().enumerate() {
         if !servers.allows(step) {
             return Err(PairRefused::Stray(index as u64 + 1));
         }
-        servers.take(alloc, step)?;
+        let Ok(()) = servers.take(alloc, step) else {
+            return Err(PairRefused::NoMemory);
+        };
     }
     Ok(servers.into_run())
 }
