@@ -1,6 +1,6 @@
 -- The run of a schedule: how it begins, how it grows by a step, and what it gives.
 use Rattle.std.proofs.Common.{ℕ, Bool, true, false, ◌+◌, ◌<◌, List, [], ◌∷◌, ◌++◌, ◌≡◌, ◌&&◌, ◌↔◌, suc, refl, ap, sym, ◌∙◌, subst, arith, length, take, drop, get_or, append_assoc, drop-cons, if◌then◌else◌}
-use Rattle.std.specs.Prelude.{reverse}
+use Rattle.std.specs.Prelude.{reverse, Result, Ok, Err, Option, Some, None}
 use Rattle.std.proofs.lemmas.List.{append-nil, reverse-append, reverse-reverse, take-append-drop, length-take-le}
 use Rattle.svc_conf.specs.Items.{list_of}
 use Rattle.svc_record.specs.declared.plan.Plan.{Plan}
@@ -17,6 +17,9 @@ use Rattle.svc_core.specs.CoreData.{CoreData}
 use Rattle.svc_handover.specs.declared.pair.PairStep.{PairStep}
 use Rattle.svc_handover.specs.declared.pair.ChannelState.{ChannelState}
 use Rattle.svc_handover.specs.declared.pair.ChannelState.TheVariants.{Missing}
+use Rattle.svc_handover.specs.declared.pair.PairRun.{PairRun}
+use Rattle.svc_handover.specs.declared.pair.PairRefused.{PairRefused}
+use Rattle.svc_handover.specs.declared.pair.PairRefused.TheVariants.{Stray, NoMemory}
 use Rattle.svc_handover.specs.declared.recorded.Recorded.{Recorded}
 use Rattle.svc_handover.specs.declared.servers.Servers.{Servers}
 use Rattle.svc_handover.specs.Channel.{after_old, after_new, after_told}
@@ -194,3 +197,18 @@ gives p n schedule servers old new channel runs old_is new_is channel_is = recor
   new_is = new_is ∙ sym (reverse-reverse (list_of servers.successor.entries)) ∙ ap (λ (xs : List Entry). reverse xs) runs.new_is;
   channel_is = channel_is ∙ runs.channel_is;
 }
+
+-- which number an answer names, if it is that of a stray step
+abbrev number_of : Result PairRun PairRefused → Option ℕ
+number_of (Err (Stray k)) = Some k
+number_of (Err NoMemory) = None
+number_of (Ok run) = None
+
+pub same-number : (j k : ℕ) → ◌≡◌ {A = Result PairRun PairRefused} (Err (Stray j)) (Err (Stray k)) → k ≡ j
+same-number j k e = let same : Some k ≡ Some j = ap number_of (sym e) in cc
+
+pub no-memory-strays : (k : ℕ) → ◌≡◌ {A = Result PairRun PairRefused} (Err NoMemory) (Err (Stray k)) → ⊥
+no-memory-strays k e = let other : ◌≡◌ {A = Option ℕ} None (Some k) = ap number_of e in cc
+
+pub ok-strays : (run : PairRun) (k : ℕ) → ◌≡◌ {A = Result PairRun PairRefused} (Ok run) (Err (Stray k)) → ⊥
+ok-strays run k e = let other : ◌≡◌ {A = Option ℕ} None (Some k) = ap number_of e in cc

@@ -16,7 +16,6 @@ use svc_core::Plan;
 /// The servers begin, the old one first. Each step has to fit its server's record and the channel
 /// between them; the first that doesn't is refused by its number, from one (`Stray`). No call waits,
 /// and no socket is touched: the schedule says what the system answers.
-#[tactic(none)]
 pub fn handover_law(
     alloc: Global,
     old: Plan,
