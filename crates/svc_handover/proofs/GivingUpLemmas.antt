@@ -36,7 +36,7 @@ module _ (p : Plan) (at : Record) (once : EachEntry (λ e before. close_once p e
   all-caused [] within = refl
   all-caused (Told (Close fd) ∷ x) within = and_from (is_doubled p at fd || has_cause p at fd) (each_entry (λ e before. is_caused p at e) x)
       (cause fd (within fd (or_left (fd == fd) (has (is_close fd) x) (eq-eqb fd fd refl))))
-          (all-caused x (λ n h. within n (or_right (is_close n (Told (Close fd))) (has (is_close n) x) h)))
+      (all-caused x (λ n h. within n (or_right (is_close n (Told (Close fd))) (has (is_close n) x) h)))
   all-caused (e ∷ x) within = all-caused x (λ n h. within n (or_right (is_close n e) (has (is_close n) x) h))
 
 -- at the end of each step but the last
@@ -46,7 +46,7 @@ earlier-caused p [] fits once settled = refl
 earlier-caused p (Got e ∷ b) fits once settled =
     let going = not-true (has_ended p b) (and_parts (not (has_ended p b)) (fits_row p b e) fits.0).0 in
     and_from (are_caused p b) (each_earlier (are_caused p) b) (all-caused p b once.1 (open-settled p b going settled.0).closes b (λ fd h. h))
-        (earlier-caused p b fits.1 once.1 settled.1)
+    (earlier-caused p b fits.1 once.1 settled.1)
 earlier-caused p (Told a ∷ q) fits once settled = earlier-caused p q fits.1 once.1 settled
 
 -- before the end
@@ -58,11 +58,11 @@ last-caused core q stand right = by (has_passed core.plan q) refl
         let last = on_true (has_passed core.plan q) (LastStepRight core.plan (before_runtimes q)) passed right.stronger.last_step in
         let ends = (on_true (has_passed core.plan q) (PassedRight core.plan q) passed right.passed).served.drain.ends in
         let once = each-part (λ e before. close_once core.plan e before ≡ true) (before_runtimes q) (last_actions core.plan (before_runtimes q))
-            (subst (λ r. EachEntry (λ e before. close_once core.plan e before ≡ true) r) ends right.stronger.closes) in
+        (subst (λ r. EachEntry (λ e before. close_once core.plan e before ≡ true) r) ends right.stronger.closes) in
         all-caused core.plan (before_runtimes q) once last.closes (before_runtimes q) (λ fd h. h)
     by false goes =
         let unserved : is_served core.end ≡ false = off (is_served core.end)
-            (λ hit. clash (has_passed core.plan q) (served-passed core.plan q (subst (λ x. is_served x ≡ true) stand.end_is hit)) goes) in
+        (λ hit. clash (has_passed core.plan q) (served-passed core.plan q (subst (λ x. is_served x ≡ true) stand.end_is hit)) goes) in
         all-caused core.plan q right.stronger.closes (stand.endpoints unserved).closes q (λ fd h. h)
       where
         clash : (c : Bool) → c ≡ true → c ≡ false → ⊥

@@ -72,7 +72,8 @@ impl Servers {
             → result ≡ (fits n runs.world.new event.now
             && new_may runs.world.channel runs.world.old event.now) }
     {
-        self.successor.core.fits(event) && new_may(self.channel, self.predecessor.entries.as_slice(), event)
+        self.successor.core.fits(event)
+            && new_may(self.channel, self.predecessor.entries.as_slice(), event)
     }
 
     /// One step, which may come.

@@ -14,8 +14,8 @@ loop-index-preserved c =
     let before : List PairStep = take c.loop-index.index c.args.schedule.now in
     let step : PairStep = c.index-schedule-index.result in
     subst (λ (more : List PairStep). Runs c.args.old c.args.new more c.take.new.self)
-      (sym (take_more c.args.schedule.now c.loop-index.index step c.loop-index-test.true ∙ ap (λ (x : PairStep). before ++ x ∷ []) (sym c.index-schedule-index.is)))
-      (c.in-Ok-take.ensures.grows c.args.old c.args.new before c.loop-index.invariant (sym (c.allows.ensures.means c.args.old c.args.new before c.loop-index.invariant) ∙ c.if-not-allows.false))
+    (sym (take_more c.args.schedule.now c.loop-index.index step c.loop-index-test.true ∙ ap (λ (x : PairStep). before ++ x ∷ []) (sym c.index-schedule-index.is)))
+    (c.in-Ok-take.ensures.grows c.args.old c.args.new before c.loop-index.invariant (sym (c.allows.ensures.means c.args.old c.args.new before c.loop-index.invariant) ∙ c.if-not-allows.false))
 
 pub take-requires : goal.take-requires
 take-requires c = record { may = c.if-not-allows.ensures.may refl }
