@@ -1,5 +1,5 @@
 -- Addresses that were read are texts.
-use Rattle.std.proofs.Common.{ℕ, List, [], ◌∷◌, ◌≡◌, ◌<◌, refl, length, get_or, subst, inl, inr, Option, Some, None, IsUtf8}
+use Rattle.std.proofs.Common.{ℕ, List, ◌≡◌, refl, subst, Option, Some, None, IsUtf8}
 use Rattle.std.specs.Prelude.{All, slice_get}
 use Rattle.std.proofs.lemmas.Option.{get_or_from_slice_get, slice_get_within}
 use Rattle.std.proofs.lemmas.List.Elements.{All-get_or}

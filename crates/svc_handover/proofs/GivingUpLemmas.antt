@@ -1,14 +1,12 @@
 -- Each close is of a descriptor that is doubled, unclaimed, abandoned or drained, or stands after `ShutdownRuntimes`.
-use Rattle.std.proofs.Common.{ℕ, Bool, true, false, ◌||◌, ◌&&◌, not, ◌==◌, ◌⊎◌, List, [], ◌∷◌, ◌≡◌, refl, ap, sym, ◌∙◌, subst, arith, inl, inr, if◌then◌else◌}
+use Rattle.std.proofs.Common.{ℕ, Bool, true, false, ◌||◌, not, ◌==◌, [], ◌∷◌, ◌≡◌, refl, sym, ◌∙◌, subst, arith, if◌then◌else◌}
 use Rattle.std.proofs.lemmas.Bool.{and_parts, and_from, or_left, or_right, eq-eqb, not-true}
 use Rattle.svc_record.specs.declared.plan.Plan.{Plan}
-use Rattle.svc_record.specs.declared.entry.Entry.{Entry}
 use Rattle.svc_record.specs.declared.entry.Entry.TheVariants.{Got, Told}
-use Rattle.svc_record.specs.declared.action.Action.{Action}
 use Rattle.svc_record.specs.declared.action.Action.TheVariants.{Close}
-use Rattle.svc_record.specs.Record.{Record, has, tell, before_runtimes, EachEntry, EachEarlier, each_entry, each_earlier}
+use Rattle.svc_record.specs.Record.{Record, has, before_runtimes, EachEntry, EachEarlier, each_entry, each_earlier}
 use Rattle.svc_record.specs.Descriptors.{is_close, is_doubled}
-use Rattle.svc_record.specs.Closes.{ClosesRight, is_gone, is_drained, close_once}
+use Rattle.svc_record.specs.Closes.{ClosesRight, is_drained, close_once}
 use Rattle.svc_record.specs.Drain.{has_passed, last_actions}
 use Rattle.svc_record.specs.Ends.{has_ended}
 use Rattle.svc_record.specs.Fits.{event_fits, fits_row}

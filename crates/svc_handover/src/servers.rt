@@ -1,6 +1,6 @@
 //! The two servers of a handover, and how far it has come.
 
-ghost use Rattle.std.specs.Prelude.{◌≡◌, ◌&&◌, ℕ, List, [], true, false, IsTrue, IfOk, OnOk};
+ghost use Rattle.std.specs.Prelude.{◌≡◌, ◌&&◌, List, [], true, false, IsTrue, IfOk, OnOk};
 ghost use Rattle.svc_conf.specs.Items.{list_of};
 ghost use Rattle.svc_record.specs.declared.plan.Plan.{Plan};
 ghost use Rattle.svc_record.specs.Fits.{fits};
