@@ -1,13 +1,14 @@
 -- Segments, and what one list of them says over another.
-use Rattle.std.proofs.Common.{◌≡◌, ℕ, ◌+◌, ◌-◌, ◌*◌, ◌^◌, ◌<◌, ◌≤◌, Bool, true, false, leb, List, [], ◌∷◌, ◌++◌, length, take, drop, Option, Some, None, inl, inr, refl, sym, subst, ap, ◌∙◌, arith, lit≤, length-append, take-append-drop}
+use Rattle.std.proofs.Common.{◌≡◌, ℕ, ◌+◌, ◌-◌, ◌*◌, ◌^◌, ◌<◌, ◌≤◌, Bool, true, false, leb, List, [], ◌∷◌, ◌++◌, length, get_or, take, drop, Option, Some, None, inl, inr, refl, sym, subst, ap, ◌∙◌, arith, lit≤, length-append}
 use Rattle.std.specs.Prelude.{nat_lt, nat_le, ◌==◌, if◌then◌else◌}
 use Rattle.std.specs.Option.{option_or}
 use Rattle.std.proofs.lemmas.Bool.{cases_lt, lt-leb, le-leb}
 use Rattle.std.proofs.lemmas.Bool.Decides.{nat_tests}
+use Rattle.std.proofs.lemmas.List.{take-append-drop}
 use Rattle.svc_gate.specs.declared.rules.GateRule.{GateRule}
 use Rattle.svc_gate.specs.declared.segments.Segment.{Segment}
-use Rattle.svc_gate.specs.Rules.{is_of, is_held, first_allow}
-use Rattle.svc_gate.specs.Segments.{found_from, found_in, Ascends, segments_by, next_begin, word_at, rest_at}
+use Rattle.svc_gate.specs.Rules.{is_held, first_allow}
+use Rattle.svc_gate.specs.Segments.{found_from, found_in, FindsFirst, FindsEither, Ascends, next_begin, word_at, rest_at}
 
 -- segments that ascend from one number to another ascend from each lower one to each higher one
 pub Ascends-low : (low : ℕ) (segments : List Segment) (high : ℕ) → Ascends low segments high → low ≤ high
@@ -214,3 +215,24 @@ overlays_pushed first second low a upper b lower made from a' upper' b' lower' m
 pub overlaid_ascends : (first second : List Segment) (low : ℕ) (a : Option Bool) (upper : List Segment) (b : Option Bool) (lower made : List Segment)
     → Overlays first second low a upper b lower made → Ascends 0 made (2 ^ 128)
 overlaid_ascends first second low a upper b lower made o = Ascends-to_lower 0 made low (2 ^ 128) o.fits o.ascend
+
+-- the first rule of two lists, one behind the other
+one_more : (held : Bool) (allow : Bool) (more a b : Option Bool) → more ≡ option_or a b → (if held then Some allow else more) ≡ option_or (if held then Some allow else a) b
+one_more true allow more a b e = refl
+one_more false allow more a b e = e
+
+pub first_allow-append : (v6 : Bool) (x : ℕ) (front back : List GateRule) → first_allow v6 x (front ++ back) ≡ option_or (first_allow v6 x front) (first_allow v6 x back)
+first_allow-append v6 x [] back = refl
+first_allow-append v6 x (rule ∷ front) back = one_more (is_held v6 x rule) rule.allow _ _ _ (first_allow-append v6 x front back)
+
+-- a list of one rule
+pub only_rule : (rules : List GateRule) (d : GateRule) → 1 ≤ length rules → length rules < 2 → get_or rules 0 d ∷ [] ≡ rules
+only_rule [] d some few = absurd (omega arith)
+only_rule (rule ∷ []) d some few = refl
+only_rule (rule ∷ more ∷ rules) d some few = absurd (omega arith)
+
+-- the rules of both halves
+pub halves_found : (v6 : Bool) (rules front back : List GateRule) (k : ℕ) (upper lower upper_now lower_now made : List Segment) → front ≡ take k rules → back ≡ drop k rules
+    → FindsFirst v6 front upper → FindsFirst v6 back lower → upper_now ≡ upper → lower_now ≡ lower → FindsEither upper_now lower_now made → FindsFirst v6 rules made
+halves_found v6 rules front back k upper lower upper_now lower_now made ef eb u l eu el e = λ x fits.
+    e x ∙ rw (eu, el, u x fits, l x fits) (sym (first_allow-append v6 x front back) ∙ ap (first_allow v6 x) (rw (ef, eb) (take-append-drop k rules)))

@@ -1,9 +1,7 @@
 //! The first rule that holds each number of a family: from the rules of both halves of a list.
 
-ghost use Rattle.std.specs.Prelude.{◌≡◌, ℕ, ◌*◌, ◌+◌, ◌^◌, ◌<◌, ◌≤◌, [], ◌∷◌, length, None, IfOk};
-ghost use Rattle.std.specs.Option.{option_or};
-ghost use Rattle.svc_gate.specs.Rules.{first_allow};
-ghost use Rattle.svc_gate.specs.Segments.{found_in, found_from, Ascends, segments_by, next_begin, word_at, rest_at};
+ghost use Rattle.std.specs.Prelude.{◌≡◌, ◌*◌, ◌+◌, ◌^◌, ◌≤◌, [], ◌∷◌, length, IfOk};
+ghost use Rattle.svc_gate.specs.Segments.{FindsFirst, FindsEither, Ascends, next_begin, word_at, rest_at};
 
 use crate::rules::{GateRule, is_of};
 use std::alloc::Global;
@@ -19,20 +17,23 @@ pub(crate) struct Segment {
 
 /// The segments of one rule, if it holds numbers of the family.
 fn segments_by(alloc: Global, rule: &GateRule, v6: bool) -> Result<Vec<Segment>, NoMemory>
-    ensures { IfOk result (λ segments. segments.items ≡ segments_by v6 rule.now) }
+    ensures ascend { IfOk result (λ segments. Ascends 0 segments.items (2 ^ 128)) }
+    ensures found { IfOk result (λ segments. FindsFirst v6 (rule.now ∷ []) segments.items) }
+    ensures few { IfOk result (λ segments. length segments.items ≤ 2) }
 {
     let mut segments = Vec::new(alloc);
-    if is_of(rule, v6) && rule.from <= rule.to {
+    if !is_of(rule, v6) || rule.from > rule.to {
+        return Ok(segments);
+    }
+    segments.push(Segment {
+        from: rule.from,
+        allow: Some(rule.allow),
+    })?;
+    if rule.to < u128::MAX {
         segments.push(Segment {
-            from: rule.from,
-            allow: Some(rule.allow),
+            from: rule.to + 1,
+            allow: None,
         })?;
-        if rule.to < u128::MAX {
-            segments.push(Segment {
-                from: rule.to + 1,
-                allow: None,
-            })?;
-        }
     }
     Ok(segments)
 }
@@ -66,7 +67,7 @@ fn overlay(alloc: Global, upper: &[Segment], lower: &[Segment]) -> Result<Vec<Se
     requires upper { Ascends 0 upper.now (2 ^ 128) }
     requires lower { Ascends 0 lower.now (2 ^ 128) }
     ensures ascend { IfOk result (λ segments. Ascends 0 segments.items (2 ^ 128)) }
-    ensures found { IfOk result (λ segments. (x : ℕ) → found_in segments.items x ≡ option_or (found_in upper.now x) (found_in lower.now x)) }
+    ensures found { IfOk result (λ segments. FindsEither upper.now lower.now segments.items) }
     ensures few { IfOk result (λ segments. length segments.items ≤ length upper.now + length lower.now) }
 {
     let mut segments = Vec::with_capacity(alloc, upper.len() + lower.len())?;
@@ -88,7 +89,7 @@ fn overlay(alloc: Global, upper: &[Segment], lower: &[Segment]) -> Result<Vec<Se
 /// The segments of all rules of the family.
 pub(crate) fn segments_of(alloc: Global, rules: &[GateRule], v6: bool) -> Result<Vec<Segment>, NoMemory>
     ensures ascend { IfOk result (λ segments. Ascends 0 segments.items (2 ^ 128)) }
-    ensures found { IfOk result (λ segments. (x : ℕ) → x < 2 ^ 128 → found_in segments.items x ≡ first_allow v6 x rules.now) }
+    ensures found { IfOk result (λ segments. FindsFirst v6 rules.now segments.items) }
     ensures few { IfOk result (λ segments. length segments.items ≤ 2 * length rules.now) }
 {
     match rules {
