@@ -2,7 +2,6 @@ pub mod MergedLemmas
 pub mod SegmentLemmas
 pub mod HalfLemmas
 pub mod WordLemmas
-pub mod GroupLemmas
 pub mod IpLemmas
 pub mod SpanLemmas
 pub mod ReadingLemmas

@@ -4,8 +4,6 @@ pub mod Segments
 pub mod Merged
 pub mod Ranges
 pub mod Words
-pub mod Cutting
-pub mod Groups
 pub mod Ips
 pub mod Only
 pub mod RuleLines
