@@ -1,6 +1,6 @@
 -- Segments, and what one list of them says over another.
-use Rattle.std.proofs.Common.{◌≡◌, ℕ, ◌+◌, ◌-◌, ◌*◌, ◌^◌, ◌<◌, ◌≤◌, Bool, true, false, leb, List, [], ◌∷◌, ◌++◌, length, get_or, take, drop, Option, Some, None, inl, inr, refl, sym, subst, ap, ◌∙◌, arith, lit≤, length-append}
-use Rattle.std.specs.Prelude.{nat_lt, nat_le, ◌==◌, if◌then◌else◌}
+use Rattle.std.proofs.Common.{◌≡◌, ℕ, ◌+◌, ◌^◌, ◌<◌, ◌≤◌, Bool, true, false, leb, List, [], ◌∷◌, ◌++◌, length, get_or, take, drop, Option, Some, None, inl, inr, refl, sym, subst, ap, ◌∙◌, arith, lit≤, length-append}
+use Rattle.std.specs.Prelude.{nat_le, ◌==◌, if◌then◌else◌}
 use Rattle.std.specs.Option.{option_or}
 use Rattle.std.proofs.lemmas.Bool.{cases_lt, lt-leb, le-leb}
 use Rattle.std.proofs.lemmas.Bool.Decides.{nat_tests}
@@ -159,18 +159,20 @@ step_before : (first second : List Segment) (low : ℕ) (a : Option Bool) (upper
 step_before first second low a upper b lower made from x o n lt =
     let push = found_from-push None 0 made low (made_at a upper b lower from) x n.behind o.ascend in
     elim (cases_lt x from) [
-      inr ge ↦
-        let here : x ≡ from = omega arith in
-        let above = word_at-found first low a upper from o.upper_follows n.behind n.fits n.upper_from in
-        let below = word_at-found second low b lower from o.lower_follows n.behind n.fits n.lower_from in
-        subst (λ y. found_in (made ++ made_at a upper b lower from ∷ []) y ≡ option_or (found_in first y) (found_in second y)) (sym here)
-        (found_from-push None 0 made low (made_at a upper b lower from) from n.behind o.ascend ∙ rw (le-leb from from (omega arith), above, below) refl)
-    | inl less ↦ elim (cases_lt x low) [
-        inl early ↦ push ∙ rw (lt-leb from x less) (o.before x early)
-      | inr late ↦
-          let above = word_before first low a upper from x o.upper_follows n.upper_from late less in
-          let below = word_before second low b lower from x o.lower_follows n.lower_from late less in
-          push ∙ rw (lt-leb from x less) (o.behind x late ∙ rw (above, below) refl) ] ]
+      | inr ge ↦
+          let here : x ≡ from = omega arith in
+          let above = word_at-found first low a upper from o.upper_follows n.behind n.fits n.upper_from in
+          let below = word_at-found second low b lower from o.lower_follows n.behind n.fits n.lower_from in
+          subst (λ y. found_in (made ++ made_at a upper b lower from ∷ []) y ≡ option_or (found_in first y) (found_in second y)) (sym here)
+          (found_from-push None 0 made low (made_at a upper b lower from) from n.behind o.ascend ∙ rw (le-leb from from (omega arith), above, below) refl)
+      | inl less ↦ elim (cases_lt x low) [
+        | inl early ↦ push ∙ rw (lt-leb from x less) (o.before x early)
+        | inr late ↦
+            let above = word_before first low a upper from x o.upper_follows n.upper_from late less in
+            let below = word_before second low b lower from x o.lower_follows n.lower_from late less in
+            push ∙ rw (lt-leb from x less) (o.behind x late ∙ rw (above, below) refl)
+      ]
+    ]
 
 pub overlays_step : (first second : List Segment) (low : ℕ) (a : Option Bool) (upper : List Segment) (b : Option Bool) (lower made : List Segment) (from : ℕ)
     → Overlays first second low a upper b lower made → next_begin upper lower ≡ Some from
@@ -192,8 +194,9 @@ overlays_step first second low a upper b lower made from o is =
 pub overlaid : (first second : List Segment) (low : ℕ) (a : Option Bool) (upper : List Segment) (b : Option Bool) (lower made : List Segment) (x : ℕ)
     → Overlays first second low a upper b lower made → next_begin upper lower ≡ None → found_in made x ≡ option_or (found_in first x) (found_in second x)
 overlaid first second low a [] b [] made x o is = elim (cases_lt x low) [
-    inl early ↦ o.before x early
-  | inr late ↦ o.behind x late ∙ rw (o.upper_follows.same x late, o.lower_follows.same x late) refl ]
+  | inl early ↦ o.before x early
+  | inr late ↦ o.behind x late ∙ rw (o.upper_follows.same x late, o.lower_follows.same x late) refl
+]
 overlaid first second low a (s ∷ more) b [] made x o is = absurd (cc)
 overlaid first second low a [] b (t ∷ rest) made x o is = absurd (cc)
 overlaid first second low a (s ∷ more) b (t ∷ rest) made x o is = absurd (both_begin s.from t.from (leb s.from t.from) is)

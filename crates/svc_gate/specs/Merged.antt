@@ -1,5 +1,5 @@
 -- Ranges, from segments.
-use Rattle.std.specs.Prelude.{ℕ, Bool, not, if◌then◌else◌, List, [], ◌∷◌, unwrap_or}
+use Rattle.std.specs.Prelude.{Bool, not, if◌then◌else◌, List, [], ◌∷◌, unwrap_or}
 use Rattle.svc_gate.specs.declared.counted.GateRange.{GateRange}
 use Rattle.svc_gate.specs.declared.segments.Segment.{Segment}
 

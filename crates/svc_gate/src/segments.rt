@@ -52,7 +52,11 @@ fn next_begin(upper: &[Segment], lower: &[Segment]) -> Option<u128>
 }
 
 /// What is said at a number before which no later segment begins, and the later segments.
-pub(crate) fn pass(allow: Option<bool>, segments: &[Segment], number: u128) -> (Option<bool>, &[Segment])
+pub(crate) fn pass(
+    allow: Option<bool>,
+    segments: &[Segment],
+    number: u128,
+) -> (Option<bool>, &[Segment])
     ensures word { result.0 ≡ word_at allow segments.now number }
     ensures rest { result.1.now ≡ rest_at segments.now number }
 {
@@ -87,7 +91,11 @@ fn overlay(alloc: Global, upper: &[Segment], lower: &[Segment]) -> Result<Vec<Se
 }
 
 /// The segments of all rules of the family.
-pub(crate) fn segments_of(alloc: Global, rules: &[GateRule], v6: bool) -> Result<Vec<Segment>, NoMemory>
+pub(crate) fn segments_of(
+    alloc: Global,
+    rules: &[GateRule],
+    v6: bool,
+) -> Result<Vec<Segment>, NoMemory>
     ensures ascend { IfOk result (λ segments. Ascends 0 segments.items (2 ^ 128)) }
     ensures found { IfOk result (λ segments. FindsFirst v6 rules.now segments.items) }
     ensures few { IfOk result (λ segments. length segments.items ≤ 2 * length rules.now) }

@@ -18,5 +18,5 @@ returns-in_ok-lower-in_default-clause-found t c =
     let First : Vec Segment Global → Type 0 = λ segments. FindsFirst c.args.v6 c.args.rules.now segments.items in
     IfOk-weaker c.overlay.result Either First
     (λ segments found. halves_found c.args.v6 c.args.rules.now _ _ _ _ _ _ _ segments.items c.split_at.ensures.front c.split_at.ensures.back
-        c.in_ok-upper-in_default.ensures.found c.in_ok-lower-in_default.ensures.found c.as_slice.ensures.value c.as_slice-in_default.ensures.value found)
+    c.in_ok-upper-in_default.ensures.found c.in_ok-lower-in_default.ensures.found c.as_slice.ensures.value c.as_slice-in_default.ensures.value found)
     c.overlay.ensures.found

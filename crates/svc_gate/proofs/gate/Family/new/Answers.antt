@@ -14,7 +14,7 @@ returns-clause-answers c =
     let first = subst (λ s. FindsFirst c.args.v6 c.as_slice.result.now s) (sym c.as_slice-2.ensures.value) c.in_ok-segments.ensures.found in
     let found = subst (λ rules. FindsFirst c.args.v6 rules c.as_slice-2.result.now) c.as_slice.ensures first in
     λ x fits. ranges_answer c.args.rules.now.default_allow _ c.args.v6 c.args.rules.now.rules _ _ _ _ x ascend found
-        c.pass-found.ensures.word c.pass-found.ensures.rest c.unwrap_or-lowest.ensures c.in_ok-later.ensures fits
+    c.pass-found.ensures.word c.pass-found.ensures.rest c.unwrap_or-lowest.ensures c.in_ok-later.ensures fits
 
 pub returns-clause-count : goal.returns-clause-count
 returns-clause-count c =
