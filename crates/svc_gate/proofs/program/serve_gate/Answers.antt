@@ -1,0 +1,8 @@
+use Rattle.std.proofs.Common.{inl, ◌∙◌}
+use Rattle.svc_gate.proofs.ServingLemmas.{rules_are_checked}
+use Rattle.svc_gate.proofs.program.serve_gate.Goals as goal
+
+pub returns-in-Ok-write_all-clause-complete : goal.returns-in-Ok-write_all-clause-complete
+returns-in-Ok-write_all-clause-complete g c = λ bytes tells takes rules source sink.
+    let answered = c.in-Ok.ensures.answer in
+    inl (c.status.ensures ∙ rules_are_checked _ bytes c.in-Ok.answer.line _ _ _ _ takes rules (rw tells at answered) c.in-Ok.ensures.leaves source)

@@ -1,0 +1,13 @@
+pub mod Rules
+pub mod Rising
+pub mod Segments
+pub mod Merged
+pub mod Ranges
+pub mod Words
+pub mod Ips
+pub mod Only
+pub mod RuleLines
+pub mod Readings
+pub mod Takings
+pub mod Serving
+pub mod Programs

@@ -1,0 +1,23 @@
+//! A gate of address ranges: a filter of connections that is made from rules.
+#![tactic(auto)]
+
+mod counted;
+mod gate;
+mod ips;
+mod lines;
+mod program;
+mod reading;
+mod rules;
+mod segments;
+mod serving;
+mod spans;
+mod words;
+
+pub use counted::Steps;
+pub use gate::Gate;
+pub use program::serve_gate;
+pub use reading::{GateError, read_rules};
+pub use rules::{GateRule, GateRuleList, GateRules};
+
+#[cfg(test)]
+mod tests;
