@@ -1,0 +1,4 @@
+pub mod Desks
+pub mod Deeds
+pub mod Working
+pub mod Serving
