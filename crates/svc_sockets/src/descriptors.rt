@@ -28,7 +28,8 @@ pub(crate) struct Descriptors {
 fn place_of(open: &[Descriptor], number: u64) -> Option<usize>
     ensures { IfSome result (λ at. at < length open.now) }
 {
-    open.iter().position(|descriptor| descriptor.number == number)
+    open.iter()
+        .position(|descriptor| descriptor.number == number)
 }
 
 impl Descriptors {

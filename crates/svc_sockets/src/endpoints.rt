@@ -50,16 +50,13 @@ pub(crate) struct Endpoint {
 pub(crate) fn place_of(endpoints: &[Endpoint], service: u32, number: u32) -> Option<usize>
     ensures { IfSome result (λ at. at < length endpoints.now) }
 {
-    endpoints
-        .iter()
-        .position(|endpoint| endpoint.service == service && endpoint.number == number)
+    endpoints.iter().position(|endpoint| endpoint.service == service && endpoint.number == number)
 }
 
 /// Each endpoint of the service listens, and that is posted: so the service serves.
 pub(crate) fn is_serving(endpoints: &[Endpoint], service: u32) -> bool {
-    endpoints
-        .iter()
-        .all(|endpoint| endpoint.service != service || endpoint.state == EndpointState::Held)
+    endpoints.iter().all(|endpoint| endpoint.service != service
+        || endpoint.state == EndpointState::Held)
 }
 
 /// The first address that a text resolves to.

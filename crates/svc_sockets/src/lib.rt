@@ -15,3 +15,6 @@ pub use echoing::{EchoEnd, PIECE, echo};
 pub use slot::{Letter, Slot};
 pub use sockets::{NextRefused, Seat, Sockets};
 pub use streams::{Incoming, Outgoing};
+
+#[cfg(test)]
+mod tests;

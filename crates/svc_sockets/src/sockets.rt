@@ -4,14 +4,13 @@
 
 ghost use Rattle.std.specs.Prelude.{◌<◌, length, IfSome};
 
-use crate::connections;
 use crate::connections::{Connection, ConnectionState};
 use crate::descriptors::Descriptors;
-use crate::endpoints;
 use crate::endpoints::{Endpoint, EndpointAnswer, EndpointState};
 use crate::offers::{MOST_HANDED, Offers};
 use crate::slot::Slot;
 use crate::streams::{Incoming, Outgoing};
+use crate::{connections, endpoints};
 use std::alloc::Global;
 use std::io::ErrorKind;
 use std::net::{Net, SocketAddr, TcpListener, TcpStream};
@@ -103,7 +102,9 @@ fn accept(listener: &TcpListener) -> Accepted {
                 Accepted::Nothing
             }
             _ => Accepted::Failed(
-                error.raw_os_error().map_or(0, |number| number.unsigned_abs()),
+                error
+                    .raw_os_error()
+                    .map_or(0, |number| number.unsigned_abs()),
             ),
         },
     }
@@ -256,11 +257,7 @@ impl Sockets {
     fn accept_failed(&mut self, at: usize, number: u32, now: u64) -> Option<Event> {
         let endpoint = self.endpoints.get_mut(at)?;
         endpoint.rests_until = now.saturating_add(MOMENT_EVERY);
-        Some(Event::AcceptFailed(
-            endpoint.service,
-            endpoint.number,
-            number,
-        ))
+        Some(Event::AcceptFailed(endpoint.service, endpoint.number, number))
     }
 
     /// The event of a connection that came. Room for it is made before.

@@ -1,4 +1,0 @@
-pub mod Desks
-pub mod Deeds
-pub mod Working
-pub mod Serving

@@ -1,0 +1,27 @@
+-- What the echo server writes.
+use Rattle.std.specs.Prelude.{ℕ, Bool, true, false, List, [], ◌∷◌, ◌++◌, codes}
+use Rattle.std.specs.Fmt.{decimal}
+use Rattle.svc_desk.specs.declared.worker.WorkEnd.{WorkEnd}
+use Rattle.svc_desk.specs.declared.worker.WorkEnd.TheVariants.{Over, Closed, Full, TurnsSpent, Fault, NoMemory}
+
+-- the name of a worker's end
+abbrev pub end_name : WorkEnd → List ℕ
+end_name Over = codes "Over"
+end_name Closed = codes "Closed"
+end_name Full = codes "Full"
+end_name TurnsSpent = codes "TurnsSpent"
+end_name Fault = codes "Fault"
+end_name NoMemory = codes "NoMemory"
+
+-- the status line: served, or how both workers ended
+abbrev pub end_line : Bool → WorkEnd → WorkEnd → List ℕ
+end_line true left right = codes "status served" ++ 10 ∷ []
+end_line false left right = codes "status " ++ (end_name left ++ (codes " " ++ (end_name right ++ 10 ∷ [])))
+
+-- how many posts there were, and the status line
+abbrev pub report_text : ℕ → Bool → WorkEnd → WorkEnd → List ℕ
+report_text posts served left right = (codes "posts " ++ (decimal posts ++ 10 ∷ [])) ++ end_line served left right
+
+-- what is written where the words are refused
+abbrev pub words_line : List ℕ
+words_line = codes "status words" ++ 10 ∷ []
