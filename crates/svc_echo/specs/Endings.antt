@@ -20,6 +20,15 @@ abbrev pub stops_last : List Action → Bool
 stops_last (a ∷ b ∷ more) = is_stop b && is_terminated a
 stops_last _ = false
 
+-- the newest action is `Stop`
+abbrev pub stop_last : List Action → Bool
+stop_last (a ∷ more) = is_stop a
+stop_last _ = false
+
+-- the last action is `Stop`
+abbrev pub stopped : List Action → Bool
+stopped told = stop_last (reverse told)
+
 -- the last two actions are `Stop` and `Terminated`
 abbrev pub stops : List Action → Bool
 stops told = stops_last (reverse told)

@@ -1,8 +1,11 @@
 -- What the echo server writes.
-use Rattle.std.specs.Prelude.{ℕ, Bool, true, false, List, [], ◌∷◌, ◌++◌, codes}
+use Rattle.std.specs.Prelude.{◌≡◌, ℕ, ◌≤◌, Bool, true, false, List, [], ◌∷◌, ◌++◌, length, take, codes, Option}
 use Rattle.std.specs.Fmt.{decimal}
+use Rattle.std.specs.Io.KnownBytes.{Appends}
+use Rattle.svc_record.specs.Journal.{PostData}
 use Rattle.svc_desk.specs.declared.worker.WorkEnd.{WorkEnd}
 use Rattle.svc_desk.specs.declared.worker.WorkEnd.TheVariants.{Over, Closed, Full, TurnsSpent, Fault, NoMemory}
+use Rattle.svc_echo.specs.Endings.{ends_with_stop}
 
 -- the name of a worker's end
 abbrev pub end_name : WorkEnd → List ℕ
@@ -25,3 +28,14 @@ report_text posts served left right = (codes "posts " ++ (decimal posts ++ 10 �
 -- what is written where the words are refused
 abbrev pub words_line : List ℕ
 words_line = codes "status words" ++ 10 ∷ []
+
+-- the sink took the report of this journal and these ends, which says whether the last post stops the server
+pub record Says (journal : List PostData) (left right : WorkEnd) (is_served : Bool) (before now : Option (List ℕ)) : Type 0 where
+  pub stops : ends_with_stop journal ≡ is_served
+  pub wrote : Appends before now (report_text (length journal) is_served left right)
+
+-- the sink took a front of it
+pub record SaysFront (journal : List PostData) (left right : WorkEnd) (before now : Option (List ℕ)) : Type 0 where
+  pub count : ℕ
+  pub within : count ≤ length (report_text (length journal) (ends_with_stop journal) left right)
+  pub wrote : Appends before now (take count (report_text (length journal) (ends_with_stop journal) left right))

@@ -24,11 +24,7 @@ fn endpoint(alloc: Global, address: &str) -> Result<EndpointPlan, NoMemory>
 }
 
 /// Appends an endpoint.
-fn push_endpoint(
-    alloc: Global,
-    endpoints: &mut EndpointList,
-    address: &str,
-) -> Result<(), NoMemory>
+fn push_endpoint(alloc: Global, endpoints: &mut EndpointList, address: &str) -> Result<(), NoMemory>
     ensures { OnOk result (endpoints.new ≡ endpoints.old ++ endpoint_at address.now ∷ []) }
 {
     match endpoints.push(alloc, endpoint(alloc, address)?) {

@@ -88,19 +88,18 @@ pub fn real_desk<'a, R: Wait + Net<Listener = TcpListener, Stream = TcpStream> +
 }
 
 impl<'a, R: Wait + Net<Listener = TcpListener, Stream = TcpStream> + Clock> Desk
-    for RealDesk<'a, R>
-{
+    for RealDesk<'a, R> {
     ghost use Rattle.std.specs.Prelude.{Some, None, ltb, if◌then◌else◌};
     ghost use Rattle.svc_calls.specs.Calls.{told_of};
 
     // The takes are told until their count stands at its greatest value.
     ghost seen = { λ d. record {
-        taken = told_of d.taken;
-        performed = told_of d.performed;
-        refused = told_of d.refused;
-        takes = if ltb d.takes 18446744073709551615 then Some d.takes else None;
-        faults = d.fault_count;
-        idles = d.idle_count;
+      taken = told_of d.taken;
+      performed = told_of d.performed;
+      refused = told_of d.refused;
+      takes = if ltb d.takes 18446744073709551615 then Some d.takes else None;
+      faults = d.fault_count;
+      idles = d.idle_count;
     } };
 
     fn faults(&self) -> u64 {

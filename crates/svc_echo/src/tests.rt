@@ -1,15 +1,17 @@
+use crate::planning::echo_plan;
 use crate::{Seat, Slot, Sockets, real_desk, run_echo};
 use std::alloc::Global;
-use std::io;
 use std::io::{Read, Write};
-use std::net::{SocketAddr, TcpListener, TcpStream};
+use std::net::{Net, SocketAddr, TcpListener, TcpStream};
 use std::rc::RcStr;
-use std::sync::Mutex;
+use std::sync::{Mutex, Wait};
 use std::test::Fail;
-use std::thread;
-use std::thread::join;
-use std::time::Duration;
+use std::thread::{Threads, join};
+use std::time::{Clock, Duration};
+use std::{io, thread};
 use svc_conf::MemorySink;
+use svc_desk::{Gate, WorkEnd, serve_desks};
+use svc_record::Plan;
 
 /// An address on loopback that was free a moment ago.
 fn free_address(rt: &HostRuntime) -> io::Result<SocketAddr> {
@@ -98,6 +100,112 @@ fn a_clients_bytes_come_back(rt: HostRuntime) -> Result<(), Fail> {
     assert_eq!(rt; lost, 0);
     assert_eq!(rt; run.status.0, 0);
     assert!(rt; run.journal.len() > 200);
+    assert!(rt; TcpStream::connect(&rt, address).is_err());
+    Ok(())
+}
+
+struct OpenGate;
+
+impl Gate for OpenGate {
+    fn after(&self, _worker: u32, _answered: u64) {}
+}
+
+/// Serves a plan over sockets of its own, and answers whether both workers ended as they should.
+fn serves<R: Threads + Wait + Sync + Net<Listener = TcpListener, Stream = TcpStream> + Clock>(
+    rt: &R,
+    alloc: Global,
+    plan: Plan,
+    sockets: &Mutex<Sockets>,
+    slot: &Mutex<Slot<TcpListener>>,
+) -> bool {
+    let Ok(left) = real_desk(rt, alloc, Seat::Left, sockets, slot, 0) else {
+        return false;
+    };
+    let Ok(right) = real_desk(rt, alloc, Seat::Right, sockets, slot, 0) else {
+        return false;
+    };
+    match serve_desks(
+        rt, alloc, plan, 1_000_000, 10_000_000, left, right, &OpenGate,
+    ) {
+        Ok(echoed) => over_and_closed(echoed.left_end, echoed.right_end),
+        Err(_) => false,
+    }
+}
+
+fn over_and_closed(left: WorkEnd, right: WorkEnd) -> bool {
+    (left == WorkEnd::Over && right == WorkEnd::Closed)
+        || (left == WorkEnd::Closed && right == WorkEnd::Over)
+}
+
+/// The plan of an echo server at these addresses.
+fn plan_at(alloc: Global, address: SocketAddr, control: SocketAddr) -> Result<Plan, Fail> {
+    let address = format!(in alloc; "{address}")?;
+    let control = format!(in alloc; "{control}")?;
+    Ok(echo_plan(alloc, address.as_str(), control.as_str())?)
+}
+
+fn has_ended(rt: &impl Wait, sockets: &Mutex<Sockets>) -> bool {
+    sockets.lock(rt).has_ended()
+}
+
+/// Asks without a pause until the server has ended, and answers how often it wasn't answered rightly.
+fn lost_until_end(rt: &HostRuntime, sockets: &Mutex<Sockets>, at: SocketAddr) -> u32 {
+    let mut wrong = 0u32;
+    for _ in 0..1_000_000u32 {
+        if has_ended(rt, sockets) {
+            return wrong;
+        }
+        wrong = wrong.saturating_add(lost(rt, at, 10));
+    }
+    1000
+}
+
+/// The client of a handover: it asks before it, through it, and after it.
+fn asks_through(
+    rt: &HostRuntime,
+    old: &Mutex<Sockets>,
+    address: SocketAddr,
+    control: SocketAddr,
+) -> u32 {
+    let mut wrong = lost(rt, address, 20);
+    if signal(rt, control, b'u').is_err() {
+        wrong = wrong.saturating_add(1000);
+    }
+    wrong = wrong.saturating_add(lost_until_end(rt, old, address));
+    wrong = wrong.saturating_add(lost(rt, address, 20));
+    if signal(rt, control, b'f').is_err() {
+        wrong = wrong.saturating_add(1000);
+    }
+    wrong
+}
+
+#[test]
+fn a_second_server_takes_the_listener(rt: HostRuntime) -> Result<(), Fail> {
+    let alloc = rt.alloc();
+    let address = free_address(&rt)?;
+    let control = free_address(&rt)?;
+    let mut old_plan = plan_at(alloc, address, control)?;
+    old_plan.grace = 1;
+    let mut new_plan = plan_at(alloc, address, control)?;
+    new_plan.upgrade = true;
+    new_plan.eager = true;
+    new_plan.limit = 30;
+    let old = Mutex::new(Sockets::new(alloc));
+    let new = Mutex::new(Sockets::new(alloc));
+    let slot = Mutex::new(Slot::Missing);
+    let ((first, second), wrong) = join(
+        &rt,
+        || {
+            join(
+                &rt,
+                || serves(&rt, alloc, old_plan, &old, &slot),
+                || serves(&rt, alloc, new_plan, &new, &slot),
+            )
+        },
+        || asks_through(&rt, &old, address, control),
+    );
+    assert_eq!(rt; wrong, 0);
+    assert!(rt; first && second);
     assert!(rt; TcpStream::connect(&rt, address).is_err());
     Ok(())
 }
