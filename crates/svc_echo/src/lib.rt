@@ -1,14 +1,15 @@
 //! An echo server with two workers over real sockets on loopback.
 #![tactic(auto)]
 
+mod desks;
 mod journal;
 mod planning;
-mod real_desk;
+
 mod reports;
 mod running;
 mod words;
 
-pub use real_desk::{RealDesk, real_desk};
+pub use desks::{RealDesk, real_desk};
 pub use running::{EchoRun, JOURNAL_LIMIT, run_echo};
 pub use svc_sockets::{EchoEnd, Letter, Seat, Slot, Sockets, echo};
 

@@ -43,7 +43,7 @@ fn put_piece<K: Sink>(sink: &mut K, piece: &[u8]) -> Result<(), WriteFault>
 /// Writes back what comes, piece after piece, for at most so many pieces. Nothing is written but what
 /// was read, in its order.
 pub fn echo<T: Source, K: Sink>(from: &mut T, to: &mut K, turns: u64) -> EchoEnd
-    ensures echoed { IsEchoed (T.left from.old) (T.left from.new) (K.written to.old) (K.written to.new)
+    ensures { IsEchoed (T.left from.old) (T.left from.new) (K.written to.old) (K.written to.new)
         (T.faulted from.old) (T.faulted from.new) (K.faulted to.old) (K.faulted to.new) turns result }
 {
     let mut piece = [0u8; PIECE];
