@@ -37,7 +37,7 @@ signal_of-tell : (q : Record) (told : List Action) → signal_of (tell q told) �
 signal_of-tell q [] = refl
 signal_of-tell q (a ∷ more) = signal_of-tell (Told a ∷ q) more
 
-both : (x y : Bool) → (x && y) ≡ true → (x ≡ true) × (y ≡ true)
+pub both : (x y : Bool) → (x && y) ≡ true → (x ≡ true) × (y ≡ true)
 both true true h = (refl, refl)
 both true false h = cc
 both false y h = cc

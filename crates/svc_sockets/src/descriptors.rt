@@ -11,38 +11,39 @@ const FIRST: u64 = 3;
 
 /// A listening socket with its number.
 #[derive(Drop)]
-pub(crate) struct Descriptor {
-    pub number: u64,
-    pub listener: TcpListener,
+struct Descriptor {
+    number: u64,
+    listener: TcpListener,
 }
 
 /// The open ones, and the number of the next one. A number is given once: the system gives its own
 /// numbers again, and the record takes each once.
 #[derive(Drop)]
-pub(crate) struct Descriptors {
-    open: Vec<Descriptor>,
+pub struct Descriptors {
+    rows: Vec<Descriptor>,
     next: u64,
 }
 
 /// Where the descriptor stands.
-fn place_of(open: &[Descriptor], number: u64) -> Option<usize>
-    ensures { IfSome result (λ at. at < length open.now) }
+fn place_of(rows: &[Descriptor], number: u64) -> Option<usize>
+    ensures { IfSome result (λ at. at < length rows.now) }
 {
-    open.iter()
+    rows.iter()
         .position(|descriptor| descriptor.number == number)
 }
 
 impl Descriptors {
+    /// None is open, and the first number is 3.
     pub fn new(alloc: Global) -> Self {
         Descriptors {
-            open: Vec::new(alloc),
+            rows: Vec::new(alloc),
             next: FIRST,
         }
     }
 
-    /// Makes room for so many more.
+    /// Makes room for so many more. `NoMemory` where there is none.
     pub fn reserve(&mut self, n: usize) -> Result<(), NoMemory> {
-        self.open.reserve(n)?;
+        self.rows.reserve(n)?;
         Ok(())
     }
 
@@ -53,28 +54,29 @@ impl Descriptors {
         number
     }
 
-    /// Opens one. It takes no memory where room was made; without memory the socket is closed.
-    pub fn open(&mut self, number: u64, listener: TcpListener) -> bool {
-        self.open.push(Descriptor { number, listener }).is_ok()
+    /// Adds one, and answers whether there was memory for it. It takes none where room was made; without
+    /// memory the socket is closed.
+    pub fn add(&mut self, number: u64, listener: TcpListener) -> bool {
+        self.rows.push(Descriptor { number, listener }).is_ok()
     }
 
     /// Whether it is open.
     pub fn is_open(&self, number: u64) -> bool {
-        place_of(self.open.as_slice(), number).is_some()
+        place_of(self.rows.as_slice(), number).is_some()
     }
 
     /// The socket, if it is open.
     pub fn get(&self, number: u64) -> Option<&TcpListener> {
-        match place_of(self.open.as_slice(), number) {
-            Some(at) => Some(&self.open[at].listener),
+        match place_of(self.rows.as_slice(), number) {
+            Some(at) => Some(&self.rows[at].listener),
             None => None,
         }
     }
 
     /// Closes it: its socket is dropped.
     pub fn close(&mut self, number: u64) {
-        if let Some(at) = place_of(self.open.as_slice(), number) {
-            let _ = self.open.swap_remove(at);
+        if let Some(at) = place_of(self.rows.as_slice(), number) {
+            let _ = self.rows.swap_remove(at);
         }
     }
 }

@@ -11,9 +11,10 @@ mod slot;
 mod sockets;
 mod streams;
 
+pub use descriptors::Descriptors;
 pub use echoing::{EchoEnd, PIECE, echo};
 pub use slot::{Letter, Slot};
-pub use sockets::{NextRefused, Seat, Sockets};
+pub use sockets::{Accepted, NextRefused, Seat, Sockets, accept, peer_of};
 pub use streams::{Incoming, Outgoing};
 
 #[cfg(test)]

@@ -76,7 +76,7 @@ fn new_numbers(
 /// Opens the handed listeners under their numbers.
 fn open_all(descriptors: &mut Descriptors, fds: &[u64], handed: Vec<TcpListener>) {
     for (fd, listener) in fds.iter().zip(handed) {
-        let _ = descriptors.open(*fd, listener);
+        let _ = descriptors.add(*fd, listener);
     }
 }
 

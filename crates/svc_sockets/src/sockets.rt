@@ -81,14 +81,18 @@ pub struct Sockets {
 }
 
 /// What one try to accept gave.
-enum Accepted {
+#[derive(Drop)]
+pub enum Accepted {
+    /// No connection is there.
     Nothing,
+    /// A connection from this address.
     Came(TcpStream, SocketAddr),
-    /// With this error number.
+    /// It failed with this error number.
     Failed(u32),
 }
 
-fn accept(listener: &TcpListener) -> Accepted {
+/// Tries once to accept a connection. The calls on its stream don't wait either.
+pub fn accept(listener: &TcpListener) -> Accepted {
     match listener.accept() {
         Ok((stream, addr)) => {
             if stream.set_nonblocking(true).is_ok() {
@@ -110,7 +114,8 @@ fn accept(listener: &TcpListener) -> Accepted {
     }
 }
 
-fn peer_of(addr: SocketAddr) -> Peer {
+/// Who is at the other end, by the address.
+pub fn peer_of(addr: SocketAddr) -> Peer {
     Peer::Inet(match addr {
         SocketAddr::V4(addr) => PeerAddr::V4 {
             ip: addr.ip().to_bits(),
@@ -135,7 +140,7 @@ fn bind<R: Net<Listener = TcpListener, Stream = TcpStream>>(
     match TcpListener::bind(rt, address) {
         Ok(listener) => {
             let fd = descriptors.number();
-            if listener.set_nonblocking(true).is_ok() && descriptors.open(fd, listener) {
+            if listener.set_nonblocking(true).is_ok() && descriptors.add(fd, listener) {
                 EndpointAnswer::Bound(fd)
             } else {
                 EndpointAnswer::BindFailed
