@@ -1,1 +1,5 @@
 mod TwoJobs
+mod RangeLemmas
+mod RunLemmas
+mod TableLemmas
+mod HeardLemmas

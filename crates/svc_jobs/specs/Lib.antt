@@ -1,3 +1,5 @@
 pub mod Dues
 pub mod Readies
 pub mod Rows
+pub mod TimetableData
+pub mod Timetables

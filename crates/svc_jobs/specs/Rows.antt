@@ -1,9 +1,11 @@
 -- What a timetable knows of each job.
-use Rattle.std.specs.Prelude.{ℕ, Bool, true, false, ◌≡◌, ◌==◌, ◌<◌, not, ◌&&◌, ◌||◌, List, [], ◌∷◌, length, Option, Some, None, slice_get, filter, if◌then◌else◌}
+use Rattle.std.specs.Prelude.{ℕ, Bool, true, false, ◌≡◌, ◌==◌, ◌<◌, not, ◌&&◌, ◌||◌, List, [], ◌∷◌, ◌++◌, length, map, Option, Some, None, slice_get, filter, if◌then◌else◌}
+use Rattle.std.specs.Option.{option_map}
 use Rattle.std.specs.List.{flat_map, range_with_len}
 use Rattle.svc_record.specs.declared.entry.Entry.TheVariants.{Got}
 use Rattle.svc_record.specs.declared.event.Event.TheVariants.{Moment, Ready}
 use Rattle.svc_record.specs.Record.{Record}
+use Rattle.svc_jobs.specs.declared.plan.JobPlan.{JobPlan}
 use Rattle.svc_jobs.specs.declared.plan.JobRun.{JobRun}
 use Rattle.svc_jobs.specs.declared.row.JobRow.{JobRow}
 use Rattle.svc_jobs.specs.Dues.{period, jobs_of, start_moment, due_since, run_of, has_run, runs_first}
@@ -43,3 +45,15 @@ runs_in rows last m n = flat_map (λ s. run_of s (due_in (slice_get rows s) last
 -- each of the jobs has a period
 abbrev pub ArePaced : List JobRow → Type 0
 ArePaced rows = (s : ℕ) (row : JobRow) → slice_get rows s ≡ Some row → 0 < row.every
+
+-- each plan has a period
+abbrev pub HavePeriods : List JobPlan → Type 0
+HavePeriods plans = (s : ℕ) (plan : JobPlan) → slice_get plans s ≡ Some plan → 0 < plan.every
+
+-- a row for each plan, of a job that wasn't started yet
+abbrev pub AreNewRows : List JobPlan → List JobRow → Type 0
+AreNewRows plans rows = rows ≡ map (λ (plan : JobPlan). record { every = plan.every; started = None; ran = false; owes = false }) plans
+
+-- what a job was told, after a run for so many due moments
+abbrev pub told_after : Option (List ℕ) → ℕ → Option (List ℕ)
+told_after told due = if due == 0 then told else option_map (λ numbers. numbers ++ due ∷ []) told

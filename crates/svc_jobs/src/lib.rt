@@ -5,6 +5,7 @@
 mod job;
 mod plan;
 mod row;
+mod timetable;
 
 pub use job::Job;
 pub use plan::{JobPlan, JobRun, RunList};

@@ -3,6 +3,7 @@
 ghost use Rattle.std.specs.Prelude.{◌≡◌, ◌<◌};
 ghost use Rattle.svc_jobs.specs.Dues.{due_since};
 ghost use Rattle.svc_jobs.specs.Rows.{row_due, ran_row};
+ghost use Rattle.svc_jobs.specs.Timetables.{started_row, told_row};
 
 /// What is known of a job.
 #[derive(Clone, Copy)]
@@ -51,6 +52,26 @@ impl JobRow {
             started: self.started,
             ran: true,
             owes: self.owes || !self.ran,
+        }
+    }
+
+    /// The row after a start at this moment.
+    pub(crate) fn after_start(self, moment: u64) -> JobRow
+        ensures { result ≡ started_row self moment }
+    {
+        JobRow {
+            started: Some(moment),
+            ..self
+        }
+    }
+
+    /// The row after the job's word that it is ready.
+    pub(crate) fn after_ready(self) -> JobRow
+        ensures { result ≡ told_row self }
+    {
+        JobRow {
+            owes: false,
+            ..self
         }
     }
 }
