@@ -3,3 +3,4 @@ mod RangeLemmas
 mod RunLemmas
 mod TableLemmas
 mod HeardLemmas
+mod HostLemmas

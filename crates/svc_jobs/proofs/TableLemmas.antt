@@ -2,10 +2,10 @@
 use Rattle.std.proofs.Common.{ℕ, zero, suc, Bool, true, false, ◌≡◌, ◌<◌, ◌≤◌, ◌+◌, ◌==◌, ◌||◌, ◌&&◌, not, List, [], ◌∷◌, ◌++◌, length, map, set, get_or, Option, refl, sym, ap, subst, ◌∙◌, inl, inr, arith, length-set}
 use Rattle.std.specs.Prelude.{slice_get, slice_index, Some, None, MatchOption, nat_lt, position, if◌then◌else◌}
 use Rattle.std.specs.List.{position_or_len}
-use Rattle.std.proofs.lemmas.Bool.{cases_lt, lt-ltb, eq-eqb, ne_eqb}
+use Rattle.std.proofs.lemmas.Bool.{cases_lt, cases_eq, lt-ltb, eq-eqb, ne_eqb}
 use Rattle.std.proofs.lemmas.List.Sums.{fails_before_first}
 use Rattle.std.proofs.lemmas.List.Quantifiers.{position-Some}
-use Rattle.std.proofs.lemmas.Option.{get_or_from_slice_get}
+use Rattle.std.proofs.lemmas.Option.{get_or_from_slice_get, slice_get_within}
 use Rattle.std.proofs.lemmas.List.{append-nil}
 use Rattle.svc_record.specs.declared.entry.Entry.TheVariants.{Got, Told}
 use Rattle.svc_record.specs.declared.event.Event.TheVariants.{Moment, Ready, Signal}
@@ -17,8 +17,11 @@ use Rattle.svc_jobs.specs.declared.row.JobRow.{JobRow}
 use Rattle.svc_jobs.specs.Dues.{is_shutdown, period, start_moment, due_since, due_at, run_of, runs_at, due_runs, has_run, runs_first}
 use Rattle.svc_jobs.specs.Rows.{ArePaced, HavePeriods, row_of, row_due, ran_row, due_in, runs_in, owes, owing}
 use Rattle.svc_jobs.specs.TimetableData.{TimetableData}
-use Rattle.svc_jobs.specs.Timetables.{IsTimetableOf, periods_of}
-use Rattle.svc_jobs.proofs.RangeLemmas.{flat_map-same, flat_map-none, filter-first, filter-none}
+use Rattle.svc_jobs.specs.Timetables.{IsTimetableOf, periods_of, with_row, started_row, told_row, noted, readied}
+use Rattle.svc_record.specs.declared.action.Action.{Action}
+use Rattle.svc_record.specs.declared.action.Action.TheVariants.{Start, Broadcast, Phase}
+use Rattle.svc_record.specs.declared.action.ExecutionPhase.TheVariants.{ShutdownRuntimes}
+use Rattle.svc_jobs.proofs.RangeLemmas.{flat_map-same, flat_map-none, filter-first, filter-none, get-set_here, get-set_other}
 
 -- a run for so many due moments, as the record's definitions say it
 ran-is : (every : ℕ) (started : Option ℕ) (ran owed : Bool) (due : ℕ)
@@ -166,3 +169,104 @@ told_late periods t q m k table off = due-off periods q m k (rw (← table.shut_
 pub parts_off : (a b : Bool) → false ≡ (a || b) → (a ≡ false) × (b ≡ false)
 parts_off true b h = absurd (cc)
 parts_off false b h = (refl, sym h)
+
+with_row-here : (rows : List JobRow) (k : ℕ) (change : JobRow → JobRow) (row : JobRow) → slice_get rows k ≡ Some row → slice_get (with_row rows k change) k ≡ Some (change row)
+with_row-here rows k change row at = rw at (get-set_here rows k (change row) (slice_get_within rows k row at))
+
+with_row-other : (rows : List JobRow) (k s : ℕ) (change : JobRow → JobRow) → (s ≡ k → ⊥) → slice_get (with_row rows k change) s ≡ slice_get rows s
+with_row-other rows k s change other =
+    elim (slice_get rows k) as (λ (o : Option JobRow). slice_get (put o) s ≡ slice_get rows s) [ None ↦ refl | Some row ↦ get-set_other rows k s (change row) other ]
+  where
+    put : Option JobRow → List JobRow
+    put None = rows
+    put (Some row) = set rows k (change row)
+
+with_row-length : (rows : List JobRow) (k : ℕ) (change : JobRow → JobRow) → length (with_row rows k change) ≡ length rows
+with_row-length rows k change =
+    elim (slice_get rows k) as (λ (o : Option JobRow). length (put o) ≡ length rows) [ None ↦ refl | Some row ↦ length-set rows k (change row) ]
+  where
+    put : Option JobRow → List JobRow
+    put None = rows
+    put (Some row) = set rows k (change row)
+
+-- a row, of its fields
+abbrev row_with : ℕ → Option ℕ → Bool → Bool → JobRow
+row_with every started ran owed = record { every = every; started = started; ran = ran; owes = owed }
+
+-- a job that says that it is ready
+pub table_ready : (periods : List ℕ) (t : TimetableData) (q : Record) (k : ℕ) → IsTimetableOf periods t q → IsTimetableOf periods (readied t k) (Got (Ready k) ∷ q)
+table_ready periods t q k table = record {
+  rows_are = λ s lt. elim (cases_eq s k) [
+    | inl e ↦ (
+        let there : slice_get t.rows k ≡ Some (row_of periods q k) = subst (λ n. slice_get t.rows n ≡ Some (row_of periods q n)) e (table.rows_are s lt) in
+        subst (λ n. slice_get (with_row t.rows k told_row) n ≡ Some (row_of periods (Got (Ready k) ∷ q) n)) (sym e)
+        (with_row-here t.rows k told_row (row_of periods q k) there ∙ ap (λ (r : JobRow). Some r) (off (period periods k) (start_moment q k) (has_run periods q k) (owes periods q k) k)))
+    | inr ne ↦ with_row-other t.rows k s told_row ne ∙ table.rows_are s lt ∙ ap (λ (r : JobRow). Some r) (kept (period periods s) (start_moment q s) (has_run periods q s) (owes periods q s) k s ne)
+  ];
+  sized = with_row-length t.rows k told_row ∙ table.sized;
+  last_is = table.last_is;
+  shut_is = table.shut_is;
+  runs_are = table.runs_are;
+}
+  where
+    off : (every : ℕ) (started : Option ℕ) (ran owed : Bool) (k : ℕ) → row_with every started ran false ≡ row_with every started ran (owed && not (k == k))
+    off every started ran owed k = rw (eq-eqb k k refl) (elim owed as (λ b. row_with every started ran false ≡ row_with every started ran (b && false)) [ true ↦ refl | false ↦ refl ])
+
+    kept : (every : ℕ) (started : Option ℕ) (ran owed : Bool) (k s : ℕ) → (s ≡ k → ⊥) → row_with every started ran owed ≡ row_with every started ran (owed && not (k == s))
+    kept every started ran owed k s ne = rw (ne_eqb k s (λ same. ne (sym same))) (elim owed as (λ b. row_with every started ran b ≡ row_with every started ran (b && true)) [ true ↦ refl | false ↦ refl ])
+
+-- a signal
+pub table_signal : (periods : List ℕ) (t : TimetableData) (q : Record) (kind : ShutdownSignal) → IsTimetableOf periods t q → IsTimetableOf periods t (Got (Signal kind) ∷ q)
+table_signal periods t q kind table = record { rows_are = table.rows_are; sized = table.sized; last_is = table.last_is; shut_is = table.shut_is; runs_are = table.runs_are; }
+
+-- a job that is started
+table-started : (periods : List ℕ) (t : TimetableData) (q : Record) (k : ℕ) → IsTimetableOf periods t q
+    → IsTimetableOf periods (record { rows = with_row t.rows k (λ row. started_row row t.last); last = t.last; shut = t.shut; runs = t.runs; spare = t.spare }) (Told (Start k) ∷ q)
+table-started periods t q k table = record {
+  rows_are = λ s lt. elim (cases_eq s k) [
+    | inl e ↦ (
+        let there : slice_get t.rows k ≡ Some (row_of periods q k) = subst (λ n. slice_get t.rows n ≡ Some (row_of periods q n)) e (table.rows_are s lt) in
+        subst (λ n. slice_get (with_row t.rows k (λ row. started_row row t.last)) n ≡ Some (row_of periods (Told (Start k) ∷ q) n)) (sym e)
+        (with_row-here t.rows k (λ row. started_row row t.last) (row_of periods q k) there ∙ ap (λ (r : JobRow). Some r) (here (period periods k) (start_moment q k) (has_run periods q k) (owes periods q k) t.last (now q) k table.last_is)))
+    | inr ne ↦ with_row-other t.rows k s (λ row. started_row row t.last) ne ∙ table.rows_are s lt ∙ ap (λ (r : JobRow). Some r) (elsewhere (period periods s) (start_moment q s) (has_run periods q s) (owes periods q s) (now q) k s ne)
+  ];
+  sized = with_row-length t.rows k (λ row. started_row row t.last) ∙ table.sized;
+  last_is = table.last_is;
+  shut_is = table.shut_is;
+  runs_are = table.runs_are;
+}
+  where
+    here : (every : ℕ) (started : Option ℕ) (ran owed : Bool) (last m k : ℕ) → last ≡ m → row_with every (Some last) ran owed ≡ row_with every (if k == k then Some m else started) ran owed
+    here every started ran owed last m k e = rw (eq-eqb k k refl, e) refl
+
+    elsewhere : (every : ℕ) (started : Option ℕ) (ran owed : Bool) (m k s : ℕ) → (s ≡ k → ⊥) → row_with every started ran owed ≡ row_with every (if k == s then Some m else started) ran owed
+    elsewhere every started ran owed m k s ne = rw (ne_eqb k s (λ same. ne (sym same))) refl
+
+-- the shutdown begins
+table-shut : (periods : List ℕ) (t : TimetableData) (q : Record) (a : Action) → is_shutdown (Told a) ≡ true → ((s : ℕ) → row_of periods q s ≡ row_of periods (Told a ∷ q) s)
+    → IsTimetableOf periods t q → IsTimetableOf periods (record { rows = t.rows; last = t.last; shut = true; runs = t.runs; spare = t.spare }) (Told a ∷ q)
+table-shut periods t q a shuts same table = record {
+  rows_are = λ s lt. table.rows_are s lt ∙ ap (λ (r : JobRow). Some r) (same s);
+  sized = table.sized;
+  last_is = table.last_is;
+  shut_is = rw shuts refl;
+  runs_are = table.runs_are;
+}
+
+table-as_is : (periods : List ℕ) (t : TimetableData) (q : Record) (a : Action) → is_shutdown (Told a) ≡ false → ((s : ℕ) → row_of periods q s ≡ row_of periods (Told a ∷ q) s)
+    → IsTimetableOf periods t q → IsTimetableOf periods t (Told a ∷ q)
+table-as_is periods t q a goes_on same table = record {
+  rows_are = λ s lt. table.rows_are s lt ∙ ap (λ (r : JobRow). Some r) (same s);
+  sized = table.sized;
+  last_is = table.last_is;
+  shut_is = rw goes_on table.shut_is;
+  runs_are = table.runs_are;
+}
+
+-- an action
+pub table_told : (periods : List ℕ) (t : TimetableData) (q : Record) (a : Action) → IsTimetableOf periods t q → IsTimetableOf periods (noted t a) (Told a ∷ q)
+table_told periods t q (Start k) table = table-started periods t q k table
+table_told periods t q Broadcast table = table-shut periods t q Broadcast refl (λ s. refl) table
+table_told periods t q (Phase ShutdownRuntimes ms) table = table-shut periods t q (Phase ShutdownRuntimes ms) refl (λ s. refl) table
+table_told periods t q (Phase x ms) table = table-as_is periods t q (Phase x ms) refl (λ s. refl) table
+table_told periods t q a table = table-as_is periods t q a refl (λ s. refl) table

@@ -3,3 +3,4 @@ pub mod Readies
 pub mod Rows
 pub mod TimetableData
 pub mod Timetables
+pub mod JobHosts
