@@ -4,3 +4,4 @@ mod RunLemmas
 mod TableLemmas
 mod HeardLemmas
 mod HostLemmas
+mod RoomLemmas

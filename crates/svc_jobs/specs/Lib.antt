@@ -4,3 +4,5 @@ pub mod Rows
 pub mod TimetableData
 pub mod Timetables
 pub mod JobHosts
+pub mod JobRefusals
+pub mod Upcoming

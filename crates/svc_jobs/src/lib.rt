@@ -4,8 +4,13 @@
 
 mod job;
 mod plan;
+mod refusals;
 mod row;
+mod service;
 mod timetable;
+mod upcoming;
 
 pub use job::Job;
 pub use plan::{JobPlan, JobRun, RunList};
+pub use refusals::{JobError, JobRefused};
+pub use service::JobService;

@@ -206,6 +206,7 @@ impl Timetable {
     /// The first job that has run and hasn't said yet that it is ready.
     pub(crate) fn first_owing(&self) -> Option<usize>
         ensures place { IfSome result (λ s. s < length self.now.rows) }
+        ensures number { length self.now.rows ≤ 2 ^ 32 }
         ensures owing { (periods : List ℕ) (q : Record) → IsTimetableOf periods self.now q
             → MatchOption result (owing periods q ≡ []) (λ s. owing periods q ≡ s ∷ owing periods (Got (events.Ready s) ∷ q)) }
     {
