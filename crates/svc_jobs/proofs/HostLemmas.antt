@@ -165,3 +165,8 @@ keeps_new periods t all table = record {
   finished = λ h. absurd (omega arith);
   finished_last = λ h. absurd (omega arith);
 }
+
+-- where no cause was found, there is none
+pub no_fault : {X : Type 0} (o : Option X) → ((x : X) → o ≡ Some x → ⊥) → o ≡ None
+no_fault None h = refl
+no_fault (Some x) h = absurd (h x refl)

@@ -1,8 +1,9 @@
 -- Lists that are made over a range of numbers, and places in lists.
-use Rattle.std.proofs.Common.{ℕ, zero, suc, Bool, true, false, ◌≡◌, ◌<◌, ◌≤◌, ◌+◌, List, [], ◌∷◌, ◌++◌, length, set, take, Option, refl, sym, ap, subst, ◌∙◌, inl, inr, arith, append_assoc, add-zero, add-one, zero-add}
-use Rattle.std.specs.Prelude.{filter, slice_get, Some, None}
-use Rattle.std.specs.List.{flat_map, range_with_len}
-use Rattle.std.proofs.lemmas.Bool.{cases_eq}
+use Rattle.std.proofs.Common.{ℕ, zero, suc, Bool, true, false, ◌≡◌, ◌<◌, ◌≤◌, ◌+◌, List, [], ◌∷◌, ◌++◌, length, set, take, get_or, Option, refl, sym, ap, subst, ◌∙◌, inl, inr, arith, append_assoc, add-zero, add-one, zero-add}
+use Rattle.std.specs.Prelude.{filter, slice_get, position, Some, None}
+use Rattle.std.specs.List.{flat_map, range_with_len, position_or_len}
+use Rattle.std.proofs.lemmas.Bool.{cases_eq, cases_lt, lt-ltb}
+use Rattle.std.proofs.lemmas.List.Sums.{fails_before_first}
 use Rattle.std.proofs.lemmas.List.{append-nil}
 
 -- one number more
@@ -72,3 +73,16 @@ refilled n xs more e = ap (λ k. take k (xs ++ more)) (sym e) ∙ front xs more
     front : {X : Type 0} (xs more : List X) → take (length xs) (xs ++ more) ≡ xs
     front [] more = refl
     front (x ∷ xs) more = ap (λ ys. x ∷ ys) (front xs more)
+
+-- where no element passes, none does
+pub none_before : {X : Type 0} (p : X → Bool) (xs : List X) (d : X) → position p xs ≡ None → (k : ℕ) → k < length xs → p (get_or xs k d) ≡ false
+none_before p xs d e k lt = elim (cases_lt (position_or_len p xs) (length xs)) [
+  | inl below ↦ let t = lt-ltb _ _ below in let e' = rw t at e in absurd (cc)
+  | inr above ↦ fails_before_first p xs k d (omega arith)
+]
+
+-- past the end nothing is
+pub nothing_past : {X : Type 0} (xs : List X) (i : ℕ) → slice_get xs i ≡ None → length xs ≤ i
+nothing_past [] i none = omega arith
+nothing_past (x ∷ xs) zero none = absurd (cc)
+nothing_past (x ∷ xs) (suc i) none = (let past : length xs ≤ i = nothing_past xs i none in omega arith)

@@ -1,5 +1,5 @@
 -- For how many moments there is room.
-use Rattle.std.proofs.Common.{ℕ, zero, suc, ◌≡◌, ◌<◌, ◌≤◌, ◌+◌, ◌*◌, ◌/◌, arith, refl}
+use Rattle.std.proofs.Common.{ℕ, zero, suc, ◌≡◌, ◌<◌, ◌≤◌, ◌+◌, ◌*◌, ◌/◌, min, arith, refl}
 use Rattle.std.proofs.Math.Nat.{div-mul-le_self}
 use Rattle.std.proofs.lemmas.Nat.{le-div}
 
@@ -24,3 +24,10 @@ room_there x j some = one (x / (j + 1)) some (div-mul-le_self x (j + 1))
 
 pub room_made : (n x j : ℕ) → n * (j + 1) ≤ x → n ≤ x / (j + 1)
 room_made n x j h = le-div n x (j + 1) (omega arith) h
+
+-- an event is taken, and each of j jobs may have run
+pub room_less : (a a' b b' j : ℕ) → a ≤ a' + 1 → b ≤ b' + j → min a (b / (j + 1)) ≤ min a' (b' / (j + 1)) + 1
+room_less a a' b b' j events runs = (let moments : b / (j + 1) ≤ b' / (j + 1) + 1 = room_used b b' j runs in apart (b / (j + 1)) (b' / (j + 1)) moments)
+  where
+    apart : (x y : ℕ) → x ≤ y + 1 → min a x ≤ min a' y + 1
+    apart x y h = omega arith

@@ -1,9 +1,7 @@
 -- What a timetable keeps of a record as the record grows.
 use Rattle.std.proofs.Common.{ℕ, zero, suc, Bool, true, false, ◌≡◌, ◌<◌, ◌≤◌, ◌+◌, ◌==◌, ◌||◌, ◌&&◌, not, List, [], ◌∷◌, ◌++◌, length, map, set, get_or, Option, refl, sym, ap, subst, ◌∙◌, inl, inr, arith, length-set}
 use Rattle.std.specs.Prelude.{slice_get, slice_index, Some, None, MatchOption, nat_lt, position, if◌then◌else◌}
-use Rattle.std.specs.List.{position_or_len}
-use Rattle.std.proofs.lemmas.Bool.{cases_lt, cases_eq, lt-ltb, eq-eqb, ne_eqb}
-use Rattle.std.proofs.lemmas.List.Sums.{fails_before_first}
+use Rattle.std.proofs.lemmas.Bool.{cases_eq, eq-eqb, ne_eqb}
 use Rattle.std.proofs.lemmas.List.Quantifiers.{position-Some}
 use Rattle.std.proofs.lemmas.Option.{get_or_from_slice_get, slice_get_within}
 use Rattle.std.proofs.lemmas.List.{append-nil}
@@ -16,12 +14,13 @@ use Rattle.svc_jobs.specs.declared.plan.JobRun.{JobRun}
 use Rattle.svc_jobs.specs.declared.row.JobRow.{JobRow}
 use Rattle.svc_jobs.specs.Dues.{is_shutdown, period, start_moment, due_since, due_at, run_of, runs_at, due_runs, has_run, runs_first}
 use Rattle.svc_jobs.specs.Rows.{ArePaced, HavePeriods, row_of, row_due, ran_row, due_in, runs_in, owes, owing}
+use Rattle.svc_jobs.specs.JobRefusals.{is_idle}
 use Rattle.svc_jobs.specs.TimetableData.{TimetableData}
 use Rattle.svc_jobs.specs.Timetables.{IsTimetableOf, periods_of, with_row, started_row, told_row, noted, readied}
 use Rattle.svc_record.specs.declared.action.Action.{Action}
 use Rattle.svc_record.specs.declared.action.Action.TheVariants.{Start, Broadcast, Phase}
 use Rattle.svc_record.specs.declared.action.ExecutionPhase.TheVariants.{ShutdownRuntimes}
-use Rattle.svc_jobs.proofs.RangeLemmas.{flat_map-same, flat_map-none, filter-first, filter-none, get-set_here, get-set_other}
+use Rattle.svc_jobs.proofs.RangeLemmas.{flat_map-same, flat_map-none, filter-first, filter-none, get-set_here, get-set_other, none_before}
 
 -- a run for so many due moments, as the record's definitions say it
 ran-is : (every : ℕ) (started : Option ℕ) (ran owed : Bool) (due : ℕ)
@@ -144,13 +143,7 @@ pub owing_none : (periods : List ℕ) (t : TimetableData) (q : Record) → IsTim
 owing_none periods t q table none =
     let d : JobRow = record { every = 0; started = None; ran = false; owes = false } in
     let row = λ (k : ℕ) (lt : k < length periods). get_or_from_slice_get t.rows k (row_of periods q k) d (table.rows_are k lt) in
-    filter-none (owes periods q) (length periods) 0 (λ k low high. subst (λ (r : JobRow). r.owes ≡ false) (row k (omega arith)) (none_before t.rows none k (let sized : length t.rows ≡ length periods = table.sized in omega arith) d))
-  where
-    none_before : (xs : List JobRow) → position (λ (row : JobRow). row.owes) xs ≡ None → (k : ℕ) → k < length xs → (d : JobRow) → (get_or xs k d).owes ≡ false
-    none_before xs e k lt d = elim (cases_lt (position_or_len (λ (row : JobRow). row.owes) xs) (length xs)) [
-      | inl below ↦ let t = lt-ltb _ _ below in let e' = rw t at e in absurd (cc)
-      | inr above ↦ fails_before_first (λ (row : JobRow). row.owes) xs k d (omega arith)
-    ]
+    filter-none (owes periods q) (length periods) 0 (λ k low high. subst (λ (r : JobRow). r.owes ≡ false) (row k (omega arith)) (none_before (λ (row : JobRow). row.owes) t.rows d none k (let sized : length t.rows ≡ length periods = table.sized in omega arith)))
 
 pub owing_at : (periods : List ℕ) (t : TimetableData) (q : Record) (o : Option ℕ) → IsTimetableOf periods t q → o ≡ position (λ (row : JobRow). row.owes) t.rows
     → MatchOption o (owing periods q ≡ []) (λ s. owing periods q ≡ s ∷ owing periods (Got (Ready s) ∷ q))
@@ -270,3 +263,23 @@ table_told periods t q Broadcast table = table-shut periods t q Broadcast refl (
 table_told periods t q (Phase ShutdownRuntimes ms) table = table-shut periods t q (Phase ShutdownRuntimes ms) refl (λ s. refl) table
 table_told periods t q (Phase x ms) table = table-as_is periods t q (Phase x ms) refl (λ s. refl) table
 table_told periods t q a table = table-as_is periods t q a refl (λ s. refl) table
+
+-- an action is no run
+pub runs-noted : (t : TimetableData) (a : Action) → (noted t a).runs ≡ t.runs
+runs-noted t (Start k) = refl
+runs-noted t Broadcast = refl
+runs-noted t (Phase ShutdownRuntimes ms) = refl
+runs-noted t (Phase x ms) = refl
+runs-noted t a = refl
+
+-- where no plan is idle, each has a period
+pub periods_there : (plans : List JobPlan) → position is_idle plans ≡ None → HavePeriods plans
+periods_there plans none s plan at =
+    let d : JobPlan = plan in
+    let fails : is_idle (get_or plans s d) ≡ false = none_before is_idle plans d none s (slice_get_within plans s plan at) in
+    let same : get_or plans s d ≡ plan = get_or_from_slice_get plans s plan d at in
+    above plan.every (subst (λ (p : JobPlan). is_idle p ≡ false) same fails)
+  where
+    above : (n : ℕ) → (n == 0) ≡ false → 0 < n
+    above zero h = absurd (cc)
+    above (suc n) h = omega arith

@@ -6,3 +6,5 @@ pub mod Timetables
 pub mod JobHosts
 pub mod JobRefusals
 pub mod Upcoming
+pub mod AccountData
+pub mod JobHostData

@@ -6,10 +6,9 @@ use Rattle.svc_record.specs.declared.item.Item.TheVariants as items
 use Rattle.svc_jobs.specs.declared.upcoming.NextItem.{NextItem}
 use Rattle.svc_jobs.specs.declared.upcoming.NextItem.TheVariants as coming
 
--- the item, of those that a host of jobs may give
-abbrev pub upcoming_of : Option Item → NextItem
-upcoming_of (Some (items.Event (Moment m))) = coming.Moment m
-upcoming_of (Some (items.Event (Signal kind))) = coming.Signal kind
-upcoming_of (Some (items.Event e)) = coming.Fault
-upcoming_of (Some items.Fault) = coming.Fault
-upcoming_of None = coming.Nothing
+-- the item that it stands for, if there is one
+abbrev pub item_of : NextItem → Option Item
+item_of (coming.Moment m) = Some (items.Event (Moment m))
+item_of (coming.Signal kind) = Some (items.Event (Signal kind))
+item_of coming.Fault = Some items.Fault
+item_of coming.Nothing = None

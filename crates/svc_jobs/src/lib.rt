@@ -2,6 +2,8 @@
 //! dependencies, run once for their due moments, and stop at the shutdown.
 #![tactic(auto)]
 
+mod account;
+mod host;
 mod job;
 mod plan;
 mod refusals;
@@ -10,6 +12,7 @@ mod service;
 mod timetable;
 mod upcoming;
 
+pub use host::JobHost;
 pub use job::Job;
 pub use plan::{JobPlan, JobRun, RunList};
 pub use refusals::{JobError, JobRefused};

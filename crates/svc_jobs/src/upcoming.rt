@@ -2,7 +2,7 @@
 
 ghost use Rattle.std.specs.Prelude.{◌≡◌, Some, true, slice_get};
 ghost use Rattle.svc_jobs.specs.JobHosts.{AreJobItems, is_job_item};
-ghost use Rattle.svc_jobs.specs.Upcoming.{upcoming_of};
+ghost use Rattle.svc_jobs.specs.Upcoming.{item_of};
 
 use svc_record::{Event, Item, ShutdownSignal};
 
@@ -19,7 +19,7 @@ pub(crate) enum NextItem {
 /// The item, of those that a host of jobs may give.
 fn read_item(item: &Item) -> NextItem
     requires { is_job_item item.now ≡ true }
-    ensures { result ≡ upcoming_of (Some item.now) }
+    ensures { Some item.now ≡ item_of result }
 {
     match item {
         Item::Event(Event::Moment(ms)) => NextItem::Moment(*ms),
@@ -32,7 +32,7 @@ fn read_item(item: &Item) -> NextItem
 /// The item with this index, from 0.
 pub(crate) fn upcoming(items: &[Item], index: usize) -> NextItem
     requires { AreJobItems items.now }
-    ensures { result ≡ upcoming_of (slice_get items.now index) }
+    ensures { slice_get items.now index ≡ item_of result }
 {
     if index >= items.len() {
         return NextItem::Nothing;
