@@ -25,11 +25,11 @@ use Rattle.svc_jobs.proofs.RangeLemmas.{filter-same, filter-none, refilled}
 use Rattle.svc_jobs.proofs.TableLemmas.{table_ready, table_signal, table_told}
 
 -- a text is equal to itself
-same_bytes : (xs ys : List ℕ) → xs ≡ ys → bytes_eq xs ys ≡ true
+pub same_bytes : (xs ys : List ℕ) → xs ≡ ys → bytes_eq xs ys ≡ true
 same_bytes xs ys e = grind (arith, bytes_eq-Decides xs ys, e)
 
 -- where no number passes, none does
-filter-nil : (f : ℕ → Bool) (n a k : ℕ) → filter f (range_with_len a n) ≡ [] → a ≤ k → k < a + n → f k ≡ false
+pub filter-nil : (f : ℕ → Bool) (n a k : ℕ) → filter f (range_with_len a n) ≡ [] → a ≤ k → k < a + n → f k ≡ false
 filter-nil f zero a k none low high = absurd (omega arith)
 filter-nil f (suc n) a k none low high = elim (cases_Bool (f a)) [
   | inl passes ↦ absurd (let e = rw passes at none in cc)

@@ -5,3 +5,6 @@ mod TableLemmas
 mod HeardLemmas
 mod HostLemmas
 mod RoomLemmas
+mod ShutLemmas
+mod OwedLemmas
+mod EndLemmas

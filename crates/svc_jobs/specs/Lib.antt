@@ -8,3 +8,4 @@ pub mod JobRefusals
 pub mod Upcoming
 pub mod AccountData
 pub mod JobHostData
+pub mod JobRuns

@@ -11,6 +11,7 @@ ghost use Rattle.svc_server.specs.Hosts.{no_account};
 ghost use Rattle.svc_server.specs.ScriptHosts.{counts_with, handed_with};
 ghost use Rattle.svc_jobs.specs.Dues.{due_runs};
 ghost use Rattle.svc_jobs.specs.JobHosts.{AreJobItems};
+ghost use Rattle.svc_jobs.specs.JobRuns.{TellsJobs, KeepsWords};
 ghost use Rattle.svc_jobs.specs.JobRefusals.{fault_of, is_idle, IsReason};
 ghost use Rattle.svc_jobs.specs.Rows.{HavePeriods, owing};
 ghost use Rattle.svc_jobs.specs.Timetables.{periods_of};
@@ -151,6 +152,18 @@ impl<J: Job> JobHost<J> {
         ensures due { self.now.runs ≡ due_runs (periods_of self.now.plans) self.now.entries }
     {
         self.timetable.runs()
+    }
+
+    /// What it keeps at any time.
+    pub(crate) fn read_kept(&self)
+        ensures tells { TellsJobs J.told self.now }
+        ensures words { KeepsWords (periods_of self.now.plans) self.now.entries }
+        ensures faulted { 0 < self.now.faults → slice_get self.now.items self.now.given ≡ Some items_given.Fault }
+        ensures faulted_last { 0 < self.now.faults → owing (periods_of self.now.plans) self.now.entries ≡ [] }
+        ensures finished { 0 < self.now.idles → self.now.given ≡ length self.now.items }
+        ensures finished_last { 0 < self.now.idles → owing (periods_of self.now.plans) self.now.entries ≡ [] }
+    {
+        let _given = self.given;
     }
 
     /// What it gave and was told, the oldest first.
