@@ -1,8 +1,8 @@
 -- Lists that are made over a range of numbers, and places in lists.
 use Rattle.std.proofs.Common.{ℕ, zero, suc, Bool, true, false, ◌≡◌, ◌<◌, ◌≤◌, ◌+◌, List, [], ◌∷◌, ◌++◌, length, set, take, get_or, Option, refl, sym, ap, subst, ◌∙◌, inl, inr, arith, append_assoc, add-zero, add-one, zero-add}
 use Rattle.std.specs.Prelude.{filter, slice_get, position, Some, None}
-use Rattle.std.specs.List.{flat_map, range_with_len, position_or_len}
-use Rattle.std.proofs.lemmas.Bool.{cases_eq, cases_lt, lt-ltb}
+use Rattle.std.specs.List.{flat_map, range_with_len, position_or_len, list_all}
+use Rattle.std.proofs.lemmas.Bool.{cases_eq, cases_lt, lt-ltb, and_parts}
 use Rattle.std.proofs.lemmas.List.Sums.{fails_before_first}
 use Rattle.std.proofs.lemmas.List.{append-nil}
 
@@ -86,3 +86,9 @@ pub nothing_past : {X : Type 0} (xs : List X) (i : ℕ) → slice_get xs i ≡ N
 nothing_past [] i none = omega arith
 nothing_past (x ∷ xs) zero none = absurd (cc)
 nothing_past (x ∷ xs) (suc i) none = (let past : length xs ≤ i = nothing_past xs i none in omega arith)
+
+-- each element passes, where all do
+pub all_at : {X : Type 0} (p : X → Bool) (xs : List X) (i : ℕ) (d : X) → list_all p xs ≡ true → i < length xs → p (get_or xs i d) ≡ true
+all_at p [] i d all lt = absurd (omega arith)
+all_at p (x ∷ xs) zero d all lt = (and_parts (p x) (list_all p xs) all).0
+all_at p (x ∷ xs) (suc i) d all lt = all_at p xs i d (and_parts (p x) (list_all p xs) all).1 (omega arith)

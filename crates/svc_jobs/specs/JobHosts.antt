@@ -1,5 +1,6 @@
 -- What a host of jobs keeps.
 use Rattle.std.specs.Prelude.{ℕ, Bool, true, false, ◌≡◌, ◌==◌, ◌-◌, ◌<◌, ◌≤◌, List, [], ◌∷◌, ◌++◌, length, map, filter, take, drop, bytes_eq, Option, Some, slice_get}
+use Rattle.std.specs.List.{list_all}
 use Rattle.svc_record.specs.declared.entry.Entry.{Entry}
 use Rattle.svc_record.specs.declared.entry.Entry.TheVariants.{Got, Told}
 use Rattle.svc_record.specs.declared.event.Event.{Event}
@@ -26,7 +27,7 @@ is_job_item items.Fault = true
 
 -- each of the items is
 abbrev pub AreJobItems : List Item → Type 0
-AreJobItems all = (k : ℕ) (item : Item) → slice_get all k ≡ Some item → is_job_item item ≡ true
+AreJobItems all = list_all is_job_item all ≡ true
 
 -- the event is a moment, a signal or the word of a job
 abbrev pub is_job_entry : Entry → Bool
