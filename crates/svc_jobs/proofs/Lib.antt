@@ -1,0 +1,10 @@
+mod TwoJobs
+mod RangeLemmas
+mod RunLemmas
+mod TableLemmas
+mod HeardLemmas
+mod HostLemmas
+mod RoomLemmas
+mod ShutLemmas
+mod OwedLemmas
+mod EndLemmas
