@@ -6,7 +6,7 @@ use Rattle.std.proofs.lemmas.List.Elements.{All-get_or}
 use Rattle.svc_graph.specs.declared.plan.EndpointPlan.{EndpointPlan}
 use Rattle.svc_record.specs.declared.plan.Plan.{Plan}
 use Rattle.svc_record.specs.declared.plan.ServicePlan.{ServicePlan}
-use Rattle.svc_record.specs.Plans.{endpoints, address}
+use Rattle.svc_record.specs.Plans.{address}
 use Rattle.svc_handover.specs.Law.{IsTextOr, AreTextual, HasTexts}
 
 -- what holds of each element holds of the one at this place

@@ -8,7 +8,7 @@ use Rattle.svc_record.specs.declared.action.Action.TheVariants.{Bind, Adopt}
 use Rattle.svc_record.specs.declared.entry.Entry.{Entry}
 use Rattle.svc_record.specs.declared.entry.Entry.TheVariants.{Got, Told}
 use Rattle.svc_record.specs.declared.event.Event.TheVariants.{Bound, Adopted}
-use Rattle.svc_record.specs.Record.{Record, has, EachEntry}
+use Rattle.svc_record.specs.Record.{Record, EachEntry}
 use Rattle.svc_record.specs.Plans.{is_endpoint, address, any_with}
 use Rattle.svc_record.specs.Descriptors.{has_live, live_numbers_with}
 use Rattle.svc_record.specs.Asks.{is_open, is_bind, is_bind_answer, is_bind_open, is_adopt, is_adopt_answer, is_adopt_open, is_ask_open, last_adopt}
