@@ -1,5 +1,5 @@
 -- Segments, and what one list of them says over another.
-use Rattle.std.proofs.Common.{◌≡◌, ℕ, ◌+◌, ◌^◌, ◌<◌, ◌≤◌, Bool, true, false, leb, List, [], ◌∷◌, ◌++◌, length, get_or, take, drop, Option, Some, None, inl, inr, refl, sym, subst, ap, ◌∙◌, arith, lit≤, length-append}
+use Rattle.std.proofs.Common.{◌≡◌, ℕ, ◌+◌, ◌^◌, ◌<◌, ◌≤◌, Bool, true, false, leb, List, [], ◌∷◌, ◌++◌, length, get_or, take, drop, Option, Some, None, inl, inr, refl, sym, subst, ap, ◌∙◌, arith, length-append}
 use Rattle.std.specs.Prelude.{nat_le, ◌==◌, if◌then◌else◌}
 use Rattle.std.specs.Option.{option_or}
 use Rattle.std.proofs.lemmas.Bool.{cases_lt, lt-leb, le-leb}
@@ -10,14 +10,10 @@ use Rattle.svc_gate.specs.declared.segments.Segment.{Segment}
 use Rattle.svc_gate.specs.Rules.{is_held, first_allow}
 use Rattle.svc_gate.specs.Segments.{found_from, found_in, FindsFirst, FindsEither, Ascends, next_begin, word_at, rest_at}
 
--- segments that ascend from one number to another ascend from each lower one to each higher one
+-- segments that ascend from one number to another
 pub Ascends-low : (low : ℕ) (segments : List Segment) (high : ℕ) → Ascends low segments high → low ≤ high
 Ascends-low low [] high h = h
 Ascends-low low (s ∷ segments) high h = let more = Ascends-low (s.from + 1) segments high h.1 in omega (arith, more, h.0)
-
-pub Ascends-from_higher : (low other : ℕ) (segments : List Segment) (high : ℕ) → other ≤ low → Ascends low segments high → Ascends other segments high
-Ascends-from_higher low other [] high le h = omega arith
-Ascends-from_higher low other (s ∷ segments) high le h = (omega (arith, h.0), h.1)
 
 pub Ascends-to_lower : (low : ℕ) (segments : List Segment) (high other : ℕ) → high ≤ other → Ascends low segments high → Ascends low segments other
 Ascends-to_lower low [] high other le h = omega arith
@@ -125,17 +121,6 @@ pub record Overlays (first second : List Segment) (low : ℕ) (a : Option Bool) 
   pub before : (x : ℕ) → x < low → found_in made x ≡ option_or (found_in first x) (found_in second x)
   pub behind : (x : ℕ) → low ≤ x → found_in made x ≡ option_or a b
   pub few : length made + (length upper + length lower) ≤ length first + length second
-
-pub overlays_first : (first second : List Segment) → Ascends 0 first (2 ^ 128) → Ascends 0 second (2 ^ 128) → Overlays first second 0 None first None second []
-overlays_first first second h k = record {
-  upper_follows = follows_first first h;
-  lower_follows = follows_first second k;
-  fits = lit≤ tt;
-  ascend = omega arith;
-  before = λ x lt. absurd (omega arith);
-  behind = λ x le. refl;
-  few = omega arith;
-}
 
 -- a step passes a segment of one list at least
 shorter_both : (a b : Segment) (more rest : List Segment) (from : ℕ) (first : Bool) → leb a.from b.from ≡ first → (if first then Some a.from else Some b.from) ≡ Some from

@@ -2,7 +2,6 @@
 
 ghost use Rattle.std.specs.Prelude.{◌≡◌, ℕ, ◌+◌, ◌-◌, ◌*◌, ◌^◌, ◌<◌, ◌≤◌, length, take, drop, IfOk, unwrap_or};
 ghost use Rattle.std.specs.List.{All};
-ghost use Rattle.std.specs.Option.{option_map};
 ghost use Rattle.svc_socket.specs.declared.reading.IpNumber.{IpNumber};
 ghost use Rattle.svc_gate.specs.Rules.{first_allow, first_of, IpFits};
 ghost use Rattle.svc_gate.specs.Rising.{Rises};
@@ -11,7 +10,7 @@ ghost use Rattle.svc_gate.specs.Ranges.{answer_in, verdict_of, count_of, ranges_
 
 use crate::counted::{GateRange, Steps};
 use crate::rules::GateRules;
-use crate::segments::{Segment, pass, segments_of};
+use crate::segments::{Segment, advance, segments_of};
 use std::alloc::Global;
 use std::marker::{Brand, Model};
 use std::sync::ledger::{Blank, Ledger};
@@ -89,7 +88,7 @@ impl Family {
         ensures count { IfOk result (λ f. count_of f ≤ 2 * length rules.now.rules + 1) }
     {
         let segments = segments_of(alloc, rules.rules.as_slice(), v6)?;
-        let (found, behind) = pass(None, segments.as_slice(), 0);
+        let (found, behind) = advance(None, segments.as_slice(), 0);
         let lowest = found.unwrap_or(rules.default_allow);
         let later = merged(alloc, behind, rules.default_allow, lowest)?;
         Ok(Family { lowest, later })

@@ -52,7 +52,7 @@ fn next_begin(upper: &[Segment], lower: &[Segment]) -> Option<u128>
 }
 
 /// What is said at a number before which no later segment begins, and the later segments.
-pub(crate) fn pass(
+pub(crate) fn advance(
     allow: Option<bool>,
     segments: &[Segment],
     number: u128,
@@ -80,8 +80,8 @@ fn overlay(alloc: Global, upper: &[Segment], lower: &[Segment]) -> Result<Vec<Se
     let mut upper_rest = upper;
     let mut lower_rest = lower;
     while let Some(from) = next_begin(upper_rest, lower_rest) {
-        (above, upper_rest) = pass(above, upper_rest, from);
-        (below, lower_rest) = pass(below, lower_rest, from);
+        (above, upper_rest) = advance(above, upper_rest, from);
+        (below, lower_rest) = advance(below, lower_rest, from);
         segments.push(Segment {
             from,
             allow: above.or(below),

@@ -6,7 +6,7 @@ pub loop-from-preserved : goal.loop-from-preserved
 loop-from-preserved c = (
   c.in-Some.from + 1,
   overlays_pushed _ _ _ _ _ _ _ _ _ _ _ _ _ _ _ c.loop-from.invariant.1 c.in-Some.ensures
-      c.pass.ensures.word c.pass.ensures.rest c.pass-in-Some.ensures.word c.pass-in-Some.ensures.rest c.or.ensures c.in_ok-push.ensures.items,
+      c.advance.ensures.word c.advance.ensures.rest c.advance-in-Some.ensures.word c.advance-in-Some.ensures.rest c.or.ensures c.in_ok-push.ensures.items,
 )
 
 pub returns-clause-ascend : goal.returns-clause-ascend
