@@ -1,0 +1,3 @@
+pub mod DeedLemmas
+pub mod TurnLemmas
+pub mod ServingLemmas
