@@ -1,5 +1,5 @@
 use crate::planning::echo_plan;
-use crate::{Seat, Slot, Sockets, real_desk, run_echo};
+use crate::{EchoEnd, Letter, Seat, Slot, Sockets, echo, real_desk, run_echo};
 use std::alloc::Global;
 use std::io::{Read, Write};
 use std::net::{Net, SocketAddr, TcpListener, TcpStream};
@@ -9,7 +9,7 @@ use std::test::Fail;
 use std::thread::{Threads, join};
 use std::time::{Clock, Duration};
 use std::{io, thread};
-use svc_conf::MemorySink;
+use svc_conf::{MemorySink, MemorySource};
 use svc_desk::{Gate, WorkEnd, serve_desks};
 use svc_record::Plan;
 
@@ -207,5 +207,38 @@ fn a_second_server_takes_the_listener(rt: HostRuntime) -> Result<(), Fail> {
     assert_eq!(rt; wrong, 0);
     assert!(rt; first && second);
     assert!(rt; TcpStream::connect(&rt, address).is_err());
+    Ok(())
+}
+
+#[test]
+fn what_comes_is_written_back(rt: HostRuntime) -> Result<(), Fail> {
+    let alloc = rt.alloc();
+    let bytes = vec![in alloc; 1u8, 2, 3, 4, 5]?;
+    let mut source = MemorySource::new(bytes, 2, Vec::new(alloc));
+    let mut sink = MemorySink::new(alloc, 1, Vec::new(alloc));
+    assert_eq!(rt; echo(&mut source, &mut sink, 2), EchoEnd::TurnsSpent);
+    assert_eq!(rt; sink.bytes.as_slice(), [1u8, 2, 3, 4].as_slice());
+    assert_eq!(rt; echo(&mut source, &mut sink, 2), EchoEnd::Done);
+    assert_eq!(rt; sink.bytes.as_slice(), [1u8, 2, 3, 4, 5].as_slice());
+    Ok(())
+}
+
+#[test]
+fn a_letter_is_carried_once(rt: HostRuntime) -> Result<(), Fail> {
+    let alloc = rt.alloc();
+    let mut slot = Slot::Missing;
+    assert!(rt; !slot.connect());
+    assert!(rt; slot.open());
+    assert!(rt; slot.connect());
+    let letter = Letter {
+        bytes: vec![in alloc; 97u8]?,
+        handed: vec![in alloc; 7u64]?,
+    };
+    assert!(rt; slot.send(letter).is_ok());
+    match slot.receive() {
+        Some(letter) => assert_eq!(rt; letter.handed.as_slice(), [7u64].as_slice()),
+        None => panic!(rt; "the letter is on its way"),
+    }
+    assert!(rt; slot.receive().is_none());
     Ok(())
 }

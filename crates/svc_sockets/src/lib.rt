@@ -16,6 +16,3 @@ pub use echoing::{EchoEnd, PIECE, echo};
 pub use slot::{Letter, Slot};
 pub use sockets::{Accepted, NextRefused, Seat, Sockets, accept, peer_of};
 pub use streams::{Incoming, Outgoing};
-
-#[cfg(test)]
-mod tests;
