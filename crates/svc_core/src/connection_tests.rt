@@ -28,9 +28,9 @@ fn web(rt: &impl Abort, alloc: Global) -> Core {
     web.declared = None;
     let mut services = ServiceList::new(alloc);
     services.push(alloc, web).expect(rt, "memory");
-    let plan = plan_of(services, false, false);
+    let plan = plan_of(services);
     let told = "start 0; bind 0 0; phase Running 0; ";
-    let mut core = begun_by(rt, alloc, plan, told, StepEnd::On);
+    let mut core = begun_by(rt, alloc, plan, told);
     go_on(rt, alloc, &mut core, Event::Bound(0, 0, 7), "");
     core
 }
@@ -73,45 +73,4 @@ fn a_connection_is_judged_and_served_and_cut(rt: HostRuntime) {
     go_on(&rt, alloc, &mut core, Event::Set(1, true), "handshake 1; ");
     go_on(&rt, alloc, &mut core, Event::Shaken(1, true), "serve 1; ");
     ends_fast(&rt, alloc, &mut core, "cut 1; close 7; ");
-}
-
-#[test]
-fn a_connection_is_refused_or_dropped(rt: HostRuntime) {
-    let alloc = rt.alloc();
-    let mut core = web(&rt, alloc);
-    arrives(
-        &rt,
-        alloc,
-        &mut core,
-        (1, peer(1), false),
-        "judged 1 no; refuse 1; ",
-    );
-    let unknown = (2, Peer::Unknown, false);
-    arrives(
-        &rt,
-        alloc,
-        &mut core,
-        unknown,
-        "settings 2 nodelay dscp=10; ",
-    );
-    go_on(&rt, alloc, &mut core, Event::Set(2, false), "drop 2; ");
-    let told = "judged 3 yes; settings 3 nodelay dscp=10; ";
-    arrives(&rt, alloc, &mut core, (3, Peer::Unix, true), told);
-    ends_fast(&rt, alloc, &mut core, "cut 3; close 7; ");
-}
-
-#[test]
-fn loops_rest_while_too_many_files_are_open(rt: HostRuntime) {
-    let alloc = rt.alloc();
-    let mut core = web(&rt, alloc);
-    go_on(
-        &rt,
-        alloc,
-        &mut core,
-        Event::AcceptFailed(0, 0, 24),
-        "rest 0 0; ",
-    );
-    go_on(&rt, alloc, &mut core, Event::AcceptFailed(0, 0, 11), "");
-    assert!(rt; !core.fits(&Event::AcceptFailed(0, 1, 24)));
-    assert!(rt; !core.fits(&Event::Finished(1)));
 }

@@ -19,10 +19,6 @@ pub use svc_record::{
 #[cfg(test)]
 mod connection_tests;
 #[cfg(test)]
-mod fork_tests;
-#[cfg(test)]
-mod signal_tests;
-#[cfg(test)]
 mod tests;
 #[cfg(test)]
 mod twice_tests;

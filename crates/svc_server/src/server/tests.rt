@@ -13,7 +13,7 @@ use std::rc::Rc;
 use svc_conf::{Key, NoMemory, Opt, ReadError, ServerConf, Settings, Text, Texts};
 use svc_graph::services::{RunPoll, ServiceReadyNotifier, ServiceWithDependents, StartPoll};
 use svc_graph::{DependencyError, EndpointPlan, Kind, ServiceHandle};
-use svc_record::{BootstrapError, Event, ExecutionPhase, Item, ShutdownSignal, Side};
+use svc_record::{BootstrapError, Event, ExecutionPhase, Item, ShutdownSignal};
 use svc_socket::{Peer, PeerAddr};
 use svc_streams::{AcceptAllFilter, ConnectionFilter};
 
@@ -361,7 +361,7 @@ fn with(rt: &impl Abort, mut items: Vec<Item>, item: Item) -> Vec<Item>
 fn fast() -> Item
     ensures { GivesFew result }
 {
-    signal(ShutdownSignal::FastShutdown)
+    Item::Event(Event::Signal(ShutdownSignal::FastShutdown))
 }
 
 /// What the run of a server over these items answers, and what its host was told.
@@ -416,41 +416,6 @@ fn closes_all_when_the_turns_are_spent(rt: HostRuntime) {
     assert_eq!(rt; answer, Err(RunError::TurnsSpent));
     let told =
         "start 0; phase Running 0; got ready 0; start 1; bind 1 0; got bound 1 0 7; close 7; ";
-    is_told(&rt, alloc, &host, told);
-}
-
-/// The signal comes.
-fn signal(kind: ShutdownSignal) -> Item
-    ensures { GivesFew result }
-{
-    Item::Event(Event::Signal(kind))
-}
-
-/// The moment comes, in milliseconds.
-fn moment(ms: u64) -> Item
-    ensures { GivesFew result }
-{
-    Item::Event(Event::Moment(ms))
-}
-
-#[test]
-fn a_shutdown_waits_as_it_is_configured(rt: HostRuntime) {
-    let alloc = rt.alloc();
-    let mut server = server(&rt, alloc);
-    server.configuration.grace_period_seconds = Some(2);
-    server.configuration.graceful_shutdown_timeout_seconds = Some(9);
-    let items = with(
-        &rt,
-        Vec::new(alloc),
-        signal(ShutdownSignal::GracefulTerminate),
-    );
-    let items = with(&rt, items, moment(1999));
-    let items = with(&rt, items, signal(ShutdownSignal::FastShutdown));
-    let items = with(&rt, items, moment(2000));
-    let (answer, host) = run_of(alloc, server, items, 4);
-    assert_eq!(rt; answer, Ok(Outcome::Served));
-    let told =
-        "phase Running 0; got signal terminate; broadcast; phase GracefulTerminate 0; phase ShutdownStarted 0; phase ShutdownGracePeriod 0; got moment 1999; got signal fast; got moment 2000; phase ShutdownRuntimes 2000; stop 9; phase Terminated 2000; ";
     is_told(&rt, alloc, &host, told);
 }
 
@@ -530,17 +495,6 @@ fn bootstrapping(rt: &impl Abort, alloc: Global, opt: Opt) -> Server<Listener>
 }
 
 #[test]
-fn a_test_ends_as_it_bootstraps(rt: HostRuntime) {
-    let alloc = rt.alloc();
-    let mut opt = Opt::default();
-    opt.test = true;
-    let server = bootstrapping(&rt, alloc, opt);
-    let (answer, host) = run_of(alloc, server, Vec::new(alloc), 9);
-    assert_eq!(rt; answer, Ok(Outcome::TestPassed));
-    is_told(&rt, alloc, &host, "phase Bootstrap 0; ");
-}
-
-#[test]
 fn ends_where_receiving_failed(rt: HostRuntime) {
     let alloc = rt.alloc();
     let mut opt = Opt::default();
@@ -575,17 +529,6 @@ fn ends_with_its_cause(rt: HostRuntime) {
     let stray = with(&rt, Vec::new(alloc), Item::Event(Event::Ready(1)));
     let text = "event 1 doesn't fit";
     ends_with(&rt, alloc, stray, RunError::Stray(1), text);
-}
-
-#[test]
-fn a_daemons_parent_ends_at_once(rt: HostRuntime) {
-    let alloc = rt.alloc();
-    let mut server = two_services(&rt, alloc);
-    server.configuration.daemon = true;
-    let items = with(&rt, Vec::new(alloc), Item::Event(Event::Side(Side::Parent)));
-    let (answer, host) = run_of(alloc, server, items, 9);
-    assert_eq!(rt; answer, Ok(Outcome::Parent(0)));
-    is_told(&rt, alloc, &host, "daemonize; got side parent; ");
 }
 
 #[test]
