@@ -18,7 +18,7 @@ use Rattle.svc_record.specs.declared.action.Action.TheVariants.{Start}
 use Rattle.svc_record.specs.declared.action.StepEnd.{StepEnd}
 use Rattle.svc_record.specs.declared.action.StepEnd.TheVariants as ends
 use Rattle.svc_record.specs.declared.action.BootstrapError.TheVariants as boots
-use Rattle.svc_record.specs.Plans.{service, services, service_count, has_kind}
+use Rattle.svc_record.specs.Plans.{service, services, service_count, is_kind, has_kind}
 use Rattle.svc_record.specs.Record.{Record, has, times, tell, now, signal_of, is_bootstrap, each_entry, EachEntry}
 use Rattle.svc_record.specs.Starts.{is_start, is_started, is_ready_event, start_known}
 use Rattle.svc_record.specs.Boot.{is_side_parent, is_bad_message, may_begin}
@@ -56,11 +56,11 @@ abbrev pub AllNotify : Plan → Type 0
 AllNotify p = (s : ℕ) (x : ServicePlan) → slice_get p.services s ≡ Some x → x.kind ≡ Notifying
 
 -- what is told changes nothing of the words
-untold-heads : (periods : List ℕ) (q : Record) (told : List Action) → each_entry (head_due periods) (tell q told) ≡ each_entry (head_due periods) q
+pub untold-heads : (periods : List ℕ) (q : Record) (told : List Action) → each_entry (head_due periods) (tell q told) ≡ each_entry (head_due periods) q
 untold-heads periods q [] = refl
 untold-heads periods q (a ∷ more) = untold-heads periods (Told a ∷ q) more
 
-untold-only : (q : Record) (told : List Action) → each_entry (λ e before. is_job_entry e) (tell q told) ≡ each_entry (λ e before. is_job_entry e) q
+pub untold-only : (q : Record) (told : List Action) → each_entry (λ e before. is_job_entry e) (tell q told) ≡ each_entry (λ e before. is_job_entry e) q
 untold-only q [] = refl
 untold-only q (a ∷ more) = untold-only (Told a ∷ q) more
 
@@ -77,7 +77,7 @@ none-owes periods q never = by (owing periods q) refl
     by (s ∷ more) e = (let here = filter-head (owes periods q) (length periods) 0 s more e in absurd (never s (let below = here.1 in omega arith) here.0))
 
 -- a test that passes no entry of a run of jobs
-only-lacks : (test : Entry → Bool) → ((m : ℕ) → test (Got (Moment m)) ≡ false) → ((kind : ShutdownSignal) → test (Got (Signal kind)) ≡ false) → ((s : ℕ) → test (Got (Ready s)) ≡ false) → ((a : Action) → test (Told a) ≡ false)
+pub only-lacks : (test : Entry → Bool) → ((m : ℕ) → test (Got (Moment m)) ≡ false) → ((kind : ShutdownSignal) → test (Got (Signal kind)) ≡ false) → ((s : ℕ) → test (Got (Ready s)) ≡ false) → ((a : Action) → test (Told a) ≡ false)
     → (q : Record) → each_entry (λ e before. is_job_entry e) q ≡ true → has test q ≡ false
 only-lacks test m k r t [] only = refl
 only-lacks test m k r t (Got (Moment ms) ∷ q) only = rw (m ms) (only-lacks test m k r t q only)
@@ -142,12 +142,12 @@ tested-by false false false false false true g h = absurd (cc)
 tested-by false false false false false false true h = absurd (cc)
 tested-by false false false false false false false h = absurd (cc)
 
-no-boots : (p : Plan) (s : ℕ) → AllNotify p → has_kind p BootstrapKind s ≡ false
-no-boots p s notify = by (slice_get p.services s) refl
+pub no-kind : (p : Plan) (kind : Kind) (s : ℕ) → AllNotify p → is_kind kind Notifying ≡ false → has_kind p kind s ≡ false
+no-kind p kind s notify other = by (slice_get p.services s) refl
   where
-    by : (o : Option ServicePlan) → slice_get p.services s ≡ o → has_kind p BootstrapKind s ≡ false
+    by : (o : Option ServicePlan) → slice_get p.services s ≡ o → has_kind p kind s ≡ false
     by None e = rw e refl
-    by (Some x) e = rw (e, notify s x e) refl
+    by (Some x) e = rw (e, notify s x e) other
 
 notifies : (p : Plan) (s : ℕ) → AllNotify p → s < service_count p → has_kind p Notifying s ≡ true
 notifies p s notify lt = by (slice_get p.services s) refl
@@ -163,7 +163,7 @@ notifies p s notify lt = by (slice_get p.services s) refl
 
 none-boots : (p : Plan) (q : Record) (xs : List ℕ) → AllNotify p → list_any (λ s. has_kind p BootstrapKind s && is_started q s) xs ≡ false
 none-boots p q [] notify = refl
-none-boots p q (s ∷ xs) notify = rw (no-boots p s notify) (none-boots p q xs notify)
+none-boots p q (s ∷ xs) notify = rw (no-kind p BootstrapKind s notify refl) (none-boots p q xs notify)
 
 left-only : (a b : Bool) → (a || b) ≡ true → b ≡ false → a ≡ true
 left-only true b h e = refl

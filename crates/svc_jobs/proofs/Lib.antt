@@ -8,3 +8,4 @@ mod RoomLemmas
 mod ShutLemmas
 mod OwedLemmas
 mod EndLemmas
+mod AfterLemmas

@@ -112,7 +112,7 @@ owes-ran periods (Got e ∷ b) s owed = owes-ran periods b s owed
 owes-ran periods (Told a ∷ b) s owed = owes-ran periods b s owed
 
 -- a job that has said that it is ready has run
-ready-ran : (periods : List ℕ) (q : Record) (s : ℕ) → each_entry (head_due periods) q ≡ true → has (is_ready_event s) q ≡ true → has_run periods q s ≡ true
+pub ready-ran : (periods : List ℕ) (q : Record) (s : ℕ) → each_entry (head_due periods) q ≡ true → has (is_ready_event s) q ≡ true → has_run periods q s ≡ true
 ready-ran periods [] s heads told = absurd (cc)
 ready-ran periods (Got (Moment m) ∷ b) s heads told =
     let parts = and_parts (is_none (owing periods b)) (each_entry (head_due periods) b) heads in

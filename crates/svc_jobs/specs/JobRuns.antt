@@ -1,11 +1,17 @@
 -- What the run of a server over a host of jobs leaves.
 use Rattle.std.specs.Prelude.{ℕ, Bool, true, ◌≡◌, ◌++◌, ◌≤◌, List, length, map, take, Option, Some, Result, Ok, Err, slice_get}
+use Rattle.std.specs.List.{list_all}
+use Rattle.svc_record.specs.declared.plan.Plan.{Plan}
+use Rattle.svc_record.specs.declared.entry.Entry.{Entry}
+use Rattle.svc_record.specs.declared.entry.Entry.TheVariants.{Told}
+use Rattle.svc_record.specs.declared.action.Action.TheVariants.{Start}
+use Rattle.svc_record.specs.Plans.{depends}
 use Rattle.svc_record.specs.declared.item.Item.TheVariants as items
 use Rattle.svc_record.specs.Record.{Record, each_entry}
 use Rattle.svc_server.specs.declared.run.Outcome.{Outcome}
 use Rattle.svc_server.specs.declared.run.RunError.{RunError}
 use Rattle.svc_server.specs.declared.run.RunError.TheVariants.{HostFault, TurnsSpent, OutOfEvents, NoMemory}
-use Rattle.svc_jobs.specs.Dues.{due_runs}
+use Rattle.svc_jobs.specs.Dues.{due_runs, has_run}
 use Rattle.svc_jobs.specs.Readies.{first_runs, readies_since, readies_right, are_told, items_of}
 use Rattle.svc_jobs.specs.Rows.{owing}
 use Rattle.svc_jobs.specs.JobHostData.{JobHostData}
@@ -37,3 +43,8 @@ abbrev pub ComesNext : {J : Type 0} → Result Outcome RunError → JobHostData 
 ComesNext (Err HostFault) host = slice_get host.items host.given ≡ Some items.Fault
 ComesNext (Err OutOfEvents) host = host.given ≡ length host.items
 ComesNext answer host = Unit {0}
+
+-- a job starts after each job that it depends on has run
+abbrev pub start_after_runs : Plan → List ℕ → Entry → Record → Bool
+start_after_runs p periods (Told (Start s)) before = list_all (has_run periods before) (depends p s)
+start_after_runs p periods _ before = true

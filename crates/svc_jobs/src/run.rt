@@ -1,13 +1,14 @@
 //! The run of a server over a host of jobs.
 
-ghost use Rattle.std.specs.Prelude.{◌≡◌, ◌↔◌, Some, Err, IfSome, length};
+ghost use Rattle.std.specs.Prelude.{◌≡◌, ◌↔◌, true, Some, Err, IfSome, length};
 ghost use Rattle.svc_conf.specs.Configuration.{judged};
 ghost use Rattle.svc_streams.specs.Verdicts.{verdict_at};
+ghost use Rattle.svc_record.specs.Record.{EachEntry};
 ghost use Rattle.svc_server.specs.Hosts.{no_account};
 ghost use Rattle.svc_server.specs.Runs.{RunTells, RunCounts, GoesWell, GoesThrough};
 ghost use Rattle.svc_server.specs.Servers.{answers_of, plan_of, IsSound};
 ghost use Rattle.svc_server.specs.declared.run.RunError.{RunError};
-ghost use Rattle.svc_jobs.specs.JobRuns.{TellsJobs, EndsTold, ComesNext};
+ghost use Rattle.svc_jobs.specs.JobRuns.{TellsJobs, EndsTold, ComesNext, start_after_runs};
 ghost use Rattle.svc_jobs.specs.Timetables.{periods_of};
 
 use crate::host::JobHost;
@@ -37,6 +38,10 @@ pub fn run_jobs<F: ConnectionFilter, J: Job>(
     // spent or memory ran out.
     ensures words { EndsTold result (periods_of host.new.plans) host.new.entries }
     ensures next { ComesNext result host.new }
+
+    // So a job starts after the first run of each that it depends on.
+    ensures order { EachEntry (λ e before. start_after_runs (plan_of server.configuration server.options server.eager server.dependencies
+        (answers_of ⟦<JobService as ServiceWithDependents>⟧ server.services.items)) (periods_of host.new.plans) e before ≡ true) host.new.entries }
 
     // The record, by the answer, and what was handed over.
     ensures tells { IfSome (⟦<JobHost<J> as Host>⟧.account host.new) (RunTells (verdict_at F.verdict server.filters) (plan_of server.configuration

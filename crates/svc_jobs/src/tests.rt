@@ -1,13 +1,16 @@
-ghost use Rattle.std.specs.Prelude.{None, length};
+ghost use Rattle.std.specs.Prelude.{◌≡◌, [], None, Some, length, true};
+ghost use Rattle.svc_server.specs.Hosts.{no_account};
 ghost use Rattle.svc_server.specs.Servers.{answers_of, IsSound};
+ghost use Rattle.svc_jobs.specs.JobHosts.{AreJobItems, is_job_item};
 
-use crate::{Job, JobError, JobHost, JobPlan, JobRun, JobService, run_jobs};
+use crate::{Job, JobError, JobHost, JobPlan, JobService, run_jobs};
 use std::alloc::Global;
+use std::fmt::Write;
 use std::process::Abort;
 use svc_conf::{Numbers, ServerConf, Text};
 use svc_graph::services::ServiceWithDependents;
 use svc_record::{Event, Item, ShutdownSignal};
-use svc_server::{Outcome, RunArgs, RunError, Server};
+use svc_server::{Host, Outcome, RunArgs, RunError, Server};
 use svc_streams::AcceptAllFilter;
 
 /// A job that does nothing.
@@ -49,131 +52,178 @@ fn with_job(
     }
 }
 
-/// The server, in which the job waits for another.
+/// The server, in which job 1 waits for job 0.
 fn with_wait(
     rt: &impl Abort,
     alloc: Global,
     mut server: Server<JobService, AcceptAllFilter>,
-    dependent: u32,
-    dependency: u32,
 ) -> Server<JobService, AcceptAllFilter>
     requires { IsSound server.dependencies (length server.filters) (answers_of ⟦<JobService as ServiceWithDependents>⟧ server.services.items) }
     ensures { IsSound result.dependencies (length result.filters) (answers_of ⟦<JobService as ServiceWithDependents>⟧ result.services.items) }
 {
-    match server
-        .dependencies
-        .add_dependency(alloc, dependent, dependency)
-    {
+    match server.dependencies.add_dependency(alloc, 1, 0) {
         Ok(()) => server,
         Err(_) => panic!(rt; "no dependency"),
     }
 }
 
-/// A plan with this period, in milliseconds.
-fn plan(rt: &impl Abort, alloc: Global, name: &str, every: u64) -> JobPlan {
-    JobPlan {
-        name: Text::new(alloc, name).expect(rt, "memory"),
+/// Adds a plan with this period, in milliseconds.
+fn add_plan(rt: &impl Abort, alloc: Global, plans: &mut Vec<JobPlan>, every: u64) {
+    let plan = JobPlan {
+        name: Text::new(alloc, "job").expect(rt, "memory"),
         every,
         depends: Numbers::new(alloc),
+    };
+    if plans.push(plan).is_err() {
+        panic!(rt; "memory");
     }
+}
+
+/// The items, and one more.
+fn with(rt: &impl Abort, mut items: Vec<Item>, item: Item) -> Vec<Item>
+    requires all { AreJobItems items.items }
+    requires job { is_job_item item ≡ true }
+    ensures { AreJobItems result.items }
+{
+    match items.push(item) {
+        Ok(()) => items,
+        Err(_) => panic!(rt; "memory"),
+    }
+}
+
+fn with_moment(rt: &impl Abort, items: Vec<Item>, ms: u64) -> Vec<Item>
+    requires { AreJobItems items.items }
+    ensures { AreJobItems result.items }
+{
+    with(rt, items, Item::Event(Event::Moment(ms)))
+}
+
+fn with_signal(rt: &impl Abort, items: Vec<Item>, kind: ShutdownSignal) -> Vec<Item>
+    requires { AreJobItems items.items }
+    ensures { AreJobItems result.items }
+{
+    with(rt, items, Item::Event(Event::Signal(kind)))
+}
+
+/// A host of quiet jobs.
+fn host_of(
+    rt: &impl Abort,
+    alloc: Global,
+    plans: Vec<JobPlan>,
+    jobs: Vec<Quiet>,
+    items: Vec<Item>,
+) -> JobHost<Quiet>
+    requires { AreJobItems items.items }
+    ensures { ⟦<JobHost<Quiet> as Host>⟧.account result ≡ Some no_account }
+{
+    match JobHost::new(alloc, plans, jobs, items) {
+        Ok(host) => host,
+        Err(_) => panic!(rt; "no host"),
+    }
+}
+
+/// The run over the host answers this, and its runs are these.
+fn plays(
+    rt: &impl Abort,
+    alloc: Global,
+    server: Server<JobService, AcceptAllFilter>,
+    mut host: JobHost<Quiet>,
+    answer: Result<Outcome, RunError>,
+    runs: &str,
+)
+    requires sound { IsSound server.dependencies (length server.filters) (answers_of ⟦<JobService as ServiceWithDependents>⟧ server.services.items) }
+    requires first { ⟦<JobHost<Quiet> as Host>⟧.account host ≡ Some no_account }
+{
+    let end = run_jobs(alloc, server, RunArgs { turns: 20 }, &mut host);
+    assert_eq!(rt; end, answer);
+    let mut text = String::new(alloc);
+    for run in host.runs().as_slice() {
+        let job = run.job;
+        let due = run.due;
+        let moment = run.moment;
+        write!(text, "run {job} {due} {moment}; ").expect(rt, "memory");
+    }
+    assert_eq!(rt; text.as_str(), runs);
+}
+
+fn two_quiet(rt: &impl Abort, alloc: Global) -> Vec<Quiet> {
+    let mut jobs = Vec::new(alloc);
+    if jobs.push(Quiet).is_err() || jobs.push(Quiet).is_err() {
+        panic!(rt; "memory");
+    }
+    jobs
+}
+
+fn one_quiet(rt: &impl Abort, alloc: Global) -> Vec<Quiet> {
+    let mut jobs = Vec::new(alloc);
+    if jobs.push(Quiet).is_err() {
+        panic!(rt; "memory");
+    }
+    jobs
 }
 
 #[test]
 fn runs_once_for_all_due_moments_and_after_its_dependency(rt: HostRuntime) {
     let alloc = rt.alloc();
-    let server = empty_server(&rt, alloc, 0);
-    let server = with_job(&rt, alloc, server, "a");
-    let server = with_job(&rt, alloc, server, "b");
-    let server = with_wait(&rt, alloc, server, 1, 0);
-    let plans = vec![in alloc; plan(&rt, alloc, "a", 1000), plan(&rt, alloc, "b", 500)];
-    let plans = plans.expect(&rt, "memory");
-    let jobs = vec![in alloc; Quiet, Quiet].expect(&rt, "memory");
-    let items = vec![in alloc; Item::Event(Event::Moment(999)), Item::Event(Event::Moment(1000)),
-        Item::Event(Event::Moment(1499)), Item::Event(Event::Moment(2600)),
-        Item::Event(Event::Signal(ShutdownSignal::GracefulTerminate))];
-    let items = items.expect(&rt, "memory");
-    match JobHost::new(alloc, plans, jobs, items) {
-        Ok(mut host) => {
-            let answer = run_jobs(alloc, server, RunArgs { turns: 8 }, &mut host);
-            assert_eq!(rt; answer, Ok(Outcome::Served));
-            let runs = [
-                JobRun { job: 0, due: 1, moment: 1000 },
-                JobRun { job: 0, due: 1, moment: 2600 },
-                JobRun { job: 1, due: 3, moment: 2600 },
-            ];
-            assert_eq!(rt; host.runs().as_slice(), runs.as_slice());
-        }
-        Err(_) => panic!(rt; "no host"),
-    }
+    let server = with_job(&rt, alloc, empty_server(&rt, alloc, 0), "a");
+    let server = with_wait(&rt, alloc, with_job(&rt, alloc, server, "b"));
+    let mut plans = Vec::new(alloc);
+    add_plan(&rt, alloc, &mut plans, 1000);
+    add_plan(&rt, alloc, &mut plans, 500);
+    let items = with_moment(&rt, Vec::new(alloc), 999);
+    let items = with_moment(&rt, items, 1000);
+    let items = with_moment(&rt, items, 1499);
+    let items = with_moment(&rt, items, 2600);
+    let items = with_signal(&rt, items, ShutdownSignal::GracefulTerminate);
+    let host = host_of(&rt, alloc, plans, two_quiet(&rt, alloc), items);
+    let runs = "run 0 1 1000; run 0 1 2600; run 1 3 2600; ";
+    plays(&rt, alloc, server, host, Ok(Outcome::Served), runs);
 }
 
 #[test]
 fn runs_nothing_after_the_broadcast(rt: HostRuntime) {
     let alloc = rt.alloc();
     let server = with_job(&rt, alloc, empty_server(&rt, alloc, 2), "a");
-    let plans = vec![in alloc; plan(&rt, alloc, "a", 1000)].expect(&rt, "memory");
-    let jobs = vec![in alloc; Quiet].expect(&rt, "memory");
-    let items = vec![in alloc; Item::Event(Event::Signal(ShutdownSignal::GracefulTerminate)), Item::Event(Event::Moment(2000))];
-    match JobHost::new(alloc, plans, jobs, items.expect(&rt, "memory")) {
-        Ok(mut host) => {
-            let answer = run_jobs(alloc, server, RunArgs { turns: 4 }, &mut host);
-            assert_eq!(rt; answer, Ok(Outcome::Served));
-            assert!(rt; host.runs().is_empty());
-        }
-        Err(_) => panic!(rt; "no host"),
-    }
+    let mut plans = Vec::new(alloc);
+    add_plan(&rt, alloc, &mut plans, 1000);
+    let items = with_signal(&rt, Vec::new(alloc), ShutdownSignal::GracefulTerminate);
+    let items = with_moment(&rt, items, 2000);
+    let host = host_of(&rt, alloc, plans, one_quiet(&rt, alloc), items);
+    plays(&rt, alloc, server, host, Ok(Outcome::Served), "");
 }
 
 #[test]
 fn counts_to_the_greatest_moment(rt: HostRuntime) {
     let alloc = rt.alloc();
     let server = with_job(&rt, alloc, empty_server(&rt, alloc, 2), "a");
-    let plans = vec![in alloc; plan(&rt, alloc, "a", u64::MAX)].expect(&rt, "memory");
-    let jobs = vec![in alloc; Quiet].expect(&rt, "memory");
-    let items = vec![in alloc; Item::Event(Event::Moment(u64::MAX)), Item::Event(Event::Signal(ShutdownSignal::FastShutdown))];
-    match JobHost::new(alloc, plans, jobs, items.expect(&rt, "memory")) {
-        Ok(mut host) => {
-            let answer = run_jobs(alloc, server, RunArgs { turns: 4 }, &mut host);
-            assert_eq!(rt; answer, Ok(Outcome::Served));
-            let run = JobRun { job: 0, due: 1, moment: u64::MAX };
-            assert_eq!(rt; host.runs().as_slice(), [run].as_slice());
-        }
-        Err(_) => panic!(rt; "no host"),
-    }
+    let mut plans = Vec::new(alloc);
+    add_plan(&rt, alloc, &mut plans, u64::MAX);
+    let items = with_moment(&rt, Vec::new(alloc), u64::MAX);
+    let items = with_signal(&rt, items, ShutdownSignal::FastShutdown);
+    let host = host_of(&rt, alloc, plans, one_quiet(&rt, alloc), items);
+    let runs = "run 0 1 18446744073709551615; ";
+    plays(&rt, alloc, server, host, Ok(Outcome::Served), runs);
 }
 
 #[test]
-fn fails_at_a_fault_and_ends_without_items(rt: HostRuntime) {
+fn fails_at_a_fault(rt: HostRuntime) {
     let alloc = rt.alloc();
     let server = with_job(&rt, alloc, empty_server(&rt, alloc, 0), "a");
-    let plans = vec![in alloc; plan(&rt, alloc, "a", 10)].expect(&rt, "memory");
-    let jobs = vec![in alloc; Quiet].expect(&rt, "memory");
-    let items = vec![in alloc; Item::Event(Event::Moment(10)), Item::Fault].expect(&rt, "memory");
-    match JobHost::new(alloc, plans, jobs, items) {
-        Ok(mut host) => {
-            let answer = run_jobs(alloc, server, RunArgs { turns: 4 }, &mut host);
-            assert_eq!(rt; answer, Err(RunError::HostFault));
-        }
-        Err(_) => panic!(rt; "no host"),
-    }
+    let mut plans = Vec::new(alloc);
+    add_plan(&rt, alloc, &mut plans, 10);
+    let items = with_moment(&rt, Vec::new(alloc), 10);
+    let items = with(&rt, items, Item::Fault);
+    let host = host_of(&rt, alloc, plans, one_quiet(&rt, alloc), items);
+    plays(&rt, alloc, server, host, Err(RunError::HostFault), "run 0 1 10; ");
 }
 
 #[test]
-fn refuses_unequal_lists_and_a_period_of_zero(rt: HostRuntime) {
+fn refuses_unequal_lists(rt: HostRuntime) {
     let alloc = rt.alloc();
-    let plans = vec![in alloc; plan(&rt, alloc, "a", 0)].expect(&rt, "memory");
-    let none = vec![in alloc].expect(&rt, "memory");
-    match JobHost::<Quiet>::new(alloc, plans, none, Vec::new(alloc)) {
+    let refused = JobHost::new(alloc, Vec::new(alloc), one_quiet(&rt, alloc), Vec::new(alloc));
+    match refused {
         Ok(_) => panic!(rt; "a host"),
-        Err(refused) => {
-            assert_eq!(rt; refused.reason, JobError::Unequal);
-            let mut jobs = refused.jobs;
-            jobs.push(Quiet).expect(&rt, "memory");
-            match JobHost::new(alloc, refused.plans, jobs, Vec::new(alloc)) {
-                Ok(_) => panic!(rt; "a host"),
-                Err(refused) => assert_eq!(rt; refused.reason, JobError::ZeroPeriod(0)),
-            }
-        }
+        Err(refused) => assert_eq!(rt; refused.reason, JobError::Unequal),
     }
 }
 
