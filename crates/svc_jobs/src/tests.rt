@@ -214,13 +214,25 @@ fn fails_at_a_fault(rt: HostRuntime) {
     let items = with_moment(&rt, Vec::new(alloc), 10);
     let items = with(&rt, items, Item::Fault);
     let host = host_of(&rt, alloc, plans, one_quiet(&rt, alloc), items);
-    plays(&rt, alloc, server, host, Err(RunError::HostFault), "run 0 1 10; ");
+    plays(
+        &rt,
+        alloc,
+        server,
+        host,
+        Err(RunError::HostFault),
+        "run 0 1 10; ",
+    );
 }
 
 #[test]
 fn refuses_unequal_lists(rt: HostRuntime) {
     let alloc = rt.alloc();
-    let refused = JobHost::new(alloc, Vec::new(alloc), one_quiet(&rt, alloc), Vec::new(alloc));
+    let refused = JobHost::new(
+        alloc,
+        Vec::new(alloc),
+        one_quiet(&rt, alloc),
+        Vec::new(alloc),
+    );
     match refused {
         Ok(_) => panic!(rt; "a host"),
         Err(refused) => assert_eq!(rt; refused.reason, JobError::Unequal),
@@ -230,6 +242,14 @@ fn refuses_unequal_lists(rt: HostRuntime) {
 #[test]
 fn says_why_it_refuses(rt: HostRuntime) {
     let alloc = rt.alloc();
-    let text = format!(in alloc; "{}; {}; {}", JobError::Unequal, JobError::ZeroPeriod(3), JobError::NoMemory);
-    assert_eq!(rt; text.expect(&rt, "memory").as_str(), "there aren't as many jobs as plans; the period of job 3 is 0; out of memory");
+    let text = format!(in alloc;
+        "{}; {}; {}",
+        JobError::Unequal,
+        JobError::ZeroPeriod(3),
+        JobError::NoMemory
+    );
+    assert_eq!(rt;
+        text.expect(&rt, "memory").as_str(),
+        "there aren't as many jobs as plans; the period of job 3 is 0; out of memory"
+    );
 }
