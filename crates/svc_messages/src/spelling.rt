@@ -1,6 +1,6 @@
 //! The known word that a misspelled one was meant to be.
 
-ghost use Rattle.std.specs.Prelude.{◌≡◌, ◌≤◌, IfSome, IsTrue, IsSome, length, Contains};
+ghost use Rattle.std.specs.Prelude.{◌≤◌, length};
 
 /// How many bytes the two begin with in common.
 fn shared(a: &[u8], b: &[u8]) -> usize
