@@ -64,16 +64,16 @@ all-then f g (x ∷ xs) h all = (let parts = and_parts (f x) (list_all f xs) all
 starts-after : (p : Plan) (periods : List ℕ) (q : Record) → AllNotify p → AllBare p → each_entry (head_due periods) q ≡ true → each_entry (λ e before. is_job_entry e) q ≡ true
     → EachEntry (λ e before. start_due p e before ≡ true) q → EachEntry (λ e before. start_after_runs p periods e before ≡ true) q
 starts-after p periods [] notify bare heads only due = tt
-starts-after p periods (Told (Start s) ∷ b) notify bare heads only due =
-    (all-then (is_ready p b) (has_run periods b) (depends p s) (λ d ready. ready-ran periods b d heads (ready-word p b d notify bare only ready)) (and_parts _ (is_due p b s) due.0).1,
-      starts-after p periods b notify bare heads only due.1)
+starts-after p periods (Told (Start s) ∷ b) notify bare heads only due = (
+  all-then (is_ready p b) (has_run periods b) (depends p s) (λ d ready. ready-ran periods b d heads (ready-word p b d notify bare only ready)) (and_parts _ (is_due p b s) due.0).1,
+  starts-after p periods b notify bare heads only due.1,
+)
 starts-after p periods (Told a ∷ b) notify bare heads only due = (refl, starts-after p periods b notify bare heads only due.1)
 starts-after p periods (Got e ∷ b) notify bare heads only due =
     (refl, starts-after p periods b notify bare (and_parts (head_due periods (Got e) b) (each_entry (head_due periods) b) heads).1 (and_parts (is_job_entry (Got e)) (each_entry (λ x before. is_job_entry x) b) only).1 due.1)
 
 -- what is closed at the end starts nothing
 module _ (p : Plan) (periods : List ℕ) where
-
   abbrev AreAfter : Record → Type 0
   AreAfter q = EachEntry (λ e before. start_after_runs p periods e before ≡ true) q
 
@@ -100,7 +100,7 @@ module _ (p : Plan) (periods : List ℕ) where
       let only = sym (untold-only (with_event also finished) (closing_actions p finished also)) ∙ subst (λ r. each_entry (λ e before. is_job_entry e) r ≡ true) closed keeps.only_jobs in
       subst AreAfter (sym closed)
       (after-cuts (ascending (live_connections finished)) (ascending (live_numbers p finished)) (new_numbers finished also) (with_event also finished)
-        (after-event also finished (starts-after p periods finished notify bare (heads-of also heads) (only-of also only) due)))
+      (after-event also finished (starts-after p periods finished notify bare (heads-of also heads) (only-of also only) due)))
     where
       heads-of : (also : Option Event) → each_entry (head_due periods) (with_event also finished) ≡ true → each_entry (head_due periods) finished ≡ true
       heads-of None h = h

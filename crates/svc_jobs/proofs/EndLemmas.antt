@@ -123,10 +123,10 @@ calm p q end only is =
     let message : ends_bad_message q ≡ false = only-lacks is_bad_message (λ m. refl) (λ k. refl) (λ s. refl) (λ a. refl) q only in
     calm-by (has_passed p q) (ends_tested p q) end
     (is ∙ ap (λ x. end_by (has_passed p q) (ends_tested p q) x (ends_parent_badly p q) (ends_transfer q) (ends_no_sender p q) (ends_bad_message q)) well
-      ∙ ap (λ x. end_by (has_passed p q) (ends_tested p q) false x (ends_transfer q) (ends_no_sender p q) (ends_bad_message q)) badly
-      ∙ ap (λ x. end_by (has_passed p q) (ends_tested p q) false false x (ends_no_sender p q) (ends_bad_message q)) transfer
-      ∙ ap (λ x. end_by (has_passed p q) (ends_tested p q) false false false x (ends_bad_message q)) sender
-      ∙ ap (λ x. end_by (has_passed p q) (ends_tested p q) false false false false x) message)
+    ∙ ap (λ x. end_by (has_passed p q) (ends_tested p q) false x (ends_transfer q) (ends_no_sender p q) (ends_bad_message q)) badly
+    ∙ ap (λ x. end_by (has_passed p q) (ends_tested p q) false false x (ends_no_sender p q) (ends_bad_message q)) transfer
+    ∙ ap (λ x. end_by (has_passed p q) (ends_tested p q) false false false x (ends_bad_message q)) sender
+    ∙ ap (λ x. end_by (has_passed p q) (ends_tested p q) false false false false x) message)
   where
     above : (n : ℕ) → nat_lt n 0 ≡ false
     above n = grind (arith, nat_tests)
@@ -182,17 +182,17 @@ started-known p (Got e ∷ q) s known started = started-known p q s known.1 star
 -- served
 served-none : (p : Plan) (periods : List ℕ) (q : Record) → KeepsWords periods q → IsServed p q → owing periods q ≡ []
 served-none p periods q keeps served = none-owes periods q (λ s lt owed.
-  let none = owed-unsignalled p periods q s keeps.heads keeps.only_jobs served.right.fits served.right.settled.1 lt owed in
-  let passes : has_passed_by p q None ≡ true = subst (λ o. has_passed_by p q o ≡ true) none served.served.drain.passes in cc)
+    let none = owed-unsignalled p periods q s keeps.heads keeps.only_jobs served.right.fits served.right.settled.1 lt owed in
+    let passes : has_passed_by p q None ≡ true = subst (λ o. has_passed_by p q o ≡ true) none served.served.drain.passes in cc)
 
 -- tested
 tested-none : (p : Plan) (periods : List ℕ) (q : Record) → AllNotify p → each_entry (head_due periods) q ≡ true → Right p q → ends.Tested ≡ step_end p q → owing periods q ≡ []
 tested-none p periods q notify heads right end = none-owes periods q (λ s lt owed.
-  let tests : ends_tested p q ≡ true = tested-by (has_passed p q) (ends_tested p q) (ends_parent_well p q) (ends_parent_badly p q) (ends_transfer q) (ends_no_sender p q) (ends_bad_message q) end in
-  let test = (and_parts p.test (has is_bootstrap q) tests).0 in
-  let tested : TestedRight p q = subst (λ b. OnTrue b (TestedRight p q)) tests right.stronger.tested in
-  let eager = (and_parts p.eager (may_begin p q) (left-only (p.eager && may_begin p q) _ tested.begun (none-boots p q (services p) notify))).0 in
-  tested-owes-none p periods q s test eager tested.in_turn heads right.fits right.settled.1 lt owed)
+    let tests : ends_tested p q ≡ true = tested-by (has_passed p q) (ends_tested p q) (ends_parent_well p q) (ends_parent_badly p q) (ends_transfer q) (ends_no_sender p q) (ends_bad_message q) end in
+    let test = (and_parts p.test (has is_bootstrap q) tests).0 in
+    let tested : TestedRight p q = subst (λ b. OnTrue b (TestedRight p q)) tests right.stronger.tested in
+    let eager = (and_parts p.eager (may_begin p q) (left-only (p.eager && may_begin p q) _ tested.begun (none-boots p q (services p) notify))).0 in
+    tested-owes-none p periods q s test eager tested.in_turn heads right.fits right.settled.1 lt owed)
 
 -- an event that doesn't fit
 stray-none : (p : Plan) (periods : List ℕ) (q : Record) (e : Event) → AllNotify p → each_entry (head_due periods) (Got e ∷ q) ≡ true → Right p q → has_ended p q ≡ false → (Fits p q e → ⊥) → owing periods (Got e ∷ q) ≡ []
@@ -203,8 +203,8 @@ stray-none p periods q (Moment m) notify heads right on misfit =
       | inr back ↦ (
           let late : nat_lt m (now q) ≡ true = backward (now q) m back in
           filter-none (owes periods (Got (Moment m) ∷ q)) (length periods) 0 (λ s low high.
-            let idle : due_at periods q m s ≡ 0 = off (has is_shutdown q) (nat_lt m (now q)) _ late in
-            rw (owes-none periods q s (omega arith) parts.0, idle) refl))
+          let idle : due_at periods q m s ≡ 0 = off (has is_shutdown q) (nat_lt m (now q)) _ late in
+          rw (owes-none periods q s (omega arith) parts.0, idle) refl))
     ]
   where
     backward : (a b : ℕ) → nat_le a b ≡ false → nat_lt b a ≡ true

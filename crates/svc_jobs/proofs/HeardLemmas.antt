@@ -3,7 +3,6 @@ use Rattle.std.proofs.Common.{ℕ, zero, suc, Bool, true, false, ◌≡◌, ◌<
 use Rattle.std.specs.Prelude.{slice_get, filter, Some, None, if◌then◌else◌}
 use Rattle.std.specs.List.{flat_map, range_with_len}
 use Rattle.std.specs.Option.{option_map}
-
 use Rattle.std.proofs.lemmas.Bool.{cases_eq, eq-eqb, ne_eqb}
 use Rattle.std.proofs.lemmas.List.{map-set, map-append, append-nil, set-get_or, length-map}
 use Rattle.std.proofs.lemmas.List.Elements.{filter-append}
@@ -99,7 +98,7 @@ heard_moment periods q m first told old new heard old_is new_is sized same_size 
     let now_told : told_after o (due_at periods q m s) ≡ Some numbers = (let both : Some (told_after o (due_at periods q m s)) ≡ Some (Some numbers) = sym (says s o there) ∙ at in cc) in
     let dues : dues_of s new ≡ dues_of s old ++ due_list (due_at periods q m s) =
     ap (dues_of s) new_is ∙ dues-append s (due_runs periods q) (runs_at periods q m) ∙ ap (λ xs. xs ++ dues_of s (runs_at periods q m)) (ap (dues_of s) (sym old_is))
-      ∙ ap (λ xs. dues_of s old ++ xs) (dues-at (due_at periods q m) m s (length periods) 0 (omega arith) (omega arith)) in
+    ∙ ap (λ xs. dues_of s old ++ xs) (dues-at (due_at periods q m) m s (length periods) 0 (omega arith) (omega arith)) in
     rw dues (told-tail o (due_at periods q m s) numbers (dues_of s old) (λ before is. heard s before (there ∙ ap (λ x. Some x) is)) now_told)
 
 -- nothing ran yet

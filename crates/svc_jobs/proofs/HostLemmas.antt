@@ -132,7 +132,13 @@ keeps_told periods t all at q faults idles a keeps = record {
 pub keeps_fault : (periods : List ℕ) (t : TimetableData) (all : List Item) (at : ℕ) (q : Record) (faults now_faults idles : ℕ) → KeepsJobs periods t all at q faults idles → owing periods q ≡ []
     → slice_get all at ≡ Some items.Fault → KeepsJobs periods t all at q now_faults idles
 keeps_fault periods t all at q faults now_faults idles keeps none next = record {
-  table = keeps.table; words = keeps.words; in_turn = keeps.in_turn; heads = keeps.heads; only_jobs = keeps.only_jobs; given = keeps.given; within = keeps.within;
+  table = keeps.table;
+  words = keeps.words;
+  in_turn = keeps.in_turn;
+  heads = keeps.heads;
+  only_jobs = keeps.only_jobs;
+  given = keeps.given;
+  within = keeps.within;
   faulted = λ h. next;
   faulted_last = λ h. none;
   finished = keeps.finished;
@@ -143,7 +149,13 @@ keeps_fault periods t all at q faults now_faults idles keeps none next = record 
 pub keeps_end : (periods : List ℕ) (t : TimetableData) (all : List Item) (at : ℕ) (q : Record) (faults idles now_idles : ℕ) → KeepsJobs periods t all at q faults idles → owing periods q ≡ []
     → length all ≤ at → KeepsJobs periods t all at q faults now_idles
 keeps_end periods t all at q faults idles now_idles keeps none past = record {
-  table = keeps.table; words = keeps.words; in_turn = keeps.in_turn; heads = keeps.heads; only_jobs = keeps.only_jobs; given = keeps.given; within = keeps.within;
+  table = keeps.table;
+  words = keeps.words;
+  in_turn = keeps.in_turn;
+  heads = keeps.heads;
+  only_jobs = keeps.only_jobs;
+  given = keeps.given;
+  within = keeps.within;
   faulted = keeps.faulted;
   faulted_last = keeps.faulted_last;
   finished = λ h. (let short = keeps.within in omega arith);

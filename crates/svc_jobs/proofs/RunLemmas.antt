@@ -77,16 +77,16 @@ ran_more init rows new first told spoken before now later last m s up lt heard s
         | inr ne ↦ up.paced k r (sym (elsewhere k ne) ∙ at)
       ];
       ran = (
-        run row here ∙ ap (λ (xs : List JobRun). xs ++ run_of s (row_due row last m) m) up.ran
-        ∙ append_assoc (list_of before) (runs_in init last m s) (run_of s (row_due row last m) m)
-        ∙ ap (λ (xs : List JobRun). list_of before ++ xs) (ap (λ n. runs_in init last m s ++ run_of s n m) (sym due_here) ∙ sym (flat_map-next (λ k. run_of k (due_in (slice_get init k) last m) m) s)));
+          run row here ∙ ap (λ (xs : List JobRun). xs ++ run_of s (row_due row last m) m) up.ran
+          ∙ append_assoc (list_of before) (runs_in init last m s) (run_of s (row_due row last m) m)
+          ∙ ap (λ (xs : List JobRun). list_of before ++ xs) (ap (λ n. runs_in init last m s ++ run_of s n m) (sym due_here) ∙ sym (flat_map-next (λ k. run_of k (due_in (slice_get init k) last m) m) s)));
       tells = λ k x below at. elim (cases_eq k s) [
         | inl e ↦ (
             let at' : slice_get told s ≡ Some x = up.untold s (omega arith) ∙ subst (λ n. slice_get first n ≡ Some x) e at in
             let spoke' : spoken ≡ set told s (told_after x (row_due row last m)) = say row x here at' in
             subst (λ n. slice_get spoken n ≡ Some (told_after x (due_in (slice_get init n) last m))) (sym e)
             (ap (λ (xs : List (Option (List ℕ))). slice_get xs s) spoke' ∙ get-set_here told s (told_after x (row_due row last m)) (let there : length told ≡ length first = up.heard in omega arith)
-              ∙ ap (λ n. Some (told_after x n)) (sym due_here)))
+            ∙ ap (λ n. Some (told_after x n)) (sym due_here)))
         | inr ne ↦ silent k ne ∙ up.tells k x (let apart : k ≡ s → ⊥ = ne in omega arith) at
       ];
       untold = λ k above. silent k (λ same. omega arith) ∙ up.untold k (omega arith);

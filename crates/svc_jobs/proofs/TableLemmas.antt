@@ -69,8 +69,8 @@ table_ran periods t q m rows runs room table on forward ran sized run =
       last_is = refl;
       shut_is = table.shut_is;
       runs_are = run ∙ ap (λ (xs : List JobRun). xs ++ runs_in t.rows t.last m (length t.rows)) table.runs_are
-        ∙ ap (λ (xs : List JobRun). due_runs periods q ++ xs)
-        (ap (λ n. runs_in t.rows t.last m n) table.sized ∙ flat_map-same (λ s. run_of s (due_in (slice_get t.rows s) t.last m) m) (λ s. run_of s (due_at periods q m s) m) (length periods) 0 (λ s low high. ap (λ n. run_of s n m) (due s low high)));
+          ∙ ap (λ (xs : List JobRun). due_runs periods q ++ xs)
+          (ap (λ n. runs_in t.rows t.last m n) table.sized ∙ flat_map-same (λ s. run_of s (due_in (slice_get t.rows s) t.last m) m) (λ s. run_of s (due_at periods q m s) m) (length periods) 0 (λ s low high. ap (λ n. run_of s n m) (due s low high)));
     }
 
 -- a moment at which nothing runs
@@ -84,7 +84,7 @@ table_late periods t q m table off =
       last_is = refl;
       shut_is = table.shut_is;
       runs_are = table.runs_are ∙ sym (append-nil (due_runs periods q))
-        ∙ ap (λ (xs : List JobRun). due_runs periods q ++ xs) (sym (flat_map-none (λ s. run_of s (due_at periods q m s) m) (length periods) 0 (λ s. ap (λ n. run_of s n m) (due-off periods q m s off'))));
+          ∙ ap (λ (xs : List JobRun). due_runs periods q ++ xs) (sym (flat_map-none (λ s. run_of s (due_at periods q m s) m) (length periods) 0 (λ s. ap (λ n. run_of s n m) (due-off periods q m s off'))));
     }
 
 new-at : (plans : List JobPlan) (s : ℕ) → s < length (periods_of plans) → slice_get (map (λ (plan : JobPlan). record { every = plan.every; started = None; ran = false; owes = false }) plans) s ≡ Some (row_of (periods_of plans) [] s)
@@ -210,7 +210,7 @@ table_ready periods t q k table = record {
 
 -- a signal
 pub table_signal : (periods : List ℕ) (t : TimetableData) (q : Record) (kind : ShutdownSignal) → IsTimetableOf periods t q → IsTimetableOf periods t (Got (Signal kind) ∷ q)
-table_signal periods t q kind table = record { rows_are = table.rows_are; sized = table.sized; last_is = table.last_is; shut_is = table.shut_is; runs_are = table.runs_are; }
+table_signal periods t q kind table = record { rows_are = table.rows_are; sized = table.sized; last_is = table.last_is; shut_is = table.shut_is; runs_are = table.runs_are }
 
 -- a job that is started
 table-started : (periods : List ℕ) (t : TimetableData) (q : Record) (k : ℕ) → IsTimetableOf periods t q

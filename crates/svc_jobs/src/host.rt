@@ -73,7 +73,7 @@ impl<J: Job> Model for JobHost<J> {
     } };
 
     ghost invariant = { λ h. KeepsJobs (periods_of h.plans.items) h.timetable h.items.items h.given h.account.entries h.account.faults h.account.idles
-      × (length h.jobs.items ≡ length h.plans.items) × AreJobItems h.items.items × AreHeard (map J.told h.jobs.items) h.timetable.runs };
+        × (length h.jobs.items ≡ length h.plans.items) × AreJobItems h.items.items × AreHeard (map J.told h.jobs.items) h.timetable.runs };
 }
 
 /// The index of the first plan whose period is 0.

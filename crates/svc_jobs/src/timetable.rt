@@ -84,13 +84,7 @@ fn run_one<J: Job>(
 }
 
 /// Runs each job that has due moments, in ascending number.
-fn run_all<J: Job>(
-    rows: &mut [JobRow],
-    jobs: &mut [J],
-    runs: &mut RunList,
-    last: u64,
-    moment: u64,
-)
+fn run_all<J: Job>(rows: &mut [JobRow], jobs: &mut [J], runs: &mut RunList, last: u64, moment: u64)
     requires jobs { length jobs.old ≡ length rows.old }
     requires numbers { length rows.old ≤ 2 ^ 32 }
     requires paced { ArePaced rows.old }
@@ -193,13 +187,7 @@ impl Timetable {
             self.last = moment;
             return;
         }
-        run_all(
-            &mut self.rows,
-            jobs,
-            &mut self.runs,
-            self.last,
-            moment,
-        );
+        run_all(&mut self.rows, jobs, &mut self.runs, self.last, moment);
         self.last = moment;
     }
 

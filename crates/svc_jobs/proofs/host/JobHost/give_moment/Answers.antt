@@ -19,16 +19,17 @@ invariant_of-self g c =
     let whole = refilled c.self.inside.jobs.len c.take_moment.new.jobs (drop (length c.take_moment.new.jobs) c.self.inside.jobs.items) (c.take_moment.auto.jobs ∙ c.deref_mut.ensures.len) in
     let sized : length c.take_moment.new.jobs ≡ length c.self.inside.jobs.items = c.take_moment.auto.jobs ∙ ap (λ xs. length xs) c.deref_mut.ensures.value in
     let paired : length c.self.inside.jobs.items ≡ length c.self.inside.plans.items = c.self.invariant.1 in
-    rw (whole, c.take.ensures.entries, c.take.ensures.faults, c.take.ensures.idles)
-    (keeps_moment periods c.self.inside.timetable c.take_moment.new.self c.self.inside.items.items c.self.inside.given c.self.inside.account.entries c.self.inside.account.faults c.self.inside.account.idles
-      c.args.moment keeps none next table,
+    rw (whole, c.take.ensures.entries, c.take.ensures.faults, c.take.ensures.idles) (
+      keeps_moment periods c.self.inside.timetable c.take_moment.new.self c.self.inside.items.items c.self.inside.given c.self.inside.account.entries c.self.inside.account.faults c.self.inside.account.idles
+          c.args.moment keeps none next table,
       sized ∙ paired,
       c.self.invariant.2,
       heard_moment periods c.self.inside.account.entries c.args.moment (map g.J.Job.told c.self.inside.jobs.items) (map g.J.Job.told c.take_moment.new.jobs) c.self.inside.timetable.runs c.take_moment.new.self.runs
-      c.self.invariant.3 keeps.table.runs_are table.runs_are
-      (length-map c.self.inside.jobs.items g.J.Job.told ∙ paired ∙ sym (length-map c.self.inside.plans.items (λ (p : JobPlan). p.every)))
-      (length-map c.take_moment.new.jobs g.J.Job.told ∙ sized ∙ sym (length-map c.self.inside.jobs.items g.J.Job.told))
-      (λ s o at. says periods c.self.inside.account.entries s o keeps.table at))
+          c.self.invariant.3 keeps.table.runs_are table.runs_are
+          (length-map c.self.inside.jobs.items g.J.Job.told ∙ paired ∙ sym (length-map c.self.inside.plans.items (λ (p : JobPlan). p.every)))
+          (length-map c.take_moment.new.jobs g.J.Job.told ∙ sized ∙ sym (length-map c.self.inside.jobs.items g.J.Job.told))
+          (λ s o at. says periods c.self.inside.account.entries s o keeps.table at),
+    )
 
 pub returns-clause-room : goal.returns-clause-room
 returns-clause-room g c =

@@ -9,6 +9,9 @@ pub invariant_of-result : goal.invariant_of-result
 invariant_of-result g c =
     let table = rw c.deref-2.ensures.value at c.in-Ok.ensures.table in
     let equal = c.fault_of.ensures.equal (no_fault c.fault_of.result c.in_default.not-Some) in
-    let plans : length c.deref.result.now ≡ length c.args.plans.items = ap (λ (xs : List JobPlan). length xs) c.deref.ensures.value in
-    (rw (c.new-in-Ok.ensures.entries, c.new-in-Ok.ensures.faults, c.new-in-Ok.ensures.idles) (keeps_new (periods_of c.args.plans.items) c.in-Ok.timetable c.args.items.items table),
-      omega (arith, equal, plans, c.len.ensures, c.args.jobs.ok), c.requires, heard_none (map g.J.Job.told c.args.jobs.items) c.in-Ok.timetable.runs table.runs_are)
+    let plans : length c.deref.result.now ≡ length c.args.plans.items = ap (λ (xs : List JobPlan). length xs) c.deref.ensures.value in (
+      rw (c.new-in-Ok.ensures.entries, c.new-in-Ok.ensures.faults, c.new-in-Ok.ensures.idles) (keeps_new (periods_of c.args.plans.items) c.in-Ok.timetable c.args.items.items table),
+      omega (arith, equal, plans, c.len.ensures, c.args.jobs.ok),
+      c.requires,
+      heard_none (map g.J.Job.told c.args.jobs.items) c.in-Ok.timetable.runs table.runs_are,
+    )

@@ -31,7 +31,7 @@ returns-clause-table g c = λ periods q table.
     subst (λ (xs : List JobRow). IsTimetableOf periods (record { rows = xs; last = c.args.moment; shut = c.self.inside.shut; runs = list_of c.run_all.new.runs; spare = spare c.run_all.new.runs }) (Got (Moment c.args.moment) ∷ q)) (sym whole)
     (subst (λ (b : Bool). IsTimetableOf periods (record { rows = c.run_all.new.rows; last = c.args.moment; shut = b; runs = list_of c.run_all.new.runs; spare = spare c.run_all.new.runs }) (Got (Moment c.args.moment) ∷ q)) shut_is
     (table_ran periods c.args.self.now q c.args.moment c.run_all.new.rows (list_of c.run_all.new.runs) (spare c.run_all.new.runs) table off.0 off.1
-      (rw (← rows_is, ← last_is) c.run_all.ensures.rows) sized (rw (← rows_is, ← last_is, ← runs_is) c.run_all.ensures.runs)))
+    (rw (← rows_is, ← last_is) c.run_all.ensures.rows) sized (rw (← rows_is, ← last_is, ← runs_is) c.run_all.ensures.runs)))
 
 pub returns-clause-told : goal.returns-clause-told
 returns-clause-told g c = λ periods q s told table at.
