@@ -1,7 +1,8 @@
-ghost use Rattle.std.specs.Prelude.{◌≡◌, [], None, Some, length, true};
+ghost use Rattle.std.specs.Prelude.{◌≡◌, None, Some, length};
+ghost use Rattle.std.specs.List.{list_all};
 ghost use Rattle.svc_server.specs.Hosts.{no_account};
 ghost use Rattle.svc_server.specs.Servers.{answers_of, IsSound};
-ghost use Rattle.svc_jobs.specs.JobHosts.{AreJobItems, is_job_item};
+ghost use Rattle.svc_jobs.specs.JobHosts.{is_job_item};
 
 use crate::{Job, JobError, JobHost, JobPlan, JobService, run_jobs};
 use std::alloc::Global;
@@ -79,30 +80,34 @@ fn add_plan(rt: &impl Abort, alloc: Global, plans: &mut Vec<JobPlan>, every: u64
     }
 }
 
-/// The items, and one more.
-fn with(rt: &impl Abort, mut items: Vec<Item>, item: Item) -> Vec<Item>
-    requires all { AreJobItems items.items }
-    requires job { is_job_item item ≡ true }
-    ensures { AreJobItems result.items }
+fn is_job_item(item: &Item) -> bool
+    ensures { result ≡ is_job_item item.now }
 {
-    match items.push(item) {
-        Ok(()) => items,
-        Err(_) => panic!(rt; "memory"),
+    matches!(
+        item,
+        Item::Event(Event::Moment(_) | Event::Signal(_)) | Item::Fault
+    )
+}
+
+/// Each of the items is one that a host of jobs may give.
+fn are_job_items(items: &[Item]) -> bool
+    ensures { result ≡ list_all is_job_item items.now }
+{
+    items.iter().all(|item| is_job_item(item))
+}
+
+fn add(rt: &impl Abort, items: &mut Vec<Item>, item: Item) {
+    if items.push(item).is_err() {
+        panic!(rt; "memory");
     }
 }
 
-fn with_moment(rt: &impl Abort, items: Vec<Item>, ms: u64) -> Vec<Item>
-    requires { AreJobItems items.items }
-    ensures { AreJobItems result.items }
-{
-    with(rt, items, Item::Event(Event::Moment(ms)))
+fn add_moment(rt: &impl Abort, items: &mut Vec<Item>, ms: u64) {
+    add(rt, items, Item::Event(Event::Moment(ms)));
 }
 
-fn with_signal(rt: &impl Abort, items: Vec<Item>, kind: ShutdownSignal) -> Vec<Item>
-    requires { AreJobItems items.items }
-    ensures { AreJobItems result.items }
-{
-    with(rt, items, Item::Event(Event::Signal(kind)))
+fn add_signal(rt: &impl Abort, items: &mut Vec<Item>, kind: ShutdownSignal) {
+    add(rt, items, Item::Event(Event::Signal(kind)));
 }
 
 /// A host of quiet jobs.
@@ -113,9 +118,11 @@ fn host_of(
     jobs: Vec<Quiet>,
     items: Vec<Item>,
 ) -> JobHost<Quiet>
-    requires { AreJobItems items.items }
     ensures { ⟦<JobHost<Quiet> as Host>⟧.account result ≡ Some no_account }
 {
+    if !are_job_items(&items) {
+        panic!(rt; "no such items");
+    }
     match JobHost::new(alloc, plans, jobs, items) {
         Ok(host) => host,
         Err(_) => panic!(rt; "no host"),
@@ -146,20 +153,16 @@ fn plays(
     assert_eq!(rt; text.as_str(), runs);
 }
 
-fn two_quiet(rt: &impl Abort, alloc: Global) -> Vec<Quiet> {
+fn one_quiet(rt: &impl Abort, alloc: Global) -> Vec<Quiet> {
     let mut jobs = Vec::new(alloc);
-    if jobs.push(Quiet).is_err() || jobs.push(Quiet).is_err() {
-        panic!(rt; "memory");
-    }
+    add_quiet(rt, &mut jobs);
     jobs
 }
 
-fn one_quiet(rt: &impl Abort, alloc: Global) -> Vec<Quiet> {
-    let mut jobs = Vec::new(alloc);
+fn add_quiet(rt: &impl Abort, jobs: &mut Vec<Quiet>) {
     if jobs.push(Quiet).is_err() {
         panic!(rt; "memory");
     }
-    jobs
 }
 
 #[test]
@@ -170,12 +173,15 @@ fn runs_once_for_all_due_moments_and_after_its_dependency(rt: HostRuntime) {
     let mut plans = Vec::new(alloc);
     add_plan(&rt, alloc, &mut plans, 1000);
     add_plan(&rt, alloc, &mut plans, 500);
-    let items = with_moment(&rt, Vec::new(alloc), 999);
-    let items = with_moment(&rt, items, 1000);
-    let items = with_moment(&rt, items, 1499);
-    let items = with_moment(&rt, items, 2600);
-    let items = with_signal(&rt, items, ShutdownSignal::GracefulTerminate);
-    let host = host_of(&rt, alloc, plans, two_quiet(&rt, alloc), items);
+    let mut items = Vec::new(alloc);
+    add_moment(&rt, &mut items, 999);
+    add_moment(&rt, &mut items, 1000);
+    add_moment(&rt, &mut items, 1499);
+    add_moment(&rt, &mut items, 2600);
+    add_signal(&rt, &mut items, ShutdownSignal::GracefulTerminate);
+    let mut jobs = one_quiet(&rt, alloc);
+    add_quiet(&rt, &mut jobs);
+    let host = host_of(&rt, alloc, plans, jobs, items);
     let runs = "run 0 1 1000; run 0 1 2600; run 1 3 2600; ";
     plays(&rt, alloc, server, host, Ok(Outcome::Served), runs);
 }
@@ -186,8 +192,9 @@ fn runs_nothing_after_the_broadcast(rt: HostRuntime) {
     let server = with_job(&rt, alloc, empty_server(&rt, alloc, 2), "a");
     let mut plans = Vec::new(alloc);
     add_plan(&rt, alloc, &mut plans, 1000);
-    let items = with_signal(&rt, Vec::new(alloc), ShutdownSignal::GracefulTerminate);
-    let items = with_moment(&rt, items, 2000);
+    let mut items = Vec::new(alloc);
+    add_signal(&rt, &mut items, ShutdownSignal::GracefulTerminate);
+    add_moment(&rt, &mut items, 2000);
     let host = host_of(&rt, alloc, plans, one_quiet(&rt, alloc), items);
     plays(&rt, alloc, server, host, Ok(Outcome::Served), "");
 }
@@ -198,45 +205,12 @@ fn counts_to_the_greatest_moment(rt: HostRuntime) {
     let server = with_job(&rt, alloc, empty_server(&rt, alloc, 2), "a");
     let mut plans = Vec::new(alloc);
     add_plan(&rt, alloc, &mut plans, u64::MAX);
-    let items = with_moment(&rt, Vec::new(alloc), u64::MAX);
-    let items = with_signal(&rt, items, ShutdownSignal::FastShutdown);
+    let mut items = Vec::new(alloc);
+    add_moment(&rt, &mut items, u64::MAX);
+    add_signal(&rt, &mut items, ShutdownSignal::FastShutdown);
     let host = host_of(&rt, alloc, plans, one_quiet(&rt, alloc), items);
     let runs = "run 0 1 18446744073709551615; ";
     plays(&rt, alloc, server, host, Ok(Outcome::Served), runs);
-}
-
-#[test]
-fn fails_at_a_fault(rt: HostRuntime) {
-    let alloc = rt.alloc();
-    let server = with_job(&rt, alloc, empty_server(&rt, alloc, 0), "a");
-    let mut plans = Vec::new(alloc);
-    add_plan(&rt, alloc, &mut plans, 10);
-    let items = with_moment(&rt, Vec::new(alloc), 10);
-    let items = with(&rt, items, Item::Fault);
-    let host = host_of(&rt, alloc, plans, one_quiet(&rt, alloc), items);
-    plays(
-        &rt,
-        alloc,
-        server,
-        host,
-        Err(RunError::HostFault),
-        "run 0 1 10; ",
-    );
-}
-
-#[test]
-fn refuses_unequal_lists(rt: HostRuntime) {
-    let alloc = rt.alloc();
-    let refused = JobHost::new(
-        alloc,
-        Vec::new(alloc),
-        one_quiet(&rt, alloc),
-        Vec::new(alloc),
-    );
-    match refused {
-        Ok(_) => panic!(rt; "a host"),
-        Err(refused) => assert_eq!(rt; refused.reason, JobError::Unequal),
-    }
 }
 
 #[test]
