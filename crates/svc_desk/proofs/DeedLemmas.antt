@@ -1,5 +1,5 @@
 -- A worker's deeds one after the other.
-use Rattle.std.proofs.Common.{◌≡◌, ◌≢◌, ℕ, ◌+◌, ◌^◌, ◌<◌, ◌≤◌, min, List, [], ◌∷◌, ◌++◌, length, Option, Some, None, refl, sym, ap, ◌∙◌, subst, arith, append_assoc, append-nil, length-append}
+use Rattle.std.proofs.Common.{◌≡◌, ◌≢◌, ℕ, ◌+◌, ◌<◌, ◌≤◌, List, [], ◌∷◌, ◌++◌, length, Option, Some, None, refl, sym, ap, ◌∙◌, subst, arith, append_assoc, append-nil, length-append}
 use Rattle.svc_conf.specs.Streams.{Rose}
 use Rattle.svc_calls.specs.Calls.{Adds}
 use Rattle.svc_calls.proofs.CallLemmas.{Adds-nil, Adds-then}
@@ -12,7 +12,7 @@ use Rattle.svc_book.specs.Journals.{FitsAfter, end_after}
 use Rattle.svc_shared.specs.declared.pass.Pass.{Pass}
 use Rattle.svc_shared.specs.declared.pass.SharedServer.{SharedServer}
 use Rattle.svc_shared.specs.Views.{Begins}
-use Rattle.svc_shared.specs.Posting.{IsOf, hand_in, seen_of, own_of, origin_of}
+use Rattle.svc_shared.specs.Posting.{IsOf, seen_of, own_of, origin_of}
 use Rattle.svc_shared.proofs.OwnLemmas.{begins-whole, begins-trans}
 use Rattle.svc_desk.specs.declared.stray.Strayed.{Strayed}
 use Rattle.svc_desk.specs.declared.worker.WorkEnd.{WorkEnd}

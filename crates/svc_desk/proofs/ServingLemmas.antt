@@ -1,28 +1,24 @@
 -- A server opened with two passes, closed with both, and its journal against both desks.
-use Rattle.std.proofs.Common.{◌≡◌, ◌⊎◌, inl, inr, ⊎_elim, ℕ, zero, suc, ◌+◌, ◌≤◌, List, [], ◌∷◌, ◌++◌, length, Option, Some, None, refl, sym, ap, ◌∙◌, subst, arith, append-nil}
+use Rattle.std.proofs.Common.{◌≡◌, ◌⊎◌, inl, inr, ⊎_elim, ℕ, zero, suc, ◌+◌, ◌≤◌, List, [], ◌∷◌, ◌++◌, length, Option, sym, ap, ◌∙◌, subst}
 use mathlib.Core.Option.{some, some-ne-none, some-injective}
 use lib.ListN.{get_elem?}
 use Rattle.svc_conf.specs.Streams.{Rose}
 use Rattle.svc_calls.specs.Calls.{Adds}
-use Rattle.svc_calls.proofs.CallLemmas.{Adds-nil, Adds-then}
+use Rattle.svc_calls.proofs.CallLemmas.{Adds-then}
 use Rattle.svc_record.specs.declared.event.Event.{Event}
 use Rattle.svc_record.specs.declared.action.Action.{Action}
 use Rattle.svc_record.specs.declared.plan.Plan.{Plan}
 use Rattle.svc_record.specs.Validity.{IsValid}
 use Rattle.svc_record.specs.Journal.{PostData, own_posts}
 use Rattle.svc_book.specs.BookData.{BookData}
-use Rattle.svc_book.specs.Journals.{IsLegal}
 use Rattle.svc_shared.specs.declared.view.Ended.{Ended}
 use Rattle.svc_shared.specs.declared.view.Hand.{Hand}
-use Rattle.svc_shared.specs.declared.view.View.{View}
 use Rattle.svc_shared.specs.declared.pass.Pass.{Pass}
 use Rattle.svc_shared.specs.declared.pass.SharedServer.{SharedServer}
-use Rattle.svc_shared.specs.declared.refusals.SplitReason.{SplitReason}
-use Rattle.svc_shared.specs.declared.refusals.SplitReason.TheVariants as splits
-use Rattle.svc_shared.specs.Views.{Begins, first_view, most, IsWhole}
+use Rattle.svc_shared.specs.Views.{Begins}
 use Rattle.svc_shared.specs.Rule.{IsSeatOf}
-use Rattle.svc_shared.specs.Posting.{IsOf, OfSeats, IsClosed, view_of, hand_in, seen_of, own_of, origin_of}
-use Rattle.svc_shared.specs.Sharing.{IsSplit, SplitCause, IsJoined}
+use Rattle.svc_shared.specs.Posting.{OfSeats, IsClosed, hand_in, seen_of, own_of, origin_of}
+use Rattle.svc_shared.specs.Sharing.{IsJoined}
 use Rattle.svc_shared.proofs.OwnLemmas.{begins-trans}
 use Rattle.svc_desk.specs.declared.stray.Strayed.{Strayed}
 use Rattle.svc_desk.specs.declared.worker.WorkEnd.{WorkEnd}
@@ -31,70 +27,12 @@ use Rattle.svc_desk.specs.declared.worker.Worked.{Worked}
 use Rattle.svc_desk.specs.declared.serving.EchoReason.{EchoReason}
 use Rattle.svc_desk.specs.declared.serving.EchoReason.TheVariants as reasons
 use Rattle.svc_desk.specs.Desks.{DeskData, IsPerformed, Grew}
-use Rattle.svc_desk.specs.Deeds.{Deed, events_of, posts_of, actions_of, stray_events, Follows, EndsBy, GrewUpTo, Shows}
+use Rattle.svc_desk.specs.Deeds.{Deed, events_of, posts_of, actions_of, stray_events, Follows, EndsBy, Shows}
 use Rattle.svc_desk.specs.Working.{IsWorked}
-use Rattle.svc_desk.specs.Serving.{DeskEnd, desk_end, StandsFor, OfTwo, IsServed, IsLater, IsHandedBack, AreSides, IsOpened, IsJournalOf}
+use Rattle.svc_desk.specs.Serving.{desk_end, StandsFor, OfTwo, IsServed, IsLater, IsHandedBack, AreSides, IsOpened, IsJournalOf}
 use Rattle.svc_desk.proofs.DeedLemmas.{follows-later, ends-later, performed-none}
 
--- OPENING
-
--- the first pass has the whole share and a drawn number, so it is split
-pub never_unsplit : (s : SharedServer) (p q : Pass) (reason : SplitReason) → view_of p ≡ first_view (origin_of s) → SplitCause p reason q → ⊥
-never_unsplit s p q splits.Thin first cause =
-    let low : (hand_in p).low ≡ 0 = ap (λ (v : View). v.hand.low) first in
-    let high : (hand_in p).high ≡ most = ap (λ (v : View). v.hand.high) first in
-    let same : (hand_in p).low ≡ (hand_in p).high = cause in
-    omega (arith, low, high, same)
-never_unsplit s p q splits.NoNumber first cause =
-    let some : (hand_in p).drawn ≡ Some 1 = ap (λ (v : View). v.hand.drawn) first in
-    let none : (hand_in p).drawn ≡ None = cause.1 in
-    cc
-never_unsplit s p q splits.NoMemory first cause = absurd cause
-
-pub opened : (plan : Plan) (limit : ℕ) (s : SharedServer) (p l r : Pass) (opening : List Action) → (origin_of s).plan ≡ plan → (origin_of s).limit ≡ limit
-    → (origin_of s).opening ≡ opening → IsLegal (origin_of s) [] → view_of p ≡ first_view (origin_of s)
-    → IsSplit s p l r → IsOpened plan limit s l r opening
-opened plan limit s p l r opening plan_is limit_is opening_is begun first x = record {
-  plan_is = plan_is;
-  limit_is = limit_is;
-  opening_is = opening_is;
-  begun = begun;
-  passes = record {
-    of_left = x.of_left;
-    of_right = x.of_right;
-    left_number = ap (λ (h : Hand). h.number) x.left_hand ∙ ap (λ (v : View). v.hand.number) first;
-    right_number = x.had 1 (ap (λ (v : View). v.hand.drawn) first);
-    low = ap (λ (h : Hand). h.low) x.left_hand ∙ ap (λ (v : View). v.hand.low) first;
-    after = ap (λ (h : Hand). h.low) x.right_hand ∙ sym (ap (λ (h : Hand). h.high + 1) x.left_hand);
-    high = ap (λ (h : Hand). h.high) x.right_hand ∙ ap (λ (v : View). v.hand.high) first;
-    left_ended = ap (λ (h : Hand). h.ended) x.left_hand ∙ ap (λ (v : View). v.hand.ended) first;
-    right_ended = ap (λ (h : Hand). h.ended) x.right_hand;
-  };
-  left_seen = x.left_seen ∙ ap (λ (v : View). v.sight.seen) first;
-  right_seen = x.right_seen ∙ ap (λ (v : View). v.sight.seen) first;
-  left_own = x.left_own ∙ ap (λ (v : View). v.sight.own) first;
-  right_own = x.right_own;
-}
-
--- the same two hands, after their work
-pub sides_after : (s : SharedServer) (l r q w : Pass) (m n : ℕ) → AreSides s l r m n → IsOf s q → hand_in q ≡ hand_in l → IsOf s w → hand_in w ≡ hand_in r
-    → AreSides s q w m n
-sides_after s l r q w m n x of_left left of_right right = record {
-  of_left = of_left;
-  of_right = of_right;
-  left_number = ap (λ (h : Hand). h.number) left ∙ x.left_number;
-  right_number = ap (λ (h : Hand). h.number) right ∙ x.right_number;
-  low = ap (λ (h : Hand). h.low) left ∙ x.low;
-  after = ap (λ (h : Hand). h.low) right ∙ (x.after ∙ sym (ap (λ (h : Hand). h.high + 1) left));
-  high = ap (λ (h : Hand). h.high) right ∙ x.high;
-  left_ended = ap (λ (h : Hand). h.ended) left ∙ x.left_ended;
-  right_ended = ap (λ (h : Hand). h.ended) right ∙ x.right_ended;
-}
-
 -- CLOSING
-
-pub joined_whole : (s : SharedServer) (l r q : Pass) → AreSides s l r 0 1 → IsJoined s l r q → IsWhole (hand_in q)
-joined_whole s l r q x j = (ap (λ (h : Hand). h.low) j.hand_is ∙ x.low, ap (λ (h : Hand). h.high) j.hand_is ∙ x.high)
 
 module _ (h : Hand) (m n : ℕ) (e : Ended) (number_is : h.number ≡ m) (ended_is : h.ended ≡ e ∷ []) (other_is : e.number ≡ n) where
   one_ended : (k : ℕ) (f : Ended) (seat : ℕ) → get_elem? (e ∷ []) k ≡ some f → f.number ≡ seat → seat ≡ n
@@ -200,22 +138,6 @@ served plan limit turns s p1 p2 opening left mid right one two r1 r2 journal val
 }
 
 -- REFUSALS
-
-same_later : (before now : DeskData) → now ≡ before → IsLater before now
-same_later before now is = subst (λ (d : DeskData). IsLater before d) (sym is)
-    (record {
-      taken = ([], Adds-nil before.taken);
-      performed = ([], Adds-nil before.performed);
-      refused = ([], Adds-nil before.refused);
-      faults = (let x : before.faults ≤ before.faults = omega arith in x);
-      idles = (let x : before.idles ≤ before.idles = omega arith in x);
-    })
-
--- the desks weren't asked for anything
-pub back_unasked : (plan : Plan) (left right one two : DeskData) (reason : EchoReason) → (reason ≡ reasons.BadPlan → IsValid plan → ⊥) → one ≡ left
-    → two ≡ right → IsHandedBack plan left right one two reason
-back_unasked plan left right one two reasons.BadPlan bad l r = (bad refl, l, r)
-back_unasked plan left right one two reasons.NoMemory bad l r = (same_later left one l, same_later right two r)
 
 worked_later : (s : SharedServer) (p : Pass) (turns : ℕ) (first : List Action) (before mid now : DeskData) (r : Worked) → IsPerformed before mid first
     → IsWorked s p turns mid now r → IsLater before now

@@ -1,11 +1,10 @@
 -- One event of a worker, and one turn.
-use Rattle.std.proofs.Common.{◌≡◌, ◌≢◌, ℕ, ◌+◌, ◌<◌, ◌≤◌, Bool, List, [], ◌∷◌, ◌++◌, length, Option, Some, None, refl, sym, ap, ◌∙◌, subst, arith, append-nil, length-append}
+use Rattle.std.proofs.Common.{◌≡◌, ◌≢◌, ℕ, ◌+◌, ◌≤◌, Bool, List, [], ◌∷◌, ◌++◌, length, Option, Some, None, refl, sym, ap, ◌∙◌, subst, arith, append-nil, length-append}
 use Rattle.svc_conf.specs.Items.{list_of}
 use Rattle.svc_calls.specs.Calls.{Adds}
 use Rattle.svc_calls.proofs.CallLemmas.{Adds-nil}
 use Rattle.svc_record.specs.declared.event.Event.{Event}
 use Rattle.svc_record.specs.declared.action.Action.{Action}
-use Rattle.svc_record.specs.declared.action.BootstrapError.{BootstrapError}
 use Rattle.svc_record.specs.declared.action.StepEnd.{StepEnd}
 use Rattle.svc_record.specs.declared.action.StepEnd.TheVariants.{On, Served, Tested, Parent, Ended}
 use Rattle.svc_record.specs.Journal.{PostData, post}
@@ -18,7 +17,7 @@ use Rattle.svc_shared.specs.declared.refusals.PostReason.TheVariants as reasons
 use Rattle.svc_shared.specs.declared.refusals.PostRefused.{PostRefused}
 use Rattle.svc_shared.specs.Views.{Begins}
 use Rattle.svc_shared.specs.Posting.{IsOf, IsPosted, IsRefused, HasCause, never, hand_in, seen_of, own_of, origin_of}
-use Rattle.svc_shared.proofs.OwnLemmas.{begins-whole, begins-trans}
+use Rattle.svc_shared.proofs.OwnLemmas.{begins-trans}
 use Rattle.svc_desk.specs.declared.desk.DeskAnswer.{DeskAnswer}
 use Rattle.svc_desk.specs.declared.desk.DeskAnswer.TheVariants as answers
 use Rattle.svc_desk.specs.declared.stray.Strayed.{Strayed}
@@ -28,8 +27,8 @@ use Rattle.svc_desk.specs.declared.worker.Tally.{Tally}
 use Rattle.svc_desk.specs.declared.worker.WorkEnd.{WorkEnd}
 use Rattle.svc_desk.specs.declared.worker.WorkEnd.TheVariants as ends
 use Rattle.svc_desk.specs.Desks.{DeskData, IsTaken, IsPerformed, IsRefusedBy, Grew, brought}
-use Rattle.svc_desk.specs.Deeds.{Deed, posted, strayed, events_of, actions_of, stray_events, strays_from, OfFront, LeavesOn}
-use Rattle.svc_desk.specs.Working.{IsDone, IsHandled, IsSettled, IsAtDesk, IsTurned, TurnEnds, FateIs, fate_by, end_by}
+use Rattle.svc_desk.specs.Deeds.{Deed, posted, strayed, events_of, actions_of, stray_events, strays_from, LeavesOn}
+use Rattle.svc_desk.specs.Working.{IsHandled, IsSettled, IsTurned, TurnEnds, FateIs, fate_by, end_by}
 use Rattle.svc_desk.proofs.DeedLemmas.{begins-length, of_front-whole, events-length, done-none, at_desk-none, grew-none}
 
 same-list : {T : Type 0} (a b : Option (List T)) → b ≡ a → Adds a b []

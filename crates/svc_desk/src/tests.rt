@@ -247,7 +247,13 @@ fn items_of(alloc: Global, first: Event, second: Event) -> Result<Vec<DeskItem>,
 fn a_worker_stops_for_each_cause(rt: HostRuntime) -> Result<(), Fail> {
     let alloc = rt.alloc();
     let fast = Event::Signal(ShutdownSignal::FastShutdown);
-    let over = played(&rt, alloc, items_of(alloc, Event::Finished(1), fast)?, 10, 10)?;
+    let over = played(
+        &rt,
+        alloc,
+        items_of(alloc, Event::Finished(1), fast)?,
+        10,
+        10,
+    )?;
     let shutdown =
         "Over; stray 1 0; phase ShutdownStarted 0; phase ShutdownRuntimes 0; stop 0; phase Terminated 0; back finished 1; ";
     assert_eq!(rt; over.as_str(), shutdown);

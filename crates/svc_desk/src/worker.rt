@@ -4,7 +4,7 @@ ghost use Rattle.std.specs.Prelude.{◌≡◌, ◌+◌, ◌<◌, ◌≤◌, Some
 ghost use Rattle.svc_conf.specs.Items.{list_of, spare};
 ghost use Rattle.svc_desk.specs.Desks.{IsPerformed};
 ghost use Rattle.svc_desk.specs.Working.{IsWorked, IsHandled, IsTurned, IsSettled, end_by, fate_by};
-ghost use Rattle.svc_shared.specs.Posting.{IsOf, hand_in};
+ghost use Rattle.svc_shared.specs.Posting.{IsOf};
 
 use crate::desk::{Desk, DeskAnswer};
 use crate::stray::{StrayList, Strayed};

@@ -1,4 +1,4 @@
-use Rattle.svc_desk.proofs.ServingLemmas.{joined_whole, closed_over}
+use Rattle.svc_desk.proofs.ServingLemmas.{closed_over}
 use Rattle.svc_desk.proofs.serving.close_both.Goals as goal
 
 pub returns-in-Ok : goal.returns-in-Ok

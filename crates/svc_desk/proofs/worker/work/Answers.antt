@@ -1,10 +1,9 @@
-use Rattle.std.proofs.Common.{◌≡◌, ℕ, ◌+◌, ◌<◌, ◌≤◌, List, [], ◌++◌, length, Option, Some, None, refl, sym, ap, ◌∙◌, subst, arith, append-nil, length-append}
+use Rattle.std.proofs.Common.{◌≡◌, ℕ, ◌+◌, ◌≤◌, List, [], ◌++◌, length, Option, refl, ap, subst, arith, length-append}
 use Rattle.svc_conf.specs.Items.{list_of}
 use Rattle.svc_record.specs.declared.event.Event.{Event}
 use Rattle.svc_shared.specs.Posting.{seen_of, origin_of}
 use Rattle.svc_desk.specs.declared.worker.WorkEnd.{WorkEnd}
 use Rattle.svc_desk.specs.Desks.{Grew}
-use Rattle.svc_desk.specs.Deeds.{Deed, events_of, stray_events}
 use Rattle.svc_desk.specs.Working.{IsAtDesk, TurnEnds}
 use Rattle.svc_desk.proofs.DeedLemmas.{done-none, done-then, at_desk-none, at_desk-then, on-then, grew-none, grew-then, takes-then, ends-then, strays-joined}
 use Rattle.svc_desk.proofs.worker.work.Goals as goal
