@@ -1,11 +1,10 @@
 -- The echo server's plan is valid.
-use Rattle.std.proofs.Common.{◌≡◌, ℕ, zero, suc, ◌<◌, ◌≤◌, Bool, true, false, ◌&&◌, not, List, [], ◌∷◌, length, All, Option, Some, None, if◌then◌else◌, nat_le, refl, arith}
+use Rattle.std.proofs.Common.{◌≡◌, ℕ, zero, suc, ◌<◌, Bool, true, false, ◌&&◌, not, List, [], ◌∷◌, length, Option, Some, None, if◌then◌else◌, nat_le, refl, arith}
 use Rattle.std.specs.Str.{bytes_eq}
 use Rattle.std.proofs.lemmas.List.Elements.{All-nil, All-cons}
 use Rattle.std.proofs.lemmas.Bool.{leb-true}
 use Rattle.svc_echo.proofs.EndingLemmas.{both}
-use Rattle.svc_graph.specs.Paths.{Edges, Path, IsChain, IsAcyclic}
-use Rattle.svc_record.specs.declared.plan.Plan.{Plan}
+use Rattle.svc_graph.specs.Paths.{Edges, IsChain}
 use Rattle.svc_record.specs.Plans.{depends, endpoints, service_count}
 use Rattle.svc_record.specs.Validity.{IsValid, IsAddress, depends_on}
 use Rattle.svc_echo.specs.Words.{is_address, turns_by, turns_of}

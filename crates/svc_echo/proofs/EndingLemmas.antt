@@ -1,7 +1,7 @@
 -- A journal whose last post stops the server is that of a run that was served, and the other way round.
-use Rattle.std.proofs.Common.{◌≡◌, ℕ, Bool, true, false, ◌||◌, ◌&&◌, not, List, [], ◌∷◌, ◌++◌, map, reverse, refl, sym, ap, ◌∙◌, subst, append_assoc, append-nil, Option, Some, None, if◌then◌else◌}
+use Rattle.std.proofs.Common.{◌≡◌, ℕ, Bool, true, false, ◌||◌, ◌&&◌, List, [], ◌∷◌, ◌++◌, map, reverse, refl, sym, ap, ◌∙◌, append_assoc, append-nil, if◌then◌else◌}
 use Rattle.std.proofs.lemmas.List.{reverse-append}
-use Rattle.std.specs.Bool.{MatchBool, OnTrue}
+use Rattle.std.specs.Bool.{MatchBool}
 use Rattle.std.specs.Prelude.{◌↔◌}
 use Rattle.svc_record.specs.declared.plan.Plan.{Plan}
 use Rattle.svc_record.specs.declared.entry.Entry.TheVariants.{Got, Told}
@@ -9,15 +9,15 @@ use Rattle.svc_record.specs.declared.action.Action.{Action}
 use Rattle.svc_record.specs.declared.action.Action.TheVariants.{Stop, Phase, Cut, Close}
 use Rattle.svc_record.specs.declared.action.StepEnd.TheVariants.{On, Tested, Parent, Ended, Served as ServedEnd}
 use Rattle.svc_record.specs.declared.action.BootstrapError.TheVariants.{Transfer, NoSender, BadMessage}
-use Rattle.svc_record.specs.declared.action.ExecutionPhase.TheVariants.{Terminated, Bootstrap, ShutdownRuntimes}
+use Rattle.svc_record.specs.declared.action.ExecutionPhase.TheVariants.{Terminated, ShutdownRuntimes}
 use Rattle.svc_record.specs.Record.{Record, has, tell, last_step, now, signal_of, before_runtimes}
 use Rattle.svc_record.specs.Connections.{live_connections}
-use Rattle.svc_record.specs.Drain.{has_passed, has_passed_by, is_ending, last_actions, ascending, live_numbers, stop_seconds}
+use Rattle.svc_record.specs.Drain.{has_passed, has_passed_by, is_ending, ascending, live_numbers, stop_seconds}
 use Rattle.svc_record.specs.Ends.{step_end, has_ended, has_ended_early, ends_tested, ends_parent_well, ends_parent_badly, ends_transfer, ends_no_sender, ends_bad_message}
 use Rattle.svc_record.specs.Right.{Right, EndedRight, OpenRight, is_test_step}
 use Rattle.svc_record.specs.Journal.{PostData, Legal, record_after, journal_record}
 use Rattle.svc_record.proofs.Closing.{tell-append}
-use Rattle.svc_echo.specs.Endings.{is_stop, is_terminated, stops_last, stops, ends_with_stop}
+use Rattle.svc_echo.specs.Endings.{is_stop, is_terminated, stops_last, ends_with_stop}
 
 -- what was told since the last event, where more is told
 pub last_step-tell : (q : Record) (told : List Action) → last_step (tell q told) ≡ reverse told ++ last_step q

@@ -19,7 +19,10 @@ fn free_address(rt: &HostRuntime) -> io::Result<SocketAddr> {
 }
 
 /// Connects as soon as something listens, within five seconds.
-fn connected(rt: &HostRuntime, at: SocketAddr) -> io::Result<TcpStream> {
+fn connected<R: Net<Listener = TcpListener, Stream = TcpStream> + Clock>(
+    rt: &R,
+    at: SocketAddr,
+) -> io::Result<TcpStream> {
     for _ in 0..500u32 {
         if let Ok(stream) = TcpStream::connect(rt, at) {
             return Ok(stream);
@@ -39,7 +42,11 @@ fn said_back(mut stream: &TcpStream, word: &[u8; 4]) -> io::Result<bool> {
 }
 
 /// Asks so many times, each time on a new connection, and answers how many weren't answered rightly.
-fn lost(rt: &HostRuntime, at: SocketAddr, times: u32) -> u32 {
+fn lost<R: Net<Listener = TcpListener, Stream = TcpStream> + Clock>(
+    rt: &R,
+    at: SocketAddr,
+    times: u32,
+) -> u32 {
     let mut lost = 0u32;
     for _ in 0..times {
         let answered = match connected(rt, at) {
@@ -54,7 +61,11 @@ fn lost(rt: &HostRuntime, at: SocketAddr, times: u32) -> u32 {
 }
 
 /// Sends a control byte.
-fn signal(rt: &HostRuntime, at: SocketAddr, byte: u8) -> io::Result<()> {
+fn signal<R: Net<Listener = TcpListener, Stream = TcpStream> + Clock>(
+    rt: &R,
+    at: SocketAddr,
+    byte: u8,
+) -> io::Result<()> {
     let mut stream = connected(rt, at)?;
     stream.write_all(&[byte])
 }
@@ -149,7 +160,11 @@ fn has_ended(rt: &impl Wait, sockets: &Mutex<Sockets>) -> bool {
 }
 
 /// Asks without a pause until the server has ended, and answers how often it wasn't answered rightly.
-fn lost_until_end(rt: &HostRuntime, sockets: &Mutex<Sockets>, at: SocketAddr) -> u32 {
+fn lost_until_end<R: Wait + Net<Listener = TcpListener, Stream = TcpStream> + Clock>(
+    rt: &R,
+    sockets: &Mutex<Sockets>,
+    at: SocketAddr,
+) -> u32 {
     let mut wrong = 0u32;
     for _ in 0..1_000_000u32 {
         if has_ended(rt, sockets) {
@@ -161,8 +176,8 @@ fn lost_until_end(rt: &HostRuntime, sockets: &Mutex<Sockets>, at: SocketAddr) ->
 }
 
 /// The client of a handover: it asks before it, through it, and after it.
-fn asks_through(
-    rt: &HostRuntime,
+fn asks_through<R: Wait + Net<Listener = TcpListener, Stream = TcpStream> + Clock>(
+    rt: &R,
     old: &Mutex<Sockets>,
     address: SocketAddr,
     control: SocketAddr,

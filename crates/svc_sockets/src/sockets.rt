@@ -6,7 +6,7 @@ ghost use Rattle.std.specs.Prelude.{◌<◌, length, IfSome};
 
 use crate::connections::{Connection, ConnectionState};
 use crate::descriptors::Descriptors;
-use crate::endpoints::{Endpoint, EndpointAnswer, EndpointState};
+use crate::endpoints::{Endpoint, EndpointAnswer};
 use crate::offers::{MOST_HANDED, Offers};
 use crate::slot::Slot;
 use crate::streams::{Incoming, Outgoing};

@@ -1,6 +1,5 @@
-use Rattle.std.proofs.Common.{arith, ◌∙◌, ◌≡◌, ◌<◌, length, take, subst}
+use Rattle.std.proofs.Common.{arith, ◌∙◌, ◌≡◌, ◌<◌, length, take}
 use Rattle.std.proofs.lemmas.List.{length-take-le}
-use Rattle.svc_conf.specs.Streams.{Rose}
 use Rattle.svc_sockets.proofs.EchoLemmas.{echoed_more, echoed_front}
 use Rattle.svc_sockets.proofs.echoing.echo.Goals as goal
 

@@ -1,5 +1,4 @@
-use Rattle.std.proofs.Common.{◌≡◌, ℕ, ◌≤◌, List, length}
-use Rattle.std.specs.Io.KnownBytes.{Consumes, Appends}
+use Rattle.std.proofs.Common.{◌≡◌}
 use Rattle.svc_sockets.proofs.EchoLemmas.{AllEchoed}
 use Rattle.svc_sockets.proofs.echoing.echo.Given as goal
 
