@@ -19,6 +19,3 @@ pub use plan::{JobPlan, JobRun, RunList};
 pub use refusals::{JobError, JobRefused};
 pub use run::run_jobs;
 pub use service::JobService;
-
-#[cfg(test)]
-mod tests;
