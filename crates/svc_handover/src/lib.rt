@@ -1,0 +1,15 @@
+//! A handover between an old and a new core, over every schedule of their events.
+#![tactic(auto)]
+
+mod addresses;
+mod channel;
+mod law;
+mod pair;
+mod recorded;
+mod servers;
+
+pub use law::handover_law;
+pub use pair::{ChannelState, PairRefused, PairRun, PairStep};
+
+#[cfg(test)]
+mod tests;

@@ -1,0 +1,66 @@
+//! A core with the record of its run.
+
+ghost use Rattle.std.specs.Prelude.{◌≡◌, ◌++◌, ◌∷◌, [], IfOk, OnOk};
+ghost use Rattle.svc_conf.specs.Items.{list_of};
+ghost use Rattle.svc_record.specs.Validity.{IsValid};
+ghost use Rattle.svc_core.specs.Stands.{MayCome};
+ghost use Rattle.svc_handover.specs.Runs.{Begins, Takes, told_entries};
+
+use crate::pair::PairStep;
+use std::alloc::Global;
+use svc_conf::NoMemory;
+use svc_core::{Action, Actions, Core, Entries, Entry, Plan};
+
+/// A core that has begun, and what it got and told, the first entry first.
+#[derive(Drop)]
+pub(crate) struct Recorded {
+    pub(crate) core: Core,
+    pub(crate) entries: Entries,
+}
+
+impl Recorded {
+    /// The server of the plan begins. What it told is answered too.
+    pub(crate) fn begin(alloc: Global, plan: Plan) -> Result<(Recorded, Actions), NoMemory>
+        requires valid { IsValid plan }
+        ensures begins { IfOk result (λ r. Begins plan r.0 (list_of r.1)) }
+    {
+        let mut core = Core::new(alloc, plan)?;
+        let mut told = Actions::new(alloc);
+        core.begin(alloc, &mut told)?;
+        let mut entries = Entries::new(alloc);
+        append_told(alloc, told.as_slice(), &mut entries)?;
+        Ok((Recorded { core, entries }, told))
+    }
+
+    /// One step, whose event fits. What was told is answered too.
+    pub(crate) fn take(&mut self, alloc: Global, step: &PairStep) -> Result<Actions, NoMemory>
+        requires may { MayCome self.old.core step.now.event }
+        ensures takes { IfOk result (λ told. Takes self.old self.new step.now (list_of told)) }
+    {
+        let mut told = Actions::new(alloc);
+        self.core.step(alloc, &step.event, step.said, &mut told)?;
+        let event = step.event.copy(alloc)?;
+        append(alloc, Entry::Got(event), &mut self.entries)?;
+        append_told(alloc, told.as_slice(), &mut self.entries)?;
+        Ok(told)
+    }
+}
+
+fn append(alloc: Global, entry: Entry, entries: &mut Entries) -> Result<(), NoMemory>
+    ensures { OnOk result (list_of entries.new ≡ list_of entries.old ++ entry ∷ []) }
+{
+    match entries.push(alloc, entry) {
+        Ok(()) => Ok(()),
+        Err(refused) => Err(refused.reason),
+    }
+}
+
+/// Appends what was told, action by action.
+fn append_told(alloc: Global, told: &[Action], entries: &mut Entries) -> Result<(), NoMemory>
+    ensures { OnOk result (list_of entries.new ≡ list_of entries.old ++ told_entries told.now) }
+{
+    for action in told {
+        append(alloc, Entry::Told(action.copy(alloc)?), entries)?;
+    }
+    Ok(())
+}

@@ -1,0 +1,129 @@
+//! The two servers of a handover, and how far it has come.
+
+ghost use Rattle.std.specs.Prelude.{◌≡◌, ◌&&◌, ℕ, List, [], true, false, IsTrue, IfOk, OnOk};
+ghost use Rattle.svc_conf.specs.Items.{list_of};
+ghost use Rattle.svc_record.specs.declared.plan.Plan.{Plan};
+ghost use Rattle.svc_record.specs.Fits.{fits};
+ghost use Rattle.svc_record.specs.Validity.{IsValid};
+ghost use Rattle.svc_core.specs.Stands.{MayCome};
+ghost use Rattle.svc_handover.specs.declared.pair.PairStep.{PairStep};
+ghost use Rattle.svc_handover.specs.Channel.{old_may, new_may};
+ghost use Rattle.svc_handover.specs.Pair.{is_allowed};
+ghost use Rattle.svc_handover.specs.Runs.{Runs, Grows, MayTake};
+
+use crate::addresses::read_addresses;
+use crate::channel::{after_new, after_old, after_told, new_may, old_may};
+use crate::pair::{ChannelState, PairRun, PairStep};
+use crate::recorded::Recorded;
+use std::alloc::Global;
+use svc_conf::NoMemory;
+use svc_core::{Event, Plan};
+
+/// Both servers, which have begun.
+#[derive(Drop)]
+pub(crate) struct Servers {
+    pub(crate) old: Recorded,
+    pub(crate) new: Recorded,
+    pub(crate) channel: ChannelState,
+}
+
+impl Servers {
+    /// Both servers begin.
+    pub(crate) fn begin(alloc: Global, old: Plan, new: Plan) -> Result<Servers, NoMemory>
+        requires old_valid { IsValid old }
+        requires new_valid { IsValid new }
+        ensures begins { IfOk result (λ servers. Runs old new [] servers) }
+    {
+        read_addresses(&old);
+        let (old_server, _) = Recorded::begin(alloc, old)?;
+        let (new_server, told) = Recorded::begin(alloc, new)?;
+        let channel = after_told(told.as_slice(), ChannelState::Missing);
+        Ok(Servers {
+            old: old_server,
+            new: new_server,
+            channel,
+        })
+    }
+
+    /// Whether the step may come: its event fits its server's record, and the channel allows it.
+    pub(crate) fn allows(&self, step: &PairStep) -> bool
+        ensures may { IsTrue result → MayTake self.now step.now }
+        ensures means { (p n : Plan) (before : List PairStep) → (runs : Runs p n before self.now)
+            → result ≡ is_allowed p n runs.world step.now }
+    {
+        if step.old {
+            self.allows_old(&step.event)
+        } else {
+            self.allows_new(&step.event)
+        }
+    }
+
+    fn allows_old(&self, event: &Event) -> bool
+        ensures may { IsTrue result → MayCome self.now.old.core event.now }
+        ensures means { (p n : Plan) (before : List PairStep) → (runs : Runs p n before self.now)
+            → result ≡ (fits p runs.world.old event.now && old_may runs.world.channel event.now) }
+    {
+        self.old.core.fits(event) && old_may(self.channel, event)
+    }
+
+    fn allows_new(&self, event: &Event) -> bool
+        ensures may { IsTrue result → MayCome self.now.new.core event.now }
+        ensures means { (p n : Plan) (before : List PairStep) → (runs : Runs p n before self.now)
+            → result ≡ (fits n runs.world.new event.now
+            && new_may runs.world.channel runs.world.old event.now) }
+    {
+        self.new.core.fits(event) && new_may(self.channel, self.old.entries.as_slice(), event)
+    }
+
+    /// One step, which may come.
+    pub(crate) fn take(&mut self, alloc: Global, step: &PairStep) -> Result<(), NoMemory>
+        requires may { MayTake self.old step.now }
+        ensures grows { OnOk result (Grows self.old self.new step.now) }
+    {
+        if step.old {
+            self.take_old(alloc, step)
+        } else {
+            self.take_new(alloc, step)
+        }
+    }
+
+    fn take_old(&mut self, alloc: Global, step: &PairStep) -> Result<(), NoMemory>
+        requires side { step.now.old ≡ true }
+        requires may { MayCome self.old.old.core step.now.event }
+        ensures grows { OnOk result (Grows self.old self.new step.now) }
+    {
+        self.old.take(alloc, step)?;
+        self.channel = after_old(&step.event, self.channel);
+        Ok(())
+    }
+
+    fn take_new(&mut self, alloc: Global, step: &PairStep) -> Result<(), NoMemory>
+        requires side { step.now.old ≡ false }
+        requires may { MayCome self.old.new.core step.now.event }
+        ensures grows { OnOk result (Grows self.old self.new step.now) }
+    {
+        let told = self.new.take(alloc, step)?;
+        let channel = after_new(&step.event, self.channel);
+        self.channel = after_told(told.as_slice(), channel);
+        Ok(())
+    }
+
+    /// Both records, and the channel.
+    pub(crate) fn into_run(self) -> PairRun
+        ensures old { list_of result.old ≡ list_of self.old.entries }
+        ensures new { list_of result.new ≡ list_of self.new.entries }
+        ensures channel { result.channel ≡ self.channel }
+    {
+        let Servers { old, new, channel } = self;
+        let Recorded { core: _, entries } = old;
+        let Recorded {
+            core: _,
+            entries: new_entries,
+        } = new;
+        PairRun {
+            old: entries,
+            new: new_entries,
+            channel,
+        }
+    }
+}
