@@ -1,3 +1,0 @@
-pub mod EchoPlanLemmas
-pub mod EndingLemmas
-pub mod RunLemmas

@@ -1,5 +1,0 @@
-pub mod Endings
-pub mod EchoPlans
-pub mod Reports
-pub mod Runs
-pub mod Words
