@@ -1,0 +1,6 @@
+pub mod MarkLemmas
+pub mod GenerationLemmas
+pub mod QuietLemmas
+pub mod PairSteps
+pub mod CarryLemmas
+pub mod LinkedLemmas
