@@ -29,6 +29,7 @@ pub(crate) struct Generation {
 
 impl Generation {
     /// The server of the plan begins.
+    #[tactic(none)]
     pub(crate) fn begin(alloc: Global, plan: Plan) -> Result<Generation, NoMemory>
         requires valid { IsValid plan }
         ensures begins { IfOk result (Begins plan) }
@@ -53,6 +54,7 @@ impl Generation {
     }
 
     /// One event, which may come. Where memory is refused it comes back, and nothing has changed.
+    #[tactic(none)]
     pub(crate) fn take(&mut self, alloc: Global, event: Event, said: bool) -> Result<StepEnd, Event>
         requires may { MayCome self.old.core event }
         ensures takes { IfOk result (λ end. Takes self.old self.new event said end) }
@@ -74,6 +76,7 @@ impl Generation {
     }
 
     /// Cuts each live connection and closes each open descriptor.
+    #[tactic(none)]
     fn close(&mut self)
         requires stands { Stands self.old }
         ensures closed { data_of self.new ≡ closed (data_of self.old) }
@@ -84,6 +87,7 @@ impl Generation {
 }
 
 /// Closes all that is open in each generation.
+#[tactic(none)]
 pub(crate) fn close_each(generations: &mut [Generation])
     requires stand { EachStands generations.old }
     ensures { map data_of generations.new ≡ map closed (map data_of generations.old) }
@@ -94,6 +98,7 @@ pub(crate) fn close_each(generations: &mut [Generation])
 }
 
 /// Appends what was told into reserved room.
+#[tactic(none)]
 fn put_told(told: &mut Actions, entries: &mut Entries)
     requires room { length (list_of told.old) ≤ spare entries.old }
     ensures put { list_of entries.new ≡ list_of entries.old ++ told_entries (list_of told.old) }
@@ -106,6 +111,7 @@ fn put_told(told: &mut Actions, entries: &mut Entries)
 
 /// Whether the event may come to the generation between these two: it fits its record, and both
 /// channels allow it.
+#[tactic(none)]
 pub(crate) fn may_come(
     before: Option<&Generation>,
     generation: &Generation,
@@ -113,8 +119,8 @@ pub(crate) fn may_come(
     event: &Event,
 ) -> bool
     ensures may { IsTrue result → MayCome generation.now.core event.now }
-    ensures means { AllStand (option_copied before) generation.now (option_copied next)
-        → result ≡ may_come (option_map data_of (option_copied before)) (data_of generation.now) (option_map data_of (option_copied next)) event.now }
+    ensures means { AllStand (option_copied before.entry) generation.now (option_copied next.entry)
+        → result ≡ may_come (option_map data_of (option_copied before.entry)) (data_of generation.now) (option_map data_of (option_copied next.entry)) event.now }
 {
     generation.core.fits(event)
         && before_may(before, generation, event)
@@ -122,8 +128,8 @@ pub(crate) fn may_come(
 }
 
 fn before_may(before: Option<&Generation>, generation: &Generation, event: &Event) -> bool
-    ensures { AllStand (option_copied before) generation.now None
-        → result ≡ before_may (option_map data_of (option_copied before)) (data_of generation.now) event.now }
+    ensures { AllStand (option_copied before.entry) generation.now None
+        → result ≡ before_may (option_map data_of (option_copied before.entry)) (data_of generation.now) event.now }
 {
     let Some(old) = before else {
         return true;
@@ -137,8 +143,8 @@ fn before_may(before: Option<&Generation>, generation: &Generation, event: &Even
 
 /// How far the handover to the next generation has come.
 fn channel_to(generation: &Generation, next: Option<&Generation>) -> ChannelState
-    ensures { AllStand None generation.now (option_copied next)
-        → result ≡ channel_to (data_of generation.now) (option_map data_of (option_copied next)) }
+    ensures { AllStand None generation.now (option_copied next.entry)
+        → result ≡ channel_to (data_of generation.now) (option_map data_of (option_copied next.entry)) }
 {
     match next {
         Some(new) => channel_between(generation.marks, new.marks),

@@ -12,6 +12,7 @@ use crate::generation::{Generation, may_come};
 use svc_core::Event;
 
 /// Whether the generation with this number has taken over from the one before it. The first takes nothing over.
+#[tactic(none)]
 pub(crate) fn has_taken_at(generations: &[Generation], index: usize) -> bool
     requires begun { index < length generations.now }
     ensures { Linked generations.now → result ≡ has_taken_at (map data_of generations.now) index }
@@ -36,6 +37,7 @@ fn generation_before(generations: &[Generation], index: usize) -> Option<&Genera
 }
 
 /// Whether the event may come to the generation with this number.
+#[tactic(none)]
 pub(crate) fn may_come_at(generations: &[Generation], index: usize, event: &Event) -> bool
     requires begun { index < length generations.now }
     ensures may { IsTrue result → IfSome (slice_get generations.now index) (λ g. MayCome g.core event.now) }
