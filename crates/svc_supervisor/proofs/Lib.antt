@@ -4,3 +4,5 @@ pub mod QuietLemmas
 pub mod PairSteps
 pub mod CarryLemmas
 pub mod LinkedLemmas
+pub mod PlaceLemmas
+pub mod ClosingLemmas

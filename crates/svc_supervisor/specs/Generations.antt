@@ -1,5 +1,5 @@
 -- What a chain keeps of its generations, whose cores contracts don't see.
-use Rattle.std.specs.Prelude.{ℕ, true, false, ◌≡◌, ◌<◌, ◌≤◌, List, [], ◌∷◌, ◌++◌, Option, Some, None, length, map, reverse, IfSome, Bool}
+use Rattle.std.specs.Prelude.{ℕ, true, false, ◌≡◌, ◌<◌, ◌≤◌, List, [], ◌∷◌, ◌++◌, Option, Some, None, length, map, reverse, IfSome, Bool, slice_get}
 use Rattle.svc_conf.specs.Items.{list_of, spare}
 use Rattle.svc_record.specs.declared.plan.Plan.{Plan}
 use Rattle.svc_record.specs.declared.action.Action.{Action}
@@ -10,8 +10,8 @@ use Rattle.svc_record.specs.Record.{Record, has, tell, is_signal}
 use Rattle.svc_record.specs.Judging.{judged_at, judgements}
 use Rattle.svc_record.specs.Right.{Right}
 use Rattle.svc_core.specs.CoreData.{CoreData}
-use Rattle.svc_core.specs.Stands.{StandsFor, StepKeeps}
-use Rattle.svc_core.specs.Rooms.{open_count}
+use Rattle.svc_core.specs.Stands.{StandsFor, StepKeeps, MayCome}
+use Rattle.svc_core.specs.Rooms.{open_count, step_room}
 use Rattle.svc_handover.specs.declared.recorded.Recorded.{Recorded}
 use Rattle.svc_handover.specs.declared.servers.Servers.{Servers}
 use Rattle.svc_handover.specs.declared.pair.PairStep.{PairStep}
@@ -23,6 +23,7 @@ use Rattle.svc_handover.specs.Runs.{told_entries, Begins as ServerBegins, Runs}
 use Rattle.svc_supervisor.specs.declared.generation.Generation.{Generation}
 use Rattle.svc_supervisor.specs.Marks.{marks_of, channel_between}
 use Rattle.svc_supervisor.specs.ChainData.{GenerationData, ChainData}
+use Rattle.svc_supervisor.specs.Chains.{is_early, may_come_at, MayBegin, is_ready}
 
 -- its record, the newest entry first
 abbrev pub history : Generation → Record
@@ -44,6 +45,11 @@ pub record HasRoom (g : Generation) : Type 0 where
   pub unclosed : list_of g.closing ≡ []
   pub closing : open_count g.core ≤ spare g.closing
   pub entries : open_count g.core ≤ spare g.entries
+
+-- and for closing after one more step, and for what that tells
+pub record HasStepRoom (g : Generation) : Type 0 where
+  pub closing : step_room g.core ≤ spare g.closing
+  pub entries : step_room g.core ≤ spare g.entries
 
 -- the generation of the plan has begun
 pub record Begins (p : Plan) (g : Generation) : Type 0 where
@@ -131,3 +137,17 @@ pub record IsChain (gs : List Generation) (finished : Bool) : Type 0 where
 
 abbrev pub chain_of : List Generation → Bool → ChainData
 chain_of gs finished = record { generations = map data_of gs; finished = finished }
+
+-- the event may come to the generation at this place, by its core; and where the chain is linked, in time and by the channels too
+pub record MayStep (gs : List Generation) (k : ℕ) (e : Event) : Type 0 where
+  pub inside : k < length gs
+  pub core : IfSome (slice_get gs k) (λ g. MayCome g.core e)
+  pub timely : Linked gs → is_early (map data_of gs) k e ≡ false
+  pub may : Linked gs → may_come_at (map data_of gs) k e ≡ true
+
+-- the generation of the plan has begun and may be launched after these
+pub record MayLaunch (gs : List Generation) (p : Plan) (g : Generation) : Type 0 where
+  pub begins : Begins p g
+  pub may : MayBegin true p
+  pub few : length gs < 64
+  pub ready : Linked gs → is_ready (map data_of gs) ≡ true

@@ -7,7 +7,7 @@ ghost use Rattle.svc_supervisor.specs.Kept.{ChainKept};
 ghost use Rattle.svc_supervisor.specs.Refusals.{IsFirstRefusal, IsLaunchRefusal, IsStepRefusal};
 
 use crate::generation::{Generation, close_each};
-use crate::places::{has_taken_at, is_signal, may_come_at};
+use crate::places::{check_step, first_generation, next_generation, take_at};
 use crate::refused::ChainRefused;
 use std::alloc::Global;
 use std::marker::Model;
@@ -33,16 +33,6 @@ impl Model for Chain {
     ghost invariant = { λ c. IsChain c.generations.items c.finished };
 }
 
-/// Whether a generation can be run by the plan, as the first one or as a later one.
-fn may_begin(alloc: Global, plan: &Plan, later: bool) -> Result<bool, NoMemory>
-    ensures { IfOk result (λ may. MatchBool may (MayBegin later plan.now) (MayBegin later plan.now → ⊥)) }
-{
-    if plan.test || plan.daemon || plan.upgrade != later {
-        return Ok(false);
-    }
-    plan.valid(alloc)
-}
-
 impl Chain {
     /// A chain of one generation, which begins. A plan that isn't valid, or that has `test`, `daemon` or
     /// `upgrade` set, is refused (`BadPlan`).
@@ -53,19 +43,11 @@ impl Chain {
         ensures kept { IfOk result (λ chain. ChainKept chain.generations) }
         ensures cause { IfErr result (IsFirstRefusal first) }
     {
-        match may_begin(alloc, &first, false) {
-            Ok(true) => {}
-            Ok(false) => return Err(ChainRefused::BadPlan(first)),
-            Err(NoMemory) => return Err(ChainRefused::NoMemory(None)),
-        }
+        let generation = first_generation(alloc, first)?;
         let mut generations = Vec::new(alloc);
-        let Ok(()) = generations.reserve(1) else {
+        if generations.push(generation).is_err() {
             return Err(ChainRefused::NoMemory(None));
-        };
-        let Ok(generation) = Generation::begin(alloc, first) else {
-            return Err(ChainRefused::NoMemory(None));
-        };
-        generations.push_reserved(generation);
+        }
         Ok(Chain {
             generations,
             finished: false,
@@ -90,6 +72,7 @@ impl Chain {
     {
         &self.generations[generation as usize].entries
     }
+
     /// Begins the next generation, and answers its number. In this order: a plan that isn't valid, that has
     /// `test` or `daemon` set, or that hasn't `upgrade` set, is refused (`BadPlan`); so is one past the 64th
     /// generation (`TooMany`), and one while the newest generation hasn't taken over (`NotReady`).
@@ -103,26 +86,12 @@ impl Chain {
         ensures cause { IfErr result (IsLaunchRefusal self.old.generations plan) }
         ensures refused { OnErr result (self.new ≡ self.old) }
     {
-        match may_begin(alloc, &plan, true) {
-            Ok(true) => {}
-            Ok(false) => return Err(ChainRefused::BadPlan(plan)),
-            Err(NoMemory) => return Err(ChainRefused::NoMemory(None)),
-        }
-        let number = self.generations.len();
-        if number >= 64 {
-            return Err(ChainRefused::TooMany(plan));
-        }
-        if !has_taken_at(self.generations.as_slice(), number - 1) {
-            return Err(ChainRefused::NotReady(plan));
-        }
-        let Ok(()) = self.generations.reserve(1) else {
+        let number = self.generations.len() as u32;
+        let generation = next_generation(alloc, self.generations.as_slice(), plan)?;
+        if self.generations.push(generation).is_err() {
             return Err(ChainRefused::NoMemory(None));
-        };
-        let Ok(generation) = Generation::begin(alloc, plan) else {
-            return Err(ChainRefused::NoMemory(None));
-        };
-        self.generations.push_reserved(generation);
-        Ok(number as u32)
+        }
+        Ok(number)
     }
 
     /// One event for a generation, with the answer of the filter that it asks, if it asks one. In this order:
@@ -144,16 +113,8 @@ impl Chain {
         ensures refused { OnErr result (self.new ≡ self.old) }
     {
         let index = generation as usize;
-        if index >= self.generations.len() {
-            return Err(ChainRefused::UnknownGeneration(event));
-        }
-        if is_signal(&event) && !has_taken_at(self.generations.as_slice(), index) {
-            return Err(ChainRefused::Early(event));
-        }
-        if !may_come_at(self.generations.as_slice(), index, &event) {
-            return Err(ChainRefused::Stray(event));
-        }
-        match self.generations[index].take(alloc, event, said) {
+        let event = check_step(self.generations.as_slice(), index, event)?;
+        match take_at(self.generations.as_mut_slice(), index, alloc, event, said) {
             Ok(end) => Ok(end),
             Err(event) => Err(ChainRefused::NoMemory(Some(event))),
         }

@@ -7,7 +7,7 @@ ghost use Rattle.svc_record.specs.Validity.{IsValid};
 ghost use Rattle.svc_core.specs.Stands.{MayCome};
 ghost use Rattle.svc_handover.specs.Runs.{told_entries};
 ghost use Rattle.svc_supervisor.specs.Chains.{may_come, before_may, channel_to, closed};
-ghost use Rattle.svc_supervisor.specs.Generations.{Begins, Takes, IsSame, Stands, EachStands, AllStand, data_of};
+ghost use Rattle.svc_supervisor.specs.Generations.{Begins, Takes, IsSame, HasStepRoom, Stands, EachStands, AllStand, data_of};
 
 use crate::marks::{Marks, channel_between};
 use std::alloc::Global;
@@ -29,7 +29,6 @@ pub(crate) struct Generation {
 
 impl Generation {
     /// The server of the plan begins.
-    #[tactic(none)]
     pub(crate) fn begin(alloc: Global, plan: Plan) -> Result<Generation, NoMemory>
         requires valid { IsValid plan }
         ensures begins { IfOk result (Begins plan) }
@@ -53,16 +52,25 @@ impl Generation {
         })
     }
 
+    /// Takes the memory of the next step, and of closing all after it.
+    fn reserve(&mut self, alloc: Global) -> Result<(), NoMemory>
+        ensures same { IsSame self.old self.new }
+        ensures room { OnOk result (HasStepRoom self.new) }
+    {
+        let room = self.core.step_room();
+        self.entries.reserve(alloc, room)?;
+        self.closing.reserve(alloc, room)?;
+        Ok(())
+    }
+
     /// One event, which may come. Where memory is refused it comes back, and nothing has changed.
-    #[tactic(none)]
     pub(crate) fn take(&mut self, alloc: Global, event: Event, said: bool) -> Result<StepEnd, Event>
         requires may { MayCome self.old.core event }
         ensures takes { IfOk result (λ end. Takes self.old self.new event said end) }
         ensures back { IfErr result (λ back. back ≡ event) }
         ensures refused { OnErr result (IsSame self.old self.new) }
     {
-        let room = self.core.step_room();
-        if self.entries.reserve(alloc, room).is_err() || self.closing.reserve(alloc, room).is_err() {
+        if self.reserve(alloc).is_err() {
             return Err(event);
         }
         let mut told = Actions::new(alloc);
@@ -76,7 +84,6 @@ impl Generation {
     }
 
     /// Cuts each live connection and closes each open descriptor.
-    #[tactic(none)]
     fn close(&mut self)
         requires stands { Stands self.old }
         ensures closed { data_of self.new ≡ closed (data_of self.old) }
@@ -87,7 +94,6 @@ impl Generation {
 }
 
 /// Closes all that is open in each generation.
-#[tactic(none)]
 pub(crate) fn close_each(generations: &mut [Generation])
     requires stand { EachStands generations.old }
     ensures { map data_of generations.new ≡ map closed (map data_of generations.old) }
@@ -98,7 +104,6 @@ pub(crate) fn close_each(generations: &mut [Generation])
 }
 
 /// Appends what was told into reserved room.
-#[tactic(none)]
 fn put_told(told: &mut Actions, entries: &mut Entries)
     requires room { length (list_of told.old) ≤ spare entries.old }
     ensures put { list_of entries.new ≡ list_of entries.old ++ told_entries (list_of told.old) }
@@ -122,9 +127,13 @@ pub(crate) fn may_come(
     ensures means { AllStand (option_copied before.entry) generation.now (option_copied next.entry)
         → result ≡ may_come (option_map data_of (option_copied before.entry)) (data_of generation.now) (option_map data_of (option_copied next.entry)) event.now }
 {
-    generation.core.fits(event)
-        && before_may(before, generation, event)
-        && old_may(channel_to(generation, next), event)
+    if !generation.core.fits(event) {
+        return false;
+    }
+    if !before_may(before, generation, event) {
+        return false;
+    }
+    old_may(channel_to(generation, next), event)
 }
 
 fn before_may(before: Option<&Generation>, generation: &Generation, event: &Event) -> bool
