@@ -1,6 +1,6 @@
 -- A generation at its place in a chain, and the causes of refusals there.
 use Rattle.std.proofs.Common.{ℕ, zero, suc, Bool, true, false, not, ◌&&◌, List, [], ◌∷◌, ◌++◌, ◌≡◌, ◌<◌, ◌≤◌, ◌-◌, refl, ap, sym, ◌∙◌, subst, arith, length, map, get_or, set, Option, Some, None}
-use Rattle.std.specs.Prelude.{slice_get, IfSome, is_err, OnOk, Result, Ok, Err, ◌↔◌}
+use Rattle.std.specs.Prelude.{slice_get, IfSome, is_err, OnOk, OnErr, IfOk, Result, Ok, Err, ◌↔◌}
 use Rattle.std.specs.Option.{option_map}
 use Rattle.std.proofs.lemmas.Option.{slice_get-map, slice_get_read}
 use Rattle.svc_record.specs.declared.plan.Plan.{Plan}
@@ -15,10 +15,10 @@ use Rattle.svc_handover.specs.Channel.{channel_of, reached, is_taken, is_receipt
 use Rattle.svc_supervisor.specs.declared.generation.Generation.{Generation}
 use Rattle.svc_supervisor.specs.declared.marks.Marks.{Marks}
 use Rattle.svc_supervisor.specs.ChainData.{GenerationData}
-use Rattle.svc_supervisor.specs.Chains.{may_come, may_come_at, may_come_to, before_may, channel_to, generation_before, has_taken, has_taken_at, is_early, is_ready, closed, Steps, Launches, MayBegin, BeginsChain}
+use Rattle.svc_supervisor.specs.Chains.{may_come, may_come_at, may_come_to, before_may, channel_to, generation_before, has_taken, has_taken_at, is_early, is_ready, closed, Steps, Launches}
 use Rattle.svc_supervisor.specs.Generations.{Begins, Takes, IsSame, Stands, EachStands, AllStand, Linked, MayStep, MayLaunch, history, data_of}
 use Rattle.svc_supervisor.proofs.GenerationLemmas.{begun, took}
-use Rattle.svc_supervisor.proofs.LinkedLemmas.{stands-at, all-stand, linked-step, linked-same, data-same, data-set}
+use Rattle.svc_supervisor.proofs.LinkedLemmas.{stands-at, all-stand, linked-launch, linked-step, linked-same, data-same, data-set}
 
 pub unless-err : {X E : Type 0} (r : Result X E) (P : Type 0) → is_err r ≡ false → OnOk r P → P
 unless-err (Ok x) P h p = p
@@ -101,3 +101,59 @@ steps-at gs k g next e said end here may t l = record {
 
 pub linked-at : (gs : List Generation) (k : ℕ) (g next : Generation) (e : Event) (said : Bool) (end : StepEnd) → slice_get gs k ≡ Some g → MayStep gs k e → Takes g next e said end → Linked gs → Linked (set gs k next)
 linked-at gs k g next e said end here may t l = linked-step g next e said end t gs k here (may.timely l) (may.may l) l
+
+-- whether the event may come, by its parts
+pub come-unfit : (b f x : Bool) → b ≡ false → b ≡ f → false ≡ (f && x)
+come-unfit b f x h k = grind arith
+
+pub come-held : (r f m x : Bool) → r ≡ false → r ≡ m → false ≡ (f && (m && x))
+come-held r f m x h k = grind arith
+
+pub come-next : (b f r m k x : Bool) → b ≡ true → b ≡ f → r ≡ true → r ≡ m → k ≡ x → k ≡ (f && (m && x))
+come-next b f r m k x h i j l n = grind arith
+
+-- whether it is early
+pub early-by : (r s t h : Bool) → r ≡ true → r ≡ s → t ≡ h → not t ≡ (s && not h)
+early-by r s t h a b c = grind arith
+
+pub late-by : (r s h : Bool) → r ≡ false → r ≡ s → false ≡ (s && not h)
+late-by r s h a b = grind arith
+
+-- what follows from either answer
+pub ok-then : {X E : Type 0} (r : Result X E) (P Q : X → Type 0) → IfOk r P → ((x : X) → P x → Q x) → IfOk r Q
+ok-then (Ok x) P Q h f = f x h
+ok-then (Err e) P Q h f = h
+
+pub err-then : {X E : Type 0} (r : Result X E) (P Q : Type 0) → OnErr r P → (P → Q) → OnErr r Q
+err-then (Ok x) P Q h f = h
+err-then (Err e) P Q h f = f h
+
+pub either-way : {X E : Type 0} (r : Result X E) (P : X → Type 0) (Q L : Type 0) → IfOk r P → OnErr r Q → ((x : X) → P x → L) → (Q → L) → L
+either-way (Ok x) P Q L h k f g = f x h
+either-way (Err e) P Q L h k f g = g k
+
+-- the chain as its data has as many
+pub data-length : (gs : List Generation) → length (map data_of gs) ≡ length gs
+data-length [] = refl
+data-length (g ∷ more) = ap suc (data-length more)
+
+pub data-more : (gs : List Generation) (g : Generation) → map data_of (gs ++ g ∷ []) ≡ map data_of gs ++ data_of g ∷ []
+data-more [] g = refl
+data-more (x ∷ more) g = ap (λ (ds : List GenerationData). data_of x ∷ ds) (data-more more g)
+
+-- a generation that begins is one of its own plan
+pub begins-own : (p : Plan) (g : Generation) → Begins p g → Begins g.core.plan g
+begins-own p g b = subst (λ x. Begins x g) (sym b.begins.plan_is) b
+
+pub launches-at : (gs : List Generation) (p : Plan) (g : Generation) → MayLaunch gs p g → Linked gs → Launches (map data_of gs) (map data_of (gs ++ g ∷ [])) p
+launches-at gs p g m l = record {
+  newest = data_of g;
+  begun = begun p g m.begins;
+  may = m.may;
+  few = subst (λ n. n < 64) (sym (data-length gs)) m.few;
+  ready = m.ready l;
+  others = data-more gs g;
+}
+
+pub linked-more : (gs : List Generation) (p : Plan) (g : Generation) → MayLaunch gs p g → Linked gs → Linked (gs ++ g ∷ [])
+linked-more gs p g m l = linked-launch gs g (begins-own p g m.begins) l
