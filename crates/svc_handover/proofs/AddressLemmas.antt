@@ -1,12 +1,12 @@
 -- Addresses that were read are texts.
-use Rattle.std.proofs.Common.{ℕ, List, [], ◌∷◌, ◌≡◌, ◌<◌, refl, length, get_or, subst, inl, inr, Option, Some, None, IsUtf8}
+use Rattle.std.proofs.Common.{ℕ, List, ◌≡◌, refl, subst, Option, Some, None, IsUtf8}
 use Rattle.std.specs.Prelude.{All, slice_get}
 use Rattle.std.proofs.lemmas.Option.{get_or_from_slice_get, slice_get_within}
 use Rattle.std.proofs.lemmas.List.Elements.{All-get_or}
 use Rattle.svc_graph.specs.declared.plan.EndpointPlan.{EndpointPlan}
 use Rattle.svc_record.specs.declared.plan.Plan.{Plan}
 use Rattle.svc_record.specs.declared.plan.ServicePlan.{ServicePlan}
-use Rattle.svc_record.specs.Plans.{endpoints, address}
+use Rattle.svc_record.specs.Plans.{address}
 use Rattle.svc_handover.specs.Law.{IsTextOr, AreTextual, HasTexts}
 
 -- what holds of each element holds of the one at this place

@@ -1,6 +1,5 @@
 -- How often an endpoint is bound: each bind but the first comes after an answer that found the address in use and counts, and after so many the service fails.
-use Rattle.std.proofs.Common.{ℕ, Bool, true, false, ◌||◌, ◌&&◌, not, ◌==◌, ◌+◌, ◌<◌, ◌≤◌, ◌⊎◌, List, [], ◌∷◌, ◌++◌, ◌≡◌, refl, ap, sym, ◌∙◌, subst, arith, inl, inr, Option, Some, None, length, nat_lt, nat_le, if◌then◌else◌}
-use Rattle.std.specs.List.{list_any}
+use Rattle.std.proofs.Common.{ℕ, Bool, true, false, ◌||◌, ◌&&◌, not, ◌==◌, ◌+◌, ◌<◌, ◌≤◌, ◌⊎◌, List, [], ◌∷◌, ◌≡◌, refl, ap, ◌∙◌, subst, arith, inl, inr, Option, Some, None, length, nat_le, if◌then◌else◌}
 use Rattle.std.proofs.lemmas.Bool.{and_parts, and_from, or_parts, or_from, or_cases, or_left, or_right, cases_Bool, cases_lt, eqb-true, not-true, false_from_ne_true, leb-false, leb-true}
 use Rattle.svc_record.specs.declared.plan.Plan.{Plan}
 use Rattle.svc_record.specs.declared.action.Action.{Action}
@@ -11,17 +10,17 @@ use Rattle.svc_record.specs.declared.event.Event.{Event}
 use Rattle.svc_record.specs.declared.event.Event.TheVariants.{Bound, InUse, BindFailed, Adopted, AdoptFailed}
 use Rattle.svc_record.specs.Record.{Record, has, times, now, tell, is_running, from_the_start, once_if, is_bootstrap_complete, EachEntry, EachEarlier}
 use Rattle.svc_record.specs.Plans.{service_count, endpoints, endpoint_numbers, address, same_address}
-use Rattle.svc_record.specs.Descriptors.{Descriptor, descriptors_of, opened_descriptors, is_opened, is_close, has_live, live_descriptors}
-use Rattle.svc_record.specs.Asks.{is_bind, is_bind_answer, is_bind_open, is_adopt, is_adopt_answer, is_adopt_open, is_ask_open, last_adopt}
+use Rattle.svc_record.specs.Descriptors.{Descriptor, descriptors_of, opened_descriptors, is_close, has_live, live_descriptors}
+use Rattle.svc_record.specs.Asks.{is_bind, is_bind_answer, is_bind_open, is_adopt, is_adopt_answer, is_adopt_open, is_ask_open}
 use Rattle.svc_record.specs.AskRules.{ask_due}
 use Rattle.svc_record.specs.Failed.{has_failed, is_failure, is_in_use, in_use_count, in_use_limit}
 use Rattle.svc_record.specs.Starts.{is_start, is_started}
-use Rattle.svc_record.specs.Endpoints.{held_numbers_of, is_held, is_busy, rests, is_at_work, is_busy_elsewhere, waits_at, waits_from, waits, first_missing, in_use_within, EndpointsRightLate}
-use Rattle.svc_record.specs.Closes.{ClosesRight, is_broadcast, close_once}
-use Rattle.svc_record.specs.Boot.{is_side_child, may_begin, runs, fork_first, start_after_boot, boot_entries_right, BootRight}
+use Rattle.svc_record.specs.Endpoints.{is_held, is_busy_elsewhere, waits_at, waits_from, waits, first_missing, in_use_within, EndpointsRightLate}
+use Rattle.svc_record.specs.Closes.{close_once}
+use Rattle.svc_record.specs.Boot.{is_side_child, may_begin, runs, fork_first, start_after_boot, BootRight}
 use Rattle.svc_record.specs.Ends.{has_ended}
 use Rattle.svc_record.specs.Fits.{event_fits, fits_row, is_new}
-use Rattle.svc_record.specs.Right.{Right, SettledRight, OpenRight}
+use Rattle.svc_record.specs.Right.{Right, SettledRight}
 use Rattle.svc_core.proofs.RecordLemmas.{on_true, has-stays}
 use Rattle.svc_drain.proofs.Passing.{has-once}
 use Rattle.svc_endpoints.proofs.RangeLemmas.{at0}

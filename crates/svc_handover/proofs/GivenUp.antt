@@ -4,9 +4,9 @@ use Rattle.std.specs.Str.{is_utf8, chars}
 use lib.Utf8.{encode}
 use Rattle.svc_record.specs.declared.entry.Entry.TheVariants.{Got, Told}
 use Rattle.svc_record.specs.declared.event.Event.TheVariants.{Adopted, AdoptFailed, Signal, LoopEnded}
-use Rattle.svc_record.specs.declared.event.ShutdownSignal.TheVariants.{FastShutdown, GracefulTerminate as TerminateSignal}
-use Rattle.svc_record.specs.declared.action.Action.TheVariants.{Fail, Close, Phase, Stop, Broadcast}
-use Rattle.svc_record.specs.declared.action.ExecutionPhase.TheVariants.{ShutdownStarted, ShutdownRuntimes, Terminated, ShutdownGracePeriod, GracefulTerminate}
+use Rattle.svc_record.specs.declared.event.ShutdownSignal.TheVariants.{GracefulTerminate as TerminateSignal}
+use Rattle.svc_record.specs.declared.action.Action.TheVariants.{Fail, Close, Phase, Broadcast}
+use Rattle.svc_record.specs.declared.action.ExecutionPhase.TheVariants.{ShutdownStarted, ShutdownGracePeriod, GracefulTerminate}
 use Rattle.svc_record.specs.Record.{Record}
 use Rattle.svc_record.proofs.InheritedSockets.{plan, one_address, offered}
 use Rattle.svc_record.proofs.UnclaimedDescriptor.{run}

@@ -1,14 +1,12 @@
 -- Each close is of a descriptor that is doubled, unclaimed, abandoned or drained, or stands after `ShutdownRuntimes`.
-use Rattle.std.proofs.Common.{ℕ, Bool, true, false, ◌||◌, ◌&&◌, not, ◌==◌, ◌⊎◌, List, [], ◌∷◌, ◌≡◌, refl, ap, sym, ◌∙◌, subst, arith, inl, inr, if◌then◌else◌}
+use Rattle.std.proofs.Common.{ℕ, Bool, true, false, ◌||◌, not, ◌==◌, [], ◌∷◌, ◌≡◌, refl, sym, ◌∙◌, subst, arith, if◌then◌else◌}
 use Rattle.std.proofs.lemmas.Bool.{and_parts, and_from, or_left, or_right, eq-eqb, not-true}
 use Rattle.svc_record.specs.declared.plan.Plan.{Plan}
-use Rattle.svc_record.specs.declared.entry.Entry.{Entry}
 use Rattle.svc_record.specs.declared.entry.Entry.TheVariants.{Got, Told}
-use Rattle.svc_record.specs.declared.action.Action.{Action}
 use Rattle.svc_record.specs.declared.action.Action.TheVariants.{Close}
-use Rattle.svc_record.specs.Record.{Record, has, tell, before_runtimes, EachEntry, EachEarlier, each_entry, each_earlier}
+use Rattle.svc_record.specs.Record.{Record, has, before_runtimes, EachEntry, EachEarlier, each_entry, each_earlier}
 use Rattle.svc_record.specs.Descriptors.{is_close, is_doubled}
-use Rattle.svc_record.specs.Closes.{ClosesRight, is_gone, is_drained, close_once}
+use Rattle.svc_record.specs.Closes.{ClosesRight, is_drained, close_once}
 use Rattle.svc_record.specs.Drain.{has_passed, last_actions}
 use Rattle.svc_record.specs.Ends.{has_ended}
 use Rattle.svc_record.specs.Fits.{event_fits, fits_row}
@@ -18,7 +16,7 @@ use Rattle.svc_core.specs.CoreData.{CoreData, is_served}
 use Rattle.svc_core.specs.Stands.{StandsFor}
 use Rattle.svc_core.proofs.RecordLemmas.{on_true}
 use Rattle.svc_endpoints.proofs.GoneLemmas.{closed-is}
-use Rattle.svc_handover.specs.GivingUp.{before_end, is_unwanted, is_forsaken, has_cause, is_caused, are_caused, gives_up_rightly}
+use Rattle.svc_handover.specs.GivingUp.{before_end, is_received_unclaimed, is_abandoned_off_offer, has_cause, is_caused, are_caused, gives_up_rightly}
 use Rattle.svc_handover.proofs.TriesLemmas.{served-passed}
 use Rattle.svc_handover.proofs.CoveredLemmas.{open-settled}
 use Rattle.svc_handover.proofs.OvertakenLemmas.{each-part}
@@ -26,7 +24,7 @@ use Rattle.svc_handover.proofs.OvertakenLemmas.{each-part}
 -- what is gone is doubled or has a cause
 module _ (p : Plan) (at : Record) (once : EachEntry (λ e before. close_once p e before ≡ true) at) (closes : ClosesRight p at) where
   cause : (fd : ℕ) → has (is_close fd) at ≡ true → (is_doubled p at fd || has_cause p at fd) ≡ true
-  cause fd closed = sorted (is_unwanted p at fd) (is_doubled p at fd) (is_forsaken p at fd) (is_drained p at fd)
+  cause fd closed = sorted (is_received_unclaimed p at fd) (is_doubled p at fd) (is_abandoned_off_offer p at fd) (is_drained p at fd)
       (sym (closed-is p at fd once (closes fd (closed_was_opened p at fd once closed))) ∙ closed)
     where
       sorted : (u d f r : Bool) → (((u || d) || f) || r) ≡ true → (d || ((u || f) || r)) ≡ true

@@ -1,9 +1,8 @@
 -- Worlds in which one premise of the operator's law is lacking, and no other: both servers have kept every promise, and the address x is closed.
-use Rattle.std.proofs.Common.{ℕ, Bool, true, false, List, [], ◌∷◌, Some, None, codes, ◌≡◌, refl, ◌&&◌, ◌==◌, not, map}
+use Rattle.std.proofs.Common.{ℕ, Bool, true, false, List, [], ◌∷◌, Some, None, codes, ◌≡◌, refl, ◌==◌, not, map}
 use Rattle.std.specs.List.{range_with_len}
 use Rattle.std.specs.Str.{is_utf8, chars}
 use lib.Utf8.{encode}
-use Rattle.std.proofs.lemmas.Bool.{and_parts}
 use Rattle.svc_graph.specs.declared.plan.EndpointPlan.{EndpointPlan}
 use Rattle.svc_graph.specs.declared.plan.Kind.TheVariants.{Plain, Bootstrap as Bootstrapping}
 use Rattle.svc_record.specs.declared.plan.Plan.{Plan}
@@ -14,7 +13,7 @@ use Rattle.svc_record.specs.declared.event.ShutdownSignal.TheVariants.{GracefulU
 use Rattle.svc_record.specs.declared.action.Action.TheVariants.{Adopt, Bind, Broadcast, Close, Connect, Fail, OpenReceiver, Phase, Send, Start, Stop, TryReceive}
 use Rattle.svc_record.specs.declared.action.ExecutionPhase.TheVariants.{Bootstrap, BootstrapComplete, GracefulTerminate, GracefulUpgradeCloseTimeout, GracefulUpgradeTransferringFds, Running, ShutdownGracePeriod, ShutdownRuntimes, ShutdownStarted, Terminated}
 use Rattle.svc_record.specs.Record.{Record, has, is_signal, signal_of}
-use Rattle.svc_record.specs.Right.{Right, is_right}
+use Rattle.svc_record.specs.Right.{is_right}
 use Rattle.svc_handover.specs.declared.pair.ChannelState.{ChannelState}
 use Rattle.svc_handover.specs.declared.pair.ChannelState.TheVariants.{InFlight, Listening, Taken}
 use Rattle.svc_handover.specs.Pair.{World}

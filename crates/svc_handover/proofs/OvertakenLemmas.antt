@@ -1,8 +1,8 @@
 -- An answer to a bind that an arrival overtook: in use, or bound, while a live descriptor had the address. It changes nothing of what is gone, so that
 -- descriptor stays open in the step.
-use Rattle.std.proofs.Common.{ℕ, Bool, true, false, ◌||◌, ◌&&◌, not, ◌==◌, ◌+◌, ◌<◌, ◌⊎◌, List, [], ◌∷◌, ◌++◌, ◌≡◌, refl, ap, sym, ◌∙◌, subst, arith, inl, inr, Option, Some, None, length, nat_lt, nat_le, if◌then◌else◌, MatchBool}
+use Rattle.std.proofs.Common.{ℕ, Bool, true, false, ◌||◌, ◌&&◌, not, ◌==◌, ◌+◌, List, [], ◌∷◌, ◌++◌, ◌≡◌, refl, ap, sym, ◌∙◌, subst, arith, inl, inr, length, nat_lt, nat_le, if◌then◌else◌, MatchBool}
 use Rattle.std.specs.List.{list_any, list_all}
-use Rattle.std.proofs.lemmas.Bool.{and_parts, and_from, or_parts, or_cases, or_left, or_right, cases_Bool, eqb-true, not-true, false_from_ne_true, lt-ltb}
+use Rattle.std.proofs.lemmas.Bool.{and_parts, and_from, or_parts, or_left, or_right, cases_Bool, eqb-true, false_from_ne_true, lt-ltb}
 use Rattle.std.proofs.lemmas.List.Folds.{list_any-append}
 use Rattle.svc_record.specs.declared.plan.Plan.{Plan}
 use Rattle.svc_record.specs.declared.action.Action.{Action}
@@ -12,17 +12,17 @@ use Rattle.svc_record.specs.declared.entry.Entry.{Entry}
 use Rattle.svc_record.specs.declared.entry.Entry.TheVariants.{Got, Told}
 use Rattle.svc_record.specs.declared.event.Event.{Event}
 use Rattle.svc_record.specs.declared.event.Event.TheVariants.{Bound, InUse}
-use Rattle.svc_record.specs.Record.{Record, has, times, now, tell, last_step, is_running, signal_of, EachEntry, EachEarlier}
+use Rattle.svc_record.specs.Record.{Record, has, now, tell, last_step, is_running, signal_of, EachEntry}
 use Rattle.svc_record.specs.Plans.{services, endpoints, endpoint_numbers, address, each_endpoint}
-use Rattle.svc_record.specs.Descriptors.{Descriptor, descriptors_of, opened_descriptors, is_opened, is_close, brings, has_live, live_descriptors, address_of}
-use Rattle.svc_record.specs.Asks.{is_adopt_open, is_ask_open, is_bind_open, last_adopt, is_adopt}
+use Rattle.svc_record.specs.Descriptors.{Descriptor, descriptors_of, opened_descriptors, is_opened, is_close, brings, has_live, address_of}
+use Rattle.svc_record.specs.Asks.{is_adopt_open, is_bind_open, last_adopt}
 use Rattle.svc_record.specs.AskRules.{ask_due}
-use Rattle.svc_record.specs.Failed.{has_failed, is_failure, is_in_use, in_use_count, in_use_limit}
+use Rattle.svc_record.specs.Failed.{has_failed, is_failure, in_use_count, in_use_limit}
 use Rattle.svc_record.specs.Starts.{is_started}
-use Rattle.svc_record.specs.Endpoints.{held_numbers, is_held, is_held_by, is_at_work, serves}
+use Rattle.svc_record.specs.Endpoints.{held_numbers, is_held, is_at_work, serves}
 use Rattle.svc_record.specs.Offer.{is_held_back}
 use Rattle.svc_record.specs.Closes.{ClosesRight, is_gone, is_drained, is_broadcast, is_holder, is_adopt_of_open, ended_loops, have_loops_ended, close_once}
-use Rattle.svc_record.specs.Drain.{Mark, phase, marks_if, due_marks, row_by, has_passed, PhasesRight}
+use Rattle.svc_record.specs.Drain.{Mark, phase, marks_if, row_by, has_passed, PhasesRight}
 use Rattle.svc_record.specs.Ends.{has_ended, has_ended_early, ends_tested}
 use Rattle.svc_record.specs.Fits.{event_fits}
 use Rattle.svc_record.specs.Right.{SettledRight, EndedRight, OpenRight, is_quiet, is_test_step}
@@ -34,7 +34,7 @@ use Rattle.svc_endpoints.proofs.GrowLemmas.{gone-grows}
 use Rattle.svc_endpoints.proofs.OpenedLemmas.{opened-in, brings-in, opens-later, first_address}
 use Rattle.svc_endpoints.proofs.GoneLemmas.{is_turned, closed-is}
 use Rattle.svc_handover.proofs.OfferedLemmas.{fresh-entry, opens-none, turned-later, is_the_broadcast, marked-is}
-use Rattle.svc_handover.proofs.TurnLemmas.{HasTurn, adopt-turn, held-started}
+use Rattle.svc_handover.proofs.TurnLemmas.{adopt-turn, held-started}
 
 -- the event answers a bind of the endpoint, which a live descriptor's arrival overtook
 abbrev pub is_overtaken : Plan → ℕ → ℕ → Event → Record → Bool

@@ -23,11 +23,12 @@ use Rattle.svc_record.specs.Fits.{fits}
 use Rattle.svc_record.specs.Right.{Right}
 use Rattle.svc_core.specs.CoreData.{CoreData}
 use Rattle.svc_core.specs.Stands.{StandsFor}
+use Rattle.svc_core.proofs.RecordLemmas.{has-tell}
 use Rattle.svc_handover.specs.declared.pair.PairStep.{PairStep}
 use Rattle.svc_handover.specs.Channel.{is_in_flight, is_taken, is_joined, is_sent, is_join, is_receipt, receipt_of, sent_message, is_as_sent, names_address, old_may, new_may, reached}
 use Rattle.svc_handover.specs.Pair.{World, pair_step, is_allowed}
 use Rattle.svc_handover.specs.Handover.{has_given_up, is_promised, address_right, coverage_right}
-use Rattle.svc_handover.proofs.ChannelLemmas.{IsRead, read-step, has-tell}
+use Rattle.svc_handover.proofs.ChannelLemmas.{IsRead, read-step}
 use Rattle.svc_handover.proofs.MessageLemmas.{decode-written, encode-names, live-ascending, all-among}
 use Rattle.svc_handover.proofs.TriesLemmas.{asks-due}
 use Rattle.svc_handover.proofs.CoveredLemmas.{IsOffers, all-weaker, offered-live, sent-is}

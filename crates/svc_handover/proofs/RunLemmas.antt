@@ -1,6 +1,6 @@
 -- The run of a schedule: how it begins, how it grows by a step, and what it gives.
-use Rattle.std.proofs.Common.{ℕ, Bool, true, false, ◌+◌, ◌<◌, List, [], ◌∷◌, ◌++◌, ◌≡◌, refl, ap, sym, ◌∙◌, subst, arith, length, take, drop, get_or, append_assoc, drop-cons, if◌then◌else◌}
-use Rattle.std.specs.Prelude.{reverse}
+use Rattle.std.proofs.Common.{ℕ, Bool, true, false, ◌+◌, ◌<◌, List, [], ◌∷◌, ◌++◌, ◌≡◌, ◌&&◌, ◌↔◌, suc, refl, ap, sym, ◌∙◌, subst, arith, length, take, drop, get_or, append_assoc, drop-cons, if◌then◌else◌}
+use Rattle.std.specs.Prelude.{reverse, Result, Ok, Err, Option, Some, None}
 use Rattle.std.proofs.lemmas.List.{append-nil, reverse-append, reverse-reverse, take-append-drop, length-take-le}
 use Rattle.svc_conf.specs.Items.{list_of}
 use Rattle.svc_record.specs.declared.plan.Plan.{Plan}
@@ -10,10 +10,16 @@ use Rattle.svc_record.specs.declared.entry.Entry.TheVariants.{Got, Told}
 use Rattle.svc_record.specs.Record.{Record, tell}
 use Rattle.svc_record.specs.Judging.{judged_at, judgements}
 use Rattle.svc_record.specs.Right.{Right}
+use Rattle.svc_record.specs.Fits.{Fits, fits}
+use Rattle.svc_record.specs.declared.event.Event.{Event}
+use Rattle.svc_core.specs.Stands.{StandsFor}
 use Rattle.svc_core.specs.CoreData.{CoreData}
 use Rattle.svc_handover.specs.declared.pair.PairStep.{PairStep}
 use Rattle.svc_handover.specs.declared.pair.ChannelState.{ChannelState}
 use Rattle.svc_handover.specs.declared.pair.ChannelState.TheVariants.{Missing}
+use Rattle.svc_handover.specs.declared.pair.PairRun.{PairRun}
+use Rattle.svc_handover.specs.declared.pair.PairRefused.{PairRefused}
+use Rattle.svc_handover.specs.declared.pair.PairRefused.TheVariants.{Stray, NoMemory}
 use Rattle.svc_handover.specs.declared.recorded.Recorded.{Recorded}
 use Rattle.svc_handover.specs.declared.servers.Servers.{Servers}
 use Rattle.svc_handover.specs.Channel.{after_old, after_new, after_told}
@@ -42,12 +48,12 @@ laws-at p n old new w old_plan new_plan s = subst (λ (x : Plan). Laws x n w) ol
     (law-holds old new w s, keeps-reachable old new w s))
 
 -- both servers have begun
-pub runs-first : (p n : Plan) (servers : Servers) (told_old told_new : List Action) → Begins p servers.old told_old → Begins n servers.new told_new → servers.channel ≡ after_told told_new Missing → HasTexts p → Runs p n [] servers
+pub runs-first : (p n : Plan) (servers : Servers) (told_old told_new : List Action) → Begins p servers.predecessor told_old → Begins n servers.successor told_new → servers.channel ≡ after_told told_new Missing → HasTexts p → Runs p n [] servers
 runs-first p n servers told_old told_new by_old by_new channel texts =
     let w : World = first_world by_old.begun.told by_new.begun.told in
-    let stands : PairStands servers.old.core servers.new.core w = stands-first servers.old.core servers.old.core servers.new.core servers.new.core [] told_old [] told_new by_old.end by_new.end by_old.begun by_new.begun
+    let stands : PairStands servers.predecessor.core servers.successor.core w = stands-first servers.predecessor.core servers.predecessor.core servers.successor.core servers.successor.core [] told_old [] told_new by_old.end by_new.end by_old.begun by_new.begun
     (subst HasTexts (sym by_old.plan_is) texts) in
-    let laws = laws-at p n servers.old.core servers.new.core w by_old.plan_is by_new.plan_is stands in
+    let laws = laws-at p n servers.predecessor.core servers.successor.core w by_old.plan_is by_new.plan_is stands in
     record {
       world = w;
       over = record {
@@ -73,17 +79,37 @@ runs-first p n servers told_old told_new by_old by_new channel texts =
       channel_is = channel ∙ ap (λ t. after_told t Missing) by_new.begun.appended;
     }
 
+decided : (b x : Bool) → ((b ≡ true) ↔ (x ≡ true)) → b ≡ x
+decided true x h = sym (h.0 refl)
+decided false true h = h.1 refl
+decided false false h = refl
+
+-- a server's test of an event is that of its record
+pub fits-old : (p n : Plan) (before : List PairStep) (servers : Servers) (runs : Runs p n before servers) (e : Event) (b : Bool) → ((q : Record) → StandsFor servers.predecessor.core q → (b ≡ true) ↔ Fits servers.predecessor.core.plan q e) → b ≡ fits p runs.world.old e
+fits-old p n before servers runs e b means = decided b (fits servers.predecessor.core.plan runs.world.old e) (means runs.world.old runs.stands.old_stands) ∙ ap (λ x. fits x runs.world.old e) runs.old_plan
+
+pub fits-new : (p n : Plan) (before : List PairStep) (servers : Servers) (runs : Runs p n before servers) (e : Event) (b : Bool) → ((q : Record) → StandsFor servers.successor.core q → (b ≡ true) ↔ Fits servers.successor.core.plan q e) → b ≡ fits n runs.world.new e
+fits-new p n before servers runs e b means = decided b (fits servers.successor.core.plan runs.world.new e) (means runs.world.new runs.stands.new_stands) ∙ ap (λ x. fits x runs.world.new e) runs.new_plan
+
+-- where the event doesn't fit, the step isn't allowed
+pub unfit : (b f m : Bool) → b ≡ false → b ≡ f → b ≡ (f && m)
+unfit b f m x y = grind arith
+
+-- and else the channel decides
+pub fit : (b f m k : Bool) → b ≡ true → b ≡ f → m ≡ k → m ≡ (f && k)
+fit b f m k x y z = grind arith
+
 -- one move more: what is kept of the world that it makes is the run of a longer schedule
 grows-by : (p n : Plan) (before : List PairStep) (old new : Servers) (runs : Runs p n before old) (m : PairMove) → is_allowed p n runs.world m.step ≡ true → IsAsSaid p n m
-    → PairStands new.old.core new.new.core (pair_step runs.world m.step m.told) → new.old.core.plan ≡ p → new.new.core.plan ≡ n
-    → reverse (list_of new.old.entries) ≡ (pair_step runs.world m.step m.told).old → reverse (list_of new.new.entries) ≡ (pair_step runs.world m.step m.told).new → new.channel ≡ (pair_step runs.world m.step m.told).channel
+    → PairStands new.predecessor.core new.successor.core (pair_step runs.world m.step m.told) → new.predecessor.core.plan ≡ p → new.successor.core.plan ≡ n
+    → reverse (list_of new.predecessor.entries) ≡ (pair_step runs.world m.step m.told).old → reverse (list_of new.successor.entries) ≡ (pair_step runs.world m.step m.told).new → new.channel ≡ (pair_step runs.world m.step m.told).channel
     → Runs p n (before ++ m.step ∷ []) new
 grows-by p n before old new runs m allowed said stands old_plan new_plan old_is new_is channel =
     let l = runs.over.leaves in
     let first : World = first_world l.begun_old l.begun_new in
     let next : World = pair_step runs.world m.step m.told in
     let at : pair_step (world_after first l.moves) m.step m.told ≡ next = ap (λ v. pair_step v m.step m.told) (sym l.world) in
-    let laws = laws-at p n new.old.core new.new.core next old_plan new_plan stands in
+    let laws = laws-at p n new.predecessor.core new.successor.core next old_plan new_plan stands in
     record {
       world = next;
       over = record {
@@ -118,33 +144,33 @@ taken-entries old new step told q t same =
     ∙ ap (tell (Got step.event ∷ q)) t.keeps.appended
 
 -- a step of the old server
-pub grows-old : (old new : Servers) (step : PairStep) (told : List Action) → step.old ≡ true → Takes old.old new.old step told → new.new ≡ old.new → new.channel ≡ after_old step.event old.channel → Grows old new step
+pub grows-old : (old new : Servers) (step : PairStep) (told : List Action) → step.old ≡ true → Takes old.predecessor new.predecessor step told → new.successor ≡ old.successor → new.channel ≡ after_old step.event old.channel → Grows old new step
 grows-old old new step told side t same channel p n before runs allowed =
     let w : World = runs.world in
     let moved : pair_step w step t.keeps.told ≡ old_step w step t.keeps.told = ap (λ b. if b then old_step w step t.keeps.told else new_step w step t.keeps.told) side in
-    let may : is_allowed old.old.core.plan old.new.core.plan w step ≡ true = ap (λ x. is_allowed x old.new.core.plan w step) runs.old_plan ∙ ap (λ y. is_allowed p y w step) runs.new_plan ∙ allowed in
-    let stood : PairStands new.old.core old.new.core (old_step w step t.keeps.told) = stands-old old.old.core new.old.core old.new.core w step [] told t.end side t.plan_is runs.stands may t.keeps in
-    let stands : PairStands new.old.core new.new.core (pair_step w step t.keeps.told) = subst (λ v. PairStands new.old.core new.new.core v) (sym moved) (subst (λ (r : Recorded). PairStands new.old.core r.core (old_step w step t.keeps.told)) (sym same) stood) in
+    let may : is_allowed old.predecessor.core.plan old.successor.core.plan w step ≡ true = ap (λ x. is_allowed x old.successor.core.plan w step) runs.old_plan ∙ ap (λ y. is_allowed p y w step) runs.new_plan ∙ allowed in
+    let stood : PairStands new.predecessor.core old.successor.core (old_step w step t.keeps.told) = stands-old old.predecessor.core new.predecessor.core old.successor.core w step [] told t.end side t.plan_is runs.stands may t.keeps in
+    let stands : PairStands new.predecessor.core new.successor.core (pair_step w step t.keeps.told) = subst (λ v. PairStands new.predecessor.core new.successor.core v) (sym moved) (subst (λ (r : Recorded). PairStands new.predecessor.core r.core (old_step w step t.keeps.told)) (sym same) stood) in
     let said : judgements t.keeps.told ≡ judged_at (if step.old then p else n) step.event step.said =
     ap judgements (sym t.keeps.appended) ∙ t.judged ∙ ap (λ x. judged_at x step.event step.said) (runs.old_plan ∙ sym (ap (λ b. if b then p else n) side)) in
     grows-by p n before old new runs (record { step = step; told = t.keeps.told }) allowed said stands (t.plan_is ∙ runs.old_plan) (ap (λ (r : Recorded). r.core.plan) same ∙ runs.new_plan)
-    (taken-entries old.old new.old step told w.old t runs.old_is ∙ ap (λ (v : World). v.old) (sym moved))
+    (taken-entries old.predecessor new.predecessor step told w.old t runs.old_is ∙ ap (λ (v : World). v.old) (sym moved))
     (ap (λ (r : Recorded). reverse (list_of r.entries)) same ∙ runs.new_is ∙ ap (λ (v : World). v.new) (sym moved))
     (channel ∙ ap (after_old step.event) runs.channel_is ∙ ap (λ (v : World). v.channel) (sym moved))
 
 -- a step of the new server
-pub grows-new : (old new : Servers) (step : PairStep) (told : List Action) → step.old ≡ false → Takes old.new new.new step told → new.old ≡ old.old → new.channel ≡ after_told told (after_new step.event old.channel) → Grows old new step
+pub grows-new : (old new : Servers) (step : PairStep) (told : List Action) → step.old ≡ false → Takes old.successor new.successor step told → new.predecessor ≡ old.predecessor → new.channel ≡ after_told told (after_new step.event old.channel) → Grows old new step
 grows-new old new step told side t same channel p n before runs allowed =
     let w : World = runs.world in
     let moved : pair_step w step t.keeps.told ≡ new_step w step t.keeps.told = ap (λ b. if b then old_step w step t.keeps.told else new_step w step t.keeps.told) side in
-    let may : is_allowed old.old.core.plan old.new.core.plan w step ≡ true = ap (λ x. is_allowed x old.new.core.plan w step) runs.old_plan ∙ ap (λ y. is_allowed p y w step) runs.new_plan ∙ allowed in
-    let stood : PairStands old.old.core new.new.core (new_step w step t.keeps.told) = stands-new old.old.core old.new.core new.new.core w step [] told t.end side runs.stands may t.keeps in
-    let stands : PairStands new.old.core new.new.core (pair_step w step t.keeps.told) = subst (λ v. PairStands new.old.core new.new.core v) (sym moved) (subst (λ (r : Recorded). PairStands r.core new.new.core (new_step w step t.keeps.told)) (sym same) stood) in
+    let may : is_allowed old.predecessor.core.plan old.successor.core.plan w step ≡ true = ap (λ x. is_allowed x old.successor.core.plan w step) runs.old_plan ∙ ap (λ y. is_allowed p y w step) runs.new_plan ∙ allowed in
+    let stood : PairStands old.predecessor.core new.successor.core (new_step w step t.keeps.told) = stands-new old.predecessor.core old.successor.core new.successor.core w step [] told t.end side runs.stands may t.keeps in
+    let stands : PairStands new.predecessor.core new.successor.core (pair_step w step t.keeps.told) = subst (λ v. PairStands new.predecessor.core new.successor.core v) (sym moved) (subst (λ (r : Recorded). PairStands r.core new.successor.core (new_step w step t.keeps.told)) (sym same) stood) in
     let said : judgements t.keeps.told ≡ judged_at (if step.old then p else n) step.event step.said =
     ap judgements (sym t.keeps.appended) ∙ t.judged ∙ ap (λ x. judged_at x step.event step.said) (runs.new_plan ∙ sym (ap (λ b. if b then p else n) side)) in
     grows-by p n before old new runs (record { step = step; told = t.keeps.told }) allowed said stands (ap (λ (r : Recorded). r.core.plan) same ∙ runs.old_plan) (t.plan_is ∙ runs.new_plan)
     (ap (λ (r : Recorded). reverse (list_of r.entries)) same ∙ runs.old_is ∙ ap (λ (v : World). v.old) (sym moved))
-    (taken-entries old.new new.new step told w.new t runs.new_is ∙ ap (λ (v : World). v.new) (sym moved))
+    (taken-entries old.successor new.successor step told w.new t runs.new_is ∙ ap (λ (v : World). v.new) (sym moved))
     (channel ∙ ap (after_told told) (ap (after_new step.event) runs.channel_is) ∙ ap (λ t. after_told t (after_new step.event w.channel)) t.keeps.appended ∙ ap (λ (v : World). v.channel) (sym moved))
 
 -- the first step that isn't allowed
@@ -162,12 +188,27 @@ refuses p n schedule servers index step inside here runs refused k place = recor
 }
 
 -- what the whole schedule leaves
-pub gives : (p n : Plan) (schedule : List PairStep) (servers : Servers) (old new : List Entry) (channel : ChannelState) → Runs p n schedule servers → old ≡ list_of servers.old.entries → new ≡ list_of servers.new.entries → channel ≡ servers.channel
+pub gives : (p n : Plan) (schedule : List PairStep) (servers : Servers) (old new : List Entry) (channel : ChannelState) → Runs p n schedule servers → old ≡ list_of servers.predecessor.entries → new ≡ list_of servers.successor.entries → channel ≡ servers.channel
     → Gives p n schedule old new channel
 gives p n schedule servers old new channel runs old_is new_is channel_is = record {
   world = runs.world;
   run = runs.over;
-  old_is = old_is ∙ sym (reverse-reverse (list_of servers.old.entries)) ∙ ap (λ (xs : List Entry). reverse xs) runs.old_is;
-  new_is = new_is ∙ sym (reverse-reverse (list_of servers.new.entries)) ∙ ap (λ (xs : List Entry). reverse xs) runs.new_is;
+  old_is = old_is ∙ sym (reverse-reverse (list_of servers.predecessor.entries)) ∙ ap (λ (xs : List Entry). reverse xs) runs.old_is;
+  new_is = new_is ∙ sym (reverse-reverse (list_of servers.successor.entries)) ∙ ap (λ (xs : List Entry). reverse xs) runs.new_is;
   channel_is = channel_is ∙ runs.channel_is;
 }
+
+-- which number an answer names, if it is that of a stray step
+abbrev number_of : Result PairRun PairRefused → Option ℕ
+number_of (Err (Stray k)) = Some k
+number_of (Err NoMemory) = None
+number_of (Ok run) = None
+
+pub same-number : (j k : ℕ) → ◌≡◌ {A = Result PairRun PairRefused} (Err (Stray j)) (Err (Stray k)) → k ≡ j
+same-number j k e = let same : Some k ≡ Some j = ap number_of (sym e) in cc
+
+pub no-memory-strays : (k : ℕ) → ◌≡◌ {A = Result PairRun PairRefused} (Err NoMemory) (Err (Stray k)) → ⊥
+no-memory-strays k e = let other : ◌≡◌ {A = Option ℕ} None (Some k) = ap number_of e in cc
+
+pub ok-strays : (run : PairRun) (k : ℕ) → ◌≡◌ {A = Result PairRun PairRefused} (Ok run) (Err (Stray k)) → ⊥
+ok-strays run k e = let other : ◌≡◌ {A = Option ℕ} None (Some k) = ap number_of e in cc

@@ -2,11 +2,9 @@
 use Rattle.std.proofs.Common.{ℕ, Bool, ◌+◌, ◌<◌, List, [], ◌∷◌, ◌≡◌, refl, ap, sym, ◌∙◌, length, take, get_or, if◌then◌else◌}
 use Rattle.std.specs.Prelude.{reverse}
 use Rattle.std.proofs.lemmas.List.{take_more, reverse-append}
-use Rattle.svc_record.specs.declared.action.Action.{Action}
 use Rattle.svc_record.specs.declared.action.Action.TheVariants.{Send}
 use Rattle.svc_record.specs.declared.entry.Entry.{Entry}
 use Rattle.svc_record.specs.declared.entry.Entry.TheVariants.{Got, Told}
-use Rattle.svc_record.specs.declared.event.Event.{Event}
 use Rattle.svc_record.specs.declared.event.Event.TheVariants.{Sent}
 use Rattle.svc_record.specs.Record.{Record}
 use Rattle.svc_handover.specs.Channel.{is_as_sent, newest_after, is_sent, last_send, sent_message}

@@ -1,15 +1,14 @@
 -- When an endpoint is asked for: its service is at work, the earlier endpoints are held, and it isn't. So what is asked for or held is of a service that was
 -- started.
-use Rattle.std.proofs.Common.{ℕ, Bool, true, false, ◌||◌, ◌&&◌, not, ◌==◌, ◌<◌, ◌⊎◌, List, [], ◌∷◌, ◌++◌, ◌≡◌, refl, ap, sym, ◌∙◌, subst, arith, inl, inr, length, nat_lt, if◌then◌else◌}
+use Rattle.std.proofs.Common.{ℕ, Bool, true, false, ◌&&◌, not, ◌==◌, ◌<◌, ◌⊎◌, List, [], ◌∷◌, ◌++◌, ◌≡◌, refl, subst, arith, inl, inr, length, nat_lt, if◌then◌else◌}
 use Rattle.std.specs.List.{list_any, list_all, range_with_len}
-use Rattle.std.proofs.lemmas.Bool.{and_parts, cases_Bool, or_cases, or_left, or_right, eqb-true, not-true, lt-ltb}
+use Rattle.std.proofs.lemmas.Bool.{and_parts, cases_Bool, or_right, eqb-true, not-true, lt-ltb}
 use Rattle.svc_record.specs.declared.plan.Plan.{Plan}
-use Rattle.svc_record.specs.declared.action.Action.{Action}
 use Rattle.svc_record.specs.declared.action.Action.TheVariants.{Bind, Adopt}
 use Rattle.svc_record.specs.declared.entry.Entry.{Entry}
 use Rattle.svc_record.specs.declared.entry.Entry.TheVariants.{Got, Told}
 use Rattle.svc_record.specs.declared.event.Event.TheVariants.{Bound, Adopted}
-use Rattle.svc_record.specs.Record.{Record, has, tell, EachEntry}
+use Rattle.svc_record.specs.Record.{Record, EachEntry}
 use Rattle.svc_record.specs.Plans.{is_endpoint, address, any_with}
 use Rattle.svc_record.specs.Descriptors.{has_live, live_numbers_with}
 use Rattle.svc_record.specs.Asks.{is_open, is_bind, is_bind_answer, is_bind_open, is_adopt, is_adopt_answer, is_adopt_open, is_ask_open, last_adopt}

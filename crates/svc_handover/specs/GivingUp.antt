@@ -15,16 +15,16 @@ abbrev pub before_end : Plan → Record → Record
 before_end p q = if has_passed p q then before_runtimes q else q
 
 -- it was received, and no service claims its address
-abbrev pub is_unwanted : Plan → Record → ℕ → Bool
-is_unwanted p q fd = is_received p q fd && is_address_unclaimed p (address_of p q fd)
+abbrev pub is_received_unclaimed : Plan → Record → ℕ → Bool
+is_received_unclaimed p q fd = is_received p q fd && is_address_unclaimed p (address_of p q fd)
 
 -- all services that name its address have failed, and it isn't on offer
-abbrev pub is_forsaken : Plan → Record → ℕ → Bool
-is_forsaken p q fd = is_address_abandoned p q (address_of p q fd) && not (is_held_back p q fd)
+abbrev pub is_abandoned_off_offer : Plan → Record → ℕ → Bool
+is_abandoned_off_offer p q fd = is_address_abandoned p q (address_of p q fd) && not (is_held_back p q fd)
 
 -- why a descriptor that isn't doubled is given up: it is unclaimed, or abandoned, or drained
 abbrev pub has_cause : Plan → Record → ℕ → Bool
-has_cause p q fd = (is_unwanted p q fd || is_forsaken p q fd) || is_drained p q fd
+has_cause p q fd = (is_received_unclaimed p q fd || is_abandoned_off_offer p q fd) || is_drained p q fd
 
 -- a close is of a descriptor that is doubled or has such a cause, as q says
 abbrev pub is_caused : Plan → Record → Entry → Bool

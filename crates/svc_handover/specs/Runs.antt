@@ -37,16 +37,16 @@ pub record Takes (old new : Recorded) (step : PairStep) (told : List Action) : T
 pub record Runs (p n : Plan) (before : List PairStep) (servers : Servers) : Type 0 where
   pub world : World
   pub over : HandsOver p n before world
-  pub stands : PairStands servers.old.core servers.new.core world
-  pub old_plan : servers.old.core.plan ≡ p
-  pub new_plan : servers.new.core.plan ≡ n
-  pub old_is : reverse (list_of servers.old.entries) ≡ world.old
-  pub new_is : reverse (list_of servers.new.entries) ≡ world.new
+  pub stands : PairStands servers.predecessor.core servers.successor.core world
+  pub old_plan : servers.predecessor.core.plan ≡ p
+  pub new_plan : servers.successor.core.plan ≡ n
+  pub old_is : reverse (list_of servers.predecessor.entries) ≡ world.old
+  pub new_is : reverse (list_of servers.successor.entries) ≡ world.new
   pub channel_is : servers.channel ≡ world.channel
 
 -- the step's server can take it
 abbrev pub MayTake : Servers → PairStep → Type 0
-MayTake servers step = MatchBool step.old (MayCome servers.old.core step.event) (MayCome servers.new.core step.event)
+MayTake servers step = MatchBool step.old (MayCome servers.predecessor.core step.event) (MayCome servers.successor.core step.event)
 
 -- whatever schedule was run, if the step may come now, the schedule with it is run
 abbrev pub Grows : Servers → Servers → PairStep → Type 0

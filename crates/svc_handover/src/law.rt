@@ -1,6 +1,6 @@
 //! The law of a handover between two cores.
 
-ghost use Rattle.std.specs.Prelude.{◌≡◌, ℕ, List, IfOk, Err};
+ghost use Rattle.std.specs.Prelude.{◌≡◌, ℕ, IfOk, Err};
 ghost use Rattle.svc_conf.specs.Items.{list_of};
 ghost use Rattle.svc_record.specs.Validity.{IsValid};
 ghost use Rattle.svc_handover.specs.Law.{Gives, RefusesAt};
@@ -27,12 +27,16 @@ pub fn handover_law(
     ensures hands_over { IfOk result (λ run. Gives old new schedule.now (list_of run.old) (list_of run.new) run.channel) }
     ensures stray { (k : ℕ) → result ≡ Err (PairRefused.Stray k) → RefusesAt old new schedule.now k }
 {
-    let mut servers = Servers::begin(alloc, old, new)?;
+    let Ok(mut servers) = Servers::begin(alloc, old, new) else {
+        return Err(PairRefused::NoMemory);
+    };
     for (index, step) in schedule.iter().enumerate() {
         if !servers.allows(step) {
             return Err(PairRefused::Stray(index as u64 + 1));
         }
-        servers.take(alloc, step)?;
+        let Ok(()) = servers.take(alloc, step) else {
+            return Err(PairRefused::NoMemory);
+        };
     }
     Ok(servers.into_run())
 }

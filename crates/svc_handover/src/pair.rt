@@ -1,8 +1,5 @@
 //! A schedule of a handover, and what it leaves.
 
-ghost use Rattle.std.specs.Prelude.{◌≡◌};
-
-use svc_conf::NoMemory;
 use svc_core::{Entries, Event};
 use thiserror::Error;
 
@@ -49,14 +46,4 @@ pub enum PairRefused {
     /// Memory was refused.
     #[error("out of memory")]
     NoMemory,
-}
-
-impl From<NoMemory> for PairRefused {
-    ghost use Rattle.svc_handover.specs.declared.pair.PairRefused.TheVariants.{NoMemory};
-
-    ghost from_gives = { λ _ e. e ≡ NoMemory };
-
-    fn from(_: NoMemory) -> Self {
-        PairRefused::NoMemory
-    }
 }

@@ -44,6 +44,14 @@ impl Recorded {
         append_told(alloc, told.as_slice(), &mut self.entries)?;
         Ok(told)
     }
+
+    /// The record.
+    pub(crate) fn into_entries(self) -> Entries
+        ensures { list_of result ≡ list_of self.entries }
+    {
+        let Recorded { core: _, entries } = self;
+        entries
+    }
 }
 
 fn append(alloc: Global, entry: Entry, entries: &mut Entries) -> Result<(), NoMemory>

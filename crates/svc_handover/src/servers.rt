@@ -1,6 +1,6 @@
 //! The two servers of a handover, and how far it has come.
 
-ghost use Rattle.std.specs.Prelude.{◌≡◌, ◌&&◌, ℕ, List, [], true, false, IsTrue, IfOk, OnOk};
+ghost use Rattle.std.specs.Prelude.{◌≡◌, ◌&&◌, List, [], true, false, IsTrue, IfOk, OnOk};
 ghost use Rattle.svc_conf.specs.Items.{list_of};
 ghost use Rattle.svc_record.specs.declared.plan.Plan.{Plan};
 ghost use Rattle.svc_record.specs.Fits.{fits};
@@ -22,8 +22,8 @@ use svc_core::{Event, Plan};
 /// Both servers, which have begun.
 #[derive(Drop)]
 pub(crate) struct Servers {
-    pub(crate) old: Recorded,
-    pub(crate) new: Recorded,
+    pub(crate) predecessor: Recorded,
+    pub(crate) successor: Recorded,
     pub(crate) channel: ChannelState,
 }
 
@@ -35,12 +35,12 @@ impl Servers {
         ensures begins { IfOk result (λ servers. Runs old new [] servers) }
     {
         read_addresses(&old);
-        let (old_server, _) = Recorded::begin(alloc, old)?;
-        let (new_server, told) = Recorded::begin(alloc, new)?;
+        let (predecessor, _) = Recorded::begin(alloc, old)?;
+        let (successor, told) = Recorded::begin(alloc, new)?;
         let channel = after_told(told.as_slice(), ChannelState::Missing);
         Ok(Servers {
-            old: old_server,
-            new: new_server,
+            predecessor,
+            successor,
             channel,
         })
     }
@@ -59,20 +59,21 @@ impl Servers {
     }
 
     fn allows_old(&self, event: &Event) -> bool
-        ensures may { IsTrue result → MayCome self.now.old.core event.now }
+        ensures may { IsTrue result → MayCome self.now.predecessor.core event.now }
         ensures means { (p n : Plan) (before : List PairStep) → (runs : Runs p n before self.now)
             → result ≡ (fits p runs.world.old event.now && old_may runs.world.channel event.now) }
     {
-        self.old.core.fits(event) && old_may(self.channel, event)
+        self.predecessor.core.fits(event) && old_may(self.channel, event)
     }
 
     fn allows_new(&self, event: &Event) -> bool
-        ensures may { IsTrue result → MayCome self.now.new.core event.now }
+        ensures may { IsTrue result → MayCome self.now.successor.core event.now }
         ensures means { (p n : Plan) (before : List PairStep) → (runs : Runs p n before self.now)
             → result ≡ (fits n runs.world.new event.now
             && new_may runs.world.channel runs.world.old event.now) }
     {
-        self.new.core.fits(event) && new_may(self.channel, self.old.entries.as_slice(), event)
+        self.successor.core.fits(event)
+            && new_may(self.channel, self.predecessor.entries.as_slice(), event)
     }
 
     /// One step, which may come.
@@ -89,20 +90,20 @@ impl Servers {
 
     fn take_old(&mut self, alloc: Global, step: &PairStep) -> Result<(), NoMemory>
         requires side { step.now.old ≡ true }
-        requires may { MayCome self.old.old.core step.now.event }
+        requires may { MayCome self.old.predecessor.core step.now.event }
         ensures grows { OnOk result (Grows self.old self.new step.now) }
     {
-        self.old.take(alloc, step)?;
+        self.predecessor.take(alloc, step)?;
         self.channel = after_old(&step.event, self.channel);
         Ok(())
     }
 
     fn take_new(&mut self, alloc: Global, step: &PairStep) -> Result<(), NoMemory>
         requires side { step.now.old ≡ false }
-        requires may { MayCome self.old.new.core step.now.event }
+        requires may { MayCome self.old.successor.core step.now.event }
         ensures grows { OnOk result (Grows self.old self.new step.now) }
     {
-        let told = self.new.take(alloc, step)?;
+        let told = self.successor.take(alloc, step)?;
         let channel = after_new(&step.event, self.channel);
         self.channel = after_told(told.as_slice(), channel);
         Ok(())
@@ -110,19 +111,18 @@ impl Servers {
 
     /// Both records, and the channel.
     pub(crate) fn into_run(self) -> PairRun
-        ensures old { list_of result.old ≡ list_of self.old.entries }
-        ensures new { list_of result.new ≡ list_of self.new.entries }
+        ensures old { list_of result.old ≡ list_of self.predecessor.entries }
+        ensures new { list_of result.new ≡ list_of self.successor.entries }
         ensures channel { result.channel ≡ self.channel }
     {
-        let Servers { old, new, channel } = self;
-        let Recorded { core: _, entries } = old;
-        let Recorded {
-            core: _,
-            entries: new_entries,
-        } = new;
+        let Servers {
+            predecessor,
+            successor,
+            channel,
+        } = self;
         PairRun {
-            old: entries,
-            new: new_entries,
+            old: predecessor.into_entries(),
+            new: successor.into_entries(),
             channel,
         }
     }

@@ -1,4 +1,4 @@
-use Rattle.std.proofs.Common.{IsUtf8, ap, arith, length, ◌≤◌, subst, take}
+use Rattle.std.proofs.Common.{IsUtf8, subst}
 use Rattle.std.proofs.lemmas.List.{take_all}
 use Rattle.std.proofs.lemmas.List.Elements.{All-more}
 use Rattle.svc_graph.specs.declared.plan.EndpointPlan.{EndpointPlan}
