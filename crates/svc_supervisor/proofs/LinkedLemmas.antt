@@ -16,7 +16,7 @@ use Rattle.svc_handover.specs.declared.pair.ChannelState.TheVariants.{Missing}
 use Rattle.svc_handover.specs.Channel.{channel_of, reached, is_taken, is_receipt, is_sent, is_join, old_may, new_may}
 use Rattle.svc_handover.specs.Operator.{unsignalled}
 use Rattle.svc_handover.specs.Law.{PairStands}
-use Rattle.svc_handover.proofs.ChannelLemmas.{has-tell}
+use Rattle.svc_core.proofs.RecordLemmas.{has-tell}
 use Rattle.svc_handover.specs.declared.servers.Servers.{Servers}
 use Rattle.svc_handover.specs.Runs.{Runs}
 use Rattle.svc_supervisor.specs.declared.generation.Generation.{Generation}

@@ -5,7 +5,8 @@ use Rattle.svc_record.specs.declared.action.Action.{Action}
 use Rattle.svc_record.specs.Record.{Record, has, tell}
 use Rattle.svc_record.specs.Boot.{is_open_receiver}
 use Rattle.svc_handover.specs.Channel.{is_opening, is_receipt, is_join, is_sent}
-use Rattle.svc_handover.proofs.ChannelLemmas.{has-tell, opened-tell}
+use Rattle.svc_core.proofs.RecordLemmas.{has-tell}
+use Rattle.svc_handover.proofs.ChannelLemmas.{opened-tell}
 use Rattle.svc_supervisor.specs.declared.marks.Marks.{Marks}
 use Rattle.svc_supervisor.specs.Marks.{marks_of}
 

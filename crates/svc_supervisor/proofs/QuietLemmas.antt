@@ -11,7 +11,7 @@ use Rattle.svc_record.specs.declared.event.Event.TheVariants.{Signal}
 use Rattle.svc_record.specs.Record.{Record, has, tell, is_signal, before_signal}
 use Rattle.svc_handover.specs.Channel.{is_receipt}
 use Rattle.svc_handover.specs.Operator.{unsignalled}
-use Rattle.svc_handover.proofs.ChannelLemmas.{has-tell}
+use Rattle.svc_core.proofs.RecordLemmas.{has-tell}
 
 -- no signal came: it is the whole
 pub unsignalled-whole : (q : Record) → has is_signal q ≡ false → unsignalled q ≡ q
