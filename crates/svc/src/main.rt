@@ -1,15 +1,12 @@
-//! The program: its words, standard input and standard output, handed to `serve_script`; what was
-//! refused is explained on standard error.
+//! The program: its words, standard input and standard output, handed to `serve_script`.
 #![tactic(auto)]
 
 use std::alloc::AllocError;
-use std::io::IsTerminal;
 use std::process::ExitCode;
 use std::rc::RcStr;
 use std::{env, io};
-use svc_conf::{NoMemory, Reading, Status, Writing};
+use svc_conf::{Reading, Status, Writing};
 use svc_main::serve_script;
-use svc_messages::{KeptSource, ProgressSource, refused_message, unknown_keys};
 
 /// The words after the program's name. A word that isn't UTF-8 makes a command line that is refused,
 /// as one without words is.
@@ -26,28 +23,12 @@ fn words(rt: &HostRuntime) -> Result<Vec<RcStr>, AllocError> {
     Ok(words)
 }
 
-/// Explains what was refused, and tells misspelled keys, as far as memory and standard error allow.
-fn explain(rt: &HostRuntime, words: &[RcStr], bytes: &[u8], status: u8) -> Result<(), NoMemory> {
-    if let Some(message) = refused_message(rt.alloc(), words, bytes, status)? {
-        let _ = eprintln!(rt; "{message}");
-    }
-    for note in unknown_keys(rt.alloc(), bytes)? {
-        let _ = eprintln!(rt; "{note}");
-    }
-    Ok(())
-}
-
 fn main(rt: HostRuntime) -> ExitCode {
     let Ok(words) = words(&rt) else {
         return ExitCode::from(7);
     };
-    let tells = rt.stderr().is_terminal();
-    let input = ProgressSource::new(&rt, Reading::new(rt.stdin()), tells);
-    let mut source = KeptSource::new(rt.alloc(), input);
+    let mut source = Reading::new(rt.stdin());
     let mut sink = Writing::new(rt.stdout());
     let Status(status) = serve_script(rt.alloc(), &words, &mut source, &mut sink);
-    if source.is_whole {
-        let _ = explain(&rt, &words, source.bytes.as_slice(), status);
-    }
     ExitCode::from(status)
 }
