@@ -13,6 +13,3 @@ pub use serving::{EchoReason, EchoRefused, Echoed, serve_desks};
 pub use stray::{StrayList, Strayed};
 pub use svc_shared::Gate;
 pub use worker::{WorkEnd, Worked, work};
-
-#[cfg(test)]
-mod tests;
