@@ -11,7 +11,7 @@ use Rattle.svc_record.specs.Ends.{step_end}
 use Rattle.svc_record.specs.Journal.{PostData, record_after, told_as_said, posts_as_said}
 use Rattle.svc_record.specs.Judging.{judged_at, judgements, TellsJudged}
 use Rattle.svc_core.specs.CoreData.{CoreData}
-use Rattle.svc_core.specs.Stands.{StandsFor, StepKeeps, BeginKeeps}
+use Rattle.svc_core.specs.Stands.{StandsFor, StepKeeps}
 use Rattle.svc_core.proofs.JudgedLemmas.{judged-said}
 use Rattle.svc_book.specs.BookData.{book}
 use Rattle.svc_book.specs.Journals.{record_of, IsLegal, end_after}
@@ -57,9 +57,3 @@ grows old new opening limit posts posts' p after end was keeps judges plan kept 
       };
       end_is = right.answer ∙ ap (step_end new.plan) now;
     }
-
-pub begins : (new : CoreData) (limit : ℕ) (after : List Action) (end : StepEnd) → BeginKeeps new [] after end → Stays new after limit []
-begins new limit after end keeps =
-    let right = keeps.kept in
-    let now : tell [] keeps.told ≡ tell [] after = ap (tell []) (sym keeps.appended) in
-    record { stands = subst (StandsFor new) now right.stands; legal = record { right = subst (Right new.plan) now right.right; said = refl } }

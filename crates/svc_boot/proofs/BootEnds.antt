@@ -112,15 +112,6 @@ early-either f (Refused Transfer) = refl
 early-either f (Refused NoSender) = refl
 early-either f (Refused BadMessage) = refl
 
-ends-on : (tested : Bool) (f : Fork) (x : Receiving) → (tested || (is_parent_over f || is_refused x)) ≡ false → (if tested then Tested else early_end f x) ≡ On
-ends-on true f x h = cc
-ends-on false (Over status) x h = cc
-ends-on false f Unasked h = refl
-ends-on false f Trying h = refl
-ends-on false f (Missed at) h = refl
-ends-on false f Came h = refl
-ends-on false f (Refused reason) h = cc
-
 needed : (wait parent ready : Bool) → parent ≡ true → (parent && (not wait || ready)) ≡ false → (parent && wait) ≡ true
 needed wait parent ready is well = grind arith
 
@@ -184,10 +175,6 @@ module _ (p : Plan) (d : BootData) (q : Record) (stand : BootStands p d q) where
     where
       or_three : (a b c : Bool) → ((a || b) || c) ≡ (a || (b || c))
       or_three a b c = grind arith
-
-  -- it goes on where its end is `On`
-  pub over-is : is_over p d ≡ false → end_of p d ≡ On
-  over-is h = ends-on (p.test && d.begun) d.fork d.receiving h
 
   -- a parent waits by what came exactly where the state says so, unless it has ended
   pub waits-is : is_parent_over d.fork ≡ false → parent_waits p q ≡ is_waiting d.fork

@@ -1,15 +1,15 @@
 -- What belongs to no beginning of a run changes nothing of bootstrapping.
-use Rattle.std.proofs.Common.{ℕ, Bool, true, false, not, ◌||◌, List, [], ◌∷◌, ◌≡◌, refl, map, ◌++◌}
-use Rattle.std.proofs.lemmas.Bool.{and_parts, and_from}
+use Rattle.std.proofs.Common.{ℕ, Bool, true, false, not, ◌||◌, List, [], ◌∷◌, ◌≡◌, refl}
+use Rattle.std.proofs.lemmas.Bool.{and_parts}
 use Rattle.svc_record.specs.declared.plan.Plan.{Plan}
 use Rattle.svc_record.specs.declared.entry.Entry.TheVariants.{Got, Told}
 use Rattle.svc_record.specs.declared.action.Action.{Action}
-use Rattle.svc_record.specs.declared.action.Action.TheVariants.{Start, Fail, Bind, Adopt, Close, Phase, OpenReceiver, TryReceive, NotifyParent, Daemonize}
+use Rattle.svc_record.specs.declared.action.Action.TheVariants.{Fail, Close, Phase, OpenReceiver, TryReceive, NotifyParent, Daemonize}
 use Rattle.svc_record.specs.declared.action.ExecutionPhase.TheVariants.{Bootstrap, BootstrapComplete, Running}
 use Rattle.svc_record.specs.declared.event.Event.{Event}
 use Rattle.svc_record.specs.declared.event.Event.TheVariants.{Moment, Received, NoSenderYet, ReceiveFailed, Side, ChildReady, ChildGone, DropFailed}
 use Rattle.svc_record.specs.Record.{Record, tell}
-use Rattle.svc_record.specs.Told.{IsQuiet, IsGivingUp}
+use Rattle.svc_record.specs.Told.{IsGivingUp}
 use Rattle.svc_boot.specs.BootData.{BootData}
 use Rattle.svc_boot.specs.ForkState.{is_free, is_parent}
 use Rattle.svc_boot.specs.BootState.{BootStands}
@@ -138,29 +138,9 @@ stands-tell p d q (a ∷ told) other free stand =
     let parts = and_parts (not (is_boot_action a)) (has_no_boot_action told) other in
     stands-tell p d (Told a ∷ q) told parts.1 free (stands-told p d q a (not_true (is_boot_action a) parts.0) free stand)
 
--- starts and asks are such a list
-pub quiet-other : (told : List Action) → IsQuiet told → has_no_boot_action told ≡ true
-quiet-other [] quiet = refl
-quiet-other (Start s ∷ told) quiet = quiet-other told quiet
-quiet-other (Bind s i ∷ told) quiet = quiet-other told quiet
-quiet-other (Adopt s i fd ∷ told) quiet = quiet-other told quiet
-quiet-other (_ ∷ told) quiet = absurd quiet
-
 -- services that are given up, and closes, are one
 pub giving_up-other : (told : List Action) → IsGivingUp told → has_no_boot_action told ≡ true
 giving_up-other [] quiet = refl
 giving_up-other (Fail s ∷ told) quiet = giving_up-other told quiet
 giving_up-other (Close fd ∷ told) quiet = giving_up-other told quiet
 giving_up-other (_ ∷ told) quiet = absurd quiet
-
--- closes are one
-pub closes-other : (fds : List ℕ) → has_no_boot_action (map Close fds) ≡ true
-closes-other [] = refl
-closes-other (fd ∷ fds) = closes-other fds
-
--- one after another is one
-pub append-other : (xs ys : List Action) → has_no_boot_action xs ≡ true → has_no_boot_action ys ≡ true → has_no_boot_action (xs ++ ys) ≡ true
-append-other [] ys x y = y
-append-other (a ∷ xs) ys x y =
-    let parts = and_parts (not (is_boot_action a)) (has_no_boot_action xs) x in
-    and_from (not (is_boot_action a)) (has_no_boot_action (xs ++ ys)) parts.0 (append-other xs ys parts.1 y)

@@ -13,7 +13,7 @@ ghost use Rattle.svc_record.specs.Boot.{is_read};
 ghost use Rattle.svc_record.specs.Ends.{is_parent_failure};
 ghost use Rattle.svc_boot.specs.declared.fork.Fork.TheVariants.{Asked, Over};
 ghost use Rattle.svc_boot.specs.ForkState.{is_asked, is_waiting, is_parent_over, is_free};
-ghost use Rattle.svc_boot.specs.BootState.{BootStands, is_trying, is_due_in, notifies};
+ghost use Rattle.svc_boot.specs.BootState.{BootStands, is_trying, is_due_in};
 ghost use Rattle.svc_boot.specs.BootEffects.{unbegun, forked, side_taken, waited, notify_told, receive_told, begun_from, begun_by, told_from, begin_told, begun_with, missed, failed, received, is_complete_due, completed_if, complete_told, tried_if, try_told, end_from, end_of, is_over};
 
 use crate::fork::Fork;

@@ -11,6 +11,3 @@ pub mod server;
 pub use boot::Boot;
 pub use fork::Fork;
 pub use receiving::Receiving;
-
-#[cfg(test)]
-mod tests;

@@ -15,8 +15,3 @@ Adds-then (Some xs) None None x y p q = tt
 Adds-then (Some xs) None (Some zs) x y p q = absurd q
 Adds-then (Some xs) (Some ys) None x y p q = tt
 Adds-then (Some xs) (Some ys) (Some zs) x y p q = q ∙ ap (λ w. w ++ y) p ∙ append_assoc xs x y
-
--- where nothing is told any more
-pub Adds-lost : {T : Type 0} (a : Option (List T)) (x : List T) → Adds a None x
-Adds-lost None x = tt
-Adds-lost (Some xs) x = tt

@@ -4,6 +4,3 @@
 mod calls;
 
 pub use calls::Calls;
-
-#[cfg(test)]
-mod tests;

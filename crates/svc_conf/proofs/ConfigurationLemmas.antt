@@ -57,9 +57,6 @@ reads_more text rest line after place behind conf new r e h b = record {
   rest_says = sym (sets _ (said_from ((kind_in place.skips line).0 ∷ r.before) (lines after)) conf new h) ∙ one_line_says text rest line after place conf r e;
 }
 
-pub reads_all : (text rest : List ℕ) (place : Place) (conf : ServerConf) → IsReading text rest place conf → lines rest ≡ [] → configuration text ≡ Ok conf
-reads_all text rest place conf r e = sym r.rest_says ∙ ap (λ (ls : List (List ℕ)). overridden_by conf (said_from r.before ls)) e
-
 pub refuses : (text rest line after : List ℕ) (place : Place) (conf : ServerConf) (error : ReadError) → IsReading text rest place conf → lines rest ≡ line ∷ lines after
     → set_by conf (says place (kind_in place.skips line).0 (kind_in place.skips line).1 (lines after)) ≡ Err error → configuration text ≡ Err error
 refuses text rest line after place conf error r e h =

@@ -1,23 +1,18 @@
 -- The command that reads a server's flags, and what its matches give.
 use Rattle.std.proofs.Common.{◌≡◌, ◌≢◌, ◌⊎◌, true, List, [], refl, sym, ap, subst, ◌∙◌, inl, inr, codes}
 use Rattle.clap.specs.Walk.{Text, first_of, rows_of}
-use Rattle.clap.specs.Simple.{App, is_simple, matches_of, HasMatchesOf}
-use Rattle.clap.specs.Words.{first_value, found_of}
+use Rattle.clap.specs.Simple.{App}
+use Rattle.clap.specs.Words.{first_value}
 use Rattle.clap.specs.Takes.{takes}
 use Rattle.clap.specs.Faults.{fault_of, is_simple_and_free}
 use Rattle.clap.specs.Kinds.{IsAmong}
 use Rattle.clap.specs.declared.error.kind.ErrorKind.{ErrorKind}
 use Rattle.clap.specs.declared.error.kind.ErrorKind.TheVariants.{OutOfMemory}
-use Rattle.clap.specs.declared.parser.matches.ArgMatches.{ArgMatches}
 use Rattle.clap.specs.declared.parser.matches.Found.{Found}
 use Rattle.clap.proofs.WalkLemmas.{first_value-rows}
 use Rattle.clap.proofs.OnLiterals.{clap_on_literals}
 use Rattle.svc_conf.specs.declared.server.configuration.Opt.{Opt}
 use Rattle.svc_conf.specs.OptWords.{opt_app, opt_of, is_true}
-
-pub opt_simple : is_simple opt_app ≡ true
-unfolding clap_on_literals
-opt_simple = refl
 
 pub opt_free : is_simple_and_free opt_app ≡ true
 unfolding clap_on_literals
@@ -32,9 +27,6 @@ opt_from f opt u d n t c =
     let t' : opt.test ≡ is_true (first_of (codes "test") (rows_of f)) = t ∙ ap is_true (first_value-rows f (codes "test")) in
     let c' : opt.conf ≡ first_of (codes "conf") (rows_of f) = c ∙ first_value-rows f (codes "conf") in
     λ i. record { upgrade = u' i; daemon = d' i; nocapture = n' i; test = t' i; conf = c' i }
-
-pub rows_are : (a : App) (words : List Text) (m : ArgMatches) → a ≡ opt_app → HasMatchesOf a words m → rows_of (found_of m) ≡ matches_of opt_app words
-rows_are a words m e h = (h (ap is_simple e ∙ opt_simple)).0 ∙ ap (λ (b : App). matches_of b words) e
 
 pub words_taken : (a : App) (words : List Text) → a ≡ opt_app → (is_simple_and_free a ≡ true → fault_of a words ≡ []) → fault_of opt_app words ≡ []
 words_taken a words e h = ap (λ (b : App). fault_of b words) (sym e) ∙ h (ap is_simple_and_free e ∙ opt_free)

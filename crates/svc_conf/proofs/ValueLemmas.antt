@@ -6,7 +6,7 @@ use Rattle.std.proofs.Math.Seq.{take-length}
 use Rattle.svc_conf.specs.TextLines.{is_blank, unless_blank, without_end}
 use Rattle.std.specs.Str.{is_utf8, IsUtf8}
 use Rattle.std.proofs.lemmas.Str.{is_utf8-from_IsUtf8, IsUtf8-from_is_utf8}
-use Rattle.svc_conf.specs.Values.{behind, single, double, ends_in_colon, value_in}
+use Rattle.svc_conf.specs.Values.{behind, double, ends_in_colon, value_in}
 
 -- the last byte is a colon, or there is none and the one before was
 abbrev pub ends_or : Bool → List ℕ → Bool
@@ -16,10 +16,6 @@ ends_or last (b ∷ bs) = ends_in_colon (b ∷ bs)
 pub behind-behind : (xs ys : List ℕ) (o : Option (List ℕ × List ℕ)) → behind xs (behind ys o) ≡ behind (xs ++ ys) o
 behind-behind xs ys None = refl
 behind-behind xs ys (Some cut) = ap (λ (v : List ℕ). Some (v, cut.1)) (sym (append_assoc xs ys cut.0))
-
-pub single-other : (b : ℕ) (bs : List ℕ) → (b == 39) ≡ false → single (b ∷ bs) ≡ behind (b ∷ []) (single bs)
-single-other b [] e = rw e refl
-single-other b (c ∷ bs) e = rw e refl
 
 pub double-other : (b : ℕ) (bs : List ℕ) → (b == 34) ≡ false → (b == 92) ≡ false → double (b ∷ bs) ≡ behind (b ∷ []) (double bs)
 double-other b [] e f = rw e refl

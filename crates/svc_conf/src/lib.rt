@@ -27,6 +27,3 @@ pub use source::{
 };
 pub use status::Status;
 pub use text::Text;
-
-#[cfg(test)]
-mod tests;

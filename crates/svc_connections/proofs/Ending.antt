@@ -14,7 +14,6 @@ use Rattle.svc_record.proofs.Closing.{arrival-in}
 use Rattle.svc_record.proofs.Tallies.{one_if, tally, tally-ascending, if_kept, tally-filter, is_in-same, is_in-filter, each_in}
 use Rattle.svc_connections.specs.ConnectionsData.{ConnectionsData}
 use Rattle.svc_connections.specs.ConnectionsState.{ConnectionsStand, is_in, distinct}
-use Rattle.svc_connections.specs.ConnectionsEffects.{cuts}
 use Rattle.svc_connections.proofs.Parts.{Parts, parts, joined, cut_right}
 use Rattle.svc_connections.proofs.Counts.{none-times}
 use Rattle.svc_connections.proofs.Foreign.{all-grows}
@@ -171,10 +170,6 @@ module _ (p : Plan) (d : ConnectionsData) (q : Record) (w : ConnectionsStand p d
   arrived-all = each_in (λ c. has (is_arrival c) q) cs (λ c h.
       let there = sym (cut-of c) ∙ h in
       arrival-in c q ∙ (and_parts (goes_on q c && not (has (is_cut c) q)) (is_in c (arrived_numbers q)) there).1)
-
-  -- the live connections that the part cuts are those of the record
-  pub cuts-are : cuts d.live ≡ map Cut cs
-  cuts-are = ap (map Cut) w.live_is
 
 known-last : (p : Plan) (cs fds : List ℕ) (n t : ℕ) (r : Record) → list_all (λ c. has (is_arrival c) r) cs ≡ true → EachEntry (λ e before. connection_known p e before ≡ true) r → EachEntry (λ e before. connection_known p e before ≡ true) (tell r (map Cut cs ++ rest fds n t))
 known-last p [] [] n t r h w = (refl, (refl, w))

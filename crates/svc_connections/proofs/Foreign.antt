@@ -1,5 +1,5 @@
 -- What is nothing of connections, and doesn't end the run, changes nothing of them.
-use Rattle.std.proofs.Common.{Bool, true, false, not, List, [], ◌∷◌, ◌++◌, ◌≡◌, refl, ◌∙◌}
+use Rattle.std.proofs.Common.{Bool, true, false, not, List, [], ◌∷◌, ◌≡◌, refl, ◌∙◌}
 use Rattle.std.specs.List.{list_all}
 use Rattle.std.proofs.lemmas.Bool.{and_parts, and_from}
 use Rattle.svc_record.specs.declared.plan.Plan.{Plan}
@@ -76,10 +76,3 @@ stands-tell p d q [] other w = w
 stands-tell p d q (a ∷ told) other w =
     let both = and_parts (not (touches_connections a)) (has_no_connection_action told) other in
     stands-tell p d (Told a ∷ q) told both.1 (stands-told p d q a (not_true (touches_connections a) both.0) w)
-
--- one such list after another is one
-pub append-other : (xs ys : List Action) → has_no_connection_action xs ≡ true → has_no_connection_action ys ≡ true → has_no_connection_action (xs ++ ys) ≡ true
-append-other [] ys x y = y
-append-other (a ∷ xs) ys x y =
-    let both = and_parts (not (touches_connections a)) (has_no_connection_action xs) x in
-    and_from (not (touches_connections a)) (has_no_connection_action (xs ++ ys)) both.0 (append-other xs ys both.1 y)

@@ -6,15 +6,13 @@ use Rattle.svc_record.specs.declared.entry.Entry.TheVariants.{Got, Told}
 use Rattle.svc_record.specs.declared.action.Action.TheVariants.{Rest}
 use Rattle.svc_record.specs.declared.event.Event.TheVariants.{AcceptFailed}
 use Rattle.svc_record.specs.Record.{Record, has, times, tell}
-use Rattle.svc_record.specs.Asks.{is_settings_open, is_handshake_open}
 use Rattle.svc_record.specs.Plans.{is_endpoint}
 use Rattle.svc_record.specs.Connections.{arrivals, arrived_numbers, is_arrival, is_serve, is_cut, goes_on, is_live_connection, connection_right, is_rest, is_full}
 use Rattle.svc_record.proofs.Closing.{arrival-in}
 use Rattle.svc_record.proofs.Tallies.{is_in-filter}
 use Rattle.svc_connections.specs.ConnectionsData.{ConnectionsData}
-use Rattle.svc_connections.specs.ConnectionsState.{ConnectionsStand, is_in, is_new, is_setting, is_shaking, is_serving, stage_of}
+use Rattle.svc_connections.specs.ConnectionsState.{ConnectionsStand, is_serving, stage_of}
 use Rattle.svc_connections.specs.ConnectionsEffects.{rest_told}
-use Rattle.svc_connections.proofs.NumberLemmas.{any-ascending}
 use Rattle.svc_connections.proofs.Aside.{aside}
 use Rattle.svc_connections.proofs.Foreign.{all-grows}
 use Rattle.svc_connections.proofs.Unheard.{unheard, untold}
@@ -60,18 +58,6 @@ module _ (p : Plan) (d : ConnectionsData) (q : Record) (s i n : ℕ) (inside : i
 -- accepting failed at an endpoint of the plan
 pub stands-failed : (p : Plan) (d : ConnectionsData) (q : Record) (s i n : ℕ) → is_endpoint p s i ≡ true → ConnectionsStand p d q → ConnectionsStand p d (tell (Got (AcceptFailed s i n) ∷ q) (rest_told s i n))
 stands-failed p d q s i n inside w = rested-by p d q s i n inside w (n == 24) refl
-
--- a number is new that didn't arrive
-pub new-is : (p : Plan) (d : ConnectionsData) (q : Record) (c : ℕ) → ConnectionsStand p d q → is_new d c ≡ not (has (is_arrival c) q)
-new-is p d q c w = ap not (ap (is_in c) w.came_is ∙ any-ascending (λ n. n == c) (arrived_numbers q) ∙ sym (arrival-in c q))
-
--- settings are being applied where they are open
-pub setting-is-open : (p : Plan) (d : ConnectionsData) (q : Record) (c : ℕ) → ConnectionsStand p d q → is_setting (stage_of d.live c) ≡ is_settings_open q c
-setting-is-open p d q c w = let at = w.stages_are c in sym at.setting_is
-
--- a handshake is polled where it is open
-pub shaking-is-open : (p : Plan) (d : ConnectionsData) (q : Record) (c : ℕ) → ConnectionsStand p d q → is_shaking (stage_of d.live c) ≡ is_handshake_open q c
-shaking-is-open p d q c w = let at = w.stages_are c in sym at.shaking_is
 
 -- a live connection arrived, and goes on
 pub live-in : (p : Plan) (d : ConnectionsData) (q : Record) (c : ℕ) → ConnectionsStand p d q → is_live_connection q c ≡ (goes_on q c && has (is_arrival c) q)

@@ -5,13 +5,13 @@ ghost use Rattle.svc_conf.specs.Items.{list_of, spare};
 ghost use Rattle.svc_record.specs.declared.plan.Plan.{Plan};
 ghost use Rattle.svc_record.specs.declared.entry.Entry.TheVariants.{Got};
 ghost use Rattle.svc_record.specs.declared.event.Event.TheVariants.{Arrived, AcceptFailed, Set, Shaken, Finished};
-ghost use Rattle.svc_record.specs.Record.{Record, tell, has};
+ghost use Rattle.svc_record.specs.Record.{Record, tell};
 ghost use Rattle.svc_record.specs.Plans.{is_endpoint};
 ghost use Rattle.svc_record.specs.Connections.{settings_list, has_filter, is_known};
 ghost use Rattle.svc_connections.specs.declared.stage.Stage.TheVariants.{Shaking, Serving};
 ghost use Rattle.svc_connections.specs.ConnectionsData.{ConnectionsData};
-ghost use Rattle.svc_connections.specs.ConnectionsState.{ConnectionsStand, is_new, is_setting, is_shaking, is_serving, stage_of, numbers};
-ghost use Rattle.svc_connections.specs.ConnectionsEffects.{nothing, taken_in, arrived, arrived_told, judged_told, begun_told, is_refused, gone_on, set_told, shaken_told, finished, rest_told, cuts};
+ghost use Rattle.svc_connections.specs.ConnectionsState.{ConnectionsStand, is_new, is_setting, is_shaking, is_serving, stage_of};
+ghost use Rattle.svc_connections.specs.ConnectionsEffects.{nothing, taken_in, arrived, arrived_told, judged_told, is_refused, gone_on, set_told, shaken_told, finished, rest_told, cuts};
 
 use crate::came::Came;
 use crate::live::Live;

@@ -11,6 +11,3 @@ mod stage;
 pub use connections::{Connections, take_accept_failed};
 pub use settings::settings_of;
 pub use stage::{Connection, Stage};
-
-#[cfg(test)]
-mod tests;

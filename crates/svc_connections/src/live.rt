@@ -1,6 +1,6 @@
 //! The live connections.
 
-ghost use Rattle.std.specs.Prelude.{◌≡◌, ◌+◌, ◌-◌, ◌<◌, ◌≤◌, ◌++◌, ◌^◌, length, ℕ, Option, OnOk, IfOk, IfErr, [], insert, vec_len, vec_capacity, map, true};
+ghost use Rattle.std.specs.Prelude.{◌≡◌, ◌+◌, ◌-◌, ◌<◌, ◌≤◌, ◌++◌, ◌^◌, length, ℕ, Option, OnOk, IfOk, IfErr, [], insert, vec_len, vec_capacity, true};
 ghost use Rattle.svc_conf.specs.Items.{list_of, spare};
 ghost use Rattle.svc_connections.specs.ConnectionsState.{climbs, numbers, stage_of};
 ghost use Rattle.svc_connections.specs.ConnectionsEffects.{put_connection, at_stage, without, cuts};

@@ -8,7 +8,6 @@ use Rattle.svc_record.specs.declared.action.Action.TheVariants.{Cut, Close}
 use Rattle.svc_record.specs.Record.{Record, has, times, tell, before_runtimes, EachEntry}
 use Rattle.svc_record.specs.Closes.{close_once}
 use Rattle.svc_record.specs.Descriptors.{is_opened, is_close}
-use Rattle.svc_record.specs.Drain.{told_marks}
 use Rattle.svc_record.specs.Failed.{has_failed}
 use Rattle.svc_record.proofs.Tallies.{is_in, tally, one_if, is_in-tally}
 
@@ -40,10 +39,6 @@ pub each-cuts : (test : Entry → Record → Bool) → ((c : ℕ) (b : Record) �
     → EachEntry (λ e before. test e before ≡ true) q → EachEntry (λ e before. test e before ≡ true) (tell q (map Cut cs))
 each-cuts test k q [] h = h
 each-cuts test k q (c ∷ cs) h = each-cuts test k (Told (Cut c) ∷ q) cs (k c q, h)
-
-pub marks-closes : (q : Record) (fds : List ℕ) → told_marks (tell q (map Close fds)) ≡ told_marks q
-marks-closes q [] = refl
-marks-closes q (f ∷ fds) = marks-closes (Told (Close f) ∷ q) fds
 
 pub runtimes-closes : (q : Record) (fds : List ℕ) → before_runtimes (tell q (map Close fds)) ≡ before_runtimes q
 runtimes-closes q [] = refl

@@ -210,9 +210,6 @@ module _ (core : CoreData) (cn : ConnectionsData) (e : Event) (told : List Actio
   abbrev p : Plan
   p = core.plan
 
-  abbrev got : Record
-  got = Got e ∷ q
-
   abbrev dealt : Record
   dealt = tell (Got e ∷ q) told
 

@@ -13,12 +13,11 @@ use Rattle.svc_fds.specs.declared.encoding.Message.{Message}
 use Rattle.svc_socket.specs.declared.peer.Peer.{Peer}
 use Rattle.svc_record.specs.declared.plan.Plan.{Plan}
 use Rattle.svc_record.specs.declared.action.Action.{Action}
-use Rattle.svc_record.specs.declared.action.Action.TheVariants.{Fail, Bind, Adopt, Close, Cut, Connect, Send, Broadcast, Phase, Judged, Refuse, Settings as TellSettings, Rest, Stop}
+use Rattle.svc_record.specs.declared.action.Action.TheVariants.{Fail, Close, Cut, Connect, Send, Broadcast, Phase, Judged, Refuse, Settings as TellSettings, Rest, Stop}
 use Rattle.svc_record.specs.declared.action.ExecutionPhase.TheVariants.{Terminated}
 use Rattle.svc_record.specs.Connections.{is_known, same_keepalive, same_setting, same_settings}
 use Rattle.svc_record.specs.Offer.{is_message}
 use Rattle.svc_record.specs.Told.{IsGivingUp}
-use Rattle.svc_endpoints.specs.Visits.{IsAskOf}
 use Rattle.svc_boot.specs.BootData.{BootData}
 use Rattle.svc_boot.specs.BootEffects.{begin_more, told_from, complete_told, try_told}
 use Rattle.svc_offer.specs.OfferData.{OfferData}
@@ -29,7 +28,6 @@ use Rattle.svc_drain.specs.DrainData.{DrainData}
 use Rattle.svc_drain.specs.DrainEffects.{run_told, row_told, stop_after, end_told}
 use Rattle.svc_connections.specs.ConnectionsEffects.{is_refused, arrived_told, set_told, shaken_told, rest_told}
 use Rattle.svc_connections.proofs.Arrivals.{same-list}
-use Rattle.svc_core.specs.StartsState.{start_told}
 use Rattle.svc_core.specs.declared.copies.SecondCopy.{SecondCopy}
 use Rattle.svc_core.specs.declared.copies.SecondCopy.TheVariants.{Nothing, OfMessage, OfSettings}
 use Rattle.svc_core.specs.Copies.{is_bare, are_bare, TellsBare, is_copied, left_of, are_copied, TellsCopied, copy_of}
@@ -60,20 +58,6 @@ giving-bare (_ ∷ more) h = absurd h
 -- an answer of the endpoints, and what follows from it
 pub bare-answer : (xs ys zs told : List Action) → ys ≡ xs ++ told → IsGivingUp told → TellsBare ys zs → TellsBare xs zs
 bare-answer xs ys zs told e h = bare-then xs ys zs (bare-these xs ys told e (giving-bare told h))
-
-pub ask-bare : (s : ℕ) (told : List Action) → IsAskOf s told → are_bare told ≡ true
-ask-bare s [] h = refl
-ask-bare s (Bind t i ∷ []) h = refl
-ask-bare s (Adopt t i fd ∷ []) h = refl
-ask-bare s _ h = absurd h
-
-pub closes-bare : (fds : List ℕ) → are_bare (map Close fds) ≡ true
-closes-bare [] = refl
-closes-bare (fd ∷ fds) = closes-bare fds
-
-pub start-bare : (b : Bool) (s : ℕ) → are_bare (start_told b s) ≡ true
-start-bare true s = refl
-start-bare false s = refl
 
 more-bare : (test notify upgrade : Bool) (ms : ℕ) → are_bare (begin_more test notify upgrade ms) ≡ true
 more-bare true notify upgrade ms = refl

@@ -1,8 +1,7 @@
 -- What a core tells judges a connection only where one has arrived.
-use Rattle.std.proofs.Common.{ℕ, Bool, true, false, not, ◌||◌, ◌&&◌, ◌≡◌, List, [], ◌∷◌, ◌++◌, refl, ap, ◌∙◌, Option, Some, None, if◌then◌else◌}
+use Rattle.std.proofs.Common.{ℕ, Bool, true, false, not, ◌||◌, ◌&&◌, ◌≡◌, List, [], ◌∷◌, refl, ap, ◌∙◌, Option, Some, None, if◌then◌else◌}
 use Rattle.std.specs.List.{list_all}
 use Rattle.std.proofs.lemmas.Bool.{eq-eqb, and_from, and_parts}
-use Rattle.svc_conf.specs.declared.settings.Setting.{Setting}
 use Rattle.svc_fds.specs.declared.encoding.Message.{Message}
 use Rattle.svc_socket.specs.declared.peer.Peer.{Peer}
 use Rattle.svc_record.specs.declared.plan.Plan.{Plan}
@@ -16,8 +15,6 @@ use Rattle.svc_record.specs.Plans.{filter_of}
 use Rattle.svc_record.specs.Connections.{is_known, has_filter, same_answer}
 use Rattle.svc_record.specs.Journal.{action_as_said, told_as_said}
 use Rattle.svc_record.specs.Judging.{judged_at, judgements, TellsJudged}
-use Rattle.svc_connections.specs.ConnectionsEffects.{arrived_told}
-use Rattle.svc_connections.proofs.Judgements.{judged-arrived}
 use Rattle.svc_core.specs.declared.copies.SecondCopy.{SecondCopy}
 use Rattle.svc_core.specs.Copies.{is_bare, are_bare, TellsBare, is_of_settings, is_copied, left_of, are_copied, TellsCopied, copy_of}
 
@@ -87,8 +84,3 @@ event-said p q _ said = refl
 
 pub judged-said : (p : Plan) (q : Record) (e : Event) (said : Bool) (told : List Action) → judgements told ≡ judged_at p e said → told_as_said p (Got e ∷ q) said told ≡ true
 judged-said p q e said told h = said-by p (Got e ∷ q) said told ∙ (ap (list_all (is_as_said p (Got e ∷ q) said)) h ∙ event-said p q e said)
-
--- an arrival judges what was said, or yes where the endpoint has no filter
-pub arrived-judged : (p : Plan) (s i c : ℕ) (peer : Peer) (said : Bool) (list : List Setting) (xs ys : List Action) → ys ≡ xs ++ arrived_told c peer (said || not (has_filter p s i)) list → TellsJudged (judged_at p (Arrived s i c peer) said) xs ys
-arrived-judged p s i c peer said list xs ys e =
-    record { told = arrived_told c peer (said || not (has_filter p s i)) list; appended = e; kept = judged-arrived c peer (said || not (has_filter p s i)) list }

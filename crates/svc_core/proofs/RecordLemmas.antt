@@ -1,17 +1,14 @@
 -- Laws on records and what is told in them.
-use Rattle.std.proofs.Common.{ℕ, Bool, true, false, ◌||◌, List, [], ◌∷◌, ◌≡◌, refl, ap, ◌∙◌, Some, None, ◌+◌, if◌then◌else◌}
+use Rattle.std.proofs.Common.{Bool, true, false, ◌||◌, List, [], ◌∷◌, ◌≡◌, refl, ap, ◌∙◌, Some, None}
 use Rattle.std.specs.Prelude.{Option, is_some}
 use Rattle.std.specs.Bool.{OnTrue, OnFalse}
 use Rattle.std.proofs.lemmas.Bool.{or_right}
 use Rattle.svc_record.specs.declared.entry.Entry.{Entry}
 use Rattle.svc_record.specs.declared.entry.Entry.TheVariants.{Got, Told}
 use Rattle.svc_record.specs.declared.action.Action.{Action}
-use Rattle.svc_record.specs.declared.action.Action.TheVariants.{Fail, Close}
 use Rattle.svc_record.specs.declared.event.Event.TheVariants.{Signal}
 use Rattle.svc_record.specs.declared.event.ShutdownSignal.{ShutdownSignal}
-use Rattle.svc_record.specs.Record.{Record, has, times, tell, now, signal_of, first_or, is_signal, EachEntry, EachEarlier}
-use Rattle.svc_record.specs.Drain.{told_marks}
-use Rattle.svc_record.specs.Told.{IsGivingUp}
+use Rattle.svc_record.specs.Record.{Record, has, tell, now, signal_of, first_or, is_signal, EachEntry, EachEarlier}
 
 -- a test of events doesn't see what is told
 pub has-tell : (test : Entry → Bool) → ((a : Action) → test (Told a) ≡ false) → (q : Record) (told : List Action) → has test (tell q told) ≡ has test q
@@ -57,27 +54,6 @@ signal-is [] = refl
 signal-is (Got (Signal kind) ∷ q) = first-some (signal_of q) kind
 signal-is (Got e ∷ q) = signal-is q
 signal-is (Told a ∷ q) = signal-is q
-
--- a test that failures and closes fail doesn't see them
-pub has-giving : (test : Entry → Bool) → ((s : ℕ) → test (Told (Fail s)) ≡ false) → ((fd : ℕ) → test (Told (Close fd)) ≡ false)
-    → (q : Record) (told : List Action) → IsGivingUp told → has test (tell q told) ≡ has test q
-has-giving test f g q [] h = refl
-has-giving test f g q (Fail s ∷ told) h = has-giving test f g (Told (Fail s) ∷ q) told h ∙ ap (λ b. b || has test q) (f s)
-has-giving test f g q (Close fd ∷ told) h = has-giving test f g (Told (Close fd) ∷ q) told h ∙ ap (λ b. b || has test q) (g fd)
-has-giving test f g q (_ ∷ told) h = absurd h
-
-pub times-giving : (test : Entry → Bool) → ((s : ℕ) → test (Told (Fail s)) ≡ false) → ((fd : ℕ) → test (Told (Close fd)) ≡ false)
-    → (q : Record) (told : List Action) → IsGivingUp told → times test (tell q told) ≡ times test q
-times-giving test f g q [] h = refl
-times-giving test f g q (Fail s ∷ told) h = times-giving test f g (Told (Fail s) ∷ q) told h ∙ ap (λ b. if b then times test q + 1 else times test q) (f s)
-times-giving test f g q (Close fd ∷ told) h = times-giving test f g (Told (Close fd) ∷ q) told h ∙ ap (λ b. if b then times test q + 1 else times test q) (g fd)
-times-giving test f g q (_ ∷ told) h = absurd h
-
-pub marks-giving : (q : Record) (told : List Action) → IsGivingUp told → told_marks (tell q told) ≡ told_marks q
-marks-giving q [] h = refl
-marks-giving q (Fail s ∷ told) h = marks-giving (Told (Fail s) ∷ q) told h
-marks-giving q (Close fd ∷ told) h = marks-giving (Told (Close fd) ∷ q) told h
-marks-giving q (_ ∷ told) h = absurd h
 
 pub on_false : (b : Bool) (P : Type 0) → b ≡ false → OnFalse b P → P
 on_false true P e h = absurd (cc)

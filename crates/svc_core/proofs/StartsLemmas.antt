@@ -12,14 +12,12 @@ use Rattle.svc_record.specs.declared.action.Action.TheVariants.{Start}
 use Rattle.svc_record.specs.declared.event.Event.TheVariants.{Ready, Ended}
 use Rattle.svc_record.specs.Record.{Record, has, times, tell, is_bootstrap_complete, EachEntry}
 use Rattle.svc_record.specs.Failed.{has_failed}
-use Rattle.svc_record.specs.Told.{IsGivingUp}
 use Rattle.svc_record.specs.Starts.{is_start, is_ready_event, is_ended_event, is_started, is_ready, is_due, start_due}
 use Rattle.svc_record.specs.Plans.{depends, has_kind, service_count}
 use Rattle.svc_record.specs.Validity.{IsValid, depends_on}
 use Rattle.svc_core.specs.StartsData.{StartsData}
 use Rattle.svc_core.specs.StartsState.{IsStartsSized, StartsStand, AreFailed, is_flagged, ready_now, due_now, starts_now, start_if, word_taken, end_taken}
 use Rattle.svc_endpoints.proofs.GrowLemmas.{failed-grows}
-use Rattle.svc_core.proofs.RecordLemmas.{has-giving, has-tell}
 
 -- what holds of every number that passes
 list_all-weaker : (P Q : ℕ → Bool) → ((x : ℕ) → P x ≡ true → Q x ≡ true) → (xs : List ℕ) → list_all P xs ≡ true → list_all Q xs ≡ true
@@ -127,14 +125,6 @@ due-is p st failed complete q s valid inside h f c =
 pub starts-is : (p : Plan) (st : StartsData) (failed : List Bool) (complete : Bool) (q : Record) (s : ℕ) → IsValid p → s < service_count p → StartsStand p st q → AreFailed p failed q → complete ≡ has is_bootstrap_complete q
     → starts_now p st failed complete s ≡ (not (is_started q s) && is_due p q s)
 starts-is p st failed complete q s valid inside h f c = rw (h.started_is s inside, due-is p st failed complete q s valid inside h f c) refl
-
--- what is given up and closed starts nothing
-pub stands-giving : (p : Plan) (st : StartsData) (q : Record) (told : List Action) → IsGivingUp told → StartsStand p st q → StartsStand p st (tell q told)
-stands-giving p st q told giving h = record {
-  started_is = λ s lt. h.started_is s lt ∙ sym (has-giving (is_start s) (λ t. refl) (λ fd. refl) q told giving);
-  ready_is = λ s lt. h.ready_is s lt ∙ sym (has-tell (is_ready_event s) (λ a. refl) q told);
-  ended_is = λ s lt. h.ended_is s lt ∙ sym (has-tell (is_ended_event s) (λ a. refl) q told);
-}
 
 pub is_due-tell : (p : Plan) (q : Record) (told : List Action) (s : ℕ) → is_due p q s ≡ true → is_due p (tell q told) s ≡ true
 is_due-tell p q [] s h = h

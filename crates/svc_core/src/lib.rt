@@ -15,10 +15,3 @@ pub use svc_record::{
     Action, Actions, BootstrapError, Entries, Entry, Event, ExecutionPhase, Plan, ServiceList,
     ServicePlan, ShutdownSignal, Side, StepEnd,
 };
-
-#[cfg(test)]
-mod connection_tests;
-#[cfg(test)]
-mod tests;
-#[cfg(test)]
-mod twice_tests;

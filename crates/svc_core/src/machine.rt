@@ -1,18 +1,13 @@
 //! The core: one step for each event.
 
-ghost use Rattle.std.specs.Prelude.{◌≡◌, ◌+◌, ◌*◌, ◌<◌, ◌≤◌, ◌++◌, ◌&&◌, [], ◌∷◌, length, not, is_some, ℕ, false, true, IfOk, OnErr, OnOk, IsTrue, ◌↔◌, List, Option, Some, None, map};
-ghost use Rattle.svc_record.specs.declared.action.Action.{Action};
-ghost use Rattle.svc_record.specs.declared.action.Action.TheVariants.{Close};
-ghost use Rattle.svc_record.specs.declared.entry.Entry.TheVariants.{Got};
+ghost use Rattle.std.specs.Prelude.{◌≡◌, ◌+◌, ◌*◌, ◌<◌, ◌≤◌, ◌++◌, ◌&&◌, [], ◌∷◌, length, is_some, false, true, IfOk, OnErr, OnOk, Option, None};
 ghost use Rattle.svc_record.specs.declared.event.ShutdownSignal.{ShutdownSignal};
-ghost use Rattle.std.specs.Option.{option_copied};
 ghost use Rattle.svc_conf.specs.Items.{list_of, spare};
 ghost use Rattle.svc_record.specs.Record.{Record, tell};
-ghost use Rattle.svc_record.specs.Descriptors.{numbers_of, live_table};
-ghost use Rattle.svc_record.specs.Offer.{is_upgrade, is_empty_table};
+ghost use Rattle.svc_record.specs.Descriptors.{live_table};
+ghost use Rattle.svc_record.specs.Offer.{is_empty_table};
 ghost use Rattle.svc_record.specs.Plans.{service_count};
 ghost use Rattle.svc_record.specs.Starts.{is_ready};
-ghost use Rattle.svc_record.specs.Right.{Right};
 ghost use Rattle.svc_record.specs.Told.{Tells, TellsBoth};
 ghost use Rattle.svc_record.specs.Validity.{IsValid};
 ghost use Rattle.svc_record.specs.Judging.{TellsJudged, judged_at, asked_filter};
@@ -23,13 +18,12 @@ ghost use Rattle.svc_offer.specs.OfferState.{is_connecting};
 ghost use Rattle.svc_offer.specs.OfferEffects.{event_of, is_awaited};
 ghost use Rattle.svc_drain.specs.DrainEffects.{end_told};
 ghost use Rattle.svc_connections.specs.ConnectionsState.{numbers};
-ghost use Rattle.svc_connections.specs.ConnectionsEffects.{cuts};
 ghost use Rattle.svc_core.specs.Copies.{TellsBare, TellsCopied, copy_of, message_at, copy_at};
 ghost use Rattle.svc_core.specs.CoreData.{is_on, is_served, with_end};
 ghost use Rattle.svc_core.specs.Passes.{may_start, begin_room};
-ghost use Rattle.svc_core.specs.Stands.{StandsFor, HasNotBegun, Follows, Ripe, Visited, Tried, StepRight, MayCome, RowMayCome, ReadyMayCome, EndedMayCome, ReceivedMayCome, BoundMayCome, BindMayBeAnswered, AdoptMayBeAnswered, LoopMayEnd, StepKeeps, BeginKeeps, ClosesAll};
+ghost use Rattle.svc_core.specs.Stands.{StandsFor, HasNotBegun, Follows, Ripe, Visited, Tried, StepRight, MayCome, ReadyMayCome, EndedMayCome, ReceivedMayCome, BoundMayCome, BindMayBeAnswered, AdoptMayBeAnswered, LoopMayEnd, StepKeeps, BeginKeeps};
 ghost use Rattle.svc_core.specs.Signals.{offers_by, is_reached};
-ghost use Rattle.svc_core.specs.Rooms.{TellsWithin, KeepsRoom, tell_room, step_room, close_room, close_need, open_numbers, open_connections, open_count, most_open, left_numbers};
+ghost use Rattle.svc_core.specs.Rooms.{TellsWithin, KeepsRoom, tell_room, step_room, close_room, open_count, most_open};
 
 mod closing;
 mod connecting;

@@ -1,5 +1,5 @@
 -- What isn't the part's changes nothing of what it stands for.
-use Rattle.std.proofs.Common.{ℕ, Bool, true, false, not, ◌||◌, ◌&&◌, List, [], ◌∷◌, ◌++◌, Option, Some, None, ◌≡◌, refl, ap, sym, ◌∙◌, arith, if◌then◌else◌, is_some}
+use Rattle.std.proofs.Common.{ℕ, Bool, true, false, not, ◌||◌, ◌&&◌, List, [], ◌∷◌, Option, Some, None, ◌≡◌, refl, ap, sym, ◌∙◌, arith, if◌then◌else◌, is_some}
 use Rattle.std.proofs.lemmas.Bool.{and_parts, and_from}
 use Rattle.svc_record.specs.declared.plan.Plan.{Plan}
 use Rattle.svc_record.specs.declared.entry.Entry.TheVariants.{Got, Told}
@@ -7,7 +7,7 @@ use Rattle.svc_record.specs.declared.action.Action.{Action}
 use Rattle.svc_record.specs.declared.action.Action.TheVariants.{Phase, Broadcast}
 use Rattle.svc_record.specs.declared.action.ExecutionPhase.TheVariants.{Bootstrap, BootstrapComplete}
 use Rattle.svc_record.specs.declared.event.Event.{Event}
-use Rattle.svc_record.specs.declared.event.Event.TheVariants.{Moment, Signal, NotThere, StillConnecting, ConnectFailed, Sent, SendBusy, SendFailed}
+use Rattle.svc_record.specs.declared.event.Event.TheVariants.{Moment, Signal}
 use Rattle.svc_record.specs.declared.event.ShutdownSignal.{ShutdownSignal}
 use Rattle.svc_record.specs.Record.{Record, tell, now, times, is_running}
 use Rattle.svc_record.specs.Offer.{is_upgrade, over_moment}
@@ -16,7 +16,7 @@ use Rattle.svc_drain.specs.declared.stage.Stage.{Stage}
 use Rattle.svc_drain.specs.declared.stage.Stage.TheVariants.{Running, Offering, Resting, Grace, Ending}
 use Rattle.svc_drain.specs.DrainData.{DrainData}
 use Rattle.svc_drain.specs.DrainState.{DrainStands, IsDrainSettled, OverIs, stage_fits, is_terminate_signal, rest_from, rest_at}
-use Rattle.svc_drain.specs.DrainFacts.{is_drain_event, is_offer_event, is_drain_action, has_no_drain_action}
+use Rattle.svc_drain.specs.DrainFacts.{is_drain_event, is_drain_action, has_no_drain_action}
 use Rattle.svc_drain.proofs.Records.{rest-new}
 
 -- a told action that says nothing of `Running` and of the marks
@@ -56,13 +56,6 @@ stands-tell p d over q [] other stand = stand
 stands-tell p d over q (a ∷ told) other stand =
     let parts = and_parts (not (is_drain_action a)) (has_no_drain_action told) other in
     stands-tell p d over (Told a ∷ q) told parts.1 (stands-told p d over q a (not_true (is_drain_action a) parts.0) stand)
-
--- one after another is one
-pub append-other : (xs ys : List Action) → has_no_drain_action xs ≡ true → has_no_drain_action ys ≡ true → has_no_drain_action (xs ++ ys) ≡ true
-append-other [] ys x y = y
-append-other (a ∷ xs) ys x y =
-    let parts = and_parts (not (is_drain_action a)) (has_no_drain_action xs) x in
-    and_from (not (is_drain_action a)) (has_no_drain_action (xs ++ ys)) parts.0 (append-other xs ys parts.1 y)
 
 fits-terms : (t u o over over2 : Bool) → (t || (u && (not o || over))) ≡ true → (over ≡ true → over2 ≡ true) → (t || (u && (not o || over2))) ≡ true
 fits-terms t u o true over2 h f = let e = f refl in grind arith
@@ -117,25 +110,3 @@ stands-got p d over over2 q e other settled overs stays stand =
       unrested = λ b. later ∙ stand.unrested b;
       at_once = stand.at_once;
     }
-
--- an event that is no answer to an offer and no signal keeps since when the offer is over
-pub over-got : (p : Plan) (over : Option ℕ) (q : Record) (e : Event) → is_offer_event e ≡ false → OverIs p q over → OverIs p (Got e ∷ q) over
-over-got p over q Sent other overs = absurd (cc)
-over-got p over q ConnectFailed other overs = absurd (cc)
-over-got p over q SendFailed other overs = absurd (cc)
-over-got p over q NotThere other overs = absurd (cc)
-over-got p over q StillConnecting other overs = absurd (cc)
-over-got p over q SendBusy other overs = absurd (cc)
-over-got p over q (Signal kind) other overs = absurd (cc)
-over-got p over q e other overs = record {
-  is = overs.is;
-  moment = λ at h. ap (λ b. if b then over_moment p q else now (Got e ∷ q)) (overs.is ∙ ap is_some h) ∙ overs.moment at h;
-}
-
--- and so does what is told
-pub over-told : (p : Plan) (over : Option ℕ) (q : Record) (a : Action) → OverIs p q over → OverIs p (Told a ∷ q) over
-over-told p over q a overs = record { is = overs.is; moment = overs.moment }
-
-pub over-tell : (p : Plan) (over : Option ℕ) (q : Record) (told : List Action) → OverIs p q over → OverIs p (tell q told) over
-over-tell p over q [] overs = overs
-over-tell p over q (a ∷ told) overs = over-tell p over (Told a ∷ q) told (over-told p over q a overs)

@@ -13,8 +13,8 @@ use Rattle.svc_record.specs.Drain.{phase, broadcast, told_marks}
 use Rattle.svc_drain.specs.declared.stage.Stage.{Stage}
 use Rattle.svc_drain.specs.declared.stage.Stage.TheVariants.{Running, Offering, Resting, Grace, Ending}
 use Rattle.svc_drain.specs.DrainData.{DrainData}
-use Rattle.svc_drain.specs.DrainState.{DrainStands, IsDrainSettled, is_told_far, is_before_rest, is_unanswered, stage_fits, marks_of, grace_from, rest_from, rest_at}
-use Rattle.svc_drain.specs.DrainEffects.{at_stage, next_stage, grace_told, gone_on, row_told}
+use Rattle.svc_drain.specs.DrainState.{DrainStands, is_before_rest, is_unanswered, stage_fits, marks_of, grace_from, rest_from, rest_at}
+use Rattle.svc_drain.specs.DrainEffects.{at_stage, grace_told, gone_on, row_told}
 use Rattle.svc_drain.proofs.Records.{unmoved-tell, offer-is, rest-ends, fast-offers}
 use Rattle.svc_drain.proofs.Signalled.{offers-by}
 
@@ -142,29 +142,6 @@ gone p r m s c o Ending over q stand = stand
 -- what is due of the shutdown was told
 pub stands-gone_on : (p : Plan) (d : DrainData) (over : Option ℕ) (q : Record) → DrainStands p d over q → DrainStands p (gone_on d over) over (tell q (row_told d over))
 stands-gone_on p d over q stand = gone p d.running d.moment d.signal d.since d.offers d.stage over q stand
-
-over-far : (s : Option ShutdownSignal) (over : Option ℕ) (t : ℕ) → rest_from over t ≡ None → is_told_far (if is_some over then Resting else Offering) s over t ≡ true
-over-far s None t none = refl
-over-far s (Some at) t none = ap (λ x. not (is_some x)) none
-
-rest-far : (s : Option ShutdownSignal) (over x : Option ℕ) (t : ℕ) → rest_from over t ≡ x → is_told_far (if is_some x then Grace t else Resting) s over t ≡ true
-rest-far s over None t e = ap (λ x. not (is_some x)) e
-rest-far s over (Some k) t e = refl
-
-far : (g : Stage) (s : Option ShutdownSignal) (o : Bool) (over : Option ℕ) (t : ℕ) → (is_before_rest g ≡ true → rest_from over t ≡ None) → is_told_far (next_stage g s o over t) s over t ≡ true
-far Running None o over t f = refl
-far Running (Some FastShutdown) o over t f = refl
-far Running (Some TerminateSignal) o over t f = refl
-far Running (Some GracefulUpgrade) false over t f = refl
-far Running (Some GracefulUpgrade) true over t f = over-far (Some GracefulUpgrade) over t (f refl)
-far Offering s o over t f = over-far s over t (f refl)
-far Resting s o over t f = rest-far s over (rest_from over t) t refl
-far (Grace at) s o over t f = refl
-far Ending s o over t f = refl
-
--- then all is told that is due
-pub settled-gone_on : (p : Plan) (d : DrainData) (over : Option ℕ) (q : Record) → DrainStands p d over q → IsDrainSettled (gone_on d over) over
-settled-gone_on p d over q stand = far d.stage d.signal d.offers over d.moment stand.unrested
 
 -- the same of what the part is after the call
 pub after-gone_on : (p : Plan) (d new : DrainData) (over : Option ℕ) (q : Record) → new ≡ gone_on d over → DrainStands p d over q → DrainStands p new over (tell q (row_told d over))

@@ -23,9 +23,6 @@ pub record Unmoved (p : Plan) (q r : Record) : Type 0 where
   pub moment_is : over_moment p r ≡ over_moment p q
   pub rest_is : rest_end p r ≡ rest_end p q
 
-pub unmoved-told : (p : Plan) (q : Record) (a : Action) → Unmoved p q (Told a ∷ q)
-unmoved-told p q a = record { now_is = refl; signal_is = refl; before_is = refl; over_is = refl; moment_is = refl; rest_is = refl }
-
 pub unmoved-tell : (p : Plan) (q : Record) (told : List Action) → Unmoved p q (tell q told)
 unmoved-tell p q [] = record { now_is = refl; signal_is = refl; before_is = refl; over_is = refl; moment_is = refl; rest_is = refl }
 unmoved-tell p q (a ∷ told) = let u = unmoved-tell p (Told a ∷ q) told in record {
@@ -66,9 +63,6 @@ no_kind None h = refl
 pub signal-none : (q : Record) → has is_signal q ≡ false → signal_of q ≡ None
 signal-none q h = no_kind (signal_of q) (sym (signal-kind q) ∙ h)
 
-pub none-signal : (q : Record) → signal_of q ≡ None → has is_signal q ≡ false
-none-signal q h = signal-kind q ∙ ap is_kind h
-
 -- a later signal isn't the first
 pub first-later : (q : Record) (kind : ShutdownSignal) → has is_signal q ≡ true → first_or (signal_of q) kind ≡ signal_of q
 first-later q kind h = by (signal_of q) (sym (signal-kind q) ∙ h)
@@ -108,16 +102,6 @@ unsignalled-rest p (Got (Moment ms) ∷ q) h = rest-step p q ms ∙ ap (λ x. or
 unsignalled-rest p (Got (Signal kind) ∷ q) h = let e = first-none q kind h in absurd (cc)
 unsignalled-rest p (Got e ∷ q) h = unsignalled-rest p q h
 unsignalled-rest p (Told a ∷ q) h = unsignalled-rest p q h
-
--- what a moment adds, by since when the offer is over
-pub rest-over : (b : Bool) (m ms : ℕ) (over : Option ℕ) → b ≡ is_some over → ((at : ℕ) → over ≡ Some at → m ≡ at) → (if b && nat_le 5000 (ms - m) then Some ms else None) ≡ rest_from over ms
-rest-over b m ms None is at = ap (λ c. if c && nat_le 5000 (ms - m) then Some ms else None) is
-rest-over b m ms (Some a) is at = ap (λ c. if c && nat_le 5000 (ms - m) then Some ms else None) is ∙ ap (λ n. if nat_le 5000 (ms - n) then Some ms else None) (at a refl)
-
--- no rest ends while the offer goes on
-pub rest-none : (over : Option ℕ) (t : ℕ) → is_some over ≡ false → rest_from over t ≡ None
-rest-none None t h = refl
-rest-none (Some at) t h = cc
 
 pub no_moment : (x : Option ℕ) → not (is_some x) ≡ true → x ≡ None
 no_moment None h = refl

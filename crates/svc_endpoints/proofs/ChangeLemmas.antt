@@ -8,14 +8,14 @@ use Rattle.svc_endpoints.specs.declared.states.Last.{Last}
 use Rattle.svc_endpoints.specs.declared.states.Last.TheVariants.{Unasked, Binding, Busied, Adopting, Holding, Lost}
 use Rattle.svc_endpoints.specs.declared.states.EndState.{EndState}
 use Rattle.svc_endpoints.specs.EndpointsData.{EndpointsData}
-use Rattle.svc_endpoints.specs.EndpointsState.{IsEndpointsSized, ServesIn, LoopsStand, last_at, failed_at, is_binding, is_asking, is_holding, is_done}
+use Rattle.svc_endpoints.specs.EndpointsState.{ServesIn, LoopsStand, last_at, failed_at, is_binding, is_asking, is_holding, is_done}
 use Rattle.svc_record.specs.declared.action.Action.{Action}
 use Rattle.svc_record.specs.declared.action.Action.TheVariants.{Close}
 use Rattle.svc_endpoints.specs.declared.loops.LoopEnd.{LoopEnd}
 use Rattle.svc_endpoints.specs.declared.table.Open.{Open}
 use Rattle.svc_endpoints.specs.Effects.{put, fail_if, gone_numbers, without_gone, cleared}
 use Rattle.svc_endpoints.specs.Loops.{has_loop, loop_count}
-use Rattle.svc_endpoints.specs.Uses.{AreStatesSized, states_of, has_held, uses, is_holder_by, is_user, is_drained_by}
+use Rattle.svc_endpoints.specs.Uses.{states_of, has_held, uses, is_holder_by, is_user, is_drained_by}
 use Rattle.svc_endpoints.proofs.PutLemmas.{last_at-put}
 use Rattle.svc_endpoints.proofs.StatesLemmas.{failed_at-fail, last_at-fail}
 use Rattle.svc_endpoints.proofs.UseLemmas.{clash, false_where, done-serves, drained-grows}
@@ -155,11 +155,3 @@ module _ (p : Plan) (keep : List ℕ) (rows : List (List EndState)) (flags : Lis
 
   pub told-is : (before after : List Action) → after ≡ before ++ map Close (gone_numbers p keep (states_of rows flags loops) d.table) → after ≡ before ++ map Close (gone_numbers p keep d d.table)
   told-is before after is = is ∙ same_states (λ (m : EndpointsData). before ++ map Close (gone_numbers p keep m d.table))
-
--- states of the size that the plan asks for
-pub states-sized : (p : Plan) (rows : List (List EndState)) (flags : List Bool) (d : EndpointsData) → rows ≡ d.rows → flags ≡ d.failed → IsEndpointsSized p d → AreStatesSized p rows flags
-states-sized p rows flags d same_rows same_flags h = record {
-  services = ap length same_rows ∙ h.services;
-  failed = ap length same_flags ∙ h.failed;
-  each = λ s lt. ap (λ (r : List (List EndState)). length (slice_index_or r s [])) same_rows ∙ h.each s lt;
-}

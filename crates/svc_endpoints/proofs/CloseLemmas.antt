@@ -1,9 +1,8 @@
 -- What told closes leave of a record.
-use Rattle.std.proofs.Common.{ℕ, Bool, true, false, ◌||◌, ◌==◌, not, inl, inr, List, [], ◌∷◌, ◌++◌, ◌≡◌, refl, ap, sym, ◌∙◌, subst, arith, Option, map, filter}
+use Rattle.std.proofs.Common.{ℕ, Bool, true, false, ◌||◌, ◌==◌, not, inl, inr, List, [], ◌∷◌, ◌≡◌, refl, ap, sym, ◌∙◌, subst, arith, Option, map, filter}
 use Rattle.std.proofs.lemmas.Bool.{cases_Bool, and_parts, and_from, or_left, or_right, eq-eqb, ne_eqb}
 use Rattle.svc_record.specs.declared.plan.Plan.{Plan}
 use Rattle.svc_record.specs.declared.entry.Entry.TheVariants.{Told}
-use Rattle.svc_record.specs.declared.action.Action.{Action}
 use Rattle.svc_record.specs.declared.action.Action.TheVariants.{Close}
 use Rattle.svc_record.specs.Record.{Record, has, tell, EachEntry}
 use Rattle.svc_record.specs.Plans.{same_address}
@@ -12,10 +11,6 @@ use Rattle.svc_record.specs.Drain.{live_numbers}
 use Rattle.svc_record.specs.Closes.{close_once}
 use Rattle.svc_endpoints.specs.EndpointsState.{is_in, distinct}
 use Rattle.svc_endpoints.proofs.NumberLemmas.{apart_from, not_in}
-
-pub tell-append : (q : Record) (xs ys : List Action) → tell q (xs ++ ys) ≡ tell (tell q xs) ys
-tell-append q [] ys = refl
-tell-append q (x ∷ xs) ys = tell-append (Told x ∷ q) xs ys
 
 -- what one close leaves, many leave
 pub along-closes : (P : Record → Type 0) → ((q : Record) (n : ℕ) → P q → P (Told (Close n) ∷ q)) → (q : Record) (ns : List ℕ) → P q → P (tell q (map Close ns))

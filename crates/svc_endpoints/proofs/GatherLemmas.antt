@@ -1,6 +1,5 @@
 -- Numbers and descriptors that are taken one after the other.
 use Rattle.std.proofs.Common.{ℕ, zero, suc, Bool, true, false, ◌||◌, ◌&&◌, ◌==◌, not, ◌⊎◌, inl, inr, List, [], ◌∷◌, ◌++◌, ◌≡◌, refl, ap, sym, ◌∙◌, subst, arith, ◌<◌, ◌≤◌, ◌+◌, length, append-nil, append_assoc, map, filter, nat_lt, Option, Some, None, if◌then◌else◌, slice_get, get_or, take, drop}
-use Rattle.std.specs.Option.{option_to_list}
 use Rattle.std.proofs.lemmas.Bool.{cases_Bool, and_parts, or_left, eq-eqb, eqb-true}
 use Rattle.std.proofs.lemmas.List.{drop_more, take_more, map-append}
 use Rattle.std.proofs.lemmas.List.Elements.{filter-append}
@@ -12,7 +11,7 @@ use Rattle.svc_record.specs.Tail.{each_once}
 use Rattle.svc_record.proofs.Tallies.{is_in-filter}
 use Rattle.svc_endpoints.specs.declared.table.Open.{Open}
 use Rattle.svc_endpoints.specs.EndpointsState.{is_in, all_new, numbers_with, numbers_of_table}
-use Rattle.svc_endpoints.specs.Effects.{passes, put_open, put_opens, put_numbers, opens_of, numbers_out, without_numbers}
+use Rattle.svc_endpoints.specs.Effects.{passes, put_open, put_opens, put_numbers, opens_of, numbers_out}
 use Rattle.svc_endpoints.proofs.NumberLemmas.{any-put, apart_from, length-put}
 use Rattle.svc_endpoints.proofs.TableLemmas.{numbers_of-put}
 use Rattle.svc_endpoints.proofs.LiveLemmas.{numbers_with-put, same_self}
@@ -68,11 +67,6 @@ puts-put (fd ∷ fds) n xs = ap (put_numbers fds) (put-swap fd n xs) ∙ puts-pu
 pub puts-ascending : (fds xs : List ℕ) → put_numbers fds (ascending xs) ≡ ascending (fds ++ xs)
 puts-ascending [] xs = refl
 puts-ascending (fd ∷ fds) xs = puts-put fds fd (ascending xs) ∙ ap (put_number fd) (puts-ascending fds xs)
-
--- new numbers, one after the other
-pub new-first : (came : List ℕ) (fd : ℕ) (fds : List ℕ) → all_new came (fd ∷ fds) ≡ true → is_in fd came ≡ false
-new-first came fd fds h = let parts = and_parts (not (is_in fd came) && not (is_in fd fds)) (all_new came fds) h in
-    apart_from (is_in fd came) (and_parts (not (is_in fd came)) (not (is_in fd fds)) parts.0).0
 
 new_put : (came : List ℕ) (n : ℕ) (fds : List ℕ) → is_in n fds ≡ false → all_new came fds ≡ true → all_new (put_number n came) fds ≡ true
 new_put came n [] none h = refl
@@ -146,21 +140,6 @@ numbers-opens [] words = refl
 numbers-opens (fd ∷ fds) [] = ap (λ w. fd ∷ w) (numbers-opens fds [])
 numbers-opens (fd ∷ fds) (w ∷ words) = ap (λ v. fd ∷ v) (numbers-opens fds words)
 
-opens_cons : (fd : ℕ) (fds : List ℕ) (words rest : List (List ℕ)) (a : Option (List ℕ)) → words ≡ option_to_list a ++ rest → (a ≡ None → words ≡ []) → opens_of (fd ∷ fds) words ≡ record { fd = fd; address = a } ∷ opens_of fds rest
-opens_cons fd fds words rest (Some w) e none = ap (opens_of (fd ∷ fds)) e
-opens_cons fd fds words rest None e none = ap (opens_of (fd ∷ fds)) (none refl) ∙ ap (λ w. record { fd = fd; address = None } ∷ opens_of fds w) (sym (none refl) ∙ e)
-
-pub rest-next : (out fds : List ℕ) (table : List Open) (words rest : List (List ℕ)) (a : Option (List ℕ)) (k : ℕ) → k < length fds → words ≡ option_to_list a ++ rest → (a ≡ None → words ≡ [])
-    → put_opens (without_numbers out (opens_of (drop (k + 1) fds) rest)) (if is_in (get_or fds k 0) out then table else put_open (record { fd = get_or fds k 0; address = a }) table) ≡ put_opens (without_numbers out (opens_of (drop k fds) words)) table
-rest-next out fds table words rest a k lt e none =
-    step (is_in (get_or fds k 0) out) refl
-    ∙ ap (λ w. put_opens (without_numbers out w) table) (sym (ap (λ w. opens_of w words) (drop_more fds k 0 lt) ∙ opens_cons (get_or fds k 0) (drop (k + 1) fds) words rest a e none))
-  where
-    step : (b : Bool) → is_in (get_or fds k 0) out ≡ b → put_opens (without_numbers out (opens_of (drop (k + 1) fds) rest)) (if is_in (get_or fds k 0) out then table else put_open (record { fd = get_or fds k 0; address = a }) table)
-        ≡ put_opens (without_numbers out (record { fd = get_or fds k 0; address = a } ∷ opens_of (drop (k + 1) fds) rest)) table
-    step true y = rw y refl
-    step false n = rw n refl
-
 words_at : (fd : ℕ) (fds : List ℕ) (words : List (List ℕ)) (k : ℕ) → opens_of (fd ∷ fds) (drop k words) ≡ record { fd = fd; address = slice_get words k } ∷ opens_of fds (drop (suc k) words)
 words_at fd fds [] zero = refl
 words_at fd fds [] (suc k) = refl
@@ -226,9 +205,6 @@ module _ (came fds : List ℕ) (start here : List Action) (k : ℕ) (lt : k < le
 
   pub closes-old : (not (is_in (get_or fds k 0) came) && not (is_in (get_or fds k 0) (take k fds))) ≡ false → here ≡ start ++ map Close (closed (k + 1))
   closes-old h = was ∙ ap (λ w. start ++ map Close w) (sym (once-next (λ n. not (is_in n came)) fds k lt ∙ ap (λ b. if b then closed k ++ get_or fds k 0 ∷ [] else closed k) h))
-
-pub new-next : (came fds : List ℕ) (k : ℕ) → k < length fds → all_new came (drop k fds) ≡ ((not (is_in (get_or fds k 0) came) && not (is_in (get_or fds k 0) (drop (k + 1) fds))) && all_new came (drop (k + 1) fds))
-new-next came fds k lt = ap (all_new came) (drop_more fds k 0 lt)
 
 -- what is new beside some is new beside none
 pub all-fresh : (came fds : List ℕ) → all_new came fds ≡ true → all_new [] fds ≡ true

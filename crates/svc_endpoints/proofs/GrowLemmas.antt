@@ -4,9 +4,7 @@ use Rattle.std.specs.List.{list_any, list_all}
 use Rattle.std.proofs.lemmas.Bool.{and_parts, and_from, or_cases, or_left, or_right}
 use Rattle.svc_record.specs.declared.plan.Plan.{Plan}
 use Rattle.svc_record.specs.declared.entry.Entry.{Entry}
-use Rattle.svc_record.specs.declared.entry.Entry.TheVariants.{Told}
-use Rattle.svc_record.specs.declared.action.Action.{Action}
-use Rattle.svc_record.specs.Record.{Record, has, tell}
+use Rattle.svc_record.specs.Record.{Record, has}
 use Rattle.svc_record.specs.Plans.{services, names, endpoint_numbers, address}
 use Rattle.svc_record.specs.Descriptors.{has_live, address_of}
 use Rattle.svc_record.specs.Failed.{has_failed, is_failure, is_in_use, in_use_count, in_use_limit}
@@ -24,10 +22,6 @@ failed_more x h false l c e = grind arith
 pub failed-grows : (p : Plan) (q : Record) (e : Entry) (s : ℕ) → has_failed p q s ≡ true → has_failed p (e ∷ q) s ≡ true
 failed-grows p q e s h = any-grows (λ i. has (is_failure s i) q || nat_le (in_use_limit p s i) (in_use_count p q s i)) _ (endpoint_numbers p s)
     (λ i. failed_more (is_failure s i e) (has (is_failure s i) q) (is_in_use s i e && not (has_live p q (address p s i))) (in_use_limit p s i) (in_use_count p q s i)) h
-
-pub failed-stays : (p : Plan) (q : Record) (told : List Action) (s : ℕ) → has_failed p q s ≡ true → has_failed p (tell q told) s ≡ true
-failed-stays p q [] s h = h
-failed-stays p q (a ∷ told) s h = failed-stays p (Told a ∷ q) told s (failed-grows p q (Told a) s h)
 
 module _ (p : Plan) (q r : Record) (grows : (s : ℕ) → has_failed p q s ≡ true → has_failed p r s ≡ true) where
   abandoned-grows : (a : List ℕ) → is_abandoned p q a ≡ true → is_abandoned p r a ≡ true

@@ -1,5 +1,5 @@
 -- What the states keep among themselves.
-use Rattle.std.proofs.Common.{ℕ, Bool, true, false, ◌||◌, ◌&&◌, ◌==◌, ◌⊎◌, inl, inr, [], ◌∷◌, ◌≡◌, ◌≢◌, refl, ap, sym, ◌∙◌, subst, arith, ◌<◌, length, slice_index_or, slice_set, length-set}
+use Rattle.std.proofs.Common.{ℕ, Bool, true, false, ◌||◌, ◌&&◌, ◌==◌, ◌⊎◌, inl, inr, [], ◌∷◌, ◌≡◌, ◌≢◌, refl, ap, sym, ◌∙◌, subst, arith, ◌<◌, length, slice_index_or}
 use Rattle.std.proofs.lemmas.Bool.{cases_Bool, cases_eq, cases_lt, eq-eqb, ne_eqb}
 use Rattle.svc_record.specs.declared.plan.Plan.{Plan}
 use Rattle.svc_record.specs.Plans.{endpoints, address, service_count}
@@ -9,7 +9,6 @@ use Rattle.svc_endpoints.specs.declared.states.EndState.{EndState}
 use Rattle.svc_endpoints.specs.EndpointsData.{EndpointsData}
 use Rattle.svc_endpoints.specs.EndpointsState.{IsEndpointsSized, StatesKept, last_at, refusals_at, failed_at, numbers_with, is_binding, is_adopting, is_asking, is_holding, has_fd, fd_of}
 use Rattle.svc_endpoints.specs.Effects.{put, fail_if, refused, bind_failed, adopt_failed, adopted, asked, offered, held_now, is_last_refusal}
-use Rattle.std.proofs.lemmas.List.{get_or-set_same, get_or-set_other}
 use Rattle.svc_endpoints.proofs.PutLemmas.{last_at-put}
 use Rattle.svc_endpoints.proofs.StatesLemmas.{failed_at-fail}
 
@@ -181,19 +180,3 @@ module _ (p : Plan) (d : EndpointsData) (s i : ℕ) (sized : IsEndpointsSized p 
 
   pub asks_free_adopting : is_adopting (last_at d s i) ≡ true → failed_at d s ≡ false
   asks_free_adopting a = was.asking_free s i (adopting_asks (last_at d s i) a)
-
--- lengths
-pub sized-put : (p : Plan) (d : EndpointsData) (s i : ℕ) (x : EndState) → IsEndpointsSized p d → s < service_count p → IsEndpointsSized p (put d s i x)
-sized-put p d s i x sized inside = record {
-  services = length-set d.rows s (slice_set (slice_index_or d.rows s []) i x) ∙ sized.services;
-  failed = sized.failed;
-  each = λ t lt. elim (cases_eq t s) [
-    | inl e ↦ rw e (let lt : s < length d.rows = omega (arith, sized.services) in ap length (get_or-set_same d.rows s (slice_set (slice_index_or d.rows s []) i x) [] lt) ∙ length-set (slice_index_or d.rows s []) i x ∙ sized.each s inside)
-    | inr ne ↦ ap length (get_or-set_other d.rows s t (slice_set (slice_index_or d.rows s []) i x) [] ne) ∙ sized.each t lt
-  ];
-  few = sized.few;
-}
-
-pub sized-fail : (p : Plan) (b : Bool) (s : ℕ) (d : EndpointsData) → IsEndpointsSized p d → IsEndpointsSized p (fail_if b s d)
-sized-fail p true s d h = record { services = h.services; failed = length-set d.failed s true ∙ h.failed; each = h.each; few = h.few }
-sized-fail p false s d h = h

@@ -1,7 +1,7 @@
 -- Lists of numbers in ascending order, and without doubles.
-use Rattle.std.proofs.Common.{ℕ, zero, suc, Bool, true, false, ◌||◌, ◌&&◌, not, ◌==◌, inl, inr, List, [], ◌∷◌, ◌≡◌, refl, ap, sym, ◌∙◌, subst, arith, ◌<◌, ◌≤◌, ◌+◌, length, if◌then◌else◌, filter, slice_index, insert, nat_lt, get_or, Ok, Err}
+use Rattle.std.proofs.Common.{ℕ, zero, suc, Bool, true, false, ◌||◌, ◌&&◌, not, ◌==◌, inl, inr, List, [], ◌∷◌, ◌≡◌, refl, ap, sym, ◌∙◌, arith, ◌<◌, ◌≤◌, ◌+◌, length, if◌then◌else◌, filter, slice_index, insert, nat_lt, get_or, Ok, Err}
 use Rattle.std.specs.List.{list_any, list_all}
-use Rattle.std.proofs.lemmas.Bool.{eqb-true, eq-eqb, ne_eqb, and_parts, and_from, or_parts, or_cases, or_left, or_right, cases_Bool, cases_lt, false_from_ne_true}
+use Rattle.std.proofs.lemmas.Bool.{eq-eqb, ne_eqb, and_parts, and_from, or_parts, or_cases, or_left, or_right, cases_Bool, cases_lt, false_from_ne_true}
 use Rattle.std.proofs.lemmas.Bool.Decides.{Decides-ltb}
 use Rattle.std.specs.Ordering.{nat_cmp}
 use Rattle.std.specs.List.Sorted.{IsNonDecreasing, IsBinarySearchResult}
@@ -10,11 +10,6 @@ use Rattle.std.proofs.lemmas.Grind.{get_or_default_zero}
 use Rattle.std.proofs.lemmas.List.Folds.{list_any_at, list_any_none}
 use Rattle.svc_record.specs.Drain.{put_number, ascending}
 use Rattle.svc_endpoints.specs.EndpointsState.{is_in, distinct}
-
--- how often a number stands in a list
-abbrev pub tally : ℕ → List ℕ → ℕ
-tally g [] = 0
-tally g (f ∷ fs) = if f == g then tally g fs + 1 else tally g fs
 
 or_swap : (a b c : Bool) → (b || (a || c)) ≡ (a || (b || c))
 or_swap a b c = grind arith
@@ -53,16 +48,6 @@ distinct-ascending (n ∷ more) h =
     let parts = and_parts (not (is_in n more)) (distinct more) h in
     distinct-put n (ascending more) (any-ascending (λ x. x == n) more ∙ apart_from (is_in n more) parts.0) (distinct-ascending more parts.1)
 
-tally_one : (b here : Bool) (n : ℕ) → n ≡ (if here then 1 else 0) → (b ≡ true → here ≡ false) → (if b then n + 1 else n) ≡ (if b || here then 1 else 0)
-tally_one b here n e f = grind (arith, f)
-
-pub tally-distinct : (g : ℕ) (xs : List ℕ) → distinct xs ≡ true → tally g xs ≡ (if is_in g xs then 1 else 0)
-tally-distinct g [] h = refl
-tally-distinct g (f ∷ fs) h =
-    let parts = and_parts (not (is_in f fs)) (distinct fs) h in
-    tally_one (f == g) (is_in g fs) (tally g fs) (tally-distinct g fs parts.1)
-    (λ e. subst (λ n. is_in n fs ≡ false) (eqb-true f g e) (apart_from (is_in f fs) parts.0))
-
 -- where it goes among the others
 pub insert-put : (xs : List ℕ) (k n : ℕ) → k ≤ length xs → ((j : ℕ) → j < k → slice_index xs j ≤ n) → ((j : ℕ) → k ≤ j → j < length xs → n < slice_index xs j)
     → insert xs k n ≡ put_number n xs
@@ -75,11 +60,6 @@ insert-put (m ∷ more) (suc k) n within below above =
     let most : m ≤ n = below 0 (omega arith) in
     rw (false_from_ne_true (nat_lt n m) (λ h. let less = (Decides-ltb n m).0 h in absurd (omega arith)))
     (ap (λ xs. m ∷ xs) (insert-put more k n (omega arith) (λ j lt. below (suc j) (omega arith)) (λ j le lt. above (suc j) (omega arith) (omega arith))))
-
--- a test that no number passes
-pub any-nowhere : (test : ℕ → Bool) → ((n : ℕ) → test n ≡ false) → (xs : List ℕ) → list_any test xs ≡ false
-any-nowhere test f [] = refl
-any-nowhere test f (n ∷ more) = rw (f n) (any-nowhere test f more)
 
 pub length-put : (n : ℕ) (xs : List ℕ) → length (put_number n xs) ≡ length xs + 1
 length-put n [] = refl
@@ -203,21 +183,3 @@ in-filter g f (x ∷ xs) h = elim (cases_Bool (f x)) [
   ]
   | inr n ↦ or_right (x == g) (is_in g xs) (in-filter g f xs (rw n at h))
 ]
-
-pub not_in_filter : (g : ℕ) (f : ℕ → Bool) (xs : List ℕ) → is_in g xs ≡ false → is_in g (filter f xs) ≡ false
-not_in_filter g f xs h = elim (cases_Bool (is_in g (filter f xs))) [
-  | inl y ↦ absurd (let there = in-filter g f xs y in clash (is_in g xs) there h)
-  | inr n ↦ n
-]
-  where
-    clash : (b : Bool) → b ≡ true → b ≡ false → ⊥
-    clash b h g = cc
-
-pub distinct-filter : (f : ℕ → Bool) (xs : List ℕ) → distinct xs ≡ true → distinct (filter f xs) ≡ true
-distinct-filter f [] h = refl
-distinct-filter f (x ∷ xs) h =
-    let parts = and_parts (not (is_in x xs)) (distinct xs) h in
-    elim (cases_Bool (f x)) [
-      | inl y ↦ rw y (and_from (not (is_in x (filter f xs))) (distinct (filter f xs)) (not_in (is_in x (filter f xs)) (not_in_filter x f xs (apart_from (is_in x xs) parts.0))) (distinct-filter f xs parts.1))
-      | inr n ↦ rw n (distinct-filter f xs parts.1)
-    ]

@@ -1,5 +1,5 @@
 -- Tests over a range of numbers.
-use Rattle.std.proofs.Common.{ℕ, Bool, true, false, zero, suc, ◌||◌, ◌&&◌, ◌==◌, inl, inr, List, [], ◌∷◌, ◌≡◌, refl, sym, ◌∙◌, subst, arith, ◌<◌, ◌≤◌, ◌+◌, length, slice_index}
+use Rattle.std.proofs.Common.{ℕ, Bool, true, false, zero, suc, ◌||◌, ◌&&◌, ◌==◌, inl, inr, List, [], ◌∷◌, ◌≡◌, refl, sym, ◌∙◌, subst, arith, ◌<◌, ◌≤◌, ◌+◌}
 use Rattle.std.specs.List.{list_any, list_all, range_with_len}
 use Rattle.std.proofs.lemmas.Bool.{cases_Bool, cases_eq, and_from, or_cases, or_left, or_right, eq-eqb, ne_eqb}
 
@@ -73,14 +73,6 @@ pub more_false : (f : ℕ → Bool) (n : ℕ) → ((j : ℕ) → j < n → f j �
 more_false f n h here j lt = elim (cases_eq j n) [
   | inl e ↦ subst (λ x. f x ≡ false) (sym e) here
   | inr ne ↦ h j (omega arith)
-]
-
-pub all_fails : (f : ℕ → Bool) (xs : List ℕ) (i : ℕ) → i < length xs → f (slice_index xs i) ≡ false → list_all f xs ≡ false
-all_fails f [] i lt h = absurd (omega arith)
-all_fails f (x ∷ xs) zero lt h = rw h refl
-all_fails f (x ∷ xs) (suc i) lt h = elim (cases_Bool (f x)) [
-  | inl y ↦ rw y (all_fails f xs i (omega arith) h)
-  | inr n ↦ rw n refl
 ]
 
 fails-at : (f : ℕ → Bool) (a n k : ℕ) → a ≤ k → k < a + n → f k ≡ false → list_all f (range_with_len a n) ≡ false

@@ -10,15 +10,8 @@ use Rattle.svc_endpoints.proofs.LiveLemmas.{same_eq, same_self}
 use Rattle.svc_endpoints.proofs.CloseLemmas.{left_out}
 use Rattle.svc_endpoints.proofs.NumberLemmas.{apart_from, not_in}
 
-some_same : (x y : List ℕ) → Some x ≡ Some y → x ≡ y
-some_same x y e = cc
-
 clash : (b : Bool) → b ≡ true → b ≡ false → ⊥
 clash b h g = cc
-
-pub left-all : (ns xs : List ℕ) → ((g : ℕ) → is_in g xs ≡ true → is_in g ns ≡ true) → left_out ns xs ≡ []
-left-all ns [] h = refl
-left-all ns (x ∷ xs) h = rw (h x (or_left (x == x) (is_in x xs) (eq-eqb x x refl))) (left-all ns xs (λ g there. h g (or_right (x == g) (is_in g xs) there)))
 
 pub left-none : (ns xs : List ℕ) → ((g : ℕ) → is_in g xs ≡ true → is_in g ns ≡ false) → left_out ns xs ≡ xs
 left-none ns [] h = refl

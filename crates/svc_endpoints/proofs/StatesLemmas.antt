@@ -48,10 +48,6 @@ failed_at-fail p d s true lt t = elim (cases_eq s t) [
     or_false b = grind arith
 failed_at-fail p d s false lt t = grind arith
 
-rows_fail : (b : Bool) (s : ℕ) (d : EndpointsData) → (fail_if b s d).rows ≡ d.rows
-rows_fail true s d = refl
-rows_fail false s d = refl
-
 pub last_at-fail : (b : Bool) (s : ℕ) (d : EndpointsData) (t k : ℕ) → last_at (fail_if b s d) t k ≡ last_at d t k
 last_at-fail true s d t k = refl
 last_at-fail false s d t k = refl
@@ -218,9 +214,3 @@ module _ (p : Plan) (d : EndpointsData) (q : Record) (s i : ℕ) (sized : IsEndp
     lost = lost-step p d s i (is_last_refusal p d s i) _ in_rows in_row in_failed was.lost (λ e. absurd (cc));
     closed_came = was.closed_came;
   }
-
-  pub last_refusal-fails : failed_at d s ≡ false → is_last_refusal p d s i ≡ has_failed p (Got (InUse s i) ∷ q) s
-  last_refusal-fails free = last_refusal-is free ∙ fails_alone (has_failed p q s) (s == s) (fails_at p q s i within) (sym (was.failed_is s inside) ∙ free) (eq-eqb s s refl) ∙ sym (failed-in_use p q s i within s)
-    where
-      fails_alone : (f e l : Bool) → f ≡ false → e ≡ true → l ≡ (f || (e && l))
-      fails_alone f e l h g = rw (h, g) refl

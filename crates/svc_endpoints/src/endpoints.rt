@@ -1,6 +1,6 @@
 //! The endpoints of all services, and the descriptors that came.
 
-ghost use Rattle.std.specs.Prelude.{◌≡◌, ◌+◌, ◌<◌, ◌≤◌, ◌++◌, ◌∷◌, ◌==◌, [], length, slice_index_or, ℕ, Some, None, Option, IfOk, OnOk, map, filter, not, ◌&&◌, slice_index, take, drop, true, false, ◌^◌};
+ghost use Rattle.std.specs.Prelude.{◌≡◌, ◌+◌, ◌<◌, ◌≤◌, ◌++◌, ◌∷◌, ◌==◌, [], length, slice_index_or, ℕ, Some, Option, IfOk, OnOk, map, filter, not, ◌&&◌, slice_index, take, drop, true, false, ◌^◌};
 ghost use Rattle.std.specs.List.{list_any};
 ghost use Rattle.svc_conf.specs.Items.{list_of, spare};
 ghost use Rattle.svc_record.specs.declared.action.Action.TheVariants.{Close};

@@ -15,6 +15,3 @@ mod uses;
 mod visit;
 
 pub use endpoints::Endpoints;
-
-#[cfg(test)]
-mod tests;

@@ -1,6 +1,6 @@
 //! What a plan says of endpoints, and which services name an address.
 
-ghost use Rattle.std.specs.Prelude.{◌≡◌, ◌<◌, ◌≤◌, not, ◌&&◌, ◌||◌, length, ℕ, Some, bytes_eq, slice_index_or, false};
+ghost use Rattle.std.specs.Prelude.{◌≡◌, ◌<◌, ◌≤◌, not, ◌&&◌, ◌||◌, length, Some, bytes_eq, slice_index_or, false};
 ghost use Rattle.std.specs.List.{list_any, list_all};
 ghost use Rattle.svc_graph.specs.declared.plan.EndpointPlan.{EndpointPlan};
 ghost use Rattle.svc_record.specs.Plans.{service_count, services, endpoints, address, names, declares, declares_list, is_among, is_unclaimed};

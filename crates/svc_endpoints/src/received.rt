@@ -1,6 +1,6 @@
 //! What an older server's message brings.
 
-ghost use Rattle.std.specs.Prelude.{◌≡◌, ◌+◌, ◌<◌, ◌≤◌, ◌++◌, ◌∷◌, [], length, ℕ, Some, None, Option, IfOk, OnErr, slice_get, map, true, false};
+ghost use Rattle.std.specs.Prelude.{◌≡◌, ◌+◌, ◌<◌, ◌≤◌, ◌++◌, ◌∷◌, [], length, IfOk, OnErr, slice_get, map, true, false};
 ghost use Rattle.svc_conf.specs.Items.{list_of, spare};
 ghost use Rattle.svc_record.specs.declared.action.Action.TheVariants.{Close};
 ghost use Rattle.svc_record.specs.declared.entry.Entry.TheVariants.{Got};

@@ -1,6 +1,6 @@
 //! What became of endpoints.
 
-ghost use Rattle.std.specs.Prelude.{◌≡◌, ◌<◌, ◌≤◌, ◌==◌, [], length, ℕ, true, false, slice_index_or, slice_set, vec_len, IfOk};
+ghost use Rattle.std.specs.Prelude.{◌≡◌, ◌<◌, ◌≤◌, [], length, ℕ, true, false, slice_index_or, slice_set, vec_len, IfOk};
 ghost use Rattle.svc_record.specs.declared.plan.Plan.{Plan};
 ghost use Rattle.svc_record.specs.Plans.{service_count, endpoints};
 ghost use Rattle.svc_endpoints.specs.EndpointsState.{idle, is_binding, is_adopting, is_asking, is_holding};

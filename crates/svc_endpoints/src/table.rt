@@ -1,12 +1,10 @@
 //! The live descriptors.
 
-ghost use Rattle.std.specs.Prelude.{◌≡◌, ◌+◌, ◌-◌, ◌<◌, ◌≤◌, ◌++◌, ◌∷◌, not, [], length, ℕ, List, Option, Some, None, OnOk, map, filter, insert, slice_index, vec_len, vec_capacity, ◌||◌, ◌&&◌, false, true, nat_lt, ◌^◌, if◌then◌else◌};
-ghost use Rattle.std.specs.List.{list_any, list_all};
+ghost use Rattle.std.specs.Prelude.{◌≡◌, ◌+◌, ◌-◌, ◌<◌, ◌≤◌, ◌++◌, ◌∷◌, [], length, ℕ, List, Option, Some, None, OnOk, map, insert, slice_index, vec_len, vec_capacity, ◌||◌, ◌&&◌, false, ◌^◌, if◌then◌else◌};
 ghost use Rattle.std.specs.Option.{option_to_list};
 ghost use Rattle.svc_conf.specs.Items.{list_of, spare};
 ghost use Rattle.svc_record.specs.declared.plan.Plan.{Plan};
 ghost use Rattle.svc_record.specs.declared.action.Action.TheVariants.{Close};
-ghost use Rattle.svc_record.specs.Drain.{put_number};
 ghost use Rattle.svc_record.specs.Plans.{service_count, same_address};
 ghost use Rattle.svc_endpoints.specs.EndpointsState.{numbers_with, numbers_of_table};
 ghost use Rattle.svc_endpoints.specs.Effects.{first_of, put_open, put_opens, opens_of, without_numbers, passes, is_abandoned_by, is_done_for, goes, gone_numbers, without_gone};

@@ -1,9 +1,9 @@
 //! What is asked for as a service is visited.
 
-ghost use Rattle.std.specs.Prelude.{◌≡◌, ◌+◌, ◌<◌, ◌≤◌, ◌++◌, ◌∷◌, ◌==◌, ◌&&◌, ◌||◌, [], length, slice_index_or, ℕ, Some, None, Option, map, true, false};
+ghost use Rattle.std.specs.Prelude.{◌≡◌, ◌+◌, ◌<◌, ◌≤◌, ◌++◌, ◌∷◌, ◌==◌, ◌&&◌, ◌||◌, [], length, Some, None, true, false};
 ghost use Rattle.svc_conf.specs.Items.{list_of, spare};
 ghost use Rattle.svc_record.specs.Plans.{service_count, endpoints, address, any_with, same_address};
-ghost use Rattle.svc_record.specs.Record.{Record, now, tell};
+ghost use Rattle.svc_record.specs.Record.{Record, now};
 ghost use Rattle.svc_record.specs.Starts.{is_started};
 ghost use Rattle.svc_record.specs.Told.{Tells};
 ghost use Rattle.svc_endpoints.specs.EndpointsState.{IsEndpointsSized, EndpointsStand};

@@ -7,7 +7,7 @@ use Rattle.std.specs.Cmp.Lexicographic.{slice_cmp, nat_list_cmp_total}
 use Rattle.std.proofs.Math.Seq.{take-append_seam}
 use Rattle.std.proofs.lemmas.Cmp.{tied_itself}
 use Rattle.std.proofs.lemmas.Map.Lookups.{exact_bytes}
-use Rattle.std.proofs.lemmas.List.{take-append-drop, drop_more, take_more, set_split, drop_all}
+use Rattle.std.proofs.lemmas.List.{take-append-drop, drop_more, take_more, set_split}
 use Rattle.std.proofs.lemmas.Option.{get_or_from_slice_get}
 use Rattle.svc_fds.specs.Tables.{Entry, lookup, put, without, Precedes, PrecedesAll, IsAscending}
 use Rattle.svc_fds.specs.Places.{AllPrecede, IsHeldAt, IsFreeAt}
@@ -47,13 +47,6 @@ free-found a es at e up inside read before more =
       before = before;
       after = subst (λ xs. PrecedesAll a xs) (sym here) (lesser e.0 a more, precedes-trans a e.0 (drop (at + 1) es) (lesser e.0 a more) rest.0);
     }
-
-pub free-end : (a : List ℕ) (es : List Entry) (at : ℕ) → at ≡ length es → AllPrecede a (take at es) → IsFreeAt a es at
-free-end a es at end before = record {
-  inside = omega arith;
-  before = before;
-  after = subst (λ xs. PrecedesAll a xs) (sym (drop_all at es (omega arith))) tt;
-}
 
 lookup-held : (a : List ℕ) (front : List Entry) (n : ℕ) (back : List Entry) → AllPrecede a front → lookup a (front ++ (a, n) ∷ back) ≡ Some n
 lookup-held a [] n back before = rw (same a) refl

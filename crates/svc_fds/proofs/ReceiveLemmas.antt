@@ -12,7 +12,7 @@ use Rattle.svc_fds.specs.declared.errors.ReceiveError.{ReceiveError}
 use Rattle.svc_fds.specs.declared.errors.ReceiveError.TheVariants as receive_errors
 use Rattle.svc_fds.specs.Retries.{missing, receive_next, after_receives, IsAfterReceives}
 use Rattle.svc_fds.specs.Channels.{Tells}
-use Rattle.svc_fds.specs.Transfers.{rested, kind_of, receive_calls, IsWait, receives_asked, Receives, ReceivesNot, given_up, unread}
+use Rattle.svc_fds.specs.Transfers.{rested, kind_of, receive_calls, IsWait, receives_asked, ReceivesNot, given_up, unread}
 use Rattle.svc_fds.proofs.SendLemmas.{Tells-then}
 
 -- what a receiver keeps from one try to the next
@@ -64,14 +64,6 @@ receiving-more limit before now resting then_now faults_before faults_now faults
       faults = same ∙ receiving.faults;
     }
 
-pub receiving-came : (limit : ℕ) (before now resting then_now : Option (List ChannelCall)) (faults_before faults_now ms state : ℕ) (bytes fds : List ℕ) → Receiving limit before now faults_before faults_now ms state
-    → Tells now resting (rested ms) → Tells resting then_now (Receive (receipts.Got bytes fds) ∷ []) → Receives limit before then_now bytes fds
-receiving-came limit before now resting then_now faults_before faults_now ms state bytes fds receiving slept got = record {
-  earlier = receiving.earlier;
-  wait = receiving.wait;
-  told = told-more limit before now resting then_now faults_before faults_now ms state (receipts.Got bytes fds) receiving slept got;
-}
-
 pub receiving-refused : (limit : ℕ) (before now resting then_now : Option (List ChannelCall)) (faults_before faults_now ms state : ℕ) (error : ReceiveError) → Receiving limit before now faults_before faults_now ms state
     → Tells now resting (rested ms) → Tells resting then_now (Receive receipts.NotYet ∷ [])
     → ((limit : ℕ) (earlier : List ReceiveKind) → IsAfterReceives limit earlier state → receive_next limit earlier kinds.NotYet ≡ receives.Refused error)
@@ -89,11 +81,6 @@ pub receiving-unread : (limit : ℕ) (before now resting then_now : Option (List
     → Tells now resting (rested ms) → Tells resting then_now (Receive receipts.NoMemory ∷ []) → ReceivesNot limit before then_now receive_errors.NoMemory
 receiving-unread limit before now resting then_now faults_before faults_now ms state receiving slept got =
     unread receiving.earlier receiving.wait (told-more limit before now resting then_now faults_before faults_now ms state receipts.NoMemory receiving slept got)
-
--- the refusal of a wait isn't a failed transfer
-pub waiting-fault : (b : Bool) (e : ReceiveError) → cond b (receives.Refused receive_errors.NoSender) (receives.Receive 1000) ≡ receives.Refused e → e ≡ receive_errors.NoSender
-waiting-fault true e is = cc
-waiting-fault false e is = absurd (cc)
 
 -- a receiver that waits isn't done
 pub done-never : (b : Bool) → receives.Done ≡ cond b (receives.Refused receive_errors.NoSender) (receives.Receive 1000) → ⊥

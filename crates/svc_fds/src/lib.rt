@@ -27,6 +27,3 @@ pub use retry::{
 };
 pub use server::transfer_fd::{AddFdRefused, DecodeRefused, FdList, Fds, ListsRefused};
 pub use transfer::{MAX_RETRY, get_fds_from, send_fds_to};
-
-#[cfg(test)]
-mod tests;

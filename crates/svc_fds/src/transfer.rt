@@ -1,6 +1,6 @@
 //! A message goes through a channel.
 
-ghost use Rattle.std.specs.Prelude.{◌≡◌, ◌<◌, ◌≤◌, ◌∷◌, ℕ, List, IfOk, IfErr, IfSome, IfNone, IsErrOf, OnOk, OnErr, Ok, Err, length, unwrap_or, vec_len};
+ghost use Rattle.std.specs.Prelude.{◌≡◌, ◌<◌, ◌≤◌, ◌∷◌, ℕ, List, IfOk, IfErr, IfSome, IfNone, IsErrOf, OnOk, Ok, Err, length, unwrap_or, vec_len};
 ghost use Rattle.svc_fds.specs.Retries.{IsAfterReceives, receive_next};
 ghost use Rattle.svc_conf.specs.Streams.{Rose};
 ghost use Rattle.svc_fds.specs.Channels.{Tells, SendFaults};

@@ -1,8 +1,8 @@
 -- Lists of nodes, and marks.
 use Rattle.std.proofs.Common.{ℕ, Bool, true, false, ◌||◌, ◌==◌, not, ◌⊎◌, inl, inr, List, [], ◌∷◌, ◌++◌, ◌≡◌, refl, sym, ◌∙◌, subst, arith, ◌<◌, ◌+◌, length, count_by, cond, slice_index_or, slice_set, get_or, take, drop, suc, zero}
 use Rattle.std.specs.Prelude.{All}
-use Rattle.std.proofs.lemmas.Bool.{or_cases, or_left, or_right, eqb-true, eq-eqb, cases_eq}
-use Rattle.std.proofs.lemmas.List.{get_or-set_other, get_or-set_same, get_or_read}
+use Rattle.std.proofs.lemmas.Bool.{or_cases, or_left, or_right, eqb-true, eq-eqb}
+use Rattle.std.proofs.lemmas.List.{get_or_read}
 use Rattle.std.proofs.Math.Seq.{take-append_seam}
 use Rattle.std.proofs.lemmas.List.Folds.{list_any-append, list_any_at, Any-from_list_any}
 use Rattle.std.proofs.lemmas.List.Sums.{sum_by-set}
@@ -34,23 +34,6 @@ listed_before xs b a e = list_any-append (λ x. x == a) xs (b ∷ []) ∙ or_lef
 
 pub listed_last : (xs : List ℕ) (b : ℕ) → is_listed (xs ++ b ∷ []) b ≡ true
 listed_last xs b = list_any-append (λ x. x == b) xs (b ∷ []) ∙ or_right (is_listed xs b) ((b == b) || false) (or_left (b == b) false (eq-eqb b b refl))
-
-pub marked_set : (marks : List Bool) (b a : ℕ) → is_marked (slice_set marks b true) a ≡ true → (is_marked marks a ≡ true) ⊎ (a ≡ b)
-marked_set marks b a e =
-    elim (cases_eq a b) [
-      | inl same ↦ inr same
-      | inr ne ↦ inl (sym (get_or-set_other marks b a true false ne) ∙ e)
-    ]
-
-pub marked_set_same : (marks : List Bool) (b : ℕ) → b < length marks → is_marked (slice_set marks b true) b ≡ true
-marked_set_same marks b lt = get_or-set_same marks b true false lt
-
-pub marked_set_kept : (marks : List Bool) (b a : ℕ) → b < length marks → is_marked marks a ≡ true → is_marked (slice_set marks b true) a ≡ true
-marked_set_kept marks b a lt e =
-    elim (cases_eq a b) [
-      | inl same ↦ subst (λ x. is_marked (slice_set marks b true) x ≡ true) (sym same) (marked_set_same marks b lt)
-      | inr ne ↦ get_or-set_other marks b a true false ne ∙ e
-    ]
 
 -- one more mark is one less node without
 pub unmarked_set : (marks : List Bool) (b : ℕ) → b < length marks → is_marked marks b ≡ false → count_by not (slice_set marks b true) + 1 ≡ count_by not marks

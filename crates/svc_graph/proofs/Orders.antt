@@ -26,12 +26,6 @@ unmarked_in marks (x ∷ row) h =
       | inr later ↦ (let rest = unmarked_in marks row later in (rest.0, or_right (x == rest.0) (is_listed row rest.0) rest.1, rest.2))
     ]
 
-pub ordered-none : (rows : List (List ℕ)) (marks : List Bool) → ((a : ℕ) → is_marked marks a ≡ false) → Ordered rows marks []
-ordered-none rows marks none = record {
-  same = λ a lt. none a;
-  next = λ k lt. absurd (omega arith);
-}
-
 module _ (rows : List (List ℕ)) (inside : RowsBelow (length rows) rows) (marks : List Bool) (order : List ℕ) (was : Ordered rows marks order) where
   listed_row : (a : ℕ) → is_due marks (row_of rows a) ≡ true → All (λ b. is_listed order b ≡ true) (row_of rows a)
   listed_row a due =

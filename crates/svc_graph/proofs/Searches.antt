@@ -1,79 +1,13 @@
 -- A search along edges.
-use Rattle.std.proofs.Common.{ℕ, Bool, true, false, inl, inr, List, [], ◌∷◌, ◌++◌, ◌≡◌, refl, sym, subst, arith, ◌<◌, length, length-append, slice_set}
+use Rattle.std.proofs.Common.{ℕ, Bool, true, false, inl, inr, List, [], ◌∷◌, ◌++◌, ◌≡◌, sym, subst, ◌<◌, length}
 use Rattle.svc_graph.specs.Graphs.{is_in_row, is_listed, row_of}
 use Rattle.svc_graph.specs.Marks.{is_marked, Marked, Searched, Divides}
-use Rattle.svc_graph.proofs.Lists.{listed_push, listed_before, listed_last, marked_set, marked_set_same, marked_set_kept, unmarked_set, marked_inside}
+use Rattle.svc_graph.proofs.Lists.{listed_push, listed_before, listed_last, marked_inside}
 use Rattle.svc_graph.proofs.Chains.{path-edge, path-then}
 
-pub marked-none : (marks : List Bool) (left : List ℕ) → Marked [] marks left marks left
-marked-none marks left = record {
-  kept = λ a e. e;
-  all = λ a e. absurd (cc);
-  only = λ a e. inl e;
-  left_kept = λ a e. e;
-  left_more = λ a e. inl e;
-  left_only = λ a e. inl e;
-  sum = refl;
-}
-
 module _ (row : List ℕ) (marks : List Bool) (left : List ℕ) (marks_now : List Bool) (left_now : List ℕ) (was : Marked row marks left marks_now left_now) (b : ℕ) where
-  -- the next node of the row is marked already
-  pub marked-again : is_marked marks_now b ≡ true → Marked (row ++ b ∷ []) marks left marks_now left_now
-  marked-again here = record {
-    kept = was.kept;
-    all = λ a e. elim (listed_push row b a e) [ inl old ↦ was.all a old | inr same ↦ subst (λ x. is_marked marks_now x ≡ true) (sym same) here ];
-    only = λ a e. elim (was.only a e) [ inl old ↦ inl old | inr new ↦ inr (listed_before row b a new) ];
-    left_kept = was.left_kept;
-    left_more = was.left_more;
-    left_only = was.left_only;
-    sum = was.sum;
-  }
-
-  -- the next node of the row gets its mark
-  pub marked-new : b < length marks_now → is_marked marks_now b ≡ false → Marked (row ++ b ∷ []) marks left (slice_set marks_now b true) (left_now ++ b ∷ [])
-  marked-new lt free = record {
-    kept = λ a e. marked_set_kept marks_now b a lt (was.kept a e);
-    all = λ a e. (
-        elim (listed_push row b a e) [
-          | inl old ↦ marked_set_kept marks_now b a lt (was.all a old)
-          | inr same ↦ subst (λ x. is_marked (slice_set marks_now b true) x ≡ true) (sym same) (marked_set_same marks_now b lt)
-        ]);
-    only = λ a e. (
-        elim (marked_set marks_now b a e) [
-          | inl old ↦ elim (was.only a old) [ inl first ↦ inl first | inr new ↦ inr (listed_before row b a new) ]
-          | inr same ↦ inr (subst (λ x. is_listed (row ++ b ∷ []) x ≡ true) (sym same) (listed_last row b))
-        ]);
-    left_kept = λ a e. listed_before left_now b a (was.left_kept a e);
-    left_more = λ a e. (
-        elim (marked_set marks_now b a e) [
-          | inl old ↦ elim (was.left_more a old) [ inl first ↦ inl first | inr new ↦ inr (listed_before left_now b a new) ]
-          | inr same ↦ inr (subst (λ x. is_listed (left_now ++ b ∷ []) x ≡ true) (sym same) (listed_last left_now b))
-        ]);
-    left_only = λ a e. (
-        elim (listed_push left_now b a e) [
-          | inl old ↦ elim (was.left_only a old) [ inl first ↦ inl first | inr new ↦ inr (marked_set_kept marks_now b a lt new) ]
-          | inr same ↦ inr (subst (λ x. is_marked (slice_set marks_now b true) x ≡ true) (sym same) (marked_set_same marks_now b lt))
-        ]);
-    sum = (let less = unmarked_set marks_now b lt free in let more = length-append left_now (b ∷ []) in let before = was.sum in omega arith);
-  }
 
 module _ (rows : List (List ℕ)) (from : ℕ) where
-  pub searched-start : (marks : List Bool) → from < length marks → ((a : ℕ) → is_marked marks a ≡ false) → Searched rows from (slice_set marks from true) (from ∷ [])
-  searched-start marks lt none = record {
-    start = marked_set_same marks from lt;
-    led = λ a e. elim (marked_set marks from a e) [ inl old ↦ absurd (let free = none a in cc) | inr same ↦ inl same ];
-    left_marked = λ a e. (
-        elim (listed_push [] from a e) [
-          | inl old ↦ absurd (cc)
-          | inr same ↦ subst (λ x. is_marked (slice_set marks from true) x ≡ true) (sym same) (marked_set_same marks from lt)
-        ]);
-    along = λ a b edge e. (
-        elim (marked_set marks from a e) [
-          | inl old ↦ absurd (let free = none a in cc)
-          | inr same ↦ inl (subst (λ x. is_listed (from ∷ []) x ≡ true) (sym same) (listed_last [] from))
-        ]);
-  }
-
   pub left_inside : (marks : List Bool) (open_nodes left : List ℕ) (a : ℕ) → Searched rows from marks open_nodes → open_nodes ≡ left ++ a ∷ [] → a < length marks
   left_inside marks open_nodes left a was last =
       marked_inside marks a (was.left_marked a (subst (λ nodes. is_listed nodes a ≡ true) (sym last) (listed_last left a)))

@@ -12,6 +12,3 @@ mod sort;
 pub use graph::{AddNodeReason, AddNodeRefused, DependencyError, DependencyGraph, NODE_LIMIT};
 pub use handles::ServiceHandle;
 pub use plan::{EndpointList, EndpointPlan, Kind};
-
-#[cfg(test)]
-mod tests;

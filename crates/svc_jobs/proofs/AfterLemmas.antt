@@ -1,22 +1,19 @@
 -- A job starts after each job that it depends on has run.
 use Rattle.std.proofs.Common.{ℕ, zero, suc, Bool, true, false, ◌≡◌, ◌+◌, ◌||◌, ◌&&◌, List, [], ◌∷◌, ◌++◌, map, Option, refl, sym, ap, subst, ◌∙◌, inl, inr}
 use Rattle.std.specs.Prelude.{Some, None, Result, Ok, Err, slice_get}
-use Rattle.std.specs.List.{list_all, list_any, range_with_len}
+use Rattle.std.specs.List.{list_all}
 use Rattle.std.proofs.lemmas.Bool.{and_parts, and_from}
 use Rattle.svc_conf.specs.declared.server.configuration.ServerConf.{ServerConf}
 use Rattle.svc_conf.specs.declared.server.configuration.Opt.{Opt}
 use Rattle.svc_graph.specs.GraphData.{GraphData}
-use Rattle.svc_graph.specs.declared.plan.EndpointPlan.{EndpointPlan}
 use Rattle.svc_graph.specs.declared.plan.Kind.TheVariants.{Plain, Bootstrap as BootstrapKind}
 use Rattle.svc_graph.specs.declared.services.ServiceWithDependents.{Ghosts}
 use Rattle.svc_record.specs.declared.plan.Plan.{Plan}
 use Rattle.svc_record.specs.declared.plan.ServicePlan.{ServicePlan}
-use Rattle.svc_record.specs.declared.entry.Entry.{Entry}
 use Rattle.svc_record.specs.declared.entry.Entry.TheVariants.{Got, Told}
 use Rattle.svc_record.specs.declared.event.Event.{Event}
-use Rattle.svc_record.specs.declared.action.Action.{Action}
 use Rattle.svc_record.specs.declared.action.Action.TheVariants.{Start, Cut, Close}
-use Rattle.svc_record.specs.Plans.{depends, endpoints, endpoint_numbers, has_kind}
+use Rattle.svc_record.specs.Plans.{depends, endpoints, has_kind}
 use Rattle.svc_record.specs.Failed.{has_failed}
 use Rattle.svc_record.specs.Record.{Record, has, tell, is_bootstrap_complete, each_entry, EachEntry}
 use Rattle.svc_record.specs.Connections.{live_connections}
@@ -28,7 +25,7 @@ use Rattle.svc_server.specs.declared.run.Outcome.{Outcome}
 use Rattle.svc_server.specs.declared.run.Outcome.TheVariants.{Served, TestPassed, Parent}
 use Rattle.svc_server.specs.declared.run.RunError.{RunError}
 use Rattle.svc_server.specs.declared.run.RunError.TheVariants.{Config, HostFault, Bootstrap, Stray, TurnsSpent, OutOfEvents, NoMemory}
-use Rattle.svc_server.specs.Runs.{RunEnds, IsClosed}
+use Rattle.svc_server.specs.Runs.{RunEnds}
 use Rattle.svc_jobs.specs.Dues.{has_run}
 use Rattle.svc_jobs.specs.JobHosts.{is_job_entry, head_due}
 use Rattle.svc_jobs.specs.JobRuns.{KeepsWords, start_after_runs}

@@ -1,8 +1,8 @@
 -- How the run of a server over a host of jobs ends: no job still owes its word, unless the turns were spent or memory ran out.
-use Rattle.std.proofs.Common.{ℕ, zero, suc, Bool, true, false, ◌≡◌, ◌<◌, ◌+◌, ◌==◌, ◌||◌, ◌&&◌, not, List, [], ◌∷◌, ◌++◌, length, take, Option, refl, sym, ap, subst, ◌∙◌, inl, inr, arith}
-use Rattle.std.specs.Prelude.{Some, None, Result, Ok, Err, slice_get, bytes_eq, filter, nat_le, nat_lt, if◌then◌else◌}
-use Rattle.std.specs.List.{list_any, range_with_len}
-use Rattle.std.proofs.lemmas.Bool.{cases_Bool, or_cases, and_parts, and_from, eq-eqb}
+use Rattle.std.proofs.Common.{ℕ, zero, suc, Bool, true, false, ◌≡◌, ◌<◌, ◌+◌, ◌==◌, ◌||◌, ◌&&◌, List, [], ◌∷◌, ◌++◌, length, take, Option, refl, sym, ap, subst, ◌∙◌, inl, inr, arith}
+use Rattle.std.specs.Prelude.{Some, None, Result, Ok, Err, slice_get, bytes_eq, nat_le, nat_lt, if◌then◌else◌}
+use Rattle.std.specs.List.{list_any}
+use Rattle.std.proofs.lemmas.Bool.{cases_Bool, or_cases, and_parts}
 use Rattle.std.proofs.lemmas.List.{append-nil}
 use Rattle.svc_graph.specs.declared.plan.Kind.{Kind}
 use Rattle.svc_graph.specs.declared.plan.Kind.TheVariants.{Notifying, Bootstrap as BootstrapKind}
@@ -18,15 +18,15 @@ use Rattle.svc_record.specs.declared.action.Action.TheVariants.{Start}
 use Rattle.svc_record.specs.declared.action.StepEnd.{StepEnd}
 use Rattle.svc_record.specs.declared.action.StepEnd.TheVariants as ends
 use Rattle.svc_record.specs.declared.action.BootstrapError.TheVariants as boots
-use Rattle.svc_record.specs.Plans.{service, services, service_count, is_kind, has_kind}
-use Rattle.svc_record.specs.Record.{Record, has, times, tell, now, signal_of, is_bootstrap, each_entry, EachEntry}
-use Rattle.svc_record.specs.Starts.{is_start, is_started, is_ready_event, start_known}
+use Rattle.svc_record.specs.Plans.{services, service_count, is_kind, has_kind}
+use Rattle.svc_record.specs.Record.{Record, has, times, tell, now, is_bootstrap, each_entry, EachEntry}
+use Rattle.svc_record.specs.Starts.{is_started, start_known}
 use Rattle.svc_record.specs.Boot.{is_side_parent, is_bad_message, may_begin}
 use Rattle.svc_record.specs.Drain.{has_passed, has_passed_by}
 use Rattle.svc_record.specs.Ends.{step_end, has_ended, ends_tested, ends_parent_well, ends_parent_badly, ends_transfer, ends_no_sender, ends_bad_message, is_receive_failure, is_no_sender, TestedRight}
-use Rattle.svc_record.specs.Fits.{Fits, fits_row}
+use Rattle.svc_record.specs.Fits.{Fits}
 use Rattle.svc_record.specs.Right.{Right}
-use Rattle.svc_record.specs.Tail.{with_event, closing_actions}
+use Rattle.svc_record.specs.Tail.{closing_actions}
 use Rattle.std.specs.Bool.{OnTrue}
 use Rattle.svc_server.specs.declared.run.Outcome.{Outcome}
 use Rattle.svc_server.specs.declared.run.Outcome.TheVariants.{Served, TestPassed, Parent}
@@ -38,17 +38,17 @@ use Rattle.svc_conf.specs.Streams.{Rose}
 use Rattle.svc_graph.specs.GraphData.{GraphData}
 use Rattle.svc_graph.specs.declared.services.ServiceWithDependents.{Ghosts}
 use Rattle.svc_server.specs.Servers.{answers_of, with_depends, depends_of, plan_of}
-use Rattle.svc_server.specs.Runs.{RunEnds, IsServed, IsEndedSo, IsStray}
+use Rattle.svc_server.specs.Runs.{RunEnds, IsServed}
 use Rattle.std.proofs.lemmas.Bool.{eqb-true}
 use Rattle.std.proofs.lemmas.Bool.Decides.{nat_tests}
 use borrow.Author.Tests.{ltb-true}
-use Rattle.svc_jobs.specs.Dues.{is_shutdown, runs_first, due_at, has_run}
+use Rattle.svc_jobs.specs.Dues.{is_shutdown, due_at}
 use Rattle.svc_jobs.specs.Readies.{first_runs, readies_since, are_told}
 use Rattle.svc_jobs.specs.Rows.{owes, owing}
 use Rattle.svc_jobs.specs.JobHosts.{is_job_entry, is_none, head_due}
 use Rattle.svc_jobs.specs.JobRuns.{KeepsWords, EndsTold}
 use Rattle.svc_jobs.proofs.RangeLemmas.{filter-none}
-use Rattle.svc_jobs.proofs.HostLemmas.{same_bytes, filter-nil}
+use Rattle.svc_jobs.proofs.HostLemmas.{same_bytes}
 use Rattle.svc_jobs.proofs.OwedLemmas.{filter-head, none-is, word-owed, owes-started, owes-unready, owes-none, owed-unsignalled, tested-owes-none}
 
 -- each service says by itself when it is ready

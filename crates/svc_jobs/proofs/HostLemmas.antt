@@ -1,12 +1,11 @@
 -- What a host of jobs keeps, as its record grows.
-use Rattle.std.proofs.Common.{ℕ, zero, suc, Bool, true, false, ◌≡◌, ◌<◌, ◌≤◌, ◌+◌, ◌-◌, ◌==◌, ◌||◌, ◌&&◌, not, List, [], ◌∷◌, ◌++◌, length, map, take, drop, get_or, Option, refl, sym, ap, subst, ◌∙◌, inl, inr, arith, append_assoc, length-append}
-use Rattle.std.specs.Prelude.{slice_get, Some, None, bytes_eq, filter, nat_lt, position}
-use Rattle.std.specs.List.{flat_map, range_with_len}
-use Rattle.std.proofs.lemmas.Bool.{cases_Bool, cases_eq, and_from, eq-eqb, ne_eqb}
+use Rattle.std.proofs.Common.{ℕ, zero, suc, Bool, true, false, ◌≡◌, ◌<◌, ◌≤◌, ◌+◌, ◌-◌, List, [], ◌∷◌, ◌++◌, length, map, take, Option, refl, sym, ap, ◌∙◌, inl, inr, arith, append_assoc}
+use Rattle.std.specs.Prelude.{slice_get, Some, None, bytes_eq, filter}
+use Rattle.std.specs.List.{range_with_len}
+use Rattle.std.proofs.lemmas.Bool.{cases_Bool, cases_eq, and_from}
 use Rattle.std.proofs.lemmas.List.{append-nil, map-append, take_more}
 use Rattle.std.proofs.lemmas.Option.{slice_get_within, get_or_from_slice_get}
 use Rattle.std.proofs.lemmas.Slice.Eq.{bytes_eq-Decides}
-use Rattle.svc_record.specs.declared.entry.Entry.{Entry}
 use Rattle.svc_record.specs.declared.entry.Entry.TheVariants.{Got, Told}
 use Rattle.svc_record.specs.declared.event.Event.{Event}
 use Rattle.svc_record.specs.declared.event.Event.TheVariants.{Moment, Ready, Signal}
@@ -15,12 +14,12 @@ use Rattle.svc_record.specs.declared.action.Action.{Action}
 use Rattle.svc_record.specs.declared.item.Item.{Item}
 use Rattle.svc_record.specs.declared.item.Item.TheVariants as items
 use Rattle.svc_record.specs.Record.{Record}
-use Rattle.svc_jobs.specs.Dues.{jobs_of, runs_first, firsts_at}
-use Rattle.svc_jobs.specs.Readies.{first_runs, readies_since, readies_right, is_front, items_of}
+use Rattle.svc_jobs.specs.Dues.{runs_first, firsts_at}
+use Rattle.svc_jobs.specs.Readies.{first_runs, readies_since, items_of}
 use Rattle.svc_jobs.specs.Rows.{owes, owing}
 use Rattle.svc_jobs.specs.TimetableData.{TimetableData}
 use Rattle.svc_jobs.specs.Timetables.{IsTimetableOf, noted, readied}
-use Rattle.svc_jobs.specs.JobHosts.{KeepsJobs, is_none}
+use Rattle.svc_jobs.specs.JobHosts.{KeepsJobs}
 use Rattle.svc_jobs.proofs.RangeLemmas.{filter-same, filter-none, refilled}
 use Rattle.svc_jobs.proofs.TableLemmas.{table_ready, table_signal, table_told}
 
@@ -124,23 +123,6 @@ keeps_told periods t all at q faults idles a keeps = record {
   within = keeps.within;
   faulted = keeps.faulted;
   faulted_last = keeps.faulted_last;
-  finished = keeps.finished;
-  finished_last = keeps.finished_last;
-}
-
--- the host fails
-pub keeps_fault : (periods : List ℕ) (t : TimetableData) (all : List Item) (at : ℕ) (q : Record) (faults now_faults idles : ℕ) → KeepsJobs periods t all at q faults idles → owing periods q ≡ []
-    → slice_get all at ≡ Some items.Fault → KeepsJobs periods t all at q now_faults idles
-keeps_fault periods t all at q faults now_faults idles keeps none next = record {
-  table = keeps.table;
-  words = keeps.words;
-  in_turn = keeps.in_turn;
-  heads = keeps.heads;
-  only_jobs = keeps.only_jobs;
-  given = keeps.given;
-  within = keeps.within;
-  faulted = λ h. next;
-  faulted_last = λ h. none;
   finished = keeps.finished;
   finished_last = keeps.finished_last;
 }

@@ -1,8 +1,8 @@
 -- What stands of a job that has run and hasn't said yet that it is ready.
-use Rattle.std.proofs.Common.{ℕ, zero, suc, Bool, true, false, ◌≡◌, ◌<◌, ◌≤◌, ◌+◌, ◌==◌, ◌||◌, ◌&&◌, not, List, [], ◌∷◌, length, take, Option, refl, sym, ap, subst, ◌∙◌, inl, inr, arith}
-use Rattle.std.specs.Prelude.{Some, None, bytes_eq, filter, nat_lt, if◌then◌else◌, MatchBool}
+use Rattle.std.proofs.Common.{ℕ, zero, suc, Bool, true, false, ◌≡◌, ◌<◌, ◌+◌, ◌==◌, ◌||◌, ◌&&◌, not, List, [], ◌∷◌, length, take, refl, subst, inl, inr, arith}
+use Rattle.std.specs.Prelude.{None, bytes_eq, filter, nat_lt, if◌then◌else◌, MatchBool}
 use Rattle.std.specs.List.{range_with_len}
-use Rattle.std.proofs.lemmas.Bool.{cases_Bool, cases_eq, or_left, or_right, or_cases, and_parts, eqb-true, eq-eqb, ne_eqb}
+use Rattle.std.proofs.lemmas.Bool.{cases_Bool, or_left, or_right, or_cases, and_parts, eqb-true, eq-eqb}
 use Rattle.std.proofs.lemmas.Slice.Eq.{bytes_eq-Decides}
 use Rattle.svc_record.specs.declared.plan.Plan.{Plan}
 use Rattle.svc_record.specs.declared.entry.Entry.{Entry}
@@ -17,7 +17,7 @@ use Rattle.svc_record.specs.Drain.{has_passed}
 use Rattle.svc_record.specs.Ends.{has_ended, has_ended_early, ends_tested}
 use Rattle.svc_record.specs.Fits.{event_fits}
 use Rattle.svc_record.specs.Right.{SettledRight, EndedRight, OpenRight}
-use Rattle.svc_jobs.specs.Dues.{is_shutdown, period, start_moment, due_since, due_at, has_run, runs_first, jobs_of}
+use Rattle.svc_jobs.specs.Dues.{is_shutdown, start_moment, due_at, has_run, runs_first}
 use Rattle.svc_jobs.specs.Rows.{owes, owing}
 use Rattle.svc_jobs.specs.JobHosts.{is_job_entry, is_none, head_due}
 use Rattle.svc_jobs.proofs.HostLemmas.{filter-nil}

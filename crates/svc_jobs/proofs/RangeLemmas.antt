@@ -1,5 +1,5 @@
 -- Lists that are made over a range of numbers, and places in lists.
-use Rattle.std.proofs.Common.{ℕ, zero, suc, Bool, true, false, ◌≡◌, ◌<◌, ◌≤◌, ◌+◌, List, [], ◌∷◌, ◌++◌, length, set, take, get_or, Option, refl, sym, ap, subst, ◌∙◌, inl, inr, arith, append_assoc, add-zero, add-one, zero-add}
+use Rattle.std.proofs.Common.{ℕ, zero, suc, Bool, true, false, ◌≡◌, ◌<◌, ◌≤◌, ◌+◌, List, [], ◌∷◌, ◌++◌, length, set, take, get_or, refl, sym, ap, ◌∙◌, inl, inr, arith, append_assoc, add-zero, add-one, zero-add}
 use Rattle.std.specs.Prelude.{filter, slice_get, position, Some, None}
 use Rattle.std.specs.List.{flat_map, range_with_len, position_or_len, list_all}
 use Rattle.std.proofs.lemmas.Bool.{cases_eq, cases_lt, lt-ltb, and_parts}

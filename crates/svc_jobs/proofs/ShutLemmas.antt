@@ -1,8 +1,8 @@
 -- A signal shuts a server of jobs down at once: it has nothing to offer.
-use Rattle.std.proofs.Common.{ℕ, Bool, true, false, ◌≡◌, ◌||◌, ◌&&◌, not, List, [], ◌∷◌, ◌++◌, Option, refl, sym, ap, subst, ◌∙◌, inl, inr}
+use Rattle.std.proofs.Common.{Bool, true, false, ◌≡◌, ◌&&◌, List, [], ◌∷◌, ◌++◌, Option, refl, ap, subst, ◌∙◌, inl, inr}
 use Rattle.std.specs.Prelude.{Some, None, if◌then◌else◌}
 use Rattle.std.specs.List.{list_any}
-use Rattle.std.proofs.lemmas.Bool.{cases_Bool, or_left, or_right}
+use Rattle.std.proofs.lemmas.Bool.{cases_Bool, or_right}
 use Rattle.svc_record.specs.declared.plan.Plan.{Plan}
 use Rattle.svc_record.specs.declared.entry.Entry.TheVariants.{Got, Told}
 use Rattle.svc_record.specs.declared.event.Event.TheVariants.{Moment, Ready, Signal}
@@ -13,8 +13,8 @@ use Rattle.svc_record.specs.declared.action.ExecutionPhase.TheVariants.{Running,
 use Rattle.svc_record.specs.Record.{Record, has, signal_of, before_signal, is_signal, is_running, each_entry}
 use Rattle.svc_record.specs.Closes.{is_broadcast}
 use Rattle.svc_record.specs.Descriptors.{opened_descriptors, live_table}
-use Rattle.svc_record.specs.Offer.{has_offer, is_empty_table}
-use Rattle.svc_record.specs.Drain.{Mark, phase, broadcast, marks_if, told_marks, is_boot_phase, due_marks, row_by, has_passed, has_passed_by, PhasesRight}
+use Rattle.svc_record.specs.Offer.{has_offer}
+use Rattle.svc_record.specs.Drain.{Mark, phase, broadcast, marks_if, told_marks, is_boot_phase, row_by, has_passed, has_passed_by, PhasesRight}
 use Rattle.svc_jobs.specs.Dues.{is_shutdown}
 use Rattle.svc_jobs.specs.JobHosts.{is_job_entry}
 

@@ -1,6 +1,6 @@
 -- What a timetable keeps of a record as the record grows.
 use Rattle.std.proofs.Common.{ℕ, zero, suc, Bool, true, false, ◌≡◌, ◌<◌, ◌≤◌, ◌+◌, ◌==◌, ◌||◌, ◌&&◌, not, List, [], ◌∷◌, ◌++◌, length, map, set, get_or, Option, refl, sym, ap, subst, ◌∙◌, inl, inr, arith, length-set}
-use Rattle.std.specs.Prelude.{slice_get, slice_index, Some, None, MatchOption, nat_lt, position, if◌then◌else◌}
+use Rattle.std.specs.Prelude.{slice_get, Some, None, MatchOption, nat_lt, position, if◌then◌else◌}
 use Rattle.std.proofs.lemmas.Bool.{cases_eq, eq-eqb, ne_eqb}
 use Rattle.std.proofs.lemmas.List.Quantifiers.{position-Some}
 use Rattle.std.proofs.lemmas.Option.{get_or_from_slice_get, slice_get_within}
@@ -12,7 +12,7 @@ use Rattle.svc_record.specs.Record.{Record, has, now}
 use Rattle.svc_jobs.specs.declared.plan.JobPlan.{JobPlan}
 use Rattle.svc_jobs.specs.declared.plan.JobRun.{JobRun}
 use Rattle.svc_jobs.specs.declared.row.JobRow.{JobRow}
-use Rattle.svc_jobs.specs.Dues.{is_shutdown, period, start_moment, due_since, due_at, run_of, runs_at, due_runs, has_run, runs_first}
+use Rattle.svc_jobs.specs.Dues.{is_shutdown, period, start_moment, due_since, due_at, run_of, due_runs, has_run}
 use Rattle.svc_jobs.specs.Rows.{ArePaced, HavePeriods, row_of, row_due, ran_row, due_in, runs_in, owes, owing}
 use Rattle.svc_jobs.specs.JobRefusals.{is_idle}
 use Rattle.svc_jobs.specs.TimetableData.{TimetableData}
@@ -155,9 +155,6 @@ pub told_moment : (periods : List ℕ) (t : TimetableData) (q : Record) (m k : �
 told_moment periods t q m k table on forward lt =
     ap (λ (o : Option JobRow). due_in o t.last m) (table.rows_are k (let sized : length t.rows ≡ length periods = table.sized in omega arith)) ∙ ap (λ n. row_due (row_of periods q k) n m) table.last_is
     ∙ sym (due-on periods q m k (sym table.shut_is ∙ on) (subst (λ n. nat_lt m n ≡ false) table.last_is forward))
-
-pub told_late : (periods : List ℕ) (t : TimetableData) (q : Record) (m k : ℕ) → IsTimetableOf periods t q → (t.shut || nat_lt m t.last) ≡ true → due_at periods q m k ≡ 0
-told_late periods t q m k table off = due-off periods q m k (rw (← table.shut_is, ← table.last_is) off)
 
 pub parts_off : (a b : Bool) → false ≡ (a || b) → (a ≡ false) × (b ≡ false)
 parts_off true b h = absurd (cc)

@@ -1,5 +1,5 @@
 -- Why a host of jobs isn't made.
-use Rattle.std.specs.Prelude.{ℕ, Bool, true, false, ◌==◌, ◌≡◌, ◌⊎◌, List, length, position, Option, Some, None, if◌then◌else◌}
+use Rattle.std.specs.Prelude.{ℕ, Bool, ◌==◌, ◌≡◌, ◌⊎◌, List, length, position, Option, Some, if◌then◌else◌}
 use Rattle.std.specs.Option.{option_map}
 use Rattle.svc_jobs.specs.declared.plan.JobPlan.{JobPlan}
 use Rattle.svc_jobs.specs.declared.refusals.JobError.{JobError}

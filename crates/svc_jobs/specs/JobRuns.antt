@@ -1,5 +1,5 @@
 -- What the run of a server over a host of jobs leaves.
-use Rattle.std.specs.Prelude.{ℕ, Bool, true, ◌≡◌, ◌++◌, ◌≤◌, List, length, map, take, Option, Some, Result, Ok, Err, slice_get}
+use Rattle.std.specs.Prelude.{ℕ, Bool, true, ◌≡◌, ◌++◌, ◌≤◌, List, length, map, take, Option, Some, Result, Err, slice_get}
 use Rattle.std.specs.List.{list_all}
 use Rattle.svc_record.specs.declared.plan.Plan.{Plan}
 use Rattle.svc_record.specs.declared.entry.Entry.{Entry}

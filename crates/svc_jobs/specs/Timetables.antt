@@ -6,7 +6,7 @@ use Rattle.svc_record.specs.declared.action.ExecutionPhase.TheVariants.{Shutdown
 use Rattle.svc_record.specs.Record.{Record, has, now}
 use Rattle.svc_jobs.specs.declared.plan.JobPlan.{JobPlan}
 use Rattle.svc_jobs.specs.declared.row.JobRow.{JobRow}
-use Rattle.svc_jobs.specs.Dues.{is_shutdown, period, due_runs}
+use Rattle.svc_jobs.specs.Dues.{is_shutdown, due_runs}
 use Rattle.svc_jobs.specs.Rows.{row_of}
 use Rattle.svc_jobs.specs.TimetableData.{TimetableData}
 

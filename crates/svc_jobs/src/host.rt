@@ -1,10 +1,9 @@
 //! A host that runs jobs.
 
-ghost use Rattle.std.specs.Prelude.{◌≡◌, ◌+◌, ◌<◌, ◌≤◌, ◌^◌, ℕ, Option, [], ◌∷◌, length, map, reverse, position, slice_get, Some, None, IfOk, IfErr, IfSome, OnOk, OnErr, MatchOption};
-ghost use Rattle.std.specs.Option.{option_map};
+ghost use Rattle.std.specs.Prelude.{◌≡◌, ◌+◌, ◌<◌, ◌≤◌, ◌^◌, Option, [], ◌∷◌, length, map, reverse, position, slice_get, Some, None, IfOk, IfErr, IfSome, OnOk, MatchOption};
 ghost use Rattle.svc_conf.specs.Items.{list_of};
 ghost use Rattle.svc_conf.specs.Streams.{Rose};
-ghost use Rattle.svc_record.specs.declared.entry.Entry.TheVariants.{Got, Told};
+ghost use Rattle.svc_record.specs.declared.entry.Entry.TheVariants.{Got};
 ghost use Rattle.svc_record.specs.declared.event.Event.TheVariants as events;
 ghost use Rattle.svc_record.specs.declared.item.Item.TheVariants as items_given;
 ghost use Rattle.svc_server.specs.Hosts.{no_account};

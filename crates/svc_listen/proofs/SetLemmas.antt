@@ -8,7 +8,7 @@ use Rattle.svc_conf.specs.Streams.{Rose}
 use Rattle.svc_conf.specs.declared.settings.Setting.{Setting}
 use Rattle.svc_conf.specs.declared.settings.Setting.TheVariants.{NoDelay, KeepAlive, Dscp, SndBuf, RcvBuf}
 use Rattle.svc_calls.specs.Calls.{Adds}
-use Rattle.svc_calls.proofs.CallLemmas.{Adds-nil, Adds-then}
+use Rattle.svc_calls.proofs.CallLemmas.{Adds-then}
 use Rattle.svc_socket.specs.OptionLists.{settings_of}
 use Rattle.svc_socket.specs.declared.protocols.l4.ext.TcpSocketOptions.{TcpSocketOptions}
 use Rattle.svc_listen.specs.AcceptingData.{AcceptingData, IsSet}
@@ -19,9 +19,6 @@ use Rattle.svc_listen.specs.declared.accepting.AcceptingCall.TheVariants as call
 set_calls-append : (c : ℕ) (xs ys : List Setting) → set_calls c (xs ++ ys) ≡ set_calls c xs ++ set_calls c ys
 set_calls-append c [] ys = refl
 set_calls-append c (x ∷ xs) ys = ap (λ (zs : List AcceptingCall). calls.Set c x true ∷ zs) (set_calls-append c xs ys)
-
-pub none_set : (c : ℕ) (a : AcceptingData) → AllSet c [] a a
-none_set c a = record { called = Adds-nil a.called; faults = refl; waits = refl }
 
 -- these, all of which were set, and then those
 pub Sets-then : (r : Bool) (k : ℕ) (xs ys : List Setting) (a b c : AcceptingData) → AllSet k xs a b → Sets k ys b c r → Sets k (xs ++ ys) a c r

@@ -1,5 +1,5 @@
 -- What becomes of a connection that came.
-use Rattle.std.specs.Prelude.{◌≡◌, ◌≢◌, ℕ, Bool, true, false, List, [], ◌∷◌, ◌++◌, map, length, slice_get, Option, Some, None, IfSome, ◌<◌}
+use Rattle.std.specs.Prelude.{◌≡◌, ◌≢◌, ℕ, Bool, true, false, List, [], ◌∷◌, ◌++◌, map, length, slice_get, Option, Some, None}
 use Rattle.std.specs.List.{filter_map}
 use Rattle.svc_conf.specs.Streams.{Rose}
 use Rattle.svc_conf.specs.declared.settings.Setting.{Setting}
@@ -123,11 +123,3 @@ HasGiven with (Refused c) = Unit {0}
 HasGiven with NotYet = Unit {0}
 HasGiven with (AcceptFailed n) = Unit {0}
 HasGiven with (SettingsFailed c) = Unit {0}
-
--- a connection that is taken may be polled with so many callbacks
-abbrev pub MayBePolled : AcceptAnswer → ℕ → Type 0
-MayBePolled (Stream stream) count = IfSome stream.callback (λ number. number < count)
-MayBePolled (Refused c) count = Unit {0}
-MayBePolled NotYet count = Unit {0}
-MayBePolled (AcceptFailed n) count = Unit {0}
-MayBePolled (SettingsFailed c) count = Unit {0}

@@ -31,8 +31,3 @@ pub use svc_streams::{
     HandshakePoll, L4BufferSettings, L4Stream, Peer, PreTlsCallbacks, PreTlsProcess, ServerApp,
     StepPoll, TlsAccept, TlsAcceptCallbacks, TlsHandshake, UninitializedStream, handle_event,
 };
-
-#[cfg(test)]
-mod accepting_tests;
-#[cfg(test)]
-mod tests;

@@ -1,5 +1,5 @@
 -- What a status says of the answer.
-use Rattle.std.proofs.Common.{◌≡◌, ◌⊎◌, inl, inr, ℕ, Bool, List, [], ◌∷◌, length, get_or, map, Option, sym, ap, ◌∙◌, arith, codes, Global, ◌<◌, ◌++◌, All, subst, refl, None, true}
+use Rattle.std.proofs.Common.{◌≡◌, ◌⊎◌, inl, inr, ℕ, List, [], ◌∷◌, length, Option, sym, ap, ◌∙◌, arith, codes, ◌<◌, ◌++◌, All, subst, refl, None, true}
 use Rattle.std.specs.List.{AllByRecursion}
 use Rattle.std.specs.Fmt.{decimal}
 use Rattle.svc_conf.specs.declared.server.configuration.key.Key.{Key}
@@ -10,7 +10,7 @@ use Rattle.svc_record.specs.declared.entry.Entry.{Entry}
 use Rattle.svc_record.specs.Text.{spaced, text_of, EntryFits}
 use Rattle.svc_text.proofs.Visible.{IsWord, is_visible, decimal_word}
 use Rattle.svc_text.proofs.Back.{entry_of, no_entry, IsLastLine, spaced_last, same_record_before}
-use Rattle.std.specs.Io.KnownBytes.{Appends, IsAtEnd}
+use Rattle.std.specs.Io.KnownBytes.{Appends}
 use Rattle.svc_main.specs.declared.outcome.RunEnd.{RunEnd}
 use Rattle.svc_main.specs.declared.outcome.RunEnd.TheVariants.{Served, Tested, Parent, Config, HostFault, Bootstrap, Stray, OutOfEvents}
 use Rattle.svc_main.specs.declared.outcome.StatusLine.{StatusLine}

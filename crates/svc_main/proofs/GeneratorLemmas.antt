@@ -1,17 +1,16 @@
 -- The services and events of the generator are those of a script that a server can be made of.
-use Rattle.std.proofs.Common.{◌≡◌, ℕ, zero, suc, ◌+◌, ◌-◌, ◌*◌, ◌<◌, ◌≤◌, ◌^◌, Bool, true, false, ◌&&◌, ◌||◌, ◌==◌, ltb, leb, cond, List, [], ◌∷◌, ◌++◌, length, map, get_or, codes, All, Option, Some, None, unwrap_or, OnOk, Ok, Err, refl, sym, ap, subst, ◌∙◌, inl, inr, arith, add-zero, zero-add, add-one, append-nil, append_assoc}
+use Rattle.std.proofs.Common.{◌≡◌, ℕ, zero, suc, ◌+◌, ◌-◌, ◌*◌, ◌<◌, ◌≤◌, Bool, true, false, ◌||◌, ◌==◌, ltb, cond, List, [], ◌∷◌, ◌++◌, length, map, get_or, codes, All, Option, Some, None, unwrap_or, OnOk, Ok, Err, refl, sym, ap, subst, ◌∙◌, inl, inr, arith, add-zero, zero-add, add-one, append-nil, append_assoc}
 use Rattle.std.specs.Prelude.{Result}
-use Rattle.std.specs.List.{range_with_len, flat_map, list_any, slice_get}
+use Rattle.std.specs.List.{range_with_len, flat_map, list_any}
 use Rattle.std.specs.Option.{option_and_then}
 use Rattle.std.specs.Fmt.{decimal}
 use Rattle.std.proofs.lemmas.Bool.{and_parts, and_from, or_cases, ltb-true, eqb-true, eq-eqb, ne_eqb, lt-ltb, le-leb, cases_lt, both_ways}
 use Rattle.std.proofs.lemmas.Fmt.{length-decimal-le}
-use Rattle.std.proofs.lemmas.List.{length-map, length-append, map-append}
+use Rattle.std.proofs.lemmas.List.{length-append, map-append}
 use Rattle.std.proofs.lemmas.List.Concat.{flat_map-append}
-use Rattle.std.proofs.lemmas.List.Elements.{All-map}
 use Rattle.std.proofs.lemmas.List.FromFn.{map-range_with_len_more, length-map-range_with_len, get_or-map-range_with_len}
 use Rattle.std.proofs.lemmas.Option.{slice_get-get_or}
-use Rattle.svc_graph.specs.Paths.{Edges, Path, IsChain, IsAcyclic}
+use Rattle.svc_graph.specs.Paths.{IsChain}
 use Rattle.svc_graph.specs.declared.plan.Kind.TheVariants.{Plain, Notifying}
 use Rattle.svc_record.specs.declared.entry.Entry.TheVariants.{Got}
 use Rattle.svc_record.specs.declared.event.Event.{Event}
@@ -25,7 +24,7 @@ use Rattle.svc_text.specs.declared.service.ServiceLine.{ServiceLine}
 use Rattle.svc_text.specs.Accepted.{after_at, IsAccepted, AreAccepted, BringsFew}
 use Rattle.svc_text.specs.Dependencies.{edges_up_to, RefusesNone}
 use Rattle.svc_text.specs.ServiceLines.{boots, is_address}
-use Rattle.svc_main.specs.Generator.{is_even, made_kind, made_after, made_port, made_endpoint, made_service, made_services, made_connection, made_word, made_start, made_connections, made_events_of, made_events_to, made_events}
+use Rattle.svc_main.specs.Generator.{is_even, made_after, made_port, made_service, made_services, made_connection, made_word, made_start, made_connections, made_events_of, made_events_to, made_events}
 
 -- ---- one more of each
 
@@ -72,10 +71,6 @@ pub push_four : {X A E : Type 0} (xs a b c d p q s t : List X) (r : Result A E) 
 push_four xs a b c d p q s t r h i j k = push_two xs a d p (q ++ (s ++ t)) r h (push_two a b d q (s ++ t) r i (push_two b c d s t r j k))
 
 -- ---- no event brings many descriptors
-
--- the event is none that brings a message
-IsSmall : Event → Type 0
-IsSmall e = length (numbers_of (Got e)) ≤ 32
 
 record AreSmall (es : List Event) : Type 0 where
   each : All BringsFew (map items.Event es)

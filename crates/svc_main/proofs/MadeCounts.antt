@@ -1,8 +1,8 @@
 -- How many starts, binds and closes a run of the generator's services has.
-use Rattle.std.proofs.Common.{◌≡◌, ◌⊎◌, ℕ, zero, suc, ◌+◌, ◌-◌, ◌*◌, ◌<◌, ◌≤◌, Bool, true, false, not, ◌&&◌, ◌||◌, ◌==◌, cond, ltb, List, [], ◌∷◌, ◌++◌, length, map, reverse, Option, Some, None, refl, sym, ap, subst, ◌∙◌, inl, inr, arith, append-nil, add-one, zero-add}
+use Rattle.std.proofs.Common.{◌≡◌, ◌⊎◌, ℕ, zero, suc, ◌+◌, ◌-◌, ◌*◌, ◌<◌, ◌≤◌, Bool, true, false, ◌||◌, ◌==◌, cond, ltb, List, [], ◌∷◌, ◌++◌, length, map, reverse, None, refl, sym, ap, ◌∙◌, inl, inr, arith, append-nil, zero-add}
 use Rattle.std.specs.Prelude.{count_by}
 use Rattle.std.specs.List.{list_any, fold}
-use Rattle.std.proofs.lemmas.Bool.{and_parts, and_from, or_cases, or_left, or_right, or_parts, or_from, ltb-true, eqb-true, eq-eqb, ne_eqb, both_ways, false_from_ne_true, cases_Bool, cases_lt, cases_eq, cases_order, lt-ltb, le-ltb, not-true, not_from_true, OnTrue_at}
+use Rattle.std.proofs.lemmas.Bool.{and_parts, and_from, or_cases, or_left, or_parts, or_from, ltb-true, eqb-true, eq-eqb, ne_eqb, both_ways, cases_Bool, cases_lt, cases_eq, cases_order, lt-ltb, le-ltb, not-true, OnTrue_at}
 use Rattle.std.proofs.lemmas.List.Folds.{list_any-append}
 use Rattle.svc_record.specs.declared.plan.Plan.{Plan}
 use Rattle.svc_record.specs.declared.event.Event.{Event}
@@ -12,23 +12,23 @@ use Rattle.svc_record.specs.declared.entry.Entry.{Entry}
 use Rattle.svc_record.specs.declared.entry.Entry.TheVariants.{Got, Told}
 use Rattle.svc_record.specs.declared.action.Action.{Action}
 use Rattle.svc_record.specs.declared.action.Action.TheVariants as actions
-use Rattle.svc_record.specs.Record.{Record, has, times, tell, now, before_runtimes, signal_of, EachEntry}
-use Rattle.svc_record.specs.Plans.{endpoints, address, is_endpoint, service_count}
-use Rattle.svc_record.specs.Descriptors.{Descriptor, has_number, descriptors_of, opened_descriptors, is_opened, is_close, live_descriptors}
+use Rattle.svc_record.specs.Record.{Record, times, tell, before_runtimes, signal_of, EachEntry}
+use Rattle.svc_record.specs.Plans.{endpoints, service_count}
+use Rattle.svc_record.specs.Descriptors.{Descriptor, has_number, descriptors_of, opened_descriptors, is_opened, is_close}
 use Rattle.svc_record.specs.Asks.{is_bind, is_bind_answer, is_bind_open, is_ask_open}
 use Rattle.svc_record.specs.AskRules.{ask_due, ask_known, has_turn}
 use Rattle.svc_record.specs.Starts.{is_start, is_ready_event, start_known}
-use Rattle.svc_record.specs.Endpoints.{held_numbers, is_held}
+use Rattle.svc_record.specs.Endpoints.{is_held}
 use Rattle.svc_record.specs.Closes.{close_once}
 use Rattle.svc_record.specs.Connections.{live_connections}
-use Rattle.svc_record.specs.Drain.{has_passed, has_passed_by, last_actions, live_numbers, ascending, stop_seconds}
-use Rattle.svc_record.specs.Fits.{event_fits, fits_row}
+use Rattle.svc_record.specs.Drain.{has_passed, has_passed_by, last_actions, live_numbers, ascending}
+use Rattle.svc_record.specs.Fits.{event_fits}
 use Rattle.svc_record.specs.Right.{Right, Served, LastStepRight}
 use Rattle.svc_server.specs.Runs.{events_of}
 use Rattle.svc_main.specs.Counts.{is_any_start, is_any_bind, is_any_close}
 use Rattle.svc_main.specs.Generator.{is_even, made_plan, made_moment, made_events, made_events_of, made_events_to}
-use Rattle.svc_main.proofs.MadeRecords.{came, has-came, is_signal_event, no-signal}
-use Rattle.svc_main.proofs.MadeLists.{is_usual, word-test, count-append, to-more, none-to, some-to, ready-of, front-or-all, all-usual, front-unsigned}
+use Rattle.svc_main.proofs.MadeRecords.{came, has-came, no-signal}
+use Rattle.svc_main.proofs.MadeLists.{word-test, count-append, to-more, none-to, some-to, ready-of, front-or-all, all-usual, front-unsigned}
 use Rattle.svc_main.proofs.MadePlan.{plan-count, endpoints-at, endpoints-past}
 use Rattle.svc_main.proofs.MadeFits.{is_odd, is_bound_at, usual-came, plain-true, held-some, started-once}
 

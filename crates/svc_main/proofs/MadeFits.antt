@@ -1,31 +1,28 @@
 -- What stands of a right record of the generator's events while its run goes on.
-use Rattle.std.proofs.Common.{◌≡◌, ◌⊎◌, ℕ, zero, suc, ◌+◌, ◌-◌, ◌*◌, ◌<◌, ◌≤◌, Bool, true, false, not, ◌&&◌, ◌||◌, ◌==◌, cond, ltb, leb, List, [], ◌∷◌, ◌++◌, length, map, filter, Option, Some, None, refl, sym, ap, subst, ◌∙◌, inl, inr, arith, zero-add, length-append}
+use Rattle.std.proofs.Common.{◌≡◌, ℕ, zero, suc, ◌+◌, ◌-◌, ◌<◌, ◌≤◌, Bool, true, false, not, ◌&&◌, ◌||◌, ◌==◌, cond, List, [], ◌∷◌, ◌++◌, length, map, filter, Some, refl, sym, ap, ◌∙◌, inl, inr, arith, length-append}
 use Rattle.std.specs.Prelude.{count_by}
 use Rattle.std.specs.List.{list_any, list_all}
-use Rattle.std.proofs.lemmas.Bool.{and_parts, and_from, or_cases, or_left, or_right, or_parts, or_from, eqb-true, eq-eqb, ne_eqb, lt-leb, lt-ltb, le-ltb, ltb-true, both_ways, false_from_ne_true, true_from_ne_false, cases_Bool, cases_lt, not_from_false, not_from_true, not-true, OnTrue_at, OnTrue_from}
-use Rattle.std.proofs.lemmas.List.Folds.{list_any-append, list_all-append, Any-from_list_any}
-use Rattle.svc_graph.specs.declared.plan.Kind.TheVariants.{Plain, Notifying}
-use Rattle.svc_socket.specs.declared.peer.Peer.{Peer}
+use Rattle.std.proofs.lemmas.Bool.{and_parts, and_from, or_cases, or_left, or_right, or_parts, or_from, eqb-true, eq-eqb, lt-leb, both_ways, false_from_ne_true, true_from_ne_false, cases_Bool, not_from_false, OnTrue_at}
+use Rattle.std.proofs.lemmas.List.Folds.{list_any-append, Any-from_list_any}
 use Rattle.svc_record.specs.declared.plan.Plan.{Plan}
 use Rattle.svc_record.specs.declared.event.Event.{Event}
 use Rattle.svc_record.specs.declared.event.Event.TheVariants as events
 use Rattle.svc_record.specs.declared.entry.Entry.{Entry}
 use Rattle.svc_record.specs.declared.entry.Entry.TheVariants.{Got, Told}
-use Rattle.svc_record.specs.declared.action.Action.{Action}
-use Rattle.svc_record.specs.declared.action.Action.TheVariants.{Adopt, Bind}
-use Rattle.svc_record.specs.Record.{Record, has, times, tell, now, is_running, is_signal, from_the_start, EachEntry}
-use Rattle.svc_record.specs.Plans.{endpoint_numbers, address, same_address, services, any_with, has_kind}
-use Rattle.svc_record.specs.Descriptors.{Descriptor, descriptors_of, opened_descriptors, live_descriptors, live_numbers_with, has_live, is_close, brings}
-use Rattle.svc_record.specs.Failed.{is_failure, is_in_use, in_use_count, in_use_limit, has_failed}
-use Rattle.svc_record.specs.Asks.{is_bind, is_bind_answer, is_bind_open, is_adopt, is_adopt_answer, is_adopt_open, is_ask_open}
-use Rattle.svc_record.specs.AskRules.{ask_due, has_turn}
-use Rattle.svc_record.specs.Starts.{is_start, is_started, is_ready, is_ready_event, is_ended_event, is_due, StartsRight}
-use Rattle.svc_record.specs.Endpoints.{held_numbers, held_numbers_of, is_held, is_one_of, holds, is_at_work, in_use_within, rests, is_busy, is_busy_elsewhere, waits_at, first_missing, waits_from, waits, serves, endpoint_right}
+use Rattle.svc_record.specs.declared.action.Action.TheVariants.{Adopt}
+use Rattle.svc_record.specs.Record.{Record, has, times, now, is_running, is_signal, from_the_start, EachEntry}
+use Rattle.svc_record.specs.Plans.{endpoint_numbers, address, same_address, services}
+use Rattle.svc_record.specs.Descriptors.{Descriptor, descriptors_of, opened_descriptors, live_descriptors, live_numbers_with, has_live, is_close}
+use Rattle.svc_record.specs.Failed.{is_failure, in_use_count, has_failed}
+use Rattle.svc_record.specs.Asks.{is_bind_open, is_adopt, is_adopt_answer}
+use Rattle.svc_record.specs.AskRules.{ask_due}
+use Rattle.svc_record.specs.Starts.{is_start, is_started, is_ready, is_ready_event, is_due, StartsRight}
+use Rattle.svc_record.specs.Endpoints.{held_numbers, is_held, is_one_of, holds, is_at_work, in_use_within, is_busy, is_busy_elsewhere, waits_at, first_missing, waits_from, waits}
 use Rattle.svc_record.specs.Boot.{runs}
 use Rattle.svc_record.specs.Right.{OpenRight, in_service}
 use Rattle.svc_server.specs.Runs.{events_of}
 use Rattle.svc_main.specs.Generator.{is_even, made_plan}
-use Rattle.svc_main.proofs.MadeRecords.{came, has-came, has-implied, times-some, once-has, once-none, open-from, closed-from, Found, find-entry}
+use Rattle.svc_main.proofs.MadeRecords.{came, has-came, times-some, once-has, closed-from, find-entry}
 use Rattle.svc_main.proofs.MadeLists.{is_usual, is_in_use_of, count-append}
 use Rattle.svc_main.proofs.MadePlan.{plan-count, endpoints-at, numbers-at, unix-at, own-address, kind-even, depends-pass}
 

@@ -1,8 +1,8 @@
 -- Where an event stands among those of the generator, and what stands before it.
-use Rattle.std.proofs.Common.{◌≡◌, ◌⊎◌, ℕ, zero, suc, ◌+◌, ◌-◌, ◌*◌, ◌<◌, ◌≤◌, Bool, true, false, not, ◌&&◌, ◌||◌, ◌==◌, cond, List, [], ◌∷◌, ◌++◌, length, refl, sym, ap, subst, ◌∙◌, inl, inr, arith, add-zero, zero-add, add-one, append-nil, append_assoc}
+use Rattle.std.proofs.Common.{◌≡◌, ◌⊎◌, ℕ, zero, suc, ◌+◌, ◌-◌, ◌*◌, ◌<◌, ◌≤◌, Bool, true, false, ◌||◌, ◌==◌, cond, List, [], ◌∷◌, ◌++◌, refl, sym, ap, ◌∙◌, inl, inr, arith, add-zero, zero-add, add-one, append-nil, append_assoc}
 use Rattle.std.specs.Prelude.{count_by}
 use Rattle.std.specs.List.{list_any, list_all, flat_map, range_with_len}
-use Rattle.std.proofs.lemmas.Bool.{and_parts, or_parts, or_from, or_left, or_right, ne_eqb, eq-eqb, both_ways, false_from_ne_true, cases_Bool, cases_lt, cases_eq}
+use Rattle.std.proofs.lemmas.Bool.{and_parts, or_parts, or_from, or_left, or_right, ne_eqb, eq-eqb, cases_lt, cases_eq}
 use Rattle.std.proofs.lemmas.List.Folds.{list_any-append, list_all-append}
 use Rattle.std.proofs.lemmas.List.Sums.{sum_by-append}
 use Rattle.svc_record.specs.declared.event.Event.{Event}

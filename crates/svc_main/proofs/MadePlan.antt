@@ -1,22 +1,21 @@
 -- What the plan of the generator says.
-use Rattle.std.proofs.Common.{◌≡◌, ◌⊎◌, ℕ, zero, suc, ◌+◌, ◌-◌, ◌*◌, ◌<◌, ◌≤◌, ◌^◌, Bool, true, false, not, ◌&&◌, ◌||◌, ◌==◌, cond, ltb, List, [], ◌∷◌, ◌++◌, length, map, filter, get_or, codes, Option, Some, None, unwrap_or, refl, sym, ap, subst, ◌∙◌, inl, inr, arith, add-zero, zero-add}
+use Rattle.std.proofs.Common.{◌≡◌, ◌⊎◌, ℕ, zero, suc, ◌+◌, ◌-◌, ◌<◌, ◌≤◌, Bool, true, false, List, [], ◌∷◌, ◌++◌, length, filter, get_or, codes, Option, Some, None, refl, sym, ap, ◌∙◌, inl, inr, arith, add-zero, zero-add}
 use Rattle.std.specs.Prelude.{bytes_eq}
-use Rattle.std.specs.List.{list_any, list_all, range_with_len, slice_get}
+use Rattle.std.specs.List.{list_all, range_with_len, slice_get}
 use Rattle.std.specs.Fmt.{decimal}
 use Rattle.std.specs.Str.Parse.{digits_value}
-use Rattle.std.proofs.lemmas.Bool.{and_parts, ltb-true, eqb-true, or_cases, both_ways, cases_lt, cases_Bool}
+use Rattle.std.proofs.lemmas.Bool.{both_ways, cases_lt}
 use Rattle.std.proofs.lemmas.Fmt.{decimal_is_IsNumeral}
-use Rattle.std.proofs.lemmas.Option.{slice_get-get_or, slice_get_past}
+use Rattle.std.proofs.lemmas.Option.{slice_get_past}
 use Rattle.std.proofs.lemmas.Slice.Eq.{bytes_eq-Decides}
 use Rattle.svc_graph.specs.declared.plan.EndpointPlan.{EndpointPlan}
 use Rattle.svc_graph.specs.declared.plan.Kind.TheVariants.{Plain, Notifying}
-use Rattle.svc_record.specs.declared.plan.Plan.{Plan}
 use Rattle.svc_record.specs.declared.plan.ServicePlan.{ServicePlan}
-use Rattle.svc_record.specs.Plans.{service, service_count, depends, has_kind, endpoints, endpoint_numbers, address, same_address, is_unix, is_kind}
+use Rattle.svc_record.specs.Plans.{service, service_count, depends, has_kind, endpoints, endpoint_numbers, address, same_address, is_unix}
 use Rattle.svc_text.specs.declared.service.ServiceLine.{ServiceLine}
 use Rattle.svc_text.specs.Dependencies.{edges_up_to}
 use Rattle.svc_text.specs.ScriptPlans.{plans_from, service_plan, endpoint_of}
-use Rattle.svc_main.specs.Generator.{is_even, made_kind, made_port, made_endpoint, made_service, made_services, made_plan}
+use Rattle.svc_main.specs.Generator.{is_even, made_port, made_endpoint, made_service, made_services, made_plan}
 use Rattle.svc_main.proofs.GeneratorLemmas.{services_length, services_at, edge_before_one}
 
 -- ---- the services

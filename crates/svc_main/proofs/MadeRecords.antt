@@ -1,18 +1,14 @@
 -- What the events of a record alone tell of it.
-use Rattle.std.proofs.Common.{◌≡◌, ℕ, zero, suc, ◌+◌, ◌-◌, ◌<◌, ◌≤◌, Bool, true, false, not, ◌&&◌, ◌||◌, ◌==◌, cond, ltb, List, [], ◌∷◌, ◌++◌, length, map, filter, Option, Some, None, refl, sym, ap, subst, ◌∙◌, inl, inr, arith, append-nil, append_assoc, add-one}
-use Rattle.std.specs.Prelude.{count_by}
-use Rattle.std.specs.List.{list_any, list_all}
-use Rattle.std.proofs.lemmas.Bool.{and_parts, and_from, or_cases, or_left, or_right, or_parts, or_from, eqb-true, eq-eqb, le-ltb, both_ways, false_from_ne_true, cases_Bool, not_from_false, not-true}
+use Rattle.std.proofs.Common.{◌≡◌, ℕ, ◌+◌, ◌-◌, ◌<◌, Bool, true, false, ◌||◌, ◌==◌, cond, List, [], ◌∷◌, ◌++◌, None, refl, sym, ap, ◌∙◌, inl, inr, arith}
+use Rattle.std.specs.List.{list_any}
+use Rattle.std.proofs.lemmas.Bool.{or_parts, or_from, eqb-true, both_ways, false_from_ne_true, cases_Bool}
 use Rattle.std.proofs.lemmas.List.Folds.{list_any-append}
-use Rattle.svc_record.specs.declared.plan.Plan.{Plan}
 use Rattle.svc_record.specs.declared.event.Event.{Event}
-use Rattle.svc_record.specs.declared.event.Event.TheVariants.{Moment, InUse, Bound, BindFailed, Arrived, Signal, LoopEnded, Received, Adopted}
-use Rattle.svc_record.specs.declared.event.ShutdownSignal.{ShutdownSignal}
+use Rattle.svc_record.specs.declared.event.Event.TheVariants.{Moment, Signal}
 use Rattle.svc_record.specs.declared.entry.Entry.{Entry}
 use Rattle.svc_record.specs.declared.entry.Entry.TheVariants.{Got, Told}
 use Rattle.svc_record.specs.declared.action.Action.{Action}
-use Rattle.svc_record.specs.declared.action.Action.TheVariants.{Bind}
-use Rattle.svc_record.specs.Record.{Record, has, times, tell, now, signal_of, first_or, EachEntry}
+use Rattle.svc_record.specs.Record.{Record, has, times, tell, now, signal_of, EachEntry}
 use Rattle.svc_record.specs.Asks.{is_open}
 use Rattle.svc_server.specs.Runs.{events_of}
 

@@ -1,10 +1,9 @@
 -- Each event of the generator fits the record of those before it.
-use Rattle.std.proofs.Common.{◌≡◌, ◌⊎◌, ℕ, zero, suc, ◌+◌, ◌-◌, ◌*◌, ◌<◌, ◌≤◌, Bool, true, false, not, ◌&&◌, ◌||◌, ◌==◌, cond, ltb, leb, List, [], ◌∷◌, ◌++◌, length, map, filter, Option, Some, None, refl, sym, ap, subst, ◌∙◌, inl, inr, arith, zero-add, length-append, append_assoc}
+use Rattle.std.proofs.Common.{◌≡◌, ◌⊎◌, ℕ, ◌+◌, ◌-◌, ◌*◌, ◌<◌, ◌≤◌, Bool, true, false, not, ◌&&◌, ◌||◌, ◌==◌, cond, ltb, List, [], ◌∷◌, ◌++◌, map, filter, refl, sym, ap, subst, ◌∙◌, inl, inr, arith, append_assoc}
 use Rattle.std.specs.Prelude.{count_by}
 use Rattle.std.specs.List.{list_any, list_all}
-use Rattle.std.proofs.lemmas.Bool.{and_parts, and_from, or_cases, or_left, or_right, or_parts, or_from, eqb-true, eq-eqb, ne_eqb, le-leb, le-ltb, lt-ltb, both_ways, false_from_ne_true, cases_Bool, not_from_false, not_from_true, OnTrue_at}
-use Rattle.std.proofs.lemmas.List.Folds.{list_any-append, Any-from_list_any}
-use Rattle.svc_graph.specs.declared.plan.Kind.TheVariants.{Notifying}
+use Rattle.std.proofs.lemmas.Bool.{and_parts, and_from, or_cases, or_left, or_right, or_parts, or_from, eqb-true, eq-eqb, ne_eqb, le-leb, le-ltb, lt-ltb, both_ways, not_from_false, OnTrue_at}
+use Rattle.std.proofs.lemmas.List.Folds.{list_any-append}
 use Rattle.svc_socket.specs.declared.peer.Peer.TheVariants as peers
 use Rattle.svc_record.specs.declared.plan.Plan.{Plan}
 use Rattle.svc_record.specs.declared.event.Event.{Event}
@@ -13,24 +12,24 @@ use Rattle.svc_record.specs.declared.entry.Entry.{Entry}
 use Rattle.svc_record.specs.declared.entry.Entry.TheVariants.{Got, Told}
 use Rattle.svc_record.specs.declared.action.Action.{Action}
 use Rattle.svc_record.specs.declared.action.Action.TheVariants as actions
-use Rattle.svc_record.specs.Record.{Record, has, times, tell, now, once_if, is_signal, from_the_start, EachEntry}
-use Rattle.svc_record.specs.Plans.{has_kind, endpoint_numbers, is_endpoint}
+use Rattle.svc_record.specs.Record.{Record, has, tell, now, is_signal, EachEntry}
+use Rattle.svc_record.specs.Plans.{is_endpoint}
 use Rattle.svc_record.specs.Descriptors.{brings}
-use Rattle.svc_record.specs.Asks.{is_bind_open, is_settings, is_set, is_settings_open, is_handshake, is_shaken, is_handshake_open}
+use Rattle.svc_record.specs.Asks.{is_settings, is_set, is_handshake, is_shaken}
 use Rattle.svc_record.specs.AskRules.{ask_due}
 use Rattle.svc_record.specs.Starts.{is_started, is_ready_event}
-use Rattle.svc_record.specs.Endpoints.{held_numbers, is_held, is_at_work, in_use_within, serves}
+use Rattle.svc_record.specs.Endpoints.{is_held, is_at_work, in_use_within, serves}
 use Rattle.svc_record.specs.Closes.{ended_loops, have_loops_ended}
-use Rattle.svc_record.specs.Connections.{Arrival, arrivals, arrived_numbers, is_arrival, is_judged, is_judged_as, is_refuse, is_serve, is_drop, is_cut, is_finished, is_set_as, is_shaken_as, goes_on, is_live_connection, connection_right, is_known, settings_list, is_settings_of}
+use Rattle.svc_record.specs.Connections.{Arrival, arrivals, arrived_numbers, is_arrival, is_judged, is_judged_as, is_refuse, is_serve, is_drop, is_cut, is_finished, is_set_as, is_shaken_as, goes_on, connection_right, is_known}
 use Rattle.svc_record.specs.Drain.{is_ending}
-use Rattle.svc_record.specs.Fits.{fits_row, accepts}
+use Rattle.svc_record.specs.Fits.{fits_row}
 use Rattle.svc_record.specs.Right.{OpenRight}
 use Rattle.svc_server.specs.Runs.{events_of}
 use Rattle.svc_main.specs.Generator.{is_even, made_plan, made_moment, made_word, made_start, made_events_of, made_events_to}
-use Rattle.svc_main.proofs.MadeRecords.{came, has-came, has-implied, once-has, once-none, open-from, now_in, now-events, now_in-append, LastEvent, last-event}
+use Rattle.svc_main.proofs.MadeRecords.{came, has-came, has-implied, once-has, once-none, open-from, now_in, now-events, now_in-append, last-event}
 use Rattle.svc_main.proofs.MadeLists.{is_usual, is_on, is_of, is_in_use_of, word-test, on-other, of-other, none-to, some-to, ready-of, now-to, InStart, InConnection, InEnd}
 use Rattle.svc_main.proofs.MadePlan.{numbers-at, endpoints-at, kind-odd}
-use Rattle.svc_main.proofs.MadeFits.{is_odd, is_bound_at, any-implied, came-implied, came-none, plain-true, runs-now, not-failed, started-now, bind-open, held-some}
+use Rattle.svc_main.proofs.MadeFits.{is_odd, is_bound_at, any-implied, came-none, plain-true, runs-now, not-failed, started-now, bind-open, held-some}
 
 -- what is known of the record before an event of n services, while its run goes on
 pub record Here (n : ℕ) (q : Record) : Type 0 where

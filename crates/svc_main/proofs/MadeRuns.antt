@@ -1,10 +1,7 @@
 -- The run of the generator's services serves, and what is counted in it.
-use Rattle.std.proofs.Common.{◌≡◌, ℕ, ◌*◌, ◌≤◌, Bool, true, false, cond, List, ◌++◌, map, reverse, string_bytes, refl, sym, ap, subst, ◌∙◌, Ok, Err, IfOk}
+use Rattle.std.proofs.Common.{◌≡◌, ℕ, ◌*◌, ◌≤◌, Bool, true, false, cond, List, ◌++◌, reverse, string_bytes, refl, sym, ap, subst, ◌∙◌, Ok, Err, IfOk}
 use Rattle.std.specs.Prelude.{Result, count_by}
-use Rattle.svc_conf.specs.ConfigurationText.{merged}
-use Rattle.svc_record.specs.declared.action.StepEnd.{StepEnd}
 use Rattle.svc_record.specs.declared.action.StepEnd.TheVariants as ends
-use Rattle.svc_record.specs.declared.event.Event.{Event}
 use Rattle.svc_record.specs.declared.entry.Entry.{Entry}
 use Rattle.svc_record.specs.declared.item.Item.TheVariants as items
 use Rattle.svc_record.specs.Record.{Record}

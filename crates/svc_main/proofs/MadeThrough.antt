@@ -1,15 +1,13 @@
 -- The events of the generator run through.
-use Rattle.std.proofs.Common.{◌≡◌, ◌⊎◌, ℕ, ◌+◌, ◌<◌, ◌≤◌, Bool, true, false, not, ◌&&◌, ◌||◌, cond, List, [], ◌∷◌, ◌++◌, Option, Some, None, refl, sym, ap, ◌∙◌, inl, inr, arith, append-nil}
+use Rattle.std.proofs.Common.{◌≡◌, ℕ, ◌+◌, ◌≤◌, Bool, true, false, cond, List, [], ◌∷◌, ◌++◌, Some, None, refl, sym, ap, ◌∙◌, inl, inr, append-nil}
 use Rattle.std.specs.List.{list_any}
-use Rattle.std.proofs.lemmas.Bool.{and_from, both_ways, le-ltb, not_from_false, MatchBool-at_false}
-use Rattle.svc_record.specs.declared.plan.Plan.{Plan}
+use Rattle.std.proofs.lemmas.Bool.{and_from, not_from_false, MatchBool-at_false}
 use Rattle.svc_record.specs.declared.event.Event.{Event}
 use Rattle.svc_record.specs.declared.event.Event.TheVariants as events
-use Rattle.svc_record.specs.declared.event.Side.TheVariants as sides
 use Rattle.svc_record.specs.declared.event.ShutdownSignal.TheVariants.{FastShutdown}
 use Rattle.svc_record.specs.declared.entry.Entry.TheVariants.{Got}
 use Rattle.svc_record.specs.declared.action.StepEnd.TheVariants.{On, Served}
-use Rattle.svc_record.specs.Record.{Record, has, times, tell, is_signal, signal_of, first_or}
+use Rattle.svc_record.specs.Record.{Record, has, is_signal, signal_of, first_or}
 use Rattle.svc_record.specs.Boot.{is_side_parent, is_bad_message}
 use Rattle.svc_record.specs.Ends.{is_no_sender, is_receive_failure, step_end, has_ended}
 use Rattle.svc_record.specs.Drain.{has_passed, has_passed_by}
@@ -17,7 +15,7 @@ use Rattle.svc_record.specs.Fits.{Fits}
 use Rattle.svc_record.specs.Right.{Right, EndedRight, OpenRight}
 use Rattle.svc_server.specs.Runs.{events_of}
 use Rattle.svc_main.specs.Generator.{made_plan, made_events, made_events_to}
-use Rattle.svc_main.proofs.MadeRecords.{came, has-came, none-times, LastEvent, last-event, signal-tell, is_signal_event, no-signal}
+use Rattle.svc_main.proofs.MadeRecords.{came, has-came, none-times, last-event, signal-tell, is_signal_event, no-signal}
 use Rattle.svc_main.proofs.MadeLists.{is_usual, place-of, front-of, front-usual, front-unsigned, front-in-use, all-usual}
 use Rattle.svc_main.proofs.MadeFits.{is_odd, usual-came, came-none, came-implied}
 use Rattle.svc_main.proofs.MadeRows.{Here, start-row, connection-row, end-row}

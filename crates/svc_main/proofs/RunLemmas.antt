@@ -1,5 +1,5 @@
 -- How the run of a script's server ends.
-use Rattle.std.proofs.Common.{◌≡◌, ℕ, zero, suc, true, not, List, [], ◌∷◌, ◌++◌, length, map, Option, Some, unwrap_or, Ok, Err, None, refl, ap, sym, ◌∙◌, subst, arith, ◌<◌, length-append, All, get_or, reverse, IfOk, OnOk, string_bytes}
+use Rattle.std.proofs.Common.{◌≡◌, ℕ, zero, suc, true, not, List, [], ◌∷◌, ◌++◌, length, map, Option, Some, unwrap_or, Ok, Err, None, refl, ap, ◌∙◌, subst, arith, ◌<◌, length-append, All, reverse, IfOk, OnOk, string_bytes}
 use Rattle.std.specs.Prelude.{Result}
 use Rattle.std.specs.List.{slice_get}
 use Rattle.std.specs.Option.{option_map}
@@ -17,11 +17,9 @@ use Rattle.svc_socket.specs.declared.reading.IpNumber.{IpNumber}
 use Rattle.svc_record.specs.Tail.{closing_actions}
 use Rattle.svc_record.specs.declared.entry.Entry.{Entry}
 use Rattle.svc_record.specs.Text.{text_of, EntryFits}
-use Rattle.svc_text.specs.Accepted.{BringsFew}
 use Rattle.svc_text.specs.Script.{Parts}
 use Rattle.svc_text.specs.Filters.{is_blocked, script_verdict}
 use Rattle.svc_text.specs.ScriptPlans.{plan_of}
-use Rattle.svc_server.specs.ScriptHosts.{GivesFew}
 use Rattle.svc_server.specs.declared.run.Outcome.{Outcome}
 use Rattle.svc_server.specs.declared.run.RunError.{RunError}
 use Rattle.svc_server.specs.declared.run.RunError.TheVariants.{TurnsSpent}
@@ -75,14 +73,6 @@ turns_left p turns r before now spent takes few =
     let count : length (events_of spent.0) ≡ turns = spent.1.count in
     let all : length before ≡ length (map items.Event (events_of r) ++ now) = ap length takes.taken in
     omega (arith, events, count, all, length-append (map items.Event (events_of r)) now, length-map (events_of r) items.Event, few)
-
-few_one : (x : Item) → BringsFew x → GivesFew x
-few_one (items.Event e) h = h
-few_one items.Fault h = tt
-
--- items that bring few descriptors are items that a script host takes
-pub few_given : (xs : List Item) → All BringsFew xs → All GivesFew xs
-few_given xs h k d lt = few_one (get_or xs k d) (h k d lt)
 
 -- the run of a script, by other names of its configuration, turns and items
 pub run_is : (opt : Opt) (parts : Parts) (end : RunEnd) (r : Record) (conf : ServerConf) (turns : ℕ) (before left : List Item) → conf ≡ merged opt parts.conf → Judges end conf → turns ≡ turns_of parts

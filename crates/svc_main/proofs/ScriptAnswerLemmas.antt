@@ -1,6 +1,5 @@
 -- The answer to a script is the program's answer.
-use Rattle.std.proofs.Common.{◌≡◌, ℕ, ◌<◌, List, get_or, length, Option, Some, None, Result, Ok, Err, IfOk, inl, inr, refl, sym, subst, ◌∙◌, IfSome}
-use Rattle.std.specs.Io.KnownBytes.{IsAtEnd}
+use Rattle.std.proofs.Common.{◌≡◌, ℕ, List, length, Option, Some, None, Result, Ok, Err, IfOk, inl, inr, refl, sym, subst, ◌∙◌, IfSome}
 use Rattle.std.specs.Str.Lines.{lines}
 use Rattle.svc_conf.specs.declared.server.configuration.Opt.{Opt}
 use Rattle.svc_text.specs.Script.{Parts, IsLineOf, AreLines, script}
@@ -28,18 +27,6 @@ script_answer words left read numbers opt parts (Line n) out takes flags same sa
     (takes, printed, of_left left read (λ bytes. RefusesIn bytes n) same (inr (inl (parts, (says, (k, (refusal.1.0, place)))))))
 script_answer words left read numbers opt parts Words out takes flags same says places h = absurd h
 script_answer words left read numbers opt parts ReadFault out takes flags same says places h = absurd h
-
-pub script_ends : (words : List (List ℕ)) (line : StatusLine) (left : Option (List ℕ)) → IsAtEnd left → Ends words line left
-script_ends words (Run end) left h = λ none. h
-script_ends words (Line n) left h = λ some. h
-script_ends words Words left h = tt
-script_ends words ReadFault left h = tt
-
-pub script_faults : (opt : Opt) (parts : Parts) (numbers : List ℕ) (line : StatusLine) (out : List ℕ) (before now : ℕ) → AnswersScript opt parts numbers line out → Faults line before now
-script_faults opt parts numbers (Run end) out before now h = tt
-script_faults opt parts numbers (Line n) out before now h = tt
-script_faults opt parts numbers Words out before now h = absurd h
-script_faults opt parts numbers ReadFault out before now h = absurd h
 
 pub if_ok : {A B : Type 0} (P Q : A → Type 0) (r : Result A B) → IfOk r P → ((x : A) → P x → Q x) → IfOk r Q
 if_ok P Q (Ok x) p f = f x p

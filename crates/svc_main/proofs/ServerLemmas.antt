@@ -1,5 +1,5 @@
 -- The server that a script's services are in, and the plan that it is run by.
-use Rattle.std.proofs.Common.{◌≡◌, ◌||◌, ℕ, Bool, false, List, [], ◌∷◌, ◌++◌, length, map, take, get_or, Option, Some, None, refl, ap, subst, sym, ◌∙◌, arith, ◌+◌, ◌<◌, filter, add-zero, zero-add}
+use Rattle.std.proofs.Common.{◌≡◌, ◌||◌, ℕ, Bool, false, List, [], ◌∷◌, ◌++◌, length, map, take, get_or, Option, Some, refl, ap, subst, sym, ◌∙◌, arith, ◌+◌, ◌<◌, filter, add-zero, zero-add}
 use Rattle.std.specs.List.{range_with_len}
 use Rattle.std.proofs.lemmas.List.{map-append, take_more, take_all, length-take-le}
 use Rattle.std.proofs.lemmas.List.Elements.{filter_agree}

@@ -1,5 +1,5 @@
 -- A whole script is served.
-use Rattle.std.proofs.Common.{◌≡◌, ℕ, true, inl, inr, List, [], ◌∷◌, ◌++◌, map, length, Option, Some, None, Ok, Err, ap, sym, ◌∙◌, subst, arith, refl, append-nil, append_assoc}
+use Rattle.std.proofs.Common.{◌≡◌, ℕ, true, inl, inr, List, [], ◌∷◌, ◌++◌, map, Some, None, Ok, Err, ap, sym, ◌∙◌, subst, arith, refl, append-nil, append_assoc}
 use mathlib.Core.Bool.{false≢true}
 use Rattle.svc_conf.specs.Configuration.{judged}
 use Rattle.svc_conf.specs.Streams.{Rose}

@@ -1,5 +1,5 @@
 -- What a script's filters block.
-use Rattle.std.specs.Prelude.{ℕ, List}
+use Rattle.std.specs.Prelude.{List}
 use Rattle.svc_socket.specs.declared.reading.IpNumber.{IpNumber}
 use Rattle.svc_main.specs.declared.script_filter.ScriptFilter.{ScriptFilter}
 

@@ -1,6 +1,6 @@
 //! What is counted in a record.
 
-ghost use Rattle.std.specs.Prelude.{◌≡◌, ◌++◌, IfOk, count_by, string_bytes};
+ghost use Rattle.std.specs.Prelude.{◌≡◌, IfOk, count_by, string_bytes};
 ghost use Rattle.svc_main.specs.Counts.{is_any_start, is_any_bind, is_any_close, summary};
 
 use std::alloc::Global;

@@ -1,10 +1,10 @@
 //! The services and events of the generator.
 
-ghost use Rattle.std.specs.Prelude.{◌≡◌, ◌+◌, ◌*◌, ◌<◌, ◌≤◌, ◌^◌, ◌++◌, ◌∷◌, [], map, codes, IfOk, OnOk, Some, None};
+ghost use Rattle.std.specs.Prelude.{◌≡◌, ◌+◌, ◌*◌, ◌<◌, ◌≤◌, ◌++◌, ◌∷◌, [], map, codes, IfOk, OnOk, Some, None};
 ghost use Rattle.std.specs.Fmt.{decimal};
 ghost use Rattle.svc_record.specs.declared.event.Event.{Event};
 ghost use Rattle.svc_record.specs.declared.item.Item.TheVariants as item;
-ghost use Rattle.svc_main.specs.Generator.{is_even, made_kind, made_after, made_port, made_endpoint, made_service, made_services, made_moment, made_connection, made_word, made_start, made_connections, made_events_of, made_events_to, made_events, no_flags};
+ghost use Rattle.svc_main.specs.Generator.{is_even, made_kind, made_after, made_endpoint, made_service, made_services, made_moment, made_connection, made_word, made_start, made_connections, made_events_of, made_events, no_flags};
 
 use std::alloc::Global;
 use svc_conf::{Items, NoMemory, Numbers, Opt, Settings, Text, Texts};

@@ -14,6 +14,3 @@ mod words;
 
 pub use outcome::{RunEnd, StatusLine};
 pub use program::{one_answer, serve_script};
-
-#[cfg(test)]
-mod tests;

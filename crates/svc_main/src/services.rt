@@ -1,6 +1,6 @@
 //! The server that the services of a script are in.
 
-ghost use Rattle.std.specs.Prelude.{◌≡◌, ◌<◌, ◌||◌, ℕ, [], length, take, get_or, slice_index, Some, None, false, IfOk, IfErr, OnOk};
+ghost use Rattle.std.specs.Prelude.{◌≡◌, ◌<◌, ◌||◌, ℕ, [], length, slice_index, Some, None, false, IfOk, IfErr, OnOk};
 ghost use Rattle.svc_conf.specs.Configuration.{defaults};
 ghost use Rattle.svc_conf.specs.ConfigurationText.{merged};
 ghost use Rattle.svc_text.specs.Accepted.{AreAccepted};

@@ -15,7 +15,7 @@ use Rattle.svc_record.specs.Offer.{table, is_written, has_offer, is_over, goes_o
 use Rattle.svc_offer.specs.declared.offering.Offering.{Offering}
 use Rattle.svc_offer.specs.declared.offering.Offering.TheVariants.{Unasked, Connecting, Connected, Sending, Absent, Delayed, Stalled}
 use Rattle.svc_offer.specs.OfferData.{OfferData}
-use Rattle.svc_offer.specs.OfferState.{OfferStands, IsOfferSettled, is_offering, is_connecting, is_sending, is_going, over_since, rests_in, sends_in, tells_next, is_connect_due, is_send_due}
+use Rattle.svc_offer.specs.OfferState.{OfferStands, is_offering, is_connecting, is_sending, is_going, over_since, rests_in, sends_in, tells_next, is_connect_due, is_send_due}
 use Rattle.svc_offer.specs.OfferEffects.{asked, ask_with, send_told}
 use Rattle.svc_offer.proofs.StateFacts.{going-offers, going-on, next-going, next-rests}
 
@@ -150,26 +150,6 @@ asked-by p d q moment copy false false c n at same s = s
 pub stands-asked : (p : Plan) (d : OfferData) (q : Record) (moment : ℕ) (copy : Option Message) → moment ≡ now q → (is_send_due d.state moment ≡ true → copy ≡ d.message) → OfferStands p d q → OfferStands p (asked d moment) (tell q (ask_with copy d moment))
 stands-asked p d q moment copy at same s = asked-by p d q moment copy (is_connect_due d.state moment) (is_send_due d.state moment) refl refl at same s
 
-no-connect : (x : Offering) (moment : ℕ) (connects sends : Bool) → is_connect_due x moment ≡ connects → is_send_due x moment ≡ sends → is_connect_due (if connects then Connecting else (if sends then Sending else x)) moment ≡ false
-no-connect x moment true sends c n = refl
-no-connect x moment false true c n = refl
-no-connect x moment false false c n = c
-
-no-send : (x : Offering) (moment : ℕ) (connects sends : Bool) → is_connect_due x moment ≡ connects → is_send_due x moment ≡ sends → is_send_due (if connects then Connecting else (if sends then Sending else x)) moment ≡ false
-no-send x moment true sends c n = refl
-no-send x moment false true c n = refl
-no-send x moment false false c n = n
-
--- and nothing more is due
-pub settled-asked : (d : OfferData) (moment : ℕ) → IsOfferSettled (asked d moment) moment
-settled-asked d moment = record {
-  no_connect = no-connect d.state moment (is_connect_due d.state moment) (is_send_due d.state moment) refl refl;
-  no_send = no-send d.state moment (is_connect_due d.state moment) (is_send_due d.state moment) refl refl;
-}
-
 -- the same of what it is after the call
 pub after-asked : (p : Plan) (d new : OfferData) (q : Record) (moment : ℕ) (copy : Option Message) → new ≡ asked d moment → moment ≡ now q → (is_send_due d.state moment ≡ true → copy ≡ d.message) → OfferStands p d q → OfferStands p new (tell q (ask_with copy d moment))
 after-asked p d new q moment copy after at same s = subst (λ (x : OfferData). OfferStands p x (tell q (ask_with copy d moment))) (sym after) (stands-asked p d q moment copy at same s)
-
-pub after-settled : (d new : OfferData) (moment : ℕ) → new ≡ asked d moment → IsOfferSettled new moment
-after-settled d new moment after = subst (λ (x : OfferData). IsOfferSettled x moment) (sym after) (settled-asked d moment)

@@ -1,7 +1,7 @@
 -- What is no ask of the offer, no answer to one and no signal changes nothing of the offer; nor does a later signal.
-use Rattle.std.proofs.Common.{ℕ, Bool, true, false, not, List, [], ◌∷◌, ◌++◌, ◌≡◌, refl, ap, ◌∙◌, arith, is_some}
+use Rattle.std.proofs.Common.{ℕ, Bool, true, false, not, List, [], ◌∷◌, ◌≡◌, refl, ap, ◌∙◌, arith, is_some}
 use Rattle.std.specs.Prelude.{nat_le}
-use Rattle.std.proofs.lemmas.Bool.{and_parts, and_from}
+use Rattle.std.proofs.lemmas.Bool.{and_parts}
 use Rattle.std.proofs.lemmas.Bool.Decides.{nat_tests}
 use Rattle.svc_record.specs.declared.plan.Plan.{Plan}
 use Rattle.svc_record.specs.declared.entry.Entry.TheVariants.{Got, Told}
@@ -103,10 +103,3 @@ stands-tell p d q [] other stand = stand
 stands-tell p d q (a ∷ told) other stand =
     let parts = and_parts (not (is_offer_action a)) (has_no_offer_action told) other in
     stands-tell p d (Told a ∷ q) told parts.1 (stands-told p d q a (not_true (is_offer_action a) parts.0) stand)
-
--- one such list after another is one
-pub append-other : (xs ys : List Action) → has_no_offer_action xs ≡ true → has_no_offer_action ys ≡ true → has_no_offer_action (xs ++ ys) ≡ true
-append-other [] ys x y = y
-append-other (a ∷ xs) ys x y =
-    let parts = and_parts (not (is_offer_action a)) (has_no_offer_action xs) x in
-    and_from (not (is_offer_action a)) (has_no_offer_action (xs ++ ys)) parts.0 (append-other xs ys parts.1 y)

@@ -1,5 +1,5 @@
 -- What the state of the offer says of a settled record, and of the descriptors that are on offer.
-use Rattle.std.proofs.Common.{ℕ, Bool, true, false, not, ◌||◌, ◌&&◌, ◌==◌, ◌-◌, List, [], ◌∷◌, ◌≡◌, refl, ap, sym, ◌∙◌, Option, Some, None, arith, if◌then◌else◌, is_some}
+use Rattle.std.proofs.Common.{ℕ, Bool, true, false, not, ◌||◌, ◌&&◌, ◌==◌, ◌-◌, List, [], ◌∷◌, ◌≡◌, refl, ap, sym, ◌∙◌, Some, None, arith, if◌then◌else◌, is_some}
 use Rattle.std.specs.Prelude.{nat_le, nat_lt}
 use Rattle.std.specs.List.{list_any}
 use Rattle.std.proofs.lemmas.Bool.{and_parts, and_from}
@@ -13,14 +13,12 @@ use Rattle.svc_record.specs.declared.entry.Entry.{Entry}
 use Rattle.svc_record.specs.declared.entry.Entry.TheVariants.{Got}
 use Rattle.svc_record.specs.declared.event.Event.{Event}
 use Rattle.svc_record.specs.declared.event.Event.TheVariants.{Moment, Connected, NotThere, StillConnecting, ConnectFailed, Sent, SendBusy, SendFailed, Signal}
-use Rattle.svc_record.specs.declared.event.ShutdownSignal.{ShutdownSignal}
-use Rattle.svc_record.specs.Record.{Record, now, has, is_signal, signal_of, before_signal, EachEntry}
+use Rattle.svc_record.specs.Record.{Record, now, signal_of, EachEntry}
 use Rattle.svc_record.specs.Asks.{is_connect_open, is_send_open}
 use Rattle.svc_record.specs.Ends.{has_ended}
 use Rattle.svc_record.specs.Fits.{event_fits}
 use Rattle.svc_record.specs.Message.{is_encodable}
-use Rattle.svc_record.specs.Descriptors.{live_table}
-use Rattle.svc_record.specs.Offer.{OfferRight, table, is_empty_table, is_upgrade, is_offered, is_over, is_held_back, answer_rests, one_ask, one_holds, retry_due}
+use Rattle.svc_record.specs.Offer.{OfferRight, table, is_empty_table, is_upgrade, is_offered, is_over, is_held_back, answer_rests, one_ask, one_holds}
 use Rattle.svc_offer.specs.declared.offering.Offering.{Offering}
 use Rattle.svc_offer.specs.declared.offering.Offering.TheVariants.{Nothing, Unasked, Connecting, Connected, Sending, Absent, Delayed, Stalled, Over}
 use Rattle.svc_offer.specs.OfferData.{OfferData}
@@ -28,8 +26,6 @@ use Rattle.svc_offer.specs.OfferState.{OfferStands, IsOfferSettled, is_offering,
 use Rattle.svc_offer.specs.OfferEffects.{event_of}
 use Rattle.svc_offer.specs.OfferFacts.{is_offer_event}
 use Rattle.svc_offer.proofs.AskLemmas.{goes_on-is}
-use Rattle.svc_offer.proofs.Signals.{over-later}
-use Rattle.svc_offer.proofs.RecordFacts.{later-kind, later-before}
 
 -- a rest that isn't over
 rests_on : (limit n : ℕ) → nat_le limit n ≡ false → nat_lt n limit ≡ true
@@ -102,10 +98,6 @@ one-ask p d q s settled forward =
     ∙ one-of d.state (now q) (is_connect_open q) (is_send_open q) (answer_rests (now q) q) settled.no_connect settled.no_send s.connecting_is s.sending_is (λ h. s.rests_is h (now q))
     (λ h. s.rested h forward (now q) (rests-all (now q)))
 
--- each retry comes after the rest
-pub retries : (p : Plan) (d : OfferData) (q : Record) → OfferStands p d q → EachEntry (λ e before. retry_due e before ≡ true) q
-retries p d q s = s.retries_due
-
 fits-forward : (p : Plan) (e : Entry) (q : Record) → event_fits p e q ≡ true → is_forward e q ≡ true
 fits-forward p (Got (Moment ms)) q h = (and_parts (not (has_ended p q)) (nat_le (now q) ms) h).1
 fits-forward p _ q h = refl
@@ -174,16 +166,6 @@ held-back-got p q SendBusy fd other = cc
 held-back-got p q SendFailed fd other = cc
 held-back-got p q (Signal kind) fd other = cc
 held-back-got p q _ fd other = refl
-
-abbrev is_offered_by : Plan → Option ShutdownSignal → Record → ℕ → Bool
-is_offered_by p s b fd = is_upgrade s && list_any (λ (x : TableEntry). x.1 == fd) (live_table p b)
-
-offered-later : (p : Plan) (q : Record) (kind : ShutdownSignal) (fd : ℕ) → has is_signal q ≡ true → is_offered p (Got (Signal kind) ∷ q) fd ≡ is_offered p q fd
-offered-later p q kind fd h = ap (λ s. is_offered_by p s (before_signal (Got (Signal kind) ∷ q)) fd) (later-kind q kind h) ∙ ap (λ b. is_offered_by p (signal_of q) b fd) (later-before q kind h)
-
--- so does a later signal
-pub held-back-later : (p : Plan) (q : Record) (kind : ShutdownSignal) (fd : ℕ) → has is_signal q ≡ true → is_held_back p (Got (Signal kind) ∷ q) fd ≡ is_held_back p q fd
-held-back-later p q kind fd h = ap (λ b. b && not (is_over p (Got (Signal kind) ∷ q))) (offered-later p q kind fd h) ∙ ap (λ b. is_offered p q fd && not b) (over-later p q kind h)
 
 offered-answer : (p : Plan) (q : Record) (answer : SendAnswer) (fd : ℕ) → is_offered p (Got (event_of answer) ∷ q) fd ≡ is_offered p q fd
 offered-answer p q answers.Connected fd = refl

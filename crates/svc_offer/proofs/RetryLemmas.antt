@@ -1,5 +1,5 @@
 -- What is borne at the start and after each answer, and whether the offer ends by that.
-use Rattle.std.proofs.Common.{ℕ, zero, suc, Bool, true, false, ◌+◌, ◌-◌, ◌≤◌, List, [], ◌∷◌, None, ◌≡◌, refl, ap, sym, ◌∙◌, subst, ◌⊎◌, inl, inr, arith, if◌then◌else◌}
+use Rattle.std.proofs.Common.{ℕ, zero, suc, Bool, true, false, ◌+◌, ◌-◌, ◌≤◌, List, [], ◌∷◌, ◌≡◌, refl, ap, sym, ◌∙◌, ◌⊎◌, inl, inr, arith, if◌then◌else◌}
 use Rattle.std.specs.Prelude.{nat_lt}
 use Rattle.std.proofs.lemmas.Bool.Decides.{nat_tests}
 use Rattle.svc_fds.specs.declared.retry.SendAnswer.{SendAnswer}
@@ -10,11 +10,7 @@ use Rattle.svc_fds.specs.declared.errors.SendError.{SendError}
 use Rattle.svc_fds.specs.declared.errors.SendError.TheVariants.{NoReceiver, StillBusy}
 use Rattle.svc_fds.specs.Patience.{Patience}
 use Rattle.svc_fds.specs.Retries.{IsAfterSends, send_next, absences, delays}
-use Rattle.svc_record.specs.declared.plan.Plan.{Plan}
-use Rattle.svc_offer.specs.declared.offering.Offering.TheVariants.{Nothing}
-use Rattle.svc_offer.specs.OfferData.{OfferData}
-use Rattle.svc_offer.specs.OfferState.{OfferStands}
-use Rattle.svc_offer.specs.OfferEffects.{nothing, ends_by, patience_after}
+use Rattle.svc_offer.specs.OfferEffects.{ends_by, patience_after}
 
 -- so many busy answers
 abbrev pub waits : ℕ → List SendAnswer
@@ -82,47 +78,6 @@ patience-is n x ConnectFailed few after = same-patience x n (let a = after.absen
 patience-is n x Sent few after = same-patience x n (let a = after.absences in let e = absences-waits (19 - n.delays) in omega arith) (let b = after.delays in let e = delays-waits (19 - n.delays) in omega arith)
 patience-is n x SendBusy few after = same-patience x (patience_after n SendBusy) (let a = after.absences in let e = absences-waits (19 - n.delays) in omega arith) (let b = after.delays in let e = delays-waits (19 - n.delays) in omega arith)
 patience-is n x SendFailed few after = same-patience x n (let a = after.absences in let e = absences-waits (19 - n.delays) in omega arith) (let b = after.delays in let e = delays-waits (19 - n.delays) in omega arith)
-
--- never more than at the start
-pub few-after : (n : Patience) (answer : SendAnswer) → n.delays ≤ 19 → (patience_after n answer).delays ≤ 19
-few-after n Connected few = few
-few-after n NotThere few = few
-few-after n StillConnecting few = omega arith
-few-after n ConnectFailed few = few
-few-after n Sent few = few
-few-after n SendBusy few = omega arith
-few-after n SendFailed few = few
-
-abbrev with-patience : Patience → OfferData
-with-patience n = record { state = Nothing; message = None; patience = n }
-
--- at the start nothing is offered
-pub new-is : (limit : ℕ) (n : Patience) → IsAfterSends limit [] n → record { state = Nothing; message = None; patience = n } ≡ nothing limit
-new-is limit n start = ap (λ (k : Patience). with-patience k) (same-patience n (patience-of limit 19) (let a = start.absences in omega arith) (let b = start.delays in omega arith))
-
-stands-nothing : (p : Plan) → OfferStands p (nothing p.limit) []
-stands-nothing p = record {
-  offers_is = refl;
-  over_is = refl;
-  since_is = λ at h. cc;
-  connecting_is = refl;
-  sending_is = refl;
-  rests_is = λ h. cc;
-  rested = λ h. cc;
-  next_is = λ h. cc;
-  message_is = λ h. cc;
-  written = λ h. cc;
-  absences_are = let e : p.limit ≡ p.limit - 0 = omega arith in e;
-  absences_few = λ h. cc;
-  delays_are = refl;
-  delays_few = λ h. cc;
-  unasked = λ h. (refl, refl);
-  asks_due = tt;
-  retries_due = tt;
-}
-
-pub stands-new : (p : Plan) (limit : ℕ) → p.limit ≡ limit → OfferStands p (nothing limit) []
-stands-new p limit is = subst (λ (n : ℕ). OfferStands p (nothing n) []) is (stands-nothing p)
 
 -- whether the offer ends, by what the retry answered
 pub ended : (n : Patience) (answer : SendAnswer) (next : SendNext) → n.delays ≤ 19 → next ≡ send_next n.absences (waits (19 - n.delays)) answer → is_end next ≡ ends_by n answer

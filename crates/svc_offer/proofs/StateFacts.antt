@@ -30,10 +30,6 @@ pub going-on : (x : Offering) → is_going x ≡ true → is_some (over_since x)
 going-on (Over at) h = cc
 going-on _ h = refl
 
-pub over-stops : (x : Offering) → is_some (over_since x) ≡ true → is_going x ≡ false
-over-stops (Over at) h = refl
-over-stops _ h = cc
-
 pub next-going : (x : Offering) → tells_next x ≡ true → is_going x ≡ true
 next-going Nothing h = cc
 next-going (Over at) h = cc

@@ -8,6 +8,3 @@ mod offering;
 
 pub use offer::Offer;
 pub use offering::Offering;
-
-#[cfg(test)]
-mod tests;

@@ -1,6 +1,6 @@
 //! The offer to a successor, from the signal to its last answer.
 
-ghost use Rattle.std.specs.Prelude.{◌≡◌, ◌+◌, ◌≤◌, ◌++◌, [], ◌∷◌, length, ℕ, Option, Some, None, IfOk, true, false};
+ghost use Rattle.std.specs.Prelude.{◌≡◌, ◌+◌, ◌≤◌, ◌++◌, [], ◌∷◌, length, Option, Some, None, IfOk, true, false};
 ghost use Rattle.svc_conf.specs.Items.{list_of, spare};
 ghost use Rattle.svc_fds.specs.declared.encoding.Message.{Message};
 ghost use Rattle.svc_record.specs.declared.plan.Plan.{Plan};

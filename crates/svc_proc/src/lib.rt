@@ -13,6 +13,3 @@ pub use server::daemon::{
     ParentNext, ParentWait, SignalError, daemonize, notify_parent_ready_for_fds,
 };
 pub use server::{ShutdownSignal, ShutdownSignalWatch, UnixShutdownSignalWatch};
-
-#[cfg(test)]
-mod tests;

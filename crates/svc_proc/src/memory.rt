@@ -2,7 +2,6 @@
 
 ghost use Rattle.std.specs.Prelude.{◌≡◌, ◌<◌, [], ◌∷◌, length, Some, IfOk, IfSome};
 ghost use Rattle.svc_calls.specs.Calls.{told_of, Adds};
-ghost use Rattle.svc_proc.specs.ProcessData.{ProcessData};
 
 use crate::process::{ForkAnswer, Process, ProcessCall, SignalAnswer};
 use std::alloc::Global;

@@ -1,5 +1,5 @@
 -- Runs of daemons: the parent waits for its child, or ends at once, and the child goes on.
-use Rattle.std.proofs.Common.{true, false, [], ◌∷◌, codes, ◌≡◌, refl}
+use Rattle.std.proofs.Common.{true, [], ◌∷◌, ◌≡◌, refl}
 use Rattle.svc_record.specs.declared.plan.Plan.{Plan}
 use Rattle.svc_record.specs.declared.entry.Entry.TheVariants.{Got, Told}
 use Rattle.svc_record.specs.declared.event.Event.TheVariants.{Moment, Signal, Side as Forked, ChildReady, ChildGone, DropFailed}

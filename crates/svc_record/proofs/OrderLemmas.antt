@@ -6,7 +6,7 @@ use Rattle.std.proofs.lemmas.List.{take-take, get_or_default}
 use Rattle.std.proofs.lemmas.Option.{slice_get_cases}
 use Rattle.std.proofs.lemmas.List.Folds.{Any-from_list_any}
 use Rattle.svc_graph.specs.GraphData.{GraphData}
-use Rattle.svc_graph.specs.Graphs.{node_count, is_edge, row_of, IsGraph}
+use Rattle.svc_graph.specs.Graphs.{is_edge, row_of, IsGraph}
 use Rattle.svc_graph.specs.Graphs as graphs
 use Rattle.svc_record.specs.declared.plan.Plan.{Plan}
 use Rattle.svc_record.specs.Plans.{service_count, depends}

@@ -8,7 +8,7 @@ use Rattle.svc_record.specs.declared.event.ShutdownSignal.TheVariants.{FastShutd
 use Rattle.svc_record.specs.declared.action.Action.TheVariants.{Connect, Send, Judged, Refuse, Settings, Handshake, Serve, Drop, Cut, Rest, Close, Phase, Stop}
 use Rattle.svc_record.specs.declared.action.ExecutionPhase.TheVariants.{GracefulUpgradeTransferringFds, ShutdownStarted, ShutdownRuntimes, Terminated}
 use Rattle.svc_record.specs.Record.{Record}
-use Rattle.svc_record.proofs.Clauses.{EventFits, ConnectionKnown, RetryInTurn, OneAsk, OfferGoes, OfferInTurn, Connections, Rests, RestInTurn, NoEnd, LastActions, LastStep, OfferOfAll, ConnectionsOfAll, IsRefusedBy}
+use Rattle.svc_record.proofs.Clauses.{ConnectionKnown, RetryInTurn, OneAsk, OfferGoes, OfferInTurn, Connections, Rests, RestInTurn, NoEnd, LastActions, LastStep, OfferOfAll, ConnectionsOfAll, IsRefusedBy}
 use Rattle.svc_record.proofs.TwoServices.{plan, bound}
 
 -- an upgrade is asked for, and the offer begins

@@ -1,5 +1,5 @@
 -- A run with connections: one is refused, one served, one dropped, and two are cut at the end.
-use Rattle.std.proofs.Common.{true, false, [], ◌∷◌, ◌++◌, Some, codes, ◌≡◌, refl}
+use Rattle.std.proofs.Common.{true, false, [], ◌∷◌, ◌++◌, Some, codes, refl}
 use Rattle.svc_conf.specs.declared.settings.Setting.TheVariants.{NoDelay, Dscp}
 use Rattle.svc_socket.specs.declared.peer.Peer.TheVariants.{Unknown, Unix, Inet}
 use Rattle.svc_socket.specs.declared.peer.PeerAddr.{PeerAddr}
@@ -14,7 +14,7 @@ use Rattle.svc_record.specs.declared.action.ExecutionPhase.TheVariants.{Running,
 use Rattle.svc_record.specs.Record.{Record}
 use Rattle.svc_record.specs.Right.{Right, Served}
 use Rattle.svc_record.proofs.Sound.{right_from_test, served_from_test}
-use Rattle.svc_record.proofs.Clauses.{EventFits, Connections, Rests, RestInTurn, LastActions, ConnectionsOfAll, LastStep, NoEnd, IsRefusedBy}
+use Rattle.svc_record.proofs.Clauses.{EventFits, Connections, Rests, RestInTurn, LastActions, ConnectionsOfAll, IsRefusedBy}
 use Rattle.svc_record.proofs.TwoServices.{plan_of, listening}
 
 -- one service whose endpoint has a filter and an option

@@ -1,12 +1,12 @@
 -- The startup order that the definitions compute is the one that a plan's services are listed in.
-use Rattle.std.proofs.Common.{ℕ, zero, suc, Bool, true, false, not, ◌&&◌, ◌||◌, ◌==◌, inl, inr, List, [], ◌∷◌, ◌++◌, ◌≡◌, refl, ap, sym, ◌∙◌, subst, arith, ◌<◌, ◌≤◌, ◌+◌, length, take, slice_index, slice_index_or, All, append-nil}
-use Rattle.std.specs.List.{list_any, list_all, range_with_len}
+use Rattle.std.proofs.Common.{ℕ, zero, suc, Bool, true, false, not, inl, inr, List, [], ◌∷◌, ◌++◌, ◌≡◌, refl, ap, sym, ◌∙◌, arith, ◌<◌, ◌≤◌, ◌+◌, length, take, slice_index, slice_index_or, All, append-nil}
+use Rattle.std.specs.List.{list_all, range_with_len}
 use Rattle.std.proofs.lemmas.List.{take_more}
 use Rattle.std.proofs.lemmas.Bool.{and_parts, and_from, false_from_ne_true, cases_eq, cases_lt}
 use Rattle.svc_record.specs.declared.plan.Plan.{Plan}
 use Rattle.svc_record.specs.Plans.{service_count, services, depends}
 use Rattle.svc_record.specs.Starts.{comes_next, first_number, first_services, startup_order}
-use Rattle.svc_record.specs.Validity.{is_listed, IsNext, IsStartupOrder}
+use Rattle.svc_record.specs.Validity.{is_listed, IsStartupOrder}
 
 -- the first number of a range that passes the test
 first-found : (test : ℕ → Bool) (n a s : ℕ) → a ≤ s → s < a + n → test s ≡ true → ((t : ℕ) → a ≤ t → t < s → test t ≡ false) → first_number test (range_with_len a n) ≡ s ∷ []

@@ -1,5 +1,5 @@
 -- How often a number stands in a list, and whether it does.
-use Rattle.std.proofs.Common.{ℕ, Bool, true, false, not, ◌==◌, ◌||◌, ◌&&◌, ◌+◌, ◌++◌, ◌≡◌, List, [], ◌∷◌, cond, filter, nat_lt, if◌then◌else◌, refl, sym, ap, ◌∙◌, true≢false, eqb-true, eq-eqb, zero-add, one-add, arith}
+use Rattle.std.proofs.Common.{ℕ, Bool, true, false, not, ◌==◌, ◌||◌, ◌&&◌, ◌+◌, ◌≡◌, List, [], ◌∷◌, cond, filter, nat_lt, if◌then◌else◌, refl, sym, ap, ◌∙◌, true≢false, eqb-true, eq-eqb, zero-add, one-add, arith}
 use Rattle.std.proofs.lemmas.Bool.{false≢true}
 use Rattle.std.proofs.Math.Dec.{eqb-suc-zero}
 use Rattle.std.specs.List.{list_any, list_all}
@@ -19,10 +19,6 @@ tally fd (n ∷ more) = one_if (n == fd) + tally fd more
 -- the number stands in the list
 abbrev pub is_in : ℕ → List ℕ → Bool
 is_in fd ns = list_any (λ n. n == fd) ns
-
-pub tally-append : (fd : ℕ) (xs ys : List ℕ) → tally fd (xs ++ ys) ≡ tally fd xs + tally fd ys
-tally-append fd [] ys = omega arith
-tally-append fd (x ∷ xs) ys = omega (arith, tally-append fd xs ys)
 
 put_step : (fd n m : ℕ) (b : Bool) (ms put : List ℕ) → tally fd put ≡ one_if (n == fd) + tally fd ms → tally fd (if b then n ∷ m ∷ ms else m ∷ put) ≡ one_if (n == fd) + (one_if (m == fd) + tally fd ms)
 put_step fd n m true ms put e = refl

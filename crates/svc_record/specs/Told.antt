@@ -1,7 +1,7 @@
 -- What a call told.
 use Rattle.std.specs.Prelude.{List, [], ◌∷◌, ◌++◌, ◌≡◌}
 use Rattle.svc_record.specs.declared.action.Action.{Action}
-use Rattle.svc_record.specs.declared.action.Action.TheVariants.{Start, Fail, Bind, Adopt, Close}
+use Rattle.svc_record.specs.declared.action.Action.TheVariants.{Fail, Close}
 
 -- a call appended actions to a list, and what it told meets Kept
 pub record Tells (before after : List Action) (Kept : List Action → Type 0) : Type 0 where
@@ -12,14 +12,6 @@ pub record Tells (before after : List Action) (Kept : List Action → Type 0) : 
 -- a call appended the same actions to two lists
 abbrev pub TellsBoth : List Action → List Action → List Action → List Action → Type 0
 TellsBoth before after before_again after_again = (told : List Action) × (after ≡ before ++ told) × (after_again ≡ before_again ++ told)
-
--- only starts and asks
-abbrev pub IsQuiet : List Action → Type 0
-IsQuiet [] = Unit {0}
-IsQuiet (Start s ∷ more) = IsQuiet more
-IsQuiet (Bind s i ∷ more) = IsQuiet more
-IsQuiet (Adopt s i fd ∷ more) = IsQuiet more
-IsQuiet (_ ∷ more) = ⊥
 
 -- only services that are given up, and closes
 abbrev pub IsGivingUp : List Action → Type 0

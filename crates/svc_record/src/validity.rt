@@ -7,9 +7,6 @@ ghost use Rattle.svc_record.specs.Plans.{service_count, depends};
 ghost use Rattle.svc_record.specs.Validity.{IsValid, IsStartupOrder, IsInOrder, IsAddress};
 ghost use Rattle.svc_record.specs.Building.{KeepsLimits, DependsWell, IsGraphUpTo, with_row};
 
-#[cfg(test)]
-mod tests;
-
 use crate::plan::{Plan, ServicePlan};
 use std::alloc::Global;
 use svc_conf::NoMemory;

@@ -1,13 +1,12 @@
 -- Adding a service to a server.
-use Rattle.std.proofs.Common.{ℕ, zero, suc, Bool, true, false, not, ◌||◌, ◌==◌, cond, List, [], ◌∷◌, ◌++◌, ◌≡◌, refl, sym, ◌∙◌, ap, subst, inl, inr, arith, ◌+◌, ◌<◌, ◌≤◌, length, map, take, drop, reverse, get_or, All, nat_lt, nat_le}
+use Rattle.std.proofs.Common.{ℕ, zero, suc, Bool, true, false, ◌==◌, cond, List, [], ◌∷◌, ◌++◌, ◌≡◌, refl, sym, ◌∙◌, ap, subst, inl, inr, arith, ◌+◌, ◌<◌, ◌≤◌, length, map, take, drop, reverse, get_or, All, nat_lt, nat_le}
 use Rattle.std.specs.Prelude.{Option, Some, None, IfSome, position, slice_get, unwrap_or}
-use Rattle.std.specs.List.{list_any, position_or_len}
+use Rattle.std.specs.List.{position_or_len}
 use Rattle.std.specs.Option.{option_map, option_or}
-use Rattle.std.proofs.lemmas.Bool.{and_parts, and_from, or_parts, or_from, not_from_false, ltb-false, leb-false, eqb-false, false_from_ne_true, le-leb, lt-leb, cases_lt}
-use Rattle.std.proofs.lemmas.List.{length-map, length-append, get_or-map, map_more, map_push, take_more, append_assoc, reverse-append, reverse-reverse}
+use Rattle.std.proofs.lemmas.Bool.{or_parts, ltb-false, leb-false, eqb-false, false_from_ne_true, lt-leb, cases_lt}
+use Rattle.std.proofs.lemmas.List.{length-append, map_push, take_more, append_assoc, reverse-append, reverse-reverse}
 use Rattle.std.proofs.lemmas.Option.{get_or_from_slice_get, same_Some}
 use Rattle.std.proofs.lemmas.List.Elements.{All-push, All-cons}
-use Rattle.std.proofs.lemmas.List.Folds.{list_any_at, list_any-append}
 use Rattle.svc_graph.specs.GraphData.{GraphData}
 use Rattle.svc_graph.specs.HandleData.{HandleData}
 use Rattle.svc_graph.specs.Graphs.{node_count, with_node}
@@ -122,15 +121,7 @@ sound-filters g n m answers le sound = record {
   filtered = λ k d lt j e lf. more-filters n m (get_or (get_or answers k d).endpoints j e).filter le (sound.filtered k d lt j e lf);
 }
 
--- so it does where a filter was added, or none was
-pub sound_filters : (g h : GraphData) (n m : ℕ) (old new : List ServicePlan) → h ≡ g → new ≡ old → n ≤ m → IsSound g n old → IsSound h m new
-sound_filters g h n m old new same_graph same_answers le sound =
-    subst (λ (k : GraphData). IsSound k m new) (sym same_graph) (subst (λ (answers : List ServicePlan). IsSound g m answers) (sym same_answers) (sound-filters g n m old le sound))
-
 -- ---- the first cause, step by step
-
-pub fault-full : (g : GraphData) (n : ℕ) (s : ServicePlan) → 1024 ≤ node_count g → fault_of g n s ≡ Some TooMany
-fault-full g n s full = rw (le-leb 1024 (node_count g) full) refl
 
 -- where there is room, the other causes decide
 pub fault-room : (g : GraphData) (n : ℕ) (s : ServicePlan) → node_count g < 1024 → fault_of g n s ≡ first_cause (endpoint_causes n s.endpoints)

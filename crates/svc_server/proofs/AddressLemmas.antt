@@ -35,14 +35,6 @@ among-others x z (w ∷ ws) apart =
       | inr differs ↦ rw differs (ap (λ b. bytes_eq w z || b) (among-others x z ws apart))
     ]
 
-among-each_once : (xs : List (List ℕ)) (z : List ℕ) → is_among (each_once xs) z ≡ is_among xs z
-among-each_once [] z = refl
-among-each_once (x ∷ xs) z =
-    elim (two (bytes_eq x z)) [
-      | inl same ↦ rw same refl
-      | inr differs ↦ ap (λ b. bytes_eq x z || b) (among-others x z (each_once xs) differs ∙ among-each_once xs z)
-    ]
-
 -- one text more, beside those that are other than x
 others-more : (x y : List ℕ) (zs : List (List ℕ)) → x ∷ others x (with_missing zs y) ≡ with_missing (x ∷ others x zs) y
 others-more x y zs =

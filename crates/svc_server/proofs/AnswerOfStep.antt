@@ -1,5 +1,5 @@
 -- What the answer of a step says of the record.
-use Rattle.std.proofs.Common.{◌≡◌, [], ◌∷◌, ◌||◌, Bool, true, false, if◌then◌else◌, List, refl, sym, subst, ◌∙◌}
+use Rattle.std.proofs.Common.{◌≡◌, [], ◌∷◌, ◌||◌, Bool, true, false, if◌then◌else◌, List, refl, sym, ◌∙◌}
 use Rattle.std.specs.Bool.{OnTrue}
 use Rattle.std.proofs.lemmas.Bool.{false≢true, or_parts}
 use Rattle.svc_record.specs.declared.plan.Plan.{Plan}

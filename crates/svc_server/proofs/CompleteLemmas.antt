@@ -11,9 +11,9 @@ use Rattle.svc_record.specs.declared.action.StepEnd.TheVariants as ends
 use Rattle.svc_record.specs.Record.{Record, tell, EachEntry}
 use Rattle.svc_record.specs.Connections.{Verdict}
 use Rattle.svc_record.specs.Drain.{has_passed}
-use Rattle.svc_record.specs.Ends.{step_end, has_ended, has_ended_early, ends_tested}
+use Rattle.svc_record.specs.Ends.{has_ended, has_ended_early, ends_tested}
 use Rattle.svc_record.specs.Fits.{fits, event_fits}
-use Rattle.svc_record.specs.Tail.{with_event, closing_actions}
+use Rattle.svc_record.specs.Tail.{closing_actions}
 use Rattle.svc_drain.proofs.Passing.{passed-tell}
 use Rattle.svc_server.specs.declared.run.Outcome.{Outcome}
 use Rattle.svc_server.specs.declared.run.Outcome.TheVariants.{Served, TestPassed, Parent}

@@ -1,5 +1,5 @@
 -- Services that are handed over: which are left, and what the host tells of it.
-use Rattle.std.proofs.Common.{ℕ, zero, suc, ◌≡◌, ◌<◌, ◌==◌, ◌||◌, Bool, true, false, List, [], ◌∷◌, map, take, length, set, get_or, ◌+◌, add-one, Option, Some, None, refl, ap, sym, subst, ◌∙◌, inl, inr, eq-eqb, arith}
+use Rattle.std.proofs.Common.{ℕ, zero, suc, ◌≡◌, ◌<◌, ◌==◌, ◌||◌, Bool, true, false, List, [], ◌∷◌, map, set, Option, Some, None, refl, ap, sym, subst, ◌∙◌, inl, inr, eq-eqb, arith}
 use Rattle.std.specs.Prelude.{slice_get, unwrap_or, IfSome}
 use Rattle.std.specs.Option.{option_map}
 use Rattle.std.proofs.lemmas.Bool.{false≢true}
@@ -14,7 +14,7 @@ use Rattle.svc_record.specs.Record.{Record, tell}
 use Rattle.svc_record.specs.Starts.{is_started}
 use Rattle.svc_server.specs.Hosts.{Handed, Account, with_entry, with_handed, starts_of, MayTell}
 use Rattle.svc_server.specs.Runs.{names_of, name_at, handed_of}
-use Rattle.svc_server.specs.Handing.{left_of, account_of, Hands, DueStart, DueStarts, MayHand, MayHandAll}
+use Rattle.svc_server.specs.Handing.{left_of, account_of, Hands, DueStart, DueStarts}
 
 slice_get-set_other : {X : Type 0} (xs : List X) (i j : ℕ) (x : X) → (j ≡ i → ⊥) → slice_get (set xs i x) j ≡ slice_get xs j
 slice_get-set_other [] i j x other = refl
@@ -96,40 +96,9 @@ none-taken left account p q s h due taken = let named = start-name left account 
 
 -- ---- the actions one by one
 
--- an action that is no start may be told
-pub may-other : (a : Action) (account : Option Account) → ((s : ℕ) → a ≡ Start s → ⊥) → IfSome account (MayTell a)
-may-other a None other = tt
-may-other (Start s) (Some x) other = absurd (other s refl)
-may-other _ (Some x) other = tt
-
 -- after some record the rest of the actions are due, and lead to the whole
 pub record Leads (left : List (Option (List ℕ))) (account : Option Account) (p : Plan) (rest : List Action) (whole : Record) : Type 0 where
   pub told : Record
   pub hands : Hands left account p told
   pub due : DueStarts p told rest
   pub leads : tell told rest ≡ whole
-
-pub leads-first : (left : List (Option (List ℕ))) (account : Option Account) (p : Plan) (q : Record) (actions : List Action) → Hands left account p q → DueStarts p q actions → Leads left account p actions (tell q actions)
-leads-first left account p q actions h due = record { told = q; hands = h; due = due; leads = refl }
-
--- the next action was told
-pub leads-more : (left now_left : List (Option (List ℕ))) (account now_account : Option Account) (p : Plan) (rest more : List Action) (a : Action) (whole : Record) → rest ≡ a ∷ more
-    → ((r : Plan) (t : Record) → Hands left account r t → DueStart r t a → Hands now_left now_account r (Told a ∷ t))
-    → Leads left account p rest whole → Leads now_left now_account p more whole
-leads-more left now_left account now_account p rest more a whole is step h =
-    let due : DueStarts p h.told (a ∷ more) = subst (DueStarts p h.told) is h.due in
-    record { told = Told a ∷ h.told; hands = step p h.told h.hands due.0; due = due.1; leads = sym (ap (tell h.told) is) ∙ h.leads }
-
--- all were told
-pub leads-all : (left : List (Option (List ℕ))) (account : Option Account) (p : Plan) (rest : List Action) (whole : Record) → rest ≡ [] → Leads left account p rest whole → Hands left account p whole
-leads-all left account p rest whole none h = subst (Hands left account p) (sym (ap (tell h.told) none) ∙ h.leads) h.hands
-
--- the next action may be told
-pub may-next : (left now_left : List (Option (List ℕ))) (account now_account : Option Account) (actions rest more : List Action) (a : Action) → rest ≡ a ∷ more
-    → ((p : Plan) (q : Record) → Hands left account p q → DueStarts p q actions → Leads now_left now_account p rest (tell q actions))
-    → MayHandAll left account actions → MayHand now_left now_account a
-may-next left now_left account now_account actions rest more a is before may =
-    let p = may.0 in
-    let h = before p may.1.0 may.1.1.0 may.1.1.1 in
-    let due : DueStarts p h.told (a ∷ more) = subst (DueStarts p h.told) is h.due in
-    (p, (h.told, (h.hands, due.0)))

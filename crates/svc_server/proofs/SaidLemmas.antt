@@ -1,6 +1,6 @@
 -- What filters said in a run, step by step.
-use Rattle.std.proofs.Common.{ℕ, Bool, true, false, not, ◌≡◌, ◌==◌, ◌||◌, ◌<◌, List, [], ◌∷◌, ◌++◌, map, Option, Some, None, refl, ap, sym, subst, ◌∙◌, append_assoc, append-nil, eq-eqb}
-use Rattle.std.specs.Prelude.{IfSome, if◌then◌else◌}
+use Rattle.std.proofs.Common.{ℕ, Bool, true, false, not, ◌≡◌, ◌||◌, ◌<◌, List, [], ◌∷◌, ◌++◌, map, Option, Some, None, refl, ap, sym, subst, ◌∙◌, append_assoc, append-nil, eq-eqb}
+use Rattle.std.specs.Prelude.{IfSome}
 use Rattle.svc_socket.specs.declared.peer.Peer.{Peer}
 use Rattle.svc_socket.specs.declared.peer.Peer.TheVariants.{Unknown, Unix, Inet}
 use Rattle.svc_socket.specs.declared.peer.PeerAddr.{PeerAddr}
@@ -12,7 +12,7 @@ use Rattle.svc_record.specs.declared.action.Action.{Action}
 use Rattle.svc_record.specs.declared.action.Action.TheVariants.{Judged, Cut, Close}
 use Rattle.svc_record.specs.Plans.{filter_of}
 use Rattle.svc_record.specs.Record.{Record, tell}
-use Rattle.svc_record.specs.Connections.{Arrival, Verdict, same_answer, is_known, has_filter, asked_peer, arrival_of, peers_asked, said_right, live_connections}
+use Rattle.svc_record.specs.Connections.{Arrival, Verdict, same_answer, has_filter, asked_peer, arrival_of, peers_asked, said_right, live_connections}
 use Rattle.svc_record.specs.Drain.{ascending, live_numbers}
 use Rattle.svc_record.specs.Judging.{asked_filter, judged_at, judgements, TellsJudged}
 use Rattle.svc_record.specs.Tail.{closing_actions, new_numbers}

@@ -1,7 +1,7 @@
 -- What giving one more item of a script keeps.
-use Rattle.std.proofs.Common.{◌≡◌, ℕ, zero, suc, ◌+◌, ◌<◌, ◌≤◌, List, [], ◌∷◌, ◌++◌, length, reverse, get_or, All, refl, ap, sym, subst, ◌∙◌, arith, length-append}
-use Rattle.std.specs.Prelude.{Option, Some, None, slice_get}
-use Rattle.std.proofs.lemmas.List.{reverse-append, append-nil}
+use Rattle.std.proofs.Common.{◌≡◌, ℕ, suc, ◌+◌, ◌≤◌, List, [], ◌∷◌, ◌++◌, length, reverse, All, refl, ap, sym, subst, ◌∙◌, arith, length-append}
+use Rattle.std.specs.Prelude.{Option, Some, slice_get}
+use Rattle.std.proofs.lemmas.List.{reverse-append}
 use Rattle.svc_record.specs.declared.action.ExecutionPhase.{ExecutionPhase}
 use Rattle.svc_record.specs.declared.entry.Entry.{Entry}
 use Rattle.svc_record.specs.declared.entry.Entry.TheVariants.{Got}
@@ -103,29 +103,6 @@ keeps_fault answers now_answers left more size now_size r phases faults idles is
       few = few-more items.Fault left more is kept.few;
       sized = (omega (arith, kept.sized, ap (λ (xs : List Item). length xs) is, less));
     })
-
-none-left : (left : List Item) → 0 ≡ length left → left ≡ []
-none-left [] h = refl
-none-left (x ∷ xs) h = absurd (omega arith)
-
--- what is left, where nothing comes
-pub left-none : (answers : List Next) (left : List Item) (size : ℕ) (r : Record) (phases : List ExecutionPhase) (faults idles : ℕ) → size ≡ 0 → KeepsScript answers left size r phases faults idles → left ≡ []
-left-none answers left size r phases faults idles none kept = none-left left (sym none ∙ kept.sized)
-
--- nothing more comes
-pub keeps_end : (answers : List Next) (left more : List Item) (size now_size : ℕ) (r : Record) (phases : List ExecutionPhase) (faults idles idled : ℕ) → more ≡ left → now_size ≡ size → size ≡ 0
-    → KeepsScript answers left size r phases faults idles → KeepsScript answers more now_size r phases faults idled
-keeps_end answers left more size now_size r phases faults idles idled same same_size none kept = record {
-  follows = record {
-    events = kept.follows.events;
-    faulted = kept.follows.faulted;
-    finished = λ _. same ∙ left-none answers left size r phases faults idles none kept;
-  };
-  counted = kept.counted;
-  phases_told = kept.phases_told;
-  few = subst (λ (xs : List Item). All GivesFew xs) (sym same) kept.few;
-  sized = same_size ∙ kept.sized ∙ ap (λ (xs : List Item). length xs) (sym same);
-}
 
 get-end : (xs : List Entry) (x : Entry) → slice_get (xs ++ x ∷ []) (length xs) ≡ Some x
 get-end [] x = refl

@@ -14,7 +14,7 @@ use Rattle.svc_record.specs.Right.{Right}
 use Rattle.svc_record.specs.Starts.{is_started, is_due, start_due, start_known}
 use Rattle.svc_record.proofs.Sound.{both}
 use Rattle.svc_record.specs.Connections.{Verdict}
-use Rattle.svc_record.specs.Judging.{asked_filter, judged_at, judgements, TellsJudged}
+use Rattle.svc_record.specs.Judging.{asked_filter, judged_at, TellsJudged}
 use Rattle.svc_core.specs.CoreData.{CoreData}
 use Rattle.svc_core.specs.Stands.{StandsFor, StepRight, BeginKeeps, StepKeeps}
 use Rattle.svc_server.specs.Hosts.{Account}

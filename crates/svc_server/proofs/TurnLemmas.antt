@@ -29,7 +29,7 @@ use Rattle.svc_server.specs.Hosts.{Account, no_account, ComesWith, AheadAfter, i
 use Rattle.svc_server.specs.Judges.{IsSaid, Judges}
 use Rattle.svc_server.specs.Runs.{events_of, names_of, IsClosed, IsEndedSo, RunEnds, RunTells, RunTakes, taken_items, LeavesNothing, answer_of}
 use Rattle.svc_server.specs.Handing.{account_of, names_by, Hands}
-use Rattle.svc_server.specs.Turns.{IsAt, IsAtEvent, IsSomewhereAtEvent, IsAhead, CanClose, ClosesTo, CanTake, Leaves, RunGives, TurnGives, EventGives, FailsBy}
+use Rattle.svc_server.specs.Turns.{IsAt, IsAtEvent, IsSomewhereAtEvent, IsAhead, ClosesTo, Leaves, RunGives, TurnGives, EventGives, FailsBy}
 use Rattle.svc_server.proofs.SaidLemmas.{said-untold, judges-got, closing-judges}
 use Rattle.svc_server.proofs.AnswerOfStep.{served_from_answer, on_from_answer, failure_from_answer}
 
@@ -334,19 +334,6 @@ pub at-came : (core core2 : CoreData) (left left2 : List (Option (List ℕ))) (a
 at-came core core2 left left2 account middle account2 k None q comes same_core same_left same_account after at = comes
 at-came core core2 left left2 account middle account2 k (Some e) q comes same_core same_left same_account after at =
     (comes, (q, at-event core core2 left left2 account account2 k e q same_core same_left (after ∙ ap (option_map (with_entry (Got e))) same_account) at))
-
--- what came brings few, can be taken, and can be closed
-pub few-at-event : (core : CoreData) (left : List (Option (List ℕ))) (account : Option Account) (k : ℕ) (last : Option Event) → IsSomewhereAtEvent core left account k last → ComesWith nexts.Event last
-few-at-event core left account k None h = h
-few-at-event core left account k (Some e) h = h.0
-
-pub close-at-event : (core : CoreData) (left : List (Option (List ℕ))) (account : Option Account) (k : ℕ) (last : Option Event) → IsSomewhereAtEvent core left account k last → CanClose core left account last
-close-at-event core left account k None h = absurd h
-close-at-event core left account k (Some e) h = (h.1.0, (h.1.1.stands, h.1.1.hands))
-
-pub take-at-event : (core : CoreData) (left : List (Option (List ℕ))) (account : Option Account) (k : ℕ) (last : Option Event) → IsSomewhereAtEvent core left account k last → CanTake core left account last
-take-at-event core left account k None h = h
-take-at-event core left account k (Some e) h = (h.1.0, ((h.1.1.stands, h.1.1.right), h.1.1.hands))
 
 -- ---- the first step
 

@@ -1,5 +1,5 @@
 -- What a server's services answer, and the plan that a server is run by.
-use Rattle.std.specs.Prelude.{ℕ, Bool, true, false, ◌≡◌, ◌<◌, ◌≤◌, ◌+◌, ◌||◌, List, [], ◌∷◌, length, map, filter, All, Option, Some, None, IfSome, unwrap_or, Result, Ok, Err, if◌then◌else◌}
+use Rattle.std.specs.Prelude.{ℕ, Bool, false, ◌≡◌, ◌<◌, ◌≤◌, ◌+◌, ◌||◌, List, [], ◌∷◌, length, map, filter, All, Option, Some, None, IfSome, unwrap_or, Result, Ok, Err}
 use Rattle.std.specs.List.{range_with_len}
 use Rattle.svc_conf.specs.declared.server.configuration.ServerConf.{ServerConf}
 use Rattle.svc_conf.specs.declared.server.configuration.Opt.{Opt}

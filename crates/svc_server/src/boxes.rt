@@ -1,6 +1,6 @@
 //! The services that aren't handed over yet.
 
-ghost use Rattle.std.specs.Prelude.{◌≡◌, ◌<◌, length, map, Option, Some, None, List, IfOk, slice_get, slice_set, unwrap_or};
+ghost use Rattle.std.specs.Prelude.{◌≡◌, ◌<◌, map, Option, Some, None, List, IfOk, slice_get, slice_set, unwrap_or};
 ghost use Rattle.std.specs.Option.{option_map};
 ghost use Rattle.svc_server.specs.Handing.{names_by};
 

@@ -1,6 +1,6 @@
 //! A host that is made from a list of what it gives.
 
-ghost use Rattle.std.specs.Prelude.{◌≡◌, ◌+◌, ◌<◌, ◌≤◌, ◌++◌, ◌∷◌, ℕ, List, [], length, map, reverse, All, Some, None, IsSome, IfSome, MatchBool, OnOk};
+ghost use Rattle.std.specs.Prelude.{◌≡◌, ◌+◌, ◌<◌, ◌≤◌, ◌++◌, ◌∷◌, [], length, map, reverse, All, Some, None, IsSome, MatchBool};
 ghost use Rattle.svc_conf.specs.Items.{list_of, spare};
 ghost use Rattle.svc_conf.specs.Streams.{Rose};
 ghost use Rattle.svc_server.specs.Hosts.{no_account, tells_failure};
@@ -214,6 +214,3 @@ impl<B: ServiceWithDependents> Host for ScriptHost<B> {
         self.entries.put(Entry::Told(action));
     }
 }
-
-#[cfg(test)]
-mod tests;

@@ -415,6 +415,3 @@ impl<B: ServiceWithDependents, F: ConnectionFilter> Server<B, F> {
         status_of(answer)
     }
 }
-
-#[cfg(test)]
-mod tests;

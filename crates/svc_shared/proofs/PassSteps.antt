@@ -1,5 +1,5 @@
 -- KINDS 5 to 7, and the reads that go with them, as the table asks for them.
-use Rattle.std.proofs.Common.{◌≡◌, ◌≢◌, inr, ⊎_elim, ℕ, ◌+◌, ◌*◌, ◌%◌, ◌≤◌, ◌<◌, Bool, false, List, [], ◌∷◌, length, ◌==◌, if◌then◌else◌, refl, sym, ap, ◌∙◌, subst, arith, set, Some, None}
+use Rattle.std.proofs.Common.{◌≡◌, ◌≢◌, inr, ⊎_elim, ℕ, ◌+◌, ◌*◌, ◌≤◌, ◌<◌, Bool, false, List, [], ◌∷◌, length, ◌==◌, if◌then◌else◌, refl, sym, ap, ◌∙◌, subst, arith, set, Some, None}
 use mathlib.Core.Option as maybe
 use lib.ListN.{get_elem?}
 use prog.Atomic.{either}
@@ -9,7 +9,7 @@ use Rattle.atomic_table.proofs.Lists.{exchanged, set_else}
 use Rattle.svc_record.specs.Journal.{PostData}
 use Rattle.svc_book.specs.BookData.{BookData}
 use Rattle.svc_shared.specs.declared.view.View.{View}
-use Rattle.svc_shared.specs.Views.{Slot, Mine, Begins, IsWhole, noted, drew, lower, upper, glued, spent_view, longer, settled}
+use Rattle.svc_shared.specs.Views.{Slot, Begins, IsWhole, noted, drew, lower, upper, glued, spent_view, longer, settled}
 use Rattle.svc_shared.specs.Rule.{Role, turn_word, home, Parts, Kept}
 use Rattle.svc_shared.specs.Steps.{counted, drew_one, settled_down}
 use Rattle.svc_shared.proofs.OwnLemmas.{begins-whole, begins-shorter}
@@ -116,9 +116,6 @@ longer_begins journal xs ys b c = ⊎_elim
     (λ (le : length ys ≤ length xs). let is : xs ≡ longer xs ys = ap (λ (t : Bool). if t then ys else xs) (sym (le-ltb (length xs) (length ys) le)) in
     subst (λ (zs : List PostData). Begins zs xs × Begins zs ys × Begins journal zs) is (begins-whole xs, begins-shorter journal ys xs c b le, b))
     (cases_lt (length xs) (length ys))
-
-even-two : (n : ℕ) → (2 * n) % 2 ≡ 0
-even-two n = omega arith
 
 -- KIND 1: a load of the turn's word, after which a joined pass has one front
 pub settles : (b : BookData) (slots id : ℕ) (v : View) (cs : List (ℕ × Slot)) (st : Step Slot) → v.hand.spent ≡ false → v.sight.holding ≡ false → Allows (Kept b) slots id (v, cs) 0 (λ n. n) (settled_down st (v, cs))

@@ -1,5 +1,5 @@
 -- From what the steps tell to what a post's answer tells.
-use Rattle.std.proofs.Common.{◌≡◌, ◌≢◌, ◌⊎◌, inl, inr, ⊎_elim, ℕ, ◌*◌, ◌%◌, ◌≤◌, Bool, List, [], ◌∷◌, ◌++◌, length, refl, sym, ap, ◌∙◌, subst, append_assoc, Some, Result, Ok, Err, IfOk, IfErr}
+use Rattle.std.proofs.Common.{◌≡◌, ◌≢◌, ◌⊎◌, inl, inr, ⊎_elim, ℕ, ◌*◌, ◌%◌, ◌≤◌, Bool, List, [], ◌∷◌, ◌++◌, length, sym, ap, ◌∙◌, subst, append_assoc, Some, Result, Ok, Err, IfOk, IfErr}
 use Rattle.svc_conf.specs.Items.{list_of}
 use Rattle.svc_record.specs.declared.event.Event.{Event}
 use Rattle.svc_book.specs.declared.book.Refusal.{Refusal}
@@ -16,8 +16,8 @@ use Rattle.svc_shared.specs.declared.refusals.PostRefused.{PostRefused}
 use Rattle.svc_shared.specs.declared.refusals.PostReason.{PostReason}
 use Rattle.svc_shared.specs.declared.refusals.PostReason.TheVariants.{Busy}
 use Rattle.svc_shared.specs.declared.pass.SharedServer.{SharedServer}
-use Rattle.svc_shared.specs.Views.{Mine, Begins, note, noted, book_of}
-use Rattle.svc_shared.specs.Turn.{IsIdle, Took, Lost, Waited, LeftWith}
+use Rattle.svc_shared.specs.Views.{Mine, Begins, note, book_of}
+use Rattle.svc_shared.specs.Turn.{Took, Lost, Waited, LeftWith}
 use Rattle.svc_shared.specs.Posting.{hand_in, seen_of, own_of, notes_of, origin_of, IsOf, IsPosted, LastNote, HasCause, IsBusy, IsRefused, LeftFor, reason_is}
 use Rattle.svc_shared.proofs.OwnLemmas.{own-mine, begins-whole, begins-more}
 
@@ -130,21 +130,3 @@ busy_by s p of word event r table same reason lost =
 
     busy : ((notes_of r.pass ≡ notes_of p ++ note 0 word ∷ []) × (word % 2 ≡ 1)) ⊎ ((first : ℕ) × (first ≢ word) × (notes_of r.pass ≡ (notes_of p ++ note 0 first ∷ []) ++ note 0 word ∷ []))
     busy = ⊎_elim (λ once. inl (ap (λ (m : Mine). m.0.sight.notes) once.0, once.1)) (λ twice. inr (twice.0, twice.1, ap (λ (m : Mine). m.0.sight.notes) twice.2)) lost.1
-
-pub waits_none : (m : Mine) → Waited m m
-waits_none m = record { hand_is = refl; seen_is = refl; own_is = refl; notes = begins-whole m.0.sight.notes }
-
-pub waits_on : (m n : Mine) (word : ℕ) (w : Mine) → Waited m n → IsIdle n → Lost word n w → Waited m w × IsIdle w
-waits_on m n word w before idle lost = ⊎_elim (λ once. one once.0) (λ twice. two twice.0 twice.2) lost.1
-  where
-    one : w ≡ (noted n.0 0 word (Some word), n.1) → Waited m w × IsIdle w
-    one is = subst (λ (x : Mine). Waited m x × IsIdle x) (sym is) (
-      record { hand_is = before.hand_is; seen_is = before.seen_is; own_is = before.own_is; notes = begins-more n.0.sight.notes (note 0 word ∷ []) m.0.sight.notes before.notes },
-      record { bare = idle.bare; live = idle.live; free = idle.free },
-    )
-
-    two : (first : ℕ) → w ≡ (noted (noted n.0 0 first (Some first)) 0 word (Some word), n.1) → Waited m w × IsIdle w
-    two first is = subst (λ (x : Mine). Waited m x × IsIdle x) (sym is) (
-      record { hand_is = before.hand_is; seen_is = before.seen_is; own_is = before.own_is; notes = begins-more (n.0.sight.notes ++ note 0 first ∷ []) (note 0 word ∷ []) m.0.sight.notes (begins-more n.0.sight.notes (note 0 first ∷ []) m.0.sight.notes before.notes) },
-      record { bare = idle.bare; live = idle.live; free = idle.free },
-    )

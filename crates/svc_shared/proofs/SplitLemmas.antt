@@ -76,12 +76,6 @@ module _ (b : BookData) (next : ℕ) (role : ℕ → Role) (keeper : ℕ → ℕ
   long : length (set hands id L) ≡ m
   long = length-set hands id L ∙ length-map views hand_of
 
-  inside : id < m
-  inside = at_below views id v at
-
-  below : (j : ℕ) (h : Hand) → get_elem? hands j ≡ maybe.some h → j < m
-  below j h e = let lt = at_below hands j h e in let same = length-map views hand_of in omega arith
-
   number_of : U.number ≡ k
   number_of = ap (λ (d : Option ℕ). drawn_or d 0) has
 

@@ -16,6 +16,3 @@ pub use refusals::{CloseRefused, PostReason, PostRefused, SplitReason, SplitRefu
 pub use svc_book::Post;
 pub use view::{Ended, Hand, Note, Sight, View};
 pub use work::{Fed, Feed, Gate};
-
-#[cfg(test)]
-mod tests;

@@ -1,5 +1,5 @@
 //! Splitting a pass, and joining two.
-ghost use Rattle.std.specs.Prelude.{◌≡◌, ◌+◌, ◌<◌, ◌≤◌, Some, None, IfOk, IfErr, IfSome, IfNone};
+ghost use Rattle.std.specs.Prelude.{◌≡◌, ◌+◌, ◌<◌, Some, None, IfOk, IfErr, IfSome, IfNone};
 ghost use Rattle.svc_shared.specs.Turn.{IsIdle};
 ghost use Rattle.svc_shared.specs.Sharing.{Drawn, Undrawn, IsCut, IsSplit, IsUnsplit, IsJoined};
 ghost use Rattle.svc_shared.specs.Posting.{IsOf, hand_in};

@@ -1,9 +1,8 @@
 //! Steps of one seat: taking the turn, and leaving it.
-ghost use Rattle.std.specs.Prelude.{◌≡◌, ◌≢◌, ℕ, ◌+◌, ◌*◌, ◌%◌, ◌<◌, ◌^◌, false, true, [], ◌∷◌, ◌++◌, length, IfOk, IfErr, Some};
+ghost use Rattle.std.specs.Prelude.{◌≡◌, ◌+◌, ◌%◌, ◌<◌, ◌^◌, [], ◌∷◌, IfOk, IfErr, Some};
 ghost use Rattle.svc_record.specs.Journal.{post};
 ghost use Rattle.svc_conf.specs.Items.{list_of};
-ghost use Rattle.svc_book.specs.Refusals.{IsDue};
-ghost use Rattle.svc_shared.specs.Views.{book_of, first_view, left};
+ghost use Rattle.svc_shared.specs.Views.{book_of, left};
 ghost use Rattle.svc_shared.specs.Turn.{IsIdle, HasTurn, Lifted, GivesBack, Took, Lost, LeftWith, LeftWithout};
 
 use crate::pass::SharedServer;

@@ -10,10 +10,6 @@ use Rattle.svc_socket.specs.ReadPeers.{put_before, numbers_of, so_many_of}
 abbrev pub behind_all : List ℕ → Option (List ℕ) → Option (List ℕ)
 behind_all front rest = option_map (λ ns. front ++ ns) rest
 
-behind_none : (rest : Option (List ℕ)) → behind_all [] rest ≡ rest
-behind_none None = refl
-behind_none (Some ns) = refl
-
 behind_one : (front : List ℕ) (n : ℕ) (rest : Option (List ℕ)) → behind_all front (put_before (Some n) rest) ≡ behind_all (front ++ n ∷ []) rest
 behind_one front n None = refl
 behind_one front n (Some ns) = ap (λ (xs : List ℕ). Some xs) (sym (append_assoc front (n ∷ []) ns))
@@ -29,9 +25,6 @@ never_some false = refl
 pub record HasRead (read : List ℕ → Option ℕ) (words : List (List ℕ)) (i : ℕ) (front : List ℕ) (rest : List (List ℕ)) : Type 0 where
   pub numbers : numbers_of read words ≡ behind_all front (numbers_of read rest)
   pub count : length words ≡ i + length rest
-
-pub read_none : (read : List ℕ → Option ℕ) (words : List (List ℕ)) → HasRead read words 0 [] words
-read_none read words = record { numbers = sym (behind_none (numbers_of read words)); count = omega arith }
 
 pub read_more : (read : List ℕ → Option ℕ) (words : List (List ℕ)) (i : ℕ) (front word : List ℕ) (later rest : List (List ℕ)) (n : ℕ)
     → HasRead read words i front rest → rest ≡ word ∷ later → Some n ≡ read word → HasRead read words (i + 1) (front ++ n ∷ []) later

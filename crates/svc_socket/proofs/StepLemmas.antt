@@ -1,14 +1,14 @@
 -- Options that were set one after the other.
-use Rattle.std.proofs.Common.{◌≡◌, ℕ, ◌+◌, ◌<◌, Bool, true, false, List, [], ◌∷◌, ◌++◌, length, get_or, take, drop, Option, Some, None, Result, Ok, Err, refl, sym, ap, subst, ◌∙◌, append_assoc, inl, inr}
+use Rattle.std.proofs.Common.{◌≡◌, ℕ, ◌+◌, ◌<◌, true, false, List, [], ◌∷◌, ◌++◌, length, get_or, take, drop, Option, Some, None, Result, Ok, Err, refl, sym, ap, subst, ◌∙◌, append_assoc, inl, inr}
 use Rattle.std.specs.List.{cons_option}
 use Rattle.std.specs.Option.{option_to_list}
 use Rattle.std.proofs.lemmas.List.{take_more, take-append-drop}
 use Rattle.std.proofs.lemmas.List.Elements.{filter_map-append}
 use Rattle.svc_conf.specs.Streams.{Rose}
 use Rattle.svc_calls.specs.Calls.{Adds}
-use Rattle.svc_calls.proofs.CallLemmas.{Adds-nil, Adds-then}
+use Rattle.svc_calls.proofs.CallLemmas.{Adds-then}
 use Rattle.svc_socket.specs.OptionsData.{OptionsData, IsAsked}
-use Rattle.svc_socket.specs.Steps.{Steps, given, set_calls, AllSet, Sets, Tries}
+use Rattle.svc_socket.specs.Steps.{Steps, given, set_calls, AllSet, Sets}
 use Rattle.svc_socket.specs.declared.options.SockOption.{SockOption}
 use Rattle.svc_socket.specs.declared.options.OptionCall.{OptionCall}
 use Rattle.svc_socket.specs.declared.protocols.l4.ext.OptionError.{OptionError}
@@ -19,9 +19,6 @@ Answer = Result (Unit {0}) OptionError
 set_calls-append : (xs ys : Steps) → set_calls (xs ++ ys) ≡ set_calls xs ++ set_calls ys
 set_calls-append [] ys = refl
 set_calls-append (x ∷ xs) ys = ap (λ (zs : List OptionCall). record { option = x.0; set = true } ∷ zs) (set_calls-append xs ys)
-
-pub Sets-none : (a : OptionsData) → Sets [] (Ok tt) a a (Ok tt)
-Sets-none a = inl (record { called = Adds-nil a.called; family = refl; faults = refl; answer_is = refl })
 
 all_then : (xs ys : Steps) (last : Answer) (a b c : OptionsData) (r : Answer) → AllSet xs (Ok tt) a b (Ok tt) → Sets ys last b c r → Sets (xs ++ ys) last a c r
 all_then xs ys last a b c r p (inl q) =
@@ -105,7 +102,3 @@ Sets-failed xs ys last a b e s p = subst (λ (zs : Steps). Sets zs last a b (Err
 
 pub Sets-ended : (xs ys : Steps) (r last : Answer) (a b : OptionsData) → xs ≡ ys → r ≡ last → Sets xs (Ok tt) a b (Ok tt) → Sets ys last a b r
 Sets-ended xs ys r last a b s t p = subst (λ (x : Answer). Sets ys last a b x) (sym t) (subst (λ (zs : Steps). Sets zs last a b last) s (ended_so xs last a b p))
-
-pub Tries-small : (large : Bool) (xs : Steps) (last : Answer) (a b : OptionsData) (r : Answer) → large ≡ false → Sets xs last a b r → Tries large xs last a b r
-Tries-small true xs last a b r e p = absurd cc
-Tries-small false xs last a b r e p = p

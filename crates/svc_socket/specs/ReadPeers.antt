@@ -1,7 +1,7 @@
 -- The address that a text spells, and the peer that a word names.
 use Rattle.std.specs.Prelude.{ℕ, ◌+◌, ◌*◌, ◌^◌, Bool, not, ◌||◌, ◌&&◌, ◌==◌, nat_lt, nat_le, if◌then◌else◌, List, [], ◌∷◌, length, codes, slice_index, Option, Some, None}
 use Rattle.std.specs.List.{list_all, slice_split}
-use Rattle.std.specs.Option.{option_map, option_map_or, option_or, option_and_then}
+use Rattle.std.specs.Option.{option_map, option_map_or, option_or}
 use Rattle.std.specs.Str.{bytes_eq}
 use Rattle.std.specs.Str.Parse.{digits_value}
 use Rattle.svc_conf.specs.Values.{number_of}
@@ -13,9 +13,6 @@ use Rattle.svc_socket.specs.declared.reading.IpNumber.{IpNumber}
 use Rattle.svc_socket.specs.declared.reading.IpNumber.TheVariants as ip
 
 infixl 10 ◌>>=◌
-abbrev pub ◌>>=◌ : {A B : Type 0} → Option A → (A → Option B) → Option B
-o >>= f = option_and_then f o
-
 -- '0' to '9', or 'a' to 'f'
 abbrev pub is_hex_digit : ℕ → Bool
 is_hex_digit b = (nat_le 48 b && nat_le b 57) || (nat_le 97 b && nat_le b 102)

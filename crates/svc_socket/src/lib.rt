@@ -24,6 +24,3 @@ pub use protocols::l4::virt::{IoPoll, VirtualSockOpt, VirtualSocket, VirtualSock
 pub use protocols::tls::digest::{SslDigest, SslDigestExtension};
 pub use reading::{IpNumber, read_ip, read_peer, read_peer_word};
 pub use svc_conf::{Setting, Settings, TcpKeepalive};
-
-#[cfg(test)]
-mod tests;

@@ -14,6 +14,3 @@ pub use protocols::l4::stream::{
     DEFAULT_L4_READ_BUFFER_SIZE, DEFAULT_L4_WRITE_BUFFER_SIZE, L4BufferSettings, L4Stream, Peer,
     StepPoll,
 };
-
-#[cfg(test)]
-mod tests;

@@ -87,17 +87,6 @@ row_more f a xs x c d =
     let o : (d == x) ≡ (x == d) = same_order d x in
     rw (o, l) (regroup (f c d) (c == a) (list_any (λ y. y == d) xs) (x == d))
 
-row_none : (f p : Bool) → f ≡ (f || (p && false))
-row_none true p = refl
-row_none false true = refl
-row_none false false = refl
-
-pub taken_none : (g : GraphData) (a : ℕ) → IsAcyclic (is_edge g) → HasTaken g g a []
-taken_none g a h = record {
-  edges = record { count = refl; same = λ c d. row_none (is_edge g c d) (c == a); acyclic = h };
-  known = λ k d lt. absurd (omega arith);
-}
-
 taken_more : (old g h : GraphData) (a x : ℕ) (xs : List ℕ) → HasTaken old g a xs → node_count h ≡ node_count g
     → ((c d : ℕ) → is_edge h c d ≡ (is_edge g c d || (c == a && d == x))) → IsAcyclic (is_edge h) → x < node_count g → HasTaken old h a (xs ++ x ∷ [])
 taken_more old g h a x xs t count edges acyclic below = record {

@@ -1,5 +1,5 @@
 -- What a script says, of the lines that fit.
-use Rattle.std.proofs.Common.{◌≡◌, ℕ, ◌+◌, ◌≤◌, Bool, true, false, not, ◌==◌, List, [], ◌∷◌, length, take, drop, Some, None, Result, Ok, Err, IfOk, All, refl, sym, ap, subst, ◌∙◌, arith}
+use Rattle.std.proofs.Common.{◌≡◌, ℕ, ◌+◌, ◌≤◌, Bool, true, false, not, ◌==◌, List, [], ◌∷◌, length, take, drop, Some, None, Result, Ok, Err, refl, sym, ap, subst, ◌∙◌, arith}
 use Rattle.std.specs.Str.Lines.{lines}
 use Rattle.std.proofs.lemmas.List.{length-drop, length-take-le}
 use Rattle.std.proofs.Math.Seq.{take-length}
@@ -13,7 +13,6 @@ use Rattle.svc_text.specs.declared.reading.Reading.{Reading}
 use Rattle.svc_text.specs.declared.front.Front.{Front}
 use Rattle.svc_text.specs.Outcome.{Gives, SaysConf}
 use Rattle.svc_text.specs.ConfTexts.{text_at, IsConfText}
-use Rattle.svc_text.specs.Accepted.{AreAccepted, BringsFew}
 use Rattle.svc_text.specs.Fronts.{HasSaid, IsFront, finished}
 use Rattle.svc_text.specs.Script.{part_number, line_fits, begun, first_misfit, fitting, conf_in, refused_line, lines_before, judged, script_of, script, AreLines}
 use Rattle.svc_text.proofs.ConfTextLemmas.{HasText}
@@ -103,28 +102,3 @@ finished_gives all f conf h is = by_tests f.refused (part_number f.reading.part 
         let said = h.said e in
         let b : (begun (fitting (lines all)) == 3) ≡ true = ap (λ (k : ℕ). k == 3) (sym said.part) ∙ g in
         rw (behind all f conf h is, e, g, b, ← said.services, ← said.eager, ← said.items) refl
-
--- a script that is answered is of lines that all fit
-pub finished_whole : (f : Front) (conf : ServerConf) → IfOk (finished f conf) (λ s. (f.refused ≡ false) × (s.services ≡ f.reading.services) × (s.lines ≡ f.lines) × (s.items ≡ f.reading.items))
-finished_whole f conf = by_tests f.refused (part_number f.reading.part == 3) refl refl
-  where
-    by_tests : (r p : Bool) → f.refused ≡ r → (part_number f.reading.part == 3) ≡ p → IfOk (finished f conf) (λ s. (f.refused ≡ false) × (s.services ≡ f.reading.services) × (s.lines ≡ f.lines) × (s.items ≡ f.reading.items))
-    by_tests true p e g = rw e tt
-    by_tests false false e g = rw (e, g) tt
-    by_tests false true e g = rw (e, g) (refl, refl, refl, refl)
-
-if_ok : {A B : Type 0} (P Q : A → Type 0) (r : Result A B) → IfOk r P → ((x : A) → P x → Q x) → IfOk r Q
-if_ok P Q (Ok x) p f = f x p
-if_ok P Q (Err e) p f = tt
-
-pub finished_accepted : (all : List ℕ) (f : Front) (conf : ServerConf) → IsFront all f → IfOk (finished f conf) (λ s. AreAccepted s.services.items)
-finished_accepted all f conf h =
-    if_ok _ (λ s. AreAccepted s.services.items) (finished f conf) (finished_whole f conf) (λ s w. rw w.1 (h.said w.0).accepted)
-
-pub finished_numbered : (all : List ℕ) (f : Front) (conf : ServerConf) → IsFront all f → IfOk (finished f conf) (λ s. AreLines (lines all) (length s.services.items) s.lines.items)
-finished_numbered all f conf h =
-    if_ok _ (λ s. AreLines (lines all) (length s.services.items) s.lines.items) (finished f conf) (finished_whole f conf) (λ s w. rw (w.1, w.2) (h.places w.0))
-
-pub finished_few : (all : List ℕ) (f : Front) (conf : ServerConf) → IsFront all f → IfOk (finished f conf) (λ s. All BringsFew s.items.items)
-finished_few all f conf h =
-    if_ok _ (λ s. All BringsFew s.items.items) (finished f conf) (finished_whole f conf) (λ s w. rw w.3 (h.said w.0).few)

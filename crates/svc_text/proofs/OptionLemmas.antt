@@ -1,13 +1,12 @@
 -- The options of a line's endpoints.
-use Rattle.std.proofs.Common.{◌≡◌, ℕ, zero, suc, ◌+◌, ◌<◌, Bool, true, false, cond, List, [], ◌∷◌, ◌++◌, length, get_or, take, set, All, Option, Some, None, unwrap_or, IfSome, OnOk, Ok, Err, refl, sym, ap, subst, ◌∙◌, arith, add-zero, zero-add}
+use Rattle.std.proofs.Common.{◌≡◌, ℕ, zero, suc, ◌+◌, ◌<◌, Bool, true, false, cond, List, [], ◌∷◌, ◌++◌, length, get_or, take, set, All, Option, Some, None, IfSome, OnOk, Ok, Err, refl, sym, ap, subst, ◌∙◌, arith, add-zero, zero-add}
 use Rattle.std.specs.Prelude.{Result}
-use Rattle.std.specs.Option.{option_map, option_or}
-use Rattle.std.specs.List.{slice_get}
+use Rattle.std.specs.Option.{option_or}
 use Rattle.std.proofs.lemmas.List.{take_more, length-take-le}
 use Rattle.svc_conf.specs.declared.settings.Setting.{Setting}
 use Rattle.svc_text.specs.declared.service.EndpointLine.{EndpointLine}
 use Rattle.svc_text.specs.ServiceLines.{is_address}
-use Rattle.svc_text.specs.EndpointOptions.{last_tcp_from, options_at, with_option, with_option_at}
+use Rattle.svc_text.specs.EndpointOptions.{last_tcp_from, with_option, with_option_at}
 
 pub with_option_at-length : (k : ℕ) (option : Setting) (es : List EndpointLine) → length (with_option_at k option es) ≡ length es
 with_option_at-length k option [] = refl
@@ -36,11 +35,6 @@ option_added k option es now e options (Err x) same lt is h = tt
 option_added k option es now e options (Ok x) same lt is h =
     let inside : k < length es = omega (arith, ap length same) in
     ap (λ (os : List Setting). set es k (record { address = e.address; unix = e.unix; options = os })) h ∙ with_option_at-set k option es e inside is ∙ ap (with_option_at k option) same
-
-pub options_at-is : (k : ℕ) (es : List EndpointLine) (e : EndpointLine) → k < length es → e ≡ get_or es k e → e.options ≡ options_at k es
-options_at-is k [] e lt is = absurd (omega arith)
-options_at-is zero (x ∷ es) e lt is = ap (λ (y : EndpointLine). y.options) is
-options_at-is (suc k) (x ∷ es) e lt is = options_at-is k es e (omega arith) is
 
 -- one more endpoint behind the others
 last_push : (n : ℕ) (es : List EndpointLine) (e : EndpointLine) → last_tcp_from n (es ++ e ∷ []) ≡ cond e.unix (last_tcp_from n es) (Some (n + length es))

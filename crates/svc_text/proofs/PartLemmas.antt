@@ -18,9 +18,6 @@ use Rattle.svc_text.specs.Script.{is_header, begun, part_of, services_in, eager_
 pick : {X : Type 0} → Bool → X → List X
 pick b y = cond b (y ∷ []) []
 
-part_at : {X : Type 0} → (X → Bool) → ℕ → List X → List X
-part_at p n xs = get_or (slice_split p xs) n []
-
 part-first : {X : Type 0} (x : X) (parts : List (List X)) → 0 < length parts → get_or (onto_first x parts) 0 [] ≡ x ∷ get_or parts 0 []
 part-first x [] h = absurd (omega arith)
 part-first x (part ∷ parts) h = refl

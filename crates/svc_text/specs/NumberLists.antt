@@ -1,5 +1,5 @@
 -- Numbers joined by commas.
-use Rattle.std.specs.Prelude.{ℕ, ◌^◌, ◌==◌, List, [], ◌∷◌, map, Option, Some, None}
+use Rattle.std.specs.Prelude.{ℕ, ◌^◌, ◌==◌, List, [], ◌∷◌, map, Option, Some}
 use Rattle.std.specs.List.{slice_split}
 use Rattle.svc_text.specs.Words.{◌>>=◌, number_of}
 

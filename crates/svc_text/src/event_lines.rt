@@ -246,6 +246,3 @@ pub fn item_of_line(alloc: Global, line: &[u8]) -> Result<Option<Item>, NoMemory
         None => Ok(None),
     }
 }
-
-#[cfg(test)]
-mod tests;

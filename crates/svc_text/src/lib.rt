@@ -29,6 +29,3 @@ pub use plans::accepted_plan;
 pub use printing::{one_record, record_text};
 pub use refused::{add_dependencies, one_refused_service};
 pub use service::{EndpointLine, ServiceLine};
-
-#[cfg(test)]
-mod tests;

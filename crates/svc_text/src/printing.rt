@@ -27,6 +27,3 @@ pub fn record_text(alloc: Global, entries: &[Entry]) -> Result<String, NoMemory>
 pub fn one_record()
     ensures { (r q : List Entry) → All EntryFits r → All EntryFits q → text_of r ≡ text_of q → r ≡ q }
 {}
-
-#[cfg(test)]
-mod tests;

@@ -1,6 +1,6 @@
 //! The lines of a script, one after the other.
 
-ghost use Rattle.std.specs.Prelude.{◌≡◌, ◌+◌, ◌++◌, ◌==◌, ◌||◌, [], ◌∷◌, not, true, false, nat_eq, OnOk, is_some, if◌then◌else◌};
+ghost use Rattle.std.specs.Prelude.{◌≡◌, ◌+◌, ◌++◌, ◌==◌, ◌||◌, [], ◌∷◌, not, true, false, OnOk, is_some};
 ghost use Rattle.std.specs.Str.{is_utf8};
 ghost use Rattle.svc_text.specs.declared.part.Part.TheVariants.{Nothing};
 ghost use Rattle.svc_text.specs.Outcome.{After, Said, Tests};

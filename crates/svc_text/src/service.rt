@@ -1,9 +1,8 @@
 //! What a service line says.
 
-ghost use Rattle.std.specs.Prelude.{◌≡◌, ◌<◌, ◌≤◌, ◌^◌, [], ◌∷◌, ◌++◌, length, unwrap_or, IfOk, IfSome, MatchOption, Option, Some, None, nat_le};
+ghost use Rattle.std.specs.Prelude.{◌≡◌, ◌<◌, ◌≤◌, [], ◌∷◌, length, unwrap_or, IfOk, IfSome, MatchOption, Option, Some, None};
 ghost use Rattle.std.specs.Option.{option_map};
-ghost use Rattle.std.specs.Str.{is_utf8};
-ghost use Rattle.svc_text.specs.Words.{words, number_of, text_in};
+ghost use Rattle.svc_text.specs.Words.{words, text_in};
 ghost use Rattle.svc_text.specs.EndpointOptions.{keepalive_of, option_of};
 ghost use Rattle.svc_text.specs.ServiceLines.{is_name, name_of, kind_of, numbers_of, is_address, address_of, boots, with_after, with_endpoint, with_claim, with_undeclared, ip_in, with_block, with_option_of, with_setting, with_address, with_item, with_items, service_of, is_eager, Takes};
 

@@ -283,8 +283,3 @@ fn offload(pools: Option<u64>, threads_per_pool: Option<u64>) -> Option<(u64, u6
         .zip(threads_per_pool)
         .filter(|(pools, threads)| *pools > 0 && *threads > 0)
 }
-
-#[cfg(test)]
-mod tests;
-#[cfg(test)]
-mod text_tests;

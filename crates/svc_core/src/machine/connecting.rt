@@ -1,6 +1,6 @@
 //! What becomes of connections in a step.
 
-ghost use Rattle.std.specs.Prelude.{◌≡◌, ◌+◌, ◌<◌, ◌≤◌, ◌++◌, ◌||◌, not, [], true, IfOk, OnErr, OnOk, IsTrue, ◌↔◌};
+ghost use Rattle.std.specs.Prelude.{◌≡◌, ◌<◌, ◌≤◌, [], true, IfOk, OnErr, OnOk};
 ghost use Rattle.svc_conf.specs.Items.{list_of, spare};
 ghost use Rattle.svc_record.specs.Judging.{TellsJudged, judged_at};
 ghost use Rattle.svc_connections.specs.ConnectionsState.{is_setting, is_shaking, is_serving, stage_of};

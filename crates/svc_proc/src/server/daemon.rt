@@ -1,7 +1,7 @@
 //! How a server becomes a daemon, and how daemon and parent tell each other.
 
 ghost use Rattle.std.specs.Prelude.{◌≡◌, Bool, Option, Some, None, Ok, if◌then◌else◌, IfOk, IfSome, IsErrOf, string_bytes};
-ghost use Rattle.svc_proc.specs.Daemons.{old_name, moving, Daemonizes, fork_of, wait_from, made_of};
+ghost use Rattle.svc_proc.specs.Daemons.{old_name, moving, Daemonizes, fork_of, made_of};
 ghost use Rattle.svc_proc.specs.ProcessData.{Asks};
 ghost use Rattle.svc_proc.specs.Limits.{has_passed};
 

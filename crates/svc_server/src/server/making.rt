@@ -3,7 +3,6 @@
 ghost use Rattle.std.specs.Prelude.{◌≡◌, IfOk, MatchOption};
 ghost use Rattle.std.specs.Option.{option_map};
 ghost use Rattle.std.specs.Result.{IsErrOf};
-ghost use Rattle.svc_conf.specs.Configuration.{defaults};
 ghost use Rattle.svc_conf.specs.ConfigurationText.{loaded, Answers};
 ghost use Rattle.svc_conf.specs.FileCalls.{IsRead};
 ghost use Rattle.svc_conf.specs.Streams.{Rose};
@@ -86,6 +85,3 @@ impl<B: ServiceWithDependents, F: ConnectionFilter> Server<B, F> {
         }
     }
 }
-
-#[cfg(test)]
-mod tests;

@@ -1,7 +1,6 @@
 //! What a server's plan is made of.
 
-ghost use Rattle.std.specs.Prelude.{◌≡◌, ◌<◌, ◌+◌, length, IfOk, OnOk, [], ◌∷◌, ◌++◌};
-ghost use Rattle.std.specs.Option.{option_map};
+ghost use Rattle.std.specs.Prelude.{◌≡◌, ◌<◌, length, IfOk, [], ◌∷◌};
 ghost use Rattle.svc_graph.specs.Graphs.{node_count, IsGraph};
 ghost use Rattle.svc_server.specs.Servers.{answer_of, answers_of, depends_of, with_depends, is_upgrade, is_test, status_of};
 

@@ -1,7 +1,6 @@
 //! A text is cut into lines, and a line where its blanks, its key and its comment end.
 
-ghost use Rattle.std.specs.Prelude.{◌≡◌, ◌<◌, ◌≤◌, [], ◌∷◌, length, take, position, MatchOption, IfSome, true};
-ghost use Rattle.std.specs.List.{position_or_len};
+ghost use Rattle.std.specs.Prelude.{◌≡◌, ◌<◌, ◌≤◌, [], ◌∷◌, length, position, MatchOption, IfSome, true};
 ghost use Rattle.std.specs.Str.Lines.{lines, strip_carriage_return};
 ghost use Rattle.svc_conf.specs.TextLines.{is_feed, is_blank, is_key_byte, not_key_byte, key_len, past_blanks, is_silent, is_skipped, is_end, is_gap, before_comment, without_end};
 

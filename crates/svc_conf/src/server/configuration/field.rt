@@ -1,9 +1,9 @@
 //! What the value of each key is.
 
-ghost use Rattle.std.specs.Prelude.{◌≡◌, ◌∷◌, [], find, length};
+ghost use Rattle.std.specs.Prelude.{◌≡◌, ◌∷◌, [], find};
 ghost use Rattle.std.specs.Str.{bytes_eq};
 ghost use Rattle.svc_conf.specs.Keys.{key_name};
-ghost use Rattle.svc_conf.specs.Fields.{field_of, all_keys, key_of};
+ghost use Rattle.svc_conf.specs.Fields.{field_of, key_of};
 
 use crate::server::configuration::Key;
 

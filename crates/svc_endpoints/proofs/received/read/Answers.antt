@@ -1,7 +1,6 @@
-use Rattle.std.proofs.Common.{Bool, true, false, ◌≡◌, [], Some, None, sym, ap, ◌∙◌}
+use Rattle.std.proofs.Common.{Bool, true, false, ◌≡◌, [], sym, ap, ◌∙◌}
 use Rattle.svc_record.specs.Boot.{is_read}
 use Rattle.svc_record.specs.Descriptors.{words_or_none}
-use Rattle.svc_record.specs.Message.{decode}
 use Rattle.svc_endpoints.proofs.DecodeLemmas.{decode-message, decode-refused}
 use Rattle.svc_endpoints.proofs.received.read.Goals as goal
 

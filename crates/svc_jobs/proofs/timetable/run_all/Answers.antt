@@ -1,4 +1,4 @@
-use Rattle.std.proofs.Common.{map, arith, length}
+use Rattle.std.proofs.Common.{map, arith}
 use Rattle.std.proofs.lemmas.List.{length-map}
 use Rattle.svc_jobs.proofs.RunLemmas.{ran_none, ran_more}
 use Rattle.svc_jobs.proofs.timetable.run_all.Goals as goal

@@ -1,10 +1,7 @@
-use Rattle.std.proofs.Common.{ap, sym, subst, ◌∙◌, All, length, List}
-use Rattle.svc_record.specs.declared.item.Item.{Item}
-use Rattle.svc_text.specs.declared.service.ServiceLine.{ServiceLine}
+use Rattle.std.proofs.Common.{ap, sym, subst, ◌∙◌, All}
 use Rattle.svc_text.specs.Accepted.{AreAccepted, BringsFew}
 use Rattle.svc_text.specs.Dependencies.{RefusesNone}
 use Rattle.svc_server.specs.Servers.{answers_of}
-use Rattle.svc_main.specs.Generator.{made_parts, no_flags}
 use Rattle.svc_main.specs.contracts.script_service.ScriptServiceServiceWithDependents as services
 use Rattle.svc_main.proofs.GeneratorLemmas.{services_accepted, services_sound, events_few}
 use Rattle.svc_main.proofs.ServerLemmas.{made_lines, made_server}

@@ -1,4 +1,4 @@
-use Rattle.std.proofs.Common.{◌≡◌, ◌∙◌, ℕ, List, Option, ap, sym, map, length, drop, arith}
+use Rattle.std.proofs.Common.{◌≡◌, ◌∙◌, ap, sym, map, length, drop}
 use Rattle.std.proofs.lemmas.List.{length-map}
 use Rattle.svc_jobs.specs.declared.plan.JobPlan.{JobPlan}
 use Rattle.svc_jobs.specs.Timetables.{periods_of}

@@ -1,8 +1,7 @@
-use Rattle.std.proofs.Common.{◌≡◌, ◌∷◌, ◌∙◌, Bool, List, ℕ, ap, sym, subst, rules, length, map, drop, vec_len, arith, ◌<◌}
+use Rattle.std.proofs.Common.{◌≡◌, ◌∷◌, ◌∙◌, Bool, List, ap, sym, subst, length, map, drop, vec_len, arith, ◌<◌}
 use Rattle.svc_conf.specs.Items.{list_of, spare}
 use Rattle.svc_record.specs.declared.entry.Entry.TheVariants.{Got}
 use Rattle.svc_record.specs.declared.event.Event.TheVariants.{Moment}
-use Rattle.svc_jobs.specs.declared.plan.JobRun.{JobRun}
 use Rattle.svc_jobs.specs.declared.row.JobRow.{JobRow}
 use Rattle.svc_jobs.specs.Rows.{told_after}
 use Rattle.svc_jobs.specs.TimetableData.{TimetableData}

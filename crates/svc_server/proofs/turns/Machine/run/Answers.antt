@@ -1,14 +1,13 @@
-use Rattle.std.proofs.Common.{◌≡◌, [], List, length, ap, refl, subst, sym, ◌∙◌, arith}
+use Rattle.std.proofs.Common.{[], List, length, ap, refl, subst, sym, ◌∙◌, arith}
 use Rattle.std.specs.Prelude.{Result}
 use Rattle.svc_record.specs.declared.action.StepEnd.{StepEnd}
-use Rattle.svc_record.specs.declared.action.StepEnd.TheVariants as ends
 use Rattle.svc_server.specs.declared.run.Outcome.{Outcome}
 use Rattle.svc_server.specs.declared.run.RunError.{RunError}
 use Rattle.svc_server.specs.Hosts.{Counts}
 use Rattle.svc_server.specs.Runs.{RunCounts, IsConfigured}
 use Rattle.svc_streams.specs.Verdicts.{verdict_at}
 use Rattle.svc_server.specs.Handing.{names_by}
-use Rattle.svc_server.specs.Turns.{IsAt, EndCounts}
+use Rattle.svc_server.specs.Turns.{IsAt}
 use Rattle.svc_server.proofs.AnswerOfStep.{first_unfailed}
 use Rattle.svc_server.proofs.CountLemmas.{counts-same, counts-end, configured-end, on-end}
 use Rattle.svc_server.proofs.SaidLemmas.{judges-first, names-now}

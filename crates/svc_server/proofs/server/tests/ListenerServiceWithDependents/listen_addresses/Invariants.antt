@@ -1,5 +1,0 @@
-use Rattle.std.proofs.Common.{◌≡◌, take}
-use Rattle.svc_server.proofs.server.tests.ListenerServiceWithDependents.listen_addresses.Given as goal
-
-abbrev pub invariant-loop-address : goal.invariant-loop-address
-invariant-loop-address l = l.texts.items ≡ take l.address-index l.address-items

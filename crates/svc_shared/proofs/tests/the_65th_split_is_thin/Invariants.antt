@@ -1,5 +1,0 @@
-use Rattle.svc_shared.specs.Posting.{IsOf}
-use Rattle.svc_shared.proofs.tests.the_65th_split_is_thin.Given as goal
-
-abbrev pub invariant-loop : goal.invariant-loop
-invariant-loop g l = IsOf l.initial.server l.pass
