@@ -10,4 +10,3 @@ pub mod Unheard
 pub mod Arrivals
 pub mod Rests
 pub mod Ending
-pub mod Judgements

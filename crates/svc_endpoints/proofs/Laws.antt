@@ -3,10 +3,7 @@ use Rattle.std.proofs.Common.{ℕ, zero, suc, true, inl, inr, ◌⊎◌, List, [
 use Rattle.std.proofs.lemmas.Bool.Decides.{Decides-ltb}
 use Rattle.svc_record.specs.declared.plan.Plan.{Plan}
 use Rattle.svc_record.specs.declared.plan.ServicePlan.{ServicePlan}
-use Rattle.svc_record.specs.Record.{Record}
 use Rattle.svc_record.specs.Plans.{service_count, endpoints, is_endpoint}
-use Rattle.svc_endpoints.specs.EndpointsData.{EndpointsData}
-use Rattle.svc_endpoints.specs.EndpointsState.{EndpointsStand}
 
 cases_service : (x : Option ServicePlan) → (x ≡ None) ⊎ ((y : ServicePlan) × (x ≡ Some y))
 cases_service None = inl refl
@@ -29,5 +26,3 @@ endpoint-inside p s i h = (
   where
     absurd_lt : (i : ℕ) → nat_lt i 0 ≡ true → ⊥
     absurd_lt i e = let lt : i < 0 = (Decides-ltb i 0).0 e in omega arith
-
-module _ (p : Plan) (d : EndpointsData) (q : Record) (stand : EndpointsStand p d q) where

@@ -4,12 +4,11 @@ use Rattle.std.proofs.lemmas.Bool.{cases_Bool, and_parts, and_from, eqb-true}
 use Rattle.svc_record.specs.declared.plan.Plan.{Plan}
 use Rattle.svc_record.specs.Record.{Record}
 use Rattle.svc_record.specs.Plans.{service_count, endpoints}
-use Rattle.svc_record.specs.Failed.{has_failed}
 use Rattle.svc_record.specs.Closes.{is_drained}
 use Rattle.svc_endpoints.specs.declared.states.Last.{Last}
 use Rattle.svc_endpoints.specs.declared.states.Last.TheVariants.{Unasked, Binding, Busied, Adopting, Holding, Lost}
 use Rattle.svc_endpoints.specs.EndpointsData.{EndpointsData}
-use Rattle.svc_endpoints.specs.EndpointsState.{StandsAt, StatesStand, ServesIn, LoopsStand, last_at, failed_at, is_done}
+use Rattle.svc_endpoints.specs.EndpointsState.{StatesStand, ServesIn, LoopsStand, last_at, failed_at, is_done}
 use Rattle.svc_endpoints.specs.Loops.{has_loop, loop_count}
 use Rattle.svc_endpoints.specs.Uses.{has_held, uses, is_holder_by, is_user, any_of, any_endpoint, is_drained_by}
 use Rattle.svc_endpoints.proofs.RangeLemmas.{at0, get0}
@@ -46,9 +45,6 @@ done-some p d s i some h = some_loop d.loops s i (let e = eqb-true (loop_count d
 
 pub done-serves : (p : Plan) (d : EndpointsData) (q : Record) → LoopsStand p d q → (s i : ℕ) → is_done p d s i ≡ true → ServesIn p d s i
 done-serves p d q loops s i h = let some = done-some p d s i loops.some_tasks h in loops.serve s i some.0 some.1
-
-module _ (p : Plan) (d : EndpointsData) (q : Record) (each : (s i : ℕ) → s < service_count p → i < length (endpoints p s) → StandsAt p (last_at d s i) q s i)
-    (failed_is : (s : ℕ) → s < service_count p → failed_at d s ≡ has_failed p q s) where
 
 -- the record's test is the states'
 pub drained-is : (p : Plan) (d : EndpointsData) (q : Record) → StatesStand p d q → LoopsStand p d q → (fd : ℕ) → is_drained p q fd ≡ is_drained_by p d fd

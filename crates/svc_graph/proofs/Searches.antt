@@ -5,8 +5,6 @@ use Rattle.svc_graph.specs.Marks.{is_marked, Marked, Searched, Divides}
 use Rattle.svc_graph.proofs.Lists.{listed_push, listed_before, listed_last, marked_inside}
 use Rattle.svc_graph.proofs.Chains.{path-edge, path-then}
 
-module _ (row : List ℕ) (marks : List Bool) (left : List ℕ) (marks_now : List Bool) (left_now : List ℕ) (was : Marked row marks left marks_now left_now) (b : ℕ) where
-
 module _ (rows : List (List ℕ)) (from : ℕ) where
   pub left_inside : (marks : List Bool) (open_nodes left : List ℕ) (a : ℕ) → Searched rows from marks open_nodes → open_nodes ≡ left ++ a ∷ [] → a < length marks
   left_inside marks open_nodes left a was last =

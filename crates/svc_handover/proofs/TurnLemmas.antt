@@ -57,5 +57,3 @@ bind-turn p (Told (Bind t j)) q s i here due =
     let inner = and_parts (has_turn p q s i) (not (has_live p q (address p s i))) outer.0 in
     (turn-parts p q s i inner.0, not-true (has_live p q (address p s i)) inner.1)
 bind-turn p _ q s i here due = absurd (cc)
-
-module _ (p : Plan) (s i : ℕ) where

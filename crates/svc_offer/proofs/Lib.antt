@@ -6,4 +6,3 @@ pub mod RetryLemmas
 pub mod AnswerLemmas
 pub mod AskLemmas
 pub mod OfferRules
-pub mod DueCopies

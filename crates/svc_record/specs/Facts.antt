@@ -1,6 +1,8 @@
 -- The definitions as facts, under the words that contracts use.
-use Rattle.std.specs.Prelude.{ℕ, List, IsTrue}
+use Rattle.std.specs.Prelude.{ℕ, ◌≡◌, ◌⊎◌, ◌++◌, ◌∷◌, List, IsTrue}
 use Rattle.svc_record.specs.declared.plan.Plan.{Plan}
+use Rattle.svc_record.specs.declared.entry.Entry.TheVariants.{Got}
+use Rattle.svc_record.specs.declared.event.Event.{Event}
 use Rattle.svc_record.specs.Record.{Record}
 use Rattle.svc_record.specs.Plans.{names, is_unclaimed}
 use Rattle.svc_record.specs.Descriptors.{is_doubled}
@@ -9,6 +11,10 @@ use Rattle.svc_record.specs.Starts.{is_ready}
 use Rattle.svc_record.specs.Endpoints.{is_held_by, is_held, holds, serves, rests, is_busy, waits}
 use Rattle.svc_record.specs.Closes.{is_abandoned, is_drained, is_gone}
 use Rattle.svc_record.specs.Drain.{has_passed}
+
+-- q is the record, or what stands before one of its events
+abbrev pub Settled : Record → Record → Type 0
+Settled q r = (q ≡ r) ⊎ ((e : Event) × ((more : Record) × (r ≡ more ++ (Got e ∷ q))))
 
 -- the service declares the address or has an endpoint with it
 abbrev pub Names : Plan → ℕ → List ℕ → Type 0

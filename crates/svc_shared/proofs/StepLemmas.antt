@@ -83,8 +83,6 @@ looks b slots id v cs st live free = allowed b slots id v cs 0 (λ n. n) (looked
     ))
 
 -- KIND 2: a compare and exchange that takes the turn, or is lost, which is kind 1
-module _ (b : BookData) (slots id old new : ℕ) (v : View) (cs : List (ℕ × Slot)) where
-
 kept-not-seated : (i j : ℕ) → kept i ≡ seated j → ⊥
 kept-not-seated i j e = cc
 

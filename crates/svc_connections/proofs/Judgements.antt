@@ -1,1 +1,0 @@
--- What is judged among the actions that connections tell.

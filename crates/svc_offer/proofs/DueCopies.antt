@@ -1,1 +1,0 @@
--- When a send falls due, a copy of the message was asked for before the event was taken in.
