@@ -1,0 +1,26 @@
+-- What a message on a refused script says.
+use Rattle.std.specs.Prelude.{ℕ, ◌≡◌, ◌⊎◌, List, ◌++◌, codes, Ok, Err}
+use Rattle.std.specs.Fmt.{decimal}
+use Rattle.std.specs.Str.Lines.{lines}
+use Rattle.svc_text.specs.Script.{Parts, IsLineOf, script}
+use Rattle.svc_text.specs.Dependencies.{RefusesAt, RefusesNone}
+
+-- a message on line n
+abbrev pub line_text : ℕ → List ℕ → List ℕ
+line_text n cause = codes "line " ++ decimal n ++ codes ": " ++ cause
+
+-- line n is that of the first service whose dependencies are refused
+abbrev pub RefusesEdge : List ℕ → ℕ → Type 0
+RefusesEdge bytes n = (parts : Parts) × (k : ℕ) × (script bytes ≡ Ok parts) × RefusesAt parts.services k × IsLineOf (lines bytes) k n
+
+-- line n of the bytes is refused: it is the first that doesn't fit, or all fit, and its dependencies are the first that are refused
+abbrev pub RefusesLine : List ℕ → ℕ → Type 0
+RefusesLine bytes n = (script bytes ≡ Err n) ⊎ RefusesEdge bytes n
+
+-- the text begins with the number of the refused line
+abbrev pub NamesRefusal : List ℕ → List ℕ → Type 0
+NamesRefusal bytes text = (n : ℕ) × (cause : List ℕ) × RefusesLine bytes n × (text ≡ line_text n cause)
+
+-- the bytes are a script, and all its dependencies are taken
+abbrev pub IsTaken : List ℕ → Type 0
+IsTaken bytes = (parts : Parts) × (script bytes ≡ Ok parts) × RefusesNone parts.services

@@ -1,0 +1,121 @@
+//! Why the words of the command line are refused.
+
+use crate::words::{is_known, said, shown, unknown_word};
+use clap::error::ErrorKind;
+use std::alloc::Global;
+use std::rc::RcStr;
+use svc_conf::{NoMemory, Opt, OptError};
+
+/// What the program takes, and how it ends.
+const HELP: &str = "\
+svc run [FLAGS] < SCRIPT   runs a server over the script's events and prints the record
+svc gen N                  runs N services (1 to 1024) made for the purpose and prints counts
+
+Flags of svc run, each at most once:
+  -u, --upgrade      takes over the sockets of an older server
+  -d, --daemon       forks before all else
+  -t, --test         ends once bootstrapping has begun
+      --nocapture    taken, and without a meaning here
+  -c, --conf PATH    taken, and not read: the script has the configuration
+
+The last line printed, and the exit status:
+  status served, status tested, status parent 0     0
+  status parent 1                                   1
+  status words          the words are refused       2
+  status line N         line N is refused           3
+  another status        the run ended otherwise     4
+  status read fault     standard input failed       5
+                        standard output failed      6
+                        out of memory               7
+";
+
+/// The words and the exit statuses of the program.
+pub fn help() -> &'static str {
+    HELP
+}
+
+/// The first words.
+const COMMANDS: [&str; 2] = ["run", "gen"];
+
+/// The flags that follow `run`.
+const FLAGS: [&str; 9] = [
+    "-u",
+    "--upgrade",
+    "-d",
+    "--daemon",
+    "-t",
+    "--test",
+    "--nocapture",
+    "-c",
+    "--conf",
+];
+
+/// The word is asked for help, or for the version, which isn't told.
+fn asks_for_help(word: &str) -> bool {
+    matches!(word, "-h" | "--help" | "help" | "-V" | "--version")
+}
+
+/// The first word behind `run` that is no flag.
+fn unknown_flag(alloc: Global, words: &[RcStr]) -> Result<String, NoMemory> {
+    for word in words {
+        let word = word.as_str();
+        if !is_known(word.as_bytes(), &FLAGS) {
+            return unknown_word(alloc, word.as_bytes(), "flag of svc run", &FLAGS);
+        }
+    }
+    said(alloc, "svc run takes flags alone; svc --help lists them")
+}
+
+/// Why the words behind `run` are refused.
+fn run_message(alloc: Global, words: &[RcStr]) -> Result<String, NoMemory> {
+    let kind = match Opt::parse_args(alloc, words) {
+        Err(OptError::Words(kind)) => kind,
+        Err(OptError::NoMemory) => return Err(NoMemory),
+        Ok(_) => return said(alloc, HELP),
+    };
+    match kind {
+        ErrorKind::DisplayHelp | ErrorKind::DisplayVersion => said(alloc, HELP),
+        ErrorKind::UnknownArgument => match words.split_first() {
+            Some((_, flags)) => unknown_flag(alloc, flags),
+            None => said(alloc, HELP),
+        },
+        ErrorKind::ArgumentConflict => {
+            said(alloc, "a flag of svc run stands twice; each stands at most once")
+        }
+        _ => said(
+            alloc,
+            "-c and --conf of svc run take a path behind them, and no other flag takes a word",
+        ),
+    }
+}
+
+/// Why the words behind `gen` are refused.
+fn gen_message(alloc: Global, words: &[RcStr]) -> Result<String, NoMemory> {
+    match words {
+        [] => said(alloc, "gen lacks its number, from 1 to 1024"),
+        [word] => {
+            let word_shown = shown(alloc, word.as_str().as_bytes())?;
+            Ok(format!(in alloc;
+                "{word_shown} behind gen isn't a number from 1 to 1024, without sign or leading zero"
+            )?)
+        }
+        [_, word, ..] => {
+            let word_shown = shown(alloc, word.as_str().as_bytes())?;
+            Ok(format!(in alloc; "{word_shown} is one word too many; gen takes one number, from 1 to 1024")?)
+        }
+    }
+}
+
+/// Why these words behind the program's name are refused, in one line, or the help where none stands
+/// there or it is asked for.
+pub fn words_message(alloc: Global, words: &[RcStr]) -> Result<String, NoMemory> {
+    let Some((first, more)) = words.split_first() else {
+        return said(alloc, HELP);
+    };
+    match first.as_str() {
+        "run" => run_message(alloc, words),
+        "gen" => gen_message(alloc, more),
+        word if asks_for_help(word) => said(alloc, HELP),
+        word => unknown_word(alloc, word.as_bytes(), "command", &COMMANDS),
+    }
+}

@@ -1,0 +1,235 @@
+//! Why a line of a configuration is refused, and which of its keys are misspelled.
+
+use crate::places::{Section, header};
+use crate::spelling::nearest;
+use crate::words::{is_known, said, shown};
+use std::alloc::Global;
+use std::str;
+use svc_conf::{Key, NoMemory, ReadError, ServerConf};
+use svc_text::{split_line, split_word};
+
+/// The keys whose value is a number.
+const NUMBERS: [&str; 19] = [
+    "version",
+    "threads",
+    "listener_tasks_per_fd",
+    "grace_period_seconds",
+    "graceful_shutdown_timeout_seconds",
+    "upstream_keepalive_pool_size",
+    "upstream_connect_offload_threadpools",
+    "upstream_connect_offload_thread_per_pool",
+    "downstream_tls_offload_threadpools",
+    "downstream_tls_offload_thread_per_pool",
+    "max_retries",
+    "upgrade_sock_connect_accept_max_retries",
+    "max_blocking_threads",
+    "blocking_threads_ttl_seconds",
+    "fast_timeout_to_tokio_threshold_seconds",
+    "runtime_metrics_poll_time_histogram_resolution_micros",
+    "runtime_metrics_poll_time_histogram_buckets",
+    "daemon_ready_timeout_seconds",
+    "daemon_notify_timeout_seconds",
+];
+
+/// The keys whose value is true or false.
+const FLAGS: [&str; 6] = [
+    "daemon",
+    "work_stealing",
+    "runtime_enable_alt_timer",
+    "upstream_debug_ssl_keylog",
+    "runtime_metrics_poll_time_histogram",
+    "daemon_wait_for_ready",
+];
+
+/// The keys whose value is a text.
+const TEXTS: [&str; 7] = [
+    "error_log",
+    "pid_file",
+    "upgrade_sock",
+    "user",
+    "group",
+    "working_directory",
+    "ca_file",
+];
+
+/// The keys whose value is a list of texts.
+const LISTS: [&str; 2] = ["client_bind_to_ipv4", "client_bind_to_ipv6"];
+
+/// The key whose value is one of two words.
+const SCALE: &str = "runtime_metrics_poll_time_histogram_scale";
+
+/// What the key takes, if it is known.
+fn wanted(key: &[u8]) -> Option<&'static str> {
+    if is_known(key, &NUMBERS) {
+        Some("a number in decimal digits, without sign or leading zero")
+    } else if is_known(key, &FLAGS) {
+        Some("true or false")
+    } else if is_known(key, &TEXTS) {
+        Some("a text")
+    } else if is_known(key, &LISTS) {
+        Some("[], or below it an item, - TEXT, a line")
+    } else if key == SCALE.as_bytes() {
+        Some("linear or log")
+    } else {
+        None
+    }
+}
+
+/// The key that the word was meant to be, if it is one letter off.
+fn meant(key: &[u8]) -> Option<&'static str> {
+    nearest(key, &NUMBERS)
+        .or(nearest(key, &FLAGS))
+        .or(nearest(key, &TEXTS))
+        .or(nearest(key, &LISTS))
+        .or(nearest(key, &[SCALE]))
+}
+
+/// The key at the front of a line, and what follows its colon.
+fn split_key(line: &[u8]) -> Option<(&[u8], &[u8])> {
+    let end = line.iter().position(|b| *b == b':')?;
+    match line.first() {
+        None | Some(b' ' | b'\t' | b'-' | b'#' | b':') => None,
+        Some(_) => Some((&line[..end], &line[end + 1..])),
+    }
+}
+
+/// The number of the first line, from 1, in the configuration of a script that has this key.
+fn key_line(bytes: &[u8], key: &[u8]) -> Option<usize> {
+    let mut section = Section::Nothing;
+    let mut rest = bytes;
+    let mut number = 1usize;
+    while let Some((line, after)) = split_line(rest) {
+        section = header(line).unwrap_or(section);
+        if section == Section::Configuration
+            && let Some((found, _)) = split_key(line)
+            && found == key
+        {
+            return Some(number);
+        }
+        rest = after;
+        number = number.saturating_add(1);
+    }
+    None
+}
+
+/// What follows the line `%conf`.
+fn behind_header(bytes: &[u8]) -> &[u8] {
+    let mut rest = bytes;
+    while let Some((line, after)) = split_line(rest) {
+        if header(line) == Some(Section::Configuration) {
+            return after;
+        }
+        rest = after;
+    }
+    rest
+}
+
+/// The first refused line of the configuration has a value that isn't of its key's sort.
+fn has_wrong_value(alloc: Global, bytes: &[u8]) -> Result<bool, NoMemory> {
+    let Ok(text) = str::from_utf8(behind_header(bytes)) else {
+        return Ok(false);
+    };
+    match ServerConf::parse(alloc, text) {
+        Err(ReadError::NoMemory) => Err(NoMemory),
+        Err(ReadError::Value { .. }) => Ok(true),
+        _ => Ok(false),
+    }
+}
+
+/// Why a line without a key is refused.
+fn keyless_text(line: &[u8]) -> &'static str {
+    match split_word(line) {
+        Some((word, _)) if word.first() == Some(&b'-') => {
+            "an item, - TEXT, stands below client_bind_to_ipv4: or client_bind_to_ipv6: alone, and --- once, before any key"
+        }
+        Some((word, _)) if word.last() == Some(&b':') => {
+            "the line doesn't begin with its key; KEY: VALUE begins at the first byte of a line"
+        }
+        _ => "the line is no setting; a line of the configuration is KEY: VALUE or a comment behind #",
+    }
+}
+
+/// Why the line with this number is none of a configuration.
+pub fn configuration_message(
+    alloc: Global,
+    bytes: &[u8],
+    number: usize,
+    line: &[u8],
+) -> Result<String, NoMemory> {
+    let Some((key, value)) = split_key(line) else {
+        return said(alloc, keyless_text(line));
+    };
+    let key_shown = shown(alloc, key)?;
+    if let Some(first) = key_line(bytes, key)
+        && first < number
+    {
+        return Ok(format!(in alloc; "{key_shown} stands twice, first in line {first}; a key stands once")?);
+    }
+    if let Some(wanted) = wanted(key)
+        && has_wrong_value(alloc, bytes)?
+    {
+        let value_shown = shown(alloc, value.trim_ascii())?;
+        return Ok(format!(in alloc; "{key_shown}: {value_shown} isn't taken; {key_shown} takes {wanted}")?);
+    }
+    match value.first() {
+        None | Some(b' ' | b'\t') => Ok(format!(in alloc;
+            "the line of {key_shown} isn't in the form KEY: VALUE; a value that isn't plain stands in quotes"
+        )?),
+        Some(_) => Ok(format!(in alloc; "a blank lacks behind {key_shown}:, as in {key_shown}: VALUE")?),
+    }
+}
+
+/// Why a configuration with this key can't be run with, with the key's line.
+pub fn key_message(alloc: Global, bytes: &[u8], key: Key) -> Result<String, NoMemory> {
+    let name = key.name();
+    let taken = match key {
+        Key::RuntimeMetricsPollTimeHistogramBuckets => "a number from 1 to 1024",
+        _ => "a number from 1 on",
+    };
+    match key_line(bytes, name.as_bytes()) {
+        Some(number) => Ok(format!(in alloc;
+            "line {number}: no server can run with this value of {name}; it takes {taken}"
+        )?),
+        None => Ok(format!(in alloc; "no server can run with this value of {name}; it takes {taken}")?),
+    }
+}
+
+/// What is said of a line whose key isn't known and is one letter off a known one.
+fn unknown_key(alloc: Global, number: usize, line: &[u8]) -> Result<Option<String>, NoMemory> {
+    let Some((key, _)) = split_key(line) else {
+        return Ok(None);
+    };
+    if wanted(key).is_some() {
+        return Ok(None);
+    }
+    let Some(meant) = meant(key) else {
+        return Ok(None);
+    };
+    let key_shown = shown(alloc, key)?;
+    Ok(Some(format!(in alloc;
+        "line {number}: {key_shown} is no key and is skipped; did you mean {meant}?"
+    )?))
+}
+
+/// What is said of the keys of a script's configuration that aren't known and are one letter off a
+/// known one: a line each.
+pub fn unknown_keys(alloc: Global, bytes: &[u8]) -> Result<Vec<String>, NoMemory> {
+    let mut notes = Vec::new(alloc);
+    let mut section = Section::Nothing;
+    let mut rest = bytes;
+    let mut number = 1usize;
+    while let Some((line, after)) = split_line(rest) {
+        section = header(line).unwrap_or(section);
+        if section == Section::Services {
+            return Ok(notes);
+        }
+        if section == Section::Configuration
+            && let Some(note) = unknown_key(alloc, number, line)?
+        {
+            notes.push(note)?;
+        }
+        rest = after;
+        number = number.saturating_add(1);
+    }
+    Ok(notes)
+}

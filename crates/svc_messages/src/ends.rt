@@ -1,0 +1,92 @@
+//! Why a run ended otherwise than by its shutdown.
+
+use crate::events::fits_where;
+use crate::places::{Section, header};
+use crate::words::shown;
+use std::alloc::Global;
+use std::str;
+use svc_conf::NoMemory;
+use svc_text::{number, split_line, split_word};
+
+/// The line is one of an event.
+fn is_event(line: &[u8]) -> bool {
+    match split_word(line) {
+        Some((word, _)) => word != b"fault".as_slice() && word.first() != Some(&b'#'),
+        None => false,
+    }
+}
+
+/// The line of the k-th event of a script, from 1, with its number, from 1.
+fn event_line(bytes: &[u8], k: u64) -> Option<(usize, &[u8])> {
+    let mut section = Section::Nothing;
+    let mut rest = bytes;
+    let mut number = 1usize;
+    let mut events = 0u64;
+    while let Some((line, after)) = split_line(rest) {
+        if let Some(next) = header(line) {
+            section = next;
+        } else if section == Section::Events && is_event(line) {
+            events = events.saturating_add(1);
+            if events >= k {
+                return Some((number, line));
+            }
+        }
+        rest = after;
+        number = number.saturating_add(1);
+    }
+    None
+}
+
+/// Why the k-th event was refused.
+fn stray_message(alloc: Global, bytes: &[u8], k: u64) -> Result<Option<String>, NoMemory> {
+    let Some((number, line)) = event_line(bytes, k) else {
+        return Ok(None);
+    };
+    let line_shown = shown(alloc, line)?;
+    let where_it_fits = match split_word(line) {
+        Some((word, _)) => fits_where(word),
+        None => return Ok(None),
+    };
+    Ok(Some(format!(in alloc;
+        "line {number}: {line_shown}, event {k}, doesn't fit there; it fits where {where_it_fits}"
+    )?))
+}
+
+/// What stands behind `status stray `.
+fn stray_number(line: &str) -> Option<u64> {
+    number(line.strip_prefix("status stray ")?.as_bytes())
+}
+
+/// Why a run that left this status line ended, where that is known without its script.
+fn plain_message(line: &str) -> Option<&'static str> {
+    match line {
+        "status host fault" => Some("a line fault came, at which the host fails in place of giving an event"),
+        "status out of events" => Some(
+            "the events are used up before the shutdown; signal fast, terminate or upgrade begins one, and the grace period needs moment lines",
+        ),
+        "status transfer" => Some(
+            "receivefailed came: a try to receive from the older server failed; received HEX FDS brings what it sent",
+        ),
+        "status no sender" => Some(
+            "no older server sent its descriptors, after all tries; received HEX FDS brings what it sent",
+        ),
+        "status bad message" => Some(
+            "what came by received is no message; its bytes are one address for each descriptor, joined by blanks, none twice",
+        ),
+        _ => None,
+    }
+}
+
+/// Why a run that left this status line ended.
+pub fn end_message(alloc: Global, bytes: &[u8], line: &[u8]) -> Result<Option<String>, NoMemory> {
+    let Ok(text) = str::from_utf8(line) else {
+        return Ok(None);
+    };
+    if let Some(k) = stray_number(text) {
+        return stray_message(alloc, bytes, k);
+    }
+    match plain_message(text) {
+        Some(text) => Ok(Some(String::from_str(alloc, text)?)),
+        None => Ok(None),
+    }
+}

@@ -1,0 +1,271 @@
+//! Why a line isn't one of an event.
+
+use crate::spelling::nearest;
+use crate::words::{is_known, said, shown, unknown_word};
+use std::alloc::Global;
+use std::str;
+use svc_conf::NoMemory;
+use svc_text::{number, split_word};
+
+/// The first words of event lines, and of the line on which the host fails.
+const WORDS: [&str; 30] = [
+    "moment",
+    "ready",
+    "ended",
+    "bound",
+    "inuse",
+    "bindfailed",
+    "adopted",
+    "adoptfailed",
+    "received",
+    "nosender",
+    "receivefailed",
+    "connected",
+    "notthere",
+    "connecting",
+    "connectfailed",
+    "sent",
+    "sendbusy",
+    "sendfailed",
+    "arrived",
+    "acceptfailed",
+    "set",
+    "shaken",
+    "finished",
+    "loopended",
+    "signal",
+    "side",
+    "childready",
+    "childgone",
+    "dropfailed",
+    "fault",
+];
+
+/// What stands behind the first word of an event line.
+#[derive(Clone, Copy)]
+enum Slot {
+    Moment,
+    Service,
+    Endpoint,
+    Descriptor,
+    Connection,
+    ErrorNumber,
+    AcceptLoop,
+    Answer,
+    Signal,
+    Side,
+    Peer,
+    Bytes,
+    Descriptors,
+}
+
+impl Slot {
+    /// Its name in the form of a line.
+    fn name(self) -> &'static str {
+        match self {
+            Slot::Moment => "MS",
+            Slot::Service => "S",
+            Slot::Endpoint => "I",
+            Slot::Descriptor => "FD",
+            Slot::Connection => "C",
+            Slot::ErrorNumber => "N",
+            Slot::AcceptLoop => "J",
+            Slot::Answer => "ok|no",
+            Slot::Signal => "fast|terminate|upgrade",
+            Slot::Side => "child|parent",
+            Slot::Peer => "PEER",
+            Slot::Bytes => "HEX",
+            Slot::Descriptors => "FDS",
+        }
+    }
+
+    /// What it has to be.
+    fn wanted(self) -> &'static str {
+        match self {
+            Slot::Moment => "a time in milliseconds, in decimal digits",
+            Slot::Service => "the number of a service, from 0",
+            Slot::Endpoint => "the number of an endpoint of its service, from 0",
+            Slot::Descriptor => "the number of a descriptor",
+            Slot::Connection => "the number of a connection",
+            Slot::ErrorNumber => "the number of an error",
+            Slot::AcceptLoop => "the number of an accept loop, from 0",
+            Slot::Answer => "ok or no",
+            Slot::Signal => "fast, terminate or upgrade",
+            Slot::Side => "child or parent",
+            Slot::Peer => "-, unix, IP:PORT or [IP]:PORT",
+            Slot::Bytes => "bytes in lower-case hexadecimal, two digits each, or -",
+            Slot::Descriptors => "at most 32 numbers joined by commas, or -",
+        }
+    }
+
+    /// The words that may stand there, where they are few.
+    fn known(self) -> &'static [&'static str] {
+        match self {
+            Slot::Answer => &["ok", "no"],
+            Slot::Signal => &["fast", "terminate", "upgrade"],
+            Slot::Side => &["child", "parent"],
+            _ => &[],
+        }
+    }
+
+    /// The word may stand there. Peers aren't looked at.
+    fn takes(self, word: &[u8]) -> bool {
+        match self {
+            Slot::Moment | Slot::Descriptor | Slot::Connection | Slot::AcceptLoop => {
+                number(word).is_some()
+            }
+            Slot::Service | Slot::Endpoint | Slot::ErrorNumber => is_small(word),
+            Slot::Answer | Slot::Signal | Slot::Side => is_known(word, self.known()),
+            Slot::Peer => true,
+            Slot::Bytes => is_hexadecimal(word),
+            Slot::Descriptors => are_descriptors(word),
+        }
+    }
+}
+
+/// A number of 32 bits.
+fn is_small(word: &[u8]) -> bool {
+    match number(word) {
+        Some(n) => n <= u32::MAX as u64,
+        None => false,
+    }
+}
+
+fn is_hexadecimal(word: &[u8]) -> bool {
+    let is_digits = word
+        .iter()
+        .all(|b| matches!(*b, b'0'..=b'9' | b'a'..=b'f'));
+    word == b"-".as_slice() || (word.len() % 2 == 0 && is_digits)
+}
+
+fn are_descriptors(word: &[u8]) -> bool {
+    let are_numbers = word
+        .split(|b| *b == b',')
+        .all(|piece| number(piece).is_some());
+    let commas = word.iter().filter(|b| **b == b',').count();
+    word == b"-".as_slice() || (are_numbers && commas < 32)
+}
+
+/// What stands behind the first word of the line, if the word begins one.
+fn slots(key: &[u8]) -> Option<&'static [Slot]> {
+    let text = str::from_utf8(key).ok()?;
+    match text {
+        "moment" => Some(&[Slot::Moment]),
+        "ready" | "ended" => Some(&[Slot::Service]),
+        "bound" => Some(&[Slot::Service, Slot::Endpoint, Slot::Descriptor]),
+        "inuse" | "bindfailed" | "adopted" | "adoptfailed" => {
+            Some(&[Slot::Service, Slot::Endpoint])
+        }
+        "received" => Some(&[Slot::Bytes, Slot::Descriptors]),
+        "arrived" => Some(&[
+            Slot::Service,
+            Slot::Endpoint,
+            Slot::Connection,
+            Slot::Peer,
+        ]),
+        "acceptfailed" => Some(&[Slot::Service, Slot::Endpoint, Slot::ErrorNumber]),
+        "set" | "shaken" => Some(&[Slot::Connection, Slot::Answer]),
+        "finished" => Some(&[Slot::Connection]),
+        "loopended" => Some(&[Slot::Service, Slot::Endpoint, Slot::AcceptLoop]),
+        "signal" => Some(&[Slot::Signal]),
+        "side" => Some(&[Slot::Side]),
+        _ if is_known(key, &WORDS) => Some(&[]),
+        _ => None,
+    }
+}
+
+/// The form of a line with this first word.
+fn form(alloc: Global, key: &str, slots: &[Slot]) -> Result<String, NoMemory> {
+    let mut form = said(alloc, key)?;
+    for slot in slots {
+        form.push_str(" ")?;
+        form.push_str(slot.name())?;
+    }
+    Ok(form)
+}
+
+/// Why the word may not stand in the slot.
+fn word_fault(alloc: Global, key: &str, slot: Slot, word: &[u8]) -> Result<String, NoMemory> {
+    let wanted = slot.wanted();
+    let word_shown = shown(alloc, word)?;
+    match nearest(word, slot.known()) {
+        Some(meant) => Ok(format!(in alloc;
+            "{word_shown} behind {key} isn't {wanted}; did you mean {meant}?"
+        )?),
+        None => Ok(format!(in alloc; "{word_shown} behind {key} isn't {wanted}")?),
+    }
+}
+
+/// What is wrong with the words behind the first one, where a word is wrong by itself.
+fn slots_fault(
+    alloc: Global,
+    key: &str,
+    slots: &[Slot],
+    words: &[u8],
+) -> Result<Option<String>, NoMemory> {
+    let mut rest = words;
+    for slot in slots {
+        let Some((word, after)) = split_word(rest) else {
+            let (name, wanted) = (slot.name(), slot.wanted());
+            return Ok(Some(format!(in alloc; "{key} lacks {name}, {wanted}")?));
+        };
+        if !slot.takes(word) {
+            return Ok(Some(word_fault(alloc, key, *slot, word)?));
+        }
+        rest = after;
+    }
+    match split_word(rest) {
+        Some((word, _)) => {
+            let word_shown = shown(alloc, word)?;
+            Ok(Some(format!(in alloc; "{word_shown} is one word too many")?))
+        }
+        None => Ok(None),
+    }
+}
+
+/// Why the line is none of an event.
+pub fn event_message(alloc: Global, line: &[u8]) -> Result<String, NoMemory> {
+    let Some((word, rest)) = split_word(line) else {
+        return said(alloc, "an event line begins with a word");
+    };
+    let Some(slots) = slots(word) else {
+        return unknown_word(alloc, word, "event", &WORDS);
+    };
+    let key = shown(alloc, word)?;
+    let form = form(alloc, key.as_str(), slots)?;
+    let fault = match slots_fault(alloc, key.as_str(), slots, rest)? {
+        Some(fault) => fault,
+        None => format!(in alloc; "the peer isn't -, unix, IP:PORT or [IP]:PORT")?,
+    };
+    Ok(format!(in alloc; "{fault}; the line is written {form}")?)
+}
+
+/// Where an event with this first word fits.
+pub fn fits_where(key: &[u8]) -> &'static str {
+    let Ok(text) = str::from_utf8(key) else {
+        return "the run goes on";
+    };
+    match text {
+        "moment" => "its time is not below the last moment's",
+        "ready" => "its service is of the kind notify, is started and hasn't said so before",
+        "ended" => "its service is started, bootstraps not, has no endpoints and hasn't ended before",
+        "bound" => "a bind of the endpoint was told and isn't answered yet, and the number is a new one",
+        "inuse" | "bindfailed" => "a bind of the endpoint was told and isn't answered yet",
+        "adopted" | "adoptfailed" => "an adopt of the endpoint was told and isn't answered yet",
+        "received" => "a tryreceive was told and isn't answered yet, and each number is a new one",
+        "nosender" | "receivefailed" => "a tryreceive was told and isn't answered yet",
+        "signal" => "phase Running was told",
+        "connected" | "notthere" | "connecting" | "connectfailed" => {
+            "a connect was told and isn't answered yet"
+        }
+        "sent" | "sendbusy" | "sendfailed" => "a send was told and isn't answered yet",
+        "arrived" => "all endpoints of its service are bound, and the number is a new one",
+        "acceptfailed" => "all endpoints of its service are bound, and an accept loop goes on",
+        "set" => "settings of the connection were told and aren't answered yet",
+        "shaken" => "a handshake of the connection was told and isn't answered yet",
+        "finished" => "a serve of the connection was told, and it is live",
+        "loopended" => "broadcast was told, and the accept loop is there and hasn't ended before",
+        "side" => "daemonize was told and isn't answered yet",
+        _ => "the process is a parent that waits for its child",
+    }
+}

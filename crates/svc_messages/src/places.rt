@@ -1,0 +1,68 @@
+//! Where a line of a script stands.
+
+use svc_text::split_line;
+
+/// The part of a script that a line stands in.
+#[derive(Clone, Copy, PartialEq, Eq, Debug)]
+pub enum Section {
+    /// Before `%conf`.
+    Nothing,
+    Configuration,
+    Services,
+    Events,
+}
+
+impl Section {
+    /// The line that begins the next part, if one follows.
+    pub fn next_header(self) -> Option<&'static str> {
+        match self {
+            Section::Nothing => Some("%conf"),
+            Section::Configuration => Some("%services"),
+            Section::Services => Some("%events"),
+            Section::Events => None,
+        }
+    }
+}
+
+/// The part that the line begins, if it begins one.
+pub fn header(line: &[u8]) -> Option<Section> {
+    if line == b"%conf".as_slice() {
+        Some(Section::Configuration)
+    } else if line == b"%services".as_slice() {
+        Some(Section::Services)
+    } else if line == b"%events".as_slice() {
+        Some(Section::Events)
+    } else {
+        None
+    }
+}
+
+/// A line of a script, and the part that it stands in.
+#[derive(Clone, Copy)]
+pub struct Place<'a> {
+    pub section: Section,
+    /// The line without its end; None behind the last one.
+    pub line: Option<&'a [u8]>,
+}
+
+/// The line with this number, from 1.
+pub fn place_of(bytes: &[u8], number: usize) -> Place<'_> {
+    let mut section = Section::Nothing;
+    let mut rest = bytes;
+    let mut passed = 1usize;
+    while let Some((line, after)) = split_line(rest) {
+        if passed >= number {
+            return Place {
+                section,
+                line: Some(line),
+            };
+        }
+        section = header(line).unwrap_or(section);
+        rest = after;
+        passed = passed.saturating_add(1);
+    }
+    Place {
+        section,
+        line: None,
+    }
+}

@@ -1,0 +1,284 @@
+//! Why a line isn't one of a service.
+
+use crate::spelling::nearest;
+use crate::words::{is_known, said, shown, unknown_word};
+use std::alloc::Global;
+use std::str;
+use svc_conf::NoMemory;
+use svc_socket::read_ip;
+use svc_text::{number, split_word};
+
+const KINDS: [&str; 3] = ["plain", "notify", "bootstrap"];
+
+const ITEMS: [&str; 10] = [
+    "after",
+    "undeclared",
+    "claim",
+    "block",
+    "tcp",
+    "unix",
+    "dscp",
+    "sndbuf",
+    "rcvbuf",
+    "keepalive",
+];
+
+/// Why an item may not stand in its line.
+#[derive(Clone, Copy)]
+enum ItemFault {
+    /// The value isn't what is said.
+    Value(&'static str),
+    Twice,
+    /// A service that bootstraps has nothing but `after`.
+    Bootstraps,
+    TooManyEndpoints,
+    /// An option without a `tcp` endpoint before it.
+    NoEndpoint,
+}
+
+/// What the items of a line said so far.
+#[derive(Clone, Copy)]
+struct SaidItems {
+    bootstraps: bool,
+    after: bool,
+    undeclared: bool,
+    endpoints: usize,
+    /// Which of the options the last `tcp` endpoint has; None without one.
+    options: Option<Options>,
+}
+
+/// Which options stand there.
+#[derive(Clone, Copy)]
+struct Options {
+    dscp: bool,
+    sndbuf: bool,
+    rcvbuf: bool,
+    keepalive: bool,
+}
+
+impl Options {
+    const NONE: Options = Options {
+        dscp: false,
+        sndbuf: false,
+        rcvbuf: false,
+        keepalive: false,
+    };
+
+    /// Notes an option. It answers whether it stood there already.
+    fn note(&mut self, item: &str) -> bool {
+        let noted = match item {
+            "dscp" => &mut self.dscp,
+            "sndbuf" => &mut self.sndbuf,
+            "rcvbuf" => &mut self.rcvbuf,
+            _ => &mut self.keepalive,
+        };
+        let was = *noted;
+        *noted = true;
+        was
+    }
+}
+
+impl SaidItems {
+    /// Takes `undeclared`.
+    fn take_undeclared(&mut self) -> Option<ItemFault> {
+        if self.bootstraps {
+            return Some(ItemFault::Bootstraps);
+        }
+        let was = self.undeclared;
+        self.undeclared = true;
+        was.then_some(ItemFault::Twice)
+    }
+
+    /// Takes an item whose value is one by itself.
+    fn take(&mut self, item: &str) -> Option<ItemFault> {
+        match item {
+            "after" => {
+                let was = self.after;
+                self.after = true;
+                was.then_some(ItemFault::Twice)
+            }
+            _ if self.bootstraps => Some(ItemFault::Bootstraps),
+            "claim" | "block" => None,
+            "tcp" | "unix" => self.take_endpoint(item),
+            _ => match &mut self.options {
+                Some(options) => options.note(item).then_some(ItemFault::Twice),
+                None => Some(ItemFault::NoEndpoint),
+            },
+        }
+    }
+
+    fn take_endpoint(&mut self, item: &str) -> Option<ItemFault> {
+        if self.endpoints >= 64 {
+            return Some(ItemFault::TooManyEndpoints);
+        }
+        self.endpoints += 1;
+        if item == "tcp" {
+            self.options = Some(Options::NONE);
+        }
+        None
+    }
+}
+
+/// A list of so many numbers joined by commas, or of any number of them.
+fn are_numbers(word: &[u8], most: u64, count: Option<usize>) -> bool {
+    let are_all = word
+        .split(|b| *b == b',')
+        .all(|piece| is_at_most(piece, most));
+    are_all
+        && match count {
+            Some(count) => word.split(|b| *b == b',').count() == count,
+            None => true,
+        }
+}
+
+fn is_at_most(word: &[u8], most: u64) -> bool {
+    match number(word) {
+        Some(n) => n <= most,
+        None => false,
+    }
+}
+
+fn is_ip(word: &[u8]) -> bool {
+    match str::from_utf8(word) {
+        Ok(text) => read_ip(text).is_some(),
+        Err(_) => false,
+    }
+}
+
+/// What the item's value has to be, where it isn't so.
+fn value_fault(item: &str, value: &[u8]) -> Option<ItemFault> {
+    let wanted = match item {
+        "after" if !are_numbers(value, u32::MAX as u64, None) => {
+            "numbers of services joined by commas, as 0,2"
+        }
+        "block" if !is_ip(value) => "an IP, as 192.168.1.1",
+        "dscp" if !is_at_most(value, 255) => "a number from 0 to 255",
+        "sndbuf" | "rcvbuf" if number(value).is_none() => "a number of bytes",
+        "keepalive" if !are_numbers(value, u64::MAX, Some(4)) => {
+            "four numbers joined by commas, as 60,10,5,30"
+        }
+        "claim" | "tcp" | "unix" if value.len() > 4096 => "an address of at most 4096 bytes",
+        _ => return None,
+    };
+    Some(ItemFault::Value(wanted))
+}
+
+/// The fault of an item in words.
+fn fault_text(
+    alloc: Global,
+    item: &str,
+    value: &[u8],
+    fault: ItemFault,
+) -> Result<String, NoMemory> {
+    let value_shown = shown(alloc, value)?;
+    Ok(match fault {
+        ItemFault::Value(wanted) => {
+            format!(in alloc; "{value_shown} behind {item} isn't {wanted}")?
+        }
+        ItemFault::Twice => format!(in alloc;
+            "{item} stands twice; after and undeclared stand once in a line, an option once for its tcp endpoint"
+        )?,
+        ItemFault::Bootstraps => {
+            format!(in alloc; "{item} stands in the line of a bootstrap service, which takes after alone")?
+        }
+        ItemFault::TooManyEndpoints => {
+            format!(in alloc; "{item} {value_shown} is one endpoint too many; a service has at most 64")?
+        }
+        ItemFault::NoEndpoint => format!(in alloc;
+            "{item} lacks its tcp endpoint; options stand behind one, as tcp 127.0.0.1:80 {item} {value_shown}"
+        )?,
+    })
+}
+
+/// What is wrong with the first item of these; None where none is left. Else what follows it.
+fn item_fault<'a>(
+    alloc: Global,
+    said_items: &mut SaidItems,
+    items: &'a [u8],
+) -> Result<Option<Result<&'a [u8], String>>, NoMemory> {
+    let Some((key, rest)) = split_word(items) else {
+        return Ok(None);
+    };
+    let item = shown(alloc, key)?;
+    let item = item.as_str();
+    if !is_known(key, &ITEMS) {
+        let text = unknown_word(alloc, key, "item of a service", &ITEMS)?;
+        return Ok(Some(Err(text)));
+    }
+    if item == "undeclared" {
+        return Ok(Some(match said_items.take_undeclared() {
+            Some(fault) => Err(fault_text(alloc, item, &[], fault)?),
+            None => Ok(rest),
+        }));
+    }
+    let Some((value, more)) = split_word(rest) else {
+        return Ok(Some(Err(format!(in alloc; "{item} lacks the word behind it")?)));
+    };
+    let fault = value_fault(item, value).or(said_items.take(item));
+    Ok(Some(match fault {
+        Some(fault) => Err(fault_text(alloc, item, value, fault)?),
+        None => Ok(more),
+    }))
+}
+
+/// What is wrong with the items of a service, by the first that is wrong.
+fn items_fault(
+    alloc: Global,
+    bootstraps: bool,
+    items: &[u8],
+) -> Result<Option<String>, NoMemory> {
+    let mut said_items = SaidItems {
+        bootstraps,
+        after: false,
+        undeclared: false,
+        endpoints: 0,
+        options: None,
+    };
+    let mut rest = items;
+    for _ in 0..items.len() {
+        match item_fault(alloc, &mut said_items, rest)? {
+            Some(Err(text)) => return Ok(Some(text)),
+            Some(Ok(more)) => rest = more,
+            None => return Ok(None),
+        }
+    }
+    Ok(None)
+}
+
+/// A name without more: `eager`, misspelled or a second time, or a service without its kind.
+fn name_alone(alloc: Global, name: &[u8]) -> Result<String, NoMemory> {
+    let name_shown = shown(alloc, name)?;
+    if name == b"eager".as_slice() {
+        return said(alloc, "eager stands twice; it stands once among the services");
+    }
+    if nearest(name, &["eager"]).is_some() {
+        return Ok(format!(in alloc; "{name_shown} lacks its kind; did you mean eager?")?);
+    }
+    Ok(format!(in alloc; "service {name_shown} lacks its kind: plain, notify or bootstrap")?)
+}
+
+/// Why the line is none of a service.
+pub fn service_message(alloc: Global, line: &[u8]) -> Result<String, NoMemory> {
+    let Some((name, rest)) = split_word(line) else {
+        return said(alloc, "a service line begins with a name");
+    };
+    let Some((kind, items)) = split_word(rest) else {
+        return name_alone(alloc, name);
+    };
+    if name.len() > 255 || name.first() == Some(&b'%') {
+        let name_shown = shown(alloc, name)?;
+        return Ok(format!(in alloc;
+            "{name_shown} is no name; a service's name has 1 to 255 bytes and doesn't begin with # or %"
+        )?);
+    }
+    if !is_known(kind, &KINDS) {
+        return unknown_word(alloc, kind, "kind of a service", &KINDS);
+    }
+    match items_fault(alloc, kind == b"bootstrap".as_slice(), items)? {
+        Some(text) => Ok(text),
+        None => {
+            let name_shown = shown(alloc, name)?;
+            Ok(format!(in alloc; "service {name_shown} is one too many; a script has at most 1024")?)
+        }
+    }
+}
