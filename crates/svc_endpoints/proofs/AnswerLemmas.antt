@@ -11,7 +11,7 @@ use Rattle.svc_record.specs.Record.{Record, has, now, tell}
 use Rattle.svc_record.specs.Plans.{service_count, endpoints}
 use Rattle.svc_record.specs.Descriptors.{descriptors_of, numbers_of, is_close, is_opened}
 use Rattle.svc_record.specs.Closes.{is_gone, is_drained}
-use Rattle.svc_record.specs.Drain.{ascending}
+use Rattle.svc_base.specs.NumberSets.{ascending, distinct}
 use Rattle.svc_record.specs.Failed.{has_failed}
 use Rattle.svc_record.specs.Offer.{is_held_back}
 use Rattle.svc_record.specs.Tail.{numbers_in}
@@ -20,7 +20,7 @@ use Rattle.svc_endpoints.specs.declared.states.Last.{Last}
 use Rattle.svc_endpoints.specs.declared.states.Last.TheVariants.{Unasked, Binding, Busied, Adopting, Holding, Lost}
 use Rattle.svc_endpoints.specs.declared.states.EndState.{EndState}
 use Rattle.svc_endpoints.specs.EndpointsData.{EndpointsData}
-use Rattle.svc_endpoints.specs.EndpointsState.{IsEndpointsSized, AreOnOffer, LoopsStand, StatesKept, StatesStand, EndpointsStand, last_at, failed_at, refusals_at, is_asking, is_done, is_binding, is_adopting, numbers_of_table, distinct}
+use Rattle.svc_endpoints.specs.EndpointsState.{IsEndpointsSized, AreOnOffer, LoopsStand, StatesKept, StatesStand, EndpointsStand, last_at, failed_at, refusals_at, is_asking, is_done, is_binding, is_adopting, numbers_of_table}
 use Rattle.svc_endpoints.specs.Effects.{fail_if, put, is_last_refusal, refused, bind_failed, adopt_failed, adopted, held_now, cleared, cleared_if, given_up, given_up_if, gone_numbers, goes}
 use Rattle.svc_endpoints.specs.Uses.{uses, is_drained_by}
 use Rattle.svc_endpoints.proofs.FailedLemmas.{failed-bind_failed, failed-adopt_failed, failed-in_use}

@@ -7,7 +7,8 @@ use Rattle.svc_record.specs.declared.action.Action.TheVariants.{Close}
 use Rattle.svc_record.specs.Record.{Record, has, tell, EachEntry}
 use Rattle.svc_record.specs.Plans.{service_count, endpoints, address, same_address}
 use Rattle.svc_record.specs.Descriptors.{Descriptor, opened_descriptors, live_numbers_with, is_opened, is_close, address_of, brings, has_number}
-use Rattle.svc_record.specs.Drain.{ascending, live_numbers}
+use Rattle.svc_record.specs.Drain.{live_numbers}
+use Rattle.svc_base.specs.NumberSets.{ascending, is_in, distinct}
 use Rattle.svc_record.specs.Failed.{has_failed, in_use_count}
 use Rattle.svc_record.specs.Fits.{is_new}
 use Rattle.svc_record.specs.Offer.{is_held_back}
@@ -17,10 +18,10 @@ use Rattle.svc_record.specs.Tail.{numbers_in}
 use Rattle.svc_record.proofs.ClosesOnce.{closed_once}
 use Rattle.svc_endpoints.specs.declared.table.Open.{Open}
 use Rattle.svc_endpoints.specs.EndpointsData.{EndpointsData}
-use Rattle.svc_endpoints.specs.EndpointsState.{LoopsStand, AreOnOffer, StatesKept, StatesStand, StandsAt, EndpointsStand, open_numbers, numbers_of_table, numbers_with, is_in, distinct, last_at, failed_at, refusals_at}
+use Rattle.svc_endpoints.specs.EndpointsState.{LoopsStand, AreOnOffer, StatesKept, StatesStand, StandsAt, EndpointsStand, open_numbers, numbers_of_table, numbers_with, last_at, failed_at, refusals_at}
 use Rattle.svc_endpoints.specs.Effects.{passes, is_abandoned_by, is_done_for, goes, gone_numbers, cleared}
 use Rattle.svc_endpoints.specs.Uses.{is_drained_by}
-use Rattle.svc_endpoints.proofs.NumberLemmas.{any-ascending, filter-ascending, in-filter, distinct-ascending, apart_from, not_in}
+use Rattle.svc_base.proofs.NumberSetLemmas.{any-ascending, filter-ascending, in-filter, distinct-ascending, apart_from, not_in}
 use Rattle.svc_endpoints.proofs.GoneLemmas.{is_turned, is_gone_now, loops-table, loops-closes}
 use Rattle.svc_endpoints.proofs.UseLemmas.{drained-is, early-none}
 use Rattle.svc_endpoints.proofs.CloseLemmas.{along-closes, closed-tell, opened-tell, with-tell, numbers-tell, once-tell, left_out}

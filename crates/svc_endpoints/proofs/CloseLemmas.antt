@@ -9,8 +9,8 @@ use Rattle.svc_record.specs.Plans.{same_address}
 use Rattle.svc_record.specs.Descriptors.{Descriptor, opened_descriptors, live_descriptors, live_numbers_with, is_opened, is_close}
 use Rattle.svc_record.specs.Drain.{live_numbers}
 use Rattle.svc_record.specs.Closes.{close_once}
-use Rattle.svc_endpoints.specs.EndpointsState.{is_in, distinct}
-use Rattle.svc_endpoints.proofs.NumberLemmas.{apart_from, not_in}
+use Rattle.svc_base.specs.NumberSets.{is_in, distinct}
+use Rattle.svc_base.proofs.NumberSetLemmas.{apart_from, not_in}
 
 -- what one close leaves, many leave
 pub along-closes : (P : Record → Type 0) → ((q : Record) (n : ℕ) → P q → P (Told (Close n) ∷ q)) → (q : Record) (ns : List ℕ) → P q → P (tell q (map Close ns))

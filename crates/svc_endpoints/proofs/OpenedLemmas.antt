@@ -14,10 +14,10 @@ use Rattle.svc_record.specs.Message.{decode}
 use Rattle.svc_record.specs.Closes.{is_received}
 use Rattle.svc_record.specs.Drain.{live_numbers}
 use Rattle.svc_record.specs.Tail.{numbers_in}
-use Rattle.svc_endpoints.specs.EndpointsState.{is_in, distinct}
+use Rattle.svc_base.specs.NumberSets.{is_in, distinct}
 use Rattle.svc_endpoints.proofs.WordLemmas.{numbers-words}
 use Rattle.svc_endpoints.proofs.LiveLemmas.{same_eq}
-use Rattle.svc_endpoints.proofs.NumberLemmas.{apart_from}
+use Rattle.svc_base.proofs.NumberSetLemmas.{apart_from}
 
 -- what an entry opens are its numbers
 opened-numbers_of : (p : Plan) (e : Entry) (more : List Descriptor) → map (λ (d : Descriptor). d.number) (descriptors_of p e ++ more) ≡ numbers_of e ++ map (λ (d : Descriptor). d.number) more

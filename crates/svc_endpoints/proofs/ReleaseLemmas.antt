@@ -9,12 +9,12 @@ use Rattle.svc_record.specs.declared.event.Event.{Event}
 use Rattle.svc_record.specs.Record.{Record, has, tell}
 use Rattle.svc_record.specs.Descriptors.{is_close, is_opened}
 use Rattle.svc_record.specs.Closes.{is_gone, is_drained}
-use Rattle.svc_record.specs.Drain.{ascending}
+use Rattle.svc_base.specs.NumberSets.{ascending, distinct}
 use Rattle.svc_record.specs.Offer.{is_held_back}
 use Rattle.svc_record.specs.Tail.{numbers_in}
 use Rattle.svc_record.specs.Told.{Tells, IsGivingUp}
 use Rattle.svc_endpoints.specs.EndpointsData.{EndpointsData}
-use Rattle.svc_endpoints.specs.EndpointsState.{LoopsStand, EndpointsStand, distinct}
+use Rattle.svc_endpoints.specs.EndpointsState.{LoopsStand, EndpointsStand}
 use Rattle.svc_endpoints.specs.Effects.{cleared, gone_numbers}
 use Rattle.svc_endpoints.specs.Foreign.{is_endpoints_event}
 use Rattle.svc_endpoints.proofs.GoneLemmas.{is_turned, is_gone_now, loops-got, closed-is}

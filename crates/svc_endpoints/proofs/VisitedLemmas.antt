@@ -21,7 +21,8 @@ use Rattle.svc_endpoints.specs.declared.states.Last.TheVariants.{Unasked, Bindin
 use Rattle.svc_endpoints.specs.declared.visit.Visit.{Visit}
 use Rattle.svc_endpoints.specs.declared.visit.Visit.TheVariants.{Nothing, Asks, Offers}
 use Rattle.svc_endpoints.specs.EndpointsData.{EndpointsData}
-use Rattle.svc_endpoints.specs.EndpointsState.{IsEndpointsSized, LoopsStand, StatesKept, StatesStand, EndpointsStand, numbers_of_table, last_at, failed_at, numbers_with, is_binding, is_adopting, is_asking, is_holding, is_done, refusals_at, is_in, held_of}
+use Rattle.svc_endpoints.specs.EndpointsState.{IsEndpointsSized, LoopsStand, StatesKept, StatesStand, EndpointsStand, numbers_of_table, last_at, failed_at, numbers_with, is_binding, is_adopting, is_asking, is_holding, is_done, refusals_at, held_of}
+use Rattle.svc_base.specs.NumberSets.{is_in}
 use Rattle.svc_endpoints.specs.Effects.{first_of, not_empty, put_last, asked, offered}
 use Rattle.svc_endpoints.specs.Loops.{has_loop}
 use Rattle.svc_endpoints.proofs.OpenedLemmas.{live-pair}

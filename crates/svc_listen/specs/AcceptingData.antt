@@ -1,8 +1,8 @@
 -- What contracts see of what accepts connections, and what its calls change.
 use Rattle.std.specs.Prelude.{◌≡◌, ℕ, Bool, true, false, List, [], ◌∷◌, Option}
-use Rattle.svc_conf.specs.Streams.{Rose}
-use Rattle.svc_conf.specs.declared.settings.Setting.{Setting}
-use Rattle.svc_calls.specs.Calls.{Adds}
+use Rattle.svc_base.specs.Streams.{Rose}
+use Rattle.svc_base.specs.declared.settings.Setting.{Setting}
+use Rattle.svc_base.specs.Calls.{Adds}
 use Rattle.svc_listen.specs.declared.accepting.Arrival.{Arrival}
 use Rattle.svc_listen.specs.declared.accepting.Arrival.TheVariants.{Came, NotYet, Failed}
 use Rattle.svc_listen.specs.declared.accepting.AcceptingCall.{AcceptingCall}

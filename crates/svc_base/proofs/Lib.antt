@@ -1,0 +1,7 @@
+pub mod CallLemmas
+pub mod CutLemmas
+pub mod DecimalLemmas
+pub mod LineLemmas
+pub mod NumberSetLemmas
+pub mod Pieces
+pub mod WordLemmas
