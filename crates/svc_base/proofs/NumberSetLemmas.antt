@@ -9,6 +9,7 @@ use Rattle.std.proofs.lemmas.List.Sorted.{searched}
 use Rattle.std.proofs.lemmas.Grind.{get_or_default_zero}
 use Rattle.std.proofs.lemmas.List.Folds.{list_any_at, list_any_none}
 use Rattle.svc_base.specs.NumberSets.{is_in, distinct, put_number, ascending}
+use Rattle.svc_base.proofs.Logic.{not_in, apart_from}
 
 or_swap : (a b c : Bool) → (b || (a || c)) ≡ (a || (b || c))
 or_swap a b c = grind arith
@@ -23,12 +24,6 @@ any-put test n (m ∷ more) = elim (cases_Bool (nat_lt n m)) [
 pub any-ascending : (test : ℕ → Bool) (xs : List ℕ) → list_any test (ascending xs) ≡ list_any test xs
 any-ascending test [] = refl
 any-ascending test (n ∷ more) = any-put test n (ascending more) ∙ ap (λ b. test n || b) (any-ascending test more)
-
-pub not_in : (b : Bool) → b ≡ false → not b ≡ true
-not_in b h = rw h refl
-
-pub apart_from : (b : Bool) → not b ≡ true → b ≡ false
-apart_from b h = grind arith
 
 pub distinct-put : (n : ℕ) (xs : List ℕ) → is_in n xs ≡ false → distinct xs ≡ true → distinct (put_number n xs) ≡ true
 distinct-put n [] none h = refl
@@ -117,9 +112,6 @@ not_under n m k h g = grind arith
 above_all : (n m k : ℕ) → nat_lt n m ≡ true → not (nat_lt k m) ≡ true → nat_lt n k ≡ true
 above_all n m k h g = grind arith
 
-not_false : (b : Bool) → b ≡ false → not b ≡ true
-not_false b h = rw h refl
-
 pub rises-put : (n : ℕ) (xs : List ℕ) → rises xs ≡ true → rises (put_number n xs) ≡ true
 rises-put n [] h = refl
 rises-put n (m ∷ more) h =
@@ -128,7 +120,7 @@ rises-put n (m ∷ more) h =
       | inl below ↦ rw below (and_from (list_all (λ k. not (nat_lt k n)) (m ∷ more)) (rises (m ∷ more))
           (and_from (not (nat_lt m n)) (list_all (λ k. not (nat_lt k n)) more) (not_below n m below) (all-grows (λ k. not (nat_lt k m)) (λ k. not (nat_lt k n)) more (λ k g. not_under n m k below g) parts.0)) h)
       | inr above ↦ rw above (and_from (list_all (λ k. not (nat_lt k m)) (put_number n more)) (rises (put_number n more))
-          (all-put (λ k. not (nat_lt k m)) n more ∙ and_from (not (nat_lt n m)) (list_all (λ k. not (nat_lt k m)) more) (not_false (nat_lt n m) above) parts.0)
+          (all-put (λ k. not (nat_lt k m)) n more ∙ and_from (not (nat_lt n m)) (list_all (λ k. not (nat_lt k m)) more) (not_in (nat_lt n m) above) parts.0)
           (rises-put n more parts.1))
     ]
 

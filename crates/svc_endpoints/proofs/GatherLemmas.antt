@@ -12,7 +12,8 @@ use Rattle.svc_record.proofs.Tallies.{is_in-filter}
 use Rattle.svc_endpoints.specs.declared.table.Open.{Open}
 use Rattle.svc_endpoints.specs.EndpointsState.{all_new, numbers_with, numbers_of_table}
 use Rattle.svc_endpoints.specs.Effects.{passes, put_open, put_opens, put_numbers, opens_of, numbers_out}
-use Rattle.svc_base.proofs.NumberSetLemmas.{any-put, apart_from, length-put}
+use Rattle.svc_base.proofs.NumberSetLemmas.{any-put, length-put}
+use Rattle.svc_base.proofs.Logic.{apart_from}
 use Rattle.svc_endpoints.proofs.TableLemmas.{numbers_of-put}
 use Rattle.svc_endpoints.proofs.LiveLemmas.{numbers_with-put, same_self}
 use Rattle.svc_endpoints.proofs.RestLemmas.{with-None, rest-out-length}

@@ -28,7 +28,8 @@ use Rattle.svc_endpoints.specs.declared.table.Open.{Open}
 use Rattle.svc_endpoints.specs.EndpointsData.{EndpointsData}
 use Rattle.svc_endpoints.specs.EndpointsState.{LoopsStand, StatesKept, StatesStand, StandsAt, EndpointsStand, all_new, numbers_with, numbers_of_table, open_numbers, last_at, failed_at, refusals_at, has_fd, fd_of}
 use Rattle.svc_endpoints.specs.Effects.{passes, has_open, not_empty, is_abandoned_by, turns_away, opens_of, numbers_out, without_numbers, put_numbers, turned_away, received}
-use Rattle.svc_base.proofs.NumberSetLemmas.{any-ascending, apart_from, not_in, distinct-ascending}
+use Rattle.svc_base.proofs.NumberSetLemmas.{any-ascending, distinct-ascending}
+use Rattle.svc_base.proofs.Logic.{apart_from, not_in, clash, false_where, neither}
 use Rattle.svc_endpoints.proofs.GoneLemmas.{is_turned, is_gone_now, loops-got, loops-closes, loops-table, closed-is, drained-opened}
 use Rattle.svc_endpoints.proofs.OfferLemmas.{held-opened}
 use Rattle.svc_endpoints.proofs.CloseLemmas.{along-closes, closed-tell, opened-tell, with-tell, numbers-tell, once-tell, left_out}
@@ -41,16 +42,6 @@ use Rattle.svc_endpoints.proofs.OneLiveLemmas.{one_live-is}
 use Rattle.svc_endpoints.proofs.GatherLemmas.{puts-ascending, numbers-puts, with-puts, numbers-opens}
 use Rattle.svc_endpoints.proofs.DecodeLemmas.{read-apart}
 use Rattle.svc_endpoints.proofs.ReceivedLists.{as_received, words-descriptors, numbers-received, with-received, open-received, none-received, none-listed, first-later, some-received, one-received, out-received, words-one, without-same, new-in, new-apart, new-distinct, new-same}
-
-clash : (b : Bool) → b ≡ true → b ≡ false → ⊥
-clash b h g = cc
-
-false_where : (b : Bool) → (b ≡ true → ⊥) → b ≡ false
-false_where true f = absurd (f refl)
-false_where false f = refl
-
-neither : (a b : Bool) → a ≡ false → b ≡ false → (a || b) ≡ false
-neither a b x y = rw (x, y) refl
 
 fd_one : (x : Last) → has_fd x ≡ true → length (fd_of x) ≡ 1
 fd_one (Adopting fd) h = refl

@@ -9,10 +9,7 @@ use Rattle.svc_base.specs.NumberSets.{is_in, distinct}
 use Rattle.svc_endpoints.specs.Effects.{passes, numbers_out, without_numbers}
 use Rattle.svc_endpoints.proofs.LiveLemmas.{same_eq, same_self}
 use Rattle.svc_endpoints.proofs.CloseLemmas.{left_out}
-use Rattle.svc_base.proofs.NumberSetLemmas.{apart_from, not_in}
-
-clash : (b : Bool) → b ≡ true → b ≡ false → ⊥
-clash b h g = cc
+use Rattle.svc_base.proofs.Logic.{apart_from, not_in, clash}
 
 pub left-none : (ns xs : List ℕ) → ((g : ℕ) → is_in g xs ≡ true → is_in g ns ≡ false) → left_out ns xs ≡ xs
 left-none ns [] h = refl

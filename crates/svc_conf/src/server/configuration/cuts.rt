@@ -1,6 +1,6 @@
 //! A line is cut where its blanks, its key and its comment end.
 
-ghost use Rattle.std.specs.Prelude.{◌≡◌, ◌<◌, ◌≤◌, [], ◌∷◌, length, position, true};
+ghost use Rattle.std.specs.Prelude.{◌≡◌, ◌<◌, ◌≤◌, [], length, position, true};
 ghost use Rattle.svc_conf.specs.TextLines.{is_key_byte, not_key_byte, key_len, past_blanks, is_silent, is_skipped, is_end, is_gap, before_comment, without_end};
 ghost use Rattle.svc_base.specs.Words.{is_blank};
 
