@@ -4,7 +4,8 @@ use crate::words::{is_known, said, shown, unknown_word};
 use clap::error::ErrorKind;
 use std::alloc::Global;
 use std::rc::RcStr;
-use svc_conf::{NoMemory, Opt, OptError};
+use svc_base::NoMemory;
+use svc_conf::{Opt, OptError};
 
 /// What the program takes, and how it ends.
 const HELP: &str = "\
@@ -26,8 +27,7 @@ The last line printed, and the exit status:
   another status        the run ended otherwise     4
   status read fault     standard input failed       5
                         standard output failed      6
-                        out of memory               7
-";
+                        out of memory               7";
 
 /// The words and the exit statuses of the program.
 pub fn help() -> &'static str {

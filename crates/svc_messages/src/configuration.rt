@@ -5,8 +5,8 @@ use crate::spelling::nearest;
 use crate::words::{is_known, said, shown};
 use std::alloc::Global;
 use std::str;
-use svc_conf::{Key, NoMemory, ReadError, ServerConf};
-use svc_text::{split_line, split_word};
+use svc_base::{NoMemory, split_line, split_word};
+use svc_conf::{Key, ReadError, ServerConf};
 
 /// The keys whose value is a number.
 const NUMBERS: [&str; 19] = [

@@ -6,7 +6,7 @@ ghost use Rattle.svc_text.specs.Edges.{HasEdges};
 
 use crate::words::{said, shown};
 use std::alloc::Global;
-use svc_conf::NoMemory;
+use svc_base::NoMemory;
 use svc_graph::{AddNodeReason, DependencyError, DependencyGraph};
 use svc_text::{ServiceLine, add_dependencies};
 

@@ -5,8 +5,7 @@ use crate::places::{Section, header};
 use crate::words::shown;
 use std::alloc::Global;
 use std::str;
-use svc_conf::NoMemory;
-use svc_text::{number, split_line, split_word};
+use svc_base::{NoMemory, number, split_line, split_word};
 
 /// The line is one of an event.
 fn is_event(line: &[u8]) -> bool {

@@ -4,8 +4,8 @@ use crate::spelling::nearest;
 use crate::words::{is_known, said, shown, unknown_word};
 use std::alloc::Global;
 use std::str;
-use svc_conf::NoMemory;
-use svc_text::{number, split_word};
+use svc_base::{NoMemory, number, split_word};
+use svc_socket::read_peer_word;
 
 /// The first words of event lines, and of the line on which the host fails.
 const WORDS: [&str; 30] = [
@@ -108,7 +108,7 @@ impl Slot {
         }
     }
 
-    /// The word may stand there. Peers aren't looked at.
+    /// The word may stand there.
     fn takes(self, word: &[u8]) -> bool {
         match self {
             Slot::Moment | Slot::Descriptor | Slot::Connection | Slot::AcceptLoop => {
@@ -116,7 +116,7 @@ impl Slot {
             }
             Slot::Service | Slot::Endpoint | Slot::ErrorNumber => is_small(word),
             Slot::Answer | Slot::Signal | Slot::Side => is_known(word, self.known()),
-            Slot::Peer => true,
+            Slot::Peer => read_peer_word(word).is_some(),
             Slot::Bytes => is_hexadecimal(word),
             Slot::Descriptors => are_descriptors(word),
         }
@@ -175,52 +175,62 @@ fn slots(key: &[u8]) -> Option<&'static [Slot]> {
 }
 
 /// The form of a line with this first word.
-fn form(alloc: Global, key: &str, slots: &[Slot]) -> Result<String, NoMemory> {
-    let mut form = said(alloc, key)?;
+fn form_text(alloc: Global, key: &str, slots: &[Slot]) -> Result<String, NoMemory> {
+    let mut text = said(alloc, key)?;
     for slot in slots {
-        form.push_str(" ")?;
-        form.push_str(slot.name())?;
+        text.push_str(" ")?;
+        text.push_str(slot.name())?;
     }
-    Ok(form)
+    Ok(text)
 }
 
-/// Why the word may not stand in the slot.
-fn word_fault(alloc: Global, key: &str, slot: Slot, word: &[u8]) -> Result<String, NoMemory> {
-    let wanted = slot.wanted();
+/// The form of an event line.
+#[derive(Clone, Copy)]
+struct Form<'a> {
+    key: &'a str,
+    slots: &'static [Slot],
+    /// The key, and the names of the slots.
+    text: &'a str,
+}
+
+/// Why the word may not stand in the slot, in a line of this form.
+fn word_fault(
+    alloc: Global,
+    form: &Form<'_>,
+    slot: Slot,
+    word: &[u8],
+) -> Result<String, NoMemory> {
+    let (key, text, wanted) = (form.key, form.text, slot.wanted());
     let word_shown = shown(alloc, word)?;
     match nearest(word, slot.known()) {
         Some(meant) => Ok(format!(in alloc;
             "{word_shown} behind {key} isn't {wanted}; did you mean {meant}?"
         )?),
-        None => Ok(format!(in alloc; "{word_shown} behind {key} isn't {wanted}")?),
+        None => Ok(format!(in alloc;
+            "{word_shown} behind {key} isn't {wanted}; the line is written {text}"
+        )?),
     }
 }
 
-/// What is wrong with the words behind the first one, where a word is wrong by itself.
-fn slots_fault(
-    alloc: Global,
-    key: &str,
-    slots: &[Slot],
-    words: &[u8],
-) -> Result<Option<String>, NoMemory> {
+/// Why the words behind the first one are none of a line of this form.
+fn words_fault(alloc: Global, form: &Form<'_>, words: &[u8]) -> Result<String, NoMemory> {
+    let (key, text) = (form.key, form.text);
     let mut rest = words;
-    for slot in slots {
+    for slot in form.slots {
         let Some((word, after)) = split_word(rest) else {
             let (name, wanted) = (slot.name(), slot.wanted());
-            return Ok(Some(format!(in alloc; "{key} lacks {name}, {wanted}")?));
+            return Ok(format!(in alloc; "{key} lacks {name}, {wanted}; the line is written {text}")?);
         };
         if !slot.takes(word) {
-            return Ok(Some(word_fault(alloc, key, *slot, word)?));
+            return word_fault(alloc, form, *slot, word);
         }
         rest = after;
     }
-    match split_word(rest) {
-        Some((word, _)) => {
-            let word_shown = shown(alloc, word)?;
-            Ok(Some(format!(in alloc; "{word_shown} is one word too many")?))
-        }
-        None => Ok(None),
-    }
+    let Some((word, _)) = split_word(rest) else {
+        return Ok(format!(in alloc; "the words behind {key} are refused; the line is written {text}")?);
+    };
+    let word_shown = shown(alloc, word)?;
+    Ok(format!(in alloc; "{word_shown} is one word too many; the line is written {text}")?)
 }
 
 /// Why the line is none of an event.
@@ -232,12 +242,13 @@ pub fn event_message(alloc: Global, line: &[u8]) -> Result<String, NoMemory> {
         return unknown_word(alloc, word, "event", &WORDS);
     };
     let key = shown(alloc, word)?;
-    let form = form(alloc, key.as_str(), slots)?;
-    let fault = match slots_fault(alloc, key.as_str(), slots, rest)? {
-        Some(fault) => fault,
-        None => format!(in alloc; "the peer isn't -, unix, IP:PORT or [IP]:PORT")?,
+    let text = form_text(alloc, key.as_str(), slots)?;
+    let form = Form {
+        key: key.as_str(),
+        slots,
+        text: text.as_str(),
     };
-    Ok(format!(in alloc; "{fault}; the line is written {form}")?)
+    words_fault(alloc, &form, rest)
 }
 
 /// Where an event with this first word fits.

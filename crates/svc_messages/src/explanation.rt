@@ -7,7 +7,7 @@ use crate::script::script_message;
 use crate::words::said;
 use std::alloc::Global;
 use std::rc::RcStr;
-use svc_conf::{NoMemory, READ_LIMIT};
+use svc_base::{NoMemory, READ_LIMIT};
 use svc_text::parse;
 
 /// How the program ended.
@@ -15,8 +15,8 @@ use svc_text::parse;
 pub struct Ending<'a> {
     /// The words behind its name.
     pub words: &'a [RcStr],
-    /// What it read.
-    pub bytes: &'a [u8],
+    /// What it read, where that was kept.
+    pub script: Option<&'a [u8]>,
     /// The last line that it wrote, without its end.
     pub line: &'a [u8],
     /// Its exit status.
@@ -32,28 +32,28 @@ fn text_message(alloc: Global, bytes: &[u8]) -> Result<Option<String>, NoMemory>
     script_message(alloc, bytes)
 }
 
-/// Why the run of the script ended otherwise than by its shutdown.
-fn run_message(alloc: Global, ending: Ending<'_>) -> Result<Option<String>, NoMemory> {
-    let Ok(script) = parse(alloc, ending.bytes) else {
+/// Why the run of a script ended otherwise than by its shutdown, by its last line.
+fn run_message(alloc: Global, bytes: &[u8], line: &[u8]) -> Result<Option<String>, NoMemory> {
+    let Ok(script) = parse(alloc, bytes) else {
         return Ok(None);
     };
     match script.conf.validate() {
-        Ok(()) => end_message(alloc, ending.bytes, ending.line),
-        Err(key) => Ok(Some(key_message(alloc, ending.bytes, key)?)),
+        Ok(()) => end_message(alloc, bytes, line),
+        Err(key) => Ok(Some(key_message(alloc, bytes, key)?)),
     }
 }
 
-/// Why the program ended so, in one line, or in several where the words are refused that ask for its
-/// help; None where nothing is to be explained.
+/// Why the program ended so, in one line, or in several where the help is asked for; None where nothing is
+/// to be explained. The status decides, so a run that went through its shutdown isn't explained.
 pub fn explanation(alloc: Global, ending: Ending<'_>) -> Result<Option<String>, NoMemory> {
-    match ending.status {
-        1 => Ok(Some(said(alloc, "the daemon's child isn't ready")?)),
-        2 => Ok(Some(words_message(alloc, ending.words)?)),
-        3 => text_message(alloc, ending.bytes),
-        4 => run_message(alloc, ending),
-        5 => Ok(Some(said(alloc, "standard input can't be read")?)),
-        6 => Ok(Some(said(alloc, "standard output can't be written")?)),
-        7 => Ok(Some(said(alloc, "out of memory")?)),
+    match (ending.status, ending.script) {
+        (1, _) => Ok(Some(said(alloc, "the daemon's child isn't ready")?)),
+        (2, _) => Ok(Some(words_message(alloc, ending.words)?)),
+        (3, Some(bytes)) => text_message(alloc, bytes),
+        (4, Some(bytes)) => run_message(alloc, bytes, ending.line),
+        (5, _) => Ok(Some(said(alloc, "standard input can't be read")?)),
+        (6, _) => Ok(Some(said(alloc, "standard output can't be written")?)),
+        (7, _) => Ok(Some(said(alloc, "out of memory")?)),
         _ => Ok(None),
     }
 }

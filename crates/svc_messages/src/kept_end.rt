@@ -3,8 +3,7 @@
 ghost use Rattle.std.specs.Prelude.{◌≡◌};
 
 use std::alloc::Global;
-use svc_conf::{Put, Sink};
-use svc_text::split_line;
+use svc_base::{Put, Sink, split_line};
 
 /// The most bytes that are kept of one piece: a status line has fewer.
 const KEPT: usize = 128;

@@ -3,16 +3,16 @@
 ghost use Rattle.std.specs.Prelude.{◌≡◌};
 
 use std::alloc::Global;
-use svc_conf::{Source, Taken};
+use svc_base::{Source, Taken};
 
 /// A source whose bytes are kept as they are read, as far as memory is there.
 #[derive(Drop)]
 pub struct KeptSource<S: Source> {
     /// The source.
     pub source: S,
-    /// What was read.
+    /// What was kept.
     pub bytes: Vec<u8>,
-    /// All that was read is in `bytes`.
+    /// All that was read was kept.
     pub is_whole: bool,
 }
 
@@ -25,6 +25,15 @@ impl<S: Source> KeptSource<S> {
             source,
             bytes: Vec::new(alloc),
             is_whole: true,
+        }
+    }
+
+    /// What was read, where all of it was kept.
+    pub fn whole(&self) -> Option<&[u8]> {
+        if self.is_whole {
+            Some(self.bytes.as_slice())
+        } else {
+            None
         }
     }
 }

@@ -1,6 +1,7 @@
 //! Where a line of a script stands.
 
-use svc_text::split_line;
+use svc_base::split_line;
+
 
 /// The part of a script that a line stands in.
 #[derive(Clone, Copy, PartialEq, Eq, Debug)]

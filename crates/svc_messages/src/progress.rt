@@ -4,7 +4,7 @@ ghost use Rattle.std.specs.Prelude.{◌≡◌};
 
 use std::rt::Clock;
 use std::time::Instant;
-use svc_conf::{Source, Taken};
+use svc_base::{Source, Taken};
 
 /// A source that tells each second on standard error how many bytes were read.
 #[derive(Drop)]

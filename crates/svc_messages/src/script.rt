@@ -11,8 +11,8 @@ use crate::services::service_message;
 use crate::words::{said, shown, unknown_word};
 use std::alloc::Global;
 use std::str;
-use svc_conf::NoMemory;
-use svc_text::{ScriptError, parse, split_word};
+use svc_base::{NoMemory, split_word};
+use svc_text::{ScriptError, parse};
 
 /// The lines that begin a part.
 const HEADERS: [&str; 3] = ["%conf", "%services", "%events"];

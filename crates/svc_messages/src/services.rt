@@ -4,9 +4,8 @@ use crate::spelling::nearest;
 use crate::words::{is_known, said, shown, unknown_word};
 use std::alloc::Global;
 use std::str;
-use svc_conf::NoMemory;
+use svc_base::{NoMemory, number, split_word};
 use svc_socket::read_ip;
-use svc_text::{number, split_word};
 
 const KINDS: [&str; 3] = ["plain", "notify", "bootstrap"];
 

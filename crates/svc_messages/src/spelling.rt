@@ -1,47 +1,52 @@
 //! The known word that a misspelled one was meant to be.
 
-ghost use Rattle.std.specs.Prelude.{◌≡◌, ◌≤◌, ◌<◌, ℕ, length, slice_index, slice_get, take, drop, true, false, Some, IfSome, MatchOption, All};
+ghost use Rattle.std.specs.Prelude.{◌≡◌, ◌↔◌, IsTrue, All, Any, MatchOption};
+ghost use Rattle.svc_messages.specs.Spelling.{IsOneOff, SwapsFront, BehindShared};
 
-/// How many bytes the two begin with in common.
-fn shared(a: &[u8], b: &[u8]) -> usize
-    ensures first { result ≤ length a.now }
-    ensures second { result ≤ length b.now }
+/// What the two go on with behind the bytes that both begin with.
+fn behind_shared<'a>(a: &'a [u8], b: &'a [u8]) -> (&'a [u8], &'a [u8])
+    ensures { BehindShared a.now b.now result.0.now result.1.now }
 {
-    let most = a.len().min(b.len());
-    for i in 0..most {
-        if a[i] != b[i] {
-            return i;
-        }
+    let (mut left, mut right) = (a, b);
+    while let ([x, more @ ..], [y, rest @ ..]) = (left, right)
+        && x == y
+    {
+        left = more;
+        right = rest;
     }
-    most
+    (left, right)
 }
 
-/// The two begin with the same two bytes, swapped, and go on alike.
-fn is_swapped(a: &[u8], b: &[u8]) -> bool {
+/// The two begin with two neighbours that are swapped, and go on alike.
+fn is_swapped(a: &[u8], b: &[u8]) -> bool
+    ensures { IsTrue result ↔ SwapsFront a.now b.now }
+{
     match (a, b) {
-        ([x, y, left @ ..], [z, w, right @ ..]) => x == w && y == z && left == right,
+        ([x, y, left @ ..], [z, w, right @ ..]) if x == w && y == z => left == right,
         _ => false,
     }
 }
 
 /// The one is the other with one byte too many, too few, another one, or two neighbours swapped.
-pub fn is_one_off(a: &[u8], b: &[u8]) -> bool {
-    let at = shared(a, b);
-    let (left, right) = (&a[at..], &b[at..]);
-    match (left, right) {
-        ([], []) => false,
-        ([], rest) | (rest, []) => rest.len() == 1,
-        ([_, after_left @ ..], [_, after_right @ ..]) => {
-            after_left == after_right
-                || after_left == right
-                || left == after_right
-                || is_swapped(left, right)
-        }
+pub fn is_one_off(a: &[u8], b: &[u8]) -> bool
+    ensures { IsTrue result ↔ IsOneOff a.now b.now }
+{
+    match behind_shared(a, b) {
+        ([], right) => right.len() == 1,
+        (left, []) => left.len() == 1,
+        ([_, more @ ..], [_, rest @ ..]) if more == rest => true,
+        ([_, more @ ..], right) if more == right => true,
+        (left, [_, rest @ ..]) if left == rest => true,
+        (left, right) => is_swapped(left, right),
     }
 }
 
 /// The first of the known words that the word is one letter off, if one is.
-pub fn nearest(word: &[u8], known: &[&'static str]) -> Option<&'static str> {
+pub fn nearest(word: &[u8], known: &[&'static str]) -> Option<&'static str>
+    ensures { MatchOption result
+        (All (λ name. IsOneOff word.now name.now → ⊥) known.now)
+        (λ meant. IsOneOff word.now meant.now × Any (λ name. name.now ≡ meant.now) known.now) }
+{
     for name in known {
         if is_one_off(word, name.as_bytes()) {
             return Some(*name);

@@ -3,7 +3,7 @@
 use crate::spelling::nearest;
 use std::alloc::Global;
 use std::str;
-use svc_conf::NoMemory;
+use svc_base::NoMemory;
 
 /// The most characters of a word that are shown.
 const LONGEST: usize = 60;
