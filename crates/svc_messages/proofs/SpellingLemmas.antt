@@ -116,16 +116,18 @@ is_empty (x ∷ xs) e = absurd (omega arith)
 pub left_ends : (a b left right : List ℕ) → BehindShared a b left right → length left ≡ 0
     → (length right ≡ 1 → IsOneOff a b) × (IsOneOff a b → length right ≡ 1)
 left_ends a b left right s e =
-    let P : List ℕ → Type 0 = λ x. IsOneOff x right in
-    (λ one. wholes a b left right s (subst P (sym (is_empty left e)) (inl (one_letter right one))),
-    λ h. empty_left right (subst P (is_empty left e) (tails a b left right s h)))
+    let P : List ℕ → Type 0 = λ x. IsOneOff x right in (
+      λ one. wholes a b left right s (subst P (sym (is_empty left e)) (inl (one_letter right one))),
+      λ h. empty_left right (subst P (is_empty left e) (tails a b left right s h)),
+    )
 
 pub right_ends : (a b left right : List ℕ) → BehindShared a b left right → length right ≡ 0
     → (length left ≡ 1 → IsOneOff a b) × (IsOneOff a b → length left ≡ 1)
 right_ends a b left right s e =
-    let P : List ℕ → Type 0 = λ x. IsOneOff left x in
-    (λ one. wholes a b left right s (subst P (sym (is_empty right e)) (inr (inl (one_letter left one)))),
-    λ h. empty_right left (subst P (is_empty right e) (tails a b left right s h)))
+    let P : List ℕ → Type 0 = λ x. IsOneOff left x in (
+      λ one. wholes a b left right s (subst P (sym (is_empty right e)) (inr (inl (one_letter left one)))),
+      λ h. empty_right left (subst P (is_empty right e) (tails a b left right s h)),
+    )
 
 changed : (left right : List ℕ) → 0 < length left → 0 < length right → (BeginAlike left right → ⊥) → behind_first left ≡ behind_first right → IsOneOff left right
 changed [] right h k d e = absurd (omega arith)
@@ -184,9 +186,10 @@ only_swapped left right (inr (inr (inr w))) p q r = w
 pub swapped_alone : (a b left right : List ℕ) → BehindShared a b left right → 0 < length left → 0 < length right
     → (behind_first left ≡ behind_first right → ⊥) → (behind_first left ≡ right → ⊥) → (left ≡ behind_first right → ⊥)
     → (SwapsFront left right → IsOneOff a b) × (IsOneOff a b → SwapsFront left right)
-swapped_alone a b left right s h k p q r =
-    (λ w. wholes a b left right s (swapped left right s.differ w),
-    λ w. only_swapped left right (ways left right h k s.differ (tails a b left right s w)) p q r)
+swapped_alone a b left right s h k p q r = (
+  λ w. wholes a b left right s (swapped left right s.differ w),
+  λ w. only_swapped left right (ways left right h k s.differ (tails a b left right s w)) p q r,
+)
 
 pub same_letters : (xs ys : List ℕ) → true ≡ bytes_eq xs ys → xs ≡ ys
 same_letters xs ys e = (bytes_eq-Decides xs ys).0 (sym e)
@@ -207,9 +210,10 @@ swaps r (x ∷ []) b h k p q e = absurd (omega arith)
 swaps r (x ∷ y ∷ a) [] h k p q e = absurd (omega arith)
 swaps r (x ∷ y ∷ a) (z ∷ []) h k p q e = absurd (omega arith)
 swaps r (x ∷ y ∷ a) (z ∷ w ∷ b) h k p q e =
-    let same : (r ≡ true → a ≡ b) × (a ≡ b → r ≡ true) = both_same r a b (cc (rest_of_two x y a, rest_of_two z w b)) in
-    (λ t. record { back = a; one = x; other = y; first = refl; second = cc (same.0 t) },
-    λ s. same.1 (cc (s.first, s.second)))
+    let same : (r ≡ true → a ≡ b) × (a ≡ b → r ≡ true) = both_same r a b (cc (rest_of_two x y a, rest_of_two z w b)) in (
+      λ t. record { back = a; one = x; other = y; first = refl; second = cc (same.0 t) },
+      λ s. same.1 (cc (s.first, s.second)),
+    )
 
 pub none_more : (word name : List ℕ) (known : List (Bor (List ℕ))) (i : ℕ) (d : Bor (List ℕ)) → i < length known → All (λ meant. IsOneOff word meant.now → ⊥) (take i known)
     → name ≡ (get_or known i d).now → (IsOneOff word name → false ≡ true) → All (λ meant. IsOneOff word meant.now → ⊥) (take (i + 1) known)

@@ -80,7 +80,10 @@ fn run_message(alloc: Global, words: &[RcStr]) -> Result<String, NoMemory> {
             None => said(alloc, HELP),
         },
         ErrorKind::ArgumentConflict => {
-            said(alloc, "a flag of svc run stands twice; each stands at most once")
+            said(
+                alloc,
+                "a flag of svc run stands twice; each stands at most once",
+            )
         }
         _ => said(
             alloc,
@@ -101,7 +104,9 @@ fn gen_message(alloc: Global, words: &[RcStr]) -> Result<String, NoMemory> {
         }
         [_, word, ..] => {
             let word_shown = shown(alloc, word.as_str().as_bytes())?;
-            Ok(format!(in alloc; "{word_shown} is one word too many; gen takes one number, from 1 to 1024")?)
+            Ok(format!(in alloc;
+                "{word_shown} is one word too many; gen takes one number, from 1 to 1024"
+            )?)
         }
     }
 }

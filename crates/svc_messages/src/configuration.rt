@@ -6,7 +6,7 @@ use crate::words::{is_known, said, shown};
 use std::alloc::Global;
 use std::str;
 use svc_base::{NoMemory, split_line, split_word};
-use svc_conf::{Key, ReadError, ServerConf};
+use svc_conf::{ReadError, ServerConf};
 
 /// The keys whose value is a number.
 const NUMBERS: [&str; 19] = [
@@ -145,7 +145,8 @@ fn keyless_text(line: &[u8]) -> &'static str {
         Some((word, _)) if word.last() == Some(&b':') => {
             "the line doesn't begin with its key; KEY: VALUE begins at the first byte of a line"
         }
-        _ => "the line is no setting; a line of the configuration is KEY: VALUE or a comment behind #",
+        _ =>
+            "the line is no setting; a line of the configuration is KEY: VALUE or a comment behind #",
     }
 }
 
@@ -163,34 +164,41 @@ pub fn configuration_message(
     if let Some(first) = key_line(bytes, key)
         && first < number
     {
-        return Ok(format!(in alloc; "{key_shown} stands twice, first in line {first}; a key stands once")?);
+        return Ok(format!(in alloc;
+            "{key_shown} stands twice, first in line {first}; a key stands once"
+        )?);
     }
     if let Some(wanted) = wanted(key)
         && has_wrong_value(alloc, bytes)?
     {
         let value_shown = shown(alloc, value.trim_ascii())?;
-        return Ok(format!(in alloc; "{key_shown}: {value_shown} isn't taken; {key_shown} takes {wanted}")?);
+        return Ok(format!(in alloc;
+            "{key_shown}: {value_shown} isn't taken; {key_shown} takes {wanted}"
+        )?);
     }
     match value.first() {
         None | Some(b' ' | b'\t') => Ok(format!(in alloc;
             "the line of {key_shown} isn't in the form KEY: VALUE; a value that isn't plain stands in quotes"
         )?),
-        Some(_) => Ok(format!(in alloc; "a blank lacks behind {key_shown}:, as in {key_shown}: VALUE")?),
+        Some(_) => Ok(format!(in alloc;
+            "a blank lacks behind {key_shown}:, as in {key_shown}: VALUE"
+        )?),
     }
 }
 
-/// Why a configuration with this key can't be run with, with the key's line.
-pub fn key_message(alloc: Global, bytes: &[u8], key: Key) -> Result<String, NoMemory> {
-    let name = key.name();
-    let taken = match key {
-        Key::RuntimeMetricsPollTimeHistogramBuckets => "a number from 1 to 1024",
+/// Why no server can run with the value of the key with this name, with the key's line.
+pub fn key_message(alloc: Global, bytes: &[u8], name: &str) -> Result<String, NoMemory> {
+    let taken = match name {
+        "runtime_metrics_poll_time_histogram_buckets" => "a number from 1 to 1024",
         _ => "a number from 1 on",
     };
     match key_line(bytes, name.as_bytes()) {
         Some(number) => Ok(format!(in alloc;
             "line {number}: no server can run with this value of {name}; it takes {taken}"
         )?),
-        None => Ok(format!(in alloc; "no server can run with this value of {name}; it takes {taken}")?),
+        None => Ok(format!(in alloc;
+            "no server can run with this value of {name}; it takes {taken}"
+        )?),
     }
 }
 

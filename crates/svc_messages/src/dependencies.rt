@@ -7,7 +7,7 @@ ghost use Rattle.svc_text.specs.Edges.{HasEdges};
 use crate::words::{said, shown};
 use std::alloc::Global;
 use svc_base::NoMemory;
-use svc_graph::{AddNodeReason, DependencyError, DependencyGraph};
+use svc_graph::{DependencyError, DependencyGraph};
 use svc_text::{ServiceLine, add_dependencies};
 
 /// A graph that has a node for each service, and no dependencies yet.
@@ -17,23 +17,16 @@ fn nodes(alloc: Global, services: &[ServiceLine]) -> Result<DependencyGraph, NoM
 {
     let mut graph = DependencyGraph::new(alloc);
     for service in services {
-        let name = service.name.copy(alloc)?;
-        match graph.add_node(alloc, name) {
-            Ok(_) => {}
-            Err(refused) => match refused.reason {
-                AddNodeReason::TooMany => unreachable!(),
-                AddNodeReason::NoMemory => return Err(NoMemory),
-            },
+        // Among so few services it is memory that is wanted.
+        if graph.add_node(alloc, service.name.copy(alloc)?).is_err() {
+            return Err(NoMemory);
         }
     }
     Ok(graph)
 }
 
 /// The place in the list of the first service whose dependencies are refused, if they are.
-pub fn refused_service(
-    alloc: Global,
-    services: &[ServiceLine],
-) -> Result<Option<usize>, NoMemory>
+pub fn refused_service(alloc: Global, services: &[ServiceLine]) -> Result<Option<usize>, NoMemory>
     requires few { length services.now ≤ 1024 }
     ensures refused { IfOk result (λ refused. MatchOption refused (RefusesNone services.now) (RefusesAt services.now)) }
 {

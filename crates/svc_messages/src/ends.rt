@@ -1,5 +1,6 @@
 //! Why a run ended otherwise than by its shutdown.
 
+use crate::configuration::key_message;
 use crate::events::fits_where;
 use crate::places::{Section, header};
 use crate::words::shown;
@@ -59,7 +60,9 @@ fn stray_number(line: &str) -> Option<u64> {
 /// Why a run that left this status line ended, where that is known without its script.
 fn plain_message(line: &str) -> Option<&'static str> {
     match line {
-        "status host fault" => Some("a line fault came, at which the host fails in place of giving an event"),
+        "status host fault" => Some(
+            "a line fault came, at which the host fails in place of giving an event",
+        ),
         "status out of events" => Some(
             "the events are used up before the shutdown; signal fast, terminate or upgrade begins one, and the grace period needs moment lines",
         ),
@@ -83,6 +86,9 @@ pub fn end_message(alloc: Global, bytes: &[u8], line: &[u8]) -> Result<Option<St
     };
     if let Some(k) = stray_number(text) {
         return stray_message(alloc, bytes, k);
+    }
+    if let Some(name) = text.strip_prefix("status config ") {
+        return Ok(Some(key_message(alloc, bytes, name)?));
     }
     match plain_message(text) {
         Some(text) => Ok(Some(String::from_str(alloc, text)?)),

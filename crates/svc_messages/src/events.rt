@@ -132,9 +132,7 @@ fn is_small(word: &[u8]) -> bool {
 }
 
 fn is_hexadecimal(word: &[u8]) -> bool {
-    let is_digits = word
-        .iter()
-        .all(|b| matches!(*b, b'0'..=b'9' | b'a'..=b'f'));
+    let is_digits = word.iter().all(|b| matches!(*b, b'0'..=b'9' | b'a'..=b'f'));
     word == b"-".as_slice() || (word.len() % 2 == 0 && is_digits)
 }
 
@@ -157,12 +155,7 @@ fn slots(key: &[u8]) -> Option<&'static [Slot]> {
             Some(&[Slot::Service, Slot::Endpoint])
         }
         "received" => Some(&[Slot::Bytes, Slot::Descriptors]),
-        "arrived" => Some(&[
-            Slot::Service,
-            Slot::Endpoint,
-            Slot::Connection,
-            Slot::Peer,
-        ]),
+        "arrived" => Some(&[Slot::Service, Slot::Endpoint, Slot::Connection, Slot::Peer]),
         "acceptfailed" => Some(&[Slot::Service, Slot::Endpoint, Slot::ErrorNumber]),
         "set" | "shaken" => Some(&[Slot::Connection, Slot::Answer]),
         "finished" => Some(&[Slot::Connection]),
@@ -194,12 +187,7 @@ struct Form<'a> {
 }
 
 /// Why the word may not stand in the slot, in a line of this form.
-fn word_fault(
-    alloc: Global,
-    form: &Form<'_>,
-    slot: Slot,
-    word: &[u8],
-) -> Result<String, NoMemory> {
+fn word_fault(alloc: Global, form: &Form<'_>, slot: Slot, word: &[u8]) -> Result<String, NoMemory> {
     let (key, text, wanted) = (form.key, form.text, slot.wanted());
     let word_shown = shown(alloc, word)?;
     match nearest(word, slot.known()) {
@@ -219,7 +207,9 @@ fn words_fault(alloc: Global, form: &Form<'_>, words: &[u8]) -> Result<String, N
     for slot in form.slots {
         let Some((word, after)) = split_word(rest) else {
             let (name, wanted) = (slot.name(), slot.wanted());
-            return Ok(format!(in alloc; "{key} lacks {name}, {wanted}; the line is written {text}")?);
+            return Ok(format!(in alloc;
+                "{key} lacks {name}, {wanted}; the line is written {text}"
+            )?);
         };
         if !slot.takes(word) {
             return word_fault(alloc, form, *slot, word);
@@ -227,7 +217,9 @@ fn words_fault(alloc: Global, form: &Form<'_>, words: &[u8]) -> Result<String, N
         rest = after;
     }
     let Some((word, _)) = split_word(rest) else {
-        return Ok(format!(in alloc; "the words behind {key} are refused; the line is written {text}")?);
+        return Ok(format!(in alloc;
+            "the words behind {key} are refused; the line is written {text}"
+        )?);
     };
     let word_shown = shown(alloc, word)?;
     Ok(format!(in alloc; "{word_shown} is one word too many; the line is written {text}")?)
@@ -259,8 +251,10 @@ pub fn fits_where(key: &[u8]) -> &'static str {
     match text {
         "moment" => "its time is not below the last moment's",
         "ready" => "its service is of the kind notify, is started and hasn't said so before",
-        "ended" => "its service is started, bootstraps not, has no endpoints and hasn't ended before",
-        "bound" => "a bind of the endpoint was told and isn't answered yet, and the number is a new one",
+        "ended" =>
+            "its service is started, bootstraps not, has no endpoints and hasn't ended before",
+        "bound" =>
+            "a bind of the endpoint was told and isn't answered yet, and the number is a new one",
         "inuse" | "bindfailed" => "a bind of the endpoint was told and isn't answered yet",
         "adopted" | "adoptfailed" => "an adopt of the endpoint was told and isn't answered yet",
         "received" => "a tryreceive was told and isn't answered yet, and each number is a new one",

@@ -1,14 +1,12 @@
 //! What is said of a program that has ended.
 
 use crate::command::words_message;
-use crate::configuration::key_message;
 use crate::ends::end_message;
 use crate::script::script_message;
 use crate::words::said;
 use std::alloc::Global;
 use std::rc::RcStr;
 use svc_base::{NoMemory, READ_LIMIT};
-use svc_text::parse;
 
 /// How the program ended.
 #[derive(Clone, Copy)]
@@ -32,17 +30,6 @@ fn text_message(alloc: Global, bytes: &[u8]) -> Result<Option<String>, NoMemory>
     script_message(alloc, bytes)
 }
 
-/// Why the run of a script ended otherwise than by its shutdown, by its last line.
-fn run_message(alloc: Global, bytes: &[u8], line: &[u8]) -> Result<Option<String>, NoMemory> {
-    let Ok(script) = parse(alloc, bytes) else {
-        return Ok(None);
-    };
-    match script.conf.validate() {
-        Ok(()) => end_message(alloc, bytes, line),
-        Err(key) => Ok(Some(key_message(alloc, bytes, key)?)),
-    }
-}
-
 /// Why the program ended so, in one line, or in several where the help is asked for; None where nothing is
 /// to be explained. The status decides, so a run that went through its shutdown isn't explained.
 pub fn explanation(alloc: Global, ending: Ending<'_>) -> Result<Option<String>, NoMemory> {
@@ -50,7 +37,7 @@ pub fn explanation(alloc: Global, ending: Ending<'_>) -> Result<Option<String>, 
         (1, _) => Ok(Some(said(alloc, "the daemon's child isn't ready")?)),
         (2, _) => Ok(Some(words_message(alloc, ending.words)?)),
         (3, Some(bytes)) => text_message(alloc, bytes),
-        (4, Some(bytes)) => run_message(alloc, bytes, ending.line),
+        (4, Some(bytes)) => end_message(alloc, bytes, ending.line),
         (5, _) => Ok(Some(said(alloc, "standard input can't be read")?)),
         (6, _) => Ok(Some(said(alloc, "standard output can't be written")?)),
         (7, _) => Ok(Some(said(alloc, "out of memory")?)),

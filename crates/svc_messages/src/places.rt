@@ -2,7 +2,6 @@
 
 use svc_base::split_line;
 
-
 /// The part of a script that a line stands in.
 #[derive(Clone, Copy, PartialEq, Eq, Debug)]
 pub enum Section {

@@ -31,8 +31,12 @@ fn missing_part(alloc: Global, section: Section) -> Result<String, NoMemory> {
 fn header_message(alloc: Global, section: Section, line: &[u8]) -> Result<String, NoMemory> {
     let line_shown = shown(alloc, line)?;
     match section.next_header() {
-        Some(header) => Ok(format!(in alloc; "{line_shown} stands out of order; the next part is {header}")?),
-        None => Ok(format!(in alloc; "{line_shown} stands out of order; %events is the last part")?),
+        Some(header) => Ok(format!(in alloc;
+            "{line_shown} stands out of order; the next part is {header}"
+        )?),
+        None => Ok(format!(in alloc;
+            "{line_shown} stands out of order; %events is the last part"
+        )?),
     }
 }
 
@@ -40,7 +44,9 @@ fn header_message(alloc: Global, section: Section, line: &[u8]) -> Result<String
 fn percent_message(alloc: Global, word: &[u8]) -> Result<String, NoMemory> {
     let word_shown = shown(alloc, word)?;
     if header(word).is_some() {
-        return Ok(format!(in alloc; "{word_shown} stands alone in its line, without blanks around it")?);
+        return Ok(format!(in alloc;
+            "{word_shown} stands alone in its line, without blanks around it"
+        )?);
     }
     unknown_word(alloc, word, "part of a script", &HEADERS)
 }
@@ -65,7 +71,9 @@ fn line_message(alloc: Global, bytes: &[u8], number: usize) -> Result<String, No
     match place.section {
         Section::Nothing => {
             let line_shown = shown(alloc, line)?;
-            Ok(format!(in alloc; "{line_shown} stands before the line %conf; comments behind # alone may")?)
+            Ok(format!(in alloc;
+                "{line_shown} stands before the line %conf; comments behind # alone may"
+            )?)
         }
         Section::Configuration => configuration_message(alloc, bytes, number, line),
         Section::Services => service_message(alloc, line),

@@ -178,10 +178,14 @@ fn fault_text(
             "{item} stands twice; after and undeclared stand once in a line, an option once for its tcp endpoint"
         )?,
         ItemFault::Bootstraps => {
-            format!(in alloc; "{item} stands in the line of a bootstrap service, which takes after alone")?
+            format!(in alloc;
+                "{item} stands in the line of a bootstrap service, which takes after alone"
+            )?
         }
         ItemFault::TooManyEndpoints => {
-            format!(in alloc; "{item} {value_shown} is one endpoint too many; a service has at most 64")?
+            format!(in alloc;
+                "{item} {value_shown} is one endpoint too many; a service has at most 64"
+            )?
         }
         ItemFault::NoEndpoint => format!(in alloc;
             "{item} lacks its tcp endpoint; options stand behind one, as tcp 127.0.0.1:80 {item} {value_shown}"
@@ -221,11 +225,7 @@ fn item_fault<'a>(
 }
 
 /// What is wrong with the items of a service, by the first that is wrong.
-fn items_fault(
-    alloc: Global,
-    bootstraps: bool,
-    items: &[u8],
-) -> Result<Option<String>, NoMemory> {
+fn items_fault(alloc: Global, bootstraps: bool, items: &[u8]) -> Result<Option<String>, NoMemory> {
     let mut said_items = SaidItems {
         bootstraps,
         after: false,
@@ -248,7 +248,10 @@ fn items_fault(
 fn name_alone(alloc: Global, name: &[u8]) -> Result<String, NoMemory> {
     let name_shown = shown(alloc, name)?;
     if name == b"eager".as_slice() {
-        return said(alloc, "eager stands twice; it stands once among the services");
+        return said(
+            alloc,
+            "eager stands twice; it stands once among the services",
+        );
     }
     if nearest(name, &["eager"]).is_some() {
         return Ok(format!(in alloc; "{name_shown} lacks its kind; did you mean eager?")?);
@@ -277,7 +280,9 @@ pub fn service_message(alloc: Global, line: &[u8]) -> Result<String, NoMemory> {
         Some(text) => Ok(text),
         None => {
             let name_shown = shown(alloc, name)?;
-            Ok(format!(in alloc; "service {name_shown} is one too many; a script has at most 1024")?)
+            Ok(format!(in alloc;
+                "service {name_shown} is one too many; a script has at most 1024"
+            )?)
         }
     }
 }
