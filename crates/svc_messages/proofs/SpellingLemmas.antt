@@ -12,9 +12,6 @@ pub record Share (a b left right : List ℕ) : Type 0 where
   pub first : a ≡ front ++ left
   pub second : b ≡ front ++ right
 
-pub share_none : (a b : List ℕ) → Share a b a b
-share_none a b = record { front = []; first = refl; second = refl }
-
 share_more : (a b left right : List ℕ) (x y : ℕ) → Share a b (x ∷ left) (y ∷ right) → x ≡ y → Share a b left right
 share_more a b left right x y s e = record {
   front = s.front ++ (x ∷ []);
@@ -97,12 +94,6 @@ empty_left right (inr (inl h)) = absurd (no_change h.front h.back h.extra h.long
 empty_left right (inr (inr (inl h))) = absurd (no_change h.front h.back h.one h.first)
 empty_left right (inr (inr (inr h))) = absurd (no_change h.front (h.other ∷ h.back) h.one h.first)
 
-empty_right : (left : List ℕ) → IsOneOff left [] → length left ≡ 1
-empty_right left (inl h) = absurd (no_change h.front h.back h.extra h.long)
-empty_right left (inr (inl h)) = empty_one h.front h.back h.extra left h.short h.long
-empty_right left (inr (inr (inl h))) = absurd (no_change h.front h.back h.other h.second)
-empty_right left (inr (inr (inr h))) = absurd (no_change h.front (h.one ∷ h.back) h.other h.second)
-
 one_letter : (right : List ℕ) → length right ≡ 1 → HasOneMore [] right
 one_letter [] e = absurd (omega arith)
 one_letter (x ∷ []) e = record { front = []; back = []; extra = x; short = refl; long = refl }
@@ -119,14 +110,6 @@ left_ends a b left right s e =
     let P : List ℕ → Type 0 = λ x. IsOneOff x right in (
       λ one. wholes a b left right s (subst P (sym (is_empty left e)) (inl (one_letter right one))),
       λ h. empty_left right (subst P (is_empty left e) (tails a b left right s h)),
-    )
-
-pub right_ends : (a b left right : List ℕ) → BehindShared a b left right → length right ≡ 0
-    → (length left ≡ 1 → IsOneOff a b) × (IsOneOff a b → length left ≡ 1)
-right_ends a b left right s e =
-    let P : List ℕ → Type 0 = λ x. IsOneOff left x in (
-      λ one. wholes a b left right s (subst P (sym (is_empty right e)) (inr (inl (one_letter left one)))),
-      λ h. empty_right left (subst P (is_empty right e) (tails a b left right s h)),
     )
 
 changed : (left right : List ℕ) → 0 < length left → 0 < length right → (BeginAlike left right → ⊥) → behind_first left ≡ behind_first right → IsOneOff left right

@@ -1,6 +1,6 @@
 //! The first service of a script whose dependencies are refused, and why.
 
-ghost use Rattle.std.specs.Prelude.{◌≡◌, ◌≤◌, length, IfOk, MatchOption};
+ghost use Rattle.std.specs.Prelude.{◌≤◌, length, IfOk, MatchOption};
 ghost use Rattle.svc_text.specs.Dependencies.{RefusesAt, RefusesNone, edges_up_to};
 ghost use Rattle.svc_text.specs.Edges.{HasEdges};
 
