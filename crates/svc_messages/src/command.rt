@@ -1,6 +1,6 @@
 //! Why the words of the command line are refused.
 
-use crate::words::{is_known, said, shown, unknown_word};
+use crate::words::{said, shown, unknown_word};
 use clap::error::ErrorKind;
 use std::alloc::Global;
 use std::rc::RcStr;
@@ -55,40 +55,40 @@ fn asks_for_help(word: &str) -> bool {
     matches!(word, "-h" | "--help" | "help" | "-V" | "--version")
 }
 
-/// The first word behind `run` that is no flag.
-fn unknown_flag(alloc: Global, words: &[RcStr]) -> Result<String, NoMemory> {
-    for word in words {
-        let word = word.as_str();
-        if !is_known(word.as_bytes(), &FLAGS) {
-            return unknown_word(alloc, word.as_bytes(), "flag of svc run", &FLAGS);
+/// The first word with which the words up to it are refused, as words of `run`, and why; None where all
+/// are taken. A flag that lacks its value is refused at its last place alone.
+fn refused_word(alloc: Global, words: &[RcStr]) -> Result<Option<(&RcStr, ErrorKind)>, NoMemory> {
+    for k in 1..words.len() {
+        let is_last = k + 1 == words.len();
+        match Opt::parse_args(alloc, &words[..k + 1]) {
+            Err(OptError::NoMemory) => return Err(NoMemory),
+            Err(OptError::Words(ErrorKind::InvalidValue)) if !is_last => {}
+            Err(OptError::Words(kind)) => return Ok(Some((&words[k], kind))),
+            Ok(_) => {}
         }
     }
-    said(alloc, "svc run takes flags alone; svc --help lists them")
+    Ok(None)
 }
 
 /// Why the words behind `run` are refused.
 fn run_message(alloc: Global, words: &[RcStr]) -> Result<String, NoMemory> {
-    let kind = match Opt::parse_args(alloc, words) {
-        Err(OptError::Words(kind)) => kind,
-        Err(OptError::NoMemory) => return Err(NoMemory),
-        Ok(_) => return said(alloc, HELP),
+    let Some((word, kind)) = refused_word(alloc, words)? else {
+        return said(alloc, HELP);
     };
+    let word = word.as_str().as_bytes();
+    let word_shown = shown(alloc, word)?;
     match kind {
         ErrorKind::DisplayHelp | ErrorKind::DisplayVersion => said(alloc, HELP),
-        ErrorKind::UnknownArgument => match words.split_first() {
-            Some((_, flags)) => unknown_flag(alloc, flags),
-            None => said(alloc, HELP),
-        },
-        ErrorKind::ArgumentConflict => {
-            said(
-                alloc,
-                "a flag of svc run stands twice; each stands at most once",
-            )
-        }
-        _ => said(
-            alloc,
-            "-c and --conf of svc run take a path behind them, and no other flag takes a word",
-        ),
+        ErrorKind::UnknownArgument => unknown_word(alloc, word, "flag of svc run", &FLAGS),
+        ErrorKind::ArgumentConflict => Ok(format!(in alloc;
+            "{word_shown} says a flag a second time; each flag of svc run stands at most once"
+        )?),
+        ErrorKind::TooManyValues => Ok(format!(in alloc;
+            "{word_shown} gives a value to a flag that takes none; -c and --conf of svc run take one"
+        )?),
+        _ => Ok(format!(in alloc;
+            "{word_shown} lacks its path; -c and --conf of svc run take one behind them"
+        )?),
     }
 }
 
