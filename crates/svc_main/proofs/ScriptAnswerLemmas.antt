@@ -61,4 +61,4 @@ refused_words words left Words out r a = refl
 refused_words words left (Line n) out r a = absurd (not_taken words r a.0)
 refused_words words left ReadFault out r a = absurd (not_taken words r a.0)
 refused_words words left (Run end) out r (inl ran) = absurd (not_taken words r ran.0)
-refused_words words left (Run end) out r (inr made) = none_made words made.1.0 (◌≡◌ {A = StatusLine} (Run end) Words) r.0 made.1.1.0
+refused_words words left (Run end) out r (inr made) = none_made words made.1.0 (◌≡◌ {A = StatusLine} (Run end) Words) r.0 made.1.1
