@@ -1,5 +1,5 @@
 -- The answer to a script is the program's answer.
-use Rattle.std.proofs.Common.{◌≡◌, ℕ, List, length, Option, Some, None, Result, Ok, Err, IfOk, inl, inr, refl, sym, subst, ◌∙◌, IfSome}
+use Rattle.std.proofs.Common.{◌≡◌, ◌≤◌, ℕ, List, length, Option, Some, None, Result, Ok, Err, IfOk, inl, inr, refl, sym, subst, ◌∙◌, IfSome}
 use Rattle.std.specs.Str.Lines.{lines}
 use Rattle.svc_conf.specs.declared.server.configuration.Opt.{Opt}
 use Rattle.svc_text.specs.Script.{Parts, IsLineOf, AreLines, script}
@@ -8,7 +8,7 @@ use Rattle.svc_main.specs.declared.outcome.RunEnd.{RunEnd}
 use Rattle.svc_main.specs.declared.outcome.RunEnd.TheVariants.{Served}
 use Rattle.svc_main.specs.declared.outcome.StatusLine.{StatusLine}
 use Rattle.svc_main.specs.declared.outcome.StatusLine.TheVariants.{Words, Line, ReadFault, Run}
-use Rattle.svc_main.specs.CommandWords.{TakesWords, made_size, flags_of}
+use Rattle.svc_main.specs.CommandWords.{TakesWords, RefusesWords, made_size, flags_of}
 use Rattle.svc_main.specs.Program.{IsScript, RanText, CountsText, RefusesIn, AnswersScript, IsAnswer, Ends, Faults}
 
 -- what is so of the bytes that were read is so of those that the source tells
@@ -17,16 +17,16 @@ of_left None read P e h = tt
 of_left (Some bytes) read P e h = subst P e h
 
 pub script_answer : (words : List (List ℕ)) (left : Option (List ℕ)) (read numbers : List ℕ) (opt : Opt) (parts : Parts) (line : StatusLine) (out : List ℕ)
-    → TakesWords words → opt ≡ flags_of words → IfSome left (λ bytes. read ≡ bytes) → script read ≡ Ok parts → AreLines (lines read) (length parts.services) numbers
+    → TakesWords words → opt ≡ flags_of words → IfSome left (λ bytes. read ≡ bytes) → length read ≤ 16777216 → script read ≡ Ok parts → AreLines (lines read) (length parts.services) numbers
     → AnswersScript opt parts numbers line out → IsAnswer words left line out
-script_answer words left read numbers opt parts (Run end) out takes flags same says places (edges, ran) =
-    inl (takes, (parts, (subst (λ (o : Opt). RanText o parts end out) flags ran, of_left left read (λ bytes. IsScript bytes parts) same (record { says = says; edges = edges }))))
-script_answer words left read numbers opt parts (Line n) out takes flags same says places (printed, refusal) =
+script_answer words left read numbers opt parts (Run end) out takes flags same short says places (edges, ran) =
+    inl (takes, (parts, (subst (λ (o : Opt). RanText o parts end out) flags ran, of_left left read (λ bytes. IsScript bytes parts) same (record { short = short; says = says; edges = edges }))))
+script_answer words left read numbers opt parts (Line n) out takes flags same short says places (printed, refusal) =
     let k : ℕ = refusal.0 in
     let place : IsLineOf (lines read) k n = subst (IsLineOf (lines read) k) (sym refusal.1.1) (places.each k refusal.1.0.here) in
     (takes, printed, of_left left read (λ bytes. RefusesIn bytes n) same (inr (inl (parts, (says, (k, (refusal.1.0, place)))))))
-script_answer words left read numbers opt parts Words out takes flags same says places h = absurd h
-script_answer words left read numbers opt parts ReadFault out takes flags same says places h = absurd h
+script_answer words left read numbers opt parts Words out takes flags same short says places h = absurd h
+script_answer words left read numbers opt parts ReadFault out takes flags same short says places h = absurd h
 
 pub if_ok : {A B : Type 0} (P Q : A → Type 0) (r : Result A B) → IfOk r P → ((x : A) → P x → Q x) → IfOk r Q
 if_ok P Q (Ok x) p f = f x p
@@ -46,6 +46,19 @@ made_ends words left n line size is = subst (λ (l : StatusLine). Ends words l l
 pub made_faults : (line : StatusLine) (before now : ℕ) → line ≡ Run Served → Faults line before now
 made_faults line before now is = subst (λ (l : StatusLine). Faults l before now) (sym is) tt
 
+-- words aren't refused and taken
+not_taken : (words : List (List ℕ)) → RefusesWords words → TakesWords words → ⊥
+not_taken words (size, inl never) t = never t.run
+not_taken words (size, inr refused) t = refused.fault t.flags
+
 -- words don't ask for the generator and for none
 pub none_made : (words : List (List ℕ)) (n : ℕ) (P : Type 0) → made_size words ≡ None → made_size words ≡ Some n → P
 none_made words n P none size = absurd (let never : ◌≡◌ {A = Option ℕ} (Some n) None = sym size ∙ none in cc)
+
+-- words that are refused get no other answer than that
+pub refused_words : (words : List (List ℕ)) (left : Option (List ℕ)) (line : StatusLine) (out : List ℕ) → RefusesWords words → IsAnswer words left line out → line ≡ Words
+refused_words words left Words out r a = refl
+refused_words words left (Line n) out r a = absurd (not_taken words r a.0)
+refused_words words left ReadFault out r a = absurd (not_taken words r a.0)
+refused_words words left (Run end) out r (inl ran) = absurd (not_taken words r ran.0)
+refused_words words left (Run end) out r (inr made) = none_made words made.1.0 (◌≡◌ {A = StatusLine} (Run end) Words) r.0 made.1.1

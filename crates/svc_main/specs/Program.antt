@@ -99,8 +99,9 @@ CountsText n out = (r : Record) × PrintsCounts n out r
 abbrev pub MadeText : List (List ℕ) → List ℕ → Type 0
 MadeText words out = (n : ℕ) × (made_size words ≡ Some n) × CountsText n out
 
--- the bytes are a script with these parts, whose dependencies are known and without a cycle
+-- the bytes, within the limit, are a script with these parts, whose dependencies are known and without a cycle
 pub record IsScript (bytes : List ℕ) (parts : Parts) : Type 0 where
+  pub short : length bytes ≤ 16777216
   pub says : script bytes ≡ Ok parts
   pub edges : RefusesNone parts.services
 
@@ -165,10 +166,11 @@ Ran status words left now_left before now =
 abbrev pub Made : List (List ℕ) → Option (List ℕ) → Option (List ℕ) → Type 0
 Made words before now = Writes before now (MadeText words)
 
--- the sink took a front of an answer
-abbrev pub WritesFront : List (List ℕ) → Option (List ℕ) → Option (List ℕ) → Option (List ℕ) → Type 0
-WritesFront words left before now =
-    (line : StatusLine) × (out : List ℕ) × IsAnswer words left line out × (n : ℕ) × (n ≤ length out) × Appends before now (take n out)
+-- the sink took a front of an answer that had its cause: of a read fault only where the source's count rose, and of a run or a refused line only where the source was read to its end
+abbrev pub WritesFront : List (List ℕ) → Option (List ℕ) → Option (List ℕ) → ℕ → ℕ → Option (List ℕ) → Option (List ℕ) → Type 0
+WritesFront words left now_left faults now_faults before now =
+    (line : StatusLine) × (out : List ℕ) × IsAnswer words left line out × Ends words line now_left × Faults line faults now_faults
+    × (n : ℕ) × (n ≤ length out) × Appends before now (take n out)
 
 -- the run goes on, or has gone through its shutdown
 abbrev pub EndsServed : StepEnd → Type 0
@@ -184,10 +186,9 @@ pub record RunsThrough (p : Plan) (script_items : List Item) : Type 0 where
   pub ends_served : (q : Record) (more : List Event) → Right p q → events ≡ events_of q ++ more → EndsServed (step_end p q)
   pub passes : (q : Record) → Right p q → events ≡ events_of q → has_passed p q ≡ true
 
--- the words are taken, the source tells bytes within the limit that are a script, a server can be run with its configuration, and its events run through
+-- the words are taken, the source tells bytes that are a script, a server can be run with its configuration, and its events run through
 pub record IsWholeScript (words : List (List ℕ)) (bytes : List ℕ) (parts : Parts) : Type 0 where
   pub takes : AcceptsWords words
-  pub short : length bytes ≤ 16777216
   pub is_script : IsScript bytes parts
   pub runs : judged (merged (flags_of words) parts.conf) ≡ Ok tt
   pub through : RunsThrough (plan_of (flags_of words) parts) parts.items

@@ -2,6 +2,7 @@ use Rattle.std.proofs.Common.{◌∙◌, sym, ap, inl, arith}
 use Rattle.svc_main.specs.Status.{status_of}
 use Rattle.svc_main.proofs.WholeLemmas.{whole_is_served}
 use Rattle.svc_main.proofs.AnswerLemmas.{served_from, ran_from}
+use Rattle.svc_main.proofs.ScriptAnswerLemmas.{refused_words}
 use Rattle.svc_main.proofs.program.serve_script.Goals as goal
 
 pub returns-in-Ok-write_all-clause-served : goal.returns-in-Ok-write_all-clause-served
@@ -26,3 +27,7 @@ returns-in-Ok-write_all-clause-complete g c = λ bytes parts tells whole source 
 
 pub returns-in-Ok-write_all-clause-made : goal.returns-in-Ok-write_all-clause-made
 returns-in-Ok-write_all-clause-made g c = λ n size. inl (c.status.ensures ∙ ap status_of (c.in-Ok.ensures.made n size))
+
+pub returns-in-Ok-write_all-clause-words_refused : goal.returns-in-Ok-write_all-clause-words_refused
+returns-in-Ok-write_all-clause-words_refused g c = λ refused.
+    inl (c.status.ensures ∙ ap status_of (refused_words _ (g.S.Source.left c.args.source.now) c.in-Ok.answer.line _ refused c.in-Ok.ensures.answer))
