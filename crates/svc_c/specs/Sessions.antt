@@ -13,7 +13,7 @@ use Rattle.svc_record.specs.Text.{text_of}
 use Rattle.svc_socket.specs.declared.peer.Peer.TheVariants.{Inet}
 use Rattle.svc_socket.specs.declared.reading.IpNumber.{IpNumber}
 use Rattle.svc_text.specs.declared.service.ServiceLine.{ServiceLine}
-use Rattle.svc_text.specs.Words.{words}
+use Rattle.svc_base.specs.Words.{words}
 use Rattle.svc_text.specs.EventLines.{event_of}
 use Rattle.svc_text.specs.Filters.{is_blocked}
 use Rattle.svc_core.specs.CoreData.{CoreData}

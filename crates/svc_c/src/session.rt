@@ -1,7 +1,7 @@
 //! A session: a core, and the lines of the record that its last call added.
 
 ghost use Rattle.std.specs.Prelude.{◌≡◌, ◌≤◌, ◌+◌, ◌++◌, [], length, map, vec_len, vec_capacity};
-ghost use Rattle.svc_conf.specs.Items.{list_of};
+ghost use Rattle.svc_base.specs.Items.{list_of};
 ghost use Rattle.svc_record.specs.declared.entry.Entry.TheVariants.{Got, Told};
 ghost use Rattle.svc_record.specs.Descriptors.{numbers_of};
 ghost use Rattle.svc_core.specs.Stands.{HasNotBegun, MayCome};
@@ -10,7 +10,7 @@ ghost use Rattle.svc_c.specs.Sessions.{own_word, put_in, IsBegun, IsAsked, IsSte
 use crate::stage::Stage;
 use std::alloc::Global;
 use std::marker::Model;
-use svc_conf::NoMemory;
+use svc_base::NoMemory;
 use svc_core::Core;
 use svc_record::{Actions, Entry, Event, StepEnd};
 use svc_socket::Peer;
