@@ -7,6 +7,7 @@
 use std::ffi::{c_int, c_void};
 use std::io;
 use std::mem;
+use std::net::SocketAddr;
 use std::os::fd::{AsRawFd, BorrowedFd, FromRawFd, OwnedFd, RawFd};
 use std::ptr;
 use std::sync::atomic::{AtomicI32, Ordering};
@@ -257,6 +258,8 @@ unsafe extern "C" {
     fn getsockopt(fd: c_int, level: c_int, name: c_int, value: *mut c_void, len: *mut u32) -> c_int;
     fn setsockopt(fd: c_int, level: c_int, name: c_int, value: *const c_void, len: u32) -> c_int;
     fn fcntl(fd: c_int, command: c_int, ...) -> c_int;
+    fn socket(family: c_int, kind: c_int, protocol: c_int) -> c_int;
+    fn connect(fd: c_int, address: *const c_void, len: u32) -> c_int;
     fn epoll_create1(flags: c_int) -> c_int;
     fn epoll_ctl(epoll: c_int, how: c_int, fd: c_int, event: *mut EpollEvent) -> c_int;
     fn epoll_wait(epoll: c_int, events: *mut EpollEvent, most: c_int, timeout: c_int) -> c_int;
@@ -268,6 +271,12 @@ const SCM_RIGHTS: c_int = 1;
 const SO_PEERCRED: c_int = 17;
 const MSG_CMSG_CLOEXEC: c_int = 0x4000_0000;
 const MSG_NOSIGNAL: c_int = 0x4000;
+const AF_INET: c_int = 2;
+const AF_INET6: c_int = 10;
+const SOCK_STREAM: c_int = 1;
+const SOCK_NONBLOCK: c_int = 0o4000;
+const SOCK_CLOEXEC: c_int = 0o2000000;
+const EINPROGRESS: i32 = 115;
 const F_GETFD: c_int = 1;
 const F_SETFD: c_int = 2;
 const FD_CLOEXEC: c_int = 1;
@@ -449,11 +458,34 @@ pub(crate) fn inherited(count: usize) -> Vec<OwnedFd> {
         .collect()
 }
 
-/// Has the descriptor stay open over an `exec`, or not.
-pub(crate) fn set_inheritable(fd: BorrowedFd<'_>, inheritable: bool) -> io::Result<()> {
-    let flags = if inheritable { 0 } else { FD_CLOEXEC };
-    // SAFETY: `fcntl` with this command may be called on each descriptor.
-    checked(unsafe { fcntl(fd.as_raw_fd(), F_SETFD, flags) }).map(drop)
+/// Begins to connect to an address of the internet. The socket is writable as soon as it is known
+/// whether that went well.
+pub(crate) fn start_connect(to: &SocketAddr) -> io::Result<OwnedFd> {
+    let family = if to.is_ipv4() { AF_INET } else { AF_INET6 };
+    // SAFETY: it has no pointer.
+    let fd = checked(unsafe { socket(family, SOCK_STREAM | SOCK_NONBLOCK | SOCK_CLOEXEC, 0) })?;
+    // SAFETY: the system has just made it, and nothing else has it.
+    let fd = unsafe { OwnedFd::from_raw_fd(fd) };
+    let mut address = [0u8; 28];
+    address[..2].copy_from_slice(&(family as u16).to_ne_bytes());
+    address[2..4].copy_from_slice(&to.port().to_be_bytes());
+    let length = match to {
+        SocketAddr::V4(to) => {
+            address[4..8].copy_from_slice(&to.ip().octets());
+            16
+        }
+        SocketAddr::V6(to) => {
+            address[4..8].copy_from_slice(&to.flowinfo().to_be_bytes());
+            address[8..24].copy_from_slice(&to.ip().octets());
+            address[24..].copy_from_slice(&to.scope_id().to_ne_bytes());
+            28
+        }
+    };
+    // SAFETY: the address has at least so many bytes, is only read, and outlives the call.
+    match checked(unsafe { connect(fd.as_raw_fd(), address.as_ptr().cast(), length) }) {
+        Err(error) if error.raw_os_error() != Some(EINPROGRESS) => Err(error),
+        _ => Ok(fd),
+    }
 }
 
 /// A set of descriptors that are waited for.

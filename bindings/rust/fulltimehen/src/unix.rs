@@ -5,7 +5,7 @@ use crate::action::Setting;
 use crate::event::Signal;
 use crate::sys;
 use std::io::{self, Read};
-use std::net::TcpStream;
+use std::net::{self, TcpStream};
 use std::os::fd::{AsFd, BorrowedFd, OwnedFd};
 use std::os::linux::net::SocketAddrExt;
 use std::os::unix::net::{SocketAddr, UnixDatagram, UnixStream};
@@ -110,9 +110,10 @@ pub fn inherited_listeners() -> Vec<OwnedFd> {
     }
 }
 
-/// Has the descriptor stay open in programs that this process starts, or not.
-pub fn set_inheritable(fd: impl AsFd, inheritable: bool) -> io::Result<()> {
-    sys::set_inheritable(fd.as_fd(), inheritable)
+/// Begins to connect to an address. The stream doesn't block, and is writable as soon as it is known
+/// whether that went well: then [`TcpStream::take_error`] tells what went wrong, if something did.
+pub fn start_connect(to: &net::SocketAddr) -> io::Result<TcpStream> {
+    sys::start_connect(to).map(TcpStream::from)
 }
 
 /// Tells the service manager a state, as `READY=1`, where `NOTIFY_SOCKET` names its socket.
@@ -158,8 +159,8 @@ pub fn apply(setting: &Setting, stream: &TcpStream) -> io::Result<()> {
             set(IPPROTO_TCP, TCP_USER_TIMEOUT, user_timeout / 1_000_000)
         }
         Setting::Dscp(byte) => match stream.local_addr()? {
-            std::net::SocketAddr::V4(_) => set(IPPROTO_IP, IP_TOS, byte.into()),
-            std::net::SocketAddr::V6(_) => set(IPPROTO_IPV6, IPV6_TCLASS, byte.into()),
+            net::SocketAddr::V4(_) => set(IPPROTO_IP, IP_TOS, byte.into()),
+            net::SocketAddr::V6(_) => set(IPPROTO_IPV6, IPV6_TCLASS, byte.into()),
         },
         Setting::SndBuf(bytes) => set(SOL_SOCKET, SO_SNDBUF, bytes),
         Setting::RcvBuf(bytes) => set(SOL_SOCKET, SO_RCVBUF, bytes),
