@@ -1,6 +1,6 @@
-//! Plays a script through the library, and prints what `svc run` prints for it.
+//! Plays a script through the library, and prints what `svc` prints for it.
 //!
-//!     play [--upgrade] [--daemon] [--test] < script
+//!     play run [--upgrade] [--daemon] [--test] < script
 
 use fulltimehen::{Action, Core, Event, Host, Next, Plan, PlanError, RunError};
 use std::io::{self, Read, Write};
@@ -44,13 +44,30 @@ fn events(script: &str) -> Lines<'_> {
     lines
 }
 
+/// The plan of a script with the flags of the words; none where the words are refused.
+fn plan(script: &str, words: impl Iterator<Item = String>) -> Option<Plan> {
+    let mut words = words.peekable();
+    words.next_if(|word| word == "run")?;
+    let mut plan = Plan::from_script(script);
+    while let Some(word) = words.next() {
+        plan = match word.as_str() {
+            "-u" | "--upgrade" => plan.upgrade(true),
+            "-d" | "--daemon" => plan.daemon(true),
+            "-t" | "--test" => plan.test(true),
+            "--nocapture" => plan,
+            // The script has its own configuration.
+            "-c" | "--conf" => words.next().map(|_| plan)?,
+            _ => return None,
+        };
+    }
+    Some(plan)
+}
+
 /// The output, and the exit status.
-fn play(script: &str, words: &[String]) -> (String, u8) {
-    let has = |short: &str, long: &str| words.iter().any(|word| word == short || word == long);
-    let plan = Plan::from_script(script)
-        .upgrade(has("-u", "--upgrade"))
-        .daemon(has("-d", "--daemon"))
-        .test(has("-t", "--test"));
+fn play(script: &str, words: impl Iterator<Item = String>) -> (String, u8) {
+    let Some(plan) = plan(script, words) else {
+        return ("status words\n".to_owned(), 2);
+    };
     let mut core = match Core::new(&plan) {
         Ok(core) => core,
         Err(PlanError::Config(key)) => return (format!("status config {key}\n"), 4),
@@ -70,8 +87,7 @@ fn play(script: &str, words: &[String]) -> (String, u8) {
 fn main() -> io::Result<ExitCode> {
     let mut script = String::new();
     io::stdin().read_to_string(&mut script)?;
-    let words: Vec<String> = std::env::args().skip(1).collect();
-    let (output, code) = play(&script, &words);
+    let (output, code) = play(&script, std::env::args().skip(1));
     io::stdout().write_all(output.as_bytes())?;
     Ok(ExitCode::from(code))
 }

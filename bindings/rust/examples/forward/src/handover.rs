@@ -1,10 +1,9 @@
 //! The listening socket goes from the old program to the new one over a Unix socket.
 
-use crate::succession::Predecessor;
 use fulltimehen::unix::{listen, peer_process, receive_descriptors, send_descriptors};
 use std::fs::{self, Permissions};
 use std::io;
-use std::os::fd::{BorrowedFd, OwnedFd};
+use std::os::fd::{AsFd, BorrowedFd, OwnedFd};
 use std::os::unix::fs::PermissionsExt;
 use std::os::unix::net::{UnixListener, UnixStream};
 use std::path::{Path, PathBuf};
@@ -42,14 +41,18 @@ impl Receiver {
     }
 
     /// Accepts and receives once.
-    pub fn receive(&self, predecessor: &Predecessor) -> Received {
+    pub fn receive(&self) -> Received {
         match self.socket.accept() {
             Ok((from, _)) => receive_from(&from).unwrap_or(Received::Failed),
-            // Nobody will come any more.
-            Err(error) if would_block(&error) && !predecessor.lives() => Received::Failed,
-            Err(error) if would_block(&error) => Received::NoSender,
+            Err(error) if error.kind() == io::ErrorKind::WouldBlock => Received::NoSender,
             Err(_) => Received::Failed,
         }
+    }
+}
+
+impl AsFd for Receiver {
+    fn as_fd(&self) -> BorrowedFd<'_> {
+        self.socket.as_fd()
     }
 }
 
@@ -58,10 +61,6 @@ impl Drop for Receiver {
         // Where it is gone already, that is as well.
         let _ = fs::remove_file(&self.path);
     }
-}
-
-fn would_block(error: &io::Error) -> bool {
-    error.kind() == io::ErrorKind::WouldBlock
 }
 
 fn receive_from(from: &UnixStream) -> io::Result<Received> {

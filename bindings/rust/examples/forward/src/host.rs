@@ -23,6 +23,10 @@ const BACKLOG: i32 = 511;
 const SIGNALS: u64 = u64::MAX;
 /// The poller's key of the listener.
 const LISTENER: u64 = u64::MAX - 1;
+/// The poller's key of the socket at which the older program's message comes.
+const RECEIVER: u64 = u64::MAX - 2;
+/// How long a try to receive waits.
+const TRY: Duration = Duration::from_secs(1);
 
 /// The endpoint that is served, and the number of its descriptor.
 #[derive(Clone, Copy)]
@@ -54,6 +58,8 @@ pub struct ForwardHost<'a> {
     resting: Option<Instant>,
     running: bool,
     receiver: Option<Receiver>,
+    /// A try to receive waits for the older program until then.
+    trying: Option<Instant>,
     sender: Option<Sender>,
     /// Accepted connections that aren't forwarded yet.
     waiting: HashMap<u64, TcpStream>,
@@ -87,6 +93,7 @@ impl<'a> ForwardHost<'a> {
             resting: None,
             running: false,
             receiver: None,
+            trying: None,
             sender: None,
             waiting: HashMap::new(),
             relays: Relays::new(options.upstream),
@@ -115,6 +122,7 @@ impl<'a> ForwardHost<'a> {
             match key {
                 SIGNALS => {}
                 LISTENER => self.accept(),
+                RECEIVER => self.receive(),
                 key => {
                     if let Some(connection) = self.relays.go_on(key, &self.poller) {
                         self.events.push_back(Event::Finished { connection });
@@ -133,8 +141,12 @@ impl<'a> ForwardHost<'a> {
         u64::try_from(self.began.elapsed().as_millis()).unwrap_or(u64::MAX)
     }
 
-    /// What is looked after now and then: a rest that is over, and the successor.
+    /// What is looked after now and then: a rest and a try that are over, and the successor.
     fn tick(&mut self) -> io::Result<()> {
+        let is_over = |until: Instant| until <= Instant::now() || !self.predecessor.lives();
+        if self.trying.is_some_and(is_over) {
+            self.receive();
+        }
         if self.resting.is_some_and(|until| until <= Instant::now()) {
             self.resting = None;
             self.poll_listener(true)?;
@@ -181,8 +193,10 @@ impl<'a> ForwardHost<'a> {
     // ---- what is told
 
     fn bind(&mut self, service: u32, endpoint: u32) -> Event {
-        let bound = match self.inherited.pop() {
-            Some(listener) => Ok(listener),
+        let address = self.options.listen.parse().ok();
+        let is_it = |listener: &TcpListener| listener.local_addr().ok() == address;
+        let bound = match self.inherited.iter().position(is_it) {
+            Some(place) => Ok(self.inherited.swap_remove(place)),
             None => TcpListener::bind(&self.options.listen),
         };
         match bound {
@@ -228,23 +242,37 @@ impl<'a> ForwardHost<'a> {
         }
     }
 
-    fn receive(&mut self) -> Event {
-        let received = match &self.receiver {
-            Some(receiver) => receiver.receive(self.predecessor),
-            None => Received::Failed,
-        };
-        match received {
-            Received::NoSender => return Event::NoSender,
-            Received::Failed => {
-                self.receiver = None;
-                Event::ReceiveFailed
-            }
+    /// A try to receive waits for the older program.
+    fn begin_try(&mut self) {
+        self.trying = Some(Instant::now() + TRY);
+        if let Some(receiver) = &self.receiver {
+            // A receiver that isn't polled is looked at when the try is over.
+            let _ = self.poller.add(receiver, RECEIVER, Interest { read: true, write: false });
+        }
+    }
+
+    /// Answers the try that waits, if one does.
+    fn receive(&mut self) {
+        if self.trying.take().is_none() {
+            return;
+        }
+        if let Some(receiver) = &self.receiver {
+            let _ = self.poller.remove(receiver);
+        }
+        let received = self.receiver.as_ref().map_or(Received::Failed, Receiver::receive);
+        let answer = match received {
+            // Nobody will come any more, where the older program is gone.
+            Received::NoSender if self.predecessor.lives() => Event::NoSender,
+            Received::NoSender | Received::Failed => Event::ReceiveFailed,
             Received::Message(bytes, fds) => {
-                self.receiver = None;
                 let keep = |fd: OwnedFd| self.keep(TcpListener::from(fd));
                 Event::Received { bytes, fds: fds.into_iter().map(keep).collect() }
             }
+        };
+        if answer != Event::NoSender {
+            self.receiver = None;
         }
+        self.events.push_back(answer);
     }
 
     fn connect(&mut self) -> Event {
@@ -344,7 +372,6 @@ impl Host for ForwardHost<'_> {
             Action::Adopt { service, endpoint, fd } => {
                 self.adopt(Serving { service, endpoint, fd })
             }
-            Action::TryReceive => self.receive(),
             Action::Connect => self.connect(),
             Action::Send { bytes, fds } => self.send(&bytes, &fds),
             Action::Settings { connection, settings } => self.set(connection, &settings),
@@ -367,6 +394,7 @@ impl ForwardHost<'_> {
                 Ok(receiver) => self.receiver = Some(receiver),
                 Err(error) => eprintln!("forward: nothing can be received: {error}"),
             },
+            Action::TryReceive => self.begin_try(),
             Action::Close { fd } => drop(self.listeners.remove(&fd)),
             Action::Broadcast => self.stop_accepting(),
             Action::Serve { connection } => self.forward(connection),

@@ -15,8 +15,6 @@ pub struct Options {
     pub record: Option<PathBuf>,
     pub listen: String,
     pub upstream: SocketAddr,
-    /// How often the program began anew in this process.
-    pub anew: u32,
 }
 
 impl Options {
@@ -30,7 +28,6 @@ impl Options {
             record: None,
             listen: String::new(),
             upstream: SocketAddr::from(([0, 0, 0, 0], 0)),
-            anew: 0,
         };
         let mut words = env::args().skip(1);
         let mut addresses = Vec::new();
@@ -57,7 +54,6 @@ impl Options {
     pub fn without_upgrade(&self) -> Options {
         Options {
             upgrade: false,
-            anew: self.anew + 1,
             ..self.clone()
         }
     }

@@ -5,6 +5,7 @@ use fulltimehen::Plan;
 use std::fs::{self, File};
 use std::io::{self, BufWriter, Write};
 use std::path::PathBuf;
+use std::process;
 
 /// Where the record goes, if somewhere.
 pub struct Record {
@@ -12,16 +13,17 @@ pub struct Record {
 }
 
 impl Record {
-    /// Begins the record, with the plan beside it as a script without events.
+    /// Begins the record, with the plan beside it as a script without events. No record is written over:
+    /// where one stands at the path, this one gets the process's number behind its name.
     pub fn begin(options: &Options, plan: &Plan) -> io::Result<Record> {
         let Some(path) = &options.record else {
             return Ok(Record { to: None });
         };
         let mut path = path.clone().into_os_string();
-        if options.anew > 0 {
-            path.push(format!(".{}", options.anew));
-        }
-        let to = File::create(PathBuf::from(&path))?;
+        let to = File::create_new(PathBuf::from(&path)).or_else(|_| {
+            path.push(format!(".{}", process::id()));
+            File::create(PathBuf::from(&path))
+        })?;
         path.push(".svc");
         fs::write(PathBuf::from(path), plan.script())?;
         Ok(Record {
