@@ -16,14 +16,12 @@ use Rattle.svc_text.specs.declared.service.ServiceLine.{ServiceLine}
 use Rattle.svc_base.specs.Words.{words}
 use Rattle.svc_text.specs.EventLines.{event_of}
 use Rattle.svc_text.specs.Filters.{is_blocked}
-use Rattle.svc_core.specs.CoreData.{CoreData}
 use Rattle.svc_core.specs.Stands.{StandsFor, MayCome, BeginKeeps, StepKeeps, ClosesAll}
 use Rattle.svc_c.specs.declared.session.Asked.{Asked}
 use Rattle.svc_c.specs.declared.session.StepError.{StepError}
 use Rattle.svc_c.specs.declared.session.StepError.TheVariants.{NoMemory, NoEvent, Stray, Order}
 use Rattle.svc_c.specs.declared.session.ToldError.{ToldError}
 use Rattle.svc_c.specs.declared.session.ToldError.TheVariants as told
-use Rattle.svc_c.specs.declared.stage.Stage.{Stage}
 use Rattle.svc_c.specs.declared.stage.Stage.TheVariants.{Fresh, Begun, Closed}
 use Rattle.svc_c.specs.SessionData.{SessionData}
 

@@ -15,10 +15,9 @@ use answers::{close_number, end_number, fits_number, make_number, step_number};
 use answers::{reason, told_number};
 pub use handle::Handle;
 use making::{MakeError, flags, make};
-use session::{Asked, StepError, ToldError, put_front};
+use session::{Asked, ToldError, put_front};
 use std::alloc::Global;
 use std::mem;
-use svc_record::StepEnd;
 
 /// Makes a session of a script: a configuration, services, and events, which aren't looked at. It
 /// answers 0, and the handle has the session; or the number of a refusal, and the handle has none.

@@ -1,6 +1,6 @@
 //! The plan that a script's services are run by.
 
-ghost use Rattle.std.specs.Prelude.{◌≡◌, ◌<◌, ◌≤◌, ◌++◌, ◌∷◌, [], length, map, take, slice_get, Some, OnOk, OnErr, IfOk, IfNone, MatchOption};
+ghost use Rattle.std.specs.Prelude.{◌≡◌, ◌<◌, ◌≤◌, ◌++◌, ◌∷◌, [], length, map, OnOk, OnErr, IfOk, MatchOption};
 ghost use Rattle.svc_text.specs.declared.service.EndpointLine.{EndpointLine};
 ghost use Rattle.svc_text.specs.Dependencies.{edges_up_to, RefusesAt, RefusesNone};
 ghost use Rattle.svc_text.specs.Edges.{HasEdges};

@@ -247,8 +247,8 @@ impl Session {
         }
         self.core.close_all(also.as_ref(), &mut told);
         self.entries.clear();
-        if let Some(event) = also {
-            self.entries.push_reserved(Entry::Got(event));
+        if let Some(unfinished) = also {
+            self.entries.push_reserved(Entry::Got(unfinished));
         }
         keep_told(&mut told, &mut self.entries);
         self.stage = Stage::Closed;

@@ -48,16 +48,20 @@ fn work(address: SocketAddr, thread: u64, start: Instant, on: &AtomicBool) -> Se
         match ask(address, &text) {
             Ok(true) => {
                 let took = start.elapsed() - began;
-                seen.asks.push((began.as_micros() as u32, took.as_micros() as u32));
+                seen.asks
+                    .push((began.as_micros() as u32, took.as_micros() as u32));
             }
             Ok(false) => seen.wrong += 1,
             Err(error) => {
                 match error.kind() {
                     io::ErrorKind::ConnectionRefused => seen.refused += 1,
-                    io::ErrorKind::ConnectionReset | io::ErrorKind::UnexpectedEof => seen.reset += 1,
+                    io::ErrorKind::ConnectionReset | io::ErrorKind::UnexpectedEof => {
+                        seen.reset += 1
+                    }
                     _ => seen.other += 1,
                 }
-                seen.errors.push(format!("{:.3} s: {error}", began.as_secs_f64()));
+                seen.errors
+                    .push(format!("{:.3} s: {error}", began.as_secs_f64()));
             }
         }
     }
@@ -67,7 +71,9 @@ fn work(address: SocketAddr, thread: u64, start: Instant, on: &AtomicBool) -> Se
 /// The median, the 99th of a hundred, and the worst, of sorted numbers.
 fn quantiles(mut took: Vec<u32>) -> String {
     took.sort_unstable();
-    let at = |part: f64| took.get(((took.len() as f64 * part) as usize).min(took.len().saturating_sub(1)));
+    let at = |part: f64| {
+        took.get(((took.len() as f64 * part) as usize).min(took.len().saturating_sub(1)))
+    };
     let word = |n: Option<&u32>| n.map_or("null".to_owned(), u32::to_string);
     format!(
         "{{\"asks\":{},\"p50\":{},\"p99\":{},\"worst\":{}}}",
@@ -87,14 +93,23 @@ fn main() -> Result<(), Box<dyn std::error::Error>> {
     let on = AtomicBool::new(true);
     let marks = Mutex::new(Vec::new());
     let all = thread::scope(|scope| {
-        let workers: Vec<_> =
-            (0..threads).map(|number| scope.spawn({ let on = &on; move || work(address, number, start, on) })).collect();
+        let workers: Vec<_> = (0..threads)
+            .map(|number| {
+                scope.spawn({
+                    let on = &on;
+                    move || work(address, number, start, on)
+                })
+            })
+            .collect();
         let marking = scope.spawn(|| {
             for line in io::stdin().lock().lines() {
                 if line.is_err() || line.is_ok_and(|line| line == "end") {
                     break;
                 }
-                marks.lock().unwrap().push(start.elapsed().as_micros() as u32);
+                marks
+                    .lock()
+                    .unwrap()
+                    .push(start.elapsed().as_micros() as u32);
             }
         });
         if seconds > 0.0 {
@@ -103,17 +118,32 @@ fn main() -> Result<(), Box<dyn std::error::Error>> {
             let _ = marking.join();
         }
         on.store(false, Ordering::Relaxed);
-        workers.into_iter().map(|worker| worker.join().unwrap()).collect::<Vec<_>>()
+        workers
+            .into_iter()
+            .map(|worker| worker.join().unwrap())
+            .collect::<Vec<_>>()
     });
     let took = start.elapsed().as_secs_f64();
     let marks = marks.into_inner()?;
-    let in_upgrade = |began: u32| marks.iter().any(|mark| (*mark..mark.saturating_add(1_000_000)).contains(&began));
+    let in_upgrade = |began: u32| {
+        marks
+            .iter()
+            .any(|mark| (*mark..mark.saturating_add(1_000_000)).contains(&began))
+    };
     let (mut within, mut outside) = (Vec::new(), Vec::new());
     for (began, micros) in all.iter().flat_map(|seen| &seen.asks) {
-        if in_upgrade(*began) { within.push(*micros) } else { outside.push(*micros) }
+        if in_upgrade(*began) {
+            within.push(*micros)
+        } else {
+            outside.push(*micros)
+        }
     }
     let sum = |part: fn(&Seen) -> u64| all.iter().map(part).sum::<u64>();
-    let errors: Vec<String> = all.iter().flat_map(|seen| seen.errors.iter().take(3)).map(|error| format!("{error:?}")).collect();
+    let errors: Vec<String> = all
+        .iter()
+        .flat_map(|seen| seen.errors.iter().take(3))
+        .map(|error| format!("{error:?}"))
+        .collect();
     let asks = within.len() + outside.len();
     println!(
         "{{\"asks\":{asks},\"seconds\":{took:.1},\"per_second\":{:.0},\"refused\":{},\"reset\":{},\"other\":{},\"wrong\":{},\"within\":{},\"outside\":{},\"errors\":[{}]}}",

@@ -184,7 +184,11 @@ fn checked(word: &str) -> Result<(), PlanError> {
 fn check(plan: &Plan) -> Result<(), PlanError> {
     for service in plan.services() {
         checked(service.name())?;
-        service.endpoints().iter().map(Endpoint::address).try_for_each(checked)?;
+        service
+            .endpoints()
+            .iter()
+            .map(Endpoint::address)
+            .try_for_each(checked)?;
     }
     match plan.conf().lines().find(|line| line.starts_with('%')) {
         Some(line) => Err(PlanError::Word(line.to_owned())),
@@ -197,13 +201,14 @@ impl Core {
     pub fn new(plan: &Plan) -> Result<Core, PlanError> {
         check(plan)?;
         let flags = [plan.upgrade, plan.daemon, plan.test];
-        let session = Session::new(plan.script().as_bytes(), flags).map_err(|refused| {
-            match refused.number {
-                17 => PlanError::Line(refused.place),
-                18 => PlanError::Config(refused.key),
-                _ => PlanError::NoMemory,
-            }
-        })?;
+        let session =
+            Session::new(plan.script().as_bytes(), flags).map_err(|refused| {
+                match refused.number {
+                    17 => PlanError::Line(refused.place),
+                    18 => PlanError::Config(refused.key),
+                    _ => PlanError::NoMemory,
+                }
+            })?;
         Ok(Core {
             session,
             line: String::new(),
@@ -224,7 +229,10 @@ impl Core {
         let (number, filter, said) = self.session.fits(self.line.as_bytes());
         match number {
             0 => Ok(Asked { filter: None, said }),
-            1 => Ok(Asked { filter: Some(filter), said }),
+            1 => Ok(Asked {
+                filter: Some(filter),
+                said,
+            }),
             _ => Err(CoreError::of(number)),
         }
     }
@@ -280,7 +288,10 @@ impl Core {
             match number {
                 0 => {
                     let record = str::from_utf8(&self.told[..length]).expect("a record is ASCII");
-                    return Ok(Told { end: self.end, record });
+                    return Ok(Told {
+                        end: self.end,
+                        record,
+                    });
                 }
                 22 => self.told.resize(length.next_power_of_two(), 0),
                 number => return Err(CoreError::of(number)),

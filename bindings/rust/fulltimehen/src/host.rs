@@ -104,7 +104,12 @@ fn pass_on(told: Told<'_>, host: &mut impl Host) {
 }
 
 /// Gives the run up: what is open is told to be closed, with what the event brought.
-fn give_up(core: &mut Core, event: Option<&Event>, host: &mut impl Host, why: RunError) -> RunError {
+fn give_up(
+    core: &mut Core,
+    event: Option<&Event>,
+    host: &mut impl Host,
+    why: RunError,
+) -> RunError {
     match core.close(event) {
         Ok(told) => pass_on(told, host),
         Err(error) => return RunError::Core(error),

@@ -206,7 +206,9 @@ impl fmt::Display for Service {
         write!(f, "{} {}", self.name, self.kind)?;
         if let Some((first, others)) = self.after.split_first() {
             write!(f, " after {first}")?;
-            others.iter().try_for_each(|service| write!(f, ",{service}"))?;
+            others
+                .iter()
+                .try_for_each(|service| write!(f, ",{service}"))?;
         }
         for endpoint in &self.endpoints {
             match endpoint {

@@ -46,7 +46,7 @@ pub struct ForwardHost<'a> {
     moment: u64,
     /// The answers that the core is owed, and what else came.
     events: VecDeque<Event>,
-    signals: Signals,
+    signals: &'a mut Signals,
     poller: Poller,
     /// Listeners of a service manager, that no bind took yet.
     inherited: Vec<TcpListener>,
@@ -71,11 +71,18 @@ impl<'a> ForwardHost<'a> {
     pub fn new(
         options: &'a Options,
         predecessor: &'a Predecessor,
+        signals: &'a mut Signals,
         plan: &Plan,
     ) -> io::Result<ForwardHost<'a>> {
-        let signals = Signals::watch()?;
         let poller = Poller::new()?;
-        poller.add(&signals, SIGNALS, Interest { read: true, write: false })?;
+        poller.add(
+            &*signals,
+            SIGNALS,
+            Interest {
+                read: true,
+                write: false,
+            },
+        )?;
         Ok(ForwardHost {
             options,
             predecessor,
@@ -86,7 +93,10 @@ impl<'a> ForwardHost<'a> {
             events: VecDeque::new(),
             signals,
             poller,
-            inherited: unix::inherited_listeners().into_iter().map(TcpListener::from).collect(),
+            inherited: unix::inherited_listeners()
+                .into_iter()
+                .map(TcpListener::from)
+                .collect(),
             listeners: HashMap::new(),
             last_number: 2,
             serving: None,
@@ -115,9 +125,9 @@ impl<'a> ForwardHost<'a> {
         if now >= self.moment + TICK {
             self.moment = now;
             self.events.push_back(Event::Moment { ms: now });
-            self.tick()?;
+            return self.tick();
         }
-        let ready = self.poller.wait(self.moment + TICK - now.min(self.moment + TICK))?;
+        let ready = self.poller.wait(self.moment + TICK - now)?;
         for (key, _) in ready {
             match key {
                 SIGNALS => {}
@@ -131,7 +141,9 @@ impl<'a> ForwardHost<'a> {
             }
         }
         // Before the server runs, a signal waits.
-        if self.running && let Some(kind) = self.signals.take() {
+        if self.running
+            && let Some(kind) = self.signals.take()
+        {
             self.events.push_back(Event::Signal { kind });
         }
         Ok(())
@@ -151,21 +163,38 @@ impl<'a> ForwardHost<'a> {
             self.resting = None;
             self.poll_listener(true)?;
         }
-        let listener = self.serving.and_then(|serving| self.listeners.get(&serving.fd));
+        let listener = self
+            .serving
+            .and_then(|serving| self.listeners.get(&serving.fd));
         self.successor.look_after(listener);
         Ok(())
     }
 
     fn poll_listener(&self, accepts: bool) -> io::Result<()> {
-        let Some(listener) = self.serving.and_then(|serving| self.listeners.get(&serving.fd)) else {
+        let Some(listener) = self
+            .serving
+            .and_then(|serving| self.listeners.get(&serving.fd))
+        else {
             return Ok(());
         };
-        self.poller.change(listener, LISTENER, Interest { read: accepts, write: false })
+        self.poller.change(
+            listener,
+            LISTENER,
+            Interest {
+                read: accepts,
+                write: false,
+            },
+        )
     }
 
     /// Accepts the connections that wait, up to a burst.
     fn accept(&mut self) {
-        let Some(Serving { service, endpoint, fd }) = self.serving else {
+        let Some(Serving {
+            service,
+            endpoint,
+            fd,
+        }) = self.serving
+        else {
             return;
         };
         for _ in 0..BURST {
@@ -178,12 +207,24 @@ impl<'a> ForwardHost<'a> {
                     let connection = self.last_connection;
                     self.waiting.insert(connection, stream);
                     let peer = Peer::from(peer);
-                    self.events.push_back(Event::Arrived { service, endpoint, connection, peer });
+                    self.events.push_back(Event::Arrived {
+                        service,
+                        endpoint,
+                        connection,
+                        peer,
+                    });
                 }
                 Err(error) if error.kind() == io::ErrorKind::WouldBlock => return,
                 Err(error) => {
-                    let error = error.raw_os_error().and_then(|n| u32::try_from(n).ok()).unwrap_or(0);
-                    self.events.push_back(Event::AcceptFailed { service, endpoint, error });
+                    let error = error
+                        .raw_os_error()
+                        .and_then(|n| u32::try_from(n).ok())
+                        .unwrap_or(0);
+                    self.events.push_back(Event::AcceptFailed {
+                        service,
+                        endpoint,
+                        error,
+                    });
                     return;
                 }
             }
@@ -202,8 +243,16 @@ impl<'a> ForwardHost<'a> {
         match bound {
             Ok(listener) => {
                 let fd = self.keep(listener);
-                match self.serve(Serving { service, endpoint, fd }) {
-                    Ok(()) => Event::Bound { service, endpoint, fd },
+                match self.serve(Serving {
+                    service,
+                    endpoint,
+                    fd,
+                }) {
+                    Ok(()) => Event::Bound {
+                        service,
+                        endpoint,
+                        fd,
+                    },
                     Err(_) => {
                         self.listeners.remove(&fd);
                         Event::BindFailed { service, endpoint }
@@ -226,16 +275,28 @@ impl<'a> ForwardHost<'a> {
 
     /// Accepts on the socket from now on.
     fn serve(&mut self, serving: Serving) -> io::Result<()> {
-        let listener = self.listeners.get(&serving.fd).ok_or(io::ErrorKind::NotFound)?;
+        let listener = self
+            .listeners
+            .get(&serving.fd)
+            .ok_or(io::ErrorKind::NotFound)?;
         listener.set_nonblocking(true)?;
         unix::listen(listener, BACKLOG)?;
-        self.poller.add(listener, LISTENER, Interest { read: true, write: false })?;
+        self.poller.add(
+            listener,
+            LISTENER,
+            Interest {
+                read: true,
+                write: false,
+            },
+        )?;
         self.serving = Some(serving);
         Ok(())
     }
 
     fn adopt(&mut self, serving: Serving) -> Event {
-        let Serving { service, endpoint, .. } = serving;
+        let Serving {
+            service, endpoint, ..
+        } = serving;
         match self.serve(serving) {
             Ok(()) => Event::Adopted { service, endpoint },
             Err(_) => Event::AdoptFailed { service, endpoint },
@@ -247,7 +308,14 @@ impl<'a> ForwardHost<'a> {
         self.trying = Some(Instant::now() + TRY);
         if let Some(receiver) = &self.receiver {
             // A receiver that isn't polled is looked at when the try is over.
-            let _ = self.poller.add(receiver, RECEIVER, Interest { read: true, write: false });
+            let _ = self.poller.add(
+                receiver,
+                RECEIVER,
+                Interest {
+                    read: true,
+                    write: false,
+                },
+            );
         }
     }
 
@@ -259,14 +327,20 @@ impl<'a> ForwardHost<'a> {
         if let Some(receiver) = &self.receiver {
             let _ = self.poller.remove(receiver);
         }
-        let received = self.receiver.as_ref().map_or(Received::Failed, Receiver::receive);
+        let received = self
+            .receiver
+            .as_ref()
+            .map_or(Received::Failed, Receiver::receive);
         let answer = match received {
             // Nobody will come any more, where the older program is gone.
             Received::NoSender if self.predecessor.lives() => Event::NoSender,
             Received::NoSender | Received::Failed => Event::ReceiveFailed,
             Received::Message(bytes, fds) => {
                 let keep = |fd: OwnedFd| self.keep(TcpListener::from(fd));
-                Event::Received { bytes, fds: fds.into_iter().map(keep).collect() }
+                Event::Received {
+                    bytes,
+                    fds: fds.into_iter().map(keep).collect(),
+                }
             }
         };
         if answer != Event::NoSender {
@@ -289,8 +363,11 @@ impl<'a> ForwardHost<'a> {
     }
 
     fn send(&mut self, bytes: &[u8], numbers: &[u64]) -> Event {
-        let listeners = numbers.iter().map(|number| self.listeners.get(number).map(AsFd::as_fd));
-        let (Some(fds), Some(sender)) = (listeners.collect::<Option<Vec<_>>>(), &self.sender) else {
+        let listeners = numbers
+            .iter()
+            .map(|number| self.listeners.get(number).map(AsFd::as_fd));
+        let (Some(fds), Some(sender)) = (listeners.collect::<Option<Vec<_>>>(), &self.sender)
+        else {
             return Event::SendFailed;
         };
         match sender.send(bytes, &fds) {
@@ -302,17 +379,28 @@ impl<'a> ForwardHost<'a> {
 
     /// No more connections are accepted. Those that were come before the loop's end.
     fn stop_accepting(&mut self) {
-        if let Some(Serving { service, endpoint, fd }) = self.serving.take() {
+        if let Some(Serving {
+            service,
+            endpoint,
+            fd,
+        }) = self.serving.take()
+        {
             if let Some(listener) = self.listeners.get(&fd) {
                 let _ = self.poller.remove(listener);
             }
-            self.events.push_back(Event::LoopEnded { service, endpoint, number: 0 });
+            self.events.push_back(Event::LoopEnded {
+                service,
+                endpoint,
+                number: 0,
+            });
         }
     }
 
     fn set(&mut self, connection: u64, settings: &[Setting]) -> Event {
         let ok = self.waiting.get(&connection).is_some_and(|stream| {
-            let set = settings.iter().try_for_each(|setting| unix::apply(setting, stream));
+            let set = settings
+                .iter()
+                .try_for_each(|setting| unix::apply(setting, stream));
             set.and_then(|()| stream.set_nonblocking(true)).is_ok()
         });
         Event::Set { connection, ok }
@@ -338,8 +426,9 @@ impl<'a> ForwardHost<'a> {
         let told = match phase {
             Phase::Running => {
                 self.running = true;
-                write_pid(&self.options.pid_file)
-                    .and_then(|()| unix::notify(&format!("READY=1\nMAINPID={}", std::process::id())))
+                write_pid(&self.options.pid_file).and_then(|()| {
+                    unix::notify(&format!("READY=1\nMAINPID={}", std::process::id()))
+                })
             }
             Phase::GracefulUpgradeCloseTimeout => {
                 self.sender = None;
@@ -369,13 +458,25 @@ impl Host for ForwardHost<'_> {
     fn tell(&mut self, action: Action) {
         let answer = match action {
             Action::Bind { service, endpoint } => self.bind(service, endpoint),
-            Action::Adopt { service, endpoint, fd } => {
-                self.adopt(Serving { service, endpoint, fd })
-            }
+            Action::Adopt {
+                service,
+                endpoint,
+                fd,
+            } => self.adopt(Serving {
+                service,
+                endpoint,
+                fd,
+            }),
             Action::Connect => self.connect(),
             Action::Send { bytes, fds } => self.send(&bytes, &fds),
-            Action::Settings { connection, settings } => self.set(connection, &settings),
-            Action::Handshake { connection } => Event::Shaken { connection, ok: true },
+            Action::Settings {
+                connection,
+                settings,
+            } => self.set(connection, &settings),
+            Action::Handshake { connection } => Event::Shaken {
+                connection,
+                ok: true,
+            },
             action => return self.carry_out(action),
         };
         self.events.push_back(answer);

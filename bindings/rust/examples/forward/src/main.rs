@@ -25,18 +25,25 @@ mod record;
 mod relay;
 mod succession;
 
+use fulltimehen::unix::Signals;
 use fulltimehen::{Core, RunError};
 use host::ForwardHost;
 use options::Options;
+use std::error::Error;
 use std::process::ExitCode;
 use succession::Predecessor;
 
-fn serve(options: &Options, predecessor: &Predecessor) -> Result<ExitCode, Box<dyn std::error::Error>> {
+fn serve(
+    options: &Options,
+    predecessor: &Predecessor,
+    signals: &mut Signals,
+) -> Result<ExitCode, Box<dyn Error>> {
     let plan = options.plan();
     let mut core = Core::new(&plan)?;
-    let mut host = ForwardHost::new(options, predecessor, &plan)?;
+    let mut host = ForwardHost::new(options, predecessor, signals, &plan)?;
     let ended = fulltimehen::run(&mut core, &mut host);
     host.finish();
+    drop(host);
     match ended {
         Ok(outcome) => {
             eprintln!("forward: {outcome}");
@@ -45,7 +52,7 @@ fn serve(options: &Options, predecessor: &Predecessor) -> Result<ExitCode, Box<d
         // There is no older program any more: nobody serves, so this one begins anew.
         Err(RunError::Bootstrap(end)) if options.upgrade && !predecessor.lives() => {
             eprintln!("forward: {end}, and the older program is gone");
-            serve(&options.without_upgrade(), predecessor)
+            serve(&options.without_upgrade(), predecessor, signals)
         }
         Err(error) => Err(error.into()),
     }
@@ -60,7 +67,10 @@ fn main() -> ExitCode {
         }
     };
     let predecessor = Predecessor::find(&options.pid_file);
-    serve(&options, &predecessor).unwrap_or_else(|error| {
+    let served = Signals::watch()
+        .map_err(Box::from)
+        .and_then(|mut signals| serve(&options, &predecessor, &mut signals));
+    served.unwrap_or_else(|error| {
         eprintln!("forward: {error}");
         ExitCode::FAILURE
     })

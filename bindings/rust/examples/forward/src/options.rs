@@ -46,7 +46,9 @@ impl Options {
         let [listen, upstream] = <[String; 2]>::try_from(addresses)
             .map_err(|_| "forward [FLAGS] LISTEN UPSTREAM".to_owned())?;
         options.listen = listen;
-        options.upstream = upstream.parse().map_err(|_| format!("{upstream} is no address"))?;
+        options.upstream = upstream
+            .parse()
+            .map_err(|_| format!("{upstream} is no address"))?;
         Ok(options)
     }
 

@@ -31,9 +31,9 @@ impl Half {
         self.from == self.to
     }
 
-    /// Moves what can be moved without waiting.
+    /// Moves what can be moved without waiting, up to a few buffers.
     fn pump(&mut self, source: &mut TcpStream, sink: &mut TcpStream) -> io::Result<()> {
-        loop {
+        for _ in 0..16 {
             if self.is_empty() && !self.ended {
                 let Some(count) = ready(source.read(&mut self.bytes))? else {
                     return Ok(());
@@ -53,6 +53,7 @@ impl Half {
                 return Ok(());
             }
         }
+        Ok(())
     }
 }
 
@@ -118,7 +119,13 @@ impl Relays {
     pub fn begin(&mut self, number: u64, client: TcpStream, poller: &Poller) -> io::Result<()> {
         let upstream = unix::start_connect(&self.upstream)?;
         upstream.set_nodelay(true)?;
-        let waits = [Interest::default(), Interest { read: false, write: true }];
+        let waits = [
+            Interest::default(),
+            Interest {
+                read: false,
+                write: true,
+            },
+        ];
         poller.add(&client, 2 * number, waits[0])?;
         poller.add(&upstream, 2 * number + 1, waits[1])?;
         let relay = Relay {

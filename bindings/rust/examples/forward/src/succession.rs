@@ -16,7 +16,10 @@ fn lives(pid: u32) -> bool {
     let Ok(stat) = fs::read_to_string(format!("/proc/{pid}/stat")) else {
         return false;
     };
-    let state = stat.rsplit(") ").next().and_then(|rest| rest.chars().next());
+    let state = stat
+        .rsplit(") ")
+        .next()
+        .and_then(|rest| rest.chars().next());
     !matches!(state, None | Some('Z' | 'X'))
 }
 
@@ -111,6 +114,9 @@ fn start(listener: Option<&TcpListener>) -> io::Result<Child> {
             .args(words)
             .stdin(Stdio::from(OwnedFd::from(listener.try_clone()?)))
             .spawn(),
-        None => Command::new(program).args(words).stdin(Stdio::null()).spawn(),
+        None => Command::new(program)
+            .args(words)
+            .stdin(Stdio::null())
+            .spawn(),
     }
 }

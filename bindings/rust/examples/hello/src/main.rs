@@ -13,7 +13,9 @@ impl Host for Hello {
     /// The answer that is owed; else a visitor is waited for, greeted, and the server told to end.
     fn next(&mut self) -> Next {
         let answered = self.answers.pop().map(Ok);
-        answered.unwrap_or_else(|| self.greet()).map_or_else(Next::Failed, Next::Event)
+        answered
+            .unwrap_or_else(|| self.greet())
+            .map_or_else(Next::Failed, Next::Event)
     }
 
     fn tell(&mut self, action: Action) {
@@ -21,7 +23,11 @@ impl Host for Hello {
             Action::Bind { service, endpoint } => {
                 self.listener = TcpListener::bind("127.0.0.1:8080").ok();
                 self.answers.push(match self.listener {
-                    Some(_) => Event::Bound { service, endpoint, fd: 3 },
+                    Some(_) => Event::Bound {
+                        service,
+                        endpoint,
+                        fd: 3,
+                    },
                     None => Event::InUse { service, endpoint },
                 });
             }
@@ -42,7 +48,13 @@ impl Hello {
 
 fn main() -> Result<(), Box<dyn std::error::Error>> {
     let plan = Plan::new().service(Service::plain("hello").tcp("127.0.0.1:8080"));
-    let mut host = Hello { listener: None, answers: Vec::new() };
-    println!("status {}", fulltimehen::run(&mut Core::new(&plan)?, &mut host)?);
+    let mut host = Hello {
+        listener: None,
+        answers: Vec::new(),
+    };
+    println!(
+        "status {}",
+        fulltimehen::run(&mut Core::new(&plan)?, &mut host)?
+    );
     Ok(())
 }
