@@ -48,8 +48,7 @@ fn work(address: SocketAddr, thread: u64, start: Instant, on: &AtomicBool) -> Se
         match ask(address, &text) {
             Ok(true) => {
                 let took = start.elapsed() - began;
-                seen.asks
-                    .push((began.as_micros() as u32, took.as_micros() as u32));
+                seen.asks.push((began.as_micros() as u32, took.as_micros() as u32));
             }
             Ok(false) => seen.wrong += 1,
             Err(error) => {
@@ -60,8 +59,7 @@ fn work(address: SocketAddr, thread: u64, start: Instant, on: &AtomicBool) -> Se
                     }
                     _ => seen.other += 1,
                 }
-                seen.errors
-                    .push(format!("{:.3} s: {error}", began.as_secs_f64()));
+                seen.errors.push(format!("{:.3} s: {error}", began.as_secs_f64()));
             }
         }
     }
@@ -106,10 +104,7 @@ fn main() -> Result<(), Box<dyn std::error::Error>> {
                 if line.is_err() || line.is_ok_and(|line| line == "end") {
                     break;
                 }
-                marks
-                    .lock()
-                    .unwrap()
-                    .push(start.elapsed().as_micros() as u32);
+                marks.lock().unwrap().push(start.elapsed().as_micros() as u32);
             }
         });
         if seconds > 0.0 {
@@ -118,25 +113,16 @@ fn main() -> Result<(), Box<dyn std::error::Error>> {
             let _ = marking.join();
         }
         on.store(false, Ordering::Relaxed);
-        workers
-            .into_iter()
-            .map(|worker| worker.join().unwrap())
-            .collect::<Vec<_>>()
+        workers.into_iter().map(|worker| worker.join().unwrap()).collect::<Vec<_>>()
     });
     let took = start.elapsed().as_secs_f64();
     let marks = marks.into_inner()?;
     let in_upgrade = |began: u32| {
-        marks
-            .iter()
-            .any(|mark| (*mark..mark.saturating_add(1_000_000)).contains(&began))
+        marks.iter().any(|mark| (*mark..mark.saturating_add(1_000_000)).contains(&began))
     };
     let (mut within, mut outside) = (Vec::new(), Vec::new());
     for (began, micros) in all.iter().flat_map(|seen| &seen.asks) {
-        if in_upgrade(*began) {
-            within.push(*micros)
-        } else {
-            outside.push(*micros)
-        }
+        if in_upgrade(*began) { within.push(*micros) } else { outside.push(*micros) }
     }
     let sum = |part: fn(&Seen) -> u64| all.iter().map(part).sum::<u64>();
     let errors: Vec<String> = all

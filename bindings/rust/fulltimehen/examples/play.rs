@@ -74,10 +74,7 @@ fn play(script: &str, words: impl Iterator<Item = String>) -> (String, u8) {
         Err(PlanError::Line(line)) => return (format!("status line {line}\n"), 3),
         Err(_) => return (String::new(), 7),
     };
-    let mut host = Script {
-        events: events(script),
-        record: String::new(),
-    };
+    let mut host = Script { events: events(script), record: String::new() };
     let (status, code) = match fulltimehen::run(&mut core, &mut host) {
         Ok(outcome) if outcome == fulltimehen::Outcome::Parent(1) => (outcome.to_string(), 1),
         Ok(outcome) => (outcome.to_string(), 0),

@@ -80,16 +80,10 @@ fn event(draw: &mut Draw, services: u64, next: u64, moment: u64) -> Event {
     let connection = next.saturating_sub(draw.below(12));
     let ok = !draw.one_in(4);
     match draw.below(31) {
-        0 | 1 => Event::Moment {
-            ms: moment + draw.below(2500),
-        },
+        0 | 1 => Event::Moment { ms: moment + draw.below(2500) },
         2 => Event::Ready { service },
         3 => Event::Ended { service },
-        4..=7 => Event::Bound {
-            service,
-            endpoint,
-            fd: next,
-        },
+        4..=7 => Event::Bound { service, endpoint, fd: next },
         8 => Event::InUse { service, endpoint },
         9 => Event::BindFailed { service, endpoint },
         10 | 11 => Event::Adopted { service, endpoint },
@@ -115,55 +109,30 @@ fn event(draw: &mut Draw, services: u64, next: u64, moment: u64) -> Event {
                 .parse()
                 .expect("a peer"),
         },
-        24 => Event::AcceptFailed {
-            service,
-            endpoint,
-            error: if ok { 24 } else { 11 },
-        },
+        24 => Event::AcceptFailed { service, endpoint, error: if ok { 24 } else { 11 } },
         25 | 26 => Event::Set { connection, ok },
         27 => Event::Shaken { connection, ok },
         28 => Event::Finished { connection },
-        29 => Event::LoopEnded {
-            service,
-            endpoint,
-            number: draw.below(2),
-        },
-        _ if draw.one_in(2) => Event::Side {
-            side: if ok { Side::Child } else { Side::Parent },
-        },
+        29 => Event::LoopEnded { service, endpoint, number: draw.below(2) },
+        _ if draw.one_in(2) => Event::Side { side: if ok { Side::Child } else { Side::Parent } },
         _ if draw.one_in(3) => Event::ChildGone,
         _ => Event::ChildReady,
     }
 }
 
 fn main() {
-    let seed: u64 = std::env::args()
-        .nth(1)
-        .and_then(|word| word.parse().ok())
-        .unwrap_or(1);
+    let seed: u64 = std::env::args().nth(1).and_then(|word| word.parse().ok()).unwrap_or(1);
     let mut draw = Draw(seed.wrapping_mul(0x9e37_79b9_7f4a_7c15) | 1);
     let services = 1 + draw.below(4);
     let eager = if draw.one_in(3) { "eager\n" } else { "" };
-    let lines: Vec<String> = (0..services)
-        .map(|number| service(&mut draw, number))
-        .collect();
-    let head = format!(
-        "%conf\n{}%services\n{eager}{}\n%events\n",
-        conf(&mut draw),
-        lines.join("\n")
-    );
+    let lines: Vec<String> = (0..services).map(|number| service(&mut draw, number)).collect();
+    let head =
+        format!("%conf\n{}%services\n{eager}{}\n%events\n", conf(&mut draw), lines.join("\n"));
     let flags = [draw.one_in(3), draw.one_in(8), draw.one_in(20)];
-    let plan = Plan::from_script(&head)
-        .upgrade(flags[0])
-        .daemon(flags[1])
-        .test(flags[2]);
+    let plan = Plan::from_script(&head).upgrade(flags[0]).daemon(flags[1]).test(flags[2]);
     let words = ["--upgrade", "--daemon", "--test"];
-    let given: Vec<&str> = words
-        .iter()
-        .zip(flags)
-        .filter(|(_, given)| *given)
-        .map(|(word, _)| *word)
-        .collect();
+    let given: Vec<&str> =
+        words.iter().zip(flags).filter(|(_, given)| *given).map(|(word, _)| *word).collect();
     println!("# {}\n{head}", given.join(" "));
     let Ok(mut core) = Core::new(&plan) else {
         return;
@@ -175,10 +144,8 @@ fn main() {
             return;
         }
         let drawn = (0..200).map(|_| event(&mut draw, services, next, moment));
-        let Some(event) = drawn
-            .collect::<Vec<_>>()
-            .into_iter()
-            .find(|event| core.asks(event).is_ok())
+        let Some(event) =
+            drawn.collect::<Vec<_>>().into_iter().find(|event| core.asks(event).is_ok())
         else {
             return;
         };

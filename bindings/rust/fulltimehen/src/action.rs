@@ -16,11 +16,7 @@ pub enum Action {
     /// Bind the endpoint's address: `Bound`, `InUse` or `BindFailed` answers.
     Bind { service: u32, endpoint: u32 },
     /// Listen for the endpoint on a descriptor that is held: `Adopted` or `AdoptFailed` answers.
-    Adopt {
-        service: u32,
-        endpoint: u32,
-        fd: u64,
-    },
+    Adopt { service: u32, endpoint: u32, fd: u64 },
     /// Close the descriptor.
     Close { fd: u64 },
     /// Remove an old path, and make the receiving socket at `upgrade_sock`.
@@ -42,10 +38,7 @@ pub enum Action {
     /// Drop the connection.
     Refuse { connection: u64 },
     /// Apply these settings in order: `Set` answers.
-    Settings {
-        connection: u64,
-        settings: Vec<Setting>,
-    },
+    Settings { connection: u64, settings: Vec<Setting> },
     /// Poll the handshake, for at most 60 seconds: `Shaken` answers.
     Handshake { connection: u64 },
     /// Hand the connection to the application: `Finished` follows.
@@ -104,12 +97,7 @@ pub enum Setting {
     /// Send without waiting for more.
     NoDelay,
     /// Keep alive; the times are in nanoseconds.
-    KeepAlive {
-        idle: u64,
-        interval: u64,
-        count: u64,
-        user_timeout: u64,
-    },
+    KeepAlive { idle: u64, interval: u64, count: u64, user_timeout: u64 },
     /// The differentiated services byte.
     Dscp(u8),
     /// The size of the buffer for what is sent, in bytes.
@@ -122,12 +110,7 @@ impl fmt::Display for Setting {
     fn fmt(&self, f: &mut fmt::Formatter<'_>) -> fmt::Result {
         match self {
             Setting::NoDelay => f.write_str("nodelay"),
-            Setting::KeepAlive {
-                idle,
-                interval,
-                count,
-                user_timeout,
-            } => {
+            Setting::KeepAlive { idle, interval, count, user_timeout } => {
                 write!(f, "keepalive={idle},{interval},{count},{user_timeout}")
             }
             Setting::Dscp(n) => write!(f, "dscp={n}"),
@@ -143,22 +126,15 @@ impl FromStr for Setting {
     fn from_str(word: &str) -> Result<Setting, LineError> {
         let error = || LineError::new(word);
         let Some((key, value)) = word.split_once('=') else {
-            return if word == "nodelay" {
-                Ok(Setting::NoDelay)
-            } else {
-                Err(error())
-            };
+            return if word == "nodelay" { Ok(Setting::NoDelay) } else { Err(error()) };
         };
         match key {
             "keepalive" => {
                 let times: Vec<u64> = value.split(',').map_while(|n| n.parse().ok()).collect();
                 match times[..] {
-                    [idle, interval, count, user_timeout] => Ok(Setting::KeepAlive {
-                        idle,
-                        interval,
-                        count,
-                        user_timeout,
-                    }),
+                    [idle, interval, count, user_timeout] => {
+                        Ok(Setting::KeepAlive { idle, interval, count, user_timeout })
+                    }
                     _ => Err(error()),
                 }
             }
@@ -177,11 +153,7 @@ impl fmt::Display for Action {
             Action::Start { service } => write!(f, "start {service}"),
             Action::Fail { service } => write!(f, "fail {service}"),
             Action::Bind { service, endpoint } => write!(f, "bind {service} {endpoint}"),
-            Action::Adopt {
-                service,
-                endpoint,
-                fd,
-            } => write!(f, "adopt {service} {endpoint} {fd}"),
+            Action::Adopt { service, endpoint, fd } => write!(f, "adopt {service} {endpoint} {fd}"),
             Action::Close { fd } => write!(f, "close {fd}"),
             Action::OpenReceiver => f.write_str("openreceiver"),
             Action::TryReceive => f.write_str("tryreceive"),
@@ -194,14 +166,9 @@ impl fmt::Display for Action {
                 write!(f, "judged {connection} {}", if *yes { "yes" } else { "no" })
             }
             Action::Refuse { connection } => write!(f, "refuse {connection}"),
-            Action::Settings {
-                connection,
-                settings,
-            } => {
+            Action::Settings { connection, settings } => {
                 write!(f, "settings {connection}")?;
-                settings
-                    .iter()
-                    .try_for_each(|setting| write!(f, " {setting}"))
+                settings.iter().try_for_each(|setting| write!(f, " {setting}"))
             }
             Action::Handshake { connection } => write!(f, "handshake {connection}"),
             Action::Serve { connection } => write!(f, "serve {connection}"),
@@ -227,78 +194,45 @@ impl FromStr for Action {
 
 fn action_of(words: &mut Words<'_>) -> Result<Action, LineError> {
     Ok(match words.word()? {
-        "start" => Action::Start {
-            service: words.number()?,
-        },
-        "fail" => Action::Fail {
-            service: words.number()?,
-        },
-        "bind" => Action::Bind {
-            service: words.number()?,
-            endpoint: words.number()?,
-        },
+        "start" => Action::Start { service: words.number()? },
+        "fail" => Action::Fail { service: words.number()? },
+        "bind" => Action::Bind { service: words.number()?, endpoint: words.number()? },
         "adopt" => Action::Adopt {
             service: words.number()?,
             endpoint: words.number()?,
             fd: words.number()?,
         },
-        "close" => Action::Close {
-            fd: words.number()?,
-        },
+        "close" => Action::Close { fd: words.number()? },
         "openreceiver" => Action::OpenReceiver,
         "tryreceive" => Action::TryReceive,
         "daemonize" => Action::Daemonize,
         "notifyparent" => Action::NotifyParent,
         "connect" => Action::Connect,
-        "send" => Action::Send {
-            bytes: words.bytes()?,
-            fds: words.numbers()?,
-        },
+        "send" => Action::Send { bytes: words.bytes()?, fds: words.numbers()? },
         "broadcast" => Action::Broadcast,
         "phase" => {
             let name = words.word()?;
             let phase = PHASES.into_iter().find(|phase| phase.to_string() == name);
-            Action::Phase {
-                phase: phase.ok_or(words.error())?,
-                ms: words.number()?,
-            }
+            Action::Phase { phase: phase.ok_or(words.error())?, ms: words.number()? }
         }
-        "stop" => Action::Stop {
-            seconds: words.number()?,
-        },
+        "stop" => Action::Stop { seconds: words.number()? },
         key => return connection_action(key, words),
     })
 }
 
 fn connection_action(key: &str, words: &mut Words<'_>) -> Result<Action, LineError> {
     Ok(match key {
-        "judged" => Action::Judged {
-            connection: words.number()?,
-            yes: words.either("yes", "no")?,
-        },
-        "refuse" => Action::Refuse {
-            connection: words.number()?,
-        },
+        "judged" => Action::Judged { connection: words.number()?, yes: words.either("yes", "no")? },
+        "refuse" => Action::Refuse { connection: words.number()? },
         "settings" => Action::Settings {
             connection: words.number()?,
             settings: words.map(str::parse).collect::<Result<_, _>>()?,
         },
-        "handshake" => Action::Handshake {
-            connection: words.number()?,
-        },
-        "serve" => Action::Serve {
-            connection: words.number()?,
-        },
-        "drop" => Action::Drop {
-            connection: words.number()?,
-        },
-        "rest" => Action::Rest {
-            service: words.number()?,
-            endpoint: words.number()?,
-        },
-        "cut" => Action::Cut {
-            connection: words.number()?,
-        },
+        "handshake" => Action::Handshake { connection: words.number()? },
+        "serve" => Action::Serve { connection: words.number()? },
+        "drop" => Action::Drop { connection: words.number()? },
+        "rest" => Action::Rest { service: words.number()?, endpoint: words.number()? },
+        "cut" => Action::Cut { connection: words.number()? },
         _ => return Err(words.error()),
     })
 }

@@ -174,21 +174,13 @@ impl<'a> Told<'a> {
 /// A word of a script: visible, and in one piece.
 fn checked(word: &str) -> Result<(), PlanError> {
     let is_word = !word.is_empty() && !word.chars().any(|c| c.is_whitespace() || c.is_control());
-    if is_word {
-        Ok(())
-    } else {
-        Err(PlanError::Word(word.to_owned()))
-    }
+    if is_word { Ok(()) } else { Err(PlanError::Word(word.to_owned())) }
 }
 
 fn check(plan: &Plan) -> Result<(), PlanError> {
     for service in plan.services() {
         checked(service.name())?;
-        service
-            .endpoints()
-            .iter()
-            .map(Endpoint::address)
-            .try_for_each(checked)?;
+        service.endpoints().iter().map(Endpoint::address).try_for_each(checked)?;
     }
     match plan.conf().lines().find(|line| line.starts_with('%')) {
         Some(line) => Err(PlanError::Word(line.to_owned())),
@@ -209,12 +201,7 @@ impl Core {
                     _ => PlanError::NoMemory,
                 }
             })?;
-        Ok(Core {
-            session,
-            line: String::new(),
-            told: vec![0; 1024],
-            end: End::On,
-        })
+        Ok(Core { session, line: String::new(), told: vec![0; 1024], end: End::On })
     }
 
     /// The first step: once, before all others.
@@ -229,10 +216,7 @@ impl Core {
         let (number, filter, said) = self.session.fits(self.line.as_bytes());
         match number {
             0 => Ok(Asked { filter: None, said }),
-            1 => Ok(Asked {
-                filter: Some(filter),
-                said,
-            }),
+            1 => Ok(Asked { filter: Some(filter), said }),
             _ => Err(CoreError::of(number)),
         }
     }
@@ -288,10 +272,7 @@ impl Core {
             match number {
                 0 => {
                     let record = str::from_utf8(&self.told[..length]).expect("a record is ASCII");
-                    return Ok(Told {
-                        end: self.end,
-                        record,
-                    });
+                    return Ok(Told { end: self.end, record });
                 }
                 22 => self.told.resize(length.next_power_of_two(), 0),
                 number => return Err(CoreError::of(number)),

@@ -17,11 +17,7 @@ pub enum Event {
     /// The work of a service without endpoints has ended.
     Ended { service: u32 },
     /// A bind brought this descriptor.
-    Bound {
-        service: u32,
-        endpoint: u32,
-        fd: u64,
-    },
+    Bound { service: u32, endpoint: u32, fd: u64 },
     /// The address of the endpoint is in use.
     InUse { service: u32, endpoint: u32 },
     /// The bind failed otherwise.
@@ -53,18 +49,9 @@ pub enum Event {
     /// The send failed otherwise.
     SendFailed,
     /// A connection came to the endpoint.
-    Arrived {
-        service: u32,
-        endpoint: u32,
-        connection: u64,
-        peer: Peer,
-    },
+    Arrived { service: u32, endpoint: u32, connection: u64, peer: Peer },
     /// Accepting failed with this error number.
-    AcceptFailed {
-        service: u32,
-        endpoint: u32,
-        error: u32,
-    },
+    AcceptFailed { service: u32, endpoint: u32, error: u32 },
     /// The settings of a connection were applied, or weren't.
     Set { connection: u64, ok: bool },
     /// The handshake of a connection is done, or failed.
@@ -72,11 +59,7 @@ pub enum Event {
     /// The application is done with the connection.
     Finished { connection: u64 },
     /// An accept loop of the endpoint has ended.
-    LoopEnded {
-        service: u32,
-        endpoint: u32,
-        number: u64,
-    },
+    LoopEnded { service: u32, endpoint: u32, number: u64 },
     /// Which side of a fork the process is.
     Side { side: Side },
     /// The child of a daemon's parent is ready.
@@ -127,9 +110,7 @@ impl fmt::Display for Peer {
             Peer::Inet(SocketAddr::V6(peer)) => {
                 let [first, others @ ..] = peer.ip().segments();
                 write!(f, "[{first:x}")?;
-                others
-                    .iter()
-                    .try_for_each(|group| write!(f, ":{group:x}"))?;
+                others.iter().try_for_each(|group| write!(f, ":{group:x}"))?;
                 write!(f, "]:{}", peer.port())
             }
         }
@@ -188,11 +169,7 @@ impl fmt::Display for Event {
             Event::Moment { ms } => write!(f, "moment {ms}"),
             Event::Ready { service } => write!(f, "ready {service}"),
             Event::Ended { service } => write!(f, "ended {service}"),
-            Event::Bound {
-                service,
-                endpoint,
-                fd,
-            } => write!(f, "bound {service} {endpoint} {fd}"),
+            Event::Bound { service, endpoint, fd } => write!(f, "bound {service} {endpoint} {fd}"),
             Event::InUse { service, endpoint } => write!(f, "inuse {service} {endpoint}"),
             Event::BindFailed { service, endpoint } => write!(f, "bindfailed {service} {endpoint}"),
             Event::Adopted { service, endpoint } => write!(f, "adopted {service} {endpoint}"),
@@ -212,29 +189,16 @@ impl fmt::Display for Event {
             Event::Sent => f.write_str("sent"),
             Event::SendBusy => f.write_str("sendbusy"),
             Event::SendFailed => f.write_str("sendfailed"),
-            Event::Arrived {
-                service,
-                endpoint,
-                connection,
-                peer,
-            } => {
+            Event::Arrived { service, endpoint, connection, peer } => {
                 write!(f, "arrived {service} {endpoint} {connection} {peer}")
             }
-            Event::AcceptFailed {
-                service,
-                endpoint,
-                error,
-            } => {
+            Event::AcceptFailed { service, endpoint, error } => {
                 write!(f, "acceptfailed {service} {endpoint} {error}")
             }
             Event::Set { connection, ok } => write!(f, "set {connection} {}", ok_word(*ok)),
             Event::Shaken { connection, ok } => write!(f, "shaken {connection} {}", ok_word(*ok)),
             Event::Finished { connection } => write!(f, "finished {connection}"),
-            Event::LoopEnded {
-                service,
-                endpoint,
-                number,
-            } => {
+            Event::LoopEnded { service, endpoint, number } => {
                 write!(f, "loopended {service} {endpoint} {number}")
             }
             Event::Side { side: Side::Child } => f.write_str("side child"),
@@ -261,40 +225,19 @@ impl FromStr for Event {
 
 fn event_of(words: &mut Words<'_>) -> Result<Event, LineError> {
     Ok(match words.word()? {
-        "moment" => Event::Moment {
-            ms: words.number()?,
-        },
-        "ready" => Event::Ready {
-            service: words.number()?,
-        },
-        "ended" => Event::Ended {
-            service: words.number()?,
-        },
+        "moment" => Event::Moment { ms: words.number()? },
+        "ready" => Event::Ready { service: words.number()? },
+        "ended" => Event::Ended { service: words.number()? },
         "bound" => Event::Bound {
             service: words.number()?,
             endpoint: words.number()?,
             fd: words.number()?,
         },
-        "inuse" => Event::InUse {
-            service: words.number()?,
-            endpoint: words.number()?,
-        },
-        "bindfailed" => Event::BindFailed {
-            service: words.number()?,
-            endpoint: words.number()?,
-        },
-        "adopted" => Event::Adopted {
-            service: words.number()?,
-            endpoint: words.number()?,
-        },
-        "adoptfailed" => Event::AdoptFailed {
-            service: words.number()?,
-            endpoint: words.number()?,
-        },
-        "received" => Event::Received {
-            bytes: words.bytes()?,
-            fds: words.numbers()?,
-        },
+        "inuse" => Event::InUse { service: words.number()?, endpoint: words.number()? },
+        "bindfailed" => Event::BindFailed { service: words.number()?, endpoint: words.number()? },
+        "adopted" => Event::Adopted { service: words.number()?, endpoint: words.number()? },
+        "adoptfailed" => Event::AdoptFailed { service: words.number()?, endpoint: words.number()? },
+        "received" => Event::Received { bytes: words.bytes()?, fds: words.numbers()? },
         "nosender" => Event::NoSender,
         "receivefailed" => Event::ReceiveFailed,
         "signal" => Event::Signal {
@@ -329,28 +272,16 @@ fn connection_event(key: &str, words: &mut Words<'_>) -> Result<Event, LineError
             endpoint: words.number()?,
             error: words.number()?,
         },
-        "set" => Event::Set {
-            connection: words.number()?,
-            ok: words.either("ok", "no")?,
-        },
-        "shaken" => Event::Shaken {
-            connection: words.number()?,
-            ok: words.either("ok", "no")?,
-        },
-        "finished" => Event::Finished {
-            connection: words.number()?,
-        },
+        "set" => Event::Set { connection: words.number()?, ok: words.either("ok", "no")? },
+        "shaken" => Event::Shaken { connection: words.number()?, ok: words.either("ok", "no")? },
+        "finished" => Event::Finished { connection: words.number()? },
         "loopended" => Event::LoopEnded {
             service: words.number()?,
             endpoint: words.number()?,
             number: words.number()?,
         },
         "side" => Event::Side {
-            side: if words.either("child", "parent")? {
-                Side::Child
-            } else {
-                Side::Parent
-            },
+            side: if words.either("child", "parent")? { Side::Child } else { Side::Parent },
         },
         "childready" => Event::ChildReady,
         "childgone" => Event::ChildGone,
@@ -391,19 +322,9 @@ mod tests {
             "side parent",
             "loopended 1 0 2",
         ] {
-            assert_eq!(
-                line.parse::<Event>().map(|event| event.to_string()),
-                Ok(line.to_owned())
-            );
+            assert_eq!(line.parse::<Event>().map(|event| event.to_string()), Ok(line.to_owned()));
         }
-        for line in [
-            "",
-            "moment",
-            "moment x",
-            "ready 1 2",
-            "received 0 -",
-            "set 1 yes",
-        ] {
+        for line in ["", "moment", "moment x", "ready 1 2", "received 0 -", "set 1 yes"] {
             assert!(line.parse::<Event>().is_err(), "{line}");
         }
     }

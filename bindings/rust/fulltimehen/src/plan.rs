@@ -37,10 +37,7 @@ impl Plan {
 
     /// A plan from the text of a script, as `svc run` reads it. Its events aren't looked at.
     pub fn from_script(script: &str) -> Plan {
-        Plan {
-            written: Some(script.to_owned()),
-            ..Plan::default()
-        }
+        Plan { written: Some(script.to_owned()), ..Plan::default() }
     }
 
     /// The text of the configuration: lines `key: value` (`FORMATS.md`, "The configuration").
@@ -206,9 +203,7 @@ impl fmt::Display for Service {
         write!(f, "{} {}", self.name, self.kind)?;
         if let Some((first, others)) = self.after.split_first() {
             write!(f, " after {first}")?;
-            others
-                .iter()
-                .try_for_each(|service| write!(f, ",{service}"))?;
+            others.iter().try_for_each(|service| write!(f, ",{service}"))?;
         }
         for endpoint in &self.endpoints {
             match endpoint {
@@ -216,8 +211,6 @@ impl fmt::Display for Service {
                 Endpoint::Unix(path) => write!(f, " unix {path}")?,
             }
         }
-        self.blocked
-            .iter()
-            .try_for_each(|ip| write!(f, " block {}", ip_word(*ip)))
+        self.blocked.iter().try_for_each(|ip| write!(f, " block {}", ip_word(*ip)))
     }
 }

@@ -65,9 +65,7 @@ pub(crate) struct Refused {
 impl Session {
     /// A session of a script, with the flags `upgrade`, `daemon` and `test`.
     pub(crate) fn new(script: &[u8], flags: [bool; 3]) -> Result<Session, Refused> {
-        let mut handle = Handle {
-            at: ptr::null_mut(),
-        };
+        let mut handle = Handle { at: ptr::null_mut() };
         let mut place = 0;
         let mut key = [0; 64];
         let [upgrade, daemon, test] = flags;
@@ -90,9 +88,7 @@ impl Session {
             return Ok(Session { handle });
         }
         let length = key.len().min(usize::try_from(place).unwrap_or(key.len()));
-        let key = String::from_utf8_lossy(&key[..length])
-            .trim_end_matches('\0')
-            .to_owned();
+        let key = String::from_utf8_lossy(&key[..length]).trim_end_matches('\0').to_owned();
         Err(Refused { number, place, key })
     }
 
@@ -107,13 +103,7 @@ impl Session {
         // SAFETY: the handle has a session, the pointer and the length are those of one slice, which
         // outlives the call, and the other pointers are those of locals.
         let number = unsafe {
-            svc_c_fits(
-                &mut self.handle,
-                line.as_ptr(),
-                line.len(),
-                &mut filter,
-                &mut said,
-            )
+            svc_c_fits(&mut self.handle, line.as_ptr(), line.len(), &mut filter, &mut said)
         };
         (number, filter, said)
     }
@@ -173,10 +163,7 @@ struct Tried {
 
 impl Tried {
     fn of(at: *mut c_void) -> Tried {
-        Tried {
-            ok: !at.is_null(),
-            at,
-        }
+        Tried { ok: !at.is_null(), at }
     }
 }
 
@@ -303,11 +290,7 @@ const EPOLL_CTL_MOD: c_int = 3;
 pub(crate) const MOST_DESCRIPTORS: usize = 32;
 
 fn checked(answer: c_int) -> io::Result<c_int> {
-    if answer < 0 {
-        Err(io::Error::last_os_error())
-    } else {
-        Ok(answer)
-    }
+    if answer < 0 { Err(io::Error::last_os_error()) } else { Ok(answer) }
 }
 
 /// Where the handler writes the numbers of signals that came; -1 where nowhere.
@@ -317,13 +300,7 @@ extern "C" fn note_signal(signal: c_int) {
     let byte = signal as u8;
     // SAFETY: `write` may be called in a handler, with one byte of a local. Its failure is passed over:
     // the pipe is full of signals that weren't taken yet.
-    unsafe {
-        write(
-            SIGNALS_TO.load(Ordering::SeqCst),
-            (&raw const byte).cast(),
-            1,
-        )
-    };
+    unsafe { write(SIGNALS_TO.load(Ordering::SeqCst), (&raw const byte).cast(), 1) };
 }
 
 /// From now on the number of each of these signals that comes is written to the descriptor, as a byte.
@@ -353,35 +330,19 @@ pub(crate) fn send_descriptors(
     if fds.len() > MOST_DESCRIPTORS {
         return Err(io::Error::from(io::ErrorKind::InvalidInput));
     }
-    let mut control = Control {
-        len: 0,
-        level: SOL_SOCKET,
-        kind: SCM_RIGHTS,
-        fds: [0; 32],
-    };
+    let mut control = Control { len: 0, level: SOL_SOCKET, kind: SCM_RIGHTS, fds: [0; 32] };
     for (place, fd) in control.fds.iter_mut().zip(fds) {
         *place = fd.as_raw_fd();
     }
     control.len = mem::offset_of!(Control, fds) + size_of_val(fds_of(&control, fds.len()));
-    let mut part = IoVec {
-        base: bytes.as_ptr().cast_mut().cast(),
-        len: bytes.len(),
-    };
+    let mut part = IoVec { base: bytes.as_ptr().cast_mut().cast(), len: bytes.len() };
     let message = MsgHdr {
         name: ptr::null_mut(),
         name_len: 0,
         iov: &mut part,
         iov_len: 1,
-        control: if fds.is_empty() {
-            ptr::null_mut()
-        } else {
-            (&raw mut control).cast()
-        },
-        control_len: if fds.is_empty() {
-            0
-        } else {
-            control.len.next_multiple_of(8)
-        },
+        control: if fds.is_empty() { ptr::null_mut() } else { (&raw mut control).cast() },
+        control_len: if fds.is_empty() { 0 } else { control.len.next_multiple_of(8) },
         flags: 0,
     };
     // SAFETY: the message's pointers and lengths are those of the slice and of locals, which outlive the
@@ -399,16 +360,8 @@ pub(crate) fn receive_descriptors(
     socket: BorrowedFd<'_>,
     bytes: &mut [u8],
 ) -> io::Result<(usize, Vec<OwnedFd>)> {
-    let mut control = Control {
-        len: 0,
-        level: 0,
-        kind: 0,
-        fds: [-1; 32],
-    };
-    let mut part = IoVec {
-        base: bytes.as_mut_ptr().cast(),
-        len: bytes.len(),
-    };
+    let mut control = Control { len: 0, level: 0, kind: 0, fds: [-1; 32] };
+    let mut part = IoVec { base: bytes.as_mut_ptr().cast(), len: bytes.len() };
     let mut message = MsgHdr {
         name: ptr::null_mut(),
         name_len: 0,
@@ -546,9 +499,7 @@ impl Epoll {
         // SAFETY: it has no pointer.
         let epoll = checked(unsafe { epoll_create1(EPOLL_CLOEXEC) })?;
         // SAFETY: the system has just made it, and nothing else has it.
-        Ok(Epoll {
-            epoll: unsafe { OwnedFd::from_raw_fd(epoll) },
-        })
+        Ok(Epoll { epoll: unsafe { OwnedFd::from_raw_fd(epoll) } })
     }
 
     fn control(&self, how: c_int, fd: BorrowedFd<'_>, events: u32, data: u64) -> io::Result<()> {
@@ -575,20 +526,13 @@ impl Epoll {
         let mut events = [EpollEvent { events: 0, data: 0 }; 256];
         // SAFETY: the pointer and the count are the array's.
         let count = checked(unsafe {
-            epoll_wait(
-                self.epoll.as_raw_fd(),
-                events.as_mut_ptr(),
-                events.len() as c_int,
-                timeout,
-            )
+            epoll_wait(self.epoll.as_raw_fd(), events.as_mut_ptr(), events.len() as c_int, timeout)
         });
         ready.clear();
         match count {
             Ok(count) => {
                 ready.extend(
-                    events[..count as usize]
-                        .iter()
-                        .map(|event| (event.data, event.events)),
+                    events[..count as usize].iter().map(|event| (event.data, event.events)),
                 );
                 Ok(())
             }

@@ -103,11 +103,7 @@ pub fn listen(socket: impl AsFd, backlog: i32) -> io::Result<()> {
 /// The listeners that a service manager started the process with: `LISTEN_FDS` of them from descriptor
 /// 3 on, where `LISTEN_PID` is this process. Only the first call gives them.
 pub fn inherited_listeners() -> Vec<OwnedFd> {
-    let number = |name| {
-        env::var(name)
-            .ok()
-            .and_then(|value| value.parse::<usize>().ok())
-    };
+    let number = |name| env::var(name).ok().and_then(|value| value.parse::<usize>().ok());
     match (number("LISTEN_PID"), number("LISTEN_FDS")) {
         (Some(pid), Some(count)) if pid == process::id() as usize => sys::inherited(count),
         _ => Vec::new(),
@@ -155,12 +151,7 @@ pub fn apply(setting: &Setting, stream: &TcpStream) -> io::Result<()> {
     };
     match *setting {
         Setting::NoDelay => stream.set_nodelay(true),
-        Setting::KeepAlive {
-            idle,
-            interval,
-            count,
-            user_timeout,
-        } => {
+        Setting::KeepAlive { idle, interval, count, user_timeout } => {
             set(SOL_SOCKET, SO_KEEPALIVE, 1)?;
             set(IPPROTO_TCP, TCP_KEEPIDLE, idle / 1_000_000_000)?;
             set(IPPROTO_TCP, TCP_KEEPINTVL, interval / 1_000_000_000)?;
@@ -200,10 +191,7 @@ impl Interest {
     /// An error or an end is both: the next call of either kind tells it.
     fn of(bits: u32) -> Interest {
         let over = bits & (EPOLLERR | EPOLLHUP) != 0;
-        Interest {
-            read: over || bits & EPOLLIN != 0,
-            write: over || bits & EPOLLOUT != 0,
-        }
+        Interest { read: over || bits & EPOLLIN != 0, write: over || bits & EPOLLOUT != 0 }
     }
 }
 
@@ -216,10 +204,7 @@ pub struct Poller {
 impl Poller {
     /// An empty set.
     pub fn new() -> io::Result<Poller> {
-        Ok(Poller {
-            epoll: sys::Epoll::new()?,
-            ready: Vec::new(),
-        })
+        Ok(Poller { epoll: sys::Epoll::new()?, ready: Vec::new() })
     }
 
     /// Adds a descriptor.
@@ -242,8 +227,6 @@ impl Poller {
         let timeout = i32::try_from(ms).unwrap_or(i32::MAX);
         self.epoll.wait(timeout, &mut self.ready)?;
         let ready = self.ready.clone();
-        Ok(ready
-            .into_iter()
-            .map(|(key, bits)| (key, Interest::of(bits))))
+        Ok(ready.into_iter().map(|(key, bits)| (key, Interest::of(bits))))
     }
 }

@@ -11,9 +11,7 @@ pub struct LineError {
 
 impl LineError {
     pub(crate) fn new(line: &str) -> LineError {
-        LineError {
-            line: line.to_owned(),
-        }
+        LineError { line: line.to_owned() }
     }
 }
 
@@ -33,10 +31,7 @@ pub(crate) struct Words<'a> {
 
 impl<'a> Words<'a> {
     pub(crate) fn of(line: &'a str) -> Words<'a> {
-        Words {
-            line,
-            words: line.split_ascii_whitespace(),
-        }
+        Words { line, words: line.split_ascii_whitespace() }
     }
 
     pub(crate) fn error(&self) -> LineError {
@@ -82,9 +77,7 @@ impl<'a> Words<'a> {
             return Ok(Vec::new());
         }
         let numbers = word.split(',').map(str::parse);
-        numbers
-            .collect::<Result<Vec<u64>, _>>()
-            .map_err(|_| self.error())
+        numbers.collect::<Result<Vec<u64>, _>>().map_err(|_| self.error())
     }
 
     pub(crate) fn end(&mut self) -> Result<(), LineError> {

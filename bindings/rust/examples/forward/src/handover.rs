@@ -30,10 +30,7 @@ impl Receiver {
             _ => {}
         }
         let socket = UnixListener::bind(path)?;
-        let receiver = Receiver {
-            socket,
-            path: path.to_owned(),
-        };
+        let receiver = Receiver { socket, path: path.to_owned() };
         fs::set_permissions(path, Permissions::from_mode(0o666))?;
         listen(&receiver.socket, 8)?;
         receiver.socket.set_nonblocking(true)?;
@@ -93,10 +90,7 @@ impl Sender {
     /// Connects once.
     pub fn connect(path: &Path) -> Connected {
         match UnixStream::connect(path) {
-            Ok(socket) => Connected::To(Sender {
-                successor: peer_process(&socket).ok(),
-                socket,
-            }),
+            Ok(socket) => Connected::To(Sender { successor: peer_process(&socket).ok(), socket }),
             Err(error) => match error.kind() {
                 io::ErrorKind::NotFound
                 | io::ErrorKind::ConnectionRefused

@@ -75,14 +75,7 @@ impl<'a> ForwardHost<'a> {
         plan: &Plan,
     ) -> io::Result<ForwardHost<'a>> {
         let poller = Poller::new()?;
-        poller.add(
-            &*signals,
-            SIGNALS,
-            Interest {
-                read: true,
-                write: false,
-            },
-        )?;
+        poller.add(&*signals, SIGNALS, Interest { read: true, write: false })?;
         Ok(ForwardHost {
             options,
             predecessor,
@@ -93,10 +86,7 @@ impl<'a> ForwardHost<'a> {
             events: VecDeque::new(),
             signals,
             poller,
-            inherited: unix::inherited_listeners()
-                .into_iter()
-                .map(TcpListener::from)
-                .collect(),
+            inherited: unix::inherited_listeners().into_iter().map(TcpListener::from).collect(),
             listeners: HashMap::new(),
             last_number: 2,
             serving: None,
@@ -163,38 +153,22 @@ impl<'a> ForwardHost<'a> {
             self.resting = None;
             self.poll_listener(true)?;
         }
-        let listener = self
-            .serving
-            .and_then(|serving| self.listeners.get(&serving.fd));
+        let listener = self.serving.and_then(|serving| self.listeners.get(&serving.fd));
         self.successor.look_after(listener);
         Ok(())
     }
 
     fn poll_listener(&self, accepts: bool) -> io::Result<()> {
-        let Some(listener) = self
-            .serving
-            .and_then(|serving| self.listeners.get(&serving.fd))
+        let Some(listener) = self.serving.and_then(|serving| self.listeners.get(&serving.fd))
         else {
             return Ok(());
         };
-        self.poller.change(
-            listener,
-            LISTENER,
-            Interest {
-                read: accepts,
-                write: false,
-            },
-        )
+        self.poller.change(listener, LISTENER, Interest { read: accepts, write: false })
     }
 
     /// Accepts the connections that wait, up to a burst.
     fn accept(&mut self) {
-        let Some(Serving {
-            service,
-            endpoint,
-            fd,
-        }) = self.serving
-        else {
+        let Some(Serving { service, endpoint, fd }) = self.serving else {
             return;
         };
         for _ in 0..BURST {
@@ -207,24 +181,13 @@ impl<'a> ForwardHost<'a> {
                     let connection = self.last_connection;
                     self.waiting.insert(connection, stream);
                     let peer = Peer::from(peer);
-                    self.events.push_back(Event::Arrived {
-                        service,
-                        endpoint,
-                        connection,
-                        peer,
-                    });
+                    self.events.push_back(Event::Arrived { service, endpoint, connection, peer });
                 }
                 Err(error) if error.kind() == io::ErrorKind::WouldBlock => return,
                 Err(error) => {
-                    let error = error
-                        .raw_os_error()
-                        .and_then(|n| u32::try_from(n).ok())
-                        .unwrap_or(0);
-                    self.events.push_back(Event::AcceptFailed {
-                        service,
-                        endpoint,
-                        error,
-                    });
+                    let error =
+                        error.raw_os_error().and_then(|n| u32::try_from(n).ok()).unwrap_or(0);
+                    self.events.push_back(Event::AcceptFailed { service, endpoint, error });
                     return;
                 }
             }
@@ -243,16 +206,8 @@ impl<'a> ForwardHost<'a> {
         match bound {
             Ok(listener) => {
                 let fd = self.keep(listener);
-                match self.serve(Serving {
-                    service,
-                    endpoint,
-                    fd,
-                }) {
-                    Ok(()) => Event::Bound {
-                        service,
-                        endpoint,
-                        fd,
-                    },
+                match self.serve(Serving { service, endpoint, fd }) {
+                    Ok(()) => Event::Bound { service, endpoint, fd },
                     Err(_) => {
                         self.listeners.remove(&fd);
                         Event::BindFailed { service, endpoint }
@@ -275,28 +230,16 @@ impl<'a> ForwardHost<'a> {
 
     /// Accepts on the socket from now on.
     fn serve(&mut self, serving: Serving) -> io::Result<()> {
-        let listener = self
-            .listeners
-            .get(&serving.fd)
-            .ok_or(io::ErrorKind::NotFound)?;
+        let listener = self.listeners.get(&serving.fd).ok_or(io::ErrorKind::NotFound)?;
         listener.set_nonblocking(true)?;
         unix::listen(listener, BACKLOG)?;
-        self.poller.add(
-            listener,
-            LISTENER,
-            Interest {
-                read: true,
-                write: false,
-            },
-        )?;
+        self.poller.add(listener, LISTENER, Interest { read: true, write: false })?;
         self.serving = Some(serving);
         Ok(())
     }
 
     fn adopt(&mut self, serving: Serving) -> Event {
-        let Serving {
-            service, endpoint, ..
-        } = serving;
+        let Serving { service, endpoint, .. } = serving;
         match self.serve(serving) {
             Ok(()) => Event::Adopted { service, endpoint },
             Err(_) => Event::AdoptFailed { service, endpoint },
@@ -308,14 +251,7 @@ impl<'a> ForwardHost<'a> {
         self.trying = Some(Instant::now() + TRY);
         if let Some(receiver) = &self.receiver {
             // A receiver that isn't polled is looked at when the try is over.
-            let _ = self.poller.add(
-                receiver,
-                RECEIVER,
-                Interest {
-                    read: true,
-                    write: false,
-                },
-            );
+            let _ = self.poller.add(receiver, RECEIVER, Interest { read: true, write: false });
         }
     }
 
@@ -327,20 +263,14 @@ impl<'a> ForwardHost<'a> {
         if let Some(receiver) = &self.receiver {
             let _ = self.poller.remove(receiver);
         }
-        let received = self
-            .receiver
-            .as_ref()
-            .map_or(Received::Failed, Receiver::receive);
+        let received = self.receiver.as_ref().map_or(Received::Failed, Receiver::receive);
         let answer = match received {
             // Nobody will come any more, where the older program is gone.
             Received::NoSender if self.predecessor.lives() => Event::NoSender,
             Received::NoSender | Received::Failed => Event::ReceiveFailed,
             Received::Message(bytes, fds) => {
                 let keep = |fd: OwnedFd| self.keep(TcpListener::from(fd));
-                Event::Received {
-                    bytes,
-                    fds: fds.into_iter().map(keep).collect(),
-                }
+                Event::Received { bytes, fds: fds.into_iter().map(keep).collect() }
             }
         };
         if answer != Event::NoSender {
@@ -363,9 +293,7 @@ impl<'a> ForwardHost<'a> {
     }
 
     fn send(&mut self, bytes: &[u8], numbers: &[u64]) -> Event {
-        let listeners = numbers
-            .iter()
-            .map(|number| self.listeners.get(number).map(AsFd::as_fd));
+        let listeners = numbers.iter().map(|number| self.listeners.get(number).map(AsFd::as_fd));
         let (Some(fds), Some(sender)) = (listeners.collect::<Option<Vec<_>>>(), &self.sender)
         else {
             return Event::SendFailed;
@@ -379,28 +307,17 @@ impl<'a> ForwardHost<'a> {
 
     /// No more connections are accepted. Those that were come before the loop's end.
     fn stop_accepting(&mut self) {
-        if let Some(Serving {
-            service,
-            endpoint,
-            fd,
-        }) = self.serving.take()
-        {
+        if let Some(Serving { service, endpoint, fd }) = self.serving.take() {
             if let Some(listener) = self.listeners.get(&fd) {
                 let _ = self.poller.remove(listener);
             }
-            self.events.push_back(Event::LoopEnded {
-                service,
-                endpoint,
-                number: 0,
-            });
+            self.events.push_back(Event::LoopEnded { service, endpoint, number: 0 });
         }
     }
 
     fn set(&mut self, connection: u64, settings: &[Setting]) -> Event {
         let ok = self.waiting.get(&connection).is_some_and(|stream| {
-            let set = settings
-                .iter()
-                .try_for_each(|setting| unix::apply(setting, stream));
+            let set = settings.iter().try_for_each(|setting| unix::apply(setting, stream));
             set.and_then(|()| stream.set_nonblocking(true)).is_ok()
         });
         Event::Set { connection, ok }
@@ -458,25 +375,13 @@ impl Host for ForwardHost<'_> {
     fn tell(&mut self, action: Action) {
         let answer = match action {
             Action::Bind { service, endpoint } => self.bind(service, endpoint),
-            Action::Adopt {
-                service,
-                endpoint,
-                fd,
-            } => self.adopt(Serving {
-                service,
-                endpoint,
-                fd,
-            }),
+            Action::Adopt { service, endpoint, fd } => {
+                self.adopt(Serving { service, endpoint, fd })
+            }
             Action::Connect => self.connect(),
             Action::Send { bytes, fds } => self.send(&bytes, &fds),
-            Action::Settings {
-                connection,
-                settings,
-            } => self.set(connection, &settings),
-            Action::Handshake { connection } => Event::Shaken {
-                connection,
-                ok: true,
-            },
+            Action::Settings { connection, settings } => self.set(connection, &settings),
+            Action::Handshake { connection } => Event::Shaken { connection, ok: true },
             action => return self.carry_out(action),
         };
         self.events.push_back(answer);

@@ -46,18 +46,13 @@ impl Options {
         let [listen, upstream] = <[String; 2]>::try_from(addresses)
             .map_err(|_| "forward [FLAGS] LISTEN UPSTREAM".to_owned())?;
         options.listen = listen;
-        options.upstream = upstream
-            .parse()
-            .map_err(|_| format!("{upstream} is no address"))?;
+        options.upstream = upstream.parse().map_err(|_| format!("{upstream} is no address"))?;
         Ok(options)
     }
 
     /// The same, for a program that begins anew.
     pub fn without_upgrade(&self) -> Options {
-        Options {
-            upgrade: false,
-            ..self.clone()
-        }
+        Options { upgrade: false, ..self.clone() }
     }
 
     /// One service with one endpoint. The server bootstraps first: it takes the listening socket over, or

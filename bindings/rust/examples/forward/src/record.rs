@@ -26,9 +26,7 @@ impl Record {
         })?;
         path.push(".svc");
         fs::write(PathBuf::from(path), plan.script())?;
-        Ok(Record {
-            to: Some(BufWriter::new(to)),
-        })
+        Ok(Record { to: Some(BufWriter::new(to)) })
     }
 
     /// Appends lines. A record that can't be written any more ends there.

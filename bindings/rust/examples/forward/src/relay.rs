@@ -109,33 +109,18 @@ pub struct Relays {
 
 impl Relays {
     pub fn new(upstream: SocketAddr) -> Relays {
-        Relays {
-            upstream,
-            relays: HashMap::new(),
-        }
+        Relays { upstream, relays: HashMap::new() }
     }
 
     /// Begins to forward a connection.
     pub fn begin(&mut self, number: u64, client: TcpStream, poller: &Poller) -> io::Result<()> {
         let upstream = unix::start_connect(&self.upstream)?;
         upstream.set_nodelay(true)?;
-        let waits = [
-            Interest::default(),
-            Interest {
-                read: false,
-                write: true,
-            },
-        ];
+        let waits = [Interest::default(), Interest { read: false, write: true }];
         poller.add(&client, 2 * number, waits[0])?;
         poller.add(&upstream, 2 * number + 1, waits[1])?;
-        let relay = Relay {
-            client,
-            upstream,
-            up: Half::new(),
-            down: Half::new(),
-            connected: false,
-            waits,
-        };
+        let relay =
+            Relay { client, upstream, up: Half::new(), down: Half::new(), connected: false, waits };
         self.relays.insert(number, relay);
         Ok(())
     }

@@ -16,10 +16,7 @@ fn lives(pid: u32) -> bool {
     let Ok(stat) = fs::read_to_string(format!("/proc/{pid}/stat")) else {
         return false;
     };
-    let state = stat
-        .rsplit(") ")
-        .next()
-        .and_then(|rest| rest.chars().next());
+    let state = stat.rsplit(") ").next().and_then(|rest| rest.chars().next());
     !matches!(state, None | Some('Z' | 'X'))
 }
 
@@ -32,9 +29,7 @@ impl Predecessor {
     /// The process that the pid file names.
     pub fn find(pid_file: &Path) -> Predecessor {
         let text = fs::read_to_string(pid_file).unwrap_or_default();
-        Predecessor {
-            pid: text.trim().parse().ok(),
-        }
+        Predecessor { pid: text.trim().parse().ok() }
     }
 
     pub fn lives(&self) -> bool {
@@ -114,9 +109,6 @@ fn start(listener: Option<&TcpListener>) -> io::Result<Child> {
             .args(words)
             .stdin(Stdio::from(OwnedFd::from(listener.try_clone()?)))
             .spawn(),
-        None => Command::new(program)
-            .args(words)
-            .stdin(Stdio::null())
-            .spawn(),
+        None => Command::new(program).args(words).stdin(Stdio::null()).spawn(),
     }
 }
