@@ -1,0 +1,111 @@
+//! The listening socket goes from the old program to the new one over a Unix socket.
+
+use fulltimehen::unix::{listen, peer_process, receive_descriptors, send_descriptors};
+use std::fs::{self, Permissions};
+use std::io;
+use std::os::fd::{AsFd, BorrowedFd, OwnedFd};
+use std::os::unix::fs::PermissionsExt;
+use std::os::unix::net::{UnixListener, UnixStream};
+use std::path::{Path, PathBuf};
+use std::time::Duration;
+
+/// What a try to receive gave.
+pub enum Received {
+    Message(Vec<u8>, Vec<OwnedFd>),
+    NoSender,
+    Failed,
+}
+
+/// The new program's side: the receiving socket, and its path, which goes with it.
+pub struct Receiver {
+    socket: UnixListener,
+    path: PathBuf,
+}
+
+impl Receiver {
+    /// Makes the receiving socket in place of what stood at the path.
+    pub fn open(path: &Path) -> io::Result<Receiver> {
+        match fs::remove_file(path) {
+            Err(error) if error.kind() != io::ErrorKind::NotFound => return Err(error),
+            _ => {}
+        }
+        let socket = UnixListener::bind(path)?;
+        let receiver = Receiver { socket, path: path.to_owned() };
+        fs::set_permissions(path, Permissions::from_mode(0o666))?;
+        listen(&receiver.socket, 8)?;
+        receiver.socket.set_nonblocking(true)?;
+        Ok(receiver)
+    }
+
+    /// Accepts and receives once.
+    pub fn receive(&self) -> Received {
+        match self.socket.accept() {
+            Ok((from, _)) => receive_from(&from).unwrap_or(Received::Failed),
+            Err(error) if error.kind() == io::ErrorKind::WouldBlock => Received::NoSender,
+            Err(_) => Received::Failed,
+        }
+    }
+}
+
+impl AsFd for Receiver {
+    fn as_fd(&self) -> BorrowedFd<'_> {
+        self.socket.as_fd()
+    }
+}
+
+impl Drop for Receiver {
+    fn drop(&mut self) {
+        // Where it is gone already, that is as well.
+        let _ = fs::remove_file(&self.path);
+    }
+}
+
+fn receive_from(from: &UnixStream) -> io::Result<Received> {
+    from.set_nonblocking(false)?;
+    from.set_read_timeout(Some(Duration::from_secs(2)))?;
+    let mut bytes = [0; 2048];
+    let (count, fds) = receive_descriptors(from, &mut bytes)?;
+    if count == 0 {
+        return Ok(Received::Failed);
+    }
+    Ok(Received::Message(bytes[..count].to_vec(), fds))
+}
+
+/// What a try to connect gave.
+pub enum Connected {
+    To(Sender),
+    NotThere,
+    Busy,
+    Failed,
+}
+
+/// The old program's side.
+pub struct Sender {
+    socket: UnixStream,
+    /// The number of the new program's process.
+    pub successor: Option<u32>,
+}
+
+impl Sender {
+    /// Connects once.
+    pub fn connect(path: &Path) -> Connected {
+        match UnixStream::connect(path) {
+            Ok(socket) => Connected::To(Sender { successor: peer_process(&socket).ok(), socket }),
+            Err(error) => match error.kind() {
+                io::ErrorKind::NotFound
+                | io::ErrorKind::ConnectionRefused
+                | io::ErrorKind::PermissionDenied => Connected::NotThere,
+                io::ErrorKind::WouldBlock => Connected::Busy,
+                _ => Connected::Failed,
+            },
+        }
+    }
+
+    /// Sends once.
+    pub fn send(&self, bytes: &[u8], fds: &[BorrowedFd<'_>]) -> io::Result<()> {
+        match send_descriptors(&self.socket, bytes, fds)? {
+            count if count == bytes.len() => Ok(()),
+            _ => Err(io::Error::from(io::ErrorKind::WriteZero)),
+        }
+    }
+}
