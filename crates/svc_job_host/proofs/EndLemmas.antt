@@ -94,12 +94,12 @@ none-times test (e ∷ q) h = elim (cases_Bool (test e)) [
 ]
 
 -- the ways in which a run ends, in their order
-abbrev end_by : Bool → Bool → Bool → Bool → Bool → Bool → Bool → StepEnd
+abbrev pub end_by : Bool → Bool → Bool → Bool → Bool → Bool → Bool → StepEnd
 end_by a b c d e f g = if a then ends.Served else (if b then ends.Tested else (if c then ends.Parent 0 else (if d then ends.Parent 1
     else (if e then ends.Ended boots.Transfer else (if f then ends.Ended boots.NoSender else (if g then ends.Ended boots.BadMessage else ends.On))))))
 
 -- a run of jobs doesn't end early
-abbrev IsCalm : StepEnd → Type 0
+abbrev pub IsCalm : StepEnd → Type 0
 IsCalm (ends.Parent n) = ⊥
 IsCalm (ends.Ended error) = ⊥
 IsCalm end = Unit {0}
@@ -113,7 +113,7 @@ and_off : (a b c : Bool) → b ≡ false → ((a && b) && c) ≡ false
 and_off true b c h = rw h refl
 and_off false b c h = refl
 
-calm : (p : Plan) (q : Record) (end : StepEnd) → each_entry (λ e before. is_job_entry e) q ≡ true → end ≡ step_end p q → IsCalm end
+pub calm : (p : Plan) (q : Record) (end : StepEnd) → each_entry (λ e before. is_job_entry e) q ≡ true → end ≡ step_end p q → IsCalm end
 calm p q end only is =
     let child : has is_side_parent q ≡ false = only-lacks is_side_parent (λ m. refl) (λ k. refl) (λ s. refl) (λ a. refl) q only in
     let well : ends_parent_well p q ≡ false = rw child refl in
@@ -132,7 +132,7 @@ calm p q end only is =
     above n = grind (arith, nat_tests)
 
 -- a run that was tested asked for it
-tested-by : (a b c d e f g : Bool) → ends.Tested ≡ end_by a b c d e f g → b ≡ true
+pub tested-by : (a b c d e f g : Bool) → ends.Tested ≡ end_by a b c d e f g → b ≡ true
 tested-by true b c d e f g h = absurd (cc)
 tested-by false true c d e f g h = refl
 tested-by false false true d e f g h = absurd (cc)
@@ -194,6 +194,16 @@ tested-none p periods q notify heads right end = none-owes periods q (λ s lt ow
     let eager = (and_parts p.eager (may_begin p q) (left-only (p.eager && may_begin p q) _ tested.begun (none-boots p q (services p) notify))).0 in
     tested-owes-none p periods q s test eager tested.in_turn heads right.fits right.settled.1 lt owed)
 
+-- a job's word fits
+pub ready-fits : (p : Plan) (periods : List ℕ) (q : Record) (s : ℕ) → AllNotify p → each_entry (head_due periods) (Got (Ready s) ∷ q) ≡ true → Right p q → has_ended p q ≡ false → Fits p q (Ready s)
+ready-fits p periods q s notify heads right on =
+    let parts = and_parts (bytes_eq (take 1 (owing periods q)) (s ∷ [])) (each_entry (head_due periods) q) heads in
+    let owed = word-owed periods q s parts.0 in
+    let started = owes-started periods q s parts.1 owed.1 owed.0 in
+    let known = notifies p s notify (started-known p q s right.stronger.known_starts started) in
+    let unready = owes-unready periods q s parts.1 owed.1 owed.0 in
+    rw (on, known, started, unready) refl
+
 -- an event that doesn't fit
 stray-none : (p : Plan) (periods : List ℕ) (q : Record) (e : Event) → AllNotify p → each_entry (head_due periods) (Got e ∷ q) ≡ true → Right p q → has_ended p q ≡ false → (Fits p q e → ⊥) → owing periods (Got e ∷ q) ≡ []
 stray-none p periods q (Moment m) notify heads right on misfit =
@@ -213,13 +223,7 @@ stray-none p periods q (Moment m) notify heads right on misfit =
     off : (x y : Bool) (n : ℕ) → y ≡ true → ◌≡◌ {A = ℕ} (if x || y then 0 else n) 0
     off true y n h = refl
     off false y n h = rw h refl
-stray-none p periods q (Ready s) notify heads right on misfit =
-    let parts = and_parts (bytes_eq (take 1 (owing periods q)) (s ∷ [])) (each_entry (head_due periods) q) heads in
-    let owed = word-owed periods q s parts.0 in
-    let started = owes-started periods q s parts.1 owed.1 owed.0 in
-    let known = notifies p s notify (started-known p q s right.stronger.known_starts started) in
-    let unready = owes-unready periods q s parts.1 owed.1 owed.0 in
-    absurd (misfit (rw (on, known, started, unready) refl))
+stray-none p periods q (Ready s) notify heads right on misfit = absurd (misfit (ready-fits p periods q s notify heads right on))
 stray-none p periods q e notify heads right on misfit = none-is (owing periods q) (and_parts (is_none (owing periods q)) (each_entry (head_due periods) q) heads).0
 
 -- where none owes its word, each has said it

@@ -1,6 +1,7 @@
 //! A host that runs jobs.
 
 ghost use Rattle.std.specs.Prelude.{◌≡◌, ◌+◌, ◌<◌, ◌≤◌, ◌^◌, Option, [], ◌∷◌, length, map, reverse, position, slice_get, Some, None, IfOk, IfErr, IfSome, OnOk, MatchOption};
+ghost use Rattle.std.specs.Bool.{Decides};
 ghost use Rattle.svc_conf.specs.Items.{list_of};
 ghost use Rattle.svc_conf.specs.Streams.{Rose};
 ghost use Rattle.svc_record.specs.declared.entry.Entry.TheVariants.{Got};
@@ -22,7 +23,7 @@ use crate::plan::{JobPlan, RunList};
 use crate::refusals::{JobError, JobRefused};
 use crate::service::JobService;
 use crate::timetable::Timetable;
-use crate::upcoming::{NextItem, upcoming};
+use crate::upcoming::{NextItem, are_same, upcoming};
 use std::alloc::Global;
 use std::marker::Model;
 use svc_conf::NoMemory;
@@ -97,6 +98,21 @@ fn fault_of(plans: &[JobPlan], jobs: usize) -> Option<JobError>
     }
 }
 
+/// The plans have these periods, in milliseconds.
+fn have_periods(plans: &[JobPlan], periods: &[u64]) -> bool
+    ensures { Decides result (periods_of plans.now ≡ periods.now) }
+{
+    if plans.len() != periods.len() {
+        return false;
+    }
+    for s in 0..plans.len() {
+        if plans[s].every != periods[s] {
+            return false;
+        }
+    }
+    true
+}
+
 impl<J: Job> JobHost<J> {
     /// A host that runs the jobs, by their plans, and gives these items in order. A refusal hands all
     /// back, with the first cause that stands.
@@ -154,7 +170,7 @@ impl<J: Job> JobHost<J> {
     }
 
     /// What it keeps at any time.
-    pub(crate) fn read_kept(&self)
+    pub fn read_kept(&self)
         ensures tells { TellsJobs J.told self.now }
         ensures words { KeepsWords (periods_of self.now.plans) self.now.entries }
         ensures faulted { 0 < self.now.faults → slice_get self.now.items self.now.given ≡ Some items_given.Fault }
@@ -163,6 +179,14 @@ impl<J: Job> JobHost<J> {
         ensures finished_last { 0 < self.now.idles → owing (periods_of self.now.plans) self.now.entries ≡ [] }
     {
         let _given = self.given;
+    }
+
+    /// Its jobs have these periods, in milliseconds, and it gives these items.
+    pub fn is_of(&self, periods: &[u64], items: &[Item]) -> bool
+        requires { AreJobItems items.now }
+        ensures { Decides result ((periods_of self.now.plans ≡ periods.now) × (self.now.items ≡ items.now)) }
+    {
+        have_periods(&self.plans, periods) && are_same(&self.items, items)
     }
 
     /// What it gave and was told, the oldest first.

@@ -1,0 +1,3 @@
+pub mod JobItems
+pub mod JobTexts
+pub mod JobReadings
