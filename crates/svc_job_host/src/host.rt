@@ -2,8 +2,8 @@
 
 ghost use Rattle.std.specs.Prelude.{◌≡◌, ◌+◌, ◌<◌, ◌≤◌, ◌^◌, Option, [], ◌∷◌, length, map, reverse, position, slice_get, Some, None, IfOk, IfErr, IfSome, OnOk, MatchOption};
 ghost use Rattle.std.specs.Bool.{Decides};
-ghost use Rattle.svc_conf.specs.Items.{list_of};
-ghost use Rattle.svc_conf.specs.Streams.{Rose};
+ghost use Rattle.svc_base.specs.Items.{list_of};
+ghost use Rattle.svc_base.specs.Streams.{Rose};
 ghost use Rattle.svc_record.specs.declared.entry.Entry.TheVariants.{Got};
 ghost use Rattle.svc_record.specs.declared.event.Event.TheVariants as events;
 ghost use Rattle.svc_record.specs.declared.item.Item.TheVariants as items_given;
@@ -26,7 +26,7 @@ use crate::timetable::Timetable;
 use crate::upcoming::{NextItem, are_same, upcoming};
 use std::alloc::Global;
 use std::marker::Model;
-use svc_conf::NoMemory;
+use svc_base::NoMemory;
 use svc_graph::services::ServiceWithDependents;
 use svc_record::{Action, Entries, Event, Item, ShutdownSignal};
 use svc_server::{Host, Next};

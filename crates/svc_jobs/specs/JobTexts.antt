@@ -7,7 +7,8 @@ use Rattle.svc_conf.specs.declared.server.configuration.ServerConf.{ServerConf}
 use Rattle.svc_conf.specs.declared.server.configuration.read_error.ReadError.{ReadError}
 use Rattle.svc_conf.specs.ConfigurationText.{configuration}
 use Rattle.svc_record.specs.declared.item.Item.{Item}
-use Rattle.svc_text.specs.Words.{◌>>=◌, number_of, words}
+use Rattle.svc_base.specs.Options.{◌>>=◌}
+use Rattle.svc_base.specs.Words.{number_of, words}
 use Rattle.svc_text.specs.EventLines.{item_of}
 use Rattle.svc_text.specs.Script.{Parts, is_header, is_skipped, script_of}
 use Rattle.svc_jobs.specs.JobItems.{is_job_item}

@@ -14,7 +14,7 @@ use crate::runs::run_text;
 use crate::services::server_of_jobs;
 use std::alloc::Global;
 use std::fmt::Write;
-use svc_conf::NoMemory;
+use svc_base::NoMemory;
 use svc_job_host::JobRun;
 use svc_main::{RunEnd, StatusLine};
 use svc_text::ScriptError;

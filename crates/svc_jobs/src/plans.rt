@@ -6,7 +6,7 @@ ghost use Rattle.svc_job_host.specs.Timetables.{periods_of};
 
 use crate::quiet::QuietJob;
 use std::alloc::Global;
-use svc_conf::NoMemory;
+use svc_base::NoMemory;
 use svc_job_host::JobPlan;
 use svc_record::{Event, Item, copy_items};
 use svc_text::ServiceLine;

@@ -5,7 +5,7 @@ ghost use Rattle.svc_jobs.specs.JobPrograms.{run_line, runs_text};
 
 use std::alloc::Global;
 use std::fmt::Write;
-use svc_conf::NoMemory;
+use svc_base::NoMemory;
 use svc_job_host::JobRun;
 
 /// Appends the line of a run.

@@ -3,7 +3,7 @@
 ghost use Rattle.std.specs.Prelude.{◌≡◌, ◌≢◌, ◌⊎◌, [], map, List, ℕ, IfOk, Some, string_bytes};
 ghost use Rattle.std.specs.Rc.{rc_str_bytes};
 ghost use Rattle.std.specs.Io.KnownBytes.{Appends};
-ghost use Rattle.svc_conf.specs.Streams.{Rose};
+ghost use Rattle.svc_base.specs.Streams.{Rose};
 ghost use Rattle.svc_main.specs.declared.outcome.StatusLine.TheVariants.{Words, ReadFault};
 ghost use Rattle.svc_main.specs.Status.{status_line, IsStatus};
 ghost use Rattle.svc_main.specs.Program.{Faults, Writes};
@@ -14,7 +14,7 @@ use crate::answering::{Answer, answer_jobs, said};
 use crate::reading::read_jobs;
 use std::alloc::Global;
 use std::rc::RcStr;
-use svc_conf::{NoMemory, ReadAllError, Sink, Source, Status, read_all, write_all};
+use svc_base::{NoMemory, ReadAllError, Sink, Source, Status, read_all, write_all};
 use svc_main::StatusLine;
 use svc_text::ScriptError;
 

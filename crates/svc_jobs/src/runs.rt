@@ -16,7 +16,7 @@ use crate::plans::{copy_of, plans_of, quiet_jobs};
 use crate::quiet::QuietJob;
 use crate::services::JobServer;
 use std::alloc::Global;
-use svc_conf::NoMemory;
+use svc_base::NoMemory;
 use svc_graph::services::ServiceWithDependents;
 use svc_job_host::{JobHost, JobService, run_jobs};
 use svc_main::RunEnd;

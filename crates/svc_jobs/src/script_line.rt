@@ -2,7 +2,7 @@
 
 ghost use Rattle.std.specs.Prelude.{◌≡◌, IfOk};
 ghost use Rattle.svc_text.specs.EventLines.{item_of};
-ghost use Rattle.svc_text.specs.Words.{words};
+ghost use Rattle.svc_base.specs.Words.{words};
 ghost use Rattle.svc_text.specs.Script.{is_header, is_skipped};
 ghost use Rattle.svc_jobs.specs.JobTexts.{kept, is_daemon, is_job_event, inner_line, script_line};
 ghost use Rattle.svc_jobs.specs.JobItems.{is_job_item};
@@ -10,9 +10,10 @@ ghost use Rattle.svc_jobs.specs.JobItems.{is_job_item};
 use crate::job_line::service_line;
 use std::alloc::Global;
 use std::str;
-use svc_conf::{NoMemory, ReadError, ServerConf};
+use svc_base::{NoMemory, split_word};
+use svc_conf::{ReadError, ServerConf};
 use svc_record::{Event, Item};
-use svc_text::{item_of_line, split_word};
+use svc_text::item_of_line;
 
 /// A line that no script has: its byte is no text.
 const NO_LINE: &[u8] = b"\xff";

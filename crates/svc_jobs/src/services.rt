@@ -8,7 +8,8 @@ ghost use Rattle.svc_server.specs.Servers.{answers_of, IsSound};
 ghost use Rattle.svc_jobs.specs.JobServices.{HasJobs};
 
 use std::alloc::Global;
-use svc_conf::{NoMemory, ServerConf};
+use svc_base::NoMemory;
+use svc_conf::ServerConf;
 use svc_graph::services::ServiceWithDependents;
 use svc_job_host::JobService;
 use svc_server::Server;
