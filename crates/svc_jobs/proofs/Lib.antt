@@ -1,3 +1,4 @@
 pub mod PieceLemmas
 pub mod TextLemmas
 pub mod ScriptLemmas
+pub mod SaidLemmas

@@ -74,7 +74,7 @@ pub(crate) fn job_of_line(line: &[u8]) -> Option<JobWords<'_>>
 
 /// Appends what stands behind the kind of the service.
 fn add_after(line: &mut Vec<u8>, after: Option<&[u8]>) -> Result<(), NoMemory>
-    ensures { OnOk result (line.new.items ≡ line.old.items ++ after_text (option_map (λ value. value.now) after)) }
+    ensures { OnOk result (line.new.items ≡ line.old.items ++ after_text (option_map (λ value. value.now) after.entry)) }
 {
     if let Some(value) = after {
         line.extend_from_slice(b" after ")?;
