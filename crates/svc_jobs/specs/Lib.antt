@@ -1,3 +1,6 @@
 pub mod JobItems
 pub mod JobTexts
 pub mod JobReadings
+pub mod JobServices
+pub mod JobEnds
+pub mod JobPrograms
