@@ -102,7 +102,7 @@ owes-started periods (Got e ∷ b) s heads lt owed =
     let parts = and_parts (is_none (owing periods b)) (each_entry (head_due periods) b) heads in absurd (let none = owes-none periods b s lt parts.0 in cc)
 owes-started periods (Told a ∷ b) s heads lt owed = or_right (is_start s (Told a)) (is_started b s) (owes-started periods b s heads lt owed)
 
-owes-ran : (periods : List ℕ) (q : Record) (s : ℕ) → owes periods q s ≡ true → has_run periods q s ≡ true
+pub owes-ran : (periods : List ℕ) (q : Record) (s : ℕ) → owes periods q s ≡ true → has_run periods q s ≡ true
 owes-ran periods [] s owed = absurd (cc)
 owes-ran periods (Got (Moment m) ∷ b) s owed = elim (or_cases (owes periods b s) (runs_first periods b m s) owed) [
   | inl before ↦ or_left (has_run periods b s) (not (due_at periods b m s == 0)) (owes-ran periods b s before)

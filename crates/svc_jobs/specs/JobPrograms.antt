@@ -19,10 +19,10 @@ use Rattle.svc_text.specs.Script.{IsLineOf}
 use Rattle.svc_server.specs.Runs.{RunEnds}
 use Rattle.svc_job_host.specs.declared.plan.JobRun.{JobRun}
 use Rattle.svc_job_host.specs.Dues.{due_runs}
-use Rattle.svc_job_host.specs.Readies.{readies_right, are_told, items_of}
+use Rattle.svc_job_host.specs.Readies.{readies_since, readies_right, are_told, items_of}
 use Rattle.svc_job_host.specs.JobRuns.{start_after_runs}
 use Rattle.svc_main.specs.declared.outcome.RunEnd.{RunEnd}
-use Rattle.svc_main.specs.declared.outcome.RunEnd.TheVariants.{Served, HostFault, OutOfEvents}
+use Rattle.svc_main.specs.declared.outcome.RunEnd.TheVariants.{Served, HostFault, Stray, OutOfEvents}
 use Rattle.svc_main.specs.declared.outcome.StatusLine.{StatusLine}
 use Rattle.svc_main.specs.declared.outcome.StatusLine.TheVariants.{Words, Line, ReadFault, Run}
 use Rattle.svc_main.specs.Status.{status_line, end_status}
@@ -48,6 +48,11 @@ Leaves HostFault left = (more : List Item) × (left ≡ items.Fault ∷ more)
 Leaves OutOfEvents left = left ≡ []
 Leaves end left = Unit {0}
 
+-- an event that doesn't fit is an item, and no job's word
+abbrev pub LastIsItem : RunEnd → Record → Type 0
+LastIsItem (Stray k) r = readies_since r ≡ []
+LastIsItem end r = Unit {0}
+
 -- the run of the server of these jobs, over their items, leaves this record and ends so: its items are the first of them; each job whose first run was at an item says that it is ready before the next, and starts after the first run of each that it depends on
 pub record IsJobRun (parts : JobParts) (end : RunEnd) (r : Record) : Type 0 where
   pub judged : Judges end parts.script.conf
@@ -55,6 +60,7 @@ pub record IsJobRun (parts : JobParts) (end : RunEnd) (r : Record) : Type 0 wher
   pub in_turn : readies_right parts.periods r ≡ true
   pub told : are_told parts.periods r ≡ true
   pub order : EachEntry (λ e before. start_after_runs (plan_of_jobs parts.script) parts.periods e before ≡ true) r
+  pub last : LastIsItem end r
   pub left : List Item
   pub given : parts.script.items ≡ map items.Event (items_of r) ++ left
   pub leaves : Leaves end left
