@@ -6,6 +6,6 @@ mod HeardLemmas
 mod HostLemmas
 mod RoomLemmas
 mod ShutLemmas
-mod OwedLemmas
-mod EndLemmas
+pub mod OwedLemmas
+pub mod EndLemmas
 mod AfterLemmas

@@ -2,3 +2,9 @@ pub mod PieceLemmas
 pub mod TextLemmas
 pub mod ScriptLemmas
 pub mod SaidLemmas
+pub mod ReadLemmas
+pub mod ServerLemmas
+pub mod CountLemmas
+pub mod RunLemmas
+pub mod AnswerLemmas
+pub mod WholeLemmas

@@ -103,7 +103,7 @@ judges_of OutOfEvents conf h = tt
 
 -- ---- a job's word is never stray
 
-since-tell : (q : Record) (told : List Action) → readies_since (tell q told) ≡ readies_since q
+pub since-tell : (q : Record) (told : List Action) → readies_since (tell q told) ≡ readies_since q
 since-tell q [] = refl
 since-tell q (a ∷ more) = since-tell (Told a ∷ q) more
 
@@ -143,8 +143,8 @@ may_answer told p turns answer conf host periods all test paced given enough h =
 
 pub job_run : {J : Type 0} (told : J → Option (List ℕ)) (parts : JobParts) (end : RunEnd) (turns : ℕ) (answer : Result Outcome RunError) (conf : ServerConf) (options : Option Opt) (eager : Bool) (g : GraphData) (filters : ℕ) (answers : List ServicePlan)
     (host : JobHostData J) → IsJobServer parts.script conf options eager g filters answers → AllNotify (plan_of conf options eager g answers) → answer ≡ answer_of end → periods_of host.plans ≡ parts.periods → host.items ≡ parts.script.items
-    → turns ≡ turns_of parts → LeavesJobs told (plan_of conf options eager g answers) turns answer conf host → IsJobRun parts end host.entries
-job_run told parts end turns answer conf options eager g filters answers host server notify is paced given enough h =
+    → turns ≡ turns_of parts → MayEnd answer → LeavesJobs told (plan_of conf options eager g answers) turns answer conf host → IsJobRun parts end host.entries
+job_run told parts end turns answer conf options eager g filters answers host server notify is paced given enough may h =
     let plan : plan_of conf options eager g answers ≡ plan_of_jobs parts.script = same_plan parts.script conf options eager g filters answers server in
     let r : Record = host.entries in
     let ends_so = subst (λ (a : Result Outcome RunError). RunEnds (plan_of conf options eager g answers) turns a r) is h.ends in
@@ -152,6 +152,7 @@ job_run told parts end turns answer conf options eager g filters answers host se
     let given_is : map items.Event (items_of r) ≡ take host.given parts.script.items = h.jobs.given ∙ ap (take host.given) given in
     let order = subst (λ (ps : List ℕ). EachEntry (λ e before. start_after_runs (plan_of conf options eager g answers) ps e before ≡ true) r) paced h.order in
     record {
+      may = subst MayEnd is may;
       judged = subst (Judges end) server.configuration (judges_of end conf (λ key e. h.config key (is ∙ e)));
       ends = subst (λ (n : ℕ). RunEnds (plan_of_jobs parts.script) n (answer_of end) r) enough (subst (λ (p : Plan). RunEnds p turns (answer_of end) r) plan ends_so);
       in_turn = subst (λ (ps : List ℕ). readies_right ps r ≡ true) paced h.jobs.in_turn;

@@ -23,7 +23,7 @@ use Rattle.svc_text.specs.Script.{Parts, header_of, is_header, begun, part_of, s
 use Rattle.svc_text.proofs.PartLemmas.{begun-push, services-push, items-push}
 use Rattle.svc_text.proofs.PlaceLemmas.{skipped_service}
 use Rattle.svc_text.proofs.SkippedLemmas.{skipped_event, skipped_is_no_fault}
-use Rattle.svc_jobs.specs.JobItems.{is_job_item}
+use Rattle.svc_job_host.specs.JobHosts.{is_job_item}
 use Rattle.svc_jobs.specs.JobTexts.{JobLine, JobParts, period_of, after_of, job_of, after_text, service_line, is_daemon, is_job_event, inner_line, script_line, part_with, script_lines_from, script_lines, said_period, periods_from, with_periods, jobs_in}
 use Rattle.svc_jobs.proofs.PieceLemmas.{none_of, pieces_none, filter_keeps, none_each}
 

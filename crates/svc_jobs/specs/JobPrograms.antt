@@ -27,6 +27,7 @@ use Rattle.svc_main.specs.declared.outcome.StatusLine.{StatusLine}
 use Rattle.svc_main.specs.declared.outcome.StatusLine.TheVariants.{Words, Line, ReadFault, Run}
 use Rattle.svc_main.specs.Status.{status_line, end_status}
 use Rattle.svc_main.specs.Program.{answer_of, Judges, Faults, Writes}
+use Rattle.svc_jobs.specs.JobEnds.{MayEnd}
 use Rattle.svc_jobs.specs.JobServices.{plan_of_jobs}
 use Rattle.svc_jobs.specs.JobTexts.{JobParts, script_lines, jobs_in}
 
@@ -55,6 +56,7 @@ LastIsItem end r = Unit {0}
 
 -- the run of the server of these jobs, over their items, leaves this record and ends so: its items are the first of them; each job whose first run was at an item says that it is ready before the next, and starts after the first run of each that it depends on
 pub record IsJobRun (parts : JobParts) (end : RunEnd) (r : Record) : Type 0 where
+  pub may : MayEnd (answer_of end)
   pub judged : Judges end parts.script.conf
   pub ends : RunEnds (plan_of_jobs parts.script) (turns_of parts) (answer_of end) r
   pub in_turn : readies_right parts.periods r ≡ true
@@ -129,12 +131,11 @@ abbrev pub WritesFront : List (List ℕ) → Option (List ℕ) → Option (List 
 WritesFront words left before now =
     (line : StatusLine) × (out : List ℕ) × IsAnswer words left line out × (n : ℕ) × (n ≤ length out) × Appends before now (take n out)
 
--- the items are events alone; in whatever right record the first of them came, with the jobs' words, the next one fits while the run goes on; and with all of them it has passed
-pub record RunsThrough (p : Plan) (job_items : List Item) : Type 0 where
-  pub events : List Event
-  pub only_events : job_items ≡ map items.Event events
-  pub each_fits : (q : Record) (e : Event) (more : List Event) → Right p q → has_ended p q ≡ false → events ≡ items_of q ++ e ∷ more → Fits p q e
-  pub passes : (q : Record) → Right p q → events ≡ items_of q → has_passed p q ≡ true
+-- in whatever right record the first of the items came, with the jobs' words: while the run goes on the next item is an event that fits; and with all of them it has passed
+pub record RunsThrough (p : Plan) (all : List Item) : Type 0 where
+  pub fits : (q : Record) (e : Event) (more : List Item) → Right p q → has_ended p q ≡ false → all ≡ map items.Event (items_of q) ++ items.Event e ∷ more → Fits p q e
+  pub faultless : (q : Record) (more : List Item) → Right p q → has_ended p q ≡ false → all ≡ map items.Event (items_of q) ++ items.Fault ∷ more → ⊥
+  pub passes : (q : Record) → Right p q → all ≡ map items.Event (items_of q) → has_passed p q ≡ true
 
 -- there are no words, the source tells bytes within the limit that say jobs, a server can be run with their configuration, and their items run through
 pub record IsWholeText (words : List (List ℕ)) (bytes : List ℕ) (parts : JobParts) : Type 0 where

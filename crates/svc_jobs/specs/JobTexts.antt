@@ -11,7 +11,7 @@ use Rattle.svc_base.specs.Options.{◌>>=◌}
 use Rattle.svc_base.specs.Words.{number_of, words}
 use Rattle.svc_text.specs.EventLines.{item_of}
 use Rattle.svc_text.specs.Script.{Parts, is_header, is_skipped, script_of}
-use Rattle.svc_jobs.specs.JobItems.{is_job_item}
+use Rattle.svc_job_host.specs.JobHosts.{is_job_item}
 use Rattle.svc_jobs.specs.declared.job_line.JobWords.{JobWords}
 
 -- a line that no script has: its byte is no text

@@ -1,4 +1,3 @@
-pub mod JobItems
 pub mod JobTexts
 pub mod JobReadings
 pub mod JobServices

@@ -5,7 +5,7 @@ ghost use Rattle.svc_text.specs.EventLines.{item_of};
 ghost use Rattle.svc_base.specs.Words.{words};
 ghost use Rattle.svc_text.specs.Script.{is_header, is_skipped};
 ghost use Rattle.svc_jobs.specs.JobTexts.{kept, is_daemon, is_job_event, inner_line, script_line};
-ghost use Rattle.svc_jobs.specs.JobItems.{is_job_item};
+ghost use Rattle.svc_job_host.specs.JobHosts.{is_job_item};
 
 use crate::job_line::service_line;
 use std::alloc::Global;
