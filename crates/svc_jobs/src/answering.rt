@@ -17,7 +17,7 @@ use std::fmt::Write;
 use svc_base::NoMemory;
 use svc_job_host::JobRun;
 use svc_main::{RunEnd, StatusLine};
-use svc_text::ScriptError;
+use svc_text::{Script, ScriptError};
 
 /// A status line, and what is to be written with it.
 #[derive(Debug, Drop)]
@@ -56,8 +56,14 @@ pub(crate) fn answer_jobs(alloc: Global, jobs: JobsText) -> Result<Answer, NoMem
     let JobsText { script, periods } = jobs;
     match server_of_jobs(alloc, &script) {
         Ok(mut server) => {
-            server.configuration = script.conf;
-            let left = run_text(alloc, server, &script.services, &periods, script.items)?;
+            let Script {
+                conf,
+                services,
+                items,
+                ..
+            } = script;
+            server.configuration = conf;
+            let left = run_text(alloc, server, &services, &periods, items)?;
             ran(alloc, left.end, left.host.runs().as_slice())
         }
         Err(ScriptError::Line(n)) => said(alloc, StatusLine::Line(n as u64)),

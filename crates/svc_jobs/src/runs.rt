@@ -1,14 +1,13 @@
 //! The run of a text's jobs, and how it ended.
 
-ghost use Rattle.std.specs.Prelude.{◌≡◌, ◌≤◌, List, length, Some, IfOk, OnOk};
-ghost use Rattle.svc_text.specs.declared.service.ServiceLine.{ServiceLine};
+ghost use Rattle.std.specs.Prelude.{◌≡◌, length, false, None, Some, IfOk, OnOk};
 ghost use Rattle.svc_server.specs.Hosts.{no_account};
 ghost use Rattle.svc_server.specs.Servers.{answers_of, IsSound};
 ghost use Rattle.svc_job_host.specs.JobHosts.{AreJobItems};
 ghost use Rattle.svc_job_host.specs.Dues.{due_runs};
 ghost use Rattle.svc_main.specs.Program.{answer_of};
 ghost use Rattle.svc_jobs.specs.JobEnds.{MayEnd};
-ghost use Rattle.svc_jobs.specs.JobServices.{HasJobs, IsJobServer};
+ghost use Rattle.svc_jobs.specs.JobServices.{IsJobServer};
 ghost use Rattle.svc_jobs.specs.JobTexts.{JobParts};
 ghost use Rattle.svc_jobs.specs.JobPrograms.{IsJobRun};
 
