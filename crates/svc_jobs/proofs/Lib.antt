@@ -1,11 +1,10 @@
-mod TwoJobs
-mod RangeLemmas
-mod RunLemmas
-mod TableLemmas
-mod HeardLemmas
-mod HostLemmas
-mod RoomLemmas
-mod ShutLemmas
-mod OwedLemmas
-mod EndLemmas
-mod AfterLemmas
+pub mod PieceLemmas
+pub mod TextLemmas
+pub mod ScriptLemmas
+pub mod SaidLemmas
+pub mod ReadLemmas
+pub mod ServerLemmas
+pub mod CountLemmas
+pub mod RunLemmas
+pub mod AnswerLemmas
+pub mod WholeLemmas

@@ -1,109 +1,165 @@
--- The runs of all jobs at one moment, one after the other.
-use Rattle.std.proofs.Common.{ℕ, true, false, ◌≡◌, ◌<◌, ◌≤◌, ◌+◌, ◌==◌, ◌||◌, not, List, [], ◌∷◌, ◌++◌, length, set, get_or, Option, refl, sym, ap, subst, ◌∙◌, inl, inr, arith, append_assoc, length-set}
-use Rattle.std.specs.Prelude.{slice_get, slice_set, Some, None, if◌then◌else◌}
-use Rattle.std.proofs.lemmas.Bool.{cases_eq}
-use Rattle.std.proofs.lemmas.List.{append-nil}
-use Rattle.std.proofs.lemmas.Option.{slice_get-get_or, get_or_from_slice_get, slice_get_within}
-use Rattle.svc_base.specs.Items.{list_of, spare}
-use Rattle.svc_jobs.specs.declared.plan.JobRun.{JobRun}
-use Rattle.svc_jobs.specs.declared.row.JobRow.{JobRow}
-use Rattle.svc_jobs.specs.Dues.{run_of}
-use Rattle.svc_jobs.specs.Rows.{ArePaced, row_due, ran_row, due_in, runs_in, told_after}
-use Rattle.svc_jobs.proofs.RangeLemmas.{flat_map-next, get-set_here, get-set_other}
+-- What a run of jobs leaves, by what its host tells.
+use Rattle.std.proofs.Common.{◌≡◌, ℕ, zero, suc, ◌+◌, ◌<◌, ◌≤◌, Bool, true, false, List, [], ◌∷◌, ◌++◌, length, map, take, drop, Option, Some, None, Result, Ok, Err, refl, sym, ap, subst, ◌∙◌, arith, take-append-drop, drop-cons}
+use Rattle.std.specs.Prelude.{slice_get}
+use Rattle.std.proofs.lemmas.List.{drop_all}
+use Rattle.svc_conf.specs.declared.server.configuration.ServerConf.{ServerConf}
+use Rattle.svc_conf.specs.declared.server.configuration.Opt.{Opt}
+use Rattle.svc_conf.specs.declared.server.configuration.key.Key.{Key}
+use Rattle.svc_conf.specs.Configuration.{judged}
+use Rattle.svc_graph.specs.GraphData.{GraphData}
+use Rattle.svc_record.specs.declared.plan.Plan.{Plan}
+use Rattle.svc_record.specs.declared.plan.ServicePlan.{ServicePlan}
+use Rattle.svc_record.specs.declared.entry.Entry.TheVariants.{Got, Told}
+use Rattle.svc_record.specs.declared.event.Event.{Event}
+use Rattle.svc_record.specs.declared.event.Event.TheVariants.{Ready}
+use Rattle.svc_record.specs.declared.action.Action.{Action}
+use Rattle.svc_record.specs.declared.action.StepEnd.TheVariants as ends
+use Rattle.svc_record.specs.declared.item.Item.{Item}
+use Rattle.svc_record.specs.declared.item.Item.TheVariants as items
+use Rattle.svc_record.specs.Record.{Record, tell, has, is_bootstrap, each_entry, EachEntry}
+use Rattle.svc_record.specs.Drain.{has_passed}
+use Rattle.svc_record.specs.Ends.{ends_tested, ends_parent_well, ends_parent_badly, ends_transfer, ends_no_sender, ends_bad_message}
+use Rattle.svc_record.specs.Fits.{Fits}
+use Rattle.svc_record.specs.Tail.{closing_actions}
+use Rattle.svc_server.specs.declared.run.Outcome.{Outcome}
+use Rattle.svc_server.specs.declared.run.Outcome.TheVariants as outcomes
+use Rattle.svc_server.specs.declared.run.RunError.{RunError}
+use Rattle.svc_server.specs.declared.run.RunError.TheVariants as errors
+use Rattle.svc_server.specs.Servers.{plan_of}
+use Rattle.svc_server.specs.Runs.{RunEnds, IsEndedSo, IsStray}
+use Rattle.svc_job_host.specs.Readies.{readies_since, readies_right, are_told, items_of}
+use Rattle.svc_job_host.specs.JobHostData.{JobHostData}
+use Rattle.svc_job_host.specs.JobHosts.{is_job_entry, head_due}
+use Rattle.svc_job_host.specs.JobRuns.{TellsJobs, KeepsWords, EndsTold, ComesNext, start_after_runs}
+use Rattle.svc_job_host.specs.Timetables.{periods_of}
+use Rattle.svc_job_host.proofs.EndLemmas.{AllNotify, calm, tested-by, untold-heads, untold-only, ready-fits}
+use Rattle.svc_main.specs.declared.outcome.RunEnd.{RunEnd}
+use Rattle.svc_main.specs.declared.outcome.RunEnd.TheVariants.{Served, Tested, Parent, Config, HostFault, Bootstrap, Stray, OutOfEvents}
+use Rattle.svc_main.specs.Program.{answer_of, Judges}
+use Rattle.svc_jobs.specs.JobEnds.{MayEnd}
+use Rattle.svc_jobs.specs.JobTexts.{JobParts}
+use Rattle.svc_jobs.specs.JobServices.{plan_of_jobs, IsJobServer}
+use Rattle.svc_jobs.specs.JobPrograms.{turns_of, Leaves, LastIsItem, IsJobRun}
+use Rattle.svc_jobs.proofs.CountLemmas.{not_spent}
+use Rattle.svc_jobs.proofs.ServerLemmas.{same_plan}
 
--- a job without due moments doesn't run
-pub no_run : (rows : List JobRow) (s : ℕ) (row d : JobRow) (last m due : ℕ) (runs : List JobRun) → slice_get rows s ≡ Some row → due ≡ row_due (get_or rows s d) last m → due ≡ 0
-    → runs ≡ runs ++ run_of s (row_due row last m) m
-no_run rows s row d last m due runs at is none =
-    let same : get_or rows s d ≡ row = get_or_from_slice_get rows s row d at in
-    let zero_due : row_due row last m ≡ 0 = subst (λ (x : JobRow). row_due x last m ≡ 0) same (sym is ∙ none) in
-    rw zero_due (sym (append-nil runs))
+-- ---- what a run of jobs may answer
 
--- the first s jobs ran, and the others are as they were
-pub record RanUpTo (init rows : List JobRow) (first told : List (Option (List ℕ))) (before now : List JobRun × ℕ) (last m s : ℕ) : Type 0 where
-  pub passed : (k : ℕ) (row : JobRow) → k < s → slice_get init k ≡ Some row → slice_get rows k ≡ Some (ran_row row (row_due row last m))
-  pub others : (k : ℕ) → s ≤ k → slice_get rows k ≡ slice_get init k
-  pub sized : length rows ≡ length init
-  pub paced : ArePaced rows
-  pub ran : list_of now ≡ list_of before ++ runs_in init last m s
-  pub tells : (k : ℕ) (o : Option (List ℕ)) → k < s → slice_get first k ≡ Some o → slice_get told k ≡ Some (told_after o (due_in (slice_get init k) last m))
-  pub untold : (k : ℕ) → s ≤ k → slice_get told k ≡ slice_get first k
-  pub heard : length told ≡ length first
-  pub room : spare before ≤ spare now + s
+-- it bootstraps nothing and has no parent, so it doesn't end so
+never_ends : (p : Plan) (periods : List ℕ) (r finished : Record) → KeepsWords periods r → r ≡ tell finished (closing_actions p finished None) → each_entry (λ e before. is_job_entry e) finished ≡ true
+never_ends p periods r finished keeps closed = sym (untold-only finished (closing_actions p finished None)) ∙ subst (λ (q : Record). each_entry (λ e before. is_job_entry e) q ≡ true) closed keeps.only_jobs
 
--- a run doesn't change the period
-every-ran : (row : JobRow) (due : ℕ) → (ran_row row due).every ≡ row.every
-every-ran row due = elim (due == 0) as (λ b. (if b then row else record row { ran = true; owes = row.owes || not row.ran }).every ≡ row.every) [ true ↦ refl | false ↦ refl ]
+pub may_end : (p : Plan) (turns given : ℕ) (answer : Result Outcome RunError) (periods : List ℕ) (all : List Item) (r : Record) → p.test ≡ false → KeepsWords periods r → map items.Event (items_of r) ≡ take given all
+    → turns ≡ (length all + length periods) + 1 → RunEnds p turns answer r → MayEnd answer
+may_end p turns given (Ok outcomes.Served) periods all r test keeps taken enough end = tt
+may_end p turns given (Ok outcomes.TestPassed) periods all r test keeps taken enough (finished, end) =
+    (let tests : ends_tested p finished ≡ true = tested-by (has_passed p finished) (ends_tested p finished) (ends_parent_well p finished) (ends_parent_badly p finished) (ends_transfer finished) (ends_no_sender p finished) (ends_bad_message finished) end.ended in
+    let never = rw test at tests in cc)
+may_end p turns given (Ok (outcomes.Parent n)) periods all r test keeps taken enough (finished, end) = calm p finished (ends.Parent n) (never_ends p periods r finished keeps end.closed) end.ended
+may_end p turns given (Err (errors.Bootstrap error)) periods all r test keeps taken enough (finished, end) = calm p finished (ends.Ended error) (never_ends p periods r finished keeps end.closed) end.ended
+may_end p turns given (Err errors.TurnsSpent) periods all r test keeps taken enough (finished, end) = not_spent p turns given periods all r finished keeps taken enough end
+may_end p turns given (Err (errors.Config key)) periods all r test keeps taken enough end = tt
+may_end p turns given (Err errors.HostFault) periods all r test keeps taken enough end = tt
+may_end p turns given (Err (errors.Stray k)) periods all r test keeps taken enough end = tt
+may_end p turns given (Err errors.OutOfEvents) periods all r test keeps taken enough end = tt
+may_end p turns given (Err errors.NoMemory) periods all r test keeps taken enough end = tt
 
-pub ran_more : (init rows new : List JobRow) (first told spoken : List (Option (List ℕ))) (before now later : List JobRun × ℕ) (last m s : ℕ) → RanUpTo init rows first told before now last m s → s < length init
-    → s < length first
-    → ((row : JobRow) → slice_get rows s ≡ Some row → new ≡ slice_set rows s (ran_row row (row_due row last m)))
-    → ((row : JobRow) → slice_get rows s ≡ Some row → list_of later ≡ list_of now ++ run_of s (row_due row last m) m)
-    → ((row : JobRow) (o : Option (List ℕ)) → slice_get rows s ≡ Some row → slice_get told s ≡ Some o → spoken ≡ slice_set told s (told_after o (row_due row last m)))
-    → spare now ≤ spare later + 1 → RanUpTo init new first spoken before later last m (s + 1)
-ran_more init rows new first told spoken before now later last m s up lt heard set_row run say more_room =
-    let d : JobRow = record { every = 0; started = None; ran = false; owes = false } in
-    let row : JobRow = get_or init s d in
-    let there : slice_get init s ≡ Some row = slice_get-get_or init s d lt in
-    let here : slice_get rows s ≡ Some row = up.others s (omega arith) ∙ there in
-    let ran : JobRow = ran_row row (row_due row last m) in
-    let changed : new ≡ set rows s ran = set_row row here in
-    let within : s < length rows = slice_get_within rows s row here in
-    let at_s : slice_get new s ≡ Some ran = subst (λ (xs : List JobRow). slice_get xs s ≡ Some ran) (sym changed) (get-set_here rows s ran within) in
-    let elsewhere = λ (k : ℕ) (ne : k ≡ s → ⊥). ap (λ (xs : List JobRow). slice_get xs k) changed ∙ get-set_other rows s k ran ne in
-    let o : Option (List ℕ) = get_or first s None in
-    let said : slice_get first s ≡ Some o = slice_get-get_or first s None heard in
-    let due_here : due_in (slice_get init s) last m ≡ row_due row last m = ap (λ (x : Option JobRow). due_in x last m) there in
-    let now_said : slice_get told s ≡ Some o = up.untold s (omega arith) ∙ said in
-    let spoke : spoken ≡ set told s (told_after o (row_due row last m)) = say row o here now_said in
-    let silent = λ (k : ℕ) (ne : k ≡ s → ⊥). ap (λ (xs : List (Option (List ℕ))). slice_get xs k) spoke ∙ get-set_other told s k (told_after o (row_due row last m)) ne in
+-- ---- what is left of the items
+
+fault_next : {X : Type 0} (n : ℕ) (xs : List X) (x : X) → slice_get xs n ≡ Some x → (more : List X) × (drop n xs ≡ x ∷ more)
+fault_next n [] x e = absurd (cc)
+fault_next zero (y ∷ xs) x e = (xs, (let same : y ≡ x = cc in ap (λ z. z ∷ xs) same))
+fault_next (suc n) (y ∷ xs) x e = fault_next n xs x e
+
+leaves_of : {J : Type 0} (end : RunEnd) (host : JobHostData J) → ComesNext (answer_of end) host → Leaves end (drop host.given host.items)
+leaves_of Served host next = tt
+leaves_of Tested host next = tt
+leaves_of (Parent n) host next = tt
+leaves_of (Config key) host next = tt
+leaves_of HostFault host next = fault_next host.given host.items items.Fault next
+leaves_of (Bootstrap error) host next = tt
+leaves_of (Stray k) host next = tt
+leaves_of OutOfEvents host next = drop_all host.given host.items (omega (arith, next))
+
+told_of : (end : RunEnd) (periods : List ℕ) (r : Record) → EndsTold (answer_of end) periods r → are_told periods r ≡ true
+told_of Served periods r h = h
+told_of Tested periods r h = h
+told_of (Parent n) periods r h = h
+told_of (Config key) periods r h = h
+told_of HostFault periods r h = h
+told_of (Bootstrap error) periods r h = h
+told_of (Stray k) periods r h = h
+told_of OutOfEvents periods r h = h
+
+judges_of : (end : RunEnd) (conf : ServerConf) → ((key : Key) → answer_of end ≡ Err (errors.Config key) → judged conf ≡ Err key) → Judges end conf
+judges_of Served conf h = tt
+judges_of Tested conf h = tt
+judges_of (Parent n) conf h = tt
+judges_of (Config key) conf h = h key refl
+judges_of HostFault conf h = tt
+judges_of (Bootstrap error) conf h = tt
+judges_of (Stray k) conf h = tt
+judges_of OutOfEvents conf h = tt
+
+-- ---- a job's word is never stray
+
+pub since-tell : (q : Record) (told : List Action) → readies_since (tell q told) ≡ readies_since q
+since-tell q [] = refl
+since-tell q (a ∷ more) = since-tell (Told a ∷ q) more
+
+misfit_item : (p : Plan) (periods : List ℕ) (k : ℕ) (r finished : Record) (e : Event) → AllNotify p → each_entry (head_due periods) (Got e ∷ finished) ≡ true → IsStray p k r finished e → readies_since (Got e ∷ finished) ≡ []
+misfit_item p periods k r finished (Ready s) notify heads stray = absurd (stray.misfit (ready-fits p periods finished s notify heads stray.closed.right stray.closed.goes_on))
+misfit_item p periods k r finished e notify heads stray = refl
+
+last_item : (p : Plan) (turns : ℕ) (end : RunEnd) (periods : List ℕ) (r : Record) → AllNotify p → KeepsWords periods r → RunEnds p turns (answer_of end) r → LastIsItem end r
+last_item p turns Served periods r notify keeps h = tt
+last_item p turns Tested periods r notify keeps h = tt
+last_item p turns (Parent n) periods r notify keeps h = tt
+last_item p turns (Config key) periods r notify keeps h = tt
+last_item p turns HostFault periods r notify keeps h = tt
+last_item p turns (Bootstrap error) periods r notify keeps h = tt
+last_item p turns (Stray k) periods r notify keeps (finished, (e, stray)) =
+    let told = closing_actions p finished (Some e) in
+    let heads = sym (untold-heads periods (Got e ∷ finished) told) ∙ subst (λ (q : Record). each_entry (head_due periods) q ≡ true) stray.closed.closed keeps.heads in
+    ap readies_since stray.closed.closed ∙ since-tell (Got e ∷ finished) told ∙ misfit_item p periods k r finished e notify heads stray
+last_item p turns OutOfEvents periods r notify keeps h = tt
+
+-- ---- all of it
+
+-- what the run of a server over a host of jobs ensures, and what the host keeps
+pub record LeavesJobs {J : Type 0} (told : J → Option (List ℕ)) (p : Plan) (turns : ℕ) (answer : Result Outcome RunError) (conf : ServerConf) (host : JobHostData J) : Type 0 where
+  pub jobs : TellsJobs told host
+  pub words : EndsTold answer (periods_of host.plans) host.entries
+  pub next : ComesNext answer host
+  pub order : EachEntry (λ e before. start_after_runs p (periods_of host.plans) e before ≡ true) host.entries
+  pub ends : RunEnds p turns answer host.entries
+  pub config : (key : Key) → answer ≡ Err (errors.Config key) → judged conf ≡ Err key
+  pub keeps : KeepsWords (periods_of host.plans) host.entries
+
+pub may_answer : {J : Type 0} (told : J → Option (List ℕ)) (p : Plan) (turns : ℕ) (answer : Result Outcome RunError) (conf : ServerConf) (host : JobHostData J) (periods : List ℕ) (all : List Item) → p.test ≡ false
+    → periods_of host.plans ≡ periods → host.items ≡ all → turns ≡ (length all + length periods) + 1 → LeavesJobs told p turns answer conf host → MayEnd answer
+may_answer told p turns answer conf host periods all test paced given enough h =
+    may_end p turns host.given answer periods all host.entries test (subst (λ (ps : List ℕ). KeepsWords ps host.entries) paced h.keeps) (h.jobs.given ∙ ap (take host.given) given) enough h.ends
+
+pub job_run : {J : Type 0} (told : J → Option (List ℕ)) (parts : JobParts) (end : RunEnd) (turns : ℕ) (answer : Result Outcome RunError) (conf : ServerConf) (options : Option Opt) (eager : Bool) (g : GraphData) (filters : ℕ) (answers : List ServicePlan)
+    (host : JobHostData J) → IsJobServer parts.script conf options eager g filters answers → AllNotify (plan_of conf options eager g answers) → answer ≡ answer_of end → periods_of host.plans ≡ parts.periods → host.items ≡ parts.script.items
+    → turns ≡ turns_of parts → MayEnd answer → LeavesJobs told (plan_of conf options eager g answers) turns answer conf host → IsJobRun parts end host.entries
+job_run told parts end turns answer conf options eager g filters answers host server notify is paced given enough may h =
+    let plan : plan_of conf options eager g answers ≡ plan_of_jobs parts.script = same_plan parts.script conf options eager g filters answers server in
+    let r : Record = host.entries in
+    let ends_so = subst (λ (a : Result Outcome RunError). RunEnds (plan_of conf options eager g answers) turns a r) is h.ends in
+    let keeps = subst (λ (ps : List ℕ). KeepsWords ps r) paced h.keeps in
+    let given_is : map items.Event (items_of r) ≡ take host.given parts.script.items = h.jobs.given ∙ ap (take host.given) given in
+    let order = subst (λ (ps : List ℕ). EachEntry (λ e before. start_after_runs (plan_of conf options eager g answers) ps e before ≡ true) r) paced h.order in
     record {
-      passed = λ k r below at. elim (cases_eq k s) [
-        | inl e ↦ (
-            let at' : slice_get rows s ≡ Some r = up.others s (omega arith) ∙ subst (λ n. slice_get init n ≡ Some r) e at in
-            let changed' : new ≡ set rows s (ran_row r (row_due r last m)) = set_row r at' in
-            subst (λ n. slice_get new n ≡ Some (ran_row r (row_due r last m))) (sym e)
-            (subst (λ (xs : List JobRow). slice_get xs s ≡ Some (ran_row r (row_due r last m))) (sym changed') (get-set_here rows s (ran_row r (row_due r last m)) within)))
-        | inr ne ↦ elsewhere k ne ∙ up.passed k r (let apart : k ≡ s → ⊥ = ne in omega arith) at
-      ];
-      others = λ k above. elsewhere k (λ same. omega arith) ∙ up.others k (omega arith);
-      sized = ap (λ (xs : List JobRow). length xs) changed ∙ length-set rows s ran ∙ up.sized;
-      paced = λ k r at. elim (cases_eq k s) [
-        | inl e ↦ (
-            let at' : slice_get new s ≡ Some r = subst (λ n. slice_get new n ≡ Some r) e at in
-            let same : ran ≡ r = (let both : Some ran ≡ Some r = sym at_s ∙ at' in cc) in
-            let old : 0 < row.every = up.paced s row here in
-            subst (λ (x : JobRow). 0 < x.every) same (subst (λ n. 0 < n) (sym (every-ran row (row_due row last m))) old))
-        | inr ne ↦ up.paced k r (sym (elsewhere k ne) ∙ at)
-      ];
-      ran = (
-          run row here ∙ ap (λ (xs : List JobRun). xs ++ run_of s (row_due row last m) m) up.ran
-          ∙ append_assoc (list_of before) (runs_in init last m s) (run_of s (row_due row last m) m)
-          ∙ ap (λ (xs : List JobRun). list_of before ++ xs) (ap (λ n. runs_in init last m s ++ run_of s n m) (sym due_here) ∙ sym (flat_map-next (λ k. run_of k (due_in (slice_get init k) last m) m) s)));
-      tells = λ k x below at. elim (cases_eq k s) [
-        | inl e ↦ (
-            let at' : slice_get told s ≡ Some x = up.untold s (omega arith) ∙ subst (λ n. slice_get first n ≡ Some x) e at in
-            let spoke' : spoken ≡ set told s (told_after x (row_due row last m)) = say row x here at' in
-            subst (λ n. slice_get spoken n ≡ Some (told_after x (due_in (slice_get init n) last m))) (sym e)
-            (ap (λ (xs : List (Option (List ℕ))). slice_get xs s) spoke' ∙ get-set_here told s (told_after x (row_due row last m)) (let there : length told ≡ length first = up.heard in omega arith)
-            ∙ ap (λ n. Some (told_after x n)) (sym due_here)))
-        | inr ne ↦ silent k ne ∙ up.tells k x (let apart : k ≡ s → ⊥ = ne in omega arith) at
-      ];
-      untold = λ k above. silent k (λ same. omega arith) ∙ up.untold k (omega arith);
-      heard = ap (λ (xs : List (Option (List ℕ))). length xs) spoke ∙ length-set told s (told_after o (row_due row last m)) ∙ up.heard;
-      room = (let old : spare before ≤ spare now + s = up.room in omega arith);
+      may = subst MayEnd is may;
+      judged = subst (Judges end) server.configuration (judges_of end conf (λ key e. h.config key (is ∙ e)));
+      ends = subst (λ (n : ℕ). RunEnds (plan_of_jobs parts.script) n (answer_of end) r) enough (subst (λ (p : Plan). RunEnds p turns (answer_of end) r) plan ends_so);
+      in_turn = subst (λ (ps : List ℕ). readies_right ps r ≡ true) paced h.jobs.in_turn;
+      told = told_of end parts.periods r (subst (λ (ps : List ℕ). EndsTold (answer_of end) ps r) paced (subst (λ (a : Result Outcome RunError). EndsTold a (periods_of host.plans) r) is h.words));
+      order = subst (λ (p : Plan). EachEntry (λ e before. start_after_runs p parts.periods e before ≡ true) r) plan order;
+      last = last_item (plan_of conf options eager g answers) turns end parts.periods r notify keeps ends_so;
+      left = drop host.given parts.script.items;
+      given = sym (take-append-drop host.given parts.script.items) ∙ ap (λ (xs : List Item). xs ++ drop host.given parts.script.items) (sym given_is);
+      leaves = subst (λ (xs : List Item). Leaves end (drop host.given xs)) given (leaves_of end host (subst (λ (a : Result Outcome RunError). ComesNext a host) is h.next));
     }
-
--- nothing ran yet
-pub ran_none : (rows : List JobRow) (told : List (Option (List ℕ))) (runs : List JobRun × ℕ) (last m : ℕ) → ArePaced rows → RanUpTo rows rows told told runs runs last m 0
-ran_none rows told runs last m paced = record {
-  passed = λ k row below at. absurd (omega arith);
-  others = λ k above. refl;
-  sized = refl;
-  paced = paced;
-  ran = sym (append-nil (list_of runs));
-  tells = λ k o below at. absurd (omega arith);
-  untold = λ k above. refl;
-  heard = refl;
-  room = omega arith;
-}

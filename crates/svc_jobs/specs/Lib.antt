@@ -1,11 +1,5 @@
-pub mod Dues
-pub mod Readies
-pub mod Rows
-pub mod TimetableData
-pub mod Timetables
-pub mod JobHosts
-pub mod JobRefusals
-pub mod Upcoming
-pub mod AccountData
-pub mod JobHostData
-pub mod JobRuns
+pub mod JobTexts
+pub mod JobReadings
+pub mod JobServices
+pub mod JobEnds
+pub mod JobPrograms

@@ -1,21 +1,20 @@
-//! Background jobs: periodic jobs as services of a server, which start in the order of their
-//! dependencies, run once for their due moments, and stop at the shutdown.
+//! Background jobs: periodic jobs as services of a server, over a host that runs them; and their program
+//! as one call: a text of jobs and moments in, the runs that were due and a status line out.
 #![tactic(auto)]
 
-mod account;
-mod host;
-mod job;
-mod plan;
-mod refusals;
-mod row;
-mod run;
-mod service;
-mod timetable;
-mod upcoming;
+mod answering;
+mod job_line;
+mod plans;
+mod printing;
+mod program;
+mod quiet;
+mod reading;
+mod runs;
+mod script_line;
+mod script_text;
+mod services;
 
-pub use host::JobHost;
-pub use job::Job;
-pub use plan::{JobPlan, JobRun, RunList};
-pub use refusals::{JobError, JobRefused};
-pub use run::run_jobs;
-pub use service::JobService;
+pub use program::serve_jobs;
+pub use svc_job_host::{
+    Job, JobError, JobHost, JobPlan, JobRefused, JobRun, JobService, RunList, run_jobs,
+};

@@ -1,0 +1,11 @@
+mod TwoJobs
+mod RangeLemmas
+mod RunLemmas
+mod TableLemmas
+mod HeardLemmas
+mod HostLemmas
+mod RoomLemmas
+mod ShutLemmas
+pub mod OwedLemmas
+pub mod EndLemmas
+mod AfterLemmas

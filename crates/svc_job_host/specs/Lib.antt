@@ -1,0 +1,11 @@
+pub mod Dues
+pub mod Readies
+pub mod Rows
+pub mod TimetableData
+pub mod Timetables
+pub mod JobHosts
+pub mod JobRefusals
+pub mod Upcoming
+pub mod AccountData
+pub mod JobHostData
+pub mod JobRuns

@@ -1,7 +1,0 @@
--- A row was made for each plan that was passed.
-use Rattle.std.proofs.Common.{take}
-use Rattle.svc_jobs.specs.Rows.{AreNewRows}
-use Rattle.svc_jobs.proofs.timetable.new_rows.Given as goal
-
-abbrev pub invariant-loop-plan : goal.invariant-loop-plan
-invariant-loop-plan l = AreNewRows (take l.plan-index l.plans) l.rows.items

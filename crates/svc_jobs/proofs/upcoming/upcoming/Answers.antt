@@ -1,8 +1,0 @@
-use Rattle.std.proofs.Common.{◌≡◌, true, subst, sym, arith}
-use Rattle.svc_record.specs.declared.item.Item.{Item}
-use Rattle.svc_jobs.specs.JobHosts.{is_job_item}
-use Rattle.svc_jobs.proofs.RangeLemmas.{all_at}
-use Rattle.svc_jobs.proofs.upcoming.upcoming.Goals as goal
-
-pub read_item-requires : goal.read_item-requires
-read_item-requires c = subst (λ (x : Item). is_job_item x ≡ true) (sym c.index-items-index.is) (all_at is_job_item c.args.items.now c.args.index c.index-items-index.result c.requires (omega arith))
