@@ -25,20 +25,22 @@ fn read<R: Abort + AllocGlobal>(rt: &R, text: &str) -> ServerConf {
 
 #[test]
 fn a_new_configuration_has_the_defaults(rt: HostRuntime) {
-    let conf = ServerConf::new(rt.alloc()).expect(&rt, "a configuration");
-    same(&rt, printed(&rt, &conf).as_str(), NEW);
-    same(&rt, conf.validate(), Ok(()));
-    let mut default = ServerConf::default(rt.alloc()).expect(&rt, "a configuration");
-    same(&rt, default.version, 0);
-    holds(&rt, conf != default);
+    let rt = &rt;
+    let conf = ServerConf::new(rt.alloc()).expect(rt, "a configuration");
+    same(rt, printed(rt, &conf).as_str(), NEW);
+    same(rt, conf.validate(), Ok(()));
+    let mut default = ServerConf::default(rt.alloc()).expect(rt, "a configuration");
+    same(rt, default.version, 0);
+    holds(rt, conf != default);
     default.version = 1;
-    holds(&rt, conf == default);
+    holds(rt, conf == default);
 }
 
 #[test]
 fn a_usual_file_is_read_whole(rt: HostRuntime) {
-    let conf = read(&rt, USUAL);
-    let text = printed(&rt, &conf);
+    let rt = &rt;
+    let conf = read(rt, USUAL);
+    let text = printed(rt, &conf);
     for lines in [
         "version: 1\ndaemon: true\n",
         "pid_file: /run/a.pid\nupgrade_sock: \"/run/it's\"\nuser: nobody\ngroup: \"a # \\\"b\\\"\"\n",
@@ -49,13 +51,14 @@ fn a_usual_file_is_read_whole(rt: HostRuntime) {
         "scale: log\n",
         "buckets: 1024\n",
     ] {
-        holds(&rt, text.as_str().contains(lines));
+        holds(rt, text.as_str().contains(lines));
     }
-    holds(&rt, read(&rt, text.as_str()) == conf);
+    holds(rt, read(rt, text.as_str()) == conf);
 }
 
 #[test]
 fn refused_texts_name_their_line(rt: HostRuntime) {
+    let rt = &rt;
     for (text, refused) in [
         (
             "version: 1\nversion: 1",
@@ -88,57 +91,56 @@ fn refused_texts_name_their_line(rt: HostRuntime) {
         ),
     ] {
         let refusal = ServerConf::from_yaml(rt.alloc(), text).err();
-        prints(&rt, refusal.expect(&rt, "a refusal"), refused);
+        prints(rt, refusal.expect(rt, "a refusal"), refused);
     }
 }
 
 #[test]
 fn a_configuration_tells_its_runtimes(rt: HostRuntime) {
+    let rt = &rt;
     let mut conf = read(
-        &rt,
+        rt,
         "upstream_connect_offload_threadpools: 2\nupstream_connect_offload_thread_per_pool: 3\ndownstream_tls_offload_threadpools: 4\ndownstream_tls_offload_thread_per_pool: 5",
     );
-    same(
-        &rt,
-        conf.upstream_connect_offload_threadpool(),
-        Some((2, 3)),
-    );
-    same(&rt, conf.downstream_tls_offload_threadpool(), Some((4, 5)));
+    same(rt, conf.upstream_connect_offload_threadpool(), Some((2, 3)));
+    same(rt, conf.downstream_tls_offload_threadpool(), Some((4, 5)));
     conf.upstream_connect_offload_threadpools = Some(0);
-    same(&rt, conf.upstream_connect_offload_threadpool(), None);
-    same(&rt, conf.runtime_opts(), RuntimeOpts::default());
+    same(rt, conf.upstream_connect_offload_threadpool(), None);
+    same(rt, conf.runtime_opts(), RuntimeOpts::default());
     conf.runtime_metrics_poll_time_histogram_buckets = Some(1025);
     let refused = Err(Key::RuntimeMetricsPollTimeHistogramBuckets);
-    same(&rt, conf.validate(), refused);
+    same(rt, conf.validate(), refused);
 }
 
 #[test]
 fn configurations_are_loaded(rt: HostRuntime) {
+    let rt = &rt;
     let alloc = rt.alloc();
     let mut opt = Opt::default();
     opt.daemon = true;
-    let conf = ServerConf::new_with_opt_override(alloc, &opt).expect(&rt, "a configuration");
-    holds(&rt, conf.daemon);
+    let conf = ServerConf::new_with_opt_override(alloc, &opt).expect(rt, "a configuration");
+    holds(rt, conf.daemon);
     let mut files = SteadyFiles {
-        text: Text::new(alloc, "threads: 3").expect(&rt, "a text"),
+        text: Text::new(alloc, "threads: 3").expect(rt, "a text"),
     };
     let refused = ServerConf::load_yaml_with_opt_override(alloc, &mut files, &opt).err();
-    same(&rt, refused, Some(ReadError::NoPath));
-    opt.conf = Some(Text::new(alloc, "a.yaml").expect(&rt, "a path"));
+    same(rt, refused, Some(ReadError::NoPath));
+    opt.conf = Some(Text::new(alloc, "a.yaml").expect(rt, "a path"));
     let conf = ServerConf::load_yaml_with_opt_override(alloc, &mut files, &opt);
-    let conf = conf.expect(&rt, "a configuration");
-    holds(&rt, conf.threads == 3 && conf.daemon);
-    same(&rt, files.faults(), 0);
+    let conf = conf.expect(rt, "a configuration");
+    holds(rt, conf.threads == 3 && conf.daemon);
+    same(rt, files.faults(), 0);
 }
 
 #[test]
 fn files_are_found_by_their_path(rt: HostRuntime) {
+    let rt = &rt;
     let alloc = rt.alloc();
-    let path = Text::new(alloc, "a.yaml").expect(&rt, "a path");
-    let text = Text::new(alloc, "threads: 3").expect(&rt, "a text");
+    let path = Text::new(alloc, "a.yaml").expect(rt, "a path");
+    let text = Text::new(alloc, "threads: 3").expect(rt, "a text");
     let mut list = Vec::new(alloc);
-    holds(&rt, list.push(MemoryFile { path, text }).is_ok());
-    let failing = [1u64].to_vec(alloc).expect(&rt, "numbers");
+    holds(rt, list.push(MemoryFile { path, text }).is_ok());
+    let failing = [1u64].to_vec(alloc).expect(rt, "numbers");
     let mut files = MemoryFiles::new(alloc, list, failing);
     for (path, threads) in [("a.yaml", Some(3)), ("a.yaml", None), ("b.yaml", None)] {
         let conf = ServerConf::load_from_yaml(alloc, &mut files, path);
@@ -146,18 +148,19 @@ fn files_are_found_by_their_path(rt: HostRuntime) {
             Ok(conf) => Some(conf.threads),
             Err(_) => None,
         };
-        same(&rt, found, threads);
+        same(rt, found, threads);
     }
-    same(&rt, files.faults(), 2);
-    same(&rt, files.calls.len(), 3);
+    same(rt, files.faults(), 2);
+    same(rt, files.calls.len(), 3);
 }
 
 #[test]
 fn a_file_of_the_system_may_be_missing(rt: HostRuntime) {
-    let mut system = SystemFiles::new(&rt);
+    let rt = &rt;
+    let mut system = SystemFiles::new(rt);
     let refused = system.read(rt.alloc(), "no/such/file").err();
-    same(&rt, refused, Some(FileError::Failed));
-    same(&rt, system.faults(), 1);
+    same(rt, refused, Some(FileError::Failed));
+    same(rt, system.faults(), 1);
 }
 
 fn words<R: Abort + AllocGlobal>(rt: &R, all: &[&str]) -> Vec<RcStr> {
@@ -171,40 +174,38 @@ fn words<R: Abort + AllocGlobal>(rt: &R, all: &[&str]) -> Vec<RcStr> {
 
 #[test]
 fn words_give_flags(rt: HostRuntime) {
-    let given = words(&rt, &["svc", "-u", "-c", "a.yaml"]);
-    let opt = Opt::parse_args(rt.alloc(), &given).expect(&rt, "flags");
+    let rt = &rt;
+    let given = words(rt, &["svc", "-u", "-c", "a.yaml"]);
+    let opt = Opt::parse_args(rt.alloc(), &given).expect(rt, "flags");
     holds(
-        &rt,
+        rt,
         opt.upgrade && !opt.daemon && !opt.test && !opt.nocapture,
     );
-    let path = opt.conf.expect(&rt, "a path");
-    same(&rt, path.as_str(), "a.yaml");
+    let path = opt.conf.expect(rt, "a path");
+    same(rt, path.as_str(), "a.yaml");
     for (word, kind) in [
         ("--help", ErrorKind::DisplayHelp),
         ("--other", ErrorKind::UnknownArgument),
     ] {
-        let given = words(&rt, &["svc", word]);
+        let given = words(rt, &["svc", word]);
         let refused = Opt::parse_from_args(rt.alloc(), &given).err();
-        same(&rt, refused, Some(OptError::Words(kind)));
+        same(rt, refused, Some(OptError::Words(kind)));
     }
 }
 
 #[test]
 fn errors_have_texts(rt: HostRuntime) {
+    let rt = &rt;
+    prints(rt, ReadError::Fault, "the configuration file can't be read");
     prints(
-        &rt,
-        ReadError::Fault,
-        "the configuration file can't be read",
-    );
-    prints(
-        &rt,
+        rt,
         ReadError::NoPath,
         "no path of a configuration file is given",
     );
-    prints(&rt, ReadError::NoMemory, "out of memory");
+    prints(rt, ReadError::NoMemory, "out of memory");
     let refused = OptError::Words(ErrorKind::DisplayHelp);
-    prints(&rt, refused, "the command words are refused");
-    prints(&rt, OptError::NoMemory, "out of memory");
-    prints(&rt, FileError::Failed, "the file can't be read");
-    prints(&rt, FileError::NoMemory, "out of memory");
+    prints(rt, refused, "the command words are refused");
+    prints(rt, OptError::NoMemory, "out of memory");
+    prints(rt, FileError::Failed, "the file can't be read");
+    prints(rt, FileError::NoMemory, "out of memory");
 }

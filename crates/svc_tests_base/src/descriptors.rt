@@ -77,25 +77,27 @@ const TWO_SHOWN: &str = "1.1.1.1:443 129;1.1.1.1:80 128;";
 
 #[test]
 fn a_table_is_a_map(rt: HostRuntime) {
+    let rt = &rt;
     let mut table = Fds::new(rt.alloc());
-    same(&rt, table.reserve(rt.alloc(), 2), Ok(()));
+    same(rt, table.reserve(rt.alloc(), 2), Ok(()));
     for (bind, number, replaced) in [("b", 1, None), ("a", 2, None), ("b", 3, Some(1))] {
-        same(&rt, put(&rt, &mut table, bind, number), replaced);
+        same(rt, put(rt, &mut table, bind, number), replaced);
     }
-    same(&rt, table.get("b").map(|fd| fd.number()), Some(3));
-    same(&rt, table.remove("b").map(|fd| fd.close()), Some(3));
-    holds(&rt, !table.is_empty());
-    same(&rt, spent(&rt, table).as_str(), "a 2;");
+    same(rt, table.get("b").map(|fd| fd.number()), Some(3));
+    same(rt, table.remove("b").map(|fd| fd.close()), Some(3));
+    holds(rt, !table.is_empty());
+    same(rt, spent(rt, table).as_str(), "a 2;");
 }
 
 #[test]
 fn a_table_is_a_message(rt: HostRuntime) {
-    let table = table_of(&rt, &TWO);
-    let message = table.encode(rt.alloc()).expect(&rt, "a message");
+    let rt = &rt;
+    let table = table_of(rt, &TWO);
+    let message = table.encode(rt.alloc()).expect(rt, "a message");
     let bytes = b"1.1.1.1:443 1.1.1.1:80".as_slice();
-    same(&rt, message.bytes.as_slice(), bytes);
-    same(&rt, message.fds.as_slice(), [129, 128].as_slice());
-    same(&rt, spent(&rt, table).as_str(), TWO_SHOWN);
+    same(rt, message.bytes.as_slice(), bytes);
+    same(rt, message.fds.as_slice(), [129, 128].as_slice());
+    same(rt, spent(rt, table).as_str(), TWO_SHOWN);
 }
 
 /// Decodes a message, and answers the table, or why there is none and the numbers that come back.
@@ -112,6 +114,7 @@ fn decoded<R: Abort + AllocGlobal>(rt: &R, bytes: &[u8], numbers: &[u64]) -> Str
 
 #[test]
 fn a_message_is_a_table_or_refused(rt: HostRuntime) {
+    let rt = &rt;
     for (bytes, shown) in [
         (b"a:443\x0b\t b:80\r".as_slice(), "a:443\x0b 3;b:80 4;"),
         (b"\xff".as_slice(), "the message isn't UTF-8 [4, 3]"),
@@ -121,7 +124,7 @@ fn a_message_is_a_table_or_refused(rt: HostRuntime) {
         ),
         (b"a:1 a:1".as_slice(), "an address stands twice [4, 3]"),
     ] {
-        same(&rt, decoded(&rt, bytes, &[3, 4]).as_str(), shown);
+        same(rt, decoded(rt, bytes, &[3, 4]).as_str(), shown);
     }
 }
 
@@ -134,35 +137,33 @@ fn refusal<R: Abort + AllocGlobal>(rt: &R, table: Fds) -> Option<EncodeError> {
 
 #[test]
 fn what_does_not_fit_a_message_is_refused(rt: HostRuntime) {
+    let rt = &rt;
     let mut long = String::new(rt.alloc());
     for _ in 0..2048 {
-        holds(&rt, long.push('x').is_ok());
+        holds(rt, long.push('x').is_ok());
     }
-    same(
-        &rt,
-        refusal(&rt, table_of(&rt, &[(long.as_str(), 1)])),
-        None,
-    );
-    holds(&rt, long.push('x').is_ok());
+    same(rt, refusal(rt, table_of(rt, &[(long.as_str(), 1)])), None);
+    holds(rt, long.push('x').is_ok());
     for (bind, want) in [
         (long.as_str(), Some(EncodeError::TooLong)),
         ("", Some(EncodeError::BadAddress)),
         ("a\x0c", Some(EncodeError::BadAddress)),
         ("a\x0b", None),
     ] {
-        same(&rt, refusal(&rt, table_of(&rt, &[(bind, 1)])), want);
+        same(rt, refusal(rt, table_of(rt, &[(bind, 1)])), want);
     }
 }
 
 #[test]
 fn a_message_has_at_most_32_descriptors(rt: HostRuntime) {
+    let rt = &rt;
     for (count, want) in [(32u64, None), (33, Some(EncodeError::TooMany))] {
         let mut table = Fds::new(rt.alloc());
         for number in 0..count {
-            let bind = format!(in rt.alloc(); "{number}").expect(&rt, "a text");
-            same(&rt, put(&rt, &mut table, bind.as_str(), number), None);
+            let bind = format!(in rt.alloc(); "{number}").expect(rt, "a text");
+            same(rt, put(rt, &mut table, bind.as_str(), number), None);
         }
-        same(&rt, refusal(&rt, table), want);
+        same(rt, refusal(rt, table), want);
     }
 }
 
@@ -189,20 +190,16 @@ fn added<R: Abort + AllocGlobal>(
 
 #[test]
 fn lists_are_taken_as_pairs(rt: HostRuntime) {
-    let mut table = table_of(&rt, &[("a", 1)]);
-    let (binds, numbers) = table.serialize(rt.alloc()).expect(&rt, "lists");
-    same(&rt, numbers.as_slice(), [1].as_slice());
-    let replaced = added(&rt, &mut table, binds, descriptors(&rt, &[2]));
-    let replaced = replaced.expect(&rt, "numbers");
-    same(&rt, replaced.as_slice(), [1].as_slice());
-    let refused = added(
-        &rt,
-        &mut table,
-        Vec::new(rt.alloc()),
-        descriptors(&rt, &[3]),
-    );
-    same(&rt, refused.err(), Some(ListsError::Unequal));
-    same(&rt, spent(&rt, table).as_str(), "a 2;");
+    let rt = &rt;
+    let mut table = table_of(rt, &[("a", 1)]);
+    let (binds, numbers) = table.serialize(rt.alloc()).expect(rt, "lists");
+    same(rt, numbers.as_slice(), [1].as_slice());
+    let replaced = added(rt, &mut table, binds, descriptors(rt, &[2]));
+    let replaced = replaced.expect(rt, "numbers");
+    same(rt, replaced.as_slice(), [1].as_slice());
+    let refused = added(rt, &mut table, Vec::new(rt.alloc()), descriptors(rt, &[3]));
+    same(rt, refused.err(), Some(ListsError::Unequal));
+    same(rt, spent(rt, table).as_str(), "a 2;");
 }
 
 /// Closes what nobody claims, and answers it.
@@ -220,19 +217,21 @@ fn unclaimed<R: Abort + AllocGlobal>(rt: &R, table: &mut Fds, keep: &BTreeSet<Te
 
 #[test]
 fn what_nobody_claims_comes_back(rt: HostRuntime) {
+    let rt = &rt;
     let mut keep = BTreeSet::new(rt.alloc());
-    holds(&rt, keep.insert(text(&rt, "127.0.0.1:80")).is_ok());
-    let mut table = table_of(&rt, &[("127.0.0.1:80", 3), ("127.0.0.1:9090", 4)]);
+    holds(rt, keep.insert(text(rt, "127.0.0.1:80")).is_ok());
+    let mut table = table_of(rt, &[("127.0.0.1:80", 3), ("127.0.0.1:9090", 4)]);
     same(
-        &rt,
-        unclaimed(&rt, &mut table, &keep).as_str(),
+        rt,
+        unclaimed(rt, &mut table, &keep).as_str(),
         "127.0.0.1:9090",
     );
-    same(&rt, spent(&rt, table).as_str(), "127.0.0.1:80 3;");
+    same(rt, spent(rt, table).as_str(), "127.0.0.1:80 3;");
 }
 
 #[test]
 fn sending_is_tried_as_often_as_it_may(rt: HostRuntime) {
+    let rt = &rt;
     let failed = SendNext::Refused(SendError::Transfer);
     let mut retry = SendRetry::new(1);
     for (answer, next) in [
@@ -247,14 +246,14 @@ fn sending_is_tried_as_often_as_it_may(rt: HostRuntime) {
         (SendAnswer::ConnectFailed, failed),
         (SendAnswer::SendFailed, failed),
     ] {
-        same(&rt, retry.step(answer), next);
+        same(rt, retry.step(answer), next);
     }
     let mut retry = SendRetry::new(0);
     for _ in 0..19 {
-        same(&rt, retry.step(SendAnswer::SendBusy), SendNext::Send(500));
+        same(rt, retry.step(SendAnswer::SendBusy), SendNext::Send(500));
     }
     let busy = SendNext::Refused(SendError::StillBusy);
-    same(&rt, retry.step(SendAnswer::SendBusy), busy);
+    same(rt, retry.step(SendAnswer::SendBusy), busy);
 }
 
 #[test]
@@ -278,43 +277,45 @@ fn receiving_is_tried_as_often_as_it_may(rt: HostRuntime) {
 
 #[test]
 fn a_table_goes_through_a_channel(rt: HostRuntime) {
-    let mut channel = SteadyChannel::new(rt.alloc(), 8).expect(&rt, "a channel");
-    holds(&rt, channel.listen());
-    let table = table_of(&rt, &TWO);
+    let rt = &rt;
+    let mut channel = SteadyChannel::new(rt.alloc(), 8).expect(rt, "a channel");
+    holds(rt, channel.listen());
+    let table = table_of(rt, &TWO);
     same(
-        &rt,
+        rt,
         table.send_to_sock(rt.alloc(), &mut channel, None),
         Ok(22),
     );
-    let mut other = table_of(&rt, &[("1.1.1.1:80", 7)]);
+    let mut other = table_of(rt, &[("1.1.1.1:80", 7)]);
     same(
-        &rt,
+        rt,
         other.get_from_sock(rt.alloc(), &mut channel, None),
         Ok(()),
     );
-    same(&rt, channel.faults(), 0);
+    same(rt, channel.faults(), 0);
     holds(
-        &rt,
+        rt,
         matches!(channel.log().last(), Some(ChannelCall::Close(128))),
     );
     same(
-        &rt,
-        spent(&rt, other).as_str(),
+        rt,
+        spent(rt, other).as_str(),
         "1.1.1.1:443 129;1.1.1.1:80 7;",
     );
-    same(&rt, spent(&rt, table).as_str(), TWO_SHOWN);
+    same(rt, spent(rt, table).as_str(), TWO_SHOWN);
 }
 
 #[test]
 fn a_channel_fails_at_the_listed_call(rt: HostRuntime) {
+    let rt = &rt;
     for failing in 0..5u64 {
-        let list = [failing].to_vec(rt.alloc()).expect(&rt, "numbers");
-        let mut channel = MemoryChannel::new(rt.alloc(), 16, list).expect(&rt, "a channel");
-        same(&rt, channel.listen(), failing != 0);
+        let list = [failing].to_vec(rt.alloc()).expect(rt, "numbers");
+        let mut channel = MemoryChannel::new(rt.alloc(), 16, list).expect(rt, "a channel");
+        same(rt, channel.listen(), failing != 0);
         channel.set_busy(1);
         let sent = send_fds_to(&[5], b"a:1 a:1", &mut channel, Some(0));
-        same(&rt, sent.is_ok(), failing == 4);
-        same(&rt, channel.faults(), u64::from(failing < 4));
+        same(rt, sent.is_ok(), failing == 4);
+        same(rt, channel.faults(), u64::from(failing < 4));
         let mut table = Fds::new(rt.alloc());
         let came = table.get_from_sock(rt.alloc(), &mut channel, Some(0));
         let want = if failing == 4 {
@@ -322,46 +323,48 @@ fn a_channel_fails_at_the_listed_call(rt: HostRuntime) {
         } else {
             ReceiveError::NoSender
         };
-        same(&rt, came, Err(want));
-        same(&rt, spent(&rt, table).as_str(), "");
+        same(rt, came, Err(want));
+        same(rt, spent(rt, table).as_str(), "");
     }
 }
 
 #[test]
 fn errors_have_texts(rt: HostRuntime) {
+    let rt = &rt;
     prints(
-        &rt,
+        rt,
         EncodeError::BadAddress,
         "an address is empty or has blanks",
     );
-    prints(&rt, EncodeError::TooLong, "the message is too long");
-    prints(&rt, EncodeError::TooMany, "too many descriptors");
-    prints(&rt, EncodeError::NoMemory, "out of memory");
-    prints(&rt, DecodeError::NoMemory, "out of memory");
+    prints(rt, EncodeError::TooLong, "the message is too long");
+    prints(rt, EncodeError::TooMany, "too many descriptors");
+    prints(rt, EncodeError::NoMemory, "out of memory");
+    prints(rt, DecodeError::NoMemory, "out of memory");
     let unequal = "unequal numbers of addresses and descriptors";
-    prints(&rt, ListsError::Unequal, unequal);
-    prints(&rt, ListsError::Repeated, "an address stands twice");
-    prints(&rt, ListsError::NoMemory, "out of memory");
+    prints(rt, ListsError::Unequal, unequal);
+    prints(rt, ListsError::Repeated, "an address stands twice");
+    prints(rt, ListsError::NoMemory, "out of memory");
 }
 
 #[test]
 fn errors_of_a_transfer_have_texts(rt: HostRuntime) {
+    let rt = &rt;
     prints(
-        &rt,
+        rt,
         SendError::BadAddress,
         "an address is empty or has blanks",
     );
-    prints(&rt, SendError::TooLong, "the message is too long");
-    prints(&rt, SendError::TooMany, "too many descriptors");
-    prints(&rt, SendError::Transfer, "the transfer failed");
-    prints(&rt, SendError::NoReceiver, "no receiver");
-    prints(&rt, SendError::StillBusy, "the receiver is still busy");
-    prints(&rt, SendError::NoMemory, "out of memory");
+    prints(rt, SendError::TooLong, "the message is too long");
+    prints(rt, SendError::TooMany, "too many descriptors");
+    prints(rt, SendError::Transfer, "the transfer failed");
+    prints(rt, SendError::NoReceiver, "no receiver");
+    prints(rt, SendError::StillBusy, "the receiver is still busy");
+    prints(rt, SendError::NoMemory, "out of memory");
     let unequal = "unequal numbers of addresses and descriptors";
-    prints(&rt, ReceiveError::Unequal, unequal);
-    prints(&rt, ReceiveError::Repeated, "an address stands twice");
-    prints(&rt, ReceiveError::NotUtf8, "the message isn't UTF-8");
-    prints(&rt, ReceiveError::Transfer, "the transfer failed");
-    prints(&rt, ReceiveError::NoSender, "no sender");
-    prints(&rt, ReceiveError::NoMemory, "out of memory");
+    prints(rt, ReceiveError::Unequal, unequal);
+    prints(rt, ReceiveError::Repeated, "an address stands twice");
+    prints(rt, ReceiveError::NotUtf8, "the message isn't UTF-8");
+    prints(rt, ReceiveError::Transfer, "the transfer failed");
+    prints(rt, ReceiveError::NoSender, "no sender");
+    prints(rt, ReceiveError::NoMemory, "out of memory");
 }

@@ -114,70 +114,74 @@ impl BackgroundService for Slow {
 
 #[test]
 fn a_plain_service_has_defaults(rt: HostRuntime) {
+    let rt = &rt;
     let mut still = Plain::new(Still);
     let start = still.poll_start(false, 1, ServiceReadyNotifier::new(4));
-    holds(&rt, matches!(start, StartPoll::Ended));
-    holds(&rt, start.ready());
-    same(&rt, still.kind(), Kind::Plain);
-    same(&rt, still.threads(), None);
+    holds(rt, matches!(start, StartPoll::Ended));
+    holds(rt, start.ready());
+    same(rt, still.kind(), Kind::Plain);
+    same(rt, still.threads(), None);
     same(
-        &rt,
+        rt,
         still.runtime_opts_override(&RuntimeOpts::default()),
         None,
     );
     still.on_startup_delay(20);
-    let addresses = still.listen_addresses(rt.alloc()).expect(&rt, "a list");
-    holds(&rt, addresses.is_none());
-    let configs = still.listener_configs(rt.alloc()).expect(&rt, "a list");
-    holds(&rt, configs.is_empty());
+    let addresses = still.listen_addresses(rt.alloc()).expect(rt, "a list");
+    holds(rt, addresses.is_none());
+    let configs = still.listener_configs(rt.alloc()).expect(rt, "a list");
+    holds(rt, configs.is_empty());
 }
 
 #[test]
 fn a_plain_service_forwards_each_call(rt: HostRuntime) {
+    let rt = &rt;
     let mut busy = Plain::new(Busy { listeners: 0 });
     let start = busy.poll_start(false, 7, ServiceReadyNotifier::new(4));
-    holds(&rt, matches!(start, StartPoll::Running));
-    same(&rt, busy.threads(), Some(7));
-    same(&rt, busy.poll_run(false), RunPoll::Pending);
-    same(&rt, busy.poll_run(true), RunPoll::Ended);
+    holds(rt, matches!(start, StartPoll::Running));
+    same(rt, busy.threads(), Some(7));
+    same(rt, busy.poll_run(false), RunPoll::Pending);
+    same(rt, busy.poll_run(true), RunPoll::Ended);
     let global = RuntimeOpts::default();
-    same(&rt, busy.runtime_opts_override(&global), Some(global));
-    same(&rt, busy.name(), "busy");
+    same(rt, busy.runtime_opts_override(&global), Some(global));
+    same(rt, busy.name(), "busy");
 }
 
 #[test]
 fn a_background_service_has_defaults(rt: HostRuntime) {
-    let name = Text::new(rt.alloc(), "idle").expect(&rt, "a name");
+    let rt = &rt;
+    let name = Text::new(rt.alloc(), "idle").expect(rt, "a name");
     let mut idle = GenBackgroundService::new(name, Idle);
     let start = idle.poll_start(false, 1, ServiceReadyNotifier::new(4));
-    holds(&rt, matches!(start, StartPoll::Ended));
-    same(&rt, idle.poll_run(false), RunPoll::Ended);
-    same(&rt, idle.threads(), Some(1));
+    holds(rt, matches!(start, StartPoll::Ended));
+    same(rt, idle.poll_run(false), RunPoll::Ended);
+    same(rt, idle.threads(), Some(1));
     same(
-        &rt,
+        rt,
         idle.runtime_opts_override(&RuntimeOpts::default()),
         None,
     );
     idle.on_startup_delay(20);
-    let addresses = idle.listen_addresses(rt.alloc()).expect(&rt, "a list");
-    let addresses = addresses.expect(&rt, "declared addresses");
-    holds(&rt, addresses.is_empty());
-    let configs = idle.listener_configs(rt.alloc()).expect(&rt, "a list");
-    holds(&rt, configs.is_empty());
+    let addresses = idle.listen_addresses(rt.alloc()).expect(rt, "a list");
+    let addresses = addresses.expect(rt, "declared addresses");
+    holds(rt, addresses.is_empty());
+    let configs = idle.listener_configs(rt.alloc()).expect(rt, "a list");
+    holds(rt, configs.is_empty());
 }
 
 #[test]
 fn a_task_may_hand_the_notifier_back(rt: HostRuntime) {
+    let rt = &rt;
     let made = background_service(rt.alloc(), "slow", Slow { starts: 0 });
-    let mut slow = made.ok().expect(&rt, "a service");
-    same(&rt, slow.name(), "BG slow");
-    same(&rt, slow.kind(), Kind::Notifying);
+    let mut slow = made.ok().expect(rt, "a service");
+    same(rt, slow.name(), "BG slow");
+    same(rt, slow.kind(), Kind::Notifying);
     let waiting = slow.poll_start(false, 1, ServiceReadyNotifier::new(4));
-    holds(&rt, !waiting.ready());
+    holds(rt, !waiting.ready());
     if let StartPoll::Waiting(notifier) = waiting {
-        same(&rt, notifier.service(), 4);
-        holds(&rt, slow.poll_start(false, 1, notifier).ready());
+        same(rt, notifier.service(), 4);
+        holds(rt, slow.poll_start(false, 1, notifier).ready());
     }
-    same(&rt, slow.task().starts, 1);
-    same(&rt, ServiceReadyWatch::new(4).service(), 4);
+    same(rt, slow.task().starts, 1);
+    same(rt, ServiceReadyWatch::new(4).service(), 4);
 }

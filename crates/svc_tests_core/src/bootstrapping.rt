@@ -36,16 +36,17 @@ fn tells<R: Abort + AllocGlobal>(rt: &R, mut bootstrap: Bootstrap, wanted: &[&st
 
 #[test]
 fn it_bootstraps_once(rt: HostRuntime) {
+    let rt = &rt;
     let receives = ["phase Bootstrap 0", "openreceiver", "tryreceive"];
-    tells(&rt, bootstrapping(&rt, true), &receives);
-    let mut child = bootstrapping(&rt, false);
+    tells(rt, bootstrapping(rt, true), &receives);
+    let mut child = bootstrapping(rt, false);
     child.set_notify_parent_pid(7);
     let notifies = [
         "phase Bootstrap 0",
         "notifyparent",
         "phase BootstrapComplete 0",
     ];
-    tells(&rt, child, &notifies);
+    tells(rt, child, &notifies);
 }
 
 /// Puts a descriptor into the table.
@@ -84,30 +85,32 @@ fn pruned<R: Abort + AllocGlobal>(rt: &R, bootstrap: &mut Bootstrap, bind: &str)
 
 #[test]
 fn what_is_not_expected_comes_back(rt: HostRuntime) {
-    let mut bootstrap = bootstrapping(&rt, true);
-    put(&rt, &mut bootstrap, "1.1.1.1:80", 3);
-    put(&rt, &mut bootstrap, "127.0.0.1:9090", 4);
-    same(&rt, pruned(&rt, &mut bootstrap, "1.1.1.1:80"), Some(4));
-    holds(&rt, bootstrap.get_fds().get("1.1.1.1:80").is_some());
-    holds(&rt, bootstrap.get_fds().get("127.0.0.1:9090").is_none());
+    let rt = &rt;
+    let mut bootstrap = bootstrapping(rt, true);
+    put(rt, &mut bootstrap, "1.1.1.1:80", 3);
+    put(rt, &mut bootstrap, "127.0.0.1:9090", 4);
+    same(rt, pruned(rt, &mut bootstrap, "1.1.1.1:80"), Some(4));
+    holds(rt, bootstrap.get_fds().get("1.1.1.1:80").is_some());
+    holds(rt, bootstrap.get_fds().get("127.0.0.1:9090").is_none());
 }
 
 #[test]
 fn the_service_bootstraps(rt: HostRuntime) {
+    let rt = &rt;
     let mut service = BootstrapService::new();
-    same(&rt, service.name(), "BG Bootstrap Service");
-    same(&rt, service.kind(), Kind::Bootstrap);
-    same(&rt, service.threads(), Some(1));
-    let addresses = service.listen_addresses(rt.alloc()).expect(&rt, "a list");
-    let addresses = addresses.expect(&rt, "declared addresses");
-    holds(&rt, addresses.is_empty());
-    let configs = service.listener_configs(rt.alloc()).expect(&rt, "a list");
-    holds(&rt, configs.is_empty());
+    same(rt, service.name(), "BG Bootstrap Service");
+    same(rt, service.kind(), Kind::Bootstrap);
+    same(rt, service.threads(), Some(1));
+    let addresses = service.listen_addresses(rt.alloc()).expect(rt, "a list");
+    let addresses = addresses.expect(rt, "declared addresses");
+    holds(rt, addresses.is_empty());
+    let configs = service.listener_configs(rt.alloc()).expect(rt, "a list");
+    holds(rt, configs.is_empty());
     holds(
-        &rt,
+        rt,
         service
             .poll_start(false, 1, ServiceReadyNotifier::new(0))
             .ready(),
     );
-    same(&rt, service.poll_run(false), RunPoll::Ended);
+    same(rt, service.poll_run(false), RunPoll::Ended);
 }

@@ -87,21 +87,22 @@ fn step<R: Abort + AllocGlobal>(
 
 #[test]
 fn a_step_tells_two_lists(rt: HostRuntime) {
-    let (mut core, mut first) = begun(&rt);
+    let rt = &rt;
+    let (mut core, mut first) = begun(rt);
     let mut second = Actions::new(rt.alloc());
     for event in [
         Event::Bound(0, 0, 7),
         Event::Signal(ShutdownSignal::GracefulUpgrade),
         Event::Connected,
     ] {
-        step(&rt, &mut core, event, &mut first, &mut second);
+        step(rt, &mut core, event, &mut first, &mut second);
     }
     let begun = "start 0;bind 0 0;phase Running 0;";
     let later = "phase GracefulUpgradeTransferringFds 0;connect;send 3132372e302e302e313a3830 7;";
-    same(&rt, text(&rt, &second).as_str(), later);
-    let all = text(&rt, &first);
+    same(rt, text(rt, &second).as_str(), later);
+    let all = text(rt, &first);
     holds(
-        &rt,
+        rt,
         all.as_str().starts_with(begun) && all.as_str().ends_with(later),
     );
 }
@@ -118,22 +119,20 @@ fn to_any_thread<T: Send>(value: T) -> T {
 
 #[test]
 fn a_core_that_went_to_another_thread_tells_who_is_ready(rt: HostRuntime) {
-    let (core, _) = to_any_thread(begun(&rt));
-    holds(&rt, is_ready(&rt, &core));
+    let rt = &rt;
+    let (core, _) = to_any_thread(begun(rt));
+    holds(rt, is_ready(rt, &core));
 }
 
 #[test]
 fn phases_are_read_once(rt: HostRuntime) {
+    let rt = &rt;
     let mut reader = PhaseReader::new();
     let phases = [ExecutionPhase::Running, ExecutionPhase::ShutdownStarted];
+    same(rt, reader.recv(&phases[..1]), Some(ExecutionPhase::Running));
+    same(rt, reader.recv(&phases[..1]), None);
     same(
-        &rt,
-        reader.recv(&phases[..1]),
-        Some(ExecutionPhase::Running),
-    );
-    same(&rt, reader.recv(&phases[..1]), None);
-    same(
-        &rt,
+        rt,
         reader.recv(&phases),
         Some(ExecutionPhase::ShutdownStarted),
     );

@@ -118,12 +118,13 @@ fn judged(
 
 #[test]
 fn a_filter_judges_each_known_peer(rt: HostRuntime) {
+    let rt = &rt;
     let mut filters: Filters<EveryOther> = Filters::new(rt.alloc());
     holds(
-        &rt,
+        rt,
         filters.add(rt.alloc(), EveryOther { yes: true }).is_ok(),
     );
-    let endpoint = endpoint(&rt, tcp(&rt, "X"), Some(0));
+    let endpoint = endpoint(rt, tcp(rt, "X"), Some(0));
     let arrivals = [
         Arrival::Came(1, LOCAL),
         Arrival::Came(2, Peer::Unix),
@@ -131,7 +132,7 @@ fn a_filter_judges_each_known_peer(rt: HostRuntime) {
         Arrival::Came(4, LOCAL),
         Arrival::Failed(11),
     ];
-    let mut from = accepting(&rt, &arrivals, &[]);
+    let mut from = accepting(rt, &arrivals, &[]);
     for expected in [
         Said::Stream,
         Said::Refused(2),
@@ -142,11 +143,11 @@ fn a_filter_judges_each_known_peer(rt: HostRuntime) {
     ] {
         if filters.len() == 1 {
             let said = judged(rt.alloc(), &endpoint, &mut filters, &mut from);
-            same(&rt, said, expected);
+            same(rt, said, expected);
         }
     }
-    same(&rt, closed(endpoint), Some(7));
-    same(&rt, (from.faults(), from.waits()), (1, 1));
+    same(rt, closed(endpoint), Some(7));
+    same(rt, (from.faults(), from.waits()), (1, 1));
 }
 
 /// What an endpoint without a filter says to the next arrival.
@@ -164,18 +165,19 @@ fn call_at(from: &MemoryAccepting, at: usize) -> Option<AcceptingCall> {
 
 #[test]
 fn settings_are_set_up_to_the_first_failure(rt: HostRuntime) {
-    let address = ServerAddress::Tcp(text(&rt, "X"), Some(OPTIONS));
-    let endpoint = endpoint(&rt, address, None);
+    let rt = &rt;
+    let address = ServerAddress::Tcp(text(rt, "X"), Some(OPTIONS));
+    let endpoint = endpoint(rt, address, None);
     let arrivals = [Arrival::Came(1, LOCAL), Arrival::Came(2, LOCAL)];
-    let mut from = accepting(&rt, &arrivals, &[9]);
+    let mut from = accepting(rt, &arrivals, &[9]);
     let first = unjudged(rt.alloc(), &endpoint, &mut from);
-    same(&rt, first, Said::Stream);
+    same(rt, first, Said::Stream);
     let second = unjudged(rt.alloc(), &endpoint, &mut from);
-    same(&rt, second, Said::SettingsFailed(2));
-    same(&rt, closed(endpoint), Some(7));
+    same(rt, second, Said::SettingsFailed(2));
+    same(rt, closed(endpoint), Some(7));
     for (setting, at) in SETTINGS.iter().zip(1usize..6) {
         let set = AcceptingCall::Set(1, *setting, true);
-        same(&rt, call_at(&from, at), Some(set));
+        same(rt, call_at(&from, at), Some(set));
     }
     let failed = AcceptingCall::Set(2, Setting::Dscp(10), false);
     for (at, call) in [
@@ -183,7 +185,7 @@ fn settings_are_set_up_to_the_first_failure(rt: HostRuntime) {
         (10, Some(AcceptingCall::Refuse(2))),
         (11, None),
     ] {
-        same(&rt, call_at(&from, at), call);
+        same(rt, call_at(&from, at), call);
     }
 }
 
@@ -239,18 +241,19 @@ fn accepted(
 
 #[test]
 fn an_endpoint_accepts_plain_streams(rt: HostRuntime) {
-    let coming = [(1, Peer::Unix)].to_vec(rt.alloc()).expect(&rt, "arrivals");
-    let mut from = SteadyAccepting::new(rt.alloc(), 9, coming).expect(&rt, "an object");
-    let unix = endpoint(&rt, ServerAddress::Uds(text(&rt, "/tmp/u"), None), None);
-    same(&rt, unix.as_str(), "/tmp/u");
+    let rt = &rt;
+    let coming = [(1, Peer::Unix)].to_vec(rt.alloc()).expect(rt, "arrivals");
+    let mut from = SteadyAccepting::new(rt.alloc(), 9, coming).expect(rt, "an object");
+    let unix = endpoint(rt, ServerAddress::Uds(text(rt, "/tmp/u"), None), None);
+    same(rt, unix.as_str(), "/tmp/u");
     let poll = accepted(rt.alloc(), &unix, &mut from);
-    same(&rt, poll, Some(HandshakePoll::Done));
-    same(&rt, accepted(rt.alloc(), &unix, &mut from), None);
+    same(rt, poll, Some(HandshakePoll::Done));
+    same(rt, accepted(rt.alloc(), &unix, &mut from), None);
     from.refuse(9);
-    same(&rt, (from.faults(), from.waits()), (0, 1));
-    let calls = from.calls.told().expect(&rt, "calls");
-    same(&rt, calls.len(), 4);
-    same(&rt, closed(unix), Some(7));
+    same(rt, (from.faults(), from.waits()), (0, 1));
+    let calls = from.calls.told().expect(rt, "calls");
+    same(rt, calls.len(), 4);
+    same(rt, closed(unix), Some(7));
 }
 
 /// The first poll of the handshake of a stack's next connection.
@@ -269,14 +272,15 @@ fn stacked(
 
 #[test]
 fn a_stack_gives_its_streams_tls(rt: HostRuntime) {
-    let mut from = accepting(&rt, &[Arrival::Came(1, LOCAL)], &[]);
-    let endpoint = endpoint(&rt, tcp(&rt, "X"), None);
+    let rt = &rt;
+    let mut from = accepting(rt, &[Arrival::Came(1, LOCAL)], &[]);
+    let endpoint = endpoint(rt, tcp(rt, "X"), None);
     let settings = TlsSettings::intermediate("cert", "key");
     let buffer = L4BufferSettings::unbuffered();
     let mut stack = TransportStack::new(endpoint, Some(settings), buffer, None);
-    same(&rt, stack.as_str(), "X");
+    same(rt, stack.as_str(), "X");
     stack.cleanup();
     let poll = stacked(rt.alloc(), &stack, &mut from);
-    same(&rt, poll, Some(HandshakePoll::NoTls));
-    same(&rt, stack.close().map(|fd| fd.close()), Some(7));
+    same(rt, poll, Some(HandshakePoll::NoTls));
+    same(rt, stack.close().map(|fd| fd.close()), Some(7));
 }

@@ -38,31 +38,33 @@ const LOCAL: PeerAddr = PeerAddr::V4 {
 
 #[test]
 fn filters_have_numbers(rt: HostRuntime) {
+    let rt = &rt;
     let alloc = rt.alloc();
     let mut filters: Filters = Filters::new(alloc);
     let every_other = Box::new(alloc, EveryOther { yes: true })
         .ok()
-        .expect(&rt, "a box");
-    same(&rt, filters.add(alloc, every_other).ok(), Some(0));
-    let all = Box::new(alloc, AcceptAllFilter).ok().expect(&rt, "a box");
-    same(&rt, filters.add(alloc, all).ok(), Some(1));
+        .expect(rt, "a box");
+    same(rt, filters.add(alloc, every_other).ok(), Some(0));
+    let all = Box::new(alloc, AcceptAllFilter).ok().expect(rt, "a box");
+    same(rt, filters.add(alloc, all).ok(), Some(1));
     if filters.len() == 2 {
         for (filter, verdict) in [(0, true), (0, false), (1, true), (0, true), (1, true)] {
-            same(&rt, filters.ask(filter, Some(&LOCAL)), verdict);
+            same(rt, filters.ask(filter, Some(&LOCAL)), verdict);
         }
     }
 }
 
 #[test]
 fn buffers_have_capacities(rt: HostRuntime) {
+    let rt = &rt;
     let (read, write) = (Some(0), None);
     for (settings, read, write) in [
         (L4BufferSettings::default(), 65536, 1460),
         (L4BufferSettings { read, write }, 0, 1460),
         (L4BufferSettings::unbuffered(), 0, 0),
     ] {
-        same(&rt, settings.read_capacity(), read);
-        same(&rt, settings.write_capacity(), write);
+        same(rt, settings.read_capacity(), read);
+        same(rt, settings.write_capacity(), write);
     }
 }
 
@@ -163,6 +165,7 @@ fn backend(pending: u64, last: StepPoll) -> Option<Steps> {
 
 #[test]
 fn a_handshake_ends_after_a_minute(rt: HostRuntime) {
+    let rt = &rt;
     let done = StepPoll::Done;
     for (callbacks, backends, moment, answer, number) in [
         (9, 0, 59_999, HandshakePoll::Pending, 2),
@@ -171,47 +174,49 @@ fn a_handshake_ends_after_a_minute(rt: HostRuntime) {
         (1, 0, 60_000, HandshakePoll::Done, 102),
     ] {
         let got = polled(
-            &rt,
+            rt,
             true,
             callback(callbacks, done),
             backend(backends, done),
             moment,
         );
-        same(&rt, got, (answer, number));
+        same(rt, got, (answer, number));
     }
 }
 
 #[test]
 fn a_handshake_is_done_or_refused(rt: HostRuntime) {
+    let rt = &rt;
     let (done, failed) = (StepPoll::Done, StepPoll::Failed);
     for (last, backend, answer) in [
         (done, backend(0, failed), HandshakePoll::Tls),
         (failed, backend(0, done), HandshakePoll::PreTls),
         (done, None, HandshakePoll::NoTls),
     ] {
-        let (got, _) = polled(&rt, true, callback(1, last), backend, 60_000);
-        same(&rt, got, answer);
+        let (got, _) = polled(rt, true, callback(1, last), backend, 60_000);
+        same(rt, got, answer);
     }
-    let got = polled(&rt, false, callback(1, done), backend(0, done), 7);
-    same(&rt, got, (HandshakePoll::Done, 0));
+    let got = polled(rt, false, callback(1, done), backend(0, done), 7);
+    same(rt, got, (HandshakePoll::Done, 0));
 }
 
 #[test]
 fn callbacks_may_be_boxes(rt: HostRuntime) {
+    let rt = &rt;
     let alloc = rt.alloc();
     let mut callbacks: PreTlsCallbacks = PreTlsCallbacks::new(alloc);
     for number in [0, 1] {
         let boxed = Box::new(alloc, callback(0, StepPoll::Done))
             .ok()
-            .expect(&rt, "a box");
-        same(&rt, callbacks.add(alloc, boxed).ok(), Some(number));
+            .expect(rt, "a box");
+        same(rt, callbacks.add(alloc, boxed).ok(), Some(number));
     }
     if callbacks.len() == 2 {
-        let mut stream = arrived(&rt, true);
+        let mut stream = arrived(rt, true);
         let mut tls = callback(0, StepPoll::Done);
         let answer = stream.poll_handshake(0, &mut callbacks, Some(&mut tls));
-        same(&rt, answer, HandshakePoll::Done);
-        same(&rt, stream.into_stream().c, 2);
+        same(rt, answer, HandshakePoll::Done);
+        same(rt, stream.into_stream().c, 2);
     }
 }
 
@@ -240,16 +245,17 @@ impl ServerApp<u64> for Rounds {
 
 #[test]
 fn an_application_is_called_while_it_gives_back(rt: HostRuntime) {
+    let rt = &rt;
     for (turns, left) in [(3, None), (2, Some(7)), (1, Some(7))] {
         let mut app = Rounds {
             left: 2,
             ended: false,
         };
         match handle_event(&mut app, 7, false, turns) {
-            Handled::Done => same(&rt, left, None),
-            Handled::TurnsSpent(stream) => same(&rt, left, Some(stream)),
+            Handled::Done => same(rt, left, None),
+            Handled::TurnsSpent(stream) => same(rt, left, Some(stream)),
         }
         app.cleanup();
-        holds(&rt, app.ended);
+        holds(rt, app.ended);
     }
 }

@@ -41,26 +41,28 @@ fn kind<T: Drop>(answer: Result<T, ConnectError>) -> Option<ConnectKind> {
 
 #[test]
 fn a_connect_falls_back_once(rt: HostRuntime) {
+    let rt = &rt;
     let range = range(true);
-    holds(&rt, range.will_fallback());
-    let mut dialer = dialer(&rt, &[DialFault::Bind]);
-    same(&rt, connect(&mut dialer, &PEER, Some(&range)), Ok(None));
+    holds(rt, range.will_fallback());
+    let mut dialer = dialer(rt, &[DialFault::Bind]);
+    same(rt, connect(&mut dialer, &PEER, Some(&range)), Ok(None));
     let again = BindTo {
         addr: Some(PEER),
         port_range: None,
         fallback: false,
     };
-    let told = dialer.calls.told().expect(&rt, "calls");
+    let told = dialer.calls.told().expect(rt, "calls");
     for (call, from) in told.iter().zip([range, again].iter()) {
-        holds(&rt, call.target == Target::Inet(PEER));
-        same(&rt, call.from, Some(*from));
+        holds(rt, call.target == Target::Inet(PEER));
+        same(rt, call.from, Some(*from));
     }
-    same(&rt, told.len(), 2);
-    same(&rt, dialer.faults(), 1);
+    same(rt, told.len(), 2);
+    same(rt, dialer.faults(), 1);
 }
 
 #[test]
 fn a_connect_falls_back_where_it_will(rt: HostRuntime) {
+    let rt = &rt;
     let bind = DialFault::Bind;
     let gone = DialFault::Os(OsFault::AddrNotAvailable);
     let refused = DialFault::Os(OsFault::Refused);
@@ -81,10 +83,10 @@ fn a_connect_falls_back_where_it_will(rt: HostRuntime) {
         ([bind, bind], Some(range(false)), ConnectKind::BindError, 1),
         ([bind, bind], None, ConnectKind::BindError, 1),
     ] {
-        let mut dialer = dialer(&rt, &faults);
+        let mut dialer = dialer(rt, &faults);
         let answer = connect(&mut dialer, &PEER, from.as_ref());
-        same(&rt, kind(answer), Some(expected));
-        same(&rt, dialer.faults(), dials);
+        same(rt, kind(answer), Some(expected));
+        same(rt, dialer.faults(), dials);
     }
 }
 
@@ -127,16 +129,17 @@ fn each_fault_has_a_kind(rt: HostRuntime) {
 
 #[test]
 fn a_steady_dialer_never_fails(rt: HostRuntime) {
-    let mut steady = SteadyDialer::new(rt.alloc(), 2).expect(&rt, "a dialer");
+    let rt = &rt;
+    let mut steady = SteadyDialer::new(rt.alloc(), 2).expect(rt, "a dialer");
     steady.local = Some(PEER);
-    same(&rt, connect(&mut steady, &PEER, None), Ok(Some(PEER)));
-    same(&rt, connect_uds(rt.alloc(), &mut steady, "/tmp/u"), Ok(()));
-    same(&rt, steady.faults(), 0);
-    let path = Text::new(rt.alloc(), "/tmp/u").expect(&rt, "a path");
-    let calls = steady.calls.told().expect(&rt, "calls");
-    let last = calls.last().expect(&rt, "a call");
-    holds(&rt, last.target == Target::Unix(path));
-    holds(&rt, last.answer == DialAnswer::Connected(Some(PEER)));
+    same(rt, connect(&mut steady, &PEER, None), Ok(Some(PEER)));
+    same(rt, connect_uds(rt.alloc(), &mut steady, "/tmp/u"), Ok(()));
+    same(rt, steady.faults(), 0);
+    let path = Text::new(rt.alloc(), "/tmp/u").expect(rt, "a path");
+    let calls = steady.calls.told().expect(rt, "calls");
+    let last = calls.last().expect(rt, "a call");
+    holds(rt, last.target == Target::Unix(path));
+    holds(rt, last.answer == DialAnswer::Connected(Some(PEER)));
 }
 
 #[test]

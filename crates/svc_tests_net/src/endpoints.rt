@@ -46,36 +46,38 @@ fn settings() -> TlsSettings {
 
 #[test]
 fn an_address_has_a_text_and_a_copy(rt: HostRuntime) {
-    let address = ServerAddress::Tcp(text(&rt, "1.1.1.1:80"), Some(OPTIONS));
-    let copy = address.copy(rt.alloc()).expect(&rt, "an address");
-    same(&rt, copy.as_str(), "1.1.1.1:80");
-    same(&rt, copy.tcp_sock_opts(), Some(OPTIONS));
-    let address = ServerAddress::Uds(text(&rt, "/tmp/u"), Some(Permissions(0o600)));
-    holds(&rt, address.is_unix());
-    same(&rt, Listener::Unix(7).number(), 7);
+    let rt = &rt;
+    let address = ServerAddress::Tcp(text(rt, "1.1.1.1:80"), Some(OPTIONS));
+    let copy = address.copy(rt.alloc()).expect(rt, "an address");
+    same(rt, copy.as_str(), "1.1.1.1:80");
+    same(rt, copy.tcp_sock_opts(), Some(OPTIONS));
+    let address = ServerAddress::Uds(text(rt, "/tmp/u"), Some(Permissions(0o600)));
+    holds(rt, address.is_unix());
+    same(rt, Listener::Unix(7).number(), 7);
 }
 
 #[test]
 fn a_configuration_takes_what_fits(rt: HostRuntime) {
-    let config = ListenerConfig::tcp(text(&rt, "1.1.1.1:80"));
+    let rt = &rt;
+    let config = ListenerConfig::tcp(text(rt, "1.1.1.1:80"));
     let config = config
         .tcp_socket_options(OPTIONS)
         .ok()
-        .expect(&rt, "options of TCP");
+        .expect(rt, "options of TCP");
     let config = config
         .tls(settings())
         .l4_buffer(L4BufferSettings::unbuffered());
     let refused = config.permissions(Permissions(0o600)).err();
-    let refused = refused.expect(&rt, "a refusal");
-    same(&rt, refused.reason, ConfigError::NotUds);
-    let config = ListenerConfig::uds(text(&rt, "/tmp/u"));
+    let refused = refused.expect(rt, "a refusal");
+    same(rt, refused.reason, ConfigError::NotUds);
+    let config = ListenerConfig::uds(text(rt, "/tmp/u"));
     let config = config
         .permissions(Permissions(0o600))
         .ok()
-        .expect(&rt, "permissions");
+        .expect(rt, "permissions");
     let refused = config.tcp_socket_options(OPTIONS).err();
-    let refused = refused.expect(&rt, "a refusal");
-    same(&rt, refused.reason, ConfigError::NotTcp);
+    let refused = refused.expect(rt, "a refusal");
+    same(rt, refused.reason, ConfigError::NotTcp);
 }
 
 /// The texts, joined by commas.
@@ -95,13 +97,14 @@ fn are_at<R: Abort + AllocGlobal>(rt: &R, listeners: &Listeners, wanted: &str) {
 
 #[test]
 fn listeners_have_addresses(rt: HostRuntime) {
+    let rt = &rt;
     let alloc = rt.alloc();
-    let tcp = Listeners::tcp(alloc, "X").expect(&rt, "a listener");
-    are_at(&rt, &tcp, "X,");
+    let tcp = Listeners::tcp(alloc, "X").expect(rt, "a listener");
+    are_at(rt, &tcp, "X,");
     let unix = Listeners::uds(alloc, "/tmp/u", Some(Permissions(0o600)));
-    are_at(&rt, &unix.expect(&rt, "a listener"), "/tmp/u,");
-    let tls = Listeners::tls(alloc, "X", "cert", "key").expect(&rt, "a listener");
-    are_at(&rt, &tls, "X,");
+    are_at(rt, &unix.expect(rt, "a listener"), "/tmp/u,");
+    let tls = Listeners::tls(alloc, "X", "cert", "key").expect(rt, "a listener");
+    are_at(rt, &tls, "X,");
 }
 
 fn added<R: Abort>(rt: &R, answer: Result<(), EndpointRefused>) {
@@ -110,23 +113,24 @@ fn added<R: Abort>(rt: &R, answer: Result<(), EndpointRefused>) {
 
 #[test]
 fn listeners_take_each_kind_of_endpoint(rt: HostRuntime) {
+    let rt = &rt;
     let alloc = rt.alloc();
     let mut listeners = Listeners::new(alloc);
-    added(&rt, listeners.add_tcp(alloc, "a"));
-    added(&rt, listeners.add_tcp_with_settings(alloc, "b", OPTIONS));
-    added(&rt, listeners.add_uds(alloc, "c", None));
-    added(&rt, listeners.add_tls(alloc, "d", "cert", "key"));
+    added(rt, listeners.add_tcp(alloc, "a"));
+    added(rt, listeners.add_tcp_with_settings(alloc, "b", OPTIONS));
+    added(rt, listeners.add_uds(alloc, "c", None));
+    added(rt, listeners.add_tls(alloc, "d", "cert", "key"));
     added(
-        &rt,
+        rt,
         listeners.add_tls_with_settings(alloc, "e", Some(OPTIONS), settings()),
     );
-    added(&rt, listeners.add_address(alloc, tcp(&rt, "f")));
+    added(rt, listeners.add_address(alloc, tcp(rt, "f")));
     added(
-        &rt,
-        listeners.add_listener(alloc, ListenerConfig::tcp(text(&rt, "g"))),
+        rt,
+        listeners.add_listener(alloc, ListenerConfig::tcp(text(rt, "g"))),
     );
-    added(&rt, listeners.add_endpoint(alloc, tcp(&rt, "h"), None));
-    are_at(&rt, &listeners, "a,b,c,d,e,f,g,h,");
+    added(rt, listeners.add_endpoint(alloc, tcp(rt, "h"), None));
+    are_at(rt, &listeners, "a,b,c,d,e,f,g,h,");
 }
 
 /// An application that gives its stream back so often, and counts how often it was cleaned up.
@@ -172,81 +176,86 @@ fn told_at(alloc: Global, service: &Service<Counting>, at: usize) -> Option<(Opt
 
 #[test]
 fn a_filter_is_every_endpoints(rt: HostRuntime) {
+    let rt = &rt;
     let alloc = rt.alloc();
-    let mut listeners = Listeners::tcp(alloc, "X").expect(&rt, "a listener");
+    let mut listeners = Listeners::tcp(alloc, "X").expect(rt, "a listener");
     listeners.set_connection_filter(3);
     listeners.set_pre_tls_callback(4);
-    added(&rt, listeners.add_uds(alloc, "/tmp/u", None));
-    let (app, _) = app(&rt);
-    let mut service = Service::with_listeners(text(&rt, "web"), listeners, app);
-    same(&rt, told_at(alloc, &service, 1), Some((Some(3), 1)));
+    added(rt, listeners.add_uds(alloc, "/tmp/u", None));
+    let (app, _) = app(rt);
+    let mut service = Service::with_listeners(text(rt, "web"), listeners, app);
+    same(rt, told_at(alloc, &service, 1), Some((Some(3), 1)));
     service.set_connection_filter(5);
-    added(&rt, service.add_tcp_with_settings(alloc, "Y", OPTIONS));
+    added(rt, service.add_tcp_with_settings(alloc, "Y", OPTIONS));
     for (at, told) in [(0, Some((Some(5), 1))), (2, Some((Some(5), 5))), (3, None)] {
-        same(&rt, told_at(alloc, &service, at), told);
+        same(rt, told_at(alloc, &service, at), told);
     }
 }
 
 #[test]
 fn a_service_takes_each_kind_of_endpoint(rt: HostRuntime) {
+    let rt = &rt;
     let alloc = rt.alloc();
-    let mut service = service(&rt);
-    added(&rt, service.add_tcp(alloc, "a"));
-    added(&rt, service.add_tcp_with_settings(alloc, "b", OPTIONS));
-    added(&rt, service.add_uds(alloc, "c", None));
-    added(&rt, service.add_tls(alloc, "d", "cert", "key"));
+    let mut service = service(rt);
+    added(rt, service.add_tcp(alloc, "a"));
+    added(rt, service.add_tcp_with_settings(alloc, "b", OPTIONS));
+    added(rt, service.add_uds(alloc, "c", None));
+    added(rt, service.add_tls(alloc, "d", "cert", "key"));
     added(
-        &rt,
+        rt,
         service.add_tls_with_settings(alloc, "e", Some(OPTIONS), settings()),
     );
-    added(&rt, service.add_address(alloc, tcp(&rt, "f")));
+    added(rt, service.add_address(alloc, tcp(rt, "f")));
     added(
-        &rt,
-        service.add_listener(alloc, ListenerConfig::tcp(text(&rt, "g"))),
+        rt,
+        service.add_listener(alloc, ListenerConfig::tcp(text(rt, "g"))),
     );
     added(
-        &rt,
-        service.endpoints().add_endpoint(alloc, tcp(&rt, "h"), None),
+        rt,
+        service.endpoints().add_endpoint(alloc, tcp(rt, "h"), None),
     );
-    let listed = service.listen_addresses(alloc).expect(&rt, "addresses");
-    let texts = listed.expect(&rt, "declared addresses");
-    same(&rt, joined(&rt, &texts).as_str(), "a,b,c,d,e,f,g,h,");
+    let listed = service.listen_addresses(alloc).expect(rt, "addresses");
+    let texts = listed.expect(rt, "declared addresses");
+    same(rt, joined(rt, &texts).as_str(), "a,b,c,d,e,f,g,h,");
 }
 
 #[test]
 fn a_service_hands_its_application_out_once(rt: HostRuntime) {
-    let mut service = service(&rt);
-    same(&rt, service.name(), "web");
+    let rt = &rt;
+    let mut service = service(rt);
+    same(rt, service.name(), "web");
     service.threads = Some(2);
-    same(&rt, service.threads(), Some(2));
+    same(rt, service.threads(), Some(2));
     if let Some(app) = service.app_logic_mut() {
         app.turns = 7;
     }
-    let app = service.app_logic().expect(&rt, "an application");
-    same(&rt, app.turns, 7);
-    same(&rt, service.poll_start(false, 1), RunPoll::Pending);
-    holds(&rt, service.app_logic().is_none());
-    holds(&rt, service.app_logic_mut().is_none());
+    let app = service.app_logic().expect(rt, "an application");
+    same(rt, app.turns, 7);
+    same(rt, service.poll_start(false, 1), RunPoll::Pending);
+    holds(rt, service.app_logic().is_none());
+    holds(rt, service.app_logic_mut().is_none());
 }
 
 #[test]
 fn a_service_cleans_up_once(rt: HostRuntime) {
-    let (app, cleanups) = app(&rt);
-    let mut service = Service::new(rt.alloc(), text(&rt, "web"), app);
-    same(&rt, service.poll_start(false, 1), RunPoll::Pending);
+    let rt = &rt;
+    let (app, cleanups) = app(rt);
+    let mut service = Service::new(rt.alloc(), text(rt, "web"), app);
+    same(rt, service.poll_start(false, 1), RunPoll::Pending);
     for (shutdown, poll, count) in [
         (false, RunPoll::Pending, 0),
         (true, RunPoll::Ended, 1),
         (true, RunPoll::Ended, 1),
     ] {
-        same(&rt, service.poll_run(shutdown), poll);
-        same(&rt, cleanups.get(), count);
+        same(rt, service.poll_run(shutdown), poll);
+        same(rt, cleanups.get(), count);
     }
 }
 
 #[test]
 fn a_service_replaces_runtime_options(rt: HostRuntime) {
-    let mut service = service(&rt);
+    let rt = &rt;
+    let mut service = service(rt);
     let global = RuntimeOpts::default();
     let metrics = None;
     let replaced = RuntimeOpts {
@@ -259,13 +268,14 @@ fn a_service_replaces_runtime_options(rt: HostRuntime) {
             enable_alt_timer,
         };
         service.set_runtime_opts_override(options);
-        same(&rt, service.runtime_opts_override(&global), replaced);
+        same(rt, service.runtime_opts_override(&global), replaced);
     }
 }
 
 #[test]
 fn an_application_is_called_until_it_keeps_its_stream(rt: HostRuntime) {
-    let (mut app, _) = app(&rt);
+    let rt = &rt;
+    let (mut app, _) = app(rt);
     let handled = Service::handle_event(&mut app, 1u8, false, 3);
-    holds(&rt, matches!(handled, Handled::Done));
+    holds(rt, matches!(handled, Handled::Done));
 }

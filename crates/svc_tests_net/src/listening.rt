@@ -90,8 +90,9 @@ fn counts(binder: &MemoryBinder) -> (u64, u64) {
 
 #[test]
 fn a_held_address_is_adopted(rt: HostRuntime) {
-    let mut table = table(&rt, "X", 40);
-    let mut binder = binder(&rt, &[1]);
+    let rt = &rt;
+    let mut table = table(rt, "X", 40);
+    let mut binder = binder(rt, &[1]);
     let had = Had {
         fd: 40,
         own: None,
@@ -101,75 +102,79 @@ fn a_held_address_is_adopted(rt: HostRuntime) {
         Ok(had),
         Err(ListenError::BindError(BindErrorKind::AdoptFailed)),
     ] {
-        let got = listened(&rt, tcp(&rt, "X"), Some(&mut table), &mut binder);
-        same(&rt, got, wanted);
+        let got = listened(rt, tcp(rt, "X"), Some(&mut table), &mut binder);
+        same(rt, got, wanted);
     }
-    same(&rt, counts(&binder), (0, 0));
-    same(&rt, binder.faults(), 1);
-    same(&rt, spent(&rt, table).as_str(), "X 40;");
+    same(rt, counts(&binder), (0, 0));
+    same(rt, binder.faults(), 1);
+    same(rt, spent(rt, table).as_str(), "X 40;");
 }
 
 #[test]
 fn a_new_descriptor_enters_the_table(rt: HostRuntime) {
-    let mut table = table(&rt, "X", 40);
-    let mut binder = binder(&rt, &[]);
-    let unix = ServerAddress::Uds(text(&rt, "/tmp/u"), None);
-    let got = listened(&rt, unix, Some(&mut table), &mut binder);
+    let rt = &rt;
+    let mut table = table(rt, "X", 40);
+    let mut binder = binder(rt, &[]);
+    let unix = ServerAddress::Uds(text(rt, "/tmp/u"), None);
+    let got = listened(rt, unix, Some(&mut table), &mut binder);
     let had = Had {
         fd: 7,
         own: None,
         listener: Listener::Unix(7),
     };
-    same(&rt, got, Ok(had));
-    let got = listened(&rt, tcp(&rt, "Y"), None, &mut binder);
+    same(rt, got, Ok(had));
+    let got = listened(rt, tcp(rt, "Y"), None, &mut binder);
     let had = Had {
         fd: 8,
         own: Some(8),
         listener: Listener::Tcp(8),
     };
-    same(&rt, got, Ok(had));
-    same(&rt, spent(&rt, table).as_str(), "/tmp/u 7;X 40;");
+    same(rt, got, Ok(had));
+    same(rt, spent(rt, table).as_str(), "/tmp/u 7;X 40;");
 }
 
 #[test]
 fn an_address_in_use_is_tried_thirty_times(rt: HostRuntime) {
+    let rt = &rt;
     let in_use = ListenError::BindError(BindErrorKind::StillInUse);
     for (busy, refused) in [(29, None), (30, Some(in_use))] {
-        let mut binder = binder(&rt, &[]);
+        let mut binder = binder(rt, &[]);
         binder.busy = busy;
-        let got = listened(&rt, tcp(&rt, "X"), None, &mut binder);
-        same(&rt, got.err(), refused);
-        same(&rt, counts(&binder), (30, 29));
-        same(&rt, binder.waits(), busy);
+        let got = listened(rt, tcp(rt, "X"), None, &mut binder);
+        same(rt, got.err(), refused);
+        same(rt, counts(&binder), (30, 29));
+        same(rt, binder.waits(), busy);
     }
 }
 
 #[test]
 fn a_failed_bind_is_told(rt: HostRuntime) {
-    let mut binder = binder(&rt, &[0]);
-    let refused = listened(&rt, tcp(&rt, "Y"), None, &mut binder);
+    let rt = &rt;
+    let mut binder = binder(rt, &[0]);
+    let refused = listened(rt, tcp(rt, "Y"), None, &mut binder);
     same(
-        &rt,
+        rt,
         refused,
         Err(ListenError::BindError(BindErrorKind::Failed)),
     );
     match ListenerEndpointBuilder::new().listen(rt.alloc(), None, &mut binder) {
         Ok(endpoint) => {
             let _ = endpoint.close().map(|fd| fd.close());
-            holds(&rt, false);
+            holds(rt, false);
         }
-        Err(refused) => same(&rt, refused.reason, ListenError::NoAddress),
+        Err(refused) => same(rt, refused.reason, ListenError::NoAddress),
     }
 }
 
 #[test]
 fn a_steady_binder_never_fails(rt: HostRuntime) {
-    let mut steady = SteadyBinder::new(rt.alloc(), 9, 3).expect(&rt, "a binder");
-    let had = listened(&rt, tcp(&rt, "Z"), None, &mut steady);
-    same(&rt, had.expect(&rt, "an endpoint").fd, 3);
-    holds(&rt, steady.adopt(&tcp(&rt, "Z"), 3));
+    let rt = &rt;
+    let mut steady = SteadyBinder::new(rt.alloc(), 9, 3).expect(rt, "a binder");
+    let had = listened(rt, tcp(rt, "Z"), None, &mut steady);
+    same(rt, had.expect(rt, "an endpoint").fd, 3);
+    holds(rt, steady.adopt(&tcp(rt, "Z"), 3));
     steady.rest(5);
-    same(&rt, (steady.faults(), steady.waits()), (0, 0));
-    let calls = steady.calls.told().expect(&rt, "calls");
-    same(&rt, calls.len(), 3);
+    same(rt, (steady.faults(), steady.waits()), (0, 0));
+    let calls = steady.calls.told().expect(rt, "calls");
+    same(rt, calls.len(), 3);
 }

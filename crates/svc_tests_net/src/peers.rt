@@ -32,6 +32,7 @@ fn addresses_are_read(rt: HostRuntime) {
 
 #[test]
 fn peers_are_read(rt: HostRuntime) {
+    let rt = &rt;
     for (text, peer) in [
         ("127.0.0.1:8080", Some(LOCAL)),
         ("[0:0:0:0:0:0:0:1]:65535", Some(WIDE)),
@@ -41,7 +42,7 @@ fn peers_are_read(rt: HostRuntime) {
         ("0:0:0:0:0:0:0:1:65535", None),
         ("[127.0.0.1]:80", None),
     ] {
-        same(&rt, read_peer(text), peer);
+        same(rt, read_peer(text), peer);
     }
     for (word, peer) in [
         (b"-".as_slice(), Some(Peer::Unknown)),
@@ -49,6 +50,6 @@ fn peers_are_read(rt: HostRuntime) {
         (b"127.0.0.1:8080".as_slice(), Some(Peer::Inet(LOCAL))),
         (b"nobody".as_slice(), None),
     ] {
-        same(&rt, read_peer_word(word), peer);
+        same(rt, read_peer_word(word), peer);
     }
 }

@@ -20,14 +20,16 @@ const FAR: PeerAddr = PeerAddr::V6 {
 
 #[test]
 fn peers_have_texts(rt: HostRuntime) {
-    prints(&rt, LOCAL, "127.0.0.1:8080");
-    prints(&rt, Peer::Inet(FAR), "[2001:db8:0:0:0:0:0:ff]:443");
-    prints(&rt, Peer::Unknown, "-");
-    prints(&rt, Peer::Unix, "unix");
+    let rt = &rt;
+    prints(rt, LOCAL, "127.0.0.1:8080");
+    prints(rt, Peer::Inet(FAR), "[2001:db8:0:0:0:0:0:ff]:443");
+    prints(rt, Peer::Unknown, "-");
+    prints(rt, Peer::Unix, "unix");
 }
 
 #[test]
 fn errors_of_options_have_texts(rt: HostRuntime) {
+    let rt = &rt;
     for (error, text) in [
         (OptionError::TooLarge, "a value is over 2147483647"),
         (
@@ -43,14 +45,15 @@ fn errors_of_options_have_texts(rt: HostRuntime) {
             "an option of a listening socket couldn't be set",
         ),
     ] {
-        prints(&rt, error, text);
+        prints(rt, error, text);
     }
-    prints(&rt, NoTls, "there is no TLS");
-    prints(&rt, CertKey, "");
+    prints(rt, NoTls, "there is no TLS");
+    prints(rt, CertKey, "");
 }
 
 #[test]
 fn errors_of_a_connect_have_texts(rt: HostRuntime) {
+    let rt = &rt;
     for (kind, text) in [
         (ConnectKind::SocketError, "the socket couldn't be made"),
         (
@@ -67,7 +70,7 @@ fn errors_of_a_connect_have_texts(rt: HostRuntime) {
         let source = None;
         let local_addr = None;
         let details = ConnectErrorDetails { source, local_addr };
-        prints(&rt, ConnectError { kind, details }, text);
+        prints(rt, ConnectError { kind, details }, text);
     }
     for (source, local_addr, text) in [
         (None, Some(LOCAL), "local address 127.0.0.1:8080"),
@@ -76,16 +79,17 @@ fn errors_of_a_connect_have_texts(rt: HostRuntime) {
         (Some(DialFault::Bind), None, "Bind"),
         (Some(DialFault::Os(OsFault::Refused)), None, "Os"),
     ] {
-        prints(&rt, ConnectErrorDetails { source, local_addr }, text);
+        prints(rt, ConnectErrorDetails { source, local_addr }, text);
     }
 }
 
 #[test]
 fn errors_of_a_listener_have_texts(rt: HostRuntime) {
-    prints(&rt, ConfigError::NotTcp, "the endpoint isn't TCP");
-    prints(&rt, ConfigError::NotUds, "the endpoint isn't a Unix socket");
-    prints(&rt, ListenError::NoAddress, "no address was given");
-    prints(&rt, ListenError::NoMemory, "out of memory");
+    let rt = &rt;
+    prints(rt, ConfigError::NotTcp, "the endpoint isn't TCP");
+    prints(rt, ConfigError::NotUds, "the endpoint isn't a Unix socket");
+    prints(rt, ListenError::NoAddress, "no address was given");
+    prints(rt, ListenError::NoMemory, "out of memory");
     for (kind, text) in [
         (
             BindErrorKind::AdoptFailed,
@@ -94,7 +98,7 @@ fn errors_of_a_listener_have_texts(rt: HostRuntime) {
         (BindErrorKind::Failed, "the address couldn't be bound"),
         (BindErrorKind::StillInUse, "the address is still in use"),
     ] {
-        prints(&rt, kind, text);
-        prints(&rt, ListenError::BindError(kind), text);
+        prints(rt, kind, text);
+        prints(rt, ListenError::BindError(kind), text);
     }
 }

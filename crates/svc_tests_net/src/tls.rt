@@ -14,27 +14,29 @@ use svc_streams::{TlsAccept, TlsAcceptCallbacks};
 
 #[test]
 fn tls_that_is_none_refuses(rt: HostRuntime) {
+    let rt = &rt;
     let mut settings = TlsSettings::intermediate("cert", "key");
     settings.enable_h2();
     settings.set_offload_threadpool(1, 2);
     let refused = settings.build().tls_handshake(7u8).err();
-    same(&rt, refused.expect(&rt, "a refusal").stream, 7);
+    same(rt, refused.expect(rt, "a refusal").stream, 7);
     let _ = connectors::Connector::new();
-    same(&rt, CertWrapper.not_after(), "");
-    holds(&rt, get_organization_unit(&CertWrapper).is_none());
+    same(rt, CertWrapper.not_after(), "");
+    holds(rt, get_organization_unit(&CertWrapper).is_none());
 }
 
 #[test]
 fn a_stream_without_tls_moves_nothing(rt: HostRuntime) {
+    let rt = &rt;
     let mut stream: SslStream<u8> = connectors::tls_connect(7u8);
     let mut buffer = [0u8; 4];
-    same(&rt, stream.poll_read(&mut buffer), IoPoll::Ready(0));
-    same(&rt, stream.poll_write(b"hello"), IoPoll::Ready(5));
-    same(&rt, stream.poll_flush(), IoPoll::Ready(0));
-    same(&rt, stream.poll_shutdown(), IoPoll::Ready(0));
+    same(rt, stream.poll_read(&mut buffer), IoPoll::Ready(0));
+    same(rt, stream.poll_write(b"hello"), IoPoll::Ready(5));
+    same(rt, stream.poll_flush(), IoPoll::Ready(0));
+    same(rt, stream.poll_shutdown(), IoPoll::Ready(0));
     stream.shutdown();
-    same(&rt, stream.id(), 0);
-    same(&rt, stream.get_socket_digest(), None);
+    same(rt, stream.id(), 0);
+    same(rt, stream.get_socket_digest(), None);
 }
 
 /// Calls of a handshake that keep every default.
@@ -45,10 +47,11 @@ impl TlsAccept for Silent {}
 
 #[test]
 fn tls_calls_have_defaults(rt: HostRuntime) {
-    let mut calls: TlsAcceptCallbacks = Box::new(rt.alloc(), Silent).ok().expect(&rt, "a box");
+    let rt = &rt;
+    let mut calls: TlsAcceptCallbacks = Box::new(rt.alloc(), Silent).ok().expect(rt, "a box");
     let mut ssl = TlsRef;
     calls.certificate_callback(&mut ssl);
-    same(&rt, calls.handshake_complete_callback(&ssl), None);
+    same(rt, calls.handshake_complete_callback(&ssl), None);
 }
 
 fn text<R: Abort + AllocGlobal>(rt: &R, text: &str) -> Text {
@@ -57,25 +60,26 @@ fn text<R: Abort + AllocGlobal>(rt: &R, text: &str) -> Text {
 
 #[test]
 fn a_digest_is_copied(rt: HostRuntime) {
+    let rt = &rt;
     let mut bytes = Bytes::new(rt.alloc());
-    holds(&rt, bytes.push(rt.alloc(), 9).is_ok());
-    let organization = Some(text(&rt, "org"));
+    holds(rt, bytes.push(rt.alloc(), 9).is_ok());
+    let organization = Some(text(rt, "org"));
     let mut digest = SslDigest::new(
-        text(&rt, "AES"),
-        text(&rt, "TLSv1.3"),
+        text(rt, "AES"),
+        text(rt, "TLSv1.3"),
         organization,
         None,
         bytes,
     );
     digest.extension.set(5u8);
-    let copy = digest.copy(rt.alloc()).expect(&rt, "a digest");
-    same(&rt, copy.cipher.as_str(), "AES");
-    same(&rt, copy.version.as_str(), "TLSv1.3");
-    let organization = copy.organization.expect(&rt, "an organization");
-    same(&rt, organization.as_str(), "org");
-    holds(&rt, copy.serial_number.is_none());
-    same(&rt, copy.cert_digest.as_slice(), [9].as_slice());
-    same(&rt, copy.extension.get().copied(), Some(5));
+    let copy = digest.copy(rt.alloc()).expect(rt, "a digest");
+    same(rt, copy.cipher.as_str(), "AES");
+    same(rt, copy.version.as_str(), "TLSv1.3");
+    let organization = copy.organization.expect(rt, "an organization");
+    same(rt, organization.as_str(), "org");
+    holds(rt, copy.serial_number.is_none());
+    same(rt, copy.cert_digest.as_slice(), [9].as_slice());
+    same(rt, copy.extension.get().copied(), Some(5));
 }
 
 /// A stream that gives and takes up to so many bytes.
@@ -113,16 +117,17 @@ impl VirtualSocket for Pipe {
 
 #[test]
 fn a_virtual_stream_forwards_its_calls(rt: HostRuntime) {
+    let rt = &rt;
     let pipe = Box::new(rt.alloc(), Pipe { bytes: 2 })
         .ok()
-        .expect(&rt, "a box");
+        .expect(rt, "a box");
     let mut stream: VirtualSocketStream = VirtualSocketStream::new(pipe);
     let mut buf = [0u8; 3];
-    same(&rt, stream.poll_read(&mut buf), IoPoll::Ready(2));
-    same(&rt, buf, [7, 7, 7]);
-    same(&rt, stream.poll_write(b"a"), IoPoll::Ready(1));
-    same(&rt, stream.poll_flush(), IoPoll::Pending);
-    same(&rt, stream.poll_shutdown(), IoPoll::Failed);
+    same(rt, stream.poll_read(&mut buf), IoPoll::Ready(2));
+    same(rt, buf, [7, 7, 7]);
+    same(rt, stream.poll_write(b"a"), IoPoll::Ready(1));
+    same(rt, stream.poll_flush(), IoPoll::Pending);
+    same(rt, stream.poll_shutdown(), IoPoll::Failed);
     let keepalive = TcpKeepalive {
         idle: 1,
         interval: 2,
@@ -133,6 +138,6 @@ fn a_virtual_stream_forwards_its_calls(rt: HostRuntime) {
         (VirtualSockOpt::NoDelay, true),
         (VirtualSockOpt::KeepAlive(keepalive), false),
     ] {
-        same(&rt, stream.set_socket_option(option), set);
+        same(rt, stream.set_socket_option(option), set);
     }
 }

@@ -41,21 +41,22 @@ fn next<R: Abort + AllocGlobal, H: Host>(rt: &R, host: &mut H) -> Next {
 
 #[test]
 fn a_host_gives_events_and_faults_in_turn(rt: HostRuntime) {
-    let mut host: ScriptHost<Listener> = ScriptHost::new(rt.alloc(), items(&rt));
-    start_one(&rt, &mut host, listening(&rt, "web", "a:1"));
+    let rt = &rt;
+    let mut host: ScriptHost<Listener> = ScriptHost::new(rt.alloc(), items(rt));
+    start_one(rt, &mut host, listening(rt, "web", "a:1"));
     for answer in [Next::Event, Next::Failed, Next::None, Next::None] {
-        same(&rt, next(&rt, &mut host), answer);
+        same(rt, next(rt, &mut host), answer);
     }
     same(
-        &rt,
+        rt,
         (host.faults(), host.idles(), host.failures()),
         (1, 2, 0),
     );
-    same(&rt, host.phases(), [ExecutionPhase::Running].as_slice());
+    same(rt, host.phases(), [ExecutionPhase::Running].as_slice());
     let mut text = String::new(rt.alloc());
     for entry in host.entries().as_slice() {
-        let line = format!(in rt.alloc(); "{entry};").expect(&rt, "a text");
-        holds(&rt, text.push_str(line.as_str()).is_ok());
+        let line = format!(in rt.alloc(); "{entry};").expect(rt, "a text");
+        holds(rt, text.push_str(line.as_str()).is_ok());
     }
-    same(&rt, text.as_str(), "start 0;phase Running 20;got ready 0;");
+    same(rt, text.as_str(), "start 0;phase Running 20;got ready 0;");
 }

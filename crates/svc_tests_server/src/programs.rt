@@ -22,14 +22,15 @@ fn serve<R: Abort + AllocGlobal>(rt: &R, reads: &[u64], writes: &[u64]) -> (Stat
 
 #[test]
 fn faults_have_their_statuses(rt: HostRuntime) {
+    let rt = &rt;
     for (reads, writes, code, out) in [
         ([0u64].as_slice(), [].as_slice(), 5, "status read fault\n"),
         ([2].as_slice(), [].as_slice(), 5, "status read fault\n"),
         ([].as_slice(), [0u64].as_slice(), 6, ""),
         ([].as_slice(), [2].as_slice(), 6, "phase Runn"),
     ] {
-        let (status, bytes) = serve(&rt, reads, writes);
-        same(&rt, status, Status(code));
-        same(&rt, bytes.as_slice(), out.as_bytes());
+        let (status, bytes) = serve(rt, reads, writes);
+        same(rt, status, Status(code));
+        same(rt, bytes.as_slice(), out.as_bytes());
     }
 }

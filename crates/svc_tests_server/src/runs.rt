@@ -29,14 +29,15 @@ fn fast<R: Abort + AllocGlobal>(rt: &R) -> Vec<Item>
 
 #[test]
 fn boxed_services_run_forever(rt: HostRuntime) {
-    let web = Box::new(rt.alloc(), listening(&rt, "web", "a:1")).ok();
-    let web: Box<dyn ServiceWithDependents> = web.expect(&rt, "a box");
-    let mut server = server(&rt);
-    let _ = added(&rt, &mut server, web);
-    let mut host = ScriptHost::new(rt.alloc(), fast(&rt));
-    same(&rt, server.run_forever(rt.alloc(), &mut host), Ok(0));
+    let rt = &rt;
+    let web = Box::new(rt.alloc(), listening(rt, "web", "a:1")).ok();
+    let web: Box<dyn ServiceWithDependents> = web.expect(rt, "a box");
+    let mut server = server(rt);
+    let _ = added(rt, &mut server, web);
+    let mut host = ScriptHost::new(rt.alloc(), fast(rt));
+    same(rt, server.run_forever(rt.alloc(), &mut host), Ok(0));
     same(
-        &rt,
+        rt,
         host.phases().last().copied(),
         Some(ExecutionPhase::Terminated),
     );
@@ -44,10 +45,11 @@ fn boxed_services_run_forever(rt: HostRuntime) {
 
 #[test]
 fn turns_are_counted(rt: HostRuntime) {
+    let rt = &rt;
     for (turns, outcome) in [(0, Err(RunError::TurnsSpent)), (1, Ok(Outcome::Served))] {
-        let mut host: ScriptHost<Late> = ScriptHost::new(rt.alloc(), fast(&rt));
-        let answer = server(&rt).run(rt.alloc(), RunArgs { turns }, &mut host);
-        same(&rt, answer, outcome);
+        let mut host: ScriptHost<Late> = ScriptHost::new(rt.alloc(), fast(rt));
+        let answer = server(rt).run(rt.alloc(), RunArgs { turns }, &mut host);
+        same(rt, answer, outcome);
     }
 }
 
@@ -122,14 +124,13 @@ fn with<R: Abort>(rt: &R, mut items: Vec<Item>, item: Item) -> Vec<Item>
 
 #[test]
 fn a_service_is_told_how_long_it_waited(rt: HostRuntime) {
-    let waited = Rc::new(rt.alloc(), Cell::new(0))
-        .ok()
-        .expect(&rt, "a count");
-    let server = late_services(&rt, &waited);
-    let items = with(&rt, Vec::new(rt.alloc()), Item::Event(Event::Moment(700)));
-    let items = with(&rt, items, Item::Event(Event::Ready(0)));
+    let rt = &rt;
+    let waited = Rc::new(rt.alloc(), Cell::new(0)).ok().expect(rt, "a count");
+    let server = late_services(rt, &waited);
+    let items = with(rt, Vec::new(rt.alloc()), Item::Event(Event::Moment(700)));
+    let items = with(rt, items, Item::Event(Event::Ready(0)));
     let mut host = ScriptHost::new(rt.alloc(), items);
     let answer = server.run(rt.alloc(), RunArgs { turns: 2 }, &mut host);
-    same(&rt, answer, Err(RunError::TurnsSpent));
-    same(&rt, waited.get(), 700);
+    same(rt, answer, Err(RunError::TurnsSpent));
+    same(rt, waited.get(), 700);
 }

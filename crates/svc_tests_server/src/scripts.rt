@@ -14,6 +14,7 @@ fn refused_line<R: AllocGlobal>(rt: &R, bytes: &[u8]) -> Option<usize> {
 
 #[test]
 fn parts_are_refused_at_their_line(rt: HostRuntime) {
+    let rt = &rt;
     for (text, line) in [
         (b"".as_slice(), 1),
         (b"x\n%conf\n", 1),
@@ -30,7 +31,7 @@ fn parts_are_refused_at_their_line(rt: HostRuntime) {
         (b"%conf\nversion: 1\r", 2),
         (b"%conf\nversion: 1\n%events\n", 3),
     ] {
-        same(&rt, refused_line(&rt, text), Some(line));
+        same(rt, refused_line(rt, text), Some(line));
     }
 }
 
@@ -51,6 +52,7 @@ fn refused_of<R: Abort + AllocGlobal>(rt: &R, lines: &[u8]) -> Option<usize> {
 
 #[test]
 fn service_lines_are_refused(rt: HostRuntime) {
+    let rt = &rt;
     for (line, refused) in [
         (b"a".as_slice(), Some(3)),
         (b"a boot", Some(3)),
@@ -76,7 +78,7 @@ fn service_lines_are_refused(rt: HostRuntime) {
         (b"a plain block 256.0.0.1", Some(3)),
         (b"a plain block 0:0:0:0:0:0:0:1", None),
     ] {
-        same(&rt, refused_of(&rt, line), refused);
+        same(rt, refused_of(rt, line), refused);
     }
 }
 
@@ -92,18 +94,15 @@ fn long<R: Abort + AllocGlobal>(rt: &R, front: &[u8], count: usize, end: &[u8]) 
 
 #[test]
 fn names_and_addresses_have_limits(rt: HostRuntime) {
+    let rt = &rt;
     for (front, most, end) in [
         (b"".as_slice(), 255, b" plain tcp a".as_slice()),
         (b"n plain tcp ", 4096, b""),
         (b"n plain claim ", 4096, b""),
         (b"n plain tcp x unix ", 4096, b""),
     ] {
-        same(&rt, refused_of(&rt, &long(&rt, front, most, end)), None);
-        same(
-            &rt,
-            refused_of(&rt, &long(&rt, front, most + 1, end)),
-            Some(3),
-        );
+        same(rt, refused_of(rt, &long(rt, front, most, end)), None);
+        same(rt, refused_of(rt, &long(rt, front, most + 1, end)), Some(3));
     }
 }
 
@@ -118,19 +117,21 @@ fn repeated<R: Abort + AllocGlobal>(rt: &R, part: &[u8], count: usize) -> Vec<u8
 
 #[test]
 fn services_and_endpoints_have_limits(rt: HostRuntime) {
-    let most = repeated(&rt, b"s plain\n", 1024);
-    same(&rt, refused_of(&rt, &most), None);
-    let more = repeated(&rt, b"s plain\n", 1025);
-    same(&rt, refused_of(&rt, &more), Some(1027));
+    let rt = &rt;
+    let most = repeated(rt, b"s plain\n", 1024);
+    same(rt, refused_of(rt, &most), None);
+    let more = repeated(rt, b"s plain\n", 1025);
+    same(rt, refused_of(rt, &more), Some(1027));
     for (count, refused) in [(64, None), (65, Some(3))] {
-        let endpoints = repeated(&rt, b" tcp x", count);
-        let line = long(&rt, b"a plain", 0, &endpoints);
-        same(&rt, refused_of(&rt, &line), refused);
+        let endpoints = repeated(rt, b" tcp x", count);
+        let line = long(rt, b"a plain", 0, &endpoints);
+        same(rt, refused_of(rt, &line), refused);
     }
 }
 
 #[test]
 fn events_are_refused(rt: HostRuntime) {
+    let rt = &rt;
     for line in [
         b"inuse 1".as_slice(),
         b"inuse 1 2 3",
@@ -153,23 +154,25 @@ fn events_are_refused(rt: HostRuntime) {
         b"judged 1 yes",
         b"fault",
     ] {
-        let found = event_of_line(rt.alloc(), line).expect(&rt, "an answer");
-        holds(&rt, found.is_none());
+        let found = event_of_line(rt.alloc(), line).expect(rt, "an answer");
+        holds(rt, found.is_none());
     }
 }
 
 #[test]
 fn messages_have_at_most_32_descriptors(rt: HostRuntime) {
+    let rt = &rt;
     for (count, is_event) in [(31, true), (32, false)] {
-        let more = repeated(&rt, b",1", count);
-        let line = long(&rt, b"received - 1", 0, &more);
-        let found = event_of_line(rt.alloc(), &line).expect(&rt, "an answer");
-        same(&rt, found.is_some(), is_event);
+        let more = repeated(rt, b",1", count);
+        let line = long(rt, b"received - 1", 0, &more);
+        let found = event_of_line(rt.alloc(), &line).expect(rt, "an answer");
+        same(rt, found.is_some(), is_event);
     }
 }
 
 #[test]
 fn events_print_as_they_are_read(rt: HostRuntime) {
+    let rt = &rt;
     for line in [
         "moment 18446744073709551615",
         "adopted 4294967295 0",
@@ -182,7 +185,7 @@ fn events_print_as_they_are_read(rt: HostRuntime) {
         "loopended 0 0 3",
         "dropfailed",
     ] {
-        let found = event_of_line(rt.alloc(), line.as_bytes()).expect(&rt, "an answer");
-        prints(&rt, found.expect(&rt, "an event"), line);
+        let found = event_of_line(rt.alloc(), line.as_bytes()).expect(rt, "an answer");
+        prints(rt, found.expect(rt, "an event"), line);
     }
 }

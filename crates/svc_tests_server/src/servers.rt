@@ -138,16 +138,17 @@ fn expected<R: Abort + AllocGlobal>(rt: &R, server: &Server<Listener>) -> Option
 
 #[test]
 fn a_server_expects_what_all_declare(rt: HostRuntime) {
-    let mut server = server(&rt);
-    let _ = added(&rt, &mut server, listening(&rt, "web", "a:1"));
-    let mut boot = listening(&rt, "boot", "b:1");
+    let rt = &rt;
+    let mut server = server(rt);
+    let _ = added(rt, &mut server, listening(rt, "web", "a:1"));
+    let mut boot = listening(rt, "boot", "b:1");
     boot.kind = Kind::Bootstrap;
-    holds(&rt, server.bootstrap_as_a_service(rt.alloc(), boot).is_ok());
-    same(&rt, expected(&rt, &server), Some(2));
-    let mut silent = listening(&rt, "silent", "c:1");
+    holds(rt, server.bootstrap_as_a_service(rt.alloc(), boot).is_ok());
+    same(rt, expected(rt, &server), Some(2));
+    let mut silent = listening(rt, "silent", "c:1");
     silent.says = false;
-    let _ = added(&rt, &mut server, silent);
-    same(&rt, expected(&rt, &server), None);
+    let _ = added(rt, &mut server, silent);
+    same(rt, expected(rt, &server), None);
 }
 
 /// Services that listen on these addresses.
@@ -161,28 +162,30 @@ fn services<R: Abort + AllocGlobal>(rt: &R, addresses: &[&str]) -> Vec<Listener>
 
 #[test]
 fn what_is_not_added_comes_back(rt: HostRuntime) {
-    let mut server = server(&rt);
-    let handles = server.add_services(rt.alloc(), services(&rt, &["a:1", "b:1"]));
-    let handles = handles.ok().expect(&rt, "handles");
-    same(&rt, handles.len(), 2);
-    let refused = server.add_services(rt.alloc(), services(&rt, &["c:1", "", "d:1"]));
-    let refused = refused.err().expect(&rt, "a refusal");
-    same(&rt, refused.reason, AddError::BadAddressText(0));
-    same(&rt, refused.index, 1);
-    same(&rt, refused.handles.len(), 1);
-    same(&rt, refused.services.len(), 2);
-    same(&rt, server.dependencies.len(), 3);
+    let rt = &rt;
+    let mut server = server(rt);
+    let handles = server.add_services(rt.alloc(), services(rt, &["a:1", "b:1"]));
+    let handles = handles.ok().expect(rt, "handles");
+    same(rt, handles.len(), 2);
+    let refused = server.add_services(rt.alloc(), services(rt, &["c:1", "", "d:1"]));
+    let refused = refused.err().expect(rt, "a refusal");
+    same(rt, refused.reason, AddError::BadAddressText(0));
+    same(rt, refused.index, 1);
+    same(rt, refused.handles.len(), 1);
+    same(rt, refused.services.len(), 2);
+    same(rt, server.dependencies.len(), 3);
 }
 
 #[test]
 fn a_plan_has_the_defaults(rt: HostRuntime) {
-    let mut server: Server<Listener> = server(&rt);
-    holds(&rt, server.watch_execution_phase().recv(&[]).is_none());
+    let rt = &rt;
+    let mut server: Server<Listener> = server(rt);
+    holds(rt, server.watch_execution_phase().recv(&[]).is_none());
     server.bootstrap();
-    let plan = server.plan(rt.alloc()).expect(&rt, "a plan");
-    same(&rt, (plan.grace, plan.stop, plan.tasks), (300, 5, 1));
-    same(&rt, (plan.limit, plan.ready_timeout), (5, 600));
-    holds(&rt, plan.eager);
+    let plan = server.plan(rt.alloc()).expect(rt, "a plan");
+    same(rt, (plan.grace, plan.stop, plan.tasks), (300, 5, 1));
+    same(rt, (plan.limit, plan.ready_timeout), (5, 600));
+    holds(rt, plan.eager);
 }
 
 /// A server of the configuration at this path, and its number of threads, or why there is none.
@@ -205,14 +208,15 @@ fn threads<R: Abort + AllocGlobal>(
 
 #[test]
 fn a_server_is_made_of_the_file_of_its_flags(rt: HostRuntime) {
+    let rt = &rt;
     let mut all = Vec::new(rt.alloc());
     for (path, text) in [
         ("a.yaml", "threads: 3\n"),
         ("b.yaml", "listener_tasks_per_fd: 0\n"),
     ] {
-        let path = Text::new(rt.alloc(), path).expect(&rt, "a path");
-        let text = Text::new(rt.alloc(), text).expect(&rt, "a text");
-        holds(&rt, all.push(MemoryFile { path, text }).is_ok());
+        let path = Text::new(rt.alloc(), path).expect(rt, "a path");
+        let text = Text::new(rt.alloc(), text).expect(rt, "a text");
+        holds(rt, all.push(MemoryFile { path, text }).is_ok());
     }
     let mut files = MemoryFiles::new(rt.alloc(), all, Vec::new(rt.alloc()));
     for (path, made) in [
@@ -224,7 +228,7 @@ fn a_server_is_made_of_the_file_of_its_flags(rt: HostRuntime) {
         ),
         (Some("c.yaml"), Err(ReadError::Fault)),
     ] {
-        same(&rt, threads(&rt, &mut files, path), made);
+        same(rt, threads(rt, &mut files, path), made);
     }
-    same(&rt, files.faults(), 1);
+    same(rt, files.faults(), 1);
 }

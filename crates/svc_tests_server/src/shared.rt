@@ -105,17 +105,18 @@ fn two_passes_make_one_journal(rt: HostRuntime) {
 
 #[test]
 fn the_65th_split_is_thin(rt: HostRuntime) {
-    let (server, mut pass, _) = opened(&rt, 2);
+    let rt = &rt;
+    let (server, mut pass, _) = opened(rt, 2);
     for _ in 0..64 {
-        let Ok((first, _second)) = server.split(&rt, rt.alloc(), pass) else {
+        let Ok((first, _second)) = server.split(rt, rt.alloc(), pass) else {
             panic!(rt; "split")
         };
         pass = first;
     }
-    let Err(refused) = server.split(&rt, rt.alloc(), pass) else {
+    let Err(refused) = server.split(rt, rt.alloc(), pass) else {
         panic!(rt; "thin")
     };
-    same(&rt, refused.reason, SplitReason::Thin);
+    same(rt, refused.reason, SplitReason::Thin);
 }
 
 /// Each worker waits after its first answer for the other's first.

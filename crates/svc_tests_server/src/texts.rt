@@ -37,35 +37,37 @@ fn errors_of_a_run_have_texts(rt: HostRuntime) {
 
 #[test]
 fn errors_of_an_added_service_have_texts(rt: HostRuntime) {
-    prints(&rt, AddError::TooMany, "too many services");
-    prints(&rt, AddError::TooManyEndpoints, "too many endpoints");
+    let rt = &rt;
+    prints(rt, AddError::TooMany, "too many services");
+    prints(rt, AddError::TooManyEndpoints, "too many endpoints");
     let address = "endpoint 7 has an address that is empty or too long";
-    prints(&rt, AddError::BadAddressText(7), address);
+    prints(rt, AddError::BadAddressText(7), address);
     prints(
-        &rt,
+        rt,
         AddError::UnknownFilter(7),
         "endpoint 7 has an unknown filter",
     );
-    prints(&rt, AddError::NoMemory, "out of memory");
-    prints(&rt, ScriptError::Line(3), "line 3 is refused");
-    prints(&rt, ScriptError::NoMemory, "out of memory");
+    prints(rt, AddError::NoMemory, "out of memory");
+    prints(rt, ScriptError::Line(3), "line 3 is refused");
+    prints(rt, ScriptError::NoMemory, "out of memory");
 }
 
 #[test]
 fn reasons_of_a_shared_server_have_texts(rt: HostRuntime) {
+    let rt = &rt;
     prints(
-        &rt,
+        rt,
         PostReason::Busy(5),
         "the turn isn't free: its word is 5",
     );
-    prints(&rt, PostReason::Full, "the journal is full");
+    prints(rt, PostReason::Full, "the journal is full");
     prints(
-        &rt,
+        rt,
         PostReason::Stray(2),
         "the event doesn't fit after 2 posts",
     );
-    prints(&rt, PostReason::NoMemory, "out of memory");
-    prints(&rt, SplitReason::Thin, "the share has one number");
-    prints(&rt, SplitReason::NoNumber, "no seat number is left");
-    prints(&rt, SplitReason::NoMemory, "out of memory");
+    prints(rt, PostReason::NoMemory, "out of memory");
+    prints(rt, SplitReason::Thin, "the share has one number");
+    prints(rt, SplitReason::NoNumber, "no seat number is left");
+    prints(rt, SplitReason::NoMemory, "out of memory");
 }
