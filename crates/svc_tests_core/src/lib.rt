@@ -1,0 +1,8 @@
+//! Tests of the core and its parts, of what the rows of tests/rows can't show: a server that
+//! bootstraps by itself, the step that tells twice, and readers.
+#![tactic(auto)]
+
+#[cfg(test)]
+mod bootstrapping;
+#[cfg(test)]
+mod cores;
