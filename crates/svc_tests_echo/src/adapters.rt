@@ -1,0 +1,50 @@
+//! The binder and the accepting socket over TCP.
+
+use crate::clients::{free_address, said_back};
+use std::alloc::Global;
+use std::net::{SocketAddr, TcpListener, TcpStream};
+use std::test::Fail;
+use svc_conf::{Setting, Text};
+use svc_echo::{SocketAccepting, SocketBinder};
+use svc_listen::{Accepting, Arrival, BindAnswer, Binder, ServerAddress};
+
+fn tcp(alloc: Global, address: SocketAddr) -> Result<ServerAddress, Fail> {
+    let text = format!(in alloc; "{address}")?;
+    Ok(ServerAddress::Tcp(Text::new(alloc, text.as_str())?, None))
+}
+
+#[test]
+fn a_busy_address_is_in_use(rt: HostRuntime) -> Result<(), Fail> {
+    let alloc = rt.alloc();
+    let address = free_address(&rt)?;
+    let addr = tcp(alloc, address)?;
+    let mut binder = SocketBinder::new(&rt, alloc, 10)?;
+    let mut other = SocketBinder::new(&rt, alloc, 10)?;
+    match binder.bind(&addr) {
+        BindAnswer::Bound(fd) => assert_eq!(rt; fd.close(), 3),
+        _ => panic!(rt; "the address is free"),
+    }
+    assert!(rt; matches!(other.bind(&addr), BindAnswer::InUse));
+    assert_eq!(rt; (other.faults(), other.waits()), (0, 1));
+    assert!(rt; binder.adopt(&addr, 3));
+    assert!(rt; !binder.adopt(&addr, 4));
+    assert_eq!(rt; (binder.faults(), binder.waits()), (1, 0));
+    Ok(())
+}
+
+#[test]
+fn a_connection_is_accepted_and_refused(rt: HostRuntime) -> Result<(), Fail> {
+    let alloc = rt.alloc();
+    let listener = TcpListener::bind(&rt, "127.0.0.1:0")?;
+    listener.set_nonblocking(true)?;
+    let address = listener.local_addr()?;
+    let mut accepting = SocketAccepting::new(alloc, 10, listener)?;
+    assert_eq!(rt; accepting.accept(), Arrival::NotYet);
+    let client = TcpStream::connect(&rt, address)?;
+    assert!(rt; matches!(accepting.accept(), Arrival::Came(2, _)));
+    assert!(rt; accepting.set(2, &Setting::NoDelay));
+    accepting.refuse(2);
+    assert!(rt; !said_back(&client, b"word").unwrap_or(false));
+    assert_eq!(rt; (accepting.faults(), accepting.waits()), (0, 1));
+    Ok(())
+}
