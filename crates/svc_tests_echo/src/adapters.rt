@@ -6,11 +6,20 @@ use std::net::{SocketAddr, TcpListener, TcpStream};
 use std::test::Fail;
 use svc_conf::{Setting, Text};
 use svc_echo::{SocketAccepting, SocketBinder};
-use svc_listen::{Accepting, Arrival, BindAnswer, Binder, ServerAddress};
+use svc_listen::{Accepting, Arrival, BindAnswer, BindOutcome, Binder, ServerAddress};
 
 fn tcp(alloc: Global, address: SocketAddr) -> Result<ServerAddress, Fail> {
     let text = format!(in alloc; "{address}")?;
     Ok(ServerAddress::Tcp(Text::new(alloc, text.as_str())?, None))
+}
+
+/// What a try to bind gave, with the number of the descriptor.
+fn outcome_of(answer: BindAnswer) -> BindOutcome {
+    match answer {
+        BindAnswer::Bound(fd) => BindOutcome::Bound(fd.close()),
+        BindAnswer::InUse => BindOutcome::InUse,
+        BindAnswer::Failed => BindOutcome::Failed,
+    }
 }
 
 #[test]
@@ -20,11 +29,8 @@ fn a_busy_address_is_in_use(rt: HostRuntime) -> Result<(), Fail> {
     let addr = tcp(alloc, address)?;
     let mut binder = SocketBinder::new(&rt, alloc, 10)?;
     let mut other = SocketBinder::new(&rt, alloc, 10)?;
-    match binder.bind(&addr) {
-        BindAnswer::Bound(fd) => assert_eq!(rt; fd.close(), 3),
-        _ => panic!(rt; "the address is free"),
-    }
-    assert!(rt; matches!(other.bind(&addr), BindAnswer::InUse));
+    assert_eq!(rt; outcome_of(binder.bind(&addr)), BindOutcome::Bound(3));
+    assert_eq!(rt; outcome_of(other.bind(&addr)), BindOutcome::InUse);
     assert_eq!(rt; (other.faults(), other.waits()), (0, 1));
     assert!(rt; binder.adopt(&addr, 3));
     assert!(rt; !binder.adopt(&addr, 4));
