@@ -1,6 +1,6 @@
 -- The plan of the echo server.
 use Rattle.std.specs.Prelude.{ℕ, false, List, [], ◌∷◌, codes, Some, None}
-use Rattle.svc_conf.specs.declared.settings.Setting.TheVariants.{NoDelay}
+use Rattle.svc_base.specs.declared.settings.Setting.TheVariants.{NoDelay}
 use Rattle.svc_graph.specs.declared.plan.EndpointPlan.{EndpointPlan}
 use Rattle.svc_graph.specs.declared.plan.Kind.TheVariants.{Plain}
 use Rattle.svc_record.specs.declared.plan.ServicePlan.{ServicePlan}

@@ -1,7 +1,7 @@
 //! A binder, and what accepts connections, over TCP sockets of std.
 
 ghost use Rattle.std.specs.Prelude.{◌≡◌, ◌<◌, [], ◌∷◌, length, Some, IfOk, IfSome};
-ghost use Rattle.svc_calls.specs.Calls.{told_of, Adds};
+ghost use Rattle.svc_base.specs.Calls.{told_of, Adds};
 ghost use Rattle.svc_listen.specs.BinderData.{outcome_of};
 
 use std::alloc::Global;
@@ -10,8 +10,7 @@ use std::io::ErrorKind;
 use std::net::{Net, TcpListener, TcpStream};
 use std::thread;
 use std::time::{Clock, Duration};
-use svc_calls::Calls;
-use svc_conf::{NoMemory, Setting};
+use svc_base::{Calls, NoMemory, Setting};
 use svc_fds::Fd;
 use svc_listen::{
     Accepting, AcceptingCall, Arrival, BindAnswer, BindOutcome, Binder, BinderCall, ServerAddress,

@@ -1,15 +1,14 @@
 //! Desks over sockets.
 
 ghost use Rattle.std.specs.Prelude.{◌≡◌, [], Some, IfOk};
-ghost use Rattle.svc_calls.specs.Calls.{told_of};
+ghost use Rattle.svc_base.specs.Calls.{told_of};
 
 use std::alloc::Global;
 use std::net::{Net, TcpListener, TcpStream};
 use std::sync::{Mutex, Wait};
 use std::thread;
 use std::time::{Clock, Duration};
-use svc_calls::Calls;
-use svc_conf::NoMemory;
+use svc_base::{Calls, NoMemory};
 use svc_desk::{Desk, DeskAnswer};
 use svc_record::{Action, Event, Plan};
 use svc_sockets::{NextRefused, Seat, Slot, Sockets};
@@ -90,7 +89,7 @@ pub fn real_desk<'a, R: Wait + Net<Listener = TcpListener, Stream = TcpStream> +
 impl<'a, R: Wait + Net<Listener = TcpListener, Stream = TcpStream> + Clock> Desk
     for RealDesk<'a, R> {
     ghost use Rattle.std.specs.Prelude.{Some, None, ltb, if◌then◌else◌};
-    ghost use Rattle.svc_calls.specs.Calls.{told_of};
+    ghost use Rattle.svc_base.specs.Calls.{told_of};
 
     // The takes are told until their count stands at its greatest value.
     ghost seen = { λ d. record {

@@ -6,7 +6,7 @@ ghost use Rattle.svc_echo.specs.EchoPlans.{endpoint_at, echo_service, echo_plan,
 
 use std::alloc::Global;
 use std::rc::RcStr;
-use svc_conf::{NoMemory, Numbers, Text, Texts};
+use svc_base::{NoMemory, Numbers, Text, Texts};
 use svc_graph::{EndpointList, EndpointPlan, Kind};
 use svc_record::{Plan, ServiceList, ServicePlan};
 use svc_socket::settings_of;

@@ -5,7 +5,7 @@ ghost use Rattle.svc_echo.specs.Reports.{end_name, report_text};
 
 use std::alloc::Global;
 use std::fmt::Write;
-use svc_conf::NoMemory;
+use svc_base::NoMemory;
 use svc_desk::WorkEnd;
 
 /// The name of a worker's end.

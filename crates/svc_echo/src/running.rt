@@ -3,7 +3,7 @@
 ghost use Rattle.std.specs.Prelude.{◌≡◌, ◌≢◌, ◌⊎◌, ◌≤◌, ℕ, [], map, length, take, true, false, Some, if◌then◌else◌};
 ghost use Rattle.std.specs.Rc.{rc_str_bytes};
 ghost use Rattle.std.specs.Io.KnownBytes.{Appends};
-ghost use Rattle.svc_conf.specs.Streams.{Rose};
+ghost use Rattle.svc_base.specs.Streams.{Rose};
 ghost use Rattle.svc_record.specs.declared.action.StepEnd.TheVariants.{Served};
 ghost use Rattle.svc_record.specs.Validity.{IsValid};
 ghost use Rattle.svc_book.specs.BookData.{BookData};
@@ -20,7 +20,7 @@ use std::alloc::Global;
 use std::rc::RcStr;
 use std::sync::Wait;
 use std::thread::Threads;
-use svc_conf::{NoMemory, Sink, Status, write_all};
+use svc_base::{NoMemory, Sink, Status, write_all};
 use svc_desk::{Desk, EchoReason, Echoed, Gate, serve_desks};
 use svc_record::Plan;
 use svc_shared::Post;

@@ -5,7 +5,7 @@ ghost use Rattle.std.specs.Rc.{rc_str_bytes};
 ghost use Rattle.svc_echo.specs.Words.{is_address, turns_by, turns_of};
 
 use std::rc::RcStr;
-use svc_text::number;
+use svc_base::number;
 
 /// The most turns of each worker.
 const MOST_TURNS: u64 = 1_000_000_000;

@@ -7,7 +7,7 @@ use std::process::ExitCode;
 use std::rc::RcStr;
 use std::sync::Mutex;
 use std::{env, io};
-use svc_conf::Writing;
+use svc_base::Writing;
 use svc_echo::{Seat, Slot, Sockets, real_desk, run_echo};
 
 /// So many entries of each of its lists a desk tells.

@@ -12,7 +12,7 @@ use std::sync::{Mutex, Wait};
 use std::thread::{Threads, join};
 use std::time::{Clock, Duration};
 use std::{env, thread};
-use svc_conf::NoMemory;
+use svc_base::NoMemory;
 use svc_desk::{Gate, WorkEnd, serve_desks};
 use svc_echo::{JOURNAL_LIMIT, Seat, Slot, Sockets, echo_plan, real_desk};
 use svc_record::Plan;

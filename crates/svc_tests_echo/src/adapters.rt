@@ -4,7 +4,7 @@ use crate::clients::{free_address, said_back};
 use std::alloc::Global;
 use std::net::{SocketAddr, TcpListener, TcpStream};
 use std::test::Fail;
-use svc_conf::{Setting, Text};
+use svc_base::{Setting, Text};
 use svc_echo::{SocketAccepting, SocketBinder};
 use svc_listen::{Accepting, Arrival, BindAnswer, BindOutcome, Binder, ServerAddress};
 

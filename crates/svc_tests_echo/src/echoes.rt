@@ -1,7 +1,7 @@
 //! What echoes, and the slot between two servers.
 
 use std::test::Fail;
-use svc_conf::{MemorySink, MemorySource};
+use svc_base::{MemorySink, MemorySource};
 use svc_echo::{EchoEnd, Letter, Slot, echo};
 
 #[test]

@@ -3,7 +3,7 @@
 use std::alloc::Global;
 use std::net::SocketAddr;
 use std::test::Fail;
-use svc_conf::{Numbers, Text};
+use svc_base::{Numbers, Text};
 use svc_desk::Gate;
 use svc_echo::echo_plan;
 use svc_graph::{EndpointList, EndpointPlan, Kind};

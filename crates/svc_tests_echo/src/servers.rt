@@ -11,7 +11,7 @@ use std::test::Fail;
 use std::thread;
 use std::thread::{Threads, join};
 use std::time::{Clock, Duration, Instant};
-use svc_conf::MemorySink;
+use svc_base::MemorySink;
 use svc_desk::{WorkEnd, serve_desks};
 use svc_echo::{Seat, Slot, Sockets, real_desk, run_echo};
 use svc_record::Plan;
