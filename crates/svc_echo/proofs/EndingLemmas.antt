@@ -12,7 +12,8 @@ use Rattle.svc_record.specs.declared.action.BootstrapError.TheVariants.{Transfer
 use Rattle.svc_record.specs.declared.action.ExecutionPhase.TheVariants.{Terminated, ShutdownRuntimes}
 use Rattle.svc_record.specs.Record.{Record, has, tell, last_step, now, signal_of, before_runtimes}
 use Rattle.svc_record.specs.Connections.{live_connections}
-use Rattle.svc_record.specs.Drain.{has_passed, has_passed_by, is_ending, ascending, live_numbers, stop_seconds}
+use Rattle.svc_record.specs.Drain.{has_passed, has_passed_by, is_ending, live_numbers, stop_seconds}
+use Rattle.svc_base.specs.NumberSets.{ascending}
 use Rattle.svc_record.specs.Ends.{step_end, has_ended, has_ended_early, ends_tested, ends_parent_well, ends_parent_badly, ends_transfer, ends_no_sender, ends_bad_message}
 use Rattle.svc_record.specs.Right.{Right, EndedRight, OpenRight, is_test_step}
 use Rattle.svc_record.specs.Journal.{PostData, Legal, record_after, journal_record}
