@@ -17,7 +17,8 @@ use Rattle.svc_echo.specs.Reports.{report_text, words_line}
 abbrev pub OfWords : List (List ℕ) → (Plan → ℕ → Type 0) → Type 0
 OfWords words P = (turns : ℕ) × (turns_of words ≡ Some turns) × P (plan_of words) turns
 
--- both desks stand against the plan's journal; out says how many posts it has, and how the run ended: as served exactly where that is how the last post left it, and that is where the last post stops the server
+-- both desks stand against the plan's journal; out says how many posts it has, and how the run ended: as served exactly where that is how the last
+-- post left it, and that is where the last post stops the server
 pub record Reports (plan : Plan) (turns : ℕ) (left right left' right' : DeskData) (journal : List PostData) (is_served : Bool) (out : List ℕ) : Type 0 where
   pub one : DeskEnd
   pub two : DeskEnd

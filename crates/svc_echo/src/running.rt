@@ -191,8 +191,9 @@ pub fn run_echo<D: Desk + Drop + Send, K: Sink, R: Threads + Wait + Sync>(
     ensures others { (result.status.0 ≡ 2) ⊎ IsRunStatus result.status.0 }
 
     // A run whose last post left it as served gives the status 0, unless memory runs out or the sink fails.
-    ensures complete { (turns : ℕ) (origin : BookData) → turns_of (map rc_str_bytes words.now) ≡ Some turns → (Rose (K.faulted sink.old) (K.faulted sink.new) → ⊥)
-        → IsLegal origin result.journal.items → end_after origin result.journal.items ≡ Served → (result.status.0 ≡ 0) ⊎ (result.status.0 ≡ 7) }
+    ensures complete { (turns : ℕ) (origin : BookData) → turns_of (map rc_str_bytes words.now) ≡ Some turns
+        → (Rose (K.faulted sink.old) (K.faulted sink.new) → ⊥) → IsLegal origin result.journal.items
+        → end_after origin result.journal.items ≡ Served → (result.status.0 ≡ 0) ⊎ (result.status.0 ≡ 7) }
 {
     let Some(turns) = turns_of(words) else {
         return refuse(alloc, left, right, sink);

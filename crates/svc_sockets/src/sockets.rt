@@ -44,6 +44,7 @@ pub enum NextRefused {
     /// What was to be told is told at a later call.
     #[error("out of memory")]
     NoMemory,
+    /// The clock could not be read.
     #[error("the clock failed")]
     Clock,
 }
