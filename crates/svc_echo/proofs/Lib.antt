@@ -1,0 +1,3 @@
+pub mod EchoPlanLemmas
+pub mod EndingLemmas
+pub mod RunLemmas

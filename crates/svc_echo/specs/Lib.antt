@@ -1,0 +1,5 @@
+pub mod Endings
+pub mod EchoPlans
+pub mod Reports
+pub mod Runs
+pub mod Words

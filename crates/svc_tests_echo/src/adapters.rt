@@ -1,0 +1,56 @@
+//! The binder and the accepting socket over TCP.
+
+use crate::clients::{free_address, said_back};
+use std::alloc::Global;
+use std::net::{SocketAddr, TcpListener, TcpStream};
+use std::test::Fail;
+use svc_base::{Setting, Text};
+use svc_echo::{SocketAccepting, SocketBinder};
+use svc_listen::{Accepting, Arrival, BindAnswer, BindOutcome, Binder, ServerAddress};
+
+fn tcp(alloc: Global, address: SocketAddr) -> Result<ServerAddress, Fail> {
+    let text = format!(in alloc; "{address}")?;
+    Ok(ServerAddress::Tcp(Text::new(alloc, text.as_str())?, None))
+}
+
+/// What a try to bind gave, with the number of the descriptor.
+fn outcome_of(answer: BindAnswer) -> BindOutcome {
+    match answer {
+        BindAnswer::Bound(fd) => BindOutcome::Bound(fd.close()),
+        BindAnswer::InUse => BindOutcome::InUse,
+        BindAnswer::Failed => BindOutcome::Failed,
+    }
+}
+
+#[test]
+fn a_busy_address_is_in_use(rt: HostRuntime) -> Result<(), Fail> {
+    let alloc = rt.alloc();
+    let address = free_address(&rt)?;
+    let addr = tcp(alloc, address)?;
+    let mut binder = SocketBinder::new(&rt, alloc, 10)?;
+    let mut other = SocketBinder::new(&rt, alloc, 10)?;
+    assert_eq!(rt; outcome_of(binder.bind(&addr)), BindOutcome::Bound(3));
+    assert_eq!(rt; outcome_of(other.bind(&addr)), BindOutcome::InUse);
+    assert_eq!(rt; (other.faults(), other.waits()), (0, 1));
+    assert!(rt; binder.adopt(&addr, 3));
+    assert!(rt; !binder.adopt(&addr, 4));
+    assert_eq!(rt; (binder.faults(), binder.waits()), (1, 0));
+    Ok(())
+}
+
+#[test]
+fn a_connection_is_accepted_and_refused(rt: HostRuntime) -> Result<(), Fail> {
+    let alloc = rt.alloc();
+    let listener = TcpListener::bind(&rt, "127.0.0.1:0")?;
+    listener.set_nonblocking(true)?;
+    let address = listener.local_addr()?;
+    let mut accepting = SocketAccepting::new(alloc, 10, listener)?;
+    assert_eq!(rt; accepting.accept(), Arrival::NotYet);
+    let client = TcpStream::connect(&rt, address)?;
+    assert!(rt; matches!(accepting.accept(), Arrival::Came(2, _)));
+    assert!(rt; accepting.set(2, &Setting::NoDelay));
+    accepting.refuse(2);
+    assert!(rt; !said_back(&client, b"word").unwrap_or(false));
+    assert_eq!(rt; (accepting.faults(), accepting.waits()), (0, 1));
+    Ok(())
+}
