@@ -62,7 +62,12 @@ pub(crate) fn fits_number(answer: Result<Asked, StepError>) -> u32
 {
     match answer {
         Ok(Asked { filter: None, .. }) => 0,
-        Ok(Asked { filter: Some(_), .. }) => 1,
+        Ok(
+            Asked {
+                filter: Some(_),
+                ..
+            },
+        ) => 1,
         Err(error) => error_number(error),
     }
 }

@@ -11,8 +11,9 @@ mod plans;
 mod session;
 mod stage;
 
-use answers::{close_number, end_number, fits_number, make_number, step_number};
-use answers::{reason, told_number};
+use answers::{
+    close_number, end_number, fits_number, make_number, reason, step_number, told_number,
+};
 pub use handle::Handle;
 use making::{MakeError, flags, make};
 use session::{Asked, ToldError, put_front};
@@ -86,7 +87,13 @@ pub extern "C" fn svc_c_fits(
     *handle = Handle::of(session);
     *filter = 0;
     *said = true;
-    if let Ok(Asked { filter: number, said: word }) = answer {
+    if let Ok(
+        Asked {
+            filter: number,
+            said: word,
+        },
+    ) = answer
+    {
         *said = word;
         if let Some(number) = number {
             *filter = number;

@@ -151,9 +151,7 @@ pub(crate) fn settled(conf: &ServerConf, opt: &Opt, eager: bool, services: Servi
         grace: conf.grace_period_seconds.unwrap_or(300),
         stop: conf.graceful_shutdown_timeout_seconds.unwrap_or(5),
         tasks: conf.listener_tasks_per_fd,
-        limit: conf
-            .upgrade_sock_connect_accept_max_retries
-            .unwrap_or(5),
+        limit: conf.upgrade_sock_connect_accept_max_retries.unwrap_or(5),
         upgrade: opt.upgrade,
         test: opt.test,
         eager,

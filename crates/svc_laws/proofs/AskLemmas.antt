@@ -1,15 +1,14 @@
 -- In a right record that goes on, asks come one after the other.
-use Rattle.std.proofs.Common.{ℕ, Bool, true, false, not, ◌||◌, ◌&&◌, ◌==◌, ◌+◌, ◌≤◌, inl, inr, [], ◌∷◌, ◌++◌, ◌≡◌, refl, sym, subst, arith, append_assoc, MatchBool, if◌then◌else◌}
+use Rattle.std.proofs.Common.{ℕ, Bool, true, false, not, ◌||◌, ◌==◌, ◌+◌, ◌≤◌, inl, inr, [], ◌∷◌, ◌++◌, ◌≡◌, refl, sym, subst, arith, append_assoc, MatchBool, if◌then◌else◌}
 use Rattle.std.specs.List.{list_all}
 use Rattle.std.proofs.lemmas.Bool.{cases_Bool, and_parts, or_cases, or_right, eq-eqb, eqb-true}
 use Rattle.svc_base.proofs.Logic.{not_in}
 use Rattle.svc_record.specs.declared.plan.Plan.{Plan}
 use Rattle.svc_record.specs.declared.entry.Entry.{Entry}
 use Rattle.svc_record.specs.declared.entry.Entry.TheVariants.{Got, Told}
-use Rattle.svc_record.specs.declared.action.Action.{Action}
 use Rattle.svc_record.specs.declared.action.Action.TheVariants.{Bind, Adopt, TryReceive, Connect, Send, Handshake, Settings as TellSettings, Daemonize}
 use Rattle.svc_record.specs.declared.event.Event.TheVariants.{Arrived}
-use Rattle.svc_record.specs.Record.{Record, has, times, once_if, EachEntry}
+use Rattle.svc_record.specs.Record.{Record, has, times, EachEntry}
 use Rattle.svc_record.specs.Asks.{is_open, is_bind_open, is_adopt_open, is_connect_open, is_send_open, is_settings, is_set, is_handshake, is_shaken}
 use Rattle.svc_record.specs.AskRules.{ask_due}
 use Rattle.svc_record.specs.Offer.{offer_due}

@@ -1,5 +1,5 @@
 -- What holds of each entry of a record holds of each entry of what it begins with.
-use Rattle.std.proofs.Common.{ℕ, Bool, true, false, ◌||◌, ◌+◌, ◌≤◌, inl, inr, List, [], ◌∷◌, ◌++◌, ◌≡◌, refl, sym, subst, arith, if◌then◌else◌}
+use Rattle.std.proofs.Common.{Bool, true, ◌+◌, ◌≤◌, inl, inr, [], ◌∷◌, ◌++◌, ◌≡◌, sym, subst, arith}
 use Rattle.std.proofs.lemmas.Bool.{cases_Bool, or_right}
 use Rattle.svc_record.specs.declared.entry.Entry.{Entry}
 use Rattle.svc_record.specs.declared.entry.Entry.TheVariants.{Got}

@@ -1,5 +1,5 @@
 -- Asks that come one after the other.
-use Rattle.std.specs.Prelude.{ℕ, Bool, true, not}
+use Rattle.std.specs.Prelude.{Bool, true, not}
 use Rattle.svc_record.specs.declared.entry.Entry.{Entry}
 use Rattle.svc_record.specs.declared.entry.Entry.TheVariants.{Told}
 use Rattle.svc_record.specs.declared.action.Action.TheVariants.{Bind, Adopt, TryReceive, Connect, Send, Handshake, Settings as TellSettings, Daemonize}
