@@ -4,14 +4,13 @@
 
 use std::alloc::{AllocError, Global};
 use std::convert::AsStr;
-use std::io;
 use std::net::{Net, TcpListener, TcpStream};
 use std::process::ExitCode;
 use std::sync::atomic::{AtomicBool, Ordering};
 use std::sync::{Mutex, Wait};
 use std::thread::{Threads, join};
 use std::time::{Clock, Duration};
-use std::{env, thread};
+use std::{env, io, thread};
 use svc_base::NoMemory;
 use svc_desk::{Gate, WorkEnd, serve_desks};
 use svc_echo::{JOURNAL_LIMIT, Seat, Slot, Sockets, echo_plan, real_desk};
@@ -78,7 +77,14 @@ fn serves<R: Threads + Wait + Sync + Net<Listener = TcpListener, Stream = TcpStr
         return false;
     };
     match serve_desks(
-        rt, alloc, plan, JOURNAL_LIMIT, TURNS, left, right, &OpenGate,
+        rt,
+        alloc,
+        plan,
+        JOURNAL_LIMIT,
+        TURNS,
+        left,
+        right,
+        &OpenGate,
     ) {
         Ok(echoed) => echoed.left_end == WorkEnd::Over || echoed.right_end == WorkEnd::Over,
         Err(_) => false,
@@ -109,12 +115,7 @@ fn report<R: Print>(rt: &R, name: &str, is_served: bool) -> bool {
 /// each server that began was served.
 fn serve_both<
     R: Threads + Wait + Sync + Net<Listener = TcpListener, Stream = TcpStream> + Clock + Print,
->(
-    rt: &R,
-    alloc: Global,
-    older: Plan,
-    newer: Plan,
-) -> bool {
+>(rt: &R, alloc: Global, older: Plan, newer: Plan) -> bool {
     let first = Mutex::new(Sockets::new(alloc));
     let second = Mutex::new(Sockets::new(alloc));
     let slot = Mutex::new(Slot::Missing);

@@ -69,7 +69,6 @@ lines_keep q (x ∷ y ∷ more) h =
     let rest = and_parts (list_all q x) (list_all (list_all q) (y ∷ more)) h in
     and_from (list_all q (strip_carriage_return x)) (list_all (list_all q) (lines_of_parts (y ∷ more))) (strip_keeps q x rest.0) (lines_keep q (y ∷ more) rest.1)
 
-
 -- no line has one
 pub lines_none : (bytes : List ℕ) → list_all (none_of is_feed) (lines bytes) ≡ true
 lines_none bytes = lines_keep (λ b. not (is_feed b)) (slice_split is_feed bytes) (pieces_none is_feed bytes)

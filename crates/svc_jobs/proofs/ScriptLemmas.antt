@@ -74,15 +74,15 @@ unfolding inner_line
 inner_none part line h = elim (cases_Bool (part == 1)) [
   | inl conf ↦ rw conf (kept_none (not (is_daemon line)) line h)
   | inr other ↦ rw other (elim (cases_Bool (is_skipped (words line))) [
-        | inl skipped ↦ rw skipped h
-        | inr said ↦ rw said (elim (cases_Bool (part == 2)) [
-              | inl jobs ↦ rw jobs (job_none (words line) (words_none line h))
-              | inr later ↦ rw later (elim (cases_Bool (part == 3)) [
-                    | inl events ↦ rw events (kept_none (is_job_event (item_of (words line))) line h)
-                    | inr none ↦ rw none h
-                  ])
-            ])
+    | inl skipped ↦ rw skipped h
+    | inr said ↦ rw said (elim (cases_Bool (part == 2)) [
+      | inl jobs ↦ rw jobs (job_none (words line) (words_none line h))
+      | inr later ↦ rw later (elim (cases_Bool (part == 3)) [
+        | inl events ↦ rw events (kept_none (is_job_event (item_of (words line))) line h)
+        | inr none ↦ rw none h
       ])
+    ])
+  ])
 ]
 
 pub script_line_none : (part : ℕ) (line : List ℕ) → none_of is_feed line ≡ true → none_of is_feed (script_line part line) ≡ true
@@ -90,12 +90,12 @@ unfolding script_line
 script_line_none part line h = elim (cases_Bool (bytes_eq line (codes "%jobs"))) [
   | inl jobs ↦ rw jobs refl
   | inr other ↦ rw other (elim (cases_Bool (bytes_eq line (codes "%services"))) [
-        | inl services ↦ rw services refl
-        | inr none ↦ rw none (elim (cases_Bool (is_header line)) [
-              | inl header ↦ rw header h
-              | inr inner ↦ rw inner (inner_none part line h)
-            ])
-      ])
+    | inl services ↦ rw services refl
+    | inr none ↦ rw none (elim (cases_Bool (is_header line)) [
+      | inl header ↦ rw header h
+      | inr inner ↦ rw inner (inner_none part line h)
+    ])
+  ])
 ]
 
 -- ---- the loop

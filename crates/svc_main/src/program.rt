@@ -104,7 +104,7 @@ pub fn serve_script<S: Source, K: Sink>(
 
     ensures write_fault { result.0 ≡ 6 → Rose (K.faulted sink.old) (K.faulted sink.new)
         × WritesFront (map rc_str_bytes words.now) (S.left source.old) (S.left source.new) (S.faulted source.old) (S.faulted source.new)
-            (K.written sink.old) (K.written sink.new) }
+        (K.written sink.old) (K.written sink.new) }
 
     // Where memory ran out, nothing was written.
     ensures no_memory { result.0 ≡ 7 → K.written sink.new ≡ K.written sink.old }

@@ -1,10 +1,9 @@
 //! Clients of a server on loopback. Each of their waits is bounded.
 
-use std::io;
 use std::io::{Read, Write};
 use std::net::{Net, SocketAddr, TcpListener, TcpStream};
-use std::thread;
 use std::time::{Clock, Duration};
+use std::{io, thread};
 
 /// An address on loopback that was free a moment ago.
 pub(crate) fn free_address(rt: &HostRuntime) -> io::Result<SocketAddr> {

@@ -3,14 +3,13 @@
 use crate::clients::{connected, free_address, lost, said_back, signal};
 use crate::plans::{OpenGate, plan_at};
 use std::alloc::Global;
-use std::io;
 use std::net::{Net, SocketAddr, TcpListener, TcpStream};
 use std::rc::RcStr;
 use std::sync::{Mutex, Wait};
 use std::test::Fail;
-use std::thread;
 use std::thread::{Threads, join};
 use std::time::{Clock, Duration, Instant};
+use std::{io, thread};
 use svc_base::MemorySink;
 use svc_desk::{WorkEnd, serve_desks};
 use svc_echo::{Seat, Slot, Sockets, real_desk, run_echo};

@@ -41,13 +41,20 @@ fn the_end_of_a_loop_waits_for_an_arrival_in_hand(rt: HostRuntime) -> Result<(),
     let mut sockets = sockets_at(&rt, alloc, address)?;
     let slot: Mutex<Slot<TcpListener>> = Mutex::new(Slot::Missing);
     sockets.perform(&rt, &slot, &Action::Bind(0, 0));
-    assert_eq!(rt; told(&rt, &mut sockets, Seat::Left), Some(Event::Bound(0, 0, 3)));
+    assert_eq!(rt;
+        told(&rt, &mut sockets, Seat::Left),
+        Some(Event::Bound(0, 0, 3))
+    );
     assert_eq!(rt; told(&rt, &mut sockets, Seat::Left), None);
     let _client = TcpStream::connect(&rt, address)?;
     let arrived = told(&rt, &mut sockets, Seat::Left);
     assert!(rt; matches!(arrived, Some(Event::Arrived(0, 0, 1, _))));
     sockets.perform(&rt, &slot, &Action::Broadcast);
-    assert_eq!(rt; told(&rt, &mut sockets, Seat::Right), None, "the left seat has an arrival");
+    assert_eq!(rt;
+        told(&rt, &mut sockets, Seat::Right),
+        None,
+        "the left seat has an arrival"
+    );
     let ended = told(&rt, &mut sockets, Seat::Left);
     assert_eq!(rt; ended, Some(Event::LoopEnded(0, 0, 0)));
     Ok(())
@@ -61,13 +68,25 @@ fn a_busy_address_is_free_after_its_close(rt: HostRuntime) -> Result<(), Fail> {
     let mut first = sockets_at(&rt, alloc, address)?;
     let mut second = sockets_at(&rt, alloc, address)?;
     first.perform(&rt, &slot, &Action::Bind(0, 0));
-    assert_eq!(rt; told(&rt, &mut first, Seat::Left), Some(Event::Bound(0, 0, 3)));
+    assert_eq!(rt;
+        told(&rt, &mut first, Seat::Left),
+        Some(Event::Bound(0, 0, 3))
+    );
     second.perform(&rt, &slot, &Action::Bind(0, 0));
-    assert_eq!(rt; told(&rt, &mut second, Seat::Left), Some(Event::InUse(0, 0)));
+    assert_eq!(rt;
+        told(&rt, &mut second, Seat::Left),
+        Some(Event::InUse(0, 0))
+    );
     assert!(rt; TcpStream::connect(&rt, address).is_ok());
     first.perform(&rt, &slot, &Action::Close(3));
-    assert!(rt; TcpStream::connect(&rt, address).is_err(), "nothing listens");
+    assert!(rt;
+        TcpStream::connect(&rt, address).is_err(),
+        "nothing listens"
+    );
     second.perform(&rt, &slot, &Action::Bind(0, 0));
-    assert_eq!(rt; told(&rt, &mut second, Seat::Left), Some(Event::Bound(0, 0, 3)));
+    assert_eq!(rt;
+        told(&rt, &mut second, Seat::Left),
+        Some(Event::Bound(0, 0, 3))
+    );
     Ok(())
 }
