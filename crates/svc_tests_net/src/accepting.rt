@@ -1,7 +1,7 @@
 //! Endpoints accept.
 
 ghost use Rattle.std.specs.Prelude.{◌≡◌, ◌<◌, Bool, [], ◌∷◌, not, length, IfSome, None};
-ghost use Rattle.svc_listen.specs.Accepts.{MayBePolled};
+ghost use Rattle.svc_tests_net.specs.Polling.{MayBePolled};
 
 use crate::endpoints::{KEEPALIVE, OPTIONS, tcp, text};
 use std::alloc::Global;
