@@ -1,6 +1,6 @@
 //! A definition stands twice, as a fact and as a test that computes: both say the same.
 
-ghost use Rattle.std.specs.Prelude.{◌≡◌, true};
+ghost use Rattle.std.specs.Prelude.{◌≡◌, Bool, true};
 ghost use Rattle.svc_record.specs.declared.plan.Plan.{Plan};
 ghost use Rattle.svc_record.specs.Record.{Record, EachSettled};
 ghost use Rattle.svc_record.specs.Facts.{Settled};
@@ -18,9 +18,10 @@ pub fn served_is_tested()
     ensures served { (p : Plan) (r : Record) → is_served p r ≡ true → Served p r }
 {}
 
-/// What is said of each settled prefix by going through the record holds of the record and of what
+/// What a test says of each settled prefix by going through the record holds of the record and of what
 /// stands before each of its events, and of nothing else.
 pub fn settled_prefixes()
-    ensures each { (P : Record → Type 0) (r q : Record) → EachSettled P r → Settled q r → P q }
-    ensures from_each { (P : Record → Type 0) (r : Record) → ((q : Record) → Settled q r → P q) → EachSettled P r }
+    ensures each { (test : Record → Bool) (r q : Record) → EachSettled (λ at. test at ≡ true) r → Settled q r → test q ≡ true }
+    ensures from_each { (test : Record → Bool) (r : Record) → ((q : Record) → Settled q r → test q ≡ true)
+        → EachSettled (λ at. test at ≡ true) r }
 {}
