@@ -91,11 +91,16 @@ fn serves<R: Threads + Wait + Sync + Net<Listener = TcpListener, Stream = TcpStr
     }
 }
 
-/// Waits until the older server looks for a successor, or is done, and answers whether it looks for one.
-fn is_asked<R: Wait + Clock>(rt: &R, older: &Mutex<Sockets>, is_done: &AtomicBool) -> bool {
+/// Waits until the older server connected to its successor, or is done, and answers whether it connected.
+fn is_asked<R: Wait + Clock>(
+    rt: &R,
+    slot: &Mutex<Slot<TcpListener>>,
+    is_done: &AtomicBool,
+) -> bool {
     for _ in rt.forever() {
-        if older.lock(rt).is_handing_over() {
-            return true;
+        match &*slot.lock(rt) {
+            Slot::Missing | Slot::Listening => {}
+            _ => return true,
         }
         if is_done.load(Ordering::SeqCst) {
             return false;
@@ -111,14 +116,14 @@ fn report<R: Print>(rt: &R, name: &str, is_served: bool) -> bool {
     println!(rt; "{name} {end}").is_ok() && is_served
 }
 
-/// Serves the older plan, and the newer one once the older server looks for a successor. Answers whether
-/// each server that began was served.
+/// Serves the older plan, and the newer one once the older server connected to its successor, for which the
+/// slot listens from the start. Answers whether each server that began was served.
 fn serve_both<
     R: Threads + Wait + Sync + Net<Listener = TcpListener, Stream = TcpStream> + Clock + Print,
 >(rt: &R, alloc: Global, older: Plan, newer: Plan) -> bool {
     let first = Mutex::new(Sockets::new(alloc));
     let second = Mutex::new(Sockets::new(alloc));
-    let slot = Mutex::new(Slot::Missing);
+    let slot = Mutex::new(Slot::Listening);
     let is_done = AtomicBool::new(false);
     let (older, newer) = join(
         rt,
@@ -128,7 +133,7 @@ fn serve_both<
             report(rt, "older", is_served)
         },
         || {
-            if !is_asked(rt, &first, &is_done) {
+            if !is_asked(rt, &slot, &is_done) {
                 return true;
             }
             let is_served = serves(rt, alloc, newer, &second, &slot);

@@ -7,7 +7,7 @@ mod configuration;
 mod dependencies;
 mod ends;
 mod events;
-mod explanation;
+mod explaining;
 mod kept_end;
 mod kept_source;
 mod places;
@@ -19,7 +19,7 @@ mod words;
 
 pub use command::{help, words_message};
 pub use configuration::unknown_keys;
-pub use explanation::{Ending, explanation};
+pub use explaining::{Ending, explanation};
 pub use kept_end::KeptEnd;
 pub use kept_source::KeptSource;
 pub use progress::ProgressSource;

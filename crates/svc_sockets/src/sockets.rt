@@ -44,7 +44,6 @@ pub enum NextRefused {
     /// What was to be told is told at a later call.
     #[error("out of memory")]
     NoMemory,
-    /// The clock could not be read.
     #[error("the clock failed")]
     Clock,
 }
@@ -77,7 +76,6 @@ pub struct Sockets {
     /// The endpoint that is looked at first for a connection.
     turn: usize,
     offers: Offers,
-    is_handing_over: bool,
     is_draining: bool,
     has_ended: bool,
 }
@@ -181,7 +179,6 @@ impl Sockets {
             spare: None,
             turn: 0,
             offers: Offers::new(alloc),
-            is_handing_over: false,
             is_draining: false,
             has_ended: false,
         }
@@ -203,11 +200,6 @@ impl Sockets {
     /// The server has ended, so nothing comes any more.
     pub fn has_ended(&self) -> bool {
         self.has_ended
-    }
-
-    /// The server was told to hand its listeners over, so it looks for a successor.
-    pub fn is_handing_over(&self) -> bool {
-        self.is_handing_over
     }
 
     /// How many milliseconds have passed since the first call.
@@ -465,19 +457,11 @@ impl Sockets {
             Action::Close(fd) => self.close(*fd),
             Action::Rest(s, i) => self.rest_at(rt, *s, *i),
             Action::Broadcast => self.is_draining = true,
-            Action::Phase(phase, _) => self.note_phase(*phase),
+            Action::Phase(ExecutionPhase::Terminated, _) => self.has_ended = true,
             Action::OpenReceiver | Action::TryReceive | Action::Connect | Action::Send(_, _) => {
                 self.perform_at_slot(&mut slot.lock(rt), action);
             }
             _ => self.perform_on_connection(action),
-        }
-    }
-
-    fn note_phase(&mut self, phase: ExecutionPhase) {
-        match phase {
-            ExecutionPhase::GracefulUpgradeTransferringFds => self.is_handing_over = true,
-            ExecutionPhase::Terminated => self.has_ended = true,
-            _ => {}
         }
     }
 

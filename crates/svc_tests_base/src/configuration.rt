@@ -1,10 +1,10 @@
 //! Configurations and the flags of a command.
 
+use crate::checking::{holds, prints, same};
 use clap::error::ErrorKind;
 use std::process::Abort;
 use std::rc::RcStr;
 use svc_base::{FileError, Files, MemoryFile, MemoryFiles, SteadyFiles, SystemFiles, Text};
-use svc_checking::{holds, prints, same};
 use svc_conf::{Key, Opt, OptError, ReadError, RuntimeOpts, ServerConf};
 
 /// A usual file: each sort of a value, in its forms.

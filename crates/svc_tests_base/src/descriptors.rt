@@ -1,9 +1,9 @@
 //! The table of descriptors, its message, and its way through a channel.
 
+use crate::checking::{holds, prints, same};
 use std::collections::BTreeSet;
 use std::process::Abort;
 use svc_base::Text;
-use svc_checking::{holds, prints, same};
 use svc_fds::{
     AddFdRefused, Channel, ChannelCall, DecodeError, DecodeRefused, EncodeError, Fd, Fds,
     ListsError, ListsRefused, MemoryChannel, ReceiveError, ReceiveKind, ReceiveNext, ReceiveRetry,

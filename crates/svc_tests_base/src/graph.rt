@@ -1,8 +1,8 @@
 //! The graph of services, and handles of it.
 
+use crate::checking::{holds, prints, same};
 use std::process::Abort;
 use svc_base::Text;
-use svc_checking::{holds, prints, same};
 use svc_graph::{AddNodeReason, DependencyError, DependencyGraph, ServiceHandle};
 
 /// A graph of as many services of one name.

@@ -1,7 +1,9 @@
-//! Tests of svc_conf, svc_calls, svc_graph, svc_fds and svc_proc: that their calls succeed, and the
+//! Tests of svc_base, svc_conf, svc_graph, svc_fds and svc_proc: that their calls succeed, and the
 //! texts of their errors.
 #![tactic(auto)]
 
+#[cfg(test)]
+mod checking;
 #[cfg(test)]
 mod configuration;
 #[cfg(test)]

@@ -1,8 +1,8 @@
 //! Signals, and a daemon with its parent.
 
+use crate::checking::{holds, prints, same};
 use std::process::Abort;
 use svc_base::Text;
-use svc_checking::{holds, prints, same};
 use svc_conf::ServerConf;
 use svc_proc::{
     DaemonError, Daemonized, ForkAnswer, MemoryProcess, Notified, NotifyNext, NotifyRetry,

@@ -2,9 +2,9 @@
 
 ghost use Rattle.std.specs.Prelude.{codes};
 
+use crate::checking::{holds, same};
 use std::alloc::Global;
 use svc_base::{NoMemory, Text};
-use svc_checking::{holds, same};
 use svc_conf::RuntimeOpts;
 use svc_graph::services::background::{
     BackgroundService, GenBackgroundService, background_service,

@@ -1,12 +1,12 @@
 //! Sources, sinks, lists, texts, and what an object in memory was asked.
 
+use crate::checking::{holds, prints, same};
 use std::cmp::Ordering;
 use std::process::Abort;
 use svc_base::{
     Calls, MemorySink, MemorySource, NoMemory, Numbers, ReadAllError, Reading, Reserved, Sink,
     Source, SteadySink, SteadySource, Text, WriteFault, Writing, read_all, write_all,
 };
-use svc_checking::{holds, prints, same};
 
 /// A source gives these bytes, and has counted no fault.
 fn gives<R: Abort + AllocGlobal, S: Source + Drop>(rt: &R, mut source: S, wanted: &[u8]) {

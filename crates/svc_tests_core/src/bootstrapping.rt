@@ -1,11 +1,11 @@
 //! Bootstrapping by itself, and the service that bootstraps.
 
+use crate::checking::{holds, same};
 use std::collections::BTreeSet;
 use std::process::Abort;
 use std::string::ToString;
 use svc_base::Text;
 use svc_boot::server::bootstrap_services::{Bootstrap, BootstrapService};
-use svc_checking::{holds, same};
 use svc_conf::{Opt, ServerConf};
 use svc_fds::{AddFdRefused, Fd};
 use svc_graph::Kind;

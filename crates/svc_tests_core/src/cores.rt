@@ -1,9 +1,9 @@
 //! A core that tells twice, what it says of readiness, and the reader of its phases.
 
+use crate::checking::{holds, same};
 use std::process::Abort;
 use std::string::ToString;
 use svc_base::{Numbers, Settings, Text};
-use svc_checking::{holds, same};
 use svc_core::{
     Actions, Core, Event, ExecutionPhase, PhaseReader, Plan, ServiceList, ServicePlan,
     ShutdownSignal,

@@ -5,4 +5,6 @@
 #[cfg(test)]
 mod bootstrapping;
 #[cfg(test)]
+mod checking;
+#[cfg(test)]
 mod cores;

@@ -3,11 +3,11 @@
 ghost use Rattle.std.specs.Prelude.{◌≡◌, ◌<◌, Bool, [], ◌∷◌, not, length, IfSome, None};
 ghost use Rattle.svc_tests_net.specs.Polling.{MayBePolled};
 
+use crate::checking::{holds, same};
 use crate::endpoints::{KEEPALIVE, OPTIONS, tcp, text};
 use std::alloc::Global;
 use std::process::Abort;
 use svc_base::Setting;
-use svc_checking::{holds, same};
 use svc_listen::{
     AcceptAllFilter, AcceptAnswer, Accepting, AcceptingCall, Arrival, ConnectionFilter, Filters,
     HandshakePoll, L4BufferSettings, L4Stream, ListenerEndpoint, MemoryAccepting, Peer, PeerAddr,

@@ -2,9 +2,9 @@
 
 ghost use Rattle.std.specs.Prelude.{◌≡◌, Bool, [], ◌∷◌, not, length, Some};
 
+use crate::checking::{holds, same};
 use std::process::Abort;
 use svc_base::Bytes;
-use svc_checking::{holds, same};
 use svc_socket::PeerAddr;
 use svc_streams::{
     AcceptAllFilter, ConnectionFilter, Filters, Handled, HandshakePoll, L4BufferSettings, L4Stream,

@@ -1,10 +1,10 @@
 //! How a server connects.
 
+use crate::checking::{holds, same};
 use std::net::TcpListener;
 use std::process::Abort;
 use std::test::Fail;
 use svc_base::Text;
-use svc_checking::{holds, same};
 use svc_socket::{
     BindTo, ConnectError, ConnectKind, DialAnswer, DialFault, Dialed, Dialer, FailingDial,
     MemoryDialer, NetDialer, OsFault, PeerAddr, SteadyDialer, Target, connect, connect_uds,

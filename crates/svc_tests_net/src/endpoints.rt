@@ -1,12 +1,12 @@
 //! Addresses, configurations and listeners, and a service that listens.
 
+use crate::checking::{holds, same};
 use std::alloc::Global;
 use std::cell::Cell;
 use std::convert::AsStr;
 use std::process::Abort;
 use std::rc::Rc;
 use svc_base::{TcpKeepalive, Text};
-use svc_checking::{holds, same};
 use svc_conf::{RuntimeMetricsOpts, RuntimeOpts};
 use svc_graph::services::{RunPoll, Service as ServiceTrait};
 use svc_listen::{

@@ -5,6 +5,8 @@
 #[cfg(test)]
 mod accepting;
 #[cfg(test)]
+mod checking;
+#[cfg(test)]
 mod connections;
 #[cfg(test)]
 mod dialing;

@@ -1,8 +1,8 @@
 //! Endpoints are bound or adopted.
 
+use crate::checking::{holds, same};
 use crate::endpoints::{tcp, text};
 use std::process::Abort;
-use svc_checking::{holds, same};
 use svc_fds::{AddFdRefused, Fd, Fds};
 use svc_listen::{
     BindErrorKind, Binder, BinderCall, ListenError, Listener, ListenerEndpoint,

@@ -1,7 +1,7 @@
 //! What is set on sockets.
 
+use crate::checking::same;
 use std::process::Abort;
-use svc_checking::same;
 use svc_socket::{
     Family, MemoryOptions, OptionCall, OptionError, Options, Setting, SockOption, SteadyOptions,
     TcpKeepalive, TcpSocketOptions, apply_bind_options, set_dscp, set_recv_buf, set_snd_buf,

@@ -1,6 +1,6 @@
 //! Addresses of peers are read.
 
-use svc_checking::same;
+use crate::checking::same;
 use svc_socket::{IpNumber, Peer, PeerAddr, read_ip, read_peer, read_peer_word};
 
 const LOCAL: PeerAddr = PeerAddr::V4 {

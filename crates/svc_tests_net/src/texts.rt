@@ -1,6 +1,6 @@
 //! The texts of errors and addresses.
 
-use svc_checking::prints;
+use crate::checking::prints;
 use svc_listen::{BindErrorKind, ConfigError, ListenError};
 use svc_socket::protocols::tls::noop_tls::listeners::NoTls;
 use svc_socket::protocols::tls::noop_tls::utils::CertKey;

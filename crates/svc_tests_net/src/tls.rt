@@ -1,8 +1,8 @@
 //! What stands for TLS, a digest of it, and sockets that are no sockets of the system.
 
+use crate::checking::{holds, same};
 use std::process::Abort;
 use svc_base::{Bytes, Text};
-use svc_checking::{holds, same};
 use svc_socket::protocols::tls::noop_tls::listeners::TlsSettings;
 use svc_socket::protocols::tls::noop_tls::stream::SslStream;
 use svc_socket::protocols::tls::noop_tls::utils::get_organization_unit;

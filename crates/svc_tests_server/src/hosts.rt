@@ -4,9 +4,9 @@ ghost use Rattle.std.specs.Prelude.{All, IfSome, ◌≡◌};
 ghost use Rattle.svc_server.specs.Hosts.{no_account};
 ghost use Rattle.svc_server.specs.ScriptHosts.{GivesFew};
 
+use crate::checking::{holds, same};
 use crate::servers::{Listener, listening};
 use std::process::Abort;
-use svc_checking::{holds, same};
 use svc_record::{Action, Event, ExecutionPhase, Item};
 use svc_server::{Host, Next, ScriptHost};
 

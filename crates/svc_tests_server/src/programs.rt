@@ -1,9 +1,9 @@
 //! The program over a source and a sink that fail.
 
+use crate::checking::same;
 use std::process::Abort;
 use std::rc::RcStr;
 use svc_base::{MemorySink, MemorySource, Status};
-use svc_checking::same;
 use svc_main::serve_script;
 
 /// One call with the word `run`, over a source and a sink in memory whose calls with these numbers fail.

@@ -5,13 +5,13 @@ ghost use Rattle.std.specs.Prelude.{All, codes, length};
 ghost use Rattle.svc_server.specs.ScriptHosts.{GivesFew};
 ghost use Rattle.svc_server.specs.Servers.{answers_of, IsSound};
 
+use crate::checking::same;
 use crate::servers::{added, listening, server};
 use std::alloc::Global;
 use std::cell::Cell;
 use std::process::Abort;
 use std::rc::Rc;
 use svc_base::{NoMemory, Text};
-use svc_checking::same;
 use svc_graph::services::{RunPoll, ServiceReadyNotifier, ServiceWithDependents, StartPoll};
 use svc_graph::{EndpointPlan, Kind};
 use svc_record::{Event, ExecutionPhase, Item, ShutdownSignal};

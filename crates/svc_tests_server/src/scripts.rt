@@ -1,7 +1,7 @@
 //! Refused scripts, by their line.
 
+use crate::checking::{holds, prints, same};
 use std::process::Abort;
-use svc_checking::{holds, prints, same};
 use svc_text::{ScriptError, event_of_line, parse};
 
 /// The first refused line of a text, if it isn't a script.

@@ -3,10 +3,10 @@
 ghost use Rattle.std.specs.Prelude.{[], length, map, Some, None, if◌then◌else◌};
 ghost use Rattle.svc_server.specs.Servers.{answers_of, IsSound};
 
+use crate::checking::{holds, same};
 use std::alloc::Global;
 use std::process::Abort;
 use svc_base::{Files, MemoryFile, MemoryFiles, NoMemory, Settings, Text, Texts};
-use svc_checking::{holds, same};
 use svc_conf::{Key, Opt, ReadError, ServerConf};
 use svc_graph::services::{RunPoll, ServiceReadyNotifier, ServiceWithDependents, StartPoll};
 use svc_graph::{EndpointPlan, Kind, ServiceHandle};

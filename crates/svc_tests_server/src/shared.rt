@@ -5,12 +5,12 @@ ghost use Rattle.svc_shared.specs.Feeding.{IsFed};
 ghost use Rattle.svc_shared.specs.Posting.{IsOf, hand_in};
 ghost use Rattle.svc_shared.specs.Views.{IsWhole};
 
+use crate::checking::{holds, same};
 use std::process::Abort;
 use std::sync::atomic::{AtomicU64, Ordering};
 use std::thread;
 use std::thread::join;
 use svc_base::{Numbers, Text};
-use svc_checking::{holds, same};
 use svc_core::Core;
 use svc_graph::{EndpointList, Kind};
 use svc_record::{Actions, Event, Plan, ServiceList, ServicePlan, ShutdownSignal, StepEnd};

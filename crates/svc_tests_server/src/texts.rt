@@ -1,6 +1,6 @@
 //! The texts of errors.
 
-use svc_checking::prints;
+use crate::checking::prints;
 use svc_conf::Key;
 use svc_record::BootstrapError;
 use svc_server::{AddError, PostReason, RunError, SplitReason};

@@ -1,5 +1,4 @@
 //! What tests assert. A call of these is proved in less time than an assertion that stands in a test.
-#![tactic(auto)]
 
 ghost use Rattle.std.specs.Prelude.{◌≡◌, true};
 
