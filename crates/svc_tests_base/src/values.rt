@@ -67,7 +67,7 @@ fn lists_take_and_give_in_order(rt: HostRuntime) {
     same(rt, numbers.pop_first(), Some(7));
     same(rt, numbers.len(), 1);
     let mut bytes: Reserved<u8> = Reserved::new(rt.alloc());
-    same(rt, bytes.reserve(rt.alloc(), 1), Ok(()));
+    bytes.reserve(rt.alloc(), 1).expect(rt, "memory");
     bytes.put(3);
     holds(rt, bytes.push(rt.alloc(), 4).is_ok());
     same(rt, bytes.as_slice(), [3u8, 4].as_slice());
