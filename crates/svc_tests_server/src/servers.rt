@@ -1,6 +1,6 @@
 //! A server takes services, and tells of them.
 
-ghost use Rattle.std.specs.Prelude.{[], length, map, Some, None, if◌then◌else◌};
+ghost use Rattle.std.specs.Prelude.{[], length, map, Some, None, false, if◌then◌else◌};
 ghost use Rattle.svc_server.specs.Servers.{answers_of, IsSound};
 
 use crate::checking::{holds, same};
@@ -188,22 +188,25 @@ fn a_plan_has_the_defaults(rt: HostRuntime) {
     holds(rt, plan.eager);
 }
 
+/// The flags that name this path.
+fn flags<R: Abort + AllocGlobal>(rt: &R, path: &str) -> Opt {
+    let mut opt = Opt::default();
+    opt.conf = Text::new(rt.alloc(), path).ok();
+    opt
+}
+
 /// A server of the configuration at this path, and its number of threads, or why there is none.
 fn threads<R: Abort + AllocGlobal>(
     rt: &R,
     files: &mut MemoryFiles,
     path: Option<&str>,
 ) -> Result<u64, ReadError> {
-    let mut opt = Opt::default();
-    if let Some(path) = path {
-        opt.conf = Text::new(rt.alloc(), path).ok();
-    }
-    let opt = if path.is_some() { Some(opt) } else { None };
-    let made: Result<Server<Listener>, ReadError> = Server::new(rt.alloc(), opt, files);
-    match made {
-        Ok(server) => Ok(server.configuration.threads),
-        Err(error) => Err(error),
-    }
+    let opt = match path {
+        Some(path) => Some(flags(rt, path)),
+        None => None,
+    };
+    let server: Server<Listener> = Server::new(rt.alloc(), opt, files)?;
+    Ok(server.configuration.threads)
 }
 
 #[test]
