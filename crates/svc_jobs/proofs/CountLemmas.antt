@@ -47,10 +47,10 @@ passes_lt f g a (suc n) k h le lt off on = elim (cases_lt a k) [
   | inl later ↦ (
         let more = passes_lt f g (a + 1) n k h (omega arith) (omega arith) off on in
         elim (cases_Bool (f a)) [
-          | inl yes ↦ rw (yes, h a yes) (omega (arith, more))
-          | inr no ↦ elim (cases_Bool (g a)) [
-                | inl other ↦ rw (no, other) (omega (arith, more))
-                | inr none ↦ rw (no, none) more
+          | inl passes ↦ rw (passes, h a passes) (omega (arith, more))
+          | inr fails ↦ elim (cases_Bool (g a)) [
+                | inl other ↦ rw (fails, other) (omega (arith, more))
+                | inr none ↦ rw (fails, none) more
               ]
         ])
 ]

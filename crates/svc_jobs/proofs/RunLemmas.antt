@@ -25,7 +25,7 @@ use Rattle.svc_server.specs.declared.run.Outcome.{Outcome}
 use Rattle.svc_server.specs.declared.run.Outcome.TheVariants as outcomes
 use Rattle.svc_server.specs.declared.run.RunError.{RunError}
 use Rattle.svc_server.specs.declared.run.RunError.TheVariants as errors
-use Rattle.svc_server.specs.Servers.{plan_of}
+use Rattle.svc_server.specs.Servers.{is_test, plan_of}
 use Rattle.svc_server.specs.Runs.{RunEnds, IsEndedSo, IsStray}
 use Rattle.svc_job_host.specs.Readies.{readies_since, readies_right, are_told, items_of}
 use Rattle.svc_job_host.specs.JobHostData.{JobHostData}
@@ -143,10 +143,11 @@ may_answer told p turns answer conf host periods all test paced given enough h =
 
 pub job_run : {J : Type 0} (told : J → Option (List ℕ)) (parts : JobParts) (end : RunEnd) (turns : ℕ) (answer : Result Outcome RunError) (conf : ServerConf) (options : Option Opt) (eager : Bool) (g : GraphData) (filters : ℕ) (answers : List ServicePlan)
     (host : JobHostData J) → IsJobServer parts.script conf options eager g filters answers → AllNotify (plan_of conf options eager g answers) → answer ≡ answer_of end → periods_of host.plans ≡ parts.periods → host.items ≡ parts.script.items
-    → turns ≡ turns_of parts → MayEnd answer → LeavesJobs told (plan_of conf options eager g answers) turns answer conf host → IsJobRun parts end host.entries
-job_run told parts end turns answer conf options eager g filters answers host server notify is paced given enough may h =
+    → turns ≡ turns_of parts → LeavesJobs told (plan_of conf options eager g answers) turns answer conf host → IsJobRun parts end host.entries
+job_run told parts end turns answer conf options eager g filters answers host server notify is paced given enough h =
     let plan : plan_of conf options eager g answers ≡ plan_of_jobs parts.script = same_plan parts.script conf options eager g filters answers server in
     let r : Record = host.entries in
+    let may = may_answer told (plan_of conf options eager g answers) turns answer conf host parts.periods parts.script.items (ap is_test server.flags) paced given enough h in
     let ends_so = subst (λ (a : Result Outcome RunError). RunEnds (plan_of conf options eager g answers) turns a r) is h.ends in
     let keeps = subst (λ (ps : List ℕ). KeepsWords ps r) paced h.keeps in
     let given_is : map items.Event (items_of r) ≡ take host.given parts.script.items = h.jobs.given ∙ ap (take host.given) given in

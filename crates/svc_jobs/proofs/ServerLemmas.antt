@@ -7,6 +7,7 @@ use Rattle.svc_conf.specs.declared.server.configuration.ServerConf.{ServerConf}
 use Rattle.svc_conf.specs.declared.server.configuration.Opt.{Opt}
 use Rattle.svc_graph.specs.GraphData.{GraphData}
 use Rattle.svc_graph.specs.Graphs.{is_edge, with_node}
+use Rattle.svc_graph.specs.declared.plan.Kind.TheVariants.{Notifying}
 use Rattle.svc_record.specs.declared.plan.ServicePlan.{ServicePlan}
 use Rattle.svc_text.specs.declared.service.ServiceLine.{ServiceLine}
 use Rattle.svc_text.specs.Dependencies.{edges_up_to}
@@ -82,3 +83,7 @@ with_edges lines g h filters answers old edges names = record {
   edges = edges;
   sound = record { names = names ∙ old.sound.names; limits = old.sound.limits; filtered = old.sound.filtered };
 }
+
+-- what a job's service of this name answers
+abbrev pub named : List ℕ → ServicePlan
+named name = record { name = name; kind = Notifying; depends = []; declared = Some []; endpoints = [] }
