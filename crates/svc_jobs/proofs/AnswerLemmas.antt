@@ -10,10 +10,10 @@ use Rattle.svc_job_host.specs.Dues.{due_runs}
 use Rattle.svc_main.specs.declared.outcome.RunEnd.{RunEnd}
 use Rattle.svc_main.specs.declared.outcome.StatusLine.{StatusLine}
 use Rattle.svc_main.specs.declared.outcome.StatusLine.TheVariants.{Words, Line, ReadFault, Run}
-use Rattle.svc_main.specs.Status.{status_line, end_status, status_of}
+use Rattle.svc_main.specs.Status.{status_line, status_of}
 use Rattle.svc_jobs.specs.declared.answering.Answer.{Answer}
 use Rattle.svc_jobs.specs.JobTexts.{JobParts, script_lines, jobs_in}
-use Rattle.svc_jobs.specs.JobPrograms.{runs_text, IsJobRun, IsJobText, RanJobs, RanText, RefusesIn, AnswersJobs, IsAnswer, Ends, Ran}
+use Rattle.svc_jobs.specs.JobPrograms.{runs_text, IsJobRun, IsJobText, RefusesIn, AnswersJobs, IsAnswer, Ends, Ran}
 
 -- what is so of the bytes that were read is so of those that the source tells
 known : (left : Option (List ℕ)) (read : List ℕ) (P : List ℕ → Type 0) → IfSome left (λ bytes. read ≡ bytes) → P read → IfSome left P
@@ -31,10 +31,6 @@ jobs_answer words left read numbers parts (Line n) out none same says places (pr
     (none, printed, known left read (λ bytes. RefusesIn bytes n) same (inr (inl (parts, (says, (k, (refusal.1.0, place)))))))
 jobs_answer words left read numbers parts Words out none same says places h = absurd h
 jobs_answer words left read numbers parts ReadFault out none same says places h = absurd h
-
-pub if_ok : {A B : Type 0} (P Q : A → Type 0) (r : Result A B) → IfOk r P → ((x : A) → P x → Q x) → IfOk r Q
-if_ok P Q (Ok x) p f = f x p
-if_ok P Q (Err e) p f = tt
 
 -- where the status isn't that of another line, it is that of a run
 pub ran_from : (status : ℕ) → (status ≡ 2 → ⊥) → (status ≡ 3 → ⊥) → (status ≡ 5 → ⊥) → (words : List (List ℕ)) (left now_left before now : Option (List ℕ)) (line : StatusLine) (out : List ℕ)

@@ -1,5 +1,5 @@
 -- A job says that it is ready once: so the turns of a run of jobs aren't spent.
-use Rattle.std.proofs.Common.{◌≡◌, ℕ, zero, suc, ◌+◌, ◌<◌, ◌≤◌, Bool, true, false, not, ◌&&◌, ◌||◌, ◌==◌, List, [], ◌∷◌, ◌++◌, length, map, take, filter, refl, sym, ap, subst, ◌∙◌, inl, inr, length-append, arith}
+use Rattle.std.proofs.Common.{◌≡◌, ℕ, zero, suc, ◌+◌, ◌<◌, ◌≤◌, Bool, true, false, not, ◌&&◌, ◌||◌, ◌==◌, List, [], ◌∷◌, length, map, take, filter, refl, sym, ap, subst, ◌∙◌, inl, inr, length-append, arith}
 use Rattle.std.specs.Prelude.{None, bytes_eq}
 use Rattle.std.specs.List.{range_with_len}
 use Rattle.std.proofs.lemmas.Bool.{cases_Bool, cases_lt, and_parts, eq-eqb}
@@ -30,29 +30,29 @@ passes_le f g (x ∷ xs) h =
     elim (cases_Bool (f x)) [
       | inl on ↦ rw (on, h x on) (omega (arith, more))
       | inr off ↦ elim (cases_Bool (g x)) [
-            | inl other ↦ rw (off, other) (omega (arith, more))
-            | inr none ↦ rw (off, none) more
-          ]
+        | inl other ↦ rw (off, other) (omega (arith, more))
+        | inr none ↦ rw (off, none) more
+      ]
     ]
 
 passes_lt : (f g : ℕ → Bool) (a n k : ℕ) → ((s : ℕ) → f s ≡ true → g s ≡ true) → a ≤ k → k < a + n → f k ≡ false → g k ≡ true → length (filter f (range_with_len a n)) + 1 ≤ length (filter g (range_with_len a n))
 passes_lt f g a zero k h le lt off on = absurd (omega arith)
 passes_lt f g a (suc n) k h le lt off on = elim (cases_lt a k) [
   | inr here ↦ (
-        let e : a ≡ k = omega arith in
-        let less = passes_le f g (range_with_len (a + 1) n) h in
-        let f_off : f a ≡ false = ap f e ∙ off in
-        let g_on : g a ≡ true = ap g e ∙ on in
-        rw (f_off, g_on) (omega (arith, less)))
+      let e : a ≡ k = omega arith in
+      let less = passes_le f g (range_with_len (a + 1) n) h in
+      let f_off : f a ≡ false = ap f e ∙ off in
+      let g_on : g a ≡ true = ap g e ∙ on in
+      rw (f_off, g_on) (omega (arith, less)))
   | inl later ↦ (
-        let more = passes_lt f g (a + 1) n k h (omega arith) (omega arith) off on in
-        elim (cases_Bool (f a)) [
-          | inl passes ↦ rw (passes, h a passes) (omega (arith, more))
-          | inr fails ↦ elim (cases_Bool (g a)) [
-                | inl other ↦ rw (fails, other) (omega (arith, more))
-                | inr none ↦ rw (fails, none) more
-              ]
-        ])
+      let more = passes_lt f g (a + 1) n k h (omega arith) (omega arith) off on in
+      elim (cases_Bool (f a)) [
+        | inl passes ↦ rw (passes, h a passes) (omega (arith, more))
+        | inr fails ↦ elim (cases_Bool (g a)) [
+          | inl other ↦ rw (fails, other) (omega (arith, more))
+          | inr none ↦ rw (fails, none) more
+        ]
+      ])
 ]
 
 passes_few : (f : ℕ → Bool) (a n : ℕ) → length (filter f (range_with_len a n)) ≤ n

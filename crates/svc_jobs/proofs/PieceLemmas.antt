@@ -1,7 +1,7 @@
 -- The pieces of a list, and the lines of a text that was written line by line.
-use Rattle.std.proofs.Common.{◌≡◌, ℕ, zero, suc, ◌+◌, ◌-◌, ◌<◌, Bool, true, false, not, ◌&&◌, ◌||◌, ◌==◌, cond, List, All, [], ◌∷◌, ◌++◌, length, get_or, take, filter, refl, sym, ap, ◌∙◌, inl, inr, append_assoc, append-nil, length-append, arith}
+use Rattle.std.proofs.Common.{◌≡◌, ℕ, zero, suc, ◌+◌, ◌-◌, Bool, true, false, not, ◌||◌, ◌==◌, List, All, [], ◌∷◌, ◌++◌, length, take, filter, refl, inl, inr, length-append, arith}
 use Rattle.std.specs.List.{slice_split, onto_first, list_all}
-use Rattle.std.specs.Prelude.{slice_index, if◌then◌else◌}
+use Rattle.std.specs.Prelude.{slice_index}
 use Rattle.std.specs.Str.Lines.{lines, lines_of_parts, strip_carriage_return}
 use Rattle.std.proofs.lemmas.Bool.{and_parts, and_from, cases_Bool}
 use Rattle.std.proofs.lemmas.List.{get_or_push}
@@ -68,7 +68,6 @@ lines_keep q (x ∷ []) h = elim (cases_Bool (length x == 0)) [
 lines_keep q (x ∷ y ∷ more) h =
     let rest = and_parts (list_all q x) (list_all (list_all q) (y ∷ more)) h in
     and_from (list_all q (strip_carriage_return x)) (list_all (list_all q) (lines_of_parts (y ∷ more))) (strip_keeps q x rest.0) (lines_keep q (y ∷ more) rest.1)
-
 
 -- no line has one
 pub lines_none : (bytes : List ℕ) → list_all (none_of is_feed) (lines bytes) ≡ true

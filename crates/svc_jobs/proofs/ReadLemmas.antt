@@ -1,5 +1,5 @@
 -- What reading a text of jobs answers.
-use Rattle.std.proofs.Common.{◌≡◌, ℕ, List, [], Result, Ok, Err, sym, ap, subst, ◌∙◌}
+use Rattle.std.proofs.Common.{◌≡◌, ℕ, List, Ok, Err, sym, ap, ◌∙◌}
 use Rattle.std.specs.Str.Lines.{lines}
 use Rattle.svc_text.specs.declared.parsing.ScriptError.{ScriptError}
 use Rattle.svc_text.specs.declared.parsing.ScriptError.TheVariants.{Line, NoMemory}

@@ -1,5 +1,5 @@
 -- What a run of jobs leaves, by what its host tells.
-use Rattle.std.proofs.Common.{◌≡◌, ℕ, zero, suc, ◌+◌, ◌<◌, ◌≤◌, Bool, true, false, List, [], ◌∷◌, ◌++◌, length, map, take, drop, Option, Some, None, Result, Ok, Err, refl, sym, ap, subst, ◌∙◌, arith, take-append-drop, drop-cons}
+use Rattle.std.proofs.Common.{◌≡◌, ℕ, zero, suc, ◌+◌, Bool, true, false, List, [], ◌∷◌, ◌++◌, length, map, take, drop, Option, Some, None, Result, Ok, Err, refl, sym, ap, subst, ◌∙◌, arith, take-append-drop}
 use Rattle.std.specs.Prelude.{slice_get}
 use Rattle.std.proofs.lemmas.List.{drop_all}
 use Rattle.svc_conf.specs.declared.server.configuration.ServerConf.{ServerConf}
@@ -16,17 +16,16 @@ use Rattle.svc_record.specs.declared.action.Action.{Action}
 use Rattle.svc_record.specs.declared.action.StepEnd.TheVariants as ends
 use Rattle.svc_record.specs.declared.item.Item.{Item}
 use Rattle.svc_record.specs.declared.item.Item.TheVariants as items
-use Rattle.svc_record.specs.Record.{Record, tell, has, is_bootstrap, each_entry, EachEntry}
+use Rattle.svc_record.specs.Record.{Record, tell, each_entry, EachEntry}
 use Rattle.svc_record.specs.Drain.{has_passed}
 use Rattle.svc_record.specs.Ends.{ends_tested, ends_parent_well, ends_parent_badly, ends_transfer, ends_no_sender, ends_bad_message}
-use Rattle.svc_record.specs.Fits.{Fits}
 use Rattle.svc_record.specs.Tail.{closing_actions}
 use Rattle.svc_server.specs.declared.run.Outcome.{Outcome}
 use Rattle.svc_server.specs.declared.run.Outcome.TheVariants as outcomes
 use Rattle.svc_server.specs.declared.run.RunError.{RunError}
 use Rattle.svc_server.specs.declared.run.RunError.TheVariants as errors
 use Rattle.svc_server.specs.Servers.{is_test, plan_of}
-use Rattle.svc_server.specs.Runs.{RunEnds, IsEndedSo, IsStray}
+use Rattle.svc_server.specs.Runs.{RunEnds, IsStray}
 use Rattle.svc_job_host.specs.Readies.{readies_since, readies_right, are_told, items_of}
 use Rattle.svc_job_host.specs.JobHostData.{JobHostData}
 use Rattle.svc_job_host.specs.JobHosts.{is_job_entry, head_due}

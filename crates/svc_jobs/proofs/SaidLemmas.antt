@@ -1,8 +1,8 @@
 -- What the lines of a text of jobs say as lines of a script: as many services as periods, and items that a host of jobs may give.
-use Rattle.std.proofs.Common.{◌≡◌, ◌⊎◌, ℕ, zero, suc, ◌+◌, ◌<◌, ◌≤◌, Bool, true, false, not, ◌&&◌, ◌||◌, ◌==◌, List, [], ◌∷◌, ◌++◌, length, get_or, take, filter, find, Option, Some, None, Result, Ok, Err, refl, sym, ap, subst, ◌∙◌, inl, inr, append_assoc, append-nil, length-append, arith, codes}
+use Rattle.std.proofs.Common.{◌≡◌, ◌⊎◌, ℕ, zero, suc, ◌+◌, ◌<◌, ◌≤◌, Bool, true, false, not, ◌&&◌, ◌==◌, List, [], ◌∷◌, ◌++◌, length, take, filter, find, Option, Some, None, Result, Ok, Err, refl, sym, ap, subst, ◌∙◌, inl, inr, append_assoc, append-nil, length-append, arith, codes}
 use Rattle.std.specs.Prelude.{if◌then◌else◌, is_some, is_none, nat_lt, unwrap_or}
 use Rattle.std.specs.List.{list_all, slice_split, range_with_len}
-use Rattle.std.specs.Option.{option_map, option_to_list}
+use Rattle.std.specs.Option.{option_to_list}
 use Rattle.std.specs.Str.{bytes_eq, is_utf8, chars}
 use Rattle.std.specs.Str.Lines.{lines}
 use Rattle.std.proofs.lemmas.Bool.{cases_Bool, cases_lt, and_parts, ltb-true, eqb-true}
@@ -24,7 +24,7 @@ use Rattle.svc_text.proofs.PartLemmas.{begun-push, services-push, items-push}
 use Rattle.svc_text.proofs.PlaceLemmas.{skipped_service}
 use Rattle.svc_text.proofs.SkippedLemmas.{skipped_event, skipped_is_no_fault}
 use Rattle.svc_job_host.specs.JobHosts.{is_job_item}
-use Rattle.svc_jobs.specs.JobTexts.{JobLine, JobParts, period_of, after_of, job_of, after_text, service_line, is_daemon, is_job_event, inner_line, script_line, part_with, script_lines_from, script_lines, said_period, periods_from, with_periods, jobs_in}
+use Rattle.svc_jobs.specs.JobTexts.{JobLine, period_of, after_of, job_of, after_text, service_line, is_job_event, inner_line, script_line, part_with, script_lines_from, script_lines, said_period, periods_from}
 use Rattle.svc_jobs.proofs.PieceLemmas.{none_of, pieces_none, filter_keeps, none_each}
 
 -- ---- the words of a job's line
@@ -76,12 +76,16 @@ job_cases (name ∷ key ∷ ms ∷ more) = job_by name key ms more (bytes_eq key
 
 -- the words of the service's line
 service_words : (name : List ℕ) (after : Option (List ℕ)) → IsFirst name → (more : List (List ℕ)) × (words (name ++ (codes " notify" ++ after_text after)) ≡ name ∷ codes "notify" ∷ more)
-service_words name None first =
-    ([], words-then name 32 (codes "notify" ++ []) first.some (none_each is_blank name first.filled) refl
-    ∙ ap (λ (ws : List (List ℕ)). name ∷ ws) (words-last (codes "notify") (omega arith) (none_each is_blank (codes "notify") refl)))
-service_words name (Some value) first =
-    (words (codes "after " ++ value), words-then name 32 (codes "notify" ++ (codes " after " ++ value)) first.some (none_each is_blank name first.filled) refl
-    ∙ ap (λ (ws : List (List ℕ)). name ∷ ws) (words-then (codes "notify") 32 (codes "after " ++ value) (omega arith) (none_each is_blank (codes "notify") refl) refl))
+service_words name None first = (
+  [],
+  words-then name 32 (codes "notify" ++ []) first.some (none_each is_blank name first.filled) refl
+      ∙ ap (λ (ws : List (List ℕ)). name ∷ ws) (words-last (codes "notify") (omega arith) (none_each is_blank (codes "notify") refl)),
+)
+service_words name (Some value) first = (
+  words (codes "after " ++ value),
+  words-then name 32 (codes "notify" ++ (codes " after " ++ value)) first.some (none_each is_blank name first.filled) refl
+      ∙ ap (λ (ws : List (List ℕ)). name ∷ ws) (words-then (codes "notify") 32 (codes "after " ++ value) (omega arith) (none_each is_blank (codes "notify") refl) refl),
+)
 
 -- a line of two words begins no part
 one_word : (header line name second : List ℕ) (more : List (List ℕ)) → words header ≡ header ∷ [] → bytes_eq line header ≡ true → words line ≡ name ∷ second ∷ more → ⊥
@@ -95,12 +99,12 @@ unfolding header_of words
 no_header line name second more e = elim (cases_Bool (bytes_eq line (codes "%conf"))) [
   | inl conf ↦ absurd (one_word (codes "%conf") line name second more refl conf e)
   | inr a ↦ elim (cases_Bool (bytes_eq line (codes "%services"))) [
-        | inl services ↦ absurd (one_word (codes "%services") line name second more refl services e)
-        | inr b ↦ elim (cases_Bool (bytes_eq line (codes "%events"))) [
-              | inl events ↦ absurd (one_word (codes "%events") line name second more refl events e)
-              | inr c ↦ rw (a, b, c) refl
-            ]
-      ]
+    | inl services ↦ absurd (one_word (codes "%services") line name second more refl services e)
+    | inr b ↦ elim (cases_Bool (bytes_eq line (codes "%events"))) [
+      | inl events ↦ absurd (one_word (codes "%events") line name second more refl events e)
+      | inr c ↦ rw (a, b, c) refl
+    ]
+  ]
 ]
 
 -- ---- one line
@@ -125,12 +129,12 @@ unfolding script_line
 script_cases part line = elim (cases_Bool (bytes_eq line (codes "%jobs"))) [
   | inl jobs ↦ rw jobs (inl services_header)
   | inr other ↦ rw other (elim (cases_Bool (bytes_eq line (codes "%services"))) [
-        | inl services ↦ rw services (inr (inl refl))
-        | inr none ↦ rw none (elim (cases_Bool (is_header line)) [
-              | inl header ↦ rw header (inl header)
-              | inr inner ↦ rw inner (inr (inr refl))
-            ])
-      ])
+    | inl services ↦ rw services (inr (inl refl))
+    | inr none ↦ rw none (elim (cases_Bool (is_header line)) [
+      | inl header ↦ rw header (inl header)
+      | inr inner ↦ rw inner (inr (inr refl))
+    ])
+  ])
 ]
 
 inner_jobs : (part : ℕ) (line : List ℕ) → (part == 2) ≡ true → ((is_skipped (words line) ≡ true) × (inner_line part line ≡ line)) ⊎ ((is_skipped (words line) ≡ false) × (inner_line part line ≡ service_line (job_of (words line))))
@@ -174,13 +178,13 @@ unfolding said_services said_period is_skipped
 job_said part eager services line script two inner said is fits = elim (job_cases (words line)) [
   | inl none ↦ absurd (no_line_misfits part eager services script (is ∙ ap service_line none) fits)
   | inr found ↦ (
-        let job : JobLine = found.0 in
-        let first : IsFirst job.name = first_of_words line job.name found.1.more found.1.first in
-        let spelt = service_words job.name job.after first in
-        let e : words script ≡ job.name ∷ codes "notify" ∷ spelt.0 = ap words (is ∙ ap service_line found.1.says) ∙ spelt.1 in
-        let unskipped : is_skipped (job.name ∷ codes "notify" ∷ spelt.0) ≡ false = rw found.1.first at said in
-        let some = job_fits part eager services script job.name (codes "notify") spelt.0 two e unskipped fits in
-        rw (two, inner, said, found.1.says) (one_if_some (service_of (words script)) some))
+      let job : JobLine = found.0 in
+      let first : IsFirst job.name = first_of_words line job.name found.1.more found.1.first in
+      let spelt = service_words job.name job.after first in
+      let e : words script ≡ job.name ∷ codes "notify" ∷ spelt.0 = ap words (is ∙ ap service_line found.1.says) ∙ spelt.1 in
+      let unskipped : is_skipped (job.name ∷ codes "notify" ∷ spelt.0) ≡ false = rw found.1.first at said in
+      let some = job_fits part eager services script job.name (codes "notify") spelt.0 two e unskipped fits in
+      rw (two, inner, said, found.1.says) (one_if_some (service_of (words script)) some))
 ]
 
 one_said : (part : ℕ) (line : List ℕ) (eager : Bool) (services : List ServiceLine) → line_fits part eager services (script_line part line) ≡ true
@@ -189,19 +193,19 @@ unfolding said_services said_period
 one_said part line eager services fits = elim (cases_Bool (part == 2)) [
   | inr off ↦ rw off refl
   | inl two ↦ elim (cases_Bool (is_header (script_line part line))) [
-        | inl header ↦ rw (two, header) refl
-        | inr inner ↦ elim (script_cases part line) [
-              | inl header ↦ absurd (clash (is_header (script_line part line)) header inner)
-              | inr (inl none) ↦ absurd (no_line_misfits part eager services (script_line part line) none fits)
-              | inr (inr same) ↦ elim (inner_jobs part line two) [
-                    | inl skipped ↦ (
-                          let is : script_line part line ≡ line = same ∙ skipped.1 in
-                          let unsaid : service_of (words (script_line part line)) ≡ None = ap (λ (l : List ℕ). service_of (words l)) is ∙ skipped_service (words line) skipped.0 in
-                          rw (two, inner, skipped.0, unsaid) refl)
-                    | inr said ↦ job_said part eager services line (script_line part line) two inner said.0 (same ∙ said.1) fits ∙ ap (λ (b : Bool). length (said_period part b line)) (sym inner)
-                  ]
-            ]
+    | inl header ↦ rw (two, header) refl
+    | inr inner ↦ elim (script_cases part line) [
+      | inl header ↦ absurd (clash (is_header (script_line part line)) header inner)
+      | inr (inl none) ↦ absurd (no_line_misfits part eager services (script_line part line) none fits)
+      | inr (inr same) ↦ elim (inner_jobs part line two) [
+        | inl skipped ↦ (
+            let is : script_line part line ≡ line = same ∙ skipped.1 in
+            let unsaid : service_of (words (script_line part line)) ≡ None = ap (λ (l : List ℕ). service_of (words l)) is ∙ skipped_service (words line) skipped.0 in
+            rw (two, inner, skipped.0, unsaid) refl)
+        | inr said ↦ job_said part eager services line (script_line part line) two inner said.0 (same ∙ said.1) fits ∙ ap (λ (b : Bool). length (said_period part b line)) (sym inner)
       ]
+    ]
+  ]
 ]
 
 all_listed : (o : Option Item) → is_job_event o ≡ true → list_all is_job_item (option_to_list o) ≡ true
@@ -215,19 +219,19 @@ no_item : (script : List ℕ) → script ≡ 255 ∷ [] → item_of (words scrip
 unfolding words item_of event_of is_fault bare_event
 no_item script e = rw e refl
 
-skipped_item : (ws : List (List ℕ)) → is_skipped ws ≡ true → item_of ws ≡ None
+unsaid_item : (line : List ℕ) → is_skipped (words line) ≡ true → item_of (words line) ≡ None
 unfolding item_of
-skipped_item ws h = rw (skipped_is_no_fault ws h, skipped_event ws h) refl
+unsaid_item line h = rw (skipped_is_no_fault (words line) h, skipped_event (words line) h) refl
 
 item_cases : (part : ℕ) (line script : List ℕ) → (part == 3) ≡ true → script ≡ inner_line part line → list_all is_job_item (option_to_list (item_of (words script))) ≡ true
 item_cases part line script three same = elim (inner_events part line three) [
-  | inl skipped ↦ none_listed (item_of (words script)) (ap (λ (l : List ℕ). item_of (words l)) (same ∙ skipped.1) ∙ skipped_item (words line) skipped.0)
+  | inl skipped ↦ none_listed (item_of (words script)) (ap (λ (l : List ℕ). item_of (words l)) (same ∙ skipped.1) ∙ unsaid_item line skipped.0)
   | inr said ↦ elim (cases_Bool (is_job_event (item_of (words line)))) [
-        | inl may ↦ (
-              let is : script ≡ line = same ∙ said.1 ∙ rw may refl in
-              subst (λ (o : Option Item). list_all is_job_item (option_to_list o) ≡ true) (sym (ap (λ (l : List ℕ). item_of (words l)) is)) (all_listed (item_of (words line)) may))
-        | inr other ↦ none_listed (item_of (words script)) (no_item script (same ∙ said.1 ∙ rw other refl))
-      ]
+    | inl may ↦ (
+        let is : script ≡ line = same ∙ said.1 ∙ rw may refl in
+        subst (λ (o : Option Item). list_all is_job_item (option_to_list o) ≡ true) (sym (ap (λ (l : List ℕ). item_of (words l)) is)) (all_listed (item_of (words line)) may))
+    | inr other ↦ none_listed (item_of (words script)) (no_item script (same ∙ said.1 ∙ rw other refl))
+  ]
 ]
 
 item_said : (part : ℕ) (line : List ℕ) → list_all is_job_item (said_items part (script_line part line)) ≡ true
@@ -235,13 +239,13 @@ unfolding said_items
 item_said part line = elim (cases_Bool (part == 3)) [
   | inr off ↦ rw off refl
   | inl three ↦ elim (cases_Bool (is_header (script_line part line))) [
-        | inl header ↦ rw (three, header) refl
-        | inr inner ↦ elim (script_cases part line) [
-              | inl header ↦ absurd (clash (is_header (script_line part line)) header inner)
-              | inr (inl none) ↦ rw (three, inner) (none_listed (item_of (words (script_line part line))) (no_item (script_line part line) none))
-              | inr (inr same) ↦ rw (three, inner) (item_cases part line (script_line part line) three same)
-            ]
-      ]
+    | inl header ↦ rw (three, header) refl
+    | inr inner ↦ elim (script_cases part line) [
+      | inl header ↦ absurd (clash (is_header (script_line part line)) header inner)
+      | inr (inl none) ↦ rw (three, inner) (none_listed (item_of (words (script_line part line))) (no_item (script_line part line) none))
+      | inr (inr same) ↦ rw (three, inner) (item_cases part line (script_line part line) three same)
+    ]
+  ]
 ]
 
 -- ---- all lines
@@ -251,11 +255,11 @@ find_none_at p a zero k h le lt = absurd (omega arith)
 find_none_at p a (suc n) k h le lt = elim (cases_Bool (p a)) [
   | inl on ↦ absurd (let found = rw on at h in cc)
   | inr off ↦ (
-        let rest = rw off at h in
-        elim (cases_lt a k) [
-          | inl later ↦ find_none_at p (a + 1) n k rest (omega arith) (omega arith)
-          | inr here ↦ (let e : a ≡ k = omega arith in subst (λ (j : ℕ). p j ≡ false) e off)
-        ])
+      let rest = rw off at h in
+      elim (cases_lt a k) [
+        | inl later ↦ find_none_at p (a + 1) n k rest (omega arith) (omega arith)
+        | inr here ↦ (let e : a ≡ k = omega arith in subst (λ (j : ℕ). p j ≡ false) e off)
+      ])
 ]
 
 -- each line fits those before it
@@ -310,9 +314,9 @@ judged_ok all (Err e) ls parts h = absurd (cc)
 judged_ok all (Ok conf) ls parts h = elim (cases_Bool (all && (begun ls == 3))) [
   | inr off ↦ absurd (let never = rw off at h in cc)
   | inl on ↦ (
-        let says = rw on at h in
-        let same : record { conf = conf; services = services_in ls; eager = eager_in ls; items = items_in ls } ≡ parts = cc in
-        ((and_parts all (begun ls == 3) on).0, ap (λ (p : Parts). p.services) (sym same), ap (λ (p : Parts). p.items) (sym same)))
+      let says = rw on at h in
+      let same : record { conf = conf; services = services_in ls; eager = eager_in ls; items = items_in ls } ≡ parts = cc in
+      ((and_parts all (begun ls == 3) on).0, ap (λ (p : Parts). p.services) (sym same), ap (λ (p : Parts). p.items) (sym same)))
 ]
 
 none_of_missing : {X : Type 0} (o : Option X) → is_none o ≡ true → o ≡ None

@@ -6,8 +6,7 @@ ghost use Rattle.svc_base.specs.Words.{words};
 ghost use Rattle.svc_jobs.specs.JobTexts.{period_of, after_of, job_of, after_text, service_line, job_said};
 
 use std::alloc::Global;
-use svc_base::NoMemory;
-use svc_base::{number, split_word};
+use svc_base::{NoMemory, number, split_word};
 
 /// What a job's line says.
 #[derive(Clone, Copy)]

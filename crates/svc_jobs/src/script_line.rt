@@ -55,7 +55,10 @@ fn is_daemon(alloc: Global, line: &[u8]) -> Result<bool, NoMemory>
 fn is_job_item(item: &Item) -> bool
     ensures { result ≡ is_job_item item.now }
 {
-    matches!(item, Item::Event(Event::Moment(_) | Event::Signal(_)) | Item::Fault)
+    matches!(
+        item,
+        Item::Event(Event::Moment(_) | Event::Signal(_)) | Item::Fault
+    )
 }
 
 /// The line says a moment, a signal or a fault.

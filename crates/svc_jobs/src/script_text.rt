@@ -8,8 +8,7 @@ ghost use Rattle.svc_jobs.specs.JobTexts.{script_line, script_lines, part_with, 
 use crate::job_line::job_of_line;
 use crate::script_line::{is_header, is_skipped, script_line};
 use std::alloc::Global;
-use svc_base::NoMemory;
-use svc_base::split_line;
+use svc_base::{NoMemory, split_line};
 
 /// The script that the lines so far are read as.
 #[derive(Drop)]

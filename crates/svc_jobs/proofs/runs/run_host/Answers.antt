@@ -2,7 +2,7 @@ use Rattle.std.proofs.Common.{◌+◌, refl, sym, ap, ◌∙◌, arith, length}
 use Rattle.svc_server.specs.Servers.{plan_of, answers_of, is_test}
 use Rattle.svc_job_host.specs.contracts.service.JobServiceServiceWithDependents as services
 use Rattle.svc_job_host.proofs.EndLemmas.{all_notify}
-use Rattle.svc_jobs.proofs.AnswerLemmas.{if_ok}
+use Rattle.svc_main.proofs.ScriptAnswerLemmas.{if_ok}
 use Rattle.svc_jobs.proofs.RunLemmas.{may_answer, job_run}
 use Rattle.svc_jobs.proofs.runs.run_host.Goals as goal
 

@@ -1,9 +1,7 @@
-use Rattle.std.proofs.Common.{ap, ◌∙◌, ℕ, List, [], Some, arith}
-use Rattle.svc_record.specs.declared.plan.ServicePlan.{ServicePlan}
-use Rattle.svc_graph.specs.declared.plan.Kind.TheVariants.{Notifying}
+use Rattle.std.proofs.Common.{ap, ◌∙◌, arith}
 use Rattle.svc_server.specs.Servers.{answer_of}
 use Rattle.svc_job_host.specs.contracts.service.JobServiceServiceWithDependents as services
-use Rattle.svc_jobs.proofs.ServerLemmas.{named, first_none, first_more, first_all}
+use Rattle.svc_jobs.proofs.ServerLemmas.{named, first_more, first_all}
 use Rattle.svc_jobs.proofs.services.server_of.Goals as goal
 
 pub loop-line-preserved : goal.loop-line-preserved
