@@ -1,14 +1,19 @@
 -- What is answered to a text of jobs, and what a status says of the answer.
-use Rattle.std.proofs.Common.{◌≡◌, ◌⊎◌, inl, inr, ℕ, List, [], length, Option, Some, None, Result, Ok, Err, IfOk, IfSome, refl, sym, subst, ◌∙◌, arith}
+use Rattle.std.proofs.Common.{◌≡◌, ◌==◌, inl, inr, ℕ, Bool, true, List, [], ◌∷◌, length, map, Option, Some, None, Result, Ok, Err, IfOk, IfSome, refl, sym, ap, subst, ◌∙◌, ◌++◌, string_bytes, arith}
 use Rattle.std.specs.Io.KnownBytes.{Appends}
+use Rattle.std.proofs.lemmas.Bool.{eqb-true}
+use Rattle.svc_record.specs.Record.{Record}
+use Rattle.svc_text.specs.Dependencies.{RefusesNone}
 use Rattle.svc_text.specs.Script.{IsLineOf, AreLines}
+use Rattle.svc_job_host.specs.declared.plan.JobRun.{JobRun}
+use Rattle.svc_job_host.specs.Dues.{due_runs}
 use Rattle.svc_main.specs.declared.outcome.RunEnd.{RunEnd}
-use Rattle.svc_main.specs.declared.outcome.RunEnd.TheVariants.{Served, Tested, Parent, Config, HostFault, Bootstrap, Stray, OutOfEvents}
 use Rattle.svc_main.specs.declared.outcome.StatusLine.{StatusLine}
 use Rattle.svc_main.specs.declared.outcome.StatusLine.TheVariants.{Words, Line, ReadFault, Run}
-use Rattle.svc_main.specs.Status.{end_status, status_of}
+use Rattle.svc_main.specs.Status.{status_line, status_of}
+use Rattle.svc_jobs.specs.declared.answering.Answer.{Answer}
 use Rattle.svc_jobs.specs.JobTexts.{JobParts, script_lines, jobs_in}
-use Rattle.svc_jobs.specs.JobPrograms.{IsJobText, RanJobs, RanText, RefusesIn, AnswersJobs, IsAnswer, Ends, Ran}
+use Rattle.svc_jobs.specs.JobPrograms.{runs_text, IsJobRun, IsJobText, RefusesIn, AnswersJobs, IsAnswer, Ends, Ran}
 
 -- what is so of the bytes that were read is so of those that the source tells
 known : (left : Option (List ℕ)) (read : List ℕ) (P : List ℕ → Type 0) → IfSome left (λ bytes. read ≡ bytes) → P read → IfSome left P
@@ -27,13 +32,6 @@ jobs_answer words left read numbers parts (Line n) out none same says places (pr
 jobs_answer words left read numbers parts Words out none same says places h = absurd h
 jobs_answer words left read numbers parts ReadFault out none same says places h = absurd h
 
-pub refused_answer : (left : Option (List ℕ)) (read : List ℕ) (n : ℕ) → IfSome left (λ bytes. read ≡ bytes) → jobs_in read ≡ Err n → IfSome left (λ bytes. RefusesIn bytes n)
-refused_answer left read n same refused = known left read (λ bytes. RefusesIn bytes n) same (inl refused)
-
-pub if_ok : {A B : Type 0} (P Q : A → Type 0) (r : Result A B) → IfOk r P → ((x : A) → P x → Q x) → IfOk r Q
-if_ok P Q (Ok x) p f = f x p
-if_ok P Q (Err e) p f = tt
-
 -- where the status isn't that of another line, it is that of a run
 pub ran_from : (status : ℕ) → (status ≡ 2 → ⊥) → (status ≡ 3 → ⊥) → (status ≡ 5 → ⊥) → (words : List (List ℕ)) (left now_left before now : Option (List ℕ)) (line : StatusLine) (out : List ℕ)
     → IsAnswer words left line out → Ends line now_left → Appends before now out → status_of line ≡ status → Ran status words left now_left before now
@@ -42,19 +40,16 @@ ran_from status two three five words left now_left before now (Line n) out a d p
 ran_from status two three five words left now_left before now ReadFault out a d p e = absurd (five (sym e))
 ran_from status two three five words left now_left before now (Run end) out a d p e = (end, e, a.0, d, (out, a.1, p))
 
-parentless : (left : Option (List ℕ)) (end : RunEnd) (out : List ℕ) → RanText left end out → end_status end ≡ 1 → ⊥
-parentless left Served out a e = omega (arith, e)
-parentless left Tested out a e = omega (arith, e)
-parentless left (Parent n) out (parts, ((r, prints), is)) e = prints.run.may
-parentless left (Config key) out a e = omega (arith, e)
-parentless left HostFault out a e = omega (arith, e)
-parentless left (Bootstrap error) out a e = omega (arith, e)
-parentless left (Stray k) out a e = omega (arith, e)
-parentless left OutOfEvents out a e = omega (arith, e)
+-- the runs of jobs whose dependencies are sound answer them
+pub ran_jobs : {E : Type 0} (parts : JobParts) (numbers : List ℕ) (end : RunEnd) (runs : List JobRun) (r : Record) (result : Result Answer E)
+    → IfOk result (λ (a : Answer). (a.line ≡ Run end) × (string_bytes a.text ≡ runs_text runs ++ status_line (Run end))) → runs ≡ due_runs parts.periods r → IsJobRun parts end r → RefusesNone parts.script.services
+    → IfOk result (λ (a : Answer). AnswersJobs parts numbers a.line (string_bytes a.text))
+ran_jobs parts numbers end runs r (Ok a) said due run edges =
+    subst (λ (l : StatusLine). AnswersJobs parts numbers l (string_bytes a.text)) (sym said.0)
+    (edges, (r, record { printed = said.1 ∙ ap (λ (rs : List JobRun). runs_text rs ++ status_line (Run end)) due; run = run }))
+ran_jobs parts numbers end runs r (Err e) said due run edges = tt
 
--- no status is that of a parent
-pub not_one : (words : List (List ℕ)) (left : Option (List ℕ)) (line : StatusLine) (out : List ℕ) → IsAnswer words left line out → status_of line ≡ 1 → ⊥
-not_one words left Words out a e = omega (arith, e)
-not_one words left (Line n) out a e = omega (arith, e)
-not_one words left ReadFault out a e = omega (arith, e)
-not_one words left (Run end) out a e = parentless left end out a.1 e
+-- a list without elements has no words
+pub no_words : {X : Type 0} (f : X → List ℕ) (xs : List X) (empty : Bool) → empty ≡ (length xs == 0) → empty ≡ true → map f xs ≡ []
+no_words f [] empty is h = refl
+no_words f (x ∷ xs) empty is h = absurd (let long : (length (x ∷ xs) == 0) ≡ true = sym is ∙ h in let none : length (x ∷ xs) ≡ 0 = eqb-true (length (x ∷ xs)) 0 long in omega arith)

@@ -1,5 +1,5 @@
 -- A job says that it is ready once: so the turns of a run of jobs aren't spent.
-use Rattle.std.proofs.Common.{◌≡◌, ℕ, zero, suc, ◌+◌, ◌<◌, ◌≤◌, Bool, true, false, not, ◌&&◌, ◌||◌, ◌==◌, List, [], ◌∷◌, ◌++◌, length, map, take, filter, refl, sym, ap, subst, ◌∙◌, inl, inr, length-append, arith}
+use Rattle.std.proofs.Common.{◌≡◌, ℕ, zero, suc, ◌+◌, ◌<◌, ◌≤◌, Bool, true, false, not, ◌&&◌, ◌||◌, ◌==◌, List, [], ◌∷◌, length, map, take, filter, refl, sym, ap, subst, ◌∙◌, inl, inr, length-append, arith}
 use Rattle.std.specs.Prelude.{None, bytes_eq}
 use Rattle.std.specs.List.{range_with_len}
 use Rattle.std.proofs.lemmas.Bool.{cases_Bool, cases_lt, and_parts, eq-eqb}
@@ -47,10 +47,10 @@ passes_lt f g a (suc n) k h le lt off on = elim (cases_lt a k) [
   | inl later ↦ (
       let more = passes_lt f g (a + 1) n k h (omega arith) (omega arith) off on in
       elim (cases_Bool (f a)) [
-        | inl yes ↦ rw (yes, h a yes) (omega (arith, more))
-        | inr no ↦ elim (cases_Bool (g a)) [
-          | inl other ↦ rw (no, other) (omega (arith, more))
-          | inr none ↦ rw (no, none) more
+        | inl passes ↦ rw (passes, h a passes) (omega (arith, more))
+        | inr fails ↦ elim (cases_Bool (g a)) [
+          | inl other ↦ rw (fails, other) (omega (arith, more))
+          | inr none ↦ rw (fails, none) more
         ]
       ])
 ]

@@ -1,5 +1,5 @@
 -- What a run of jobs leaves, by what its host tells.
-use Rattle.std.proofs.Common.{◌≡◌, ℕ, zero, suc, ◌+◌, ◌<◌, ◌≤◌, Bool, true, false, List, [], ◌∷◌, ◌++◌, length, map, take, drop, Option, Some, None, Result, Ok, Err, refl, sym, ap, subst, ◌∙◌, arith, take-append-drop, drop-cons}
+use Rattle.std.proofs.Common.{◌≡◌, ℕ, zero, suc, ◌+◌, Bool, true, false, List, [], ◌∷◌, ◌++◌, length, map, take, drop, Option, Some, None, Result, Ok, Err, refl, sym, ap, subst, ◌∙◌, arith, take-append-drop}
 use Rattle.std.specs.Prelude.{slice_get}
 use Rattle.std.proofs.lemmas.List.{drop_all}
 use Rattle.svc_conf.specs.declared.server.configuration.ServerConf.{ServerConf}
@@ -16,17 +16,16 @@ use Rattle.svc_record.specs.declared.action.Action.{Action}
 use Rattle.svc_record.specs.declared.action.StepEnd.TheVariants as ends
 use Rattle.svc_record.specs.declared.item.Item.{Item}
 use Rattle.svc_record.specs.declared.item.Item.TheVariants as items
-use Rattle.svc_record.specs.Record.{Record, tell, has, is_bootstrap, each_entry, EachEntry}
+use Rattle.svc_record.specs.Record.{Record, tell, each_entry, EachEntry}
 use Rattle.svc_record.specs.Drain.{has_passed}
 use Rattle.svc_record.specs.Ends.{ends_tested, ends_parent_well, ends_parent_badly, ends_transfer, ends_no_sender, ends_bad_message}
-use Rattle.svc_record.specs.Fits.{Fits}
 use Rattle.svc_record.specs.Tail.{closing_actions}
 use Rattle.svc_server.specs.declared.run.Outcome.{Outcome}
 use Rattle.svc_server.specs.declared.run.Outcome.TheVariants as outcomes
 use Rattle.svc_server.specs.declared.run.RunError.{RunError}
 use Rattle.svc_server.specs.declared.run.RunError.TheVariants as errors
-use Rattle.svc_server.specs.Servers.{plan_of}
-use Rattle.svc_server.specs.Runs.{RunEnds, IsEndedSo, IsStray}
+use Rattle.svc_server.specs.Servers.{is_test, plan_of}
+use Rattle.svc_server.specs.Runs.{RunEnds, IsStray}
 use Rattle.svc_job_host.specs.Readies.{readies_since, readies_right, are_told, items_of}
 use Rattle.svc_job_host.specs.JobHostData.{JobHostData}
 use Rattle.svc_job_host.specs.JobHosts.{is_job_entry, head_due}
@@ -143,10 +142,11 @@ may_answer told p turns answer conf host periods all test paced given enough h =
 
 pub job_run : {J : Type 0} (told : J → Option (List ℕ)) (parts : JobParts) (end : RunEnd) (turns : ℕ) (answer : Result Outcome RunError) (conf : ServerConf) (options : Option Opt) (eager : Bool) (g : GraphData) (filters : ℕ) (answers : List ServicePlan)
     (host : JobHostData J) → IsJobServer parts.script conf options eager g filters answers → AllNotify (plan_of conf options eager g answers) → answer ≡ answer_of end → periods_of host.plans ≡ parts.periods → host.items ≡ parts.script.items
-    → turns ≡ turns_of parts → MayEnd answer → LeavesJobs told (plan_of conf options eager g answers) turns answer conf host → IsJobRun parts end host.entries
-job_run told parts end turns answer conf options eager g filters answers host server notify is paced given enough may h =
+    → turns ≡ turns_of parts → LeavesJobs told (plan_of conf options eager g answers) turns answer conf host → IsJobRun parts end host.entries
+job_run told parts end turns answer conf options eager g filters answers host server notify is paced given enough h =
     let plan : plan_of conf options eager g answers ≡ plan_of_jobs parts.script = same_plan parts.script conf options eager g filters answers server in
     let r : Record = host.entries in
+    let may = may_answer told (plan_of conf options eager g answers) turns answer conf host parts.periods parts.script.items (ap is_test server.flags) paced given enough h in
     let ends_so = subst (λ (a : Result Outcome RunError). RunEnds (plan_of conf options eager g answers) turns a r) is h.ends in
     let keeps = subst (λ (ps : List ℕ). KeepsWords ps r) paced h.keeps in
     let given_is : map items.Event (items_of r) ≡ take host.given parts.script.items = h.jobs.given ∙ ap (take host.given) given in

@@ -1,8 +1,8 @@
 -- What the lines of a text of jobs say as lines of a script: as many services as periods, and items that a host of jobs may give.
-use Rattle.std.proofs.Common.{◌≡◌, ◌⊎◌, ℕ, zero, suc, ◌+◌, ◌<◌, ◌≤◌, Bool, true, false, not, ◌&&◌, ◌||◌, ◌==◌, List, [], ◌∷◌, ◌++◌, length, get_or, take, filter, find, Option, Some, None, Result, Ok, Err, refl, sym, ap, subst, ◌∙◌, inl, inr, append_assoc, append-nil, length-append, arith, codes}
+use Rattle.std.proofs.Common.{◌≡◌, ◌⊎◌, ℕ, zero, suc, ◌+◌, ◌<◌, ◌≤◌, Bool, true, false, not, ◌&&◌, ◌==◌, List, [], ◌∷◌, ◌++◌, length, take, filter, find, Option, Some, None, Result, Ok, Err, refl, sym, ap, subst, ◌∙◌, inl, inr, append_assoc, append-nil, length-append, arith, codes}
 use Rattle.std.specs.Prelude.{if◌then◌else◌, is_some, is_none, nat_lt, unwrap_or}
 use Rattle.std.specs.List.{list_all, slice_split, range_with_len}
-use Rattle.std.specs.Option.{option_map, option_to_list}
+use Rattle.std.specs.Option.{option_to_list}
 use Rattle.std.specs.Str.{bytes_eq, is_utf8, chars}
 use Rattle.std.specs.Str.Lines.{lines}
 use Rattle.std.proofs.lemmas.Bool.{cases_Bool, cases_lt, and_parts, ltb-true, eqb-true}
@@ -24,7 +24,7 @@ use Rattle.svc_text.proofs.PartLemmas.{begun-push, services-push, items-push}
 use Rattle.svc_text.proofs.PlaceLemmas.{skipped_service}
 use Rattle.svc_text.proofs.SkippedLemmas.{skipped_event, skipped_is_no_fault}
 use Rattle.svc_job_host.specs.JobHosts.{is_job_item}
-use Rattle.svc_jobs.specs.JobTexts.{JobLine, JobParts, period_of, after_of, job_of, after_text, service_line, is_daemon, is_job_event, inner_line, script_line, part_with, script_lines_from, script_lines, said_period, periods_from, with_periods, jobs_in}
+use Rattle.svc_jobs.specs.JobTexts.{JobLine, period_of, after_of, job_of, after_text, service_line, is_job_event, inner_line, script_line, part_with, script_lines_from, script_lines, said_period, periods_from}
 use Rattle.svc_jobs.proofs.PieceLemmas.{none_of, pieces_none, filter_keeps, none_each}
 
 -- ---- the words of a job's line
@@ -219,13 +219,13 @@ no_item : (script : List ℕ) → script ≡ 255 ∷ [] → item_of (words scrip
 unfolding words item_of event_of is_fault bare_event
 no_item script e = rw e refl
 
-skipped_item : (ws : List (List ℕ)) → is_skipped ws ≡ true → item_of ws ≡ None
+unsaid_item : (line : List ℕ) → is_skipped (words line) ≡ true → item_of (words line) ≡ None
 unfolding item_of
-skipped_item ws h = rw (skipped_is_no_fault ws h, skipped_event ws h) refl
+unsaid_item line h = rw (skipped_is_no_fault (words line) h, skipped_event (words line) h) refl
 
 item_cases : (part : ℕ) (line script : List ℕ) → (part == 3) ≡ true → script ≡ inner_line part line → list_all is_job_item (option_to_list (item_of (words script))) ≡ true
 item_cases part line script three same = elim (inner_events part line three) [
-  | inl skipped ↦ none_listed (item_of (words script)) (ap (λ (l : List ℕ). item_of (words l)) (same ∙ skipped.1) ∙ skipped_item (words line) skipped.0)
+  | inl skipped ↦ none_listed (item_of (words script)) (ap (λ (l : List ℕ). item_of (words l)) (same ∙ skipped.1) ∙ unsaid_item line skipped.0)
   | inr said ↦ elim (cases_Bool (is_job_event (item_of (words line)))) [
     | inl may ↦ (
         let is : script ≡ line = same ∙ said.1 ∙ rw may refl in

@@ -1,5 +1,5 @@
 -- The lines of a text of jobs, one after the other, as lines of a script.
-use Rattle.std.proofs.Common.{◌≡◌, ℕ, ◌+◌, ◌<◌, ◌≤◌, Bool, true, false, not, ◌||◌, List, [], ◌∷◌, ◌++◌, length, Option, Some, None, refl, sym, ap, subst, ◌∙◌, ◌==◌, inl, inr, append_assoc, append-nil, arith}
+use Rattle.std.proofs.Common.{◌≡◌, ℕ, ◌+◌, ◌<◌, ◌≤◌, Bool, true, false, not, ◌||◌, List, [], ◌∷◌, ◌++◌, length, Option, Some, None, refl, sym, ap, ◌∙◌, ◌==◌, inl, inr, append_assoc, arith}
 use Rattle.std.specs.Prelude.{if◌then◌else◌, codes}
 use Rattle.std.specs.List.{list_all, slice_split}
 use Rattle.std.specs.Str.{bytes_eq}
@@ -9,9 +9,9 @@ use Rattle.svc_base.specs.Options.{◌>>=◌}
 use Rattle.svc_base.specs.Words.{is_feed, is_blank, is_word, words}
 use Rattle.svc_text.specs.EventLines.{item_of}
 use Rattle.svc_text.specs.Script.{is_header, is_skipped}
-use Rattle.svc_jobs.specs.JobTexts.{JobLine, period_of, after_of, job_of, after_text, service_line, is_daemon, is_job_event, inner_line, script_line, part_with, script_lines_from, script_lines, said_period, periods_from}
+use Rattle.svc_jobs.specs.JobTexts.{period_of, after_of, job_of, service_line, is_daemon, is_job_event, inner_line, script_line, part_with, script_lines_from, script_lines, said_period, periods_from}
 use Rattle.svc_jobs.proofs.PieceLemmas.{none_of, pieces_all, filter_keeps, lines_none}
-use Rattle.svc_jobs.proofs.TextLemmas.{IsWhole, whole_none, none_both, Writes, line_written}
+use Rattle.svc_jobs.proofs.TextLemmas.{IsWhole, none_both, Writes, line_written}
 
 -- ---- no line of the script has a line feed
 
@@ -107,14 +107,6 @@ pub record HasScript (all rest text : List ℕ) (part : ℕ) (periods : List ℕ
   pub paced : periods_from 0 (lines all) ≡ periods ++ periods_from part (lines rest)
   pub room : part + length rest ≤ length all
 
-pub none_read : (all text periods : List ℕ) → text ≡ [] → periods ≡ [] → HasScript all all text 0 periods
-none_read all text periods t p = record {
-  whole = subst IsWhole (sym t) whole_none;
-  said = ap (λ (xs : List ℕ). lines xs ++ script_lines_from 0 (lines all)) (sym t);
-  paced = ap (λ (xs : List ℕ). xs ++ periods_from 0 (lines all)) (sym p);
-  room = omega arith;
-}
-
 one_at_most : (b : Bool) → (if b then 1 else 0) ≤ 1
 one_at_most true = omega arith
 one_at_most false = omega arith
@@ -143,9 +135,3 @@ reads_more all rest line after text new part now periods more h first shorter wr
           ∙ ap (λ (ns : List ℕ). ns ++ periods_from now (lines after)) (sym said);
       room = omega (arith, h.room, shorter, begun, few);
     }
-
-pub lines_read : (all rest text : List ℕ) (part : ℕ) (periods : List ℕ) → HasScript all rest text part periods → lines rest ≡ [] → lines text ≡ script_lines all
-lines_read all rest text part periods h none = sym (h.said ∙ ap (λ (ls : List (List ℕ)). lines text ++ script_lines_from part ls) none ∙ append-nil (lines text))
-
-pub periods_read : (all rest text : List ℕ) (part : ℕ) (periods : List ℕ) → HasScript all rest text part periods → lines rest ≡ [] → periods ≡ periods_from 0 (lines all)
-periods_read all rest text part periods h none = sym (h.paced ∙ ap (λ (ls : List (List ℕ)). periods ++ periods_from part ls) none ∙ append-nil periods)

@@ -1,5 +1,5 @@
 -- The server that the jobs of a text are services of, and the plan that it is run by.
-use Rattle.std.proofs.Common.{◌≡◌, ◌+◌, ◌<◌, ℕ, Bool, false, List, [], ◌∷◌, ◌++◌, length, map, take, filter, get_or, Option, Some, None, refl, ap, subst, sym, ◌∙◌, arith}
+use Rattle.std.proofs.Common.{◌≡◌, ◌+◌, ◌<◌, ℕ, Bool, false, List, [], ◌∷◌, ◌++◌, length, map, take, filter, get_or, Option, Some, None, refl, ap, sym, ◌∙◌, arith}
 use Rattle.std.specs.List.{range_with_len}
 use Rattle.std.proofs.lemmas.List.{map-append, take_more, take_all}
 use Rattle.std.proofs.lemmas.List.Elements.{filter_agree}
@@ -7,13 +7,14 @@ use Rattle.svc_conf.specs.declared.server.configuration.ServerConf.{ServerConf}
 use Rattle.svc_conf.specs.declared.server.configuration.Opt.{Opt}
 use Rattle.svc_graph.specs.GraphData.{GraphData}
 use Rattle.svc_graph.specs.Graphs.{is_edge, with_node}
+use Rattle.svc_graph.specs.declared.plan.Kind.TheVariants.{Notifying}
 use Rattle.svc_record.specs.declared.plan.ServicePlan.{ServicePlan}
 use Rattle.svc_text.specs.declared.service.ServiceLine.{ServiceLine}
 use Rattle.svc_text.specs.Dependencies.{edges_up_to}
 use Rattle.svc_text.specs.Edges.{HasEdges}
 use Rattle.svc_text.specs.Script.{Parts}
 use Rattle.svc_text.specs.ScriptPlans as script
-use Rattle.svc_text.proofs.EdgeLemmas.{HasNodes, nodes_none, nodes_more, nodes_start}
+use Rattle.svc_text.proofs.EdgeLemmas.{HasNodes, nodes_more, nodes_start}
 use Rattle.svc_server.specs.Servers.{depends_of, with_depends, plan_of, IsSound}
 use Rattle.svc_jobs.specs.JobServices.{answered, job_service, services_from, plan_of_jobs, HasJobs, IsJobServer}
 
@@ -49,10 +50,6 @@ pub record HasFirst (lines : List ServiceLine) (k : ℕ) (g : GraphData) (filter
   pub nodes : HasNodes g k
   pub sound : IsSound g filters answers
 
-pub first_none : {S : Type 0} (answer : S → ServicePlan) (lines : List ServiceLine) (g : GraphData) (filters : ℕ) (services : List S) → g ≡ record { names = []; depends = [] } → services ≡ [] → IsSound g filters (map answer services)
-    → HasFirst lines 0 g filters (map answer services)
-first_none answer lines g filters services empty none sound = record { answers_are = ap (map answer) none; nodes = nodes_none g empty; sound = sound }
-
 pub first_more : {S : Type 0} (answer : S → ServicePlan) (lines : List ServiceLine) (k : ℕ) (line : ServiceLine) (g h : GraphData) (name : List ℕ) (filters others : ℕ) (services more : List S) (service : S) → HasFirst lines k g filters (map answer services)
     → k < length lines → line ≡ get_or lines k line → answer service ≡ answered line → h ≡ with_node g name → more ≡ services ++ service ∷ [] → IsSound h others (map answer more) → HasFirst lines (k + 1) h others (map answer more)
 first_more answer lines k line g h name filters others services more service old below read says made pushed sound = record {
@@ -74,11 +71,6 @@ first_all lines k g filters answers h all = record {
   sound = h.sound;
 }
 
--- only edges were added
-pub with_edges : (lines : List ServiceLine) (g h : GraphData) (filters : ℕ) (answers : List ServicePlan) → HasJobs lines 0 g filters answers → HasEdges h (length lines) (edges_up_to lines (length lines)) → h.names ≡ g.names
-    → HasJobs lines (length lines) h filters answers
-with_edges lines g h filters answers old edges names = record {
-  answers_are = old.answers_are;
-  edges = edges;
-  sound = record { names = names ∙ old.sound.names; limits = old.sound.limits; filtered = old.sound.filtered };
-}
+-- what a job's service of this name answers
+abbrev pub named : List ℕ → ServicePlan
+named name = record { name = name; kind = Notifying; depends = []; declared = Some []; endpoints = [] }

@@ -1,8 +1,6 @@
 -- A text that is written line by line.
-use Rattle.std.proofs.Common.{◌≡◌, ℕ, ◌+◌, true, false, not, ◌&&◌, List, [], ◌∷◌, ◌++◌, length, refl, sym, ap, ◌∙◌, append_assoc, append-nil}
-use Rattle.std.specs.List.{list_all}
-use Rattle.std.specs.Str.Lines.{lines, strip_carriage_return}
-use Rattle.std.proofs.lemmas.Bool.{and_from}
+use Rattle.std.proofs.Common.{◌≡◌, ℕ, ◌+◌, true, not, List, [], ◌∷◌, ◌++◌, refl, sym, ap, ◌∙◌, append_assoc, append-nil}
+use Rattle.std.specs.Str.Lines.{lines}
 use Rattle.std.proofs.lemmas.List.Folds.{list_all-append}
 use Rattle.svc_base.specs.Words.{is_feed}
 use Rattle.svc_base.proofs.LineLemmas.{lines-then}
@@ -11,9 +9,6 @@ use Rattle.svc_jobs.proofs.PieceLemmas.{none_of, none_each, strip-return}
 -- the text has whole lines: what is written behind it makes lines of its own
 pub record IsWhole (text : List ℕ) : Type 0 where
   pub splits : (more : List ℕ) → lines (text ++ more) ≡ lines text ++ lines more
-
-pub whole_none : IsWhole []
-whole_none = record { splits = λ more. refl }
 
 pub none_both : (p : ℕ → _) (xs ys : List ℕ) → none_of p xs ≡ true → none_of p ys ≡ true → none_of p (xs ++ ys) ≡ true
 none_both p xs ys h k = list_all-append (λ x. not (p x)) xs ys ∙ rw (h, k) refl

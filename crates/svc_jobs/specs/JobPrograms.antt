@@ -1,10 +1,9 @@
 -- What the program of jobs answers, and why.
-use Rattle.std.specs.Prelude.{◌≡◌, ◌≢◌, ◌⊎◌, ℕ, ◌+◌, ◌<◌, ◌≤◌, true, false, List, [], ◌∷◌, ◌++◌, length, take, map, codes, slice_index, Option, Some, Result, Ok, Err, IfSome}
+use Rattle.std.specs.Prelude.{◌≡◌, ◌≢◌, ◌⊎◌, ℕ, ◌+◌, ◌<◌, ◌≤◌, true, false, List, [], ◌∷◌, ◌++◌, length, take, map, codes, slice_index, Option, Ok, Err, IfSome}
 use Rattle.std.specs.List.{flat_map}
 use Rattle.std.specs.Fmt.{decimal}
 use Rattle.std.specs.Io.KnownBytes.{Appends, IsAtEnd}
 use Rattle.svc_conf.specs.Configuration.{judged}
-use Rattle.svc_base.specs.Streams.{Rose}
 use Rattle.svc_record.specs.declared.event.Event.{Event}
 use Rattle.svc_record.specs.declared.item.Item.{Item}
 use Rattle.svc_record.specs.declared.item.Item.TheVariants as items
@@ -22,11 +21,11 @@ use Rattle.svc_job_host.specs.Dues.{due_runs}
 use Rattle.svc_job_host.specs.Readies.{readies_since, readies_right, are_told, items_of}
 use Rattle.svc_job_host.specs.JobRuns.{start_after_runs}
 use Rattle.svc_main.specs.declared.outcome.RunEnd.{RunEnd}
-use Rattle.svc_main.specs.declared.outcome.RunEnd.TheVariants.{Served, HostFault, Stray, OutOfEvents}
+use Rattle.svc_main.specs.declared.outcome.RunEnd.TheVariants.{HostFault, Stray, OutOfEvents}
 use Rattle.svc_main.specs.declared.outcome.StatusLine.{StatusLine}
 use Rattle.svc_main.specs.declared.outcome.StatusLine.TheVariants.{Words, Line, ReadFault, Run}
 use Rattle.svc_main.specs.Status.{status_line, end_status}
-use Rattle.svc_main.specs.Program.{answer_of, Judges, Faults, Writes}
+use Rattle.svc_main.specs.Program.{answer_of, Judges, Writes}
 use Rattle.svc_jobs.specs.JobEnds.{MayEnd}
 use Rattle.svc_jobs.specs.JobServices.{plan_of_jobs}
 use Rattle.svc_jobs.specs.JobTexts.{JobParts, script_lines, jobs_in}

@@ -1,7 +1,6 @@
 //! What is answered to a text of jobs.
 
 ghost use Rattle.std.specs.Prelude.{◌≡◌, ◌≤◌, ◌++◌, length, IfOk, string_bytes};
-ghost use Rattle.svc_text.specs.Accepted.{AreAccepted};
 ghost use Rattle.svc_job_host.specs.JobHosts.{AreJobItems};
 ghost use Rattle.svc_main.specs.declared.outcome.StatusLine.TheVariants.{Run as RunLine};
 ghost use Rattle.svc_main.specs.Status.{status_line};

@@ -43,7 +43,7 @@ pub(crate) fn quiet_jobs(alloc: Global, count: usize) -> Result<Vec<QuietJob>, N
     ensures { IfOk result (λ jobs. length jobs.items ≡ count) }
 {
     let mut jobs = Vec::new(alloc);
-    for _ in 0..count {
+    for k in 0..count {
         jobs.push(QuietJob)?;
     }
     Ok(jobs)

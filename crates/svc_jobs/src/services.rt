@@ -1,7 +1,6 @@
 //! The server that the jobs of a text are services of.
 
 ghost use Rattle.std.specs.Prelude.{◌≡◌, ◌≤◌, ℕ, [], length, slice_index, None, false, IfOk, IfErr, OnOk};
-ghost use Rattle.svc_conf.specs.Configuration.{defaults};
 ghost use Rattle.svc_text.specs.Dependencies.{RefusesNone, RefusesAt};
 ghost use Rattle.svc_text.specs.declared.parsing.ScriptError.TheVariants as errors;
 ghost use Rattle.svc_server.specs.Servers.{answers_of, IsSound};

@@ -1,5 +1,4 @@
 use Rattle.std.proofs.Common.{sym, ap, refl, ◌∙◌, ◌≡◌, Ok}
-use Rattle.std.specs.Str.{is_utf8}
 use Rattle.svc_conf.specs.ConfigurationText.{configuration}
 use Rattle.svc_text.proofs.PlaceLemmas.{is_text, is_no_text}
 use Rattle.svc_jobs.specs.JobTexts.{is_daemon}

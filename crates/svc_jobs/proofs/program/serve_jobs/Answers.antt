@@ -1,0 +1,19 @@
+use Rattle.std.proofs.Common.{◌∙◌, sym, inl, arith}
+use Rattle.svc_jobs.proofs.AnswerLemmas.{ran_from}
+use Rattle.svc_jobs.proofs.WholeLemmas.{whole_is_served}
+use Rattle.svc_jobs.proofs.program.serve_jobs.Goals as goal
+
+pub returns-in-Ok-write_all-clause-served : goal.returns-in-Ok-write_all-clause-served
+returns-in-Ok-write_all-clause-served g c = λ e.
+    ran_from 0 (λ q. omega (arith, q)) (λ q. omega (arith, q)) (λ q. omega (arith, q)) _ (g.S.Source.left c.args.source.now) (g.S.Source.left c.make_answer.new.source) _ _ c.in-Ok.answer.line _
+    c.in-Ok.ensures.answer c.in-Ok.ensures.ended (rw c.as_bytes.ensures.value at c.in-Ok-write_all.ensures.whole) (sym c.status.ensures ∙ e)
+
+pub returns-in-Ok-write_all-clause-run_error : goal.returns-in-Ok-write_all-clause-run_error
+returns-in-Ok-write_all-clause-run_error g c = λ e.
+    ran_from 4 (λ q. omega (arith, q)) (λ q. omega (arith, q)) (λ q. omega (arith, q)) _ (g.S.Source.left c.args.source.now) (g.S.Source.left c.make_answer.new.source) _ _ c.in-Ok.answer.line _
+    c.in-Ok.ensures.answer c.in-Ok.ensures.ended (rw c.as_bytes.ensures.value at c.in-Ok-write_all.ensures.whole) (sym c.status.ensures ∙ e)
+
+pub returns-in-Ok-write_all-clause-complete : goal.returns-in-Ok-write_all-clause-complete
+returns-in-Ok-write_all-clause-complete g c = λ bytes parts tells whole source sink.
+    let answered = c.in-Ok.ensures.answer in
+    inl (c.status.ensures ∙ whole_is_served _ bytes parts c.in-Ok.answer.line _ _ _ whole (rw tells at answered) c.in-Ok.ensures.fault source)
