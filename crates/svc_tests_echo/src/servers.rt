@@ -45,6 +45,25 @@ fn asks_and_ends<R: Net<Listener = TcpListener, Stream = TcpStream> + Clock>(
     }
 }
 
+/// Runs the echo server over sockets of its own, and answers its status and how many posts it made.
+fn runs<R: Threads + Wait + Sync + Net<Listener = TcpListener, Stream = TcpStream> + Clock>(
+    rt: &R,
+    alloc: Global,
+    words: &[RcStr],
+    sockets: &Mutex<Sockets>,
+    slot: &Mutex<Slot<TcpListener>>,
+    sink: &mut MemorySink,
+) -> Option<(u8, usize)> {
+    let Ok(left) = real_desk(rt, alloc, Seat::Left, sockets, slot, 1000) else {
+        return None;
+    };
+    let Ok(right) = real_desk(rt, alloc, Seat::Right, sockets, slot, 1000) else {
+        return None;
+    };
+    let run = run_echo(rt, alloc, words, left, right, sink);
+    Some((run.status.0, run.journal.len()))
+}
+
 #[test]
 fn a_clients_bytes_come_back(rt: HostRuntime) -> Result<(), Fail> {
     let alloc = rt.alloc();
@@ -53,17 +72,16 @@ fn a_clients_bytes_come_back(rt: HostRuntime) -> Result<(), Fail> {
     let words = words_for(alloc, address, control, "1000000")?;
     let sockets = Mutex::new(Sockets::new(alloc));
     let slot = Mutex::new(Slot::Missing);
-    let left = real_desk(&rt, alloc, Seat::Left, &sockets, &slot, 1000)?;
-    let right = real_desk(&rt, alloc, Seat::Right, &sockets, &slot, 1000)?;
     let mut sink = MemorySink::new(alloc, 1000, Vec::new(alloc));
     let (wrong, run) = join(
         &rt,
         || asks_and_ends(&rt, address, control),
-        || run_echo(&rt, alloc, &words, left, right, &mut sink),
+        || runs(&rt, alloc, &words, &sockets, &slot, &mut sink),
     );
     assert_eq!(rt; wrong, 0);
-    assert_eq!(rt; run.status.0, 0);
-    let text = format!(in alloc; "posts {}\nstatus served\n", run.journal.len())?;
+    let (status, posts) = run.ok_or("no desks")?;
+    assert_eq!(rt; status, 0);
+    let text = format!(in alloc; "posts {posts}\nstatus served\n")?;
     assert_eq!(rt; sink.bytes.as_slice(), text.as_bytes());
     assert!(rt; TcpStream::connect(&rt, address).is_err());
     Ok(())
