@@ -7,6 +7,7 @@ use Rattle.svc_record.specs.declared.entry.Entry.{Entry}
 use Rattle.svc_record.specs.declared.entry.Entry.TheVariants.{Got, Told}
 use Rattle.svc_record.specs.declared.event.Event.{Event}
 use Rattle.svc_record.specs.declared.event.Event.TheVariants.{Arrived}
+use Rattle.svc_record.specs.Descriptors.{numbers_of}
 use Rattle.svc_record.specs.Judging.{TellsJudged, judged_at, asked_filter}
 use Rattle.svc_record.specs.Record.{Record}
 use Rattle.svc_record.specs.Text.{text_of}
@@ -97,7 +98,12 @@ IsAsked line s (Ok asked) =
     (s.stage ≡ Begun) × ((e : Event) × ((event_of (words line) ≡ Some e) × (MayCome s.core e × ((asked.filter ≡ asked_filter s.core.plan e) × (asked.said ≡ own_word s.services e)))))
 IsAsked line s (Err error) = IsUntaken line s error
 
--- the entries of an event that is left unfinished
+-- how many descriptors an event brings that is left unfinished
+abbrev pub brought_by : Option Event → ℕ
+brought_by None = 0
+brought_by (Some e) = length (numbers_of (Got e))
+
+-- the entries of such an event
 abbrev pub entries_of : Option Event → List Entry
 entries_of None = []
 entries_of (Some e) = Got e ∷ []

@@ -14,7 +14,7 @@ use svc_base::NoMemory;
 use svc_conf::{Key, Opt};
 use svc_core::Core;
 use svc_record::Plan;
-use svc_text::{Script, ScriptError, ServiceLine, accepted_plan, parse};
+use svc_text::{Script, ScriptError, ServiceLine, parse};
 
 /// Why no session was made.
 #[derive(Clone, Copy, Debug)]
@@ -77,7 +77,6 @@ fn session_with(alloc: Global, opt: &Opt, script: Script) -> Result<Box<Session>
     if let Err(key) = conf.validate() {
         return Err(MakeError::Config(key));
     }
-    accepted_plan();
     let services = service_plans(alloc, script.services.as_slice())?;
     let plan = settled(&conf, opt, script.eager, services);
     Ok(session_of(alloc, plan, script.services)?)

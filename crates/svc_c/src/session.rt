@@ -1,11 +1,12 @@
 //! A session: a core, and the lines of the record that its last call added.
 
-ghost use Rattle.std.specs.Prelude.{◌≡◌, ◌≤◌, ◌+◌, ◌++◌, [], length, map, vec_len, vec_capacity};
+ghost use Rattle.std.specs.Prelude.{◌≡◌, ◌≤◌, ◌+◌, ◌++◌, [], length, map, vec_len, vec_capacity, IfSome};
 ghost use Rattle.svc_base.specs.Items.{list_of};
-ghost use Rattle.svc_record.specs.declared.entry.Entry.TheVariants.{Got, Told};
-ghost use Rattle.svc_record.specs.Descriptors.{numbers_of};
+ghost use Rattle.std.specs.Option.{option_copied};
+ghost use Rattle.svc_record.specs.declared.entry.Entry.TheVariants.{Told};
+ghost use Rattle.svc_core.specs.Rooms.{close_need};
 ghost use Rattle.svc_core.specs.Stands.{HasNotBegun, MayCome};
-ghost use Rattle.svc_c.specs.Sessions.{own_word, put_in, IsBegun, IsAsked, IsStepped, IsTaken, IsClosed, IsEndedWith, IsToldIn, Says};
+ghost use Rattle.svc_c.specs.Sessions.{own_word, put_in, brought_by, entries_of, IsBegun, IsAsked, IsStepped, IsTaken, IsClosed, IsEndedWith, IsToldIn, Says};
 
 use crate::stage::Stage;
 use std::alloc::Global;
@@ -75,15 +76,37 @@ fn keep_told(told: &mut Actions, entries: &mut Vec<Entry>)
     }
 }
 
-/// How many descriptors the event brings.
-fn brought(event: &Event) -> u64
-    ensures { result ≡ length (numbers_of (Got event.now)) }
+/// How many descriptors the event brings, if there is one.
+fn brought(also: Option<&Event>) -> u64
+    ensures { result ≡ brought_by (option_copied also.entry) }
 {
-    match event {
-        Event::Bound(_, _, _) => 1,
-        Event::Received(_, fds) => fds.len(),
+    match also {
+        Some(Event::Bound(_, _, _)) => 1,
+        Some(Event::Received(_, fds)) => fds.len(),
         _ => 0,
     }
+}
+
+/// Room for the closes of all, with what an event brought, and for one more.
+fn close_room(core: &Core, also: Option<&Event>) -> Option<u64>
+    ensures { IfSome result (λ room. close_need core.now (option_copied also.entry) + 1 ≤ room) }
+{
+    let most = core.step_room();
+    let more = brought(also);
+    let room = most.checked_add(more);
+    room
+}
+
+/// The entries are the event, if there is one, and the actions, which leave their list.
+fn keep_all(also: Option<Event>, told: &mut Actions, entries: &mut Vec<Entry>)
+    requires room { length (list_of told.old) + 1 ≤ vec_capacity entries.old }
+    ensures { entries.new.items ≡ entries_of also ++ map Told (list_of told.old) }
+{
+    entries.clear();
+    if let Some(event) = also {
+        entries.push_reserved(Entry::Got(event));
+    }
+    keep_told(told, entries);
 }
 
 /// What the blocked addresses of the event's service say of its peer: no to a blocked one.
@@ -209,9 +232,7 @@ impl Session {
         let Ok(end) = self.core.step(alloc, &event, said, &mut told) else {
             return Err(StepError::NoMemory);
         };
-        self.entries.clear();
-        self.entries.push_reserved(Entry::Got(event));
-        keep_told(&mut told, &mut self.entries);
+        keep_all(Some(event), &mut told, &mut self.entries);
         self.end = end;
         Ok(end)
     }
@@ -234,11 +255,7 @@ impl Session {
     fn end_with(&mut self, alloc: Global, also: Option<Event>) -> Result<(), StepError>
         ensures { IsEndedWith also self.old self.new result }
     {
-        let more = match &also {
-            Some(event) => brought(event),
-            None => 0,
-        };
-        let Some(room) = self.core.step_room().checked_add(more) else {
+        let Some(room) = close_room(&self.core, also.as_ref()) else {
             return Err(StepError::NoMemory);
         };
         let mut told = Actions::new(alloc);
@@ -246,11 +263,7 @@ impl Session {
             return Err(StepError::NoMemory);
         }
         self.core.close_all(also.as_ref(), &mut told);
-        self.entries.clear();
-        if let Some(unfinished) = also {
-            self.entries.push_reserved(Entry::Got(unfinished));
-        }
-        keep_told(&mut told, &mut self.entries);
+        keep_all(also, &mut told, &mut self.entries);
         self.stage = Stage::Closed;
         Ok(())
     }
