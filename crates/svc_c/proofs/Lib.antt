@@ -1,4 +1,0 @@
-pub mod AsBox
-mod PlanLemmas
-mod RoomLemmas
-mod MakingLemmas

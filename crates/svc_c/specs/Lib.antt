@@ -1,6 +1,0 @@
-pub mod Exports
-pub mod Held
-pub mod Making
-pub mod Numbers
-pub mod SessionData
-pub mod Sessions
