@@ -1,7 +1,9 @@
 pub mod TableLemmas
 pub mod PlaceLemmas
 pub mod WordLemmas
+pub mod FrameLemmas
 pub mod PairLemmas
+pub mod VersionLemmas
 pub mod SendLemmas
 pub mod ReceiveLemmas
 pub mod LoadLemmas
