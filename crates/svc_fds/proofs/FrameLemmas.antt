@@ -1,9 +1,10 @@
 -- Words that stand one after the other, each after its length: just the frames of words are read, and as these words.
-use Rattle.std.proofs.Common.{ℕ, zero, suc, ◌+◌, ◌-◌, ◌^◌, ◌<◌, ◌≤◌, Bool, true, false, ◌&&◌, cond, eqb, ltb, leb, List, [], ◌∷◌, ◌++◌, Option, Some, None, ◌≡◌, refl, sym, ap, subst, ◌∙◌, arith, length, length-append, take, drop, get_or, append_assoc, inl, inr, IsUtf8}
+use Rattle.std.proofs.Common.{ℕ, zero, suc, ◌+◌, ◌-◌, ◌^◌, ◌<◌, ◌≤◌, Bool, true, false, ◌&&◌, cond, eqb, ltb, leb, List, [], ◌∷◌, ◌++◌, Option, Some, None, ◌≡◌, refl, sym, ap, subst, ◌∙◌, arith, length, length-append, take, drop, get_or, append_assoc, inl, inr, IsUtf8, position, MatchOption, IfSome, Result, Ok, Err, IfOk}
 use Rattle.std.specs.Fmt.{decimal}
 use Rattle.std.specs.List.{All, flat_map, position_or_len, before_first, after_first}
 use Rattle.std.specs.Option.{option_map, option_and_then}
 use Rattle.std.specs.Str.{is_utf8, bytes_eq}
+use Rattle.std.specs.Borrow.{Bor}
 use Rattle.std.specs.Str.Parse.{digits_value}
 use Rattle.std.proofs.Math.Seq.{take-append_seam, drop-append_seam, drop-append-add, get_or-append_seam}
 use Rattle.std.proofs.Math.ListN.{drop_of_length-le}
@@ -17,7 +18,7 @@ use Rattle.std.proofs.lemmas.Str.Parse.{digit_at}
 use Rattle.std.proofs.lemmas.Fmt.{decimal_is_IsNumeral}
 use Rattle.svc_conf.specs.Values.{number_of}
 use Rattle.svc_conf.proofs.TextNumberLemmas.{number_of-decimal}
-use Rattle.svc_fds.specs.Messages.{frame, cut_word, front_word, words_within, framed_words, AreFrames}
+use Rattle.svc_fds.specs.Messages.{frame, cut_word, front_word, joined_words, words_within, framed_words, AreFrames, is_framed, is_well_formed, words}
 
 -- no digit is a colon
 plain_digit : (n : ℕ) → n < 2 ^ 64 → (k : ℕ) → k < length (decimal n) → eqb (get_or (decimal n) k 0) 58 ≡ false
@@ -134,6 +135,10 @@ front-shorter bytes word rest front =
     let c = length-append (decimal (length word)) (58 ∷ word) in
     omega arith
 
+pub front-part_shorter : (bytes : List ℕ) (r : Option (Bor (List ℕ) × Bor (List ℕ))) → MatchOption r (front_word bytes ≡ None) (λ x. front_word bytes ≡ Some (x.0.now, x.1.now)) → IfSome r (λ x. length x.1.now < length bytes)
+front-part_shorter bytes None is = tt
+front-part_shorter bytes (Some x) is = front-shorter bytes x.0.now x.1.now (front_word-is bytes x.0.now x.1.now is)
+
 -- more turns than bytes change nothing
 within-enough : (m n : ℕ) (bytes : List ℕ) → length bytes ≤ m → length bytes ≤ n → words_within m bytes ≡ words_within n bytes
 within-enough zero zero bytes a b = refl
@@ -213,3 +218,73 @@ within-is (suc most) (b ∷ bytes) words h = by (λ rest more read. within-is mo
 pub read-frames : (bytes : List ℕ) (words : List (List ℕ)) → framed_words bytes ≡ Some words → AreFrames words bytes
 unfolding framed_words
 read-frames bytes words h = within-is (length bytes) bytes words h
+
+-- where there is no colon, there is no word at the front
+pub front_word-plain : (bytes : List ℕ) → position (λ b. eqb b 58) bytes ≡ None → front_word bytes ≡ None
+unfolding front_word
+front_word-plain bytes none = elim (cases_lt (position_or_len (λ b. eqb b 58) bytes) (length bytes)) [
+  | inl inside ↦ absurd (let found = rw (lt-ltb (position_or_len (λ b. eqb b 58) bytes) (length bytes) inside) at none in cc)
+  | inr past ↦ ap (λ after. option_and_then (λ n. cut_word n after) (number_of (2 ^ 64) (before_first (λ b. eqb b 58) bytes))) (drop_of_length-le bytes {i = position_or_len (λ b. eqb b 58) bytes + 1} (omega arith))
+      ∙ by (number_of (2 ^ 64) (before_first (λ b. eqb b 58) bytes))
+]
+  where
+    no_word : (n : ℕ) → cut_word n [] ≡ None
+    no_word n = elim (cases_Bool (ltb 0 n && leb n 0)) [
+      | inl some ↦ absurd (let parts = and_parts (ltb 0 n) (leb n 0) some in let above = ltb-true 0 n parts.0 in let below = leb-true n 0 parts.1 in omega arith)
+      | inr none ↦ rw none refl
+    ]
+
+    by : (o : Option ℕ) → option_and_then (λ n. cut_word n []) o ≡ None
+    by None = refl
+    by (Some n) = no_word n
+
+first_place : (bytes : List ℕ) (at : ℕ) → position (λ b. eqb b 58) bytes ≡ Some at → position_or_len (λ b. eqb b 58) bytes ≡ at
+first_place bytes at is = elim (cases_Bool (ltb (position_or_len (λ b. eqb b 58) bytes) (length bytes))) [
+  | inl inside ↦ (let found = rw inside at is in cc)
+  | inr past ↦ absurd (let none = rw past at is in cc)
+]
+
+-- the word at the front, from where the first colon stands
+pub front_word-colon : (bytes : List ℕ) (at : ℕ) (o : Option ℕ) → position (λ b. eqb b 58) bytes ≡ Some at → number_of (2 ^ 64) (take at bytes) ≡ o
+    → front_word bytes ≡ option_and_then (λ n. cut_word n (drop (at + 1) bytes)) o
+unfolding front_word
+front_word-colon bytes at o is read =
+    ap (λ k. option_and_then (λ n. cut_word n (drop (k + 1) bytes)) (number_of (2 ^ 64) (take k bytes))) (first_place bytes at is)
+    ∙ ap (λ x. option_and_then (λ n. cut_word n (drop (at + 1) bytes)) x) read
+
+-- a word that was cut off
+pub cut_word-some : (n : ℕ) (bytes word : List ℕ) → (n ≡ 0 → ⊥) → n ≤ length bytes → word ≡ take n bytes → IsUtf8 word → cut_word n bytes ≡ Some (word, drop n bytes)
+cut_word-some n bytes word some inside same text =
+    let above : 0 < n = omega arith in
+    rw (lt-ltb 0 n above, le-leb n (length bytes) inside, is_utf8-from_IsUtf8 (take n bytes) (subst IsUtf8 same text), same) refl
+
+-- and one that is no text
+pub cut_word-other : (n : ℕ) (bytes : List ℕ) → (IsUtf8 (take n bytes) → ⊥) → cut_word n bytes ≡ None
+cut_word-other n bytes other = elim (cases_Bool (is_utf8 (take n bytes))) [
+  | inl text ↦ absurd (other (IsUtf8-from_is_utf8 (take n bytes) text))
+  | inr off ↦ elim (cases_Bool (ltb 0 n && leb n (length bytes))) [ inl a ↦ rw (a, off) refl | inr a ↦ rw a refl ]
+]
+
+-- one word more
+pub words-more : (found : List (List ℕ)) (word : List ℕ) (o : Option (List (List ℕ))) → option_map (λ ws. (found ++ word ∷ []) ++ ws) o ≡ option_map (λ ws. found ++ ws) (option_map (λ ws. word ∷ ws) o)
+words-more found word None = refl
+words-more found word (Some ws) = ap (λ x. Some x) (append_assoc found (word ∷ []) ws)
+
+-- what is read after the beginning of version 2
+read-framed : {V : Type 0} (items : V → List (List ℕ)) (text : List ℕ) (found : Option V) → is_framed text ≡ true → MatchOption found (framed_words (drop 4 text) ≡ None) (λ read. framed_words (drop 4 text) ≡ Some (items read))
+    → MatchOption found (is_well_formed text ≡ false) (λ read. (is_well_formed text ≡ true) × (items read ≡ words text))
+unfolding is_well_formed words
+read-framed items text None begins none = rw (begins, none) refl
+read-framed items text (Some read) begins some = rw (begins, some) (refl, refl)
+
+pub read-framed_rest : {V E : Type 0} (r : Result (Option V) E) (items : V → List (List ℕ)) (text rest : List ℕ) → rest ≡ drop 4 text → is_framed text ≡ true
+    → IfOk r (λ found. MatchOption found (framed_words rest ≡ None) (λ read. framed_words rest ≡ Some (items read)))
+    → IfOk r (λ found. MatchOption found (is_well_formed text ≡ false) (λ read. (is_well_formed text ≡ true) × (items read ≡ words text)))
+read-framed_rest {V} (Ok found) items text rest same begins read =
+    read-framed items text found begins (subst (λ (b : List ℕ). MatchOption found (framed_words b ≡ None) (λ (x : V). framed_words b ≡ Some (items x))) same read)
+read-framed_rest (Err e) items text rest same begins read = tt
+
+-- and where a text doesn't begin so
+pub read-unframed : (text : List ℕ) → is_framed text ≡ false → (is_well_formed text ≡ true) × (joined_words text ≡ words text)
+unfolding is_well_formed words
+read-unframed text begins = rw begins (refl, refl)

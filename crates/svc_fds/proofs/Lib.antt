@@ -4,6 +4,7 @@ pub mod WordLemmas
 pub mod FrameLemmas
 pub mod PairLemmas
 pub mod VersionLemmas
+pub mod MessageExamples
 pub mod SendLemmas
 pub mod ReceiveLemmas
 pub mod LoadLemmas

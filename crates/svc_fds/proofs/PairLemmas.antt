@@ -1,17 +1,17 @@
 -- Pairs that are set in a table, and a table that is written and read again.
 use Rattle.std.proofs.Common.{ℕ, ◌+◌, ◌<◌, Bool, true, false, cond, eqb, List, [], ◌∷◌, ◌++◌, Option, Some, None, ◌≡◌, refl, sym, ap, subst, ◌∙◌, arith, length, take, get_or, append_assoc}
 use Rattle.std.specs.Option.{option_to_list}
-use Rattle.std.specs.List.{All, list_any, filter_map, cons_option, zip, join_with_byte}
+use Rattle.std.specs.List.{All, list_any, filter_map, cons_option, zip, join_with_byte, flat_map}
 use Rattle.std.specs.Char.{is_ascii_whitespace}
 use Rattle.std.specs.Str.{IsUtf8, bytes_eq}
 use Rattle.std.proofs.lemmas.Bool.{ne_eqb, eqb-false, or_parts, or_from, false_from_ne_true, both_ways}
-use Rattle.std.proofs.lemmas.List.{append-nil, map-append, take_more, length-take-le, length-map}
+use Rattle.std.proofs.lemmas.List.{append-nil, map-append, take_more, length-take-le, length-map, flat_map_more}
 use Rattle.std.proofs.lemmas.List.Elements.{All-cons, All-nil}
 use Rattle.std.proofs.lemmas.Slice.Eq.{bytes_eq-Decides}
 use Rattle.svc_fds.specs.Tables.{Entry, lookup, put, put_all, replaced_by, addresses, numbers, Precedes, PrecedesAll, IsAscending}
 use Rattle.svc_fds.specs.Places.{AllPrecede}
 use Rattle.svc_fds.specs.Lists.{is_among, has_repeat, ArePairs}
-use Rattle.svc_fds.specs.Messages.{joined_words, is_unjoinable, has_unjoinable, joined, is_well_formed, words, IsMessage, table_of, IsOldMessage, old_table_of}
+use Rattle.svc_fds.specs.Messages.{joined_words, is_unjoinable, has_unjoinable, joined, AreTexts, version_2, frame, framed, is_well_formed, words, IsMessage, table_of, IsOldMessage, old_table_of}
 use Rattle.svc_fds.proofs.TableLemmas.{differs_back, lookup-put, ascending-put}
 use Rattle.svc_fds.proofs.WordLemmas.{joined_words-last, joined_words-next}
 
@@ -109,6 +109,21 @@ joined-more es at e inside read =
     join-push (addresses (take at es)) at e.0 (length-map (take at es) (λ x. x.0) ∙ length-take-le at es (omega arith))
     ∙ ap (λ xs. join_with_byte 32 xs) (sym (map-append (λ (x : Entry). x.0) (take at es) (e ∷ [])))
     ∙ ap joined (ap (λ (x : Entry). take at es ++ x ∷ []) read ∙ sym (take_more es at e inside))
+
+-- one frame more
+pub framed-more : (es : List Entry) (at : ℕ) (e : Entry) → at < length es → e ≡ get_or es at e → framed (take at es) ++ frame e.0 ≡ framed (take (at + 1) es)
+framed-more es at e inside read =
+    flat_map_more frame version_2 (addresses (take at es)) e.0
+    ∙ ap (λ xs. version_2 ++ flat_map frame xs) (sym (map-append (λ (x : Entry). x.0) (take at es) (e ∷ [])))
+    ∙ ap framed (ap (λ (x : Entry). take at es ++ x ∷ []) read ∙ sym (take_more es at e inside))
+
+texts-push : (es : List Entry) (e : Entry) → AreTexts es → IsUtf8 e.0 → AreTexts (es ++ e ∷ [])
+texts-push [] e texts text = (text, tt)
+texts-push (x ∷ es) e texts text = (texts.0, texts-push es e texts.1 text)
+
+-- one text more
+pub texts-more : (es : List Entry) (at : ℕ) (e : Entry) → at < length es → e ≡ get_or es at e → AreTexts (take at es) → IsUtf8 e.0 → AreTexts (take (at + 1) es)
+texts-more es at e inside read texts text = subst AreTexts (ap (λ (x : Entry). take at es ++ x ∷ []) read ∙ sym (take_more es at e inside)) (texts-push (take at es) e texts text)
 
 differ : (a x : List ℕ) → bytes_eq x a ≡ false → bytes_eq a x ≡ false
 differ a x apart = false_from_ne_true (bytes_eq a x) (λ e. let agree : bytes_eq x a ≡ true = (bytes_eq-Decides x a).1 (sym ((bytes_eq-Decides a x).0 e)) in both_ways (bytes_eq x a) apart agree)

@@ -3,7 +3,7 @@ use Rattle.std.proofs.Common.{ℕ, ◌+◌, ◌^◌, ◌<◌, ◌≤◌, Bool, t
 use Rattle.std.specs.Fmt.{decimal}
 use Rattle.std.specs.List.{All, list_any, flat_map}
 use Rattle.std.specs.Char.{is_ascii_whitespace}
-use Rattle.std.proofs.lemmas.Bool.{cases_Bool, and_parts, or_parts, leb-true, eqb-true, eqb-false, not-true, both_ways}
+use Rattle.std.proofs.lemmas.Bool.{cases_Bool, and_parts, or_parts, leb-true, le-leb, or_left, or_right, or_cases, eqb-true, eqb-false, not-true, both_ways}
 use Rattle.std.proofs.lemmas.List.{append-nil}
 use Rattle.std.proofs.lemmas.List.Elements.{All-nil, All-cons}
 use Rattle.std.proofs.lemmas.Str.{IsUtf8-append, IsUtf8-nil, IsUtf8-from_ascii}
@@ -93,6 +93,57 @@ joinable-fine es fits = not-true (has_unjoinable es) (and_parts (not (has_unjoin
 frameable-else : (es : List Entry) → is_sayable es ≡ true → is_joinable es ≡ false → is_frameable es ≡ true
 unfolding is_sayable
 frameable-else es said off = rw off at said
+
+-- what is written where version 1 says the table
+pub sayable-joined : (es : List Entry) → is_joinable es ≡ true → is_sayable es ≡ true
+unfolding is_sayable
+sayable-joined es fits = rw fits refl
+
+pub written-joined : (es : List Entry) → is_joinable es ≡ true → message_bytes es ≡ joined es
+unfolding message_bytes
+written-joined es fits = rw fits refl
+
+-- and where it doesn't
+pub sayable-framed : (es : List Entry) → has_empty_address es ≡ false → length (framed es) ≤ 65536 → is_sayable es ≡ true
+unfolding is_sayable
+sayable-framed es some short = or_right (is_joinable es) (is_frameable es) (rw (some, le-leb (length (framed es)) 65536 short) refl)
+
+pub written-framed : (es : List Entry) → is_joinable es ≡ false → message_bytes es ≡ framed es
+unfolding message_bytes
+written-framed es off = rw off refl
+
+-- nothing says an empty address
+empty-unjoinable : (es : List Entry) → has_empty_address es ≡ true → has_unjoinable es ≡ true
+empty-unjoinable [] h = absurd (cc)
+empty-unjoinable (e ∷ es) h = elim (or_cases (eqb (length e.0) 0) (has_empty_address es) h) [
+  | inl here ↦ or_left (is_unjoinable e.0) (has_unjoinable es) (or_left (eqb (length e.0) 0) (list_any is_ascii_whitespace e.0) here)
+  | inr later ↦ or_right (is_unjoinable e.0) (has_unjoinable es) (empty-unjoinable es later)
+]
+
+pub empty-unsayable : (es : List Entry) → has_empty_address es ≡ true → is_sayable es ≡ false
+unfolding is_sayable
+empty-unsayable es h = rw (empty-unjoinable es h, h) refl
+
+-- nor a table that is too long for both
+pub long-unsayable : (es : List Entry) → is_joinable es ≡ false → 65536 < length (framed es) → is_sayable es ≡ false
+unfolding is_sayable
+long-unsayable es off long = elim (cases_Bool (is_frameable es)) [
+  | inl fits ↦ absurd (let short = leb-true (length (framed es)) 65536 (and_parts (not (has_empty_address es)) (leb (length (framed es)) 65536) fits).1 in omega arith)
+  | inr none ↦ rw (off, none) refl
+]
+
+-- it has at most 65,536 bytes
+pub written-short : (es : List Entry) → is_sayable es ≡ true → length (message_bytes es) ≤ 65536
+written-short es said = elim (cases_Bool (is_joinable es)) [
+  | inl fits ↦
+      let short = leb-true (length (joined es)) 2048 (and_parts (not (has_unjoinable es)) (leb (length (joined es)) 2048) fits).1 in
+      let same = ap length (written-joined es fits) in
+      omega arith
+  | inr off ↦
+      let short = leb-true (length (framed es)) 65536 (and_parts (not (has_empty_address es)) (leb (length (framed es)) 65536) (frameable-else es said off)).1 in
+      let same = ap length (written-framed es off) in
+      omega arith
+]
 
 -- version 2 is written just where version 1 doesn't say the table
 pub framed-written : (es : List Entry) → is_framed (message_bytes es) ≡ not (is_joinable es)

@@ -1,6 +1,6 @@
 //! The words of a message, and whether one stands twice.
 
-ghost use Rattle.std.specs.Prelude.{◌≡◌, ◌<◌, ◌^◌, None, Some, IfOk, IfErr, OnOk, IfSome, MatchOption, length, true, false};
+ghost use Rattle.std.specs.Prelude.{◌≡◌, ◌<◌, ◌^◌, None, Some, IfOk, IfErr, OnOk, IfSome, MatchOption, ◌==◌, position, length, true, false};
 ghost use Rattle.svc_conf.specs.Values.{has_spare_front, number_of};
 ghost use Rattle.svc_fds.specs.Lists.{is_among, has_repeat};
 ghost use Rattle.svc_fds.specs.Messages.{joined_words, cut_word, front_word, framed_words, is_well_formed, words, IsMessage, DecodeRefusalFits};
@@ -45,6 +45,13 @@ fn length_in(digits: &[u8]) -> Option<usize>
     }
 }
 
+/// Where the first colon stands.
+fn colon_at(bytes: &[u8]) -> Option<usize>
+    ensures { result ≡ position (λ b. b == 58) bytes.now }
+{
+    bytes.iter().position(|byte| *byte == b':')
+}
+
 /// So many bytes as a word, which has one at least, and what follows them.
 fn cut_word(length: usize, bytes: &[u8]) -> Option<(&str, &[u8])>
     ensures { MatchOption result (cut_word length bytes.now ≡ None)
@@ -65,7 +72,7 @@ fn front_word(bytes: &[u8]) -> Option<(&str, &[u8])>
         (λ cut. front_word bytes.now ≡ Some (cut.0.now, cut.1.now)) }
     ensures shorter { IfSome result (λ cut. length cut.1.now < length bytes.now) }
 {
-    let Some(colon) = bytes.iter().position(|byte| *byte == b':') else {
+    let Some(colon) = colon_at(bytes) else {
         return None;
     };
     match length_in(&bytes[..colon]) {
