@@ -1,12 +1,11 @@
 -- What the definitions of a message say of closed tables and bytes.
-use Rattle.std.proofs.Common.{◌≡◌, ℕ, ◌∙◌, ◌+◌, Bool, true, false, List, [], ◌∷◌, ◌++◌, Some, None, refl, ap, length, length-append, arith}
+use Rattle.std.proofs.Common.{◌≡◌, ℕ, ◌∙◌, ◌+◌, true, false, List, [], ◌∷◌, ◌++◌, refl, ap, length, length-append, arith}
 use Rattle.std.specs.Prelude.{codes}
 use Rattle.std.specs.Fmt.{decimal, digits}
 use Rattle.std.specs.Str.{is_utf8, chars}
 use lib.Utf8.{encode}
 use Rattle.svc_conf.specs.Values.{number_of}
-use Rattle.svc_fds.specs.Tables.{Entry}
-use Rattle.svc_fds.specs.Messages.{framed, is_sayable, message_bytes, front_word, framed_words, is_well_formed, words}
+use Rattle.svc_fds.specs.Messages.{framed, message_bytes, front_word, framed_words, is_well_formed, words}
 
 -- two addresses without blanks are joined
 two_joined : message_bytes ((codes "1.1.1.1:443", 129) ∷ (codes "1.1.1.1:80", 128) ∷ []) ≡ codes "1.1.1.1:443 1.1.1.1:80"

@@ -1,5 +1,5 @@
 -- What is written of a table, in either version, is read again as the table.
-use Rattle.std.proofs.Common.{ℕ, ◌+◌, ◌^◌, ◌<◌, ◌≤◌, Bool, true, false, not, ◌&&◌, ◌||◌, cond, eqb, leb, List, [], ◌∷◌, ◌++◌, Some, ◌≡◌, refl, sym, ap, subst, ◌∙◌, arith, length, length-append, drop, inl, inr, IsUtf8}
+use Rattle.std.proofs.Common.{ℕ, ◌^◌, ◌<◌, ◌≤◌, true, false, not, eqb, leb, List, [], ◌∷◌, ◌++◌, Some, ◌≡◌, refl, sym, ap, ◌∙◌, arith, length, length-append, drop, inl, inr, IsUtf8}
 use Rattle.std.specs.Fmt.{decimal}
 use Rattle.std.specs.List.{All, list_any, flat_map}
 use Rattle.std.specs.Char.{is_ascii_whitespace}
@@ -10,7 +10,7 @@ use Rattle.std.proofs.lemmas.Str.{IsUtf8-append, IsUtf8-nil, IsUtf8-from_ascii}
 use Rattle.std.proofs.lemmas.Fmt.{IsAscii-decimal}
 use lib.Utf8.{encode as encode_char}
 use Rattle.svc_fds.specs.Tables.{Entry, addresses, numbers, IsAscending}
-use Rattle.svc_fds.specs.Messages.{AreTexts, has_empty_address, is_unjoinable, has_unjoinable, joined, is_joinable, version_2, frame, framed, is_frameable, is_sayable, message_bytes, joined_words, framed_words, is_framed, is_well_formed, words, IsMessage, table_of, IsOldMessage, old_table_of}
+use Rattle.svc_fds.specs.Messages.{AreTexts, has_empty_address, is_unjoinable, has_unjoinable, joined, is_joinable, version_2, frame, framed, is_frameable, is_sayable, message_bytes, framed_words, is_framed, is_well_formed, words, IsMessage, table_of, IsOldMessage, old_table_of}
 use Rattle.svc_fds.proofs.PairLemmas.{joined_words-joined, read-addresses, read-joined}
 use Rattle.svc_fds.proofs.FrameLemmas.{frames-read}
 

@@ -1,5 +1,5 @@
 -- The handover message: what a table is written as, in version 1 where that says it and else in version 2, and what bytes and numbers are read as.
-use Rattle.std.specs.Prelude.{ℕ, zero, suc, ◌≡◌, ◌≢◌, ◌<◌, ◌≤◌, ◌==◌, ◌&&◌, ◌||◌, ◌^◌, Bool, true, false, not, Option, Some, None, List, [], ◌∷◌, ◌++◌, All, nat_eq, nat_lt, nat_le, length, filter, take, drop, codes, is_some, unwrap_or, if◌then◌else◌}
+use Rattle.std.specs.Prelude.{ℕ, zero, suc, ◌≡◌, ◌≢◌, ◌<◌, ◌≤◌, ◌==◌, ◌&&◌, ◌||◌, ◌^◌, Bool, true, false, not, Option, Some, None, List, [], ◌∷◌, ◌++◌, All, nat_eq, nat_lt, nat_le, length, filter, take, drop, is_some, unwrap_or, if◌then◌else◌}
 use Rattle.std.specs.Fmt.{decimal}
 use Rattle.std.specs.List.{AllByRecursion, list_any, slice_split, join_with_byte, flat_map, starts_with, before_first, after_first, zip}
 use Rattle.std.specs.Option.{option_map, option_and_then}

@@ -1,4 +1,4 @@
-use Rattle.std.proofs.Common.{◌∙◌, sym, subst}
+use Rattle.std.proofs.Common.{◌∙◌, subst}
 use Rattle.std.specs.Str.{IsUtf8}
 use Rattle.svc_fds.proofs.VersionLemmas.{framed-written, read-written}
 use Rattle.svc_fds.proofs.encoding.encoded.Goals as goal

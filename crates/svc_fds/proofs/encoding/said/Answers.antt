@@ -1,4 +1,4 @@
-use Rattle.std.proofs.Common.{◌∙◌, ◌≤◌, length, sym, ap, subst, arith}
+use Rattle.std.proofs.Common.{◌∙◌, length, sym, ap, arith}
 use Rattle.svc_fds.proofs.VersionLemmas.{sayable-joined, written-joined, sayable-framed, written-framed}
 use Rattle.svc_fds.proofs.encoding.said.Goals as goal
 

@@ -1,7 +1,6 @@
-use Rattle.std.proofs.Common.{ℕ, ◌≡◌, ◌∙◌, ◌+◌, List, Option, Some, None, MatchOption, sym, ap, subst, take, drop}
-use Rattle.std.specs.Option.{option_and_then}
+use Rattle.std.proofs.Common.{ℕ, ◌≡◌, ◌∙◌, ◌+◌, List, Option, Some, None, MatchOption, sym, ap, subst}
 use Rattle.std.proofs.lemmas.List.{take_rest}
-use Rattle.svc_fds.specs.Messages.{cut_word, front_word}
+use Rattle.svc_fds.specs.Messages.{cut_word}
 use Rattle.svc_fds.proofs.FrameLemmas.{front_word-plain, front_word-colon, front-part_shorter}
 use Rattle.svc_fds.proofs.words.front_word.Goals as goal
 
