@@ -16,8 +16,8 @@ use Rattle.std.proofs.lemmas.Slice.Eq.{bytes_eq-Decides}
 use Rattle.std.proofs.lemmas.Str.{IsUtf8-from_is_utf8, is_utf8-from_IsUtf8}
 use Rattle.std.proofs.lemmas.Str.Parse.{digit_at}
 use Rattle.std.proofs.lemmas.Fmt.{decimal_is_IsNumeral}
-use Rattle.svc_conf.specs.Values.{number_of}
-use Rattle.svc_conf.proofs.TextNumberLemmas.{number_of-decimal}
+use Rattle.svc_base.specs.Words.{number_of}
+use Rattle.svc_base.proofs.DecimalLemmas.{number_of-decimal}
 use Rattle.svc_fds.specs.Messages.{frame, cut_word, front_word, joined_words, words_within, framed_words, AreFrames, is_framed, is_well_formed, words}
 
 -- no digit is a colon

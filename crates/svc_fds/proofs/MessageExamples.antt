@@ -4,7 +4,7 @@ use Rattle.std.specs.Prelude.{codes}
 use Rattle.std.specs.Fmt.{decimal, digits}
 use Rattle.std.specs.Str.{is_utf8, chars}
 use lib.Utf8.{encode}
-use Rattle.svc_conf.specs.Values.{number_of}
+use Rattle.svc_base.specs.Words.{number_of}
 use Rattle.svc_fds.specs.Messages.{framed, message_bytes, front_word, framed_words, is_well_formed, words}
 
 -- two addresses without blanks are joined

@@ -5,7 +5,7 @@ use Rattle.std.specs.List.{AllByRecursion, list_any, slice_split, join_with_byte
 use Rattle.std.specs.Option.{option_map, option_and_then}
 use Rattle.std.specs.Char.{is_ascii_whitespace}
 use Rattle.std.specs.Str.{IsUtf8, is_utf8}
-use Rattle.svc_conf.specs.Values.{number_of}
+use Rattle.svc_base.specs.Words.{number_of}
 use Rattle.svc_fds.specs.declared.encoding.Message.{Message}
 use Rattle.svc_fds.specs.declared.errors.EncodeError.{EncodeError}
 use Rattle.svc_fds.specs.declared.errors.EncodeError.TheVariants.{BadAddress, TooLong, TooMany}

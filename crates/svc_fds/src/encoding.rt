@@ -10,7 +10,7 @@ ghost use Rattle.svc_fds.specs.Messages.{AreTexts, has_empty_address, is_unjoina
 use crate::errors::EncodeError;
 use crate::fd::Fd;
 use std::alloc::Global;
-use svc_conf::{Bytes, Items, NoMemory, Text};
+use svc_base::{Bytes, Items, NoMemory, Text};
 
 /// The most bytes of a message of version 1.
 pub const JOINED_LIMIT: usize = 2048;

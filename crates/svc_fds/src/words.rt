@@ -1,7 +1,6 @@
 //! The words of a message, and whether one stands twice.
 
-ghost use Rattle.std.specs.Prelude.{◌≡◌, ◌<◌, ◌^◌, None, Some, IfOk, IfErr, OnOk, IfSome, MatchOption, ◌==◌, position, length, true, false};
-ghost use Rattle.svc_conf.specs.Values.{has_spare_front, number_of};
+ghost use Rattle.std.specs.Prelude.{◌≡◌, ◌<◌, None, Some, IfOk, IfErr, OnOk, IfSome, MatchOption, ◌==◌, position, length, true, false};
 ghost use Rattle.svc_fds.specs.Lists.{is_among, has_repeat};
 ghost use Rattle.svc_fds.specs.Messages.{joined_words, cut_word, front_word, framed_words, is_well_formed, words, IsMessage, DecodeRefusalFits};
 
@@ -9,7 +8,7 @@ use crate::encoding::VERSION_2;
 use crate::errors::DecodeError;
 use std::alloc::Global;
 use std::str;
-use svc_conf::{NoMemory, Text};
+use svc_base::{NoMemory, Text, number};
 
 /// The words of a text, which stand between blanks.
 fn joined_words(alloc: Global, text: &str) -> Result<Vec<Text>, NoMemory>
@@ -20,29 +19,6 @@ fn joined_words(alloc: Global, text: &str) -> Result<Vec<Text>, NoMemory>
         found.push(Text::new(alloc, word)?)?;
     }
     Ok(found)
-}
-
-fn has_spare_front(digits: &[u8]) -> bool
-    ensures { result ≡ has_spare_front digits.now }
-{
-    match digits {
-        [b'+', ..] => true,
-        [b'0', ..] => digits.len() > 1,
-        _ => false,
-    }
-}
-
-/// The length that digits spell: in decimal, without a sign or a leading zero.
-fn length_in(digits: &[u8]) -> Option<usize>
-    ensures { result ≡ number_of (2 ^ 64) digits.now }
-{
-    if has_spare_front(digits) {
-        return None;
-    }
-    match str::from_utf8(digits) {
-        Ok(text) => text.parse::<usize>().ok(),
-        Err(_) => None,
-    }
 }
 
 /// Where the first colon stands.
@@ -75,8 +51,8 @@ fn front_word(bytes: &[u8]) -> Option<(&str, &[u8])>
     let Some(colon) = colon_at(bytes) else {
         return None;
     };
-    match length_in(&bytes[..colon]) {
-        Some(length) => cut_word(length, &bytes[colon + 1..]),
+    match number(&bytes[..colon]) {
+        Some(length) => cut_word(length as usize, &bytes[colon + 1..]),
         None => None,
     }
 }

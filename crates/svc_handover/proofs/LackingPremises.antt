@@ -135,13 +135,6 @@ alone : IsLost 3 (plain (tcp x ∷ [])) (inheriting (tcp x ∷ []))
 unfolding is_utf8 chars encode is_well_formed words is_sayable message_bytes
 alone = record { lacking = refl; closed = refl; kept = refl; old_right = refl; new_right = refl }
 
--- another live address has a blank, so that no message says both
-unsendable : IsLost 3 (plain (tcp x ∷ tcp (codes "y z") ∷ [])) (inheriting (tcp x ∷ []))
-    (Told (Phase Terminated 5000) ∷ Told (Stop 5) ∷ Told (Close 8) ∷ Told (Close 7) ∷ Told (Phase ShutdownRuntimes 5000) ∷ Told (Phase ShutdownGracePeriod 5000) ∷ Told (Phase ShutdownStarted 5000) ∷ Told Broadcast ∷ Got (Moment 5000) ∷ Told (Phase GracefulUpgradeCloseTimeout 0) ∷ Told (Phase GracefulUpgradeTransferringFds 0) ∷ Got (Signal GracefulUpgrade) ∷ Got (Bound 0 1 8) ∷ Told (Bind 0 1) ∷ held)
-    asks Listening
-unfolding is_utf8 chars encode is_well_formed words is_sayable message_bytes
-unsendable = record { lacking = refl; closed = refl; kept = refl; old_right = refl; new_right = refl }
-
 -- another address of the same service could not be bound
 old-failed : IsLost 4 (plain (tcp x ∷ tcp y ∷ [])) (inheriting (tcp x ∷ []))
     (Told (Close 7) ∷ Told (Fail 0) ∷ Got (BindFailed 0 1) ∷ Told (Bind 0 1) ∷ held)
