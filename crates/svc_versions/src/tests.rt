@@ -2,8 +2,8 @@ use std::process::Abort;
 use std::test::Fail;
 use svc_base::Text;
 use svc_fds::{
-    AddFdRefused, DecodeError, DecodeRefused, EncodeError, Fd, Fds, ReceiveError, SendError,
-    SteadyChannel, send_fds_to,
+    AddFdRefused, Channel, DecodeError, DecodeRefused, EncodeError, Fd, Fds, ReceiveError,
+    SendError, SteadyChannel, send_fds_to,
 };
 
 /// Adds an entry, and answers the number that it replaced.
@@ -69,7 +69,11 @@ fn fds<R: Abort + AllocGlobal>(rt: &R, numbers: &[u64]) -> Vec<Fd> {
 }
 
 /// What the bytes are read as with these descriptors.
-fn read<R: Abort + AllocGlobal>(rt: &R, bytes: &[u8], numbers: &[u64]) -> Result<String, DecodeError> {
+fn read<R: Abort + AllocGlobal>(
+    rt: &R,
+    bytes: &[u8],
+    numbers: &[u64],
+) -> Result<String, DecodeError> {
     match Fds::decode(rt.alloc(), bytes, fds(rt, numbers)) {
         Ok(table) => Ok(spent(rt, table)),
         Err(refused) => {
@@ -118,7 +122,10 @@ fn writes_version_1_where_it_suffices(rt: HostRuntime) -> Result<(), Fail> {
 #[test]
 fn writes_version_2_where_an_address_has_a_blank(rt: HostRuntime) -> Result<(), Fail> {
     let bytes = written(&rt, &[("a b", 3)], "a b 3;");
-    assert_eq!(rt; bytes.as_slice(), b"\x20\x76\x32\x20\x33\x3a\x61\x20\x62".as_slice());
+    assert_eq!(rt;
+        bytes.as_slice(),
+        b"\x20\x76\x32\x20\x33\x3a\x61\x20\x62".as_slice()
+    );
     let bytes = written(&rt, &[("b", 4), ("a\t\n", 3)], "a\t\n 3;b 4;");
     assert_eq!(rt; bytes.as_slice(), b" v2 3:a\t\n1:b".as_slice());
     let bytes = written(&rt, &[("\u{e9} \u{e9}", 3)], "\u{e9} \u{e9} 3;");
@@ -157,16 +164,27 @@ fn reads_both_versions(rt: HostRuntime) -> Result<(), Fail> {
     for (bytes, numbers, want) in [
         (b"".as_slice(), [].as_slice(), ""),
         (b" \t\r".as_slice(), [].as_slice(), ""),
-        (b"a\x0b\t b\r".as_slice(), [3u64, 4].as_slice(), "a\x0b 3;b 4;"),
+        (
+            b"a\x0b\t b\r".as_slice(),
+            [3u64, 4].as_slice(),
+            "a\x0b 3;b 4;",
+        ),
         (b" v2".as_slice(), [3u64].as_slice(), "v2 3;"),
         (b" v2\t1:a".as_slice(), [3u64, 4].as_slice(), "1:a 4;v2 3;"),
         (b"  v2 1:a".as_slice(), [3u64, 4].as_slice(), "1:a 4;v2 3;"),
         (b" v2 ".as_slice(), [].as_slice(), ""),
         (b" v2 1:a".as_slice(), [3u64].as_slice(), "a 3;"),
         (b" v2 1:b1:a".as_slice(), [3u64, 4].as_slice(), "a 4;b 3;"),
-        (b" v2 4:1:a:2: \n".as_slice(), [3u64, 4].as_slice(), " \n 4;1:a: 3;"),
+        (
+            b" v2 4:1:a:2: \n".as_slice(),
+            [3u64, 4].as_slice(),
+            " \n 4;1:a: 3;",
+        ),
     ] {
-        assert_eq!(rt; read(&rt, bytes, numbers).expect(&rt, "a table").as_str(), want);
+        assert_eq!(rt;
+            read(&rt, bytes, numbers).expect(&rt, "a table").as_str(),
+            want
+        );
     }
     Ok(())
 }
@@ -233,7 +251,10 @@ fn goes_through_a_channel_in_both_versions(rt: HostRuntime) -> Result<(), Fail> 
         let mut channel = SteadyChannel::new(rt.alloc(), 8).expect(&rt, "memory");
         assert!(rt; channel.listen());
         let table = table_of(&rt, &[(bind, 5)]);
-        assert_eq!(rt; table.send_to_sock(rt.alloc(), &mut channel, None), Ok(bytes));
+        assert_eq!(rt;
+            table.send_to_sock(rt.alloc(), &mut channel, None),
+            Ok(bytes)
+        );
         let mut other = Fds::new(rt.alloc());
         assert_eq!(rt; other.get_from_sock(rt.alloc(), &mut channel, None), Ok(()));
         assert_eq!(rt; spent(&rt, other).as_str(), spent(&rt, table).as_str());
