@@ -1,0 +1,56 @@
+-- What the rest of a step keeps, from its parts.
+use Rattle.std.proofs.Common.{ℕ, List, ◌≡◌, ◌≤◌, ◌+◌, ◌∙◌, ap, subst, arith, length, if◌then◌else◌}
+use Rattle.std.specs.Prelude.{Option}
+use Rattle.svc_conf.specs.Items.{list_of, spare}
+use Rattle.svc_fds.specs.declared.encoding.Message.{Message}
+use Rattle.svc_record.specs.declared.action.StepEnd.{StepEnd}
+use Rattle.svc_record.specs.Record.{Record, tell}
+use Rattle.svc_record.specs.Told.{Tells}
+use Rattle.svc_connections.specs.ConnectionsData.{ConnectionsData}
+use Rattle.svc_endpoints.specs.declared.table.Open.{Open}
+use Rattle.svc_core.specs.CoreData.{CoreData}
+use Rattle.svc_core.specs.Copies.{TellsBare, copy_of}
+use Rattle.svc_core.specs.Rooms.{open_count, most_open}
+use Rattle.svc_core.specs.Stands.{StepRight}
+use Rattle.svc_core.specs.Steps.{Actions, Spends, Goes, Visits, finish_room}
+use Rattle.svc_core.proofs.CopyLemmas.{bare-none, bare-first, copied-bare}
+use Rattle.svc_core.proofs.RoomLemmas.{few-open}
+
+-- the rest of a step is of the core's value, and its parts are of the fields
+pub opened-goes : {old now new : CoreData} {copy : Option Message} {before after : Actions} {end : StepEnd} (IsSo : CoreData → Record → Type 0) (most : CoreData → ℕ) → old ≡ now
+    → Goes (IsSo old) (most old) old new copy before after end → Goes (IsSo now) (most now) now new copy before after end
+opened-goes {new = new} {copy = copy} {before = before} {after = after} {end = end} IsSo most is goes = subst (λ (core : CoreData). Goes (IsSo core) (most core) core new copy before after end) is goes
+
+-- a run that ends here
+pub stops : {IsSo : Record → Type 0} {most : ℕ} {old new : CoreData} {actions : Actions} {end : StepEnd} (copy : Option Message) → new.plan ≡ old.plan → most_open new ≤ most
+    → Tells (list_of actions) (list_of actions) (λ told. (q : Record) → IsSo q → StepRight new (tell q told) end) → Goes IsSo most old new copy actions actions end
+stops {new = new} {actions = actions} copy plan room kept =
+    let few = few-open new in
+    record {
+      plan = plan;
+      kept = kept;
+      copied = copied-bare (copy_of copy) (list_of actions) (list_of actions) (bare-none (list_of actions));
+      spends = record { few = omega (arith, few, room); room = omega (arith, few, room) };
+    }
+
+-- a call, and the rest
+pub then-goes : {IsSo IsNext : Record → Type 0} {most less : ℕ} {old mid new : CoreData} {copy : Option Message} {before between after : Actions} {end : StepEnd} → Goes IsNext less mid new copy between after end
+    → mid.plan ≡ old.plan → TellsBare (list_of before) (list_of between) → Spends most less before between
+    → Tells (list_of before) (list_of after) (λ told. (q : Record) → IsSo q → StepRight new (tell q told) end)
+    → Goes IsSo most old new copy before after end
+then-goes {copy = copy} {before = before} {between = between} {after = after} next plan bare spends kept = record {
+  plan = next.plan ∙ plan;
+  kept = kept;
+  copied = bare-first (copy_of copy) (list_of before) (list_of between) (list_of after) bare next.copied;
+  spends = record { few = omega (arith, spends.few, next.spends.few); room = omega (arith, spends.room, next.spends.room) };
+}
+
+-- bootstrapping was completed or not, and the services were visited
+pub visits-spend : {core mid new : CoreData} {before between after : Actions} → mid.order ≡ core.order → mid.boot.begun ≡ core.boot.begun → most_open mid ≡ most_open core → Spends 1 0 before between → Visits mid new between after
+    → Spends (finish_room core) (most_open new + 10) before after
+visits-spend {core = core} {mid = mid} order begun open first visits =
+    let same = ap length order in
+    let table = ap (λ (table : List Open). length table) visits.table in
+    let live = ap (λ (cn : ConnectionsData). length cn.live) visits.connections in
+    let begins = ap (λ begun. if begun then 0 else 4) begun in
+    record { few = omega (arith, same, table, live, begins, open, first.few, visits.spends.few); room = omega (arith, same, table, live, begins, open, first.room, visits.spends.room) }
