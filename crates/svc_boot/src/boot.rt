@@ -1,7 +1,7 @@
 //! How a run begins: the fork of a daemon, and bootstrapping up to the message of an older server.
 
 ghost use Rattle.std.specs.Prelude.{◌≡◌, ◌+◌, ◌-◌, ◌≤◌, nat_lt, ◌++◌, [], ◌∷◌, ℕ, List, length, true, false};
-ghost use Rattle.svc_conf.specs.Items.{list_of, spare};
+ghost use Rattle.svc_base.specs.Items.{list_of, spare};
 ghost use Rattle.svc_record.specs.declared.plan.Plan.{Plan};
 ghost use Rattle.svc_record.specs.declared.entry.Entry.TheVariants.{Got, Told};
 ghost use Rattle.svc_record.specs.declared.event.Event.{Event};

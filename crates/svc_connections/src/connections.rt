@@ -1,7 +1,7 @@
 //! What becomes of the connections of a run that goes on.
 
 ghost use Rattle.std.specs.Prelude.{◌≡◌, ◌+◌, ◌<◌, ◌≤◌, ◌++◌, ◌==◌, ◌^◌, [], ◌∷◌, length, ℕ, OnOk, true, false};
-ghost use Rattle.svc_conf.specs.Items.{list_of, spare};
+ghost use Rattle.svc_base.specs.Items.{list_of, spare};
 ghost use Rattle.svc_record.specs.declared.plan.Plan.{Plan};
 ghost use Rattle.svc_record.specs.declared.entry.Entry.TheVariants.{Got};
 ghost use Rattle.svc_record.specs.declared.event.Event.TheVariants.{Arrived, AcceptFailed, Set, Shaken, Finished};
@@ -13,12 +13,11 @@ ghost use Rattle.svc_connections.specs.ConnectionsData.{ConnectionsData};
 ghost use Rattle.svc_connections.specs.ConnectionsState.{ConnectionsStand, is_new, is_setting, is_shaking, is_serving, stage_of};
 ghost use Rattle.svc_connections.specs.ConnectionsEffects.{nothing, taken_in, arrived, arrived_told, judged_told, is_refused, gone_on, set_told, shaken_told, finished, rest_told, cuts};
 
-use crate::came::Came;
 use crate::live::Live;
 use crate::stage::{Connection, Stage};
 use std::alloc::Global;
 use std::marker::Model;
-use svc_conf::{NoMemory, Settings};
+use svc_base::{NoMemory, NumberSet, Settings};
 use svc_record::{Action, Actions};
 use svc_socket::Peer;
 
@@ -29,12 +28,12 @@ const TOO_MANY_FILES: u32 = 24;
 #[derive(Drop)]
 pub struct Connections {
     live: Live,
-    came: Came,
+    came: NumberSet,
 }
 
 impl Model for Connections {
     ghost use Rattle.std.specs.Prelude.{min};
-    ghost use Rattle.svc_conf.specs.Items.{list_of, spare};
+    ghost use Rattle.svc_base.specs.Items.{list_of, spare};
     ghost use Rattle.svc_connections.specs.ConnectionsData.{ConnectionsRoom};
 
     ghost Value = { ConnectionsRoom };
@@ -90,7 +89,7 @@ impl Connections {
     {
         Connections {
             live: Live::new(alloc),
-            came: Came::new(alloc),
+            came: NumberSet::new(alloc),
         }
     }
 
@@ -100,7 +99,7 @@ impl Connections {
         ensures room { OnOk result (0 < self.new.room) }
     {
         self.live.reserve()?;
-        self.came.reserve()
+        self.came.reserve(1)
     }
 
     /// No connection with this number has arrived.

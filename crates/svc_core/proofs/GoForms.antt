@@ -1,7 +1,7 @@
 -- What the rest of a step keeps, from its parts.
 use Rattle.std.proofs.Common.{ℕ, List, ◌≡◌, ◌≤◌, ◌+◌, ◌∙◌, ap, subst, arith, length, if◌then◌else◌}
 use Rattle.std.specs.Prelude.{Option}
-use Rattle.svc_conf.specs.Items.{list_of, spare}
+use Rattle.svc_base.specs.Items.{list_of, spare}
 use Rattle.svc_fds.specs.declared.encoding.Message.{Message}
 use Rattle.svc_record.specs.declared.action.StepEnd.{StepEnd}
 use Rattle.svc_record.specs.Record.{Record, tell}

@@ -2,7 +2,7 @@
 use Rattle.std.proofs.Common.{ℕ, Bool, true, false, List, [], ◌++◌, ◌≡◌, ◌≤◌, ◌+◌, refl, ap, sym, ◌∙◌, subst, arith, length, append-nil, if◌then◌else◌}
 use Rattle.std.specs.Prelude.{Option, None, is_some}
 use Rattle.std.specs.List.{list_all}
-use Rattle.svc_conf.specs.Items.{list_of, spare}
+use Rattle.svc_base.specs.Items.{list_of, spare}
 use Rattle.svc_fds.specs.declared.encoding.Message.{Message}
 use Rattle.svc_record.specs.declared.entry.Entry.TheVariants.{Got}
 use Rattle.svc_record.specs.declared.action.StepEnd.{StepEnd}

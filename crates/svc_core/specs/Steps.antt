@@ -1,7 +1,7 @@
 -- What the core's steps and their parts keep: one record for each sort.
 use Rattle.std.specs.Prelude.{ℕ, ◌≡◌, ◌+◌, ◌*◌, ◌≤◌, true, List, length, Option, None, Result, MatchResult, OnOk, is_some, ⊤}
-use Rattle.svc_conf.specs.declared.memory.NoMemory.{NoMemory}
-use Rattle.svc_conf.specs.Items.{list_of, spare}
+use Rattle.svc_base.specs.declared.memory.NoMemory.{NoMemory}
+use Rattle.svc_base.specs.Items.{list_of, spare}
 use Rattle.svc_fds.specs.declared.encoding.Message.{Message}
 use Rattle.svc_record.specs.declared.action.Action.{Action}
 use Rattle.svc_record.specs.declared.action.StepEnd.{StepEnd}

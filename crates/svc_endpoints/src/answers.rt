@@ -2,7 +2,7 @@
 
 ghost use Rattle.std.specs.Prelude.{◌≡◌, ◌+◌, ◌<◌, ◌≤◌, ◌++◌, ◌∷◌, ◌==◌, [], length, ℕ, Some, true, false, not, ◌&&◌, nat_lt};
 ghost use Rattle.std.specs.List.{list_any};
-ghost use Rattle.svc_conf.specs.Items.{list_of, spare};
+ghost use Rattle.svc_base.specs.Items.{list_of, spare};
 ghost use Rattle.svc_record.specs.declared.entry.Entry.TheVariants.{Got};
 ghost use Rattle.svc_record.specs.declared.event.Event.{Event};
 ghost use Rattle.svc_record.specs.declared.event.Event.TheVariants.{Bound, InUse, BindFailed, Adopted, AdoptFailed, LoopEnded};
@@ -24,7 +24,7 @@ use crate::endpoints::Endpoints;
 use crate::loops::{has_loop, is_done};
 use crate::naming::{address_of, endpoint_count, limit};
 use crate::states::{EndState, Last, held_now};
-use svc_conf::Text;
+use svc_base::Text;
 use svc_record::{Action, Actions, Plan};
 
 impl Endpoints {

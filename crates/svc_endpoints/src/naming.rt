@@ -6,7 +6,7 @@ ghost use Rattle.svc_graph.specs.declared.plan.EndpointPlan.{EndpointPlan};
 ghost use Rattle.svc_record.specs.Plans.{service_count, services, endpoints, address, names, declares, declares_list, is_among, is_unclaimed};
 ghost use Rattle.svc_record.specs.Failed.{in_use_limit};
 
-use svc_conf::Text;
+use svc_base::Text;
 use svc_graph::EndpointPlan;
 use svc_record::Plan;
 

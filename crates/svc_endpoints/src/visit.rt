@@ -1,7 +1,7 @@
 //! What is asked for as a service is visited.
 
 ghost use Rattle.std.specs.Prelude.{◌≡◌, ◌+◌, ◌<◌, ◌≤◌, ◌++◌, ◌∷◌, ◌==◌, ◌&&◌, ◌||◌, [], length, Some, None, true, false};
-ghost use Rattle.svc_conf.specs.Items.{list_of, spare};
+ghost use Rattle.svc_base.specs.Items.{list_of, spare};
 ghost use Rattle.svc_record.specs.Plans.{service_count, endpoints, address, any_with, same_address};
 ghost use Rattle.svc_record.specs.Record.{Record, now};
 ghost use Rattle.svc_record.specs.Starts.{is_started};

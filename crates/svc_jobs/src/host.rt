@@ -1,8 +1,8 @@
 //! A host that runs jobs.
 
 ghost use Rattle.std.specs.Prelude.{◌≡◌, ◌+◌, ◌<◌, ◌≤◌, ◌^◌, Option, [], ◌∷◌, length, map, reverse, position, slice_get, Some, None, IfOk, IfErr, IfSome, OnOk, MatchOption};
-ghost use Rattle.svc_conf.specs.Items.{list_of};
-ghost use Rattle.svc_conf.specs.Streams.{Rose};
+ghost use Rattle.svc_base.specs.Items.{list_of};
+ghost use Rattle.svc_base.specs.Streams.{Rose};
 ghost use Rattle.svc_record.specs.declared.entry.Entry.TheVariants.{Got};
 ghost use Rattle.svc_record.specs.declared.event.Event.TheVariants as events;
 ghost use Rattle.svc_record.specs.declared.item.Item.TheVariants as items_given;
@@ -25,7 +25,7 @@ use crate::timetable::Timetable;
 use crate::upcoming::{NextItem, upcoming};
 use std::alloc::Global;
 use std::marker::Model;
-use svc_conf::NoMemory;
+use svc_base::NoMemory;
 use svc_graph::services::ServiceWithDependents;
 use svc_record::{Action, Entries, Event, Item, ShutdownSignal};
 use svc_server::{Host, Next};

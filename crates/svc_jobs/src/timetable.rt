@@ -1,7 +1,7 @@
 //! Which jobs are due, by what has happened.
 
 ghost use Rattle.std.specs.Prelude.{◌≡◌, ◌+◌, ◌<◌, ◌≤◌, ◌^◌, ◌||◌, ◌++◌, ℕ, List, [], ◌∷◌, length, map, Option, IfOk, OnOk, IfSome, MatchOption, Some, slice_get, slice_set, position, nat_lt};
-ghost use Rattle.svc_conf.specs.Items.{list_of, spare};
+ghost use Rattle.svc_base.specs.Items.{list_of, spare};
 ghost use Rattle.svc_record.specs.declared.entry.Entry.TheVariants.{Got};
 ghost use Rattle.svc_record.specs.declared.event.Event.TheVariants as events;
 ghost use Rattle.svc_record.specs.Record.{Record};
@@ -15,7 +15,7 @@ use crate::plan::{JobPlan, JobRun, RunList};
 use crate::row::JobRow;
 use std::alloc::Global;
 use std::marker::Model;
-use svc_conf::NoMemory;
+use svc_base::NoMemory;
 use svc_record::{Action, ExecutionPhase};
 
 /// What is known of each job, and its runs. Contracts see it without its memory, but for the room.
@@ -32,7 +32,7 @@ pub(crate) struct Timetable {
 
 impl Model for Timetable {
     ghost use Rattle.std.specs.Prelude.{length, ◌≤◌, ◌^◌};
-    ghost use Rattle.svc_conf.specs.Items.{list_of, spare};
+    ghost use Rattle.svc_base.specs.Items.{list_of, spare};
     ghost use Rattle.svc_jobs.specs.TimetableData.{TimetableData};
     ghost use Rattle.svc_jobs.specs.Rows.{ArePaced};
 

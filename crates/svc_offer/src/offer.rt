@@ -1,7 +1,7 @@
 //! The offer to a successor, from the signal to its last answer.
 
 ghost use Rattle.std.specs.Prelude.{◌≡◌, ◌+◌, ◌≤◌, ◌++◌, [], ◌∷◌, length, Option, Some, None, IfOk, true, false};
-ghost use Rattle.svc_conf.specs.Items.{list_of, spare};
+ghost use Rattle.svc_base.specs.Items.{list_of, spare};
 ghost use Rattle.svc_fds.specs.declared.encoding.Message.{Message};
 ghost use Rattle.svc_record.specs.declared.plan.Plan.{Plan};
 ghost use Rattle.svc_record.specs.declared.entry.Entry.TheVariants.{Got};
@@ -18,7 +18,7 @@ use crate::copies::copy_message;
 use crate::offering::Offering;
 use std::alloc::Global;
 use std::marker::Model;
-use svc_conf::NoMemory;
+use svc_base::NoMemory;
 use svc_fds::{Message, SendAnswer, SendNext, SendRetry};
 use svc_record::{Action, Actions, Event};
 

@@ -1,7 +1,7 @@
 //! The run of a plan over a host, turn by turn.
 
 ghost use Rattle.std.specs.Prelude.{◌≡◌, ◌+◌, ◌*◌, ◌<◌, ◌≤◌, ℕ, [], ◌∷◌, List, Option, Some, None, length, map, Ok, Err, IfSome, IfOk, OnOk, OnErr};
-ghost use Rattle.svc_conf.specs.Items.{list_of, spare};
+ghost use Rattle.svc_base.specs.Items.{list_of, spare};
 ghost use Rattle.svc_record.specs.declared.entry.Entry.TheVariants.{Got};
 ghost use Rattle.svc_record.specs.declared.item.Item.{Item};
 ghost use Rattle.svc_record.specs.Record.{Record};
@@ -24,7 +24,7 @@ use crate::handing::tell_all;
 use crate::host::{Host, Next};
 use crate::run::{Outcome, RunError};
 use std::alloc::Global;
-use svc_conf::NoMemory;
+use svc_base::NoMemory;
 use svc_core::Core;
 use svc_graph::services::ServiceWithDependents;
 use svc_record::{Actions, Plan, StepEnd};

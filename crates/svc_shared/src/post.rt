@@ -1,6 +1,6 @@
 //! Posts.
 ghost use Rattle.std.specs.Prelude.{◌≡◌, ◌≤◌, Some, IfOk, IfErr};
-ghost use Rattle.svc_conf.specs.Items.{list_of};
+ghost use Rattle.svc_base.specs.Items.{list_of};
 ghost use Rattle.svc_record.specs.Journal.{post};
 ghost use Rattle.svc_shared.specs.Turn.{IsIdle, HasTurn, TookLater, LeftWith};
 ghost use Rattle.svc_shared.specs.Posting.{IsOf, IsPosted, IsRefused, IsBusy, never, reason_is, LeftFor, hand_in};

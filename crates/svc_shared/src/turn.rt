@@ -1,7 +1,7 @@
 //! Steps of one seat: taking the turn, and leaving it.
 ghost use Rattle.std.specs.Prelude.{◌≡◌, ◌+◌, ◌%◌, ◌<◌, ◌^◌, [], ◌∷◌, IfOk, IfErr, Some};
 ghost use Rattle.svc_record.specs.Journal.{post};
-ghost use Rattle.svc_conf.specs.Items.{list_of};
+ghost use Rattle.svc_base.specs.Items.{list_of};
 ghost use Rattle.svc_shared.specs.Views.{book_of, left};
 ghost use Rattle.svc_shared.specs.Turn.{IsIdle, HasTurn, Lifted, GivesBack, Took, Lost, LeftWith, LeftWithout};
 

@@ -6,7 +6,7 @@ ghost use Rattle.svc_core.specs.Steps.{MayStep, Steps, StepsOr, Judges};
 use super::Core;
 use crate::plans::verdict_on;
 use std::alloc::Global;
-use svc_conf::NoMemory;
+use svc_base::NoMemory;
 use svc_connections::{settings_of, take_accept_failed};
 use svc_record::{Actions, Event, StepEnd};
 use svc_socket::Peer;

@@ -7,7 +7,7 @@ ghost use Rattle.svc_socket.specs.OptionLists.{dscp_step, dscp_end, keepalive_st
 
 use crate::options::{Family, Options, SockOption};
 use std::alloc::Global;
-use svc_conf::{NoMemory, Setting, Settings, TcpKeepalive};
+use svc_base::{NoMemory, Setting, Settings, TcpKeepalive};
 use thiserror::Error;
 
 /// The greatest value that an option takes.

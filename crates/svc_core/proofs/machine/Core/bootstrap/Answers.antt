@@ -1,5 +1,5 @@
 use Rattle.std.proofs.Common.{refl, sym, ◌∙◌, arith}
-use Rattle.svc_conf.specs.Items.{list_of}
+use Rattle.svc_base.specs.Items.{list_of}
 use Rattle.svc_boot.specs.BootState.{notifies}
 use Rattle.svc_core.specs.Stands.{MayBootstrap}
 use Rattle.svc_core.specs.Steps.{bootstrap_room}

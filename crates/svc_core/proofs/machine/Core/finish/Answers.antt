@@ -1,5 +1,5 @@
 use Rattle.std.proofs.Common.{refl, sym, ap, ◌∙◌, arith}
-use Rattle.svc_conf.specs.Items.{list_of}
+use Rattle.svc_base.specs.Items.{list_of}
 use Rattle.svc_boot.specs.BootData.{BootData}
 use Rattle.svc_core.specs.Stands.{Struck}
 use Rattle.svc_core.specs.Steps.{finish_room}

@@ -1,5 +1,5 @@
 use Rattle.std.proofs.Common.{refl, sym, ◌+◌, ◌∙◌, arith}
-use Rattle.svc_conf.specs.Items.{list_of}
+use Rattle.svc_base.specs.Items.{list_of}
 use Rattle.svc_core.specs.Stands.{Visited}
 use Rattle.svc_core.specs.Rooms.{most_open}
 use Rattle.svc_core.proofs.FinishLemmas.{go-ended-at, go-on-at, go-waiting-at, go-then}

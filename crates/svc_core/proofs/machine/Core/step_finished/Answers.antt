@@ -1,5 +1,5 @@
 use Rattle.std.proofs.Common.{refl, sym, [], append-nil, arith}
-use Rattle.svc_conf.specs.Items.{list_of}
+use Rattle.svc_base.specs.Items.{list_of}
 use Rattle.svc_core.proofs.ConnectionLemmas.{fits-finished}
 use Rattle.svc_core.proofs.RoomLemmas.{finished-length}
 use Rattle.svc_core.proofs.StepForms.{opened, dealt}
