@@ -1,7 +1,8 @@
 -- What an event's step keeps, from what the event leaves and what follows it.
 use Rattle.std.proofs.Common.{ℕ, Bool, true, false, List, [], ◌++◌, ◌≡◌, ◌≤◌, ◌+◌, refl, ap, sym, ◌∙◌, subst, arith, length, append-nil, if◌then◌else◌}
-use Rattle.std.specs.Prelude.{Option, None, is_some}
+use Rattle.std.specs.Prelude.{Option, None, Result, Ok, Err, OnOk, is_some}
 use Rattle.std.specs.List.{list_all}
+use Rattle.svc_base.specs.declared.memory.NoMemory.{NoMemory}
 use Rattle.svc_base.specs.Items.{list_of, spare}
 use Rattle.svc_fds.specs.declared.encoding.Message.{Message}
 use Rattle.svc_record.specs.declared.entry.Entry.TheVariants.{Got}
@@ -27,7 +28,7 @@ use Rattle.svc_core.specs.Copies.{TellsBare, TellsCopied, are_copied, copy_of, m
 use Rattle.svc_core.specs.Passes.{begin_room}
 use Rattle.svc_core.specs.Rooms.{tell_room, close_room, open_count, most_open}
 use Rattle.svc_core.specs.Stands.{StandsFor, Struck, MayBootstrap, BeginKeeps}
-use Rattle.svc_core.specs.Steps.{Actions, Spends, MayStep, Steps, Judges, Goes, Begins, finish_room, bootstrap_room}
+use Rattle.svc_core.specs.Steps.{Actions, Spends, MayStep, Steps, StepsOr, Judges, Goes, Begins, finish_room, bootstrap_room}
 use Rattle.svc_core.proofs.StepLemmas.{step-by}
 use Rattle.svc_core.proofs.ConnectionLemmas.{deals-with, with_connections}
 use Rattle.svc_core.proofs.CopyLemmas.{bare-answer, bare-all, bare-none, copied-bare}
@@ -162,3 +163,8 @@ later-taken {core = core} {actions = actions} kind on runs came =
 pub judged-so : (core : CoreData) (e : Event) (said : Bool) (before after : Actions) → TellsCopied (copy_at core e) (list_of before) (list_of after) → Judges core e said before after → TellsJudged (judged_at core.plan e said) (list_of before) (list_of after)
 judged-so core (Arrived s i c peer) said before after copied judges = judges
 judged-so core e said before after copied judges = unjudged-copied (message_at core e) (list_of before) (list_of after) copied
+
+pub judged-of : (core new : CoreData) (e : Event) (said : Bool) (before after : Actions) (result : Result StepEnd NoMemory) → StepsOr core new e before after result → OnOk result (Judges core e said before after)
+    → OnOk result (TellsJudged (judged_at core.plan e said) (list_of before) (list_of after))
+judged-of core new e said before after (Ok end) steps judges = judged-so core e said before after steps.copied judges
+judged-of core new e said before after (Err none) steps judges = tt

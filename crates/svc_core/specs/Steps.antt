@@ -1,16 +1,20 @@
 -- What the core's steps and their parts keep: one record for each sort.
-use Rattle.std.specs.Prelude.{ℕ, ◌≡◌, ◌+◌, ◌*◌, ◌≤◌, true, List, length, Option, None, Result, MatchResult, OnOk, is_some, ⊤}
+use Rattle.std.specs.Prelude.{ℕ, Bool, ◌≡◌, ◌+◌, ◌*◌, ◌≤◌, ◌++◌, true, List, length, Option, Result, MatchResult, is_some, ⊤}
 use Rattle.svc_base.specs.declared.memory.NoMemory.{NoMemory}
 use Rattle.svc_base.specs.Items.{list_of, spare}
 use Rattle.svc_fds.specs.declared.encoding.Message.{Message}
 use Rattle.svc_record.specs.declared.action.Action.{Action}
 use Rattle.svc_record.specs.declared.action.StepEnd.{StepEnd}
+use Rattle.svc_record.specs.declared.action.StepEnd.TheVariants.{Served}
 use Rattle.svc_record.specs.declared.event.Event.{Event}
 use Rattle.svc_record.specs.declared.event.Event.TheVariants.{Arrived, Signal}
 use Rattle.svc_record.specs.Judging.{TellsJudged, judged_at}
 use Rattle.svc_record.specs.Record.{Record, tell}
 use Rattle.svc_record.specs.Told.{Tells}
-use Rattle.svc_core.specs.CoreData.{CoreData, is_on}
+use Rattle.svc_endpoints.specs.EndpointsState.{open_numbers as table_numbers}
+use Rattle.svc_drain.specs.DrainEffects.{end_told}
+use Rattle.svc_connections.specs.ConnectionsState.{numbers}
+use Rattle.svc_core.specs.CoreData.{CoreData, is_on, with_end}
 use Rattle.svc_core.specs.Copies.{TellsBare, TellsCopied, copy_of, copy_at}
 use Rattle.svc_core.specs.Passes.{begin_room}
 use Rattle.svc_core.specs.Rooms.{tell_room, close_room, open_count, most_open}
@@ -93,8 +97,8 @@ pub record Visits (old new : CoreData) (before after : Actions) : Type 0 where
   pub spends : Spends (visit_room old) 0 before after
 
 -- the run ends: what is live is cut and closed
-pub record EndsRun (old new : CoreData) (before after : Actions) (end : StepEnd) : Type 0 where
+pub record EndsRun (old new : CoreData) (given left : Actions) (answer : StepEnd) : Type 0 where
   pub after : new ≡ with_end Served old
-  pub end : end ≡ Served
-  pub told : list_of after ≡ list_of before ++ end_told old.plan old.drain (numbers old.connections.live) (table_numbers old.endpoints)
-  pub room : spare before ≤ spare after + (most_open old + 3)
+  pub end : answer ≡ Served
+  pub told : list_of left ≡ list_of given ++ end_told old.plan old.drain (numbers old.connections.live) (table_numbers old.endpoints)
+  pub room : spare given ≤ spare left + (most_open old + 3)

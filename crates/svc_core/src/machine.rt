@@ -13,14 +13,12 @@ ghost use Rattle.svc_record.specs.Told.{TellsBoth};
 ghost use Rattle.svc_offer.specs.OfferEffects.{event_of};
 ghost use Rattle.svc_record.specs.Judging.{TellsJudged, judged_at, asked_filter};
 ghost use Rattle.svc_fds.specs.declared.encoding.Message.{Message};
-ghost use Rattle.svc_endpoints.specs.EndpointsState.{EndpointsStand, open_numbers as table_numbers};
-ghost use Rattle.svc_drain.specs.DrainEffects.{end_told};
-ghost use Rattle.svc_connections.specs.ConnectionsState.{numbers};
+ghost use Rattle.svc_endpoints.specs.EndpointsState.{EndpointsStand};
 ghost use Rattle.svc_core.specs.Copies.{TellsCopied, message_at, copy_at};
-ghost use Rattle.svc_core.specs.CoreData.{is_on, is_served, with_end};
+ghost use Rattle.svc_core.specs.CoreData.{is_on, is_served};
 ghost use Rattle.svc_core.specs.Passes.{may_start};
 ghost use Rattle.svc_core.specs.Stands.{StandsFor, HasNotBegun, Struck, Visited, Tried, MayCome, StepKeeps, BeginKeeps};
-ghost use Rattle.svc_core.specs.Steps.{MayStep, Steps, StepsOr, Ignores, Judges, Goes, Visits, finish_room, visit_room};
+ghost use Rattle.svc_core.specs.Steps.{MayStep, Steps, StepsOr, Ignores, Judges, Goes, Visits, EndsRun, finish_room, visit_room};
 ghost use Rattle.svc_core.specs.Signals.{offers_by, is_reached};
 ghost use Rattle.svc_core.specs.Rooms.{TellsWithin, KeepsRoom, tell_room, step_room, most_open};
 
@@ -239,11 +237,8 @@ impl Core {
 
     /// The live connections are cut, the live descriptors close, and the run ends.
     fn end_run(&mut self, actions: &mut Actions) -> StepEnd
-        requires room { most_open self.old + 3 ≤ spare actions.old }
-        ensures after { self.new ≡ with_end StepEnd.Served self.old }
-        ensures end { result ≡ StepEnd.Served }
-        ensures told { list_of actions.new ≡ list_of actions.old ++ end_told self.old.plan self.old.drain (numbers self.old.connections.live) (table_numbers self.old.endpoints) }
-        ensures room { spare actions.old ≤ spare actions.new + (most_open self.old + 3) }
+        requires { most_open self.old + 3 ≤ spare actions.old }
+        ensures { EndsRun self.old self.new actions.old actions.new result }
     {
         self.drain.shut_down(actions);
         self.connections.cut_all(actions);

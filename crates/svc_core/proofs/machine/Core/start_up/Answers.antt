@@ -17,8 +17,8 @@ returns-then-may_start c =
           (rw (← c.self.view_is) at (sym c.may_start.ensures ∙ c.if-may_start.true)) (rw c.deref.ensures.value at c.pass.ensures.passed);
       bare = c.pass.ensures.bare;
       spends =
-          let few = rw c.deref.ensures.value at c.pass.ensures.few in
-          let room = rw c.deref.ensures.value at c.pass.ensures.room in
+          let few = rw c.deref.ensures.value at c.pass.ensures.spends.few in
+          let room = rw c.deref.ensures.value at c.pass.ensures.spends.room in
           record { few = omega (arith, few); room = omega (arith, room) };
     })
 
