@@ -1,18 +1,26 @@
 -- What the rest of a step keeps, from its parts.
-use Rattle.std.proofs.Common.{ℕ, List, ◌≡◌, ◌≤◌, ◌+◌, ◌∙◌, ap, subst, arith, length, if◌then◌else◌}
+use Rattle.std.proofs.Common.{ℕ, List, [], ◌∷◌, ◌++◌, ◌≡◌, ◌≤◌, ◌+◌, ◌∙◌, refl, ap, subst, arith, length, map, length-append, if◌then◌else◌}
 use Rattle.std.specs.Prelude.{Option}
+use Rattle.std.proofs.lemmas.List.{length-map}
 use Rattle.svc_base.specs.Items.{list_of, spare}
 use Rattle.svc_fds.specs.declared.encoding.Message.{Message}
+use Rattle.svc_record.specs.declared.action.Action.{Action}
+use Rattle.svc_record.specs.declared.action.Action.TheVariants.{Cut, Close, Stop, Phase}
+use Rattle.svc_record.specs.declared.action.ExecutionPhase.TheVariants.{Terminated}
 use Rattle.svc_record.specs.declared.action.StepEnd.{StepEnd}
 use Rattle.svc_record.specs.Record.{Record, tell}
 use Rattle.svc_record.specs.Told.{Tells}
 use Rattle.svc_connections.specs.ConnectionsData.{ConnectionsData}
+use Rattle.svc_connections.specs.ConnectionsState.{numbers}
+use Rattle.svc_connections.specs.declared.stage.Connection.{Connection}
+use Rattle.svc_drain.specs.DrainEffects.{stop_after, end_told}
+use Rattle.svc_endpoints.specs.EndpointsState.{open_numbers}
 use Rattle.svc_endpoints.specs.declared.table.Open.{Open}
 use Rattle.svc_core.specs.CoreData.{CoreData}
 use Rattle.svc_core.specs.Copies.{TellsBare, copy_of}
 use Rattle.svc_core.specs.Rooms.{open_count, most_open}
 use Rattle.svc_core.specs.Stands.{StepRight}
-use Rattle.svc_core.specs.Steps.{Actions, Spends, Goes, Visits, finish_room}
+use Rattle.svc_core.specs.Steps.{Actions, Spends, Goes, Visits, EndsRun, finish_room}
 use Rattle.svc_core.proofs.CopyLemmas.{bare-none, bare-first, copied-bare}
 use Rattle.svc_core.proofs.RoomLemmas.{few-open}
 
@@ -46,11 +54,26 @@ then-goes {copy = copy} {before = before} {between = between} {after = after} ne
 }
 
 -- bootstrapping was completed or not, and the services were visited
-pub visits-spend : {core mid new : CoreData} {before between after : Actions} → mid.order ≡ core.order → mid.boot.begun ≡ core.boot.begun → most_open mid ≡ most_open core → Spends 1 0 before between → Visits mid new between after
+pub visits-spend : (core : CoreData) {mid new : CoreData} {before between after : Actions} → mid.order ≡ core.order → mid.boot.begun ≡ core.boot.begun → most_open mid ≡ most_open core → Spends 1 0 before between → Visits mid new between after
     → Spends (finish_room core) (most_open new + 10) before after
-visits-spend {core = core} {mid = mid} order begun open first visits =
+visits-spend core {mid = mid} order begun open first visits =
     let same = ap length order in
     let table = ap (λ (table : List Open). length table) visits.table in
     let live = ap (λ (cn : ConnectionsData). length cn.live) visits.connections in
     let begins = ap (λ begun. if begun then 0 else 4) begun in
     record { few = omega (arith, same, table, live, begins, open, first.few, visits.spends.few); room = omega (arith, same, table, live, begins, open, first.room, visits.spends.room) }
+
+-- the end of a run tells three actions, and closes and cuts what is live
+pub ended-few : {mid new : CoreData} {between after : Actions} {end : StepEnd} → EndsRun mid new between after end → length (list_of after) ≡ length (list_of between) + (most_open mid + 3)
+ended-few {mid = mid} {between = between} ends =
+    let told = ap (λ (actions : List Action). length actions) ends.told in
+    let all = length-append (list_of between) (end_told mid.plan mid.drain (numbers mid.connections.live) (open_numbers mid.endpoints)) in
+    let most = end-length (stop_after mid.plan mid.drain) mid.drain.moment (numbers mid.connections.live) (open_numbers mid.endpoints) in
+    let live = length-map mid.connections.live (λ (c : Connection). c.number) in
+    let table = length-map mid.endpoints.table (λ (o : Open). o.fd) in
+    omega (arith, told, all, most, live, table)
+  where
+    end-length : (n m : ℕ) (cs fds : List ℕ) → length (map Cut cs ++ (map Close fds ++ Stop n ∷ Phase Terminated m ∷ [])) ≡ length cs + (length fds + 2)
+    end-length n m [] [] = refl
+    end-length n m [] (fd ∷ fds) = let h = end-length n m [] fds in omega (arith, h)
+    end-length n m (c ∷ cs) fds = let h = end-length n m cs fds in omega (arith, h)

@@ -33,6 +33,7 @@ use Rattle.svc_core.proofs.StepLemmas.{step-by}
 use Rattle.svc_core.proofs.ConnectionLemmas.{deals-with, with_connections}
 use Rattle.svc_core.proofs.CopyLemmas.{bare-answer, bare-all, bare-none, copied-bare}
 use Rattle.svc_core.proofs.JudgedLemmas.{unjudged-copied}
+use Rattle.svc_core.proofs.FinishLemmas.{with_boot}
 use Rattle.svc_core.proofs.HeldLemmas.{Held, held-keeps, child-keeps}
 use Rattle.svc_core.proofs.SignalLemmas.{later-keeps}
 use Rattle.svc_core.proofs.RoomLemmas.{dealt-room, few-open}
@@ -41,6 +42,10 @@ use Rattle.svc_core.proofs.RoomLemmas.{dealt-room, few-open}
 pub opened : {old now new : CoreData} {e : Event} {before after : Actions} {end : StepEnd} → old ≡ now → MayStep now e before → (MayStep old e before → Steps old new e before after end) → Steps now new e before after end
 opened {new = new} {e = e} {before = before} {after = after} {end = end} is may step =
     subst (λ (core : CoreData). Steps core new e before after end) is (step (subst (λ (core : CoreData). MayStep core e before) (sym is) may))
+
+pub opened-same : {old now : CoreData} {e : Event} {before after : Actions} {end : StepEnd} → old ≡ now → MayStep now e before → (MayStep old e before → Steps old old e before after end) → Steps now now e before after end
+opened-same {e = e} {before = before} {after = after} {end = end} is may step =
+    subst (λ (core : CoreData). Steps core core e before after end) is (step (subst (λ (core : CoreData). MayStep core e before) (sym is) may))
 
 pub begin-few : (b : BootData) → begin_room b ≤ 4
 begin-few b = by b.begun
@@ -118,7 +123,7 @@ dealt {core = core} {e = e} {before = before} {after = after} cn told on event d
 pub held : {core mid new : CoreData} {e : Event} {before : Actions} {end : StepEnd} → new ≡ with_end (end_of mid.plan mid.boot) mid → end ≡ end_of mid.plan mid.boot
     → mid.plan ≡ core.plan → mid.order ≡ core.order → most_open mid ≡ most_open core → IsInOrder mid.plan mid.order → ((q : Record) → Right core.plan q → StandsFor core q → Held mid (Got e ∷ q))
     → Steps core new e before before end
-held {core = core} {mid = mid} {e = e} {before = before} after ends plan order open in_order stays =
+held {core = core} {mid = mid} {new = new} {e = e} {before = before} {end = end} after ends plan order open in_order stays =
     let few = few-open (with_end (end_of mid.plan mid.boot) mid) in
     rw (after, ends)
     (record {
@@ -142,11 +147,11 @@ child-begins {core = core} {mid = mid} {new = new} {before = before} {after = af
     }
 
 -- a daemon has asked for its fork
-pub forks : {core mid new : CoreData} {before after : Actions} {end : StepEnd} → new ≡ with_end (end_of mid.plan mid.boot) mid → end ≡ end_of mid.plan mid.boot → mid.plan ≡ core.plan → mid.order ≡ core.order → most_open mid ≡ most_open core
-    → BeginKeeps (with_end (end_of mid.plan mid.boot) mid) (list_of before) (list_of after) (end_of mid.plan mid.boot) → TellsBare (list_of before) (list_of after) → Spends 1 0 before after → Begins core new before after end
-forks {mid = mid} after ends plan order open begins bare spends =
-    let few = few-open (with_end (end_of mid.plan mid.boot) mid) in
-    rw (after, ends) (record { plan = plan; kept = begins; bare = bare; spends = record { few = omega (arith, few, open, spends.few); room = omega (arith, few, open, spends.room) } })
+pub forks : {core new : CoreData} {before after : Actions} {end : StepEnd} (b : BootData) → new ≡ with_end (end_of core.plan b) (with_boot b core) → end ≡ end_of core.plan b
+    → BeginKeeps (with_end (end_of core.plan b) (with_boot b core)) (list_of before) (list_of after) (end_of core.plan b) → TellsBare (list_of before) (list_of after) → Spends 1 0 before after → Begins core new before after end
+forks {core = core} {new = new} {end = end} b after ends begins bare spends =
+    let few = few-open (with_end (end_of core.plan b) (with_boot b core)) in
+    rw (after, ends) (record { plan = refl; kept = begins; bare = bare; spends = record { few = omega (arith, few, spends.few); room = omega (arith, few, spends.room) } })
 
 -- a signal after the first
 pub later-taken : {core : CoreData} {actions : Actions} (kind : ShutdownSignal) → is_on core.end ≡ true → core.drain.running ≡ true → is_some core.drain.signal ≡ true → Steps core core (Signal kind) actions actions core.end

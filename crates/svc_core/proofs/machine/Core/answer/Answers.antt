@@ -9,7 +9,7 @@ use Rattle.svc_connections.specs.ConnectionsState.{numbers}
 use Rattle.svc_core.proofs.AnswerLemmas.{answer-on, answer-end}
 use Rattle.svc_core.proofs.CopyLemmas.{answer-copied, bare-last, bare-these, end-bare}
 use Rattle.svc_core.proofs.RoomLemmas.{few-open}
-use Rattle.svc_core.proofs.GoForms.{opened-goes}
+use Rattle.svc_core.proofs.GoForms.{opened-goes, ended-few}
 use Rattle.svc_core.proofs.machine.Core.answer.Goals as goal
 
 pub returns-then-passed : goal.returns-then-passed
@@ -26,7 +26,7 @@ returns-then-passed c = opened-goes (λ core. Tried core c.args.copy) (λ core. 
   copied = bare-last (copy_of c.args.copy) (list_of c.args.actions.now) (list_of c.ask.new.actions) (list_of c.end_run.new.actions)
       (answer-copied c.args.copy (list_of c.args.actions.now) (list_of c.go_on-passed.new.actions) (list_of c.ask.new.actions) c.self.inside.offer c.moment.result c.self.inside.drain c.over_since-over.result c.go_on-passed.ensures.told c.ask.ensures.told)
       (bare-these (list_of c.ask.new.actions) (list_of c.end_run.new.actions) _ c.end_run.ensures.told (end-bare c.self.inside.plan c.go_on-passed.new.self (numbers c.self.inside.connections.parts.live) (open_numbers c.self.inside.endpoints.parts)));
-  spends = rw c.end_run.ensures.after (record { few = omega arith; room = omega arith });
+  spends = let few = ended-few c.end_run.ensures in rw c.end_run.ensures.after (record { few = omega (arith, few); room = omega arith });
 })
 
 pub returns : goal.returns

@@ -16,7 +16,7 @@ pub returns : goal.returns
 returns c = opened-goes (λ core. Struck core c.args.copy) finish_room c.self.view_is (then-goes c.go_on.ensures c.start_up.ensures.plan
     (bare-then (list_of c.args.actions.now) (list_of c.complete.new.actions) (list_of c.start_up.new.actions)
     (bare-these (list_of c.args.actions.now) (list_of c.complete.new.actions) _ c.complete.ensures.told (complete-bare c.complete.result c.moment.result)) c.start_up.ensures.bare)
-    (visits-spend refl (ap (λ (b : BootData). b.begun) c.complete.ensures.after) refl (record { few = omega arith; room = omega arith }) c.start_up.ensures)
+    (visits-spend _ refl (ap (λ (b : BootData). b.begun) c.complete.ensures.after) refl (record { few = omega arith; room = omega arith }) c.start_up.ensures)
     (follows-on-at _ _ _ _ c.args.copy c.end-self-inside.result c.go_on.result c.complete.new.self
     (list_of c.args.actions.now) (list_of c.complete.new.actions) (list_of c.start_up.new.actions) (list_of c.go_on.new.actions) c.complete.result
     c.end-self-inside.ensures (sym c.is_on.ensures ∙ c.if-not-is_on.false) c.complete.ensures.due c.complete.ensures.after

@@ -1,17 +1,11 @@
-use Rattle.std.proofs.Common.{refl, sym, ap, subst, ◌∙◌, arith}
+use Rattle.std.proofs.Common.{refl, sym, ap, ◌∙◌, arith}
 use Rattle.std.specs.Prelude.{is_some}
-use Rattle.svc_record.specs.declared.event.Event.TheVariants.{Signal}
-use Rattle.svc_core.specs.CoreData.{CoreData}
-use Rattle.svc_core.specs.Steps.{Steps}
 use Rattle.svc_core.proofs.SignalLemmas.{strike-offered, strike-unoffered}
-use Rattle.svc_core.proofs.StepForms.{opened, silently-taken, later-taken}
+use Rattle.svc_core.proofs.StepForms.{opened, opened-same, silently-taken, later-taken}
 use Rattle.svc_core.proofs.machine.Core.step_signal.Goals as goal
 
 pub returns-then-is_some-clause-steps : goal.returns-then-is_some-clause-steps
-returns-then-is_some-clause-steps c =
-    let may = rw (← c.self.view_is) at c.requires in
-    subst (λ (core : CoreData). Steps core core (Signal c.args.kind) c.args.actions.now c.args.actions.now c.self.inside.end) c.self.view_is
-    (later-taken c.args.kind may.on may.may (ap (λ x. is_some x) (sym c.signal.ensures) ∙ sym c.is_some.ensures ∙ c.if-is_some.true))
+returns-then-is_some-clause-steps c = opened-same c.self.view_is c.requires (λ may. later-taken c.args.kind may.on may.may (ap (λ x. is_some x) (sym c.signal.ensures) ∙ sym c.is_some.ensures ∙ c.if-is_some.true))
 
 pub returns-then-offers_by-clause-steps : goal.returns-then-offers_by-clause-steps
 returns-then-offers_by-clause-steps c = opened c.self.view_is c.requires (λ may. silently-taken c.finish.ensures refl refl (omega arith)
