@@ -135,7 +135,8 @@ impl MemoryFiles {
     }
 
     fn note(&mut self, alloc: Global, path: &str, answer: &Result<Text, FileError>)
-        ensures called { Adds (told self.old.whole self.old.calls.items) (told self.new.whole self.new.calls.items) (record { path = path.now; answer = answer.now } ∷ []) }
+        ensures called { Adds (told self.old.whole self.old.calls.items) (told self.new.whole self.new.calls.items)
+            (record { path = path.now; answer = answer.now } ∷ []) }
         ensures count { self.new.count ≡ self.old.count }
     {
         let Ok(call) = new_call(alloc, path, answer) else {

@@ -33,7 +33,8 @@ impl Model for Book {
 
     ghost view = { λ b. book b.core.plan (list_of b.opening) b.limit b.posts.items };
 
-    ghost invariant = { λ b. StandsFor b.core (record_of (book b.core.plan (list_of b.opening) b.limit b.posts.items) b.posts.items) × IsLegal (book b.core.plan (list_of b.opening) b.limit b.posts.items) b.posts.items × (length b.posts.items ≤ b.limit) × (b.limit < 2 ^ 62) };
+    ghost invariant = { λ b. StandsFor b.core (record_of (book b.core.plan (list_of b.opening) b.limit b.posts.items) b.posts.items)
+        × IsLegal (book b.core.plan (list_of b.opening) b.limit b.posts.items) b.posts.items × (length b.posts.items ≤ b.limit) × (b.limit < 2 ^ 62) };
 }
 
 /// Why a book takes no post.

@@ -72,7 +72,8 @@ fn tell_judged(c: u64, peer: &Peer, said: bool, actions: &mut Actions)
 pub fn take_accept_failed(s: u32, i: u32, number: u32, actions: &mut Actions)
     requires room { 1 ≤ spare actions.old }
     ensures told { list_of actions.new ≡ list_of actions.old ++ rest_told s i number }
-    ensures stands { (p : Plan) (d : ConnectionsData) (q : Record) → is_endpoint p s i ≡ true → ConnectionsStand p d q → ConnectionsStand p d (tell (Got (AcceptFailed s i number) ∷ q) (rest_told s i number)) }
+    ensures stands { (p : Plan) (d : ConnectionsData) (q : Record) → is_endpoint p s i ≡ true → ConnectionsStand p d q
+        → ConnectionsStand p d (tell (Got (AcceptFailed s i number) ∷ q) (rest_told s i number)) }
     ensures room { spare actions.old ≤ spare actions.new + 1 }
     ensures few { length (list_of actions.new) ≤ length (list_of actions.old) + 1 }
 {
@@ -175,7 +176,9 @@ impl Connections {
         requires room { 2 ≤ spare actions.old }
         ensures after { self.new.parts ≡ arrived c peer.now said self.old.parts }
         ensures told { list_of actions.new ≡ list_of actions.old ++ arrived_told c peer.now said settings }
-        ensures stands { (p : Plan) (s i : ℕ) (q : Record) → settings ≡ settings_list p s i → (has_filter p s i ≡ false → said ≡ true) → ConnectionsStand p self.old.parts q → ConnectionsStand p self.new.parts (tell (Got (Arrived s i c peer.now) ∷ q) (arrived_told c peer.now said settings)) }
+        ensures stands { (p : Plan) (s i : ℕ) (q : Record) → settings ≡ settings_list p s i → (has_filter p s i ≡ false → said ≡ true)
+            → ConnectionsStand p self.old.parts q
+            → ConnectionsStand p self.new.parts (tell (Got (Arrived s i c peer.now) ∷ q) (arrived_told c peer.now said settings)) }
         ensures room { spare actions.old ≤ spare actions.new + 2 }
         ensures few { length (list_of actions.new) ≤ length (list_of actions.old) + 2 }
     {
@@ -207,7 +210,8 @@ impl Connections {
         requires room { 1 ≤ spare actions.old }
         ensures after { self.new.parts ≡ gone_on c ok Shaking self.old.parts }
         ensures told { list_of actions.new ≡ list_of actions.old ++ set_told c ok }
-        ensures stands { (p : Plan) (q : Record) → ConnectionsStand p self.old.parts q → ConnectionsStand p self.new.parts (tell (Got (Set c ok) ∷ q) (set_told c ok)) }
+        ensures stands { (p : Plan) (q : Record) → ConnectionsStand p self.old.parts q
+            → ConnectionsStand p self.new.parts (tell (Got (Set c ok) ∷ q) (set_told c ok)) }
         ensures room { spare actions.old ≤ spare actions.new + 1 }
         ensures few { length (list_of actions.new) ≤ length (list_of actions.old) + 1 }
     {
@@ -225,7 +229,8 @@ impl Connections {
         requires room { 1 ≤ spare actions.old }
         ensures after { self.new.parts ≡ gone_on c ok Serving self.old.parts }
         ensures told { list_of actions.new ≡ list_of actions.old ++ shaken_told c ok }
-        ensures stands { (p : Plan) (q : Record) → ConnectionsStand p self.old.parts q → ConnectionsStand p self.new.parts (tell (Got (Shaken c ok) ∷ q) (shaken_told c ok)) }
+        ensures stands { (p : Plan) (q : Record) → ConnectionsStand p self.old.parts q
+            → ConnectionsStand p self.new.parts (tell (Got (Shaken c ok) ∷ q) (shaken_told c ok)) }
         ensures room { spare actions.old ≤ spare actions.new + 1 }
         ensures few { length (list_of actions.new) ≤ length (list_of actions.old) + 1 }
     {

@@ -182,7 +182,11 @@ impl Endpoints {
     pub(crate) fn take_rest(&mut self, words: Vec<Text>, fds: &[u64], out: &NumberSet)
         requires new { all_new self.old.parts.came fds.now ≡ true }
         requires room { length fds.now ≤ self.old.room }
-        ensures { self.new.parts ≡ record self.old.parts { table = put_opens (without_numbers (list_of out.now) (opens_of fds.now words.items)) self.old.parts.table; came = put_numbers fds.now self.old.parts.came } }
+        ensures { self.new.parts ≡ record self.old.parts {
+          table = put_opens
+              (without_numbers (list_of out.now) (opens_of fds.now words.items)) self.old.parts.table;
+          came = put_numbers fds.now self.old.parts.came;
+        } }
     {
         self.table.add_rest(words, fds, out);
         add_all(&mut self.came, fds);

@@ -163,7 +163,8 @@ fn all_failed(plan: &Plan, failed: &[bool], address: &str) -> bool
 /// Some service names the address, and all that name it have failed.
 pub(crate) fn is_abandoned(plan: &Plan, failed: &[bool], address: &str) -> bool
     requires flags { length failed.now ≡ service_count plan.now }
-    ensures { result ≡ (list_any (λ s. names plan.now s address.now) (services plan.now) && list_all (λ s. not (names plan.now s address.now) || slice_index_or failed.now s false) (services plan.now)) }
+    ensures { result ≡ (list_any (λ s. names plan.now s address.now) (services plan.now)
+        && list_all (λ s. not (names plan.now s address.now) || slice_index_or failed.now s false) (services plan.now)) }
 {
     is_named(plan, address) && all_failed(plan, failed, address)
 }

@@ -69,10 +69,14 @@ impl Endpoints {
         ensures untold { OnErr result (actions.new ≡ actions.old) }
         ensures good { IfOk result (λ good. good ≡ is_read (decode bytes.now (length fds.now))) }
         ensures sized { IfOk result (λ good. IsEndpointsSized plan.now self.new.parts) }
-        ensures stands { IfOk result (λ good. Tells (list_of actions.old) (list_of actions.new) (λ told. IsGivingUp told × (good ≡ false → told ≡ []) × ((q : Record) → EndpointsStand plan.now self.old.parts q → EndpointsStand plan.now self.new.parts (tell (Got (Received bytes.now fds.now) ∷ q) told)))) }
-        ensures told { IfOk result (λ good. list_of actions.new ≡ list_of actions.old ++ map Close (turned_away plan.now self.old.parts (words_or_none (decode bytes.now (length fds.now))) fds.now)) }
+        ensures stands { IfOk result (λ good. Tells (list_of actions.old) (list_of actions.new) (λ told. IsGivingUp told × (good ≡ false → told ≡ [])
+            × ((q : Record) → EndpointsStand plan.now self.old.parts q
+            → EndpointsStand plan.now self.new.parts (tell (Got (Received bytes.now fds.now) ∷ q) told)))) }
+        ensures told { IfOk result (λ good. list_of actions.new ≡ list_of actions.old
+            ++ map Close (turned_away plan.now self.old.parts (words_or_none (decode bytes.now (length fds.now))) fds.now)) }
         ensures room { IfOk result (λ good. spare actions.old + length self.new.parts.table ≤ spare actions.new + length self.old.parts.table + length fds.now) }
-        ensures few { IfOk result (λ good. length (list_of actions.new) + length self.new.parts.table ≤ length (list_of actions.old) + length self.old.parts.table + length fds.now) }
+        ensures few { IfOk result (λ good. length (list_of actions.new) + length self.new.parts.table ≤ length
+            (list_of actions.old) + length self.old.parts.table + length fds.now) }
     {
         let (good, words) = read(alloc, bytes, fds.len())?;
         let mut out = NumberSet::new(alloc);

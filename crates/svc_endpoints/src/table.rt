@@ -266,8 +266,10 @@ impl Table {
         requires sized { AreStatesSized plan.now rows.now failed.now }
         requires room { length (list_of self.old) ≤ spare actions.old }
         ensures after { list_of self.new ≡ without_gone plan.now kept.now (states_of rows.now failed.now loops.now) (list_of self.old) }
-        ensures told { list_of actions.new ≡ list_of actions.old ++ map Close (gone_numbers plan.now kept.now (states_of rows.now failed.now loops.now) (list_of self.old)) }
-        ensures room { spare actions.old ≤ spare actions.new + length (gone_numbers plan.now kept.now (states_of rows.now failed.now loops.now) (list_of self.old)) }
+        ensures told { list_of actions.new ≡ list_of actions.old
+            ++ map Close (gone_numbers plan.now kept.now (states_of rows.now failed.now loops.now) (list_of self.old)) }
+        ensures room { spare actions.old ≤ spare actions.new + length
+            (gone_numbers plan.now kept.now (states_of rows.now failed.now loops.now) (list_of self.old)) }
     {
         close_done(&self.entries, plan, rows, failed, loops, kept, actions);
         remove_done(&mut self.entries, plan, rows, failed, loops, kept);

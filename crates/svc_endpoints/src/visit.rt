@@ -33,7 +33,9 @@ impl Endpoints {
         requires service { s < service_count plan.now }
         requires room { 0 < spare actions.old }
         ensures sized { IsEndpointsSized plan.now self.new.parts }
-        ensures visited { Tells (list_of actions.old) (list_of actions.new) (λ told. IsAskOf s told × ((q : Record) → moment ≡ now q → started ≡ is_started q s → EndpointsStand plan.now self.old.parts q → Visited plan.now self.new.parts s q told)) }
+        ensures visited { Tells (list_of actions.old) (list_of actions.new) (λ told. IsAskOf s told
+            × ((q : Record) → moment ≡ now q → started ≡ is_started q s → EndpointsStand plan.now self.old.parts q
+            → Visited plan.now self.new.parts s q told)) }
         ensures table { self.new.parts.table ≡ self.old.parts.table }
         ensures failed { self.new.parts.failed ≡ self.old.parts.failed }
         ensures came { self.new.parts.came ≡ self.old.parts.came }

@@ -207,7 +207,15 @@ impl<J: Job> JobHost<J> {
         requires room { 0 < self.old.spare }
         requires next { slice_get self.old.items self.old.given ≡ Some (items_given.Event (events.Moment moment)) }
         requires none_waits { owing (periods_of self.old.plans) self.old.entries ≡ [] }
-        ensures given { self.new ≡ record self.old { jobs = self.new.jobs; given = self.old.given + 1; entries = Got (events.Moment moment) ∷ self.old.entries; runs = self.new.runs; last = Some (events.Moment moment); spare = self.new.spare } }
+        ensures given { self.new ≡ record self.old {
+          jobs = self.new.jobs;
+          given = self.old.given + 1;
+          entries = Got
+              (events.Moment moment) ∷ self.old.entries;
+          runs = self.new.runs;
+          last = Some (events.Moment moment);
+          spare = self.new.spare;
+        } }
         ensures room { self.old.spare ≤ self.new.spare + 1 }
     {
         self.given += 1;
@@ -220,7 +228,13 @@ impl<J: Job> JobHost<J> {
         requires room { 0 < self.old.spare }
         requires next { slice_get self.old.items self.old.given ≡ Some (items_given.Event (events.Signal kind)) }
         requires none_waits { owing (periods_of self.old.plans) self.old.entries ≡ [] }
-        ensures given { self.new ≡ record self.old { given = self.old.given + 1; entries = Got (events.Signal kind) ∷ self.old.entries; last = Some (events.Signal kind); spare = self.new.spare } }
+        ensures given { self.new ≡ record self.old {
+          given = self.old.given + 1;
+          entries = Got (events.Signal kind) ∷ self.old.entries;
+          last = Some
+              (events.Signal kind);
+          spare = self.new.spare;
+        } }
         ensures room { self.old.spare ≤ self.new.spare + 1 }
     {
         self.given += 1;

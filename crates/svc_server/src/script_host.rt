@@ -58,7 +58,8 @@ impl<B> Model for ScriptHost<B> {
       last = last_event (list_of a.entries) a.last;
     } };
 
-    ghost invariant = { λ a. KeepsScript (list_of a.answers) (into_iter_items a.script) (into_iter_len a.script) (reverse (list_of a.entries)) (list_of a.phases) a.faults a.idles };
+    ghost invariant = { λ a. KeepsScript (list_of a.answers) (into_iter_items a.script) (into_iter_len a.script) (reverse (list_of a.entries))
+        (list_of a.phases) a.faults a.idles };
 }
 
 impl<B: ServiceWithDependents> ScriptHost<B> {

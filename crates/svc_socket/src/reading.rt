@@ -71,7 +71,8 @@ fn place(text: &[u8], separator: u8) -> Option<usize>
 
 /// What stands before the first separator, and what follows it.
 fn cut(text: &[u8], separator: u8) -> Option<(&[u8], &[u8])>
-    ensures { MatchOption result (slice_split (λ b. b == separator) text.now ≡ text.now ∷ []) (λ pair. slice_split (λ b. b == separator) text.now ≡ pair.0.now ∷ slice_split (λ b. b == separator) pair.1.now) }
+    ensures { MatchOption result (slice_split (λ b. b == separator) text.now ≡ text.now ∷ [])
+        (λ pair. slice_split (λ b. b == separator) text.now ≡ pair.0.now ∷ slice_split (λ b. b == separator) pair.1.now) }
 {
     let Some(end) = place(text, separator) else {
         return None;

@@ -115,7 +115,8 @@ impl Bootstrap {
     /// over. The parent is notified where its number was set and the run doesn't test. The caller puts
     /// what came into the table. A second call tells and changes nothing.
     pub fn bootstrap(&mut self, alloc: Global, actions: &mut Actions) -> Result<StepEnd, NoMemory>
-        ensures told { OnOk result (list_of actions.new ≡ list_of actions.old ++ told_from self.old.test (is_some self.old.parent) self.old.upgrade self.old.boot 0) }
+        ensures told { OnOk result (list_of actions.new ≡ list_of actions.old
+            ++ told_from self.old.test (is_some self.old.parent) self.old.upgrade self.old.boot 0) }
         ensures after { OnOk result (self.new ≡ record self.old { boot = begun_from self.old.test self.old.upgrade self.old.boot }) }
         ensures end { IfOk result (λ end. end ≡ end_from self.new.test self.new.boot) }
         ensures once { self.old.boot.begun ≡ true → (self.new ≡ self.old) × (list_of actions.new ≡ list_of actions.old) }

@@ -56,7 +56,8 @@ fn escaped(b: u8) -> Option<u8>
 
 /// The byte that the front of a text in double quotes stands for, and what follows it.
 fn meant(first: u8, after: &[u8]) -> Option<(u8, &[u8])>
-    ensures next { (first == 34) ≡ false → MatchOption result (double (first ∷ after.now) ≡ None) (λ m. double (first ∷ after.now) ≡ behind (m.0 ∷ []) (double m.1.now)) }
+    ensures next { (first == 34) ≡ false
+        → MatchOption result (double (first ∷ after.now) ≡ None) (λ m. double (first ∷ after.now) ≡ behind (m.0 ∷ []) (double m.1.now)) }
     ensures shorter { IfSome result (λ m. length m.1.now ≤ length after.now) }
 {
     if first != b'\\' {
