@@ -2,7 +2,7 @@
 use Rattle.std.proofs.Common.{ℕ, List, [], ◌∷◌, ◌++◌, ◌≡◌, ◌≤◌, ◌+◌, ◌∙◌, refl, ap, subst, arith, length, map, length-append, if◌then◌else◌}
 use Rattle.std.specs.Prelude.{Option}
 use Rattle.std.proofs.lemmas.List.{length-map}
-use Rattle.svc_base.specs.Items.{list_of, spare}
+use Rattle.svc_base.specs.Items.{list_of}
 use Rattle.svc_fds.specs.declared.encoding.Message.{Message}
 use Rattle.svc_record.specs.declared.action.Action.{Action}
 use Rattle.svc_record.specs.declared.action.Action.TheVariants.{Cut, Close, Stop, Phase}
@@ -18,7 +18,7 @@ use Rattle.svc_endpoints.specs.EndpointsState.{open_numbers}
 use Rattle.svc_endpoints.specs.declared.table.Open.{Open}
 use Rattle.svc_core.specs.CoreData.{CoreData}
 use Rattle.svc_core.specs.Copies.{TellsBare, copy_of}
-use Rattle.svc_core.specs.Rooms.{open_count, most_open}
+use Rattle.svc_core.specs.Rooms.{most_open}
 use Rattle.svc_core.specs.Stands.{StepRight}
 use Rattle.svc_core.specs.Steps.{Actions, Spends, Goes, Visits, EndsRun, finish_room}
 use Rattle.svc_core.proofs.CopyLemmas.{bare-none, bare-first, copied-bare}
@@ -56,12 +56,12 @@ then-goes {copy = copy} {before = before} {between = between} {after = after} ne
 -- bootstrapping was completed or not, and the services were visited
 pub visits-spend : (core : CoreData) {mid new : CoreData} {before between after : Actions} → mid.order ≡ core.order → mid.boot.begun ≡ core.boot.begun → most_open mid ≡ most_open core → Spends 1 0 before between → Visits mid new between after
     → Spends (finish_room core) (most_open new + 10) before after
-visits-spend core {mid = mid} order begun open first visits =
+visits-spend core {mid = mid} order begun as_many first visits =
     let same = ap length order in
     let table = ap (λ (table : List Open). length table) visits.table in
     let live = ap (λ (cn : ConnectionsData). length cn.live) visits.connections in
-    let begins = ap (λ begun. if begun then 0 else 4) begun in
-    record { few = omega (arith, same, table, live, begins, open, first.few, visits.spends.few); room = omega (arith, same, table, live, begins, open, first.room, visits.spends.room) }
+    let begins = ap {B = ℕ} (λ begun. if begun then 0 else 4) begun in
+    record { few = omega (arith, same, table, live, begins, as_many, first.few, visits.spends.few); room = omega (arith, same, table, live, begins, as_many, first.room, visits.spends.room) }
 
 -- the end of a run tells three actions, and closes and cuts what is live
 pub ended-few : {mid new : CoreData} {between after : Actions} {end : StepEnd} → EndsRun mid new between after end → length (list_of after) ≡ length (list_of between) + (most_open mid + 3)

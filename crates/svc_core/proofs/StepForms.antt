@@ -1,9 +1,9 @@
 -- What an event's step keeps, from what the event leaves and what follows it.
-use Rattle.std.proofs.Common.{ℕ, Bool, true, false, List, [], ◌++◌, ◌≡◌, ◌≤◌, ◌+◌, refl, ap, sym, ◌∙◌, subst, arith, length, append-nil, if◌then◌else◌}
+use Rattle.std.proofs.Common.{Bool, true, false, List, [], ◌∷◌, ◌++◌, ◌≡◌, ◌≤◌, ◌+◌, refl, ap, sym, ◌∙◌, subst, arith, length, append-nil, if◌then◌else◌}
 use Rattle.std.specs.Prelude.{Option, None, Result, Ok, Err, OnOk, is_some}
 use Rattle.std.specs.List.{list_all}
 use Rattle.svc_base.specs.declared.memory.NoMemory.{NoMemory}
-use Rattle.svc_base.specs.Items.{list_of, spare}
+use Rattle.svc_base.specs.Items.{list_of}
 use Rattle.svc_fds.specs.declared.encoding.Message.{Message}
 use Rattle.svc_record.specs.declared.entry.Entry.TheVariants.{Got}
 use Rattle.svc_record.specs.declared.action.StepEnd.{StepEnd}
@@ -120,38 +120,38 @@ dealt {core = core} {e = e} {before = before} {after = after} cn told on event d
     }
 
 -- an event while the fork is awaited, or to a parent
-pub held : {core mid new : CoreData} {e : Event} {before : Actions} {end : StepEnd} → new ≡ with_end (end_of mid.plan mid.boot) mid → end ≡ end_of mid.plan mid.boot
+pub held : {core mid new : CoreData} {e : Event} {before : Actions} {end : StepEnd} → new ≡ with_end (end_of mid.plan mid.boot) mid → end ≡ new.end
     → mid.plan ≡ core.plan → mid.order ≡ core.order → most_open mid ≡ most_open core → IsInOrder mid.plan mid.order → ((q : Record) → Right core.plan q → StandsFor core q → Held mid (Got e ∷ q))
     → Steps core new e before before end
-held {core = core} {mid = mid} {new = new} {e = e} {before = before} {end = end} after ends plan order open in_order stays =
+held {core = core} {mid = mid} {new = new} {e = e} {before = before} {end = end} after ends plan order as_many in_order stays =
     let few = few-open (with_end (end_of mid.plan mid.boot) mid) in
-    rw (after, ends)
+    rw (ends, after)
     (record {
       plan = plan;
       kept = held-keeps core mid e (list_of before) in_order stays;
       copied = copied-bare (copy_at core e) (list_of before) (list_of before) (bare-none (list_of before));
-      spends = record { few = omega (arith, few, open); room = omega (arith, few, open) };
+      spends = record { few = omega (arith, few, as_many); room = omega (arith, few, as_many) };
     })
 
 -- the process is the child, and begins its run
 pub child-begins : {core mid new : CoreData} {before after : Actions} {end : StepEnd} → Goes (MayBootstrap mid) (bootstrap_room mid) mid new None before after end
     → mid.plan ≡ core.plan → mid.order ≡ core.order → most_open mid ≡ most_open core → ((q : Record) → Right core.plan q → StandsFor core q → MayBootstrap mid (Got (Side Child) ∷ q))
     → Steps core new (Side Child) before after end
-child-begins {core = core} {mid = mid} {new = new} {before = before} {after = after} {end = end} next plan order open may =
+child-begins {core = core} {mid = mid} {new = new} {before = before} {after = after} {end = end} next plan order as_many may =
     let same = ap length order in
     record {
       plan = next.plan ∙ plan;
       kept = child-keeps core mid new (list_of before) (list_of after) end may next.kept;
       copied = copied-bare (copy_at core (Side Child)) (list_of before) (list_of after) (bare-all (list_of before) (list_of after) next.copied);
-      spends = record { few = omega (arith, same, open); room = omega (arith, same, open) };
+      spends = record { few = omega (arith, same, as_many); room = omega (arith, same, as_many) };
     }
 
 -- a daemon has asked for its fork
-pub forks : {core new : CoreData} {before after : Actions} {end : StepEnd} (b : BootData) → new ≡ with_end (end_of core.plan b) (with_boot b core) → end ≡ end_of core.plan b
+pub forks : {core new : CoreData} {before after : Actions} {end : StepEnd} (b : BootData) → new ≡ with_end (end_of core.plan b) (with_boot b core) → end ≡ new.end
     → BeginKeeps (with_end (end_of core.plan b) (with_boot b core)) (list_of before) (list_of after) (end_of core.plan b) → TellsBare (list_of before) (list_of after) → Spends 1 0 before after → Begins core new before after end
 forks {core = core} {new = new} {end = end} b after ends begins bare spends =
     let few = few-open (with_end (end_of core.plan b) (with_boot b core)) in
-    rw (after, ends) (record { plan = refl; kept = begins; bare = bare; spends = record { few = omega (arith, few, spends.few); room = omega (arith, few, spends.room) } })
+    rw (ends, after) (record { plan = refl; kept = begins; bare = bare; spends = record { few = omega (arith, few, spends.few); room = omega (arith, few, spends.room) } })
 
 -- a signal after the first
 pub later-taken : {core : CoreData} {actions : Actions} (kind : ShutdownSignal) → is_on core.end ≡ true → core.drain.running ≡ true → is_some core.drain.signal ≡ true → Steps core core (Signal kind) actions actions core.end

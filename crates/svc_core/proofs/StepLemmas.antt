@@ -410,12 +410,15 @@ pub strike-answer : (core : CoreData) (e : Event) (d : EndpointsData) (before af
 strike-answer core e d before after on apart plain asks other word fit gave = record {
   told = gave.told;
   appended = gave.appended;
-  kept = (gave.kept.0, λ q right stands.
-      strike-plain core q e right stands on (fit q stands) plain asks (no-fork e other) core.starts d core.boot gave.told apart gave.kept.0
-      (starts-got core.plan core.starts q e word stands.starts)
-      (gave.kept.1 q (drain-of core q stands on).moment_is (on-offer core.plan core.offer q (offer-of core q stands on)) (ends-of core q stands on))
-      (foreign.stands-got core.plan core.boot q e other stands.boot) refl refl refl
-      (λ m. not-ended core.plan core.boot (tell (Got e ∷ q) gave.told) (on-boot core q stands on)));
+  kept = (
+    gave.kept.0,
+    λ q right stands.
+        strike-plain core q e right stands on (fit q stands) plain asks (no-fork e other) core.starts d core.boot gave.told apart gave.kept.0
+        (starts-got core.plan core.starts q e word stands.starts)
+        (gave.kept.1 q (drain-of core q stands on).moment_is (on-offer core.plan core.offer q (offer-of core q stands on)) (ends-of core q stands on))
+        (foreign.stands-got core.plan core.boot q e other stands.boot) refl refl refl
+        (λ m. not-ended core.plan core.boot (tell (Got e ∷ q) gave.told) (on-boot core q stands on)),
+  );
 }
 
 -- a law that needs no moment, and one that doesn't look at the offer
@@ -443,11 +446,14 @@ pub strike-received : (core : CoreData) (bytes fds : List ℕ) (good : Bool) (d 
 strike-received core bytes fds good d b before after on may read now_boot boots gave = record {
   told = gave.told;
   appended = gave.appended;
-  kept = (gave.kept.0, λ q right stands.
-      strike-plain core q (Received bytes fds) right stands on (fits-received core q bytes fds on may stands) refl refl refl core.starts d b gave.told refl gave.kept.0
-      (starts-got core.plan core.starts q (Received bytes fds) refl stands.starts)
-      (gave.kept.2 q (ends-of core q stands on)) (boots q stands.boot) (ap (λ (x : BootData). x.fork) now_boot) (ap (λ (x : BootData). x.begun) now_boot) (ap (λ (x : BootData). x.complete) now_boot)
-      (by good refl q stands));
+  kept = (
+    gave.kept.0,
+    λ q right stands.
+        strike-plain core q (Received bytes fds) right stands on (fits-received core q bytes fds on may stands) refl refl refl core.starts d b gave.told refl gave.kept.0
+        (starts-got core.plan core.starts q (Received bytes fds) refl stands.starts)
+        (gave.kept.2 q (ends-of core q stands on)) (boots q stands.boot) (ap (λ (x : BootData). x.fork) now_boot) (ap (λ (x : BootData). x.begun) now_boot) (ap (λ (x : BootData). x.complete) now_boot)
+        (by good refl q stands),
+  );
 }
   where
     by : (c : Bool) → good ≡ c → (q : Record) → StandsFor core q → MayEnd core.plan (tell (Got (Received bytes fds) ∷ q) gave.told) → OnFalse (is_on (end_of core.plan b)) (EndedSo core.plan (tell (Got (Received bytes fds) ∷ q) gave.told))
@@ -465,12 +471,15 @@ pub strike-loop : (core : CoreData) (s i j : ℕ) (d : EndpointsData) (before af
 strike-loop core s i j d before after sized on may gave = record {
   told = gave.told;
   appended = gave.appended;
-  kept = (gave.kept.0, λ q right stands.
-      strike-plain core q (LoopEnded s i j) right stands on (fits-loop core q s i j sized on stands may) refl refl refl core.starts d core.boot gave.told refl gave.kept.0
-      (starts-got core.plan core.starts q (LoopEnded s i j) refl stands.starts)
-      (gave.kept.1 q (loop-row core q s i j sized on stands may) (on-offer core.plan core.offer q (offer-of core q stands on)) (ends-of core q stands on))
-      (foreign.stands-got core.plan core.boot q (LoopEnded s i j) refl stands.boot) refl refl refl
-      (λ m. not-ended core.plan core.boot (tell (Got (LoopEnded s i j) ∷ q) gave.told) (on-boot core q stands on)));
+  kept = (
+    gave.kept.0,
+    λ q right stands.
+        strike-plain core q (LoopEnded s i j) right stands on (fits-loop core q s i j sized on stands may) refl refl refl core.starts d core.boot gave.told refl gave.kept.0
+        (starts-got core.plan core.starts q (LoopEnded s i j) refl stands.starts)
+        (gave.kept.1 q (loop-row core q s i j sized on stands may) (on-offer core.plan core.offer q (offer-of core q stands on)) (ends-of core q stands on))
+        (foreign.stands-got core.plan core.boot q (LoopEnded s i j) refl stands.boot) refl refl refl
+        (λ m. not-ended core.plan core.boot (tell (Got (LoopEnded s i j) ∷ q) gave.told) (on-boot core q stands on)),
+  );
 }
 
 -- no sender, or a failure

@@ -1,5 +1,5 @@
 -- What the core's steps and their parts keep: one record for each sort.
-use Rattle.std.specs.Prelude.{ℕ, Bool, ◌≡◌, ◌+◌, ◌*◌, ◌≤◌, ◌++◌, true, List, length, Option, Result, MatchResult, is_some, ⊤}
+use Rattle.std.specs.Prelude.{ℕ, Bool, ◌≡◌, ◌+◌, ◌*◌, ◌≤◌, ◌++◌, true, List, length, Option, Result, MatchResult, OnOk, is_some, ⊤}
 use Rattle.svc_base.specs.declared.memory.NoMemory.{NoMemory}
 use Rattle.svc_base.specs.Items.{list_of, spare}
 use Rattle.svc_fds.specs.declared.encoding.Message.{Message}
@@ -18,7 +18,7 @@ use Rattle.svc_core.specs.CoreData.{CoreData, is_on, with_end}
 use Rattle.svc_core.specs.Copies.{TellsBare, TellsCopied, copy_of, copy_at}
 use Rattle.svc_core.specs.Passes.{begin_room}
 use Rattle.svc_core.specs.Rooms.{tell_room, close_room, open_count, most_open}
-use Rattle.svc_core.specs.Stands.{Ripe, Visited, StepRight, StepKeeps, BeginKeeps, RowMayCome}
+use Rattle.svc_core.specs.Stands.{HasNotBegun, Ripe, Visited, StepRight, StepKeeps, BeginKeeps, RowMayCome}
 
 -- a list of actions, and for how many more it has memory
 abbrev pub Actions : Type 0
@@ -39,6 +39,13 @@ finish_room core = visit_room core + most_open core + 11
 
 abbrev pub bootstrap_room : CoreData → ℕ
 bootstrap_room core = 2 * length core.order + most_open core + 19
+
+-- and how many once the services were visited, and once the server runs
+abbrev pub go_room : CoreData → ℕ
+go_room core = most_open core + 10
+
+abbrev pub answer_room : CoreData → ℕ
+answer_room core = most_open core + 8
 
 -- the event may come, and there is room for its step
 pub record MayStep (core : CoreData) (e : Event) (actions : Actions) : Type 0 where
@@ -72,12 +79,24 @@ abbrev pub Judges : CoreData → Event → Bool → Actions → Actions → Type
 Judges core (Arrived s i c peer) said before after = TellsJudged (judged_at core.plan (Arrived s i c peer) said) (list_of before) (list_of after)
 Judges core _ said before after = ⊤
 
+-- what any event's step keeps
+pub record Takes (old new : CoreData) (e : Event) (said : Bool) (before after : Actions) (result : Result StepEnd NoMemory) : Type 0 where
+  pub steps : StepsOr old new e before after result
+  pub later : Ignores old new e before after
+  pub judged : OnOk result (Judges old e said before after)
+
 -- the rest of a step, of a record that is so: it is right at the end, with at most this many actions told
 pub record Goes (IsSo : Record → Type 0) (most : ℕ) (old new : CoreData) (copy : Option Message) (before after : Actions) (end : StepEnd) : Type 0 where
   pub plan : new.plan ≡ old.plan
   pub kept : Tells (list_of before) (list_of after) (λ told. (q : Record) → IsSo q → StepRight new (tell q told) end)
   pub copied : TellsCopied (copy_of copy) (list_of before) (list_of after)
   pub spends : Spends most (open_count new) before after
+
+-- a daemon may ask for its fork, and there is room
+pub record MayFork (core : CoreData) (actions : Actions) : Type 0 where
+  pub daemon : core.plan.daemon ≡ true
+  pub first : HasNotBegun core
+  pub room : tell_room core ≤ spare actions
 
 -- the first step
 pub record Begins (old new : CoreData) (before after : Actions) (end : StepEnd) : Type 0 where

@@ -1,11 +1,9 @@
 //! The core: one step for each event.
 
-ghost use Rattle.std.specs.Prelude.{◌≡◌, ◌+◌, ◌*◌, ◌<◌, ◌≤◌, ◌++◌, ◌&&◌, [], ◌∷◌, length, is_some, false, true, IfOk, OnErr, OnOk, Option, None};
+ghost use Rattle.std.specs.Prelude.{◌≡◌, ◌+◌, ◌*◌, ◌<◌, ◌≤◌, ◌&&◌, [], ◌∷◌, is_some, false, true, IfOk, OnErr, OnOk, Option, None};
 ghost use Rattle.svc_record.specs.declared.event.ShutdownSignal.{ShutdownSignal};
 ghost use Rattle.svc_base.specs.Items.{list_of, spare};
-ghost use Rattle.svc_record.specs.Record.{Record, tell};
-ghost use Rattle.svc_record.specs.Descriptors.{live_table};
-ghost use Rattle.svc_record.specs.Offer.{is_empty_table};
+ghost use Rattle.svc_record.specs.Record.{Record};
 ghost use Rattle.svc_record.specs.Plans.{service_count};
 ghost use Rattle.svc_record.specs.Starts.{is_ready};
 ghost use Rattle.svc_record.specs.Validity.{IsValid};
@@ -13,13 +11,12 @@ ghost use Rattle.svc_record.specs.Told.{TellsBoth};
 ghost use Rattle.svc_offer.specs.OfferEffects.{event_of};
 ghost use Rattle.svc_record.specs.Judging.{TellsJudged, judged_at, asked_filter};
 ghost use Rattle.svc_fds.specs.declared.encoding.Message.{Message};
-ghost use Rattle.svc_endpoints.specs.EndpointsState.{EndpointsStand};
 ghost use Rattle.svc_core.specs.Copies.{TellsCopied, message_at, copy_at};
 ghost use Rattle.svc_core.specs.CoreData.{is_on, is_served};
 ghost use Rattle.svc_core.specs.Passes.{may_start};
 ghost use Rattle.svc_core.specs.Stands.{StandsFor, HasNotBegun, Struck, Visited, Tried, MayCome, StepKeeps, BeginKeeps};
-ghost use Rattle.svc_core.specs.Steps.{MayStep, Steps, StepsOr, Ignores, Judges, Goes, Visits, EndsRun, finish_room, visit_room};
-ghost use Rattle.svc_core.specs.Signals.{offers_by, is_reached};
+ghost use Rattle.svc_core.specs.Steps.{MayStep, Steps, StepsOr, Ignores, Takes, Goes, Visits, EndsRun, finish_room, visit_room, go_room, answer_room};
+ghost use Rattle.svc_core.specs.Signals.{OffersBy, is_reached};
 ghost use Rattle.svc_core.specs.Rooms.{TellsWithin, KeepsRoom, tell_room, step_room, most_open};
 
 mod closing;
@@ -204,8 +201,8 @@ impl Core {
     /// The server runs, a handover is tried for again, and the offer and the signal are answered,
     /// unless the run was tested.
     fn go_on(&mut self, copy: Option<Message>, actions: &mut Actions) -> StepEnd
-        requires { most_open self.old + 10 ≤ spare actions.old }
-        ensures { Goes (Visited self.old copy) (most_open self.old + 10) self.old self.new copy actions.old actions.new result }
+        requires { go_room self.old ≤ spare actions.old }
+        ensures { Goes (Visited self.old copy) (go_room self.old) self.old self.new copy actions.old actions.new result }
     {
         self.end = self.boot.end(&self.plan);
         if !is_on(self.end) {
@@ -223,8 +220,8 @@ impl Core {
     /// Tells what follows the signal, and asks the successor for what is due of the offer. The run
     /// ends where all the signal's waits have passed.
     fn answer(&mut self, copy: Option<Message>, actions: &mut Actions) -> StepEnd
-        requires { most_open self.old + 8 ≤ spare actions.old }
-        ensures { Goes (Tried self.old copy) (most_open self.old + 8) self.old self.new copy actions.old actions.new result }
+        requires { answer_room self.old ≤ spare actions.old }
+        ensures { Goes (Tried self.old copy) (answer_room self.old) self.old self.new copy actions.old actions.new result }
     {
         let over = self.offer.over_since();
         let passed = self.drain.go_on(&self.plan, over, actions);
@@ -281,9 +278,7 @@ impl Core {
         actions: &mut Actions,
     ) -> Result<StepEnd, NoMemory>
         requires { MayStep self.old event.now actions.old }
-        ensures steps { StepsOr self.old self.new event.now actions.old actions.new result }
-        ensures later { OnOk result (Ignores self.old self.new event.now actions.old actions.new) }
-        ensures judged { OnOk result (Judges self.old event.now said actions.old actions.new) }
+        ensures { Takes self.old self.new event.now said actions.old actions.new result }
     {
         match event {
             Event::Moment(ms) => self.step_moment(alloc, *ms, actions),
@@ -563,7 +558,7 @@ impl Core {
     ) -> Result<StepEnd, NoMemory>
         requires { MayStep self.old (Event.Signal kind) actions.old }
         ensures steps { StepsOr self.old self.new (Event.Signal kind) actions.old actions.new result }
-        ensures later { OnOk result (Ignores self.old self.new (Event.Signal kind) actions.old actions.new) }
+        ensures later { Ignores self.old self.new (Event.Signal kind) actions.old actions.new }
     {
         if self.drain.signal().is_some() {
             return Ok(self.end);
@@ -580,7 +575,7 @@ impl Core {
 
     /// The signal asks for an upgrade, and something is live that can be offered.
     fn offers_by(&self, kind: ShutdownSignal) -> bool
-        ensures { (q : Record) → EndpointsStand self.now.plan self.now.endpoints q → result ≡ offers_by kind (is_empty_table (live_table self.now.plan q)) }
+        ensures { OffersBy self.now kind result }
     {
         matches!(kind, ShutdownSignal::GracefulUpgrade) && self.endpoints.offers_anything()
     }

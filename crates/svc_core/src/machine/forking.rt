@@ -7,9 +7,8 @@ ghost use Rattle.svc_record.specs.Ends.{is_parent_failure};
 ghost use Rattle.svc_boot.specs.ForkState.{is_free};
 ghost use Rattle.svc_boot.specs.BootEffects.{end_of};
 ghost use Rattle.svc_core.specs.CoreData.{with_end};
-ghost use Rattle.svc_core.specs.Stands.{HasNotBegun, MayBootstrap};
-ghost use Rattle.svc_core.specs.Steps.{MayStep, Steps, Begins, Goes, bootstrap_room};
-ghost use Rattle.svc_core.specs.Rooms.{tell_room};
+ghost use Rattle.svc_core.specs.Stands.{MayBootstrap};
+ghost use Rattle.svc_core.specs.Steps.{MayStep, MayFork, Steps, Begins, Goes, bootstrap_room};
 
 use super::Core;
 use svc_record::{Actions, Event, Side, StepEnd};
@@ -52,7 +51,7 @@ impl Core {
     /// Nothing is told: what came says how the run goes on.
     fn hold(&mut self) -> StepEnd
         ensures after { self.new ≡ with_end (end_of self.old.plan self.old.boot) self.old }
-        ensures end { result ≡ end_of self.old.plan self.old.boot }
+        ensures end { result ≡ self.new.end }
     {
         self.end = self.boot.end(&self.plan);
         self.end
@@ -60,9 +59,7 @@ impl Core {
 
     /// A daemon asks for its fork, and awaits it.
     pub(super) fn ask_fork(&mut self, actions: &mut Actions) -> StepEnd
-        requires daemon { self.old.plan.daemon ≡ true }
-        requires first { HasNotBegun self.old }
-        requires room { tell_room self.old ≤ spare actions.old }
+        requires { MayFork self.old actions.old }
         ensures { Begins self.old self.new actions.old actions.new result }
     {
         self.boot.ask_fork(actions);

@@ -1,18 +1,18 @@
-use Rattle.std.proofs.Common.{refl, sym, ◌+◌, ◌∙◌, arith}
+use Rattle.std.proofs.Common.{refl, sym, ◌∙◌, arith}
 use Rattle.svc_base.specs.Items.{list_of}
 use Rattle.svc_core.specs.Stands.{Visited}
-use Rattle.svc_core.specs.Rooms.{most_open}
+use Rattle.svc_core.specs.Steps.{go_room}
 use Rattle.svc_core.proofs.FinishLemmas.{go-ended-at, go-on-at, go-waiting-at, go-then}
 use Rattle.svc_core.proofs.CopyLemmas.{bare-these, bare-then, run-bare, try-bare}
 use Rattle.svc_core.proofs.GoForms.{opened-goes, stops, then-goes}
 use Rattle.svc_core.proofs.machine.Core.go_on.Goals as goal
 
 pub returns-then-not-is_on : goal.returns-then-not-is_on
-returns-then-not-is_on c = opened-goes (λ core. Visited core c.args.copy) (λ core. most_open core + 10) c.self.view_is (stops c.args.copy refl (omega arith)
+returns-then-not-is_on c = opened-goes (λ core. Visited core c.args.copy) go_room c.self.view_is (stops c.args.copy refl (omega arith)
     (go-ended-at _ c.args.copy c.end-self-inside.result (list_of c.args.actions.now) c.end-self-inside.ensures c.self.invariant.least c.self.invariant.in_order (sym c.is_on.ensures ∙ c.if-not-is_on.true)))
 
 pub returns-then-not-may_start : goal.returns-then-not-may_start
-returns-then-not-may_start c = opened-goes (λ core. Visited core c.args.copy) (λ core. most_open core + 10) c.self.view_is (then-goes c.answer.ensures refl
+returns-then-not-may_start c = opened-goes (λ core. Visited core c.args.copy) go_room c.self.view_is (then-goes c.answer.ensures refl
     (bare-these (list_of c.args.actions.now) (list_of c.try_again.new.actions) _ c.try_again.ensures.told (try-bare c.try_again.result))
     (record { few = omega arith; room = omega arith })
     (go-then _ _ _ c.args.copy (list_of c.args.actions.now) (list_of c.try_again.new.actions) (list_of c.answer.new.actions) c.answer.result
@@ -22,7 +22,7 @@ returns-then-not-may_start c = opened-goes (λ core. Visited core c.args.copy) (
     c.answer.ensures.kept))
 
 pub returns : goal.returns
-returns c = opened-goes (λ core. Visited core c.args.copy) (λ core. most_open core + 10) c.self.view_is (then-goes c.answer-2.ensures refl
+returns c = opened-goes (λ core. Visited core c.args.copy) go_room c.self.view_is (then-goes c.answer-2.ensures refl
     (bare-then (list_of c.args.actions.now) (list_of c.run_once.new.actions) (list_of c.try_again-2.new.actions)
     (bare-these (list_of c.args.actions.now) (list_of c.run_once.new.actions) _ c.run_once.ensures.told (run-bare c.self.inside.drain))
     (bare-these (list_of c.run_once.new.actions) (list_of c.try_again-2.new.actions) _ c.try_again-2.ensures.told (try-bare c.try_again-2.result)))

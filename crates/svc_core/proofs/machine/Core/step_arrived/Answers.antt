@@ -1,4 +1,4 @@
-use Rattle.std.proofs.Common.{refl, sym, ap, arith}
+use Rattle.std.proofs.Common.{refl, sym, arith}
 use Rattle.svc_connections.specs.ConnectionsEffects.{arrived_told}
 use Rattle.svc_core.proofs.ConnectionLemmas.{arrived-deals, fits-arrived, filterless}
 use Rattle.svc_core.proofs.CopyLemmas.{arrived-copied}

@@ -1,5 +1,4 @@
 use Rattle.std.proofs.Common.{refl, arith}
-use Rattle.svc_record.specs.declared.event.Event.TheVariants.{Set}
 use Rattle.svc_connections.specs.declared.stage.Stage.TheVariants.{Shaking}
 use Rattle.svc_connections.specs.ConnectionsEffects.{set_told}
 use Rattle.svc_core.proofs.ConnectionLemmas.{set-deals, fits-set}

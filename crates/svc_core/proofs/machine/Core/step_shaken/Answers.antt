@@ -1,5 +1,4 @@
 use Rattle.std.proofs.Common.{refl, arith}
-use Rattle.svc_record.specs.declared.event.Event.TheVariants.{Shaken}
 use Rattle.svc_connections.specs.declared.stage.Stage.TheVariants.{Serving}
 use Rattle.svc_connections.specs.ConnectionsEffects.{shaken_told}
 use Rattle.svc_core.proofs.ConnectionLemmas.{shaken-deals, fits-shaken}
