@@ -29,6 +29,9 @@ pub opened-goes : {old now new : CoreData} {copy : Option Message} {before after
     → Goes (IsSo old) (most old) old new copy before after end → Goes (IsSo now) (most now) now new copy before after end
 opened-goes {new = new} {copy = copy} {before = before} {after = after} {end = end} IsSo most is goes = subst (λ (core : CoreData). Goes (IsSo core) (most core) core new copy before after end) is goes
 
+pub opened-visits : {old now new : CoreData} {before after : Actions} → old ≡ now → Visits old new before after → Visits now new before after
+opened-visits {new = new} {before = before} {after = after} is visits = subst (λ (core : CoreData). Visits core new before after) is visits
+
 -- a run that ends here
 pub stops : {IsSo : Record → Type 0} {most : ℕ} {old new : CoreData} {actions : Actions} {end : StepEnd} (copy : Option Message) → new.plan ≡ old.plan → most_open new ≤ most
     → Tells (list_of actions) (list_of actions) (λ told. (q : Record) → IsSo q → StepRight new (tell q told) end) → Goes IsSo most old new copy actions actions end

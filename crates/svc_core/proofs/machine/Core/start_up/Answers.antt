@@ -1,14 +1,13 @@
-use Rattle.std.proofs.Common.{refl, sym, subst, ◌∙◌, arith}
+use Rattle.std.proofs.Common.{refl, sym, ◌∙◌, arith}
 use Rattle.svc_base.specs.Items.{list_of}
-use Rattle.svc_core.specs.CoreData.{CoreData}
-use Rattle.svc_core.specs.Steps.{Visits}
 use Rattle.svc_core.proofs.CopyLemmas.{bare-none}
 use Rattle.svc_core.proofs.FinishLemmas.{start-up, start-none}
+use Rattle.svc_core.proofs.GoForms.{opened-visits}
 use Rattle.svc_core.proofs.machine.Core.start_up.Goals as goal
 
 pub returns-then-may_start : goal.returns-then-may_start
 returns-then-may_start c =
-    subst (λ (old : CoreData). Visits old _ c.args.actions.now c.pass.new.actions) c.self.view_is (record {
+    opened-visits c.self.view_is (record {
       plan = refl;
       order = refl;
       table = c.pass.ensures.table;
