@@ -19,9 +19,9 @@ use Rattle.svc_endpoints.specs.declared.table.Open.{Open}
 use Rattle.svc_core.specs.CoreData.{CoreData}
 use Rattle.svc_core.specs.Copies.{TellsBare, copy_of}
 use Rattle.svc_core.specs.Rooms.{most_open}
-use Rattle.svc_core.specs.Stands.{StepRight}
-use Rattle.svc_core.specs.Steps.{Actions, Spends, Goes, Visits, EndsRun, finish_room}
-use Rattle.svc_core.proofs.CopyLemmas.{bare-none, bare-first, copied-bare}
+use Rattle.svc_core.specs.Stands.{Struck, Visited, StepRight}
+use Rattle.svc_core.specs.Steps.{Actions, Spends, Goes, Visits, EndsRun, finish_room, go_room}
+use Rattle.svc_core.proofs.CopyLemmas.{bare-none, bare-then, bare-first, copied-bare}
 use Rattle.svc_core.proofs.RoomLemmas.{few-open}
 
 -- the rest of a step is of the core's value, and its parts are of the fields
@@ -56,8 +56,7 @@ then-goes {copy = copy} {before = before} {between = between} {after = after} ne
   spends = record { few = omega (arith, spends.few, next.spends.few); room = omega (arith, spends.room, next.spends.room) };
 }
 
--- bootstrapping was completed or not, and the services were visited
-pub visits-spend : (core : CoreData) {mid new : CoreData} {before between after : Actions} → mid.order ≡ core.order → mid.boot.begun ≡ core.boot.begun → most_open mid ≡ most_open core → Spends 1 0 before between → Visits mid new between after
+visits-spend : (core : CoreData) {mid new : CoreData} {before between after : Actions} → mid.order ≡ core.order → mid.boot.begun ≡ core.boot.begun → most_open mid ≡ most_open core → Spends 1 0 before between → Visits mid new between after
     → Spends (finish_room core) (most_open new + 10) before after
 visits-spend core {mid = mid} order begun as_many first visits =
     let same = ap length order in
@@ -65,6 +64,14 @@ visits-spend core {mid = mid} order begun as_many first visits =
     let live = ap (λ (cn : ConnectionsData). length cn.live) visits.connections in
     let begins = ap {B = ℕ} (λ begun. if begun then 0 else 4) begun in
     record { few = omega (arith, same, table, live, begins, as_many, first.few, visits.spends.few); room = omega (arith, same, table, live, begins, as_many, first.room, visits.spends.room) }
+
+-- bootstrapping was completed or not, the services were visited, and the rest
+pub visited-goes : {core mid visited new : CoreData} {copy : Option Message} {before given between after : Actions} {end : StepEnd} → Goes (Visited visited copy) (go_room visited) visited new copy between after end → Visits mid visited given between
+    → mid.plan ≡ core.plan → mid.order ≡ core.order → mid.boot.begun ≡ core.boot.begun → most_open mid ≡ most_open core → TellsBare (list_of before) (list_of given) → Spends 1 0 before given
+    → Tells (list_of before) (list_of after) (λ told. (q : Record) → Struck core copy q → StepRight new (tell q told) end)
+    → Goes (Struck core copy) (finish_room core) core new copy before after end
+visited-goes {core = core} {before = before} {given = given} {between = between} next visits plan order begun as_many bare spends kept =
+    then-goes next (visits.plan ∙ plan) (bare-then (list_of before) (list_of given) (list_of between) bare visits.bare) (visits-spend core order begun as_many spends visits) kept
 
 -- the end of a run tells three actions, and closes and cuts what is live
 pub ended-few : {mid new : CoreData} {between after : Actions} {end : StepEnd} → EndsRun mid new between after end → length (list_of after) ≡ length (list_of between) + (most_open mid + 3)

@@ -22,7 +22,7 @@ use Rattle.svc_boot.specs.BootData.{BootData}
 use Rattle.svc_boot.specs.BootEffects.{end_of}
 use Rattle.svc_connections.specs.ConnectionsData.{ConnectionsData}
 use Rattle.svc_connections.specs.ConnectionsState.{ConnectionsStand}
-use Rattle.svc_connections.specs.ConnectionsFacts.{is_connection_event, is_dealing}
+use Rattle.svc_connections.specs.ConnectionsFacts.{is_connection_event}
 use Rattle.svc_core.specs.CoreData.{CoreData, is_on, with_end}
 use Rattle.svc_core.specs.Copies.{TellsBare, TellsCopied, are_copied, copy_of, message_at, copy_at}
 use Rattle.svc_core.specs.Passes.{begin_room}
@@ -30,7 +30,7 @@ use Rattle.svc_core.specs.Rooms.{tell_room, close_room, open_count, most_open}
 use Rattle.svc_core.specs.Stands.{StandsFor, Struck, MayBootstrap, BeginKeeps}
 use Rattle.svc_core.specs.Steps.{Actions, Spends, MayStep, Steps, StepsOr, Judges, Goes, Begins, finish_room, bootstrap_room}
 use Rattle.svc_core.proofs.StepLemmas.{step-by}
-use Rattle.svc_core.proofs.ConnectionLemmas.{deals-with, with_connections}
+use Rattle.svc_core.proofs.ConnectionLemmas.{is_dealing, deals-with, with_connections}
 use Rattle.svc_core.proofs.CopyLemmas.{bare-answer, bare-all, bare-none, copied-bare}
 use Rattle.svc_core.proofs.JudgedLemmas.{unjudged-copied}
 use Rattle.svc_core.proofs.FinishLemmas.{with_boot}

@@ -4,8 +4,8 @@ use Rattle.svc_boot.specs.BootData.{BootData}
 use Rattle.svc_core.specs.Stands.{Struck}
 use Rattle.svc_core.specs.Steps.{finish_room}
 use Rattle.svc_core.proofs.FinishLemmas.{follows-ended-at, follows-on-at}
-use Rattle.svc_core.proofs.CopyLemmas.{bare-these, complete-bare, bare-then}
-use Rattle.svc_core.proofs.GoForms.{opened-goes, stops, then-goes, visits-spend}
+use Rattle.svc_core.proofs.CopyLemmas.{bare-these, complete-bare}
+use Rattle.svc_core.proofs.GoForms.{opened-goes, stops, visited-goes}
 use Rattle.svc_core.proofs.machine.Core.finish.Goals as goal
 
 pub returns-then-not-is_on : goal.returns-then-not-is_on
@@ -13,10 +13,8 @@ returns-then-not-is_on c = opened-goes (λ core. Struck core c.args.copy) finish
     (follows-ended-at _ c.args.copy c.end-self-inside.result (list_of c.args.actions.now) c.end-self-inside.ensures (sym c.is_on.ensures ∙ c.if-not-is_on.true)))
 
 pub returns : goal.returns
-returns c = opened-goes (λ core. Struck core c.args.copy) finish_room c.self.view_is (then-goes c.go_on.ensures c.start_up.ensures.plan
-    (bare-then (list_of c.args.actions.now) (list_of c.complete.new.actions) (list_of c.start_up.new.actions)
-    (bare-these (list_of c.args.actions.now) (list_of c.complete.new.actions) _ c.complete.ensures.told (complete-bare c.complete.result c.moment.result)) c.start_up.ensures.bare)
-    (visits-spend _ refl (ap (λ (b : BootData). b.begun) c.complete.ensures.after) refl (record { few = omega arith; room = omega arith }) c.start_up.ensures)
+returns c = opened-goes (λ core. Struck core c.args.copy) finish_room c.self.view_is (visited-goes c.go_on.ensures c.start_up.ensures refl refl (ap (λ (b : BootData). b.begun) c.complete.ensures.after) refl
+    (bare-these (list_of c.args.actions.now) (list_of c.complete.new.actions) _ c.complete.ensures.told (complete-bare c.complete.result c.moment.result)) (record { few = omega arith; room = omega arith })
     (follows-on-at _ _ _ _ c.args.copy c.end-self-inside.result c.go_on.result c.complete.new.self
     (list_of c.args.actions.now) (list_of c.complete.new.actions) (list_of c.start_up.new.actions) (list_of c.go_on.new.actions) c.complete.result
     c.end-self-inside.ensures (sym c.is_on.ensures ∙ c.if-not-is_on.false) c.complete.ensures.due c.complete.ensures.after
