@@ -5,3 +5,4 @@ pub mod CommandWords
 pub mod Generator
 pub mod Counts
 pub mod Program
+pub mod Planned

@@ -5,6 +5,7 @@ mod answering;
 mod counting;
 mod generator;
 mod outcome;
+mod planning;
 mod program;
 mod runs;
 mod script_filter;
@@ -13,4 +14,6 @@ mod services;
 mod words;
 
 pub use outcome::{RunEnd, StatusLine};
+pub use planning::{PlannedScript, plan_script, read_parts};
 pub use program::{one_answer, serve_script};
+pub use svc_text::{event_of_line, record_text};
