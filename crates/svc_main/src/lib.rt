@@ -14,6 +14,6 @@ mod services;
 mod words;
 
 pub use outcome::{RunEnd, StatusLine};
-pub use planning::{PlannedScript, plan_script, read_parts};
+pub use planning::{PlannedScript, plan_script, read_parts, with_line};
 pub use program::{one_answer, serve_script};
 pub use svc_text::{event_of_line, record_text};

@@ -1,11 +1,12 @@
 //! What a script's server is run by, for a caller that steps its core itself.
 
-ghost use Rattle.std.specs.Prelude.{◌≡◌, ◌++◌, ◌∷◌, [], ℕ, Ok, Err, All, codes, length, slice_index, IfOk, IfErr, OnOk};
+ghost use Rattle.std.specs.Prelude.{◌≡◌, ◌++◌, ◌∷◌, [], ℕ, Ok, false, ◌<◌, All, length, slice_index, IfOk, IfErr, OnOk};
 ghost use Rattle.std.specs.Option.{MatchOption};
 ghost use Rattle.std.specs.Str.Lines.{lines};
 ghost use Rattle.svc_conf.specs.Configuration.{judged};
 ghost use Rattle.svc_conf.specs.ConfigurationText.{merged};
 ghost use Rattle.svc_record.specs.Validity.{IsValid};
+ghost use Rattle.svc_text.specs.Words.{is_feed};
 ghost use Rattle.svc_text.specs.Accepted.{AreAccepted};
 ghost use Rattle.svc_text.specs.Dependencies.{RefusesNone, RefusesAt};
 ghost use Rattle.svc_text.specs.Outcome.{Gives, parts_of};
@@ -15,7 +16,7 @@ ghost use Rattle.svc_text.specs.declared.parsing.ScriptError.TheVariants as erro
 ghost use Rattle.svc_main.specs.Planned.{Judged, part_lines};
 
 use crate::services::{configured, server_of_script};
-use std::alloc::Global;
+use std::alloc::{AllocError, Global};
 use svc_conf::{Key, NoMemory, Opt};
 use svc_record::Plan;
 use svc_text::{Script, ScriptError, ServiceLine, parse};
@@ -30,16 +31,18 @@ pub struct PlannedScript {
     pub refused: Option<Key>,
 }
 
-/// A text with a line feed at its end, unless it is empty, and the header of the events behind it.
-fn with_events(alloc: Global, text: &[u8]) -> Result<Vec<u8>, NoMemory>
-    ensures { IfOk result (λ bytes. lines bytes.items ≡ part_lines (lines text.now)) }
+/// A text with one more line, which has no line feed.
+pub fn with_line(alloc: Global, text: &[u8], line: &[u8]) -> Result<Vec<u8>, AllocError>
+    requires some { 0 < length line.now }
+    requires one { All (λ b. is_feed b ≡ false) line.now }
+    ensures { IfOk result (λ bytes. lines bytes.items ≡ lines text.now ++ line.now ∷ []) }
 {
     let mut bytes = Vec::new(alloc);
     bytes.extend_from_slice(text)?;
     if !matches!(text.last(), None | Some(b'\n')) {
         bytes.push(b'\n')?;
     }
-    bytes.extend_from_slice(b"%events")?;
+    bytes.extend_from_slice(line)?;
     Ok(bytes)
 }
 
@@ -50,9 +53,9 @@ pub fn read_parts(alloc: Global, text: &[u8]) -> Result<Script, ScriptError>
     ensures accepted { IfOk result (λ s. AreAccepted s.services.items) }
     ensures numbers { IfOk result (λ s. AreLines (part_lines (lines text.now)) (length s.services.items) s.lines.items) }
 {
-    match with_events(alloc, text) {
+    match with_line(alloc, text, b"%events") {
         Ok(bytes) => parse(alloc, &bytes),
-        Err(NoMemory) => Err(ScriptError::NoMemory),
+        Err(_) => Err(ScriptError::NoMemory),
     }
 }
 

@@ -1,5 +1,12 @@
 //! The steps of a chain, as lines say them.
 
+ghost use Rattle.std.specs.Prelude.{◌≡◌, ◌+◌, ◌<◌, ◌^◌, length, IfOk};
+ghost use Rattle.std.specs.Str.{is_utf8};
+ghost use Rattle.std.specs.Str.Lines.{lines};
+ghost use Rattle.svc_text.specs.Words.{words};
+ghost use Rattle.svc_text.specs.Script.{is_skipped};
+ghost use Rattle.svc_supervisor.specs.StepLines.{launch_of, step_of, step_in, steps_from, Reads};
+
 use crate::input::Refusal;
 use std::alloc::Global;
 use std::str;
@@ -17,7 +24,9 @@ pub enum Step {
 }
 
 /// A launch, where nothing follows the word.
-fn launch_of(rest: &[u8]) -> Option<Step> {
+fn launch_of(rest: &[u8]) -> Option<Step>
+    ensures { result ≡ launch_of (words rest.now) }
+{
     match split_word(rest) {
         None => Some(Step::Launch),
         Some(_) => None,
@@ -25,7 +34,10 @@ fn launch_of(rest: &[u8]) -> Option<Step> {
 }
 
 /// The step that a line says.
-fn step_of_line(alloc: Global, line: &[u8]) -> Result<Option<Step>, NoMemory> {
+#[tactic(auto, unfolding(crate::specs::StepLines::step_of))]
+fn step_of_line(alloc: Global, line: &[u8]) -> Result<Option<Step>, NoMemory>
+    ensures { IfOk result (λ o. o ≡ step_of (words line.now)) }
+{
     let Some((word, rest)) = split_word(line) else {
         return Ok(None);
     };
@@ -42,7 +54,10 @@ fn step_of_line(alloc: Global, line: &[u8]) -> Result<Option<Step>, NoMemory> {
 }
 
 /// A blank line, or a comment.
-pub(crate) fn is_skipped(line: &[u8]) -> bool {
+#[tactic(auto, unfolding(svc_text::specs::Script::is_skipped))]
+pub(crate) fn is_skipped(line: &[u8]) -> bool
+    ensures { result ≡ is_skipped (words line.now) }
+{
     match split_word(line) {
         None => true,
         Some((word, _)) => matches!(word.first(), Some(b'#')),
@@ -50,7 +65,9 @@ pub(crate) fn is_skipped(line: &[u8]) -> bool {
 }
 
 /// The bytes are UTF-8.
-pub(crate) fn is_text(line: &[u8]) -> bool {
+pub(crate) fn is_text(line: &[u8]) -> bool
+    ensures { result ≡ is_utf8 line.now }
+{
     match str::from_utf8(line) {
         Ok(_) => true,
         Err(_) => false,
@@ -58,7 +75,10 @@ pub(crate) fn is_text(line: &[u8]) -> bool {
 }
 
 /// The step that a line says, or None for one that is skipped. `Line(number)` where it says none.
-fn read_step(alloc: Global, line: &[u8], number: usize) -> Result<Option<Step>, Refusal> {
+#[tactic(auto, unfolding(crate::specs::StepLines::step_in))]
+fn read_step(alloc: Global, line: &[u8], number: usize) -> Result<Option<Step>, Refusal>
+    ensures { Reads (λ o. o) result (step_in number line.now) }
+{
     if !is_text(line) {
         return Err(Refusal::Line(number));
     }
@@ -72,17 +92,22 @@ fn read_step(alloc: Global, line: &[u8], number: usize) -> Result<Option<Step>, 
     }
 }
 
-/// The steps that the lines of a text say, of which so many stand before them.
-pub(crate) fn read_steps(alloc: Global, text: &[u8], before: usize) -> Result<Vec<Step>, Refusal> {
+/// The steps that the lines of a text say, before which so many stand.
+pub(crate) fn read_steps(alloc: Global, text: &[u8], before: usize) -> Result<Vec<Step>, Refusal>
+    requires room { before + length text.now < 2 ^ 64 }
+    ensures { Reads (λ steps. steps.items) result (steps_from before (lines text.now)) }
+{
     let mut steps = Vec::new(alloc);
     let mut rest = text;
     let mut passed = before;
     while let Some((line, after)) = split_line(rest) {
         passed += 1;
-        if let Some(step) = read_step(alloc, line, passed)? {
-            steps.push(step)?;
-        }
         rest = after;
+        match read_step(alloc, line, passed) {
+            Ok(None) => {}
+            Ok(Some(step)) => steps.push(step)?,
+            Err(refusal) => return Err(refusal),
+        }
     }
     Ok(steps)
 }

@@ -1,0 +1,47 @@
+-- The steps of a chain, as lines say them.
+use Rattle.std.specs.Prelude.{◌≡◌, ℕ, ◌+◌, ◌^◌, if◌then◌else◌, List, [], ◌∷◌, codes, Option, Some, None, Result, Ok, Err}
+use Rattle.std.specs.Str.{bytes_eq, is_utf8}
+use Rattle.svc_text.specs.Words.{words, number_of, ◌>>=◌}
+use Rattle.svc_text.specs.EventLines.{event_of}
+use Rattle.svc_text.specs.Script.{is_skipped}
+use Rattle.svc_supervisor.specs.declared.input.Refusal.{Refusal}
+use Rattle.svc_supervisor.specs.declared.input.Refusal.TheVariants.{Line, NoMemory}
+use Rattle.svc_supervisor.specs.declared.steps.Step.{Step}
+use Rattle.svc_supervisor.specs.declared.steps.Step.TheVariants as steps
+
+-- a launch, where nothing follows the word
+abbrev pub launch_of : List (List ℕ) → Option Step
+launch_of [] = Some steps.Launch
+launch_of (word ∷ more) = None
+
+-- the step that the words of a line say: a launch, or the number of a generation and an event
+unfoldable pub step_of : List (List ℕ) → Option Step
+step_of [] = None
+step_of (word ∷ more) = if bytes_eq word (codes "launch") then launch_of more else number_of (2 ^ 64) word >>= λ g. event_of more >>= λ e. Some (steps.Event g e)
+
+-- what a line that isn't skipped says, or its number where it says no step
+abbrev pub step_or_line : ℕ → Option Step → Result (Option Step) ℕ
+step_or_line number (Some step) = Ok (Some step)
+step_or_line number None = Err number
+
+-- the line with this number: its step, none for a blank line or a comment, or a refusal
+unfoldable pub step_in : ℕ → List ℕ → Result (Option Step) ℕ
+step_in number line = if is_utf8 line then (if is_skipped (words line) then Ok None else step_or_line number (step_of (words line))) else Err number
+
+-- the first refusal, or what the line says before the rest
+abbrev pub joined : {A : Type 0} → Result (Option A) ℕ → Result (List A) ℕ → Result (List A) ℕ
+joined (Err n) more = Err n
+joined (Ok None) more = more
+joined (Ok (Some x)) (Err n) = Err n
+joined (Ok (Some x)) (Ok more) = Ok (x ∷ more)
+
+-- the steps that lines say, before which so many stand, or the number of the first refused one
+abbrev pub steps_from : ℕ → List (List ℕ) → Result (List Step) ℕ
+steps_from before [] = Ok []
+steps_from before (line ∷ more) = joined (step_in (before + 1) line) (steps_from (before + 1) more)
+
+-- a reader's answer is the definition's, unless memory ran out
+abbrev pub Reads : {A B : Type 0} → (A → B) → Result A Refusal → Result B ℕ → Type 0
+Reads {A} {B} as (Ok x) read = read ≡ Ok (as x)
+Reads {A} {B} as (Err (Line n)) read = read ≡ Err n
+Reads {A} {B} as (Err NoMemory) read = Unit {0}
