@@ -5,7 +5,7 @@ use std::alloc::AllocError;
 use std::process::ExitCode;
 use std::rc::RcStr;
 use std::{env, io};
-use svc_conf::{Reading, Status, Writing};
+use svc_base::{Reading, Status, Writing};
 use svc_main::serve_script;
 
 /// The words after the program's name. A word that isn't UTF-8 makes a command line that is refused,

@@ -1,6 +1,6 @@
 //! The book: the core with the journal of its posts.
 ghost use Rattle.std.specs.Prelude.{◌≡◌, ◌<◌, ◌≤◌, ◌^◌, [], ◌∷◌, ◌++◌, length, IfOk, IfErr, OnErr};
-ghost use Rattle.svc_conf.specs.Items.{list_of};
+ghost use Rattle.svc_base.specs.Items.{list_of};
 ghost use Rattle.svc_record.specs.Validity.{IsValid};
 ghost use Rattle.svc_record.specs.Journal.{post};
 ghost use Rattle.svc_book.specs.Journals.{IsLegal, end_after};
@@ -9,7 +9,7 @@ ghost use Rattle.svc_book.specs.Refusals.{IsDue};
 use crate::post::Post;
 use std::alloc::Global;
 use std::marker::Model;
-use svc_conf::NoMemory;
+use svc_base::NoMemory;
 use svc_core::Core;
 use svc_record::{Action, Actions, Event, Plan, StepEnd};
 
@@ -24,7 +24,7 @@ pub struct Book {
 
 impl Model for Book {
     ghost use Rattle.std.specs.Prelude.{◌≤◌, ◌<◌, ◌^◌, length};
-    ghost use Rattle.svc_conf.specs.Items.{list_of};
+    ghost use Rattle.svc_base.specs.Items.{list_of};
     ghost use Rattle.svc_book.specs.BookData.{BookData, book};
     ghost use Rattle.svc_book.specs.Journals.{record_of, IsLegal};
     ghost use Rattle.svc_core.specs.Stands.{StandsFor};
@@ -33,7 +33,8 @@ impl Model for Book {
 
     ghost view = { λ b. book b.core.plan (list_of b.opening) b.limit b.posts.items };
 
-    ghost invariant = { λ b. StandsFor b.core (record_of (book b.core.plan (list_of b.opening) b.limit b.posts.items) b.posts.items) × IsLegal (book b.core.plan (list_of b.opening) b.limit b.posts.items) b.posts.items × (length b.posts.items ≤ b.limit) × (b.limit < 2 ^ 62) };
+    ghost invariant = { λ b. StandsFor b.core (record_of (book b.core.plan (list_of b.opening) b.limit b.posts.items) b.posts.items)
+        × IsLegal (book b.core.plan (list_of b.opening) b.limit b.posts.items) b.posts.items × (length b.posts.items ≤ b.limit) × (b.limit < 2 ^ 62) };
 }
 
 /// Why a book takes no post.

@@ -13,7 +13,7 @@ pub struct Post {
 
 impl Model for Post {
     ghost use Rattle.svc_record.specs.Journal.{PostData};
-    ghost use Rattle.svc_conf.specs.Items.{list_of};
+    ghost use Rattle.svc_base.specs.Items.{list_of};
 
     ghost Value = { PostData };
 

@@ -1,5 +1,5 @@
 -- What belongs to no beginning of a run changes nothing of bootstrapping.
-use Rattle.std.proofs.Common.{ℕ, Bool, true, false, not, ◌||◌, List, [], ◌∷◌, ◌≡◌, refl}
+use Rattle.std.proofs.Common.{ℕ, true, false, not, ◌||◌, List, [], ◌∷◌, ◌≡◌, refl}
 use Rattle.std.proofs.lemmas.Bool.{and_parts}
 use Rattle.svc_record.specs.declared.plan.Plan.{Plan}
 use Rattle.svc_record.specs.declared.entry.Entry.TheVariants.{Got, Told}
@@ -15,6 +15,7 @@ use Rattle.svc_boot.specs.ForkState.{is_free, is_parent}
 use Rattle.svc_boot.specs.BootState.{BootStands}
 use Rattle.svc_boot.specs.BootFacts.{is_boot_action, has_no_boot_action, is_boot_event}
 use Rattle.svc_boot.proofs.ForkLemmas.{fork-told, fork-got, fork-moment}
+use Rattle.svc_base.proofs.Logic.{apart_from as not_true}
 
 -- an action that doesn't belong to the beginning, where the server goes on
 pub stands-told : (p : Plan) (d : BootData) (q : Record) (a : Action) → is_boot_action a ≡ false → is_free p d.fork ≡ true → BootStands p d q → BootStands p d (Told a ∷ q)
@@ -126,10 +127,6 @@ stands-moment p d q ms none stand = let b = stand.begin in let x = stand.receivi
   boots_due = (refl, stand.boots_due);
   tries_due = (refl, stand.tries_due);
 }
-
-not_true : (b : Bool) → not b ≡ true → b ≡ false
-not_true true h = cc
-not_true false h = refl
 
 -- a told list in which nothing belongs to the beginning, where the server goes on
 pub stands-tell : (p : Plan) (d : BootData) (q : Record) (told : List Action) → has_no_boot_action told ≡ true → is_free p d.fork ≡ true → BootStands p d q → BootStands p d (tell q told)

@@ -1,7 +1,7 @@
 //! How a run begins: the fork of a daemon, and bootstrapping up to the message of an older server.
 
 ghost use Rattle.std.specs.Prelude.{◌≡◌, ◌+◌, ◌-◌, ◌≤◌, nat_lt, ◌++◌, [], ◌∷◌, ℕ, List, length, true, false};
-ghost use Rattle.svc_conf.specs.Items.{list_of, spare};
+ghost use Rattle.svc_base.specs.Items.{list_of, spare};
 ghost use Rattle.svc_record.specs.declared.plan.Plan.{Plan};
 ghost use Rattle.svc_record.specs.declared.entry.Entry.TheVariants.{Got, Told};
 ghost use Rattle.svc_record.specs.declared.event.Event.{Event};
@@ -192,7 +192,8 @@ impl Boot {
     /// by the plan.
     pub fn wait_on(&mut self, plan: &Plan, moment: u64)
         ensures after { self.new ≡ forked (waited plan.now.ready_timeout moment self.old.fork) self.old }
-        ensures stands { (q : Record) → is_parent_over self.old.fork ≡ false → BootStands plan.now self.old q → BootStands plan.now self.new (Got (Moment moment) ∷ q) }
+        ensures stands { (q : Record) → is_parent_over self.old.fork ≡ false → BootStands plan.now self.old q
+            → BootStands plan.now self.new (Got (Moment moment) ∷ q) }
     {
         self.fork = wait_until(self.fork, plan.ready_timeout, moment);
     }
@@ -284,7 +285,8 @@ impl Boot {
         requires room { 4 ≤ spare actions.old }
         ensures after { self.new ≡ begun_by plan.now self.old }
         ensures told { list_of actions.new ≡ list_of actions.old ++ begin_told plan.now self.old moment }
-        ensures stands { (q : Record) → is_free plan.now self.old.fork ≡ true → BootStands plan.now self.old q → BootStands plan.now self.new (tell q (begin_told plan.now self.old moment)) }
+        ensures stands { (q : Record) → is_free plan.now self.old.fork ≡ true → BootStands plan.now self.old q
+            → BootStands plan.now self.new (tell q (begin_told plan.now self.old moment)) }
         ensures once { self.old.begun ≡ true → (self.new ≡ self.old) × (list_of actions.new ≡ list_of actions.old) }
         ensures room { spare actions.old ≤ spare actions.new + 4 }
         ensures few { length (list_of actions.new) ≤ length (list_of actions.old) + 4 }
@@ -325,7 +327,8 @@ impl Boot {
     pub fn take_received(&mut self, good: bool)
         requires { is_trying self.old.receiving ≡ true }
         ensures after { self.new ≡ received good self.old }
-        ensures stands { (p : Plan) (q : Record) (bytes fds : List ℕ) → good ≡ is_read (decode bytes (length fds)) → BootStands p self.old q → BootStands p self.new (Got (Received bytes fds) ∷ q) }
+        ensures stands { (p : Plan) (q : Record) (bytes fds : List ℕ) → good ≡ is_read (decode bytes (length fds)) → BootStands p self.old q
+            → BootStands p self.new (Got (Received bytes fds) ∷ q) }
     {
         self.receiving = if good {
             Receiving::Came
@@ -341,7 +344,8 @@ impl Boot {
         ensures due { result ≡ is_complete_due self.old }
         ensures after { self.new ≡ completed_if result self.old }
         ensures told { list_of actions.new ≡ list_of actions.old ++ complete_told result moment }
-        ensures stands { (p : Plan) (q : Record) → is_free p self.old.fork ≡ true → BootStands p self.old q → BootStands p self.new (tell q (complete_told result moment)) }
+        ensures stands { (p : Plan) (q : Record) → is_free p self.old.fork ≡ true → BootStands p self.old q
+            → BootStands p self.new (tell q (complete_told result moment)) }
         ensures room { spare actions.old ≤ spare actions.new + 1 }
         ensures few { length (list_of actions.new) ≤ length (list_of actions.old) + 1 }
     {
@@ -370,7 +374,8 @@ impl Boot {
         ensures due { result ≡ is_due_in self.old.receiving moment }
         ensures after { self.new ≡ tried_if result self.old }
         ensures told { list_of actions.new ≡ list_of actions.old ++ try_told result }
-        ensures stands { (p : Plan) (q : Record) → moment ≡ now q → is_free p self.old.fork ≡ true → BootStands p self.old q → BootStands p self.new (tell q (try_told result)) }
+        ensures stands { (p : Plan) (q : Record) → moment ≡ now q → is_free p self.old.fork ≡ true → BootStands p self.old q
+            → BootStands p self.new (tell q (try_told result)) }
         ensures room { spare actions.old ≤ spare actions.new + 1 }
         ensures few { length (list_of actions.new) ≤ length (list_of actions.old) + 1 }
     {

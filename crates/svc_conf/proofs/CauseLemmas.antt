@@ -11,8 +11,8 @@ use Rattle.svc_conf.specs.declared.server.configuration.values.Value.{Value}
 use Rattle.svc_conf.specs.declared.server.configuration.said.Said.{Said}
 use Rattle.svc_conf.specs.declared.server.configuration.read_error.ReadError.{ReadError}
 use Rattle.svc_conf.specs.declared.server.configuration.read_error.ReadError.TheVariants as errors
-use Rattle.svc_conf.specs.declared.files.FileError.{FileError}
-use Rattle.svc_conf.specs.declared.files.FileError.TheVariants as files
+use Rattle.svc_base.specs.declared.files.FileError.{FileError}
+use Rattle.svc_base.specs.declared.files.FileError.TheVariants as files
 use Rattle.svc_conf.specs.Configuration.{defaults, judged}
 use Rattle.svc_conf.specs.Fields.{field_of, list_key}
 use Rattle.svc_conf.specs.Kinds.{kind_in, skips, place_of}

@@ -9,7 +9,8 @@ use Rattle.svc_conf.specs.declared.server.configuration.read_error.ReadError.The
 use Rattle.svc_conf.specs.Configuration.{defaults}
 use Rattle.svc_conf.specs.Fields.{key_of}
 use Rattle.svc_conf.specs.Kinds.{kind_of}
-use Rattle.svc_conf.specs.Values.{value_of, number_of}
+use Rattle.svc_conf.specs.Values.{value_of}
+use Rattle.svc_base.specs.Words.{number_of}
 use Rattle.svc_conf.specs.ConfigurationText.{configuration, new_text}
 
 abbrev text : List (List ℕ) → List ℕ

@@ -13,11 +13,12 @@ use Rattle.std.proofs.lemmas.Str.{is_utf8-from_IsUtf8, IsUtf8-from_ascii}
 use Rattle.std.proofs.lemmas.Fmt.{decimal_is_IsNumeral, IsAscii-decimal}
 use Rattle.std.proofs.lemmas.Str.Parse.{digit_from_value}
 use Rattle.svc_conf.specs.declared.server.configuration.values.Value.{Value}
-use Rattle.svc_conf.specs.TextLines.{is_blank, first_is, before_comment, unless_blank, without_end}
-use Rattle.svc_conf.specs.Values.{behind, double, is_mark, has_colon, ends_in_colon, is_plain, is_null_word, is_unset, value_of, number_of}
+use Rattle.svc_conf.specs.TextLines.{first_is, before_comment, unless_blank, without_end}
+use Rattle.svc_base.specs.Words.{is_blank, number_of}
+use Rattle.svc_conf.specs.Values.{behind, double, is_mark, has_colon, ends_in_colon, is_plain, is_null_word, is_unset, value_of}
 use Rattle.svc_conf.specs.Printing.{is_plain_byte, is_plain_front, needs_no_quotes, escape, text_shown, IsText}
-use Rattle.svc_conf.proofs.TextLineLemmas.{lines-then}
-use Rattle.svc_conf.proofs.TextNumberLemmas.{number_of-decimal}
+use Rattle.svc_base.proofs.LineLemmas.{lines-then}
+use Rattle.svc_base.proofs.DecimalLemmas.{number_of-decimal}
 use Rattle.svc_conf.proofs.ValueLemmas.{double-other}
 
 -- a byte that passes a test isn't one that fails it

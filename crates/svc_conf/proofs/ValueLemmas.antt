@@ -3,7 +3,8 @@ use Rattle.std.proofs.Common.{◌≡◌, ℕ, ◌+◌, ◌-◌, ◌<◌, ◌≤�
 use Rattle.std.proofs.lemmas.Bool.{cases_Bool}
 use Rattle.std.proofs.lemmas.List.{take_more}
 use Rattle.std.proofs.Math.Seq.{take-length}
-use Rattle.svc_conf.specs.TextLines.{is_blank, unless_blank, without_end}
+use Rattle.svc_conf.specs.TextLines.{unless_blank, without_end}
+use Rattle.svc_base.specs.Words.{is_blank}
 use Rattle.std.specs.Str.{is_utf8, IsUtf8}
 use Rattle.std.proofs.lemmas.Str.{is_utf8-from_IsUtf8, IsUtf8-from_is_utf8}
 use Rattle.svc_conf.specs.Values.{behind, double, ends_in_colon, value_in}

@@ -16,8 +16,8 @@ use Rattle.svc_conf.specs.declared.server.configuration.said.Said.{Said}
 use Rattle.svc_conf.specs.declared.server.configuration.said.Said.TheVariants as said
 use Rattle.svc_conf.specs.declared.server.configuration.read_error.ReadError.{ReadError}
 use Rattle.svc_conf.specs.declared.server.configuration.read_error.ReadError.TheVariants as errors
-use Rattle.svc_conf.specs.declared.files.FileError.{FileError}
-use Rattle.svc_conf.specs.declared.files.FileError.TheVariants as files
+use Rattle.svc_base.specs.declared.files.FileError.{FileError}
+use Rattle.svc_base.specs.declared.files.FileError.TheVariants as files
 use Rattle.svc_conf.specs.Configuration.{defaults, judged}
 use Rattle.svc_conf.specs.Keys.{key_name}
 use Rattle.svc_conf.specs.Fields.{field_of, list_key, set_number, set_flag, set_text, set_optional_text, set_optional_number, set_list, set_scale, held_list}

@@ -1,13 +1,10 @@
 pub mod Configuration
 pub mod ConfigurationText
 pub mod Fields
-pub mod FileCalls
-pub mod Items
 pub mod Keys
 pub mod Kinds
 pub mod OptWords
 pub mod OptionalNumbers
 pub mod Printing
-pub mod Streams
 pub mod TextLines
 pub mod Values

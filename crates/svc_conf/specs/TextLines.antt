@@ -2,14 +2,7 @@
 use Rattle.std.specs.Prelude.{ℕ, Bool, true, false, not, ◌||◌, ◌&&◌, ◌==◌, nat_lt, if◌then◌else◌, List, [], ◌∷◌, take, drop}
 use Rattle.std.specs.List.{position_or_len}
 use Rattle.std.specs.Char.{is_ascii_alphanumeric}
-
--- the byte that ends a line
-abbrev pub is_feed : ℕ → Bool
-is_feed b = b == 10
-
--- a space or a tab
-abbrev pub is_blank : ℕ → Bool
-is_blank b = (b == 32) || (b == 9)
+use Rattle.svc_base.specs.Words.{is_blank}
 
 -- an ASCII letter, a digit, `_`, `-` or `.`
 abbrev pub is_key_byte : ℕ → Bool

@@ -1,10 +1,8 @@
 -- What the values of a configuration text are, and what they are worth for a key.
-use Rattle.std.specs.Prelude.{ℕ, ◌^◌, Bool, true, false, not, ◌||◌, ◌&&◌, ◌==◌, nat_lt, if◌then◌else◌, List, [], ◌∷◌, ◌++◌, length, drop, Option, Some, None, slice_index, codes}
+use Rattle.std.specs.Prelude.{ℕ, ◌^◌, Bool, true, false, not, ◌||◌, ◌&&◌, ◌==◌, if◌then◌else◌, List, [], ◌∷◌, ◌++◌, length, drop, Option, Some, None, codes}
 use Rattle.std.specs.Option.{option_map}
 use Rattle.std.specs.List.{list_any}
 use Rattle.std.specs.Str.{bytes_eq, is_utf8}
-use Rattle.std.specs.Str.Parse.{digits_value}
-use Rattle.std.specs.Fmt.{decimal}
 use Rattle.svc_conf.specs.declared.server.configuration.runtime.RuntimeMetricsPollTimeHistogramScale.{RuntimeMetricsPollTimeHistogramScale}
 use Rattle.svc_conf.specs.declared.server.configuration.runtime.RuntimeMetricsPollTimeHistogramScale.TheVariants.{Linear, Log}
 use Rattle.svc_conf.specs.declared.server.configuration.field.OptionalNumberKey.{OptionalNumberKey}
@@ -16,6 +14,7 @@ use Rattle.svc_conf.specs.declared.server.configuration.said.Said.{Said}
 use Rattle.svc_conf.specs.declared.server.configuration.said.Said.TheVariants as said
 use Rattle.svc_conf.specs.TextLines.{first_is, past_blanks, is_end, before_comment, without_end}
 use Rattle.svc_conf.specs.OptionalNumbers.{is_zero}
+use Rattle.svc_base.specs.Words.{number_of}
 
 -- these bytes before a quoted text
 abbrev pub behind : List ℕ → Option (List ℕ × List ℕ) → Option (List ℕ × List ℕ)
@@ -97,14 +96,6 @@ is_null_word text = bytes_eq text (codes "null") || bytes_eq text (codes "Null")
 -- no value: nothing, or a null word
 abbrev pub is_unset : Value → Bool
 is_unset value = not value.quoted && ((length value.text == 0) || is_null_word value.text)
-
--- a sign, or a zero before further digits
-abbrev pub has_spare_front : List ℕ → Bool
-has_spare_front word = (slice_index word 0 == 43) || ((slice_index word 0 == 48) && nat_lt 1 (length word))
-
--- the number below the limit whose decimal text the bytes are
-unfoldable pub number_of : ℕ → List ℕ → Option ℕ
-number_of limit word = if nat_lt (digits_value 10 word) limit && bytes_eq (decimal (digits_value 10 word)) word then Some (digits_value 10 word) else None
 
 abbrev pub number_in : List ℕ → Option ℕ
 number_in text = number_of (2 ^ 64) text

@@ -1,29 +1,16 @@
-//! What every crate of the workspace uses: want of memory, texts, lists, settings, and sources and
-//! sinks of bytes that count their faults.
+//! The configuration of a server: its keys, its text, and the words of a command line. It names what
+//! `svc_base` has for all crates, too.
 #![tactic(auto)]
 
-mod equality;
-mod files;
-mod items;
-mod memory;
 pub mod server;
-mod settings;
-mod sink;
-mod source;
-mod status;
-mod text;
 
-pub use files::{FileCall, FileError, Files, MemoryFile, MemoryFiles, SteadyFiles, SystemFiles};
-pub use items::{Bytes, ItemRefused, Items, Numbers, Reserved, Settings, Texts};
-pub use memory::NoMemory;
 pub use server::configuration::{
     Key, Opt, OptError, ReadError, RuntimeMetricsOpts, RuntimeMetricsPollTimeHistogramScale,
     RuntimeOpts, ServerConf,
 };
-pub use settings::{Setting, TcpKeepalive};
-pub use sink::{MemorySink, Put, Sink, SteadySink, WriteFault, Writing, write_all};
-pub use source::{
-    MemorySource, READ_LIMIT, ReadAllError, Reading, Source, SteadySource, Taken, read_all,
+pub use svc_base::{
+    Bytes, FileCall, FileError, Files, ItemRefused, Items, MemoryFile, MemoryFiles, MemorySink,
+    MemorySource, NoMemory, Numbers, Put, READ_LIMIT, ReadAllError, Reading, Reserved, Setting,
+    Settings, Sink, Source, Status, SteadyFiles, SteadySink, SteadySource, SystemFiles, Taken,
+    TcpKeepalive, Text, Texts, WriteFault, Writing, read_all, write_all,
 };
-pub use status::Status;
-pub use text::Text;

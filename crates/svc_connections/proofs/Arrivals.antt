@@ -2,8 +2,8 @@
 use Rattle.std.proofs.Common.{ℕ, Bool, true, false, not, ◌==◌, ◌&&◌, ◌||◌, ◌+◌, ◌++◌, inl, inr, List, [], ◌∷◌, map, ◌≡◌, refl, ap, sym, ◌∙◌, subst, arith, Option, Some, None, if◌then◌else◌}
 use Rattle.std.specs.List.{list_all}
 use Rattle.std.proofs.lemmas.Bool.{eqb-true, eq-eqb, and_parts, and_from, or_parts, or_from, or_left, cases_Bool, not_from_true, not_from_false}
-use Rattle.svc_conf.specs.declared.settings.Setting.{Setting as SettingOption}
-use Rattle.svc_conf.specs.declared.settings.Setting.TheVariants.{NoDelay, KeepAlive, Dscp, SndBuf, RcvBuf}
+use Rattle.svc_base.specs.declared.settings.Setting.{Setting as SettingOption}
+use Rattle.svc_base.specs.declared.settings.Setting.TheVariants.{NoDelay, KeepAlive, Dscp, SndBuf, RcvBuf}
 use Rattle.svc_socket.specs.declared.peer.Peer.{Peer}
 use Rattle.svc_record.specs.declared.plan.Plan.{Plan}
 use Rattle.svc_record.specs.declared.entry.Entry.TheVariants.{Got, Told}
@@ -12,16 +12,16 @@ use Rattle.svc_record.specs.declared.action.ExecutionPhase.TheVariants.{Shutdown
 use Rattle.svc_record.specs.declared.event.Event.TheVariants.{Arrived}
 use Rattle.svc_record.specs.Record.{Record, has, times, tell, is_runtimes, before_runtimes, EachEntry}
 use Rattle.svc_record.specs.Asks.{is_set, is_shaken, is_settings, is_handshake}
-use Rattle.svc_record.specs.Drain.{put_number, ascending}
+use Rattle.svc_base.specs.NumberSets.{put_number, ascending, is_in, distinct}
 use Rattle.svc_record.specs.Connections.{Arrival, arrivals, arrived_numbers, is_arrival, goes_on, live_connections, is_known, has_filter, settings_list, same_settings, same_setting, is_judged, is_judged_as, is_refuse, is_settings_of, is_serve, is_drop, is_cut, is_finished, is_set_as, is_shaken_as, is_cut_off, connection_right, connection_known, rests_right, rest_due}
 use Rattle.svc_record.proofs.Closing.{arrival-in}
 use Rattle.svc_connections.specs.declared.stage.Connection.{Connection}
 use Rattle.svc_connections.specs.declared.stage.Stage.{Stage}
 use Rattle.svc_connections.specs.declared.stage.Stage.TheVariants.{Setting}
 use Rattle.svc_connections.specs.ConnectionsData.{ConnectionsData}
-use Rattle.svc_connections.specs.ConnectionsState.{ConnectionsStand, NumberStands, is_in, distinct, numbers, stage_of, is_new}
+use Rattle.svc_connections.specs.ConnectionsState.{ConnectionsStand, NumberStands, numbers, stage_of, is_new}
 use Rattle.svc_connections.specs.ConnectionsEffects.{put_connection, taken_in, arrived, arrived_told}
-use Rattle.svc_connections.proofs.NumberLemmas.{any-ascending}
+use Rattle.svc_base.proofs.NumberSetLemmas.{any-ascending}
 use Rattle.svc_connections.proofs.StageLemmas.{eqb-sym, put-other, put-here, numbers-put, none-is, filter-same}
 use Rattle.svc_connections.proofs.Aside.{aside, right-aside}
 use Rattle.svc_connections.proofs.Parts.{joined}

@@ -9,11 +9,12 @@ use Rattle.svc_record.specs.declared.action.Action.TheVariants.{Phase, Cut, Clos
 use Rattle.svc_record.specs.declared.action.ExecutionPhase.TheVariants.{ShutdownRuntimes, Terminated}
 use Rattle.svc_record.specs.Record.{Record, has, times, tell, now, before_runtimes, EachEntry}
 use Rattle.svc_record.specs.Connections.{Arrival, arrivals, arrived_numbers, is_arrival, is_cut, is_cut_off, goes_on, live_connections, connection_right, connection_known, ConnRight, rests_right, rest_due}
-use Rattle.svc_record.specs.Drain.{ascending, live_numbers, stop_seconds, last_actions}
+use Rattle.svc_record.specs.Drain.{live_numbers, stop_seconds, last_actions}
+use Rattle.svc_base.specs.NumberSets.{ascending, is_in, distinct}
 use Rattle.svc_record.proofs.Closing.{arrival-in}
 use Rattle.svc_record.proofs.Tallies.{one_if, tally, tally-ascending, if_kept, tally-filter, is_in-same, is_in-filter, each_in}
 use Rattle.svc_connections.specs.ConnectionsData.{ConnectionsData}
-use Rattle.svc_connections.specs.ConnectionsState.{ConnectionsStand, is_in, distinct}
+use Rattle.svc_connections.specs.ConnectionsState.{ConnectionsStand}
 use Rattle.svc_connections.proofs.Parts.{Parts, parts, joined, cut_right}
 use Rattle.svc_connections.proofs.Counts.{none-times}
 use Rattle.svc_connections.proofs.Foreign.{all-grows}

@@ -15,6 +15,7 @@ use Rattle.svc_connections.specs.ConnectionsData.{ConnectionsData}
 use Rattle.svc_connections.specs.ConnectionsState.{ConnectionsStand, stage_of}
 use Rattle.svc_connections.specs.ConnectionsFacts.{is_connection_event, touches_connections, has_no_connection_action}
 use Rattle.svc_connections.proofs.Aside.{aside, right-aside}
+use Rattle.svc_base.proofs.Logic.{apart_from as not_true}
 
 pub all-grows : (f g : Arrival → Bool) (xs : List Arrival) → ((x : Arrival) → f x ≡ true → g x ≡ true) → list_all f xs ≡ true → list_all g xs ≡ true
 all-grows f g [] grow h = refl
@@ -65,10 +66,6 @@ stands-got p d q e other w = record {
   known = (refl, w.known);
   goes_on = w.goes_on;
 }
-
-not_true : (b : Bool) → not b ≡ true → b ≡ false
-not_true true h = cc
-not_true false h = refl
 
 -- a told list in which nothing is of connections or ends the run
 pub stands-tell : (p : Plan) (d : ConnectionsData) (q : Record) (told : List Action) → has_no_connection_action told ≡ true → ConnectionsStand p d q → ConnectionsStand p d (tell q told)

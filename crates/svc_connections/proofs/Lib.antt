@@ -1,4 +1,3 @@
-pub mod NumberLemmas
 pub mod LiveLemmas
 pub mod Aside
 pub mod Parts

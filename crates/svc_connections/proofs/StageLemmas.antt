@@ -1,11 +1,11 @@
 -- How far connections have come after one of them went on, ended or arrived.
 use Rattle.std.proofs.Common.{ℕ, Bool, true, false, ◌&&◌, not, ◌==◌, inl, inr, List, [], ◌∷◌, ◌≡◌, refl, ap, sym, ◌∙◌, if◌then◌else◌, filter, nat_lt, Some, None, Option}
 use Rattle.std.proofs.lemmas.Bool.{eqb-true, eq-eqb, ne_eqb, cases_Bool, or_parts}
-use Rattle.svc_record.specs.Drain.{put_number}
+use Rattle.svc_base.specs.NumberSets.{put_number, is_in}
 use Rattle.svc_connections.specs.declared.stage.Connection.{Connection}
 use Rattle.svc_connections.specs.declared.stage.Stage.{Stage}
 use Rattle.svc_connections.specs.declared.stage.Stage.TheVariants.{Setting, Shaking, Serving}
-use Rattle.svc_connections.specs.ConnectionsState.{numbers, stage_of, is_in, is_live, is_setting, is_shaking, is_serving}
+use Rattle.svc_connections.specs.ConnectionsState.{numbers, stage_of, is_live, is_setting, is_shaking, is_serving}
 use Rattle.svc_connections.specs.ConnectionsEffects.{put_connection, at_stage, without}
 
 pub eqb-sym : (m n : ℕ) → (m == n) ≡ (n == m)

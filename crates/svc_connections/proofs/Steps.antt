@@ -9,15 +9,15 @@ use Rattle.svc_record.specs.declared.action.Action.TheVariants.{Handshake, Serve
 use Rattle.svc_record.specs.declared.event.Event.TheVariants.{Set, Shaken, Finished}
 use Rattle.svc_record.specs.Record.{Record, has, times, once_if, tell, is_runtimes, EachEntry}
 use Rattle.svc_record.specs.Asks.{is_handshake}
-use Rattle.svc_record.specs.Drain.{ascending}
+use Rattle.svc_base.specs.NumberSets.{ascending, distinct}
 use Rattle.svc_record.specs.Connections.{Arrival, arrivals, arrived_numbers, is_arrival, goes_on, live_connections, is_refuse, is_drop, is_finished, is_cut, is_serve, is_set_as, is_shaken_as, connection_right, connection_known, rests_right, rest_due}
 use Rattle.svc_connections.specs.declared.stage.Connection.{Connection}
 use Rattle.svc_connections.specs.declared.stage.Stage.{Stage}
 use Rattle.svc_connections.specs.declared.stage.Stage.TheVariants.{Setting, Shaking, Serving}
 use Rattle.svc_connections.specs.ConnectionsData.{ConnectionsData}
-use Rattle.svc_connections.specs.ConnectionsState.{ConnectionsStand, NumberStands, distinct, numbers, stage_of, is_setting, is_shaking, is_serving, is_live}
+use Rattle.svc_connections.specs.ConnectionsState.{ConnectionsStand, NumberStands, numbers, stage_of, is_setting, is_shaking, is_serving, is_live}
 use Rattle.svc_connections.specs.ConnectionsEffects.{at_stage, without, gone_on, set_told, shaken_told, finished}
-use Rattle.svc_connections.proofs.NumberLemmas.{filter-ascending}
+use Rattle.svc_base.proofs.NumberSetLemmas.{filter-ascending}
 use Rattle.svc_connections.proofs.LiveLemmas.{numbers-moved, numbers-without}
 use Rattle.svc_connections.proofs.StageLemmas.{eqb-sym, moved-other, moved-here, without-other, without-here, setting-is, shaking-is, serving-is, filter-less}
 use Rattle.svc_connections.proofs.Aside.{aside, right-aside}

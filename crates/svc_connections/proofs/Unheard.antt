@@ -1,7 +1,7 @@
 -- Of a connection that didn't arrive nothing was told.
 use Rattle.std.proofs.Common.{ℕ, Bool, true, false, ◌==◌, ◌||◌, List, [], ◌∷◌, ◌≡◌, refl, subst}
 use Rattle.std.proofs.lemmas.Bool.{ne_eqb, or_parts, or_from, and_left}
-use Rattle.svc_conf.specs.declared.settings.Setting.{Setting}
+use Rattle.svc_base.specs.declared.settings.Setting.{Setting}
 use Rattle.svc_record.specs.declared.plan.Plan.{Plan}
 use Rattle.svc_record.specs.declared.entry.Entry.{Entry}
 use Rattle.svc_record.specs.declared.entry.Entry.TheVariants.{Got, Told}

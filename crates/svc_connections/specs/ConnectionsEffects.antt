@@ -1,12 +1,12 @@
 -- What each call makes of the part on connections, and what it tells.
 use Rattle.std.specs.Prelude.{ℕ, Bool, ◌==◌, not, ◌&&◌, List, [], ◌∷◌, ◌++◌, map, filter, nat_lt, if◌then◌else◌}
-use Rattle.svc_conf.specs.declared.settings.Setting.{Setting}
-use Rattle.svc_conf.specs.declared.settings.Setting.TheVariants.{NoDelay}
+use Rattle.svc_base.specs.declared.settings.Setting.{Setting}
+use Rattle.svc_base.specs.declared.settings.Setting.TheVariants.{NoDelay}
 use Rattle.svc_socket.specs.declared.peer.Peer.{Peer}
 use Rattle.svc_record.specs.declared.action.Action.{Action}
 use Rattle.svc_record.specs.declared.action.Action.TheVariants.{Judged, Refuse, Settings as TellSettings, Handshake, Serve, Drop, Cut, Rest}
 use Rattle.svc_record.specs.Connections.{is_known, first_of, is_keepalive, is_dscp, is_send_buffer, is_receive_buffer}
-use Rattle.svc_record.specs.Drain.{put_number}
+use Rattle.svc_base.specs.NumberSets.{put_number}
 use Rattle.svc_connections.specs.declared.settings.Sort.{Sort}
 use Rattle.svc_connections.specs.declared.settings.Sort.TheVariants.{KeepAlive, Dscp, SendBuffer, ReceiveBuffer}
 use Rattle.svc_connections.specs.declared.stage.Connection.{Connection}

@@ -1,24 +1,15 @@
 -- The records that the part on connections stands for.
 use Rattle.std.specs.Prelude.{ℕ, Bool, true, false, ◌==◌, ◌≡◌, not, ◌&&◌, ◌||◌, List, [], ◌∷◌, Option, Some, None, map, nat_lt, if◌then◌else◌}
-use Rattle.std.specs.List.{list_any, list_all}
+use Rattle.std.specs.List.{list_all}
 use Rattle.svc_record.specs.declared.plan.Plan.{Plan}
 use Rattle.svc_record.specs.Record.{Record, has, is_runtimes, EachEntry}
 use Rattle.svc_record.specs.Asks.{is_settings_open, is_handshake_open, is_set, is_shaken}
 use Rattle.svc_record.specs.Connections.{arrived_numbers, is_arrival, is_serve, is_cut, is_finished, goes_on, live_connections, ConnRight, connection_known}
-use Rattle.svc_record.specs.Drain.{ascending}
+use Rattle.svc_base.specs.NumberSets.{ascending, distinct}
 use Rattle.svc_connections.specs.declared.stage.Connection.{Connection}
 use Rattle.svc_connections.specs.declared.stage.Stage.{Stage}
 use Rattle.svc_connections.specs.declared.stage.Stage.TheVariants.{Setting, Shaking, Serving}
 use Rattle.svc_connections.specs.ConnectionsData.{ConnectionsData}
-
--- the number stands in the list
-abbrev pub is_in : ℕ → List ℕ → Bool
-is_in c numbers = list_any (λ n. n == c) numbers
-
--- no number stands there twice
-abbrev pub distinct : List ℕ → Bool
-distinct [] = true
-distinct (n ∷ more) = not (is_in n more) && distinct more
 
 -- each number is below those behind it
 abbrev pub climbs : List ℕ → Bool

@@ -1,7 +1,7 @@
 //! What becomes of the connections of a run that goes on.
 
 ghost use Rattle.std.specs.Prelude.{◌≡◌, ◌+◌, ◌<◌, ◌≤◌, ◌++◌, ◌==◌, ◌^◌, [], ◌∷◌, length, ℕ, OnOk, true, false};
-ghost use Rattle.svc_conf.specs.Items.{list_of, spare};
+ghost use Rattle.svc_base.specs.Items.{list_of, spare};
 ghost use Rattle.svc_record.specs.declared.plan.Plan.{Plan};
 ghost use Rattle.svc_record.specs.declared.entry.Entry.TheVariants.{Got};
 ghost use Rattle.svc_record.specs.declared.event.Event.TheVariants.{Arrived, AcceptFailed, Set, Shaken, Finished};
@@ -13,12 +13,11 @@ ghost use Rattle.svc_connections.specs.ConnectionsData.{ConnectionsData};
 ghost use Rattle.svc_connections.specs.ConnectionsState.{ConnectionsStand, is_new, is_setting, is_shaking, is_serving, stage_of};
 ghost use Rattle.svc_connections.specs.ConnectionsEffects.{nothing, taken_in, arrived, arrived_told, judged_told, is_refused, gone_on, set_told, shaken_told, finished, rest_told, cuts};
 
-use crate::came::Came;
 use crate::live::Live;
 use crate::stage::{Connection, Stage};
 use std::alloc::Global;
 use std::marker::Model;
-use svc_conf::{NoMemory, Settings};
+use svc_base::{NoMemory, NumberSet, Settings};
 use svc_record::{Action, Actions};
 use svc_socket::Peer;
 
@@ -29,12 +28,12 @@ const TOO_MANY_FILES: u32 = 24;
 #[derive(Drop)]
 pub struct Connections {
     live: Live,
-    came: Came,
+    came: NumberSet,
 }
 
 impl Model for Connections {
     ghost use Rattle.std.specs.Prelude.{min};
-    ghost use Rattle.svc_conf.specs.Items.{list_of, spare};
+    ghost use Rattle.svc_base.specs.Items.{list_of, spare};
     ghost use Rattle.svc_connections.specs.ConnectionsData.{ConnectionsRoom};
 
     ghost Value = { ConnectionsRoom };
@@ -73,7 +72,8 @@ fn tell_judged(c: u64, peer: &Peer, said: bool, actions: &mut Actions)
 pub fn take_accept_failed(s: u32, i: u32, number: u32, actions: &mut Actions)
     requires room { 1 ≤ spare actions.old }
     ensures told { list_of actions.new ≡ list_of actions.old ++ rest_told s i number }
-    ensures stands { (p : Plan) (d : ConnectionsData) (q : Record) → is_endpoint p s i ≡ true → ConnectionsStand p d q → ConnectionsStand p d (tell (Got (AcceptFailed s i number) ∷ q) (rest_told s i number)) }
+    ensures stands { (p : Plan) (d : ConnectionsData) (q : Record) → is_endpoint p s i ≡ true → ConnectionsStand p d q
+        → ConnectionsStand p d (tell (Got (AcceptFailed s i number) ∷ q) (rest_told s i number)) }
     ensures room { spare actions.old ≤ spare actions.new + 1 }
     ensures few { length (list_of actions.new) ≤ length (list_of actions.old) + 1 }
 {
@@ -90,7 +90,7 @@ impl Connections {
     {
         Connections {
             live: Live::new(alloc),
-            came: Came::new(alloc),
+            came: NumberSet::new(alloc),
         }
     }
 
@@ -100,7 +100,7 @@ impl Connections {
         ensures room { OnOk result (0 < self.new.room) }
     {
         self.live.reserve()?;
-        self.came.reserve()
+        self.came.reserve(1)
     }
 
     /// No connection with this number has arrived.
@@ -176,7 +176,9 @@ impl Connections {
         requires room { 2 ≤ spare actions.old }
         ensures after { self.new.parts ≡ arrived c peer.now said self.old.parts }
         ensures told { list_of actions.new ≡ list_of actions.old ++ arrived_told c peer.now said settings }
-        ensures stands { (p : Plan) (s i : ℕ) (q : Record) → settings ≡ settings_list p s i → (has_filter p s i ≡ false → said ≡ true) → ConnectionsStand p self.old.parts q → ConnectionsStand p self.new.parts (tell (Got (Arrived s i c peer.now) ∷ q) (arrived_told c peer.now said settings)) }
+        ensures stands { (p : Plan) (s i : ℕ) (q : Record) → settings ≡ settings_list p s i → (has_filter p s i ≡ false → said ≡ true)
+            → ConnectionsStand p self.old.parts q
+            → ConnectionsStand p self.new.parts (tell (Got (Arrived s i c peer.now) ∷ q) (arrived_told c peer.now said settings)) }
         ensures room { spare actions.old ≤ spare actions.new + 2 }
         ensures few { length (list_of actions.new) ≤ length (list_of actions.old) + 2 }
     {
@@ -208,7 +210,8 @@ impl Connections {
         requires room { 1 ≤ spare actions.old }
         ensures after { self.new.parts ≡ gone_on c ok Shaking self.old.parts }
         ensures told { list_of actions.new ≡ list_of actions.old ++ set_told c ok }
-        ensures stands { (p : Plan) (q : Record) → ConnectionsStand p self.old.parts q → ConnectionsStand p self.new.parts (tell (Got (Set c ok) ∷ q) (set_told c ok)) }
+        ensures stands { (p : Plan) (q : Record) → ConnectionsStand p self.old.parts q
+            → ConnectionsStand p self.new.parts (tell (Got (Set c ok) ∷ q) (set_told c ok)) }
         ensures room { spare actions.old ≤ spare actions.new + 1 }
         ensures few { length (list_of actions.new) ≤ length (list_of actions.old) + 1 }
     {
@@ -226,7 +229,8 @@ impl Connections {
         requires room { 1 ≤ spare actions.old }
         ensures after { self.new.parts ≡ gone_on c ok Serving self.old.parts }
         ensures told { list_of actions.new ≡ list_of actions.old ++ shaken_told c ok }
-        ensures stands { (p : Plan) (q : Record) → ConnectionsStand p self.old.parts q → ConnectionsStand p self.new.parts (tell (Got (Shaken c ok) ∷ q) (shaken_told c ok)) }
+        ensures stands { (p : Plan) (q : Record) → ConnectionsStand p self.old.parts q
+            → ConnectionsStand p self.new.parts (tell (Got (Shaken c ok) ∷ q) (shaken_told c ok)) }
         ensures room { spare actions.old ≤ spare actions.new + 1 }
         ensures few { length (list_of actions.new) ≤ length (list_of actions.old) + 1 }
     {

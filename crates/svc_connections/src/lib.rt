@@ -2,7 +2,6 @@
 //! what is live at the end is cut.
 #![tactic(auto)]
 
-mod came;
 mod connections;
 mod live;
 mod settings;

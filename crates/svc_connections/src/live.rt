@@ -1,7 +1,7 @@
 //! The live connections.
 
 ghost use Rattle.std.specs.Prelude.{◌≡◌, ◌+◌, ◌-◌, ◌<◌, ◌≤◌, ◌++◌, ◌^◌, length, ℕ, Option, OnOk, IfOk, IfErr, [], insert, vec_len, vec_capacity, true};
-ghost use Rattle.svc_conf.specs.Items.{list_of, spare};
+ghost use Rattle.svc_base.specs.Items.{list_of, spare};
 ghost use Rattle.svc_connections.specs.ConnectionsState.{climbs, numbers, stage_of};
 ghost use Rattle.svc_connections.specs.ConnectionsEffects.{put_connection, at_stage, without, cuts};
 ghost use Rattle.svc_connections.specs.Places.{IsPlaceOf, IsGapFor};
@@ -9,7 +9,7 @@ ghost use Rattle.svc_connections.specs.Places.{IsPlaceOf, IsGapFor};
 use crate::stage::{Connection, Stage};
 use std::alloc::Global;
 use std::marker::Model;
-use svc_conf::NoMemory;
+use svc_base::NoMemory;
 use svc_record::{Action, Actions};
 
 /// Live connections in ascending number. Contracts see them and for how many more there is memory.

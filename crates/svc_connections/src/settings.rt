@@ -7,7 +7,7 @@ ghost use Rattle.svc_record.specs.Connections.{first_of, settings_list};
 ghost use Rattle.svc_connections.specs.ConnectionsEffects.{is_of_sort, settings_for};
 
 use std::alloc::Global;
-use svc_conf::{NoMemory, Setting, Settings};
+use svc_base::{NoMemory, Setting, Settings};
 use svc_record::Plan;
 
 /// The sorts of settings that an endpoint's options give.

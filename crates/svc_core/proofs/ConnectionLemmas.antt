@@ -14,7 +14,8 @@ use Rattle.svc_record.specs.Record.{Record, has, times, now, tell, is_signal, is
 use Rattle.svc_record.specs.Asks.{is_settings_open, is_handshake_open}
 use Rattle.svc_record.specs.Boot.{runs, has_begun}
 use Rattle.svc_record.specs.Connections.{arrived_numbers, is_arrival, is_serve, is_known, is_live_connection, has_filter}
-use Rattle.svc_record.specs.Drain.{has_passed, moment_right, ascending}
+use Rattle.svc_record.specs.Drain.{has_passed, moment_right}
+use Rattle.svc_base.specs.NumberSets.{ascending}
 use Rattle.svc_record.specs.Ends.{has_ended, ends_tested, TestedRight}
 use Rattle.svc_record.specs.Endpoints.{EndpointsRight, EndpointsRightLate}
 use Rattle.svc_record.specs.Fits.{fits, fits_row, accepts}
@@ -23,7 +24,7 @@ use Rattle.svc_record.specs.Right.{Right, OpenRight, EndedRight, in_service}
 use Rattle.svc_record.specs.Starts.{StartsRight}
 use Rattle.svc_record.proofs.Closing.{arrival-in}
 use Rattle.svc_record.proofs.Tallies.{is_in, is_in-same, tally-ascending}
-use Rattle.svc_conf.specs.declared.settings.Setting.{Setting}
+use Rattle.svc_base.specs.declared.settings.Setting.{Setting}
 use Rattle.svc_socket.specs.declared.peer.Peer.{Peer}
 use Rattle.svc_endpoints.specs.EndpointsState.{IsEndpointsSized}
 use Rattle.svc_endpoints.specs.Uses.{accepts_by}

@@ -6,9 +6,9 @@ use Rattle.std.proofs.lemmas.Bool.{eqb-true, and_from, and_parts}
 use Rattle.std.proofs.lemmas.List.{take_rest}
 use Rattle.std.proofs.lemmas.List.Folds.{list_all-append}
 use Rattle.std.proofs.lemmas.Slice.Eq.{bytes_eq-Decides}
-use Rattle.svc_conf.specs.declared.settings.TcpKeepalive.{TcpKeepalive}
-use Rattle.svc_conf.specs.declared.settings.Setting.{Setting}
-use Rattle.svc_conf.specs.declared.settings.Setting.TheVariants.{NoDelay, KeepAlive, Dscp, SndBuf, RcvBuf}
+use Rattle.svc_base.specs.declared.settings.TcpKeepalive.{TcpKeepalive}
+use Rattle.svc_base.specs.declared.settings.Setting.{Setting}
+use Rattle.svc_base.specs.declared.settings.Setting.TheVariants.{NoDelay, KeepAlive, Dscp, SndBuf, RcvBuf}
 use Rattle.svc_fds.specs.declared.encoding.Message.{Message}
 use Rattle.svc_socket.specs.declared.peer.Peer.{Peer}
 use Rattle.svc_record.specs.declared.plan.Plan.{Plan}

@@ -18,7 +18,8 @@ use Rattle.svc_record.specs.Boot.{BootRight, may_begin, has_begun, runs, start_a
 use Rattle.svc_record.specs.Closes.{ClosesRight, close_once}
 use Rattle.svc_record.specs.Connections.{ConnRight, connection_known, live_connections}
 use Rattle.svc_record.specs.Descriptors.{Descriptor, opened_descriptors, is_opened, is_close}
-use Rattle.svc_record.specs.Drain.{Drain, PhasesRight, is_ending, has_passed, every_moment_right, last_actions, live_numbers, ascending}
+use Rattle.svc_record.specs.Drain.{Drain, PhasesRight, is_ending, has_passed, every_moment_right, last_actions, live_numbers}
+use Rattle.svc_base.specs.NumberSets.{ascending}
 use Rattle.svc_record.specs.Ends.{has_ended, has_ended_early, ends_tested, TestedRight}
 use Rattle.svc_record.specs.Endpoints.{EndpointsRight}
 use Rattle.svc_record.specs.Failed.{has_failed, is_fail}

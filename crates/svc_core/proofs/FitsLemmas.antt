@@ -41,6 +41,7 @@ use Rattle.svc_core.proofs.StepLemmas.{fits-loop, loop-same, broadcast-told, fit
 use Rattle.svc_core.proofs.SignalLemmas.{fits-connect, fits-send}
 use Rattle.svc_core.proofs.HeldLemmas.{fits-side, fits-parent, parent-same}
 use Rattle.svc_core.proofs.ConnectionLemmas.{accepts-same, arrived-is, fits-accept, fits-arrived, fits-set, fits-shaken, fits-finished}
+use Rattle.svc_base.proofs.Logic.{apart_from as not_not}
 
 get-cases : (xs : List ServicePlan) (s : ℕ) → (slice_get xs s ≡ None) ⊎ (s < length xs)
 get-cases [] s = inl refl
@@ -61,9 +62,6 @@ endpoint-inside p s i h = elim (get-cases p.services s) [
 
 not_and : (a b : Bool) → (a && not b) ≡ true → b ≡ false
 not_and a b h = grind arith
-
-not_not : (b : Bool) → not b ≡ true → b ≡ false
-not_not b h = grind arith
 
 -- what has a kind is a service
 kind-inside : (p : Plan) (s : ℕ) → (has_kind p Notifying s || has_kind p Plain s) ≡ true → s < service_count p

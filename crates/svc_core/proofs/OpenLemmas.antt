@@ -46,6 +46,7 @@ use Rattle.svc_core.proofs.RecordLemmas.{EachEntry-weaker, not_true, signal-none
 use Rattle.svc_connections.specs.ConnectionsData.{ConnectionsData}
 use Rattle.svc_core.proofs.StartsLemmas.{count-start}
 use Rattle.svc_core.proofs.PassLemmas.{are-failed}
+use Rattle.svc_base.proofs.Logic.{apart_from as not_not}
 
 same_Bool : (a b : Bool) → (a ≡ true → b ≡ true) → (b ≡ true → a ≡ true) → a ≡ b
 same_Bool true b f g = sym (f refl)
@@ -78,9 +79,6 @@ pub moment-weaker : (e : Entry) (b : Record) → every_moment_right e b ≡ true
 moment-weaker (Told (Phase x ms)) b h = or_right (is_boot_phase x) (every_moment_right (Told (Phase x ms)) b) h
 moment-weaker (Told _) b h = h
 moment-weaker (Got e) b h = h
-
-not_not : (b : Bool) → not b ≡ true → b ≡ false
-not_not b h = grind arith
 
 when : (c : Bool) (A : Type 0) → (c ≡ true → A) → OnTrue c A
 when true A f = f refl

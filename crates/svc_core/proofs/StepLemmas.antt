@@ -15,7 +15,8 @@ use Rattle.svc_record.specs.Record.{Record, has, now, tell, last_step, is_runnin
 use Rattle.svc_record.specs.Asks.{is_bind_open, is_adopt_open, is_try_open}
 use Rattle.svc_record.specs.Boot.{has_begun, is_read, is_side_child}
 use Rattle.svc_record.specs.Descriptors.{brings}
-use Rattle.svc_record.specs.Drain.{has_passed, ascending}
+use Rattle.svc_record.specs.Drain.{has_passed}
+use Rattle.svc_base.specs.NumberSets.{ascending}
 use Rattle.svc_record.specs.Ends.{has_ended, step_end, ends_tested, has_ended_early, TestedRight}
 use Rattle.svc_record.specs.Fits.{fits, fits_row, may_end, are_new}
 use Rattle.svc_record.specs.Message.{decode}

@@ -8,7 +8,8 @@ use Rattle.svc_record.specs.declared.entry.Entry.TheVariants.{Got}
 use Rattle.svc_record.specs.Record.{Record, has}
 use Rattle.svc_record.specs.Descriptors.{brings, numbers_of}
 use Rattle.svc_record.specs.Connections.{live_connections}
-use Rattle.svc_record.specs.Drain.{ascending, live_numbers}
+use Rattle.svc_record.specs.Drain.{live_numbers}
+use Rattle.svc_base.specs.NumberSets.{ascending}
 use Rattle.svc_record.specs.Tail.{new_numbers, each_once}
 use Rattle.svc_record.proofs.Closing.{right_closes}
 use Rattle.svc_connections.specs.ConnectionsState.{numbers}

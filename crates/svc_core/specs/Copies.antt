@@ -1,7 +1,7 @@
 -- Actions that can be told twice.
 use Rattle.std.specs.Prelude.{Bool, true, false, ◌≡◌, ◌&&◌, List, [], ◌∷◌, ℕ, Option, Some, None, if◌then◌else◌}
 use Rattle.std.specs.List.{list_all}
-use Rattle.svc_conf.specs.declared.settings.Setting.{Setting}
+use Rattle.svc_base.specs.declared.settings.Setting.{Setting}
 use Rattle.svc_fds.specs.declared.encoding.Message.{Message}
 use Rattle.svc_record.specs.declared.action.Action.{Action}
 use Rattle.svc_record.specs.declared.action.Action.TheVariants.{Send, Judged, Settings as TellSettings}

@@ -5,7 +5,7 @@ use Rattle.svc_record.specs.declared.entry.Entry.TheVariants.{Got}
 use Rattle.svc_record.specs.declared.event.Event.{Event}
 use Rattle.svc_record.specs.Descriptors.{numbers_of}
 use Rattle.svc_record.specs.Tail.{each_once}
-use Rattle.svc_conf.specs.Items.{list_of, spare}
+use Rattle.svc_base.specs.Items.{list_of, spare}
 use Rattle.svc_record.specs.declared.action.Action.{Action}
 use Rattle.svc_endpoints.specs.EndpointsState.{open_numbers as table_numbers}
 use Rattle.svc_connections.specs.declared.stage.Connection.{Connection}

@@ -14,7 +14,8 @@ use Rattle.svc_record.specs.Plans.{service_count, endpoints, has_kind, is_endpoi
 use Rattle.svc_record.specs.Record.{Record, has, tell, last_step, EachEntry, EachEarlier}
 use Rattle.svc_record.specs.Boot.{has_begun, start_after_boot}
 use Rattle.svc_record.specs.AskRules.{FailsRight}
-use Rattle.svc_record.specs.Drain.{is_ending, ascending, live_numbers}
+use Rattle.svc_record.specs.Drain.{is_ending, live_numbers}
+use Rattle.svc_base.specs.NumberSets.{ascending}
 use Rattle.svc_record.specs.Ends.{step_end, ends_tested, TestedRight}
 use Rattle.svc_record.specs.Fits.{may_end}
 use Rattle.svc_record.specs.Offer.{one_ask}

@@ -1,10 +1,10 @@
 //! Actions that are told a second time.
 
 ghost use Rattle.std.specs.Prelude.{◌≡◌, ◌+◌, ◌≤◌, ◌++◌, ◌∷◌, [], length, true};
-ghost use Rattle.svc_conf.specs.Items.{list_of, spare};
+ghost use Rattle.svc_base.specs.Items.{list_of, spare};
 ghost use Rattle.svc_core.specs.Copies.{is_bare, is_copied, are_copied, left_of, copy_of};
 
-use svc_conf::Settings;
+use svc_base::Settings;
 use svc_fds::Message;
 use svc_record::{Action, Actions};
 

@@ -2,7 +2,7 @@
 
 ghost use Rattle.std.specs.Prelude.{◌≡◌, ◌+◌, ◌*◌, ◌<◌, ◌≤◌, ◌++◌, ◌&&◌, [], ◌∷◌, length, is_some, false, true, IfOk, OnErr, OnOk, Option, None};
 ghost use Rattle.svc_record.specs.declared.event.ShutdownSignal.{ShutdownSignal};
-ghost use Rattle.svc_conf.specs.Items.{list_of, spare};
+ghost use Rattle.svc_base.specs.Items.{list_of, spare};
 ghost use Rattle.svc_record.specs.Record.{Record, tell};
 ghost use Rattle.svc_record.specs.Descriptors.{live_table};
 ghost use Rattle.svc_record.specs.Offer.{is_empty_table};
@@ -37,8 +37,8 @@ use crate::plans::{address_of, asked_filter};
 use crate::starts::Starts;
 use std::alloc::Global;
 use std::marker::Model;
+use svc_base::NoMemory;
 use svc_boot::Boot;
-use svc_conf::NoMemory;
 use svc_connections::{Connections, settings_of};
 use svc_drain::Drain;
 use svc_endpoints::Endpoints;

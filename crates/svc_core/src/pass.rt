@@ -1,7 +1,7 @@
 //! The pass over the services: it starts what is due, asks for endpoints, and begins to bootstrap.
 
 ghost use Rattle.std.specs.Prelude.{◌≡◌, ◌+◌, ◌*◌, ◌-◌, ◌<◌, ◌≤◌, length, false};
-ghost use Rattle.svc_conf.specs.Items.{list_of, spare};
+ghost use Rattle.svc_base.specs.Items.{list_of, spare};
 ghost use Rattle.svc_record.specs.Validity.{IsValid, IsInOrder};
 ghost use Rattle.svc_endpoints.specs.EndpointsState.{IsEndpointsSized};
 ghost use Rattle.svc_core.specs.Copies.{TellsBare};

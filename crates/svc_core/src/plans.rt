@@ -7,7 +7,7 @@ ghost use Rattle.svc_record.specs.Judging.{asked_filter};
 ghost use Rattle.svc_record.specs.Fits.{may_end};
 ghost use Rattle.svc_graph.specs.declared.plan.Kind.TheVariants.{Plain, Notifying, Bootstrap};
 
-use svc_conf::Text;
+use svc_base::Text;
 use svc_graph::Kind;
 use svc_record::{Event, Plan};
 use svc_socket::Peer;

@@ -1,7 +1,7 @@
 //! The part of the core that starts services.
 
 ghost use Rattle.std.specs.Prelude.{◌≡◌, ◌+◌, ◌<◌, ◌≤◌, ◌++◌, length, IfOk};
-ghost use Rattle.svc_conf.specs.Items.{list_of, spare};
+ghost use Rattle.svc_base.specs.Items.{list_of, spare};
 ghost use Rattle.svc_record.specs.Plans.{service_count};
 ghost use Rattle.svc_record.specs.Validity.{IsValid};
 ghost use Rattle.svc_core.specs.StartsState.{IsStartsSized, IsBlank, is_flagged, ready_now, due_now, starts_now, start_if, start_told, word_taken, end_taken};
@@ -9,7 +9,7 @@ ghost use Rattle.svc_core.specs.StartsState.{IsStartsSized, IsBlank, is_flagged,
 use crate::plans::{depends_of, is_bootstrap, is_plain, service_count};
 use std::alloc::Global;
 use std::marker::Model;
-use svc_conf::NoMemory;
+use svc_base::NoMemory;
 use svc_record::{Action, Actions, Plan};
 
 /// Which services are started, which said that they are ready, and whose work is done.

@@ -1,8 +1,8 @@
 -- A worker's deeds one after the other.
 use Rattle.std.proofs.Common.{◌≡◌, ◌≢◌, ℕ, ◌+◌, ◌<◌, ◌≤◌, List, [], ◌∷◌, ◌++◌, length, Option, Some, None, refl, sym, ap, ◌∙◌, subst, arith, append_assoc, append-nil, length-append}
-use Rattle.svc_conf.specs.Streams.{Rose}
-use Rattle.svc_calls.specs.Calls.{Adds}
-use Rattle.svc_calls.proofs.CallLemmas.{Adds-nil, Adds-then}
+use Rattle.svc_base.specs.Streams.{Rose}
+use Rattle.svc_base.specs.Calls.{Adds}
+use Rattle.svc_base.proofs.CallLemmas.{Adds-nil, Adds-then}
 use Rattle.svc_record.specs.declared.event.Event.{Event}
 use Rattle.svc_record.specs.declared.action.Action.{Action}
 use Rattle.svc_record.specs.declared.action.StepEnd.TheVariants.{On}

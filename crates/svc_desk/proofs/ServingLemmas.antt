@@ -2,9 +2,9 @@
 use Rattle.std.proofs.Common.{◌≡◌, ◌⊎◌, inl, inr, ⊎_elim, ℕ, zero, suc, ◌+◌, ◌≤◌, List, [], ◌∷◌, ◌++◌, length, Option, sym, ap, ◌∙◌, subst}
 use mathlib.Core.Option.{some, some-ne-none, some-injective}
 use lib.ListN.{get_elem?}
-use Rattle.svc_conf.specs.Streams.{Rose}
-use Rattle.svc_calls.specs.Calls.{Adds}
-use Rattle.svc_calls.proofs.CallLemmas.{Adds-then}
+use Rattle.svc_base.specs.Streams.{Rose}
+use Rattle.svc_base.specs.Calls.{Adds}
+use Rattle.svc_base.proofs.CallLemmas.{Adds-then}
 use Rattle.svc_record.specs.declared.event.Event.{Event}
 use Rattle.svc_record.specs.declared.action.Action.{Action}
 use Rattle.svc_record.specs.declared.plan.Plan.{Plan}

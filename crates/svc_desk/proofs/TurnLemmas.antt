@@ -1,8 +1,8 @@
 -- One event of a worker, and one turn.
 use Rattle.std.proofs.Common.{◌≡◌, ◌≢◌, ℕ, ◌+◌, ◌≤◌, Bool, List, [], ◌∷◌, ◌++◌, length, Option, Some, None, refl, sym, ap, ◌∙◌, subst, arith, append-nil, length-append}
-use Rattle.svc_conf.specs.Items.{list_of}
-use Rattle.svc_calls.specs.Calls.{Adds}
-use Rattle.svc_calls.proofs.CallLemmas.{Adds-nil}
+use Rattle.svc_base.specs.Items.{list_of}
+use Rattle.svc_base.specs.Calls.{Adds}
+use Rattle.svc_base.proofs.CallLemmas.{Adds-nil}
 use Rattle.svc_record.specs.declared.event.Event.{Event}
 use Rattle.svc_record.specs.declared.action.Action.{Action}
 use Rattle.svc_record.specs.declared.action.StepEnd.{StepEnd}

@@ -1,7 +1,7 @@
 -- Two desks against the one journal of their workers.
 use Rattle.std.specs.Prelude.{◌≡◌, ◌⊎◌, ℕ, ◌+◌, ◌≤◌, List, [], ◌∷◌}
-use Rattle.svc_conf.specs.Items.{list_of}
-use Rattle.svc_calls.specs.Calls.{Adds}
+use Rattle.svc_base.specs.Items.{list_of}
+use Rattle.svc_base.specs.Calls.{Adds}
 use Rattle.svc_record.specs.declared.event.Event.{Event}
 use Rattle.svc_record.specs.declared.action.Action.{Action}
 use Rattle.svc_record.specs.declared.plan.Plan.{Plan}

@@ -1,7 +1,7 @@
 -- What a worker did with its pass and its desk, and the steps between.
 use Rattle.std.specs.Prelude.{◌≡◌, ◌≢◌, ℕ, ◌+◌, ◌≤◌, List, [], ◌∷◌, ◌++◌, length, Option, Some, None}
-use Rattle.svc_conf.specs.Items.{list_of}
-use Rattle.svc_calls.specs.Calls.{Adds}
+use Rattle.svc_base.specs.Items.{list_of}
+use Rattle.svc_base.specs.Calls.{Adds}
 use Rattle.svc_record.specs.declared.event.Event.{Event}
 use Rattle.svc_record.specs.declared.action.StepEnd.{StepEnd}
 use Rattle.svc_record.specs.declared.action.StepEnd.TheVariants.{On}

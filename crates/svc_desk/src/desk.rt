@@ -4,7 +4,7 @@ ghost use Rattle.std.specs.Prelude.{◌≡◌, [], ◌∷◌};
 ghost use Rattle.svc_desk.specs.Desks.{DeskData, IsTaken, IsPerformed, IsRefusedBy};
 
 use std::alloc::Global;
-use svc_conf::NoMemory;
+use svc_base::NoMemory;
 use svc_record::{Action, Event, Plan};
 
 /// What a desk answers where it is asked for the next event.

@@ -1,14 +1,13 @@
 //! A desk in memory.
 
 ghost use Rattle.std.specs.Prelude.{◌≡◌, [], reverse, Some, IfOk};
-ghost use Rattle.svc_calls.specs.Calls.{told_of, Adds};
+ghost use Rattle.svc_base.specs.Calls.{told_of, Adds};
 ghost use Rattle.svc_desk.specs.Desks.{brought};
 ghost use Rattle.svc_desk.specs.MemoryDesks.{GivesNext};
 
 use crate::desk::{Desk, DeskAnswer};
 use std::alloc::Global;
-use svc_calls::Calls;
-use svc_conf::NoMemory;
+use svc_base::{Calls, NoMemory};
 use svc_record::{Action, Event, Plan};
 
 /// What a desk in memory answers at a take.
@@ -84,7 +83,7 @@ fn next(alloc: Global, coming: &mut Vec<DeskItem>, taken: &mut Calls<Event>) -> 
 
 impl Desk for MemoryDesk {
     ghost use Rattle.std.specs.Prelude.{Some, None, ltb, if◌then◌else◌};
-    ghost use Rattle.svc_calls.specs.Calls.{told_of};
+    ghost use Rattle.svc_base.specs.Calls.{told_of};
 
     // The takes are told until their count stands at its greatest value.
     ghost seen = { λ d. record {

@@ -1,7 +1,7 @@
 //! Two desks, each with a worker of its own, over one server from its opening to its close.
 
 ghost use Rattle.std.specs.Prelude.{◌≡◌, ◌≤◌, IfOk, IfErr, OnOk};
-ghost use Rattle.svc_conf.specs.Items.{list_of};
+ghost use Rattle.svc_base.specs.Items.{list_of};
 ghost use Rattle.svc_record.specs.Validity.{IsValid};
 ghost use Rattle.svc_desk.specs.Serving.{AreSides, IsOpened, IsJournalOf, IsServed, IsHandedBack, desk_end};
 ghost use Rattle.svc_desk.specs.Working.{IsWorked};
@@ -13,7 +13,7 @@ use crate::worker::{WorkEnd, Worked, perform_all, work};
 use std::alloc::Global;
 use std::sync::Wait;
 use std::thread::{Threads, join};
-use svc_conf::NoMemory;
+use svc_base::NoMemory;
 use svc_record::{Actions, Plan};
 use svc_shared::{Gate, Pass, Post, SharedServer};
 use thiserror::Error;

@@ -1,6 +1,6 @@
 //! Events that were taken and didn't fit the journal.
 
-use svc_conf::Reserved;
+use svc_base::Reserved;
 
 /// An event whose post was refused, since it doesn't fit after the journal's first `seen` posts.
 #[derive(Clone, Copy, PartialEq, Eq, Debug)]

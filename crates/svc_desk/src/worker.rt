@@ -1,7 +1,7 @@
 //! A worker: it takes a desk's events, posts them, and lets the desk perform the actions of its posts.
 
 ghost use Rattle.std.specs.Prelude.{◌≡◌, ◌+◌, ◌<◌, ◌≤◌, Some};
-ghost use Rattle.svc_conf.specs.Items.{list_of, spare};
+ghost use Rattle.svc_base.specs.Items.{list_of, spare};
 ghost use Rattle.svc_desk.specs.Desks.{IsPerformed};
 ghost use Rattle.svc_desk.specs.Working.{IsWorked, IsHandled, IsTurned, IsSettled, end_by, fate_by};
 ghost use Rattle.svc_shared.specs.Posting.{IsOf};

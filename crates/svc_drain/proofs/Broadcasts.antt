@@ -16,12 +16,12 @@ use Rattle.svc_drain.specs.DrainData.{DrainData}
 use Rattle.svc_drain.specs.DrainState.{DrainStands, stage_fits, stage_marks, is_grace, is_broadcast_told}
 
 -- the mark is the broadcast
-abbrev is_the_broadcast : Mark → Bool
+abbrev pub is_the_broadcast : Mark → Bool
 is_the_broadcast broadcast = true
 is_the_broadcast _ = false
 
 -- the broadcast was told where its mark is
-marked-is : (q : Record) → has is_broadcast q ≡ list_any is_the_broadcast (told_marks q)
+pub marked-is : (q : Record) → has is_broadcast q ≡ list_any is_the_broadcast (told_marks q)
 marked-is [] = refl
 marked-is (Told (Phase x ms) ∷ q) = marked-is q ∙ by (is_boot_phase x)
   where

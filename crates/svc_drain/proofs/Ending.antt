@@ -7,7 +7,8 @@ use Rattle.svc_record.specs.declared.action.Action.TheVariants.{Phase, Cut, Clos
 use Rattle.svc_record.specs.declared.action.ExecutionPhase.TheVariants.{Running as RunningPhase, ShutdownRuntimes, Terminated}
 use Rattle.svc_record.specs.Record.{Record, has, tell, now, signal_of, is_running}
 use Rattle.svc_record.specs.Connections.{live_connections}
-use Rattle.svc_record.specs.Drain.{phase, marks_if, told_marks, due_marks, row_by, is_fast, stop_seconds, ascending, live_numbers, last_actions}
+use Rattle.svc_record.specs.Drain.{phase, marks_if, told_marks, due_marks, row_by, is_fast, stop_seconds, live_numbers, last_actions}
+use Rattle.svc_base.specs.NumberSets.{ascending}
 use Rattle.svc_drain.specs.DrainData.{DrainData}
 use Rattle.svc_drain.specs.DrainState.{DrainStands, IsDrainSettled, stage_marks, passes}
 use Rattle.svc_drain.specs.DrainEffects.{stop_after, stop_told, end_told}

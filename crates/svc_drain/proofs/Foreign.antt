@@ -18,6 +18,7 @@ use Rattle.svc_drain.specs.DrainData.{DrainData}
 use Rattle.svc_drain.specs.DrainState.{DrainStands, IsDrainSettled, OverIs, stage_fits, is_terminate_signal, rest_from, rest_at}
 use Rattle.svc_drain.specs.DrainFacts.{is_drain_event, is_drain_action, has_no_drain_action}
 use Rattle.svc_drain.proofs.Records.{rest-new}
+use Rattle.svc_base.proofs.Logic.{apart_from as not_true}
 
 -- a told action that says nothing of `Running` and of the marks
 kept-told : (p : Plan) (d : DrainData) (over : Option ℕ) (q : Record) (a : Action) → times is_running (Told a ∷ q) ≡ times is_running q → told_marks (Told a ∷ q) ≡ told_marks q
@@ -45,10 +46,6 @@ stands-told p d over q (Phase BootstrapComplete ms) other stand = kept-told p d 
 stands-told p d over q (Phase x ms) other stand = absurd (cc)
 stands-told p d over q Broadcast other stand = absurd (cc)
 stands-told p d over q a other stand = kept-told p d over q a refl refl stand
-
-not_true : (b : Bool) → not b ≡ true → b ≡ false
-not_true true h = cc
-not_true false h = refl
 
 -- a told list in which nothing is the part's
 pub stands-tell : (p : Plan) (d : DrainData) (over : Option ℕ) (q : Record) (told : List Action) → has_no_drain_action told ≡ true → DrainStands p d over q → DrainStands p d over (tell q told)

@@ -1,7 +1,7 @@
 //! The end of a run, from the first signal to the last action.
 
 ghost use Rattle.std.specs.Prelude.{◌≡◌, ◌+◌, ◌≤◌, ◌++◌, [], ◌∷◌, length, not, ℕ, Option, Some, None, true, false, if◌then◌else◌, is_some};
-ghost use Rattle.svc_conf.specs.Items.{list_of, spare};
+ghost use Rattle.svc_base.specs.Items.{list_of, spare};
 ghost use Rattle.svc_record.specs.declared.plan.Plan.{Plan};
 ghost use Rattle.svc_record.specs.declared.entry.Entry.TheVariants.{Got};
 ghost use Rattle.svc_record.specs.declared.event.Event.TheVariants.{Moment, Signal};
@@ -97,7 +97,8 @@ impl Drain {
     /// Time has gone on to this moment.
     pub fn take_moment(&mut self, ms: u64)
         ensures after { self.new ≡ at_moment ms self.old }
-        ensures stands { (p : Plan) (over : Option ℕ) (q : Record) → IsDrainSettled self.old over → DrainStands p self.old over q → DrainStands p self.new over (Got (Moment ms) ∷ q) }
+        ensures stands { (p : Plan) (over : Option ℕ) (q : Record) → IsDrainSettled self.old over → DrainStands p self.old over q
+            → DrainStands p self.new over (Got (Moment ms) ∷ q) }
     {
         self.moment = ms;
     }
@@ -105,8 +106,11 @@ impl Drain {
     /// A signal came, by which something is offered or not. Only the first has an effect.
     pub fn take_signal(&mut self, kind: ShutdownSignal, offers: bool)
         ensures after { self.new ≡ signalled kind offers self.old }
-        ensures first { (p : Plan) (over : Option ℕ) (q : Record) → has is_signal q ≡ false → self.old.running ≡ true → (is_upgrade (Some kind) ≡ true → offers ≡ not (is_empty_table (live_table p q))) → OverIs p (Got (Signal kind) ∷ q) over → DrainStands p self.old None q → DrainStands p self.new over (Got (Signal kind) ∷ q) }
-        ensures later { (p : Plan) (over : Option ℕ) (q : Record) → has is_signal q ≡ true → DrainStands p self.old over q → DrainStands p self.new over (Got (Signal kind) ∷ q) }
+        ensures first { (p : Plan) (over : Option ℕ) (q : Record) → has is_signal q ≡ false → self.old.running ≡ true
+            → (is_upgrade (Some kind) ≡ true → offers ≡ not (is_empty_table (live_table p q))) → OverIs p (Got (Signal kind) ∷ q) over
+            → DrainStands p self.old None q → DrainStands p self.new over (Got (Signal kind) ∷ q) }
+        ensures later { (p : Plan) (over : Option ℕ) (q : Record) → has is_signal q ≡ true → DrainStands p self.old over q
+            → DrainStands p self.new over (Got (Signal kind) ∷ q) }
     {
         if self.signal.is_some() {
             return;

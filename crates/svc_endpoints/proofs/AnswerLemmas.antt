@@ -1,5 +1,5 @@
 -- What each answer leaves, with what is told after it.
-use Rattle.std.proofs.Common.{ℕ, Bool, true, false, ◌||◌, ◌&&◌, ◌==◌, List, [], ◌∷◌, ◌++◌, ◌≡◌, refl, ap, sym, ◌∙◌, subst, arith, ◌<◌, ◌≤◌, ◌+◌, length, length-append, map, nat_lt, slice_index_or}
+use Rattle.std.proofs.Common.{ℕ, Bool, true, false, ◌||◌, ◌&&◌, ◌==◌, List, [], ◌∷◌, ◌++◌, ◌≡◌, refl, ap, sym, ◌∙◌, subst, arith, ◌<◌, ◌≤◌, ◌+◌, length, length-append, map, slice_index_or}
 use Rattle.std.proofs.lemmas.Bool.{or_left, or_right, eq-eqb}
 use Rattle.svc_record.specs.declared.plan.Plan.{Plan}
 use Rattle.svc_record.specs.declared.entry.Entry.TheVariants.{Got, Told}
@@ -11,7 +11,7 @@ use Rattle.svc_record.specs.Record.{Record, has, now, tell}
 use Rattle.svc_record.specs.Plans.{service_count, endpoints}
 use Rattle.svc_record.specs.Descriptors.{descriptors_of, numbers_of, is_close, is_opened}
 use Rattle.svc_record.specs.Closes.{is_gone, is_drained}
-use Rattle.svc_record.specs.Drain.{ascending}
+use Rattle.svc_base.specs.NumberSets.{ascending, distinct}
 use Rattle.svc_record.specs.Failed.{has_failed}
 use Rattle.svc_record.specs.Offer.{is_held_back}
 use Rattle.svc_record.specs.Tail.{numbers_in}
@@ -20,23 +20,21 @@ use Rattle.svc_endpoints.specs.declared.states.Last.{Last}
 use Rattle.svc_endpoints.specs.declared.states.Last.TheVariants.{Unasked, Binding, Busied, Adopting, Holding, Lost}
 use Rattle.svc_endpoints.specs.declared.states.EndState.{EndState}
 use Rattle.svc_endpoints.specs.EndpointsData.{EndpointsData}
-use Rattle.svc_endpoints.specs.EndpointsState.{IsEndpointsSized, AreOnOffer, LoopsStand, StatesKept, StatesStand, EndpointsStand, last_at, failed_at, refusals_at, is_asking, is_done, is_binding, is_adopting, numbers_of_table, distinct}
+use Rattle.svc_endpoints.specs.EndpointsState.{IsEndpointsSized, AreOnOffer, LoopsStand, StatesKept, StatesStand, EndpointsStand, last_at, failed_at, refusals_at, is_asking, is_done, is_binding, is_adopting, numbers_of_table}
 use Rattle.svc_endpoints.specs.Effects.{fail_if, put, is_last_refusal, refused, bind_failed, adopt_failed, adopted, held_now, cleared, cleared_if, given_up, given_up_if, gone_numbers, goes}
 use Rattle.svc_endpoints.specs.Uses.{uses, is_drained_by}
 use Rattle.svc_endpoints.proofs.FailedLemmas.{failed-bind_failed, failed-adopt_failed, failed-in_use}
 use Rattle.svc_endpoints.proofs.StatesLemmas.{stands-bind_failed, stands-adopt_failed, stands-adopted, stands-refused, last_refusal-is, table-fail, failed_at-fail}
 use Rattle.svc_endpoints.proofs.KeptLemmas.{asking_not_holding, binding_asks, adopting_asks, kept-refused, kept-bind_failed, kept-adopt_failed, kept-adopted, asks_free_binding, asks_free_adopting}
 use Rattle.svc_endpoints.proofs.GoneLemmas.{is_any_loop_end, is_turned, is_gone_now, loops-told, loops-got, closed-is}
-use Rattle.svc_endpoints.proofs.UseLemmas.{clash, false_where, drained-is}
+use Rattle.svc_endpoints.proofs.UseLemmas.{drained-is}
+use Rattle.svc_base.proofs.Logic.{clash, false_where, lt_true}
 use Rattle.svc_endpoints.proofs.ChangeLemmas.{Changed, loops-changed, drained-fails, drained-same, changed-not_done, changed-put, put-here, binding-unused}
 use Rattle.svc_endpoints.proofs.GrowLemmas.{failed-grows, gone-grows}
 use Rattle.svc_endpoints.proofs.FailLemmas.{fails-up}
 use Rattle.svc_endpoints.proofs.EventLemmas.{opened_is-event, numbers-event, place-event, turned-event, stand-event}
 use Rattle.svc_endpoints.proofs.ClearLemmas.{Answered, stands-cleared}
 use Rattle.svc_endpoints.proofs.RestLemmas.{picked-length}
-
-lt_true : (j i : ℕ) → j < i → nat_lt j i ≡ true
-lt_true j i h = grind arith
 
 -- what only gives up and closes
 pub giving-closes : (ns : List ℕ) → IsGivingUp (map Close ns)

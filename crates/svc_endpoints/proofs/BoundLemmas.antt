@@ -17,7 +17,8 @@ use Rattle.svc_endpoints.specs.declared.states.Last.{Last}
 use Rattle.svc_endpoints.specs.declared.states.Last.TheVariants.{Unasked, Holding}
 use Rattle.svc_endpoints.specs.declared.table.Open.{Open}
 use Rattle.svc_endpoints.specs.EndpointsData.{EndpointsData}
-use Rattle.svc_endpoints.specs.EndpointsState.{IsEndpointsSized, StatesKept, StatesStand, StandsAt, last_at, refusals_at, failed_at, numbers_with, is_binding, has_fd, fd_of, is_in}
+use Rattle.svc_endpoints.specs.EndpointsState.{IsEndpointsSized, StatesKept, StatesStand, StandsAt, last_at, refusals_at, failed_at, numbers_with, is_binding, has_fd, fd_of}
+use Rattle.svc_base.specs.NumberSets.{is_in}
 use Rattle.svc_endpoints.specs.Effects.{has_open, not_empty, with_number, with_open, bound, bound_again}
 use Rattle.svc_endpoints.proofs.PutLemmas.{last_at-put, refusals_at-put}
 use Rattle.svc_endpoints.proofs.OneLemmas.{one-bound}

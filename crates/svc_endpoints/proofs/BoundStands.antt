@@ -9,7 +9,7 @@ use Rattle.svc_record.specs.declared.event.Event.TheVariants.{Bound}
 use Rattle.svc_record.specs.Record.{Record, has, times, tell}
 use Rattle.svc_record.specs.Plans.{service_count, endpoints, address}
 use Rattle.svc_record.specs.Descriptors.{Descriptor, has_live, is_close, is_opened, is_doubled, address_of, brings}
-use Rattle.svc_record.specs.Drain.{ascending, put_number}
+use Rattle.svc_base.specs.NumberSets.{ascending, put_number, is_in, distinct}
 use Rattle.svc_record.specs.Closes.{is_gone, is_drained, is_received, is_address_unclaimed, is_address_abandoned, is_abandoned}
 use Rattle.svc_record.specs.Fits.{is_new}
 use Rattle.svc_record.specs.Offer.{is_held_back}
@@ -21,13 +21,14 @@ use Rattle.svc_endpoints.specs.declared.states.Last.{Last}
 use Rattle.svc_endpoints.specs.declared.states.Last.TheVariants.{Unasked, Holding}
 use Rattle.svc_endpoints.specs.EndpointsData.{EndpointsData}
 use Rattle.svc_endpoints.specs.Uses.{uses, is_drained_by}
-use Rattle.svc_endpoints.specs.EndpointsState.{IsEndpointsSized, EndpointsStand, last_at, failed_at, refusals_at, idle, is_binding, is_holding, is_done, is_in, distinct, numbers_with}
+use Rattle.svc_endpoints.specs.EndpointsState.{IsEndpointsSized, EndpointsStand, last_at, failed_at, refusals_at, idle, is_binding, is_holding, is_done, numbers_with}
 use Rattle.svc_endpoints.specs.Effects.{has_open, put_last, with_open, with_number, put_open, bound, bound_again, bound_or_again, close_told}
 use Rattle.svc_endpoints.proofs.GoneLemmas.{is_turned, is_gone_now, loops-told, loops-got}
 use Rattle.svc_endpoints.proofs.UseLemmas.{drained-is, used-not_drained}
 use Rattle.svc_endpoints.proofs.ChangeLemmas.{Changed, loops-changed, drained-same, changed-not_done, changed-put, put-here, binding-unused}
 use Rattle.svc_endpoints.proofs.GrowLemmas.{gone-same, address-same}
-use Rattle.svc_endpoints.proofs.NumberLemmas.{any-ascending, not_in}
+use Rattle.svc_base.proofs.NumberSetLemmas.{any-ascending}
+use Rattle.svc_base.proofs.Logic.{not_in, clash}
 use Rattle.svc_endpoints.proofs.StatesLemmas.{has_open-is}
 use Rattle.svc_endpoints.proofs.KeptLemmas.{asks_free_binding, asking_not_holding, binding_asks}
 use Rattle.svc_endpoints.proofs.TableLemmas.{numbers_of-put}
@@ -68,21 +69,12 @@ module _ (p : Plan) (d : EndpointsData) (q : Record) (s i fd : ℕ) (text : List
 
   not_doubled : is_doubled p q fd ≡ false
   not_doubled = not_true_false (is_doubled p q fd) (λ h. clash (is_opened p q fd) (doubled-opened p q fd h) not_opened)
-    where
-      clash : (b : Bool) → b ≡ true → b ≡ false → ⊥
-      clash b h g = cc
 
   not_in_table : (a : Option (List ℕ)) → is_in fd (numbers_with d.table a) ≡ false
   not_in_table a = not_true_false (is_in fd (numbers_with d.table a)) (λ h. clash (is_opened p q fd) (live-opened p q fd a (ap (is_in fd) (sym (stand.states.with_is a)) ∙ h)) not_opened)
-    where
-      clash : (b : Bool) → b ≡ true → b ≡ false → ⊥
-      clash b h g = cc
 
   not_received : is_received p q fd ≡ false
   not_received = not_true_false (is_received p q fd) (λ h. clash (is_opened p q fd) (received-opened p q fd h) not_opened)
-    where
-      clash : (b : Bool) → b ≡ true → b ≡ false → ⊥
-      clash b h g = cc
 
   -- its address isn't abandoned, since the service that asked hasn't failed
   needed : is_address_abandoned p q (address p s i) ≡ false

@@ -18,7 +18,8 @@ use Rattle.svc_endpoints.specs.Loops.{has_loop, loop_count}
 use Rattle.svc_endpoints.specs.Uses.{states_of, has_held, uses, is_holder_by, is_user, is_drained_by}
 use Rattle.svc_endpoints.proofs.PutLemmas.{last_at-put}
 use Rattle.svc_endpoints.proofs.StatesLemmas.{failed_at-fail, last_at-fail}
-use Rattle.svc_endpoints.proofs.UseLemmas.{clash, false_where, done-serves, drained-grows}
+use Rattle.svc_endpoints.proofs.UseLemmas.{done-serves, drained-grows}
+use Rattle.svc_base.proofs.Logic.{clash, false_where, bool_same}
 
 -- only this endpoint's state changed, which wasn't held, and whether its service has failed
 pub record Changed (p : Plan) (d d2 : EndpointsData) (s i : ℕ) : Type 0 where
@@ -27,11 +28,6 @@ pub record Changed (p : Plan) (d d2 : EndpointsData) (s i : ℕ) : Type 0 where
   pub failed : (t : ℕ) → ((t ≡ s) → ⊥) → failed_at d2 t ≡ failed_at d t
   pub within : i < length (endpoints p s)
   pub idle : is_holding (last_at d s i) ≡ false
-
-bool_same : (a b : Bool) → (a ≡ true → b ≡ true) → (b ≡ true → a ≡ true) → a ≡ b
-bool_same true b f g = sym (f refl)
-bool_same false true f g = g refl
-bool_same false false f g = refl
 
 -- what a failed service has, and isn't offered, isn't used
 quiet : (fd : ℕ) (f d : Bool) (x : Last) → f ≡ true → is_asking x ≡ false → uses fd f d x ≡ false

@@ -1,5 +1,5 @@
 -- Once what goes is closed, the endpoints stand for the longer record.
-use Rattle.std.proofs.Common.{ℕ, Bool, true, false, ◌||◌, ◌&&◌, ◌==◌, not, ◌⊎◌, inl, inr, List, [], ◌∷◌, ◌≡◌, refl, ap, sym, ◌∙◌, subst, arith, ◌<◌, ◌≤◌, length, Option, Some, None, map, filter, if◌then◌else◌}
+use Rattle.std.proofs.Common.{ℕ, Bool, true, false, ◌&&◌, ◌==◌, not, inl, inr, List, [], ◌∷◌, ◌≡◌, refl, ap, sym, ◌∙◌, subst, arith, ◌<◌, ◌≤◌, length, Option, Some, None, map, filter, if◌then◌else◌}
 use Rattle.std.specs.List.{list_any}
 use Rattle.std.proofs.lemmas.Bool.{cases_Bool, and_parts, and_from, and_left, or_cases, or_left, or_right, eqb-true}
 use Rattle.svc_record.specs.declared.plan.Plan.{Plan}
@@ -7,7 +7,8 @@ use Rattle.svc_record.specs.declared.action.Action.TheVariants.{Close}
 use Rattle.svc_record.specs.Record.{Record, has, tell, EachEntry}
 use Rattle.svc_record.specs.Plans.{service_count, endpoints, address, same_address}
 use Rattle.svc_record.specs.Descriptors.{Descriptor, opened_descriptors, live_numbers_with, is_opened, is_close, address_of, brings, has_number}
-use Rattle.svc_record.specs.Drain.{ascending, live_numbers}
+use Rattle.svc_record.specs.Drain.{live_numbers}
+use Rattle.svc_base.specs.NumberSets.{ascending, is_in, distinct}
 use Rattle.svc_record.specs.Failed.{has_failed, in_use_count}
 use Rattle.svc_record.specs.Fits.{is_new}
 use Rattle.svc_record.specs.Offer.{is_held_back}
@@ -17,10 +18,11 @@ use Rattle.svc_record.specs.Tail.{numbers_in}
 use Rattle.svc_record.proofs.ClosesOnce.{closed_once}
 use Rattle.svc_endpoints.specs.declared.table.Open.{Open}
 use Rattle.svc_endpoints.specs.EndpointsData.{EndpointsData}
-use Rattle.svc_endpoints.specs.EndpointsState.{LoopsStand, AreOnOffer, StatesKept, StatesStand, StandsAt, EndpointsStand, open_numbers, numbers_of_table, numbers_with, is_in, distinct, last_at, failed_at, refusals_at}
+use Rattle.svc_endpoints.specs.EndpointsState.{LoopsStand, AreOnOffer, StatesKept, StatesStand, StandsAt, EndpointsStand, open_numbers, numbers_of_table, numbers_with, last_at, failed_at, refusals_at}
 use Rattle.svc_endpoints.specs.Effects.{passes, is_abandoned_by, is_done_for, goes, gone_numbers, cleared}
 use Rattle.svc_endpoints.specs.Uses.{is_drained_by}
-use Rattle.svc_endpoints.proofs.NumberLemmas.{any-ascending, filter-ascending, in-filter, distinct-ascending, apart_from, not_in}
+use Rattle.svc_base.proofs.NumberSetLemmas.{any-ascending, filter-ascending, in-filter, distinct-ascending}
+use Rattle.svc_base.proofs.Logic.{apart_from, not_in, clash, bool_same, option_cases as cases_address, neither}
 use Rattle.svc_endpoints.proofs.GoneLemmas.{is_turned, is_gone_now, loops-table, loops-closes}
 use Rattle.svc_endpoints.proofs.UseLemmas.{drained-is, early-none}
 use Rattle.svc_endpoints.proofs.CloseLemmas.{along-closes, closed-tell, opened-tell, with-tell, numbers-tell, once-tell, left_out}
@@ -44,14 +46,6 @@ pub record Answered (p : Plan) (d : EndpointsData) (q : Record) : Type 0 where
   pub open_are : open_numbers d ≡ ascending (live_numbers p q)
   pub came_are : d.came ≡ ascending (numbers_in q)
   pub came_apart : distinct (numbers_in q) ≡ true
-
-clash : (b : Bool) → b ≡ true → b ≡ false → ⊥
-clash b h g = cc
-
-bool_same : (a b : Bool) → (a ≡ true → b ≡ true) → (b ≡ true → a ≡ true) → a ≡ b
-bool_same true b f g = sym (f refl)
-bool_same false true f g = g refl
-bool_same false false f g = refl
 
 -- the first with the number is live where the number isn't closed
 abbrev live_of : Record → List Descriptor → List Descriptor
@@ -83,10 +77,6 @@ some_address : (p : Plan) (q : Record) (a : Option (List ℕ)) → is_address_ab
 some_address p q (Some b) h = (b, refl, h)
 some_address p q None h = absurd (cc)
 
-cases_address : (a : Option (List ℕ)) → (a ≡ None) ⊎ ((w : List ℕ) × (a ≡ Some w))
-cases_address None = inl refl
-cases_address (Some w) = inr (w, refl)
-
 less : (f : ℕ → Bool) (xs : List ℕ) → length (filter f xs) ≤ length xs
 less f [] = omega arith
 less f (x ∷ xs) = let h = less f xs in elim (cases_Bool (f x)) [
@@ -96,9 +86,6 @@ less f (x ∷ xs) = let h = less f xs in elim (cases_Bool (f x)) [
 
 not_both : (b : Bool) → b ≡ true → not b ≡ true → ⊥
 not_both b h g = grind arith
-
-neither : (a b : Bool) → a ≡ false → b ≡ false → (a || b) ≡ false
-neither a b x y = rw (x, y) refl
 
 -- a number of the table is one of an entry
 some_number : (f : Open → Bool) (fd : ℕ) → ((o : Open) → o.fd ≡ fd → f o ≡ true) → (t : List Open) → is_in fd (numbers_of_table t) ≡ true → list_any f t ≡ true

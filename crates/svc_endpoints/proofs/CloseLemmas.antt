@@ -9,8 +9,8 @@ use Rattle.svc_record.specs.Plans.{same_address}
 use Rattle.svc_record.specs.Descriptors.{Descriptor, opened_descriptors, live_descriptors, live_numbers_with, is_opened, is_close}
 use Rattle.svc_record.specs.Drain.{live_numbers}
 use Rattle.svc_record.specs.Closes.{close_once}
-use Rattle.svc_endpoints.specs.EndpointsState.{is_in, distinct}
-use Rattle.svc_endpoints.proofs.NumberLemmas.{apart_from, not_in}
+use Rattle.svc_base.specs.NumberSets.{is_in, distinct}
+use Rattle.svc_base.proofs.Logic.{apart_from, not_in, neither, clash}
 
 -- what one close leaves, many leave
 pub along-closes : (P : Record → Type 0) → ((q : Record) (n : ℕ) → P q → P (Told (Close n) ∷ q)) → (q : Record) (ns : List ℕ) → P q → P (tell q (map Close ns))
@@ -93,11 +93,5 @@ once-tell p (n ∷ ns) q apart live h =
     ))
     (and_from (is_opened p q n) (not (has (is_close n) q)) here.0 (not_in (has (is_close n) q) here.1), h)
   where
-    neither : (a b : Bool) → a ≡ false → b ≡ false → (a || b) ≡ false
-    neither a b x y = rw (x, y) refl
-
     other : (g : ℕ) → is_in g ns ≡ true → is_in n ns ≡ false → (n == g) ≡ false
     other g there none = ne_eqb n g (λ e. let k = subst (λ m. is_in m ns ≡ true) (sym e) there in clash (is_in n ns) k none)
-      where
-        clash : (b : Bool) → b ≡ true → b ≡ false → ⊥
-        clash b x y = cc

@@ -10,7 +10,7 @@ use Rattle.svc_record.specs.declared.event.Event.TheVariants.{LoopEnded}
 use Rattle.svc_record.specs.Record.{Record, has, tell}
 use Rattle.svc_record.specs.Plans.{service_count, endpoints, endpoint_numbers, is_endpoint}
 use Rattle.svc_record.specs.Descriptors.{is_close, is_opened}
-use Rattle.svc_record.specs.Drain.{ascending}
+use Rattle.svc_base.specs.NumberSets.{ascending}
 use Rattle.svc_record.specs.Failed.{has_failed}
 use Rattle.svc_record.specs.Fits.{fits_row, accepts}
 use Rattle.svc_record.specs.Starts.{is_started}
@@ -27,10 +27,10 @@ use Rattle.svc_endpoints.specs.Uses.{uses, serves_by, accepts_by}
 use Rattle.svc_endpoints.specs.Effects.{loop_ended, cleared, gone_numbers}
 use Rattle.svc_endpoints.proofs.RangeLemmas.{fails0, all0}
 use Rattle.svc_endpoints.proofs.LoopLemmas.{ended-less, has_loop-more, loop_count-more}
-use Rattle.svc_endpoints.proofs.UseLemmas.{clash, drained-is, drained-grows}
+use Rattle.svc_endpoints.proofs.UseLemmas.{drained-is, drained-grows}
+use Rattle.svc_base.proofs.Logic.{clash, apart_from}
 use Rattle.svc_endpoints.proofs.StatesLemmas.{at_here}
 use Rattle.svc_endpoints.proofs.NamedLemmas.{all-same}
-use Rattle.svc_endpoints.proofs.NumberLemmas.{apart_from}
 use Rattle.svc_endpoints.proofs.VisitLemmas.{held-is}
 use Rattle.svc_endpoints.proofs.GoneLemmas.{is_turned, is_gone_now, closed-is}
 use Rattle.svc_endpoints.proofs.GrowLemmas.{gone-grows}

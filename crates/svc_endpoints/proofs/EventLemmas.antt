@@ -12,12 +12,13 @@ use Rattle.svc_record.specs.declared.event.ShutdownSignal.{ShutdownSignal}
 use Rattle.svc_record.specs.Record.{Record, has, is_signal, tell, EachEntry}
 use Rattle.svc_record.specs.Offer.{is_held_back}
 use Rattle.svc_record.specs.Descriptors.{Descriptor, descriptors_of, opened_descriptors, live_descriptors, is_opened, is_close, is_doubled, address_of, has_number, has_live, numbers_of}
-use Rattle.svc_record.specs.Drain.{ascending, live_numbers}
+use Rattle.svc_record.specs.Drain.{live_numbers}
+use Rattle.svc_base.specs.NumberSets.{ascending, distinct}
 use Rattle.svc_record.specs.Failed.{has_failed}
 use Rattle.svc_record.specs.Closes.{ClosesRight, is_gone, is_drained, is_address_abandoned, close_once}
 use Rattle.svc_record.specs.Tail.{numbers_in}
 use Rattle.svc_endpoints.specs.EndpointsData.{EndpointsData}
-use Rattle.svc_endpoints.specs.EndpointsState.{LoopsStand, StatesKept, StatesStand, EndpointsStand, numbers_of_table, distinct}
+use Rattle.svc_endpoints.specs.EndpointsState.{LoopsStand, StatesKept, StatesStand, EndpointsStand, numbers_of_table}
 use Rattle.svc_endpoints.specs.Uses.{is_drained_by}
 use Rattle.svc_endpoints.specs.Foreign.{is_endpoints_event, is_endpoints_action}
 use Rattle.svc_endpoints.proofs.GoneLemmas.{is_any_loop_end, loops-told, loops-got, is_turned, is_gone_now, closed-is, turned-same}

@@ -6,13 +6,14 @@ use Rattle.std.proofs.lemmas.List.Elements.{filter-append}
 use Rattle.svc_record.specs.declared.action.Action.{Action}
 use Rattle.svc_record.specs.declared.action.Action.TheVariants.{Close}
 use Rattle.svc_record.specs.Plans.{same_address}
-use Rattle.svc_record.specs.Drain.{put_number, ascending}
+use Rattle.svc_base.specs.NumberSets.{put_number, ascending, is_in}
 use Rattle.svc_record.specs.Tail.{each_once}
 use Rattle.svc_record.proofs.Tallies.{is_in-filter}
 use Rattle.svc_endpoints.specs.declared.table.Open.{Open}
-use Rattle.svc_endpoints.specs.EndpointsState.{is_in, all_new, numbers_with, numbers_of_table}
+use Rattle.svc_endpoints.specs.EndpointsState.{all_new, numbers_with, numbers_of_table}
 use Rattle.svc_endpoints.specs.Effects.{passes, put_open, put_opens, put_numbers, opens_of, numbers_out}
-use Rattle.svc_endpoints.proofs.NumberLemmas.{any-put, apart_from, length-put}
+use Rattle.svc_base.proofs.NumberSetLemmas.{any-put, length-put}
+use Rattle.svc_base.proofs.Logic.{apart_from}
 use Rattle.svc_endpoints.proofs.TableLemmas.{numbers_of-put}
 use Rattle.svc_endpoints.proofs.LiveLemmas.{numbers_with-put, same_self}
 use Rattle.svc_endpoints.proofs.RestLemmas.{with-None, rest-out-length}

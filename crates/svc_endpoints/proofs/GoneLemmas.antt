@@ -22,7 +22,8 @@ use Rattle.svc_record.specs.Closes.{is_gone, is_drained, is_holder, is_received,
 use Rattle.svc_record.proofs.ClosesOnce.{closed_once}
 use Rattle.svc_endpoints.specs.declared.table.Open.{Open}
 use Rattle.svc_endpoints.specs.EndpointsData.{EndpointsData}
-use Rattle.svc_endpoints.specs.EndpointsState.{LoopsStand, is_in}
+use Rattle.svc_endpoints.specs.EndpointsState.{LoopsStand}
+use Rattle.svc_base.specs.NumberSets.{is_in}
 use Rattle.svc_endpoints.proofs.OpenedLemmas.{first_address, opens-later, live-opened}
 use Rattle.svc_endpoints.proofs.CloseLemmas.{along-closes}
 use Rattle.svc_endpoints.proofs.UseLemmas.{get-endpoint}

@@ -10,7 +10,7 @@ use Rattle.svc_record.specs.Descriptors.{has_live, address_of}
 use Rattle.svc_record.specs.Failed.{has_failed, is_failure, is_in_use, in_use_count, in_use_limit}
 use Rattle.svc_record.specs.Closes.{is_abandoned, is_address_abandoned, is_gone, is_drained}
 use Rattle.svc_endpoints.proofs.RangeLemmas.{any-grows}
-use Rattle.svc_endpoints.proofs.NumberLemmas.{all-grows}
+use Rattle.svc_base.proofs.NumberSetLemmas.{all-grows}
 use Rattle.svc_record.specs.Offer.{is_held_back}
 use Rattle.svc_endpoints.proofs.GoneLemmas.{is_turned, is_gone_now}
 

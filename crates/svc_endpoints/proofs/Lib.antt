@@ -12,10 +12,8 @@ pub mod BoundLemmas
 pub mod SharedLemmas
 pub mod VisitLemmas
 pub mod VisitedLemmas
-pub mod NumberLemmas
 pub mod CloseLemmas
 pub mod RestLemmas
-pub mod WordLemmas
 pub mod OpenedLemmas
 pub mod GoneLemmas
 pub mod OfferLemmas

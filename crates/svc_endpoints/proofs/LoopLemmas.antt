@@ -10,6 +10,7 @@ use Rattle.svc_record.specs.Record.{Record, has}
 use Rattle.svc_record.specs.Closes.{is_loop_end, ended_loops}
 use Rattle.svc_endpoints.specs.declared.loops.LoopEnd.{LoopEnd}
 use Rattle.svc_endpoints.specs.Loops.{is_loop_of, is_loop, has_loop, loop_count}
+use Rattle.svc_base.proofs.Logic.{clash}
 
 lt_zero : (j : ℕ) → nat_lt j 0 ≡ false
 lt_zero j = grind arith
@@ -123,8 +124,5 @@ pub no_loops : (loops : List LoopEnd) → ((s i j : ℕ) → has_loop loops s i 
 no_loops [] h = refl
 no_loops (x ∷ loops) h = absurd (clash (has_loop (x ∷ loops) x.service x.endpoint x.number) here (h x.service x.endpoint x.number))
   where
-    clash : (b : Bool) → b ≡ true → b ≡ false → ⊥
-    clash b y n = cc
-
     here : has_loop (x ∷ loops) x.service x.endpoint x.number ≡ true
     here = rw (eq-eqb x.service x.service refl, eq-eqb x.endpoint x.endpoint refl, eq-eqb x.number x.number refl) refl

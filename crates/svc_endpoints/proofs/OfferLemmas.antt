@@ -1,5 +1,5 @@
 -- What is on offer was live before the signal, and what the first signal puts on offer.
-use Rattle.std.proofs.Common.{ℕ, Bool, true, false, ◌||◌, ◌&&◌, ◌==◌, not, ◌⊎◌, inl, inr, List, [], ◌∷◌, ◌≡◌, refl, ap, sym, ◌∙◌, subst, arith, Option, Some, None, filter, if◌then◌else◌}
+use Rattle.std.proofs.Common.{ℕ, Bool, true, false, ◌||◌, ◌&&◌, ◌==◌, not, inl, inr, List, [], ◌∷◌, ◌≡◌, refl, ap, sym, ◌∙◌, subst, arith, Option, Some, None, filter, if◌then◌else◌}
 use Rattle.std.specs.List.{list_any, filter_map}
 use Rattle.std.specs.Ordering.{nat_cmp, match_ordering}
 use Rattle.std.specs.declared.cmp.Ordering.{Ordering}
@@ -16,6 +16,7 @@ use Rattle.svc_record.specs.Message.{encode}
 use Rattle.svc_record.specs.Descriptors.{Descriptor, descriptors_of, opened_descriptors, live_descriptors, live_table, is_opened, is_close, has_number, as_entry}
 use Rattle.svc_record.specs.Offer.{is_upgrade, is_empty_table, is_written, is_answered, is_offered, is_over, is_held_back}
 use Rattle.svc_endpoints.proofs.OpenedLemmas.{opens-later}
+use Rattle.svc_base.proofs.Logic.{option_cases as cases_address}
 
 -- the table has the number
 abbrev in_table : ℕ → List TableEntry → Bool
@@ -49,10 +50,6 @@ puts_in fd (x ∷ pairs) es h = elim (or_cases (in_table fd pairs) (in_table fd 
     | inr before ↦ or_right (in_table fd (x ∷ pairs)) (in_table fd es) before
   ]
 ]
-
-cases_address : (a : Option (List ℕ)) → (a ≡ None) ⊎ ((w : List ℕ) × (a ≡ Some w))
-cases_address None = inl refl
-cases_address (Some w) = inr (w, refl)
 
 listed : (fd : ℕ) (xs : List Descriptor) → in_table fd (filter_map as_entry xs) ≡ true → list_any (has_number fd) xs ≡ true
 listed fd [] h = h
@@ -103,7 +100,7 @@ signal-none [] h = refl
 signal-none (Got (Signal kind) ∷ q) h = absurd (cc)
 signal-none (e ∷ q) h = signal-none q h
 
-signal-some : (q : Record) → has is_signal q ≡ true → (kind : ShutdownSignal) × (signal_of q ≡ Some kind)
+pub signal-some : (q : Record) → has is_signal q ≡ true → (kind : ShutdownSignal) × (signal_of q ≡ Some kind)
 signal-some [] h = absurd (cc)
 signal-some (Got (Signal kind) ∷ q) h = first (signal_of q)
   where

@@ -14,10 +14,10 @@ use Rattle.svc_record.specs.Message.{decode}
 use Rattle.svc_record.specs.Closes.{is_received}
 use Rattle.svc_record.specs.Drain.{live_numbers}
 use Rattle.svc_record.specs.Tail.{numbers_in}
-use Rattle.svc_endpoints.specs.EndpointsState.{is_in, distinct}
+use Rattle.svc_base.specs.NumberSets.{is_in, distinct}
 use Rattle.svc_endpoints.proofs.WordLemmas.{numbers-words}
 use Rattle.svc_endpoints.proofs.LiveLemmas.{same_eq}
-use Rattle.svc_endpoints.proofs.NumberLemmas.{apart_from}
+use Rattle.svc_base.proofs.Logic.{apart_from, clash}
 
 -- what an entry opens are its numbers
 opened-numbers_of : (p : Plan) (e : Entry) (more : List Descriptor) → map (λ (d : Descriptor). d.number) (descriptors_of p e ++ more) ≡ numbers_of e ++ map (λ (d : Descriptor). d.number) more
@@ -100,9 +100,6 @@ first-is fd a (x ∷ xs) apart h =
         | inr n ↦ rw n (first-is fd a xs parts.1 later)
       ]
     ]
-  where
-    clash : (b : Bool) → b ≡ true → b ≡ false → ⊥
-    clash b x y = cc
 
 -- what is live with an address was opened with it, and isn't closed
 live_pair : (fd : ℕ) (q : Record) (a : Option (List ℕ)) (xs : List Descriptor)

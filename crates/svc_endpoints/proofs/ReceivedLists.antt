@@ -8,9 +8,10 @@ use Rattle.svc_record.specs.Record.{Record, has}
 use Rattle.svc_record.specs.Plans.{same_address}
 use Rattle.svc_record.specs.Descriptors.{Descriptor, with_words, is_close}
 use Rattle.svc_endpoints.specs.declared.table.Open.{Open}
-use Rattle.svc_endpoints.specs.EndpointsState.{is_in, distinct, all_new, numbers_with, numbers_of_table}
+use Rattle.svc_endpoints.specs.EndpointsState.{all_new, numbers_with, numbers_of_table}
+use Rattle.svc_base.specs.NumberSets.{is_in, distinct}
 use Rattle.svc_endpoints.specs.Effects.{passes, opens_of, numbers_out, without_numbers}
-use Rattle.svc_endpoints.proofs.NumberLemmas.{apart_from}
+use Rattle.svc_base.proofs.Logic.{apart_from}
 use Rattle.svc_endpoints.proofs.OpenedLemmas.{first_address}
 
 -- a received descriptor

@@ -13,7 +13,8 @@ use Rattle.svc_record.specs.Record.{Record, has, tell, EachEntry}
 use Rattle.svc_record.specs.Message.{decode}
 use Rattle.svc_record.specs.Plans.{service_count, endpoints, address, same_address, is_unclaimed}
 use Rattle.svc_record.specs.Descriptors.{Descriptor, words_or_none, descriptors_of, opened_descriptors, live_descriptors, live_numbers_with, has_live, is_opened, is_close, is_doubled, address_of, has_number, brings}
-use Rattle.svc_record.specs.Drain.{ascending, live_numbers}
+use Rattle.svc_record.specs.Drain.{live_numbers}
+use Rattle.svc_base.specs.NumberSets.{ascending, is_in, distinct}
 use Rattle.svc_record.specs.Failed.{has_failed, in_use_count}
 use Rattle.svc_record.specs.AskRules.{FailsRight, ask_due, ask_known}
 use Rattle.svc_record.specs.Closes.{is_gone, is_drained, is_received, is_address_unclaimed, is_address_abandoned, close_once}
@@ -25,9 +26,10 @@ use Rattle.svc_endpoints.specs.declared.states.Last.{Last}
 use Rattle.svc_endpoints.specs.declared.states.Last.TheVariants.{Unasked, Binding, Busied, Adopting, Holding, Lost}
 use Rattle.svc_endpoints.specs.declared.table.Open.{Open}
 use Rattle.svc_endpoints.specs.EndpointsData.{EndpointsData}
-use Rattle.svc_endpoints.specs.EndpointsState.{LoopsStand, StatesKept, StatesStand, StandsAt, EndpointsStand, is_in, distinct, all_new, numbers_with, numbers_of_table, open_numbers, last_at, failed_at, refusals_at, has_fd, fd_of}
+use Rattle.svc_endpoints.specs.EndpointsState.{LoopsStand, StatesKept, StatesStand, StandsAt, EndpointsStand, all_new, numbers_with, numbers_of_table, open_numbers, last_at, failed_at, refusals_at, has_fd, fd_of}
 use Rattle.svc_endpoints.specs.Effects.{passes, has_open, not_empty, is_abandoned_by, turns_away, opens_of, numbers_out, without_numbers, put_numbers, turned_away, received}
-use Rattle.svc_endpoints.proofs.NumberLemmas.{any-ascending, apart_from, not_in, distinct-ascending}
+use Rattle.svc_base.proofs.NumberSetLemmas.{any-ascending, distinct-ascending}
+use Rattle.svc_base.proofs.Logic.{apart_from, not_in, clash, false_where, neither}
 use Rattle.svc_endpoints.proofs.GoneLemmas.{is_turned, is_gone_now, loops-got, loops-closes, loops-table, closed-is, drained-opened}
 use Rattle.svc_endpoints.proofs.OfferLemmas.{held-opened}
 use Rattle.svc_endpoints.proofs.CloseLemmas.{along-closes, closed-tell, opened-tell, with-tell, numbers-tell, once-tell, left_out}
@@ -40,16 +42,6 @@ use Rattle.svc_endpoints.proofs.OneLiveLemmas.{one_live-is}
 use Rattle.svc_endpoints.proofs.GatherLemmas.{puts-ascending, numbers-puts, with-puts, numbers-opens}
 use Rattle.svc_endpoints.proofs.DecodeLemmas.{read-apart}
 use Rattle.svc_endpoints.proofs.ReceivedLists.{as_received, words-descriptors, numbers-received, with-received, open-received, none-received, none-listed, first-later, some-received, one-received, out-received, words-one, without-same, new-in, new-apart, new-distinct, new-same}
-
-clash : (b : Bool) → b ≡ true → b ≡ false → ⊥
-clash b h g = cc
-
-false_where : (b : Bool) → (b ≡ true → ⊥) → b ≡ false
-false_where true f = absurd (f refl)
-false_where false f = refl
-
-neither : (a b : Bool) → a ≡ false → b ≡ false → (a || b) ≡ false
-neither a b x y = rw (x, y) refl
 
 fd_one : (x : Last) → has_fd x ≡ true → length (fd_of x) ≡ 1
 fd_one (Adopting fd) h = refl

@@ -9,13 +9,13 @@ use Rattle.svc_record.specs.Boot.{is_read}
 use Rattle.svc_record.specs.Record.{Record, tell}
 use Rattle.svc_record.specs.Message.{decode}
 use Rattle.svc_record.specs.Descriptors.{words_or_none}
-use Rattle.svc_record.specs.Drain.{ascending}
+use Rattle.svc_base.specs.NumberSets.{ascending, distinct}
 use Rattle.svc_record.specs.Told.{Tells, IsGivingUp}
 use Rattle.svc_endpoints.specs.declared.table.Open.{Open}
 use Rattle.svc_endpoints.specs.EndpointsData.{EndpointsData}
-use Rattle.svc_endpoints.specs.EndpointsState.{EndpointsStand, all_new, distinct}
+use Rattle.svc_endpoints.specs.EndpointsState.{EndpointsStand, all_new}
 use Rattle.svc_endpoints.specs.Effects.{passes, turns_away, turned_away, received, opens_of, numbers_out, without_numbers, put_numbers}
-use Rattle.svc_endpoints.proofs.NumberLemmas.{any-ascending}
+use Rattle.svc_base.proofs.NumberSetLemmas.{any-ascending}
 use Rattle.svc_endpoints.proofs.RestLemmas.{rest-out-length, part-by-number}
 use Rattle.svc_endpoints.proofs.AnswerLemmas.{giving-closes}
 use Rattle.svc_endpoints.proofs.GatherLemmas.{puts-none, length-puts, length-ascending, length-opens, numbers-opens}

@@ -1,5 +1,5 @@
 -- What the end of the offer leaves, with the closes that follow it.
-use Rattle.std.proofs.Common.{ℕ, Bool, true, false, List, [], ◌∷◌, ◌++◌, ◌≡◌, refl, ap, sym, ◌∙◌, subst, arith, ◌≤◌, ◌+◌, length, length-append, map}
+use Rattle.std.proofs.Common.{ℕ, true, false, List, [], ◌∷◌, ◌++◌, ◌≡◌, refl, ap, sym, ◌∙◌, subst, arith, ◌≤◌, ◌+◌, length, length-append, map}
 use Rattle.std.proofs.lemmas.Bool.{or_left}
 use Rattle.svc_record.specs.declared.plan.Plan.{Plan}
 use Rattle.svc_record.specs.declared.entry.Entry.TheVariants.{Got}
@@ -9,12 +9,12 @@ use Rattle.svc_record.specs.declared.event.Event.{Event}
 use Rattle.svc_record.specs.Record.{Record, has, tell}
 use Rattle.svc_record.specs.Descriptors.{is_close, is_opened}
 use Rattle.svc_record.specs.Closes.{is_gone, is_drained}
-use Rattle.svc_record.specs.Drain.{ascending}
+use Rattle.svc_base.specs.NumberSets.{ascending, distinct}
 use Rattle.svc_record.specs.Offer.{is_held_back}
 use Rattle.svc_record.specs.Tail.{numbers_in}
 use Rattle.svc_record.specs.Told.{Tells, IsGivingUp}
 use Rattle.svc_endpoints.specs.EndpointsData.{EndpointsData}
-use Rattle.svc_endpoints.specs.EndpointsState.{LoopsStand, EndpointsStand, distinct}
+use Rattle.svc_endpoints.specs.EndpointsState.{LoopsStand, EndpointsStand}
 use Rattle.svc_endpoints.specs.Effects.{cleared, gone_numbers}
 use Rattle.svc_endpoints.specs.Foreign.{is_endpoints_event}
 use Rattle.svc_endpoints.proofs.GoneLemmas.{is_turned, is_gone_now, loops-got, closed-is}
@@ -24,6 +24,7 @@ use Rattle.svc_endpoints.proofs.FailLemmas.{fails-same}
 use Rattle.svc_endpoints.proofs.EventLemmas.{IsForeign, foreign, opened_is-event, numbers-event, place-event, turned-event}
 use Rattle.svc_endpoints.proofs.ClearLemmas.{Answered, stands-cleared}
 use Rattle.svc_endpoints.proofs.AnswerLemmas.{giving-closes, cleared-few}
+use Rattle.svc_base.proofs.Logic.{clash}
 
 module _ (p : Plan) (d : EndpointsData) (q : Record) (e : Event) (is : IsForeign p d q e) (none : (fd : ℕ) → is_held_back p (Got e ∷ q) fd ≡ false) (stand : EndpointsStand p d q) where
   closed_now : (fd : ℕ) → is_opened p (Got e ∷ q) fd ≡ true → has (is_close fd) q ≡ is_gone p q fd
@@ -50,9 +51,6 @@ module _ (p : Plan) (d : EndpointsData) (q : Record) (e : Event) (is : IsForeign
     came_are = stand.came_are ∙ ap (λ w. ascending (w ++ numbers_in q)) (sym is.brings);
     came_apart = ap (λ w. distinct (w ++ numbers_in q)) is.brings ∙ stand.came_apart;
   }
-    where
-      clash : (b : Bool) → b ≡ true → b ≡ false → ⊥
-      clash b h g = cc
 
   stands-released : EndpointsStand p (cleared p [] d) (tell (Got e ∷ q) (map Close (gone_numbers p [] d d.table)))
   stands-released = stands-cleared p [] d (Got e ∷ q) (λ fd. sym (none fd)) answered

@@ -4,14 +4,12 @@ use Rattle.std.specs.List.{list_any}
 use Rattle.std.proofs.lemmas.Bool.{cases_Bool, and_parts, and_from, or_left, or_right, or_cases, or_parts, eq-eqb, eqb-true, ne_eqb}
 use Rattle.svc_record.specs.Plans.{same_address}
 use Rattle.svc_endpoints.specs.declared.table.Open.{Open}
-use Rattle.svc_endpoints.specs.EndpointsState.{is_in, distinct, numbers_with, numbers_of_table}
+use Rattle.svc_endpoints.specs.EndpointsState.{numbers_with, numbers_of_table}
+use Rattle.svc_base.specs.NumberSets.{is_in, distinct}
 use Rattle.svc_endpoints.specs.Effects.{passes, numbers_out, without_numbers}
 use Rattle.svc_endpoints.proofs.LiveLemmas.{same_eq, same_self}
 use Rattle.svc_endpoints.proofs.CloseLemmas.{left_out}
-use Rattle.svc_endpoints.proofs.NumberLemmas.{apart_from, not_in}
-
-clash : (b : Bool) → b ≡ true → b ≡ false → ⊥
-clash b h g = cc
+use Rattle.svc_base.proofs.Logic.{apart_from, not_in, clash}
 
 pub left-none : (ns xs : List ℕ) → ((g : ℕ) → is_in g xs ≡ true → is_in g ns ≡ false) → left_out ns xs ≡ xs
 left-none ns [] h = refl

@@ -5,10 +5,10 @@ use Rattle.std.proofs.lemmas.Bool.{cases_Bool, cases_eq, false_from_ne_true}
 use Rattle.std.proofs.lemmas.List.{append-nil, take_more, get_or-map, map-append}
 use Rattle.std.proofs.lemmas.List.Elements.{filter-append}
 use Rattle.std.proofs.lemmas.Bool.Decides.{Decides-ltb}
-use Rattle.svc_conf.specs.Items.{list_of, spare}
+use Rattle.svc_base.specs.Items.{list_of, spare}
 use Rattle.svc_record.specs.declared.action.Action.{Action}
 use Rattle.svc_record.specs.declared.action.Action.TheVariants.{Close}
-use Rattle.svc_record.specs.Drain.{put_number}
+use Rattle.svc_base.specs.NumberSets.{put_number}
 use Rattle.svc_endpoints.specs.EndpointsState.{numbers_with, numbers_of_table}
 use Rattle.svc_record.specs.Plans.{same_address}
 use Rattle.svc_endpoints.specs.Effects.{put_open}

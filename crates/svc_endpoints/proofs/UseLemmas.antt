@@ -13,13 +13,7 @@ use Rattle.svc_endpoints.specs.Loops.{has_loop, loop_count}
 use Rattle.svc_endpoints.specs.Uses.{has_held, uses, is_holder_by, is_user, any_of, any_endpoint, is_drained_by}
 use Rattle.svc_endpoints.proofs.RangeLemmas.{at0, get0}
 use Rattle.svc_endpoints.proofs.LoopLemmas.{some_loop}
-
-pub clash : (b : Bool) → b ≡ true → b ≡ false → ⊥
-clash b h g = cc
-
-pub false_where : (b : Bool) → (b ≡ true → ⊥) → b ≡ false
-false_where true f = absurd (f refl)
-false_where false f = refl
+use Rattle.svc_base.proofs.Logic.{clash, false_where}
 
 -- an endpoint of the plan that passes a test
 pub any-at_endpoint : (p : Plan) (f : ℕ → ℕ → Bool) (s i : ℕ) → s < service_count p → i < length (endpoints p s) → f s i ≡ true → any_endpoint p f ≡ true

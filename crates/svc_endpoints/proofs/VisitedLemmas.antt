@@ -1,5 +1,5 @@
 -- A visit leaves its service right.
-use Rattle.std.proofs.Common.{ℕ, Bool, true, false, zero, suc, ◌||◌, ◌&&◌, ◌==◌, not, ◌⊎◌, inl, inr, List, [], ◌∷◌, ◌++◌, ◌≡◌, refl, ap, sym, ◌∙◌, subst, arith, ◌<◌, ◌≤◌, ◌+◌, length, Option, Some, None, nat_lt, nat_le, slice_index_or}
+use Rattle.std.proofs.Common.{ℕ, Bool, true, false, zero, suc, ◌||◌, ◌&&◌, ◌==◌, not, ◌⊎◌, inl, inr, List, [], ◌∷◌, ◌++◌, ◌≡◌, refl, ap, sym, ◌∙◌, subst, arith, ◌<◌, ◌≤◌, ◌+◌, length, Option, Some, None, nat_le, slice_index_or}
 use Rattle.std.specs.List.{list_any, list_all, range_with_len}
 use Rattle.std.proofs.lemmas.Bool.{cases_Bool, cases_eq, cases_lt, and_parts, and_from, or_left, or_right, eq-eqb, ne_eqb}
 use Rattle.svc_record.specs.declared.plan.Plan.{Plan}
@@ -21,14 +21,16 @@ use Rattle.svc_endpoints.specs.declared.states.Last.TheVariants.{Unasked, Bindin
 use Rattle.svc_endpoints.specs.declared.visit.Visit.{Visit}
 use Rattle.svc_endpoints.specs.declared.visit.Visit.TheVariants.{Nothing, Asks, Offers}
 use Rattle.svc_endpoints.specs.EndpointsData.{EndpointsData}
-use Rattle.svc_endpoints.specs.EndpointsState.{IsEndpointsSized, LoopsStand, StatesKept, StatesStand, EndpointsStand, numbers_of_table, last_at, failed_at, numbers_with, is_binding, is_adopting, is_asking, is_holding, is_done, refusals_at, is_in, held_of}
+use Rattle.svc_endpoints.specs.EndpointsState.{IsEndpointsSized, LoopsStand, StatesKept, StatesStand, EndpointsStand, numbers_of_table, last_at, failed_at, numbers_with, is_binding, is_adopting, is_asking, is_holding, is_done, refusals_at, held_of}
+use Rattle.svc_base.specs.NumberSets.{is_in}
 use Rattle.svc_endpoints.specs.Effects.{first_of, not_empty, put_last, asked, offered}
 use Rattle.svc_endpoints.specs.Loops.{has_loop}
 use Rattle.svc_endpoints.proofs.OpenedLemmas.{live-pair}
 use Rattle.svc_endpoints.specs.Visits.{IsAskOf, busy_in, IsFirst, IsDecided, decide_at, after, told_by, Visited}
 use Rattle.svc_endpoints.proofs.GoneLemmas.{loops-told, is_gone_now, closed-is}
 use Rattle.svc_endpoints.proofs.LoopLemmas.{no_loops}
-use Rattle.svc_endpoints.proofs.UseLemmas.{clash, false_where, drained-is, used-not_drained}
+use Rattle.svc_endpoints.proofs.UseLemmas.{drained-is, used-not_drained}
+use Rattle.svc_base.proofs.Logic.{clash, false_where, lt_true}
 use Rattle.svc_endpoints.proofs.ChangeLemmas.{Changed, loops-changed, drained-same, changed-put, put-here}
 use Rattle.svc_endpoints.proofs.EventLemmas.{closes-told}
 use Rattle.svc_endpoints.specs.Uses.{uses, is_drained_by}
@@ -48,9 +50,6 @@ missing_range p q s a (suc n) j low high h m = elim (cases_eq a j) [
 
 le_true : (j i : ℕ) → j ≤ i → nat_le j i ≡ true
 le_true j i h = grind arith
-
-lt_true : (j i : ℕ) → j < i → nat_lt j i ≡ true
-lt_true j i h = grind arith
 
 -- an endpoint from the first missing one on is right, where that one waits
 right_by_wait : (p : Plan) (q : Record) (s j i : ℕ) → first_missing p q s (endpoint_numbers p s) ≡ Some j → j ≤ i → waits_at p q s j ≡ true → endpoint_right p q s i ≡ true

@@ -2,7 +2,7 @@
 use Rattle.std.proofs.Common.{ℕ, ◌||◌, ◌==◌, List, [], ◌∷◌, ◌++◌, ◌≡◌, refl, ap, map}
 use Rattle.std.specs.List.{list_any}
 use Rattle.svc_record.specs.Descriptors.{Descriptor, with_words, has_number}
-use Rattle.svc_endpoints.specs.EndpointsState.{is_in}
+use Rattle.svc_base.specs.NumberSets.{is_in}
 
 pub numbers-words : (fds : List ℕ) (words : List (List ℕ)) (more : List Descriptor) → map (λ (d : Descriptor). d.number) (with_words fds words ++ more) ≡ fds ++ map (λ (d : Descriptor). d.number) more
 numbers-words [] words more = refl

@@ -4,7 +4,7 @@ use Rattle.std.specs.List.{list_any, list_all}
 use Rattle.svc_record.specs.declared.plan.Plan.{Plan}
 use Rattle.svc_record.specs.Plans.{services, address, names, is_unclaimed}
 use Rattle.svc_record.specs.Failed.{in_use_limit}
-use Rattle.svc_record.specs.Drain.{put_number, ascending}
+use Rattle.svc_base.specs.NumberSets.{put_number, ascending, is_in}
 use Rattle.svc_record.specs.declared.action.Action.{Action}
 use Rattle.svc_record.specs.declared.action.Action.TheVariants.{Fail, Close}
 use Rattle.svc_endpoints.specs.declared.states.Last.{Last}
@@ -12,7 +12,7 @@ use Rattle.svc_endpoints.specs.declared.states.Last.TheVariants.{Unasked, Bindin
 use Rattle.svc_endpoints.specs.declared.states.EndState.{EndState}
 use Rattle.svc_endpoints.specs.declared.table.Open.{Open}
 use Rattle.svc_endpoints.specs.EndpointsData.{EndpointsData}
-use Rattle.svc_endpoints.specs.EndpointsState.{last_at, refusals_at, numbers_with, numbers_of_table, is_in}
+use Rattle.svc_endpoints.specs.EndpointsState.{last_at, refusals_at, numbers_with, numbers_of_table}
 use Rattle.svc_endpoints.specs.Uses.{is_drained_by}
 
 -- the first of them

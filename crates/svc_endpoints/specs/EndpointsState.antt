@@ -1,6 +1,5 @@
 -- The records that the states of endpoints stand for.
 use Rattle.std.specs.Prelude.{ℕ, Bool, true, false, ◌==◌, ◌≡◌, ◌<◌, ◌≤◌, ◌-◌, not, ◌&&◌, ◌||◌, List, [], ◌∷◌, Option, length, map, slice_index_or, nat_lt, if◌then◌else◌}
-use Rattle.std.specs.List.{list_any}
 use Rattle.svc_record.specs.declared.plan.Plan.{Plan}
 use Rattle.svc_record.specs.Plans.{service_count, endpoints, address, same_address}
 use Rattle.svc_record.specs.Record.{Record, has, EachEntry}
@@ -9,7 +8,8 @@ use Rattle.svc_record.specs.Asks.{is_bind_open, is_adopt_open, last_adopt}
 use Rattle.svc_record.specs.AskRules.{FailsRight, ask_due, ask_known}
 use Rattle.svc_record.specs.Closes.{ClosesRight, close_once, is_broadcast, is_loop_end, ended_loops}
 use Rattle.svc_record.specs.Offer.{is_held_back}
-use Rattle.svc_record.specs.Drain.{ascending, live_numbers}
+use Rattle.svc_record.specs.Drain.{live_numbers}
+use Rattle.svc_base.specs.NumberSets.{ascending, is_in, distinct}
 use Rattle.svc_record.specs.Endpoints.{held_numbers, in_use_within}
 use Rattle.svc_record.specs.Failed.{has_failed, in_use_count}
 use Rattle.svc_record.specs.Fits.{is_new}
@@ -111,19 +111,10 @@ abbrev pub numbers_with : List Open → Option (List ℕ) → List ℕ
 numbers_with [] a = []
 numbers_with (o ∷ more) a = if same_address o.address a then o.fd ∷ numbers_with more a else numbers_with more a
 
--- the number is in the list
-abbrev pub is_in : ℕ → List ℕ → Bool
-is_in fd xs = list_any (λ n. n == fd) xs
-
 -- none of the numbers came, and no two of them are equal
 abbrev pub all_new : List ℕ → List ℕ → Bool
 all_new came [] = true
 all_new came (fd ∷ fds) = (not (is_in fd came) && not (is_in fd fds)) && all_new came fds
-
--- no number stands twice in the list
-abbrev pub distinct : List ℕ → Bool
-distinct [] = true
-distinct (n ∷ more) = not (is_in n more) && distinct more
 
 -- one flag and one row for each service, and in the row a state for each of its endpoints, which are few
 pub record IsEndpointsSized (p : Plan) (d : EndpointsData) : Type 0 where

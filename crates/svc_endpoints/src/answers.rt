@@ -2,7 +2,7 @@
 
 ghost use Rattle.std.specs.Prelude.{◌≡◌, ◌+◌, ◌<◌, ◌≤◌, ◌++◌, ◌∷◌, ◌==◌, [], length, ℕ, Some, true, false, not, ◌&&◌, nat_lt};
 ghost use Rattle.std.specs.List.{list_any};
-ghost use Rattle.svc_conf.specs.Items.{list_of, spare};
+ghost use Rattle.svc_base.specs.Items.{list_of, spare};
 ghost use Rattle.svc_record.specs.declared.entry.Entry.TheVariants.{Got};
 ghost use Rattle.svc_record.specs.declared.event.Event.{Event};
 ghost use Rattle.svc_record.specs.declared.event.Event.TheVariants.{Bound, InUse, BindFailed, Adopted, AdoptFailed, LoopEnded};
@@ -24,7 +24,7 @@ use crate::endpoints::Endpoints;
 use crate::loops::{has_loop, is_done};
 use crate::naming::{address_of, endpoint_count, limit};
 use crate::states::{EndState, Last, held_now};
-use svc_conf::Text;
+use svc_base::Text;
 use svc_record::{Action, Actions, Plan};
 
 impl Endpoints {
@@ -48,7 +48,8 @@ impl Endpoints {
         requires memory { 0 < self.old.room }
         requires room { length self.old.parts.table + 2 ≤ spare actions.old }
         ensures sized { IsEndpointsSized plan.now self.new.parts }
-        ensures stands { Tells (list_of actions.old) (list_of actions.new) (λ told. IsGivingUp told × ((q : Record) → EndpointsStand plan.now self.old.parts q → EndpointsStand plan.now self.new.parts (tell (Got (Bound s i fd) ∷ q) told))) }
+        ensures stands { Tells (list_of actions.old) (list_of actions.new) (λ told. IsGivingUp told
+            × ((q : Record) → EndpointsStand plan.now self.old.parts q → EndpointsStand plan.now self.new.parts (tell (Got (Bound s i fd) ∷ q) told))) }
         ensures room { spare actions.old + length self.new.parts.table ≤ spare actions.new + length self.old.parts.table + 2 }
         ensures few { length (list_of actions.new) + length self.new.parts.table ≤ length (list_of actions.old) + length self.old.parts.table + 2 }
     {
@@ -73,7 +74,9 @@ impl Endpoints {
         requires asks { is_binding (last_at self.old.parts s i) ≡ true }
         requires room { length self.old.parts.table + 2 ≤ spare actions.old }
         ensures sized { IsEndpointsSized plan.now self.new.parts }
-        ensures stands { Tells (list_of actions.old) (list_of actions.new) (λ told. IsGivingUp told × ((q : Record) → moment ≡ now q → AreOnOffer plan.now kept.now q → EndpointsStand plan.now self.old.parts q → EndpointsStand plan.now self.new.parts (tell (Got (InUse s i) ∷ q) told))) }
+        ensures stands { Tells (list_of actions.old) (list_of actions.new) (λ told. IsGivingUp told
+            × ((q : Record) → moment ≡ now q → AreOnOffer plan.now kept.now q → EndpointsStand plan.now self.old.parts q
+            → EndpointsStand plan.now self.new.parts (tell (Got (InUse s i) ∷ q) told))) }
         ensures room { spare actions.old + length self.new.parts.table ≤ spare actions.new + length self.old.parts.table + 2 }
         ensures few { length (list_of actions.new) + length self.new.parts.table ≤ length (list_of actions.old) + length self.old.parts.table + 2 }
     {
@@ -97,7 +100,9 @@ impl Endpoints {
         requires asks { is_binding (last_at self.old.parts s i) ≡ true }
         requires room { length self.old.parts.table + 2 ≤ spare actions.old }
         ensures sized { IsEndpointsSized plan.now self.new.parts }
-        ensures stands { Tells (list_of actions.old) (list_of actions.new) (λ told. IsGivingUp told × ((q : Record) → AreOnOffer plan.now kept.now q → EndpointsStand plan.now self.old.parts q → EndpointsStand plan.now self.new.parts (tell (Got (BindFailed s i) ∷ q) told))) }
+        ensures stands { Tells (list_of actions.old) (list_of actions.new) (λ told. IsGivingUp told
+            × ((q : Record) → AreOnOffer plan.now kept.now q → EndpointsStand plan.now self.old.parts q
+            → EndpointsStand plan.now self.new.parts (tell (Got (BindFailed s i) ∷ q) told))) }
         ensures room { spare actions.old + length self.new.parts.table ≤ spare actions.new + length self.old.parts.table + 2 }
         ensures few { length (list_of actions.new) + length self.new.parts.table ≤ length (list_of actions.old) + length self.old.parts.table + 2 }
     {
@@ -134,7 +139,9 @@ impl Endpoints {
         requires asks { is_adopting (last_at self.old.parts s i) ≡ true }
         requires room { length self.old.parts.table + 2 ≤ spare actions.old }
         ensures sized { IsEndpointsSized plan.now self.new.parts }
-        ensures stands { Tells (list_of actions.old) (list_of actions.new) (λ told. IsGivingUp told × ((q : Record) → AreOnOffer plan.now kept.now q → EndpointsStand plan.now self.old.parts q → EndpointsStand plan.now self.new.parts (tell (Got (AdoptFailed s i) ∷ q) told))) }
+        ensures stands { Tells (list_of actions.old) (list_of actions.new) (λ told. IsGivingUp told
+            × ((q : Record) → AreOnOffer plan.now kept.now q → EndpointsStand plan.now self.old.parts q
+            → EndpointsStand plan.now self.new.parts (tell (Got (AdoptFailed s i) ∷ q) told))) }
         ensures room { spare actions.old + length self.new.parts.table ≤ spare actions.new + length self.old.parts.table + 2 }
         ensures few { length (list_of actions.new) + length self.new.parts.table ≤ length (list_of actions.old) + length self.old.parts.table + 2 }
     {
@@ -157,7 +164,9 @@ impl Endpoints {
         requires memory { 0 < self.old.loop_room }
         requires room { length self.old.parts.table ≤ spare actions.old }
         ensures sized { IsEndpointsSized plan.now self.new.parts }
-        ensures stands { Tells (list_of actions.old) (list_of actions.new) (λ told. IsGivingUp told × ((q : Record) → fits_row plan.now q (LoopEnded s i j) ≡ true → AreOnOffer plan.now kept.now q → EndpointsStand plan.now self.old.parts q → EndpointsStand plan.now self.new.parts (tell (Got (LoopEnded s i j) ∷ q) told))) }
+        ensures stands { Tells (list_of actions.old) (list_of actions.new) (λ told. IsGivingUp told
+            × ((q : Record) → fits_row plan.now q (LoopEnded s i j) ≡ true → AreOnOffer plan.now kept.now q → EndpointsStand plan.now self.old.parts q
+            → EndpointsStand plan.now self.new.parts (tell (Got (LoopEnded s i j) ∷ q) told))) }
         ensures failed { self.new.parts.failed ≡ self.old.parts.failed }
         ensures came { self.new.parts.came ≡ self.old.parts.came }
         ensures room { spare actions.old + length self.new.parts.table ≤ spare actions.new + length self.old.parts.table }
@@ -172,8 +181,10 @@ impl Endpoints {
     pub fn loop_fits(&self, plan: &Plan, s: u32, i: u32, j: u64, started: bool) -> bool
         requires sized { IsEndpointsSized plan.now self.now.parts }
         requires service { s < service_count plan.now }
-        ensures is { result ≡ (serves_by plan.now self.now.parts started s && (is_endpoint plan.now s i && (nat_lt j plan.now.tasks && not (has_loop self.now.parts.loops s i j)))) }
-        ensures means { (q : Record) → started ≡ is_started q s → EndpointsStand plan.now self.now.parts q → result ≡ ((serves plan.now q s && is_endpoint plan.now s i) && (nat_lt j plan.now.tasks && not (has (is_loop_end s i j) q))) }
+        ensures is { result ≡ (serves_by plan.now self.now.parts started s
+            && (is_endpoint plan.now s i && (nat_lt j plan.now.tasks && not (has_loop self.now.parts.loops s i j)))) }
+        ensures means { (q : Record) → started ≡ is_started q s → EndpointsStand plan.now self.now.parts q
+            → result ≡ ((serves plan.now q s && is_endpoint plan.now s i) && (nat_lt j plan.now.tasks && not (has (is_loop_end s i j) q))) }
     {
         self.serves(plan, s, started) && self.goes_on(plan, s, i, j)
     }
@@ -224,7 +235,9 @@ impl Endpoints {
         requires sized { IsEndpointsSized plan.now self.old.parts }
         requires room { length self.old.parts.table ≤ spare actions.old }
         ensures sized { IsEndpointsSized plan.now self.new.parts }
-        ensures stands { Tells (list_of actions.old) (list_of actions.new) (λ told. IsGivingUp told × ((q : Record) (e : Event) → is_endpoints_event e ≡ false → ((fd : ℕ) → is_held_back plan.now (Got e ∷ q) fd ≡ false) → EndpointsStand plan.now self.old.parts q → EndpointsStand plan.now self.new.parts (tell (Got e ∷ q) told))) }
+        ensures stands { Tells (list_of actions.old) (list_of actions.new) (λ told. IsGivingUp told
+            × ((q : Record) (e : Event) → is_endpoints_event e ≡ false → ((fd : ℕ) → is_held_back plan.now (Got e ∷ q) fd ≡ false)
+            → EndpointsStand plan.now self.old.parts q → EndpointsStand plan.now self.new.parts (tell (Got e ∷ q) told))) }
         ensures failed { self.new.parts.failed ≡ self.old.parts.failed }
         ensures came { self.new.parts.came ≡ self.old.parts.came }
         ensures room { spare actions.old + length self.new.parts.table ≤ spare actions.new + length self.old.parts.table }

@@ -2,22 +2,23 @@
 
 ghost use Rattle.std.specs.Prelude.{◌≡◌, ◌+◌, ◌<◌, ◌≤◌, ◌++◌, ◌∷◌, ◌==◌, [], length, slice_index_or, ℕ, Some, Option, IfOk, OnOk, map, filter, not, ◌&&◌, slice_index, take, drop, true, false, ◌^◌};
 ghost use Rattle.std.specs.List.{list_any};
-ghost use Rattle.svc_conf.specs.Items.{list_of, spare};
+ghost use Rattle.svc_base.specs.Items.{list_of, spare};
 ghost use Rattle.svc_record.specs.declared.action.Action.TheVariants.{Close};
 ghost use Rattle.svc_record.specs.Plans.{service_count, endpoints, address};
 ghost use Rattle.svc_record.specs.Tail.{each_once};
 ghost use Rattle.svc_record.specs.Validity.{IsValid};
-ghost use Rattle.svc_endpoints.specs.EndpointsState.{IsEndpointsSized, EndpointsStand, last_at, failed_at, state_at, open_numbers, numbers_with, is_binding, is_adopting, is_holding, is_in, all_new};
+ghost use Rattle.svc_endpoints.specs.EndpointsState.{IsEndpointsSized, EndpointsStand, last_at, failed_at, state_at, open_numbers, numbers_with, is_binding, is_adopting, is_holding, all_new};
+ghost use Rattle.svc_base.specs.NumberSets.{is_in};
 ghost use Rattle.svc_endpoints.specs.Effects.{put, put_last, fail_if, has_open, first_of, with_number, with_open, cleared, given_up, gone_numbers, loop_ended, is_abandoned_by, put_opens, put_numbers, opens_of, without_numbers};
 
-use crate::came::{Came, contains};
+use crate::came::{add_all, contains};
 use crate::loops::{LoopEnd, Loops};
 use crate::naming::{is_abandoned, service_count};
 use crate::states::{EndState, Last, Row, is_adopting, is_binding, new_flags, new_rows};
 use crate::table::{Open, Table};
 use std::alloc::Global;
 use std::marker::Model;
-use svc_conf::{NoMemory, Text};
+use svc_base::{NoMemory, NumberSet, Text};
 use svc_record::{Action, Actions, Plan};
 
 /// The state of each endpoint, which services have failed, the loops that ended, the live
@@ -28,12 +29,12 @@ pub struct Endpoints {
     failed: Vec<bool>,
     loops: Loops,
     table: Table,
-    came: Came,
+    came: NumberSet,
 }
 
 impl Model for Endpoints {
     ghost use Rattle.std.specs.Prelude.{min};
-    ghost use Rattle.svc_conf.specs.Items.{list_of, spare};
+    ghost use Rattle.svc_base.specs.Items.{list_of, spare};
     ghost use Rattle.svc_endpoints.specs.EndpointsData.{EndpointsRoom};
 
     ghost Value = { EndpointsRoom };
@@ -55,7 +56,7 @@ impl Endpoints {
             failed,
             loops: Loops::new(alloc),
             table: Table::new(alloc),
-            came: Came::new(alloc),
+            came: NumberSet::new(alloc),
         })
     }
 
@@ -178,13 +179,17 @@ impl Endpoints {
 
     /// The table with the descriptors of these numbers, each with the word at its place if there is
     /// one, but for those that are left out.
-    pub(crate) fn take_rest(&mut self, words: Vec<Text>, fds: &[u64], out: &Came)
+    pub(crate) fn take_rest(&mut self, words: Vec<Text>, fds: &[u64], out: &NumberSet)
         requires new { all_new self.old.parts.came fds.now ≡ true }
         requires room { length fds.now ≤ self.old.room }
-        ensures { self.new.parts ≡ record self.old.parts { table = put_opens (without_numbers (list_of out.now) (opens_of fds.now words.items)) self.old.parts.table; came = put_numbers fds.now self.old.parts.came } }
+        ensures { self.new.parts ≡ record self.old.parts {
+          table = put_opens
+              (without_numbers (list_of out.now) (opens_of fds.now words.items)) self.old.parts.table;
+          came = put_numbers fds.now self.old.parts.came;
+        } }
     {
         self.table.add_rest(words, fds, out);
-        self.came.add_all(fds);
+        add_all(&mut self.came, fds);
     }
 
     pub(crate) fn state(&self, s: usize, i: usize) -> EndState

@@ -1,12 +1,12 @@
 //! The accept loops that ended.
 
 ghost use Rattle.std.specs.Prelude.{◌≡◌, ◌+◌, ◌-◌, ◌<◌, ◌++◌, ◌∷◌, ◌==◌, ◌&&◌, [], ℕ, OnOk, vec_len, vec_capacity};
-ghost use Rattle.svc_conf.specs.Items.{list_of, spare};
+ghost use Rattle.svc_base.specs.Items.{list_of, spare};
 ghost use Rattle.svc_endpoints.specs.Loops.{has_loop, loop_count};
 
 use std::alloc::Global;
 use std::marker::Model;
-use svc_conf::NoMemory;
+use svc_base::NoMemory;
 
 /// A loop of an endpoint that ended.
 #[derive(Clone, Copy, Drop)]

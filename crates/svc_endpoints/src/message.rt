@@ -15,7 +15,7 @@ ghost use Rattle.svc_endpoints.specs.Offered.{open_entry, offer_table, is_addres
 use crate::endpoints::Endpoints;
 use crate::table::Open;
 use std::alloc::Global;
-use svc_conf::NoMemory;
+use svc_base::NoMemory;
 use svc_fds::{EncodeError, Fd, Fds, Message};
 
 fn is_addressed(entry: &Open) -> bool

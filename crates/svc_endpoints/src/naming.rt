@@ -6,7 +6,7 @@ ghost use Rattle.svc_graph.specs.declared.plan.EndpointPlan.{EndpointPlan};
 ghost use Rattle.svc_record.specs.Plans.{service_count, services, endpoints, address, names, declares, declares_list, is_among, is_unclaimed};
 ghost use Rattle.svc_record.specs.Failed.{in_use_limit};
 
-use svc_conf::Text;
+use svc_base::Text;
 use svc_graph::EndpointPlan;
 use svc_record::Plan;
 
@@ -163,7 +163,8 @@ fn all_failed(plan: &Plan, failed: &[bool], address: &str) -> bool
 /// Some service names the address, and all that name it have failed.
 pub(crate) fn is_abandoned(plan: &Plan, failed: &[bool], address: &str) -> bool
     requires flags { length failed.now ≡ service_count plan.now }
-    ensures { result ≡ (list_any (λ s. names plan.now s address.now) (services plan.now) && list_all (λ s. not (names plan.now s address.now) || slice_index_or failed.now s false) (services plan.now)) }
+    ensures { result ≡ (list_any (λ s. names plan.now s address.now) (services plan.now)
+        && list_all (λ s. not (names plan.now s address.now) || slice_index_or failed.now s false) (services plan.now)) }
 {
     is_named(plan, address) && all_failed(plan, failed, address)
 }

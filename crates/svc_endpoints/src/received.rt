@@ -1,7 +1,7 @@
 //! What an older server's message brings.
 
 ghost use Rattle.std.specs.Prelude.{◌≡◌, ◌+◌, ◌<◌, ◌≤◌, ◌++◌, ◌∷◌, [], length, IfOk, OnErr, slice_get, map, true, false};
-ghost use Rattle.svc_conf.specs.Items.{list_of, spare};
+ghost use Rattle.svc_base.specs.Items.{list_of, spare};
 ghost use Rattle.svc_record.specs.declared.action.Action.TheVariants.{Close};
 ghost use Rattle.svc_record.specs.declared.entry.Entry.TheVariants.{Got};
 ghost use Rattle.svc_record.specs.declared.event.Event.TheVariants.{Received};
@@ -14,11 +14,10 @@ ghost use Rattle.svc_record.specs.Told.{Tells, IsGivingUp};
 ghost use Rattle.svc_endpoints.specs.EndpointsState.{IsEndpointsSized, EndpointsStand, all_new};
 ghost use Rattle.svc_endpoints.specs.Effects.{passes, turns_away, turned_away, received, numbers_out, opens_of, put_numbers};
 
-use crate::came::Came;
 use crate::endpoints::Endpoints;
 use crate::naming::is_unclaimed;
 use std::alloc::Global;
-use svc_conf::{NoMemory, Text};
+use svc_base::{NoMemory, NumberSet, Text};
 use svc_fds::{DecodeError, words};
 use svc_record::{Action, Actions, Plan};
 
@@ -70,13 +69,17 @@ impl Endpoints {
         ensures untold { OnErr result (actions.new ≡ actions.old) }
         ensures good { IfOk result (λ good. good ≡ is_read (decode bytes.now (length fds.now))) }
         ensures sized { IfOk result (λ good. IsEndpointsSized plan.now self.new.parts) }
-        ensures stands { IfOk result (λ good. Tells (list_of actions.old) (list_of actions.new) (λ told. IsGivingUp told × (good ≡ false → told ≡ []) × ((q : Record) → EndpointsStand plan.now self.old.parts q → EndpointsStand plan.now self.new.parts (tell (Got (Received bytes.now fds.now) ∷ q) told)))) }
-        ensures told { IfOk result (λ good. list_of actions.new ≡ list_of actions.old ++ map Close (turned_away plan.now self.old.parts (words_or_none (decode bytes.now (length fds.now))) fds.now)) }
+        ensures stands { IfOk result (λ good. Tells (list_of actions.old) (list_of actions.new) (λ told. IsGivingUp told × (good ≡ false → told ≡ [])
+            × ((q : Record) → EndpointsStand plan.now self.old.parts q
+            → EndpointsStand plan.now self.new.parts (tell (Got (Received bytes.now fds.now) ∷ q) told)))) }
+        ensures told { IfOk result (λ good. list_of actions.new ≡ list_of actions.old
+            ++ map Close (turned_away plan.now self.old.parts (words_or_none (decode bytes.now (length fds.now))) fds.now)) }
         ensures room { IfOk result (λ good. spare actions.old + length self.new.parts.table ≤ spare actions.new + length self.old.parts.table + length fds.now) }
-        ensures few { IfOk result (λ good. length (list_of actions.new) + length self.new.parts.table ≤ length (list_of actions.old) + length self.old.parts.table + length fds.now) }
+        ensures few { IfOk result (λ good. length (list_of actions.new) + length self.new.parts.table ≤ length
+            (list_of actions.old) + length self.old.parts.table + length fds.now) }
     {
         let (good, words) = read(alloc, bytes, fds.len())?;
-        let mut out = Came::new(alloc);
+        let mut out = NumberSet::new(alloc);
         out.reserve(fds.len())?;
         self.reserve_for(fds.len())?;
         self.take_words(plan, words, fds, out, actions);
@@ -89,7 +92,7 @@ impl Endpoints {
         plan: &Plan,
         words: Vec<Text>,
         fds: &[u64],
-        mut out: Came,
+        mut out: NumberSet,
         actions: &mut Actions,
     )
         requires flags { length self.old.parts.failed ≡ service_count plan.now }
@@ -108,7 +111,7 @@ impl Endpoints {
     }
 
     /// Puts out the numbers whose words are turned away.
-    fn turn_away(&self, plan: &Plan, words: &[Text], fds: &[u64], out: &mut Came)
+    fn turn_away(&self, plan: &Plan, words: &[Text], fds: &[u64], out: &mut NumberSet)
         requires flags { length self.now.parts.failed ≡ service_count plan.now }
         requires new { all_new (list_of out.old) fds.now ≡ true }
         requires place { length fds.now ≤ spare out.old }

@@ -10,7 +10,7 @@ ghost use Rattle.svc_endpoints.specs.Visits.{busy_of};
 use crate::naming::{endpoint_count, service_count};
 use std::alloc::Global;
 use std::marker::Model;
-use svc_conf::NoMemory;
+use svc_base::NoMemory;
 use svc_record::Plan;
 
 /// How long an endpoint rests after its address was in use, in milliseconds.

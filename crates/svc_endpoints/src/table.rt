@@ -2,7 +2,7 @@
 
 ghost use Rattle.std.specs.Prelude.{◌≡◌, ◌+◌, ◌-◌, ◌<◌, ◌≤◌, ◌++◌, ◌∷◌, [], length, ℕ, List, Option, Some, None, OnOk, map, insert, slice_index, vec_len, vec_capacity, ◌||◌, ◌&&◌, false, ◌^◌, if◌then◌else◌};
 ghost use Rattle.std.specs.Option.{option_to_list};
-ghost use Rattle.svc_conf.specs.Items.{list_of, spare};
+ghost use Rattle.svc_base.specs.Items.{list_of, spare};
 ghost use Rattle.svc_record.specs.declared.plan.Plan.{Plan};
 ghost use Rattle.svc_record.specs.declared.action.Action.TheVariants.{Close};
 ghost use Rattle.svc_record.specs.Plans.{service_count, same_address};
@@ -10,14 +10,14 @@ ghost use Rattle.svc_endpoints.specs.EndpointsState.{numbers_with, numbers_of_ta
 ghost use Rattle.svc_endpoints.specs.Effects.{first_of, put_open, put_opens, opens_of, without_numbers, passes, is_abandoned_by, is_done_for, goes, gone_numbers, without_gone};
 ghost use Rattle.svc_endpoints.specs.Uses.{AreStatesSized, states_of};
 
-use crate::came::{Came, contains};
+use crate::came::contains;
 use crate::loops::LoopEnd;
 use crate::naming::is_abandoned;
 use crate::states::Row;
 use crate::uses::is_drained;
 use std::alloc::Global;
 use std::marker::Model;
-use svc_conf::{NoMemory, Text};
+use svc_base::{NoMemory, NumberSet, Text};
 use svc_record::{Action, Actions, Plan};
 
 /// A live descriptor, with the address with which it was opened, if it has one.
@@ -232,7 +232,7 @@ impl Table {
 
     /// Takes descriptors, each with the word at its place if there is one, but for those that are
     /// left out.
-    pub(crate) fn add_rest(&mut self, mut words: Vec<Text>, fds: &[u64], out: &Came)
+    pub(crate) fn add_rest(&mut self, mut words: Vec<Text>, fds: &[u64], out: &NumberSet)
         requires { length fds.now ≤ spare self.old }
         ensures { list_of self.new ≡ put_opens (without_numbers (list_of out.now) (opens_of fds.now words.items)) (list_of self.old) }
     {
@@ -266,8 +266,10 @@ impl Table {
         requires sized { AreStatesSized plan.now rows.now failed.now }
         requires room { length (list_of self.old) ≤ spare actions.old }
         ensures after { list_of self.new ≡ without_gone plan.now kept.now (states_of rows.now failed.now loops.now) (list_of self.old) }
-        ensures told { list_of actions.new ≡ list_of actions.old ++ map Close (gone_numbers plan.now kept.now (states_of rows.now failed.now loops.now) (list_of self.old)) }
-        ensures room { spare actions.old ≤ spare actions.new + length (gone_numbers plan.now kept.now (states_of rows.now failed.now loops.now) (list_of self.old)) }
+        ensures told { list_of actions.new ≡ list_of actions.old
+            ++ map Close (gone_numbers plan.now kept.now (states_of rows.now failed.now loops.now) (list_of self.old)) }
+        ensures room { spare actions.old ≤ spare actions.new + length
+            (gone_numbers plan.now kept.now (states_of rows.now failed.now loops.now) (list_of self.old)) }
     {
         close_done(&self.entries, plan, rows, failed, loops, kept, actions);
         remove_done(&mut self.entries, plan, rows, failed, loops, kept);

@@ -1,7 +1,7 @@
 //! What is asked for as a service is visited.
 
 ghost use Rattle.std.specs.Prelude.{◌≡◌, ◌+◌, ◌<◌, ◌≤◌, ◌++◌, ◌∷◌, ◌==◌, ◌&&◌, ◌||◌, [], length, Some, None, true, false};
-ghost use Rattle.svc_conf.specs.Items.{list_of, spare};
+ghost use Rattle.svc_base.specs.Items.{list_of, spare};
 ghost use Rattle.svc_record.specs.Plans.{service_count, endpoints, address, any_with, same_address};
 ghost use Rattle.svc_record.specs.Record.{Record, now};
 ghost use Rattle.svc_record.specs.Starts.{is_started};
@@ -33,7 +33,9 @@ impl Endpoints {
         requires service { s < service_count plan.now }
         requires room { 0 < spare actions.old }
         ensures sized { IsEndpointsSized plan.now self.new.parts }
-        ensures visited { Tells (list_of actions.old) (list_of actions.new) (λ told. IsAskOf s told × ((q : Record) → moment ≡ now q → started ≡ is_started q s → EndpointsStand plan.now self.old.parts q → Visited plan.now self.new.parts s q told)) }
+        ensures visited { Tells (list_of actions.old) (list_of actions.new) (λ told. IsAskOf s told
+            × ((q : Record) → moment ≡ now q → started ≡ is_started q s → EndpointsStand plan.now self.old.parts q
+            → Visited plan.now self.new.parts s q told)) }
         ensures table { self.new.parts.table ≡ self.old.parts.table }
         ensures failed { self.new.parts.failed ≡ self.old.parts.failed }
         ensures came { self.new.parts.came ≡ self.old.parts.came }

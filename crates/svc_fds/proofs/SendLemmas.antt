@@ -3,7 +3,7 @@ use Rattle.std.proofs.Common.{ℕ, ◌+◌, ◌-◌, ◌<◌, Bool, true, false,
 use Rattle.std.specs.Prelude.{remove}
 use Rattle.std.proofs.lemmas.Bool.{ltb-true, ltb-false}
 use Rattle.std.proofs.lemmas.List.{append-nil, map_push}
-use Rattle.svc_conf.specs.Streams.{Rose}
+use Rattle.svc_base.specs.Streams.{Rose}
 use Rattle.svc_fds.specs.declared.call.ChannelCall.{ChannelCall}
 use Rattle.svc_fds.specs.declared.call.ChannelCall.TheVariants.{Close}
 use Rattle.svc_fds.specs.declared.retry.SendAnswer.{SendAnswer}

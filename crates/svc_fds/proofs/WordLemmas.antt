@@ -47,7 +47,7 @@ words-word x (y ∷ []) rest some plain apart = words-next x y rest some plain (
 words-word x (y ∷ z ∷ sep) rest some plain apart = absurd (let short : length (y ∷ z ∷ sep) ≤ 1 = apart.1 in omega arith)
 
 -- a byte from 128 on is no blank
-high : (b : ℕ) → 128 ≤ b → is_ascii_whitespace b ≡ false
+pub high : (b : ℕ) → 128 ≤ b → is_ascii_whitespace b ≡ false
 high b above =
     let e : eqb 0 0 ≡ true = refl in
     rw (lt-leb b 10 (omega arith), lt-leb b 13 (omega arith), lt-leb b 32 (omega arith)) (grind arith)

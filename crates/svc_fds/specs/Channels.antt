@@ -1,6 +1,6 @@
 -- What a channel tells of its calls, and what its answers say.
 use Rattle.std.specs.Prelude.{ℕ, ◌≡◌, ◌≤◌, Bool, true, false, Option, Some, None, List, ◌++◌, length}
-use Rattle.svc_conf.specs.Streams.{Rose}
+use Rattle.svc_base.specs.Streams.{Rose}
 use Rattle.svc_fds.specs.declared.call.ReceiveAnswer.{ReceiveAnswer}
 use Rattle.svc_fds.specs.declared.call.ReceiveAnswer.TheVariants as answers
 use Rattle.svc_fds.specs.declared.call.Receipt.{Receipt}

@@ -2,7 +2,7 @@
 
 use crate::fd::Fd;
 use crate::retry::SendAnswer;
-use svc_conf::{Bytes, Items};
+use svc_base::{Bytes, Items};
 
 /// What one try to receive gave.
 #[derive(Debug)]

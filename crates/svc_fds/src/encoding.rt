@@ -10,7 +10,7 @@ ghost use Rattle.svc_fds.specs.Messages.{is_bad_address, has_bad_address, joined
 use crate::errors::EncodeError;
 use crate::fd::Fd;
 use std::alloc::Global;
-use svc_conf::{Bytes, Items, NoMemory, Text};
+use svc_base::{Bytes, Items, NoMemory, Text};
 
 /// The most bytes of a message.
 pub const MESSAGE_LIMIT: usize = 2048;

@@ -1,4 +1,4 @@
-use svc_conf::NoMemory;
+use svc_base::NoMemory;
 use thiserror::Error;
 
 /// Why a table can't be written as a message. They come in this order.

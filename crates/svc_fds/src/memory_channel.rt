@@ -9,7 +9,7 @@ use crate::fd::Fd;
 use crate::peer::{Log, Peer};
 use crate::retry::SendAnswer;
 use std::alloc::Global;
-use svc_conf::NoMemory;
+use svc_base::NoMemory;
 
 /// A channel in memory. The calls that can fail and whose numbers, from 0, are listed fail. It tells
 /// its calls for as many as it was made with room for.

@@ -9,7 +9,7 @@ use crate::encoding::bytes_of;
 use crate::fd::Fd;
 use crate::retry::SendAnswer;
 use std::alloc::Global;
-use svc_conf::{Bytes, Items, NoMemory};
+use svc_base::{Bytes, Items, NoMemory};
 
 /// A log of calls. It tells them for as many calls as it has room for, and nothing from then on.
 #[derive(Debug, Drop)]

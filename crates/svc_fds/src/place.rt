@@ -7,7 +7,7 @@ ghost use Rattle.svc_fds.specs.Places.{PlaceFits};
 use crate::fd::Fd;
 use std::cmp::Ordering;
 use std::mem;
-use svc_conf::Text;
+use svc_base::Text;
 
 /// Where an address stands among others that ascend, or where it would stand.
 #[derive(Clone, Copy, Debug)]

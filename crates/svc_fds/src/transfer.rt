@@ -2,7 +2,7 @@
 
 ghost use Rattle.std.specs.Prelude.{◌≡◌, ◌<◌, ◌≤◌, ◌∷◌, ℕ, List, IfOk, IfErr, IfSome, IfNone, IsErrOf, OnOk, Ok, Err, length, unwrap_or, vec_len};
 ghost use Rattle.svc_fds.specs.Retries.{IsAfterReceives, receive_next};
-ghost use Rattle.svc_conf.specs.Streams.{Rose};
+ghost use Rattle.svc_base.specs.Streams.{Rose};
 ghost use Rattle.svc_fds.specs.Channels.{Tells, SendFaults};
 ghost use Rattle.svc_fds.specs.Transfers.{rested, send_calls, Answers, IsEnd, SendsBy, SendEnds, Receives, ReceivesNot, closes};
 
@@ -13,7 +13,7 @@ use crate::errors::{ReceiveError, SendError};
 use crate::fd::Fd;
 use crate::retry::{ReceiveKind, ReceiveNext, ReceiveRetry, SendAnswer, SendNext, SendRetry};
 use std::alloc::Global;
-use svc_conf::Bytes;
+use svc_base::Bytes;
 
 /// How many missing peers are borne where nothing is said of it.
 pub const MAX_RETRY: u64 = 5;

@@ -7,7 +7,7 @@ ghost use Rattle.svc_fds.specs.Messages.{words, IsMessage, DecodeRefusalFits};
 use crate::errors::DecodeError;
 use std::alloc::Global;
 use std::str;
-use svc_conf::{NoMemory, Text};
+use svc_base::{NoMemory, Text};
 
 /// The words of a text, which stand between blanks.
 pub fn words_of(alloc: Global, text: &str) -> Result<Vec<Text>, NoMemory>

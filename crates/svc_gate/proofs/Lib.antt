@@ -1,7 +1,6 @@
 pub mod MergedLemmas
 pub mod SegmentLemmas
 pub mod HalfLemmas
-pub mod WordLemmas
 pub mod IpLemmas
 pub mod SpanLemmas
 pub mod ReadingLemmas

@@ -3,7 +3,6 @@ pub mod Rising
 pub mod Segments
 pub mod Merged
 pub mod Ranges
-pub mod Words
 pub mod Ips
 pub mod Only
 pub mod RuleLines

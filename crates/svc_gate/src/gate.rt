@@ -14,7 +14,7 @@ use crate::segments::{Segment, advance, segments_of};
 use std::alloc::Global;
 use std::marker::{Brand, Model};
 use std::sync::ledger::{Blank, Ledger};
-use svc_conf::NoMemory;
+use svc_base::NoMemory;
 use svc_socket::{IpNumber, PeerAddr};
 use svc_streams::ConnectionFilter;
 

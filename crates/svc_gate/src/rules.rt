@@ -3,7 +3,7 @@
 ghost use Rattle.std.specs.Prelude.{◌≡◌};
 ghost use Rattle.svc_gate.specs.Rules.{is_of};
 
-use svc_conf::Items;
+use svc_base::Items;
 
 /// What is said of the addresses of one family from a first to a last one. Numbers of IPv4 addresses
 /// are below 2^32.

@@ -5,7 +5,7 @@ ghost use Rattle.svc_gate.specs.Segments.{FindsFirst, FindsEither, Ascends, next
 
 use crate::rules::{GateRule, is_of};
 use std::alloc::Global;
-use svc_conf::NoMemory;
+use svc_base::NoMemory;
 
 /// The numbers from one up to the beginning of the next segment: what the first rule says that holds
 /// them, if one does.

@@ -11,7 +11,7 @@ use crate::search::leads_to;
 use crate::sort::sorted;
 use std::alloc::Global;
 use std::marker::Model;
-use svc_conf::{NoMemory, Numbers, Text, Texts};
+use svc_base::{NoMemory, Numbers, Text, Texts};
 use thiserror::Error;
 
 /// How many nodes a graph has at most.

@@ -6,7 +6,7 @@ ghost use Rattle.svc_graph.specs.Graphs.{is_in_row};
 ghost use Rattle.svc_graph.specs.Marks.{RowsBelow, Divides, Searched, Marked};
 
 use std::alloc::Global;
-use svc_conf::{NoMemory, Numbers};
+use svc_base::{NoMemory, Numbers};
 
 /// Marks the nodes of a row, and appends those that weren't marked to the open ones.
 fn mark_row(row: &[u32], marks: &mut [bool], left: &mut Vec<u32>) -> Result<(), NoMemory>

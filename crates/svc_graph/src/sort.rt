@@ -6,7 +6,7 @@ ghost use Rattle.svc_graph.specs.Marks.{RowsBelow, is_due, IsReady};
 ghost use Rattle.svc_graph.specs.Ranks.{IsRanked};
 
 use std::alloc::Global;
-use svc_conf::{NoMemory, Numbers};
+use svc_base::{NoMemory, Numbers};
 
 /// Whether every node of the row is marked.
 fn is_due(row: &[u32], marks: &[bool]) -> bool

@@ -21,9 +21,7 @@ use Rattle.svc_handover.proofs.CoveredLemmas.{open-settled}
 use Rattle.svc_handover.proofs.ReceivedLemmas.{pair-later, pair-live, some-number}
 use Rattle.svc_handover.proofs.TurnLemmas.{bind-turn}
 use Rattle.svc_handover.proofs.OvertakenLemmas.{follows_overtaken, overtaken-live, each-part, stays-open, step-closes}
-
-clash : (b : Bool) → b ≡ true → b ≡ false → ⊥
-clash b x y = cc
+use Rattle.svc_base.proofs.Logic.{clash}
 
 -- what is known of a record and of what follows in its step: more was told, and then the step ends
 record InStep (p : Plan) (q : Record) (more : List Action) : Type 0 where

@@ -20,6 +20,7 @@ use Rattle.svc_handover.specs.GivingUp.{before_end, is_received_unclaimed, is_ab
 use Rattle.svc_handover.proofs.TriesLemmas.{served-passed}
 use Rattle.svc_handover.proofs.CoveredLemmas.{open-settled}
 use Rattle.svc_handover.proofs.OvertakenLemmas.{each-part}
+use Rattle.svc_base.proofs.Logic.{clash}
 
 -- what is gone is doubled or has a cause
 module _ (p : Plan) (at : Record) (once : EachEntry (λ e before. close_once p e before ≡ true) at) (closes : ClosesRight p at) where
@@ -63,9 +64,6 @@ last-caused core q stand right = by (has_passed core.plan q) refl
         (λ hit. clash (has_passed core.plan q) (served-passed core.plan q (subst (λ x. is_served x ≡ true) stand.end_is hit)) goes) in
         all-caused core.plan q right.stronger.closes (stand.endpoints unserved).closes q (λ fd h. h)
       where
-        clash : (c : Bool) → c ≡ true → c ≡ false → ⊥
-        clash c x y = cc
-
         off : (c : Bool) → (c ≡ true → ⊥) → c ≡ false
         off true f = absurd (f refl)
         off false f = refl

@@ -11,10 +11,7 @@ use Rattle.std.proofs.lemmas.Slice.Eq.{bytes_eq-Decides}
 use Rattle.std.proofs.lemmas.Map.Lookups.{exact_bytes}
 use Rattle.svc_fds.specs.Tables.{Entry as TableEntry, addresses, put, put_all}
 use Rattle.svc_record.specs.declared.plan.Plan.{Plan}
-use Rattle.svc_record.specs.declared.entry.Entry.TheVariants.{Got}
-use Rattle.svc_record.specs.declared.event.Event.TheVariants.{Signal}
-use Rattle.svc_record.specs.declared.event.ShutdownSignal.{ShutdownSignal}
-use Rattle.svc_record.specs.Record.{Record, has, is_signal, signal_of, first_or, before_signal}
+use Rattle.svc_record.specs.Record.{Record, has, is_signal, signal_of, before_signal}
 use Rattle.svc_record.specs.Plans.{is_among, same_address}
 use Rattle.svc_record.specs.Descriptors.{Descriptor, live_descriptors, live_table, as_entry, has_live}
 use Rattle.svc_record.specs.Offer.{is_upgrade, is_over, table}
@@ -32,16 +29,7 @@ use Rattle.svc_handover.proofs.TextLemmas.{table-text}
 use Rattle.svc_handover.proofs.LawLemmas.{pair-kept}
 use Rattle.svc_handover.proofs.OperatorLemmas.{never-given-up}
 use Rattle.svc_handover.proofs.ReachLemmas.{live-before, live-unsignalled}
-
--- where a signal came there is a first one
-pub signal-some : (q : Record) → has is_signal q ≡ true → (kind : ShutdownSignal) × (signal_of q ≡ Some kind)
-signal-some [] h = absurd (cc)
-signal-some (Got (Signal kind) ∷ q) h = first (signal_of q)
-  where
-    first : (x : Option ShutdownSignal) → (k : ShutdownSignal) × (first_or x kind ≡ Some k)
-    first (Some k) = (k, refl)
-    first None = (kind, refl)
-signal-some (e ∷ q) h = signal-some q h
+use Rattle.svc_endpoints.proofs.OfferLemmas.{signal-some}
 
 -- the table of what is live has each live address
 one-listed : (a : List ℕ) (n : ℕ) (r : Bool) (b : Option (List ℕ)) (ps : List TableEntry) → (same_address b (Some a) || is_among a (addresses ps)) ≡ true → is_among a (addresses (cons_option (as_entry (record { number = n; address = b; received = r })) ps)) ≡ true

@@ -26,6 +26,7 @@ use Rattle.svc_handover.specs.Channel.{is_receipt}
 use Rattle.svc_handover.specs.Handover.{gives_up, has_given_up}
 use Rattle.svc_handover.specs.Operator.{is_named, is_sound_for}
 use Rattle.svc_handover.proofs.TriesLemmas.{served-passed}
+use Rattle.svc_base.proofs.Logic.{clash}
 
 -- what was given up was closed, with its address, and isn't doubled
 record GivenUp (n : Plan) (q : Record) (a : List ℕ) (r : Record) : Type 0 where
@@ -97,8 +98,5 @@ never-given-up core q a stand right silent named sound = false_from_ne_true (has
     && each_endpoint core.plan (λ s i. not (is_holder core.plan q g.fd s i) || (serves core.plan q s && have_loops_ended core.plan q s i))) quiet) in
     clash (has (is_close g.fd) q) g.closed (closed-is core.plan q g.fd right.stronger.closes ((stand.endpoints unserved).closes g.fd opened) ∙ gone))
   where
-    clash : (b : Bool) → b ≡ true → b ≡ false → ⊥
-    clash b x y = cc
-
     and-second : (x y : Bool) → y ≡ false → (x && y) ≡ false
     and-second x y h = grind arith

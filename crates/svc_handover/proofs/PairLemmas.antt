@@ -125,7 +125,7 @@ flies true s j l a b = absurd (cc)
 flies false true j l a b = refl
 flies false false j l a b = absurd (cc)
 
-pub lands : (t s j l : Bool) → t ≡ true → is_taken (reached t s j l) ≡ true
+lands : (t s j l : Bool) → t ≡ true → is_taken (reached t s j l) ≡ true
 lands true s j l a = refl
 lands false s j l a = absurd (cc)
 

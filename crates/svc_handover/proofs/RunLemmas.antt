@@ -2,7 +2,7 @@
 use Rattle.std.proofs.Common.{ℕ, Bool, true, false, ◌+◌, ◌<◌, List, [], ◌∷◌, ◌++◌, ◌≡◌, ◌&&◌, ◌↔◌, suc, refl, ap, sym, ◌∙◌, subst, arith, length, take, drop, get_or, append_assoc, drop-cons, if◌then◌else◌}
 use Rattle.std.specs.Prelude.{reverse, Result, Ok, Err, Option, Some, None}
 use Rattle.std.proofs.lemmas.List.{append-nil, reverse-append, reverse-reverse, take-append-drop, length-take-le}
-use Rattle.svc_conf.specs.Items.{list_of}
+use Rattle.svc_base.specs.Items.{list_of}
 use Rattle.svc_record.specs.declared.plan.Plan.{Plan}
 use Rattle.svc_record.specs.declared.action.Action.{Action}
 use Rattle.svc_record.specs.declared.entry.Entry.{Entry}
@@ -79,7 +79,7 @@ runs-first p n servers told_old told_new by_old by_new channel texts =
       channel_is = channel ∙ ap (λ t. after_told t Missing) by_new.begun.appended;
     }
 
-pub decided : (b x : Bool) → ((b ≡ true) ↔ (x ≡ true)) → b ≡ x
+decided : (b x : Bool) → ((b ≡ true) ↔ (x ≡ true)) → b ≡ x
 decided true x h = sym (h.0 refl)
 decided false true h = h.1 refl
 decided false false h = refl

@@ -4,7 +4,7 @@ ghost use Rattle.std.specs.Prelude.{All};
 ghost use Rattle.std.specs.Str.{IsUtf8};
 ghost use Rattle.svc_handover.specs.Law.{HasTexts, AreTextual};
 
-use svc_conf::Text;
+use svc_base::Text;
 use svc_core::{Plan, ServicePlan};
 use svc_graph::EndpointPlan;
 

@@ -1,7 +1,7 @@
 //! The law of a handover between two cores.
 
 ghost use Rattle.std.specs.Prelude.{◌≡◌, ℕ, IfOk, Err};
-ghost use Rattle.svc_conf.specs.Items.{list_of};
+ghost use Rattle.svc_base.specs.Items.{list_of};
 ghost use Rattle.svc_record.specs.Validity.{IsValid};
 ghost use Rattle.svc_handover.specs.Law.{Gives, RefusesAt};
 

@@ -1,14 +1,14 @@
 //! A core with the record of its run.
 
 ghost use Rattle.std.specs.Prelude.{◌≡◌, ◌++◌, ◌∷◌, [], IfOk, OnOk};
-ghost use Rattle.svc_conf.specs.Items.{list_of};
+ghost use Rattle.svc_base.specs.Items.{list_of};
 ghost use Rattle.svc_record.specs.Validity.{IsValid};
 ghost use Rattle.svc_core.specs.Stands.{MayCome};
 ghost use Rattle.svc_handover.specs.Runs.{Begins, Takes, told_entries};
 
 use crate::pair::PairStep;
 use std::alloc::Global;
-use svc_conf::NoMemory;
+use svc_base::NoMemory;
 use svc_core::{Action, Actions, Core, Entries, Entry, Plan};
 
 /// A core that has begun, and what it got and told, the first entry first.

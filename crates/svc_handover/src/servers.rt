@@ -1,7 +1,7 @@
 //! The two servers of a handover, and how far it has come.
 
 ghost use Rattle.std.specs.Prelude.{◌≡◌, ◌&&◌, List, [], true, false, IsTrue, IfOk, OnOk};
-ghost use Rattle.svc_conf.specs.Items.{list_of};
+ghost use Rattle.svc_base.specs.Items.{list_of};
 ghost use Rattle.svc_record.specs.declared.plan.Plan.{Plan};
 ghost use Rattle.svc_record.specs.Fits.{fits};
 ghost use Rattle.svc_record.specs.Validity.{IsValid};
@@ -16,7 +16,7 @@ use crate::channel::{after_new, after_old, after_told, new_may, old_may};
 use crate::pair::{ChannelState, PairRun, PairStep};
 use crate::recorded::Recorded;
 use std::alloc::Global;
-use svc_conf::NoMemory;
+use svc_base::NoMemory;
 use svc_core::{Event, Plan};
 
 /// Both servers, which have begun.

@@ -4,7 +4,7 @@ use super::*;
 use std::alloc::Global;
 use std::process::Abort;
 use std::str::SplitWhitespace;
-use svc_conf::{Bytes, Numbers, Settings, Text, Texts};
+use svc_base::{Bytes, Numbers, Settings, Text, Texts};
 use svc_core::{Entry, Event, Plan, ServiceList, ServicePlan, ShutdownSignal};
 use svc_fds::FdList;
 use svc_graph::{EndpointList, EndpointPlan, Kind};

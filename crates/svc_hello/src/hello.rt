@@ -1,7 +1,7 @@
 //! The server: its configuration, its services, and its run.
 
 ghost use Rattle.std.specs.Prelude.{◌≡◌, reverse, length, Some, None, IfOk};
-ghost use Rattle.svc_conf.specs.Items.{list_of};
+ghost use Rattle.svc_base.specs.Items.{list_of};
 ghost use Rattle.svc_conf.specs.Configuration.{defaults};
 ghost use Rattle.svc_record.specs.Right.{Served};
 ghost use Rattle.svc_server.specs.Servers.{answers_of, plan_of, IsSound};
@@ -10,7 +10,8 @@ ghost use Rattle.svc_hello.specs.HelloPlan.{hello_plan};
 use crate::host::HelloHost;
 use crate::services::HelloService;
 use std::alloc::Global;
-use svc_conf::{NoMemory, ReadError, ServerConf};
+use svc_base::NoMemory;
+use svc_conf::{ReadError, ServerConf};
 use svc_graph::DependencyError;
 use svc_graph::services::ServiceWithDependents;
 use svc_server::{AddError, Outcome, RunArgs, RunError, Server};

@@ -2,8 +2,8 @@
 
 ghost use Rattle.std.specs.Prelude.{◌≡◌, ◌-◌, ◌≤◌, map, reverse, min, All, Some, IsSome, IfSome, MatchBool, vec_len, vec_capacity};
 ghost use Rattle.std.specs.VecDeque.{deque_len, deque_capacity};
-ghost use Rattle.svc_conf.specs.Items.{list_of, spare};
-ghost use Rattle.svc_conf.specs.Streams.{Rose};
+ghost use Rattle.svc_base.specs.Items.{list_of, spare};
+ghost use Rattle.svc_base.specs.Streams.{Rose};
 ghost use Rattle.svc_server.specs.Hosts.{BringsFew, no_account, tells_failure};
 ghost use Rattle.svc_server.specs.ScriptHosts.{last_event};
 ghost use Rattle.svc_hello.specs.Handed.{handed_over};
@@ -13,7 +13,7 @@ use crate::services::HelloService;
 use crate::world::World;
 use std::alloc::Global;
 use std::collections::VecDeque;
-use svc_conf::{NoMemory, Reserved};
+use svc_base::{NoMemory, Reserved};
 use svc_record::{Action, Entries, Entry, Event};
 use svc_server::{Host, Next};
 

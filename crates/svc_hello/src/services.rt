@@ -6,7 +6,7 @@ ghost use Rattle.svc_hello.specs.Services.{kind_of, endpoint_at};
 ghost use Rattle.svc_hello.specs.declared.services.Work.TheVariants as works;
 
 use std::alloc::Global;
-use svc_conf::{NoMemory, Settings, Text};
+use svc_base::{NoMemory, Settings, Text};
 use svc_graph::services::{RunPoll, ServiceReadyNotifier, ServiceWithDependents, StartPoll};
 use svc_graph::{EndpointPlan, Kind};
 

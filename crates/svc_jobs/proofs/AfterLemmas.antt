@@ -17,7 +17,8 @@ use Rattle.svc_record.specs.Plans.{depends, endpoints, has_kind}
 use Rattle.svc_record.specs.Failed.{has_failed}
 use Rattle.svc_record.specs.Record.{Record, has, tell, is_bootstrap_complete, each_entry, EachEntry}
 use Rattle.svc_record.specs.Connections.{live_connections}
-use Rattle.svc_record.specs.Drain.{ascending, live_numbers}
+use Rattle.svc_record.specs.Drain.{live_numbers}
+use Rattle.svc_base.specs.NumberSets.{ascending}
 use Rattle.svc_record.specs.Starts.{is_started, is_ready, is_ready_event, is_ended_event, is_due, start_due}
 use Rattle.svc_record.specs.Tail.{with_event, closing_actions, new_numbers}
 use Rattle.svc_server.specs.Servers.{answers_of, with_depends, depends_of, plan_of}

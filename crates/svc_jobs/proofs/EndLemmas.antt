@@ -2,7 +2,7 @@
 use Rattle.std.proofs.Common.{ℕ, zero, suc, Bool, true, false, ◌≡◌, ◌<◌, ◌+◌, ◌==◌, ◌||◌, ◌&&◌, List, [], ◌∷◌, ◌++◌, length, take, Option, refl, sym, ap, subst, ◌∙◌, inl, inr, arith}
 use Rattle.std.specs.Prelude.{Some, None, Result, Ok, Err, slice_get, bytes_eq, nat_le, nat_lt, if◌then◌else◌}
 use Rattle.std.specs.List.{list_any}
-use Rattle.std.proofs.lemmas.Bool.{cases_Bool, or_cases, and_parts}
+use Rattle.std.proofs.lemmas.Bool.{cases_Bool, or_cases, and_parts, eqb-true}
 use Rattle.std.proofs.lemmas.List.{append-nil}
 use Rattle.svc_graph.specs.declared.plan.Kind.{Kind}
 use Rattle.svc_graph.specs.declared.plan.Kind.TheVariants.{Notifying, Bootstrap as BootstrapKind}
@@ -34,12 +34,11 @@ use Rattle.svc_server.specs.declared.run.RunError.{RunError}
 use Rattle.svc_server.specs.declared.run.RunError.TheVariants.{Config, HostFault, Bootstrap, Stray, TurnsSpent, OutOfEvents, NoMemory}
 use Rattle.svc_conf.specs.declared.server.configuration.ServerConf.{ServerConf}
 use Rattle.svc_conf.specs.declared.server.configuration.Opt.{Opt}
-use Rattle.svc_conf.specs.Streams.{Rose}
+use Rattle.svc_base.specs.Streams.{Rose}
 use Rattle.svc_graph.specs.GraphData.{GraphData}
 use Rattle.svc_graph.specs.declared.services.ServiceWithDependents.{Ghosts}
 use Rattle.svc_server.specs.Servers.{answers_of, with_depends, depends_of, plan_of}
 use Rattle.svc_server.specs.Runs.{RunEnds, IsServed}
-use Rattle.std.proofs.lemmas.Bool.{eqb-true}
 use Rattle.std.proofs.lemmas.Bool.Decides.{nat_tests}
 use borrow.Author.Tests.{ltb-true}
 use Rattle.svc_jobs.specs.Dues.{is_shutdown, due_at}

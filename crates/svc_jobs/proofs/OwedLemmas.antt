@@ -22,6 +22,7 @@ use Rattle.svc_jobs.specs.Rows.{owes, owing}
 use Rattle.svc_jobs.specs.JobHosts.{is_job_entry, is_none, head_due}
 use Rattle.svc_jobs.proofs.HostLemmas.{filter-nil}
 use Rattle.svc_jobs.proofs.ShutLemmas.{unsignalled}
+use Rattle.svc_base.proofs.Logic.{clash}
 
 first-parts : (d r : Bool) → (not d && not r) ≡ true → (d ≡ false) × (r ≡ false)
 first-parts true r h = absurd (cc)
@@ -195,9 +196,6 @@ none-once test (e ∷ q) h = elim (cases_Bool (test e)) [
 never : (g t x : Bool) → t ≡ true → ((g && not t) && x) ≡ false
 never true t x h = rw h refl
 never false t x h = refl
-
-clash : (b : Bool) → b ≡ true → b ≡ false → ⊥
-clash b h e = cc
 
 -- a server that only tests that it can start, bootstrapping first, starts no job: none owes its word
 pub tested-owes-none : (p : Plan) (periods : List ℕ) (q : Record) (s : ℕ) → p.test ≡ true → p.eager ≡ true → EachEntry (λ e before. start_after_boot p e before ≡ true) q → each_entry (head_due periods) q ≡ true

@@ -4,7 +4,7 @@ use Rattle.std.specs.Prelude.{slice_get, slice_set, Some, None, if◌then◌else
 use Rattle.std.proofs.lemmas.Bool.{cases_eq}
 use Rattle.std.proofs.lemmas.List.{append-nil}
 use Rattle.std.proofs.lemmas.Option.{slice_get-get_or, get_or_from_slice_get, slice_get_within}
-use Rattle.svc_conf.specs.Items.{list_of, spare}
+use Rattle.svc_base.specs.Items.{list_of, spare}
 use Rattle.svc_jobs.specs.declared.plan.JobRun.{JobRun}
 use Rattle.svc_jobs.specs.declared.row.JobRow.{JobRow}
 use Rattle.svc_jobs.specs.Dues.{run_of}

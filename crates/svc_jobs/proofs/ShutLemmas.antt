@@ -8,15 +8,15 @@ use Rattle.svc_record.specs.declared.entry.Entry.TheVariants.{Got, Told}
 use Rattle.svc_record.specs.declared.event.Event.TheVariants.{Moment, Ready, Signal}
 use Rattle.svc_record.specs.declared.event.ShutdownSignal.{ShutdownSignal}
 use Rattle.svc_record.specs.declared.event.ShutdownSignal.TheVariants.{FastShutdown, GracefulTerminate as TerminateSignal, GracefulUpgrade}
-use Rattle.svc_record.specs.declared.action.Action.TheVariants.{Phase, Broadcast}
 use Rattle.svc_record.specs.declared.action.ExecutionPhase.TheVariants.{Running, Terminated, ShutdownRuntimes}
 use Rattle.svc_record.specs.Record.{Record, has, signal_of, before_signal, is_signal, is_running, each_entry}
 use Rattle.svc_record.specs.Closes.{is_broadcast}
 use Rattle.svc_record.specs.Descriptors.{opened_descriptors, live_table}
 use Rattle.svc_record.specs.Offer.{has_offer}
-use Rattle.svc_record.specs.Drain.{Mark, phase, broadcast, marks_if, told_marks, is_boot_phase, row_by, has_passed, has_passed_by, PhasesRight}
+use Rattle.svc_record.specs.Drain.{Mark, phase, marks_if, row_by, has_passed, has_passed_by, PhasesRight}
 use Rattle.svc_jobs.specs.Dues.{is_shutdown}
 use Rattle.svc_jobs.specs.JobHosts.{is_job_entry}
+use Rattle.svc_drain.proofs.Broadcasts.{is_the_broadcast, marked-is}
 
 -- no event brings a descriptor
 nothing-opened : (p : Plan) (q : Record) → each_entry (λ e before. is_job_entry e) q ≡ true → opened_descriptors p q ≡ []
@@ -43,21 +43,6 @@ no-offer : (p : Plan) (q : Record) → each_entry (λ e before. is_job_entry e) 
 no-offer p q only =
     let none : live_table p (before_signal q) ≡ [] = rw (nothing-opened p (before_signal q) (jobs-before q only)) refl in
     rw none (and_none _)
-
--- the mark is the broadcast
-abbrev is_the_broadcast : Mark → Bool
-is_the_broadcast broadcast = true
-is_the_broadcast _ = false
-
-marked-is : (q : Record) → has is_broadcast q ≡ list_any is_the_broadcast (told_marks q)
-marked-is [] = refl
-marked-is (Told (Phase x ms) ∷ q) = marked-is q ∙ by (is_boot_phase x)
-  where
-    by : (c : Bool) → list_any is_the_broadcast (told_marks q) ≡ list_any is_the_broadcast (if c then told_marks q else phase x ∷ told_marks q)
-    by true = refl
-    by false = refl
-marked-is (Told Broadcast ∷ q) = refl
-marked-is (e ∷ q) = marked-is q
 
 by-kind : (p : Plan) (b : Record) (more rest : List Mark) (kind : ShutdownSignal) → has_offer p b ≡ false → has_passed_by p b (Some kind) ≡ false
     → list_any is_the_broadcast ((marks_if false more ++ row_by p b (Some kind)) ++ rest) ≡ true

@@ -1,15 +1,15 @@
 //! The account that a host tells of a run, kept apart from what the host does by itself.
 
 ghost use Rattle.std.specs.Prelude.{◌≡◌, ◌+◌, ◌<◌, ◌≤◌, [], ◌∷◌, reverse, Some, None, IsSome, MatchBool, OnOk};
-ghost use Rattle.svc_conf.specs.Items.{list_of};
-ghost use Rattle.svc_conf.specs.Streams.{Rose};
+ghost use Rattle.svc_base.specs.Items.{list_of};
+ghost use Rattle.svc_base.specs.Streams.{Rose};
 ghost use Rattle.svc_record.specs.declared.entry.Entry.TheVariants.{Got, Told};
 ghost use Rattle.svc_server.specs.Hosts.{tells_failure};
 ghost use Rattle.svc_server.specs.ScriptHosts.{last_event};
 
 use std::alloc::Global;
 use std::marker::Model;
-use svc_conf::{NoMemory, Reserved};
+use svc_base::{NoMemory, Reserved};
 use svc_record::{Action, Entries, Entry, Event};
 
 /// What a host gave and was told, the services that it was handed, and its counts. Contracts see them
@@ -27,7 +27,7 @@ pub(crate) struct Account<B> {
 
 impl<B> Model for Account<B> {
     ghost use Rattle.std.specs.Prelude.{reverse, min};
-    ghost use Rattle.svc_conf.specs.Items.{list_of, spare};
+    ghost use Rattle.svc_base.specs.Items.{list_of, spare};
     ghost use Rattle.svc_server.specs.ScriptHosts.{last_event};
     ghost use Rattle.svc_jobs.specs.AccountData.{AccountData};
 

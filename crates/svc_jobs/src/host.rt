@@ -1,8 +1,8 @@
 //! A host that runs jobs.
 
 ghost use Rattle.std.specs.Prelude.{◌≡◌, ◌+◌, ◌<◌, ◌≤◌, ◌^◌, Option, [], ◌∷◌, length, map, reverse, position, slice_get, Some, None, IfOk, IfErr, IfSome, OnOk, MatchOption};
-ghost use Rattle.svc_conf.specs.Items.{list_of};
-ghost use Rattle.svc_conf.specs.Streams.{Rose};
+ghost use Rattle.svc_base.specs.Items.{list_of};
+ghost use Rattle.svc_base.specs.Streams.{Rose};
 ghost use Rattle.svc_record.specs.declared.entry.Entry.TheVariants.{Got};
 ghost use Rattle.svc_record.specs.declared.event.Event.TheVariants as events;
 ghost use Rattle.svc_record.specs.declared.item.Item.TheVariants as items_given;
@@ -25,7 +25,7 @@ use crate::timetable::Timetable;
 use crate::upcoming::{NextItem, upcoming};
 use std::alloc::Global;
 use std::marker::Model;
-use svc_conf::NoMemory;
+use svc_base::NoMemory;
 use svc_graph::services::ServiceWithDependents;
 use svc_record::{Action, Entries, Event, Item, ShutdownSignal};
 use svc_server::{Host, Next};
@@ -207,7 +207,15 @@ impl<J: Job> JobHost<J> {
         requires room { 0 < self.old.spare }
         requires next { slice_get self.old.items self.old.given ≡ Some (items_given.Event (events.Moment moment)) }
         requires none_waits { owing (periods_of self.old.plans) self.old.entries ≡ [] }
-        ensures given { self.new ≡ record self.old { jobs = self.new.jobs; given = self.old.given + 1; entries = Got (events.Moment moment) ∷ self.old.entries; runs = self.new.runs; last = Some (events.Moment moment); spare = self.new.spare } }
+        ensures given { self.new ≡ record self.old {
+          jobs = self.new.jobs;
+          given = self.old.given + 1;
+          entries = Got
+              (events.Moment moment) ∷ self.old.entries;
+          runs = self.new.runs;
+          last = Some (events.Moment moment);
+          spare = self.new.spare;
+        } }
         ensures room { self.old.spare ≤ self.new.spare + 1 }
     {
         self.given += 1;
@@ -220,7 +228,13 @@ impl<J: Job> JobHost<J> {
         requires room { 0 < self.old.spare }
         requires next { slice_get self.old.items self.old.given ≡ Some (items_given.Event (events.Signal kind)) }
         requires none_waits { owing (periods_of self.old.plans) self.old.entries ≡ [] }
-        ensures given { self.new ≡ record self.old { given = self.old.given + 1; entries = Got (events.Signal kind) ∷ self.old.entries; last = Some (events.Signal kind); spare = self.new.spare } }
+        ensures given { self.new ≡ record self.old {
+          given = self.old.given + 1;
+          entries = Got (events.Signal kind) ∷ self.old.entries;
+          last = Some
+              (events.Signal kind);
+          spare = self.new.spare;
+        } }
         ensures room { self.old.spare ≤ self.new.spare + 1 }
     {
         self.given += 1;

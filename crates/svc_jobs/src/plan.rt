@@ -1,6 +1,6 @@
 //! What jobs are planned as, and their runs.
 
-use svc_conf::{Numbers, Reserved, Text};
+use svc_base::{Numbers, Reserved, Text};
 
 /// A job as it is planned.
 #[derive(Debug, Drop)]

@@ -1,7 +1,7 @@
 //! Why a host of jobs isn't made.
 
 use crate::plan::JobPlan;
-use svc_conf::NoMemory;
+use svc_base::NoMemory;
 use svc_record::Item;
 use thiserror::Error;
 

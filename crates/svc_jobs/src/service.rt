@@ -3,7 +3,7 @@
 ghost use Rattle.std.specs.Prelude.{◌≡◌, Some, []};
 
 use std::alloc::Global;
-use svc_conf::{NoMemory, Text};
+use svc_base::{NoMemory, Text};
 use svc_graph::services::{RunPoll, ServiceReadyNotifier, ServiceWithDependents, StartPoll};
 use svc_graph::{EndpointPlan, Kind};
 

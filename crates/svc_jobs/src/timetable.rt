@@ -1,7 +1,7 @@
 //! Which jobs are due, by what has happened.
 
 ghost use Rattle.std.specs.Prelude.{◌≡◌, ◌+◌, ◌<◌, ◌≤◌, ◌^◌, ◌||◌, ◌++◌, ℕ, List, [], ◌∷◌, length, map, Option, IfOk, OnOk, IfSome, MatchOption, Some, slice_get, slice_set, position, nat_lt};
-ghost use Rattle.svc_conf.specs.Items.{list_of, spare};
+ghost use Rattle.svc_base.specs.Items.{list_of, spare};
 ghost use Rattle.svc_record.specs.declared.entry.Entry.TheVariants.{Got};
 ghost use Rattle.svc_record.specs.declared.event.Event.TheVariants as events;
 ghost use Rattle.svc_record.specs.Record.{Record};
@@ -15,7 +15,7 @@ use crate::plan::{JobPlan, JobRun, RunList};
 use crate::row::JobRow;
 use std::alloc::Global;
 use std::marker::Model;
-use svc_conf::NoMemory;
+use svc_base::NoMemory;
 use svc_record::{Action, ExecutionPhase};
 
 /// What is known of each job, and its runs. Contracts see it without its memory, but for the room.
@@ -32,7 +32,7 @@ pub(crate) struct Timetable {
 
 impl Model for Timetable {
     ghost use Rattle.std.specs.Prelude.{length, ◌≤◌, ◌^◌};
-    ghost use Rattle.svc_conf.specs.Items.{list_of, spare};
+    ghost use Rattle.svc_base.specs.Items.{list_of, spare};
     ghost use Rattle.svc_jobs.specs.TimetableData.{TimetableData};
     ghost use Rattle.svc_jobs.specs.Rows.{ArePaced};
 
@@ -46,7 +46,8 @@ impl Model for Timetable {
 /// Runs the job at the place for so many due moments, if there are any.
 fn run_job<J: Job>(jobs: &mut [J], s: usize, due: u64)
     requires { s < length jobs.old }
-    ensures { (told : Option (List ℕ)) → slice_get (map J.told jobs.old) s ≡ Some told → map J.told jobs.new ≡ slice_set (map J.told jobs.old) s (told_after told due) }
+    ensures { (told : Option (List ℕ)) → slice_get (map J.told jobs.old) s ≡ Some told
+        → map J.told jobs.new ≡ slice_set (map J.told jobs.old) s (told_after told due) }
 {
     if due != 0 {
         jobs[s].run(due);
@@ -178,7 +179,8 @@ impl Timetable {
         requires jobs { length jobs.old ≡ length self.old.rows }
         requires room { length self.old.rows ≤ self.old.spare }
         ensures table { (periods : List ℕ) (q : Record) → IsTimetableOf periods self.old q → IsTimetableOf periods self.new (Got (events.Moment moment) ∷ q) }
-        ensures told { (periods : List ℕ) (q : Record) (s : ℕ) (told : Option (List ℕ)) → IsTimetableOf periods self.old q → slice_get (map J.told jobs.old) s ≡ Some told
+        ensures told { (periods : List ℕ) (q : Record) (s : ℕ) (told : Option (List ℕ)) → IsTimetableOf periods self.old q
+            → slice_get (map J.told jobs.old) s ≡ Some told
             → slice_get (map J.told jobs.new) s ≡ Some (told_after told (due_at periods q moment s)) }
         ensures room { self.old.spare ≤ self.new.spare + length self.old.rows }
         ensures sized { length self.new.rows ≡ length self.old.rows }

@@ -1,6 +1,6 @@
 -- Why there is no connection.
 use Rattle.std.proofs.Common.{◌≡◌, ℕ, Bool, true, false, List, length, Option, Some, None, refl, ap, sym, subst}
-use Rattle.svc_conf.specs.Streams.{Rose}
+use Rattle.svc_base.specs.Streams.{Rose}
 use Rattle.svc_listen.specs.AcceptingData.{AcceptingData}
 use Rattle.svc_listen.specs.Accepts.{Verdict, Judges, Accepts, none_yet, failed, refused, unset, taken, AcceptCause, HasGiven}
 use Rattle.svc_socket.specs.declared.peer.Peer.{Peer}

@@ -1,6 +1,6 @@
 -- The tries to bind an address, one after the other.
 use Rattle.std.proofs.Common.{◌≡◌, ℕ}
-use Rattle.svc_calls.specs.Calls.{Adds}
+use Rattle.svc_base.specs.Calls.{Adds}
 use Rattle.svc_listen.specs.BinderData.{BinderData}
 use Rattle.svc_listen.specs.Binding.{busy_tries, RoseBy}
 use Rattle.svc_listen.specs.declared.listeners.l4.ServerAddress.{ServerAddress}

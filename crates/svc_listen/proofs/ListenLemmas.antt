@@ -11,7 +11,7 @@ use Rattle.svc_listen.specs.declared.listeners.l4.binding.ListenError.{ListenErr
 use Rattle.svc_listen.specs.declared.listeners.l4.binding.ListenError.TheVariants.{NoAddress, BindError}
 use Rattle.svc_listen.specs.declared.listeners.l4.binding.BindErrorKind.{BindErrorKind}
 use Rattle.svc_listen.specs.declared.listeners.l4.binding.BindErrorKind.TheVariants.{AdoptFailed, Failed, StillInUse}
-use Rattle.svc_conf.specs.Streams.{Rose}
+use Rattle.svc_base.specs.Streams.{Rose}
 
 pub listens-no_address : {S : Type 0} (seen : S → BinderData) (builder : BuilderData) (table : Option (List Entry)) (a : S) (given : Option ServerAddress) (filter : Option ℕ) (reason : ListenError)
     → record { address = given; filter = filter } ≡ builder → given ≡ None → reason ≡ NoAddress → Listens seen builder table a a table (Err reason)

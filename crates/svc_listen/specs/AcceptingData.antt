@@ -1,12 +1,13 @@
 -- What contracts see of what accepts connections, and what its calls change.
-use Rattle.std.specs.Prelude.{◌≡◌, ℕ, Bool, true, false, List, [], ◌∷◌, Option}
-use Rattle.svc_conf.specs.Streams.{Rose}
-use Rattle.svc_conf.specs.declared.settings.Setting.{Setting}
-use Rattle.svc_calls.specs.Calls.{Adds}
+use Rattle.std.specs.Prelude.{◌≡◌, ℕ, Bool, List, [], ◌∷◌, Option}
+use Rattle.svc_base.specs.Streams.{Rose}
+use Rattle.svc_base.specs.declared.settings.Setting.{Setting}
+use Rattle.svc_base.specs.Calls.{Adds}
 use Rattle.svc_listen.specs.declared.accepting.Arrival.{Arrival}
 use Rattle.svc_listen.specs.declared.accepting.Arrival.TheVariants.{Came, NotYet, Failed}
 use Rattle.svc_listen.specs.declared.accepting.AcceptingCall.{AcceptingCall}
 use Rattle.svc_listen.specs.declared.accepting.AcceptingCall.TheVariants.{Accept, Refuse, Set}
+use Rattle.svc_socket.specs.OptionsData.{SetFaults}
 
 -- the calls that it was asked, the oldest first, where it tells them; how often it failed, and how often no connection was there yet
 pub record AcceptingData : Type 0 where
@@ -37,11 +38,6 @@ pub record IsRefused (before now : AcceptingData) (c : ℕ) : Type 0 where
   pub called : Adds before.called now.called (Refuse c ∷ [])
   pub faults : now.faults ≡ before.faults
   pub waits : now.waits ≡ before.waits
-
--- the count of faults rises where a setting wasn't set
-abbrev pub SetFaults : Bool → ℕ → ℕ → Type 0
-SetFaults true before now = now ≡ before
-SetFaults false before now = Rose before now
 
 -- it was asked to set an option of a connection, with this answer
 pub record IsSet (before now : AcceptingData) (c : ℕ) (setting : Setting) (set : Bool) : Type 0 where

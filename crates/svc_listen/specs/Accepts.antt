@@ -1,9 +1,9 @@
 -- What becomes of a connection that came.
 use Rattle.std.specs.Prelude.{◌≡◌, ◌≢◌, ℕ, Bool, true, false, List, [], ◌∷◌, ◌++◌, map, length, slice_get, Option, Some, None}
 use Rattle.std.specs.List.{filter_map}
-use Rattle.svc_conf.specs.Streams.{Rose}
-use Rattle.svc_conf.specs.declared.settings.Setting.{Setting}
-use Rattle.svc_calls.specs.Calls.{Adds}
+use Rattle.svc_base.specs.Streams.{Rose}
+use Rattle.svc_base.specs.declared.settings.Setting.{Setting}
+use Rattle.svc_base.specs.Calls.{Adds}
 use Rattle.svc_socket.specs.OptionLists.{settings_of}
 use Rattle.svc_socket.specs.declared.peer.PeerAddr.{PeerAddr}
 use Rattle.svc_streams.specs.HandshakeData.{HandshakeData}

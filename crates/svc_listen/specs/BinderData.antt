@@ -1,7 +1,7 @@
 -- What contracts see of a binder, and what its calls change.
 use Rattle.std.specs.Prelude.{◌≡◌, ℕ, Bool, true, false, List, [], ◌∷◌, Option}
-use Rattle.svc_conf.specs.Streams.{Rose}
-use Rattle.svc_calls.specs.Calls.{Adds}
+use Rattle.svc_base.specs.Streams.{Rose}
+use Rattle.svc_base.specs.Calls.{Adds}
 use Rattle.svc_listen.specs.declared.listeners.l4.ServerAddress.{ServerAddress}
 use Rattle.svc_listen.specs.declared.binder.BindAnswer.{BindAnswer}
 use Rattle.svc_listen.specs.declared.binder.BindAnswer.TheVariants as answers

@@ -1,7 +1,7 @@
 -- How an address comes to a descriptor that listens on it: what a binder is asked, by its answers.
 use Rattle.std.specs.Prelude.{◌≡◌, ℕ, zero, suc, true, false, ◌+◌, ◌-◌, ◌^◌, ◌≤◌, min, List, [], ◌∷◌, ◌++◌, Option, Some, None, Result, Ok, Err, if◌then◌else◌}
 use Rattle.std.specs.Option.{option_map}
-use Rattle.svc_calls.specs.Calls.{Adds}
+use Rattle.svc_base.specs.Calls.{Adds}
 use Rattle.svc_fds.specs.Tables.{Entry, lookup, put}
 use Rattle.svc_listen.specs.Addresses.{text_of, is_unix}
 use Rattle.svc_listen.specs.BinderData.{BinderData, BindFaults, IsAdopted}

@@ -1,6 +1,6 @@
 -- What comes of listening.
 use Rattle.std.specs.Prelude.{◌≡◌, ℕ, not, List, Option, Some, None, Result, Ok, Err, IfSome, is_some}
-use Rattle.svc_conf.specs.Streams.{Rose}
+use Rattle.svc_base.specs.Streams.{Rose}
 use Rattle.svc_fds.specs.Tables.{Entry}
 use Rattle.svc_listen.specs.Sockets.{number_of, listener_of}
 use Rattle.svc_listen.specs.BinderData.{BinderData}

@@ -1,6 +1,6 @@
 -- What comes back with a refusal.
 use Rattle.std.specs.Prelude.{None}
-use Rattle.svc_conf.specs.declared.memory.NoMemory.{NoMemory}
+use Rattle.svc_base.specs.declared.memory.NoMemory.{NoMemory}
 use Rattle.svc_listen.specs.declared.listeners.EndpointRefused.{EndpointRefused}
 
 -- nothing was moved into the call

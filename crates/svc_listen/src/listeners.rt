@@ -8,7 +8,7 @@ use l4::{Permissions, ServerAddress, TcpSocketOptions};
 use std::alloc::Global;
 use std::convert::AsStr;
 use std::marker::Model;
-use svc_conf::{NoMemory, Text};
+use svc_base::{NoMemory, Text};
 use svc_graph::EndpointPlan;
 use svc_socket::protocols::tls::noop_tls::listeners::TlsSettings;
 use svc_socket::settings_of;

@@ -1,12 +1,11 @@
 //! What accepts connections, in memory.
 
 ghost use Rattle.std.specs.Prelude.{◌≡◌, [], Some, IfOk};
-ghost use Rattle.svc_calls.specs.Calls.{told_of};
+ghost use Rattle.svc_base.specs.Calls.{told_of};
 
 use crate::accepting::{Accepting, AcceptingCall, Arrival};
 use std::alloc::Global;
-use svc_calls::Calls;
-use svc_conf::NoMemory;
+use svc_base::{Calls, NoMemory};
 use svc_socket::Setting;
 use svc_streams::Peer;
 

@@ -1,15 +1,14 @@
 //! Binders in memory.
 
 ghost use Rattle.std.specs.Prelude.{◌≡◌, ◌∷◌, [], Some, IfOk};
-ghost use Rattle.svc_calls.specs.Calls.{told_of, Adds};
+ghost use Rattle.svc_base.specs.Calls.{told_of, Adds};
 ghost use Rattle.svc_listen.specs.BinderData.{outcome_of};
 ghost use Rattle.svc_listen.specs.MemoryBinders.{IsTried};
 
 use crate::binder::{BindAnswer, BindOutcome, Binder, BinderCall};
 use crate::listeners::l4::ServerAddress;
 use std::alloc::Global;
-use svc_calls::Calls;
-use svc_conf::NoMemory;
+use svc_base::{Calls, NoMemory};
 use svc_fds::Fd;
 
 fn note_bind(

@@ -21,7 +21,8 @@ use Rattle.svc_record.specs.Starts.{is_start, is_ready_event, start_known}
 use Rattle.svc_record.specs.Endpoints.{is_held}
 use Rattle.svc_record.specs.Closes.{close_once}
 use Rattle.svc_record.specs.Connections.{live_connections}
-use Rattle.svc_record.specs.Drain.{has_passed, has_passed_by, last_actions, live_numbers, ascending}
+use Rattle.svc_record.specs.Drain.{has_passed, has_passed_by, last_actions, live_numbers}
+use Rattle.svc_base.specs.NumberSets.{ascending}
 use Rattle.svc_record.specs.Fits.{event_fits}
 use Rattle.svc_record.specs.Right.{Right, Served, LastStepRight}
 use Rattle.svc_server.specs.Runs.{events_of}

@@ -17,12 +17,9 @@ use Rattle.svc_text.specs.Dependencies.{edges_up_to}
 use Rattle.svc_text.specs.ScriptPlans.{plans_from, service_plan, endpoint_of}
 use Rattle.svc_main.specs.Generator.{is_even, made_port, made_endpoint, made_service, made_services, made_plan}
 use Rattle.svc_main.proofs.GeneratorLemmas.{services_length, services_at, edge_before_one}
+use Rattle.svc_text.proofs.PlanLemmas.{plans-length}
 
 -- ---- the services
-
-plans-length : (services : List ServiceLine) (s : ℕ) (xs : List ServiceLine) → length (plans_from services s xs) ≡ length xs
-plans-length services s [] = refl
-plans-length services s (x ∷ xs) = ap suc (plans-length services (s + 1) xs)
 
 plans-at : (services : List ServiceLine) (s k : ℕ) (xs : List ServiceLine) (d : ServiceLine) → k < length xs → slice_get (plans_from services s xs) k ≡ Some (service_plan services (s + k) (get_or xs k d))
 plans-at services s k [] d lt = absurd (omega arith)

@@ -2,7 +2,7 @@
 use Rattle.std.proofs.Common.{◌≡◌, ℕ, true, inl, inr, List, [], ◌∷◌, ◌++◌, map, Some, None, Ok, Err, ap, sym, ◌∙◌, subst, arith, refl, append-nil, append_assoc}
 use mathlib.Core.Bool.{false≢true}
 use Rattle.svc_conf.specs.Configuration.{judged}
-use Rattle.svc_conf.specs.Streams.{Rose}
+use Rattle.svc_base.specs.Streams.{Rose}
 use Rattle.svc_conf.specs.declared.server.configuration.Opt.{Opt}
 use Rattle.svc_conf.specs.ConfigurationText.{merged}
 use Rattle.svc_record.specs.declared.plan.Plan.{Plan}

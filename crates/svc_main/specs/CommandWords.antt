@@ -6,7 +6,8 @@ use Rattle.clap.specs.Takes.{takes}
 use Rattle.clap.specs.Faults.{fault_of}
 use Rattle.svc_conf.specs.declared.server.configuration.Opt.{Opt}
 use Rattle.svc_conf.specs.OptWords.{opt_app, opt_of}
-use Rattle.svc_text.specs.Words.{◌>>=◌, number_of}
+use Rattle.svc_base.specs.Options.{◌>>=◌}
+use Rattle.svc_base.specs.Words.{number_of}
 
 -- the first word is `run`; to the reader of the flags it stands in the place of the program's name
 abbrev pub BeginsWithRun : List (List ℕ) → Type 0

@@ -5,7 +5,7 @@ ghost use Rattle.svc_main.specs.Counts.{is_any_start, is_any_bind, is_any_close,
 
 use std::alloc::Global;
 use std::fmt::Write;
-use svc_conf::NoMemory;
+use svc_base::NoMemory;
 use svc_record::{Action, Entry};
 
 fn is_start(entry: &Entry) -> bool

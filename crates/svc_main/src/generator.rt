@@ -7,7 +7,8 @@ ghost use Rattle.svc_record.specs.declared.item.Item.TheVariants as item;
 ghost use Rattle.svc_main.specs.Generator.{is_even, made_kind, made_after, made_endpoint, made_service, made_services, made_moment, made_connection, made_word, made_start, made_connections, made_events_of, made_events, no_flags};
 
 use std::alloc::Global;
-use svc_conf::{Items, NoMemory, Numbers, Opt, Settings, Text, Texts};
+use svc_base::{Items, NoMemory, Numbers, Settings, Text, Texts};
+use svc_conf::Opt;
 use svc_graph::Kind;
 use svc_record::{Event, Item, ShutdownSignal};
 use svc_socket::Peer;

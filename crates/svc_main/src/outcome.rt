@@ -2,7 +2,8 @@ ghost use Rattle.std.specs.Prelude.{◌≡◌, Some};
 ghost use Rattle.svc_main.specs.Status.{end_text, status_text, status_of};
 
 use std::fmt;
-use svc_conf::{Key, Status};
+use svc_base::Status;
+use svc_conf::Key;
 use svc_record::BootstrapError;
 
 /// How a run ended.

@@ -6,7 +6,7 @@ ghost use Rattle.std.specs.Str.Lines.{lines};
 ghost use Rattle.svc_conf.specs.Configuration.{judged};
 ghost use Rattle.svc_conf.specs.ConfigurationText.{merged};
 ghost use Rattle.svc_record.specs.Validity.{IsValid};
-ghost use Rattle.svc_text.specs.Words.{is_feed};
+ghost use Rattle.svc_base.specs.Words.{is_feed};
 ghost use Rattle.svc_text.specs.Accepted.{AreAccepted};
 ghost use Rattle.svc_text.specs.Dependencies.{RefusesNone, RefusesAt};
 ghost use Rattle.svc_text.specs.Outcome.{Gives, parts_of};
@@ -17,7 +17,8 @@ ghost use Rattle.svc_main.specs.Planned.{Judged, part_lines};
 
 use crate::services::{configured, server_of_script};
 use std::alloc::{AllocError, Global};
-use svc_conf::{Key, NoMemory, Opt};
+use svc_base::NoMemory;
+use svc_conf::{Key, Opt};
 use svc_record::Plan;
 use svc_text::{Script, ScriptError, ServiceLine, parse};
 

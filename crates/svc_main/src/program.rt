@@ -3,7 +3,7 @@
 ghost use Rattle.std.specs.Prelude.{◌≡◌, ◌⊎◌, ◌<◌, ◌++◌, map, List, All, ℕ, IfOk, Some, None, string_bytes};
 ghost use Rattle.std.specs.Rc.{rc_str_bytes};
 ghost use Rattle.std.specs.Io.KnownBytes.{Appends};
-ghost use Rattle.svc_conf.specs.Streams.{Rose};
+ghost use Rattle.svc_base.specs.Streams.{Rose};
 ghost use Rattle.svc_record.specs.declared.entry.Entry.{Entry};
 ghost use Rattle.svc_record.specs.Text.{text_of, EntryFits};
 ghost use Rattle.svc_text.specs.Script.{Parts};
@@ -19,7 +19,7 @@ use crate::outcome::StatusLine;
 use crate::words::{made_size, read_words};
 use std::alloc::Global;
 use std::rc::RcStr;
-use svc_conf::{NoMemory, ReadAllError, Sink, Source, Status, read_all, write_all};
+use svc_base::{NoMemory, ReadAllError, Sink, Source, Status, read_all, write_all};
 use svc_text::{ScriptError, parse};
 
 /// What is to be written, where the words don't ask for the generator.

@@ -15,7 +15,7 @@ use crate::outcome::RunEnd;
 use crate::script_filter::ScriptFilter;
 use crate::script_service::ScriptService;
 use std::alloc::Global;
-use svc_conf::NoMemory;
+use svc_base::NoMemory;
 use svc_graph::services::ServiceWithDependents;
 use svc_server::{Host, Outcome, RunArgs, RunError, ScriptHost, Server};
 

@@ -5,7 +5,7 @@ ghost use Rattle.svc_text.specs.Filters.{is_blocked, blocked_lists};
 ghost use Rattle.svc_main.specs.BlockedLists.{blocked_by};
 
 use std::alloc::Global;
-use svc_conf::{Items, NoMemory};
+use svc_base::{Items, NoMemory};
 use svc_record::copy_items;
 use svc_socket::{IpNumber, PeerAddr};
 use svc_streams::{ConnectionFilter, Filters};

@@ -5,7 +5,7 @@ ghost use Rattle.svc_text.specs.ScriptPlans.{endpoint_of};
 ghost use Rattle.svc_text.specs.declared.service.EndpointLine.{EndpointLine};
 
 use std::alloc::Global;
-use svc_conf::{Items, NoMemory, Text, Texts};
+use svc_base::{Items, NoMemory, Text, Texts};
 use svc_graph::services::{RunPoll, ServiceReadyNotifier, ServiceWithDependents, StartPoll};
 use svc_graph::{EndpointPlan, Kind};
 use svc_record::copy_items;

@@ -8,8 +8,8 @@ ghost use Rattle.svc_main.specs.CommandWords.{BeginsWithRun, TakesWords, Refuses
 
 use std::alloc::Global;
 use std::rc::RcStr;
-use svc_conf::{NoMemory, Opt, OptError};
-use svc_text::number;
+use svc_base::{NoMemory, number};
+use svc_conf::{Opt, OptError};
 
 fn is_run(words: &[RcStr]) -> bool
     ensures { Decides result (BeginsWithRun (map rc_str_bytes words.now)) }

@@ -1,5 +1,5 @@
 -- What is no ask of the offer, no answer to one and no signal changes nothing of the offer; nor does a later signal.
-use Rattle.std.proofs.Common.{ℕ, Bool, true, false, not, List, [], ◌∷◌, ◌≡◌, refl, ap, ◌∙◌, arith, is_some}
+use Rattle.std.proofs.Common.{ℕ, true, false, not, List, [], ◌∷◌, ◌≡◌, refl, ap, ◌∙◌, arith, is_some}
 use Rattle.std.specs.Prelude.{nat_le}
 use Rattle.std.proofs.lemmas.Bool.{and_parts}
 use Rattle.std.proofs.lemmas.Bool.Decides.{nat_tests}
@@ -16,6 +16,7 @@ use Rattle.svc_offer.specs.OfferState.{OfferStands, goes_forward}
 use Rattle.svc_offer.specs.OfferFacts.{is_offer_event, is_offer_action, has_no_offer_action}
 use Rattle.svc_offer.proofs.StateFacts.{since-kept}
 pub use Rattle.svc_offer.proofs.Signals.{stands-later, stands-unoffered}
+use Rattle.svc_base.proofs.Logic.{apart_from as not_true}
 
 -- an action that asks nothing of the successor
 pub stands-told : (p : Plan) (d : OfferData) (q : Record) (a : Action) → is_offer_action a ≡ false → OfferStands p d q → OfferStands p d (Told a ∷ q)
@@ -92,10 +93,6 @@ stands-got p d q e other s = record {
   asks_due = (refl, s.asks_due);
   retries_due = (refl, s.retries_due);
 }
-
-not_true : (b : Bool) → not b ≡ true → b ≡ false
-not_true true h = cc
-not_true false h = refl
 
 -- a told list in which nothing asks the successor
 pub stands-tell : (p : Plan) (d : OfferData) (q : Record) (told : List Action) → has_no_offer_action told ≡ true → OfferStands p d q → OfferStands p d (tell q told)

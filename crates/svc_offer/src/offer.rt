@@ -1,7 +1,7 @@
 //! The offer to a successor, from the signal to its last answer.
 
 ghost use Rattle.std.specs.Prelude.{◌≡◌, ◌+◌, ◌≤◌, ◌++◌, [], ◌∷◌, length, Option, Some, None, IfOk, true, false};
-ghost use Rattle.svc_conf.specs.Items.{list_of, spare};
+ghost use Rattle.svc_base.specs.Items.{list_of, spare};
 ghost use Rattle.svc_fds.specs.declared.encoding.Message.{Message};
 ghost use Rattle.svc_record.specs.declared.plan.Plan.{Plan};
 ghost use Rattle.svc_record.specs.declared.entry.Entry.TheVariants.{Got};
@@ -18,7 +18,7 @@ use crate::copies::copy_message;
 use crate::offering::Offering;
 use std::alloc::Global;
 use std::marker::Model;
-use svc_conf::NoMemory;
+use svc_base::NoMemory;
 use svc_fds::{Message, SendAnswer, SendNext, SendRetry};
 use svc_record::{Action, Actions, Event};
 
@@ -156,7 +156,8 @@ impl Offer {
     /// offered, or the offer is over at once where there is none.
     pub fn begin(&mut self, message: Option<Message>, moment: u64)
         ensures after { self.new ≡ begun message moment self.old }
-        ensures stands { (p : Plan) (q : Record) → moment ≡ now q → has is_signal q ≡ false → is_empty_table (live_table p q) ≡ false → message ≡ encode (live_table p q) → OfferStands p self.old q → OfferStands p self.new (Got (Signal GracefulUpgrade) ∷ q) }
+        ensures stands { (p : Plan) (q : Record) → moment ≡ now q → has is_signal q ≡ false → is_empty_table (live_table p q) ≡ false
+            → message ≡ encode (live_table p q) → OfferStands p self.old q → OfferStands p self.new (Got (Signal GracefulUpgrade) ∷ q) }
     {
         self.state = match &message {
             Some(_) => Offering::Unasked,
@@ -237,7 +238,8 @@ impl Offer {
         requires room { 1 ≤ spare actions.old }
         ensures after { self.new ≡ asked self.old moment }
         ensures told { list_of actions.new ≡ list_of actions.old ++ ask_with copy self.old moment }
-        ensures stands { (p : Plan) (q : Record) → moment ≡ now q → (is_send_due self.old.state moment ≡ true → copy ≡ self.old.message) → OfferStands p self.old q → OfferStands p self.new (tell q (ask_with copy self.old moment)) }
+        ensures stands { (p : Plan) (q : Record) → moment ≡ now q → (is_send_due self.old.state moment ≡ true → copy ≡ self.old.message)
+            → OfferStands p self.old q → OfferStands p self.new (tell q (ask_with copy self.old moment)) }
         ensures settled { IsOfferSettled self.new moment }
         ensures room { spare actions.old ≤ spare actions.new + 1 }
         ensures few { length (list_of actions.new) ≤ length (list_of actions.old) + 1 }

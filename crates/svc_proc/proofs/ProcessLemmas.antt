@@ -1,6 +1,6 @@
 -- What was asked of a process in one call after the other.
 use Rattle.std.proofs.Common.{◌≡◌, ℕ, Bool, true, List, [], ◌∷◌, ◌++◌, Some, subst, ◌∙◌, arith}
-use Rattle.svc_calls.proofs.CallLemmas.{Adds-then}
+use Rattle.svc_base.proofs.CallLemmas.{Adds-then}
 use Rattle.svc_proc.specs.declared.process.ProcessCall.{ProcessCall}
 use Rattle.svc_proc.specs.declared.process.ProcessCall.TheVariants.{Exists, Rename}
 use Rattle.svc_proc.specs.ProcessData.{ProcessData, Asks}

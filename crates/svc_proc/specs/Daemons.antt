@@ -1,6 +1,6 @@
 -- How a server becomes a daemon.
 use Rattle.std.specs.Prelude.{ℕ, ◌≤◌, Bool, true, false, if◌then◌else◌, List, [], ◌∷◌, ◌++◌, codes, Option, Some, None, Result, Ok, Err, unwrap_or}
-use Rattle.svc_calls.specs.Calls.{Adds}
+use Rattle.svc_base.specs.Calls.{Adds}
 use Rattle.svc_conf.specs.declared.server.configuration.ServerConf.{ServerConf}
 use Rattle.svc_proc.specs.ProcessData.{ProcessData, ForkFaults}
 use Rattle.svc_proc.specs.Limits.{Limit}

@@ -1,7 +1,7 @@
 -- What contracts see of a process, and what its calls change.
 use Rattle.std.specs.Prelude.{◌≡◌, ℕ, ◌≤◌, List, [], ◌∷◌, Option}
-use Rattle.svc_conf.specs.Streams.{Rose}
-use Rattle.svc_calls.specs.Calls.{Adds}
+use Rattle.svc_base.specs.Streams.{Rose}
+use Rattle.svc_base.specs.Calls.{Adds}
 use Rattle.svc_proc.specs.declared.process.ForkAnswer.{ForkAnswer}
 use Rattle.svc_proc.specs.declared.process.ForkAnswer.TheVariants.{Child, Parent, Failed}
 use Rattle.svc_proc.specs.declared.process.ProcessCall.{ProcessCall}

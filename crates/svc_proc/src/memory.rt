@@ -1,12 +1,11 @@
 //! Processes in memory.
 
 ghost use Rattle.std.specs.Prelude.{◌≡◌, ◌<◌, [], ◌∷◌, length, Some, IfOk, IfSome};
-ghost use Rattle.svc_calls.specs.Calls.{told_of, Adds};
+ghost use Rattle.svc_base.specs.Calls.{told_of, Adds};
 
 use crate::process::{ForkAnswer, Process, ProcessCall, SignalAnswer};
 use std::alloc::Global;
-use svc_calls::Calls;
-use svc_conf::{NoMemory, Text};
+use svc_base::{Calls, NoMemory, Text};
 
 fn note_exists(alloc: Global, calls: &mut Calls<ProcessCall>, path: &str, there: bool)
     ensures { Adds (told_of calls.old) (told_of calls.new) (ProcessCall.Exists path.now there ∷ []) }

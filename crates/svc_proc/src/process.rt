@@ -3,7 +3,7 @@
 ghost use Rattle.std.specs.Prelude.{◌≡◌, ◌∷◌, []};
 ghost use Rattle.svc_proc.specs.ProcessData.{ProcessData, Asks, Forks};
 
-use svc_conf::Text;
+use svc_base::Text;
 
 /// What a fork answers.
 #[derive(Clone, Copy, PartialEq, Eq, Debug)]

@@ -15,7 +15,8 @@ use Rattle.svc_record.specs.Message.{decode}
 use Rattle.svc_record.specs.Descriptors.{Descriptor, descriptors_of, opened_descriptors, with_words, words_or_none, is_opened, has_number, is_close, numbers_of, brings}
 use Rattle.svc_record.specs.Connections.{arrived_numbers, live_connections, goes_on, is_arrival, is_cut}
 use Rattle.svc_record.specs.Closes.{close_once}
-use Rattle.svc_record.specs.Drain.{ascending, live_numbers}
+use Rattle.svc_record.specs.Drain.{live_numbers}
+use Rattle.svc_base.specs.NumberSets.{ascending}
 use Rattle.svc_record.specs.Fits.{event_fits, fits, is_new, are_new, accepts}
 use Rattle.svc_record.specs.Asks.{is_bind_open, is_try_open}
 use Rattle.svc_record.specs.Ends.{has_ended}

@@ -19,7 +19,8 @@ use Rattle.svc_record.specs.Closes.{ClosesRight, closes_right, close_right, clos
 use Rattle.svc_record.specs.AskRules.{FailsRight, fails_right, ask_due, ask_known}
 use Rattle.svc_record.specs.Offer.{OfferRight, offer_right, offer_due, retry_due, one_ask}
 use Rattle.svc_record.specs.Connections.{ConnRight, conn_right, rest_due, live_connections, connection_known}
-use Rattle.svc_record.specs.Drain.{Mark, phase, broadcast, Drain, drain_right, PhasesRight, phases_right, phase_number, same_mark, same_marks, told_marks, has_passed, moment_right, every_moment_right, ends_right, last_actions, live_numbers, begins_with, is_told, stop_seconds, ascending}
+use Rattle.svc_record.specs.Drain.{Mark, phase, broadcast, Drain, drain_right, PhasesRight, phases_right, phase_number, same_mark, same_marks, told_marks, has_passed, moment_right, every_moment_right, ends_right, last_actions, live_numbers, begins_with, is_told, stop_seconds}
+use Rattle.svc_base.specs.NumberSets.{ascending}
 use Rattle.svc_record.specs.Boot.{BootRight, boot_right, stands_first, fork_first, start_after_boot, try_due, boot_due}
 use Rattle.svc_record.specs.Ends.{has_ended, has_ended_early, ends_tested, TestedRight, tested_right, visited_services, is_visited}
 use Rattle.svc_record.specs.Fits.{event_fits}

@@ -12,7 +12,7 @@ use Rattle.svc_record.specs.Ends.{step_end}
 use Rattle.svc_record.specs.Right.{Right, Served}
 use Rattle.svc_record.proofs.Sound.{right_from_test, served_from_test}
 use Rattle.svc_record.proofs.TwoServices.{plan_of, listening}
-use Rattle.svc_record.proofs.FailedBind.{web}
+use Rattle.svc_record.proofs.FailedBind.{web, half_held}
 use Rattle.svc_record.proofs.GraceWait.{ended}
 use Rattle.svc_record.proofs.Variants.{shortened, right_ones}
 
@@ -81,10 +81,6 @@ alone-waits = refl
 -- a service with two addresses, and no grace period
 abbrev pub half_plan : Plan
 half_plan = record (plan_of (web (codes "a:1") (codes "b:2") ∷ [])) { grace = 0 }
-
--- it has the first, and asks for the second
-abbrev pub half_held : Record
-half_held = Told (Bind 0 1) ∷ Got (Bound 0 0 7) ∷ Told (Phase Running 0) ∷ Told (Bind 0 0) ∷ Told (Start 0) ∷ []
 
 -- the second can't be bound while the first is on offer: it stays open
 abbrev pub held_back : Record

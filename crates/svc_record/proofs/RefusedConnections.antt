@@ -1,6 +1,6 @@
 -- Records with an offer, a connection or a cut that no server leaves: each is refused, by the clauses that say why.
 use Rattle.std.proofs.Common.{true, [], ◌∷◌, ◌++◌, codes, refl}
-use Rattle.svc_conf.specs.declared.settings.Setting.TheVariants.{NoDelay}
+use Rattle.svc_base.specs.declared.settings.Setting.TheVariants.{NoDelay}
 use Rattle.svc_socket.specs.declared.peer.Peer.TheVariants.{Unix}
 use Rattle.svc_record.specs.declared.entry.Entry.TheVariants.{Got, Told}
 use Rattle.svc_record.specs.declared.event.Event.TheVariants.{Connected, NotThere, SendBusy, Arrived, AcceptFailed, Signal}

@@ -1,6 +1,6 @@
 -- A run with connections: one is refused, one served, one dropped, and two are cut at the end.
 use Rattle.std.proofs.Common.{true, false, [], ◌∷◌, ◌++◌, Some, codes, refl}
-use Rattle.svc_conf.specs.declared.settings.Setting.TheVariants.{NoDelay, Dscp}
+use Rattle.svc_base.specs.declared.settings.Setting.TheVariants.{NoDelay, Dscp}
 use Rattle.svc_socket.specs.declared.peer.Peer.TheVariants.{Unknown, Unix, Inet}
 use Rattle.svc_socket.specs.declared.peer.PeerAddr.{PeerAddr}
 use Rattle.svc_socket.specs.declared.peer.PeerAddr.TheVariants.{V4}

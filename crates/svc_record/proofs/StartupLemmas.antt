@@ -7,6 +7,7 @@ use Rattle.svc_record.specs.declared.plan.Plan.{Plan}
 use Rattle.svc_record.specs.Plans.{service_count, services, depends}
 use Rattle.svc_record.specs.Starts.{comes_next, first_number, first_services, startup_order}
 use Rattle.svc_record.specs.Validity.{is_listed, IsStartupOrder}
+use Rattle.svc_base.proofs.Logic.{apart_from as not_true}
 
 -- the first number of a range that passes the test
 first-found : (test : ℕ → Bool) (n a s : ℕ) → a ≤ s → s < a + n → test s ≡ true → ((t : ℕ) → a ≤ t → t < s → test t ≡ false) → first_number test (range_with_len a n) ≡ s ∷ []
@@ -52,9 +53,6 @@ not_next : (p : Plan) (listed : List ℕ) (t : ℕ) → (is_listed listed t ≡ 
 not_next p listed t fails = false_from_ne_true (comes_next p listed t)
     (λ e. (let both = and_parts (not (is_listed listed t)) (list_all (is_listed listed) (depends p t)) e in
     fails (not_true (is_listed listed t) both.0) (each-passes (is_listed listed) (depends p t) both.1)))
-  where
-    not_true : (b : Bool) → not b ≡ true → b ≡ false
-    not_true b h = grind arith
 
 module _ (p : Plan) (order : List ℕ) (least : IsStartupOrder p order) where
   -- the next one is found

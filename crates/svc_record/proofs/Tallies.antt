@@ -3,7 +3,7 @@ use Rattle.std.proofs.Common.{ℕ, Bool, true, false, not, ◌==◌, ◌||◌, �
 use Rattle.std.proofs.lemmas.Bool.{false≢true}
 use Rattle.std.proofs.Math.Dec.{eqb-suc-zero}
 use Rattle.std.specs.List.{list_any, list_all}
-use Rattle.svc_record.specs.Drain.{put_number, ascending}
+use Rattle.svc_base.specs.NumberSets.{put_number, ascending}
 use Rattle.svc_record.specs.Tail.{each_once}
 use Rattle.svc_record.proofs.Complete.{and, or_left, or_right}
 

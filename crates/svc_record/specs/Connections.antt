@@ -6,9 +6,9 @@ use Rattle.svc_record.specs.declared.entry.Entry.{Entry}
 use Rattle.svc_record.specs.declared.entry.Entry.TheVariants.{Got, Told}
 use Rattle.svc_record.specs.declared.action.Action.TheVariants.{Judged, Refuse, Settings as TellSettings, Handshake, Serve, Drop, Cut, Rest}
 use Rattle.svc_record.specs.declared.event.Event.TheVariants.{Arrived, AcceptFailed, Set, Shaken, Finished}
-use Rattle.svc_conf.specs.declared.settings.Setting.{Setting}
-use Rattle.svc_conf.specs.declared.settings.Setting.TheVariants.{NoDelay, KeepAlive, Dscp, SndBuf, RcvBuf}
-use Rattle.svc_conf.specs.declared.settings.TcpKeepalive.{TcpKeepalive}
+use Rattle.svc_base.specs.declared.settings.Setting.{Setting}
+use Rattle.svc_base.specs.declared.settings.Setting.TheVariants.{NoDelay, KeepAlive, Dscp, SndBuf, RcvBuf}
+use Rattle.svc_base.specs.declared.settings.TcpKeepalive.{TcpKeepalive}
 use Rattle.svc_socket.specs.declared.peer.Peer.{Peer}
 use Rattle.svc_socket.specs.declared.peer.Peer.TheVariants.{Unknown, Inet}
 use Rattle.svc_socket.specs.declared.peer.PeerAddr.{PeerAddr}

@@ -1,5 +1,5 @@
 -- How a run ends after its first signal.
-use Rattle.std.specs.Prelude.{ℕ, Bool, true, false, ◌==◌, ◌≡◌, ◌-◌, ◌/◌, ◌++◌, not, ◌&&◌, ◌||◌, List, [], ◌∷◌, Option, Some, None, map, nat_lt, nat_le, if◌then◌else◌}
+use Rattle.std.specs.Prelude.{ℕ, Bool, true, false, ◌==◌, ◌≡◌, ◌-◌, ◌/◌, ◌++◌, not, ◌&&◌, ◌||◌, List, [], ◌∷◌, Option, Some, None, map, nat_le, if◌then◌else◌}
 use Rattle.svc_record.specs.declared.plan.Plan.{Plan}
 use Rattle.svc_record.specs.declared.entry.Entry.{Entry}
 use Rattle.svc_record.specs.declared.entry.Entry.TheVariants.{Got, Told}
@@ -14,6 +14,7 @@ use Rattle.svc_record.specs.Record.{Record, has, tell, now, signal_of, before_si
 use Rattle.svc_record.specs.Descriptors.{Descriptor, live_descriptors}
 use Rattle.svc_record.specs.Offer.{has_offer, is_over, over_moment}
 use Rattle.svc_record.specs.Connections.{live_connections}
+use Rattle.svc_base.specs.NumberSets.{ascending}
 
 -- a phase or the broadcast
 pub data Mark : Type 0 where
@@ -153,16 +154,6 @@ is_fast _ = false
 -- the seconds that `Stop` carries
 abbrev pub stop_seconds : Plan → Record → ℕ
 stop_seconds p q = if is_fast (signal_of q) then 0 else p.stop
-
--- the list in ascending order with one more
-abbrev pub put_number : ℕ → List ℕ → List ℕ
-put_number n [] = n ∷ []
-put_number n (m ∷ more) = if nat_lt n m then n ∷ m ∷ more else m ∷ put_number n more
-
--- the numbers in ascending order
-abbrev pub ascending : List ℕ → List ℕ
-ascending [] = []
-ascending (n ∷ more) = put_number n (ascending more)
 
 -- the numbers of the live descriptors
 abbrev pub live_numbers : Plan → Record → List ℕ

@@ -1,8 +1,7 @@
 -- What a plan says of each service.
-use Rattle.std.specs.Prelude.{ℕ, Bool, true, false, not, ◌&&◌, ◌||◌, List, [], length, Option, Some, None, slice_get, nat_lt}
+use Rattle.std.specs.Prelude.{ℕ, Bool, true, false, not, ◌&&◌, ◌||◌, List, [], length, Option, Some, None, slice_get, nat_lt, bytes_eq}
 use Rattle.std.specs.List.{list_any, list_all, range_with_len}
-use Rattle.std.specs.Prelude.{bytes_eq}
-use Rattle.svc_conf.specs.declared.settings.Setting.{Setting}
+use Rattle.svc_base.specs.declared.settings.Setting.{Setting}
 use Rattle.svc_record.specs.declared.plan.Plan.{Plan}
 use Rattle.svc_record.specs.declared.plan.ServicePlan.{ServicePlan}
 use Rattle.svc_graph.specs.declared.plan.EndpointPlan.{EndpointPlan}

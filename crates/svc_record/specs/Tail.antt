@@ -9,7 +9,8 @@ use Rattle.svc_record.specs.declared.action.Action.TheVariants.{Cut, Close}
 use Rattle.svc_record.specs.Record.{Record, has, tell, times}
 use Rattle.svc_record.specs.Descriptors.{numbers_of, is_close, brings}
 use Rattle.svc_record.specs.Connections.{live_connections, is_cut}
-use Rattle.svc_record.specs.Drain.{ascending, live_numbers}
+use Rattle.svc_record.specs.Drain.{live_numbers}
+use Rattle.svc_base.specs.NumberSets.{ascending}
 
 -- the numbers of the descriptors that the events brought
 abbrev pub numbers_in : Record → List ℕ

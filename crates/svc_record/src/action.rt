@@ -1,6 +1,6 @@
 use crate::printed::{FdNumbers, HexBytes, SettingWords, YesWord};
 use std::fmt;
-use svc_conf::{Bytes, Reserved, Settings};
+use svc_base::{Bytes, Reserved, Settings};
 use svc_fds::FdList;
 
 /// What a server is about.

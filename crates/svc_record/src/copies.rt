@@ -5,7 +5,7 @@ ghost use Rattle.std.specs.Prelude.{◌≡◌, IfOk};
 use crate::action::Action;
 use crate::event::Event;
 use std::alloc::Global;
-use svc_conf::{Items, NoMemory};
+use svc_base::{Items, NoMemory};
 
 /// A list once more, item by item.
 pub fn copy_items<T: Copy>(alloc: Global, items: &[T]) -> Result<Items<T>, NoMemory>

@@ -1,7 +1,7 @@
 use crate::action::Action;
 use crate::event::Event;
 use std::fmt;
-use svc_conf::Reserved;
+use svc_base::Reserved;
 
 /// An entry of a record: what was got from the host, or told to it.
 #[derive(PartialEq, Eq, Debug, Drop)]

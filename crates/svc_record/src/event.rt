@@ -1,6 +1,6 @@
 use crate::printed::{FdNumbers, HexBytes, OkWord};
 use std::fmt;
-use svc_conf::Bytes;
+use svc_base::Bytes;
 use svc_fds::FdList;
 use svc_socket::Peer;
 

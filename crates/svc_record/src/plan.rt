@@ -1,4 +1,4 @@
-use svc_conf::{Items, Numbers, Text, Texts};
+use svc_base::{Items, Numbers, Text, Texts};
 use svc_graph::{EndpointList, Kind};
 
 /// What a server knows of one of its services.

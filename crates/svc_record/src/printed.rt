@@ -5,7 +5,7 @@ ghost use Rattle.std.specs.List.{flat_map};
 ghost use Rattle.svc_record.specs.Text.{hex_byte, bytes_word, numbers_word, ok_word, yes_word, setting_word};
 
 use std::fmt;
-use svc_conf::Setting;
+use svc_base::Setting;
 
 /// Whether it went well.
 #[derive(Clone, Copy)]

@@ -9,7 +9,7 @@ ghost use Rattle.svc_record.specs.Building.{KeepsLimits, DependsWell, IsGraphUpT
 
 use crate::plan::{Plan, ServicePlan};
 use std::alloc::Global;
-use svc_conf::NoMemory;
+use svc_base::NoMemory;
 use svc_graph::{DependencyError, DependencyGraph, EndpointPlan};
 
 /// The services that a service depends on.

@@ -7,7 +7,8 @@ use Rattle.svc_record.specs.declared.action.Action.{Action}
 use Rattle.svc_record.specs.declared.action.Action.TheVariants.{Cut, Close}
 use Rattle.svc_record.specs.Record.{Record, tell}
 use Rattle.svc_record.specs.Connections.{live_connections}
-use Rattle.svc_record.specs.Drain.{ascending, live_numbers}
+use Rattle.svc_record.specs.Drain.{live_numbers}
+use Rattle.svc_base.specs.NumberSets.{ascending}
 use Rattle.svc_record.specs.Tail.{with_event, new_numbers, closing_actions}
 use Rattle.svc_core.specs.CoreData.{CoreData}
 use Rattle.svc_core.specs.Rooms.{close_need, close_room}

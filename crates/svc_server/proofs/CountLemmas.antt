@@ -1,7 +1,7 @@
 -- The counts of a host, turn after turn.
 use Rattle.std.proofs.Common.{ℕ, ◌≡◌, ◌-◌, Bool, true, false, refl, sym, subst, ap, ◌∙◌, Option, Some, None, Ok, Err, arith}
 use Rattle.std.specs.Prelude.{Result, IfSome, MatchBool}
-use Rattle.svc_conf.specs.Streams.{Rose}
+use Rattle.svc_base.specs.Streams.{Rose}
 use Rattle.svc_record.specs.declared.event.Event.{Event}
 use Rattle.svc_record.specs.declared.action.StepEnd.{StepEnd}
 use Rattle.svc_record.specs.declared.action.StepEnd.TheVariants as ends

@@ -6,8 +6,8 @@ use Rattle.svc_conf.specs.declared.server.configuration.Opt.{Opt}
 use Rattle.svc_conf.specs.declared.server.configuration.key.Key.{Key}
 use Rattle.svc_conf.specs.declared.server.configuration.read_error.ReadError.{ReadError}
 use Rattle.svc_conf.specs.declared.server.configuration.read_error.ReadError.TheVariants as errors
-use Rattle.svc_conf.specs.declared.files.FileError.{FileError}
-use Rattle.svc_conf.specs.declared.files.FileError.TheVariants as files
+use Rattle.svc_base.specs.declared.files.FileError.{FileError}
+use Rattle.svc_base.specs.declared.files.FileError.TheVariants as files
 use Rattle.svc_conf.specs.Configuration.{judged}
 use Rattle.svc_conf.specs.ConfigurationText.{configuration, allowed_by, valid, loaded}
 use Rattle.svc_server.specs.declared.server.Server.{Server}

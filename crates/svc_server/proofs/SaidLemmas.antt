@@ -13,7 +13,8 @@ use Rattle.svc_record.specs.declared.action.Action.TheVariants.{Judged, Cut, Clo
 use Rattle.svc_record.specs.Plans.{filter_of}
 use Rattle.svc_record.specs.Record.{Record, tell}
 use Rattle.svc_record.specs.Connections.{Arrival, Verdict, same_answer, has_filter, asked_peer, arrival_of, peers_asked, said_right, live_connections}
-use Rattle.svc_record.specs.Drain.{ascending, live_numbers}
+use Rattle.svc_record.specs.Drain.{live_numbers}
+use Rattle.svc_base.specs.NumberSets.{ascending}
 use Rattle.svc_record.specs.Judging.{asked_filter, judged_at, judgements, TellsJudged}
 use Rattle.svc_record.specs.Tail.{closing_actions, new_numbers}
 use Rattle.svc_server.specs.Judges.{peer_at, asked_now, Asks, IsSaid, Judges, NamesFilters}

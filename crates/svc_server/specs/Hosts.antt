@@ -1,7 +1,7 @@
 -- What a host tells of a run, and what its calls leave of that.
 use Rattle.std.specs.Prelude.{ℕ, Bool, true, false, ◌≡◌, ◌≤◌, List, [], ◌∷◌, length, map, Option, Some, None, IfSome, MatchBool}
 use Rattle.std.specs.Option.{option_map}
-use Rattle.svc_conf.specs.Streams.{Rose}
+use Rattle.svc_base.specs.Streams.{Rose}
 use Rattle.svc_record.specs.declared.action.Action.{Action}
 use Rattle.svc_record.specs.declared.action.Action.TheVariants.{Start}
 use Rattle.svc_record.specs.declared.event.Event.{Event}

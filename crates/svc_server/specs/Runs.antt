@@ -1,6 +1,6 @@
 -- How a run went, by what it answers. `p` is the plan, `r` the record, whose newest entry stands first.
 use Rattle.std.specs.Prelude.{ℕ, true, false, ◌≡◌, ◌+◌, ◌≤◌, ◌⊎◌, List, [], ◌∷◌, ◌++◌, length, map, Option, Some, None, IfSome, Result, Ok, Err}
-use Rattle.svc_conf.specs.Streams.{Rose}
+use Rattle.svc_base.specs.Streams.{Rose}
 use Rattle.svc_record.specs.declared.action.BootstrapError.TheVariants as boots
 use Rattle.svc_record.specs.declared.action.StepEnd.{StepEnd}
 use Rattle.svc_record.specs.declared.action.StepEnd.TheVariants as ends

@@ -7,7 +7,7 @@ ghost use Rattle.svc_server.specs.Handing.{names_by};
 use std::alloc::Global;
 use std::marker::Model;
 use std::mem;
-use svc_conf::NoMemory;
+use svc_base::NoMemory;
 use svc_graph::services::ServiceWithDependents;
 use svc_record::{Action, Event, ExecutionPhase, Plan};
 

@@ -1,7 +1,7 @@
 //! Actions are told to a host; before a start the service is handed over.
 
 ghost use Rattle.std.specs.Prelude.{◌≡◌, ◌+◌, ◌*◌, ◌≤◌, ◌∷◌, [], length};
-ghost use Rattle.svc_conf.specs.Items.{list_of};
+ghost use Rattle.svc_base.specs.Items.{list_of};
 ghost use Rattle.svc_record.specs.declared.plan.Plan.{Plan};
 ghost use Rattle.svc_record.specs.declared.action.Action.TheVariants.{Start};
 ghost use Rattle.svc_record.specs.declared.entry.Entry.TheVariants.{Told};

@@ -8,7 +8,7 @@ ghost use Rattle.svc_record.specs.declared.entry.Entry.TheVariants.{Told};
 ghost use Rattle.svc_server.specs.Hosts.{Account, Counts, ComesWith, CountsAfter, AheadAfter, MayTell, account_after, item_of, with_entry, with_handed};
 
 use std::alloc::Global;
-use svc_conf::NoMemory;
+use svc_base::NoMemory;
 use svc_graph::services::ServiceWithDependents;
 use svc_record::{Action, Event};
 

@@ -51,13 +51,13 @@ fn handover_fault(error: BootstrapError) -> &'static str {
     }
 }
 
-impl From<svc_conf::NoMemory> for RunError {
+impl From<svc_base::NoMemory> for RunError {
     ghost use Rattle.std.specs.Prelude.{◌≡◌};
     ghost use Rattle.svc_server.specs.declared.run.RunError.TheVariants as errors;
 
     ghost from_gives = { λ _ error. error ≡ errors.NoMemory };
 
-    fn from(_: svc_conf::NoMemory) -> Self {
+    fn from(_: svc_base::NoMemory) -> Self {
         RunError::NoMemory
     }
 }

@@ -1,8 +1,8 @@
 //! A host that is made from a list of what it gives.
 
 ghost use Rattle.std.specs.Prelude.{◌≡◌, ◌+◌, ◌<◌, ◌≤◌, ◌++◌, ◌∷◌, [], length, map, reverse, All, Some, None, IsSome, MatchBool};
-ghost use Rattle.svc_conf.specs.Items.{list_of, spare};
-ghost use Rattle.svc_conf.specs.Streams.{Rose};
+ghost use Rattle.svc_base.specs.Items.{list_of, spare};
+ghost use Rattle.svc_base.specs.Streams.{Rose};
 ghost use Rattle.svc_server.specs.Hosts.{no_account, tells_failure};
 ghost use Rattle.svc_server.specs.ScriptHosts.{FollowsScript, GivesFew, action_phase, phases_of, counts_with, handed_with, last_event};
 
@@ -10,7 +10,7 @@ use crate::host::{Host, Next};
 use std::alloc::Global;
 use std::marker::Model;
 use std::vec;
-use svc_conf::{NoMemory, Reserved};
+use svc_base::{NoMemory, Reserved};
 use svc_graph::services::ServiceWithDependents;
 use svc_record::{Action, Entries, Entry, Event, ExecutionPhase, Item};
 
@@ -39,7 +39,7 @@ pub struct ScriptHost<B> {
 impl<B> Model for ScriptHost<B> {
     ghost use Rattle.std.specs.Prelude.{reverse, min};
     ghost use Rattle.std.specs.Vec.Iter.{into_iter_items, into_iter_len};
-    ghost use Rattle.svc_conf.specs.Items.{list_of, spare};
+    ghost use Rattle.svc_base.specs.Items.{list_of, spare};
     ghost use Rattle.svc_server.specs.ScriptHostData.{ScriptHostData};
     ghost use Rattle.svc_server.specs.ScriptHosts.{KeepsScript, items_given, last_event};
     ghost use Rattle.svc_server.specs.Runs.{events_of};
@@ -58,7 +58,8 @@ impl<B> Model for ScriptHost<B> {
       last = last_event (list_of a.entries) a.last;
     } };
 
-    ghost invariant = { λ a. KeepsScript (list_of a.answers) (into_iter_items a.script) (into_iter_len a.script) (reverse (list_of a.entries)) (list_of a.phases) a.faults a.idles };
+    ghost invariant = { λ a. KeepsScript (list_of a.answers) (into_iter_items a.script) (into_iter_len a.script) (reverse (list_of a.entries))
+        (list_of a.phases) a.faults a.idles };
 }
 
 impl<B: ServiceWithDependents> ScriptHost<B> {

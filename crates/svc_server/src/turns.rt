@@ -1,7 +1,7 @@
 //! The run of a plan over a host, turn by turn.
 
 ghost use Rattle.std.specs.Prelude.{◌≡◌, ◌+◌, ◌*◌, ◌<◌, ◌≤◌, ℕ, [], ◌∷◌, List, Option, Some, None, length, map, Ok, Err, IfSome, IfOk, OnOk, OnErr};
-ghost use Rattle.svc_conf.specs.Items.{list_of, spare};
+ghost use Rattle.svc_base.specs.Items.{list_of, spare};
 ghost use Rattle.svc_record.specs.declared.entry.Entry.TheVariants.{Got};
 ghost use Rattle.svc_record.specs.declared.item.Item.{Item};
 ghost use Rattle.svc_record.specs.Record.{Record};
@@ -24,7 +24,7 @@ use crate::handing::tell_all;
 use crate::host::{Host, Next};
 use crate::run::{Outcome, RunError};
 use std::alloc::Global;
-use svc_conf::NoMemory;
+use svc_base::NoMemory;
 use svc_core::Core;
 use svc_graph::services::ServiceWithDependents;
 use svc_record::{Actions, Plan, StepEnd};
@@ -69,7 +69,8 @@ impl<B: ServiceWithDependents, F: ConnectionFilter> Machine<B, F> {
     fn close<H: Host<Service = B>>(&mut self, host: &mut H)
         requires room { HasRoom self.old.core self.old.closing (H.spare host.old) }
         requires can { CanClose self.old.core (names_by B.named self.old.boxes) (H.account host.old) None }
-        ensures closed { ClosesTo self.old.core (names_by B.named self.old.boxes) (names_by B.named self.new.boxes) (H.account host.old) (H.account host.new) None }
+        ensures closed { ClosesTo self.old.core (names_by B.named self.old.boxes) (names_by B.named self.new.boxes) (H.account host.old)
+            (H.account host.new) None }
         ensures core { self.new.core ≡ self.old.core }
         ensures filters { self.new.filters ≡ self.old.filters }
         ensures counts { H.counts host.new ≡ H.counts host.old }
@@ -84,7 +85,8 @@ impl<B: ServiceWithDependents, F: ConnectionFilter> Machine<B, F> {
         requires room { HasRoom self.old.core self.old.closing (H.spare host.old) }
         requires few { ComesWith Next.Event (H.last host.old) }
         requires can { CanClose self.old.core (names_by B.named self.old.boxes) (H.account host.old) (H.last host.old) }
-        ensures closed { ClosesTo self.old.core (names_by B.named self.old.boxes) (names_by B.named self.new.boxes) (H.account host.old) (H.account host.new) (H.last host.old) }
+        ensures closed { ClosesTo self.old.core (names_by B.named self.old.boxes) (names_by B.named self.new.boxes) (H.account host.old)
+            (H.account host.new) (H.last host.old) }
         ensures core { self.new.core ≡ self.old.core }
         ensures filters { self.new.filters ≡ self.old.filters }
         ensures counts { H.counts host.new ≡ H.counts host.old }
@@ -191,7 +193,9 @@ impl<B: ServiceWithDependents, F: ConnectionFilter> Machine<B, F> {
         requires told { 2 * tell_room self.old.core ≤ H.spare host.old }
         requires at { IsSomewhereAtEvent self.old.core (names_by B.named self.old.boxes) (H.account host.old) k (H.last host.old) }
         requires known { NamesFilters self.old.core.plan (length self.old.filters) }
-        ensures gives { IfSome (H.last host.old) (EventGives (verdict_at F.verdict self.old.filters) (verdict_at F.verdict self.new.filters) self.old.core self.new.core (names_by B.named self.old.boxes) (names_by B.named self.new.boxes)
+        ensures gives { IfSome (H.last host.old)
+            (EventGives (verdict_at F.verdict self.old.filters) (verdict_at F.verdict self.new.filters) self.old.core self.new.core
+            (names_by B.named self.old.boxes) (names_by B.named self.new.boxes)
             (H.account host.old) (H.account host.new) k result (H.ahead host.old) (H.ahead host.new)) }
         ensures room { OnOk result (HasRoom self.new.core self.new.closing (H.spare host.new)) }
         ensures plan { self.new.core.plan ≡ self.old.core.plan }
@@ -285,7 +289,8 @@ impl<B: ServiceWithDependents, F: ConnectionFilter> Machine<B, F> {
         host: &mut H,
     ) -> Result<Outcome, RunError>
         requires room { HasRoom self.old.core self.old.closing (H.spare host.old) }
-        requires at { IsJudgedSomewhere (verdict_at F.verdict self.old.filters) self.old.core (names_by B.named self.old.boxes) (H.account host.old) 0 StepEnd.On }
+        requires at { IsJudgedSomewhere (verdict_at F.verdict self.old.filters) self.old.core (names_by B.named self.old.boxes)
+            (H.account host.old) 0 StepEnd.On }
         requires known { NamesFilters self.old.core.plan (length self.old.filters) }
         ensures gives { (verdict : Verdict) (before : Option (List Item)) (q : Record)
             → IsAt self.old.core (names_by B.named self.old.boxes) (H.account host.old) 0 StepEnd.On q
@@ -320,7 +325,8 @@ impl<B: ServiceWithDependents, F: ConnectionFilter> Machine<B, F> {
         requires empty { list_of self.old.closing ≡ [] }
         requires hands { Hands (names_by B.named self.old.boxes) (H.account host.old) self.old.core.plan [] }
         requires known { NamesFilters self.old.core.plan (length self.old.filters) }
-        ensures gives { RunGives (verdict_at F.verdict self.old.filters) self.old.core.plan turns result (H.account host.new) (H.ahead host.old) (H.ahead host.new) }
+        ensures gives { RunGives (verdict_at F.verdict self.old.filters) self.old.core.plan turns result (H.account host.new) (H.ahead host.old)
+            (H.ahead host.new) }
         ensures counts { RunCounts result (H.counts host.old) (H.counts host.new) }
         ensures configured { IsConfigured result }
     {

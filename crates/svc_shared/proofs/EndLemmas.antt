@@ -12,6 +12,7 @@ use Rattle.svc_shared.specs.Views.{Slot, Begins, book_of, hand_of, IsWhole, firs
 use Rattle.svc_shared.specs.Rule.{Role, fresh, drawn, seated, kept, may_post, owner_of, IsSeatOf, home, Knows, HandFits, PassesPart, Posted, Kept}
 use Rattle.svc_shared.specs.Posting.{OfSeats}
 use Rattle.svc_shared.proofs.PartsLemmas.{alone, whole_free, hand_at}
+use Rattle.svc_base.proofs.Logic.{some-inj, none-some}
 
 abbrev first_role : ℕ → Role
 first_role zero = seated 0
@@ -34,9 +35,6 @@ first_owner : (n id : ℕ) → owner_of (first_role n) ≡ maybe.some id → (0 
 first_owner zero id e = (maybe.some-injective 0 id e, refl)
 first_owner (suc zero) id e = absurd (maybe.some-ne-none id (sym e))
 first_owner (suc (suc n)) id e = absurd (maybe.some-ne-none id (sym e))
-
-some-inj : (m n : ℕ) → Some m ≡ Some n → m ≡ n
-some-inj m n e = cc
 
 first_fits : (b : BookData) → HandFits b first_role (λ _. 0) 0 (first_hand b)
 first_fits b = record {
@@ -76,9 +74,6 @@ opens b items none is =
         whole = λ id u at live whole free n is. absurd (none-some n (ap (λ (x : View). x.sight.last) (one-of v u id at).1 ∙ is));
       };
     }
-  where
-    none-some : (n : ℕ) → None ≡ Some n → ⊥
-    none-some n e = cc
 
 -- THE END
 

@@ -1,5 +1,5 @@
 -- Steps that change a hand: a draw, a split and a join keep the parts of the rule.
-use Rattle.std.proofs.Common.{◌≡◌, ◌≢◌, inr, ⊎_elim, ℕ, ◌+◌, Bool, true, false, List, map, ◌==◌, if◌then◌else◌, refl, sym, ap, ◌∙◌, subst, arith, set, eq-eqb, ne_eqb, Some, None}
+use Rattle.std.proofs.Common.{◌≡◌, ◌≢◌, inr, ⊎_elim, ℕ, ◌+◌, Bool, true, false, List, map, ◌==◌, if◌then◌else◌, refl, sym, ap, ◌∙◌, subst, arith, set, eq-eqb, ne_eqb}
 use mathlib.Core.Option as maybe
 use mathlib.Core.Logic.{dite}
 use native.Mathlib.Decide.{ℕ_discrete}
@@ -14,6 +14,7 @@ use Rattle.svc_shared.specs.Views.{hand_of, drew}
 use Rattle.svc_shared.specs.Rule.{Role, fresh, drawn, seated, kept, may_post, owner_of, IsSeatOf, HandFits, PassesPart, Parts}
 use Rattle.svc_shared.proofs.OwnLemmas.{set_there, posted-by}
 use Rattle.svc_shared.proofs.PartsLemmas.{hand_at, turn_moved}
+use Rattle.svc_base.proofs.Logic.{some-inj, none-some}
 
 -- which seat has to do with a number
 abbrev pub place_of : Role → maybe.Option ℕ
@@ -34,9 +35,6 @@ fits_on b role role' keeper keeper' j h same stays f = record {
   within = f.within;
   share = λ x low high. stays x (f.share x low high);
 }
-
-some-inj : (m n : ℕ) → Some m ≡ Some n → m ≡ n
-some-inj m n e = cc
 
 -- THE DRAW
 
@@ -106,6 +104,3 @@ module _ (b : BookData) (next : ℕ) (role : ℕ → Role) (keeper : ℕ → ℕ
         where
           false-true : false ≡ true → ⊥
           false-true e = cc
-
-      none-some : (n : ℕ) → None ≡ Some n → ⊥
-      none-some n e = cc

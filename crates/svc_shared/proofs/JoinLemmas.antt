@@ -1,5 +1,5 @@
 -- A join keeps the parts of the rule.
-use Rattle.std.proofs.Common.{◌≡◌, ◌≢◌, ◌⊎◌, inl, inr, ⊎_elim, ℕ, zero, suc, ◌+◌, ◌≤◌, ◌<◌, Bool, true, false, List, [], ◌∷◌, ◌++◌, map, ◌==◌, if◌then◌else◌, refl, sym, ap, ◌∙◌, subst, arith, set, eq-eqb, ne_eqb, Some, None}
+use Rattle.std.proofs.Common.{◌≡◌, ◌≢◌, ◌⊎◌, inl, inr, ⊎_elim, ℕ, zero, suc, ◌+◌, ◌≤◌, ◌<◌, Bool, true, false, List, [], ◌∷◌, ◌++◌, map, ◌==◌, if◌then◌else◌, refl, sym, ap, ◌∙◌, subst, arith, set, eq-eqb, ne_eqb}
 use mathlib.Core.Option as maybe
 use mathlib.Core.Logic.{dite}
 use native.Mathlib.Decide.{ℕ_discrete}
@@ -17,9 +17,7 @@ use Rattle.svc_shared.specs.Rule.{Role, fresh, drawn, seated, kept, may_post, ow
 use Rattle.svc_shared.proofs.OwnLemmas.{set_there, posted-by, at_both, at_right}
 use Rattle.svc_shared.proofs.PartsLemmas.{hand_at, turn_moved}
 use Rattle.svc_shared.proofs.HandLemmas.{place_of, fits_on}
-
-none-some : (n : ℕ) → None ≡ Some n → ⊥
-none-some n e = cc
+use Rattle.svc_base.proofs.Logic.{none-some}
 
 apart : true ≡ false → ⊥
 apart e = cc

@@ -18,12 +18,7 @@ use Rattle.svc_shared.proofs.StepLemmas.{allowed}
 use Rattle.svc_shared.proofs.HandLemmas.{drawn_role, draws}
 use Rattle.svc_shared.proofs.SplitLemmas.{split_role, split_keeper, splits}
 use Rattle.svc_shared.proofs.JoinLemmas.{rejoin, joins}
-
-none-some : (n : ℕ) → None ≡ Some n → ⊥
-none-some n e = cc
-
-some-inj : (m n : ℕ) → Some m ≡ Some n → m ≡ n
-some-inj m n e = cc
+use Rattle.svc_base.proofs.Logic.{some-inj, none-some}
 
 module _ (b : BookData) (id : ℕ) (v : View) (live : v.hand.spent ≡ false) where
   -- the number's word was read: the parts stay

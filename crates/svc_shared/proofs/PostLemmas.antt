@@ -1,6 +1,6 @@
 -- From what the steps tell to what a post's answer tells.
 use Rattle.std.proofs.Common.{◌≡◌, ◌≢◌, ◌⊎◌, inl, inr, ⊎_elim, ℕ, ◌*◌, ◌%◌, ◌≤◌, Bool, List, [], ◌∷◌, ◌++◌, length, sym, ap, ◌∙◌, subst, append_assoc, Some, Result, Ok, Err, IfOk, IfErr}
-use Rattle.svc_conf.specs.Items.{list_of}
+use Rattle.svc_base.specs.Items.{list_of}
 use Rattle.svc_record.specs.declared.event.Event.{Event}
 use Rattle.svc_book.specs.declared.book.Refusal.{Refusal}
 use Rattle.svc_book.specs.declared.book.Refusal.TheVariants as Refusals

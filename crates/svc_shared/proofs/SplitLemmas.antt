@@ -1,5 +1,5 @@
 -- A split keeps the parts of the rule.
-use Rattle.std.proofs.Common.{◌≡◌, ◌≢◌, inl, inr, ⊎_elim, ℕ, ◌≤◌, ◌<◌, Bool, true, false, List, [], ◌∷◌, ◌++◌, map, length, ◌==◌, ltb, if◌then◌else◌, refl, sym, ap, ◌∙◌, subst, arith, set, eq-eqb, ne_eqb, length-set, Option, Some, None}
+use Rattle.std.proofs.Common.{◌≡◌, ◌≢◌, inl, inr, ⊎_elim, ℕ, ◌≤◌, ◌<◌, Bool, true, false, List, [], ◌∷◌, ◌++◌, map, length, ◌==◌, ltb, if◌then◌else◌, refl, sym, ap, ◌∙◌, subst, arith, set, eq-eqb, ne_eqb, length-set, Option, Some}
 use mathlib.Core.Option as maybe
 use mathlib.Core.List.{map-append}
 use mathlib.Core.Logic.{dite}
@@ -18,9 +18,7 @@ use Rattle.svc_shared.specs.Rule.{Role, fresh, drawn, seated, kept, may_post, ow
 use Rattle.svc_shared.proofs.OwnLemmas.{set_there, own-none, posted-by, at_below, at_more}
 use Rattle.svc_shared.proofs.PartsLemmas.{hand_at, turn_moved}
 use Rattle.svc_shared.proofs.HandLemmas.{place_of, fits_on}
-
-none-some : (n : ℕ) → None ≡ Some n → ⊥
-none-some n e = cc
+use Rattle.svc_base.proofs.Logic.{none-some}
 
 module _ (role : ℕ → Role) (m k : ℕ) where
   abbrev pub split_role : ℕ → Role

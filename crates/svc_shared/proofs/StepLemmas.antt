@@ -13,6 +13,7 @@ use Rattle.svc_shared.specs.Turn.{Lifted, GivesBack}
 use Rattle.svc_shared.specs.Steps.{IsUnused, looked, left_turn}
 use Rattle.svc_shared.proofs.OwnLemmas.{own-other, own-none, posted-front, posted-more, begins-whole, begins-trans}
 use Rattle.svc_shared.proofs.PartsLemmas.{hand_at, whole_free, moved}
+use Rattle.svc_base.proofs.Logic.{some-inj}
 
 -- what a step owes, with the words and the homes written out
 abbrev pub Here : BookData → ℕ → View → List (ℕ × Slot) → ℕ → (ℕ → ℕ) → (ℕ → Mine → Type 0) → List ℕ → List (maybe.Option Slot) → List View → Type 0
@@ -30,9 +31,6 @@ allowed b slots id v cs i f then go s rule long at small =
 
 even_of : (n : ℕ) → (2 * n) % 2 ≡ 0
 even_of n = omega arith
-
-some-inj : (m n : ℕ) → Some m ≡ Some n → m ≡ n
-some-inj m n e = cc
 
 drawn-not : (i j : ℕ) (r : Role) → r ≡ drawn i → (r ≡ seated j) ⊎ (r ≡ kept j) → ⊥
 drawn-not i j r e f = ⊎_elim (λ s. drawn-seated i j (sym e ∙ s)) (λ s. drawn-kept i j (sym e ∙ s)) f

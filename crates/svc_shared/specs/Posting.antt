@@ -2,7 +2,7 @@
 use Rattle.std.specs.Prelude.{Some, ◌≡◌, ◌≢◌, ◌⊎◌, ℕ, ◌*◌, ◌%◌, ◌≤◌, Bool, List, [], ◌∷◌, ◌++◌, length}
 use mathlib.Core.Option as maybe
 use lib.ListN.{get_elem?}
-use Rattle.svc_conf.specs.Items.{list_of}
+use Rattle.svc_base.specs.Items.{list_of}
 use Rattle.svc_record.specs.declared.event.Event.{Event}
 use Rattle.svc_book.specs.declared.book.Refusal.{Refusal}
 use Rattle.svc_book.specs.declared.book.Refusal.TheVariants as Refusals

@@ -1,6 +1,6 @@
 //! Posts.
 ghost use Rattle.std.specs.Prelude.{◌≡◌, ◌≤◌, Some, IfOk, IfErr};
-ghost use Rattle.svc_conf.specs.Items.{list_of};
+ghost use Rattle.svc_base.specs.Items.{list_of};
 ghost use Rattle.svc_record.specs.Journal.{post};
 ghost use Rattle.svc_shared.specs.Turn.{IsIdle, HasTurn, TookLater, LeftWith};
 ghost use Rattle.svc_shared.specs.Posting.{IsOf, IsPosted, IsRefused, IsBusy, never, reason_is, LeftFor, hand_in};
@@ -110,8 +110,10 @@ impl SharedServer {
         requires low { lot.low ≡ place.me.0.hand.low }
         requires high { lot.high ≡ place.me.0.hand.high }
         requires drawn { lot.drawn ≡ place.me.0.hand.drawn }
-        ensures posted { IfOk result (λ r. (r.pass.place.table_id ≡ place.table_id) × LeftWith self.now.board.shared.key.value (post lot.number event said (list_of r.actions)) r.place r.end place.me r.pass.place.me) }
-        ensures refused { IfErr result (λ r. (r.pass.place.table_id ≡ place.table_id) × (r.event ≡ event) × LeftFor self.now.board.shared.key.value event r.reason place.me r.pass.place.me) }
+        ensures posted { IfOk result (λ r. (r.pass.place.table_id ≡ place.table_id)
+            × LeftWith self.now.board.shared.key.value (post lot.number event said (list_of r.actions)) r.place r.end place.me r.pass.place.me) }
+        ensures refused { IfErr result (λ r. (r.pass.place.table_id ≡ place.table_id) × (r.event ≡ event)
+            × LeftFor self.now.board.shared.key.value event r.reason place.me r.pass.place.me) }
     {
         match self.work(alloc, &mut place, lot.number, word, event, said) {
             Ok(

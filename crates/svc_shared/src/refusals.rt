@@ -1,7 +1,7 @@
 //! Why a call of a shared server was refused, with what comes back.
 
 use crate::pass::{Pass, SharedServer};
-use svc_conf::NoMemory;
+use svc_base::NoMemory;
 use svc_record::Event;
 use thiserror::Error;
 

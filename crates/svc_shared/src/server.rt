@@ -1,6 +1,6 @@
 //! Opening and closing a shared server.
 ghost use Rattle.std.specs.Prelude.{◌≡◌, ◌≤◌, [], IfOk, IfErr};
-ghost use Rattle.svc_conf.specs.Items.{list_of};
+ghost use Rattle.svc_base.specs.Items.{list_of};
 ghost use Rattle.svc_record.specs.Validity.{IsValid};
 ghost use Rattle.svc_book.specs.Journals.{IsLegal};
 ghost use Rattle.svc_shared.specs.Views.{first_view, IsWhole};
@@ -11,8 +11,8 @@ use crate::refusals::CloseRefused;
 use atomic_table::Table;
 use std::alloc::Global;
 use std::snapshot::Snapshot;
+use svc_base::NoMemory;
 use svc_book::{Book, Post};
-use svc_conf::NoMemory;
 use svc_record::{Actions, Plan};
 
 impl SharedServer {

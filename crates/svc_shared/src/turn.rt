@@ -1,7 +1,7 @@
 //! Steps of one seat: taking the turn, and leaving it.
 ghost use Rattle.std.specs.Prelude.{◌≡◌, ◌+◌, ◌%◌, ◌<◌, ◌^◌, [], ◌∷◌, IfOk, IfErr, Some};
 ghost use Rattle.svc_record.specs.Journal.{post};
-ghost use Rattle.svc_conf.specs.Items.{list_of};
+ghost use Rattle.svc_base.specs.Items.{list_of};
 ghost use Rattle.svc_shared.specs.Views.{book_of, left};
 ghost use Rattle.svc_shared.specs.Turn.{IsIdle, HasTurn, Lifted, GivesBack, Took, Lost, LeftWith, LeftWithout};
 
@@ -82,7 +82,8 @@ impl SharedServer {
         requires turn { HasTurn self.now.board.shared.key.value word place.old.me }
         requires number { number ≡ place.old.me.0.hand.number }
         ensures table { (place.new.table_id ≡ place.old.table_id) × (place.new.id ≡ place.old.id) }
-        ensures posted { IfOk result (λ a. LeftWith self.now.board.shared.key.value (post number event said (list_of a.actions)) a.place a.end place.old.me place.new.me) }
+        ensures posted { IfOk result (λ a. LeftWith self.now.board.shared.key.value
+            (post number event said (list_of a.actions)) a.place a.end place.old.me place.new.me) }
         ensures refused { IfErr result (λ r. (r.event ≡ event) × LeftWithout self.now.board.shared.key.value event r.refusal place.old.me place.new.me) }
     {
         let mut book = self.lift(place, word);

@@ -3,11 +3,11 @@ use Rattle.std.proofs.Common.{◌≡◌, ℕ, Bool, false, List, [], ◌∷◌, 
 use Rattle.std.specs.Prelude.{option_and_then, IfSome}
 use Rattle.std.specs.Option.{option_map, option_to_list}
 use Rattle.std.specs.List.{AllByRecursion}
-use Rattle.svc_conf.specs.Streams.{Rose}
+use Rattle.svc_base.specs.Streams.{Rose}
 use Rattle.svc_socket.specs.OptionsData.{OptionsData}
 use Rattle.svc_socket.specs.Steps.{Steps, given, Sets, Causes}
 use Rattle.svc_socket.specs.OptionLists.{dscp_step, dscp_end, bind_options, bind_steps, bind_end, keepalive_steps}
-use Rattle.svc_conf.specs.declared.settings.TcpKeepalive.{TcpKeepalive}
+use Rattle.svc_base.specs.declared.settings.TcpKeepalive.{TcpKeepalive}
 use Rattle.svc_socket.specs.declared.options.Family.{Family}
 use Rattle.svc_socket.specs.declared.options.Family.TheVariants.{V4, V6, Other}
 use Rattle.svc_socket.specs.declared.options.SockOption.{SockOption}

@@ -5,7 +5,8 @@ use Rattle.std.proofs.lemmas.List.{take-append-drop, get_or-take, get_or_default
 use Rattle.std.proofs.lemmas.List.Quantifiers.{position-Some}
 use Rattle.std.proofs.lemmas.List.Splits.{slice_split_at, slice_split_none, length-slice_split}
 use Rattle.std.proofs.Math.Seq.{drop-cons}
-use Rattle.svc_conf.proofs.TextCutLemmas.{none_before, rest_whole}
+use Rattle.svc_base.proofs.CutLemmas.{none_before}
+use Rattle.svc_base.proofs.Pieces.{rest_whole}
 
 pub no_cut : (p : ℕ → Bool) (text : List ℕ) → position p text ≡ None → slice_split p text ≡ text ∷ []
 no_cut p text e = slice_split_none p text (λ k d lt. ap p (get_or_default text k d 0 lt) ∙ none_before p text e k lt)

@@ -12,8 +12,8 @@ use Rattle.std.proofs.lemmas.List.Folds.{list_all-append}
 use Rattle.std.proofs.lemmas.List.{length-map}
 use Rattle.std.proofs.lemmas.List.Splits.{slice_split_at, slice_split_none}
 use Rattle.std.proofs.lemmas.Str.Parse.{digit_from_value}
-use Rattle.svc_conf.specs.Values.{number_of}
-use Rattle.svc_conf.proofs.TextNumberLemmas.{number_of-decimal}
+use Rattle.svc_base.specs.Words.{number_of}
+use Rattle.svc_base.proofs.DecimalLemmas.{number_of-decimal}
 use Rattle.svc_socket.specs.Peers.{four_digits, octets, groups, group_text, peer_addr_text, peer_text, PeerAddrFits, PeerFits}
 use Rattle.svc_socket.specs.declared.peer.PeerAddr.{PeerAddr}
 use Rattle.svc_socket.specs.declared.peer.PeerAddr.TheVariants as addr

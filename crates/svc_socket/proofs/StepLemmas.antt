@@ -4,9 +4,9 @@ use Rattle.std.specs.List.{cons_option}
 use Rattle.std.specs.Option.{option_to_list}
 use Rattle.std.proofs.lemmas.List.{take_more, take-append-drop}
 use Rattle.std.proofs.lemmas.List.Elements.{filter_map-append}
-use Rattle.svc_conf.specs.Streams.{Rose}
-use Rattle.svc_calls.specs.Calls.{Adds}
-use Rattle.svc_calls.proofs.CallLemmas.{Adds-then}
+use Rattle.svc_base.specs.Streams.{Rose}
+use Rattle.svc_base.specs.Calls.{Adds}
+use Rattle.svc_base.proofs.CallLemmas.{Adds-then}
 use Rattle.svc_socket.specs.OptionsData.{OptionsData, IsAsked}
 use Rattle.svc_socket.specs.Steps.{Steps, given, set_calls, AllSet, Sets}
 use Rattle.svc_socket.specs.declared.options.SockOption.{SockOption}

@@ -1,6 +1,6 @@
 -- What a connect asks of its dialer, and what it answers.
 use Rattle.std.specs.Prelude.{◌≡◌, Bool, true, false, ◌&&◌, is_some, if◌then◌else◌, List, [], ◌∷◌, Option, Some, None, MatchOption, Result, Ok, Err}
-use Rattle.svc_calls.specs.Calls.{Adds}
+use Rattle.svc_base.specs.Calls.{Adds}
 use Rattle.svc_socket.specs.DialerData.{DialerData}
 use Rattle.svc_socket.specs.declared.peer.PeerAddr.{PeerAddr}
 use Rattle.svc_socket.specs.declared.connectors.dialer.Target.{Target}

@@ -1,7 +1,7 @@
 -- What contracts see of a dialer.
 use Rattle.std.specs.Prelude.{◌≡◌, ℕ, List, [], ◌∷◌, Option}
-use Rattle.svc_conf.specs.Streams.{Rose}
-use Rattle.svc_calls.specs.Calls.{Adds}
+use Rattle.svc_base.specs.Streams.{Rose}
+use Rattle.svc_base.specs.Calls.{Adds}
 use Rattle.svc_socket.specs.declared.connectors.dialer.DialAnswer.{DialAnswer}
 use Rattle.svc_socket.specs.declared.connectors.dialer.DialAnswer.TheVariants.{Connected, Failed}
 use Rattle.svc_socket.specs.declared.connectors.dialer.DialCall.{DialCall}

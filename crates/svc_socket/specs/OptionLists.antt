@@ -1,9 +1,9 @@
 -- Which options each call sets.
 use Rattle.std.specs.Prelude.{ℕ, ◌/◌, Bool, false, ◌||◌, if◌then◌else◌, List, [], ◌∷◌, ◌++◌, Option, Some, None, Result, Ok, Err, option_and_then, is_some}
 use Rattle.std.specs.Option.{option_to_list, option_map, option_map_or}
-use Rattle.svc_conf.specs.declared.settings.TcpKeepalive.{TcpKeepalive}
-use Rattle.svc_conf.specs.declared.settings.Setting.{Setting}
-use Rattle.svc_conf.specs.declared.settings.Setting.TheVariants as settings
+use Rattle.svc_base.specs.declared.settings.TcpKeepalive.{TcpKeepalive}
+use Rattle.svc_base.specs.declared.settings.Setting.{Setting}
+use Rattle.svc_base.specs.declared.settings.Setting.TheVariants as settings
 use Rattle.svc_socket.specs.Steps.{Steps, given, is_large}
 use Rattle.svc_socket.specs.declared.options.Family.{Family}
 use Rattle.svc_socket.specs.declared.options.Family.TheVariants.{V4, V6, Other}

@@ -1,7 +1,7 @@
 -- What contracts see of a socket whose options are set.
 use Rattle.std.specs.Prelude.{◌≡◌, ℕ, Bool, true, false, List, [], ◌∷◌, Option}
-use Rattle.svc_conf.specs.Streams.{Rose}
-use Rattle.svc_calls.specs.Calls.{Adds}
+use Rattle.svc_base.specs.Streams.{Rose}
+use Rattle.svc_base.specs.Calls.{Adds}
 use Rattle.svc_socket.specs.declared.options.Family.{Family}
 use Rattle.svc_socket.specs.declared.options.SockOption.{SockOption}
 use Rattle.svc_socket.specs.declared.options.OptionCall.{OptionCall}

@@ -4,7 +4,8 @@ use Rattle.std.specs.List.{list_all, slice_split}
 use Rattle.std.specs.Option.{option_map, option_map_or, option_or}
 use Rattle.std.specs.Str.{bytes_eq}
 use Rattle.std.specs.Str.Parse.{digits_value}
-use Rattle.svc_conf.specs.Values.{number_of}
+use Rattle.svc_base.specs.Words.{number_of}
+use Rattle.svc_base.specs.Options.{◌>>=◌}
 use Rattle.svc_socket.specs.declared.peer.PeerAddr.{PeerAddr}
 use Rattle.svc_socket.specs.declared.peer.PeerAddr.TheVariants as addr
 use Rattle.svc_socket.specs.declared.peer.Peer.{Peer}
@@ -12,7 +13,6 @@ use Rattle.svc_socket.specs.declared.peer.Peer.TheVariants.{Unknown, Unix, Inet}
 use Rattle.svc_socket.specs.declared.reading.IpNumber.{IpNumber}
 use Rattle.svc_socket.specs.declared.reading.IpNumber.TheVariants as ip
 
-infixl 10 ◌>>=◌
 -- '0' to '9', or 'a' to 'f'
 abbrev pub is_hex_digit : ℕ → Bool
 is_hex_digit b = (nat_le 48 b && nat_le b 57) || (nat_le 97 b && nat_le b 102)

@@ -2,8 +2,8 @@
 use Rattle.std.specs.Prelude.{◌≡◌, ℕ, Bool, true, false, nat_lt, List, [], ◌∷◌, ◌++◌, map, Option, Result, Ok, Err, ◌⊎◌}
 use Rattle.std.specs.List.{filter_map}
 use Rattle.std.specs.Bool.{MatchBool}
-use Rattle.svc_conf.specs.Streams.{Rose}
-use Rattle.svc_calls.specs.Calls.{Adds}
+use Rattle.svc_base.specs.Streams.{Rose}
+use Rattle.svc_base.specs.Calls.{Adds}
 use Rattle.svc_socket.specs.OptionsData.{OptionsData}
 use Rattle.svc_socket.specs.declared.options.SockOption.{SockOption}
 use Rattle.svc_socket.specs.declared.options.OptionCall.{OptionCall}

@@ -23,4 +23,4 @@ pub use protocols::l4::ext::{
 pub use protocols::l4::virt::{IoPoll, VirtualSockOpt, VirtualSocket, VirtualSocketStream};
 pub use protocols::tls::digest::{SslDigest, SslDigestExtension};
 pub use reading::{IpNumber, read_ip, read_peer, read_peer_word};
-pub use svc_conf::{Setting, Settings, TcpKeepalive};
+pub use svc_base::{Setting, Settings, TcpKeepalive};

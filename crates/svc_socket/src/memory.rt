@@ -1,12 +1,11 @@
 //! Sockets in memory.
 
 ghost use Rattle.std.specs.Prelude.{◌≡◌, [], Some, IfOk};
-ghost use Rattle.svc_calls.specs.Calls.{told_of};
+ghost use Rattle.svc_base.specs.Calls.{told_of};
 
 use crate::options::{Family, OptionCall, Options, SockOption};
 use std::alloc::Global;
-use svc_calls::Calls;
-use svc_conf::NoMemory;
+use svc_base::{Calls, NoMemory};
 
 /// A socket in memory. The calls whose numbers, from 0, are listed fail.
 #[derive(Drop)]

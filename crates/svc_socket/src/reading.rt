@@ -3,11 +3,10 @@
 ghost use Rattle.std.specs.Prelude.{◌≡◌, ◌==◌, ◌<◌, ◌^◌, if◌then◌else◌, true, false, [], ◌∷◌, length, position, MatchOption, Some, None};
 ghost use Rattle.std.specs.Char.{digit_value};
 ghost use Rattle.std.specs.List.{slice_split};
-ghost use Rattle.svc_conf.specs.Values.{has_spare_front, number_of};
 ghost use Rattle.svc_socket.specs.ReadPeers.{is_hex_digit, has_spare_zero, is_short, group_of, in_base, octets_in, groups_in, ip4_of, ip6_of, ip_of, port_of, inet4_of, inet6_of, peer_addr_of, peer_of};
 
 use crate::peer::{Peer, PeerAddr};
-use std::str;
+use svc_base::{number8, number16};
 
 /// The number of an address: of 32 bits, or of 128.
 #[derive(Clone, Copy, PartialEq, Eq, Debug)]
@@ -16,42 +15,10 @@ pub enum IpNumber {
     V6(u128),
 }
 
-fn has_spare_front(word: &[u8]) -> bool
-    ensures { result ≡ has_spare_front word.now }
-{
-    match word {
-        [b'+', ..] => true,
-        [b'0', ..] => word.len() > 1,
-        _ => false,
-    }
-}
-
-/// The number that a word spells: in decimal, without a sign or a leading zero.
-fn number(word: &[u8]) -> Option<u64>
-    ensures { result ≡ number_of (2 ^ 64) word.now }
-{
-    if has_spare_front(word) {
-        return None;
-    }
-    match str::from_utf8(word) {
-        Ok(text) => text.parse::<u64>().ok(),
-        Err(_) => None,
-    }
-}
-
-/// One of the four numbers of an address.
-#[tactic(auto, unfolding(svc_conf::specs::Values::number_of))]
-fn octet(word: &[u8]) -> Option<u8>
-    ensures { result ≡ number_of (2 ^ 8) word.now }
-{
-    u8::try_from(number(word)?).ok()
-}
-
-#[tactic(auto, unfolding(svc_conf::specs::Values::number_of))]
 fn port(word: &[u8]) -> Option<u16>
     ensures { result ≡ port_of word.now }
 {
-    u16::try_from(number(word)?).ok()
+    number16(word)
 }
 
 fn hex_digit(b: u8) -> Option<u16>
@@ -104,7 +71,8 @@ fn place(text: &[u8], separator: u8) -> Option<usize>
 
 /// What stands before the first separator, and what follows it.
 fn cut(text: &[u8], separator: u8) -> Option<(&[u8], &[u8])>
-    ensures { MatchOption result (slice_split (λ b. b == separator) text.now ≡ text.now ∷ []) (λ pair. slice_split (λ b. b == separator) text.now ≡ pair.0.now ∷ slice_split (λ b. b == separator) pair.1.now) }
+    ensures { MatchOption result (slice_split (λ b. b == separator) text.now ≡ text.now ∷ [])
+        (λ pair. slice_split (λ b. b == separator) text.now ≡ pair.0.now ∷ slice_split (λ b. b == separator) pair.1.now) }
 {
     let Some(end) = place(text, separator) else {
         return None;
@@ -132,7 +100,7 @@ fn octets_in(text: &[u8]) -> Option<[u8; 4]>
         let Some((word, later)) = cut(rest, b'.') else {
             return None;
         };
-        let Some(octet) = octet(word) else {
+        let Some(octet) = number8(word) else {
             return None;
         };
         octets[i] = octet;
@@ -141,7 +109,7 @@ fn octets_in(text: &[u8]) -> Option<[u8; 4]>
     if is_cut(rest, b'.') {
         return None;
     }
-    let Some(octet) = octet(rest) else {
+    let Some(octet) = number8(rest) else {
         return None;
     };
     octets[3] = octet;

@@ -1,7 +1,7 @@
 -- What an echo read and wrote.
 use Rattle.std.specs.Prelude.{◌≡◌, ℕ, ◌≤◌, List, length, take, Option}
 use Rattle.std.specs.Io.KnownBytes.{Consumes, Appends, IsAtEnd}
-use Rattle.svc_conf.specs.Streams.{Rose}
+use Rattle.svc_base.specs.Streams.{Rose}
 use Rattle.svc_sockets.specs.declared.echoing.EchoEnd.{EchoEnd}
 use Rattle.svc_sockets.specs.declared.echoing.EchoEnd.TheVariants.{Done, ReadFault, WriteFault, TurnsSpent}
 

@@ -5,7 +5,7 @@ ghost use Rattle.std.specs.Prelude.{◌<◌, length, IfSome};
 use crate::sockets::Seat;
 use crate::streams::{Incoming, Outgoing, Progress, echo_piece};
 use std::net::TcpStream;
-use svc_conf::{Setting, Source, Taken};
+use svc_base::{Setting, Source, Taken};
 use svc_record::{Event, ShutdownSignal};
 
 /// The endpoint whose connections bring signals, by its number within its service.

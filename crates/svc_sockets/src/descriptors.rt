@@ -4,7 +4,7 @@ ghost use Rattle.std.specs.Prelude.{◌<◌, length, IfSome};
 
 use std::alloc::Global;
 use std::net::TcpListener;
-use svc_conf::NoMemory;
+use svc_base::NoMemory;
 
 /// The first number: those of standard input, output and error are never given.
 const FIRST: u64 = 3;

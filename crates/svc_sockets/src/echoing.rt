@@ -2,10 +2,10 @@
 
 ghost use Rattle.std.specs.Prelude.{◌≡◌, ℕ, ◌+◌, ◌<◌, ◌≤◌, length, take, OnOk, OnErr};
 ghost use Rattle.std.specs.Io.KnownBytes.{Appends};
-ghost use Rattle.svc_conf.specs.Streams.{Rose};
+ghost use Rattle.svc_base.specs.Streams.{Rose};
 ghost use Rattle.svc_sockets.specs.Echoing.{IsEchoed};
 
-use svc_conf::{Put, Sink, Source, Taken, WriteFault};
+use svc_base::{Put, Sink, Source, Taken, WriteFault};
 
 /// The most bytes of a piece that is read at once.
 pub const PIECE: usize = 4096;

@@ -4,7 +4,7 @@ ghost use Rattle.std.specs.Prelude.{◌<◌, length, IfSome};
 
 use crate::sockets::Seat;
 use std::net::{Net, SocketAddr, ToSocketAddrs};
-use svc_conf::NoMemory;
+use svc_base::NoMemory;
 use svc_record::{Event, Plan, ServicePlan};
 
 /// What an endpoint answers that was asked.

@@ -4,7 +4,7 @@ use crate::descriptors::Descriptors;
 use crate::slot::{Letter, Slot};
 use std::alloc::Global;
 use std::net::TcpListener;
-use svc_conf::{Bytes, NoMemory};
+use svc_base::{Bytes, NoMemory};
 use svc_fds::FdList;
 use svc_record::{Event, copy_items};
 

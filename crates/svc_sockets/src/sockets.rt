@@ -16,7 +16,7 @@ use std::io::ErrorKind;
 use std::net::{Net, SocketAddr, TcpListener, TcpStream};
 use std::sync::{Mutex, Wait};
 use std::time::{Clock, Instant};
-use svc_conf::NoMemory;
+use svc_base::NoMemory;
 use svc_record::{Action, Event, ExecutionPhase, Plan};
 use svc_socket::{Peer, PeerAddr};
 use thiserror::Error;

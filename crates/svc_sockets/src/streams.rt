@@ -6,7 +6,7 @@ ghost use Rattle.std.specs.Prelude.{◌≤◌};
 use crate::echoing::{EchoEnd, PIECE, echo};
 use std::io::{ErrorKind, Read, Write};
 use std::net::TcpStream;
-use svc_conf::{Put, Sink, Source, Taken};
+use svc_base::{Put, Sink, Source, Taken};
 
 /// What comes on a nonblocking stream. It has no answer for bytes that aren't there yet: then it answers
 /// `Failed`, counts that, and says that it waits.

@@ -23,7 +23,8 @@ use Rattle.svc_handover.proofs.PairLemmas.{encode-some, flies, read-as-sent}
 use Rattle.svc_handover.proofs.TextLemmas.{table-text}
 use Rattle.svc_handover.proofs.OperatorLemmas.{never-given-up}
 use Rattle.svc_handover.proofs.ReachLemmas.{failed-later, silent-before, all-more, live-before, live-unsignalled}
-use Rattle.svc_handover.proofs.OperatorLaw.{signal-some, live-listed, picked}
+use Rattle.svc_handover.proofs.OperatorLaw.{live-listed, picked}
+use Rattle.svc_endpoints.proofs.OfferLemmas.{signal-some}
 use Rattle.svc_supervisor.specs.declared.generation.Generation.{Generation}
 use Rattle.svc_supervisor.specs.ChainData.{GenerationData}
 use Rattle.svc_supervisor.specs.Carries.{is_on_offer, is_on_its_way, carries, covers, is_carried, is_covered, is_good, is_good_chain, was_held_first, KeepsCarried}

@@ -2,7 +2,7 @@
 use Rattle.std.specs.Prelude.{ℕ, zero, suc, ◌+◌, Bool, true, false, not, ◌&&◌, ◌||◌, if◌then◌else◌, List, [], ◌∷◌, ◌++◌, length, take, drop, position, take_while, codes, Option, Some, None, Result, Ok, Err, nat_eq}
 use Rattle.std.specs.List.{starts_with}
 use Rattle.std.specs.Str.{bytes_eq, is_utf8}
-use Rattle.svc_text.specs.Words.{words}
+use Rattle.svc_base.specs.Words.{words}
 use Rattle.svc_text.specs.Script.{Parts, is_skipped, script_of}
 use Rattle.svc_main.specs.Planned.{part_lines}
 use Rattle.svc_supervisor.specs.declared.steps.Step.{Step}

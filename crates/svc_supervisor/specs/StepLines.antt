@@ -1,7 +1,8 @@
 -- The steps of a chain, as lines say them.
 use Rattle.std.specs.Prelude.{◌≡◌, ℕ, ◌+◌, ◌^◌, if◌then◌else◌, List, [], ◌∷◌, codes, Option, Some, None, Result, Ok, Err}
 use Rattle.std.specs.Str.{bytes_eq, is_utf8}
-use Rattle.svc_text.specs.Words.{words, number_of, ◌>>=◌}
+use Rattle.svc_base.specs.Words.{words, number_of}
+use Rattle.svc_base.specs.Options.{◌>>=◌}
 use Rattle.svc_text.specs.EventLines.{event_of}
 use Rattle.svc_text.specs.Script.{is_skipped}
 use Rattle.svc_supervisor.specs.declared.input.Refusal.{Refusal}

@@ -2,7 +2,8 @@
 
 use crate::input::{Block, Refusal};
 use std::alloc::Global;
-use svc_conf::{Items, Key, Opt};
+use svc_base::Items;
+use svc_conf::{Key, Opt};
 use svc_core::Plan;
 use svc_main::{PlannedScript, plan_script};
 use svc_text::{ScriptError, ServiceLine};

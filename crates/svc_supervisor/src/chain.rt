@@ -1,7 +1,7 @@
 //! The chain: generations that take over one from the other.
 
 ghost use Rattle.std.specs.Prelude.{◌≡◌, ◌∷◌, ◌<◌, ◌≤◌, [], false, true, IfOk, IfErr, OnOk, OnErr, length, slice_get, IsTrue, reverse, IfSome, MatchBool};
-ghost use Rattle.svc_conf.specs.Items.{list_of};
+ghost use Rattle.svc_base.specs.Items.{list_of};
 ghost use Rattle.svc_supervisor.specs.Chains.{Launches, Steps, AreClosed, MayBegin, finished_chain, BeginsChain};
 ghost use Rattle.svc_supervisor.specs.Kept.{ChainKept};
 ghost use Rattle.svc_supervisor.specs.Refusals.{IsFirstRefusal, IsLaunchRefusal, IsStepRefusal};
@@ -11,7 +11,7 @@ use crate::places::{check_step, first_generation, next_generation, take_at};
 use crate::refused::ChainRefused;
 use std::alloc::Global;
 use std::marker::Model;
-use svc_conf::NoMemory;
+use svc_base::NoMemory;
 use svc_core::{Entries, Event, Plan, StepEnd};
 
 /// Generations of one server, numbered from 0. Each but the first takes over from the one before it,

@@ -2,7 +2,7 @@
 
 ghost use Rattle.std.specs.Prelude.{◌≡◌, ◌+◌, ◌≤◌, ◌++◌, List, length, map, IsTrue, IfOk, IfErr, OnOk, OnErr, None};
 ghost use Rattle.std.specs.Option.{option_copied, option_map};
-ghost use Rattle.svc_conf.specs.Items.{list_of, spare};
+ghost use Rattle.svc_base.specs.Items.{list_of, spare};
 ghost use Rattle.svc_record.specs.Validity.{IsValid};
 ghost use Rattle.svc_core.specs.Stands.{MayCome};
 ghost use Rattle.svc_handover.specs.Runs.{told_entries};
@@ -11,7 +11,7 @@ ghost use Rattle.svc_supervisor.specs.Generations.{Begins, Takes, IsSame, HasSte
 
 use crate::marks::{Marks, channel_between};
 use std::alloc::Global;
-use svc_conf::NoMemory;
+use svc_base::NoMemory;
 use svc_core::{Actions, Core, Entries, Entry, Event, Plan, StepEnd};
 use svc_handover::ChannelState;
 use svc_handover::addresses::read_addresses;

@@ -14,7 +14,8 @@ ghost use Rattle.svc_supervisor.specs.InputBlocks.{IsBehind, ReadsBlock, ReadsIn
 use crate::steps::{Step, is_skipped, is_text, read_steps};
 use std::alloc::{AllocError, AllocFailed, Global};
 use svc_main::{read_parts, with_line};
-use svc_text::{Script, ScriptError, split_line};
+use svc_base::split_line;
+use svc_text::{Script, ScriptError};
 
 /// Why an input is no chain's.
 #[derive(Clone, Copy, Debug, PartialEq, Eq)]

@@ -1,7 +1,8 @@
 //! How serving a chain ends, and its status line.
 
 use std::fmt;
-use svc_conf::{Key, Status};
+use svc_base::Status;
+use svc_conf::Key;
 
 /// Why a step isn't taken.
 #[derive(Clone, Copy, Debug, PartialEq, Eq)]

@@ -12,7 +12,7 @@ ghost use Rattle.svc_supervisor.specs.Generations.{Begins, Linked, MayStep, MayL
 use crate::generation::{Generation, may_come};
 use crate::refused::ChainRefused;
 use std::alloc::Global;
-use svc_conf::NoMemory;
+use svc_base::NoMemory;
 use svc_core::{Event, Plan, StepEnd};
 
 /// Whether the generation with this number has taken over from the one before it. The first takes nothing over.

@@ -9,7 +9,7 @@ use crate::steps::Step;
 use std::alloc::Global;
 use std::fmt::Write;
 use std::rc::RcStr;
-use svc_conf::{NoMemory, ReadAllError, Sink, Source, Status, read_all, write_all};
+use svc_base::{NoMemory, ReadAllError, Sink, Source, Status, read_all, write_all};
 use svc_text::record_text;
 
 /// A status line, and what is to be written with it.

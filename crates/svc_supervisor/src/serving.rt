@@ -6,7 +6,7 @@ use crate::outcome::StepRefusal;
 use crate::refused::ChainRefused;
 use crate::steps::Step;
 use std::alloc::Global;
-use svc_conf::{Items, NoMemory};
+use svc_base::{Items, NoMemory};
 use svc_core::{Event, Plan};
 use svc_socket::Peer;
 use svc_text::{ServiceLine, is_blocked};

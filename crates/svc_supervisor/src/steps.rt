@@ -3,16 +3,17 @@
 ghost use Rattle.std.specs.Prelude.{◌≡◌, ◌+◌, ◌<◌, ◌^◌, length, IfOk};
 ghost use Rattle.std.specs.Str.{is_utf8};
 ghost use Rattle.std.specs.Str.Lines.{lines};
-ghost use Rattle.svc_text.specs.Words.{words};
+ghost use Rattle.svc_base.specs.Words.{words};
 ghost use Rattle.svc_text.specs.Script.{is_skipped};
 ghost use Rattle.svc_supervisor.specs.StepLines.{launch_of, step_of, step_in, steps_from, Reads};
 
 use crate::input::Refusal;
 use std::alloc::Global;
 use std::str;
-use svc_conf::NoMemory;
+use svc_base::NoMemory;
 use svc_core::Event;
-use svc_text::{event_of_line, number, split_line, split_word};
+use svc_base::{number, split_line, split_word};
+use svc_text::event_of_line;
 
 /// One step of a chain.
 #[derive(Debug, Drop)]

@@ -6,10 +6,12 @@ use Rattle.std.specs.Str.{is_utf8}
 use Rattle.std.proofs.lemmas.Bool.{ltb-true, eqb-true, and_parts, cases_Bool, both_ways}
 use Rattle.std.proofs.lemmas.List.{append-nil, length-append}
 use Rattle.std.proofs.lemmas.List.Elements.{All-push}
-use Rattle.svc_conf.specs.declared.settings.Setting.{Setting}
+use Rattle.svc_base.specs.declared.settings.Setting.{Setting}
 use Rattle.svc_text.specs.declared.service.EndpointLine.{EndpointLine}
 use Rattle.svc_text.specs.declared.service.ServiceLine.{ServiceLine}
-use Rattle.svc_text.specs.Words.{◌>>=◌, words, text_in}
+use Rattle.svc_text.specs.Words.{text_in}
+use Rattle.svc_base.specs.Options.{◌>>=◌}
+use Rattle.svc_base.specs.Words.{words}
 use Rattle.svc_text.specs.EndpointOptions.{same_sort, option_of, last_tcp_from, options_at, with_option_at}
 use Rattle.svc_text.proofs.OptionLemmas.{with_option_at-length, with_option_at-addresses}
 use Rattle.svc_text.specs.ServiceLines.{name_of, kind_of, boots, numbers_of, is_address, address_of, with_after, endpoint_at, with_endpoint, with_claim, with_undeclared, ip_in, with_block, with_option_of, with_setting, with_address, with_item, is_undeclared, with_items, bare, service_of, is_eager}

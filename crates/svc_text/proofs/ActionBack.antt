@@ -5,7 +5,8 @@ use Rattle.std.specs.Str.{bytes_eq}
 use Rattle.svc_record.specs.declared.action.Action.{Action}
 use Rattle.svc_record.specs.declared.action.Action.TheVariants as actions
 use Rattle.svc_record.specs.Text.{action_words, ActionFits}
-use Rattle.svc_text.specs.Words.{◌>>=◌, number_of}
+use Rattle.svc_base.specs.Options.{◌>>=◌}
+use Rattle.svc_base.specs.Words.{number_of}
 use Rattle.svc_text.specs.NumberLists.{all_some}
 use Rattle.svc_text.specs.EventLines.{bytes_of, listed_of}
 use Rattle.svc_text.proofs.PieceLemmas.{by_recursion}

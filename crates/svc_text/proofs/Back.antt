@@ -10,7 +10,7 @@ use Rattle.svc_record.specs.declared.action.Action.TheVariants as actions
 use Rattle.svc_record.specs.declared.entry.Entry.{Entry}
 use Rattle.svc_record.specs.declared.entry.Entry.TheVariants.{Got, Told}
 use Rattle.svc_record.specs.Text.{entry_words, spaced, line_of, text_of, EntryFits}
-use Rattle.svc_text.specs.Words.{words}
+use Rattle.svc_base.specs.Words.{words}
 use Rattle.svc_text.proofs.PieceLemmas.{by_recursion}
 use Rattle.svc_text.proofs.Visible.{IsWord, words_spaced, spaced_printable, line_back}
 use Rattle.svc_text.proofs.EventBack.{got_of, event_back, event_fits}

@@ -5,7 +5,7 @@ use Rattle.std.specs.Str.{bytes_eq}
 use Rattle.svc_record.specs.declared.event.Event.{Event}
 use Rattle.svc_record.specs.declared.event.Event.TheVariants as events
 use Rattle.svc_record.specs.Text.{event_words, EventFits}
-use Rattle.svc_text.specs.Words.{◌>>=◌}
+use Rattle.svc_base.specs.Options.{◌>>=◌}
 use Rattle.svc_socket.proofs.PeerBack.{peer_back, peer_visible, peer_nonempty}
 use Rattle.svc_text.specs.EventLines.{bytes_of, listed_of, bare_event, event_of_one, event_of_two, event_of_three, event_of_four, event_of}
 use Rattle.svc_text.proofs.PieceLemmas.{by_recursion}

@@ -9,7 +9,8 @@ use Rattle.svc_record.specs.declared.item.Item.{Item}
 use Rattle.svc_record.specs.declared.item.Item.TheVariants as items
 use Rattle.svc_record.specs.Descriptors.{numbers_of}
 use Rattle.svc_socket.specs.ReadPeers.{peer_of}
-use Rattle.svc_text.specs.Words.{◌>>=◌, words, number_of}
+use Rattle.svc_base.specs.Options.{◌>>=◌}
+use Rattle.svc_base.specs.Words.{words, number_of}
 use Rattle.svc_text.specs.EventLines.{signal_of, side_of, ok_of, bytes_of, listed_of, descriptors_of, bare_event, event_of_one, event_of_two, event_of_three, event_of_four, received_of, event_of, is_fault, item_of}
 use Rattle.svc_text.specs.Accepted.{BringsFew}
 use Rattle.svc_text.specs.Script.{said_items}

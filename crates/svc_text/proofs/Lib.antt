@@ -1,6 +1,3 @@
-pub mod WordLemmas
-pub mod NumberLemmas
-pub mod LineLemmas
 pub mod Visible
 pub mod DigitLemmas
 pub mod ListLemmas

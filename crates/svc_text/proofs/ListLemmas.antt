@@ -2,7 +2,8 @@
 use Rattle.std.proofs.Common.{◌≡◌, ℕ, zero, suc, ◌+◌, ◌^◌, ◌<◌, List, [], ◌∷◌, ◌++◌, length, get_or, take, map, Option, Some, None, refl, sym, ap, ◌∙◌, arith}
 use Rattle.std.proofs.lemmas.List.{take_more, map_push, get_or-map, length-map}
 use Rattle.std.proofs.Math.Seq.{take-length}
-use Rattle.svc_text.specs.Words.{◌>>=◌, number_of}
+use Rattle.svc_base.specs.Options.{◌>>=◌}
+use Rattle.svc_base.specs.Words.{number_of}
 use Rattle.svc_text.specs.NumberLists.{all_some}
 
 bind_some : (o : Option (List ℕ)) (y : ℕ) (xs : List ℕ) → (o >>= λ zs. Some (y ∷ zs)) ≡ Some xs → (zs : List ℕ) × (o ≡ Some zs) × (y ∷ zs ≡ xs)

@@ -9,7 +9,7 @@ use Rattle.std.proofs.lemmas.List.Splits.{length-slice_split}
 use Rattle.std.proofs.lemmas.List.Elements.{filter_map-append}
 use Rattle.std.proofs.lemmas.List.Folds.{list_any-append}
 use Rattle.std.proofs.Math.Dec.{eqb-suc-suc, eqb-suc-zero, eqb-zero-suc}
-use Rattle.svc_text.specs.Words.{words}
+use Rattle.svc_base.specs.Words.{words}
 use Rattle.svc_text.specs.EventLines.{item_of}
 use Rattle.svc_text.specs.ServiceLines.{service_of, is_eager}
 use Rattle.svc_text.specs.Script.{is_header, begun, part_of, services_in, eager_in, items_in, said_services, said_eager, said_items}

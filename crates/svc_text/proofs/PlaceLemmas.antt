@@ -7,7 +7,8 @@ use Rattle.std.proofs.Math.Bool.{and-true}
 use Rattle.svc_record.specs.declared.item.Item.{Item}
 use Rattle.std.proofs.lemmas.Bool.{eqb-true, cases_Bool, and_right}
 use Rattle.std.proofs.lemmas.List.{append-nil}
-use Rattle.svc_text.specs.Words.{text_in, words}
+use Rattle.svc_text.specs.Words.{text_in}
+use Rattle.svc_base.specs.Words.{words}
 use Rattle.svc_text.specs.EventLines.{item_of}
 use Rattle.svc_text.proofs.SkippedLemmas.{skipped_event, skipped_is_no_fault}
 use Rattle.svc_text.specs.declared.part.Part.{Part}

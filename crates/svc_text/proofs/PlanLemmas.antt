@@ -22,7 +22,7 @@ use Rattle.svc_text.specs.Filters.{filter_number}
 use Rattle.svc_text.specs.ScriptPlans.{endpoint_of, depends_of, service_plan, plans_from, plan_of}
 use Rattle.svc_text.proofs.EdgeLemmas.{fewer_acyclic}
 
-plans-length : (services : List ServiceLine) (s : ℕ) (xs : List ServiceLine) → length (plans_from services s xs) ≡ length xs
+pub plans-length : (services : List ServiceLine) (s : ℕ) (xs : List ServiceLine) → length (plans_from services s xs) ≡ length xs
 plans-length services s [] = refl
 plans-length services s (x ∷ xs) = ap suc (plans-length services (s + 1) xs)
 

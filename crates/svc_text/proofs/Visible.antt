@@ -4,14 +4,13 @@ use Rattle.std.specs.List.{join_with_byte, list_all, AllByRecursion}
 use Rattle.std.specs.Str.Lines.{lines, strip_carriage_return}
 use Rattle.std.specs.Str.Parse.{AllDigits}
 use Rattle.std.specs.Fmt.{decimal}
-use Rattle.std.proofs.lemmas.Bool.{and_parts, and_from, lt-ltb, ltb-true}
+use Rattle.std.proofs.lemmas.Bool.{and_parts, and_from, lt-ltb, ltb-true, ne_eqb}
 use Rattle.std.proofs.lemmas.Bool.Decides.{nat_tests}
 use Rattle.std.proofs.lemmas.Fmt.{decimal_is_IsNumeral}
 use Rattle.std.proofs.lemmas.Str.Parse.{digit_from_value}
-use Rattle.svc_text.specs.Words.{is_blank, is_feed, words}
-use Rattle.svc_text.proofs.WordLemmas.{words-nil, words-last, words-then}
-use Rattle.svc_text.proofs.LineLemmas.{lines-then}
-use Rattle.std.proofs.lemmas.Bool.{ne_eqb}
+use Rattle.svc_base.specs.Words.{is_blank, is_feed, words}
+use Rattle.svc_base.proofs.WordLemmas.{words-nil, words-last, words-then}
+use Rattle.svc_base.proofs.LineLemmas.{lines-then}
 
 -- the bytes of a word stand above the space
 abbrev pub is_visible : List ℕ → Bool

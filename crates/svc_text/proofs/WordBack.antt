@@ -7,8 +7,8 @@ use Rattle.std.specs.Fmt.{decimal, digit_glyph}
 use Rattle.std.proofs.lemmas.Bool.{and_from, lt-ltb, le-ltb, le-leb, lt-leb, cases_lt}
 use Rattle.std.proofs.lemmas.List.{append-nil, length-append}
 use Rattle.std.proofs.lemmas.List.Splits.{slice_split_at, slice_split_none}
-use Rattle.svc_conf.specs.declared.settings.Setting.{Setting}
-use Rattle.svc_conf.specs.declared.settings.Setting.TheVariants.{NoDelay, KeepAlive, Dscp, SndBuf, RcvBuf}
+use Rattle.svc_base.specs.declared.settings.Setting.{Setting}
+use Rattle.svc_base.specs.declared.settings.Setting.TheVariants.{NoDelay, KeepAlive, Dscp, SndBuf, RcvBuf}
 use Rattle.svc_record.specs.declared.event.ShutdownSignal.{ShutdownSignal}
 use Rattle.svc_record.specs.declared.event.ShutdownSignal.TheVariants as signals
 use Rattle.svc_record.specs.declared.event.Side.{Side}
@@ -16,10 +16,11 @@ use Rattle.svc_record.specs.declared.event.Side.TheVariants.{Child, Parent}
 use Rattle.svc_record.specs.declared.action.ExecutionPhase.{ExecutionPhase}
 use Rattle.svc_record.specs.declared.action.ExecutionPhase.TheVariants as phases
 use Rattle.svc_record.specs.Text.{ok_word, yes_word, signal_word, side_word, phase_word, hex_byte, bytes_word, numbers_word, setting_word, SettingFits}
-use Rattle.svc_text.specs.Words.{◌>>=◌, number_of}
+use Rattle.svc_base.specs.Options.{◌>>=◌}
+use Rattle.svc_base.specs.Words.{number_of}
 use Rattle.svc_text.specs.NumberLists.{all_some, joined_of}
 use Rattle.svc_text.specs.EventLines.{signal_of, side_of, ok_of, hex_digit_of, hex_byte_of, hex_of, bytes_of, listed_of}
-use Rattle.svc_text.proofs.NumberLemmas.{number_of-decimal}
+use Rattle.svc_base.proofs.DecimalLemmas.{number_of-decimal}
 use Rattle.svc_text.proofs.Visible.{is_visible, IsWord, visible_append}
 use Rattle.svc_text.proofs.DigitLemmas.{glyph_high, digits_high, digits_some, digits_word, high_without, no_dash_first, no_dash}
 

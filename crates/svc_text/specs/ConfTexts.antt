@@ -1,21 +1,9 @@
 -- Where the text of the configuration stands in a script.
-use Rattle.std.specs.Prelude.{◌≡◌, ℕ, ◌+◌, ◌-◌, ◌≤◌, ◌⊎◌, ◌==◌, if◌then◌else◌, List, [], ◌∷◌, ◌++◌, length, take, drop}
+use Rattle.std.specs.Prelude.{◌≡◌, ℕ, ◌+◌, ◌-◌, ◌≤◌, ◌==◌, if◌then◌else◌, List, length, take, drop}
 use Rattle.std.specs.Str.{IsUtf8}
 use Rattle.std.specs.Str.Lines.{lines}
 use Rattle.svc_text.specs.declared.conf_text.ConfText.{ConfText}
 use Rattle.svc_text.specs.Script.{part_of, lines_before}
-
--- the bytes end with a line feed
-abbrev pub EndsLine : List ℕ → Type 0
-EndsLine xs = (front : List ℕ) × (xs ≡ front ++ 10 ∷ [])
-
--- the text begins with this line, and what follows it is what follows the line's end
-pub record IsCut (text line after : List ℕ) : Type 0 where
-  pub chunk : List ℕ
-  pub whole : text ≡ chunk ++ after
-  pub one : lines chunk ≡ line ∷ []
-  pub is_text : IsUtf8 line → IsUtf8 chunk
-  pub ends : EndsLine chunk ⊎ (after ≡ [])
 
 -- the bytes from one place to another
 abbrev pub between : ℕ → ℕ → List ℕ → List ℕ

@@ -2,10 +2,11 @@
 use Rattle.std.specs.Prelude.{ℕ, zero, suc, ◌+◌, ◌^◌, Bool, true, false, if◌then◌else◌, List, [], ◌∷◌, ◌++◌, codes, slice_get, Option, Some, None, unwrap_or}
 use Rattle.std.specs.Option.{option_map, option_or}
 use Rattle.std.specs.Str.{bytes_eq}
-use Rattle.svc_conf.specs.declared.settings.Setting.{Setting}
-use Rattle.svc_conf.specs.declared.settings.Setting.TheVariants.{NoDelay, KeepAlive, Dscp, SndBuf, RcvBuf}
-use Rattle.svc_conf.specs.declared.settings.TcpKeepalive.{TcpKeepalive}
-use Rattle.svc_text.specs.Words.{◌>>=◌, number_of}
+use Rattle.svc_base.specs.declared.settings.Setting.{Setting}
+use Rattle.svc_base.specs.declared.settings.Setting.TheVariants.{NoDelay, KeepAlive, Dscp, SndBuf, RcvBuf}
+use Rattle.svc_base.specs.declared.settings.TcpKeepalive.{TcpKeepalive}
+use Rattle.svc_base.specs.Options.{◌>>=◌}
+use Rattle.svc_base.specs.Words.{number_of}
 use Rattle.svc_text.specs.NumberLists.{joined_of}
 use Rattle.svc_text.specs.declared.service.EndpointLine.{EndpointLine}
 

@@ -1,7 +1,8 @@
 -- Numbers joined by commas.
 use Rattle.std.specs.Prelude.{ℕ, ◌^◌, ◌==◌, List, [], ◌∷◌, map, Option, Some}
 use Rattle.std.specs.List.{slice_split}
-use Rattle.svc_text.specs.Words.{◌>>=◌, number_of}
+use Rattle.svc_base.specs.Options.{◌>>=◌}
+use Rattle.svc_base.specs.Words.{number_of}
 
 -- all of them, where each is there
 abbrev pub all_some : {A : Type 0} → List (Option A) → Option (List A)

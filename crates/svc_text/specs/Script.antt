@@ -9,7 +9,7 @@ use Rattle.svc_conf.specs.declared.server.configuration.read_error.ReadError.{Re
 use Rattle.svc_conf.specs.declared.server.configuration.read_error.ReadError.TheVariants as errors
 use Rattle.svc_conf.specs.Configuration.{defaults}
 use Rattle.svc_conf.specs.ConfigurationText.{said_from, overridden_by}
-use Rattle.svc_text.specs.Words.{words}
+use Rattle.svc_base.specs.Words.{words}
 use Rattle.svc_record.specs.declared.item.Item.{Item}
 use Rattle.svc_text.specs.EventLines.{item_of}
 use Rattle.svc_text.specs.declared.part.Part.{Part}

@@ -5,10 +5,12 @@ use Rattle.std.specs.List.{slice_split, list_any}
 use Rattle.std.specs.Str.{bytes_eq}
 use Rattle.svc_graph.specs.declared.plan.Kind.{Kind}
 use Rattle.svc_graph.specs.declared.plan.Kind.TheVariants.{Plain, Notifying, Bootstrap}
-use Rattle.svc_conf.specs.declared.settings.Setting.{Setting}
+use Rattle.svc_base.specs.declared.settings.Setting.{Setting}
 use Rattle.svc_socket.specs.ReadPeers.{ip_of}
 use Rattle.svc_socket.specs.declared.reading.IpNumber.{IpNumber}
-use Rattle.svc_text.specs.Words.{◌>>=◌, number_of, text_in}
+use Rattle.svc_text.specs.Words.{text_in}
+use Rattle.svc_base.specs.Options.{◌>>=◌}
+use Rattle.svc_base.specs.Words.{number_of}
 use Rattle.svc_text.specs.NumberLists.{all_some}
 use Rattle.svc_text.specs.EndpointOptions.{same_sort, option_of, last_tcp_from, options_at, with_option_at}
 use Rattle.svc_text.specs.declared.service.EndpointLine.{EndpointLine}

@@ -8,7 +8,7 @@ use crate::lists::push_item;
 use crate::service::EndpointLine;
 use std::alloc::Global;
 use std::marker::Model;
-use svc_conf::{NoMemory, Setting};
+use svc_base::{NoMemory, Setting};
 
 /// The endpoints of a service line, in its order. Contracts see them as a list.
 #[derive(Debug, Drop)]

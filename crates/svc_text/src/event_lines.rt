@@ -1,14 +1,12 @@
 //! What a line says as an event, or as a fault.
 
 ghost use Rattle.std.specs.Prelude.{◌≡◌, IfOk};
-ghost use Rattle.svc_text.specs.Words.{words};
+ghost use Rattle.svc_base.specs.Words.{words};
 ghost use Rattle.svc_text.specs.EventLines.{signal_of, side_of, ok_of, bare_event, event_of_one, event_of_two, event_of_three, event_of_four, received_of, event_of, is_fault, item_of};
 
-use crate::cuts::split_word;
 use crate::message_words::{bytes_of, descriptors_of};
-use crate::numbers::{number, number32};
 use std::alloc::Global;
-use svc_conf::NoMemory;
+use svc_base::{NoMemory, number, number32, split_word};
 use svc_record::{Event, Item, ShutdownSignal, Side};
 use svc_socket::read_peer_word;
 

@@ -4,7 +4,7 @@ ghost use Rattle.std.specs.Prelude.{◌<◌, ◌^◌, All};
 ghost use Rattle.svc_socket.specs.Peers.{PeerFits};
 ghost use Rattle.svc_record.specs.Text.{SettingFits, EventFits, ActionFits, EntryFits};
 
-use svc_conf::Setting;
+use svc_base::Setting;
 use svc_record::{Action, Entry, Event};
 use svc_socket::Peer;
 

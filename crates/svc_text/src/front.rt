@@ -4,10 +4,9 @@ ghost use Rattle.std.specs.Prelude.{◌≡◌, ◌++◌, ◌∷◌, [], nat_lt, 
 ghost use Rattle.svc_text.specs.Fronts.{IsFront};
 
 use crate::conf_text::ConfText;
-use crate::cuts::split_line;
 use crate::reading::{LineError, Reading};
 use std::alloc::Global;
-use svc_conf::NoMemory;
+use svc_base::{NoMemory, split_line};
 
 /// The lines of a script up to the first that doesn't fit those before it. Those of the configuration
 /// are found, and not yet looked at.

@@ -2,7 +2,6 @@
 #![tactic(auto)]
 
 mod conf_text;
-mod cuts;
 mod endpoint_lines;
 mod event_lines;
 mod filters;
@@ -10,7 +9,6 @@ mod fitting;
 mod front;
 mod lists;
 mod message_words;
-mod numbers;
 mod parsing;
 mod part;
 mod plans;
@@ -19,11 +17,9 @@ mod reading;
 mod refused;
 mod service;
 
-pub use cuts::{split_line, split_word};
 pub use endpoint_lines::EndpointLines;
 pub use event_lines::{event_of_line, item_of_line};
 pub use filters::{blocks, filter_number, is_blocked};
-pub use numbers::number;
 pub use parsing::{Script, ScriptError, parse};
 pub use plans::accepted_plan;
 pub use printing::{one_record, record_text};

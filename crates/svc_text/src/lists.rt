@@ -3,7 +3,7 @@
 ghost use Rattle.std.specs.Prelude.{◌≡◌, ◌++◌, ◌∷◌, [], OnOk, OnErr};
 
 use std::alloc::Global;
-use svc_conf::{Items, NoMemory};
+use svc_base::{Items, NoMemory};
 
 /// Appends. An item for which no memory was found is dropped.
 pub fn push_item<T: Drop>(alloc: Global, list: &mut Items<T>, item: T) -> Result<(), NoMemory>

@@ -5,9 +5,8 @@ ghost use Rattle.svc_text.specs.EventLines.{hex_digit_of, hex_byte_of, hex_of, b
 ghost use Rattle.svc_text.specs.NumberLists.{joined_of};
 
 use crate::lists::push_item;
-use crate::numbers::number;
 use std::alloc::Global;
-use svc_conf::{Bytes, NoMemory};
+use svc_base::{Bytes, NoMemory, number};
 use svc_fds::FdList;
 
 /// The most descriptors of a message.

@@ -7,7 +7,7 @@ ghost use Rattle.svc_record.specs.Text.{text_of, EntryFits};
 use crate::fitting::read_entry;
 use std::alloc::Global;
 use std::fmt::Write;
-use svc_conf::NoMemory;
+use svc_base::NoMemory;
 use svc_record::Entry;
 
 /// The text of a record: a line for each entry, the oldest first. Each ends with a line feed.

@@ -6,17 +6,16 @@ ghost use Rattle.svc_text.specs.declared.part.Part.TheVariants.{Nothing};
 ghost use Rattle.svc_text.specs.Outcome.{After, Said, Tests};
 ghost use Rattle.std.specs.Option.{option_to_list};
 ghost use Rattle.svc_text.specs.EventLines.{item_of};
-ghost use Rattle.svc_text.specs.Words.{words};
+ghost use Rattle.svc_base.specs.Words.{words};
 ghost use Rattle.svc_text.specs.ServiceLines.{service_of, is_eager};
 ghost use Rattle.svc_text.specs.Script.{part_number, is_skipped, is_next, says_service, says_item, line_fits};
 
-use crate::cuts::split_word;
 use crate::event_lines::item_of_line;
 use crate::part::{Part, header_of};
 use crate::service::{ServiceLine, is_eager, service_of_line};
 use std::alloc::{AllocFailed, Global};
 use std::str;
-use svc_conf::NoMemory;
+use svc_base::{NoMemory, split_word};
 use svc_record::Item;
 
 /// Why a line wasn't taken.

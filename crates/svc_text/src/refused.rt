@@ -9,7 +9,7 @@ ghost use Rattle.svc_text.specs.Edges.{with_row, HasEdges, HasTaken};
 
 use crate::service::ServiceLine;
 use std::alloc::Global;
-use svc_conf::NoMemory;
+use svc_base::NoMemory;
 use svc_graph::{DependencyError, DependencyGraph};
 
 /// Adds the dependencies of a service. It answers whether all could be added.

@@ -2,18 +2,20 @@
 
 ghost use Rattle.std.specs.Prelude.{◌≡◌, ◌<◌, ◌≤◌, [], ◌∷◌, length, unwrap_or, IfOk, IfSome, MatchOption, Option, Some, None};
 ghost use Rattle.std.specs.Option.{option_map};
-ghost use Rattle.svc_text.specs.Words.{words, text_in};
+ghost use Rattle.svc_text.specs.Words.{text_in};
+ghost use Rattle.svc_base.specs.Words.{words};
 ghost use Rattle.svc_text.specs.EndpointOptions.{keepalive_of, option_of};
 ghost use Rattle.svc_text.specs.ServiceLines.{is_name, name_of, kind_of, numbers_of, is_address, address_of, boots, with_after, with_endpoint, with_claim, with_undeclared, ip_in, with_block, with_option_of, with_setting, with_address, with_item, with_items, service_of, is_eager, Takes};
 
-use crate::cuts::split_word;
 use crate::endpoint_lines::EndpointLines;
 use crate::lists::push_item;
 use crate::message_words::joined_of;
-use crate::numbers::{number, number8, number32};
 use std::alloc::Global;
 use std::str;
-use svc_conf::{Items, NoMemory, Numbers, Setting, Settings, TcpKeepalive, Text, Texts};
+use svc_base::{
+    Items, NoMemory, Numbers, Setting, Settings, TcpKeepalive, Text, Texts, number, number8,
+    number32, split_word,
+};
 use svc_graph::Kind;
 use svc_socket::{IpNumber, read_ip};
 

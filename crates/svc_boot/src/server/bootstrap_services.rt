@@ -3,7 +3,7 @@
 ghost use Rattle.std.specs.Prelude.{◌≡◌, ◌++◌, [], Some, None, true, codes, is_some, unwrap_or, OnOk, OnErr, IfOk};
 ghost use Rattle.std.specs.Borrow.{sem};
 ghost use Rattle.std.specs.Option.{option_copied};
-ghost use Rattle.svc_conf.specs.Items.{list_of};
+ghost use Rattle.svc_base.specs.Items.{list_of};
 ghost use Rattle.svc_graph.specs.declared.plan.Kind.TheVariants as kinds;
 ghost use Rattle.svc_fds.specs.Tables.{kept, unclaimed};
 ghost use Rattle.svc_boot.specs.BootEffects.{unbegun, begun_from, told_from, end_from};
@@ -14,7 +14,8 @@ use crate::boot::Boot;
 use std::alloc::Global;
 use std::collections::BTreeSet;
 use std::marker::Model;
-use svc_conf::{NoMemory, Opt, ServerConf, Text};
+use svc_base::{NoMemory, Text};
+use svc_conf::{Opt, ServerConf};
 use svc_fds::{Fd, Fds, MAX_RETRY};
 use svc_graph::services::{RunPoll, ServiceReadyNotifier, ServiceWithDependents, StartPoll};
 use svc_graph::{EndpointPlan, Kind};
@@ -114,7 +115,8 @@ impl Bootstrap {
     /// over. The parent is notified where its number was set and the run doesn't test. The caller puts
     /// what came into the table. A second call tells and changes nothing.
     pub fn bootstrap(&mut self, alloc: Global, actions: &mut Actions) -> Result<StepEnd, NoMemory>
-        ensures told { OnOk result (list_of actions.new ≡ list_of actions.old ++ told_from self.old.test (is_some self.old.parent) self.old.upgrade self.old.boot 0) }
+        ensures told { OnOk result (list_of actions.new ≡ list_of actions.old
+            ++ told_from self.old.test (is_some self.old.parent) self.old.upgrade self.old.boot 0) }
         ensures after { OnOk result (self.new ≡ record self.old { boot = begun_from self.old.test self.old.upgrade self.old.boot }) }
         ensures end { IfOk result (λ end. end ≡ end_from self.new.test self.new.boot) }
         ensures once { self.old.boot.begun ≡ true → (self.new ≡ self.old) × (list_of actions.new ≡ list_of actions.old) }

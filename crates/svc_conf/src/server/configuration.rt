@@ -15,13 +15,11 @@ mod values;
 mod words;
 mod yaml;
 
-use crate::items::Texts;
-use crate::memory::NoMemory;
-use crate::text::Text;
 pub use key::Key;
 pub use read_error::ReadError;
 pub use runtime::{RuntimeMetricsOpts, RuntimeMetricsPollTimeHistogramScale, RuntimeOpts};
 use std::alloc::Global;
+use svc_base::{NoMemory, Text, Texts};
 pub use words::OptError;
 
 const MAX_RUNTIME_METRICS_POLL_TIME_HISTOGRAM_BUCKETS: u64 = 1024;

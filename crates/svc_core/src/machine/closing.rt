@@ -2,7 +2,7 @@
 
 ghost use Rattle.std.specs.Prelude.{◌≡◌, ◌+◌, ◌≤◌, ◌++◌, length, map, Option};
 ghost use Rattle.std.specs.Option.{option_copied};
-ghost use Rattle.svc_conf.specs.Items.{list_of, spare};
+ghost use Rattle.svc_base.specs.Items.{list_of, spare};
 ghost use Rattle.svc_record.specs.declared.action.Action.TheVariants.{Close};
 ghost use Rattle.svc_record.specs.declared.entry.Entry.TheVariants.{Got};
 ghost use Rattle.svc_record.specs.Record.{Record};

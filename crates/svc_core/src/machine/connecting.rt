@@ -1,7 +1,7 @@
 //! What becomes of connections in a step.
 
 ghost use Rattle.std.specs.Prelude.{◌≡◌, ◌<◌, ◌≤◌, [], true, IfOk, OnErr, OnOk};
-ghost use Rattle.svc_conf.specs.Items.{list_of, spare};
+ghost use Rattle.svc_base.specs.Items.{list_of, spare};
 ghost use Rattle.svc_record.specs.Judging.{TellsJudged, judged_at};
 ghost use Rattle.svc_connections.specs.ConnectionsState.{is_setting, is_shaking, is_serving, stage_of};
 ghost use Rattle.svc_core.specs.Copies.{TellsBare, TellsCopied, copy_at};
@@ -12,7 +12,7 @@ ghost use Rattle.svc_core.specs.Rooms.{TellsWithin, KeepsRoom, tell_room, close_
 use super::Core;
 use crate::plans::verdict_on;
 use std::alloc::Global;
-use svc_conf::NoMemory;
+use svc_base::NoMemory;
 use svc_connections::{settings_of, take_accept_failed};
 use svc_record::{Actions, Event, StepEnd};
 use svc_socket::Peer;

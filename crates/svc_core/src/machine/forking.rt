@@ -1,7 +1,7 @@
 //! How a run begins, and what becomes of a daemon's fork.
 
 ghost use Rattle.std.specs.Prelude.{◌≡◌, ◌+◌, ◌*◌, ◌≤◌, length, not, true, false};
-ghost use Rattle.svc_conf.specs.Items.{list_of, spare};
+ghost use Rattle.svc_base.specs.Items.{list_of, spare};
 ghost use Rattle.svc_record.specs.declared.entry.Entry.TheVariants.{Got};
 ghost use Rattle.svc_record.specs.Ends.{is_parent_failure};
 ghost use Rattle.svc_boot.specs.ForkState.{is_free, is_asked, is_waiting};

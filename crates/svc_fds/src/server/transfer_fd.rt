@@ -18,7 +18,7 @@ use crate::words::{decode, has_repeat};
 use std::alloc::Global;
 use std::collections::BTreeSet;
 use std::marker::Model;
-use svc_conf::{Items, NoMemory, Text};
+use svc_base::{Items, NoMemory, Text};
 
 /// Numbers of descriptors.
 pub type FdList = Items<u64>;
@@ -135,7 +135,7 @@ fn take_unclaimed(entries: &mut Vec<(Text, Fd)>, keep: &BTreeSet<Text>, out: &mu
 
 impl Fds {
     ghost use Rattle.svc_fds.specs.Lists.{ArePairs, ListsRefusalFits};
-    ghost use Rattle.svc_conf.specs.Streams.{Rose};
+    ghost use Rattle.svc_base.specs.Streams.{Rose};
     ghost use Rattle.svc_fds.specs.Channels.{Tells};
     ghost use Rattle.svc_fds.specs.Transfers.{SendsTable, Loads, LoadsNot, copies, fresh, closes};
     ghost use Rattle.svc_fds.specs.Messages.{joined, IsEncodable, written, EncodeRefusalFits, IsMessage, table_of, DecodeRefusalFits};

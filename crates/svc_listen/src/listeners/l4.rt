@@ -5,7 +5,7 @@ ghost use Rattle.svc_listen.specs.Addresses.{text_of, is_unix, options_of};
 
 use std::alloc::Global;
 use std::convert::AsStr;
-use svc_conf::{NoMemory, Text};
+use svc_base::{NoMemory, Text};
 pub use svc_socket::TcpSocketOptions;
 
 mod arrivals;

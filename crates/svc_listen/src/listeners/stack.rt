@@ -69,7 +69,8 @@ impl TransportStack {
         from: &mut A,
     ) -> AcceptAnswer
         requires { IfSome self.now.endpoint.filter (λ number. number < length filters.old) }
-        ensures taken { Accepts A.seen F.verdict self.now.endpoint.address self.now.endpoint.filter (given_by self.now) from.old from.new filters.old filters.new result }
+        ensures taken { Accepts A.seen F.verdict self.now.endpoint.address self.now.endpoint.filter
+            (given_by self.now) from.old from.new filters.old filters.new result }
         ensures cause { AcceptCause result (A.seen from.old) (A.seen from.new) }
         ensures given { HasGiven (given_by self.now) result }
         ensures filters { length filters.new ≡ length filters.old }

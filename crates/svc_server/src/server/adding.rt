@@ -6,7 +6,7 @@ ghost use Rattle.svc_server.specs.Additions.{is_bad_address, is_unknown_filter, 
 
 use crate::server::refusals::AddError;
 use std::alloc::Global;
-use svc_conf::NoMemory;
+use svc_base::NoMemory;
 use svc_graph::services::ServiceWithDependents;
 use svc_graph::{DependencyGraph, EndpointPlan, NODE_LIMIT};
 

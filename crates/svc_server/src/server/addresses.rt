@@ -6,7 +6,7 @@ ghost use Rattle.svc_server.specs.Servers.{answers_of};
 ghost use Rattle.svc_server.specs.Addresses.{expected_of, with_missing};
 
 use std::alloc::Global;
-use svc_conf::{NoMemory, Text};
+use svc_base::{NoMemory, Text};
 use svc_graph::services::ServiceWithDependents;
 
 /// Appends the text, where it isn't among them.

@@ -4,13 +4,14 @@ ghost use Rattle.std.specs.Prelude.{◌≡◌, IfOk, MatchOption};
 ghost use Rattle.std.specs.Option.{option_map};
 ghost use Rattle.std.specs.Result.{IsErrOf};
 ghost use Rattle.svc_conf.specs.ConfigurationText.{loaded, Answers};
-ghost use Rattle.svc_conf.specs.FileCalls.{IsRead};
-ghost use Rattle.svc_conf.specs.Streams.{Rose};
+ghost use Rattle.svc_base.specs.FileCalls.{IsRead};
+ghost use Rattle.svc_base.specs.Streams.{Rose};
 ghost use Rattle.svc_server.specs.Making.{conf_path, fresh};
 
 use crate::server::Server;
 use std::alloc::Global;
-use svc_conf::{Files, Opt, ReadError, ServerConf};
+use svc_base::Files;
+use svc_conf::{Opt, ReadError, ServerConf};
 use svc_graph::services::ServiceWithDependents;
 use svc_streams::ConnectionFilter;
 

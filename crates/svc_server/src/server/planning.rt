@@ -6,7 +6,8 @@ ghost use Rattle.svc_server.specs.Servers.{answer_of, answers_of, depends_of, wi
 
 use crate::run::{Outcome, RunError};
 use std::alloc::Global;
-use svc_conf::{Items, NoMemory, Opt, Text, Texts};
+use svc_base::{Items, NoMemory, Text, Texts};
+use svc_conf::Opt;
 use svc_graph::DependencyGraph;
 use svc_graph::services::ServiceWithDependents;
 use svc_record::{ServiceList, ServicePlan};

@@ -1,6 +1,6 @@
 //! Why a service isn't added.
 
-use svc_conf::NoMemory;
+use svc_base::NoMemory;
 use svc_graph::ServiceHandle;
 use thiserror::Error;
 

@@ -6,7 +6,7 @@ ghost use Rattle.svc_socket.specs.DialerData.{DialerData, IsDialed};
 
 use crate::peer::PeerAddr;
 use std::alloc::Global;
-use svc_conf::{NoMemory, Text};
+use svc_base::{NoMemory, Text};
 
 /// Where a connect goes.
 #[derive(PartialEq, Eq, Debug, Drop)]

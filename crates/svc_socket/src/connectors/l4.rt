@@ -2,14 +2,14 @@
 
 ghost use Rattle.std.specs.Prelude.{◌≡◌, Err, OnErr, ◌⊎◌};
 ghost use Rattle.std.specs.Option.{option_copied};
-ghost use Rattle.svc_conf.specs.Streams.{Rose};
+ghost use Rattle.svc_base.specs.Streams.{Rose};
 ghost use Rattle.svc_socket.specs.Connects.{kind_of, error_of, outcome, outcome_uds, is_bind_error, is_unbound, second_from, Connects, ConnectsOnce, no_memory};
 
 use super::dialer::{BindTo, DialAnswer, DialFault, Dialer, OsFault, Target};
 use crate::peer::PeerAddr;
 use std::alloc::Global;
 use std::fmt;
-use svc_conf::Text;
+use svc_base::Text;
 use thiserror::Error;
 
 /// The kind of an error of a connect.

@@ -2,13 +2,12 @@
 
 ghost use Rattle.std.specs.Prelude.{◌≡◌, [], ◌∷◌, Some, IfOk};
 ghost use Rattle.std.specs.Option.{option_copied};
-ghost use Rattle.svc_calls.specs.Calls.{told_of, Adds};
+ghost use Rattle.svc_base.specs.Calls.{told_of, Adds};
 
 use super::dialer::{BindTo, DialAnswer, DialCall, DialFault, Dialer, Target};
 use crate::peer::PeerAddr;
 use std::alloc::Global;
-use svc_calls::Calls;
-use svc_conf::NoMemory;
+use svc_base::{Calls, NoMemory};
 
 fn note_dial(
     alloc: Global,

@@ -7,7 +7,7 @@ ghost use Rattle.svc_streams.specs.Verdicts.{verdict_at};
 
 use std::alloc::Global;
 use std::marker::Model;
-use svc_conf::NoMemory;
+use svc_base::NoMemory;
 use svc_socket::PeerAddr;
 
 /// Says which connections are taken.

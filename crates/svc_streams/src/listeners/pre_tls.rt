@@ -6,7 +6,7 @@ ghost use Rattle.svc_streams.specs.StreamPolls.{StreamPoll, IsPolled};
 use crate::protocols::l4::stream::{L4Stream, StepPoll};
 use std::alloc::Global;
 use std::marker::Model;
-use svc_conf::NoMemory;
+use svc_base::NoMemory;
 
 /// What is done with a connection before its TLS handshake.
 pub trait PreTlsProcess: Drop {

@@ -1,43 +1,10 @@
-//! A text is cut into lines, and a line where its blanks, its key and its comment end.
+//! A line is cut where its blanks, its key and its comment end.
 
-ghost use Rattle.std.specs.Prelude.{◌≡◌, ◌<◌, ◌≤◌, [], ◌∷◌, length, position, MatchOption, IfSome, true};
-ghost use Rattle.std.specs.Str.Lines.{lines, strip_carriage_return};
-ghost use Rattle.svc_conf.specs.TextLines.{is_feed, is_blank, is_key_byte, not_key_byte, key_len, past_blanks, is_silent, is_skipped, is_end, is_gap, before_comment, without_end};
+ghost use Rattle.std.specs.Prelude.{◌≡◌, ◌<◌, ◌≤◌, [], length, position, true};
+ghost use Rattle.svc_conf.specs.TextLines.{is_key_byte, not_key_byte, key_len, past_blanks, is_silent, is_skipped, is_end, is_gap, before_comment, without_end};
+ghost use Rattle.svc_base.specs.Words.{is_blank};
 
-fn feed_at(text: &[u8]) -> Option<usize>
-    ensures { result ≡ position is_feed text.now }
-{
-    text.iter().position(|b| *b == b'\n')
-}
-
-fn without_return(line: &[u8]) -> &[u8]
-    ensures { result.now ≡ strip_carriage_return line.now }
-{
-    match line {
-        [front @ .., b'\r'] => front,
-        _ => line,
-    }
-}
-
-/// The first line of a text, and what follows it.
-pub fn split_line(text: &[u8]) -> Option<(&[u8], &[u8])>
-    ensures first { MatchOption result (lines text.now ≡ []) (λ cut. lines text.now ≡ cut.0.now ∷ lines cut.1.now) }
-    ensures shorter { IfSome result (λ cut. length cut.1.now < length text.now) }
-{
-    if text.is_empty() {
-        return None;
-    }
-    match feed_at(text) {
-        None => Some((text, &[])),
-        Some(end) => Some((without_return(&text[..end]), &text[end + 1..])),
-    }
-}
-
-pub fn is_blank(b: u8) -> bool
-    ensures { result ≡ is_blank b }
-{
-    b == b' ' || b == b'\t'
-}
+use svc_base::is_blank;
 
 fn is_key_byte(b: u8) -> bool
     ensures { result ≡ is_key_byte b }

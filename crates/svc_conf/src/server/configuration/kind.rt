@@ -2,13 +2,15 @@
 
 ghost use Rattle.std.specs.Prelude.{◌≡◌, is_some, IfSome};
 ghost use Rattle.std.specs.Str.Lines.{lines};
-ghost use Rattle.svc_conf.specs.TextLines.{is_blank, first_is, is_start, is_key_line, key_in, after_key, is_item, after_dash, is_inner};
+ghost use Rattle.svc_conf.specs.TextLines.{first_is, is_start, is_key_line, key_in, after_key, is_item, after_dash, is_inner};
+ghost use Rattle.svc_base.specs.Words.{is_blank};
 ghost use Rattle.svc_conf.specs.ConfigurationText.{item_follows};
 ghost use Rattle.svc_conf.specs.Kinds.{key_kind, kind_of, kind_in};
 
-use super::cuts::{is_blank, is_end, is_gap, is_skipped, key_len, past_blanks, split_line};
+use super::cuts::{is_end, is_gap, is_skipped, key_len, past_blanks};
 use super::field::{Field, ListKey, field_of, key_of};
 use crate::server::configuration::Key;
+use svc_base::{is_blank, split_line};
 
 /// What a line is.
 #[derive(Clone, Copy)]

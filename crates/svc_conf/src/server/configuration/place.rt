@@ -10,10 +10,9 @@ use super::kind::{Kind, item_follows};
 use super::read_error::ReadError;
 use super::said::Said;
 use super::values::{Value, said_of, text_value, value_of};
-use crate::items::Items;
-use crate::memory::NoMemory;
 use crate::server::configuration::Key;
 use std::alloc::Global;
+use svc_base::{Items, NoMemory};
 
 /// What matters of the lines before a line.
 #[derive(Drop)]

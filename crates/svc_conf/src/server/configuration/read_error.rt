@@ -1,7 +1,7 @@
 //! Why a configuration isn't read.
 
-use crate::memory::NoMemory;
 use crate::server::configuration::Key;
+use svc_base::NoMemory;
 use thiserror::Error;
 
 /// Why a configuration isn't read.

@@ -3,22 +3,20 @@
 ghost use Rattle.std.specs.Prelude.{◌≡◌, ◌+◌, ◌<◌, ◌^◌, Ok, OnOk, IfOk, MatchOption, None};
 ghost use Rattle.std.specs.Str.Lines.{lines};
 
-use super::cuts::split_line;
 use super::kind::kind_in;
 use super::place::Place;
 use super::read_error::ReadError;
-use crate::files::{FileError, Files};
-use crate::memory::NoMemory;
 use crate::server::configuration::{Opt, ServerConf};
 use std::alloc::Global;
+use svc_base::{FileError, Files, NoMemory, split_line};
 
 impl ServerConf {
     ghost use Rattle.svc_conf.specs.Configuration.{defaults};
     ghost use Rattle.svc_conf.specs.Kinds.{kind_in, behind_line};
     ghost use Rattle.svc_conf.specs.ConfigurationText.{says, set_by, changed, configuration, valid, new_text, merged, merged_by, loaded, Answers};
     ghost use Rattle.std.specs.Result.{IsErrOf};
-    ghost use Rattle.svc_conf.specs.Streams.{Rose};
-    ghost use Rattle.svc_conf.specs.FileCalls.{IsRead};
+    ghost use Rattle.svc_base.specs.Streams.{Rose};
+    ghost use Rattle.svc_base.specs.FileCalls.{IsRead};
 
     /// Takes one more line, before this text.
     fn take_line(

@@ -5,11 +5,9 @@ ghost use Rattle.std.specs.List.{push};
 
 use super::field::{FlagKey, ListKey, NumberKey, OptionalNumberKey, OptionalTextKey, TextKey};
 use super::runtime::RuntimeMetricsPollTimeHistogramScale;
-use crate::items::Texts;
-use crate::memory::NoMemory;
 use crate::server::configuration::ServerConf;
-use crate::text::Text;
 use std::alloc::Global;
+use svc_base::{NoMemory, Text, Texts};
 
 /// The value of a key, or an item of a list.
 #[derive(Drop)]

@@ -3,16 +3,16 @@
 ghost use Rattle.std.specs.Prelude.{◌≡◌, ◌^◌, ◌≤◌, ◌==◌, [], ◌∷◌, length, false, IfOk, IfSome, MatchOption, None};
 ghost use Rattle.std.specs.Option.{option_map};
 ghost use Rattle.svc_conf.specs.TextLines.{first_is};
-ghost use Rattle.svc_conf.specs.Values.{single, double, escaped, behind, value_in, quoted_value, is_mark, has_colon, ends_in_colon, is_plain, plain_value, value_from, value_of, is_null_word, is_unset, has_spare_front, number_of, flag_in, scale_in, number_value, flag_value, scale_value, text_value, optional, may_be_zero, allowed, empty_list, said_of};
+ghost use Rattle.svc_conf.specs.Values.{single, double, escaped, behind, value_in, quoted_value, is_mark, has_colon, ends_in_colon, is_plain, plain_value, value_from, value_of, is_null_word, is_unset, flag_in, scale_in, number_value, flag_value, scale_value, text_value, optional, may_be_zero, allowed, empty_list, said_of};
+ghost use Rattle.svc_base.specs.Words.{number_of};
 
 use super::cuts::{before_comment, is_end, past_blanks, without_end};
 use super::field::{Field, OptionalNumberKey};
 use super::runtime::RuntimeMetricsPollTimeHistogramScale;
 use super::said::Said;
-use crate::memory::NoMemory;
-use crate::text::Text;
 use std::alloc::Global;
 use std::str;
+use svc_base::{NoMemory, Text, number};
 
 /// The value of a line: what it means, and whether it stood in quotes.
 #[derive(Drop)]
@@ -56,7 +56,8 @@ fn escaped(b: u8) -> Option<u8>
 
 /// The byte that the front of a text in double quotes stands for, and what follows it.
 fn meant(first: u8, after: &[u8]) -> Option<(u8, &[u8])>
-    ensures next { (first == 34) ≡ false → MatchOption result (double (first ∷ after.now) ≡ None) (λ m. double (first ∷ after.now) ≡ behind (m.0 ∷ []) (double m.1.now)) }
+    ensures next { (first == 34) ≡ false
+        → MatchOption result (double (first ∷ after.now) ≡ None) (λ m. double (first ∷ after.now) ≡ behind (m.0 ∷ []) (double m.1.now)) }
     ensures shorter { IfSome result (λ m. length m.1.now ≤ length after.now) }
 {
     if first != b'\\' {
@@ -207,24 +208,11 @@ fn is_unset(value: &Value) -> bool
     !value.quoted && (text.is_empty() || is_null_word(text))
 }
 
-fn has_spare_front(word: &[u8]) -> bool
-    ensures { result ≡ has_spare_front word.now }
-{
-    match word {
-        [b'+', ..] => true,
-        [b'0', ..] => word.len() > 1,
-        _ => false,
-    }
-}
-
 /// The number that a word spells: in decimal, without a sign or a leading zero.
 fn number_in(word: &str) -> Option<u64>
     ensures { result ≡ number_of (2 ^ 64) word.now }
 {
-    if has_spare_front(word.as_bytes()) {
-        return None;
-    }
-    word.parse::<u64>().ok()
+    number(word.as_bytes())
 }
 
 fn flag_in(text: &[u8]) -> Option<bool>

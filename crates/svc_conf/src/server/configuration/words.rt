@@ -6,13 +6,12 @@ ghost use Rattle.clap.specs.Simple.{app_of};
 ghost use Rattle.clap.specs.Words.{first_value, found_of};
 ghost use Rattle.svc_conf.specs.OptWords.{flag_rule, opt_app, is_true};
 
-use crate::memory::NoMemory;
 use crate::server::configuration::Opt;
-use crate::text::Text;
 use clap::error::ErrorKind;
 use clap::{Arg, ArgAction, ArgMatches, Command};
 use std::alloc::{AllocError, Global};
 use std::rc::RcStr;
+use svc_base::{NoMemory, Text};
 use thiserror::Error;
 
 /// Why words aren't the flags of a server.

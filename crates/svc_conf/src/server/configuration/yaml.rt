@@ -11,12 +11,10 @@ use super::field::{
 };
 use super::runtime::RuntimeMetricsPollTimeHistogramScale;
 use super::values::{ends_in_colon, is_null_word};
-use crate::items::Texts;
-use crate::memory::NoMemory;
 use crate::server::configuration::{Key, ServerConf};
-use crate::text::Text;
 use std::alloc::Global;
 use std::str;
+use svc_base::{NoMemory, Text, Texts};
 
 fn put(out: &mut Vec<u8>, bytes: &[u8]) -> Result<(), NoMemory>
     ensures { OnOk result (out.new.items ≡ out.old.items ++ bytes.now) }

@@ -1,5 +1,5 @@
 use Rattle.std.proofs.Common.{arith, ◌∙◌, ◌+◌}
-use Rattle.svc_conf.specs.Items.{list_of}
+use Rattle.svc_base.specs.Items.{list_of}
 use Rattle.svc_core.proofs.CopyLemmas.{bare-then}
 use Rattle.svc_core.proofs.PassLemmas.{passes-then}
 use Rattle.svc_core.proofs.pass.pass.Goals as goal

@@ -1,5 +1,5 @@
 use Rattle.std.proofs.Common.{◌+◌, ◌*◌, ◌≤◌, ◌≡◌, length}
-use Rattle.svc_conf.specs.Items.{list_of, spare}
+use Rattle.svc_base.specs.Items.{list_of, spare}
 use Rattle.svc_endpoints.specs.EndpointsState.{IsEndpointsSized}
 use Rattle.svc_core.specs.Copies.{TellsBare}
 use Rattle.svc_core.specs.StartsState.{IsStartsSized}

@@ -1,5 +1,5 @@
 use Rattle.std.proofs.Common.{sym, ◌∙◌}
-use Rattle.svc_conf.specs.Items.{list_of}
+use Rattle.svc_base.specs.Items.{list_of}
 use Rattle.svc_core.proofs.PassLemmas.{visit-passes, visit-tests, passes-stay}
 use Rattle.svc_core.proofs.pass.visit.Goals as goal
 

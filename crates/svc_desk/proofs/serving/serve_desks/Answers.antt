@@ -1,5 +1,5 @@
 use Rattle.std.proofs.Common.{rules, sym, ap, subst}
-use Rattle.svc_conf.specs.Items.{list_of}
+use Rattle.svc_base.specs.Items.{list_of}
 use Rattle.svc_record.specs.Validity.{IsValid}
 use Rattle.svc_desk.specs.Desks.{DeskData, IsPerformed}
 use Rattle.svc_desk.specs.Working.{IsWorked}

@@ -1,5 +1,5 @@
 use Rattle.std.proofs.Common.{◌≡◌, ℕ, ◌+◌, ◌≤◌, List, [], ◌++◌, length, Option, refl, ap, subst, arith, length-append}
-use Rattle.svc_conf.specs.Items.{list_of}
+use Rattle.svc_base.specs.Items.{list_of}
 use Rattle.svc_record.specs.declared.event.Event.{Event}
 use Rattle.svc_shared.specs.Posting.{seen_of, origin_of}
 use Rattle.svc_desk.specs.declared.worker.WorkEnd.{WorkEnd}

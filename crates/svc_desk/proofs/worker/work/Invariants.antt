@@ -1,5 +1,5 @@
 use Rattle.std.proofs.Common.{◌≡◌, ◌≤◌, List, [], length}
-use Rattle.svc_conf.specs.Items.{list_of}
+use Rattle.svc_base.specs.Items.{list_of}
 use Rattle.svc_shared.specs.Posting.{seen_of, origin_of}
 use Rattle.svc_desk.specs.Desks.{Grew}
 use Rattle.svc_desk.specs.Deeds.{Deed, LeavesOn, strays_from}

@@ -1,11 +1,9 @@
-use Rattle.std.proofs.Common.{Bool, true, false, ◌≡◌, [], sym, ap, ◌∙◌}
+use Rattle.std.proofs.Common.{true, ◌≡◌, [], sym, ap, ◌∙◌}
 use Rattle.svc_record.specs.Boot.{is_read}
 use Rattle.svc_record.specs.Descriptors.{words_or_none}
 use Rattle.svc_endpoints.proofs.DecodeLemmas.{decode-message, decode-refused}
 use Rattle.svc_endpoints.proofs.received.read.Goals as goal
-
-clash : (b : Bool) → b ≡ true → b ≡ false → ⊥
-clash b h g = cc
+use Rattle.svc_base.proofs.Logic.{clash}
 
 pub returns-in-Ok-clause-good : goal.returns-in-Ok-clause-good
 returns-in-Ok-clause-good c = sym (ap is_read (decode-message c.args.bytes.now c.args.count c.in-Ok.ensures.message))

@@ -1,6 +1,6 @@
 use Rattle.std.proofs.Common.{◌+◌, ◌∷◌, [], ◌++◌, List, take, sym, ap, ◌∙◌, subst, refl}
 use Rattle.std.proofs.lemmas.List.{take_more, take_all}
-use Rattle.svc_conf.specs.Items.{list_of}
+use Rattle.svc_base.specs.Items.{list_of}
 use Rattle.svc_handover.specs.declared.pair.PairStep.{PairStep}
 use Rattle.svc_handover.specs.Runs.{Runs}
 use Rattle.svc_handover.proofs.RunLemmas.{refuses, gives, same-number, no-memory-strays, ok-strays}

@@ -1,5 +1,5 @@
 use Rattle.std.proofs.Common.{◌≡◌, ◌++◌, take}
-use Rattle.svc_conf.specs.Items.{list_of}
+use Rattle.svc_base.specs.Items.{list_of}
 use Rattle.svc_handover.specs.Runs.{told_entries}
 use Rattle.svc_handover.proofs.recorded.append_told.Given as goal
 

@@ -1,4 +1,4 @@
-use Rattle.svc_conf.specs.Items.{list_of}
+use Rattle.svc_base.specs.Items.{list_of}
 use Rattle.svc_jobs.proofs.RunLemmas.{no_run}
 use Rattle.svc_jobs.proofs.timetable.run_one.Goals as goal
 

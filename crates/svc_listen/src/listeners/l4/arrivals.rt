@@ -9,7 +9,7 @@ ghost use Rattle.svc_listen.specs.Accepts.{given, Sets, Judges, Accepts, fresh};
 use super::ServerAddress;
 use crate::accepting::{Accepting, Arrival};
 use std::alloc::Global;
-use svc_conf::Bytes;
+use svc_base::Bytes;
 use svc_socket::{Setting, TcpSocketOptions};
 use svc_streams::{
     ConnectionFilter, Filters, L4BufferSettings, L4Stream, Peer, UninitializedStream,

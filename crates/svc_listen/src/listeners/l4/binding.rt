@@ -9,7 +9,7 @@ use super::ServerAddress;
 use crate::binder::{BindAnswer, Binder};
 use std::alloc::Global;
 use std::convert::AsStr;
-use svc_conf::{NoMemory, Text};
+use svc_base::{NoMemory, Text};
 use svc_fds::{Fd, Fds};
 use thiserror::Error;
 

@@ -1,7 +1,7 @@
 use Rattle.std.proofs.Common.{◌==◌, ◌^◌, [], length, ◌<◌, ◌≡◌, sym, ◌∙◌, arith}
 use Rattle.std.proofs.Math.ListN.{length-set}
 use Rattle.std.specs.List.{slice_split}
-use Rattle.svc_conf.specs.Values.{number_of}
+use Rattle.svc_base.specs.Words.{number_of}
 use Rattle.svc_socket.proofs.ManyLemmas.{no_number, stores_more, stores_all, too_many, too_few}
 use Rattle.svc_socket.proofs.reading.octets_in.Goals as goal
 

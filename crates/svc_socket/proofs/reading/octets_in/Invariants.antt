@@ -1,6 +1,6 @@
 use Rattle.std.proofs.Common.{◌≡◌, ◌==◌, length, ◌^◌, take}
 use Rattle.std.specs.List.{slice_split}
-use Rattle.svc_conf.specs.Values.{number_of}
+use Rattle.svc_base.specs.Words.{number_of}
 use Rattle.svc_socket.proofs.ManyLemmas.{HasRead}
 use Rattle.svc_socket.proofs.reading.octets_in.Given as goal
 

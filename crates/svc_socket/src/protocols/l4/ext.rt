@@ -7,7 +7,7 @@ ghost use Rattle.svc_socket.specs.OptionLists.{dscp_step, dscp_end, keepalive_st
 
 use crate::options::{Family, Options, SockOption};
 use std::alloc::Global;
-use svc_conf::{NoMemory, Setting, Settings, TcpKeepalive};
+use svc_base::{NoMemory, Setting, Settings, TcpKeepalive};
 use thiserror::Error;
 
 /// The greatest value that an option takes.
@@ -228,7 +228,8 @@ fn bind_end(family: Family, opt: &TcpSocketOptions) -> Result<(), OptionError>
 /// first failure. `TooLarge` where the backlog is over 2,147,483,647, `BindError` where one of the
 /// first two couldn't be set, and else the error of the call that sets it.
 pub fn apply_bind_options<O: Options>(o: &mut O, opt: &TcpSocketOptions) -> Result<(), OptionError>
-    ensures sets { Tries (is_large_backlog opt.now) (bind_steps (O.seen o.old).family opt.now) (bind_end (O.seen o.old).family opt.now) (O.seen o.old) (O.seen o.new) result }
+    ensures sets { Tries (is_large_backlog opt.now) (bind_steps (O.seen o.old).family opt.now) (bind_end (O.seen o.old).family opt.now) (O.seen o.old)
+        (O.seen o.new) result }
     ensures nothing { IsTrue (is_large_backlog opt.now) → o.new ≡ o.old }
     ensures cause { Causes (is_large_backlog opt.now) ((O.seen o.old).family ≡ Family.Other) (O.seen o.old).faults (O.seen o.new).faults result }
 {

@@ -4,7 +4,7 @@ ghost use Rattle.std.specs.Prelude.{List, length};
 ghost use Rattle.svc_socket.specs.VirtualSockets.{SocketCall, read, write, flush, shutdown, set_option, IsCalled, MovedWithin};
 
 use std::marker::Model;
-use svc_conf::TcpKeepalive;
+use svc_base::TcpKeepalive;
 
 /// What a poll of a stream answers.
 #[derive(Clone, Copy, PartialEq, Eq, Debug)]

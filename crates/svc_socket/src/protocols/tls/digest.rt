@@ -5,7 +5,7 @@ ghost use Rattle.std.specs.Option.{option_map};
 
 use std::alloc::Global;
 use std::marker::Model;
-use svc_conf::{Bytes, NoMemory, Text};
+use svc_base::{Bytes, NoMemory, Text};
 
 /// What a user keeps beside a TLS session. Contracts see it as an option.
 #[derive(Debug, Drop)]

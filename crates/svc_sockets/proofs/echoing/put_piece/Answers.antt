@@ -1,5 +1,5 @@
 use Rattle.std.proofs.Common.{◌∙◌, arith}
-use Rattle.svc_conf.proofs.Pieces.{put_more}
+use Rattle.svc_base.proofs.Pieces.{put_more}
 use Rattle.svc_sockets.proofs.echoing.put_piece.Goals as goal
 
 pub loop-at-preserved : goal.loop-at-preserved

@@ -3,7 +3,7 @@
 ghost use Rattle.std.specs.Prelude.{◌≡◌, Some, None};
 ghost use Rattle.svc_streams.specs.Buffers.{capacity_of};
 
-use svc_conf::Bytes;
+use svc_base::Bytes;
 pub use svc_socket::Peer;
 
 /// How many bytes are read ahead where no number is given.

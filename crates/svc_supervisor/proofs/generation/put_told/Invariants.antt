@@ -1,5 +1,5 @@
 use Rattle.std.proofs.Common.{◌≡◌, ◌≤◌, ◌+◌, ◌++◌, length}
-use Rattle.svc_conf.specs.Items.{list_of, spare}
+use Rattle.svc_base.specs.Items.{list_of, spare}
 use Rattle.svc_handover.specs.Runs.{told_entries}
 use Rattle.svc_supervisor.proofs.generation.put_told.Given as goal
 

@@ -1,7 +1,7 @@
 use Rattle.std.proofs.Common.{◌∙◌, length, sym, ap}
 use Rattle.std.proofs.lemmas.Bool.{eqb-true, eqb-false}
 use Rattle.svc_text.specs.EventLines.{hex_of}
-use Rattle.svc_text.proofs.WordLemmas.{rest_whole}
+use Rattle.svc_base.proofs.Pieces.{rest_whole}
 use Rattle.svc_text.proofs.HexLemmas.{behind, hex_of-more, hex_of-stops, hex_of-end, hex_of-odd}
 use Rattle.svc_text.proofs.message_words.hex_of.Goals as goal
 

@@ -3,7 +3,7 @@ use Rattle.std.specs.List.{slice_split}
 use Rattle.std.proofs.lemmas.List.{length_push}
 use Rattle.std.proofs.lemmas.Iterator.Consumers.{YieldsList-turn, YieldsList-end}
 use Rattle.std.proofs.lemmas.Iterator.Splits.{YieldsList-from_slice_split}
-use Rattle.svc_text.specs.Words.{number_of}
+use Rattle.svc_base.specs.Words.{number_of}
 use Rattle.svc_text.specs.NumberLists.{joined_of}
 use Rattle.svc_text.proofs.PieceLemmas.{read_by-more, read_by-stops, read_by-all}
 use Rattle.svc_text.proofs.message_words.joined_of.Goals as goal

@@ -1,6 +1,6 @@
 use Rattle.std.proofs.Common.{◌≡◌, Some, length, take, ◌^◌, ◌==◌}
 use Rattle.std.specs.List.{slice_split}
-use Rattle.svc_text.specs.Words.{number_of}
+use Rattle.svc_base.specs.Words.{number_of}
 use Rattle.svc_text.proofs.PieceLemmas.{read_by}
 use Rattle.svc_text.proofs.message_words.joined_of.Given as goal
 

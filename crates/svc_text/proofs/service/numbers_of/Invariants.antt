@@ -1,6 +1,6 @@
 use Rattle.std.proofs.Common.{◌≡◌, Some, length, take, map, ◌^◌, ◌==◌}
 use Rattle.std.specs.List.{slice_split}
-use Rattle.svc_text.specs.Words.{number_of}
+use Rattle.svc_base.specs.Words.{number_of}
 use Rattle.svc_text.specs.NumberLists.{all_some}
 use Rattle.svc_text.proofs.service.numbers_of.Given as goal
 

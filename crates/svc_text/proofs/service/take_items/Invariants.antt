@@ -1,5 +1,5 @@
 use Rattle.std.proofs.Common.{◌≡◌, length}
-use Rattle.svc_text.specs.Words.{words}
+use Rattle.svc_base.specs.Words.{words}
 use Rattle.svc_text.specs.ServiceLines.{with_items}
 use Rattle.svc_text.proofs.service.take_items.Given as goal
 

@@ -1,5 +1,5 @@
 use Rattle.std.proofs.Common.{◌≤◌, ◌++◌, [], ◌∷◌, List, length, refl, ap, ◌∙◌, arith}
-use Rattle.svc_conf.specs.Items.{list_of}
+use Rattle.svc_base.specs.Items.{list_of}
 use Rattle.svc_record.specs.Journal.{PostData, post}
 use Rattle.svc_book.proofs.Recording.{Grows, grows}
 use Rattle.svc_book.proofs.book.Book.post.Goals as goal

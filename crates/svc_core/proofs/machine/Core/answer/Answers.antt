@@ -1,5 +1,5 @@
 use Rattle.std.proofs.Common.{subst, sym, ◌∙◌}
-use Rattle.svc_conf.specs.Items.{list_of}
+use Rattle.svc_base.specs.Items.{list_of}
 use Rattle.svc_record.specs.Record.{Record, tell}
 use Rattle.svc_record.specs.Told.{Tells}
 use Rattle.svc_core.specs.CoreData.{CoreData}

@@ -1,5 +1,5 @@
 use Rattle.std.proofs.Common.{subst, sym, ap, refl, ◌∙◌}
-use Rattle.svc_conf.specs.Items.{list_of}
+use Rattle.svc_base.specs.Items.{list_of}
 use Rattle.svc_core.specs.CoreData.{CoreData}
 use Rattle.svc_core.specs.Stands.{HasNotBegun}
 use Rattle.svc_core.proofs.HeldLemmas.{begin-daemon}

@@ -1,5 +1,5 @@
 use Rattle.std.proofs.Common.{sym, ◌∙◌}
-use Rattle.svc_conf.specs.Items.{list_of}
+use Rattle.svc_base.specs.Items.{list_of}
 use Rattle.svc_core.proofs.BeginLemmas.{begin-first}
 use Rattle.svc_core.proofs.JudgedLemmas.{unjudged-bare}
 use Rattle.svc_core.proofs.machine.Core.begin.Goals as goal

@@ -1,4 +1,4 @@
-use Rattle.svc_conf.specs.Items.{list_of}
+use Rattle.svc_base.specs.Items.{list_of}
 use Rattle.svc_core.proofs.TailLemmas.{closes-open, closes-brought}
 use Rattle.svc_core.proofs.machine.Core.close_all.Goals as goal
 

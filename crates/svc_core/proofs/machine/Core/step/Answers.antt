@@ -1,5 +1,5 @@
 use Rattle.std.proofs.lemmas.Result.{on_ok_weaker}
-use Rattle.svc_conf.specs.Items.{list_of}
+use Rattle.svc_base.specs.Items.{list_of}
 use Rattle.svc_record.specs.declared.event.Event.TheVariants.{Moment, Connected}
 use Rattle.svc_core.specs.Copies.{copy_at, message_at}
 use Rattle.svc_core.proofs.CopyLemmas.{copied-bare}

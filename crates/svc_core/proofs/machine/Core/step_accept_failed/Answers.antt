@@ -1,5 +1,5 @@
 use Rattle.std.proofs.Common.{subst, refl}
-use Rattle.svc_conf.specs.Items.{list_of}
+use Rattle.svc_base.specs.Items.{list_of}
 use Rattle.svc_record.specs.declared.event.Event.TheVariants.{AcceptFailed}
 use Rattle.svc_connections.specs.ConnectionsEffects.{rest_told}
 use Rattle.svc_core.specs.CoreData.{CoreData}

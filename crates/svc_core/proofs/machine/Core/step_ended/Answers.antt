@@ -1,6 +1,6 @@
 use Rattle.std.proofs.Common.{subst}
 use Rattle.std.specs.Prelude.{None}
-use Rattle.svc_conf.specs.Items.{list_of}
+use Rattle.svc_base.specs.Items.{list_of}
 use Rattle.svc_core.specs.CoreData.{CoreData}
 use Rattle.svc_core.specs.StartsState.{end_taken}
 use Rattle.svc_record.specs.declared.event.Event.TheVariants.{Ended}

@@ -1,5 +1,5 @@
 use Rattle.std.proofs.Common.{subst, refl, sym, [], append-nil, ◌≤◌, arith}
-use Rattle.svc_conf.specs.Items.{list_of, spare}
+use Rattle.svc_base.specs.Items.{list_of, spare}
 use Rattle.svc_record.specs.declared.event.Event.TheVariants.{Finished}
 use Rattle.svc_core.specs.CoreData.{CoreData}
 use Rattle.svc_core.specs.Stands.{StepKeeps}

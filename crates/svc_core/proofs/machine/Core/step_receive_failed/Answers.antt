@@ -1,6 +1,6 @@
 use Rattle.std.proofs.Common.{subst, ap, refl}
 use Rattle.std.specs.Prelude.{None}
-use Rattle.svc_conf.specs.Items.{list_of}
+use Rattle.svc_base.specs.Items.{list_of}
 use Rattle.svc_core.specs.CoreData.{CoreData}
 use Rattle.svc_boot.specs.BootData.{BootData}
 use Rattle.svc_record.specs.declared.event.Event.TheVariants.{ReceiveFailed}

@@ -1,5 +1,5 @@
 use Rattle.std.proofs.Common.{subst, refl, sym, ◌≤◌, arith}
-use Rattle.svc_conf.specs.Items.{list_of, spare}
+use Rattle.svc_base.specs.Items.{list_of, spare}
 use Rattle.svc_record.specs.declared.event.Event.TheVariants.{Set}
 use Rattle.svc_connections.specs.ConnectionsEffects.{set_told}
 use Rattle.svc_core.specs.CoreData.{CoreData}

@@ -1,6 +1,6 @@
 use Rattle.std.proofs.Common.{subst, sym, ap, ◌∙◌}
 use Rattle.std.specs.Prelude.{None, is_some}
-use Rattle.svc_conf.specs.Items.{list_of}
+use Rattle.svc_base.specs.Items.{list_of}
 use Rattle.svc_core.specs.CoreData.{CoreData}
 use Rattle.svc_record.specs.declared.event.Event.TheVariants.{Signal}
 use Rattle.svc_core.specs.Stands.{StepKeeps}

@@ -1,4 +1,4 @@
-use Rattle.svc_conf.specs.Items.{list_of}
+use Rattle.svc_base.specs.Items.{list_of}
 use Rattle.svc_core.proofs.CopyLemmas.{rest-copied}
 use Rattle.svc_core.proofs.machine.Core.step_twice.Goals as goal
 

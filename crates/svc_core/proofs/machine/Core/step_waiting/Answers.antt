@@ -1,5 +1,5 @@
 use Rattle.std.proofs.Common.{subst}
-use Rattle.svc_conf.specs.Items.{list_of}
+use Rattle.svc_base.specs.Items.{list_of}
 use Rattle.svc_record.specs.declared.event.Event.TheVariants.{Moment}
 use Rattle.svc_core.specs.CoreData.{CoreData}
 use Rattle.svc_core.specs.Stands.{StepKeeps}

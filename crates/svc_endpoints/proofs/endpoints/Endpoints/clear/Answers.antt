@@ -1,5 +1,5 @@
 use Rattle.std.proofs.Common.{arith, ap, ◌∙◌, ◌++◌, map, length}
-use Rattle.svc_conf.specs.Items.{list_of}
+use Rattle.svc_base.specs.Items.{list_of}
 use Rattle.svc_record.specs.declared.action.Action.TheVariants.{Close}
 use Rattle.svc_endpoints.specs.EndpointsData.{EndpointsData, EndpointsRoom}
 use Rattle.svc_endpoints.specs.Effects.{goes, gone_numbers, cleared}

@@ -1,5 +1,5 @@
 use Rattle.std.proofs.Common.{arith, sym, ◌∙◌}
-use Rattle.svc_conf.specs.Items.{list_of}
+use Rattle.svc_base.specs.Items.{list_of}
 use Rattle.svc_endpoints.proofs.GatherLemmas.{closes-new, closes-old}
 use Rattle.svc_endpoints.proofs.endpoints.Endpoints.close_new.Goals as goal
 use Rattle.svc_endpoints.proofs.endpoints.Endpoints.close_new.Goals.{then-is_new_after, else-is_new_after}

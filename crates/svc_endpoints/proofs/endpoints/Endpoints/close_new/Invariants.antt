@@ -1,8 +1,8 @@
 use Rattle.std.proofs.Common.{◌≡◌, ◌≤◌, ◌+◌, ◌++◌, map, filter, not, take}
-use Rattle.svc_conf.specs.Items.{list_of, spare}
+use Rattle.svc_base.specs.Items.{list_of, spare}
 use Rattle.svc_record.specs.declared.action.Action.TheVariants.{Close}
 use Rattle.svc_record.specs.Tail.{each_once}
-use Rattle.svc_endpoints.specs.EndpointsState.{is_in}
+use Rattle.svc_base.specs.NumberSets.{is_in}
 use Rattle.svc_endpoints.proofs.endpoints.Endpoints.close_new.Given as goal
 
 abbrev pub invariant-loop-k : goal.invariant-loop-k

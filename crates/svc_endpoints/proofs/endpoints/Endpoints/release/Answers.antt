@@ -1,4 +1,4 @@
-use Rattle.svc_conf.specs.Items.{list_of}
+use Rattle.svc_base.specs.Items.{list_of}
 use Rattle.svc_endpoints.proofs.ReleaseLemmas.{tells-release, few-release}
 use Rattle.svc_endpoints.proofs.endpoints.Endpoints.release.Goals as goal
 

@@ -1,5 +1,5 @@
 use Rattle.std.proofs.Common.{true, refl}
-use Rattle.svc_conf.specs.Items.{list_of}
+use Rattle.svc_base.specs.Items.{list_of}
 use Rattle.svc_record.specs.declared.event.Event.TheVariants.{AdoptFailed}
 use Rattle.svc_endpoints.specs.Effects.{adopt_failed}
 use Rattle.svc_endpoints.proofs.AnswerLemmas.{tells-answer, few-answer, after-adopt_failed}

@@ -1,5 +1,5 @@
 use Rattle.std.proofs.Common.{sym}
-use Rattle.svc_conf.specs.Items.{list_of}
+use Rattle.svc_base.specs.Items.{list_of}
 use Rattle.svc_record.specs.declared.event.Event.TheVariants.{InUse}
 use Rattle.svc_endpoints.specs.Effects.{refused}
 use Rattle.svc_endpoints.proofs.AnswerLemmas.{tells-answer_at, few-answer, after-in_use, table-refused}

@@ -1,4 +1,4 @@
-use Rattle.svc_conf.specs.Items.{list_of}
+use Rattle.svc_base.specs.Items.{list_of}
 use Rattle.svc_endpoints.proofs.EndedLemmas.{tells-ended, few-ended}
 use Rattle.svc_endpoints.proofs.endpoints.Endpoints.take_loop_ended.Goals as goal
 

@@ -1,5 +1,5 @@
 use Rattle.std.proofs.Common.{arith, ap, ◌∙◌, ◌++◌, length, map}
-use Rattle.svc_conf.specs.Items.{list_of}
+use Rattle.svc_base.specs.Items.{list_of}
 use Rattle.svc_record.specs.declared.action.Action.TheVariants.{Close}
 use Rattle.svc_endpoints.specs.EndpointsState.{all_new}
 use Rattle.svc_endpoints.specs.Effects.{turns_away, opens_of, put_opens, put_numbers, without_numbers}

@@ -1,7 +1,7 @@
 use Rattle.std.proofs.Common.{arith, sym, ap, ◌∙◌, ◌≡◌, true, false, drop, get_or, ◌∷◌, ◌+◌, slice_get, if◌then◌else◌}
 use Rattle.std.proofs.lemmas.List.{drop_more}
-use Rattle.svc_conf.specs.Items.{list_of}
-use Rattle.svc_record.specs.Drain.{put_number}
+use Rattle.svc_base.specs.Items.{list_of}
+use Rattle.svc_base.specs.NumberSets.{put_number}
 use Rattle.svc_endpoints.specs.EndpointsState.{all_new}
 use Rattle.svc_endpoints.specs.Effects.{passes, turns_away, numbers_out, opens_of, put_numbers}
 use Rattle.svc_endpoints.proofs.GatherLemmas.{new-more, new-rest, out-next}

@@ -1,5 +1,5 @@
 use Rattle.std.proofs.Common.{◌≡◌, ◌≤◌, ◌+◌, length, drop, true}
-use Rattle.svc_conf.specs.Items.{list_of, spare}
+use Rattle.svc_base.specs.Items.{list_of, spare}
 use Rattle.svc_endpoints.specs.EndpointsState.{all_new}
 use Rattle.svc_endpoints.specs.Effects.{turns_away, numbers_out, opens_of, put_numbers}
 use Rattle.svc_endpoints.proofs.endpoints.Endpoints.turn_away.Given as goal

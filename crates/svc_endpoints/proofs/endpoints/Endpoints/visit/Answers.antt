@@ -1,4 +1,4 @@
-use Rattle.svc_conf.specs.Items.{list_of}
+use Rattle.svc_base.specs.Items.{list_of}
 use Rattle.svc_endpoints.proofs.VisitedLemmas.{tells-visit}
 use Rattle.svc_endpoints.proofs.endpoints.Endpoints.visit.Goals as goal
 

@@ -1,5 +1,5 @@
 use Rattle.std.proofs.Common.{ap, List, ℕ}
-use Rattle.svc_conf.specs.Items.{list_of}
+use Rattle.svc_base.specs.Items.{list_of}
 use Rattle.svc_endpoints.specs.declared.table.Open.{Open}
 use Rattle.svc_endpoints.specs.Effects.{put_open}
 use Rattle.svc_endpoints.proofs.TableLemmas.{insert-put_open}

@@ -1,5 +1,5 @@
 use Rattle.std.proofs.Common.{◌≡◌, ◌≤◌, ◌+◌, length, drop}
-use Rattle.svc_conf.specs.Items.{list_of, spare}
+use Rattle.svc_base.specs.Items.{list_of, spare}
 use Rattle.svc_endpoints.specs.Effects.{put_opens, opens_of, without_numbers}
 use Rattle.svc_endpoints.proofs.table.Table.add_rest.Given as goal
 

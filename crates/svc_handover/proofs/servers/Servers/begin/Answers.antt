@@ -1,5 +1,5 @@
 use Rattle.std.proofs.Common.{List, ap, ◌∙◌}
-use Rattle.svc_conf.specs.Items.{list_of}
+use Rattle.svc_base.specs.Items.{list_of}
 use Rattle.svc_record.specs.declared.action.Action.{Action}
 use Rattle.svc_handover.specs.declared.pair.ChannelState.TheVariants.{Missing}
 use Rattle.svc_handover.specs.Channel.{after_told}

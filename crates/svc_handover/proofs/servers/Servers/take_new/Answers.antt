@@ -1,5 +1,5 @@
 use Rattle.std.proofs.Common.{List, refl, ap, ◌∙◌}
-use Rattle.svc_conf.specs.Items.{list_of}
+use Rattle.svc_base.specs.Items.{list_of}
 use Rattle.svc_record.specs.declared.action.Action.{Action}
 use Rattle.svc_handover.specs.declared.pair.ChannelState.{ChannelState}
 use Rattle.svc_handover.specs.Channel.{after_new, after_told}

@@ -1,5 +1,5 @@
 use Rattle.std.proofs.Common.{refl}
-use Rattle.svc_conf.specs.Items.{list_of}
+use Rattle.svc_base.specs.Items.{list_of}
 use Rattle.svc_handover.proofs.RunLemmas.{grows-old}
 use Rattle.svc_handover.proofs.servers.Servers.take_old.Goals as goal
 

@@ -1,5 +1,5 @@
 use Rattle.std.proofs.Common.{arith, sym, subst, List, [], false}
-use Rattle.svc_conf.specs.Items.{spare}
+use Rattle.svc_base.specs.Items.{spare}
 use Rattle.svc_jobs.specs.declared.plan.JobRun.{JobRun}
 use Rattle.svc_jobs.specs.Timetables.{IsTimetableOf, periods_of}
 use Rattle.svc_jobs.proofs.TableLemmas.{table_new, paced_new}

@@ -1,7 +1,7 @@
 use Rattle.std.proofs.Common.{sym, ap, ◌∙◌, Vec, List, ℕ, Global}
 use Rattle.std.specs.Prelude.{Option}
 use Rattle.std.specs.Option.{option_map}
-use Rattle.svc_conf.specs.declared.text.Text.{Text}
+use Rattle.svc_base.specs.declared.text.Text.{Text}
 use Rattle.svc_server.proofs.AddressLemmas.{seen-more, expected-none, expected-all}
 use Rattle.svc_server.proofs.server.addresses.expected_addresses.Goals as goal
 

@@ -1,5 +1,5 @@
 use Rattle.std.proofs.Common.{refl}
-use Rattle.svc_conf.specs.Items.{list_of}
+use Rattle.svc_base.specs.Items.{list_of}
 use Rattle.svc_streams.specs.Verdicts.{verdict_at}
 use Rattle.svc_server.specs.Handing.{names_by}
 use Rattle.svc_server.proofs.HandLemmas.{hands-same}

@@ -1,5 +1,5 @@
 use Rattle.std.proofs.Common.{None}
-use Rattle.svc_conf.specs.Items.{list_of}
+use Rattle.svc_base.specs.Items.{list_of}
 use Rattle.svc_server.specs.Handing.{names_by}
 use Rattle.svc_server.proofs.CloseLemmas.{may-close, closed}
 use Rattle.svc_server.proofs.turns.Machine.close.Goals as goal

@@ -1,5 +1,5 @@
 use Rattle.std.proofs.Common.{Some, Option, List, length, ap, subst, sym, arith}
-use Rattle.svc_conf.specs.Items.{list_of}
+use Rattle.svc_base.specs.Items.{list_of}
 use Rattle.svc_record.specs.declared.action.Action.{Action}
 use Rattle.svc_record.specs.declared.event.Event.{Event}
 use Rattle.svc_server.specs.declared.host.Next.TheVariants as nexts

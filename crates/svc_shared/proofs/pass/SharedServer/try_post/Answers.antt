@@ -1,5 +1,5 @@
 use Rattle.std.proofs.Common.{refl, ◌≡◌, ◌∙◌, subst, ℕ}
-use Rattle.svc_conf.specs.Items.{list_of}
+use Rattle.svc_base.specs.Items.{list_of}
 use Rattle.svc_record.specs.Journal.{post}
 use Rattle.svc_shared.specs.declared.pass.Posted.{Posted}
 use Rattle.svc_shared.specs.declared.refusals.PostRefused.{PostRefused}

@@ -1,5 +1,5 @@
 use Rattle.std.proofs.Common.{sym, ◌∙◌}
-use Rattle.svc_calls.proofs.CallLemmas.{Adds-then}
+use Rattle.svc_base.proofs.CallLemmas.{Adds-then}
 use Rattle.svc_socket.proofs.connectors.l4.connect.Goals as goal
 
 pub returns-clause-connects : goal.returns-clause-connects

@@ -4,7 +4,7 @@ ghost use Rattle.std.specs.Prelude.{◌≡◌, None};
 
 use super::CertWrapper;
 use std::fmt;
-use svc_conf::Text;
+use svc_base::Text;
 
 /// A certificate and its key. It prints nothing.
 #[derive(Clone, Copy, PartialEq, Eq, Hash, Drop)]

@@ -1,5 +1,5 @@
 use Rattle.std.proofs.Common.{List, refl, subst}
-use Rattle.svc_conf.specs.declared.settings.Setting.{Setting}
+use Rattle.svc_base.specs.declared.settings.Setting.{Setting}
 use Rattle.svc_listen.specs.Accepts.{none_yet, failed, refused, unset, taken, AllSet, SetFails}
 use Rattle.svc_listen.proofs.listeners.l4.arrivals.take_arrival.Goals as goal
 

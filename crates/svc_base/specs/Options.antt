@@ -1,0 +1,7 @@
+-- What follows from values that may be missing.
+use Rattle.std.specs.Prelude.{Option, option_and_then}
+
+-- what follows from the first, where both are there
+infixl 10 ◌>>=◌
+abbrev pub ◌>>=◌ : {A B : Type 0} → Option A → (A → Option B) → Option B
+o >>= f = option_and_then f o

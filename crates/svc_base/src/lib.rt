@@ -1,0 +1,32 @@
+//! What every crate stands on: want of memory, texts, lists, sets of numbers, lines and words of
+//! texts, settings, told calls, and sources and sinks of bytes that count their faults.
+#![tactic(auto)]
+
+mod calls;
+mod decimals;
+mod equality;
+mod files;
+mod items;
+mod memory;
+mod number_set;
+mod settings;
+mod sink;
+mod source;
+mod status;
+mod text;
+mod words;
+
+pub use calls::Calls;
+pub use decimals::{number, number8, number16, number32};
+pub use files::{FileCall, FileError, Files, MemoryFile, MemoryFiles, SteadyFiles, SystemFiles};
+pub use items::{Bytes, ItemRefused, Items, Numbers, Reserved, Settings, Texts};
+pub use memory::NoMemory;
+pub use number_set::NumberSet;
+pub use settings::{Setting, TcpKeepalive};
+pub use sink::{MemorySink, Put, Sink, SteadySink, WriteFault, Writing, write_all};
+pub use source::{
+    MemorySource, READ_LIMIT, ReadAllError, Reading, Source, SteadySource, Taken, read_all,
+};
+pub use status::Status;
+pub use text::Text;
+pub use words::{is_blank, split_line, split_word};
