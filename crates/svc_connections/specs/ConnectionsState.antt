@@ -5,7 +5,7 @@ use Rattle.svc_record.specs.declared.plan.Plan.{Plan}
 use Rattle.svc_record.specs.Record.{Record, has, is_runtimes, EachEntry}
 use Rattle.svc_record.specs.Asks.{is_settings_open, is_handshake_open, is_set, is_shaken}
 use Rattle.svc_record.specs.Connections.{arrived_numbers, is_arrival, is_serve, is_cut, is_finished, goes_on, live_connections, ConnRight, connection_known}
-use Rattle.svc_base.specs.NumberSets.{ascending, distinct}
+use Rattle.svc_base.specs.NumberSets.{ascending, is_in, distinct}
 use Rattle.svc_connections.specs.declared.stage.Connection.{Connection}
 use Rattle.svc_connections.specs.declared.stage.Stage.{Stage}
 use Rattle.svc_connections.specs.declared.stage.Stage.TheVariants.{Setting, Shaking, Serving}

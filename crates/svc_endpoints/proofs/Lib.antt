@@ -36,3 +36,4 @@ pub mod ReceivedLists
 pub mod ReceivedStands
 pub mod ReceivedTells
 pub mod MessageLemmas
+pub mod WordLemmas
