@@ -14,3 +14,4 @@ pub mod MadeRows
 pub mod MadeThrough
 pub mod MadeCounts
 pub mod MadeRuns
+pub mod LineEnds

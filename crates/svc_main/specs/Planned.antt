@@ -1,5 +1,6 @@
 -- What a script's server is run by.
-use Rattle.std.specs.Prelude.{◌≡◌, ℕ, List, [], ◌∷◌, ◌++◌, codes, Option, Some, None, Result, Ok, Err}
+use Rattle.std.specs.Prelude.{◌≡◌, ◌⊎◌, ℕ, List, [], ◌∷◌, ◌++◌, codes, Option, Some, None, Result, Ok, Err}
+use Rattle.svc_base.specs.Words.{EndsLine}
 use Rattle.svc_conf.specs.declared.server.configuration.key.Key.{Key}
 use Rattle.svc_record.specs.declared.plan.Plan.{Plan}
 use Rattle.svc_record.specs.Validity.{IsValid}
@@ -12,3 +13,7 @@ part_lines ls = ls ++ codes "%events" ∷ []
 abbrev pub Judged : Option Key → Result (Unit {0}) Key → Plan → Type 0
 Judged (Some key) judged plan = judged ≡ Err key
 Judged None judged plan = (judged ≡ Ok tt) × IsValid plan
+
+-- the text is empty, or its last line ends with a line feed
+abbrev pub IsEnded : List ℕ → Type 0
+IsEnded text = (text ≡ []) ⊎ EndsLine text

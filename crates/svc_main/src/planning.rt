@@ -13,7 +13,7 @@ ghost use Rattle.svc_text.specs.Outcome.{Gives, parts_of};
 ghost use Rattle.svc_text.specs.Script.{script_of, AreLines};
 ghost use Rattle.svc_text.specs.ScriptPlans.{plan_of};
 ghost use Rattle.svc_text.specs.declared.parsing.ScriptError.TheVariants as errors;
-ghost use Rattle.svc_main.specs.Planned.{Judged, part_lines};
+ghost use Rattle.svc_main.specs.Planned.{IsEnded, Judged, part_lines};
 
 use crate::services::{configured, server_of_script};
 use std::alloc::{AllocError, Global};
@@ -32,6 +32,19 @@ pub struct PlannedScript {
     pub refused: Option<Key>,
 }
 
+/// Ends the last line of a text with a line feed, if it isn't ended yet. Its lines stay as they are.
+fn end_line(bytes: &mut Vec<u8>) -> Result<(), AllocError>
+    ensures lines { OnOk result (lines bytes.new.items ≡ lines bytes.old.items) }
+    ensures ended { OnOk result (IsEnded bytes.new.items) }
+{
+    match bytes.last() {
+        None | Some(b'\n') => {}
+        Some(b'\r') => bytes.extend_from_slice(b"\r\n")?,
+        Some(_) => bytes.push(b'\n')?,
+    }
+    Ok(())
+}
+
 /// A text with one more line, which has no line feed.
 pub fn with_line(alloc: Global, text: &[u8], line: &[u8]) -> Result<Vec<u8>, AllocError>
     requires some { 0 < length line.now }
@@ -40,9 +53,7 @@ pub fn with_line(alloc: Global, text: &[u8], line: &[u8]) -> Result<Vec<u8>, All
 {
     let mut bytes = Vec::new(alloc);
     bytes.extend_from_slice(text)?;
-    if !matches!(text.last(), None | Some(b'\n')) {
-        bytes.push(b'\n')?;
-    }
+    end_line(&mut bytes)?;
     bytes.extend_from_slice(line)?;
     Ok(bytes)
 }

@@ -6,3 +6,4 @@ pub mod CarryLemmas
 pub mod LinkedLemmas
 pub mod PlaceLemmas
 pub mod ClosingLemmas
+pub mod ChainLemmas

@@ -7,10 +7,11 @@ use Rattle.svc_record.specs.declared.plan.Plan.{Plan}
 use Rattle.svc_record.specs.declared.action.StepEnd.{StepEnd}
 use Rattle.svc_record.specs.declared.entry.Entry.TheVariants.{Got}
 use Rattle.svc_record.specs.declared.event.Event.{Event}
-use Rattle.svc_record.specs.Record.{has, is_signal}
+use Rattle.svc_record.specs.Record.{Record, has, is_signal}
 use Rattle.svc_record.specs.Boot.{is_open_receiver}
 use Rattle.svc_record.specs.Fits.{Fits, fits}
 use Rattle.svc_core.specs.Stands.{StandsFor}
+use Rattle.svc_base.proofs.Logic.{bool_same}
 use Rattle.svc_handover.specs.Channel.{channel_of, reached, is_taken, is_receipt, is_sent, is_join, old_may}
 use Rattle.svc_supervisor.specs.declared.generation.Generation.{Generation}
 use Rattle.svc_supervisor.specs.declared.marks.Marks.{Marks}
@@ -24,10 +25,9 @@ pub unless-err : {X E : Type 0} (r : Result X E) (P : Type 0) → is_err r ≡ f
 unless-err (Ok x) P h p = p
 unless-err (Err e) P h p = absurd (cc)
 
-pub decided : (b x : Bool) → ((b ≡ true) ↔ (x ≡ true)) → b ≡ x
-decided true x h = sym (h.0 refl)
-decided false true h = h.1 refl
-decided false false h = refl
+-- the test of an event by the core is that by its record
+pub fits-here : (g : Generation) (e : Event) (b : Bool) → ((q : Record) → StandsFor g.core q → (b ≡ true) ↔ Fits g.core.plan q e) → Stands g → b ≡ fits g.core.plan (history g) e
+fits-here g e b means s = bool_same b (fits g.core.plan (history g) e) (means (history g) s.stands).0 (means (history g) s.stands).1
 
 -- what holds of the one at a place
 pub here-is : {X : Type 0} (xs : List X) (k : ℕ) (x : X) → k < length xs → x ≡ get_or xs k x → slice_get xs k ≡ Some x

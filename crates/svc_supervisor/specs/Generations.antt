@@ -9,6 +9,7 @@ use Rattle.svc_record.specs.declared.event.Event.{Event}
 use Rattle.svc_record.specs.Record.{Record, has, tell, is_signal}
 use Rattle.svc_record.specs.Judging.{judged_at, judgements}
 use Rattle.svc_record.specs.Right.{Right}
+use Rattle.svc_record.specs.Tail.{closing_actions, tail_right}
 use Rattle.svc_core.specs.CoreData.{CoreData}
 use Rattle.svc_core.specs.Stands.{StandsFor, StepKeeps, MayCome}
 use Rattle.svc_core.specs.Rooms.{open_count, step_room}
@@ -23,7 +24,7 @@ use Rattle.svc_handover.specs.Runs.{told_entries, Begins as ServerBegins, Runs}
 use Rattle.svc_supervisor.specs.declared.generation.Generation.{Generation}
 use Rattle.svc_supervisor.specs.Marks.{marks_of, channel_between}
 use Rattle.svc_supervisor.specs.ChainData.{GenerationData, ChainData}
-use Rattle.svc_supervisor.specs.Chains.{is_early, may_come_at, MayBegin, is_ready}
+use Rattle.svc_supervisor.specs.Chains.{closed, is_early, may_come_at, MayBegin, is_ready}
 
 -- its record, the newest entry first
 abbrev pub history : Generation → Record
@@ -84,6 +85,11 @@ pub record Stands (g : Generation) : Type 0 where
   pub marks : g.marks ≡ marks_of (history g)
   pub texts : HasTexts g.core.plan
   pub room : HasRoom g
+
+-- each of its live connections has been cut, and each open descriptor closed, so that each number that it was brought has been closed once
+pub record IsClosed (old new : Generation) : Type 0 where
+  pub closed : data_of new ≡ closed (data_of old)
+  pub whole : tail_right (history old) None (closing_actions old.core.plan (history old) None) ≡ true
 
 -- each generation does
 abbrev pub EachStands : List Generation → Type 0

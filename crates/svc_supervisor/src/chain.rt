@@ -36,7 +36,6 @@ impl Model for Chain {
 impl Chain {
     /// A chain of one generation, which begins. A plan that isn't valid, or that has `test`, `daemon` or
     /// `upgrade` set, is refused (`BadPlan`).
-    #[tactic(none)]
     pub fn new(alloc: Global, first: Plan) -> Result<Chain, ChainRefused>
         ensures begun { IfOk result (λ chain. BeginsChain first chain.generations) }
         ensures open { IfOk result (λ chain. chain.finished ≡ false) }
@@ -55,7 +54,6 @@ impl Chain {
     }
 
     /// How many generations have begun: from 1 to 64.
-    #[tactic(none)]
     pub fn generations(&self) -> u32
         ensures count { result ≡ length self.now.generations }
         ensures some { 0 < result }
@@ -65,7 +63,6 @@ impl Chain {
     }
 
     /// The record of a generation that has begun.
-    #[tactic(none)]
     pub fn entries(&self, generation: u32) -> &Entries
         requires begun { generation < length self.now.generations }
         ensures { IfSome (slice_get self.now.generations generation) (λ g. g.history ≡ reverse (list_of result.now)) }
@@ -76,7 +73,6 @@ impl Chain {
     /// Begins the next generation, and answers its number. In this order: a plan that isn't valid, that has
     /// `test` or `daemon` set, or that hasn't `upgrade` set, is refused (`BadPlan`); so is one past the 64th
     /// generation (`TooMany`), and one while the newest generation hasn't taken over (`NotReady`).
-    #[tactic(none)]
     pub fn launch(&mut self, alloc: Global, plan: Plan) -> Result<u32, ChainRefused>
         requires open { self.old.finished ≡ false }
         ensures launched { OnOk result (Launches self.old.generations self.new.generations plan) }
@@ -97,7 +93,6 @@ impl Chain {
     /// One event for a generation, with the answer of the filter that it asks, if it asks one. In this order:
     /// no generation has the number (`UnknownGeneration`); a signal comes before the generation has taken
     /// over (`Early`); the event doesn't fit its record, or a channel to a neighbour doesn't allow it (`Stray`).
-    #[tactic(none)]
     pub fn step(
         &mut self,
         alloc: Global,
@@ -123,7 +118,6 @@ impl Chain {
     /// Cuts each live connection and closes each open descriptor, of each generation in order. One that has
     /// served has none. After it no generation is launched or stepped. The room for it was taken before, so
     /// that memory is never refused.
-    #[tactic(none)]
     pub fn finish(&mut self) -> Result<(), NoMemory>
         requires open { self.old.finished ≡ false }
         ensures finished { OnOk result (self.new ≡ finished_chain self.old) }

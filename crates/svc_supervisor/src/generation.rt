@@ -6,8 +6,8 @@ ghost use Rattle.svc_base.specs.Items.{list_of, spare};
 ghost use Rattle.svc_record.specs.Validity.{IsValid};
 ghost use Rattle.svc_core.specs.Stands.{MayCome};
 ghost use Rattle.svc_handover.specs.Runs.{told_entries};
-ghost use Rattle.svc_supervisor.specs.Chains.{may_come, before_may, channel_to, closed};
-ghost use Rattle.svc_supervisor.specs.Generations.{Begins, Takes, IsSame, HasStepRoom, Stands, EachStands, AllStand, data_of};
+ghost use Rattle.svc_supervisor.specs.Chains.{may_come, before_may, channel_to, closed, AreClosed};
+ghost use Rattle.svc_supervisor.specs.Generations.{Begins, Takes, IsSame, HasStepRoom, Stands, IsClosed, EachStands, AllStand, data_of};
 
 use crate::marks::{Marks, channel_between};
 use std::alloc::Global;
@@ -86,7 +86,7 @@ impl Generation {
     /// Cuts each live connection and closes each open descriptor.
     fn close(&mut self)
         requires stands { Stands self.old }
-        ensures closed { data_of self.new ≡ closed (data_of self.old) }
+        ensures closed { IsClosed self.old self.new }
     {
         self.core.close_all(None, &mut self.closing);
         put_told(&mut self.closing, &mut self.entries);
@@ -96,7 +96,8 @@ impl Generation {
 /// Closes all that is open in each generation.
 pub(crate) fn close_each(generations: &mut [Generation])
     requires stand { EachStands generations.old }
-    ensures { map data_of generations.new ≡ map closed (map data_of generations.old) }
+    ensures closed { map data_of generations.new ≡ map closed (map data_of generations.old) }
+    ensures whole { AreClosed (map data_of generations.old) }
 {
     for generation in generations.iter_mut() {
         generation.close();

@@ -29,7 +29,7 @@ returns c =
           plan_is = c.in_ok-begin.ensures.plan ∙ c.in_ok-core.ensures.plan;
           entries = c.put_told.ensures.put ∙ ap (λ (xs : List Entry). xs ++ told_entries (list_of c.begin.new.actions)) (c.in_ok-reserve.ensures.items ∙ c.new-entries.ensures);
         };
-        marks = c.after_told-marks.ensures [] c.new.ensures ∙ ap (λ (ts : List Action). marks_of (tell [] ts)) c.as_slice.ensures;
+        marks = c.after_told-marks.ensures [] c.new-2.ensures ∙ ap (λ (ts : List Action). marks_of (tell [] ts)) c.as_slice.ensures;
         texts = c.read_addresses.ensures;
         room = record {
           unclosed = c.in_ok-reserve-2.ensures.items ∙ c.new-closing.ensures;

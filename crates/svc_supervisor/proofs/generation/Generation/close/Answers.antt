@@ -24,7 +24,10 @@ returns c =
     let g = c.args.self.now in
     let all = (c.close_all.ensures.closes (history g) c.requires.stands.stands).told in
     record {
-      closed = ap (λ (q : Record). let d : GenerationData = record { plan = g.core.plan; history = q } in d)
-          (ap (λ (xs : List Entry). reverse xs) c.put_told.ensures.put ∙ turned-told (list_of g.entries) (list_of c.close_all.new.actions)
-          ∙ ap (tell (history g)) (all.appended ∙ ap (λ (xs : List Action). xs ++ all.told) c.requires.stands.room.unclosed ∙ all.kept));
+      closed = record {
+        closed = ap (λ (q : Record). let d : GenerationData = record { plan = g.core.plan; history = q } in d)
+            (ap (λ (xs : List Entry). reverse xs) c.put_told.ensures.put ∙ turned-told (list_of g.entries) (list_of c.close_all.new.actions)
+            ∙ ap (tell (history g)) (all.appended ∙ ap (λ (xs : List Action). xs ++ all.told) c.requires.stands.room.unclosed ∙ all.kept));
+        whole = (c.close_all.ensures.closes (history g) c.requires.stands.stands).closed c.requires.stands.right;
+      };
     }
