@@ -53,16 +53,20 @@ class Declared:
 
 
 def declarations(lines):
-    """What an antt file declares: at its left edge, and at the left edge of a `module _`. Its clauses belong to it."""
+    """What an antt file declares: at its left edge, and at the left edge of each `module _`, also of one inside another. Its clauses belong to it."""
     found, edge, current = [], 0, None
     for at, line in enumerate(lines):
         text = line.rstrip()
         indent = len(text) - len(text.lstrip())
         if not text or text.lstrip().startswith("--"):
             continue
-        if indent == 0:
-            edge = 2 if text.startswith("module ") else 0
-        if indent == 0 and (text.startswith(("module ", "use ", "pub use ", "mod ", "pub mod ", "infix")) or text[0] in "})]"):
+        word = text.lstrip()
+        if word.startswith("module ") and indent <= edge:
+            edge, current = indent + 2, None
+            continue
+        if indent < edge and word[0] not in "})]":
+            edge = indent
+        if indent == 0 and (text.startswith(("use ", "pub use ", "mod ", "pub mod ", "infix")) or text[0] in "})]"):
             if text[0] not in "})]":
                 current = None
             elif current:

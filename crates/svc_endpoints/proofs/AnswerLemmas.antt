@@ -25,7 +25,8 @@ use Rattle.svc_endpoints.specs.Effects.{fail_if, put, is_last_refusal, refused, 
 use Rattle.svc_endpoints.specs.Uses.{uses, is_drained_by}
 use Rattle.svc_endpoints.proofs.FailedLemmas.{failed-bind_failed, failed-adopt_failed, failed-in_use}
 use Rattle.svc_endpoints.proofs.StatesLemmas.{stands-bind_failed, stands-adopt_failed, stands-adopted, stands-refused, last_refusal-is, table-fail, failed_at-fail}
-use Rattle.svc_endpoints.proofs.KeptLemmas.{asking_not_holding, binding_asks, adopting_asks, kept-refused, kept-bind_failed, kept-adopt_failed, kept-adopted, asks_free_binding, asks_free_adopting}
+use Rattle.svc_endpoints.proofs.KeptLemmas.{asking_not_holding, adopting_asks, kept-refused, kept-bind_failed, kept-adopt_failed, kept-adopted, asks_free_binding, asks_free_adopting}
+use Rattle.svc_endpoints.proofs.OneLemmas.{binding_asks}
 use Rattle.svc_endpoints.proofs.GoneLemmas.{is_any_loop_end, is_turned, is_gone_now, loops-told, loops-got, closed-is}
 use Rattle.svc_endpoints.proofs.UseLemmas.{drained-is}
 use Rattle.svc_base.proofs.Logic.{clash, false_where, lt_true}

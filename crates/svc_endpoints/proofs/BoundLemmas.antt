@@ -21,10 +21,10 @@ use Rattle.svc_endpoints.specs.EndpointsState.{IsEndpointsSized, StatesKept, Sta
 use Rattle.svc_base.specs.NumberSets.{is_in}
 use Rattle.svc_endpoints.specs.Effects.{has_open, not_empty, with_number, with_open, bound, bound_again}
 use Rattle.svc_endpoints.proofs.PutLemmas.{last_at-put, refusals_at-put}
-use Rattle.svc_endpoints.proofs.OneLemmas.{one-bound}
+use Rattle.svc_endpoints.proofs.OneLemmas.{one-bound, binding_asks}
 use Rattle.svc_endpoints.proofs.StatesLemmas.{at_here, same_if, has_open-is, lost-step}
 use Rattle.svc_endpoints.proofs.LiveLemmas.{live-doubled, live_with-bound, same_eq, same_self, numbers_with-put}
-use Rattle.svc_endpoints.proofs.KeptLemmas.{kept-put, binding_asks, asking_not_holding}
+use Rattle.svc_endpoints.proofs.KeptLemmas.{kept-put, asking_not_holding}
 
 -- the table doesn't have the number
 abbrev pub IsFresh : List Open → ℕ → Type 0

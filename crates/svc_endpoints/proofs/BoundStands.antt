@@ -30,7 +30,8 @@ use Rattle.svc_endpoints.proofs.GrowLemmas.{gone-same, address-same}
 use Rattle.svc_base.proofs.NumberSetLemmas.{any-ascending}
 use Rattle.svc_base.proofs.Logic.{not_in, clash}
 use Rattle.svc_endpoints.proofs.StatesLemmas.{has_open-is}
-use Rattle.svc_endpoints.proofs.KeptLemmas.{asks_free_binding, asking_not_holding, binding_asks}
+use Rattle.svc_endpoints.proofs.KeptLemmas.{asks_free_binding, asking_not_holding}
+use Rattle.svc_endpoints.proofs.OneLemmas.{binding_asks}
 use Rattle.svc_endpoints.proofs.TableLemmas.{numbers_of-put}
 use Rattle.svc_endpoints.proofs.LiveLemmas.{live-bound, live-doubled}
 use Rattle.svc_endpoints.proofs.OpenedLemmas.{brings-in, opened-in, doubled-opened, received-opened, live-opened}

@@ -11,14 +11,12 @@ use Rattle.svc_record.specs.Drain.{live_numbers}
 use Rattle.svc_record.specs.Closes.{close_once}
 use Rattle.svc_base.specs.NumberSets.{is_in, distinct}
 use Rattle.svc_base.proofs.Logic.{apart_from, not_in, neither, clash}
+use Rattle.svc_endpoints.proofs.UseLemmas.{or_none}
 
 -- what one close leaves, many leave
 pub along-closes : (P : Record → Type 0) → ((q : Record) (n : ℕ) → P q → P (Told (Close n) ∷ q)) → (q : Record) (ns : List ℕ) → P q → P (tell q (map Close ns))
 along-closes P step q [] h = h
 along-closes P step q (n ∷ ns) h = along-closes P step (Told (Close n) ∷ q) ns (step q n h)
-
-or_none : (b : Bool) → b ≡ (b || false)
-or_none b = grind arith
 
 or_move : (a b c : Bool) → ((a || b) || c) ≡ (b || (a || c))
 or_move a b c = grind arith

@@ -1,6 +1,6 @@
 -- What the end of a loop leaves, with the closes that follow it.
 use Rattle.std.proofs.Common.{ℕ, Bool, true, false, ◌||◌, ◌&&◌, ◌==◌, not, inl, inr, List, [], ◌∷◌, ◌++◌, ◌≡◌, refl, ap, sym, ◌∙◌, subst, arith, ◌<◌, ◌≤◌, ◌+◌, length, length-append, map, nat_lt, nat_le, if◌then◌else◌}
-use Rattle.std.specs.List.{list_all, range_with_len}
+use Rattle.std.specs.List.{list_all}
 use Rattle.std.proofs.lemmas.Bool.{cases_Bool, cases_lt, and_parts, or_cases, or_left, ne_eqb}
 use Rattle.svc_record.specs.declared.plan.Plan.{Plan}
 use Rattle.svc_record.specs.declared.entry.Entry.TheVariants.{Got}
@@ -27,7 +27,7 @@ use Rattle.svc_endpoints.specs.Uses.{uses, serves_by, accepts_by}
 use Rattle.svc_endpoints.specs.Effects.{loop_ended, cleared, gone_numbers}
 use Rattle.svc_endpoints.proofs.RangeLemmas.{fails0, all0}
 use Rattle.svc_endpoints.proofs.LoopLemmas.{ended-less, has_loop-more, loop_count-more}
-use Rattle.svc_endpoints.proofs.UseLemmas.{drained-is, drained-grows}
+use Rattle.svc_endpoints.proofs.UseLemmas.{drained-is, drained-grows, all_get}
 use Rattle.svc_base.proofs.Logic.{clash, apart_from}
 use Rattle.svc_endpoints.proofs.StatesLemmas.{at_here}
 use Rattle.svc_endpoints.proofs.NamedLemmas.{all-same}
@@ -39,12 +39,6 @@ use Rattle.svc_endpoints.proofs.EventLemmas.{opened_is-event, numbers-event, pla
 use Rattle.svc_endpoints.proofs.ClearLemmas.{Answered, stands-cleared}
 use Rattle.svc_endpoints.proofs.AnswerLemmas.{giving-closes, cleared-few}
 use Rattle.svc_endpoints.proofs.Laws.{endpoint-inside}
-
-all_get : (f : ℕ → Bool) (n s : ℕ) → s < n → list_all f (range_with_len 0 n) ≡ true → f s ≡ true
-all_get f n s lt h = elim (cases_Bool (f s)) [
-  | inl y ↦ y
-  | inr m ↦ absurd (clash (list_all f (range_with_len 0 n)) h (fails0 f n s lt m))
-]
 
 not_empty : (loops : List LoopEnd) (x : LoopEnd) → loops ++ (x ∷ []) ≡ [] → ⊥
 not_empty [] x e = cc

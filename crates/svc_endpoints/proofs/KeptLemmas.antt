@@ -11,6 +11,7 @@ use Rattle.svc_endpoints.specs.EndpointsState.{IsEndpointsSized, StatesKept, las
 use Rattle.svc_endpoints.specs.Effects.{put, fail_if, refused, bind_failed, adopt_failed, adopted, asked, offered, held_now, is_last_refusal}
 use Rattle.svc_endpoints.proofs.PutLemmas.{last_at-put}
 use Rattle.svc_endpoints.proofs.StatesLemmas.{failed_at-fail}
+use Rattle.svc_endpoints.proofs.OneLemmas.{binding_asks}
 
 pub asking_not_holding : (x : Last) → is_asking x ≡ true → is_holding x ≡ false
 asking_not_holding Binding e = refl
@@ -111,9 +112,6 @@ kept-fail p d true s lt was none = record {
 
     or_was : (a b : Bool) → (a || b) ≡ false → a ≡ false
     or_was a b h = grind arith
-
-pub binding_asks : (x : Last) → is_binding x ≡ true → is_asking x ≡ true
-binding_asks x e = rw e refl
 
 pub adopting_asks : (x : Last) → is_adopting x ≡ true → is_asking x ≡ true
 adopting_asks Unasked e = absurd (cc)

@@ -3,7 +3,6 @@ use Rattle.std.proofs.Common.{ℕ, Bool, true, false, ◌&&◌, not, List, [], �
 use Rattle.svc_endpoints.specs.declared.states.Last.{Last}
 use Rattle.svc_endpoints.specs.declared.states.Last.TheVariants.{Unasked, Binding, Busied, Adopting, Holding, Lost}
 use Rattle.svc_endpoints.specs.EndpointsState.{OneStands, is_binding, is_adopting, is_asking, held_of, fd_of, is_touched}
-use Rattle.svc_endpoints.proofs.KeptLemmas.{binding_asks}
 
 module _ (x : Last) (b a : Bool) (h ad : List ℕ) (w : ℕ → Bool) (on : Bool) (was : OneStands x b a h ad w on) where
   pub one-bind : (here : Bool) → (here ≡ true → (is_adopting x ≡ false) × (held_of x ≡ []) × (on ≡ true))
@@ -45,6 +44,9 @@ asking_holds_none (Busied at) e = refl
 asking_holds_none (Adopting fd) e = refl
 asking_holds_none (Holding fd) e = absurd (cc)
 asking_holds_none Lost e = refl
+
+pub binding_asks : (x : Last) → is_binding x ≡ true → is_asking x ≡ true
+binding_asks x e = rw e refl
 
 adopting_not_binding : (x : Last) → is_adopting x ≡ true → is_binding x ≡ false
 adopting_not_binding (Adopting fd) e = refl

@@ -20,6 +20,11 @@ pub record AreStatesSized (p : Plan) (rows : List (List EndState)) (flags : List
   pub failed : length flags ≡ service_count p
   pub each : (s : ℕ) → s < service_count p → length (slice_index_or rows s []) ≡ length (endpoints p s)
 
+-- the descriptor is offered to it
+abbrev pub has_offer : ℕ → Last → Bool
+has_offer fd (Adopting n) = n == fd
+has_offer fd _ = false
+
 -- the descriptor holds it
 abbrev pub has_held : ℕ → Last → Bool
 has_held fd (Holding n) = n == fd

@@ -1,16 +1,17 @@
 -- Each kind of step keeps the rule.
-use Rattle.std.proofs.Common.{◌≡◌, ◌≢◌, ◌⊎◌, inl, inr, ⊎_elim, ℕ, ◌+◌, ◌*◌, ◌%◌, ◌<◌, Bool, true, false, List, [], ◌∷◌, ◌++◌, length, get_or, slice_set, ◌==◌, refl, sym, ap, ◌∙◌, subst, arith, eq-eqb, ne_eqb, eqb-true, length-append, Some, None}
+use Rattle.std.proofs.Common.{◌≡◌, ◌≢◌, ◌⊎◌, inl, inr, ⊎_elim, ℕ, ◌+◌, ◌*◌, ◌%◌, ◌<◌, Bool, true, false, List, [], ◌∷◌, ◌++◌, length, get_or, slice_set, ◌==◌, refl, sym, ap, ◌∙◌, subst, arith, eq-eqb, ne_eqb, eqb-true, length-append, Some, None, Option}
 use mathlib.Core.Option as maybe
 use lib.ListN.{get_elem?}
 use prog.Atomic.{either}
-use Rattle.atomic_table.specs.Table.{Step, Act, keeps, gives, Valid, stepped, carried_after, rest, Allows}
+use Rattle.atomic_table.specs.Table.{Step, step, Act, keeps, takes, gives, Valid, stepped, carried_after, rest, Allows}
+use Rattle.atomic_table.proofs.Lists.{exchanged}
 use Rattle.svc_record.specs.Journal.{PostData, own_posts}
 use Rattle.svc_book.specs.BookData.{BookData}
 use Rattle.svc_shared.specs.declared.view.View.{View}
-use Rattle.svc_shared.specs.Views.{Slot, Mine, Begins, book_of, IsWhole, noted, left}
+use Rattle.svc_shared.specs.Views.{Slot, Mine, Begins, book_of, IsWhole, noted, took, left}
 use Rattle.svc_shared.specs.Rule.{Role, drawn, seated, kept, may_post, turn_word, home, is_holder, Posted, Parts, Kept}
 use Rattle.svc_shared.specs.Turn.{Lifted, GivesBack}
-use Rattle.svc_shared.specs.Steps.{IsUnused, looked, left_turn}
+use Rattle.svc_shared.specs.Steps.{IsUnused, looked, taken, left_turn}
 use Rattle.svc_shared.proofs.OwnLemmas.{own-other, own-none, posted-front, posted-more, begins-whole, begins-trans}
 use Rattle.svc_shared.proofs.PartsLemmas.{hand_at, whole_free, moved}
 use Rattle.svc_base.proofs.Logic.{some-inj}
@@ -29,8 +30,14 @@ allowed b slots id v cs i f then go s rule long at small =
     (subst (λ (hs : List (maybe.Option Slot)). Here b id v cs i f then (turn_word rule.journal rule.holder ∷ rule.next ∷ []) hs s.views) (sym rule.homes_are)
     (go rule.journal rule.holder rule.next rule.role rule.keeper s.views rule.parts at)) small
 
+same-some : (x y : BookData) → ◌≡◌ {A = Option BookData} (Some x) (Some y) → x ≡ y
+same-some x y e = cc
+
 even_of : (n : ℕ) → (2 * n) % 2 ≡ 0
 even_of n = omega arith
+
+odd_of : (n : ℕ) → (2 * n + 1) % 2 ≡ 1
+odd_of n = omega arith
 
 drawn-not : (i j : ℕ) (r : Role) → r ≡ drawn i → (r ≡ seated j) ⊎ (r ≡ kept j) → ⊥
 drawn-not i j r e f = ⊎_elim (λ s. drawn-seated i j (sym e ∙ s)) (λ s. drawn-kept i j (sym e ∙ s)) f
@@ -81,6 +88,83 @@ looks b slots id v cs st live free = allowed b slots id v cs 0 (λ n. n) (looked
     ))
 
 -- KIND 2: a compare and exchange that takes the turn, or is lost, which is kind 1
+module _ (b : BookData) (slots id old new : ℕ) (v : View) (cs : List (ℕ × Slot)) where
+  abbrev taking : Step Slot
+  taking = step slots 0 old new maybe.none
+
+  -- the step, where the word becomes x
+  abbrev Goes : List PostData → maybe.Option ℕ → ℕ → List View → ℕ → Type 0
+  Goes journal holder next views x =
+      (w : View) × (a : Act Slot) × Valid (home b journal holder ∷ []) cs a
+      × Kept b (stepped record { words = turn_word journal holder ∷ next ∷ []; homes = home b journal holder ∷ []; views = views } 0 x id cs w a) × taken taking (v, cs) (turn_word journal holder) (w, carried_after cs a)
+
+  module _ (live : v.hand.spent ≡ false) (free : v.sight.holding ≡ false) (even : old % 2 ≡ 0) (next_is : new ≡ old + 1) where
+    hits : (journal : List PostData) (holder : maybe.Option ℕ) (next : ℕ) (role : ℕ → Role) (keeper : ℕ → ℕ) (views : List View) → Parts b journal holder next role keeper views → get_elem? views id ≡ maybe.some v
+        → turn_word journal holder ≡ old → Goes journal holder next views new
+    hits journal maybe.none next role keeper views parts at is =
+        let n : ℕ = 2 * length journal in
+        let w : View = took v n journal in
+        let was = parts.turn.each id v at live in
+        let hand = parts.passes.each id v.hand (hand_at b next role keeper journal maybe.none views parts id v at live id v at) live in
+        let word : new ≡ 2 * length journal + 1 = omega arith in
+        let me : (id == id) ≡ true = eq-eqb id id refl in (
+          w,
+          takes 0 (Some (book_of b journal)),
+          refl,
+          record {
+            journal = journal;
+            holder = maybe.some id;
+            next = next;
+            role = role;
+            keeper = keeper;
+            words_are = ap (λ (x : ℕ). x ∷ next ∷ []) word;
+            homes_are = refl;
+            parts = moved b next role keeper journal maybe.none views parts id v at live journal (maybe.some id) w refl
+                record { front = was.front; told_is = was.told_is; own_is = was.own_is; holding_is = sym me; base_is = λ _. refl; ended_are = was.ended_are }
+                (λ j u ne e u_live k. let other : (id == j) ≡ false = ne_eqb id j (λ s. ne (sym s)) in record { front = k.front; told_is = k.told_is; own_is = k.own_is; holding_is = k.holding_is ∙ sym other; base_is = k.base_is; ended_are = k.ended_are })
+                (λ j is. inl (sym (maybe.some-injective id j is))) parts.posted (λ whole f. absurd (cc));
+          },
+          (
+            (λ _ b' ours. (journal, ap (λ (z : BookData). (w, (0, Some (book_of z journal)) ∷ cs)) (same-some b b' (sym hand.origin_is ∙ ours)), was.front, refl, was.own_is)),
+            (λ ne. absurd (ne is)),
+            (λ _ _. is),
+          ),
+        )
+    hits journal (maybe.some h) next role keeper views parts at is = let odd = odd_of (length journal) in let bad : old % 2 ≡ 1 = sym (ap (λ (x : ℕ). x % 2) is) ∙ odd in absurd (omega arith)
+
+    misses : (journal : List PostData) (holder : maybe.Option ℕ) (next : ℕ) (role : ℕ → Role) (keeper : ℕ → ℕ) (views : List View) → Parts b journal holder next role keeper views → get_elem? views id ≡ maybe.some v
+        → turn_word journal holder ≢ old → Goes journal holder next views (turn_word journal holder)
+    misses journal holder next role keeper views parts at ne =
+        let n : ℕ = turn_word journal holder in
+        let w : View = noted v 0 n (Some n) in
+        let was = parts.turn.each id v at live in
+        let word : IsWhole v.hand → n ≡ 2 * length journal = λ whole. ap (turn_word journal) (whole_free b next role keeper journal holder views parts id v at live whole free) in (
+          w,
+          keeps,
+          tt,
+          record {
+            journal = journal;
+            holder = holder;
+            next = next;
+            role = role;
+            keeper = keeper;
+            words_are = refl;
+            homes_are = refl;
+            parts = moved b next role keeper journal holder views parts id v at live journal holder w refl
+                record { front = was.front; told_is = was.told_is; own_is = was.own_is; holding_is = was.holding_is; base_is = was.base_is; ended_are = was.ended_are }
+                (λ j u ne e u_live k. k) (λ j is. inr is) parts.posted (λ whole _ m is. sym (some-inj n m is) ∙ word whole);
+          },
+          (
+            (λ hit. absurd (ne hit)),
+            (λ _. refl),
+            (λ whole read. word whole ∙ sym (parts.whole id v at live whole free old read)),
+          ),
+        )
+
+    pub takes_turn : Allows (Kept b) slots id (v, cs) 0 (λ n. either (n == old) new n) (taken taking (v, cs))
+    takes_turn = allowed b slots id v cs 0 (λ n. either (n == old) new n) (taken taking (v, cs)) (λ journal holder next role keeper views parts at small.
+        exchanged (turn_word journal holder) old new (Goes journal holder next views) (hits journal holder next role keeper views parts at) (misses journal holder next role keeper views parts at))
+
 kept-not-seated : (i j : ℕ) → kept i ≡ seated j → ⊥
 kept-not-seated i j e = cc
 

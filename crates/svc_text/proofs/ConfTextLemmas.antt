@@ -8,12 +8,12 @@ use Rattle.std.proofs.lemmas.List.{append-nil, length-append}
 use Rattle.std.proofs.lemmas.List.Splits.{length-slice_split, slice_split-cons_yes, slice_split-cons_no}
 use Rattle.std.proofs.lemmas.Str.{IsUtf8-append, IsUtf8-nil, IsUtf8-from_is_utf8}
 use Rattle.std.proofs.Math.Seq.{take-append_seam, drop-append_seam}
-use Rattle.svc_base.specs.Words.{is_feed}
+use Rattle.svc_base.specs.Words.{is_feed, EndsLine, IsCut}
 use Rattle.svc_text.specs.declared.reading.Reading.{Reading}
 use Rattle.svc_text.specs.Outcome.{After}
 use Rattle.svc_text.specs.Script.{part_number, line_fits, is_header, begun, part_of}
 use Rattle.svc_text.specs.declared.conf_text.ConfText.{ConfText}
-use Rattle.svc_text.specs.ConfTexts.{EndsLine, IsCut, between, text_at, passed, IsConfText}
+use Rattle.svc_text.specs.ConfTexts.{between, text_at, passed, IsConfText}
 use Rattle.svc_base.proofs.LineLemmas.{parts_then}
 use Rattle.svc_text.proofs.ScriptLemmas.{HasRead, next_line}
 use Rattle.svc_text.proofs.PartLemmas.{begun-push, part_gains, part_stays, part_unbegun}
