@@ -14,4 +14,3 @@ pub mod MadeRows
 pub mod MadeThrough
 pub mod MadeCounts
 pub mod MadeRuns
-pub mod LineEnds

@@ -5,4 +5,3 @@ pub mod CommandWords
 pub mod Generator
 pub mod Counts
 pub mod Program
-pub mod Planned

@@ -5,7 +5,6 @@ mod answering;
 mod counting;
 mod generator;
 mod outcome;
-mod planning;
 mod program;
 mod runs;
 mod script_filter;
@@ -14,6 +13,4 @@ mod services;
 mod words;
 
 pub use outcome::{RunEnd, StatusLine};
-pub use planning::{PlannedScript, plan_script, read_parts, with_line};
 pub use program::{one_answer, serve_script};
-pub use svc_text::{event_of_line, record_text};

@@ -5,8 +5,3 @@ pub mod Carries
 pub mod Kept
 pub mod Refusals
 pub mod Generations
-pub mod StepLines
-pub mod Inputs
-pub mod InputBlocks
-pub mod Serving
-pub mod ChainStatus

@@ -44,13 +44,13 @@ impl Chain {
     {
         let generation = first_generation(alloc, first)?;
         let mut generations = Vec::new(alloc);
-        if generations.push(generation).is_err() {
-            return Err(ChainRefused::NoMemory(None));
+        match generations.push(generation) {
+            Ok(()) => Ok(Chain {
+                generations,
+                finished: false,
+            }),
+            Err(_) => Err(ChainRefused::NoMemory(None)),
         }
-        Ok(Chain {
-            generations,
-            finished: false,
-        })
     }
 
     /// How many generations have begun: from 1 to 64.
@@ -84,10 +84,10 @@ impl Chain {
     {
         let number = self.generations.len() as u32;
         let generation = next_generation(alloc, self.generations.as_slice(), plan)?;
-        if self.generations.push(generation).is_err() {
-            return Err(ChainRefused::NoMemory(None));
+        match self.generations.push(generation) {
+            Ok(()) => Ok(number),
+            Err(_) => Err(ChainRefused::NoMemory(None)),
         }
-        Ok(number)
     }
 
     /// One event for a generation, with the answer of the filter that it asks, if it asks one. In this order:
