@@ -5,7 +5,9 @@ use Rattle.svc_core.proofs.machine.Core.step_received.Goals as goal
 
 pub returns : goal.returns
 returns c = opened c.self.view_is c.requires (λ may.
-    let few = may.may.few in
-    gives-up c.finish.ensures refl refl (record { few = omega (arith, few); room = omega (arith, few) })
+    let brought = may.may.few in
+    let few = c.in_ok-good.ensures.few in
+    let room = c.in_ok-good.ensures.room in
+    gives-up c.finish.ensures refl refl (record { few = omega (arith, brought, few); room = omega (arith, brought, room) })
     (strike-received _ c.args.bytes.now c.args.fds.now c.in_ok-good.good _ _ _ _ may.on may.may c.in_ok-good.ensures.good c.take_received-2.ensures.after
     (λ q. c.take_received-2.ensures.stands c.self.inside.plan q c.args.bytes.now c.args.fds.now c.in_ok-good.ensures.good) c.in_ok-good.ensures.stands))
