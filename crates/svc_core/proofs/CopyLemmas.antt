@@ -249,7 +249,7 @@ settings-told copy a c told list h is of =
     let same = rw (is, of) at h in ap (λ (l : List Setting). TellSettings c l) (sym (settings-same told list same)) ∙ sym is
 
 -- what the part on connections tells
-arrived-copied : (c : ℕ) (peer : Peer) (said : Bool) (list : List Setting) → are_copied (OfSettings list) (arrived_told c peer said list) ≡ true
+pub arrived-copied : (c : ℕ) (peer : Peer) (said : Bool) (list : List Setting) → are_copied (OfSettings list) (arrived_told c peer said list) ≡ true
 arrived-copied c peer said list = by (is_known peer) (is_refused peer said)
   where
     by : (known refused : Bool) → are_copied (OfSettings list) ((if known then Judged c said ∷ [] else []) ++ (if refused then Refuse c ∷ [] else TellSettings c list ∷ [])) ≡ true
@@ -257,9 +257,6 @@ arrived-copied c peer said list = by (is_known peer) (is_refused peer said)
     by true false = and_from (same_settings list list) true (same-list list) refl
     by false true = refl
     by false false = and_from (same_settings list list) true (same-list list) refl
-
-pub arrived-answer : (list : List Setting) (c : ℕ) (peer : Peer) (said : Bool) (xs ys : List Action) → ys ≡ xs ++ arrived_told c peer said list → TellsCopied (OfSettings list) xs ys
-arrived-answer list c peer said xs ys e = record { told = arrived_told c peer said list; appended = e; kept = arrived-copied c peer said list }
 
 pub set-bare : (c : ℕ) (ok : Bool) → are_bare (set_told c ok) ≡ true
 set-bare c true = refl

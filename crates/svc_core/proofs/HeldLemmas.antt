@@ -54,7 +54,7 @@ use Rattle.svc_core.specs.StartsData.{StartsData}
 use Rattle.svc_core.specs.StartsState.{StartsStand}
 use Rattle.svc_core.specs.CoreData.{CoreData, is_on, with_end}
 use Rattle.svc_core.specs.Passes.{Going, is_tested, may_start}
-use Rattle.svc_core.specs.Stands.{HasNotBegun, MayBootstrap, Bootstraps, StandsFor, Answered, EndedSo, StepRight, StepKeeps, BeginKeeps}
+use Rattle.svc_core.specs.Stands.{HasNotBegun, MayBootstrap, Bootstraps, StandsFor, Answered, EndedSo, StepRight, StepKeeps, BeginKeeps, RowMayCome}
 use Rattle.svc_core.proofs.RecordLemmas.{not_true}
 use Rattle.svc_core.proofs.GoingLemmas.{Loose, base-told, going-from}
 use Rattle.svc_core.proofs.OpenLemmas.{step-on, step-ended}
@@ -440,3 +440,9 @@ child-keeps core mid new before after end may bootstraps = record {
   appended = bootstraps.appended;
   kept = λ q right stands. bootstraps.kept (Got (Forked sides.Child) ∷ q) (may q right stands);
 }
+
+-- a parent's failure comes to one that waits
+pub failure-row : (core : CoreData) (e : Event) → is_parent_failure (Got e) ≡ true → RowMayCome core e → is_waiting core.boot.fork ≡ true
+failure-row core ChildGone failure may = may
+failure-row core DropFailed failure may = may
+failure-row core _ failure may = absurd (cc)

@@ -20,3 +20,5 @@ pub mod FitsLemmas
 pub mod TailLemmas
 pub mod CloseCounts
 pub mod RoomLemmas
+pub mod StepForms
+pub mod GoForms

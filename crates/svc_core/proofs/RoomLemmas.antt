@@ -9,7 +9,7 @@ use Rattle.svc_connections.specs.declared.stage.Stage.TheVariants.{Setting}
 use Rattle.svc_connections.specs.ConnectionsData.{ConnectionsData}
 use Rattle.svc_connections.specs.ConnectionsEffects.{put_connection, is_refused, arrived, moved, without, gone_on, finished}
 use Rattle.svc_core.specs.CoreData.{CoreData, is_served}
-use Rattle.svc_core.specs.Rooms.{close_room, tell_room}
+use Rattle.svc_core.specs.Rooms.{close_room, tell_room, open_count, most_open}
 use Rattle.svc_core.proofs.ConnectionLemmas.{with_connections}
 
 few_open : (over : Bool) (table : List Open) → length (if over then [] else map (λ (o : Open). o.fd) table) ≤ length table
@@ -19,6 +19,13 @@ few_open false table = let same = length-map table (λ (o : Open). o.fd) in omeg
 few_live : (over : Bool) (live : List Connection) → length (if over then [] else live) ≤ length live
 few_live true live = omega arith
 few_live false live = omega arith
+
+-- no more are open than there are in the table and live
+pub few-open : (core : CoreData) → open_count core ≤ most_open core
+few-open core =
+    let table = few_open (is_served core.end) core.endpoints.table in
+    let live = few_live (is_served core.end) core.connections.live in
+    omega (arith, table, live)
 
 -- of connections there is one more at most
 put-length : (x : Connection) (live : List Connection) → length (put_connection x live) ≤ length live + 1

@@ -58,7 +58,7 @@ use Rattle.svc_core.specs.CoreData.{CoreData, is_on}
 use Rattle.svc_core.specs.Copies.{message_at}
 use Rattle.svc_core.specs.Passes.{Going, AreStarted, MayEnd, is_tested}
 use Rattle.svc_core.specs.Signals.{offers_by, is_reached}
-use Rattle.svc_core.specs.Stands.{StandsFor, Struck, StepRight, StepKeeps}
+use Rattle.svc_core.specs.Stands.{StandsFor, Struck, StepRight, StepKeeps, RowMayCome}
 use Rattle.svc_core.proofs.GoingLemmas.{may-tell}
 use Rattle.svc_core.proofs.RecordLemmas.{signal-is, signal-none, on_true, to_true, not_true}
 use Rattle.svc_connections.specs.ConnectionsFacts.{is_connection_event}
@@ -477,13 +477,23 @@ pub strike-ends : (core : CoreData) (a : SendAnswer) → is_on core.end ≡ true
     → ((p : Plan) (r : Record) → core.drain.moment ≡ now r → OfferStands p core.offer r → OfferStands p o (Got (event_of a) ∷ r))
     → (d : EndpointsData) (before mid : List Action) (over : Option ℕ) → over ≡ over_since o.state → is_some over ≡ true → is_reached a ≡ false
     → Tells before mid (λ told. IsGivingUp told × ((r : Record) (e : Event) → is_endpoints_event e ≡ false → ((fd : ℕ) → is_held_back core.plan (Got e ∷ r) fd ≡ false) → EndpointsStand core.plan core.endpoints r → EndpointsStand core.plan d (tell (Got e ∷ r) told)))
-    → Tells before mid (λ told. (q : Record) → Right core.plan q → StandsFor core q → Struck (struck core core.starts d core.boot o core.drain) None (tell (Got (event_of a) ∷ q) told))
+    → Tells before mid (λ told. IsGivingUp told × ((q : Record) → Right core.plan q → StandsFor core q → Struck (struck core core.starts d core.boot o core.drain) None (tell (Got (event_of a) ∷ q) told)))
 strike-ends core a on may o after takes d before mid over over_is done rests gave = record {
   told = gave.told;
   appended = gave.appended;
-  kept = λ q right stands. strike-over core a on may o after takes q right stands d gave.told (some-since over (over_since o.state) over_is done) rests gave.kept.0 gave.kept.1;
+  kept = (gave.kept.0, λ q right stands. strike-over core a on may o after takes q right stands d gave.told (some-since over (over_since o.state) over_is done) rests gave.kept.0 gave.kept.1);
 }
   where
     some-since : (x y : Option ℕ) → x ≡ y → is_some x ≡ true → is_some y ≡ true
     some-since (Some at) y e h = subst (λ z. is_some z ≡ true) e refl
     some-since None y e h = absurd (cc)
+
+-- an answer that may come is awaited
+pub awaited-row : (core : CoreData) (a : SendAnswer) → RowMayCome core (event_of a) → is_awaited core.offer.state a ≡ true
+awaited-row core answers.Connected may = may
+awaited-row core answers.NotThere may = may
+awaited-row core answers.StillConnecting may = may
+awaited-row core answers.ConnectFailed may = may
+awaited-row core answers.Sent may = may
+awaited-row core answers.SendBusy may = may
+awaited-row core answers.SendFailed may = may

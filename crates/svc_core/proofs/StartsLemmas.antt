@@ -9,6 +9,7 @@ use Rattle.svc_record.specs.declared.entry.Entry.{Entry}
 use Rattle.svc_record.specs.declared.entry.Entry.TheVariants.{Got, Told}
 use Rattle.svc_record.specs.declared.action.Action.{Action}
 use Rattle.svc_record.specs.declared.action.Action.TheVariants.{Start}
+use Rattle.svc_record.specs.declared.event.Event.{Event}
 use Rattle.svc_record.specs.declared.event.Event.TheVariants.{Ready, Ended}
 use Rattle.svc_record.specs.Record.{Record, has, times, tell, is_bootstrap_complete, EachEntry}
 use Rattle.svc_record.specs.Failed.{has_failed}
@@ -129,3 +130,14 @@ starts-is p st failed complete q s valid inside h f c = rw (h.started_is s insid
 pub is_due-tell : (p : Plan) (q : Record) (told : List Action) (s : ℕ) → is_due p q s ≡ true → is_due p (tell q told) s ≡ true
 is_due-tell p q [] s h = h
 is_due-tell p q (a ∷ told) s h = is_due-tell p (Told a ∷ q) told s (is_due-grows p q (Told a) s h)
+
+-- the event is a service's word, or the end of its work
+abbrev pub is_word : Event → Bool
+is_word (Ready s) = true
+is_word (Ended s) = true
+is_word _ = false
+
+pub starts-got : (p : Plan) (st : StartsData) (q : Record) (e : Event) → is_word e ≡ false → StartsStand p st q → StartsStand p st (Got e ∷ q)
+starts-got p st q (Ready s) other h = absurd (cc)
+starts-got p st q (Ended s) other h = absurd (cc)
+starts-got p st q _ other h = record { started_is = h.started_is; ready_is = h.ready_is; ended_is = h.ended_is }

@@ -65,7 +65,7 @@ use Rattle.svc_core.specs.Passes.{AreStarted, MayEnd, is_tested}
 use Rattle.svc_core.specs.Stands.{StandsFor, IsSettled, Struck, StepRight, StepKeeps, Follows, EndedSo, ReadyMayCome, EndedMayCome, BindMayBeAnswered, BoundMayCome, AdoptMayBeAnswered, LoopMayEnd, ReceivedMayCome, is_loop_on}
 use Rattle.svc_core.proofs.RecordLemmas.{not_true, to_false, on_true}
 use Rattle.svc_core.proofs.ClosesLemmas.{has-times}
-use Rattle.svc_core.proofs.StartsLemmas.{is_due-grows, stands-word, stands-end}
+use Rattle.svc_core.proofs.StartsLemmas.{is_due-grows, stands-word, stands-end, is_word, starts-got}
 use Rattle.svc_core.proofs.GoingLemmas.{Loose, loose-tell, may-tell, going-from, are_loose, begun-tell}
 use Rattle.svc_core.proofs.OpenLemmas.{has-count}
 use Rattle.svc_core.proofs.PassLemmas.{may-complete}
@@ -271,23 +271,15 @@ module _ (core : CoreData) (q : Record) (e : Event) (right : Right core.plan q) 
       (λ due. absurd (let none_due = (settled-of core q stands on).offer.no_send in cc))
 
 -- an event, then the rest of the step
-pub step-by : (core mid_core new : CoreData) (e : Event) (copy : Option Message) (before mid after : List Action) (end : StepEnd) → new.plan ≡ core.plan
+pub step-by : (core mid_core new : CoreData) (e : Event) (copy : Option Message) (before mid after : List Action) (end : StepEnd)
     → Tells before mid (λ gave. (q : Record) → Right core.plan q → StandsFor core q → Struck mid_core copy (tell (Got e ∷ q) gave))
     → Follows mid_core new copy mid after end
     → StepKeeps core new e before after end
-step-by core mid_core new e copy before mid after end same first next = record {
+step-by core mid_core new e copy before mid after end first next = record {
   told = first.told ++ next.told;
   appended = next.appended ∙ ap (λ w. w ++ next.told) first.appended ∙ append_assoc before first.told next.told;
   kept = λ q right stands. subst (λ r. StepRight new r end) (sym (tell-append (Got e ∷ q) first.told next.told)) (next.kept (tell (Got e ∷ q) first.told) (first.kept q right stands));
 }
-
--- nothing was told by the event itself
-pub step-silent : (core mid_core new : CoreData) (e : Event) (copy : Option Message) (before after : List Action) (end : StepEnd) → new.plan ≡ core.plan
-    → ((q : Record) → Right core.plan q → StandsFor core q → Struck mid_core copy (Got e ∷ q))
-    → Follows mid_core new copy before after end
-    → StepKeeps core new e before after end
-step-silent core mid_core new e copy before after end same first next =
-    step-by core mid_core new e copy before before after end same (record { told = []; appended = sym (append-nil before); kept = first }) next
 
 -- a run that goes on hasn't ended so
 pub not-ended : (p : Plan) (b : BootData) (q : Record) → is_on (end_of p b) ≡ true → OnFalse (is_on (end_of p b)) (EndedSo p q)
@@ -411,20 +403,22 @@ strike-ended core s formed on may q right stands =
 
 -- an answer to an ask of an endpoint
 pub strike-answer : (core : CoreData) (e : Event) (d : EndpointsData) (before after : List Action) → is_on core.end ≡ true
-    → is_connection_event e ≡ false → is_drain_event e ≡ false → is_offer_event e ≡ false → is_boot_event e ≡ false
-    → ((q : Record) → StartsStand core.plan core.starts q → StartsStand core.plan core.starts (Got e ∷ q))
+    → is_connection_event e ≡ false → is_drain_event e ≡ false → is_offer_event e ≡ false → is_boot_event e ≡ false → is_word e ≡ false
     → ((q : Record) → StandsFor core q → fits core.plan q e ≡ true)
     → Tells before after (λ told. IsGivingUp told × ((q : Record) → core.drain.moment ≡ now q → AreOnOffer core.plan (numbers_on_offer core.offer) q → EndpointsStand core.plan core.endpoints q → EndpointsStand core.plan d (tell (Got e ∷ q) told)))
-    → Tells before after (λ told. (q : Record) → Right core.plan q → StandsFor core q → Struck (struck core core.starts d core.boot core.offer core.drain) None (tell (Got e ∷ q) told))
-strike-answer core e d before after on apart plain asks other starts fit gave = record {
+    → Tells before after (λ told. IsGivingUp told × ((q : Record) → Right core.plan q → StandsFor core q → Struck (struck core core.starts d core.boot core.offer core.drain) None (tell (Got e ∷ q) told)))
+strike-answer core e d before after on apart plain asks other word fit gave = record {
   told = gave.told;
   appended = gave.appended;
-  kept = λ q right stands.
-      strike-plain core q e right stands on (fit q stands) plain asks (no-fork e other) core.starts d core.boot gave.told apart gave.kept.0
-      (starts q stands.starts)
-      (gave.kept.1 q (drain-of core q stands on).moment_is (on-offer core.plan core.offer q (offer-of core q stands on)) (ends-of core q stands on))
-      (foreign.stands-got core.plan core.boot q e other stands.boot) refl refl refl
-      (λ m. not-ended core.plan core.boot (tell (Got e ∷ q) gave.told) (on-boot core q stands on));
+  kept = (
+    gave.kept.0,
+    λ q right stands.
+        strike-plain core q e right stands on (fit q stands) plain asks (no-fork e other) core.starts d core.boot gave.told apart gave.kept.0
+        (starts-got core.plan core.starts q e word stands.starts)
+        (gave.kept.1 q (drain-of core q stands on).moment_is (on-offer core.plan core.offer q (offer-of core q stands on)) (ends-of core q stands on))
+        (foreign.stands-got core.plan core.boot q e other stands.boot) refl refl refl
+        (λ m. not-ended core.plan core.boot (tell (Got e ∷ q) gave.told) (on-boot core q stands on)),
+  );
 }
 
 -- a law that needs no moment, and one that doesn't look at the offer
@@ -448,15 +442,18 @@ pub strike-received : (core : CoreData) (bytes fds : List ℕ) (good : Bool) (d 
     → good ≡ is_read (decode bytes (length fds)) → b ≡ received good core.boot
     → ((q : Record) → BootStands core.plan core.boot q → BootStands core.plan b (Got (Received bytes fds) ∷ q))
     → Tells before after (λ told. IsGivingUp told × (good ≡ false → told ≡ []) × ((q : Record) → EndpointsStand core.plan core.endpoints q → EndpointsStand core.plan d (tell (Got (Received bytes fds) ∷ q) told)))
-    → Tells before after (λ told. (q : Record) → Right core.plan q → StandsFor core q → Struck (struck core core.starts d b core.offer core.drain) None (tell (Got (Received bytes fds) ∷ q) told))
+    → Tells before after (λ told. IsGivingUp told × ((q : Record) → Right core.plan q → StandsFor core q → Struck (struck core core.starts d b core.offer core.drain) None (tell (Got (Received bytes fds) ∷ q) told)))
 strike-received core bytes fds good d b before after on may read now_boot boots gave = record {
   told = gave.told;
   appended = gave.appended;
-  kept = λ q right stands.
-      strike-plain core q (Received bytes fds) right stands on (fits-received core q bytes fds on may stands) refl refl refl core.starts d b gave.told refl gave.kept.0
-      (record { started_is = stands.starts.started_is; ready_is = stands.starts.ready_is; ended_is = stands.starts.ended_is })
-      (gave.kept.2 q (ends-of core q stands on)) (boots q stands.boot) (ap (λ (x : BootData). x.fork) now_boot) (ap (λ (x : BootData). x.begun) now_boot) (ap (λ (x : BootData). x.complete) now_boot)
-      (by good refl q stands);
+  kept = (
+    gave.kept.0,
+    λ q right stands.
+        strike-plain core q (Received bytes fds) right stands on (fits-received core q bytes fds on may stands) refl refl refl core.starts d b gave.told refl gave.kept.0
+        (starts-got core.plan core.starts q (Received bytes fds) refl stands.starts)
+        (gave.kept.2 q (ends-of core q stands on)) (boots q stands.boot) (ap (λ (x : BootData). x.fork) now_boot) (ap (λ (x : BootData). x.begun) now_boot) (ap (λ (x : BootData). x.complete) now_boot)
+        (by good refl q stands),
+  );
 }
   where
     by : (c : Bool) → good ≡ c → (q : Record) → StandsFor core q → MayEnd core.plan (tell (Got (Received bytes fds) ∷ q) gave.told) → OnFalse (is_on (end_of core.plan b)) (EndedSo core.plan (tell (Got (Received bytes fds) ∷ q) gave.told))
@@ -470,28 +467,30 @@ strike-received core bytes fds good d b before after on may read now_boot boots 
 -- the end of a loop
 pub strike-loop : (core : CoreData) (s i j : ℕ) (d : EndpointsData) (before after : List Action) → IsEndpointsSized core.plan core.endpoints → is_on core.end ≡ true → LoopMayEnd core s i j
     → Tells before after (λ told. IsGivingUp told × ((q : Record) → fits_row core.plan q (LoopEnded s i j) ≡ true → AreOnOffer core.plan (numbers_on_offer core.offer) q → EndpointsStand core.plan core.endpoints q → EndpointsStand core.plan d (tell (Got (LoopEnded s i j) ∷ q) told)))
-    → Tells before after (λ told. (q : Record) → Right core.plan q → StandsFor core q → Struck (struck core core.starts d core.boot core.offer core.drain) None (tell (Got (LoopEnded s i j) ∷ q) told))
+    → Tells before after (λ told. IsGivingUp told × ((q : Record) → Right core.plan q → StandsFor core q → Struck (struck core core.starts d core.boot core.offer core.drain) None (tell (Got (LoopEnded s i j) ∷ q) told)))
 strike-loop core s i j d before after sized on may gave = record {
   told = gave.told;
   appended = gave.appended;
-  kept = λ q right stands.
-      strike-plain core q (LoopEnded s i j) right stands on (fits-loop core q s i j sized on stands may) refl refl refl core.starts d core.boot gave.told refl gave.kept.0
-      (record { started_is = stands.starts.started_is; ready_is = stands.starts.ready_is; ended_is = stands.starts.ended_is })
-      (gave.kept.1 q (loop-row core q s i j sized on stands may) (on-offer core.plan core.offer q (offer-of core q stands on)) (ends-of core q stands on))
-      (foreign.stands-got core.plan core.boot q (LoopEnded s i j) refl stands.boot) refl refl refl
-      (λ m. not-ended core.plan core.boot (tell (Got (LoopEnded s i j) ∷ q) gave.told) (on-boot core q stands on));
+  kept = (
+    gave.kept.0,
+    λ q right stands.
+        strike-plain core q (LoopEnded s i j) right stands on (fits-loop core q s i j sized on stands may) refl refl refl core.starts d core.boot gave.told refl gave.kept.0
+        (starts-got core.plan core.starts q (LoopEnded s i j) refl stands.starts)
+        (gave.kept.1 q (loop-row core q s i j sized on stands may) (on-offer core.plan core.offer q (offer-of core q stands on)) (ends-of core q stands on))
+        (foreign.stands-got core.plan core.boot q (LoopEnded s i j) refl stands.boot) refl refl refl
+        (λ m. not-ended core.plan core.boot (tell (Got (LoopEnded s i j) ∷ q) gave.told) (on-boot core q stands on)),
+  );
 }
 
 -- no sender, or a failure
 pub strike-refused : (core : CoreData) (e : Event) (b : BootData) → is_fork_event e ≡ false → is_on core.end ≡ true → b.fork ≡ core.boot.fork → b.begun ≡ core.boot.begun → b.complete ≡ core.boot.complete
-    → is_connection_event e ≡ false → is_drain_event e ≡ false → is_offer_event e ≡ false
+    → is_connection_event e ≡ false → is_drain_event e ≡ false → is_offer_event e ≡ false → is_word e ≡ false
     → ((q : Record) → StandsFor core q → fits core.plan q e ≡ true)
-    → ((q : Record) → StartsStand core.plan core.starts q → StartsStand core.plan core.starts (Got e ∷ q))
     → ((q : Record) → EndpointsStand core.plan core.endpoints q → EndpointsStand core.plan core.endpoints (Got e ∷ q))
     → ((q : Record) → core.drain.moment ≡ now q → BootStands core.plan core.boot q → BootStands core.plan b (Got e ∷ q))
     → (q : Record) → Right core.plan q → StandsFor core q → Struck (struck core core.starts core.endpoints b core.offer core.drain) None (Got e ∷ q)
-strike-refused core e b other on fork begun complete apart plain asks fit starts ends boots q right stands =
+strike-refused core e b other on fork begun complete apart plain asks word fit ends boots q right stands =
     strike-plain core q e right stands on (fit q stands) plain asks other core.starts core.endpoints b [] apart tt
-    (starts q stands.starts) (ends q (ends-of core q stands on))
+    (starts-got core.plan core.starts q e word stands.starts) (ends q (ends-of core q stands on))
     (boots q (drain-of core q stands on).moment_is stands.boot) fork begun complete
     (ended-so core.plan b q e (boots q (drain-of core q stands on).moment_is stands.boot) (ap (λ x. core.plan.test && x) begun ∙ (on-end core.plan core.boot (on-boot core q stands on)).0))

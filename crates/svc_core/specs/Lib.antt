@@ -5,6 +5,7 @@ pub mod CoreData
 pub mod Passes
 pub mod Rooms
 pub mod Stands
+pub mod Steps
 pub mod Signals
 pub use Rattle.svc_record.specs.Told
 pub use Rattle.svc_record.specs.Judging

@@ -2,6 +2,7 @@
 use Rattle.std.specs.Prelude.{ℕ, Bool, true, false, not, ◌≡◌, ◌≢◌, ◌<◌, ◌+◌, ◌||◌, ◌&&◌, ◌⊎◌, List, length, slice_index, MatchBool, if◌then◌else◌}
 use Rattle.std.specs.Bool.{OnTrue}
 use Rattle.svc_graph.specs.declared.plan.Kind.TheVariants.{Bootstrap}
+use Rattle.svc_base.specs.Items.{list_of}
 use Rattle.svc_record.specs.declared.plan.Plan.{Plan}
 use Rattle.svc_record.specs.declared.action.Action.{Action}
 use Rattle.svc_record.specs.Plans.{service_count, endpoints, has_kind}
@@ -16,7 +17,7 @@ use Rattle.svc_record.specs.Offer.{one_ask}
 use Rattle.svc_record.specs.Fits.{event_fits}
 use Rattle.svc_record.specs.Right.{SettledRight, is_quiet, is_test_step}
 use Rattle.svc_record.specs.Told.{Tells}
-use Rattle.svc_endpoints.specs.EndpointsData.{EndpointsData}
+use Rattle.svc_endpoints.specs.EndpointsData.{EndpointsData, EndpointsRoom}
 use Rattle.svc_endpoints.specs.EndpointsState.{EndpointsStand}
 use Rattle.svc_boot.specs.BootData.{BootData}
 use Rattle.svc_boot.specs.ForkState.{is_free}
@@ -130,3 +131,15 @@ begin_room b = if b.begun then 0 else 4
 abbrev pub Passes : Plan → List ℕ → DrainData → ℕ → ℕ → StartsData → StartsData → EndpointsData → EndpointsData → BootData → BootData → List Action → List Action → Type 0
 Passes p order dr j k st st' d d' b b' before after =
     Tells before after (λ told. (o : OfferData) (cn : ConnectionsData) (q : Record) → PassedUpTo p order j st d b o dr cn q → PassedUpTo p order k st' d' b' o dr cn (tell q told))
+
+-- a call's part of it: the first half of a visit, a visit, and the visits of all
+abbrev pub StartsAt : Plan → List ℕ → DrainData → ℕ → StartsData → StartsData → EndpointsRoom → BootData → BootData → List Action × ℕ → List Action × ℕ → Type 0
+StartsAt p order dr k st st' d b b' before after = Starting p order dr k st st' d.parts b b' (list_of before) (list_of after)
+
+abbrev pub VisitsAt : Plan → List ℕ → DrainData → ℕ → StartsData → StartsData → EndpointsRoom → EndpointsRoom
+    → BootData → BootData → List Action × ℕ → List Action × ℕ → Type 0
+VisitsAt p order dr k st st' d d' b b' before after = Passes p order dr k (k + 1) st st' d.parts d'.parts b b' (list_of before) (list_of after)
+
+abbrev pub VisitsAll : Plan → List ℕ → DrainData → StartsData → StartsData → EndpointsRoom → EndpointsRoom
+    → BootData → BootData → List Action × ℕ → List Action × ℕ → Type 0
+VisitsAll p order dr st st' d d' b b' before after = Passes p order dr 0 (length order) st st' d.parts d'.parts b b' (list_of before) (list_of after)

@@ -1,5 +1,5 @@
 -- How many actions a core may tell.
-use Rattle.std.specs.Prelude.{ℕ, ◌+◌, ◌*◌, ◌≤◌, List, [], length, if◌then◌else◌, ◌==◌, not, Option, Some, None, filter}
+use Rattle.std.specs.Prelude.{ℕ, ◌+◌, ◌*◌, ◌≤◌, List, [], length, map, ◌++◌, if◌then◌else◌, ◌==◌, not, Option, Some, None, filter}
 use Rattle.std.specs.List.{list_any}
 use Rattle.svc_record.specs.declared.entry.Entry.TheVariants.{Got}
 use Rattle.svc_record.specs.declared.event.Event.{Event}
@@ -7,6 +7,8 @@ use Rattle.svc_record.specs.Descriptors.{numbers_of}
 use Rattle.svc_record.specs.Tail.{each_once}
 use Rattle.svc_base.specs.Items.{list_of, spare}
 use Rattle.svc_record.specs.declared.action.Action.{Action}
+use Rattle.svc_record.specs.declared.action.Action.TheVariants.{Close}
+use Rattle.svc_connections.specs.ConnectionsEffects.{cuts}
 use Rattle.svc_endpoints.specs.EndpointsState.{open_numbers as table_numbers}
 use Rattle.svc_connections.specs.declared.stage.Connection.{Connection}
 use Rattle.svc_core.specs.CoreData.{CoreData, is_served}
@@ -18,6 +20,10 @@ open_numbers core = if is_served core.end then [] else table_numbers core.endpoi
 -- the connections that are live
 abbrev pub open_connections : CoreData → List Connection
 open_connections core = if is_served core.end then [] else core.connections.live
+
+-- what cuts and closes all that is open
+abbrev pub open_closes : CoreData → List Action
+open_closes core = cuts (open_connections core) ++ map Close (open_numbers core)
 
 -- how many descriptors and connections are open
 abbrev pub open_count : CoreData → ℕ

@@ -1,29 +1,22 @@
 //! The core: one step for each event.
 
-ghost use Rattle.std.specs.Prelude.{◌≡◌, ◌+◌, ◌*◌, ◌<◌, ◌≤◌, ◌++◌, ◌&&◌, [], ◌∷◌, length, is_some, false, true, IfOk, OnErr, OnOk, Option, None};
-ghost use Rattle.svc_record.specs.declared.event.ShutdownSignal.{ShutdownSignal};
+ghost use Rattle.std.specs.Prelude.{◌≡◌, ◌+◌, ◌*◌, ◌<◌, ◌≤◌, ◌&&◌, [], ◌∷◌, false, true, IfOk, OnErr, OnOk, Option, None};
 ghost use Rattle.svc_base.specs.Items.{list_of, spare};
-ghost use Rattle.svc_record.specs.Record.{Record, tell};
-ghost use Rattle.svc_record.specs.Descriptors.{live_table};
-ghost use Rattle.svc_record.specs.Offer.{is_empty_table};
+ghost use Rattle.svc_record.specs.Record.{Record};
 ghost use Rattle.svc_record.specs.Plans.{service_count};
 ghost use Rattle.svc_record.specs.Starts.{is_ready};
-ghost use Rattle.svc_record.specs.Told.{Tells, TellsBoth};
 ghost use Rattle.svc_record.specs.Validity.{IsValid};
+ghost use Rattle.svc_record.specs.Told.{TellsBoth};
+ghost use Rattle.svc_offer.specs.OfferEffects.{event_of};
 ghost use Rattle.svc_record.specs.Judging.{TellsJudged, judged_at, asked_filter};
-ghost use Rattle.svc_boot.specs.BootState.{is_trying};
 ghost use Rattle.svc_fds.specs.declared.encoding.Message.{Message};
-ghost use Rattle.svc_endpoints.specs.EndpointsState.{EndpointsStand, open_numbers as table_numbers};
-ghost use Rattle.svc_offer.specs.OfferState.{is_connecting};
-ghost use Rattle.svc_offer.specs.OfferEffects.{event_of, is_awaited};
-ghost use Rattle.svc_drain.specs.DrainEffects.{end_told};
-ghost use Rattle.svc_connections.specs.ConnectionsState.{numbers};
-ghost use Rattle.svc_core.specs.Copies.{TellsBare, TellsCopied, copy_of, message_at, copy_at};
-ghost use Rattle.svc_core.specs.CoreData.{is_on, is_served, with_end};
-ghost use Rattle.svc_core.specs.Passes.{may_start, begin_room};
-ghost use Rattle.svc_core.specs.Stands.{StandsFor, HasNotBegun, Follows, Ripe, Visited, Tried, StepRight, MayCome, ReadyMayCome, EndedMayCome, ReceivedMayCome, BoundMayCome, BindMayBeAnswered, AdoptMayBeAnswered, LoopMayEnd, StepKeeps, BeginKeeps};
-ghost use Rattle.svc_core.specs.Signals.{offers_by, is_reached};
-ghost use Rattle.svc_core.specs.Rooms.{TellsWithin, KeepsRoom, tell_room, step_room, close_room, open_count, most_open};
+ghost use Rattle.svc_core.specs.Copies.{TellsCopied, message_at, copy_at};
+ghost use Rattle.svc_core.specs.CoreData.{is_on, is_served};
+ghost use Rattle.svc_core.specs.Passes.{may_start};
+ghost use Rattle.svc_core.specs.Stands.{StandsFor, HasNotBegun, Struck, Visited, Tried, MayCome, StepKeeps, BeginKeeps};
+ghost use Rattle.svc_core.specs.Steps.{MayStep, Steps, StepsOr, Ignores, Takes, Goes, Visits, EndsRun, finish_room, visit_room, go_room, answer_room};
+ghost use Rattle.svc_core.specs.Signals.{OffersBy, IgnoresLater, is_reached};
+ghost use Rattle.svc_core.specs.Rooms.{TellsWithin, KeepsRoom, tell_room, step_room, most_open};
 
 mod closing;
 mod connecting;
@@ -167,12 +160,8 @@ impl Core {
     /// a handover is tried for again, and what is due of the offer and of the signal is told. Where
     /// the event ended the run, nothing follows. The copy is of the message, where its send is due.
     fn finish(&mut self, copy: Option<Message>, actions: &mut Actions) -> StepEnd
-        requires room { 2 * length self.old.order + begin_room self.old.boot + most_open self.old + 11 ≤ spare actions.old }
-        ensures plan { self.new.plan ≡ self.old.plan }
-        ensures kept { Follows self.old self.new copy (list_of actions.old) (list_of actions.new) result }
-        ensures copied { TellsCopied (copy_of copy) (list_of actions.old) (list_of actions.new) }
-        ensures few { length (list_of actions.new) + open_count self.new ≤ length (list_of actions.old) + (2 * length self.old.order + begin_room self.old.boot + most_open self.old + 11) }
-        ensures room { spare actions.old + open_count self.new ≤ spare actions.new + (2 * length self.old.order + begin_room self.old.boot + most_open self.old + 11) }
+        requires { finish_room self.old ≤ spare actions.old }
+        ensures { Goes (Struck self.old copy) (finish_room self.old) self.old self.new copy actions.old actions.new result }
     {
         self.end = self.boot.end(&self.plan);
         if !is_on(self.end) {
@@ -185,15 +174,8 @@ impl Core {
 
     /// Visits the services, where they may start.
     fn start_up(&mut self, actions: &mut Actions)
-        requires room { 2 * length self.old.order + begin_room self.old.boot ≤ spare actions.old }
-        ensures plan { self.new.plan ≡ self.old.plan }
-        ensures order { self.new.order ≡ self.old.order }
-        ensures table { self.new.endpoints.table ≡ self.old.endpoints.table }
-        ensures connections { self.new.connections ≡ self.old.connections }
-        ensures kept { Tells (list_of actions.old) (list_of actions.new) (λ told. (copy : Option Message) (q : Record) → Ripe self.old copy q → Visited self.new copy (tell q told)) }
-        ensures bare { TellsBare (list_of actions.old) (list_of actions.new) }
-        ensures few { length (list_of actions.new) ≤ length (list_of actions.old) + (2 * length self.old.order + begin_room self.old.boot) }
-        ensures room { spare actions.old ≤ spare actions.new + (2 * length self.old.order + begin_room self.old.boot) }
+        requires { visit_room self.old ≤ spare actions.old }
+        ensures { Visits self.old self.new actions.old actions.new }
     {
         if self.may_start() {
             pass(
@@ -218,12 +200,8 @@ impl Core {
     /// The server runs, a handover is tried for again, and the offer and the signal are answered,
     /// unless the run was tested.
     fn go_on(&mut self, copy: Option<Message>, actions: &mut Actions) -> StepEnd
-        requires room { most_open self.old + 10 ≤ spare actions.old }
-        ensures plan { self.new.plan ≡ self.old.plan }
-        ensures kept { Tells (list_of actions.old) (list_of actions.new) (λ told. (q : Record) → Visited self.old copy q → StepRight self.new (tell q told) result) }
-        ensures copied { TellsCopied (copy_of copy) (list_of actions.old) (list_of actions.new) }
-        ensures few { length (list_of actions.new) + open_count self.new ≤ length (list_of actions.old) + most_open self.old + 10 }
-        ensures room { spare actions.old + open_count self.new ≤ spare actions.new + most_open self.old + 10 }
+        requires { go_room self.old ≤ spare actions.old }
+        ensures { Goes (Visited self.old copy) (go_room self.old) self.old self.new copy actions.old actions.new result }
     {
         self.end = self.boot.end(&self.plan);
         if !is_on(self.end) {
@@ -241,12 +219,8 @@ impl Core {
     /// Tells what follows the signal, and asks the successor for what is due of the offer. The run
     /// ends where all the signal's waits have passed.
     fn answer(&mut self, copy: Option<Message>, actions: &mut Actions) -> StepEnd
-        requires room { most_open self.old + 8 ≤ spare actions.old }
-        ensures plan { self.new.plan ≡ self.old.plan }
-        ensures kept { Tells (list_of actions.old) (list_of actions.new) (λ told. (q : Record) → Tried self.old copy q → StepRight self.new (tell q told) result) }
-        ensures copied { TellsCopied (copy_of copy) (list_of actions.old) (list_of actions.new) }
-        ensures few { length (list_of actions.new) + open_count self.new ≤ length (list_of actions.old) + most_open self.old + 8 }
-        ensures room { spare actions.old + open_count self.new ≤ spare actions.new + most_open self.old + 8 }
+        requires { answer_room self.old ≤ spare actions.old }
+        ensures { Goes (Tried self.old copy) (answer_room self.old) self.old self.new copy actions.old actions.new result }
     {
         let over = self.offer.over_since();
         let passed = self.drain.go_on(&self.plan, over, actions);
@@ -259,11 +233,8 @@ impl Core {
 
     /// The live connections are cut, the live descriptors close, and the run ends.
     fn end_run(&mut self, actions: &mut Actions) -> StepEnd
-        requires room { most_open self.old + 3 ≤ spare actions.old }
-        ensures after { self.new ≡ with_end StepEnd.Served self.old }
-        ensures end { result ≡ StepEnd.Served }
-        ensures told { list_of actions.new ≡ list_of actions.old ++ end_told self.old.plan self.old.drain (numbers self.old.connections.live) (table_numbers self.old.endpoints) }
-        ensures room { spare actions.old ≤ spare actions.new + (most_open self.old + 3) }
+        requires { most_open self.old + 3 ≤ spare actions.old }
+        ensures { EndsRun self.old self.new actions.old actions.new result }
     {
         self.drain.shut_down(actions);
         self.connections.cut_all(actions);
@@ -287,13 +258,27 @@ impl Core {
         ensures refused { OnErr result (self.new ≡ self.old) }
         ensures untold { OnErr result (list_of actions.new ≡ list_of actions.old) }
         ensures kept { IfOk result (λ end. StepKeeps self.old self.new event.now (list_of actions.old) (list_of actions.new) end) }
-        ensures later { (kind : ShutdownSignal) → event.now ≡ Event.Signal kind → is_some self.old.drain.signal ≡ true → OnOk result (self.new ≡ self.old) × OnOk result (list_of actions.new ≡ list_of actions.old) }
+        ensures later { IgnoresLater self.old self.new event.now (list_of actions.old) (list_of actions.new) result }
         ensures copied { OnOk result (TellsCopied (copy_at self.old event.now) (list_of actions.old) (list_of actions.new)) }
         ensures judged { OnOk result (TellsJudged (judged_at self.old.plan event.now said) (list_of actions.old) (list_of actions.new)) }
         ensures few { OnOk result (TellsWithin self.old self.new actions.old actions.new) }
         ensures room { KeepsRoom self.old self.new actions.old actions.new }
     {
         actions.reserve(alloc, self.tell_room())?;
+        self.take_event(alloc, event, said, actions)
+    }
+
+    /// The event's own step, where there is room for it.
+    fn take_event(
+        &mut self,
+        alloc: Global,
+        event: &Event,
+        said: bool,
+        actions: &mut Actions,
+    ) -> Result<StepEnd, NoMemory>
+        requires { MayStep self.old event.now actions.old }
+        ensures { Takes self.old self.new event.now said actions.old actions.new result }
+    {
         match event {
             Event::Moment(ms) => self.step_moment(alloc, *ms, actions),
             Event::Ready(s) => Ok(self.step_ready(*s, actions)),
@@ -391,16 +376,8 @@ impl Core {
         ms: u64,
         actions: &mut Actions,
     ) -> Result<StepEnd, NoMemory>
-        requires on { is_on self.old.end ≡ true }
-        requires may { self.old.drain.moment ≤ ms }
-        requires room { tell_room self.old ≤ spare actions.old }
-        ensures plan { IfOk result (λ _. self.new.plan ≡ self.old.plan) }
-        ensures refused { OnErr result (self.new ≡ self.old) }
-        ensures untold { OnErr result (list_of actions.new ≡ list_of actions.old) }
-        ensures kept { IfOk result (λ end. StepKeeps self.old self.new (Event.Moment ms) (list_of actions.old) (list_of actions.new) end) }
-        ensures copied { OnOk result (TellsCopied (copy_at self.old (Event.Moment ms)) (list_of actions.old) (list_of actions.new)) }
-        ensures few { OnOk result (TellsWithin self.old self.new actions.old actions.new) }
-        ensures room { KeepsRoom self.old self.new actions.old actions.new }
+        requires { MayStep self.old (Event.Moment ms) actions.old }
+        ensures { StepsOr self.old self.new (Event.Moment ms) actions.old actions.new result }
     {
         if self.is_held() {
             return Ok(self.step_waiting(ms, actions));
@@ -412,14 +389,8 @@ impl Core {
 
     /// What waited for the service's word starts.
     fn step_ready(&mut self, s: u32, actions: &mut Actions) -> StepEnd
-        requires on { is_on self.old.end ≡ true }
-        requires may { ReadyMayCome self.old s }
-        requires room { tell_room self.old ≤ spare actions.old }
-        ensures plan { self.new.plan ≡ self.old.plan }
-        ensures kept { StepKeeps self.old self.new (Event.Ready s) (list_of actions.old) (list_of actions.new) result }
-        ensures bare { TellsBare (list_of actions.old) (list_of actions.new) }
-        ensures few { TellsWithin self.old self.new actions.old actions.new }
-        ensures room { close_room self.new ≤ spare actions.new }
+        requires { MayStep self.old (Event.Ready s) actions.old }
+        ensures { Steps self.old self.new (Event.Ready s) actions.old actions.new result }
     {
         self.starts.take_ready(&self.plan, s);
         self.finish(None, actions)
@@ -427,14 +398,8 @@ impl Core {
 
     /// What waited for the end of the service's work starts.
     fn step_ended(&mut self, s: u32, actions: &mut Actions) -> StepEnd
-        requires on { is_on self.old.end ≡ true }
-        requires may { EndedMayCome self.old s }
-        requires room { tell_room self.old ≤ spare actions.old }
-        ensures plan { self.new.plan ≡ self.old.plan }
-        ensures kept { StepKeeps self.old self.new (Event.Ended s) (list_of actions.old) (list_of actions.new) result }
-        ensures bare { TellsBare (list_of actions.old) (list_of actions.new) }
-        ensures few { TellsWithin self.old self.new actions.old actions.new }
-        ensures room { close_room self.new ≤ spare actions.new }
+        requires { MayStep self.old (Event.Ended s) actions.old }
+        ensures { Steps self.old self.new (Event.Ended s) actions.old actions.new result }
     {
         self.starts.take_ended(&self.plan, s);
         self.finish(None, actions)
@@ -449,16 +414,8 @@ impl Core {
         fd: u64,
         actions: &mut Actions,
     ) -> Result<StepEnd, NoMemory>
-        requires on { is_on self.old.end ≡ true }
-        requires may { BoundMayCome self.old s i fd }
-        requires room { tell_room self.old ≤ spare actions.old }
-        ensures plan { IfOk result (λ _. self.new.plan ≡ self.old.plan) }
-        ensures refused { OnErr result (self.new ≡ self.old) }
-        ensures untold { OnErr result (list_of actions.new ≡ list_of actions.old) }
-        ensures kept { IfOk result (λ end. StepKeeps self.old self.new (Event.Bound s i fd) (list_of actions.old) (list_of actions.new) end) }
-        ensures bare { OnOk result (TellsBare (list_of actions.old) (list_of actions.new)) }
-        ensures few { OnOk result (TellsWithin self.old self.new actions.old actions.new) }
-        ensures room { KeepsRoom self.old self.new actions.old actions.new }
+        requires { MayStep self.old (Event.Bound s i fd) actions.old }
+        ensures { StepsOr self.old self.new (Event.Bound s i fd) actions.old actions.new result }
     {
         let address = address_of(&self.plan, s, i).copy(alloc)?;
         self.endpoints.reserve()?;
@@ -469,14 +426,8 @@ impl Core {
 
     /// The endpoint rests, or its service fails.
     fn step_in_use(&mut self, s: u32, i: u32, actions: &mut Actions) -> StepEnd
-        requires on { is_on self.old.end ≡ true }
-        requires may { BindMayBeAnswered self.old s i }
-        requires room { tell_room self.old ≤ spare actions.old }
-        ensures plan { self.new.plan ≡ self.old.plan }
-        ensures kept { StepKeeps self.old self.new (Event.InUse s i) (list_of actions.old) (list_of actions.new) result }
-        ensures bare { TellsBare (list_of actions.old) (list_of actions.new) }
-        ensures few { TellsWithin self.old self.new actions.old actions.new }
-        ensures room { close_room self.new ≤ spare actions.new }
+        requires { MayStep self.old (Event.InUse s i) actions.old }
+        ensures { Steps self.old self.new (Event.InUse s i) actions.old actions.new result }
     {
         let moment = self.drain.moment();
         let kept = self.offer.numbers_on_offer();
@@ -487,14 +438,8 @@ impl Core {
 
     /// The service fails.
     fn step_bind_failed(&mut self, s: u32, i: u32, actions: &mut Actions) -> StepEnd
-        requires on { is_on self.old.end ≡ true }
-        requires may { BindMayBeAnswered self.old s i }
-        requires room { tell_room self.old ≤ spare actions.old }
-        ensures plan { self.new.plan ≡ self.old.plan }
-        ensures kept { StepKeeps self.old self.new (Event.BindFailed s i) (list_of actions.old) (list_of actions.new) result }
-        ensures bare { TellsBare (list_of actions.old) (list_of actions.new) }
-        ensures few { TellsWithin self.old self.new actions.old actions.new }
-        ensures room { close_room self.new ≤ spare actions.new }
+        requires { MayStep self.old (Event.BindFailed s i) actions.old }
+        ensures { Steps self.old self.new (Event.BindFailed s i) actions.old actions.new result }
     {
         let kept = self.offer.numbers_on_offer();
         self.endpoints
@@ -504,14 +449,8 @@ impl Core {
 
     /// The endpoint is held.
     fn step_adopted(&mut self, s: u32, i: u32, actions: &mut Actions) -> StepEnd
-        requires on { is_on self.old.end ≡ true }
-        requires may { AdoptMayBeAnswered self.old s i }
-        requires room { tell_room self.old ≤ spare actions.old }
-        ensures plan { self.new.plan ≡ self.old.plan }
-        ensures kept { StepKeeps self.old self.new (Event.Adopted s i) (list_of actions.old) (list_of actions.new) result }
-        ensures bare { TellsBare (list_of actions.old) (list_of actions.new) }
-        ensures few { TellsWithin self.old self.new actions.old actions.new }
-        ensures room { close_room self.new ≤ spare actions.new }
+        requires { MayStep self.old (Event.Adopted s i) actions.old }
+        ensures { Steps self.old self.new (Event.Adopted s i) actions.old actions.new result }
     {
         self.endpoints.take_adopted(&self.plan, s, i);
         self.finish(None, actions)
@@ -519,14 +458,8 @@ impl Core {
 
     /// The service fails.
     fn step_adopt_failed(&mut self, s: u32, i: u32, actions: &mut Actions) -> StepEnd
-        requires on { is_on self.old.end ≡ true }
-        requires may { AdoptMayBeAnswered self.old s i }
-        requires room { tell_room self.old ≤ spare actions.old }
-        ensures plan { self.new.plan ≡ self.old.plan }
-        ensures kept { StepKeeps self.old self.new (Event.AdoptFailed s i) (list_of actions.old) (list_of actions.new) result }
-        ensures bare { TellsBare (list_of actions.old) (list_of actions.new) }
-        ensures few { TellsWithin self.old self.new actions.old actions.new }
-        ensures room { close_room self.new ≤ spare actions.new }
+        requires { MayStep self.old (Event.AdoptFailed s i) actions.old }
+        ensures { Steps self.old self.new (Event.AdoptFailed s i) actions.old actions.new result }
     {
         let kept = self.offer.numbers_on_offer();
         self.endpoints
@@ -543,16 +476,8 @@ impl Core {
         fds: &[u64],
         actions: &mut Actions,
     ) -> Result<StepEnd, NoMemory>
-        requires on { is_on self.old.end ≡ true }
-        requires may { ReceivedMayCome self.old fds.now }
-        requires room { tell_room self.old ≤ spare actions.old }
-        ensures plan { IfOk result (λ _. self.new.plan ≡ self.old.plan) }
-        ensures refused { OnErr result (self.new ≡ self.old) }
-        ensures untold { OnErr result (list_of actions.new ≡ list_of actions.old) }
-        ensures kept { IfOk result (λ end. StepKeeps self.old self.new (Event.Received bytes.now fds.now) (list_of actions.old) (list_of actions.new) end) }
-        ensures bare { OnOk result (TellsBare (list_of actions.old) (list_of actions.new)) }
-        ensures few { OnOk result (TellsWithin self.old self.new actions.old actions.new) }
-        ensures room { KeepsRoom self.old self.new actions.old actions.new }
+        requires { MayStep self.old (Event.Received bytes.now fds.now) actions.old }
+        ensures { StepsOr self.old self.new (Event.Received bytes.now fds.now) actions.old actions.new result }
     {
         let good = self
             .endpoints
@@ -563,14 +488,8 @@ impl Core {
 
     /// The handover is tried for again later, or given up.
     fn step_no_sender(&mut self, actions: &mut Actions) -> StepEnd
-        requires on { is_on self.old.end ≡ true }
-        requires may { is_trying self.old.boot.receiving ≡ true }
-        requires room { tell_room self.old ≤ spare actions.old }
-        ensures plan { self.new.plan ≡ self.old.plan }
-        ensures kept { StepKeeps self.old self.new Event.NoSenderYet (list_of actions.old) (list_of actions.new) result }
-        ensures bare { TellsBare (list_of actions.old) (list_of actions.new) }
-        ensures few { TellsWithin self.old self.new actions.old actions.new }
-        ensures room { close_room self.new ≤ spare actions.new }
+        requires { MayStep self.old Event.NoSenderYet actions.old }
+        ensures { Steps self.old self.new Event.NoSenderYet actions.old actions.new result }
     {
         self.boot.take_no_sender(self.drain.moment());
         self.finish(None, actions)
@@ -578,14 +497,8 @@ impl Core {
 
     /// The run ends.
     fn step_receive_failed(&mut self, actions: &mut Actions) -> StepEnd
-        requires on { is_on self.old.end ≡ true }
-        requires may { is_trying self.old.boot.receiving ≡ true }
-        requires room { tell_room self.old ≤ spare actions.old }
-        ensures plan { self.new.plan ≡ self.old.plan }
-        ensures kept { StepKeeps self.old self.new Event.ReceiveFailed (list_of actions.old) (list_of actions.new) result }
-        ensures bare { TellsBare (list_of actions.old) (list_of actions.new) }
-        ensures few { TellsWithin self.old self.new actions.old actions.new }
-        ensures room { close_room self.new ≤ spare actions.new }
+        requires { MayStep self.old Event.ReceiveFailed actions.old }
+        ensures { Steps self.old self.new Event.ReceiveFailed actions.old actions.new result }
     {
         self.boot.take_failed();
         self.finish(None, actions)
@@ -593,16 +506,8 @@ impl Core {
 
     /// The successor is there: the message is sent.
     fn step_connected(&mut self, alloc: Global, actions: &mut Actions) -> Result<StepEnd, NoMemory>
-        requires on { is_on self.old.end ≡ true }
-        requires may { is_connecting self.old.offer.state ≡ true }
-        requires room { tell_room self.old ≤ spare actions.old }
-        ensures plan { IfOk result (λ _. self.new.plan ≡ self.old.plan) }
-        ensures refused { OnErr result (self.new ≡ self.old) }
-        ensures untold { OnErr result (list_of actions.new ≡ list_of actions.old) }
-        ensures kept { IfOk result (λ end. StepKeeps self.old self.new Event.Connected (list_of actions.old) (list_of actions.new) end) }
-        ensures copied { OnOk result (TellsCopied (copy_at self.old Event.Connected) (list_of actions.old) (list_of actions.new)) }
-        ensures few { OnOk result (TellsWithin self.old self.new actions.old actions.new) }
-        ensures room { KeepsRoom self.old self.new actions.old actions.new }
+        requires { MayStep self.old Event.Connected actions.old }
+        ensures { StepsOr self.old self.new Event.Connected actions.old actions.new result }
     {
         let copy = self.message_at(alloc, &Event::Connected)?;
         self.offer.take(SendAnswer::Connected, self.drain.moment());
@@ -612,15 +517,9 @@ impl Core {
     /// The offer goes on later, or is over. Once it is over, what is abandoned and was on offer
     /// closes.
     fn step_answer(&mut self, answer: SendAnswer, actions: &mut Actions) -> StepEnd
-        requires on { is_on self.old.end ≡ true }
-        requires may { is_awaited self.old.offer.state answer ≡ true }
+        requires may { MayStep self.old (event_of answer) actions.old }
         requires rests { is_reached answer ≡ false }
-        requires room { tell_room self.old ≤ spare actions.old }
-        ensures plan { self.new.plan ≡ self.old.plan }
-        ensures kept { StepKeeps self.old self.new (event_of answer) (list_of actions.old) (list_of actions.new) result }
-        ensures bare { TellsBare (list_of actions.old) (list_of actions.new) }
-        ensures few { TellsWithin self.old self.new actions.old actions.new }
-        ensures room { close_room self.new ≤ spare actions.new }
+        ensures { Steps self.old self.new (event_of answer) actions.old actions.new result }
     {
         self.offer.take(answer, self.drain.moment());
         if self.offer.over_since().is_some() {
@@ -638,16 +537,8 @@ impl Core {
         j: u64,
         actions: &mut Actions,
     ) -> Result<StepEnd, NoMemory>
-        requires on { is_on self.old.end ≡ true }
-        requires may { LoopMayEnd self.old s i j }
-        requires room { tell_room self.old ≤ spare actions.old }
-        ensures plan { IfOk result (λ _. self.new.plan ≡ self.old.plan) }
-        ensures refused { OnErr result (self.new ≡ self.old) }
-        ensures untold { OnErr result (list_of actions.new ≡ list_of actions.old) }
-        ensures kept { IfOk result (λ end. StepKeeps self.old self.new (Event.LoopEnded s i j) (list_of actions.old) (list_of actions.new) end) }
-        ensures bare { OnOk result (TellsBare (list_of actions.old) (list_of actions.new)) }
-        ensures few { OnOk result (TellsWithin self.old self.new actions.old actions.new) }
-        ensures room { KeepsRoom self.old self.new actions.old actions.new }
+        requires { MayStep self.old (Event.LoopEnded s i j) actions.old }
+        ensures { StepsOr self.old self.new (Event.LoopEnded s i j) actions.old actions.new result }
     {
         self.endpoints.reserve_loop()?;
         let kept = self.offer.numbers_on_offer();
@@ -664,17 +555,9 @@ impl Core {
         kind: ShutdownSignal,
         actions: &mut Actions,
     ) -> Result<StepEnd, NoMemory>
-        requires on { is_on self.old.end ≡ true }
-        requires may { self.old.drain.running ≡ true }
-        requires room { tell_room self.old ≤ spare actions.old }
-        ensures plan { IfOk result (λ _. self.new.plan ≡ self.old.plan) }
-        ensures refused { OnErr result (self.new ≡ self.old) }
-        ensures untold { OnErr result (list_of actions.new ≡ list_of actions.old) }
-        ensures kept { IfOk result (λ end. StepKeeps self.old self.new (Event.Signal kind) (list_of actions.old) (list_of actions.new) end) }
-        ensures later { is_some self.old.drain.signal ≡ true → OnOk result (self.new ≡ self.old) × OnOk result (list_of actions.new ≡ list_of actions.old) }
-        ensures bare { OnOk result (TellsBare (list_of actions.old) (list_of actions.new)) }
-        ensures few { OnOk result (TellsWithin self.old self.new actions.old actions.new) }
-        ensures room { KeepsRoom self.old self.new actions.old actions.new }
+        requires { MayStep self.old (Event.Signal kind) actions.old }
+        ensures steps { StepsOr self.old self.new (Event.Signal kind) actions.old actions.new result }
+        ensures later { Ignores self.old self.new (Event.Signal kind) actions.old actions.new }
     {
         if self.drain.signal().is_some() {
             return Ok(self.end);
@@ -691,7 +574,7 @@ impl Core {
 
     /// The signal asks for an upgrade, and something is live that can be offered.
     fn offers_by(&self, kind: ShutdownSignal) -> bool
-        ensures { (q : Record) → EndpointsStand self.now.plan self.now.endpoints q → result ≡ offers_by kind (is_empty_table (live_table self.now.plan q)) }
+        ensures { OffersBy self.now kind result }
     {
         matches!(kind, ShutdownSignal::GracefulUpgrade) && self.endpoints.offers_anything()
     }

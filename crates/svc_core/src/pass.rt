@@ -1,12 +1,12 @@
 //! The pass over the services: it starts what is due, asks for endpoints, and begins to bootstrap.
 
-ghost use Rattle.std.specs.Prelude.{◌≡◌, ◌+◌, ◌*◌, ◌-◌, ◌<◌, ◌≤◌, length, false};
+ghost use Rattle.std.specs.Prelude.{◌≡◌, ◌+◌, ◌*◌, ◌<◌, ◌≤◌, length, false};
 ghost use Rattle.svc_base.specs.Items.{list_of, spare};
-ghost use Rattle.svc_record.specs.Validity.{IsValid, IsInOrder};
-ghost use Rattle.svc_endpoints.specs.EndpointsState.{IsEndpointsSized};
 ghost use Rattle.svc_core.specs.Copies.{TellsBare};
+ghost use Rattle.svc_core.specs.CoreData.{IsFormed};
 ghost use Rattle.svc_core.specs.StartsState.{IsStartsSized};
-ghost use Rattle.svc_core.specs.Passes.{Passes, Starting, is_tested, begin_room};
+ghost use Rattle.svc_core.specs.Passes.{StartsAt, VisitsAt, VisitsAll, is_tested, begin_room};
+ghost use Rattle.svc_core.specs.Steps.{Spends};
 
 use crate::plans::is_bootstrap;
 use crate::starts::Starts;
@@ -34,18 +34,14 @@ fn start(
     boot: &mut Boot,
     actions: &mut Actions,
 )
-    requires valid { IsValid plan.now }
-    requires order { IsInOrder plan.now order.now }
+    requires formed { IsFormed plan.now order.now starts.old endpoints.now.parts }
     requires place { k < length order.now }
-    requires starts_sized { IsStartsSized plan.now starts.old }
-    requires ends_sized { IsEndpointsSized plan.now endpoints.now.parts }
     requires untested { is_tested plan.now boot.old ≡ false }
     requires room { 1 + begin_room boot.old ≤ spare actions.old }
     ensures starts_sized { IsStartsSized plan.now starts.new }
     ensures bare { TellsBare (list_of actions.old) (list_of actions.new) }
-    ensures few { length (list_of actions.new) + begin_room boot.new ≤ length (list_of actions.old) + begin_room boot.old + 1 }
-    ensures room { spare actions.old + begin_room boot.new ≤ spare actions.new + begin_room boot.old + 1 }
-    ensures started { Starting plan.now order.now drain.now k starts.old starts.new endpoints.now.parts boot.old boot.new (list_of actions.old) (list_of actions.new) }
+    ensures spends { Spends (begin_room boot.old + 1) (begin_room boot.new) actions.old actions.new }
+    ensures started { StartsAt plan.now order.now drain.now k starts.old starts.new endpoints.now boot.old boot.new actions.old actions.new }
 {
     let s = order[k];
     let complete = boot.is_complete();
@@ -67,19 +63,14 @@ fn visit(
     boot: &mut Boot,
     actions: &mut Actions,
 )
-    requires valid { IsValid plan.now }
-    requires order { IsInOrder plan.now order.now }
+    requires formed { IsFormed plan.now order.now starts.old endpoints.old.parts }
     requires place { k < length order.now }
-    requires starts_sized { IsStartsSized plan.now starts.old }
-    requires ends_sized { IsEndpointsSized plan.now endpoints.old.parts }
     requires room { 2 + begin_room boot.old ≤ spare actions.old }
-    ensures starts_sized { IsStartsSized plan.now starts.new }
-    ensures ends_sized { IsEndpointsSized plan.now endpoints.new.parts }
+    ensures formed { IsFormed plan.now order.now starts.new endpoints.new.parts }
     ensures table { endpoints.new.parts.table ≡ endpoints.old.parts.table }
     ensures bare { TellsBare (list_of actions.old) (list_of actions.new) }
-    ensures few { length (list_of actions.new) + begin_room boot.new ≤ length (list_of actions.old) + begin_room boot.old + 2 }
-    ensures room { spare actions.old + begin_room boot.new ≤ spare actions.new + begin_room boot.old + 2 }
-    ensures passed { Passes plan.now order.now drain.now k (k + 1) starts.old starts.new endpoints.old.parts endpoints.new.parts boot.old boot.new (list_of actions.old) (list_of actions.new) }
+    ensures spends { Spends (begin_room boot.old + 2) (begin_room boot.new) actions.old actions.new }
+    ensures passed { VisitsAt plan.now order.now drain.now k starts.old starts.new endpoints.old endpoints.new boot.old boot.new actions.old actions.new }
 {
     if is_tested(plan, boot) {
         return;
@@ -103,18 +94,13 @@ pub(crate) fn pass(
     boot: &mut Boot,
     actions: &mut Actions,
 )
-    requires valid { IsValid plan.now }
-    requires order { IsInOrder plan.now order.now }
-    requires starts_sized { IsStartsSized plan.now starts.old }
-    requires ends_sized { IsEndpointsSized plan.now endpoints.old.parts }
+    requires formed { IsFormed plan.now order.now starts.old endpoints.old.parts }
     requires room { 2 * length order.now + begin_room boot.old ≤ spare actions.old }
-    ensures starts_sized { IsStartsSized plan.now starts.new }
-    ensures ends_sized { IsEndpointsSized plan.now endpoints.new.parts }
+    ensures formed { IsFormed plan.now order.now starts.new endpoints.new.parts }
     ensures table { endpoints.new.parts.table ≡ endpoints.old.parts.table }
     ensures bare { TellsBare (list_of actions.old) (list_of actions.new) }
-    ensures few { length (list_of actions.new) + begin_room boot.new ≤ length (list_of actions.old) + begin_room boot.old + 2 * length order.now }
-    ensures room { spare actions.old + begin_room boot.new ≤ spare actions.new + begin_room boot.old + 2 * length order.now }
-    ensures passed { Passes plan.now order.now drain.now 0 (length order.now) starts.old starts.new endpoints.old.parts endpoints.new.parts boot.old boot.new (list_of actions.old) (list_of actions.new) }
+    ensures spends { Spends (begin_room boot.old + 2 * length order.now) (begin_room boot.new) actions.old actions.new }
+    ensures passed { VisitsAll plan.now order.now drain.now starts.old starts.new endpoints.old endpoints.new boot.old boot.new actions.old actions.new }
 {
     for k in 0..order.len() {
         visit(plan, order, k, drain, starts, endpoints, boot, actions);

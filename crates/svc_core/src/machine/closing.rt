@@ -7,9 +7,8 @@ ghost use Rattle.svc_record.specs.declared.action.Action.TheVariants.{Close};
 ghost use Rattle.svc_record.specs.declared.entry.Entry.TheVariants.{Got};
 ghost use Rattle.svc_record.specs.Record.{Record};
 ghost use Rattle.svc_record.specs.Descriptors.{numbers_of};
-ghost use Rattle.svc_connections.specs.ConnectionsEffects.{cuts};
 ghost use Rattle.svc_core.specs.Stands.{StandsFor, ClosesAll};
-ghost use Rattle.svc_core.specs.Rooms.{close_need, open_numbers, open_connections, open_count, left_numbers};
+ghost use Rattle.svc_core.specs.Rooms.{close_need, open_closes, open_count, left_numbers};
 
 use super::Core;
 use crate::ends::is_served;
@@ -20,7 +19,8 @@ impl Core {
     /// what the event brought that was left unfinished. A caller who had `step_room` before a step has the room after it.
     pub fn close_all(&self, also: Option<&Event>, actions: &mut Actions)
         requires room { close_need self.now (option_copied also) ≤ spare actions.old }
-        ensures closes { (q : Record) → StandsFor self.now q → ClosesAll self.now.plan q (option_copied also.entry) (list_of actions.old) (list_of actions.new) }
+        ensures closes { (q : Record) → StandsFor self.now q
+            → ClosesAll self.now.plan q (option_copied also.entry) (list_of actions.old) (list_of actions.new) }
         ensures few { length (list_of actions.new) ≤ length (list_of actions.old) + close_need self.now (option_copied also.entry) }
     {
         self.close_open(actions);
@@ -30,8 +30,8 @@ impl Core {
     }
 
     fn close_open(&self, actions: &mut Actions)
-        requires room { open_count self.now ≤ spare actions.old }
-        ensures told { list_of actions.new ≡ list_of actions.old ++ (cuts (open_connections self.now) ++ map Close (open_numbers self.now)) }
+        requires { open_count self.now ≤ spare actions.old }
+        ensures told { list_of actions.new ≡ list_of actions.old ++ open_closes self.now }
         ensures room { spare actions.old ≤ spare actions.new + open_count self.now }
     {
         if !is_served(self.end) {
@@ -42,7 +42,7 @@ impl Core {
 
     /// Closes what the event brought that came with no earlier one.
     fn close_brought(&self, event: &Event, actions: &mut Actions)
-        requires room { length (numbers_of (Got event.now)) ≤ spare actions.old }
+        requires { length (numbers_of (Got event.now)) ≤ spare actions.old }
         ensures told { list_of actions.new ≡ list_of actions.old ++ map Close (left_numbers self.now event.now) }
         ensures few { length (left_numbers self.now event.now) ≤ length (numbers_of (Got event.now)) }
     {

@@ -12,7 +12,7 @@ returns-then-is_tested-2-clause-passed c = visit-tests c.args.plan.now c.args.or
 
 pub returns-clause-passed : goal.returns-clause-passed
 returns-clause-passed c =
-    visit-passes c.args.plan.now c.args.order.now c.args.drain.now c.args.k c.requires.place c.requires.order c.args.starts.now c.start.new.starts c.args.endpoints.now.parts c.visit.new.self.parts
+    visit-passes c.args.plan.now c.args.order.now c.args.drain.now c.args.k c.requires.place c.requires.formed.in_order c.args.starts.now c.start.new.starts c.args.endpoints.now.parts c.visit.new.self.parts
     c.args.boot.now c.start.new.boot (list_of c.args.actions.now) (list_of c.start.new.actions) (list_of c.visit.new.actions)
     (sym c.is_tested-2.ensures ∙ c.if-is_tested-2.false) c.start.ensures.started
     (rw (c.is_started-is_started.ensures, c.moment.ensures) at c.visit.ensures.visited)

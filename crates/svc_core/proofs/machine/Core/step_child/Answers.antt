@@ -1,16 +1,8 @@
-use Rattle.std.proofs.Common.{subst}
-use Rattle.svc_base.specs.Items.{list_of}
-use Rattle.svc_record.specs.declared.event.Event.TheVariants.{Side}
-use Rattle.svc_record.specs.declared.event.Side.TheVariants.{Child}
-use Rattle.svc_core.specs.CoreData.{CoreData}
-use Rattle.svc_core.specs.Stands.{StepKeeps}
-use Rattle.svc_core.proofs.HeldLemmas.{child-keeps, child-may}
+use Rattle.std.proofs.Common.{refl}
+use Rattle.svc_core.proofs.HeldLemmas.{child-may}
+use Rattle.svc_core.proofs.StepForms.{opened, child-begins}
 use Rattle.svc_core.proofs.machine.Core.step_child.Goals as goal
 
-pub returns-clause-kept : goal.returns-clause-kept
-returns-clause-kept c =
-    let core : CoreData = record { plan = c.self.inside.plan; order = c.self.inside.order.items; starts = c.self.inside.starts; endpoints = c.self.inside.endpoints.parts; boot = c.self.inside.boot; offer = c.self.inside.offer; drain = c.self.inside.drain; connections = c.self.inside.connections.parts; end = c.self.inside.end } in
-    subst (λ (old : CoreData). StepKeeps old c.bootstrap.new.self (Side Child) (list_of c.args.actions.now) (list_of c.bootstrap.new.actions) c.bootstrap.result) c.self.view_is
-    (child-keeps core (record { plan = c.self.inside.plan; order = c.self.inside.order.items; starts = c.self.inside.starts; endpoints = c.self.inside.endpoints.parts; boot = c.take_side.new.self; offer = c.self.inside.offer; drain = c.self.inside.drain; connections = c.self.inside.connections.parts; end = c.self.inside.end }) c.bootstrap.new.self (list_of c.args.actions.now) (list_of c.bootstrap.new.actions) c.bootstrap.result
-    (child-may core c.take_side.new.self (rw (← c.self.view_is) at c.requires.on) (rw (← c.self.view_is) at c.requires.may) c.take_side.ensures.after (rw c.moment.ensures at c.take_side.ensures.stands))
-    c.bootstrap.ensures.kept)
+pub returns : goal.returns
+returns c = opened c.self.view_is c.requires (λ may. child-begins c.bootstrap.ensures refl refl refl
+    (child-may _ _ may.on may.may c.take_side.ensures.after (rw c.moment.ensures at c.take_side.ensures.stands)))

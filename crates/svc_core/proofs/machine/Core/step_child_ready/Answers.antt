@@ -1,19 +1,9 @@
-use Rattle.std.proofs.Common.{subst, refl}
-use Rattle.svc_base.specs.Items.{list_of}
+use Rattle.std.proofs.Common.{refl}
 use Rattle.svc_record.specs.declared.event.Event.TheVariants.{ChildReady}
-use Rattle.svc_core.specs.CoreData.{CoreData}
-use Rattle.svc_core.specs.Stands.{StepKeeps}
-use Rattle.svc_core.proofs.HeldLemmas.{held-keeps, ends-held}
-use Rattle.svc_core.proofs.CopyLemmas.{bare-none}
+use Rattle.svc_core.proofs.HeldLemmas.{ends-held}
+use Rattle.svc_core.proofs.StepForms.{opened, held}
 use Rattle.svc_core.proofs.machine.Core.step_child_ready.Goals as goal
 
-pub returns-clause-kept : goal.returns-clause-kept
-returns-clause-kept c =
-    let core : CoreData = record { plan = c.self.inside.plan; order = c.self.inside.order.items; starts = c.self.inside.starts; endpoints = c.self.inside.endpoints.parts; boot = c.self.inside.boot; offer = c.self.inside.offer; drain = c.self.inside.drain; connections = c.self.inside.connections.parts; end = c.self.inside.end } in
-    subst (λ (old : CoreData). StepKeeps old c.hold.new.self ChildReady (list_of c.args.actions.now) (list_of c.args.actions.now) c.hold.result) c.self.view_is
-    (rw (c.hold.ensures.after, c.hold.ensures.end)
-    (held-keeps core (record { plan = c.self.inside.plan; order = c.self.inside.order.items; starts = c.self.inside.starts; endpoints = c.self.inside.endpoints.parts; boot = c.take_child_ready.new.self; offer = c.self.inside.offer; drain = c.self.inside.drain; connections = c.self.inside.connections.parts; end = c.self.inside.end }) ChildReady (list_of c.args.actions.now) c.self.invariant.in_order
-    (ends-held core ChildReady c.take_child_ready.new.self 0 refl refl refl (λ q. refl) (rw (← c.self.view_is) at c.requires.on) (rw (← c.self.view_is) at c.requires.may) c.take_child_ready.ensures.after (c.take_child_ready.ensures.stands c.self.inside.plan))))
-
-pub returns-clause-bare : goal.returns-clause-bare
-returns-clause-bare c = bare-none (list_of c.args.actions.now)
+pub returns : goal.returns
+returns c = opened c.self.view_is c.requires (λ may. held c.hold.ensures.after c.hold.ensures.end refl refl refl c.self.invariant.in_order
+    (ends-held _ ChildReady _ 0 refl refl refl (λ q. refl) may.on may.may c.take_child_ready.ensures.after (c.take_child_ready.ensures.stands c.self.inside.plan)))
