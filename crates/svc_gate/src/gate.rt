@@ -8,7 +8,7 @@ ghost use Rattle.svc_gate.specs.Rising.{Rises};
 ghost use Rattle.svc_gate.specs.Merged.{merged};
 ghost use Rattle.svc_gate.specs.Ranges.{answer_in, verdict_of, count_of, ranges_of, ip_of_peer, accepts};
 
-use crate::counted::{GateRange, Steps};
+use crate::counted::GateRange;
 use crate::rules::GateRules;
 use crate::segments::{Segment, advance, segments_of};
 use std::alloc::Global;

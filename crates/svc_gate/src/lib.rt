@@ -13,11 +13,11 @@ mod serving;
 mod spans;
 mod words;
 
-pub use counted::Steps;
 pub use gate::Gate;
 pub use program::serve_gate;
 pub use reading::{GateError, read_rules};
 pub use rules::{GateRule, GateRuleList, GateRules};
+pub use svc_steps::Steps;
 
 #[cfg(test)]
 mod tests;

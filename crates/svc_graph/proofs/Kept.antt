@@ -1,27 +1,40 @@
 -- What the fields of a graph keep, from one change to the next.
-use Rattle.std.proofs.Common.{ℕ, zero, suc, Bool, true, ◌⊎◌, inl, inr, List, [], ◌∷◌, ◌++◌, ◌≡◌, ◌≢◌, refl, sym, ◌∙◌, subst, ap, arith, All, ◌<◌, nat_lt, length, length-append, length-set, slice_set}
-use Rattle.std.proofs.lemmas.Bool.{ltb-true, lt-ltb, le-ltb, cases_eq}
-use Rattle.std.proofs.lemmas.List.{get_or-set_other, get_or-set_same}
+use Rattle.std.proofs.Common.{ℕ, zero, suc, Bool, true, false, ◌&&◌, ◌||◌, ◌==◌, ◌⊎◌, inl, inr, List, [], ◌∷◌, ◌++◌, ◌≡◌, ◌≢◌, refl, sym, ◌∙◌, subst, ap, arith, All, ◌<◌, ◌≤◌, ◌+◌, nat_lt, length, length-append, length-set, slice_set}
+use Rattle.std.proofs.lemmas.Bool.{cases_eq, cases_lt, eq-eqb, ne_eqb, lt-ltb, le-ltb, or_left, or_right, and_left, and_from, false_from_ne_true}
+use Rattle.std.proofs.lemmas.List.{get_or-set_other, get_or-set_same, get_or_past, length_push}
+use Rattle.std.proofs.lemmas.List.Folds.{list_any-append}
 use Rattle.svc_graph.specs.Paths.{Path}
 use Rattle.svc_graph.specs.GraphData.{GraphData}
-use Rattle.svc_graph.specs.Graphs.{row_of, is_in_row, is_listed, IsGraph, with_node, is_edge}
-use Rattle.svc_graph.specs.Marks.{Divides, RowsBelow}
-use Rattle.svc_graph.specs.Ranks.{IsRank, Falls, IsKept}
-use Rattle.svc_graph.proofs.Lists.{All-listed, All-from_listed, listed_push}
-use Rattle.svc_graph.proofs.Chains.{ranked-acyclic, acyclic-within, rank-added, raised, path-falls}
+use Rattle.svc_graph.specs.Graphs.{row_of, is_in_row, is_listed, IsGraph}
+use Rattle.svc_graph.specs.Marks.{RowsBelow}
+use Rattle.svc_graph.specs.Bits.{is_set, HasRows}
+use Rattle.svc_graph.specs.Counts.{count_below, AreSized}
+use Rattle.svc_graph.specs.Ranks.{IsKept}
+use Rattle.svc_graph.proofs.Lists.{All-listed, All-from_listed, listed_push, listed_last}
+use Rattle.svc_graph.proofs.Counts.{count-more, none_at}
+use Rattle.svc_graph.proofs.Reaches.{none_set, reach-grown, needed-grown, reach-node, reach-edge, reach-divides}
+use Rattle.svc_graph.proofs.Chains.{ranked-acyclic, rank-added, raised, path-falls}
 
-pub kept-none : IsKept 0 [] true
+pub kept-none : IsKept 0 [] [] []
 kept-none = record {
   few = omega arith;
   sized = refl;
   inside = λ a k d lt. absurd (omega arith);
   rank = λ a. 0;
   ranked = λ a b e. absurd (cc);
-  falling = λ h a b e. absurd (cc);
+  unique = λ a. refl;
+  direct = record { rows = omega arith; edges = λ a b. none_set b a };
+  chains = record {
+    rows = omega arith;
+    inside = λ a b e. absurd (let free = none_set a b in cc);
+    own = λ a lt. absurd (omega arith);
+    along = λ a b c e there. absurd (cc);
+    led = λ a b e. absurd (let free = none_set a b in cc);
+  };
 }
 
-pub kept-graph : (g : GraphData) (falls : Bool) → IsKept (length g.names) g.depends falls → IsGraph g
-kept-graph g falls kept = record {
+pub kept-graph : (g : GraphData) (needed reach : List ℕ) → IsKept (length g.names) g.depends needed reach → IsGraph g
+kept-graph g needed reach kept = record {
   few = kept.few;
   rows = kept.sized;
   inside = kept.inside;
@@ -29,8 +42,25 @@ kept-graph g falls kept = record {
 }
 
 -- the same for a graph that is seen as one
-pub view-graph : (names rows : List (List ℕ)) (falls : Bool) (g : GraphData) → record { names = names; depends = rows } ≡ g → IsKept (length names) rows falls → IsGraph g
-view-graph names rows falls g same kept = subst (λ (h : GraphData). IsGraph h) same (kept-graph (record { names = names; depends = rows }) falls kept)
+pub view-graph : (names rows : List (List ℕ)) (needed reach : List ℕ) (g : GraphData) → record { names = names; depends = rows } ≡ g
+    → IsKept (length names) rows needed reach → IsGraph g
+view-graph names rows needed reach g same kept = subst (λ (h : GraphData). IsGraph h) same (kept-graph (record { names = names; depends = rows }) needed reach kept)
+
+-- more room for bits
+pub kept-grown : (count : ℕ) (rows : List (List ℕ)) (needed reach needed_now reach_now : List ℕ)
+    → length needed ≤ length needed_now → ((a b : ℕ) → is_set needed_now a b ≡ is_set needed a b)
+    → length reach ≤ length reach_now → ((a b : ℕ) → is_set reach_now a b ≡ is_set reach a b)
+    → IsKept count rows needed reach → IsKept count rows needed_now reach_now
+kept-grown count rows needed reach needed_now reach_now needed_longer needed_same reach_longer reach_same kept = record {
+  few = kept.few;
+  sized = kept.sized;
+  inside = kept.inside;
+  rank = kept.rank;
+  ranked = kept.ranked;
+  unique = kept.unique;
+  direct = needed-grown count (is_in_row rows) needed needed_now needed_longer needed_same kept.direct;
+  chains = reach-grown count (is_in_row rows) reach reach_now reach_longer reach_same kept.chains;
+}
 
 -- a row without nodes changes no row
 row_more : (rows : List (List ℕ)) (a : ℕ) → row_of (rows ++ [] ∷ []) a ≡ row_of rows a
@@ -39,15 +69,34 @@ row_more [] (suc a) = refl
 row_more (row ∷ rows) zero = refl
 row_more (row ∷ rows) (suc a) = row_more rows a
 
--- a graph with one more node
-pub node-graph : (g : GraphData) (name : List ℕ) → length g.names < 1024 → IsGraph g → IsGraph (with_node g name)
-node-graph g name room graph = record {
-  few = (let size = length-append g.names (name ∷ []) in omega arith);
-  rows = (let names = length-append g.names (name ∷ []) in let rows = length-append g.depends ([] ∷ []) in let same = graph.rows in omega arith);
-  inside = λ a. subst (λ row. All (λ b. b < length (g.names ++ name ∷ [])) row) (sym (row_more g.depends a))
-      (λ k d lt. let size = length-append g.names (name ∷ []) in let below = graph.inside a k d lt in omega arith);
-  acyclic = acyclic-within (is_edge (with_node g name)) (is_edge g) (λ a b e. subst (λ row. is_listed row b ≡ true) (row_more g.depends a) e) graph.acyclic;
-}
+-- each row has a length of its own nodes still
+unique_node : (rows : List (List ℕ)) → RowsBelow (length rows) rows → AreSized rows → AreSized (rows ++ [] ∷ [])
+unique_node rows inside unique a =
+    let none : is_in_row rows a (length rows) ≡ false = false_from_ne_true (is_in_row rows a (length rows))
+    (λ e. let lt = All-listed (λ b. b < length rows) (row_of rows a) (length rows) (inside a) e in omega arith) in
+    let here : count_below (λ b. is_in_row rows a b) (suc (length rows)) ≡ count_below (λ b. is_in_row rows a b) (length rows) =
+    (let skip = none_at (is_in_row rows a (length rows)) none in omega arith) in
+    let size : length (rows ++ [] ∷ []) ≡ suc (length rows) = (let more = length-append rows ([] ∷ []) in omega arith) in
+    ap (λ row. length row) (row_more rows a) ∙ unique a ∙ sym here ∙ ap (λ n. count_below (λ b. is_in_row rows a b) n) (sym size)
+    ∙ ap (λ row. count_below (λ b. is_listed row b) (length (rows ++ [] ∷ []))) (sym (row_more rows a))
+
+-- what the fields keep with one more node, whose row has the node itself
+pub kept-node : (count : ℕ) (rows : List (List ℕ)) (needed reach reach_now : List ℕ) → count < 1024 → HasRows needed (count + 1) → HasRows reach_now (count + 1)
+    → ((a b : ℕ) → is_set reach_now a b ≡ (is_set reach a b || (a == count && b == count)))
+    → IsKept count rows needed reach → IsKept (count + 1) (rows ++ [] ∷ []) needed reach_now
+kept-node count rows needed reach reach_now room needed_rows reach_rows bits kept =
+    let same : (a b : ℕ) → is_in_row (rows ++ [] ∷ []) a b ≡ is_in_row rows a b = λ a b. ap (λ row. is_listed row b) (row_more rows a) in
+    record {
+      few = omega arith;
+      sized = (let size = length-append rows ([] ∷ []) in let was = kept.sized in omega arith);
+      inside = λ a. subst (λ row. All (λ b. b < count + 1) row) (sym (row_more rows a)) (λ k d lt. let below = kept.inside a k d lt in omega arith);
+      rank = kept.rank;
+      ranked = λ a b e. kept.ranked a b (sym (same a b) ∙ e);
+      unique = λ a. unique_node rows (subst (λ n. RowsBelow n rows) (sym kept.sized) kept.inside) kept.unique a;
+      direct = record { rows = needed_rows; edges = λ a b. kept.direct.edges a b ∙ sym (same a b) };
+      chains = reach-node count (is_in_row rows) (is_in_row (rows ++ [] ∷ [])) reach reach_now same
+          (λ b. ap (λ row. is_listed row b) (get_or_past rows count [] (let sized = kept.sized in omega arith))) reach_rows bits kept.chains;
+    }
 
 -- the rows with one more edge
 abbrev pub pushed : List (List ℕ) → ℕ → ℕ → List (List ℕ)
@@ -78,42 +127,92 @@ inside_pushed n rows s d lt d_in inside a =
       | inr new ↦ subst (λ y. y < n) (sym new.1) d_in
     ])
 
-rank_pushed : (rows : List (List ℕ)) (s d : ℕ) (rank : ℕ → ℕ) → s < length rows → rank d < rank s → IsRank (is_in_row rows) rank → IsRank (is_in_row (pushed rows s d)) rank
-rank_pushed rows s d rank lt falls ranked a b e =
-    elim (edge_cases rows s d lt a b e) [
-      | inl old ↦ ranked a b old
-      | inr new ↦ subst (λ x. rank b < rank x) (sym new.0) (subst (λ y. rank y < rank s) (sym new.1) falls)
+-- the edges of the longer rows
+edge_pushed : (rows : List (List ℕ)) (s d : ℕ) → s < length rows → (a b : ℕ) → is_in_row (pushed rows s d) a b ≡ (is_in_row rows a b || (b == d && a == s))
+edge_pushed rows s d lt a b =
+    elim (cases_eq a s) [
+      | inl same ↦ subst (λ x. is_in_row (pushed rows s d) x b ≡ (is_in_row rows x b || (b == d && x == s))) (sym same)
+          (ap (λ row. is_listed row b) (row_pushed rows s d lt) ∙ list_any-append (λ x. x == b) (row_of rows s) (d ∷ []) ∙ ap (λ w. is_in_row rows s b || w) last)
+      | inr ne ↦ ap (λ row. is_listed row b) (row_other rows s d a ne) ∙ none (is_in_row rows a b) (b == d) (a == s) (ne_eqb a s ne)
+    ]
+  where
+    none : (u v w : Bool) → w ≡ false → u ≡ (u || (v && w))
+    none u v w e = grind arith
+
+    last : ((d == b) || false) ≡ (b == d && s == s)
+    last = elim (cases_eq b d) [
+      | inl is ↦ rw (eq-eqb b d is, eq-eqb d b (sym is), eq-eqb s s refl) refl
+      | inr ne ↦ rw (ne_eqb b d ne, ne_eqb d b (λ e. ne (sym e))) refl
     ]
 
--- where all edges go to lesser numbers, a number divides what is below it from itself
-pub falling-divides : (rows : List (List ℕ)) (s d : ℕ) → Falls rows → d < s → Divides (is_in_row rows) d s
-falling-divides rows s d falls lt = record {
-  side = λ a. nat_lt a s;
-  along = λ a b e below. (let there = ltb-true a s below in let step = falls a b e in lt-ltb b s (omega arith));
-  inside = lt-ltb d s lt;
-  outside = le-ltb s s (omega arith);
-}
+pub edge_now : (rows : List (List ℕ)) (s d : ℕ) → s < length rows → (a b : ℕ) → is_in_row (pushed rows s d) a b ≡ (is_in_row rows a b || (a == s && b == d))
+edge_now rows s d lt a b = edge_pushed rows s d lt a b ∙ ap (λ w. is_in_row rows a b || w) (turned (b == d) (a == s))
+  where
+    turned : (u v : Bool) → (u && v) ≡ (v && u)
+    turned true true = refl
+    turned true false = refl
+    turned false true = refl
+    turned false false = refl
 
--- an edge over a divide
-pub kept-edge : (count : ℕ) (rows : List (List ℕ)) (falls falls_now : Bool) (s d : ℕ) → IsKept count rows falls → s < count → d < count → Divides (is_in_row rows) d s
-    → (falls_now ≡ true → Falls rows × (d < s)) → IsKept count (pushed rows s d) falls_now
-kept-edge count rows falls falls_now s d kept s_in d_in apart falling =
+unique_pushed : (rows : List (List ℕ)) (s d : ℕ) → s < length rows → d < length rows → is_in_row rows s d ≡ false → AreSized rows → AreSized (pushed rows s d)
+unique_pushed rows s d lt d_in fresh unique a =
+    let size = length-set rows s (row_of rows s ++ d ∷ []) in
+    elim (cases_eq a s) [
+      | inl same ↦ subst (λ x. length (row_of (pushed rows s d) x) ≡ count_below (λ b. is_in_row (pushed rows s d) x b) (length (pushed rows s d))) (sym same)
+          (ap (λ row. length row) (row_pushed rows s d lt) ∙ length_push (row_of rows s) d ∙ ap (λ m. m + 1) (unique s)
+          ∙ sym (count-more (λ b. is_in_row rows s b) (λ b. is_in_row (pushed rows s d) s b) d (length rows) d_in fresh
+          (ap (λ row. is_listed row d) (row_pushed rows s d lt) ∙ listed_last (row_of rows s) d)
+          (λ b ne. edge_now rows s d lt s b ∙ none (is_in_row rows s b) (s == s) (b == d) (ne_eqb b d ne)))
+          ∙ ap (λ n. count_below (λ b. is_in_row (pushed rows s d) s b) n) (sym size))
+      | inr ne ↦ ap (λ row. length row) (row_other rows s d a ne) ∙ unique a ∙ ap (λ n. count_below (λ b. is_in_row rows a b) n) (sym size)
+          ∙ ap (λ row. count_below (λ b. is_listed row b) (length (pushed rows s d))) (sym (row_other rows s d a ne))
+    ]
+  where
+    none : (u v w : Bool) → w ≡ false → (u || (v && w)) ≡ u
+    none u v w e = grind arith
+
+-- an edge to a node that doesn't lead back
+pub kept-edge : (count : ℕ) (rows : List (List ℕ)) (needed reach needed_now reach_now : List ℕ) (s d : ℕ) → IsKept count rows needed reach → s < count → d < count
+    → is_in_row rows s d ≡ false → is_set reach d s ≡ false
+    → length needed_now ≡ length needed → ((a b : ℕ) → is_set needed_now a b ≡ (is_set needed a b || (a == d && b == s)))
+    → length reach_now ≡ length reach → ((a b : ℕ) → is_set reach_now a b ≡ (is_set reach a b || (is_set reach a s && is_set reach d b)))
+    → IsKept count (pushed rows s d) needed_now reach_now
+kept-edge count rows needed reach needed_now reach_now s d kept s_in d_in fresh apart needed_len needed_bits reach_len reach_bits =
     let sized = kept.sized in
     let lt : s < length rows = omega arith in
+    let divides = reach-divides count (is_in_row rows) reach kept.chains s d d_in apart in
     record {
       few = kept.few;
       sized = length-set rows s (row_of rows s ++ d ∷ []) ∙ kept.sized;
       inside = inside_pushed count rows s d lt d_in kept.inside;
-      rank = raised kept.rank apart.side d;
-      ranked = rank-added (is_in_row rows) (is_in_row (pushed rows s d)) kept.rank s d kept.ranked apart (edge_cases rows s d lt);
-      falling = λ h. rank_pushed rows s d (λ a. a) lt (falling h).1 (falling h).0;
+      rank = raised kept.rank divides.side d;
+      ranked = rank-added (is_in_row rows) (is_in_row (pushed rows s d)) kept.rank s d kept.ranked divides (edge_cases rows s d lt);
+      unique = unique_pushed rows s d lt (omega arith) fresh kept.unique;
+      direct = record {
+        rows = (let room = kept.direct.rows in omega arith);
+        edges = λ a b. needed_bits b a ∙ ap (λ w. w || (b == d && a == s)) (kept.direct.edges a b) ∙ sym (edge_pushed rows s d lt a b);
+      };
+      chains = reach-edge count (is_in_row rows) (is_in_row (pushed rows s d)) reach reach_now s d d_in
+          (λ a b e. edge_pushed rows s d lt a b ∙ or_left (is_in_row rows a b) (b == d && a == s) e)
+          (edge_cases rows s d lt)
+          (edge_pushed rows s d lt s d ∙ or_right (is_in_row rows s d) (d == d && s == s) (and_from (d == d) (s == s) (eq-eqb d d refl) (eq-eqb s s refl)))
+          apart (let room = kept.chains.rows in omega arith) reach_bits kept.chains;
     }
 
 -- no way leads back from the end of an edge that is there
-pub edge-no_return : (count : ℕ) (rows : List (List ℕ)) (falls : Bool) (s d : ℕ) → IsKept count rows falls → is_in_row rows s d ≡ true → (s ≡ d) ⊎ Path (is_in_row rows) d s → ⊥
-edge-no_return count rows falls s d kept e (inl same) =
+pub edge-no_return : (count : ℕ) (rows : List (List ℕ)) (needed reach : List ℕ) (s d : ℕ) → IsKept count rows needed reach → is_in_row rows s d ≡ true → (s ≡ d) ⊎ Path (is_in_row rows) d s → ⊥
+edge-no_return count rows needed reach s d kept e (inl same) =
     let h = kept.ranked s d e in
     let there : kept.rank d ≡ kept.rank s = ap kept.rank (sym same) in omega arith
-edge-no_return count rows falls s d kept e (inr path) =
+edge-no_return count rows needed reach s d kept e (inr path) =
     let h = kept.ranked s d e in
     let back = path-falls (is_in_row rows) kept.rank kept.ranked d s path in omega arith
+
+-- the nodes whose row has the bit of s are those that s depends on
+pub kept-row : (count : ℕ) (rows : List (List ℕ)) (needed reach : List ℕ) → IsKept count rows needed reach → (s a : ℕ) → (nat_lt a count && is_set needed a s) ≡ is_in_row rows s a
+kept-row count rows needed reach kept s a =
+    elim (cases_lt a count) [
+      | inl lt ↦ ap (λ w. w && is_set needed a s) (lt-ltb a count lt) ∙ kept.direct.edges s a
+      | inr le ↦ and_left (nat_lt a count) (is_set needed a s) (le-ltb a count le)
+          ∙ sym (false_from_ne_true (is_in_row rows s a) (λ e. let lt = All-listed (λ b. b < count) (row_of rows s) a (kept.inside s) e in omega arith))
+    ]

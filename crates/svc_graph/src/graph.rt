@@ -1,18 +1,20 @@
 //! The graph of dependencies.
 
-ghost use Rattle.std.specs.Prelude.{◌≡◌, ◌↔◌, IsTrue, ◌<◌, ◌+◌, ◌==◌, ◌&&◌, ◌||◌, ◌⊎◌, ℕ, [], ◌∷◌, ◌++◌, true, false, length, slice_get, slice_set, Some, IsErrAnd, IfOk, IfErr, OnOk, OnErr, vec_len};
+ghost use Rattle.std.specs.Prelude.{◌≡◌, ◌↔◌, IsTrue, ◌<◌, ◌≤◌, ◌+◌, ◌==◌, ◌&&◌, ◌||◌, ℕ, [], ◌∷◌, ◌++◌, length, slice_get, slice_set, Some, IsErrAnd, IfOk, IfErr, OnOk, OnErr, vec_len, vec_capacity, nat_lt};
 ghost use Rattle.std.specs.List.Sorted.{IsStrictlyIncreasing};
-ghost use Rattle.svc_graph.specs.Paths.{Path};
-ghost use Rattle.svc_graph.specs.Graphs.{is_in_row, row_of, is_listed};
-ghost use Rattle.svc_graph.specs.Marks.{RowsBelow, Divides};
-ghost use Rattle.svc_graph.specs.Ranks.{Falls};
+ghost use Rattle.svc_graph.specs.Graphs.{row_of, is_listed};
+ghost use Rattle.svc_graph.specs.Bits.{is_set, HasRows};
 
-use crate::search::leads_to;
+mod waiting;
+
+use crate::bits::Bits;
+use crate::reach::spread;
 use crate::sort::sorted;
 use std::alloc::Global;
 use std::marker::Model;
 use svc_base::{NoMemory, Numbers, Text, Texts};
 use thiserror::Error;
+pub use waiting::Waiting;
 
 /// How many nodes a graph has at most.
 pub const NODE_LIMIT: u64 = 1024;
@@ -62,10 +64,12 @@ impl From<NoMemory> for DependencyError {
 #[derive(Debug, Drop)]
 pub struct DependencyGraph {
     names: Texts,
+    /// The dependencies of each service, as they came.
     rows: Vec<Numbers>,
-    /// Each service depends on services of lesser numbers only, so there is no need to look for a way
-    /// back from a lesser number.
-    falling: bool,
+    /// Row b has the bit of each service that depends on b.
+    needed: Bits,
+    /// Row a has the bit of each service that a is or leads to by a chain.
+    reach: Bits,
 }
 
 impl Model for DependencyGraph {
@@ -77,7 +81,7 @@ impl Model for DependencyGraph {
 
     ghost view = { λ g. record { names = g.names; depends = g.rows.items } };
 
-    ghost invariant = { λ g. IsKept (length g.names) g.rows.items g.falling };
+    ghost invariant = { λ g. IsKept (length g.names) g.rows.items g.needed g.reach };
 }
 
 /// Appends to a row.
@@ -98,54 +102,44 @@ fn push_edge(
     }
 }
 
-/// Whether the node is listed.
-fn has(row: &[u32], node: u32) -> bool
-    ensures { result ≡ is_listed row.now node }
+/// Makes room for one more row, and for the bits of this many nodes.
+fn make_room(
+    rows: &mut Vec<Numbers>,
+    needed: &mut Bits,
+    reach: &mut Bits,
+    count: u32,
+) -> Result<(), NoMemory>
+    ensures items { rows.new.items ≡ rows.old.items }
+    ensures room { OnOk result (vec_len rows.new < vec_capacity rows.new) }
+    ensures needed { (a b : ℕ) → is_set needed.new a b ≡ is_set needed.old a b }
+    ensures needed_rows { OnOk result (HasRows needed.new count) }
+    ensures needed_kept { length needed.old ≤ length needed.new }
+    ensures reach { (a b : ℕ) → is_set reach.new a b ≡ is_set reach.old a b }
+    ensures reach_rows { OnOk result (HasRows reach.new count) }
+    ensures reach_kept { length reach.old ≤ length reach.new }
 {
-    row.iter().any(|listed| *listed == node)
+    needed.grow(count)?;
+    reach.grow(count)?;
+    rows.reserve(1)?;
+    Ok(())
 }
 
-/// The nodes of a row in ascending order.
-fn ascending(alloc: Global, row: &[u32]) -> Result<Vec<u32>, NoMemory>
+/// The nodes whose row has the bit, in ascending order.
+fn rows_with(alloc: Global, bits: &Bits, count: u32, node: u32) -> Result<Vec<u32>, NoMemory>
+    requires few { count ≤ 1024 }
+    requires rows { HasRows bits.now count }
+    requires node { node < 1024 }
     ensures order { IfOk result (λ nodes. IsStrictlyIncreasing nodes.items) }
-    ensures same { IfOk result (λ nodes. (a : ℕ) → is_listed nodes.items a ≡ is_listed row.now a) }
+    ensures same { IfOk result (λ nodes. (a : ℕ)
+        → is_listed nodes.items a ≡ (nat_lt a count && is_set bits.now a node)) }
 {
-    let mut nodes = row.to_vec(alloc)?;
-    nodes.sort_unstable();
-    nodes.dedup();
-    Ok(nodes)
-}
-
-/// Whether the row of the dependent names the dependency.
-fn has_edge(rows: &[Numbers], dependent: u32, dependency: u32) -> bool
-    requires { dependent < length rows.now }
-    ensures { result ≡ is_in_row rows.now dependent dependency }
-{
-    has(rows[dependent as usize].as_slice(), dependency)
-}
-
-/// Whether the dependency leads to the dependent. Where all edges lead to lesser numbers, this one
-/// too, there is nothing to look for.
-fn leads_back(
-    alloc: Global,
-    rows: &[Numbers],
-    falling: bool,
-    dependent: u32,
-    dependency: u32,
-) -> Result<bool, NoMemory>
-    requires inside { RowsBelow (length rows.now) rows.now }
-    requires dependent { dependent < length rows.now }
-    requires dependency { dependency < length rows.now }
-    requires falling { falling ≡ true → Falls rows.now × (dependency < dependent) }
-    ensures yes { IfOk result (λ leads. leads ≡ true
-        → (dependent ≡ dependency) ⊎ Path (is_in_row rows.now) dependency dependent) }
-    ensures no { IfOk result (λ leads. leads ≡ false
-        → Divides (is_in_row rows.now) dependency dependent) }
-{
-    if falling {
-        return Ok(false);
+    let mut nodes = Vec::new(alloc);
+    for row in 0..count {
+        if bits.has(row, node) {
+            nodes.push(row)?;
+        }
     }
-    leads_to(alloc, rows, dependency, dependent)
+    Ok(nodes)
 }
 
 /// Whether the name stands at the number.
@@ -170,7 +164,8 @@ impl DependencyGraph {
         DependencyGraph {
             names: Texts::new(alloc),
             rows: Vec::new(alloc),
-            falling: true,
+            needed: Bits::new(alloc),
+            reach: Bits::new(alloc),
         }
     }
 
@@ -207,7 +202,15 @@ impl DependencyGraph {
                 name,
             });
         }
-        if self.rows.reserve(1).is_err() {
+        let number = number as u32;
+        if make_room(
+            &mut self.rows,
+            &mut self.needed,
+            &mut self.reach,
+            number + 1,
+        )
+        .is_err()
+        {
             return Err(AddNodeRefused {
                 reason: AddNodeReason::NoMemory,
                 name,
@@ -216,7 +219,8 @@ impl DependencyGraph {
         match self.names.push(alloc, name) {
             Ok(()) => {
                 self.rows.push_reserved(Numbers::new(alloc));
-                Ok(number as u32)
+                self.reach.set(number, number);
+                Ok(number)
             }
             Err(refused) => Err(AddNodeRefused {
                 reason: AddNodeReason::NoMemory,
@@ -255,18 +259,18 @@ impl DependencyGraph {
         if dependent as u64 >= count || dependency as u64 >= count {
             return Err(DependencyError::UnknownService);
         }
-        if has_edge(&self.rows, dependent, dependency) {
+        if self.needed.has(dependency, dependent) {
             return Ok(());
         }
-        let falling = self.falling && dependency < dependent;
-        if leads_back(alloc, &self.rows, falling, dependent, dependency)? {
+        if self.reach.has(dependency, dependent) {
             return Err(DependencyError::Circular {
                 dependency,
                 dependent,
             });
         }
         push_edge(alloc, &mut self.rows, dependent, dependency)?;
-        self.falling = falling;
+        self.needed.set(dependency, dependent);
+        spread(&mut self.reach, count as u32, dependent, dependency);
         Ok(())
     }
 
@@ -276,7 +280,7 @@ impl DependencyGraph {
         ensures size { IfOk result (λ order. vec_len order ≡ node_count self.now) }
         ensures graph { IsGraph self.now }
     {
-        sorted(alloc, &self.rows)
+        sorted(alloc, &self.rows, &self.needed)
     }
     /// The numbers that a number of the graph depends on, in ascending order.
     pub fn get_dependencies(&self, alloc: Global, s: u32) -> Result<Vec<u32>, NoMemory>
@@ -286,6 +290,6 @@ impl DependencyGraph {
             → is_listed numbers.items a ≡ is_edge self.now s a) }
         ensures graph { IsGraph self.now }
     {
-        ascending(alloc, self.rows[s as usize].as_slice())
+        rows_with(alloc, &self.needed, self.names.len() as u32, s)
     }
 }

@@ -2,13 +2,17 @@
 //! of its endpoints.
 #![tactic(auto)]
 
+mod bits;
 mod graph;
 mod handles;
 mod plan;
-mod search;
+mod reach;
 pub mod services;
 mod sort;
 
-pub use graph::{AddNodeReason, AddNodeRefused, DependencyError, DependencyGraph, NODE_LIMIT};
+pub use graph::{
+    AddNodeReason, AddNodeRefused, DependencyError, DependencyGraph, NODE_LIMIT, Waiting,
+};
 pub use handles::ServiceHandle;
 pub use plan::{EndpointList, EndpointPlan, Kind};
+pub use svc_steps::Steps;

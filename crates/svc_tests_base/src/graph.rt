@@ -1,9 +1,16 @@
-//! The graph of services, and handles of it.
+//! The graph of services, handles of it, and what waits in it.
+
+ghost use Rattle.std.specs.Prelude.{◌≡◌, ◌<◌, true, false, [], ◌∷◌, length, slice_set};
+ghost use Rattle.svc_graph.specs.Marks.{is_marked};
+ghost use Rattle.svc_graph.specs.Waitings.{missing_of, dependents_of};
+ghost use Rattle.svc_tests_base.specs.Waits.{two_for_one};
 
 use crate::checking::{holds, prints, same};
+use std::marker::Brand;
 use std::process::Abort;
+use std::sync::ledger::{Blank, Ledger};
 use svc_base::Text;
-use svc_graph::{AddNodeReason, DependencyError, DependencyGraph, ServiceHandle};
+use svc_graph::{AddNodeReason, DependencyError, DependencyGraph, ServiceHandle, Steps, Waiting};
 
 /// A graph of as many services of one name.
 fn graph<R: Abort + AllocGlobal>(rt: &R, nodes: u32) -> DependencyGraph {
@@ -89,4 +96,50 @@ fn handles_add_dependencies(rt: HostRuntime) {
         .get_dependencies(rt.alloc(), 2)
         .expect(rt, "a list");
     same(rt, dependencies.as_slice(), [0, 1].as_slice());
+}
+
+/// Where one service waits for two, its count falls by one with the mark of each. That takes a step for
+/// each of the two, and none for the one.
+fn counts_of_two_for_one()
+    ensures at_first { missing_of (two_for_one (false ∷ false ∷ false ∷ [])) 2 ≡ 2 }
+    ensures after_one { missing_of (two_for_one (true ∷ false ∷ false ∷ [])) 2 ≡ 1 }
+    ensures after_both { missing_of (two_for_one (true ∷ true ∷ false ∷ [])) 2 ≡ 0 }
+    ensures steps_of_0 { dependents_of (two_for_one (false ∷ false ∷ false ∷ [])) 0 ≡ 1 }
+    ensures steps_of_1 { dependents_of (two_for_one (true ∷ false ∷ false ∷ [])) 1 ≡ 1 }
+    ensures steps_of_2 { dependents_of (two_for_one (true ∷ true ∷ false ∷ [])) 2 ≡ 0 }
+{}
+
+/// Marks a service. Nobody counts the steps.
+fn mark<L: Ledger>(waiting: &mut Waiting, s: u32, blank: Blank)
+    requires name { blank.name ≡ L.name }
+    requires parts { blank.parts ≡ L.parts }
+    requires some { 0 < blank.parts }
+    requires node { s < length waiting.old.marks }
+    requires fresh { is_marked waiting.old.marks s ≡ false }
+    ensures { waiting.new.marks ≡ slice_set waiting.old.marks s true }
+{
+    let mut steps = Steps::<L>::new(blank);
+    waiting.mark(s, &mut steps);
+}
+
+#[test]
+fn a_count_falls_with_each_dependency(rt: HostRuntime) {
+    let rt = &rt;
+    counts_of_two_for_one();
+    let mut services = graph(rt, 3);
+    for dependency in 0..2 {
+        let added = services.add_dependency(rt.alloc(), 2, dependency);
+        same(rt, added, Ok(()));
+    }
+    let mut waiting = Waiting::new(rt.alloc(), &services).expect(rt, "counts");
+    assert_eq!(rt; services.len(), 3);
+    same(rt, waiting.missing(2), 2);
+    mark::<Brand>(&mut waiting, 0, Blank::new(1));
+    holds(rt, waiting.marked(0));
+    same(rt, waiting.missing(2), 1);
+    mark::<Brand>(&mut waiting, 1, Blank::new(1));
+    same(rt, waiting.missing(2), 0);
+    holds(rt, !waiting.marked(2));
+    mark::<Brand>(&mut waiting, 2, Blank::new(1));
+    holds(rt, waiting.marked(2));
 }
