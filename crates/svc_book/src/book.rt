@@ -132,9 +132,9 @@ impl Book {
         let Ok(()) = self.posts.reserve(1) else {
             return Err(refused(Refusal::NoMemory, event));
         };
-        let Ok(end) =
-            self.core
-                .step_twice(alloc, &event, said, &mut self.stage, &mut self.second)
+        let Ok(end) = self
+            .core
+            .step_twice(alloc, &event, said, &mut self.stage, &mut self.second)
         else {
             return Err(refused(Refusal::NoMemory, event));
         };

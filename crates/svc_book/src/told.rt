@@ -1,5 +1,5 @@
 //! What a step told, in memory of just its size.
-ghost use Rattle.std.specs.Prelude.{◌≡◌, [], IfOk};
+ghost use Rattle.std.specs.Prelude.{◌≡◌, [], length, IfOk, vec_capacity};
 ghost use Rattle.svc_base.specs.Items.{list_of};
 
 use std::alloc::Global;
@@ -49,7 +49,8 @@ impl Told {
 
 /// The same actions again, in memory of their size.
 fn fitted(alloc: Global, actions: &[Action]) -> Result<Vec<Action>, NoMemory>
-    ensures { IfOk result (λ again. again.items ≡ actions.now) }
+    ensures items { IfOk result (λ again. again.items ≡ actions.now) }
+    ensures size { IfOk result (λ again. vec_capacity again ≡ length actions.now) }
 {
     let mut again = Vec::with_capacity(alloc, actions.len())?;
     for action in actions {
