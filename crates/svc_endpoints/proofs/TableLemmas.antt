@@ -1,9 +1,11 @@
 -- The table of open descriptors, walked from its front.
-use Rattle.std.proofs.Common.{ℕ, zero, Bool, true, false, inl, inr, List, [], ◌∷◌, ◌++◌, append_assoc, length-append, map, filter, take, ◌≡◌, refl, ap, sym, ◌∙◌, arith, ◌<◌, ◌≤◌, ◌+◌, length, insert, nat_lt, slice_index, Some, drop, drop-cons, suc, get_or}
+use Rattle.std.proofs.Common.{ℕ, zero, Bool, true, false, not, inl, inr, List, [], ◌∷◌, ◌++◌, append_assoc, length-append, map, filter, take, ◌≡◌, refl, ap, sym, ◌∙◌, arith, ◌<◌, ◌≤◌, ◌+◌, length, insert, nat_lt, slice_index, Some, drop, drop-cons, suc, get_or, add-zero}
 use Rattle.svc_endpoints.specs.declared.table.Open.{Open}
 use Rattle.std.proofs.lemmas.Bool.{cases_Bool, cases_eq, false_from_ne_true}
-use Rattle.std.proofs.lemmas.List.{append-nil, take_more, get_or-map, map-append}
+use Rattle.std.specs.List.{SwappedAt}
+use Rattle.std.proofs.lemmas.List.{append-nil, take_more, get_or-map, get_or-drop, map-append}
 use Rattle.std.proofs.lemmas.List.Elements.{filter-append}
+use Rattle.std.proofs.lemmas.List.Filters.{FiltersInPlace, FiltersInPlace-more_no, FiltersInPlace-more_swap}
 use Rattle.std.proofs.lemmas.Bool.Decides.{Decides-ltb}
 use Rattle.svc_base.specs.Items.{list_of, spare}
 use Rattle.svc_record.specs.declared.action.Action.{Action}
@@ -89,3 +91,30 @@ module _ (done : Open → Bool) (table : List Open) (k : ℕ) (x : Open) (lt : k
         told = told ∙ ap (λ w. w ++ Close x.fd ∷ []) was.told ∙ append_assoc (list_of start) (map Close (picked done (take k table))) (Close x.fd ∷ [])
             ∙ ap (λ w. list_of start ++ w) (sym (ap (map Close) more ∙ map-append Close (picked done (take k table)) (x.fd ∷ [])));
       }
+
+-- of the first k descriptors those that pass the test are closed, and the others stand at the front, so many
+pub record ClearedUpTo (done : Open → Bool) (table here_table : List Open) (start here : List Action × ℕ) (left k : ℕ) : Type 0 where
+  pub closes : ClosedUpTo done table start here k
+  pub keeps : FiltersInPlace (λ (o : Open). not (done o)) table here_table left k
+
+module _ (done : Open → Bool) (table here_table : List Open) (left k : ℕ) (x : Open) (lt : k < length here_table) (is : x ≡ get_or here_table k x) (start here : List Action × ℕ)
+    (was : ClearedUpTo done table here_table start here left k) where
+  at_first : x ≡ get_or table k x
+  at_first =
+      let at : (xs : List Open) → get_or xs k x ≡ get_or (drop k xs) 0 x = λ xs. ap (λ n. get_or xs n x) (sym (add-zero k)) ∙ sym (get_or-drop k xs 0 x) in
+      is ∙ at here_table ∙ ap (λ xs. get_or xs 0 x) was.keeps.rest ∙ sym (at table)
+
+  inside : k < length table
+  inside = let long = was.keeps.long in omega arith
+
+  pub clears-here : (next : List Action × ℕ) → done x ≡ true → list_of next ≡ list_of here ++ Close x.fd ∷ [] → spare here ≤ spare next + 1 → ClearedUpTo done table here_table start next left (k + 1)
+  clears-here next h told room = record {
+    closes = closes-here done table k x inside at_first start here was.closes next h told room;
+    keeps = FiltersInPlace-more_no was.keeps lt (ap not h) is;
+  }
+
+  pub clears-past : (next_table : List Open) → done x ≡ false → SwappedAt here_table next_table left k → ClearedUpTo done table next_table start here (left + 1) (k + 1)
+  clears-past next_table h swapped = record {
+    closes = closes-past done table k x inside at_first start here was.closes h;
+    keeps = FiltersInPlace-more_swap was.keeps lt (ap not h) is swapped;
+  }

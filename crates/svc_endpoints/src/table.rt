@@ -142,9 +142,9 @@ fn close_each(table: &[Open], actions: &mut Actions)
     }
 }
 
-/// Closes those that are drained, or abandoned and not kept.
+/// Closes those that are drained, or abandoned and not kept, and takes them out.
 fn close_done(
-    table: &[Open],
+    table: &mut Vec<Open>,
     plan: &Plan,
     rows: &[Row],
     failed: &[bool],
@@ -153,30 +153,24 @@ fn close_done(
     actions: &mut Actions,
 )
     requires sized { AreStatesSized plan.now rows.now failed.now }
-    requires room { length table.now ≤ spare actions.old }
-    ensures told { list_of actions.new ≡ list_of actions.old ++ map Close (gone_numbers plan.now kept.now (states_of rows.now failed.now loops.now) table.now) }
-    ensures room { spare actions.old ≤ spare actions.new + length (gone_numbers plan.now kept.now (states_of rows.now failed.now loops.now) table.now) }
+    requires room { vec_len table.old ≤ spare actions.old }
+    ensures after { table.new.items ≡ without_gone plan.now kept.now (states_of rows.now failed.now loops.now) table.old.items }
+    ensures told { list_of actions.new ≡ list_of actions.old
+        ++ map Close (gone_numbers plan.now kept.now (states_of rows.now failed.now loops.now) table.old.items) }
+    ensures room { spare actions.old ≤ spare actions.new
+        + length (gone_numbers plan.now kept.now (states_of rows.now failed.now loops.now) table.old.items) }
 {
-    for entry in table {
+    let mut left = 0;
+    for i in 0..table.len() {
+        let entry = &table[i];
         if goes(entry, plan, rows, failed, loops, kept) {
             actions.put(Action::Close(entry.fd));
+        } else {
+            table.swap(left, i);
+            left += 1;
         }
     }
-}
-
-/// Takes them out.
-fn remove_done(
-    table: &mut Vec<Open>,
-    plan: &Plan,
-    rows: &[Row],
-    failed: &[bool],
-    loops: &[LoopEnd],
-    kept: &[u64],
-)
-    requires sized { AreStatesSized plan.now rows.now failed.now }
-    ensures { table.new.items ≡ without_gone plan.now kept.now (states_of rows.now failed.now loops.now) table.old.items }
-{
-    table.retain(|entry| !goes(entry, plan, rows, failed, loops, kept));
+    table.truncate(left);
 }
 
 impl Table {
@@ -271,8 +265,7 @@ impl Table {
         ensures room { spare actions.old ≤ spare actions.new + length
             (gone_numbers plan.now kept.now (states_of rows.now failed.now loops.now) (list_of self.old)) }
     {
-        close_done(&self.entries, plan, rows, failed, loops, kept, actions);
-        remove_done(&mut self.entries, plan, rows, failed, loops, kept);
+        close_done(&mut self.entries, plan, rows, failed, loops, kept, actions);
     }
 
     /// Closes each descriptor, in ascending number.

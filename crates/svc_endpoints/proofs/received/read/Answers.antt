@@ -1,4 +1,4 @@
-use Rattle.std.proofs.Common.{true, ◌≡◌, [], sym, ap, ◌∙◌}
+use Rattle.std.proofs.Common.{true, ◌≡◌, sym, ap, ◌∙◌}
 use Rattle.svc_record.specs.Boot.{is_read}
 use Rattle.svc_record.specs.Descriptors.{words_or_none}
 use Rattle.svc_endpoints.proofs.DecodeLemmas.{decode-message, decode-refused}
