@@ -24,10 +24,10 @@ fn digit(byte: u8) -> u8
 /// The bytes of which these are the hexadecimal digits.
 fn unhexed<R: Abort + AllocGlobal>(rt: &R, digits: &str) -> Vec<u8> {
     let mut bytes = Vec::new(rt.alloc());
-    for pair in digits.as_bytes().chunks_exact(2) {
-        if let [high, low] = pair {
-            holds(rt, bytes.push(digit(*high) * 16 + digit(*low)).is_ok());
-        }
+    let mut rest = digits.as_bytes();
+    while let [high, low, after @ ..] = rest {
+        holds(rt, bytes.push(digit(*high) * 16 + digit(*low)).is_ok());
+        rest = after;
     }
     bytes
 }
