@@ -38,10 +38,12 @@ connect_in_last_step = (refl, refl)
 
 -- an upgrade is asked for, and no successor is
 connect_left_out : IsRefusedBy plan (offering) (OneAsk ∷ OfferGoes ∷ [])
+unfolding is_sayable
 connect_left_out = (refl, refl)
 
 -- nobody was there, and it is tried again at once
 connect_at_once : IsRefusedBy plan (Told Connect ∷ Got NotThere ∷ Told Connect ∷ offering) (RetryInTurn ∷ OneAsk ∷ [])
+unfolding is_sayable
 connect_at_once = (refl, refl)
 
 -- the successor was busy, and the table is sent again at once

@@ -5,8 +5,9 @@ use std::collections::BTreeSet;
 use std::process::Abort;
 use svc_base::Text;
 use svc_fds::{
-    AddFdRefused, Channel, ChannelCall, DecodeError, EncodeError, Fd, Fds, ListsError, ListsRefused, MemoryChannel, ReceiveError, ReceiveKind, ReceiveNext, ReceiveRetry,
-    SendAnswer, SendError, SendNext, SendRetry, SteadyChannel, send_fds_to,
+    AddFdRefused, Channel, ChannelCall, DecodeError, EncodeError, Fd, Fds, ListsError,
+    ListsRefused, MemoryChannel, ReceiveError, ReceiveKind, ReceiveNext, ReceiveRetry, SendAnswer,
+    SendError, SendNext, SendRetry, SteadyChannel, send_fds_to,
 };
 
 fn text<R: Abort + AllocGlobal>(rt: &R, text: &str) -> Text {
@@ -14,7 +15,12 @@ fn text<R: Abort + AllocGlobal>(rt: &R, text: &str) -> Text {
 }
 
 /// Adds an entry, and answers the number that it replaced.
-pub(crate) fn put<R: Abort + AllocGlobal>(rt: &R, table: &mut Fds, bind: &str, number: u64) -> Option<u64> {
+pub(crate) fn put<R: Abort + AllocGlobal>(
+    rt: &R,
+    table: &mut Fds,
+    bind: &str,
+    number: u64,
+) -> Option<u64> {
     match table.add(rt.alloc(), text(rt, bind), Fd::new(number)) {
         Ok(Some(held)) => Some(held.close()),
         Ok(None) => None,

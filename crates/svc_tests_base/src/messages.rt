@@ -50,7 +50,11 @@ fn written<R: Abort + AllocGlobal>(rt: &R, pairs: &[(&str, u64)], shown: &str) -
     let message = table.encode(rt.alloc()).expect(rt, "a message");
     let bytes = message.bytes.as_slice();
     same(rt, spent(rt, table).as_str(), shown);
-    same(rt, decoded(rt, bytes, message.fds.as_slice()).as_str(), shown);
+    same(
+        rt,
+        decoded(rt, bytes, message.fds.as_slice()).as_str(),
+        shown,
+    );
     bytes.to_vec(rt.alloc()).expect(rt, "bytes")
 }
 
@@ -58,9 +62,17 @@ fn written<R: Abort + AllocGlobal>(rt: &R, pairs: &[(&str, u64)], shown: &str) -
 fn version_1_is_written_where_it_suffices(rt: HostRuntime) {
     let rt = &rt;
     for (pairs, shown, bytes) in [
-        (TWO.as_slice(), TWO_SHOWN, b"1.1.1.1:443 1.1.1.1:80".as_slice()),
+        (
+            TWO.as_slice(),
+            TWO_SHOWN,
+            b"1.1.1.1:443 1.1.1.1:80".as_slice(),
+        ),
         ([].as_slice(), "", b"".as_slice()),
-        ([("v2", 5u64), ("3:a", 6)].as_slice(), "3:a 6;v2 5;", b"3:a v2".as_slice()),
+        (
+            [("v2", 5u64), ("3:a", 6)].as_slice(),
+            "3:a 6;v2 5;",
+            b"3:a v2".as_slice(),
+        ),
         ([("a\x0b", 1)].as_slice(), "a\x0b 1;", b"a\x0b".as_slice()),
     ] {
         same(rt, written(rt, pairs, shown).as_slice(), bytes);
@@ -71,12 +83,32 @@ fn version_1_is_written_where_it_suffices(rt: HostRuntime) {
 fn version_2_is_written_where_an_address_has_a_blank(rt: HostRuntime) {
     let rt = &rt;
     let bytes = written(rt, &[("a b", 3)], "a b 3;");
-    same(rt, bytes.as_slice(), unhexed(rt, "20763220333a612062").as_slice());
+    same(
+        rt,
+        bytes.as_slice(),
+        unhexed(rt, "20763220333a612062").as_slice(),
+    );
     for (pairs, shown, bytes) in [
-        ([("b", 4), ("a\t\n", 3u64)].as_slice(), "a\t\n 3;b 4;", b" v2 3:a\t\n1:b".as_slice()),
-        ([("\u{e9} \u{e9}", 3)].as_slice(), "\u{e9} \u{e9} 3;", b" v2 5:\xc3\xa9 \xc3\xa9".as_slice()),
-        ([(" v2 ", 3)].as_slice(), " v2  3;", b" v2 4: v2 ".as_slice()),
-        ([("a\x0c", 3)].as_slice(), "a\x0c 3;", b" v2 2:a\x0c".as_slice()),
+        (
+            [("b", 4), ("a\t\n", 3u64)].as_slice(),
+            "a\t\n 3;b 4;",
+            b" v2 3:a\t\n1:b".as_slice(),
+        ),
+        (
+            [("\u{e9} \u{e9}", 3)].as_slice(),
+            "\u{e9} \u{e9} 3;",
+            b" v2 5:\xc3\xa9 \xc3\xa9".as_slice(),
+        ),
+        (
+            [(" v2 ", 3)].as_slice(),
+            " v2  3;",
+            b" v2 4: v2 ".as_slice(),
+        ),
+        (
+            [("a\x0c", 3)].as_slice(),
+            "a\x0c 3;",
+            b" v2 2:a\x0c".as_slice(),
+        ),
     ] {
         same(rt, written(rt, pairs, shown).as_slice(), bytes);
     }
@@ -129,7 +161,11 @@ fn both_versions_are_read(rt: HostRuntime) {
     for (bytes, numbers, shown) in [
         (b"".as_slice(), [].as_slice(), ""),
         (b" \t\r".as_slice(), [].as_slice(), ""),
-        (b"a:443\x0b\t b:80\r".as_slice(), [3u64, 4].as_slice(), "a:443\x0b 3;b:80 4;"),
+        (
+            b"a:443\x0b\t b:80\r".as_slice(),
+            [3u64, 4].as_slice(),
+            "a:443\x0b 3;b:80 4;",
+        ),
         (b" v2".as_slice(), [3].as_slice(), "v2 3;"),
         (b" v2\t1:a".as_slice(), [3, 4].as_slice(), "1:a 4;v2 3;"),
         (b"  v2 1:a".as_slice(), [3, 4].as_slice(), "1:a 4;v2 3;"),
@@ -137,9 +173,21 @@ fn both_versions_are_read(rt: HostRuntime) {
         (b" v2 ".as_slice(), [].as_slice(), ""),
         (b" v2 1:a".as_slice(), [3].as_slice(), "a 3;"),
         (b" v2 1:b1:a".as_slice(), [3, 4].as_slice(), "a 4;b 3;"),
-        (b" v2 4:1:a:2: \n".as_slice(), [3, 4].as_slice(), " \n 4;1:a: 3;"),
-        (b"a:1".as_slice(), [3, 4].as_slice(), "unequal numbers of addresses and descriptors [4, 3]"),
-        (b" v2 1:".as_slice(), [3].as_slice(), "the message has lengths that don't fit its words [3]"),
+        (
+            b" v2 4:1:a:2: \n".as_slice(),
+            [3, 4].as_slice(),
+            " \n 4;1:a: 3;",
+        ),
+        (
+            b"a:1".as_slice(),
+            [3, 4].as_slice(),
+            "unequal numbers of addresses and descriptors [4, 3]",
+        ),
+        (
+            b" v2 1:".as_slice(),
+            [3].as_slice(),
+            "the message has lengths that don't fit its words [3]",
+        ),
     ] {
         same(rt, decoded(rt, bytes, numbers).as_str(), shown);
     }
@@ -176,8 +224,16 @@ const REFUSED: [(&str, usize, DecodeError); 42] = [
     ("20763220333a61", 1, DecodeError::BadForm), // ` v2 3:a`
     ("20763220323a61", 1, DecodeError::BadForm), // ` v2 2:a`
     ("20763220313a", 1, DecodeError::BadForm), // ` v2 1:`
-    ("2076322031383434363734343037333730393535313631363a61", 1, DecodeError::BadForm), // ` v2 18446744073709551616:a`
-    ("2076322031383434363734343037333730393535313631373a61", 1, DecodeError::BadForm), // ` v2 18446744073709551617:a`
+    (
+        "2076322031383434363734343037333730393535313631363a61",
+        1,
+        DecodeError::BadForm,
+    ), // ` v2 18446744073709551616:a`
+    (
+        "2076322031383434363734343037333730393535313631373a61",
+        1,
+        DecodeError::BadForm,
+    ), // ` v2 18446744073709551617:a`
     // A word reaches into the next, or something stands between or behind the words.
     ("20763220323a61313a62", 2, DecodeError::BadForm), // ` v2 2:a1:b`
     ("20763220313a6120313a62", 2, DecodeError::BadForm), // ` v2 1:a 1:b`
