@@ -92,9 +92,8 @@ fn spend(mut fds: Fds) {
 }
 
 impl Endpoints {
-    /// What is live, as the message to a successor: the addresses, joined by single spaces, with the
-    /// descriptors in the same order; none where there is no such message. Descriptors without an
-    /// address are left out.
+    /// What is live, as the message to a successor: the addresses, with the descriptors in the same
+    /// order; none where there is no such message. Descriptors without an address are left out.
     pub fn message(&self, alloc: Global) -> Result<Option<Message>, NoMemory>
         ensures { IfOk result (λ m. (p : Plan) (q : Record) → EndpointsStand p self.now.parts q → m ≡ encode (live_table p q)) }
     {

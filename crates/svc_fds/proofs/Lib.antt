@@ -1,7 +1,10 @@
 pub mod TableLemmas
 pub mod PlaceLemmas
 pub mod WordLemmas
+pub mod FrameLemmas
 pub mod PairLemmas
+pub mod VersionLemmas
+pub mod MessageExamples
 pub mod SendLemmas
 pub mod ReceiveLemmas
 pub mod LoadLemmas

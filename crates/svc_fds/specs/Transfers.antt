@@ -22,7 +22,7 @@ use Rattle.svc_fds.specs.declared.errors.DecodeError.{DecodeError}
 use Rattle.svc_fds.specs.declared.errors.DecodeError.TheVariants as decode_errors
 use Rattle.svc_fds.specs.declared.errors.SendError.TheVariants as send_errors
 use Rattle.svc_fds.specs.Tables.{Entry, lookup, numbers, put_all}
-use Rattle.svc_fds.specs.Messages.{joined, IsEncodable, EncodeRefusalFits, IsMessage, table_of, DecodeRefusalFits}
+use Rattle.svc_fds.specs.Messages.{message_bytes, IsEncodable, EncodeRefusalFits, IsMessage, table_of, DecodeRefusalFits}
 
 -- a rest before a call, where there is one
 abbrev pub rested : ℕ → List ChannelCall
@@ -124,6 +124,7 @@ closes fds = map (λ fd. Close fd) fds
 -- the refusal of a message, as a receiver answers it
 abbrev pub receive_error : DecodeError → ReceiveError
 receive_error decode_errors.NotUtf8 = receive_errors.NotUtf8
+receive_error decode_errors.BadForm = receive_errors.BadForm
 receive_error decode_errors.Unequal = receive_errors.Unequal
 receive_error decode_errors.Repeated = receive_errors.Repeated
 receive_error decode_errors.NoMemory = receive_errors.NoMemory
@@ -154,4 +155,4 @@ send_error encode_errors.NoMemory = send_errors.NoMemory
 -- a table that has no message is refused before any call of the channel, and else its message is sent
 pub data SendsTable {X : Type 0} (calls : X → Option (List ChannelCall)) (limit : ℕ) (es : List Entry) (before now : X) : Result ℕ SendError → Type 0 where
   unsent : (error : EncodeError) → EncodeRefusalFits es error → now ≡ before → SendsTable calls limit es before now (Err (send_error error))
-  tried : (result : Result ℕ SendError) → IsEncodable es → SendsBy limit (joined es) (numbers es) (calls before) (calls now) result → SendsTable calls limit es before now result
+  tried : (result : Result ℕ SendError) → IsEncodable es → SendsBy limit (message_bytes es) (numbers es) (calls before) (calls now) result → SendsTable calls limit es before now result

@@ -4,10 +4,10 @@ use thiserror::Error;
 /// Why a table can't be written as a message. They come in this order.
 #[derive(Clone, Copy, PartialEq, Eq, Debug, Error)]
 pub enum EncodeError {
-    /// An address is empty or holds ASCII whitespace.
-    #[error("an address is empty or has blanks")]
+    /// An address is empty.
+    #[error("an address is empty")]
     BadAddress,
-    /// The message has over 2,048 bytes.
+    /// Version 1 doesn't say the table, and in version 2 the message has over 65,536 bytes.
     #[error("the message is too long")]
     TooLong,
     /// The table has over 32 descriptors.
@@ -46,6 +46,9 @@ pub enum ListsError {
 pub enum DecodeError {
     #[error("the message isn't UTF-8")]
     NotUtf8,
+    /// The message begins as version 2, and isn't a list of lengths and words.
+    #[error("the message has lengths that don't fit its words")]
+    BadForm,
     /// There aren't as many words as descriptors.
     #[error("unequal numbers of addresses and descriptors")]
     Unequal,
@@ -74,10 +77,10 @@ impl From<ListsError> for DecodeError {
 /// Why a table wasn't sent.
 #[derive(Clone, Copy, PartialEq, Eq, Debug, Error)]
 pub enum SendError {
-    /// An address is empty or holds ASCII whitespace.
-    #[error("an address is empty or has blanks")]
+    /// An address is empty.
+    #[error("an address is empty")]
     BadAddress,
-    /// The message has over 2,048 bytes.
+    /// The message has over 65,536 bytes.
     #[error("the message is too long")]
     TooLong,
     /// There are over 32 descriptors.
@@ -107,6 +110,9 @@ pub enum ReceiveError {
     Repeated,
     #[error("the message isn't UTF-8")]
     NotUtf8,
+    /// The message begins as version 2, and isn't a list of lengths and words.
+    #[error("the message has lengths that don't fit its words")]
+    BadForm,
     /// The channel failed.
     #[error("the transfer failed")]
     Transfer,
@@ -142,6 +148,7 @@ impl From<DecodeError> for ReceiveError {
     fn from(error: DecodeError) -> Self {
         match error {
             DecodeError::NotUtf8 => ReceiveError::NotUtf8,
+            DecodeError::BadForm => ReceiveError::BadForm,
             DecodeError::Unequal => ReceiveError::Unequal,
             DecodeError::Repeated => ReceiveError::Repeated,
             DecodeError::NoMemory => ReceiveError::NoMemory,

@@ -5,6 +5,7 @@ use Rattle.std.specs.Str.{is_utf8, chars}
 use lib.Utf8.{encode}
 use Rattle.svc_graph.specs.declared.plan.EndpointPlan.{EndpointPlan}
 use Rattle.svc_graph.specs.declared.plan.Kind.TheVariants.{Plain, Bootstrap as Bootstrapping}
+use Rattle.svc_fds.specs.Messages.{is_sayable, message_bytes, is_well_formed, words}
 use Rattle.svc_record.specs.declared.plan.Plan.{Plan}
 use Rattle.svc_record.specs.declared.plan.ServicePlan.{ServicePlan}
 use Rattle.svc_record.specs.declared.entry.Entry.TheVariants.{Got, Told}
@@ -96,96 +97,89 @@ taken = Told (Phase Running 0) ∷ Told (Adopt 0 0 3) ∷ Told (Start 0) ∷ Tol
 held-late : IsLost 0 (plain (tcp y ∷ tcp x ∷ [])) (inheriting (tcp y ∷ tcp x ∷ []))
     (Told (Phase Terminated 6000) ∷ Told (Stop 5) ∷ Told (Close 7) ∷ Told (Close 5) ∷ Told (Phase ShutdownRuntimes 6000) ∷ Told (Phase ShutdownGracePeriod 6000) ∷ Told (Phase ShutdownStarted 6000) ∷ Told Broadcast ∷ Got (Moment 6000) ∷ Told (Phase GracefulUpgradeCloseTimeout 1000) ∷ Got Sent ∷ Told (Send y (5 ∷ [])) ∷ Got Connected ∷ Got (Bound 0 1 7) ∷ Told (Bind 0 1) ∷ Got (Moment 1000) ∷ Told Connect ∷ Told (Phase GracefulUpgradeTransferringFds 0) ∷ Got (Signal GracefulUpgrade) ∷ Got (InUse 0 1) ∷ Told (Bind 0 1) ∷ Got (Bound 0 0 5) ∷ begun)
     (Told (Bind 0 1) ∷ Got (Adopted 0 0) ∷ Told (Phase Running 0) ∷ Told (Adopt 0 0 3) ∷ Told (Start 0) ∷ Told (Phase BootstrapComplete 0) ∷ Got (Received y (3 ∷ [])) ∷ asks) Taken
-unfolding is_utf8 chars encode
+unfolding is_utf8 chars encode is_well_formed words is_sayable message_bytes
 held-late = record { lacking = refl; closed = refl; kept = refl; old_right = refl; new_right = refl }
 
 -- the new plan names another address
 unnamed : IsLost 1 (plain (tcp x ∷ [])) (inheriting (tcp y ∷ []))
     (drained 5000 sent)
     (Told (Phase Running 0) ∷ Told (Bind 0 0) ∷ Told (Start 0) ∷ Told (Phase BootstrapComplete 0) ∷ Told (Close 3) ∷ Got (Received x (3 ∷ [])) ∷ asks) Taken
-unfolding is_utf8 chars encode
+unfolding is_utf8 chars encode is_well_formed words is_sayable message_bytes
 unnamed = record { lacking = refl; closed = refl; kept = refl; old_right = refl; new_right = refl }
 
 -- the first signal was to end
 terminated : IsLost 2 (plain (tcp x ∷ [])) (inheriting (tcp x ∷ []))
     (Told (Phase Terminated 0) ∷ Told (Stop 5) ∷ Told (Close 7) ∷ Told (Phase ShutdownRuntimes 0) ∷ Told (Phase ShutdownGracePeriod 0) ∷ Told (Phase ShutdownStarted 0) ∷ Told (Phase GracefulTerminate 0) ∷ Told Broadcast ∷ Got (Signal GracefulTerminate) ∷ held)
     asks Listening
-unfolding is_utf8 chars encode
+unfolding is_utf8 chars encode is_well_formed words is_sayable message_bytes
 terminated = record { lacking = refl; closed = refl; kept = refl; old_right = refl; new_right = refl }
 
 -- and to end at once
 stopped : IsLost 2 (plain (tcp x ∷ [])) (inheriting (tcp x ∷ []))
     (Told (Phase Terminated 0) ∷ Told (Stop 0) ∷ Told (Close 7) ∷ Told (Phase ShutdownRuntimes 0) ∷ Told (Phase ShutdownStarted 0) ∷ Got (Signal FastShutdown) ∷ held)
     asks Listening
-unfolding is_utf8 chars encode
+unfolding is_utf8 chars encode is_well_formed words is_sayable message_bytes
 stopped = record { lacking = refl; closed = refl; kept = refl; old_right = refl; new_right = refl }
 
 -- the connection to the new server failed
 unconnected : IsLost 3 (plain (tcp x ∷ [])) (inheriting (tcp x ∷ []))
     (drained 5000 (Told (Phase GracefulUpgradeCloseTimeout 0) ∷ Got ConnectFailed ∷ offered))
     asks Listening
-unfolding is_utf8 chars encode
+unfolding is_utf8 chars encode is_well_formed words is_sayable message_bytes
 unconnected = record { lacking = refl; closed = refl; kept = refl; old_right = refl; new_right = refl }
 
 -- nobody was there
 alone : IsLost 3 (plain (tcp x ∷ [])) (inheriting (tcp x ∷ []))
     (drained 6000 (Told (Phase GracefulUpgradeCloseTimeout 1000) ∷ Got NotThere ∷ Told Connect ∷ Got (Moment 1000) ∷ Got NotThere ∷ offered))
     asks Listening
-unfolding is_utf8 chars encode
+unfolding is_utf8 chars encode is_well_formed words is_sayable message_bytes
 alone = record { lacking = refl; closed = refl; kept = refl; old_right = refl; new_right = refl }
-
--- another live address has a blank, so that no message says both
-unsendable : IsLost 3 (plain (tcp x ∷ tcp (codes "y z") ∷ [])) (inheriting (tcp x ∷ []))
-    (Told (Phase Terminated 5000) ∷ Told (Stop 5) ∷ Told (Close 8) ∷ Told (Close 7) ∷ Told (Phase ShutdownRuntimes 5000) ∷ Told (Phase ShutdownGracePeriod 5000) ∷ Told (Phase ShutdownStarted 5000) ∷ Told Broadcast ∷ Got (Moment 5000) ∷ Told (Phase GracefulUpgradeCloseTimeout 0) ∷ Told (Phase GracefulUpgradeTransferringFds 0) ∷ Got (Signal GracefulUpgrade) ∷ Got (Bound 0 1 8) ∷ Told (Bind 0 1) ∷ held)
-    asks Listening
-unfolding is_utf8 chars encode
-unsendable = record { lacking = refl; closed = refl; kept = refl; old_right = refl; new_right = refl }
 
 -- another address of the same service could not be bound
 old-failed : IsLost 4 (plain (tcp x ∷ tcp y ∷ [])) (inheriting (tcp x ∷ []))
     (Told (Close 7) ∷ Told (Fail 0) ∷ Got (BindFailed 0 1) ∷ Told (Bind 0 1) ∷ held)
     asks Listening
-unfolding is_utf8 chars encode
+unfolding is_utf8 chars encode is_well_formed words is_sayable message_bytes
 old-failed = record { lacking = refl; closed = refl; kept = refl; old_right = refl; new_right = refl }
 
 -- the new server could not adopt it
 unadopted : IsLost 5 (plain (tcp x ∷ [])) (inheriting (tcp x ∷ []))
     (drained 5000 sent)
     (Told (Close 3) ∷ Told (Fail 0) ∷ Got (AdoptFailed 0 0) ∷ taken) Taken
-unfolding is_utf8 chars encode
+unfolding is_utf8 chars encode is_well_formed words is_sayable message_bytes
 unadopted = record { lacking = refl; closed = refl; kept = refl; old_right = refl; new_right = refl }
 
 -- or not bind its other address
 new-failed : IsLost 5 (plain (tcp x ∷ [])) (inheriting (tcp x ∷ tcp y ∷ []))
     (drained 5000 sent)
     (Told (Close 3) ∷ Told (Fail 0) ∷ Got (BindFailed 0 1) ∷ Told (Bind 0 1) ∷ Got (Adopted 0 0) ∷ taken) Taken
-unfolding is_utf8 chars encode
+unfolding is_utf8 chars encode is_well_formed words is_sayable message_bytes
 new-failed = record { lacking = refl; closed = refl; kept = refl; old_right = refl; new_right = refl }
 
 -- the old server itself waited for an older one, and gave up
 old-gave-up : IsLost 6 second (inheriting (tcp x ∷ []))
     (Got NoSenderYet ∷ Told TryReceive ∷ Got (Moment 1000) ∷ Got NoSenderYet ∷ Got (Bound 0 0 7) ∷ Told (Phase Running 0) ∷ Told TryReceive ∷ Told OpenReceiver ∷ Told (Phase Bootstrap 0) ∷ Told (Start 1) ∷ Told (Bind 0 0) ∷ Told (Start 0) ∷ [])
     asks Listening
-unfolding is_utf8 chars encode
+unfolding is_utf8 chars encode is_well_formed words is_sayable message_bytes
 old-gave-up = record { lacking = refl; closed = refl; kept = refl; old_right = refl; new_right = refl }
 
 -- the new one gave up while the message was on its way
 new-gave-up : IsLost 7 (plain (tcp x ∷ [])) (inheriting (tcp x ∷ []))
     (drained 5000 sent)
     (Got NoSenderYet ∷ Told TryReceive ∷ Got (Moment 1000) ∷ Got NoSenderYet ∷ asks) InFlight
-unfolding is_utf8 chars encode
+unfolding is_utf8 chars encode is_well_formed words is_sayable message_bytes
 new-gave-up = record { lacking = refl; closed = refl; kept = refl; old_right = refl; new_right = refl }
 
 -- its receiving failed
 unreceived : IsLost 7 (plain (tcp x ∷ [])) (inheriting (tcp x ∷ []))
     (drained 5000 sent)
     (Got ReceiveFailed ∷ asks) InFlight
-unfolding is_utf8 chars encode
+unfolding is_utf8 chars encode is_well_formed words is_sayable message_bytes
 unreceived = record { lacking = refl; closed = refl; kept = refl; old_right = refl; new_right = refl }
 
 -- it was told to end
 new-stopped : IsLost 8 (plain (tcp x ∷ [])) (inheriting (tcp x ∷ []))
     (drained 5000 sent)
     (Told (Phase Terminated 0) ∷ Told (Stop 0) ∷ Told (Close 3) ∷ Told (Phase ShutdownRuntimes 0) ∷ Told (Phase ShutdownStarted 0) ∷ Got (Signal FastShutdown) ∷ Got (Adopted 0 0) ∷ taken) Taken
-unfolding is_utf8 chars encode
+unfolding is_utf8 chars encode is_well_formed words is_sayable message_bytes
 new-stopped = record { lacking = refl; closed = refl; kept = refl; old_right = refl; new_right = refl }

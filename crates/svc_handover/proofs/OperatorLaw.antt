@@ -25,7 +25,7 @@ use Rattle.svc_handover.specs.Handover.{is_covered, has_given_up, is_promised, a
 use Rattle.svc_handover.specs.Law.{PairStands}
 use Rattle.svc_handover.specs.Operator.{is_down, is_reachable, was_held, was_live, is_named, is_sound_for, is_upgrade_or_none, ends_sent, KeepsReachable}
 use Rattle.svc_handover.proofs.PairLemmas.{covered}
-use Rattle.svc_handover.proofs.TextLemmas.{table-text}
+use Rattle.svc_handover.proofs.TextLemmas.{table-texts}
 use Rattle.svc_handover.proofs.LawLemmas.{pair-kept}
 use Rattle.svc_handover.proofs.OperatorLemmas.{never-given-up}
 use Rattle.svc_handover.proofs.ReachLemmas.{live-before, live-unsignalled}
@@ -100,7 +100,7 @@ module _ (old new : CoreData) (w : World) (stand : PairStands old new w) (a : Li
       let upgrade : is_upgrade (signal_of w.old) ≡ true = ap is_upgrade some.1 ∙ subst (λ s. is_upgrade_or_none s ≡ true) some.1 kind in
       let live = live-before old.plan w.old a stand.old_right came named_old sound_old (subst (λ b. (has_live old.plan b (Some a) || was_live old.plan b a) ≡ true) (ap (λ b. if b then before_signal w.old else w.old) came) held) in
       let promised : is_promised old.plan w.old ≡ true = and_from (is_upgrade (signal_of w.old)) (not (is_over old.plan w.old) || has is_sent w.old) upgrade sent in
-      let law = covered old new.plan w stand.old_stands stand.old_right stand.new_right (pair-kept old new w stand) (table-text old.plan (before_signal w.old) stand.texts) in
+      let law = covered old new.plan w stand.old_stands stand.old_right stand.new_right (pair-kept old new w stand) (table-texts old.plan (before_signal w.old) stand.texts) in
       let all : list_all (λ (x : TableEntry). address_right old.plan new.plan w x.0) (table old.plan w.old) ≡ true = needed (is_promised old.plan w.old) (list_all (λ (x : TableEntry). address_right old.plan new.plan w x.0) (table old.plan w.old)) promised law in
       second (is_taken w.channel) (has_given_up new.plan w.new a) (is_covered old.plan new.plan w a)
       (never-given-up new w.new a stand.new_stands stand.new_right silent named_new sound_new)

@@ -1,5 +1,5 @@
 -- The law's first sentence: each offered address is covered, while the offer isn't over and once it was sent, until the new side has it and gives it up.
-use Rattle.std.proofs.Common.{ℕ, Bool, true, false, ◌||◌, ◌&&◌, not, ◌==◌, List, [], ◌∷◌, ◌≡◌, refl, ap, sym, ◌∙◌, subst, arith, inl, inr, Option, Some, None, length, IsUtf8, if◌then◌else◌}
+use Rattle.std.proofs.Common.{ℕ, Bool, true, false, ◌||◌, ◌&&◌, not, ◌==◌, List, [], ◌∷◌, ◌≡◌, refl, ap, sym, ◌∙◌, subst, arith, inl, inr, Option, Some, None, length, if◌then◌else◌}
 use Rattle.std.specs.List.{list_all}
 use Rattle.std.specs.Str.{bytes_eq}
 use Rattle.std.proofs.lemmas.Bool.{and_parts, and_from, cases_Bool, or_cases, or_left, or_right, eqb-true, not-true}
@@ -7,7 +7,7 @@ use Rattle.std.proofs.lemmas.List.{length-map}
 use Rattle.std.proofs.lemmas.Slice.Eq.{bytes_eq-Decides}
 use Rattle.svc_fds.specs.declared.encoding.Message.{Message}
 use Rattle.svc_fds.specs.Tables.{Entry as TableEntry, addresses}
-use Rattle.svc_fds.specs.Messages.{joined, written}
+use Rattle.svc_fds.specs.Messages.{AreTexts, message_bytes, written}
 use Rattle.svc_record.specs.declared.plan.Plan.{Plan}
 use Rattle.svc_record.specs.declared.action.Action.{Action}
 use Rattle.svc_record.specs.declared.entry.Entry.TheVariants.{Got, Told}
@@ -94,18 +94,18 @@ encode-some t h = by (is_encodable t) h
 encode-is : (t : List TableEntry) → is_encodable t ≡ true → encode t ≡ Some (written t)
 encode-is t h = rw h refl
 
-pub read-as-sent : (p : Plan) (q : Record) (bytes fds : List ℕ) (m : Option Message) → m ≡ encode (table p q) → is_written m ≡ true → IsUtf8 (joined (table p q)) → is_as_sent bytes fds m ≡ true
+pub read-as-sent : (p : Plan) (q : Record) (bytes fds : List ℕ) (m : Option Message) → m ≡ encode (table p q) → is_written m ≡ true → AreTexts (table p q) → is_as_sent bytes fds m ≡ true
     → (decode bytes (length fds) ≡ Some (addresses (table p q))) × (length (addresses (table p q)) ≡ length fds)
-read-as-sent p q bytes fds m same some text same_message =
+read-as-sent p q bytes fds m same some texts same_message =
     let fine : is_encodable (table p q) ≡ true = encode-some (table p q) (subst (λ x. is_written x ≡ true) same some) in
     let parts = as-sent bytes fds (written (table p q)) (subst (λ x. is_as_sent bytes fds x ≡ true) (same ∙ encode-is (table p q) fine) same_message) in (
-      ap (λ b. decode b (length fds)) parts.0 ∙ ap (decode (joined (table p q))) parts.1 ∙ decode-written (table p q) (live-ascending p (before_signal q)) fine text,
+      ap (λ b. decode b (length fds)) parts.0 ∙ ap (decode (message_bytes (table p q))) parts.1 ∙ decode-written (table p q) (live-ascending p (before_signal q)) fine texts,
       length-map (table p q) (λ e. e.0) ∙ sym (length-map (table p q) (λ e. e.1)) ∙ sym parts.1,
     )
 
 -- never a bad message: an allowed receipt can be read
-pub receipt-reads : (p : Plan) (q : Record) (bytes fds : List ℕ) (m : Option Message) → m ≡ encode (table p q) → is_written m ≡ true → IsUtf8 (joined (table p q)) → is_as_sent bytes fds m ≡ true → is_bad_message (Got (Received bytes fds)) ≡ false
-receipt-reads p q bytes fds m same some text same_message = ap (λ o. not (is_read o)) (read-as-sent p q bytes fds m same some text same_message).0
+pub receipt-reads : (p : Plan) (q : Record) (bytes fds : List ℕ) (m : Option Message) → m ≡ encode (table p q) → is_written m ≡ true → AreTexts (table p q) → is_as_sent bytes fds m ≡ true → is_bad_message (Got (Received bytes fds)) ≡ false
+receipt-reads p q bytes fds m same some texts same_message = ap (λ o. not (is_read o)) (read-as-sent p q bytes fds m same some texts same_message).0
 
 -- which of the four makes an address right
 by-old : (g o n f : Bool) → o ≡ true → (g || ((o || n) || f)) ≡ true
@@ -129,7 +129,7 @@ lands : (t s j l : Bool) → t ≡ true → is_taken (reached t s j l) ≡ true
 lands true s j l a = refl
 lands false s j l a = absurd (cc)
 
-module _ (old : CoreData) (n : Plan) (w : World) (stand : StandsFor old w.old) (right_old : Right old.plan w.old) (right_new : Right n w.new) (kept : PairKept w) (text : IsUtf8 (joined (table old.plan w.old))) where
+module _ (old : CoreData) (n : Plan) (w : World) (stand : StandsFor old w.old) (right_old : Right old.plan w.old) (right_new : Right n w.new) (kept : PairKept w) (texts : AreTexts (table old.plan w.old)) where
   -- while the offer isn't over
   while-offered : is_upgrade (signal_of w.old) ≡ true → is_over old.plan w.old ≡ false → list_all (λ (x : TableEntry). address_right old.plan n w x.0) (table old.plan w.old) ≡ true
   while-offered upgrade going = all-weaker (λ (x : TableEntry). has_live old.plan w.old (Some x.0)) (λ (x : TableEntry). address_right old.plan n w x.0)
@@ -147,13 +147,13 @@ module _ (old : CoreData) (n : Plan) (w : World) (stand : StandsFor old w.old) (
     in-flight : has is_receipt w.new ≡ false → (x : TableEntry) → is_among x.0 (addresses (table old.plan w.old)) ≡ true → address_right old.plan n w x.0 ≡ true
     in-flight none x among =
         let flying : is_in_flight w.channel ≡ true = ap is_in_flight kept.read ∙ flies (has is_receipt w.new) (has is_sent w.old) (has is_join w.old) (has is_open_receiver w.new) none sent in
-        let names : names_address x.0 (sent_message w.old) ≡ true = ap (names_address x.0) offers.1.0 ∙ encode-names (table old.plan w.old) x.0 (live-ascending old.plan (before_signal w.old)) fine text ∙ among in
+        let names : names_address x.0 (sent_message w.old) ≡ true = ap (names_address x.0) offers.1.0 ∙ encode-names (table old.plan w.old) x.0 (live-ascending old.plan (before_signal w.old)) fine texts ∙ among in
         by-flight (is_taken w.channel && has_given_up n w.new x.0) (has_live old.plan w.old (Some x.0)) (has_live n w.new (Some x.0)) (is_in_flight w.channel && names_address x.0 (sent_message w.old))
         (and_from (is_in_flight w.channel) (names_address x.0 (sent_message w.old)) flying names)
 
     landed : has is_receipt w.new ≡ true → (x : TableEntry) → is_among x.0 (addresses (table old.plan w.old)) ≡ true → address_right old.plan n w x.0 ≡ true
     landed came x among =
-        let reads = read-as-sent old.plan w.old (receipt_of w.new).bytes (receipt_of w.new).fds (sent_message w.old) offers.1.0 offers.1.1 text (kept.taken came) in
+        let reads = read-as-sent old.plan w.old (receipt_of w.new).bytes (receipt_of w.new).fds (sent_message w.old) offers.1.0 offers.1.1 texts (kept.taken came) in
         elim (received-kept n w.new x.0 (addresses (table old.plan w.old)) right_new came reads.0 reads.1 among) [
           | inl live ↦ by-new (is_taken w.channel && has_given_up n w.new x.0) (has_live old.plan w.old (Some x.0)) (has_live n w.new (Some x.0)) (is_in_flight w.channel && names_address x.0 (sent_message w.old)) live
           | inr gone ↦ by-close (is_taken w.channel && has_given_up n w.new x.0) (has_live old.plan w.old (Some x.0)) (has_live n w.new (Some x.0)) (is_in_flight w.channel && names_address x.0 (sent_message w.old))

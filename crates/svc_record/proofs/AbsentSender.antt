@@ -2,6 +2,7 @@
 use Rattle.std.proofs.Common.{false, [], ◌∷◌, ◌≡◌, refl}
 use Rattle.std.specs.Str.{is_utf8, chars}
 use lib.Utf8.{encode}
+use Rattle.svc_fds.specs.Messages.{is_well_formed, words}
 use Rattle.svc_record.specs.declared.plan.Plan.{Plan}
 use Rattle.svc_record.specs.declared.entry.Entry.TheVariants.{Got, Told}
 use Rattle.svc_record.specs.declared.event.Event.TheVariants.{Moment, Received, NoSenderYet, ReceiveFailed, Signal}
@@ -32,15 +33,15 @@ run = Told (Phase Terminated 1000) ∷ Told (Stop 0) ∷ Told (Phase ShutdownRun
     ∷ Told (Phase Running 1000) ∷ Told (Phase BootstrapComplete 1000) ∷ Got (Received [] []) ∷ tried_again
 
 right : Right plan run
-unfolding is_utf8 chars encode
+unfolding is_utf8 chars encode is_well_formed words
 right = right_from_test plan run refl
 
 served : Served plan run
-unfolding is_utf8 chars encode
+unfolding is_utf8 chars encode is_well_formed words
 served = served_from_test plan run refl
 
 shortened-wrong : right_ones plan (shortened run) ≡ false ∷ false ∷ false ∷ false ∷ false ∷ false ∷ false ∷ false ∷ false ∷ false ∷ false ∷ false ∷ false ∷ false ∷ []
-unfolding is_utf8 chars encode
+unfolding is_utf8 chars encode is_well_formed words
 shortened-wrong = refl
 
 goes_on : step_end plan tried_again ≡ On

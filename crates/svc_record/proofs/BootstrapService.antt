@@ -3,6 +3,7 @@ use Rattle.std.proofs.Common.{true, false, [], ◌∷◌, codes, ◌≡◌, refl
 use Rattle.std.specs.Str.{is_utf8, chars}
 use lib.Utf8.{encode}
 use Rattle.svc_graph.specs.declared.plan.Kind.TheVariants.{Bootstrap as Bootstrapping}
+use Rattle.svc_fds.specs.Messages.{is_well_formed, words}
 use Rattle.svc_record.specs.declared.plan.Plan.{Plan}
 use Rattle.svc_record.specs.declared.plan.ServicePlan.{ServicePlan}
 use Rattle.svc_record.specs.declared.entry.Entry.TheVariants.{Got, Told}
@@ -39,19 +40,19 @@ abbrev pub run : Record
 run = Told (Phase Terminated 0) ∷ Told (Stop 0) ∷ Told (Close 3) ∷ Told (Phase ShutdownRuntimes 0) ∷ Told (Phase ShutdownStarted 0) ∷ Got (Signal FastShutdown) ∷ Got (Adopted 0 0) ∷ inherited
 
 right : Right plan run
-unfolding is_utf8 chars encode
+unfolding is_utf8 chars encode is_well_formed words
 right = right_from_test plan run refl
 
 served : Served plan run
-unfolding is_utf8 chars encode
+unfolding is_utf8 chars encode is_well_formed words
 served = served_from_test plan run refl
 
 beginnings-right : right_ones plan (beginnings run) ≡ true ∷ false ∷ false ∷ false ∷ false ∷ false ∷ true ∷ true ∷ false ∷ false ∷ true ∷ false ∷ true ∷ false ∷ false ∷ false ∷ false ∷ false ∷ false ∷ false ∷ []
-unfolding is_utf8 chars encode
+unfolding is_utf8 chars encode is_well_formed words
 beginnings-right = refl
 
 shortened-right : right_ones plan (shortened run) ≡ false ∷ false ∷ false ∷ false ∷ false ∷ false ∷ true ∷ false ∷ false ∷ false ∷ false ∷ false ∷ false ∷ false ∷ false ∷ false ∷ false ∷ false ∷ false ∷ []
-unfolding is_utf8 chars encode
+unfolding is_utf8 chars encode is_well_formed words
 shortened-right = refl
 
 -- the work of a service that bootstraps isn't done, and it doesn't say that it is ready

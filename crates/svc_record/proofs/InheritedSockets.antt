@@ -2,6 +2,7 @@
 use Rattle.std.proofs.Common.{true, false, List, [], ◌∷◌, Some, codes, ◌≡◌, refl}
 use Rattle.std.specs.Str.{is_utf8, chars}
 use lib.Utf8.{encode}
+use Rattle.svc_fds.specs.Messages.{is_well_formed, words}
 use Rattle.svc_record.specs.declared.plan.Plan.{Plan}
 use Rattle.svc_record.specs.declared.plan.ServicePlan.{ServicePlan}
 use Rattle.svc_record.specs.declared.entry.Entry.TheVariants.{Got, Told}
@@ -43,26 +44,26 @@ abbrev pub run : Record
 run = Told (Phase Terminated 0) ∷ Told (Stop 0) ∷ Told (Close 4) ∷ Told (Close 3) ∷ Told (Phase ShutdownRuntimes 0) ∷ Told (Phase ShutdownStarted 0) ∷ Got (Signal FastShutdown) ∷ Got (Adopted 0 0) ∷ offered
 
 right : Right plan run
-unfolding is_utf8 chars encode
+unfolding is_utf8 chars encode is_well_formed words
 right = right_from_test plan run refl
 
 served : Served plan run
-unfolding is_utf8 chars encode
+unfolding is_utf8 chars encode is_well_formed words
 served = served_from_test plan run refl
 
 -- what stands before each event is right, what ends within a step isn't
 beginnings-right : right_ones plan (beginnings run) ≡ true ∷ false ∷ false ∷ false ∷ false ∷ false ∷ false ∷ true ∷ true ∷ false ∷ false ∷ false ∷ false ∷ true ∷ false ∷ false ∷ false ∷ []
-unfolding is_utf8 chars encode
+unfolding is_utf8 chars encode is_well_formed words
 beginnings-right = refl
 
 -- of the records that lack an entry of it one is right: the adoption's answer may be missing
 shortened-right : right_ones plan (shortened run) ≡ false ∷ false ∷ false ∷ false ∷ false ∷ false ∷ false ∷ true ∷ false ∷ false ∷ false ∷ false ∷ false ∷ false ∷ false ∷ false ∷ []
-unfolding is_utf8 chars encode
+unfolding is_utf8 chars encode is_well_formed words
 shortened-right = refl
 
 -- and each entry comes once
 doubled-wrong : right_ones plan (doubled run) ≡ false ∷ false ∷ false ∷ false ∷ false ∷ false ∷ false ∷ false ∷ false ∷ false ∷ false ∷ false ∷ false ∷ false ∷ false ∷ false ∷ []
-unfolding is_utf8 chars encode
+unfolding is_utf8 chars encode is_well_formed words
 doubled-wrong = refl
 
 -- an older server that had no sockets: the address is bound
@@ -74,9 +75,9 @@ abbrev pub one_address : Plan
 one_address = inheriting (listening [] (codes "127.0.0.1:80") ∷ [])
 
 without_sockets-right : Right one_address without_sockets
-unfolding is_utf8 chars encode
+unfolding is_utf8 chars encode is_well_formed words
 without_sockets-right = right_from_test one_address without_sockets refl
 
 without_sockets-served : Served one_address without_sockets
-unfolding is_utf8 chars encode
+unfolding is_utf8 chars encode is_well_formed words
 without_sockets-served = served_from_test one_address without_sockets refl

@@ -1,5 +1,6 @@
 -- Runs that are asked for an upgrade: what is live is offered to a successor, and five seconds after the last answer the grace period begins.
 use Rattle.std.proofs.Common.{ℕ, true, false, [], ◌∷◌, codes, ◌≡◌, refl}
+use Rattle.svc_fds.specs.Messages.{is_sayable, message_bytes}
 use Rattle.svc_record.specs.declared.plan.Plan.{Plan}
 use Rattle.svc_record.specs.declared.entry.Entry.TheVariants.{Got, Told}
 use Rattle.svc_record.specs.declared.event.Event.TheVariants.{Moment, Bound, BindFailed, Connected, NotThere, Sent, SendFailed, Signal}
@@ -45,19 +46,24 @@ abbrev pub run : Record
 run = ended 5000 (Told (Close 7) ∷ []) 5 (graced 5000 (Got (Moment 5000) ∷ Got (Moment 4999) ∷ failed))
 
 right : Right plan run
+unfolding is_sayable message_bytes
 right = right_from_test plan run refl
 
 served : Served plan run
+unfolding is_sayable message_bytes
 served = served_from_test plan run refl
 
 waits : step_end plan (Got (Moment 4999) ∷ failed) ≡ On
+unfolding is_sayable message_bytes
 waits = refl
 
 ends : step_end plan run ≡ HasServed
+unfolding is_sayable message_bytes
 ends = refl
 
 -- it needs each entry but for the moment at which nothing is due
 shortened-right : right_ones plan (shortened run) ≡ false ∷ false ∷ false ∷ false ∷ false ∷ false ∷ false ∷ false ∷ true ∷ false ∷ false ∷ false ∷ false ∷ false ∷ false ∷ false ∷ false ∷ false ∷ false ∷ false ∷ []
+unfolding is_sayable message_bytes
 shortened-right = refl
 
 -- a server that looks for a successor three times
@@ -73,9 +79,11 @@ abbrev pub given_up : Record
 given_up = Told (Phase GracefulUpgradeCloseTimeout 2000) ∷ Got NotThere ∷ alone
 
 alone-right : Right thrice given_up
+unfolding is_sayable message_bytes
 alone-right = right_from_test thrice given_up refl
 
 alone-waits : step_end thrice given_up ≡ On
+unfolding is_sayable message_bytes
 alone-waits = refl
 
 -- a service with two addresses, and no grace period
@@ -99,9 +107,11 @@ abbrev pub half_run : Record
 half_run = ended 5000 [] 5 (graced 5000 (Got (Moment 5000) ∷ let_go))
 
 half-right : Right half_plan half_run
+unfolding is_sayable message_bytes
 half-right = right_from_test half_plan half_run refl
 
 half-served : Served half_plan half_run
+unfolding is_sayable message_bytes
 half-served = served_from_test half_plan half_run refl
 
 -- both are held, and sent in the order of their addresses
@@ -114,7 +124,9 @@ both_run = ended 5000 (Told (Close 8) ∷ Told (Close 7) ∷ []) 5 (graced 5000 
     ∷ Told (Send (codes "a:1 b:2") (7 ∷ 8 ∷ [])) ∷ Got Connected ∷ offered both_held))
 
 both-right : Right half_plan both_run
+unfolding is_sayable message_bytes
 both-right = right_from_test half_plan both_run refl
 
 both-served : Served half_plan both_run
+unfolding is_sayable message_bytes
 both-served = served_from_test half_plan both_run refl

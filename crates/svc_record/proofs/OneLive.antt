@@ -5,7 +5,7 @@ use Rattle.std.specs.Bool.{OnTrue}
 use Rattle.std.specs.List.{list_any}
 use Rattle.std.specs.Str.{is_utf8, bytes_eq}
 use Rattle.svc_fds.specs.Lists.{is_among, has_repeat}
-use Rattle.svc_fds.specs.Messages.{words}
+use Rattle.svc_fds.specs.Messages.{is_well_formed, words}
 use Rattle.svc_record.specs.declared.plan.Plan.{Plan}
 use Rattle.svc_record.specs.declared.entry.Entry.{Entry}
 use Rattle.svc_record.specs.declared.entry.Entry.TheVariants.{Got, Told}
@@ -112,7 +112,7 @@ apart_entry p (Got (Bound s i fd)) closed old fresh h = elim (cases_Bool (closed
   | inl shut ↦ rw shut h
   | inr kept ↦ rw kept (rw (fresh.0 kept) h)
 ]
-apart_entry p (Got (Received bytes fds)) closed old fresh h = apart_words closed fds (words_or_none (decode bytes (length fds))) old (distinct_words (is_utf8 bytes && length (words bytes) == length fds) (words bytes)) fresh h
+apart_entry p (Got (Received bytes fds)) closed old fresh h = apart_words closed fds (words_or_none (decode bytes (length fds))) old (distinct_words ((is_utf8 bytes && is_well_formed bytes) && length (words bytes) == length fds) (words bytes)) fresh h
 apart_entry p _ closed old fresh h = h
 
 fresh_from : (closed : ℕ → Bool) (taken rest : Option (List ℕ) → Bool) (ds : List Descriptor) → ((a : Option (List ℕ)) → taken a ≡ false → rest a ≡ false)

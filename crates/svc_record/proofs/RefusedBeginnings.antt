@@ -2,6 +2,7 @@
 use Rattle.std.proofs.Common.{true, [], ◌∷◌, codes, refl}
 use Rattle.std.specs.Str.{is_utf8, chars}
 use lib.Utf8.{encode}
+use Rattle.svc_fds.specs.Messages.{is_well_formed, words}
 use Rattle.svc_record.specs.declared.plan.Plan.{Plan}
 use Rattle.svc_record.specs.declared.entry.Entry.TheVariants.{Got, Told}
 use Rattle.svc_record.specs.declared.event.Event.TheVariants.{Moment as Time, Ended, Bound, Received, NoSenderYet, ReceiveFailed, Side as Forked}
@@ -72,7 +73,7 @@ try_left_out = (refl, refl)
 
 -- it is tried again after a message came
 try_after_message : IsRefusedBy absent_plan (Told TryReceive ∷ Told (Phase Running 0) ∷ Told (Phase BootstrapComplete 0) ∷ answered) (TryInTurn ∷ [])
-unfolding is_utf8 chars encode
+unfolding is_utf8 chars encode is_well_formed words
 try_after_message = (refl, refl)
 
 -- it is tried where nothing is to be received
@@ -121,7 +122,7 @@ complete_without_message = (refl, refl)
 
 -- a message came, and bootstrapping isn't complete
 complete_left_out : IsRefusedBy absent_plan (answered) (Beginning ∷ [])
-unfolding is_utf8 chars encode
+unfolding is_utf8 chars encode is_well_formed words
 complete_left_out = (refl, refl)
 
 -- bootstrapping is complete before it begins
@@ -134,7 +135,7 @@ running_before_message = (refl, refl)
 
 -- it runs before bootstrapping is complete
 running_before_complete : IsRefusedBy absent_plan (Told (Phase BootstrapComplete 0) ∷ Told (Phase Running 0) ∷ answered) (BootInTurn ∷ [])
-unfolding is_utf8 chars encode
+unfolding is_utf8 chars encode is_well_formed words
 running_before_complete = (refl, refl)
 
 -- a service starts before a message came
@@ -155,57 +156,57 @@ ended_of_bootstrapping = (refl, refl)
 
 -- a descriptor that no service names is kept
 unclaimed_kept : IsRefusedBy one_address (Told (Phase Running 0) ∷ Told (Adopt 0 0 3) ∷ Told (Start 0) ∷ Told (Phase BootstrapComplete 0) ∷ received) (Closes ∷ [])
-unfolding is_utf8 chars encode
+unfolding is_utf8 chars encode is_well_formed words
 unclaimed_kept = (refl, refl)
 
 -- a descriptor is closed that a service names
 claimed_closed : IsRefusedBy claiming_plan (Told (Phase Running 0) ∷ Told (Adopt 0 0 3) ∷ Told (Start 0) ∷ Told (Phase BootstrapComplete 0) ∷ Told (Close 4) ∷ received) (Closes ∷ [])
-unfolding is_utf8 chars encode
+unfolding is_utf8 chars encode is_well_formed words
 claimed_closed = (refl, refl)
 
 -- an address is bound whose descriptor was inherited
 bind_beside_inherited : IsRefusedBy claiming_plan (Told (Phase Running 0) ∷ Told (Bind 0 0) ∷ Told (Start 0) ∷ Told (Phase BootstrapComplete 0) ∷ received) (AskInTurn ∷ [])
-unfolding is_utf8 chars encode
+unfolding is_utf8 chars encode is_well_formed words
 bind_beside_inherited = (refl, refl)
 
 -- the inherited descriptor is closed, and the address bound
 inherited_closed : IsRefusedBy claiming_plan (Told (Phase Running 0) ∷ Told (Bind 0 0) ∷ Told (Start 0) ∷ Told (Phase BootstrapComplete 0) ∷ Told (Close 3) ∷ received) (Closes ∷ [])
-unfolding is_utf8 chars encode
+unfolding is_utf8 chars encode is_well_formed words
 inherited_closed = (refl, refl)
 
 -- the endpoint is offered the descriptor of another address
 other_adopted : IsRefusedBy claiming_plan (Told (Phase Running 0) ∷ Told (Adopt 0 0 4) ∷ Told (Start 0) ∷ Told (Phase BootstrapComplete 0) ∷ received) (AskInTurn ∷ [])
-unfolding is_utf8 chars encode
+unfolding is_utf8 chars encode is_well_formed words
 other_adopted = (refl, refl)
 
 -- the second descriptor of an address is offered
 doubled_adopted : IsRefusedBy bootstrapping_plan (Told (Adopt 0 0 9) ∷ Got (Bound 0 0 9) ∷ Told (Phase BootstrapComplete 0) ∷ Got (Received (codes "127.0.0.1:80") (3 ∷ [])) ∷ both_begun) (Closes ∷ OneLive ∷ [])
-unfolding is_utf8 chars encode
+unfolding is_utf8 chars encode is_well_formed words
 doubled_adopted = (refl, refl)
 
 -- the inherited descriptor is closed in place of the second one
 own_kept : IsRefusedBy bootstrapping_plan (Told (Close 3) ∷ Got (Bound 0 0 9) ∷ Told (Phase BootstrapComplete 0) ∷ Got (Received (codes "127.0.0.1:80") (3 ∷ [])) ∷ both_begun) (Closes ∷ Endpoints ∷ EndpointsLate ∷ [])
-unfolding is_utf8 chars encode
+unfolding is_utf8 chars encode is_well_formed words
 own_kept = (refl, refl)
 
 -- a message brings one number twice
 number_received_twice : IsRefusedBy bootstrapping_plan (Told (Phase BootstrapComplete 0) ∷ Got (Received (codes "127.0.0.1:80 a:1") (5 ∷ 5 ∷ [])) ∷ both_begun) (EventFits ∷ [])
-unfolding is_utf8 chars encode
+unfolding is_utf8 chars encode is_well_formed words
 number_received_twice = (refl, refl)
 
 -- a message brings the number of a descriptor that is open
 number_received_again : IsRefusedBy bootstrapping_plan (Told (Phase BootstrapComplete 0) ∷ Got (Received (codes "a:1") (7 ∷ [])) ∷ Got (Bound 0 0 7) ∷ both_begun) (EventFits ∷ Closes ∷ [])
-unfolding is_utf8 chars encode
+unfolding is_utf8 chars encode is_well_formed words
 number_received_again = (refl, refl)
 
 -- a message comes though no try is open
 message_unasked : IsRefusedBy absent_plan (Got (Received [] []) ∷ Told (Phase Running 0) ∷ Told (Phase BootstrapComplete 0) ∷ answered) (EventFits ∷ [])
-unfolding is_utf8 chars encode
+unfolding is_utf8 chars encode is_well_formed words
 message_unasked = (refl, refl)
 
 -- a close is told in the step in which an unreadable message came
 told_after_bad_message : IsRefusedBy one_address (Told (Close 3) ∷ repeated) (SilentEnd ∷ [])
-unfolding is_utf8 chars encode
+unfolding is_utf8 chars encode is_well_formed words
 told_after_bad_message = (refl, refl)
 
 -- a try is told though none is left

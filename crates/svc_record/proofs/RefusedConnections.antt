@@ -2,6 +2,7 @@
 use Rattle.std.proofs.Common.{true, [], ◌∷◌, ◌++◌, codes, refl}
 use Rattle.svc_base.specs.declared.settings.Setting.TheVariants.{NoDelay}
 use Rattle.svc_socket.specs.declared.peer.Peer.TheVariants.{Unix}
+use Rattle.svc_fds.specs.Messages.{is_sayable, message_bytes}
 use Rattle.svc_record.specs.declared.entry.Entry.TheVariants.{Got, Told}
 use Rattle.svc_record.specs.declared.event.Event.TheVariants.{Connected, NotThere, SendBusy, Arrived, AcceptFailed, Signal}
 use Rattle.svc_record.specs.declared.event.ShutdownSignal.TheVariants.{FastShutdown, GracefulUpgrade}
@@ -37,14 +38,17 @@ connect_in_last_step = (refl, refl)
 
 -- an upgrade is asked for, and no successor is
 connect_left_out : IsRefusedBy plan (offering) (OneAsk ∷ OfferGoes ∷ [])
+unfolding is_sayable
 connect_left_out = (refl, refl)
 
 -- nobody was there, and it is tried again at once
 connect_at_once : IsRefusedBy plan (Told Connect ∷ Got NotThere ∷ Told Connect ∷ offering) (RetryInTurn ∷ OneAsk ∷ [])
+unfolding is_sayable
 connect_at_once = (refl, refl)
 
 -- the successor was busy, and the table is sent again at once
 send_at_once : IsRefusedBy plan (Told (Send (codes "127.0.0.1:80") (7 ∷ [])) ∷ Got SendBusy ∷ sending) (RetryInTurn ∷ OneAsk ∷ [])
+unfolding is_sayable message_bytes
 send_at_once = (refl, refl)
 
 -- a connection is judged that never arrived

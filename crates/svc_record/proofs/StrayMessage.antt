@@ -2,6 +2,7 @@
 use Rattle.std.proofs.Common.{true, false, [], ◌∷◌, Some, codes, ◌≡◌, refl}
 use Rattle.std.specs.Str.{is_utf8, chars}
 use lib.Utf8.{encode}
+use Rattle.svc_fds.specs.Messages.{is_well_formed, words}
 use Rattle.svc_record.specs.declared.plan.Plan.{Plan}
 use Rattle.svc_record.specs.declared.entry.Entry.TheVariants.{Got}
 use Rattle.svc_record.specs.declared.event.Event.{Event}
@@ -32,7 +33,7 @@ twice-stray : fits one_address begun twice ≡ false
 twice-stray = refl
 
 twice-right : is_right one_address (Got twice ∷ begun) ≡ false
-unfolding is_utf8 chars encode
+unfolding is_utf8 chars encode is_well_formed words
 twice-right = refl
 
 twice-closes : closing_actions one_address begun (Some twice) ≡ Close 5 ∷ []

@@ -2,6 +2,7 @@
 use Rattle.std.proofs.Common.{true, false, [], ◌∷◌, None, codes, ◌≡◌, refl}
 use Rattle.std.specs.Str.{is_utf8, chars}
 use lib.Utf8.{encode}
+use Rattle.svc_fds.specs.Messages.{is_well_formed, words}
 use Rattle.svc_record.specs.declared.plan.Plan.{Plan}
 use Rattle.svc_record.specs.declared.plan.ServicePlan.{ServicePlan}
 use Rattle.svc_record.specs.declared.entry.Entry.TheVariants.{Got, Told}
@@ -23,19 +24,19 @@ run = Told (Phase Terminated 0) ∷ Told (Stop 0) ∷ Told (Close 3) ∷ Told (P
     ∷ Told (Phase Running 0) ∷ Told (Adopt 0 0 3) ∷ Told (Start 0) ∷ Told (Phase BootstrapComplete 0) ∷ Told (Close 4) ∷ received
 
 right : Right one_address run
-unfolding is_utf8 chars encode
+unfolding is_utf8 chars encode is_well_formed words
 right = right_from_test one_address run refl
 
 served : Served one_address run
-unfolding is_utf8 chars encode
+unfolding is_utf8 chars encode is_well_formed words
 served = served_from_test one_address run refl
 
 beginnings-right : right_ones one_address (beginnings run) ≡ true ∷ false ∷ false ∷ false ∷ false ∷ false ∷ true ∷ true ∷ false ∷ false ∷ false ∷ false ∷ false ∷ true ∷ false ∷ false ∷ false ∷ []
-unfolding is_utf8 chars encode
+unfolding is_utf8 chars encode is_well_formed words
 beginnings-right = refl
 
 shortened-right : right_ones one_address (shortened run) ≡ false ∷ false ∷ false ∷ false ∷ false ∷ false ∷ true ∷ false ∷ false ∷ false ∷ false ∷ false ∷ false ∷ false ∷ false ∷ false ∷ []
-unfolding is_utf8 chars encode
+unfolding is_utf8 chars encode is_well_formed words
 shortened-right = refl
 
 -- a service that doesn't say which addresses it declares
@@ -51,14 +52,14 @@ kept = Told (Phase Terminated 0) ∷ Told (Stop 0) ∷ Told (Close 4) ∷ Told (
     ∷ Told (Phase Running 0) ∷ Told (Start 1) ∷ Told (Adopt 0 0 3) ∷ Told (Start 0) ∷ Told (Phase BootstrapComplete 0) ∷ received
 
 kept-right : Right with_undeclared kept
-unfolding is_utf8 chars encode
+unfolding is_utf8 chars encode is_well_formed words
 kept-right = right_from_test with_undeclared kept refl
 
 kept-served : Served with_undeclared kept
-unfolding is_utf8 chars encode
+unfolding is_utf8 chars encode is_well_formed words
 kept-served = served_from_test with_undeclared kept refl
 
 -- what is right by the one plan isn't by the other
 kept_unclaimed : is_right one_address both_claimed ≡ false
-unfolding is_utf8 chars encode
+unfolding is_utf8 chars encode is_well_formed words
 kept_unclaimed = refl

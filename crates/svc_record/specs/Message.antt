@@ -4,16 +4,16 @@ use Rattle.std.specs.Str.{is_utf8}
 use Rattle.svc_fds.specs.declared.encoding.Message.{Message}
 use Rattle.svc_fds.specs.Tables.{Entry}
 use Rattle.svc_fds.specs.Lists.{has_repeat}
-use Rattle.svc_fds.specs.Messages.{has_bad_address, joined, written, words}
+use Rattle.svc_fds.specs.Messages.{is_sayable, written, is_well_formed, words}
 
--- the table has a message: no address is empty or holds ASCII whitespace, joined by single spaces they have at most 2,048 bytes, and there are at most 32
+-- the table has a message: one of the two versions says it, and it has at most 32 entries
 abbrev pub is_encodable : List Entry → Bool
-is_encodable t = (not (has_bad_address t) && nat_le (length (joined t)) 2048) && nat_le (length t) 32
+is_encodable t = is_sayable t && nat_le (length t) 32
 
--- the table's message, if it has one: its addresses joined by single spaces, and the descriptors in the same order
+-- the table's message, if it has one: its addresses in version 1 where that says them, else in version 2, and the descriptors in the same order
 abbrev pub encode : List Entry → Option Message
 encode t = if is_encodable t then Some (written t) else None
 
--- the words of a message that came with n descriptors, where it is UTF-8 and has n distinct words; else none
+-- the words of a message that came with n descriptors, where it is UTF-8 and has n distinct words, and where it begins as version 2 is a list of lengths and words; else none
 abbrev pub decode : List ℕ → ℕ → Option (List (List ℕ))
-decode bytes n = if (is_utf8 bytes && length (words bytes) == n) && not (has_repeat (words bytes)) then Some (words bytes) else None
+decode bytes n = if ((is_utf8 bytes && is_well_formed bytes) && length (words bytes) == n) && not (has_repeat (words bytes)) then Some (words bytes) else None

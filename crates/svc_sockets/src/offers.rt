@@ -5,14 +5,11 @@ use crate::slot::{Letter, Slot};
 use std::alloc::Global;
 use std::net::TcpListener;
 use svc_base::{Bytes, NoMemory};
-use svc_fds::FdList;
+use svc_fds::{FdList, MESSAGE_LIMIT};
 use svc_record::{Event, copy_items};
 
 /// The most listeners that a letter hands over.
 pub(crate) const MOST_HANDED: usize = 32;
-
-/// The most bytes of a letter.
-const MOST_BYTES: usize = 2048;
 
 /// What an old server is to be told of its offer.
 #[derive(Clone, Copy, Debug, PartialEq, Eq)]
@@ -95,7 +92,7 @@ impl Offers {
 
     /// Makes room for a letter.
     pub fn reserve(&mut self) -> Result<(), NoMemory> {
-        self.empty.bytes.reserve(MOST_BYTES)?;
+        self.empty.bytes.reserve(MESSAGE_LIMIT)?;
         self.empty.handed.reserve(MOST_HANDED)?;
         Ok(())
     }

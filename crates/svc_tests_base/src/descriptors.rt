@@ -1,13 +1,13 @@
-//! The table of descriptors, its message, and its way through a channel.
+//! The table of descriptors, and its way through a channel.
 
 use crate::checking::{holds, prints, same};
 use std::collections::BTreeSet;
 use std::process::Abort;
 use svc_base::Text;
 use svc_fds::{
-    AddFdRefused, Channel, ChannelCall, DecodeError, DecodeRefused, EncodeError, Fd, Fds,
-    ListsError, ListsRefused, MemoryChannel, ReceiveError, ReceiveKind, ReceiveNext, ReceiveRetry,
-    SendAnswer, SendError, SendNext, SendRetry, SteadyChannel, send_fds_to,
+    AddFdRefused, Channel, ChannelCall, DecodeError, EncodeError, Fd, Fds, ListsError,
+    ListsRefused, MemoryChannel, ReceiveError, ReceiveKind, ReceiveNext, ReceiveRetry, SendAnswer,
+    SendError, SendNext, SendRetry, SteadyChannel, send_fds_to,
 };
 
 fn text<R: Abort + AllocGlobal>(rt: &R, text: &str) -> Text {
@@ -15,7 +15,12 @@ fn text<R: Abort + AllocGlobal>(rt: &R, text: &str) -> Text {
 }
 
 /// Adds an entry, and answers the number that it replaced.
-fn put<R: Abort + AllocGlobal>(rt: &R, table: &mut Fds, bind: &str, number: u64) -> Option<u64> {
+pub(crate) fn put<R: Abort + AllocGlobal>(
+    rt: &R,
+    table: &mut Fds,
+    bind: &str,
+    number: u64,
+) -> Option<u64> {
     match table.add(rt.alloc(), text(rt, bind), Fd::new(number)) {
         Ok(Some(held)) => Some(held.close()),
         Ok(None) => None,
@@ -30,7 +35,7 @@ fn put<R: Abort + AllocGlobal>(rt: &R, table: &mut Fds, bind: &str, number: u64)
     }
 }
 
-fn table_of<R: Abort + AllocGlobal>(rt: &R, pairs: &[(&str, u64)]) -> Fds {
+pub(crate) fn table_of<R: Abort + AllocGlobal>(rt: &R, pairs: &[(&str, u64)]) -> Fds {
     let mut table = Fds::new(rt.alloc());
     for (bind, number) in pairs {
         assert_eq!(rt; put(rt, &mut table, bind, *number), None);
@@ -39,7 +44,7 @@ fn table_of<R: Abort + AllocGlobal>(rt: &R, pairs: &[(&str, u64)]) -> Fds {
 }
 
 /// Descriptors of these numbers.
-fn descriptors<R: Abort + AllocGlobal>(rt: &R, numbers: &[u64]) -> Vec<Fd> {
+pub(crate) fn descriptors<R: Abort + AllocGlobal>(rt: &R, numbers: &[u64]) -> Vec<Fd> {
     let mut fds = Vec::new(rt.alloc());
     for number in numbers {
         if let Err(failed) = fds.push(Fd::new(*number)) {
@@ -50,7 +55,7 @@ fn descriptors<R: Abort + AllocGlobal>(rt: &R, numbers: &[u64]) -> Vec<Fd> {
 }
 
 /// Closes descriptors, and answers their numbers, the last first.
-fn closed<R: Abort + AllocGlobal>(rt: &R, mut fds: Vec<Fd>) -> Vec<u64> {
+pub(crate) fn closed<R: Abort + AllocGlobal>(rt: &R, mut fds: Vec<Fd>) -> Vec<u64> {
     let mut numbers = Vec::new(rt.alloc());
     while let Some(fd) = fds.pop() {
         assert!(rt; numbers.push(fd.close()).is_ok());
@@ -60,7 +65,7 @@ fn closed<R: Abort + AllocGlobal>(rt: &R, mut fds: Vec<Fd>) -> Vec<u64> {
 }
 
 /// Spends a table, and answers its addresses and its numbers.
-fn spent<R: Abort + AllocGlobal>(rt: &R, mut table: Fds) -> String {
+pub(crate) fn spent<R: Abort + AllocGlobal>(rt: &R, mut table: Fds) -> String {
     let mut shown = String::new(rt.alloc());
     while let Some((bind, fd)) = table.pop_first() {
         let entry = format!(in rt.alloc(); "{} {};", bind.as_str(), fd.close());
@@ -71,9 +76,9 @@ fn spent<R: Abort + AllocGlobal>(rt: &R, mut table: Fds) -> String {
     shown
 }
 
-const TWO: [(&str, u64); 2] = [("1.1.1.1:80", 128), ("1.1.1.1:443", 129)];
+pub(crate) const TWO: [(&str, u64); 2] = [("1.1.1.1:80", 128), ("1.1.1.1:443", 129)];
 
-const TWO_SHOWN: &str = "1.1.1.1:443 129;1.1.1.1:80 128;";
+pub(crate) const TWO_SHOWN: &str = "1.1.1.1:443 129;1.1.1.1:80 128;";
 
 #[test]
 fn a_table_is_a_map(rt: HostRuntime) {
@@ -87,84 +92,6 @@ fn a_table_is_a_map(rt: HostRuntime) {
     same(rt, table.remove("b").map(|fd| fd.close()), Some(3));
     holds(rt, !table.is_empty());
     same(rt, spent(rt, table).as_str(), "a 2;");
-}
-
-#[test]
-fn a_table_is_a_message(rt: HostRuntime) {
-    let rt = &rt;
-    let table = table_of(rt, &TWO);
-    let message = table.encode(rt.alloc()).expect(rt, "a message");
-    let bytes = b"1.1.1.1:443 1.1.1.1:80".as_slice();
-    same(rt, message.bytes.as_slice(), bytes);
-    same(rt, message.fds.as_slice(), [129, 128].as_slice());
-    same(rt, spent(rt, table).as_str(), TWO_SHOWN);
-}
-
-/// Decodes a message, and answers the table, or why there is none and the numbers that come back.
-fn decoded<R: Abort + AllocGlobal>(rt: &R, bytes: &[u8], numbers: &[u64]) -> String {
-    match Fds::decode(rt.alloc(), bytes, descriptors(rt, numbers)) {
-        Ok(table) => spent(rt, table),
-        Err(refused) => {
-            let DecodeRefused { reason, fds } = refused;
-            let back = closed(rt, fds);
-            format!(in rt.alloc(); "{reason} {back:?}").expect(rt, "a text")
-        }
-    }
-}
-
-#[test]
-fn a_message_is_a_table_or_refused(rt: HostRuntime) {
-    let rt = &rt;
-    for (bytes, shown) in [
-        (b"a:443\x0b\t b:80\r".as_slice(), "a:443\x0b 3;b:80 4;"),
-        (b"\xff".as_slice(), "the message isn't UTF-8 [4, 3]"),
-        (
-            b"a:1".as_slice(),
-            "unequal numbers of addresses and descriptors [4, 3]",
-        ),
-        (b"a:1 a:1".as_slice(), "an address stands twice [4, 3]"),
-    ] {
-        same(rt, decoded(rt, bytes, &[3, 4]).as_str(), shown);
-    }
-}
-
-/// What the encoding of a table refuses.
-fn refusal<R: Abort + AllocGlobal>(rt: &R, table: Fds) -> Option<EncodeError> {
-    let refusal = table.encode(rt.alloc()).err();
-    let _ = spent(rt, table);
-    refusal
-}
-
-#[test]
-fn what_does_not_fit_a_message_is_refused(rt: HostRuntime) {
-    let rt = &rt;
-    let mut long = String::new(rt.alloc());
-    for _ in 0..2048 {
-        holds(rt, long.push('x').is_ok());
-    }
-    same(rt, refusal(rt, table_of(rt, &[(long.as_str(), 1)])), None);
-    holds(rt, long.push('x').is_ok());
-    for (bind, want) in [
-        (long.as_str(), Some(EncodeError::TooLong)),
-        ("", Some(EncodeError::BadAddress)),
-        ("a\x0c", Some(EncodeError::BadAddress)),
-        ("a\x0b", None),
-    ] {
-        same(rt, refusal(rt, table_of(rt, &[(bind, 1)])), want);
-    }
-}
-
-#[test]
-fn a_message_has_at_most_32_descriptors(rt: HostRuntime) {
-    let rt = &rt;
-    for (count, want) in [(32u64, None), (33, Some(EncodeError::TooMany))] {
-        let mut table = Fds::new(rt.alloc());
-        for number in 0..count {
-            let bind = format!(in rt.alloc(); "{number}").expect(rt, "a text");
-            same(rt, put(rt, &mut table, bind.as_str(), number), None);
-        }
-        same(rt, refusal(rt, table), want);
-    }
 }
 
 /// Adds lists to a table, and answers the numbers that they replaced, or why they are refused.
@@ -331,11 +258,7 @@ fn a_channel_fails_at_the_listed_call(rt: HostRuntime) {
 #[test]
 fn errors_have_texts(rt: HostRuntime) {
     let rt = &rt;
-    prints(
-        rt,
-        EncodeError::BadAddress,
-        "an address is empty or has blanks",
-    );
+    prints(rt, EncodeError::BadAddress, "an address is empty");
     prints(rt, EncodeError::TooLong, "the message is too long");
     prints(rt, EncodeError::TooMany, "too many descriptors");
     prints(rt, EncodeError::NoMemory, "out of memory");
@@ -349,11 +272,7 @@ fn errors_have_texts(rt: HostRuntime) {
 #[test]
 fn errors_of_a_transfer_have_texts(rt: HostRuntime) {
     let rt = &rt;
-    prints(
-        rt,
-        SendError::BadAddress,
-        "an address is empty or has blanks",
-    );
+    prints(rt, SendError::BadAddress, "an address is empty");
     prints(rt, SendError::TooLong, "the message is too long");
     prints(rt, SendError::TooMany, "too many descriptors");
     prints(rt, SendError::Transfer, "the transfer failed");
@@ -364,6 +283,8 @@ fn errors_of_a_transfer_have_texts(rt: HostRuntime) {
     prints(rt, ReceiveError::Unequal, unequal);
     prints(rt, ReceiveError::Repeated, "an address stands twice");
     prints(rt, ReceiveError::NotUtf8, "the message isn't UTF-8");
+    let form = "the message has lengths that don't fit its words";
+    prints(rt, ReceiveError::BadForm, form);
     prints(rt, ReceiveError::Transfer, "the transfer failed");
     prints(rt, ReceiveError::NoSender, "no sender");
     prints(rt, ReceiveError::NoMemory, "out of memory");

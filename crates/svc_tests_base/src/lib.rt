@@ -11,6 +11,8 @@ mod descriptors;
 #[cfg(test)]
 mod graph;
 #[cfg(test)]
+mod messages;
+#[cfg(test)]
 mod processes;
 #[cfg(test)]
 mod services;

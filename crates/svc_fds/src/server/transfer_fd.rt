@@ -1,6 +1,6 @@
 //! Listening sockets by address.
 
-ghost use Rattle.std.specs.Prelude.{◌≡◌, ◌+◌, ◌-◌, ◌<◌, ◌≤◌, ◌==◌, [], ◌∷◌, ◌++◌, ℕ, List, Some, None, OnOk, OnErr, IfOk, IfErr, IfSome, length, insert, unwrap_or, is_some, IsErrOf, vec_len, vec_capacity, if◌then◌else◌};
+ghost use Rattle.std.specs.Prelude.{◌≡◌, ◌+◌, ◌-◌, ◌<◌, ◌≤◌, ◌==◌, [], ◌∷◌, ◌++◌, ℕ, List, Some, None, OnOk, OnErr, IfOk, IfErr, IfSome, length, insert, unwrap_or, is_some, not, IsErrOf, vec_len, vec_capacity, if◌then◌else◌};
 ghost use Rattle.std.specs.Option.{option_copied, option_to_list};
 ghost use Rattle.std.specs.Str.{bytes_eq};
 ghost use Rattle.std.specs.List.{filter_map, zip};
@@ -138,7 +138,7 @@ impl Fds {
     ghost use Rattle.svc_base.specs.Streams.{Rose};
     ghost use Rattle.svc_fds.specs.Channels.{Tells};
     ghost use Rattle.svc_fds.specs.Transfers.{SendsTable, Loads, LoadsNot, copies, fresh, closes};
-    ghost use Rattle.svc_fds.specs.Messages.{joined, IsEncodable, written, EncodeRefusalFits, IsMessage, table_of, DecodeRefusalFits};
+    ghost use Rattle.svc_fds.specs.Messages.{is_joinable, is_framed, message_bytes, IsEncodable, written, EncodeRefusalFits, IsMessage, table_of, DecodeRefusalFits};
 
     /// A table without entries.
     pub fn new(alloc: Global) -> Self
@@ -339,11 +339,14 @@ impl Fds {
         Ok(out)
     }
 
-    /// The message that carries the table to a successor: the addresses, joined by single spaces, and
-    /// the numbers, in the same order.
+    /// The message that carries the table to a successor: the addresses, and the numbers in the same
+    /// order. The addresses are joined by single spaces where none has blanks and they have at most
+    /// 2,048 bytes (version 1); else each stands after its length (version 2).
     pub fn encode(&self, alloc: Global) -> Result<Message, EncodeError>
         ensures ok { IfOk result (λ message. IsEncodable self.now.entries
             × (message ≡ written self.now.entries)) }
+        ensures version { IfOk result (λ message. is_framed message.bytes
+            ≡ not (is_joinable self.now.entries)) }
         ensures again { IfOk result (λ message. IsMessage message.bytes (length message.fds)
             × (table_of message.bytes message.fds ≡ self.now.entries)) }
         ensures refusal { IfErr result (λ error. EncodeRefusalFits self.now.entries error) }
@@ -396,7 +399,7 @@ impl Fds {
     ) -> Result<u64, SendError>
         ensures asked { SendsTable C.calls (unwrap_or max_retry MAX_RETRY) self.now.entries
             channel.old channel.new result }
-        ensures sent { IfOk result (λ n. n ≡ length (joined self.now.entries)) }
+        ensures sent { IfOk result (λ n. n ≡ length (message_bytes self.now.entries)) }
         ensures fault { IsErrOf result SendError.Transfer
             → Rose (C.faulted channel.old) (C.faulted channel.new) }
     {

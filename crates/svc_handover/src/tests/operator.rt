@@ -21,9 +21,15 @@ const ROWS: [&str; 14] = [
     // nobody is there, as often as is tried,
     "old x | new x | offered | old notthere; old moment 1000; old notthere; old moment 6000 |
         Listening | close 7; stop 5; phase Terminated 6000; | tryreceive;",
-    // or another live address holds a blank, so that nothing can be sent.
-    "old x+y z | new x | - | old bound 0 0 7; old bound 0 1 8; old signal upgrade; old moment 5000 |
-        Listening | close 7; close 8; stop 5; phase Terminated 5000; | tryreceive;",
+    // or 32 more addresses are live, so that no message says all.
+    "old x+a+b+c+d+e+f+g+h+i+j+k+l+m+n+o+p+q+r+s+t+u+v+w+y+z+A+B+C+D+E+F+G | new x | - | old bound 0 0 7; old bound
+        0 1 8; old bound 0 2 9; old bound 0 3 10; old bound 0 4 11; old bound 0 5 12; old bound 0 6 13; old bound 0 7
+        14; old bound 0 8 15; old bound 0 9 16; old bound 0 10 17; old bound 0 11 18; old bound 0 12 19; old bound 0
+        13 20; old bound 0 14 21; old bound 0 15 22; old bound 0 16 23; old bound 0 17 24; old bound 0 18 25; old
+        bound 0 19 26; old bound 0 20 27; old bound 0 21 28; old bound 0 22 29; old bound 0 23 30; old bound 0 24 31;
+        old bound 0 25 32; old bound 0 26 33; old bound 0 27 34; old bound 0 28 35; old bound 0 29 36; old bound 0 30
+        37; old bound 0 31 38; old bound 0 32 39; old signal upgrade; old moment 5000 |
+        Listening | close 38; close 39; stop 5; phase Terminated 5000; | tryreceive;",
     // An old service that names it fails.
     "old x+y | new x | - | old bound 0 0 7; old bindfailed 0 1 | Listening | got bindfailed 0 1; fail 0; close 7; | tryreceive;",
     // A new service that names it fails: it can't adopt it,

@@ -1,8 +1,0 @@
-use Rattle.std.proofs.Common.{◌≡◌, ◌++◌}
-use Rattle.std.specs.Str.Iter.{split_ascii_whitespace_text}
-use Rattle.svc_fds.specs.Messages.{words}
-use Rattle.svc_fds.proofs.words.words_of.Given as goal
-
--- the words so far, and those of what is left
-abbrev pub invariant-loop-word : goal.invariant-loop-word
-invariant-loop-word l = l.found.items ++ words (split_ascii_whitespace_text l.word-iterator) ≡ words l.text
