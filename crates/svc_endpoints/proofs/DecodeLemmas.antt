@@ -1,18 +1,13 @@
--- Whether a message can be read, and whether a table has one.
+-- Whether a message can be read.
 use Rattle.std.proofs.Common.{ℕ, Bool, true, false, ◌&&◌, not, ◌==◌, ◌⊎◌, inl, inr, List, ◌≡◌, refl, length, Some, None, if◌then◌else◌}
 use Rattle.std.specs.Str.{is_utf8, IsUtf8}
-use Rattle.std.proofs.lemmas.Bool.{cases_Bool, le-leb, lt-leb, eq-eqb, eqb-true}
+use Rattle.std.proofs.lemmas.Bool.{cases_Bool, eq-eqb, eqb-true}
 use Rattle.std.proofs.lemmas.Str.{IsUtf8-from_is_utf8, is_utf8-from_IsUtf8}
 use Rattle.svc_fds.specs.Lists.{has_repeat}
-use Rattle.svc_fds.specs.Tables.{Entry}
-use Rattle.svc_fds.specs.declared.errors.EncodeError.{EncodeError}
-use Rattle.svc_fds.specs.declared.errors.EncodeError.TheVariants.{BadAddress, TooLong, TooMany}
-use Rattle.svc_fds.specs.declared.errors.EncodeError.TheVariants as encodes
 use Rattle.svc_fds.specs.declared.errors.DecodeError.{DecodeError}
 use Rattle.svc_fds.specs.declared.errors.DecodeError.TheVariants.{NotUtf8, BadForm, Unequal, Repeated, NoMemory}
-use Rattle.svc_fds.specs.Messages.{written, IsEncodable, EncodeRefusalFits, is_well_formed, words, IsMessage, DecodeRefusalFits}
-use Rattle.svc_fds.proofs.VersionLemmas.{empty-unsayable, long-unsayable}
-use Rattle.svc_record.specs.Message.{encode, decode}
+use Rattle.svc_fds.specs.Messages.{is_well_formed, words, IsMessage, DecodeRefusalFits}
+use Rattle.svc_record.specs.Message.{decode}
 use Rattle.svc_record.specs.Descriptors.{words_or_none}
 
 pub decode-none : (bytes : List ℕ) (n : ℕ) → (IsUtf8 bytes → ⊥) → decode bytes n ≡ None
@@ -48,14 +43,3 @@ read-apart bytes n = by_tests (is_utf8 bytes && is_well_formed bytes) (length (w
     by_tests true true (inr m) = rw m m
     by_tests true false r = refl
     by_tests false l r = refl
-
--- a table that has a message is written as it
-pub encode-message : (es : List Entry) → IsEncodable es → encode es ≡ Some (written es)
-encode-message es can = rw (can.said, le-leb (length es) 32 can.few) refl
-
--- what is refused, and not for want of memory, has none
-pub encode-refused : (es : List Entry) (e : EncodeError) → (e ≡ encodes.NoMemory → ⊥) → EncodeRefusalFits es e → encode es ≡ None
-encode-refused es BadAddress other fit = rw (empty-unsayable es fit) refl
-encode-refused es TooLong other fit = rw (long-unsayable es fit.1 fit.2) refl
-encode-refused es TooMany other fit = rw (fit.0, lt-leb (length es) 32 fit.1) refl
-encode-refused es encodes.NoMemory other fit = absurd (other refl)

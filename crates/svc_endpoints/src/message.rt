@@ -68,7 +68,9 @@ fn encoded(alloc: Global, fds: &Fds) -> Result<Option<Message>, NoMemory>
     match fds.encode(alloc) {
         Ok(message) => Ok(Some(message)),
         Err(EncodeError::NoMemory) => Err(NoMemory),
-        Err(_) => Ok(None),
+        Err(EncodeError::BadAddress) => Ok(None),
+        Err(EncodeError::TooLong) => Ok(None),
+        Err(EncodeError::TooMany) => Ok(None),
     }
 }
 
