@@ -16,11 +16,11 @@ use Rattle.svc_record.specs.Failed.{has_failed}
 use Rattle.svc_record.specs.Offer.{is_held_back}
 use Rattle.svc_record.specs.Tail.{numbers_in}
 use Rattle.svc_record.specs.Told.{Tells, IsGivingUp}
-use Rattle.svc_endpoints.specs.declared.states.Last.{Last}
-use Rattle.svc_endpoints.specs.declared.states.Last.TheVariants.{Unasked, Binding, Busied, Adopting, Holding, Lost}
-use Rattle.svc_endpoints.specs.declared.states.EndState.{EndState}
+use Rattle.svc_endpoints.specs.declared.states.EndpointStatus.{EndpointStatus}
+use Rattle.svc_endpoints.specs.declared.states.EndpointStatus.TheVariants.{Idle, Binding, AddressInUse, Adopting, Holding, AdoptionFailed}
+use Rattle.svc_endpoints.specs.declared.states.EndpointState.{EndpointState}
 use Rattle.svc_endpoints.specs.EndpointsData.{EndpointsData}
-use Rattle.svc_endpoints.specs.EndpointsState.{IsEndpointsSized, AreOnOffer, LoopsStand, StatesKept, StatesStand, EndpointsStand, last_at, failed_at, refusals_at, is_asking, is_done, is_binding, is_adopting, numbers_of_table}
+use Rattle.svc_endpoints.specs.EndpointsState.{IsEndpointsSized, AreOnOffer, LoopsStand, StatesKept, StatesStand, EndpointsStand, last_at, failed_at, times_in_use_at, is_asking, is_done, is_binding, is_adopting, numbers_of_table}
 use Rattle.svc_endpoints.specs.Effects.{fail_if, put, is_last_refusal, refused, bind_failed, adopt_failed, adopted, held_now, cleared, cleared_if, given_up, given_up_if, gone_numbers, goes}
 use Rattle.svc_endpoints.specs.Uses.{uses, is_drained_by}
 use Rattle.svc_endpoints.proofs.FailedLemmas.{failed-bind_failed, failed-adopt_failed, failed-in_use}
@@ -133,16 +133,16 @@ module _ (p : Plan) (d : EndpointsData) (q : Record) (s i : ℕ) (sized : IsEndp
   in_failed = omega (arith, sized.failed)
 
   -- only this endpoint changed, whose ask was open
-  changed : (b : Bool) (x : EndState) → is_asking (last_at d s i) ≡ true → Changed p d (fail_if b s (put d s i x)) s i
+  changed : (b : Bool) (x : EndpointState) → is_asking (last_at d s i) ≡ true → Changed p d (fail_if b s (put d s i x)) s i
   changed b x asks = changed-put p d s i b x in_rows in_row in_failed within (asking_not_holding (last_at d s i) asks)
 
   pub after-bind_failed : is_binding (last_at d s i) ≡ true → EndpointsStand p (cleared p keep (bind_failed d s i)) (tell (Got (BindFailed s i) ∷ q) (given_up p s keep (bind_failed d s i)))
   after-bind_failed b = fail-stands p d (bind_failed d s i) q (BindFailed s i) s i refl refl refl (λ fd. refl) (failed-bind_failed p q s i within) inside (not_failed (free_binding b))
-      (stands-bind_failed p d q s i sized inside within stand.states b (free_binding b)) (kept-bind_failed p d s i sized inside within stand.kept b) (changed true (record { last = Unasked; refusals = refusals_at d s i }) (binding_asks (last_at d s i) b)) refl refl keep offer stand
+      (stands-bind_failed p d q s i sized inside within stand.states b (free_binding b)) (kept-bind_failed p d s i sized inside within stand.kept b) (changed true (record { last = Idle; times_in_use = times_in_use_at d s i }) (binding_asks (last_at d s i) b)) refl refl keep offer stand
 
   pub after-adopt_failed : is_adopting (last_at d s i) ≡ true → EndpointsStand p (cleared p keep (adopt_failed d s i)) (tell (Got (AdoptFailed s i) ∷ q) (given_up p s keep (adopt_failed d s i)))
   after-adopt_failed a = fail-stands p d (adopt_failed d s i) q (AdoptFailed s i) s i refl refl refl (λ fd. refl) (failed-adopt_failed p q s i within) inside (not_failed (free_adopting a))
-      (stands-adopt_failed p d q s i sized inside within stand.states a (free_adopting a)) (kept-adopt_failed p d s i sized inside within stand.kept a) (changed true (record { last = Lost; refusals = refusals_at d s i }) (adopting_asks (last_at d s i) a)) refl refl keep offer stand
+      (stands-adopt_failed p d q s i sized inside within stand.states a (free_adopting a)) (kept-adopt_failed p d s i sized inside within stand.kept a) (changed true (record { last = AdoptionFailed; times_in_use = times_in_use_at d s i }) (adopting_asks (last_at d s i) a)) refl refl keep offer stand
 
   -- the last answer that the address is in use, or an earlier one
   pub after-in_use : (moment : ℕ) → moment ≡ now q → is_binding (last_at d s i) ≡ true → (b : Bool) → is_last_refusal p d s i ≡ b
@@ -174,13 +174,13 @@ module _ (p : Plan) (d : EndpointsData) (q : Record) (s i : ℕ) (sized : IsEndp
           (ap (uses fd (failed_at d s) (is_done p d s i)) (put-here p d s i (is_last_refusal p d s i) _ in_rows in_row) ∙ sym (binding-unused fd (failed_at d s) (is_done p d s i) (last_at d s i) x))
 
 -- what is offered is used as it is when it is held
-adopted_uses : (fd : ℕ) (f d : Bool) (x : Last) → f ≡ false → d ≡ false → uses fd f d (held_now x) ≡ uses fd f d x
+adopted_uses : (fd : ℕ) (f d : Bool) (x : EndpointStatus) → f ≡ false → d ≡ false → uses fd f d (held_now x) ≡ uses fd f d x
 adopted_uses fd f d (Adopting n) e h = rw (e, h) refl
 adopted_uses fd f d (Holding n) e h = refl
-adopted_uses fd f d Unasked e h = refl
+adopted_uses fd f d Idle e h = refl
 adopted_uses fd f d Binding e h = refl
-adopted_uses fd f d (Busied at) e h = refl
-adopted_uses fd f d Lost e h = refl
+adopted_uses fd f d (AddressInUse at) e h = refl
+adopted_uses fd f d AdoptionFailed e h = refl
 
 pub after-adopted : (p : Plan) (d : EndpointsData) (q : Record) (s i : ℕ) → IsEndpointsSized p d → s < service_count p → i < length (endpoints p s) → EndpointsStand p d q → is_adopting (last_at d s i) ≡ true
     → EndpointsStand p (adopted d s i) (Got (Adopted s i) ∷ q)
@@ -194,11 +194,11 @@ after-adopted p d q s i sized inside within stand a = stand-event p d (adopted d
     in_row = omega (arith, sized.each s inside)
 
     only : Changed p d (adopted d s i) s i
-    only = changed-put p d s i false (record { last = held_now (last_at d s i); refusals = refusals_at d s i }) in_rows in_row (omega (arith, sized.failed)) within (asking_not_holding (last_at d s i) (adopting_asks (last_at d s i) a))
+    only = changed-put p d s i false (record { last = held_now (last_at d s i); times_in_use = times_in_use_at d s i }) in_rows in_row (omega (arith, sized.failed)) within (asking_not_holding (last_at d s i) (adopting_asks (last_at d s i) a))
 
     drained : (fd : ℕ) → is_drained_by p (adopted d s i) fd ≡ is_drained_by p d fd
     drained fd = drained-same p d (adopted d s i) s i only q stand.loops fd refl
-        (ap (uses fd (failed_at d s) (is_done p d s i)) (put-here p d s i false (record { last = held_now (last_at d s i); refusals = refusals_at d s i }) in_rows in_row)
+        (ap (uses fd (failed_at d s) (is_done p d s i)) (put-here p d s i false (record { last = held_now (last_at d s i); times_in_use = times_in_use_at d s i }) in_rows in_row)
         ∙ adopted_uses fd (failed_at d s) (is_done p d s i) (last_at d s i) (asks_free_adopting p d s i sized inside within stand.kept a) (changed-not_done p d (adopted d s i) s i only q stand.loops fd i))
 
 -- what an answer told, and what it left

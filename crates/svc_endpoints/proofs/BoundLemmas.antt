@@ -13,14 +13,14 @@ use Rattle.svc_record.specs.Failed.{in_use_count}
 use Rattle.svc_record.specs.Endpoints.{held_numbers, in_use_within}
 use Rattle.svc_record.specs.Starts.{is_started}
 use Rattle.svc_record.specs.Fits.{is_new}
-use Rattle.svc_endpoints.specs.declared.states.Last.{Last}
-use Rattle.svc_endpoints.specs.declared.states.Last.TheVariants.{Unasked, Holding}
+use Rattle.svc_endpoints.specs.declared.states.EndpointStatus.{EndpointStatus}
+use Rattle.svc_endpoints.specs.declared.states.EndpointStatus.TheVariants.{Idle, Holding}
 use Rattle.svc_endpoints.specs.declared.table.Open.{Open}
 use Rattle.svc_endpoints.specs.EndpointsData.{EndpointsData}
-use Rattle.svc_endpoints.specs.EndpointsState.{IsEndpointsSized, StatesKept, StatesStand, StandsAt, last_at, refusals_at, failed_at, numbers_with, is_binding, has_fd, fd_of}
+use Rattle.svc_endpoints.specs.EndpointsState.{IsEndpointsSized, StatesKept, StatesStand, StandsAt, last_at, times_in_use_at, failed_at, numbers_with, is_binding, has_fd, fd_of}
 use Rattle.svc_base.specs.NumberSets.{is_in}
 use Rattle.svc_endpoints.specs.Effects.{has_open, not_empty, with_number, with_open, bound, bound_again}
-use Rattle.svc_endpoints.proofs.PutLemmas.{last_at-put, refusals_at-put}
+use Rattle.svc_endpoints.proofs.PutLemmas.{last_at-put, times_in_use_at-put}
 use Rattle.svc_endpoints.proofs.OneLemmas.{one-bound, binding_asks}
 use Rattle.svc_endpoints.proofs.StatesLemmas.{at_here, same_if, has_open-is, lost-step}
 use Rattle.svc_endpoints.proofs.LiveLemmas.{live-doubled, live_with-bound, same_eq, same_self, numbers_with-put}
@@ -38,9 +38,9 @@ pub empty_nil : (xs : List ℕ) → not_empty xs ≡ false → xs ≡ []
 empty_nil [] h = refl
 empty_nil (x ∷ xs) h = absurd (cc)
 
-fd_not_nil : (x : Last) → has_fd x ≡ true → fd_of x ≡ [] → ⊥
+fd_not_nil : (x : EndpointStatus) → has_fd x ≡ true → fd_of x ≡ [] → ⊥
 fd_not_nil (Holding fd) h e = cc
-fd_not_nil Unasked h e = absurd (cc)
+fd_not_nil Idle h e = absurd (cc)
 fd_not_nil _ h e = cc
 
 module _ (p : Plan) (d : EndpointsData) (s i fd : ℕ) (sized : IsEndpointsSized p d) (inside : s < service_count p) (within : i < length (endpoints p s)) (binds : is_binding (last_at d s i) ≡ true) (free : failed_at d s ≡ false) where
@@ -56,13 +56,13 @@ module _ (p : Plan) (d : EndpointsData) (s i fd : ℕ) (sized : IsEndpointsSized
   pub stands-again : (q : Record) → is_new q fd ≡ true → has_open d.table (address p s i) ≡ true → StatesStand p d q → StatesStand p (bound_again d s i fd) (Told (Close fd) ∷ Got (Bound s i fd) ∷ q)
   stands-again q new taken was = record {
     each = λ t k lt kl. subst (λ x. StandsAt p x (Told (Close fd) ∷ Got (Bound s i fd) ∷ q) t k)
-        (sym (last_at-put (with_number fd d) s i (record { last = Unasked; refusals = refusals_at d s i }) in_rows in_row t k ∙ ap (λ b. if s == t && i == k then (if b then Unasked else Holding fd) else last_at d t k) (sym taken ∙ has_open-is p d q was (address p s i))))
+        (sym (last_at-put (with_number fd d) s i (record { last = Idle; times_in_use = times_in_use_at d s i }) in_rows in_row t k ∙ ap (λ b. if s == t && i == k then (if b then Idle else Holding fd) else last_at d t k) (sym taken ∙ has_open-is p d q was (address p s i))))
         (one-bound (last_at d t k) (is_bind_open q t k) (is_adopt_open q t k) (held_numbers p q t k) (last_adopt q t k) (λ u. in_use_within u q t k) (is_started q t) (was.each t k lt kl) (s == t && i == k) (has_live p q (address p s i)) fd
         (λ e. at_here (λ u j. is_binding (last_at d u j) ≡ true) s t i k binds e));
-    counts = λ t k lt kl f. refusals_at-put (with_number fd d) s i _ in_rows in_row t k ∙ same_if (s == t && i == k) (refusals_at d t k) (refusals_at d s i) (in_use_count p q t k)
-        (λ e. at_here (λ u j. refusals_at d s i ≡ in_use_count p q u j) s t i k (was.counts s i inside within free) e) (was.counts t k lt kl f);
+    counts = λ t k lt kl f. times_in_use_at-put (with_number fd d) s i _ in_rows in_row t k ∙ same_if (s == t && i == k) (times_in_use_at d t k) (times_in_use_at d s i) (in_use_count p q t k)
+        (λ e. at_here (λ u j. times_in_use_at d s i ≡ in_use_count p q u j) s t i k (was.counts s i inside within free) e) (was.counts t k lt kl f);
     failed_is = was.failed_is;
-    lost = lost-step p (with_number fd d) s i false (record { last = Unasked; refusals = refusals_at d s i }) in_rows in_row in_failed was.lost (λ e. absurd (cc));
+    lost = lost-step p (with_number fd d) s i false (record { last = Idle; times_in_use = times_in_use_at d s i }) in_rows in_row in_failed was.lost (λ e. absurd (cc));
     with_is = λ a. was.with_is a ∙ ap (λ w. numbers_of w a) (sym (live-doubled p q s i fd new));
     closed_came = λ g h. let parts = closed_new (fd == g) (has (brings g) q) h in rw parts.0 (was.closed_came g parts.1);
   }
@@ -80,13 +80,13 @@ module _ (p : Plan) (d : EndpointsData) (s i fd : ℕ) (sized : IsEndpointsSized
       → StatesStand p d q → StatesStand p (bound d s i fd text) (Got (Bound s i fd) ∷ q)
   stands-bound q text new is none was = record {
     each = λ t k lt kl. subst (λ x. StandsAt p x (Got (Bound s i fd) ∷ q) t k)
-        (sym (last_at-put (with_open fd text d) s i (record { last = Holding fd; refusals = refusals_at d s i }) in_rows in_row t k ∙ ap (λ b. if s == t && i == k then (if b then Unasked else Holding fd) else last_at d t k) (sym none ∙ has_open-is p d q was (address p s i))))
+        (sym (last_at-put (with_open fd text d) s i (record { last = Holding fd; times_in_use = times_in_use_at d s i }) in_rows in_row t k ∙ ap (λ b. if s == t && i == k then (if b then Idle else Holding fd) else last_at d t k) (sym none ∙ has_open-is p d q was (address p s i))))
         (one-bound (last_at d t k) (is_bind_open q t k) (is_adopt_open q t k) (held_numbers p q t k) (last_adopt q t k) (λ u. in_use_within u q t k) (is_started q t) (was.each t k lt kl) (s == t && i == k) (has_live p q (address p s i)) fd
         (λ e. at_here (λ u j. is_binding (last_at d u j) ≡ true) s t i k binds e));
-    counts = λ t k lt kl f. refusals_at-put (with_open fd text d) s i _ in_rows in_row t k ∙ same_if (s == t && i == k) (refusals_at d t k) (refusals_at d s i) (in_use_count p q t k)
-        (λ e. at_here (λ u j. refusals_at d s i ≡ in_use_count p q u j) s t i k (was.counts s i inside within free) e) (was.counts t k lt kl f);
+    counts = λ t k lt kl f. times_in_use_at-put (with_open fd text d) s i _ in_rows in_row t k ∙ same_if (s == t && i == k) (times_in_use_at d t k) (times_in_use_at d s i) (in_use_count p q t k)
+        (λ e. at_here (λ u j. times_in_use_at d s i ≡ in_use_count p q u j) s t i k (was.counts s i inside within free) e) (was.counts t k lt kl f);
     failed_is = was.failed_is;
-    lost = lost-step p (with_open fd text d) s i false (record { last = Holding fd; refusals = refusals_at d s i }) in_rows in_row in_failed was.lost (λ e. absurd (cc));
+    lost = lost-step p (with_open fd text d) s i false (record { last = Holding fd; times_in_use = times_in_use_at d s i }) in_rows in_row in_failed was.lost (λ e. absurd (cc));
     with_is = λ a. more_with text is none a ∙ ap (λ w. if same_address (address p s i) a then fd ∷ [] else w) (was.with_is a)
         ∙ sym (live_with-bound p q s i fd new (was.closed_came fd new) (sym (was.with_is (address p s i)) ∙ empty_nil (numbers_with d.table (address p s i)) none) a);
     closed_came = λ g h. was.closed_came g (closed_new (fd == g) (has (brings g) q) h).1;
@@ -96,7 +96,7 @@ module _ (p : Plan) (d : EndpointsData) (s i fd : ℕ) (sized : IsEndpointsSized
   kept-number was = record { asking_free = was.asking_free; turn = was.turn; live = was.live; one = was.one; distinct = was.distinct }
 
   pub kept-again : StatesKept p d → StatesKept p (bound_again d s i fd)
-  kept-again was = kept-put p (with_number fd d) s i in_rows in_row (kept-number was) (record { last = Unasked; refusals = refusals_at d s i }) (asking_not_holding (last_at d s i) (binding_asks (last_at d s i) binds)) (λ e. absurd (cc)) (λ early f e. absurd (cc))
+  kept-again was = kept-put p (with_number fd d) s i in_rows in_row (kept-number was) (record { last = Idle; times_in_use = times_in_use_at d s i }) (asking_not_holding (last_at d s i) (binding_asks (last_at d s i) binds)) (λ e. absurd (cc)) (λ early f e. absurd (cc))
 
   -- the table has one more descriptor, of an address that it had none of
   kept-more : (text : List ℕ) → Some text ≡ address p s i → has_open d.table (address p s i) ≡ false → IsFresh d.table fd
@@ -134,5 +134,5 @@ module _ (p : Plan) (d : EndpointsData) (s i fd : ℕ) (sized : IsEndpointsSized
 
   pub kept-bound : (text : List ℕ) → Some text ≡ address p s i → has_open d.table (address p s i) ≡ false → IsFresh d.table fd
       → StatesKept p d → StatesKept p (bound d s i fd text)
-  kept-bound text is none fresh was = kept-put p (with_open fd text d) s i in_rows in_row (kept-more text is none fresh was) (record { last = Holding fd; refusals = refusals_at d s i })
+  kept-bound text is none fresh was = kept-put p (with_open fd text d) s i in_rows in_row (kept-more text is none fresh was) (record { last = Holding fd; times_in_use = times_in_use_at d s i })
       (asking_not_holding (last_at d s i) (binding_asks (last_at d s i) binds)) (λ e. absurd (cc)) (λ early f e. more_with text is none (address p s i) ∙ (rw (same_this text is) refl))

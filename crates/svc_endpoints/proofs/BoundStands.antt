@@ -17,11 +17,11 @@ use Rattle.svc_record.specs.Tail.{numbers_in}
 use Rattle.svc_record.specs.Told.{Tells, IsGivingUp}
 use Rattle.svc_record.proofs.ClosesOnce.{closed_once}
 use Rattle.svc_endpoints.specs.declared.table.Open.{Open}
-use Rattle.svc_endpoints.specs.declared.states.Last.{Last}
-use Rattle.svc_endpoints.specs.declared.states.Last.TheVariants.{Unasked, Holding}
+use Rattle.svc_endpoints.specs.declared.states.EndpointStatus.{EndpointStatus}
+use Rattle.svc_endpoints.specs.declared.states.EndpointStatus.TheVariants.{Idle, Holding}
 use Rattle.svc_endpoints.specs.EndpointsData.{EndpointsData}
 use Rattle.svc_endpoints.specs.Uses.{uses, is_drained_by}
-use Rattle.svc_endpoints.specs.EndpointsState.{IsEndpointsSized, EndpointsStand, last_at, failed_at, refusals_at, idle, is_binding, is_holding, is_done, numbers_with}
+use Rattle.svc_endpoints.specs.EndpointsState.{IsEndpointsSized, EndpointsStand, last_at, failed_at, times_in_use_at, idle, is_binding, is_holding, is_done, numbers_with}
 use Rattle.svc_endpoints.specs.Effects.{has_open, put_last, with_open, with_number, put_open, bound, bound_again, bound_or_again, close_told}
 use Rattle.svc_endpoints.proofs.GoneLemmas.{is_turned, is_gone_now, loops-told, loops-got}
 use Rattle.svc_endpoints.proofs.UseLemmas.{drained-is, used-not_drained}
@@ -106,19 +106,19 @@ module _ (p : Plan) (d : EndpointsData) (q : Record) (s i fd : ℕ) (text : List
   in_row = omega (arith, sized.each s inside)
 
   -- only this endpoint changes
-  only_at : (m : EndpointsData) (x : Last) → m.rows ≡ d.rows → m.failed ≡ d.failed → Changed p m (put_last m s i x) s i
-  only_at m x rows flags = changed-put p m s i false (record { last = x; refusals = refusals_at m s i }) (omega (arith, ap length rows, in_rows)) (omega (arith, ap (λ r. length (slice_index_or r s [])) rows, in_row))
+  only_at : (m : EndpointsData) (x : EndpointStatus) → m.rows ≡ d.rows → m.failed ≡ d.failed → Changed p m (put_last m s i x) s i
+  only_at m x rows flags = changed-put p m s i false (record { last = x; times_in_use = times_in_use_at m s i }) (omega (arith, ap length rows, in_rows)) (omega (arith, ap (λ r. length (slice_index_or r s [])) rows, in_row))
       (omega (arith, ap length flags, sized.failed)) within (ap (λ r. is_holding (slice_index_or (slice_index_or r s []) i idle).last) rows ∙ asking_not_holding (last_at d s i) (binding_asks (last_at d s i) binds))
 
   only_bound : (text : List ℕ) → Changed p d (bound d s i fd text) s i
   only_bound text = let h = only_at (with_open fd text d) (Holding fd) refl refl in record { loops = h.loops; last = h.last; failed = h.failed; within = h.within; idle = h.idle }
 
   only_again : Changed p d (bound_again d s i fd) s i
-  only_again = let h = only_at (with_number fd d) Unasked refl refl in record { loops = h.loops; last = h.last; failed = h.failed; within = h.within; idle = h.idle }
+  only_again = let h = only_at (with_number fd d) Idle refl refl in record { loops = h.loops; last = h.last; failed = h.failed; within = h.within; idle = h.idle }
 
   bound_drained : (text : List ℕ) (g : ℕ) → (fd == g) ≡ false → is_drained_by p (bound d s i fd text) g ≡ is_drained_by p d g
   bound_drained text g off = drained-same p d (bound d s i fd text) s i (only_bound text) q stand.loops g refl
-      (ap (uses g (failed_at d s) (is_done p d s i)) (put-here p (with_open fd text d) s i false (record { last = Holding fd; refusals = refusals_at d s i }) in_rows in_row) ∙ other (not (failed_at d s) && not (is_done p d s i)) (fd == g) off
+      (ap (uses g (failed_at d s) (is_done p d s i)) (put-here p (with_open fd text d) s i false (record { last = Holding fd; times_in_use = times_in_use_at d s i }) in_rows in_row) ∙ other (not (failed_at d s) && not (is_done p d s i)) (fd == g) off
       ∙ sym (binding-unused g (failed_at d s) (is_done p d s i) (last_at d s i) binds))
     where
       other : (a b : Bool) → b ≡ false → (a && b) ≡ false
@@ -126,13 +126,13 @@ module _ (p : Plan) (d : EndpointsData) (q : Record) (s i fd : ℕ) (text : List
 
   again_drained : (g : ℕ) → is_drained_by p (bound_again d s i fd) g ≡ is_drained_by p d g
   again_drained g = drained-same p d (bound_again d s i fd) s i only_again q stand.loops g refl
-      (ap (uses g (failed_at d s) (is_done p d s i)) (put-here p (with_number fd d) s i false (record { last = Unasked; refusals = refusals_at d s i }) in_rows in_row)
+      (ap (uses g (failed_at d s) (is_done p d s i)) (put-here p (with_number fd d) s i false (record { last = Idle; times_in_use = times_in_use_at d s i }) in_rows in_row)
       ∙ sym (binding-unused g (failed_at d s) (is_done p d s i) (last_at d s i) binds))
 
   -- what holds it now isn't drained
   held_undrained : is_drained_by p (bound d s i fd text) fd ≡ false
   held_undrained = used-not_drained p (bound d s i fd text) fd s i inside within
-      (ap (uses fd (failed_at d s) (is_done p d s i)) (put-here p (with_open fd text d) s i false (record { last = Holding fd; refusals = refusals_at d s i }) in_rows in_row)
+      (ap (uses fd (failed_at d s) (is_done p d s i)) (put-here p (with_open fd text d) s i false (record { last = Holding fd; times_in_use = times_in_use_at d s i }) in_rows in_row)
       ∙ (rw (free, changed-not_done p d (bound d s i fd text) s i (only_bound text) q stand.loops fd i, eq-eqb fd fd refl) refl))
 
   pub after-bound : has_open d.table (address p s i) ≡ false → EndpointsStand p (bound d s i fd text) (Got (Bound s i fd) ∷ q)

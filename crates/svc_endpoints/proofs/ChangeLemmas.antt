@@ -4,9 +4,9 @@ use Rattle.std.proofs.lemmas.Bool.{cases_eq, eq-eqb, ne_eqb}
 use Rattle.svc_record.specs.declared.plan.Plan.{Plan}
 use Rattle.svc_record.specs.Record.{Record}
 use Rattle.svc_record.specs.Plans.{endpoints}
-use Rattle.svc_endpoints.specs.declared.states.Last.{Last}
-use Rattle.svc_endpoints.specs.declared.states.Last.TheVariants.{Unasked, Binding, Busied, Adopting, Holding, Lost}
-use Rattle.svc_endpoints.specs.declared.states.EndState.{EndState}
+use Rattle.svc_endpoints.specs.declared.states.EndpointStatus.{EndpointStatus}
+use Rattle.svc_endpoints.specs.declared.states.EndpointStatus.TheVariants.{Idle, Binding, AddressInUse, Adopting, Holding, AdoptionFailed}
+use Rattle.svc_endpoints.specs.declared.states.EndpointState.{EndpointState}
 use Rattle.svc_endpoints.specs.EndpointsData.{EndpointsData}
 use Rattle.svc_endpoints.specs.EndpointsState.{ServesIn, LoopsStand, last_at, failed_at, is_binding, is_asking, is_holding, is_done}
 use Rattle.svc_record.specs.declared.action.Action.{Action}
@@ -30,22 +30,22 @@ pub record Changed (p : Plan) (d d2 : EndpointsData) (s i : ℕ) : Type 0 where
   pub idle : is_holding (last_at d s i) ≡ false
 
 -- what a failed service has, and isn't offered, isn't used
-quiet : (fd : ℕ) (f d : Bool) (x : Last) → f ≡ true → is_asking x ≡ false → uses fd f d x ≡ false
+quiet : (fd : ℕ) (f d : Bool) (x : EndpointStatus) → f ≡ true → is_asking x ≡ false → uses fd f d x ≡ false
 quiet fd f d (Holding n) e h = rw e refl
 quiet fd f d (Adopting n) e h = absurd (cc)
-quiet fd f d Unasked e h = refl
+quiet fd f d Idle e h = refl
 quiet fd f d Binding e h = refl
-quiet fd f d (Busied at) e h = refl
-quiet fd f d Lost e h = refl
+quiet fd f d (AddressInUse at) e h = refl
+quiet fd f d AdoptionFailed e h = refl
 
 -- a bind uses nothing
-pub binding-unused : (fd : ℕ) (f d : Bool) (x : Last) → is_binding x ≡ true → uses fd f d x ≡ false
+pub binding-unused : (fd : ℕ) (f d : Bool) (x : EndpointStatus) → is_binding x ≡ true → uses fd f d x ≡ false
 binding-unused fd f d Binding h = refl
-binding-unused fd f d Unasked h = absurd (cc)
-binding-unused fd f d (Busied at) h = absurd (cc)
+binding-unused fd f d Idle h = absurd (cc)
+binding-unused fd f d (AddressInUse at) h = absurd (cc)
 binding-unused fd f d (Adopting n) h = absurd (cc)
 binding-unused fd f d (Holding n) h = absurd (cc)
-binding-unused fd f d Lost h = absurd (cc)
+binding-unused fd f d AdoptionFailed h = absurd (cc)
 
 module _ (p : Plan) (d d2 : EndpointsData) (s i : ℕ) (is : Changed p d d2 s i) where
   not_serving : (k : ℕ) → ServesIn p d s k → ⊥
@@ -79,12 +79,12 @@ module _ (p : Plan) (d d2 : EndpointsData) (s i : ℕ) (is : Changed p d d2 s i)
     not_here t k h e = not_serving k (subst (λ u. ServesIn p d u k) e (done-serves p d q was t k h))
 
     holder_same : (t k : ℕ) → ((t ≡ s) → ⊥) → is_holder_by d2 fd t k ≡ is_holder_by d fd t k
-    holder_same t k ne = ap (λ b. not b && has_held fd (last_at d2 t k)) (is.failed t ne) ∙ ap (λ (x : Last). not (failed_at d t) && has_held fd x) (is.last t k (λ e f. ne e))
+    holder_same t k ne = ap (λ b. not b && has_held fd (last_at d2 t k)) (is.failed t ne) ∙ ap (λ (x : EndpointStatus). not (failed_at d t) && has_held fd x) (is.last t k (λ e f. ne e))
 
     user_same : (t k : ℕ) → ((t ≡ s) → ⊥) → is_user p d2 fd t k ≡ is_user p d fd t k
     user_same t k ne = ap (λ b. uses fd b (is_done p d2 t k) (last_at d2 t k)) (is.failed t ne)
         ∙ ap (λ b. uses fd (failed_at d t) b (last_at d2 t k)) (done_same t k)
-        ∙ ap (λ (x : Last). uses fd (failed_at d t) (is_done p d t k) x) (is.last t k (λ e f. ne e))
+        ∙ ap (λ (x : EndpointStatus). uses fd (failed_at d t) (is_done p d t k) x) (is.last t k (λ e f. ne e))
 
     -- where the service fails, what is drained stays so
     pub drained-fails : failed_at d2 s ≡ true → ((k : ℕ) → is_asking (last_at d2 s k) ≡ false) → is_drained_by p d fd ≡ true → is_drained_by p d2 fd ≡ true
@@ -110,7 +110,7 @@ module _ (p : Plan) (d d2 : EndpointsData) (s i : ℕ) (is : Changed p d d2 s i)
             at_s : (k : ℕ) → is_user p d2 fd s k ≡ is_user p d fd s k
             at_s k = ap (λ b. uses fd b (is_done p d2 s k) (last_at d2 s k)) failed ∙ ap (λ b. uses fd (failed_at d s) b (last_at d2 s k)) (done_same s k) ∙ elim (cases_eq k i) [
               | inl e ↦ subst (λ j. uses fd (failed_at d s) (is_done p d s j) (last_at d2 s j) ≡ uses fd (failed_at d s) (is_done p d s j) (last_at d s j)) (sym e) here
-              | inr ne ↦ ap (λ (x : Last). uses fd (failed_at d s) (is_done p d s k) x) (is.last s k (λ e f. ne f))
+              | inr ne ↦ ap (λ (x : EndpointStatus). uses fd (failed_at d s) (is_done p d s k) x) (is.last s k (λ e f. ne f))
             ]
 
     -- no loop of the service ended
@@ -118,7 +118,7 @@ module _ (p : Plan) (d d2 : EndpointsData) (s i : ℕ) (is : Changed p d d2 s i)
     changed-not_done k = false_where (is_done p d s k) (λ y. not_serving k (done-serves p d q was s k y))
 
 -- a put, after which the service has failed where b says so
-pub changed-put : (p : Plan) (d : EndpointsData) (s i : ℕ) (b : Bool) (x : EndState) → s < length d.rows → i < length (slice_index_or d.rows s []) → s < length d.failed → i < length (endpoints p s) → is_holding (last_at d s i) ≡ false → Changed p d (fail_if b s (put d s i x)) s i
+pub changed-put : (p : Plan) (d : EndpointsData) (s i : ℕ) (b : Bool) (x : EndpointState) → s < length d.rows → i < length (slice_index_or d.rows s []) → s < length d.failed → i < length (endpoints p s) → is_holding (last_at d s i) ≡ false → Changed p d (fail_if b s (put d s i x)) s i
 changed-put p d s i b x in_rows in_row in_failed within idle = record {
   loops = same_loops b;
   last = λ t k ne. last_at-fail b s (put d s i x) t k ∙ last_at-put d s i x in_rows in_row t k ∙ elim (cases_eq s t) [
@@ -138,13 +138,13 @@ changed-put p d s i b x in_rows in_row in_failed within idle = record {
     or_none b = grind arith
 
 -- the state that it has then
-pub put-here : (p : Plan) (d : EndpointsData) (s i : ℕ) (b : Bool) (x : EndState) → s < length d.rows → i < length (slice_index_or d.rows s []) → last_at (fail_if b s (put d s i x)) s i ≡ x.last
+pub put-here : (p : Plan) (d : EndpointsData) (s i : ℕ) (b : Bool) (x : EndpointState) → s < length d.rows → i < length (slice_index_or d.rows s []) → last_at (fail_if b s (put d s i x)) s i ≡ x.last
 put-here p d s i b x in_rows in_row = last_at-fail b s (put d s i x) s i ∙ last_at-put d s i x in_rows in_row s i ∙ (rw (eq-eqb s s refl, eq-eqb i i refl) refl)
 
 -- the same states make the same go
-module _ (p : Plan) (keep : List ℕ) (rows : List (List EndState)) (flags : List Bool) (loops : List LoopEnd) (d : EndpointsData) (same_rows : rows ≡ d.rows) (same_flags : flags ≡ d.failed) (same_loops : loops ≡ d.loops) where
+module _ (p : Plan) (keep : List ℕ) (rows : List (List EndpointState)) (flags : List Bool) (loops : List LoopEnd) (d : EndpointsData) (same_rows : rows ≡ d.rows) (same_flags : flags ≡ d.failed) (same_loops : loops ≡ d.loops) where
   same_states : {A : Type 0} (f : EndpointsData → A) → f (states_of rows flags loops) ≡ f (states_of d.rows d.failed d.loops)
-  same_states f = ap (λ (r : List (List EndState)). f (states_of r flags loops)) same_rows ∙ ap (λ (g : List Bool). f (states_of d.rows g loops)) same_flags ∙ ap (λ (l : List LoopEnd). f (states_of d.rows d.failed l)) same_loops
+  same_states f = ap (λ (r : List (List EndpointState)). f (states_of r flags loops)) same_rows ∙ ap (λ (g : List Bool). f (states_of d.rows g loops)) same_flags ∙ ap (λ (l : List LoopEnd). f (states_of d.rows d.failed l)) same_loops
 
   pub cleared-is : (table : List Open) → table ≡ without_gone p keep (states_of rows flags loops) d.table → record d { table = table } ≡ cleared p keep d
   cleared-is table is = ap (λ (t : List Open). record d { table = t }) (is ∙ same_states (λ (m : EndpointsData). without_gone p keep m d.table))

@@ -18,7 +18,7 @@ use Rattle.svc_record.specs.Tail.{numbers_in}
 use Rattle.svc_record.proofs.ClosesOnce.{closed_once}
 use Rattle.svc_endpoints.specs.declared.table.Open.{Open}
 use Rattle.svc_endpoints.specs.EndpointsData.{EndpointsData}
-use Rattle.svc_endpoints.specs.EndpointsState.{LoopsStand, AreOnOffer, StatesKept, StatesStand, StandsAt, EndpointsStand, open_numbers, numbers_of_table, numbers_with, last_at, failed_at, refusals_at}
+use Rattle.svc_endpoints.specs.EndpointsState.{LoopsStand, AreOnOffer, StatesKept, StatesStand, StandsAt, EndpointsStand, open_numbers, numbers_of_table, numbers_with, last_at, failed_at, times_in_use_at}
 use Rattle.svc_endpoints.specs.Effects.{passes, is_abandoned_by, is_done_for, goes, gone_numbers, cleared}
 use Rattle.svc_endpoints.specs.Uses.{is_drained_by}
 use Rattle.svc_base.proofs.NumberSetLemmas.{any-ascending, filter-ascending, in-filter, distinct-ascending}
@@ -141,7 +141,7 @@ module _ (p : Plan) (keep : List ℕ) (d : EndpointsData) (q : Record) (offer : 
   states-cleared : StatesStand p (cleared p keep d) r
   states-cleared = record {
     each = along-closes (λ x. (s i : ℕ) → s < service_count p → i < length (endpoints p s) → StandsAt p (last_at d s i) x s i) (λ x n h. h) q ns mid.states.each;
-    counts = along-closes (λ x. (s i : ℕ) → s < service_count p → i < length (endpoints p s) → failed_at d s ≡ false → refusals_at d s i ≡ in_use_count p x s i) (λ x n h. h) q ns mid.states.counts;
+    counts = along-closes (λ x. (s i : ℕ) → s < service_count p → i < length (endpoints p s) → failed_at d s ≡ false → times_in_use_at d s i ≡ in_use_count p x s i) (λ x n h. h) q ns mid.states.counts;
     failed_is = along-closes (λ x. (s : ℕ) → s < service_count p → failed_at d s ≡ has_failed p x s) (λ x n h. h) q ns mid.states.failed_is;
     with_is = with_is;
     lost = mid.states.lost;

@@ -17,8 +17,8 @@ use Rattle.svc_record.specs.Starts.{is_started}
 use Rattle.svc_record.specs.Endpoints.{is_held, is_at_work, serves}
 use Rattle.svc_record.specs.Closes.{is_gone, is_drained, is_broadcast, is_loop_end, ended_loops}
 use Rattle.svc_record.specs.Told.{Tells, IsGivingUp}
-use Rattle.svc_endpoints.specs.declared.states.Last.{Last}
-use Rattle.svc_endpoints.specs.declared.states.Last.TheVariants.{Unasked, Binding, Busied, Adopting, Holding, Lost}
+use Rattle.svc_endpoints.specs.declared.states.EndpointStatus.{EndpointStatus}
+use Rattle.svc_endpoints.specs.declared.states.EndpointStatus.TheVariants.{Idle, Binding, AddressInUse, Adopting, Holding, AdoptionFailed}
 use Rattle.svc_endpoints.specs.declared.loops.LoopEnd.{LoopEnd}
 use Rattle.svc_endpoints.specs.EndpointsData.{EndpointsData}
 use Rattle.svc_endpoints.specs.EndpointsState.{IsEndpointsSized, AreOnOffer, ServesIn, LoopsStand, StatesKept, StatesStand, EndpointsStand, last_at, failed_at, is_holding, is_done}
@@ -49,7 +49,7 @@ counted true l h a b e f g = rw (e, f refl, g) refl
 counted false l h a b e f g = g
 
 -- what is less done is used no less
-less_done : (fd : ℕ) (f a b : Bool) (x : Last) → (a ≡ true → b ≡ true) → uses fd f b x ≡ true → uses fd f a x ≡ true
+less_done : (fd : ℕ) (f a b : Bool) (x : EndpointStatus) → (a ≡ true → b ≡ true) → uses fd f b x ≡ true → uses fd f a x ≡ true
 less_done fd f a b (Holding n) g h = still f a b (n == fd) g h
   where
     still : (f a b c : Bool) → (a ≡ true → b ≡ true) → ((not f && not b) && c) ≡ true → ((not f && not a) && c) ≡ true
@@ -62,10 +62,10 @@ less_done fd f a b (Holding n) g h = still f a b (n == fd) g h
         plain : (f b c : Bool) → ((not f && not b) && c) ≡ true → ((not f && true) && c) ≡ true
         plain f b c h = grind arith
 less_done fd f a b (Adopting n) g h = h
-less_done fd f a b Unasked g h = h
+less_done fd f a b Idle g h = h
 less_done fd f a b Binding g h = h
-less_done fd f a b (Busied at) g h = h
-less_done fd f a b Lost g h = h
+less_done fd f a b (AddressInUse at) g h = h
+less_done fd f a b AdoptionFailed g h = h
 
 module _ (p : Plan) (d : EndpointsData) (q : Record) (sized : IsEndpointsSized p d) (s i j : ℕ) (fit : fits_row p q (LoopEnded s i j) ≡ true) (stand : EndpointsStand p d q) where
   abbrev d2 : EndpointsData

@@ -3,31 +3,31 @@ use Rattle.std.proofs.Common.{ℕ, Bool, true, false, ◌||◌, ◌&&◌, ◌==�
 use Rattle.std.proofs.lemmas.Bool.{cases_Bool, cases_eq, cases_lt, eq-eqb, ne_eqb}
 use Rattle.svc_record.specs.declared.plan.Plan.{Plan}
 use Rattle.svc_record.specs.Plans.{endpoints, address, service_count}
-use Rattle.svc_endpoints.specs.declared.states.Last.{Last}
-use Rattle.svc_endpoints.specs.declared.states.Last.TheVariants.{Unasked, Binding, Busied, Adopting, Holding, Lost}
-use Rattle.svc_endpoints.specs.declared.states.EndState.{EndState}
+use Rattle.svc_endpoints.specs.declared.states.EndpointStatus.{EndpointStatus}
+use Rattle.svc_endpoints.specs.declared.states.EndpointStatus.TheVariants.{Idle, Binding, AddressInUse, Adopting, Holding, AdoptionFailed}
+use Rattle.svc_endpoints.specs.declared.states.EndpointState.{EndpointState}
 use Rattle.svc_endpoints.specs.EndpointsData.{EndpointsData}
-use Rattle.svc_endpoints.specs.EndpointsState.{IsEndpointsSized, StatesKept, last_at, refusals_at, failed_at, numbers_with, is_binding, is_adopting, is_asking, is_holding, has_fd, fd_of}
+use Rattle.svc_endpoints.specs.EndpointsState.{IsEndpointsSized, StatesKept, last_at, times_in_use_at, failed_at, numbers_with, is_binding, is_adopting, is_asking, is_holding, has_fd, fd_of}
 use Rattle.svc_endpoints.specs.Effects.{put, fail_if, refused, bind_failed, adopt_failed, adopted, asked, offered, held_now, is_last_refusal}
 use Rattle.svc_endpoints.proofs.PutLemmas.{last_at-put}
 use Rattle.svc_endpoints.proofs.StatesLemmas.{failed_at-fail}
 use Rattle.svc_endpoints.proofs.OneLemmas.{binding_asks}
 
-pub asking_not_holding : (x : Last) → is_asking x ≡ true → is_holding x ≡ false
+pub asking_not_holding : (x : EndpointStatus) → is_asking x ≡ true → is_holding x ≡ false
 asking_not_holding Binding e = refl
-asking_not_holding Unasked e = refl
-asking_not_holding (Busied at) e = refl
+asking_not_holding Idle e = refl
+asking_not_holding (AddressInUse at) e = refl
 asking_not_holding (Adopting fd) e = refl
 asking_not_holding (Holding fd) e = absurd (cc)
-asking_not_holding Lost e = refl
+asking_not_holding AdoptionFailed e = refl
 
-pub holding_not_asking : (x : Last) → is_holding x ≡ true → is_asking x ≡ false
+pub holding_not_asking : (x : EndpointStatus) → is_holding x ≡ true → is_asking x ≡ false
 holding_not_asking (Holding fd) e = refl
-holding_not_asking Unasked e = refl
+holding_not_asking Idle e = refl
 holding_not_asking Binding e = absurd (cc)
-holding_not_asking (Busied at) e = refl
+holding_not_asking (AddressInUse at) e = refl
 holding_not_asking (Adopting fd) e = absurd (cc)
-holding_not_asking Lost e = refl
+holding_not_asking AdoptionFailed e = refl
 
 -- a service has one open ask at most
 pub only_ask : (p : Plan) (d : EndpointsData) → StatesKept p d → (s i k : ℕ) → is_asking (last_at d s i) ≡ true → k ≢ i → is_asking (last_at d s k) ≡ false
@@ -40,7 +40,7 @@ only_ask p d kept s i k asks ne = elim (cases_lt k i) [
   ]
 ]
 
-module _ (p : Plan) (d : EndpointsData) (s i : ℕ) (inside : s < length d.rows) (within : i < length (slice_index_or d.rows s [])) (was : StatesKept p d) (x : EndState) where
+module _ (p : Plan) (d : EndpointsData) (s i : ℕ) (inside : s < length d.rows) (within : i < length (slice_index_or d.rows s [])) (was : StatesKept p d) (x : EndpointState) where
   at_same : last_at (put d s i x) s i ≡ x.last
   at_same = last_at-put d s i x inside within s i ∙ (rw (eq-eqb s s refl, eq-eqb i i refl) refl)
 
@@ -113,29 +113,29 @@ kept-fail p d true s lt was none = record {
     or_was : (a b : Bool) → (a || b) ≡ false → a ≡ false
     or_was a b h = grind arith
 
-pub adopting_asks : (x : Last) → is_adopting x ≡ true → is_asking x ≡ true
-adopting_asks Unasked e = absurd (cc)
+pub adopting_asks : (x : EndpointStatus) → is_adopting x ≡ true → is_asking x ≡ true
+adopting_asks Idle e = absurd (cc)
 adopting_asks Binding e = refl
-adopting_asks (Busied at) e = absurd (cc)
+adopting_asks (AddressInUse at) e = absurd (cc)
 adopting_asks (Adopting fd) e = refl
 adopting_asks (Holding fd) e = absurd (cc)
-adopting_asks Lost e = absurd (cc)
+adopting_asks AdoptionFailed e = absurd (cc)
 
-held_now_asks : (x : Last) → is_adopting x ≡ true → is_asking (held_now x) ≡ false
+held_now_asks : (x : EndpointStatus) → is_adopting x ≡ true → is_asking (held_now x) ≡ false
 held_now_asks (Adopting fd) e = refl
-held_now_asks Unasked e = refl
+held_now_asks Idle e = refl
 held_now_asks Binding e = absurd (cc)
-held_now_asks (Busied at) e = refl
+held_now_asks (AddressInUse at) e = refl
 held_now_asks (Holding fd) e = refl
-held_now_asks Lost e = refl
+held_now_asks AdoptionFailed e = refl
 
-held_now_fd : (x : Last) → fd_of (held_now x) ≡ fd_of x
+held_now_fd : (x : EndpointStatus) → fd_of (held_now x) ≡ fd_of x
 held_now_fd (Adopting fd) = refl
-held_now_fd Unasked = refl
+held_now_fd Idle = refl
 held_now_fd Binding = refl
-held_now_fd (Busied at) = refl
+held_now_fd (AddressInUse at) = refl
 held_now_fd (Holding fd) = refl
-held_now_fd Lost = refl
+held_now_fd AdoptionFailed = refl
 
 module _ (p : Plan) (d : EndpointsData) (s i : ℕ) (sized : IsEndpointsSized p d) (inside : s < service_count p) (within : i < length (endpoints p s)) (was : StatesKept p d) where
   in_rows : s < length d.rows
@@ -148,7 +148,7 @@ module _ (p : Plan) (d : EndpointsData) (s i : ℕ) (sized : IsEndpointsSized p 
   in_failed = omega (arith, sized.failed)
 
   -- the ask of the endpoint ends with no descriptor
-  kept-end : (b : Bool) (x : EndState) → is_asking (last_at d s i) ≡ true → is_asking x.last ≡ false → has_fd x.last ≡ false → StatesKept p (fail_if b s (put d s i x))
+  kept-end : (b : Bool) (x : EndpointState) → is_asking (last_at d s i) ≡ true → is_asking x.last ≡ false → has_fd x.last ≡ false → StatesKept p (fail_if b s (put d s i x))
   kept-end b x asks done none = kept-fail p (put d s i x) b s in_failed
       (kept-put p d s i in_rows in_row was x (asking_not_holding (last_at d s i) asks) (λ e. absurd (cc)) (λ early free e. absurd (cc)))
       (none_asks p d s i in_rows in_row was x asks done)
@@ -157,21 +157,21 @@ module _ (p : Plan) (d : EndpointsData) (s i : ℕ) (sized : IsEndpointsSized p 
   kept-refused now b = kept-end (is_last_refusal p d s i) _ (binding_asks (last_at d s i) b) refl refl
 
   pub kept-bind_failed : is_binding (last_at d s i) ≡ true → StatesKept p (bind_failed d s i)
-  kept-bind_failed b = kept-end true (record { last = Unasked; refusals = refusals_at d s i }) (binding_asks (last_at d s i) b) refl refl
+  kept-bind_failed b = kept-end true (record { last = Idle; times_in_use = times_in_use_at d s i }) (binding_asks (last_at d s i) b) refl refl
 
   pub kept-adopt_failed : is_adopting (last_at d s i) ≡ true → StatesKept p (adopt_failed d s i)
-  kept-adopt_failed a = kept-end true (record { last = Lost; refusals = refusals_at d s i }) (adopting_asks (last_at d s i) a) refl refl
+  kept-adopt_failed a = kept-end true (record { last = AdoptionFailed; times_in_use = times_in_use_at d s i }) (adopting_asks (last_at d s i) a) refl refl
 
   pub kept-adopted : is_adopting (last_at d s i) ≡ true → StatesKept p (adopted d s i)
-  kept-adopted a = kept-put p d s i in_rows in_row was (record { last = held_now (last_at d s i); refusals = refusals_at d s i }) (asking_not_holding (last_at d s i) (adopting_asks (last_at d s i) a))
+  kept-adopted a = kept-put p d s i in_rows in_row was (record { last = held_now (last_at d s i); times_in_use = times_in_use_at d s i }) (asking_not_holding (last_at d s i) (adopting_asks (last_at d s i) a))
       (λ e. let no = held_now_asks (last_at d s i) a in absurd (cc))
       (λ early free e. was.live early s i free (rw a refl) ∙ sym (held_now_fd (last_at d s i)))
 
   pub kept-asked : failed_at d s ≡ false → is_holding (last_at d s i) ≡ false → ((k : ℕ) → k < i → is_holding (last_at d s k) ≡ true) → StatesKept p (asked d s i)
-  kept-asked free none before = kept-put p d s i in_rows in_row was (record { last = Binding; refusals = refusals_at d s i }) none (λ e. (free, before)) (λ early f e. absurd (cc))
+  kept-asked free none before = kept-put p d s i in_rows in_row was (record { last = Binding; times_in_use = times_in_use_at d s i }) none (λ e. (free, before)) (λ early f e. absurd (cc))
 
   pub kept-offered : (fd : ℕ) → failed_at d s ≡ false → is_holding (last_at d s i) ≡ false → ((k : ℕ) → k < i → is_holding (last_at d s k) ≡ true) → numbers_with d.table (address p s i) ≡ fd ∷ [] → StatesKept p (offered d s i fd)
-  kept-offered fd free none before has = kept-put p d s i in_rows in_row was (record { last = Adopting fd; refusals = refusals_at d s i }) none (λ e. (free, before)) (λ early f e. has)
+  kept-offered fd free none before has = kept-put p d s i in_rows in_row was (record { last = Adopting fd; times_in_use = times_in_use_at d s i }) none (λ e. (free, before)) (λ early f e. has)
 
   pub asks_free_binding : is_binding (last_at d s i) ≡ true → failed_at d s ≡ false
   asks_free_binding b = was.asking_free s i (binding_asks (last_at d s i) b)

@@ -3,11 +3,11 @@ use Rattle.std.proofs.Common.{ℕ, Bool, true, false, [], ◌≡◌, refl, ap, s
 use Rattle.svc_record.specs.declared.plan.Plan.{Plan}
 use Rattle.svc_record.specs.Plans.{endpoints, is_unix}
 use Rattle.svc_record.specs.Failed.{has_failed}
-use Rattle.svc_endpoints.specs.declared.states.Last.{Last}
-use Rattle.svc_endpoints.specs.declared.states.Last.TheVariants.{Unasked}
-use Rattle.svc_endpoints.specs.declared.states.EndState.{EndState}
+use Rattle.svc_endpoints.specs.declared.states.EndpointStatus.{EndpointStatus}
+use Rattle.svc_endpoints.specs.declared.states.EndpointStatus.TheVariants.{Idle}
+use Rattle.svc_endpoints.specs.declared.states.EndpointState.{EndpointState}
 use Rattle.svc_endpoints.specs.EndpointsData.{EndpointsData}
-use Rattle.svc_endpoints.specs.EndpointsState.{StatesKept, StatesStand, EndpointsStand, OneStands, last_at, failed_at, state_at, idle, is_asking, is_lost, has_fd}
+use Rattle.svc_endpoints.specs.EndpointsState.{StatesKept, StatesStand, EndpointsStand, OneStands, last_at, failed_at, state_at, idle, is_asking, is_adoption_failed, has_fd}
 use Rattle.svc_endpoints.proofs.RangeLemmas.{none0}
 
 none_limit : (u : Bool) → nat_le (if u then 1 else 30) 0 ≡ false
@@ -15,28 +15,28 @@ none_limit true = refl
 none_limit false = refl
 
 module _ (p : Plan) (d : EndpointsData) (blank : (s i : ℕ) → state_at d s i ≡ idle) (free : (s : ℕ) → failed_at d s ≡ false) (no_end : d.loops ≡ []) (empty : d.table ≡ []) (nothing : d.came ≡ []) (some_tasks : 0 < p.tasks) where
-  last_is : (s i : ℕ) → last_at d s i ≡ Unasked
-  last_is s i = ap (λ (x : EndState). x.last) (blank s i)
+  last_is : (s i : ℕ) → last_at d s i ≡ Idle
+  last_is s i = ap (λ (x : EndpointState). x.last) (blank s i)
 
   none_failed : (s : ℕ) → has_failed p [] s ≡ false
   none_failed s = none0 _ (length (endpoints p s)) (λ k lt. none_limit (is_unix p s k))
 
   states-new : StatesStand p d []
   states-new = record {
-    each = λ s i lt within. subst (λ (x : Last). OneStands x false false [] [] (λ t. false) false) (sym (last_is s i))
+    each = λ s i lt within. subst (λ (x : EndpointStatus). OneStands x false false [] [] (λ t. false) false) (sym (last_is s i))
         (record { binding_is = refl; adopting_is = refl; held_is = refl; adopts_is = λ e. refl; within_is = λ e t. refl; on_is = λ e. e });
-    counts = λ s i lt within f. ap (λ (x : EndState). x.refusals) (blank s i);
+    counts = λ s i lt within f. ap (λ (x : EndpointState). x.times_in_use) (blank s i);
     failed_is = λ s lt. free s ∙ sym (none_failed s);
     with_is = λ a. rw empty refl;
-    lost = λ s i e. let none : is_lost Unasked ≡ true = sym (ap is_lost (last_is s i)) ∙ e in absurd (cc);
+    lost = λ s i e. let none : is_adoption_failed Idle ≡ true = sym (ap is_adoption_failed (last_is s i)) ∙ e in absurd (cc);
     closed_came = λ fd new. refl;
   }
 
   kept-new : StatesKept p d
   kept-new = record {
     asking_free = λ s i e. free s;
-    turn = λ s i k e lt. let none : is_asking Unasked ≡ true = sym (ap is_asking (last_is s i)) ∙ e in absurd (cc);
-    live = λ early s i f e. let none : has_fd Unasked ≡ true = sym (ap has_fd (last_is s i)) ∙ e in absurd (cc);
+    turn = λ s i k e lt. let none : is_asking Idle ≡ true = sym (ap is_asking (last_is s i)) ∙ e in absurd (cc);
+    live = λ early s i f e. let none : has_fd Idle ≡ true = sym (ap has_fd (last_is s i)) ∙ e in absurd (cc);
     one = λ a. rw empty (omega arith);
     distinct = λ a b fd h g. absurd (let none = rw empty at h in cc);
   }

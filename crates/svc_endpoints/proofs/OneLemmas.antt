@@ -1,10 +1,10 @@
 -- One endpoint's state at each entry.
 use Rattle.std.proofs.Common.{ℕ, Bool, true, false, ◌&&◌, not, List, [], ◌∷◌, ◌++◌, ◌≡◌, refl, ap, sym, ◌∙◌, ◌-◌, nat_lt, if◌then◌else◌}
-use Rattle.svc_endpoints.specs.declared.states.Last.{Last}
-use Rattle.svc_endpoints.specs.declared.states.Last.TheVariants.{Unasked, Binding, Busied, Adopting, Holding, Lost}
+use Rattle.svc_endpoints.specs.declared.states.EndpointStatus.{EndpointStatus}
+use Rattle.svc_endpoints.specs.declared.states.EndpointStatus.TheVariants.{Idle, Binding, AddressInUse, Adopting, Holding, AdoptionFailed}
 use Rattle.svc_endpoints.specs.EndpointsState.{OneStands, is_binding, is_adopting, is_asking, held_of, fd_of, is_touched}
 
-module _ (x : Last) (b a : Bool) (h ad : List ℕ) (w : ℕ → Bool) (on : Bool) (was : OneStands x b a h ad w on) where
+module _ (x : EndpointStatus) (b a : Bool) (h ad : List ℕ) (w : ℕ → Bool) (on : Bool) (was : OneStands x b a h ad w on) where
   pub one-bind : (here : Bool) → (here ≡ true → (is_adopting x ≡ false) × (held_of x ≡ []) × (on ≡ true))
       → OneStands (if here then Binding else x) (if here then true else b) a h ad (λ t. if here then false else w t) on
   one-bind true f = record {
@@ -29,55 +29,55 @@ module _ (x : Last) (b a : Bool) (h ad : List ℕ) (w : ℕ → Bool) (on : Bool
   }
   one-adopt false fd f = was
 
-binding_not_adopting : (x : Last) → is_binding x ≡ true → is_adopting x ≡ false
+binding_not_adopting : (x : EndpointStatus) → is_binding x ≡ true → is_adopting x ≡ false
 binding_not_adopting Binding e = refl
-binding_not_adopting Unasked e = absurd (cc)
-binding_not_adopting (Busied at) e = absurd (cc)
+binding_not_adopting Idle e = absurd (cc)
+binding_not_adopting (AddressInUse at) e = absurd (cc)
 binding_not_adopting (Adopting fd) e = absurd (cc)
 binding_not_adopting (Holding fd) e = absurd (cc)
-binding_not_adopting Lost e = absurd (cc)
+binding_not_adopting AdoptionFailed e = absurd (cc)
 
-pub asking_holds_none : (x : Last) → is_asking x ≡ true → held_of x ≡ []
+pub asking_holds_none : (x : EndpointStatus) → is_asking x ≡ true → held_of x ≡ []
 asking_holds_none Binding e = refl
-asking_holds_none Unasked e = refl
-asking_holds_none (Busied at) e = refl
+asking_holds_none Idle e = refl
+asking_holds_none (AddressInUse at) e = refl
 asking_holds_none (Adopting fd) e = refl
 asking_holds_none (Holding fd) e = absurd (cc)
-asking_holds_none Lost e = refl
+asking_holds_none AdoptionFailed e = refl
 
-pub binding_asks : (x : Last) → is_binding x ≡ true → is_asking x ≡ true
+pub binding_asks : (x : EndpointStatus) → is_binding x ≡ true → is_asking x ≡ true
 binding_asks x e = rw e refl
 
-adopting_not_binding : (x : Last) → is_adopting x ≡ true → is_binding x ≡ false
+adopting_not_binding : (x : EndpointStatus) → is_adopting x ≡ true → is_binding x ≡ false
 adopting_not_binding (Adopting fd) e = refl
-adopting_not_binding Unasked e = absurd (cc)
-adopting_not_binding (Busied at) e = absurd (cc)
+adopting_not_binding Idle e = absurd (cc)
+adopting_not_binding (AddressInUse at) e = absurd (cc)
 adopting_not_binding Binding e = absurd (cc)
 adopting_not_binding (Holding fd) e = absurd (cc)
-adopting_not_binding Lost e = absurd (cc)
+adopting_not_binding AdoptionFailed e = absurd (cc)
 
-adopting_asks : (x : Last) → is_adopting x ≡ true → is_asking x ≡ true
+adopting_asks : (x : EndpointStatus) → is_adopting x ≡ true → is_asking x ≡ true
 adopting_asks x e = rw (e, adopting_not_binding x e) refl
 
-binding_touched : (x : Last) → is_binding x ≡ true → is_touched x ≡ true
+binding_touched : (x : EndpointStatus) → is_binding x ≡ true → is_touched x ≡ true
 binding_touched Binding e = refl
-binding_touched Unasked e = absurd (cc)
-binding_touched (Busied at) e = refl
+binding_touched Idle e = absurd (cc)
+binding_touched (AddressInUse at) e = refl
 binding_touched (Adopting fd) e = refl
 binding_touched (Holding fd) e = refl
-binding_touched Lost e = refl
+binding_touched AdoptionFailed e = refl
 
-adopting_touched : (x : Last) → is_adopting x ≡ true → is_touched x ≡ true
-adopting_touched Unasked e = absurd (cc)
+adopting_touched : (x : EndpointStatus) → is_adopting x ≡ true → is_touched x ≡ true
+adopting_touched Idle e = absurd (cc)
 adopting_touched Binding e = refl
-adopting_touched (Busied at) e = refl
+adopting_touched (AddressInUse at) e = refl
 adopting_touched (Adopting fd) e = refl
 adopting_touched (Holding fd) e = refl
-adopting_touched Lost e = refl
+adopting_touched AdoptionFailed e = refl
 
-module _ (x : Last) (b a : Bool) (h ad : List ℕ) (w : ℕ → Bool) (on : Bool) (was : OneStands x b a h ad w on) where
+module _ (x : EndpointStatus) (b a : Bool) (h ad : List ℕ) (w : ℕ → Bool) (on : Bool) (was : OneStands x b a h ad w on) where
   pub one-in_use : (here : Bool) (now : ℕ) → (here ≡ true → is_binding x ≡ true)
-      → OneStands (if here then Busied now else x) (if here then false else b) a h ad (λ t. if here then nat_lt (t - now) 1000 else w t) on
+      → OneStands (if here then AddressInUse now else x) (if here then false else b) a h ad (λ t. if here then nat_lt (t - now) 1000 else w t) on
   one-in_use true now f = record {
     binding_is = refl;
     adopting_is = sym (binding_not_adopting x (f refl)) ∙ was.adopting_is;
@@ -89,7 +89,7 @@ module _ (x : Last) (b a : Bool) (h ad : List ℕ) (w : ℕ → Bool) (on : Bool
   one-in_use false now f = was
 
   pub one-bind_failed : (here : Bool) → (here ≡ true → is_binding x ≡ true)
-      → OneStands (if here then Unasked else x) (if here then false else b) a h ad (λ t. if here then false else w t) on
+      → OneStands (if here then Idle else x) (if here then false else b) a h ad (λ t. if here then false else w t) on
   one-bind_failed true f = record {
     binding_is = refl;
     adopting_is = sym (binding_not_adopting x (f refl)) ∙ was.adopting_is;
@@ -101,7 +101,7 @@ module _ (x : Last) (b a : Bool) (h ad : List ℕ) (w : ℕ → Bool) (on : Bool
   one-bind_failed false f = was
 
   pub one-bound : (here doubled : Bool) (fd : ℕ) → (here ≡ true → is_binding x ≡ true)
-      → OneStands (if here then (if doubled then Unasked else Holding fd) else x) (if here then false else b) a ((if here && not doubled then fd ∷ [] else []) ++ h) ad (λ t. if here then false else w t) on
+      → OneStands (if here then (if doubled then Idle else Holding fd) else x) (if here then false else b) a ((if here && not doubled then fd ∷ [] else []) ++ h) ad (λ t. if here then false else w t) on
   one-bound true true fd f = record {
     binding_is = refl;
     adopting_is = sym (binding_not_adopting x (f refl)) ∙ was.adopting_is;
@@ -137,7 +137,7 @@ module _ (x : Last) (b a : Bool) (h ad : List ℕ) (w : ℕ → Bool) (on : Bool
   one-adopted false fd f = was
 
   pub one-adopt_failed : (here : Bool) → (here ≡ true → is_adopting x ≡ true)
-      → OneStands (if here then Lost else x) b (if here then false else a) h ad w on
+      → OneStands (if here then AdoptionFailed else x) b (if here then false else a) h ad w on
   one-adopt_failed true f = record {
     binding_is = sym (adopting_not_binding x (f refl)) ∙ was.binding_is;
     adopting_is = refl;

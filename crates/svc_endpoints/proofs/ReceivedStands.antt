@@ -22,11 +22,11 @@ use Rattle.svc_record.specs.Fits.{is_new}
 use Rattle.svc_record.specs.Offer.{is_held_back}
 use Rattle.svc_record.specs.Tail.{numbers_in}
 use Rattle.svc_record.proofs.ClosesOnce.{closed_once}
-use Rattle.svc_endpoints.specs.declared.states.Last.{Last}
-use Rattle.svc_endpoints.specs.declared.states.Last.TheVariants.{Unasked, Binding, Busied, Adopting, Holding, Lost}
+use Rattle.svc_endpoints.specs.declared.states.EndpointStatus.{EndpointStatus}
+use Rattle.svc_endpoints.specs.declared.states.EndpointStatus.TheVariants.{Idle, Binding, AddressInUse, Adopting, Holding, AdoptionFailed}
 use Rattle.svc_endpoints.specs.declared.table.Open.{Open}
 use Rattle.svc_endpoints.specs.EndpointsData.{EndpointsData}
-use Rattle.svc_endpoints.specs.EndpointsState.{LoopsStand, StatesKept, StatesStand, StandsAt, EndpointsStand, all_new, numbers_with, numbers_of_table, open_numbers, last_at, failed_at, refusals_at, has_fd, fd_of}
+use Rattle.svc_endpoints.specs.EndpointsState.{LoopsStand, StatesKept, StatesStand, StandsAt, EndpointsStand, all_new, numbers_with, numbers_of_table, open_numbers, last_at, failed_at, times_in_use_at, has_fd, fd_of}
 use Rattle.svc_endpoints.specs.Effects.{passes, has_open, not_empty, is_abandoned_by, turns_away, opens_of, numbers_out, without_numbers, put_numbers, turned_away, received}
 use Rattle.svc_base.proofs.NumberSetLemmas.{any-ascending, distinct-ascending}
 use Rattle.svc_base.proofs.Logic.{apart_from, not_in, clash, false_where, neither}
@@ -43,13 +43,13 @@ use Rattle.svc_endpoints.proofs.GatherLemmas.{puts-ascending, numbers-puts, with
 use Rattle.svc_endpoints.proofs.DecodeLemmas.{read-apart}
 use Rattle.svc_endpoints.proofs.ReceivedLists.{as_received, words-descriptors, numbers-received, with-received, open-received, none-received, none-listed, first-later, some-received, one-received, out-received, words-one, without-same, new-in, new-apart, new-distinct, new-same}
 
-fd_one : (x : Last) → has_fd x ≡ true → length (fd_of x) ≡ 1
+fd_one : (x : EndpointStatus) → has_fd x ≡ true → length (fd_of x) ≡ 1
 fd_one (Adopting fd) h = refl
 fd_one (Holding fd) h = refl
-fd_one Unasked h = absurd (cc)
+fd_one Idle h = absurd (cc)
 fd_one Binding h = absurd (cc)
-fd_one (Busied at) h = absurd (cc)
-fd_one Lost h = absurd (cc)
+fd_one (AddressInUse at) h = absurd (cc)
+fd_one AdoptionFailed h = absurd (cc)
 
 none_before : (xs ys : List ℕ) → length (xs ++ ys) ≤ 1 → length ys ≡ 1 → xs ≡ []
 none_before [] ys h e = refl
@@ -188,7 +188,7 @@ module _ (p : Plan) (d : EndpointsData) (q : Record) (bytes fds : List ℕ) (fre
   states : StatesStand p e r
   states = record {
     each = along-closes (λ x. (s i : ℕ) → s < service_count p → i < length (endpoints p s) → StandsAt p (last_at d s i) x s i) (λ x n h. h) q1 ns stand.states.each;
-    counts = along-closes (λ x. (s i : ℕ) → s < service_count p → i < length (endpoints p s) → failed_at d s ≡ false → refusals_at d s i ≡ in_use_count p x s i) (λ x n h. h) q1 ns stand.states.counts;
+    counts = along-closes (λ x. (s i : ℕ) → s < service_count p → i < length (endpoints p s) → failed_at d s ≡ false → times_in_use_at d s i ≡ in_use_count p x s i) (λ x n h. h) q1 ns stand.states.counts;
     failed_is = along-closes (λ x. (s : ℕ) → s < service_count p → failed_at d s ≡ has_failed p x s) (λ x n h. h) q1 ns stand.states.failed_is;
     with_is = with_is;
     lost = stand.states.lost;

@@ -10,8 +10,8 @@ use Rattle.svc_record.specs.Failed.{has_failed}
 use Rattle.svc_record.specs.Starts.{is_started}
 use Rattle.svc_record.specs.Endpoints.{is_held, is_held_by, is_at_work, serves}
 use Rattle.svc_record.specs.Closes.{is_drained, is_holder, is_adopt_of_open, is_broadcast, have_loops_ended}
-use Rattle.svc_endpoints.specs.declared.states.Last.{Last}
-use Rattle.svc_endpoints.specs.declared.states.Last.TheVariants.{Unasked, Binding, Busied, Adopting, Holding, Lost}
+use Rattle.svc_endpoints.specs.declared.states.EndpointStatus.{EndpointStatus}
+use Rattle.svc_endpoints.specs.declared.states.EndpointStatus.TheVariants.{Idle, Binding, AddressInUse, Adopting, Holding, AdoptionFailed}
 use Rattle.svc_endpoints.specs.EndpointsData.{EndpointsData}
 use Rattle.svc_endpoints.specs.EndpointsState.{StandsAt, StatesStand, ServesIn, LoopsStand, last_at, failed_at, is_adopting, is_holding, is_touched, is_done, fd_of, held_of}
 use Rattle.svc_base.specs.NumberSets.{is_in}
@@ -41,65 +41,65 @@ all_get f n s lt h = elim (cases_Bool (f s)) [
 ]
 
 -- one endpoint, from its state
-offer_is : (fd : ℕ) (x : Last) (adopting : Bool) (adopts : List ℕ) → is_adopting x ≡ adopting → (is_adopting x ≡ true → fd_of x ≡ adopts) → (adopting && is_in fd adopts) ≡ has_offer fd x
+offer_is : (fd : ℕ) (x : EndpointStatus) (adopting : Bool) (adopts : List ℕ) → is_adopting x ≡ adopting → (is_adopting x ≡ true → fd_of x ≡ adopts) → (adopting && is_in fd adopts) ≡ has_offer fd x
 offer_is fd (Adopting n) adopting adopts e f = rw (← e, ← (f refl)) (sym (or_none (n == fd)))
-offer_is fd Unasked adopting adopts e f = rw (← e) refl
+offer_is fd Idle adopting adopts e f = rw (← e) refl
 offer_is fd Binding adopting adopts e f = rw (← e) refl
-offer_is fd (Busied at) adopting adopts e f = rw (← e) refl
+offer_is fd (AddressInUse at) adopting adopts e f = rw (← e) refl
 offer_is fd (Holding n) adopting adopts e f = rw (← e) refl
-offer_is fd Lost adopting adopts e f = rw (← e) refl
+offer_is fd AdoptionFailed adopting adopts e f = rw (← e) refl
 
-held_is : (fd : ℕ) (x : Last) → is_in fd (held_of x) ≡ has_held fd x
+held_is : (fd : ℕ) (x : EndpointStatus) → is_in fd (held_of x) ≡ has_held fd x
 held_is fd (Holding n) = sym (or_none (n == fd))
-held_is fd Unasked = refl
+held_is fd Idle = refl
 held_is fd Binding = refl
-held_is fd (Busied at) = refl
+held_is fd (AddressInUse at) = refl
 held_is fd (Adopting n) = refl
-held_is fd Lost = refl
+held_is fd AdoptionFailed = refl
 
-offered_uses : (fd : ℕ) (f d : Bool) (x : Last) → has_offer fd x ≡ true → uses fd f d x ≡ true
+offered_uses : (fd : ℕ) (f d : Bool) (x : EndpointStatus) → has_offer fd x ≡ true → uses fd f d x ≡ true
 offered_uses fd f d (Adopting n) h = h
-offered_uses fd f d Unasked h = absurd (cc)
+offered_uses fd f d Idle h = absurd (cc)
 offered_uses fd f d Binding h = absurd (cc)
-offered_uses fd f d (Busied at) h = absurd (cc)
+offered_uses fd f d (AddressInUse at) h = absurd (cc)
 offered_uses fd f d (Holding n) h = absurd (cc)
-offered_uses fd f d Lost h = absurd (cc)
+offered_uses fd f d AdoptionFailed h = absurd (cc)
 
-held_uses : (fd : ℕ) (f d : Bool) (x : Last) → f ≡ false → has_held fd x ≡ true → d ≡ false → uses fd f d x ≡ true
+held_uses : (fd : ℕ) (f d : Bool) (x : EndpointStatus) → f ≡ false → has_held fd x ≡ true → d ≡ false → uses fd f d x ≡ true
 held_uses fd f d (Holding n) e h g = rw (e, g) h
 held_uses fd f d (Adopting n) e h g = absurd (cc)
-held_uses fd f d Unasked e h g = absurd (cc)
+held_uses fd f d Idle e h g = absurd (cc)
 held_uses fd f d Binding e h g = absurd (cc)
-held_uses fd f d (Busied at) e h g = absurd (cc)
-held_uses fd f d Lost e h g = absurd (cc)
+held_uses fd f d (AddressInUse at) e h g = absurd (cc)
+held_uses fd f d AdoptionFailed e h g = absurd (cc)
 
 -- what uses it is offered it, or holds it and isn't done
-uses_cases : (fd : ℕ) (f d : Bool) (x : Last) → uses fd f d x ≡ true → (has_offer fd x || ((not f && has_held fd x) && not d)) ≡ true
+uses_cases : (fd : ℕ) (f d : Bool) (x : EndpointStatus) → uses fd f d x ≡ true → (has_offer fd x || ((not f && has_held fd x) && not d)) ≡ true
 uses_cases fd f d (Adopting n) h = rw h refl
 uses_cases fd f d (Holding n) h = plain f d (n == fd) h
   where
     plain : (f d b : Bool) → ((not f && not d) && b) ≡ true → (false || ((not f && b) && not d)) ≡ true
     plain f d b h = grind arith
-uses_cases fd f d Unasked h = absurd (cc)
+uses_cases fd f d Idle h = absurd (cc)
 uses_cases fd f d Binding h = absurd (cc)
-uses_cases fd f d (Busied at) h = absurd (cc)
-uses_cases fd f d Lost h = absurd (cc)
+uses_cases fd f d (AddressInUse at) h = absurd (cc)
+uses_cases fd f d AdoptionFailed h = absurd (cc)
 
-holding_some : (x : Last) → is_holding x ≡ true → nat_lt 0 (length (held_of x)) ≡ true
+holding_some : (x : EndpointStatus) → is_holding x ≡ true → nat_lt 0 (length (held_of x)) ≡ true
 holding_some (Holding n) h = refl
-holding_some Unasked h = absurd (cc)
+holding_some Idle h = absurd (cc)
 holding_some Binding h = absurd (cc)
-holding_some (Busied at) h = absurd (cc)
+holding_some (AddressInUse at) h = absurd (cc)
 holding_some (Adopting n) h = absurd (cc)
-holding_some Lost h = absurd (cc)
+holding_some AdoptionFailed h = absurd (cc)
 
-holding_touched : (x : Last) → is_holding x ≡ true → is_touched x ≡ true
+holding_touched : (x : EndpointStatus) → is_holding x ≡ true → is_touched x ≡ true
 holding_touched (Holding n) h = refl
-holding_touched Unasked h = absurd (cc)
+holding_touched Idle h = absurd (cc)
 holding_touched Binding h = absurd (cc)
-holding_touched (Busied at) h = absurd (cc)
+holding_touched (AddressInUse at) h = absurd (cc)
 holding_touched (Adopting n) h = absurd (cc)
-holding_touched Lost h = absurd (cc)
+holding_touched AdoptionFailed h = absurd (cc)
 
 -- an endpoint whose loops have all ended has one that ended
 pub done-some : (p : Plan) (d : EndpointsData) (s i : ℕ) → 0 < p.tasks → is_done p d s i ≡ true → (j : ℕ) × (has_loop d.loops s i j ≡ true)

@@ -7,11 +7,11 @@ use Rattle.svc_record.specs.Plans.{service_count, endpoints, address, same_addre
 use Rattle.svc_record.specs.Descriptors.{has_live}
 use Rattle.svc_record.specs.Asks.{is_ask_open}
 use Rattle.svc_record.specs.Endpoints.{is_held, held_numbers, holds, is_one_of, in_use_within, is_busy, is_at_work}
-use Rattle.svc_endpoints.specs.declared.states.Last.{Last}
-use Rattle.svc_endpoints.specs.declared.states.Last.TheVariants.{Unasked, Binding, Busied, Adopting, Holding, Lost}
+use Rattle.svc_endpoints.specs.declared.states.EndpointStatus.{EndpointStatus}
+use Rattle.svc_endpoints.specs.declared.states.EndpointStatus.TheVariants.{Idle, Binding, AddressInUse, Adopting, Holding, AdoptionFailed}
 use Rattle.svc_endpoints.specs.declared.visit.Visit.{Visit}
 use Rattle.svc_endpoints.specs.EndpointsData.{EndpointsData}
-use Rattle.svc_endpoints.specs.EndpointsState.{IsEndpointsSized, StatesKept, StatesStand, last_at, failed_at, is_binding, is_adopting, is_asking, is_holding, is_lost, is_touched, has_fd, fd_of, held_of, rests_in, tells_rest}
+use Rattle.svc_endpoints.specs.EndpointsState.{IsEndpointsSized, StatesKept, StatesStand, last_at, failed_at, is_binding, is_adopting, is_asking, is_holding, is_adoption_failed, is_touched, has_fd, fd_of, held_of, rests_in, tells_rest}
 use Rattle.svc_endpoints.specs.Visits.{busy_of, busy_in, IsFirst, IsDecided, decide_at}
 use Rattle.svc_endpoints.proofs.RangeLemmas.{same0}
 use Rattle.svc_endpoints.proofs.LiveLemmas.{same_eq}
@@ -34,36 +34,36 @@ decided-at p d s on moment j v begun free first e = record {
 }
 
 -- one endpoint's tests, from its state
-held_is : (x : Last) (l : List ℕ) → held_of x ≡ l → nat_lt 0 (length l) ≡ is_holding x
+held_is : (x : EndpointStatus) (l : List ℕ) → held_of x ≡ l → nat_lt 0 (length l) ≡ is_holding x
 held_is (Holding fd) l e = rw (← e) refl
-held_is Unasked l e = rw (← e) refl
+held_is Idle l e = rw (← e) refl
 held_is Binding l e = rw (← e) refl
-held_is (Busied at) l e = rw (← e) refl
+held_is (AddressInUse at) l e = rw (← e) refl
 held_is (Adopting fd) l e = rw (← e) refl
-held_is Lost l e = rw (← e) refl
+held_is AdoptionFailed l e = rw (← e) refl
 
-holds_one : (x : Last) → is_holding x ≡ true → is_one_of (fd_of x) (held_of x) ≡ true
+holds_one : (x : EndpointStatus) → is_holding x ≡ true → is_one_of (fd_of x) (held_of x) ≡ true
 holds_one (Holding fd) e = rw (eq-eqb fd fd refl) refl
-holds_one Unasked e = absurd (cc)
+holds_one Idle e = absurd (cc)
 holds_one Binding e = absurd (cc)
-holds_one (Busied at) e = absurd (cc)
+holds_one (AddressInUse at) e = absurd (cc)
 holds_one (Adopting fd) e = absurd (cc)
-holds_one Lost e = absurd (cc)
+holds_one AdoptionFailed e = absurd (cc)
 
-holding_fd : (x : Last) → is_holding x ≡ true → has_fd x ≡ true
+holding_fd : (x : EndpointStatus) → is_holding x ≡ true → has_fd x ≡ true
 holding_fd (Holding fd) e = refl
-holding_fd Unasked e = absurd (cc)
+holding_fd Idle e = absurd (cc)
 holding_fd Binding e = absurd (cc)
-holding_fd (Busied at) e = absurd (cc)
+holding_fd (AddressInUse at) e = absurd (cc)
 holding_fd (Adopting fd) e = absurd (cc)
-holding_fd Lost e = absurd (cc)
+holding_fd AdoptionFailed e = absurd (cc)
 
 -- whether it is busy, from the state: where no live descriptor has the address
-busy_one : (x : Last) (failed held w live : Bool) (t : ℕ) → held ≡ is_holding x → live ≡ false → (tells_rest x ≡ true → rests_in x t ≡ w) → (is_lost x ≡ true → failed ≡ true)
+busy_one : (x : EndpointStatus) (failed held w live : Bool) (t : ℕ) → held ≡ is_holding x → live ≡ false → (tells_rest x ≡ true → rests_in x t ≡ w) → (is_adoption_failed x ≡ true → failed ≡ true)
     → ((is_binding x || is_adopting x) || (((not failed && not held) && w) && not live)) ≡ busy_of failed t x
-busy_one Unasked failed held w live t h l r g = rw (h, l, ← (r refl)) (grind arith)
+busy_one Idle failed held w live t h l r g = rw (h, l, ← (r refl)) (grind arith)
 busy_one Binding failed held w live t h l r g = refl
-busy_one (Busied at) failed held w live t h l r g = rw (h, l, ← (r refl)) (by_rest failed (rests_in (Busied at) t))
+busy_one (AddressInUse at) failed held w live t h l r g = rw (h, l, ← (r refl)) (by_rest failed (rests_in (AddressInUse at) t))
   where
     by_rest : (f w : Bool) → (((not f && true) && w) && true) ≡ (not f && w)
     by_rest f w = grind arith
@@ -72,24 +72,24 @@ busy_one (Holding fd) failed held w live t h l r g = rw h (none failed w live)
   where
     none : (f w l : Bool) → (((not f && false) && w) && not l) ≡ (not f && false)
     none f w l = grind arith
-busy_one Lost failed held w live t h l r g = rw (g refl) refl
+busy_one AdoptionFailed failed held w live t h l r g = rw (g refl) refl
 
 -- what is busy is of a started service that hasn't failed
-touched_rest : (x : Last) (t : ℕ) → rests_in x t ≡ true → is_touched x ≡ true
-touched_rest Unasked t e = absurd (cc)
+touched_rest : (x : EndpointStatus) (t : ℕ) → rests_in x t ≡ true → is_touched x ≡ true
+touched_rest Idle t e = absurd (cc)
 touched_rest Binding t e = refl
-touched_rest (Busied at) t e = refl
+touched_rest (AddressInUse at) t e = refl
 touched_rest (Adopting fd) t e = refl
 touched_rest (Holding fd) t e = refl
-touched_rest Lost t e = refl
+touched_rest AdoptionFailed t e = refl
 
-touched_asking : (x : Last) → is_asking x ≡ true → is_touched x ≡ true
-touched_asking Unasked e = absurd (cc)
+touched_asking : (x : EndpointStatus) → is_asking x ≡ true → is_touched x ≡ true
+touched_asking Idle e = absurd (cc)
 touched_asking Binding e = refl
-touched_asking (Busied at) e = refl
+touched_asking (AddressInUse at) e = refl
 touched_asking (Adopting fd) e = refl
 touched_asking (Holding fd) e = refl
-touched_asking Lost e = refl
+touched_asking AdoptionFailed e = refl
 
 module _ (p : Plan) (d : EndpointsData) (q : Record) (sized : IsEndpointsSized p d) (kept : StatesKept p d) (was : StatesStand p d q) where
   pub held-is : (s i : ℕ) → s < service_count p → i < length (endpoints p s) → is_held p q s i ≡ is_holding (last_at d s i)

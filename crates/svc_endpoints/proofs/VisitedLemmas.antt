@@ -16,12 +16,12 @@ use Rattle.svc_record.specs.Closes.{is_broadcast, is_drained}
 use Rattle.svc_record.specs.Told.{Tells}
 use Rattle.svc_record.specs.declared.action.Action.{Action}
 use Rattle.svc_record.specs.AskRules.{has_turn, ask_due}
-use Rattle.svc_endpoints.specs.declared.states.Last.{Last}
-use Rattle.svc_endpoints.specs.declared.states.Last.TheVariants.{Unasked, Binding, Busied, Adopting, Holding, Lost}
+use Rattle.svc_endpoints.specs.declared.states.EndpointStatus.{EndpointStatus}
+use Rattle.svc_endpoints.specs.declared.states.EndpointStatus.TheVariants.{Idle, Binding, AddressInUse, Adopting, Holding, AdoptionFailed}
 use Rattle.svc_endpoints.specs.declared.visit.Visit.{Visit}
-use Rattle.svc_endpoints.specs.declared.visit.Visit.TheVariants.{Nothing, Asks, Offers}
+use Rattle.svc_endpoints.specs.declared.visit.Visit.TheVariants.{Nothing, Binds, Adopts}
 use Rattle.svc_endpoints.specs.EndpointsData.{EndpointsData}
-use Rattle.svc_endpoints.specs.EndpointsState.{IsEndpointsSized, LoopsStand, StatesKept, StatesStand, EndpointsStand, numbers_of_table, last_at, failed_at, numbers_with, is_binding, is_adopting, is_asking, is_holding, is_done, refusals_at, held_of}
+use Rattle.svc_endpoints.specs.EndpointsState.{IsEndpointsSized, LoopsStand, StatesKept, StatesStand, EndpointsStand, numbers_of_table, last_at, failed_at, numbers_with, is_binding, is_adopting, is_asking, is_holding, is_done, times_in_use_at, held_of}
 use Rattle.svc_base.specs.NumberSets.{is_in}
 use Rattle.svc_endpoints.specs.Effects.{first_of, not_empty, put_last, asked, offered}
 use Rattle.svc_endpoints.specs.Loops.{has_loop}
@@ -72,7 +72,7 @@ one_first (x ∷ []) fd e h = ap (λ w. w ∷ []) (some_same x fd e)
     some_same a b e = cc
 one_first (x ∷ y ∷ xs) fd e h = absurd (omega arith)
 
-not_asking_binding : (x : Last) → is_asking x ≡ false → (is_binding x ≡ false) × (is_adopting x ≡ false)
+not_asking_binding : (x : EndpointStatus) → is_asking x ≡ false → (is_binding x ≡ false) × (is_adopting x ≡ false)
 not_asking_binding x h = (or_first (is_binding x) (is_adopting x) h, or_second (is_binding x) (is_adopting x) h)
   where
     or_first : (a b : Bool) → (a || b) ≡ false → a ≡ false
@@ -81,22 +81,22 @@ not_asking_binding x h = (or_first (is_binding x) (is_adopting x) h, or_second (
     or_second : (a b : Bool) → (a || b) ≡ false → b ≡ false
     or_second a b h = grind arith
 
-not_holding_none : (x : Last) → is_holding x ≡ false → held_of x ≡ []
+not_holding_none : (x : EndpointStatus) → is_holding x ≡ false → held_of x ≡ []
 not_holding_none (Holding fd) e = absurd (cc)
-not_holding_none Unasked e = refl
+not_holding_none Idle e = refl
 not_holding_none Binding e = refl
-not_holding_none (Busied at) e = refl
+not_holding_none (AddressInUse at) e = refl
 not_holding_none (Adopting fd) e = refl
-not_holding_none Lost e = refl
+not_holding_none AdoptionFailed e = refl
 
 -- an endpoint that isn't held and is offered nothing uses nothing
-unused : (fd : ℕ) (f d : Bool) (x : Last) → is_adopting x ≡ false → is_holding x ≡ false → uses fd f d x ≡ false
+unused : (fd : ℕ) (f d : Bool) (x : EndpointStatus) → is_adopting x ≡ false → is_holding x ≡ false → uses fd f d x ≡ false
 unused fd f d (Adopting n) a h = absurd (cc)
 unused fd f d (Holding n) a h = absurd (cc)
-unused fd f d Unasked a h = refl
+unused fd f d Idle a h = refl
 unused fd f d Binding a h = refl
-unused fd f d (Busied at) a h = refl
-unused fd f d Lost a h = refl
+unused fd f d (AddressInUse at) a h = refl
+unused fd f d AdoptionFailed a h = refl
 
 -- the first endpoint that isn't is_held, if there is one
 pub find_first : (p : Plan) (d : EndpointsData) (s n : ℕ) → n ≤ length (endpoints p s) → ((i : ℕ) → i < n → is_holding (last_at d s i) ≡ true) ⊎ ((j : ℕ) × IsFirst p d s j)
@@ -233,13 +233,13 @@ module _ (p : Plan) (d : EndpointsData) (s : ℕ) (q : Record) (sized : IsEndpoi
     in_row = let w = first.within in omega (arith, sized.each s inside, w)
 
     -- only this endpoint changes
-    only : (x : Last) → Changed p d (put_last d s j x) s j
-    only x = changed-put p d s j false (record { last = x; refusals = refusals_at d s j }) in_rows in_row (omega (arith, sized.failed)) first.within first.missing
+    only : (x : EndpointStatus) → Changed p d (put_last d s j x) s j
+    only x = changed-put p d s j false (record { last = x; times_in_use = times_in_use_at d s j }) in_rows in_row (omega (arith, sized.failed)) first.within first.missing
 
     -- what it doesn't use now, and didn't before, is drained as it was
-    same : (x : Last) (n : ℕ) → is_adopting (last_at d s j) ≡ false → uses n (failed_at d s) (is_done p d s j) x ≡ false → is_drained_by p (put_last d s j x) n ≡ is_drained_by p d n
+    same : (x : EndpointStatus) (n : ℕ) → is_adopting (last_at d s j) ≡ false → uses n (failed_at d s) (is_done p d s j) x ≡ false → is_drained_by p (put_last d s j x) n ≡ is_drained_by p d n
     same x n idle off = drained-same p d (put_last d s j x) s j (only x) q stand.loops n refl
-        (ap (uses n (failed_at d s) (is_done p d s j)) (put-here p d s j false (record { last = x; refusals = refusals_at d s j }) in_rows in_row) ∙ off
+        (ap (uses n (failed_at d s) (is_done p d s j)) (put-here p d s j false (record { last = x; times_in_use = times_in_use_at d s j }) in_rows in_row) ∙ off
         ∙ sym (unused n (failed_at d s) (is_done p d s j) (last_at d s j) idle first.missing))
 
     visited-asks : is_asking (last_at d s j) ≡ false → first_of (numbers_with d.table (address p s j)) ≡ None → any_with p (address p s j) (busy_in d (now q)) ≡ false
@@ -273,7 +273,7 @@ module _ (p : Plan) (d : EndpointsData) (s : ℕ) (q : Record) (sized : IsEndpoi
     same_offered fd idle e n came = elim (cases_eq fd n) [
       | inr ne ↦ same (Adopting fd) n (not_asking_binding (last_at d s j) idle).1 (ne_eqb fd n ne)
       | inl f ↦ used-not_drained p (offered d s j fd) n s j inside first.within
-          (ap (uses n (failed_at d s) (is_done p d s j)) (put-here p d s j false (record { last = Adopting fd; refusals = refusals_at d s j }) in_rows in_row) ∙ eq-eqb fd n f)
+          (ap (uses n (failed_at d s) (is_done p d s j)) (put-here p d s j false (record { last = Adopting fd; times_in_use = times_in_use_at d s j }) in_rows in_row) ∙ eq-eqb fd n f)
           ∙ sym (false_where (is_drained_by p d n) (λ y. clash (has (is_close n) q)
           (closed-is p q n stand.closes_once (stand.closes n came) ∙ or_right (is_gone_now p q n) (is_drained p q n) (drained-is p d q was stand.loops n ∙ y))
           (live-pair p q n (address p s j) (ap (is_in n) (sym (was.with_is (address p s j))) ∙ ap (is_in n) (the_one fd e) ∙ or_left (fd == n) false (eq-eqb fd n f))).1))
@@ -333,8 +333,8 @@ visit-leaves p d s false q sized inside v decided on stand =
 
 asks_of : (s : ℕ) (v : Visit) → IsAskOf s (told_by s v)
 asks_of s Nothing = tt
-asks_of s (Asks i) = refl
-asks_of s (Offers i fd) = refl
+asks_of s (Binds i) = refl
+asks_of s (Adopts i fd) = refl
 
 -- what a visit told, and what it left
 pub tells-visit : (p : Plan) (d new : EndpointsData) (s : ℕ) (on : Bool) (moment : ℕ) (v : Visit) (before after_it : List Action) → IsEndpointsSized p d → s < service_count p → IsDecided p d s on moment v

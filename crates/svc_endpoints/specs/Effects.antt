@@ -7,12 +7,12 @@ use Rattle.svc_record.specs.Failed.{in_use_limit}
 use Rattle.svc_base.specs.NumberSets.{put_number, ascending, is_in}
 use Rattle.svc_record.specs.declared.action.Action.{Action}
 use Rattle.svc_record.specs.declared.action.Action.TheVariants.{Fail, Close}
-use Rattle.svc_endpoints.specs.declared.states.Last.{Last}
-use Rattle.svc_endpoints.specs.declared.states.Last.TheVariants.{Unasked, Binding, Busied, Adopting, Holding, Lost}
-use Rattle.svc_endpoints.specs.declared.states.EndState.{EndState}
+use Rattle.svc_endpoints.specs.declared.states.EndpointStatus.{EndpointStatus}
+use Rattle.svc_endpoints.specs.declared.states.EndpointStatus.TheVariants.{Idle, Binding, AddressInUse, Adopting, Holding, AdoptionFailed}
+use Rattle.svc_endpoints.specs.declared.states.EndpointState.{EndpointState}
 use Rattle.svc_endpoints.specs.declared.table.Open.{Open}
 use Rattle.svc_endpoints.specs.EndpointsData.{EndpointsData}
-use Rattle.svc_endpoints.specs.EndpointsState.{last_at, refusals_at, numbers_with, numbers_of_table}
+use Rattle.svc_endpoints.specs.EndpointsState.{last_at, times_in_use_at, numbers_with, numbers_of_table}
 use Rattle.svc_endpoints.specs.Uses.{is_drained_by}
 
 -- the first of them
@@ -30,12 +30,12 @@ abbrev pub has_open : List Open → Option (List ℕ) → Bool
 has_open table a = not_empty (numbers_with table a)
 
 -- endpoint i of s has this state
-abbrev pub put : EndpointsData → ℕ → ℕ → EndState → EndpointsData
+abbrev pub put : EndpointsData → ℕ → ℕ → EndpointState → EndpointsData
 put d s i x = record d { rows = slice_set d.rows s (slice_set (slice_index_or d.rows s []) i x) }
 
 -- endpoint i of s has this state, and its count stays
-abbrev pub put_last : EndpointsData → ℕ → ℕ → Last → EndpointsData
-put_last d s i x = put d s i (record { last = x; refusals = refusals_at d s i })
+abbrev pub put_last : EndpointsData → ℕ → ℕ → EndpointStatus → EndpointsData
+put_last d s i x = put d s i (record { last = x; times_in_use = times_in_use_at d s i })
 
 -- the service has failed, where b says so
 abbrev pub fail_if : Bool → ℕ → EndpointsData → EndpointsData
@@ -43,24 +43,24 @@ fail_if b s d = if b then record d { failed = slice_set d.failed s true } else d
 
 -- the service fails at one more answer that the endpoint's address is in use
 abbrev pub is_last_refusal : Plan → EndpointsData → ℕ → ℕ → Bool
-is_last_refusal p d s i = not (has_open d.table (address p s i)) && nat_le (in_use_limit p s i) (refusals_at d s i + 1)
+is_last_refusal p d s i = not (has_open d.table (address p s i)) && nat_le (in_use_limit p s i) (times_in_use_at d s i + 1)
 
 -- the endpoint's address was in use at the moment: this counts while no live descriptor has it
 abbrev pub refused : Plan → EndpointsData → ℕ → ℕ → ℕ → EndpointsData
 refused p d s i moment =
     fail_if (is_last_refusal p d s i) s
-    (put d s i (record { last = Busied moment; refusals = if is_last_refusal p d s i then refusals_at d s i else (if not (has_open d.table (address p s i)) then refusals_at d s i + 1 else refusals_at d s i) }))
+    (put d s i (record { last = AddressInUse moment; times_in_use = if is_last_refusal p d s i then times_in_use_at d s i else (if not (has_open d.table (address p s i)) then times_in_use_at d s i + 1 else times_in_use_at d s i) }))
 
 -- the endpoint couldn't be bound
 abbrev pub bind_failed : EndpointsData → ℕ → ℕ → EndpointsData
-bind_failed d s i = fail_if true s (put_last d s i Unasked)
+bind_failed d s i = fail_if true s (put_last d s i Idle)
 
 -- the endpoint couldn't take what it was offered
 abbrev pub adopt_failed : EndpointsData → ℕ → ℕ → EndpointsData
-adopt_failed d s i = fail_if true s (put_last d s i Lost)
+adopt_failed d s i = fail_if true s (put_last d s i AdoptionFailed)
 
 -- what is offered is held
-abbrev pub held_now : Last → Last
+abbrev pub held_now : EndpointStatus → EndpointStatus
 held_now (Adopting fd) = Holding fd
 held_now x = x
 
@@ -82,7 +82,7 @@ with_number fd d = record d { came = put_number fd d.came }
 
 -- a doubled descriptor came, and the endpoint is unasked again
 abbrev pub bound_again : EndpointsData → ℕ → ℕ → ℕ → EndpointsData
-bound_again d s i fd = put_last (with_number fd d) s i Unasked
+bound_again d s i fd = put_last (with_number fd d) s i Idle
 
 -- the table with one more descriptor, in ascending number
 abbrev pub put_open : Open → List Open → List Open

@@ -1,12 +1,12 @@
 -- What contracts see of the endpoints.
 use Rattle.std.specs.Prelude.{ℕ, Bool, List}
-use Rattle.svc_endpoints.specs.declared.states.EndState.{EndState}
+use Rattle.svc_endpoints.specs.declared.states.EndpointState.{EndpointState}
 use Rattle.svc_endpoints.specs.declared.loops.LoopEnd.{LoopEnd}
 use Rattle.svc_endpoints.specs.declared.table.Open.{Open}
 
 -- for each service the state of each of its endpoints, and whether it has failed; the loops that ended; the live descriptors with their addresses, and the numbers of all that came, both in ascending order
 pub record EndpointsData : Type 0 where
-  pub rows : List (List EndState)
+  pub rows : List (List EndpointState)
   pub failed : List Bool
   pub loops : List LoopEnd
   pub table : List Open

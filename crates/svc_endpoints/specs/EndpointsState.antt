@@ -15,84 +15,84 @@ use Rattle.svc_record.specs.Failed.{has_failed, in_use_count}
 use Rattle.svc_record.specs.Fits.{is_new}
 use Rattle.svc_record.specs.Starts.{is_started}
 use Rattle.svc_record.specs.Tail.{numbers_in}
-use Rattle.svc_endpoints.specs.declared.states.Last.{Last}
-use Rattle.svc_endpoints.specs.declared.states.Last.TheVariants.{Unasked, Binding, Busied, Adopting, Holding, Lost}
-use Rattle.svc_endpoints.specs.declared.states.EndState.{EndState}
+use Rattle.svc_endpoints.specs.declared.states.EndpointStatus.{EndpointStatus}
+use Rattle.svc_endpoints.specs.declared.states.EndpointStatus.TheVariants.{Idle, Binding, AddressInUse, Adopting, Holding, AdoptionFailed}
+use Rattle.svc_endpoints.specs.declared.states.EndpointState.{EndpointState}
 use Rattle.svc_endpoints.specs.declared.table.Open.{Open}
 use Rattle.svc_endpoints.specs.EndpointsData.{EndpointsData}
 use Rattle.svc_endpoints.specs.Loops.{has_loop, loop_count}
 
 -- a bind of it is open
-abbrev pub is_binding : Last → Bool
+abbrev pub is_binding : EndpointStatus → Bool
 is_binding Binding = true
 is_binding _ = false
 
 -- a descriptor is offered to it
-abbrev pub is_adopting : Last → Bool
+abbrev pub is_adopting : EndpointStatus → Bool
 is_adopting (Adopting fd) = true
 is_adopting _ = false
 
 -- an ask of it is open
-abbrev pub is_asking : Last → Bool
+abbrev pub is_asking : EndpointStatus → Bool
 is_asking x = is_binding x || is_adopting x
 
 -- it is held
-abbrev pub is_holding : Last → Bool
+abbrev pub is_holding : EndpointStatus → Bool
 is_holding (Holding fd) = true
 is_holding _ = false
 
 -- it has a descriptor, or is offered one
-abbrev pub has_fd : Last → Bool
+abbrev pub has_fd : EndpointStatus → Bool
 has_fd x = is_adopting x || is_holding x
 
 -- its adoption failed
-abbrev pub is_lost : Last → Bool
-is_lost Lost = true
-is_lost _ = false
+abbrev pub is_adoption_failed : EndpointStatus → Bool
+is_adoption_failed AdoptionFailed = true
+is_adoption_failed _ = false
 
 -- the descriptor that it has or is offered
-abbrev pub fd_of : Last → List ℕ
+abbrev pub fd_of : EndpointStatus → List ℕ
 fd_of (Adopting fd) = fd ∷ []
 fd_of (Holding fd) = fd ∷ []
 fd_of _ = []
 
 -- the descriptor that holds it
-abbrev pub held_of : Last → List ℕ
+abbrev pub held_of : EndpointStatus → List ℕ
 held_of (Holding fd) = fd ∷ []
 held_of _ = []
 
 -- the state says whether it rests
-abbrev pub tells_rest : Last → Bool
-tells_rest Unasked = true
+abbrev pub tells_rest : EndpointStatus → Bool
+tells_rest Idle = true
 tells_rest Binding = true
-tells_rest (Busied at) = true
+tells_rest (AddressInUse at) = true
 tells_rest _ = false
 
 -- in use under 1,000 ms before the moment t
-abbrev pub rests_in : Last → ℕ → Bool
-rests_in (Busied at) t = nat_lt (t - at) 1000
+abbrev pub rests_in : EndpointStatus → ℕ → Bool
+rests_in (AddressInUse at) t = nat_lt (t - at) 1000
 rests_in _ t = false
 
 -- it was asked for, so its service is started
-abbrev pub is_touched : Last → Bool
-is_touched Unasked = false
+abbrev pub is_touched : EndpointStatus → Bool
+is_touched Idle = false
 is_touched _ = true
 
 -- an endpoint that nothing is known of
-abbrev pub idle : EndState
-idle = record { last = Unasked; refusals = 0 }
+abbrev pub idle : EndpointState
+idle = record { last = Idle; times_in_use = 0 }
 
 -- the state of endpoint i of s
-abbrev pub state_at : EndpointsData → ℕ → ℕ → EndState
+abbrev pub state_at : EndpointsData → ℕ → ℕ → EndpointState
 state_at d s i = slice_index_or (slice_index_or d.rows s []) i idle
 
 -- what became of it last
-abbrev pub last_at : EndpointsData → ℕ → ℕ → Last
+abbrev pub last_at : EndpointsData → ℕ → ℕ → EndpointStatus
 last_at d s i = (state_at d s i).last
 
 -- how often its address was in use while no live descriptor had it
-abbrev pub refusals_at : EndpointsData → ℕ → ℕ → ℕ
-refusals_at d s i = (state_at d s i).refusals
+abbrev pub times_in_use_at : EndpointsData → ℕ → ℕ → ℕ
+times_in_use_at d s i = (state_at d s i).times_in_use
 
 -- the service has failed
 abbrev pub failed_at : EndpointsData → ℕ → Bool
@@ -132,7 +132,7 @@ pub record StatesKept (p : Plan) (d : EndpointsData) : Type 0 where
   pub distinct : (a b : Option (List ℕ)) (fd : ℕ) → is_in fd (numbers_with d.table a) ≡ true → is_in fd (numbers_with d.table b) ≡ true → a ≡ b
 
 -- one endpoint's state, against what the record says of it
-pub record OneStands (x : Last) (binding adopting : Bool) (held adopts : List ℕ) (within : ℕ → Bool) (on : Bool) : Type 0 where
+pub record OneStands (x : EndpointStatus) (binding adopting : Bool) (held adopts : List ℕ) (within : ℕ → Bool) (on : Bool) : Type 0 where
   pub binding_is : is_binding x ≡ binding
   pub adopting_is : is_adopting x ≡ adopting
   pub held_is : held_of x ≡ held
@@ -141,16 +141,16 @@ pub record OneStands (x : Last) (binding adopting : Bool) (held adopts : List �
   pub on_is : is_touched x ≡ true → on ≡ true
 
 -- the same for endpoint i of s
-abbrev pub StandsAt : Plan → Last → Record → ℕ → ℕ → Type 0
+abbrev pub StandsAt : Plan → EndpointStatus → Record → ℕ → ℕ → Type 0
 StandsAt p x q s i = OneStands x (is_bind_open q s i) (is_adopt_open q s i) (held_numbers p q s i) (last_adopt q s i) (λ t. in_use_within t q s i) (is_started q s)
 
 -- the states, the counts, the failed services and the table say what the record says
 pub record StatesStand (p : Plan) (d : EndpointsData) (q : Record) : Type 0 where
   pub each : (s i : ℕ) → s < service_count p → i < length (endpoints p s) → StandsAt p (last_at d s i) q s i
-  pub counts : (s i : ℕ) → s < service_count p → i < length (endpoints p s) → failed_at d s ≡ false → refusals_at d s i ≡ in_use_count p q s i
+  pub counts : (s i : ℕ) → s < service_count p → i < length (endpoints p s) → failed_at d s ≡ false → times_in_use_at d s i ≡ in_use_count p q s i
   pub failed_is : (s : ℕ) → s < service_count p → failed_at d s ≡ has_failed p q s
   pub with_is : (a : Option (List ℕ)) → numbers_with d.table a ≡ live_numbers_with p q a
-  pub lost : (s i : ℕ) → is_lost (last_at d s i) ≡ true → failed_at d s ≡ true
+  pub lost : (s i : ℕ) → is_adoption_failed (last_at d s i) ≡ true → failed_at d s ≡ true
   pub closed_came : (fd : ℕ) → is_new q fd ≡ true → has (is_close fd) q ≡ false
 
 -- each loop of the endpoint has ended

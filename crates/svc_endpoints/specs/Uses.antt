@@ -3,35 +3,35 @@ use Rattle.std.specs.Prelude.{ℕ, Bool, false, ◌==◌, ◌≡◌, ◌<◌, no
 use Rattle.std.specs.List.{list_any, list_all}
 use Rattle.svc_record.specs.declared.plan.Plan.{Plan}
 use Rattle.svc_record.specs.Plans.{service_count, services, endpoints, endpoint_numbers, is_endpoint}
-use Rattle.svc_endpoints.specs.declared.states.Last.{Last}
-use Rattle.svc_endpoints.specs.declared.states.Last.TheVariants.{Adopting, Holding}
-use Rattle.svc_endpoints.specs.declared.states.EndState.{EndState}
+use Rattle.svc_endpoints.specs.declared.states.EndpointStatus.{EndpointStatus}
+use Rattle.svc_endpoints.specs.declared.states.EndpointStatus.TheVariants.{Adopting, Holding}
+use Rattle.svc_endpoints.specs.declared.states.EndpointState.{EndpointState}
 use Rattle.svc_endpoints.specs.declared.loops.LoopEnd.{LoopEnd}
 use Rattle.svc_endpoints.specs.EndpointsData.{EndpointsData}
 use Rattle.svc_endpoints.specs.EndpointsState.{last_at, failed_at, is_holding, is_done}
 
 -- the states alone, with no descriptors
-abbrev pub states_of : List (List EndState) → List Bool → List LoopEnd → EndpointsData
+abbrev pub states_of : List (List EndpointState) → List Bool → List LoopEnd → EndpointsData
 states_of rows failed loops = record { rows = rows; failed = failed; loops = loops; table = []; came = [] }
 
 -- one flag and one row for each service, and in the row a state for each of its endpoints
-pub record AreStatesSized (p : Plan) (rows : List (List EndState)) (flags : List Bool) : Type 0 where
+pub record AreStatesSized (p : Plan) (rows : List (List EndpointState)) (flags : List Bool) : Type 0 where
   pub services : length rows ≡ service_count p
   pub failed : length flags ≡ service_count p
   pub each : (s : ℕ) → s < service_count p → length (slice_index_or rows s []) ≡ length (endpoints p s)
 
 -- the descriptor is offered to it
-abbrev pub has_offer : ℕ → Last → Bool
+abbrev pub has_offer : ℕ → EndpointStatus → Bool
 has_offer fd (Adopting n) = n == fd
 has_offer fd _ = false
 
 -- the descriptor holds it
-abbrev pub has_held : ℕ → Last → Bool
+abbrev pub has_held : ℕ → EndpointStatus → Bool
 has_held fd (Holding n) = n == fd
 has_held fd _ = false
 
 -- the descriptor is offered to it, or holds it, and its service hasn't failed and isn't done with it
-abbrev pub uses : ℕ → Bool → Bool → Last → Bool
+abbrev pub uses : ℕ → Bool → Bool → EndpointStatus → Bool
 uses fd failed done (Adopting n) = n == fd
 uses fd failed done (Holding n) = (not failed && not done) && n == fd
 uses fd failed done _ = false

@@ -8,15 +8,15 @@ use Rattle.svc_record.specs.Plans.{endpoints, address, any_with, same_address, e
 use Rattle.svc_record.specs.Record.{Record, has, tell}
 use Rattle.svc_record.specs.Endpoints.{endpoint_right, endpoint_right_late}
 use Rattle.svc_record.specs.Closes.{is_broadcast}
-use Rattle.svc_endpoints.specs.declared.states.Last.{Last}
+use Rattle.svc_endpoints.specs.declared.states.EndpointStatus.{EndpointStatus}
 use Rattle.svc_endpoints.specs.declared.visit.Visit.{Visit}
-use Rattle.svc_endpoints.specs.declared.visit.Visit.TheVariants.{Nothing, Asks, Offers}
+use Rattle.svc_endpoints.specs.declared.visit.Visit.TheVariants.{Nothing, Binds, Adopts}
 use Rattle.svc_endpoints.specs.EndpointsData.{EndpointsData}
 use Rattle.svc_endpoints.specs.EndpointsState.{last_at, failed_at, numbers_with, is_asking, is_holding, rests_in, EndpointsStand}
 use Rattle.svc_endpoints.specs.Effects.{first_of, asked, offered}
 
 -- an ask is open, or it rests, while no live descriptor has its address
-abbrev pub busy_of : Bool → ℕ → Last → Bool
+abbrev pub busy_of : Bool → ℕ → EndpointStatus → Bool
 busy_of failed moment x = is_asking x || (not failed && rests_in x moment)
 
 -- the same of endpoint k of t
@@ -30,20 +30,20 @@ any_busy p d moment a t = list_any (λ k. same_address (address p t k) a && busy
 -- the actions of a visit
 abbrev pub told_by : ℕ → Visit → List Action
 told_by s Nothing = []
-told_by s (Asks i) = Bind s i ∷ []
-told_by s (Offers i fd) = Adopt s i fd ∷ []
+told_by s (Binds i) = Bind s i ∷ []
+told_by s (Adopts i fd) = Adopt s i fd ∷ []
 
 -- what the visit makes of the states
 abbrev pub after : EndpointsData → ℕ → Visit → EndpointsData
 after d s Nothing = d
-after d s (Asks i) = asked d s i
-after d s (Offers i fd) = offered d s i fd
+after d s (Binds i) = asked d s i
+after d s (Adopts i fd) = offered d s i fd
 
 -- the endpoint is one of the service
 abbrev pub IsWithin : Plan → ℕ → Visit → Type 0
 IsWithin p s Nothing = Unit {0}
-IsWithin p s (Asks i) = i < length (endpoints p s)
-IsWithin p s (Offers i fd) = i < length (endpoints p s)
+IsWithin p s (Binds i) = i < length (endpoints p s)
+IsWithin p s (Adopts i fd) = i < length (endpoints p s)
 
 -- the first endpoint that isn't held
 pub record IsFirst (p : Plan) (d : EndpointsData) (s j : ℕ) : Type 0 where
@@ -52,15 +52,15 @@ pub record IsFirst (p : Plan) (d : EndpointsData) (s j : ℕ) : Type 0 where
   pub earlier : (k : ℕ) → k < j → is_holding (last_at d s k) ≡ true
 
 -- offered what is live of its address, else asked for where nobody is busy with the address
-abbrev pub ask_or_offer : Bool → ℕ → Option ℕ → Visit
-ask_or_offer kept_busy j (Some fd) = Offers j fd
-ask_or_offer kept_busy j None = if kept_busy then Nothing else Asks j
+abbrev pub adopt_or_bind : Bool → ℕ → Option ℕ → Visit
+adopt_or_bind kept_busy j (Some fd) = Adopts j fd
+adopt_or_bind kept_busy j None = if kept_busy then Nothing else Binds j
 
 -- what is done for the first endpoint that isn't held
 abbrev pub decide_at : Plan → EndpointsData → ℕ → ℕ → ℕ → Visit
 decide_at p d s moment j =
     if is_asking (last_at d s j) then Nothing
-    else ask_or_offer (any_with p (address p s j) (busy_in d moment)) j (first_of (numbers_with d.table (address p s j)))
+    else adopt_or_bind (any_with p (address p s j) (busy_in d moment)) j (first_of (numbers_with d.table (address p s j)))
 
 -- what is done for the service: nothing where it isn't started, has failed or has all it needs
 pub record IsDecided (p : Plan) (d : EndpointsData) (s : ℕ) (on : Bool) (moment : ℕ) (v : Visit) : Type 0 where

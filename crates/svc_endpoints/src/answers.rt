@@ -23,7 +23,7 @@ ghost use Rattle.svc_endpoints.specs.Uses.{serves_by, accepts_by};
 use crate::endpoints::Endpoints;
 use crate::loops::{has_loop, is_done};
 use crate::naming::{address_of, endpoint_count, limit};
-use crate::states::{EndState, Last, held_now};
+use crate::states::{EndpointState, EndpointStatus, held_now};
 use svc_base::Text;
 use svc_record::{Action, Actions, Plan};
 
@@ -268,11 +268,11 @@ impl Endpoints {
     {
         if self.is_open(text.as_str()) {
             self.take_number(fd);
-            self.put_last(s as usize, i as usize, Last::Unasked);
+            self.put_last(s as usize, i as usize, EndpointStatus::Idle);
             actions.put(Action::Close(fd));
         } else {
             self.take_open(fd, text);
-            self.put_last(s as usize, i as usize, Last::Holding(fd));
+            self.put_last(s as usize, i as usize, EndpointStatus::Holding(fd));
         }
     }
 
@@ -286,18 +286,18 @@ impl Endpoints {
     {
         let state = self.state(s as usize, i as usize);
         let open = self.is_open(address_of(plan, s as usize, i as usize));
-        let last = Last::Busied(moment);
+        let last = EndpointStatus::AddressInUse(moment);
         if open {
             self.put_last(s as usize, i as usize, last);
             return false;
         }
-        if state.refusals >= limit(plan, s, i) - 1 {
+        if state.times_in_use >= limit(plan, s, i) - 1 {
             self.put_last(s as usize, i as usize, last);
             self.set_failed(s as usize);
             return true;
         }
-        let refusals = state.refusals + 1;
-        self.put(s as usize, i as usize, EndState { last, refusals });
+        let times_in_use = state.times_in_use + 1;
+        self.put(s as usize, i as usize, EndpointState { last, times_in_use });
         false
     }
 
@@ -308,7 +308,7 @@ impl Endpoints {
         requires endpoint { i < length (endpoints plan.now s) }
         ensures { self.new.parts ≡ bind_failed self.old.parts s i }
     {
-        self.put_last(s as usize, i as usize, Last::Unasked);
+        self.put_last(s as usize, i as usize, EndpointStatus::Idle);
         self.set_failed(s as usize);
     }
 
@@ -319,7 +319,7 @@ impl Endpoints {
         requires endpoint { i < length (endpoints plan.now s) }
         ensures { self.new.parts ≡ adopt_failed self.old.parts s i }
     {
-        self.put_last(s as usize, i as usize, Last::Lost);
+        self.put_last(s as usize, i as usize, EndpointStatus::AdoptionFailed);
         self.set_failed(s as usize);
     }
 

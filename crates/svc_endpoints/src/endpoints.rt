@@ -14,7 +14,9 @@ ghost use Rattle.svc_endpoints.specs.Effects.{put, put_last, fail_if, has_open, 
 use crate::came::{add_all, contains};
 use crate::loops::{LoopEnd, Loops};
 use crate::naming::{is_abandoned, service_count};
-use crate::states::{EndState, Last, Row, is_adopting, is_binding, new_flags, new_rows};
+use crate::states::{
+    EndpointState, EndpointStatus, Row, is_adopting, is_binding, new_flags, new_rows,
+};
 use crate::table::{Open, Table};
 use std::alloc::Global;
 use std::marker::Model;
@@ -192,7 +194,7 @@ impl Endpoints {
         add_all(&mut self.came, fds);
     }
 
-    pub(crate) fn state(&self, s: usize, i: usize) -> EndState
+    pub(crate) fn state(&self, s: usize, i: usize) -> EndpointState
         requires service { s < length self.now.parts.rows }
         requires endpoint { i < length (slice_index_or self.now.parts.rows s []) }
         ensures { result ≡ state_at self.now.parts s i }
@@ -200,7 +202,7 @@ impl Endpoints {
         self.rows[s].get(i)
     }
 
-    pub(crate) fn last(&self, s: usize, i: usize) -> Last
+    pub(crate) fn last(&self, s: usize, i: usize) -> EndpointStatus
         requires service { s < length self.now.parts.rows }
         requires endpoint { i < length (slice_index_or self.now.parts.rows s []) }
         ensures { result ≡ last_at self.now.parts s i }
@@ -208,7 +210,7 @@ impl Endpoints {
         self.state(s, i).last
     }
 
-    pub(crate) fn put(&mut self, s: usize, i: usize, state: EndState)
+    pub(crate) fn put(&mut self, s: usize, i: usize, state: EndpointState)
         requires service { s < length self.old.parts.rows }
         requires endpoint { i < length (slice_index_or self.old.parts.rows s []) }
         ensures parts { self.new.parts ≡ put self.old.parts s i state }
@@ -219,14 +221,14 @@ impl Endpoints {
     }
 
     /// The endpoint has this state, and its count stays.
-    pub(crate) fn put_last(&mut self, s: usize, i: usize, last: Last)
+    pub(crate) fn put_last(&mut self, s: usize, i: usize, last: EndpointStatus)
         requires service { s < length self.old.parts.rows }
         requires endpoint { i < length (slice_index_or self.old.parts.rows s []) }
         ensures parts { self.new.parts ≡ put_last self.old.parts s i last }
         ensures room { self.new.room ≡ self.old.room }
     {
-        let refusals = self.state(s, i).refusals;
-        self.put(s, i, EndState { last, refusals });
+        let times_in_use = self.state(s, i).times_in_use;
+        self.put(s, i, EndpointState { last, times_in_use });
     }
 
     pub(crate) fn has_failed(&self, s: usize) -> bool

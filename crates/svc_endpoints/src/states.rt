@@ -18,40 +18,40 @@ const REST: u64 = 1000;
 
 /// What became of an endpoint last.
 #[derive(Clone, Copy, Drop)]
-pub(crate) enum Last {
+pub(crate) enum EndpointStatus {
     /// It isn't asked for, or its bind failed, or what it brought was closed again.
-    Unasked,
+    Idle,
     /// A bind is open.
     Binding,
     /// Its address was in use at this moment, in milliseconds.
-    Busied(u64),
+    AddressInUse(u64),
     /// This descriptor is offered to it.
     Adopting(u64),
     /// This descriptor holds it.
     Holding(u64),
     /// It couldn't take what it was offered.
-    Lost,
+    AdoptionFailed,
 }
 
 /// An endpoint's state.
 #[derive(Clone, Copy, Drop)]
-pub(crate) struct EndState {
-    pub last: Last,
+pub(crate) struct EndpointState {
+    pub last: EndpointStatus,
     /// How often its address was in use while no live descriptor had it.
-    pub refusals: u32,
+    pub times_in_use: u32,
 }
 
 /// The states of one service's endpoints.
 #[derive(Drop)]
 pub(crate) struct Row {
-    states: Vec<EndState>,
+    states: Vec<EndpointState>,
 }
 
 impl Model for Row {
     ghost use Rattle.std.specs.Prelude.{List};
-    ghost use Rattle.svc_endpoints.specs.declared.states.EndState.{EndState};
+    ghost use Rattle.svc_endpoints.specs.declared.states.EndpointState.{EndpointState};
 
-    ghost Value = { List EndState };
+    ghost Value = { List EndpointState };
 
     ghost view = { λ r. r.states.items };
 }
@@ -62,22 +62,22 @@ impl Row {
         ensures blank { IfOk result (λ row. (i : ℕ) → slice_index_or row i idle ≡ idle) }
         ensures size { IfOk result (λ row. length row ≡ count) }
     {
-        let state = EndState {
-            last: Last::Unasked,
-            refusals: 0,
+        let state = EndpointState {
+            last: EndpointStatus::Idle,
+            times_in_use: 0,
         };
         let states = vec![in alloc; state; count]?;
         Ok(Row { states })
     }
 
-    pub(crate) fn get(&self, i: usize) -> EndState
+    pub(crate) fn get(&self, i: usize) -> EndpointState
         requires { i < length self.now }
-        ensures { (d : EndState) → result ≡ slice_index_or self.now i d }
+        ensures { (d : EndpointState) → result ≡ slice_index_or self.now i d }
     {
         self.states[i]
     }
 
-    pub(crate) fn set(&mut self, i: usize, state: EndState)
+    pub(crate) fn set(&mut self, i: usize, state: EndpointState)
         requires { i < length self.old }
         ensures { self.new ≡ slice_set self.old i state }
     {
@@ -126,59 +126,59 @@ pub(crate) fn new_flags(alloc: Global, count: usize) -> Result<Vec<bool>, NoMemo
     Ok(flags)
 }
 
-pub(crate) fn is_binding(last: Last) -> bool
+pub(crate) fn is_binding(last: EndpointStatus) -> bool
     ensures { result ≡ is_binding last }
 {
     match last {
-        Last::Binding => true,
+        EndpointStatus::Binding => true,
         _ => false,
     }
 }
 
-pub(crate) fn is_adopting(last: Last) -> bool
+pub(crate) fn is_adopting(last: EndpointStatus) -> bool
     ensures { result ≡ is_adopting last }
 {
     match last {
-        Last::Adopting(_) => true,
+        EndpointStatus::Adopting(_) => true,
         _ => false,
     }
 }
 
-pub(crate) fn is_asking(last: Last) -> bool
+pub(crate) fn is_asking(last: EndpointStatus) -> bool
     ensures { result ≡ is_asking last }
 {
     match last {
-        Last::Binding | Last::Adopting(_) => true,
+        EndpointStatus::Binding | EndpointStatus::Adopting(_) => true,
         _ => false,
     }
 }
 
-pub(crate) fn is_holding(last: Last) -> bool
+pub(crate) fn is_holding(last: EndpointStatus) -> bool
     ensures { result ≡ is_holding last }
 {
     match last {
-        Last::Holding(_) => true,
+        EndpointStatus::Holding(_) => true,
         _ => false,
     }
 }
 
 /// An ask is open, or the endpoint of a service that hasn't failed rests.
-pub(crate) fn is_busy(failed: bool, moment: u64, last: Last) -> bool
+pub(crate) fn is_busy(failed: bool, moment: u64, last: EndpointStatus) -> bool
     ensures { result ≡ busy_of failed moment last }
 {
     match last {
-        Last::Binding | Last::Adopting(_) => true,
-        Last::Busied(at) => !failed && moment.saturating_sub(at) < REST,
+        EndpointStatus::Binding | EndpointStatus::Adopting(_) => true,
+        EndpointStatus::AddressInUse(at) => !failed && moment.saturating_sub(at) < REST,
         _ => false,
     }
 }
 
 /// What is offered is held.
-pub(crate) fn held_now(last: Last) -> Last
+pub(crate) fn held_now(last: EndpointStatus) -> EndpointStatus
     ensures { result ≡ held_now last }
 {
     match last {
-        Last::Adopting(fd) => Last::Holding(fd),
+        EndpointStatus::Adopting(fd) => EndpointStatus::Holding(fd),
         other => other,
     }
 }

@@ -8,32 +8,32 @@ ghost use Rattle.svc_endpoints.specs.Uses.{AreStatesSized, states_of, has_held, 
 
 use crate::loops::{LoopEnd, is_done};
 use crate::naming::{endpoint_count, service_count};
-use crate::states::{Last, Row};
+use crate::states::{EndpointStatus, Row};
 use svc_record::Plan;
 
 /// The descriptor holds the endpoint.
-fn has_held(last: Last, fd: u64) -> bool
+fn has_held(last: EndpointStatus, fd: u64) -> bool
     ensures { result ≡ has_held fd last }
 {
     match last {
-        Last::Holding(n) => n == fd,
+        EndpointStatus::Holding(n) => n == fd,
         _ => false,
     }
 }
 
 /// The descriptor is offered to the endpoint, or holds it, and its service hasn't failed and isn't
 /// done with it.
-fn uses(last: Last, failed: bool, done: bool, fd: u64) -> bool
+fn uses(last: EndpointStatus, failed: bool, done: bool, fd: u64) -> bool
     ensures { result ≡ uses fd failed done last }
 {
     match last {
-        Last::Adopting(n) => n == fd,
-        Last::Holding(n) => (!failed && !done) && n == fd,
+        EndpointStatus::Adopting(n) => n == fd,
+        EndpointStatus::Holding(n) => (!failed && !done) && n == fd,
         _ => false,
     }
 }
 
-fn last_of(rows: &[Row], s: usize, i: usize) -> Last
+fn last_of(rows: &[Row], s: usize, i: usize) -> EndpointStatus
     requires service { s < length rows.now }
     requires endpoint { i < length (slice_index_or rows.now s []) }
     ensures { result ≡ (slice_index_or (slice_index_or rows.now s []) i idle).last }

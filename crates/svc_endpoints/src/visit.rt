@@ -11,7 +11,7 @@ ghost use Rattle.svc_endpoints.specs.Visits.{busy_in, any_busy, decide_at, IsWit
 
 use crate::endpoints::Endpoints;
 use crate::naming::{address_of, endpoint_count, service_count};
-use crate::states::{Last, is_asking, is_busy};
+use crate::states::{EndpointStatus, is_asking, is_busy};
 use svc_record::{Action, Actions, Plan};
 
 /// What a visit of a service tells.
@@ -19,9 +19,9 @@ use svc_record::{Action, Actions, Plan};
 pub(crate) enum Visit {
     Nothing,
     /// Bind this endpoint.
-    Asks(u32),
+    Binds(u32),
     /// Listen for this endpoint on this descriptor.
-    Offers(u32, u64),
+    Adopts(u32, u64),
 }
 
 impl Endpoints {
@@ -43,7 +43,7 @@ impl Endpoints {
         ensures few { length (list_of actions.new) ≤ length (list_of actions.old) + 1 }
     {
         let visit = self.decide(plan, s, started, moment);
-        self.follow(plan, s, visit, actions);
+        self.tell_visit(plan, s, visit, actions);
     }
 
     /// What a visit of the service tells.
@@ -76,19 +76,19 @@ impl Endpoints {
         }
         let text = address_of(plan, s as usize, j as usize);
         match self.find(text) {
-            Some(fd) => Visit::Offers(j, fd),
+            Some(fd) => Visit::Adopts(j, fd),
             None => {
                 if self.is_kept_busy(plan, text, moment) {
                     Visit::Nothing
                 } else {
-                    Visit::Asks(j)
+                    Visit::Binds(j)
                 }
             }
         }
     }
 
-    /// Asks or offers, and says so.
-    fn follow(&mut self, plan: &Plan, s: u32, visit: Visit, actions: &mut Actions)
+    /// Binds or adopts, and says so.
+    fn tell_visit(&mut self, plan: &Plan, s: u32, visit: Visit, actions: &mut Actions)
         requires sized { IsEndpointsSized plan.now self.old.parts }
         requires service { s < service_count plan.now }
         requires within { IsWithin plan.now s visit }
@@ -99,12 +99,12 @@ impl Endpoints {
     {
         match visit {
             Visit::Nothing => {}
-            Visit::Asks(i) => {
-                self.put_last(s as usize, i as usize, Last::Binding);
+            Visit::Binds(i) => {
+                self.put_last(s as usize, i as usize, EndpointStatus::Binding);
                 actions.put(Action::Bind(s, i));
             }
-            Visit::Offers(i, fd) => {
-                self.put_last(s as usize, i as usize, Last::Adopting(fd));
+            Visit::Adopts(i, fd) => {
+                self.put_last(s as usize, i as usize, EndpointStatus::Adopting(fd));
                 actions.put(Action::Adopt(s, i, fd));
             }
         }
