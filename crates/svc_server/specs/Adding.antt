@@ -1,5 +1,5 @@
 -- What adding a service to a server does.
-use Rattle.std.specs.Prelude.{◌≡◌, List, [], ◌∷◌, ◌++◌, length, None, Result, IfOk, IfErr, OnOk, OnErr}
+use Rattle.std.specs.Prelude.{◌≡◌, [], ◌∷◌, ◌++◌, length, None, Result, IfOk, IfErr, OnOk, OnErr}
 use Rattle.svc_graph.specs.Graphs.{node_count, with_node}
 use Rattle.svc_graph.specs.HandleData.{HandleData}
 use Rattle.svc_graph.specs.declared.services.ServiceWithDependents.{Ghosts}

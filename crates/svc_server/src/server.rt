@@ -42,7 +42,7 @@ pub struct Server<B, F = Box<dyn ConnectionFilter>> {
 }
 
 impl<B: ServiceWithDependents, F: ConnectionFilter> Server<B, F> {
-    ghost use Rattle.std.specs.Prelude.{◌≡◌, ◌<◌, Ok, Err, None, false, true, [], ◌∷◌, ◌++◌, Result, IfOk, IfSome, ◌↔◌, IfErr, OnOk, OnErr, drop, length, vec_len, vec_capacity};
+    ghost use Rattle.std.specs.Prelude.{◌≡◌, ◌<◌, Ok, Err, None, false, true, [], Result, IfOk, IfSome, ◌↔◌, IfErr, OnOk, OnErr, drop, length, vec_len, vec_capacity};
     ghost use Rattle.svc_conf.specs.Configuration.{judged};
     ghost use Rattle.svc_record.specs.Validity.{IsValid};
     ghost use Rattle.svc_record.specs.Right.{Served as ServedRecord};
