@@ -29,7 +29,7 @@ use Rattle.svc_core.specs.Passes.{begin_room}
 use Rattle.svc_core.specs.Rooms.{TellsWithin, KeepsRoom, tell_room, close_room, open_count, most_open}
 use Rattle.svc_core.specs.Signals.{IgnoresLater}
 use Rattle.svc_core.specs.Stands.{StandsFor, Struck, MayBootstrap, BeginKeeps, StepKeeps}
-use Rattle.svc_core.specs.Steps.{Actions, Spends, MayStep, Steps, StepsOr, Ignores, Judges, Goes, Begins, finish_room, bootstrap_room}
+use Rattle.svc_core.specs.Steps.{Actions, Spends, MayStep, Steps, StepsOr, Takes, Ignores, Judges, Goes, Begins, finish_room, bootstrap_room}
 use Rattle.svc_core.proofs.StepLemmas.{step-by}
 use Rattle.svc_core.proofs.ConnectionLemmas.{is_dealing, deals-with, with_connections}
 use Rattle.svc_core.proofs.CopyLemmas.{bare-answer, bare-all, bare-none, copied-bare}
@@ -174,6 +174,26 @@ pub judged-of : (core new : CoreData) (e : Event) (said : Bool) (before after : 
     → OnOk result (TellsJudged (judged_at core.plan e said) (list_of before) (list_of after))
 judged-of core new e said before after (Ok end) steps judges = judged-so core e said before after steps.copied judges
 judged-of core new e said before after (Err none) steps judges = tt
+
+-- neither a signal nor a connection that arrived
+abbrev pub is_plain : Event → Bool
+is_plain (Arrived s i c peer) = false
+is_plain (Signal kind) = false
+is_plain _ = true
+
+-- of such an event its step is all
+pub taken : {old new : CoreData} {said : Bool} {before after : Actions} {result : Result StepEnd NoMemory} (e : Event) → is_plain e ≡ true → StepsOr old new e before after result → Takes old new e said before after result
+taken {old = old} {new = new} {said = said} {before = before} {after = after} {result = result} e plain steps =
+    record { steps = steps; later = later e plain; judged = judged result e plain }
+  where
+    later : (x : Event) → is_plain x ≡ true → Ignores old new x before after
+    later (Signal kind) h = absurd (cc)
+    later _ h = tt
+
+    judged : (r : Result StepEnd NoMemory) (x : Event) → is_plain x ≡ true → OnOk r (Judges old x said before after)
+    judged (Ok end) (Arrived s i c peer) h = absurd (cc)
+    judged (Ok end) _ h = tt
+    judged (Err none) x h = tt
 
 -- what a step says of the list that it was handed, which was given room first
 pub kept-of : (core new : CoreData) (e : Event) (before given after : Actions) (result : Result StepEnd NoMemory) → list_of given ≡ list_of before → StepsOr core new e given after result

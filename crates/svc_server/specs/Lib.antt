@@ -7,5 +7,6 @@ pub mod ScriptHostData
 pub mod ScriptHosts
 pub mod Servers
 pub mod Additions
+pub mod Adding
 pub mod Addresses
 pub mod Making

@@ -42,7 +42,7 @@ pub struct Server<B, F = Box<dyn ConnectionFilter>> {
 }
 
 impl<B: ServiceWithDependents, F: ConnectionFilter> Server<B, F> {
-    ghost use Rattle.std.specs.Prelude.{◌≡◌, ◌<◌, Ok, Err, None, false, true, [], ◌∷◌, ◌++◌, Result, IfOk, IfSome, ◌↔◌, IfErr, OnOk, OnErr, drop, length, vec_len, vec_capacity};
+    ghost use Rattle.std.specs.Prelude.{◌≡◌, ◌<◌, Ok, Err, None, false, true, [], Result, IfOk, IfSome, ◌↔◌, IfErr, OnOk, OnErr, drop, length, vec_len, vec_capacity};
     ghost use Rattle.svc_conf.specs.Configuration.{judged};
     ghost use Rattle.svc_record.specs.Validity.{IsValid};
     ghost use Rattle.svc_record.specs.Right.{Served as ServedRecord};
@@ -53,6 +53,7 @@ impl<B: ServiceWithDependents, F: ConnectionFilter> Server<B, F> {
     ghost use Rattle.svc_server.specs.Runs.{RunTells, RunCounts, RunTakes, RunLeaves, GoesWell, GoesThrough};
     ghost use Rattle.svc_graph.specs.Graphs.{node_count, with_node};
     ghost use Rattle.svc_server.specs.Additions.{fault_of, IsReason, AddsFirst, RefusesAt};
+    ghost use Rattle.svc_server.specs.Adding.{AddsOne};
     ghost use Rattle.svc_server.specs.Servers.{answer_of, answers_of, plan_of, merged, status_of, IsSound};
     ghost use Rattle.svc_server.specs.Addresses.{expected_of};
     ghost use Rattle.std.specs.Option.{option_map};
@@ -128,31 +129,7 @@ impl<B: ServiceWithDependents, F: ConnectionFilter> Server<B, F> {
     /// Adds a service, and answers its handle, which has the next number. A refusal gives the service
     /// back, with the first cause that stands, and leaves the server as it was.
     pub fn add_service(&mut self, alloc: Global, service: B) -> Result<ServiceHandle, AddRefused<B>>
-        ensures configuration { self.new.configuration ≡ self.old.configuration }
-        ensures options { self.new.options ≡ self.old.options }
-        ensures eager { self.new.eager ≡ self.old.eager }
-        ensures filters { self.new.filters ≡ self.old.filters }
-
-        // It is taken exactly where no cause stands, want of memory aside.
-        ensures handle { IfOk result (λ handle. handle
-            ≡ record { id = node_count self.old.dependencies; name = B.named service }) }
-        ensures added { OnOk result (self.new.services.items ≡ self.old.services.items ++ service ∷ []) }
-        ensures node { OnOk result (self.new.dependencies
-            ≡ with_node self.old.dependencies (B.named service)) }
-        ensures good { OnOk result (fault_of self.old.dependencies
-            (length self.old.filters) (answer_of B.ServiceWithDependents service) ≡ None) }
-
-        // Else the cause is told, and nothing changes.
-        ensures cause { IfErr result (λ refused. IsReason (fault_of self.old.dependencies
-            (length self.old.filters) (answer_of B.ServiceWithDependents service)) refused.reason) }
-        ensures back { IfErr result (λ refused. refused.service ≡ service) }
-        ensures same_services { OnErr result (self.new.services.items ≡ self.old.services.items) }
-        ensures same_nodes { OnErr result (self.new.dependencies ≡ self.old.dependencies) }
-
-        ensures sound { IsSound self.old.dependencies (length self.old.filters)
-            (answers_of B.ServiceWithDependents self.old.services.items)
-            → IsSound self.new.dependencies (length self.new.filters)
-            (answers_of B.ServiceWithDependents self.new.services.items) }
+        ensures { AddsOne B.ServiceWithDependents self.old self.new service result }
     {
         match self.prepare(alloc, &service) {
             Ok(handle) => {
@@ -169,31 +146,7 @@ impl<B: ServiceWithDependents, F: ConnectionFilter> Server<B, F> {
         alloc: Global,
         service: B,
     ) -> Result<ServiceHandle, AddRefused<B>>
-        ensures configuration { self.new.configuration ≡ self.old.configuration }
-        ensures options { self.new.options ≡ self.old.options }
-        ensures eager { self.new.eager ≡ self.old.eager }
-        ensures filters { self.new.filters ≡ self.old.filters }
-
-        // It is taken exactly where no cause stands, want of memory aside.
-        ensures handle { IfOk result (λ handle. handle
-            ≡ record { id = node_count self.old.dependencies; name = B.named service }) }
-        ensures added { OnOk result (self.new.services.items ≡ self.old.services.items ++ service ∷ []) }
-        ensures node { OnOk result (self.new.dependencies
-            ≡ with_node self.old.dependencies (B.named service)) }
-        ensures good { OnOk result (fault_of self.old.dependencies
-            (length self.old.filters) (answer_of B.ServiceWithDependents service) ≡ None) }
-
-        // Else the cause is told, and nothing changes.
-        ensures cause { IfErr result (λ refused. IsReason (fault_of self.old.dependencies
-            (length self.old.filters) (answer_of B.ServiceWithDependents service)) refused.reason) }
-        ensures back { IfErr result (λ refused. refused.service ≡ service) }
-        ensures same_services { OnErr result (self.new.services.items ≡ self.old.services.items) }
-        ensures same_nodes { OnErr result (self.new.dependencies ≡ self.old.dependencies) }
-
-        ensures sound { IsSound self.old.dependencies (length self.old.filters)
-            (answers_of B.ServiceWithDependents self.old.services.items)
-            → IsSound self.new.dependencies (length self.new.filters)
-            (answers_of B.ServiceWithDependents self.new.services.items) }
+        ensures { AddsOne B.ServiceWithDependents self.old self.new service result }
     {
         self.add_service(alloc, service)
     }
@@ -205,31 +158,7 @@ impl<B: ServiceWithDependents, F: ConnectionFilter> Server<B, F> {
         service: B,
     ) -> Result<ServiceHandle, AddRefused<B>>
         requires kind { B.of_kind service ≡ Kind.Bootstrap }
-        ensures configuration { self.new.configuration ≡ self.old.configuration }
-        ensures options { self.new.options ≡ self.old.options }
-        ensures eager { self.new.eager ≡ self.old.eager }
-        ensures filters { self.new.filters ≡ self.old.filters }
-
-        // It is taken exactly where no cause stands, want of memory aside.
-        ensures handle { IfOk result (λ handle. handle
-            ≡ record { id = node_count self.old.dependencies; name = B.named service }) }
-        ensures added { OnOk result (self.new.services.items ≡ self.old.services.items ++ service ∷ []) }
-        ensures node { OnOk result (self.new.dependencies
-            ≡ with_node self.old.dependencies (B.named service)) }
-        ensures good { OnOk result (fault_of self.old.dependencies
-            (length self.old.filters) (answer_of B.ServiceWithDependents service) ≡ None) }
-
-        // Else the cause is told, and nothing changes.
-        ensures cause { IfErr result (λ refused. IsReason (fault_of self.old.dependencies
-            (length self.old.filters) (answer_of B.ServiceWithDependents service)) refused.reason) }
-        ensures back { IfErr result (λ refused. refused.service ≡ service) }
-        ensures same_services { OnErr result (self.new.services.items ≡ self.old.services.items) }
-        ensures same_nodes { OnErr result (self.new.dependencies ≡ self.old.dependencies) }
-
-        ensures sound { IsSound self.old.dependencies (length self.old.filters)
-            (answers_of B.ServiceWithDependents self.old.services.items)
-            → IsSound self.new.dependencies (length self.new.filters)
-            (answers_of B.ServiceWithDependents self.new.services.items) }
+        ensures { AddsOne B.ServiceWithDependents self.old self.new service result }
     {
         self.add_service(alloc, service)
     }
