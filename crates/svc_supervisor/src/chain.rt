@@ -73,6 +73,7 @@ impl Chain {
     /// Begins the next generation, and answers its number. In this order: a plan that isn't valid, that has
     /// `test` or `daemon` set, or that hasn't `upgrade` set, is refused (`BadPlan`); so is one past the 64th
     /// generation (`TooMany`), and one while the newest generation hasn't taken over (`NotReady`).
+    #[tactic(none)]
     pub fn launch(&mut self, alloc: Global, plan: Plan) -> Result<u32, ChainRefused>
         requires open { self.old.finished ≡ false }
         ensures launched { OnOk result (Launches self.old.generations self.new.generations plan) }
@@ -83,7 +84,10 @@ impl Chain {
         ensures refused { OnErr result (self.new ≡ self.old) }
     {
         let number = self.generations.len() as u32;
-        let generation = next_generation(alloc, self.generations.as_slice(), plan)?;
+        let generation = match next_generation(alloc, self.generations.as_slice(), plan) {
+            Ok(generation) => generation,
+            Err(refused) => return Err(refused),
+        };
         match self.generations.push(generation) {
             Ok(()) => Ok(number),
             Err(_) => Err(ChainRefused::NoMemory(None)),
@@ -93,6 +97,7 @@ impl Chain {
     /// One event for a generation, with the answer of the filter that it asks, if it asks one. In this order:
     /// no generation has the number (`UnknownGeneration`); a signal comes before the generation has taken
     /// over (`Early`); the event doesn't fit its record, or a channel to a neighbour doesn't allow it (`Stray`).
+    #[tactic(none)]
     pub fn step(
         &mut self,
         alloc: Global,
@@ -108,7 +113,10 @@ impl Chain {
         ensures refused { OnErr result (self.new ≡ self.old) }
     {
         let index = generation as usize;
-        let event = check_step(self.generations.as_slice(), index, event)?;
+        let event = match check_step(self.generations.as_slice(), index, event) {
+            Ok(event) => event,
+            Err(refused) => return Err(refused),
+        };
         match take_at(self.generations.as_mut_slice(), index, alloc, event, said) {
             Ok(end) => Ok(end),
             Err(event) => Err(ChainRefused::NoMemory(Some(event))),
@@ -118,6 +126,7 @@ impl Chain {
     /// Cuts each live connection and closes each open descriptor, of each generation in order. One that has
     /// served has none. After it no generation is launched or stepped. The room for it was taken before, so
     /// that memory is never refused.
+    #[tactic(none)]
     pub fn finish(&mut self) -> Result<(), NoMemory>
         requires open { self.old.finished ≡ false }
         ensures finished { OnOk result (self.new ≡ finished_chain self.old) }

@@ -1,4 +1,4 @@
-use Rattle.std.proofs.Common.{get_or, map, set}
+use Rattle.std.proofs.Common.{◌≡◌, get_or, map, set}
 use Rattle.std.proofs.lemmas.Option.{slice_get-get_or}
 use Rattle.svc_record.specs.declared.action.StepEnd.{StepEnd}
 use Rattle.svc_supervisor.specs.Chains.{Steps}
