@@ -1,8 +1,7 @@
 -- The law of a chain: each generation either carries an address that it held before any signal, or the next one held it so.
-use Rattle.std.proofs.Common.{ℕ, Bool, true, false, ◌||◌, ◌&&◌, not, List, [], ◌∷◌, ◌≡◌, refl, ap, sym, ◌∙◌, subst, arith, inl, inr, length, map, Option, Some, None, if◌then◌else◌}
-use Rattle.std.specs.List.{list_all}
+use Rattle.std.proofs.Common.{ℕ, Bool, true, false, ◌||◌, ◌&&◌, not, List, [], ◌∷◌, ◌≡◌, refl, ap, sym, ◌∙◌, subst, arith, inl, inr, map, Option, Some, None, if◌then◌else◌}
 use Rattle.std.proofs.lemmas.Bool.{and_parts, and_from, cases_Bool, or_cases, or_left, or_right, not-true}
-use Rattle.svc_fds.specs.Tables.{addresses, Entry as TableEntry}
+use Rattle.svc_fds.specs.Tables.{addresses}
 use Rattle.svc_record.specs.declared.plan.Plan.{Plan}
 use Rattle.svc_record.specs.declared.entry.Entry.TheVariants.{Got}
 use Rattle.svc_record.specs.declared.event.Event.TheVariants.{Signal}
@@ -94,7 +93,7 @@ module _ (a : List ℕ) (g : Generation) (s : Stands g) (good : Good g a) (held 
   by-offer : (next : Option GenerationData) → has is_signal (history g) ≡ true → is_over g.core.plan (history g) ≡ false → carries (data_of g) next a ≡ true
   by-offer next came going = offered (has_live g.core.plan (history g) (Some a)) (has is_signal (history g)) (is_on_offer (data_of g) a) (is_on_its_way (data_of g) next a) (going-live came going)
       (and_from (is_upgrade (signal_of (history g))) (not (is_over g.core.plan (history g)) && is_among a (addresses (table g.core.plan (history g)))) (upgrade came)
-          (and_from (not (is_over g.core.plan (history g))) (is_among a (addresses (table g.core.plan (history g)))) (ap not going) (among came)))
+      (and_from (not (is_over g.core.plan (history g))) (is_among a (addresses (table g.core.plan (history g)))) (ap not going) (among came)))
     where
       offered : (l s o w : Bool) → l ≡ true → o ≡ true → ((l && (not s || o)) || w) ≡ true
       offered l s o w h k = rw (h, k) (either s)

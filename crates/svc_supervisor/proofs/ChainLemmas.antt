@@ -1,5 +1,5 @@
 -- What a chain keeps: as it begins, as one more generation is launched, as one takes an event, and as all are closed.
-use Rattle.std.proofs.Common.{ℕ, Bool, true, false, List, [], ◌∷◌, ◌++◌, ◌≡◌, ◌<◌, ◌≤◌, refl, ap, sym, ◌∙◌, subst, arith, length, map, ◌+◌}
+use Rattle.std.proofs.Common.{Bool, true, false, List, [], ◌∷◌, ◌++◌, ◌≡◌, refl, ap, sym, ◌∙◌, subst, arith, length, map, ◌+◌}
 use Rattle.std.proofs.lemmas.List.{length-append}
 use Rattle.svc_base.proofs.Logic.{clash}
 use Rattle.svc_record.specs.declared.plan.Plan.{Plan}

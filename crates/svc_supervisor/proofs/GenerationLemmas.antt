@@ -1,16 +1,15 @@
 -- A generation that has begun, or taken an event, stands for its record.
-use Rattle.std.proofs.Common.{ℕ, Bool, true, false, List, [], ◌∷◌, ◌++◌, ◌≡◌, ◌≤◌, refl, ap, sym, ◌∙◌, subst, arith}
+use Rattle.std.proofs.Common.{Bool, true, List, [], ◌∷◌, ◌≡◌, ◌≤◌, refl, ap, sym, ◌∙◌, subst, arith}
 use Rattle.std.specs.Prelude.{reverse}
-use Rattle.svc_base.specs.Items.{list_of, spare}
+use Rattle.svc_base.specs.Items.{spare}
 use Rattle.svc_record.specs.declared.plan.Plan.{Plan}
-use Rattle.svc_record.specs.declared.action.Action.{Action}
 use Rattle.svc_record.specs.declared.action.StepEnd.{StepEnd}
 use Rattle.svc_record.specs.declared.entry.Entry.{Entry}
 use Rattle.svc_record.specs.declared.entry.Entry.TheVariants.{Got}
 use Rattle.svc_record.specs.declared.event.Event.{Event}
-use Rattle.svc_record.specs.Record.{Record, tell}
+use Rattle.svc_record.specs.Record.{tell}
 use Rattle.svc_record.specs.Ends.{step_end}
-use Rattle.svc_record.specs.Judging.{judged_at, judgements}
+use Rattle.svc_record.specs.Judging.{judgements}
 use Rattle.svc_record.specs.Right.{Right}
 use Rattle.svc_core.specs.CoreData.{CoreData}
 use Rattle.svc_core.specs.Stands.{StandsFor}
@@ -21,7 +20,6 @@ use Rattle.svc_handover.specs.Runs.{Takes as ServerTakes}
 use Rattle.svc_handover.proofs.RunLemmas.{turned-told, taken-entries}
 use Rattle.svc_supervisor.specs.declared.generation.Generation.{Generation}
 use Rattle.svc_supervisor.specs.Marks.{marks_of}
-use Rattle.svc_supervisor.specs.ChainData.{GenerationData}
 use Rattle.svc_supervisor.specs.Chains.{Took, Begun}
 use Rattle.svc_supervisor.specs.Generations.{Begins, Takes, IsSame, Stands, history, data_of, server_of}
 

@@ -1,9 +1,8 @@
 -- A chain stays linked: as it begins, as a generation takes an event, and as one more is launched.
-use Rattle.std.proofs.Common.{ℕ, zero, suc, Bool, true, false, not, ◌&&◌, ◌||◌, List, [], ◌∷◌, ◌++◌, ◌≡◌, ◌<◌, refl, ap, sym, ◌∙◌, subst, arith, map, set, Option, Some, None}
+use Rattle.std.proofs.Common.{ℕ, zero, suc, Bool, true, false, not, ◌&&◌, ◌||◌, List, [], ◌∷◌, ◌++◌, ◌≡◌, refl, ap, sym, ◌∙◌, subst, arith, map, set, Option, Some, None}
 use Rattle.std.specs.Prelude.{slice_get, IfSome}
 use Rattle.std.proofs.lemmas.Bool.{and_parts, and_from}
 use Rattle.std.proofs.lemmas.Option.{same_Some}
-use Rattle.svc_record.specs.declared.plan.Plan.{Plan}
 use Rattle.svc_record.specs.declared.action.StepEnd.{StepEnd}
 use Rattle.svc_record.specs.declared.entry.Entry.TheVariants.{Got}
 use Rattle.svc_record.specs.declared.event.Event.{Event}
@@ -13,17 +12,16 @@ use Rattle.svc_record.specs.Boot.{is_open_receiver}
 use Rattle.svc_record.specs.Fits.{fits}
 use Rattle.svc_core.specs.CoreData.{CoreData}
 use Rattle.svc_handover.specs.declared.pair.ChannelState.TheVariants.{Missing}
-use Rattle.svc_handover.specs.Channel.{channel_of, reached, is_taken, is_receipt, is_sent, is_join, old_may, new_may}
+use Rattle.svc_handover.specs.Channel.{channel_of, reached, is_taken, is_receipt, is_sent, is_join, old_may}
 use Rattle.svc_handover.specs.Operator.{unsignalled}
 use Rattle.svc_handover.specs.Law.{PairStands}
 use Rattle.svc_core.proofs.RecordLemmas.{has-tell}
-use Rattle.svc_handover.specs.declared.servers.Servers.{Servers}
 use Rattle.svc_handover.specs.Runs.{Runs}
 use Rattle.svc_supervisor.specs.declared.generation.Generation.{Generation}
 use Rattle.svc_supervisor.specs.ChainData.{GenerationData}
 use Rattle.svc_supervisor.specs.Chains.{may_come, may_come_at, before_may, channel_to, generation_before, has_taken_over, is_early, AreRight, AreScheduled}
 use Rattle.svc_supervisor.specs.Kept.{ChainKept}
-use Rattle.svc_supervisor.specs.Generations.{Begins, Takes, IsSame, Stands, EachStands, AllStand, PairRuns, IsNewest, Linked, history, data_of, servers_of, quiet_world}
+use Rattle.svc_supervisor.specs.Generations.{Begins, Takes, IsSame, Stands, EachStands, AllStand, PairRuns, Linked, history, data_of, servers_of, quiet_world}
 use Rattle.svc_supervisor.proofs.GenerationLemmas.{begun-history, stands-begun, taken-history, stands-taken, same-history, same-data, stands-same}
 use Rattle.svc_supervisor.proofs.PairSteps.{pair-old, pair-new, awaits-begun, awaits-taken, pair-scheduled}
 use Rattle.svc_supervisor.proofs.CarryLemmas.{keeps-carried}
@@ -94,9 +92,12 @@ module _ (g next : Generation) (e : Event) (said : Bool) (end : StepEnd) (t : Ta
       let same : h ≡ g = same_Some h g here in
       let second : may_come (Some (data_of x)) (data_of g) (slice_get (map data_of more) zero) e ≡ true = subst (λ (y : Generation). may_come (Some (data_of x)) (data_of y) (slice_get (map data_of more) zero) e ≡ true) same may in
       let was : Linked (g ∷ more) = subst (λ (y : Generation). Linked (y ∷ more)) same rest in
-      let later : Linked (next ∷ more) = step-first more (may-alone (Some (data_of x)) (slice_get (map data_of more) zero) (data_of g) e second) was in
-      (s, pair-new x g next e said end s (linked-stands g more was) t (may-fits (Some (data_of x)) (slice_get (map data_of more) zero) (data_of g) e second) (may-before (Some (data_of x)) (slice_get (map data_of more) zero) (data_of g) e second)
-      (received-in-time x g e (subst (λ (y : Generation). (is_signal (Got e) && not (has_taken_over (Some (data_of x)) (data_of y))) ≡ false) same timely)) (subst (PairRuns x) same pair), later)
+      let later : Linked (next ∷ more) = step-first more (may-alone (Some (data_of x)) (slice_get (map data_of more) zero) (data_of g) e second) was in (
+        s,
+        pair-new x g next e said end s (linked-stands g more was) t (may-fits (Some (data_of x)) (slice_get (map data_of more) zero) (data_of g) e second) (may-before (Some (data_of x)) (slice_get (map data_of more) zero) (data_of g) e second)
+            (received-in-time x g e (subst (λ (y : Generation). (is_signal (Got e) && not (has_taken_over (Some (data_of x)) (data_of y))) ≡ false) same timely)) (subst (PairRuns x) same pair),
+        later,
+      )
   linked-step (x ∷ h ∷ more) (suc (suc k)) here timely may (s, pair, rest) = (s, pair, linked-step (h ∷ more) (suc k) here timely may rest)
 
 -- one generation alone

@@ -1,5 +1,5 @@
 -- The marks of a record to which actions were added.
-use Rattle.std.proofs.Common.{Bool, true, false, ◌||◌, List, ◌≡◌, refl, ap, sym, ◌∙◌, if◌then◌else◌}
+use Rattle.std.proofs.Common.{Bool, true, false, ◌||◌, List, ◌≡◌, refl, ap, sym, ◌∙◌}
 use Rattle.std.specs.List.{list_any}
 use Rattle.svc_record.specs.declared.action.Action.{Action}
 use Rattle.svc_record.specs.Record.{Record, has, tell}

@@ -1,8 +1,6 @@
 -- Two neighbours have run a schedule as the servers of a handover: as they begin, and after a step of either.
-use Rattle.std.proofs.Common.{ℕ, Bool, true, false, ◌&&◌, ◌||◌, List, [], ◌∷◌, ◌++◌, ◌≡◌, refl, ap, sym, ◌∙◌, subst, inl, inr}
+use Rattle.std.proofs.Common.{Bool, true, false, ◌||◌, List, [], ◌∷◌, ◌++◌, ◌≡◌, refl, ap, sym, ◌∙◌, subst, inl, inr}
 use Rattle.std.proofs.lemmas.Bool.{and_from, cases_Bool}
-use Rattle.svc_record.specs.declared.plan.Plan.{Plan}
-use Rattle.svc_record.specs.declared.action.Action.{Action}
 use Rattle.svc_record.specs.declared.action.StepEnd.{StepEnd}
 use Rattle.svc_record.specs.declared.entry.Entry.TheVariants.{Got}
 use Rattle.svc_record.specs.declared.event.Event.{Event}
@@ -16,7 +14,7 @@ use Rattle.svc_handover.specs.Channel.{channel_of, reached, is_receipt, is_sent,
 use Rattle.svc_handover.specs.Pair.{World, is_allowed, old_step}
 use Rattle.svc_handover.specs.declared.pair.PairStep.{PairStep}
 use Rattle.svc_handover.specs.Operator.{unsignalled}
-use Rattle.svc_handover.specs.Law.{HandsOver, HasTexts, PairStands}
+use Rattle.svc_handover.specs.Law.{HandsOver, PairStands}
 use Rattle.svc_handover.specs.Runs.{Runs}
 use Rattle.svc_handover.proofs.ChannelLemmas.{read-first, read-step}
 use Rattle.svc_handover.proofs.LawLemmas.{stands-old}
@@ -24,7 +22,7 @@ use Rattle.svc_handover.proofs.RunLemmas.{runs-first, grows-old, grows-new}
 use Rattle.svc_supervisor.specs.declared.generation.Generation.{Generation}
 use Rattle.svc_supervisor.specs.declared.marks.Marks.{Marks}
 use Rattle.svc_supervisor.specs.Marks.{marks_of, channel_between}
-use Rattle.svc_supervisor.specs.Chains.{IsScheduled, world_of}
+use Rattle.svc_supervisor.specs.Chains.{IsScheduled}
 use Rattle.svc_supervisor.specs.Generations.{Begins, Takes, Stands, Quiet, PairRuns, Awaits, history, data_of, servers_of, quiet_world}
 use Rattle.svc_supervisor.proofs.QuietLemmas.{unsignalled-whole, unsignalled-step, signal-tell, receipt-unsignalled}
 use Rattle.svc_supervisor.proofs.GenerationLemmas.{begun-history, stands-begun, step_of, server-takes, taken-history, stands-taken}

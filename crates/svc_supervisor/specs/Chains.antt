@@ -1,11 +1,11 @@
 -- A chain of generations: which steps it allows, what a step and a launch make of it, and what holds of it.
-use Rattle.std.specs.Prelude.{ℕ, zero, suc, Bool, true, false, not, ◌&&◌, ◌≡◌, ◌<◌, ◌-◌, List, [], ◌∷◌, ◌++◌, Option, Some, None, length, map, slice_get, slice_set, if◌then◌else◌}
+use Rattle.std.specs.Prelude.{ℕ, zero, suc, Bool, true, false, not, ◌&&◌, ◌≡◌, ◌<◌, ◌-◌, List, [], ◌∷◌, ◌++◌, Option, Some, None, length, map, slice_get, slice_set}
 use Rattle.svc_record.specs.declared.plan.Plan.{Plan}
 use Rattle.svc_record.specs.declared.action.Action.{Action}
 use Rattle.svc_record.specs.declared.action.StepEnd.{StepEnd}
 use Rattle.svc_record.specs.declared.entry.Entry.TheVariants.{Got}
 use Rattle.svc_record.specs.declared.event.Event.{Event}
-use Rattle.svc_record.specs.Record.{Record, has, tell, is_signal}
+use Rattle.svc_record.specs.Record.{tell, is_signal}
 use Rattle.svc_record.specs.Ends.{step_end}
 use Rattle.svc_record.specs.Fits.{fits}
 use Rattle.svc_record.specs.Judging.{judged_at, judgements}

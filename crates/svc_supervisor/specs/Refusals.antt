@@ -1,5 +1,5 @@
 -- When a chain refuses, in which order, and what comes back.
-use Rattle.std.specs.Prelude.{ℕ, Bool, true, false, ◌≡◌, ◌<◌, ◌≤◌, List, Option, Some, None, length}
+use Rattle.std.specs.Prelude.{ℕ, true, false, ◌≡◌, ◌<◌, ◌≤◌, List, Some, None, length}
 use Rattle.svc_record.specs.declared.plan.Plan.{Plan}
 use Rattle.svc_record.specs.declared.event.Event.{Event}
 use Rattle.svc_supervisor.specs.declared.refused.ChainRefused.{ChainRefused}

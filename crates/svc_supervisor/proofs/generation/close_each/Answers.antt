@@ -1,4 +1,4 @@
-use Rattle.std.proofs.Common.{ℕ, ◌≡◌, ◌<◌, ◌≤◌, ◌+◌, length, arith, add-one}
+use Rattle.std.proofs.Common.{arith, add-one}
 use Rattle.svc_supervisor.proofs.ClosingLemmas.{next-stands, closed-more, closed-all, whole-all}
 use Rattle.svc_supervisor.proofs.generation.close_each.Goals as goal
 

@@ -1,8 +1,8 @@
-use Rattle.std.proofs.Common.{◌≡◌, ◌<◌, ◌≤◌, true, false, List, length, map, refl, sym, ap, subst, ◌∙◌, arith, ℕ}
-use Rattle.svc_supervisor.specs.ChainData.{GenerationData, ChainData}
+use Rattle.std.proofs.Common.{map, refl, ap, subst, arith}
+use Rattle.svc_supervisor.specs.ChainData.{ChainData}
 use Rattle.svc_supervisor.specs.Chains.{Launches}
 use Rattle.svc_supervisor.specs.Refusals.{IsLaunchRefusal}
-use Rattle.svc_supervisor.specs.Generations.{Linked, data_of}
+use Rattle.svc_supervisor.specs.Generations.{data_of}
 use Rattle.svc_supervisor.proofs.ChainLemmas.{open-now, kept-now, count-now, said-now, same-now, launched-chain, launched-to, kept-open, kept-chain}
 use Rattle.svc_supervisor.proofs.chain.Chain.launch.Goals as goal
 use Rattle.svc_supervisor.proofs.chain.Chain.launch.Goals.{in-Ok-push, in-Err-push}

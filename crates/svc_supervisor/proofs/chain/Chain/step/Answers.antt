@@ -1,12 +1,11 @@
-use Rattle.std.proofs.Common.{◌≡◌, ◌<◌, ◌≤◌, true, false, List, length, map, refl, sym, ap, subst, ◌∙◌, arith, Some}
+use Rattle.std.proofs.Common.{◌≡◌, List, length, map, refl, sym, ap, subst, ◌∙◌, arith, Some}
 use Rattle.std.specs.Vec.{with_items}
 use Rattle.std.proofs.lemmas.List.{with_items_is}
-use Rattle.svc_record.specs.declared.action.StepEnd.{StepEnd}
 use Rattle.svc_supervisor.specs.declared.generation.Generation.{Generation}
-use Rattle.svc_supervisor.specs.ChainData.{GenerationData, ChainData}
+use Rattle.svc_supervisor.specs.ChainData.{ChainData}
 use Rattle.svc_supervisor.specs.Chains.{Steps}
 use Rattle.svc_supervisor.specs.Refusals.{IsStepRefusal}
-use Rattle.svc_supervisor.specs.Generations.{Linked, MayStep, data_of}
+use Rattle.svc_supervisor.specs.Generations.{Linked, data_of}
 use Rattle.svc_supervisor.proofs.ChainLemmas.{open-now, kept-now, said-now, same-now, stepped-chain, kept-open}
 use Rattle.svc_supervisor.proofs.chain.Chain.step.Goals as goal
 use Rattle.svc_supervisor.proofs.chain.Chain.step.Goals.{in-Ok-take_at, in-Err-take_at}

@@ -1,5 +1,5 @@
-use Rattle.std.proofs.Common.{ℕ, ◌≡◌, ◌≤◌, ◌+◌, ◌++◌, List, [], length, ap, ◌∙◌, arith, subst}
-use Rattle.svc_base.specs.Items.{list_of, spare}
+use Rattle.std.proofs.Common.{◌≡◌, ◌++◌, List, [], length, ap, ◌∙◌, arith}
+use Rattle.svc_base.specs.Items.{list_of}
 use Rattle.svc_record.specs.declared.action.Action.{Action}
 use Rattle.svc_record.specs.declared.entry.Entry.{Entry}
 use Rattle.svc_record.specs.Record.{tell}

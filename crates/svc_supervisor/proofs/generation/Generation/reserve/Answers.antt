@@ -1,5 +1,4 @@
-use Rattle.std.proofs.Common.{ℕ, ◌≡◌, ◌≤◌, refl, ◌∙◌, arith}
-use Rattle.svc_base.specs.Items.{list_of, spare}
+use Rattle.std.proofs.Common.{refl, arith}
 use Rattle.svc_supervisor.proofs.generation.Generation.reserve.Goals as goal
 
 pub returns-clause-same : goal.returns-clause-same

@@ -1,6 +1,4 @@
-use Rattle.std.proofs.Common.{true, false, ◌≡◌, sym, ◌∙◌}
-use Rattle.std.specs.List.{list_any}
-use Rattle.svc_handover.specs.Channel.{is_opening}
+use Rattle.std.proofs.Common.{true, false, sym, ◌∙◌}
 use Rattle.svc_supervisor.proofs.MarkLemmas.{after-told}
 use Rattle.svc_supervisor.proofs.marks.Marks.after_told.Goals as goal
 
