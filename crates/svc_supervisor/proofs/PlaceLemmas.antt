@@ -1,5 +1,5 @@
 -- A generation at its place in a chain, and the causes of refusals there.
-use Rattle.std.proofs.Common.{ℕ, zero, suc, Bool, true, false, not, ◌&&◌, List, [], ◌∷◌, ◌++◌, ◌≡◌, ◌<◌, refl, ap, sym, ◌∙◌, subst, arith, length, map, get_or, set, Option, Some, None}
+use Rattle.std.proofs.Common.{ℕ, zero, suc, Bool, true, false, ◌&&◌, List, [], ◌∷◌, ◌++◌, ◌≡◌, ◌<◌, refl, ap, sym, ◌∙◌, subst, arith, length, map, get_or, set, Option, Some, None}
 use Rattle.std.specs.Prelude.{slice_get, IfSome, is_err, OnOk, OnErr, IfOk, Result, Ok, Err, ◌↔◌}
 use Rattle.std.specs.Option.{option_map}
 use Rattle.std.proofs.lemmas.Option.{slice_get-map, slice_get_read}
@@ -110,13 +110,6 @@ come-held r f m x h k = grind arith
 
 pub come-next : (b f r m k x : Bool) → b ≡ true → b ≡ f → r ≡ true → r ≡ m → k ≡ x → k ≡ (f && (m && x))
 come-next b f r m k x h i j l n = grind arith
-
--- whether it is early
-pub early-by : (r s t h : Bool) → r ≡ true → r ≡ s → t ≡ h → not t ≡ (s && not h)
-early-by r s t h a b c = grind arith
-
-pub late-by : (r s h : Bool) → r ≡ false → r ≡ s → false ≡ (s && not h)
-late-by r s h a b = grind arith
 
 -- what follows from either answer
 pub ok-then : {X E : Type 0} (r : Result X E) (P Q : X → Type 0) → IfOk r P → ((x : X) → P x → Q x) → IfOk r Q

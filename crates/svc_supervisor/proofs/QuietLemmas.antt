@@ -25,9 +25,6 @@ before-tell q (a ∷ told) = before-tell (Told a ∷ q) told
 pub signal-tell : (q : Record) (told : List Action) → has is_signal (tell q told) ≡ has is_signal q
 signal-tell q told = has-tell is_signal (λ a. refl) q told
 
-pub receipt-tell : (q : Record) (told : List Action) → has is_receipt (tell q told) ≡ has is_receipt q
-receipt-tell q told = has-tell is_receipt (λ a. refl) q told
-
 -- one more event, once a signal came
 before-got : (q : Record) (e : Event) → has is_signal q ≡ true → before_signal (Got e ∷ q) ≡ before_signal q
 before-got q (Signal kind) h = ap (λ b. if b then before_signal q else q) h
