@@ -74,11 +74,11 @@ among-put_all a (x ∷ pairs) es h = among-put_all a pairs (put x.0 x.1 es) (eli
   | inr back ↦ or_right (is_among a (addresses pairs)) (is_among a (addresses (put x.0 x.1 es))) (among-put a x.0 x.1 es (or_right (bytes_eq x.0 a) (is_among a (addresses es)) back))
 ])
 
-live-listed : (p : Plan) (q : Record) (a : List ℕ) → has_live p q (Some a) ≡ true → is_among a (addresses (live_table p q)) ≡ true
+pub live-listed : (p : Plan) (q : Record) (a : List ℕ) → has_live p q (Some a) ≡ true → is_among a (addresses (live_table p q)) ≡ true
 live-listed p q a h = among-put_all a (filter_map as_entry (live_descriptors p q)) [] (or_left (is_among a (addresses (filter_map as_entry (live_descriptors p q)))) false (listed a (live_descriptors p q) h))
 
 -- what is said of each address of a table is said of one that is among them
-picked : (P : List ℕ → Bool) (a : List ℕ) (t : List TableEntry) → list_all (λ (x : TableEntry). P x.0) t ≡ true → is_among a (addresses t) ≡ true → P a ≡ true
+pub picked : (P : List ℕ → Bool) (a : List ℕ) (t : List TableEntry) → list_all (λ (x : TableEntry). P x.0) t ≡ true → is_among a (addresses t) ≡ true → P a ≡ true
 picked P a [] all h = absurd (cc)
 picked P a (x ∷ t) all h =
     let parts = and_parts (P x.0) (list_all (λ (y : TableEntry). P y.0) t) all in

@@ -84,7 +84,7 @@ kept-step p n w step told was allowed = record { read = read-step p n w step tol
 as-sent : (bytes fds : List ℕ) (m : Message) → is_as_sent bytes fds (Some m) ≡ true → (bytes ≡ m.bytes) × (length fds ≡ length m.fds)
 as-sent bytes fds m h = let parts = and_parts (bytes_eq bytes m.bytes) (length fds == length m.fds) h in ((bytes_eq-Decides bytes m.bytes).0 parts.0, eqb-true (length fds) (length m.fds) parts.1)
 
-encode-some : (t : List TableEntry) → is_written (encode t) ≡ true → is_encodable t ≡ true
+pub encode-some : (t : List TableEntry) → is_written (encode t) ≡ true → is_encodable t ≡ true
 encode-some t h = by (is_encodable t) h
   where
     by : (b : Bool) → is_written (if b then Some (written t) else None) ≡ true → b ≡ true
@@ -120,7 +120,7 @@ by-flight g o n f h = grind arith
 by-close : (g o n f : Bool) → g ≡ true → (g || ((o || n) || f)) ≡ true
 by-close g o n f h = grind arith
 
-flies : (t s j l : Bool) → t ≡ false → s ≡ true → is_in_flight (reached t s j l) ≡ true
+pub flies : (t s j l : Bool) → t ≡ false → s ≡ true → is_in_flight (reached t s j l) ≡ true
 flies true s j l a b = absurd (cc)
 flies false true j l a b = refl
 flies false false j l a b = absurd (cc)

@@ -32,7 +32,7 @@ use Rattle.svc_handover.proofs.LawLemmas.{law-holds, stands-first, stands-old, s
 use Rattle.svc_handover.proofs.OperatorLaw.{keeps-reachable}
 
 -- a list of entries and what was told after it, the newest first
-turned-told : (xs : List Entry) (told : List Action) → reverse (xs ++ told_entries told) ≡ tell (reverse xs) told
+pub turned-told : (xs : List Entry) (told : List Action) → reverse (xs ++ told_entries told) ≡ tell (reverse xs) told
 turned-told xs [] = ap (λ (ys : List Entry). reverse ys) (append-nil xs)
 turned-told xs (a ∷ told) =
     ap (λ (ys : List Entry). reverse ys) (sym (append_assoc xs (Told a ∷ []) (told_entries told)))
@@ -136,7 +136,7 @@ grows-by p n before old new runs m allowed said stands old_plan new_plan old_is 
     }
 
 -- the record of a server that took a step
-taken-entries : (old new : Recorded) (step : PairStep) (told : List Action) (q : Record) (t : Takes old new step told) → reverse (list_of old.entries) ≡ q → reverse (list_of new.entries) ≡ tell (Got step.event ∷ q) t.keeps.told
+pub taken-entries : (old new : Recorded) (step : PairStep) (told : List Action) (q : Record) (t : Takes old new step told) → reverse (list_of old.entries) ≡ q → reverse (list_of new.entries) ≡ tell (Got step.event ∷ q) t.keeps.told
 taken-entries old new step told q t same =
     ap (λ (xs : List Entry). reverse xs) t.entries
     ∙ turned-told (list_of old.entries ++ Got step.event ∷ []) told

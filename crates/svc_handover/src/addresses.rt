@@ -31,7 +31,7 @@ fn read_services(services: &[ServicePlan])
 }
 
 /// Reads each address of the plan once, so that it is known to be a text.
-pub(crate) fn read_addresses(plan: &Plan)
+pub fn read_addresses(plan: &Plan)
     ensures { HasTexts plan.now }
 {
     read_services(plan.services.as_slice());

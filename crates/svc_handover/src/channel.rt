@@ -50,7 +50,7 @@ fn listening_from(channel: ChannelState) -> ChannelState
 }
 
 /// Whether one of the actions opens the receiver.
-fn opens_receiver(told: &[Action]) -> bool
+pub fn opens_receiver(told: &[Action]) -> bool
     ensures { result ≡ list_any is_opening told.now }
 {
     told.iter().any(|action| is_opening(action))
@@ -63,7 +63,7 @@ fn is_opening(action: &Action) -> bool
 }
 
 /// Whether the channel allows the event of the old server.
-pub(crate) fn old_may(channel: ChannelState, event: &Event) -> bool
+pub fn old_may(channel: ChannelState, event: &Event) -> bool
     ensures { result ≡ old_may channel event.now }
 {
     match event {
@@ -75,7 +75,7 @@ pub(crate) fn old_may(channel: ChannelState, event: &Event) -> bool
 
 /// Whether the channel allows the event of the new server, where the old one has these entries:
 /// what is received is what was sent, with as many numbers of its own.
-pub(crate) fn new_may(channel: ChannelState, entries: &[Entry], event: &Event) -> bool
+pub fn new_may(channel: ChannelState, entries: &[Entry], event: &Event) -> bool
     ensures { result ≡ new_may channel (reverse entries.now) event.now }
 {
     match event {

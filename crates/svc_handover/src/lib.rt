@@ -1,12 +1,12 @@
 //! A handover between an old and a new core, over every schedule of their events.
 #![tactic(auto)]
 
-mod addresses;
-mod channel;
+pub mod addresses;
+pub mod channel;
 mod law;
 mod pair;
-mod recorded;
-mod servers;
+pub mod recorded;
+pub mod servers;
 
 pub use law::handover_law;
 pub use pair::{ChannelState, PairRefused, PairRun, PairStep};

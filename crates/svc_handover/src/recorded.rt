@@ -13,9 +13,9 @@ use svc_core::{Action, Actions, Core, Entries, Entry, Plan};
 
 /// A core that has begun, and what it got and told, the first entry first.
 #[derive(Drop)]
-pub(crate) struct Recorded {
-    pub(crate) core: Core,
-    pub(crate) entries: Entries,
+pub struct Recorded {
+    pub core: Core,
+    pub entries: Entries,
 }
 
 impl Recorded {

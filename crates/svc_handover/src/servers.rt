@@ -21,10 +21,10 @@ use svc_core::{Event, Plan};
 
 /// Both servers, which have begun.
 #[derive(Drop)]
-pub(crate) struct Servers {
-    pub(crate) predecessor: Recorded,
-    pub(crate) successor: Recorded,
-    pub(crate) channel: ChannelState,
+pub struct Servers {
+    pub predecessor: Recorded,
+    pub successor: Recorded,
+    pub channel: ChannelState,
 }
 
 impl Servers {
