@@ -49,16 +49,23 @@ fn plan(script: &str, words: impl Iterator<Item = String>) -> Option<Plan> {
     let mut words = words.peekable();
     words.next_if(|word| word == "run")?;
     let mut plan = Plan::from_script(script);
+    let mut flags = Vec::new();
     while let Some(word) = words.next() {
-        plan = match word.as_str() {
-            "-u" | "--upgrade" => plan.upgrade(true),
-            "-d" | "--daemon" => plan.daemon(true),
-            "-t" | "--test" => plan.test(true),
-            "--nocapture" => plan,
+        let (flag, changed) = match word.as_str() {
+            "-u" | "--upgrade" => ('u', plan.upgrade(true)),
+            "-d" | "--daemon" => ('d', plan.daemon(true)),
+            "-t" | "--test" => ('t', plan.test(true)),
+            "--nocapture" => ('n', plan),
             // The script has its own configuration.
-            "-c" | "--conf" => words.next().map(|_| plan)?,
+            "-c" | "--conf" => ('c', words.next().map(|_| plan)?),
             _ => return None,
         };
+        // Each may stand once.
+        if flags.contains(&flag) {
+            return None;
+        }
+        flags.push(flag);
+        plan = changed;
     }
     Some(plan)
 }
