@@ -92,7 +92,7 @@ impl fmt::Display for PlanError {
 
 impl std::error::Error for PlanError {}
 
-/// Why a call of a core was refused. The core is as it was.
+/// Why a call of a core was refused. But for `Untold` the core is as it was.
 #[derive(Clone, Copy, Debug, PartialEq, Eq)]
 pub enum CoreError {
     /// Out of memory.
@@ -103,6 +103,9 @@ pub enum CoreError {
     Stray,
     /// A step came before the first one, a second first step came, or a call after `close`.
     Order,
+    /// The call was taken, and there was no memory for the lines of what it told. [`Core::last`] gives
+    /// them once there is.
+    Untold,
 }
 
 impl CoreError {
@@ -121,6 +124,7 @@ impl CoreError {
             CoreError::NoEvent => 19,
             CoreError::Stray => 20,
             CoreError::Order => 21,
+            CoreError::Untold => 16,
         }
     }
 }
@@ -238,7 +242,7 @@ impl Core {
             self.write(event);
         }
         match self.session.close(self.line.as_bytes()) {
-            0 => self.told(),
+            0 => self.last(),
             number => Err(CoreError::of(number)),
         }
     }
@@ -246,6 +250,11 @@ impl Core {
     /// How far the run is.
     pub fn end(&self) -> End {
         self.end
+    }
+
+    /// What the last call that wasn't refused told, once more.
+    pub fn last(&mut self) -> Result<Told<'_>, CoreError> {
+        self.told().map_err(|_| CoreError::Untold)
     }
 
     fn write(&mut self, event: &Event) {
@@ -258,7 +267,7 @@ impl Core {
         match End::of(number) {
             Some(end) => {
                 self.end = end;
-                self.told()
+                self.last()
             }
             None => Err(CoreError::of(number)),
         }

@@ -165,9 +165,10 @@ pub fn run(core: &mut Core, host: &mut impl Host) -> Result<Outcome, RunError> {
         };
         came += 1;
         if let Err(error) = take(core, &event, host) {
-            // A line that is no event brought nothing.
+            // A line that is no event brought nothing, and what an event that was taken brought is the core's.
             let (why, event) = match error {
                 CoreError::NoEvent => (RunError::Stray(came), None),
+                CoreError::Untold => (RunError::Core(error), None),
                 CoreError::Stray => (RunError::Stray(came), Some(&event)),
                 error => (RunError::Core(error), Some(&event)),
             };
