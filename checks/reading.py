@@ -22,7 +22,7 @@ def files(*endings, top=CRATES):
     """The files below the folder that end so, in order. What git and the toolchain keep is left out."""
     found = []
     for at, folders, names in os.walk(top):
-        folders[:] = sorted(it for it in folders if it not in (".git", "out", "__pycache__"))
+        folders[:] = sorted(it for it in folders if it not in (".git", "out", "target", "__pycache__"))
         found += [os.path.join(at, name) for name in sorted(names) if name.endswith(endings)]
     return found
 

@@ -1,0 +1,146 @@
+//! A load client: `client ADDRESS THREADS SECONDS [MARKS]`.
+//!
+//! Each thread asks without a pause, with a connection of its own for each ask: it sends 32 bytes that no
+//! other ask sends, wants them back, and closes. Where lines come on standard input, each is the beginning of an upgrade.
+//! At the end it prints a line of JSON: how many asks, what went wrong, and the latencies in microseconds of
+//! the asks that began within a second of an upgrade's beginning, and of all others.
+
+use std::io::{self, BufRead, Read, Write};
+use std::net::{SocketAddr, TcpStream};
+use std::sync::Mutex;
+use std::sync::atomic::{AtomicBool, Ordering};
+use std::time::{Duration, Instant};
+use std::{env, thread};
+
+const SIZE: usize = 32;
+
+/// What one thread saw.
+#[derive(Default)]
+struct Seen {
+    /// When each ask began, in microseconds since the start, and how long it took.
+    asks: Vec<(u32, u32)>,
+    refused: u64,
+    reset: u64,
+    other: u64,
+    wrong: u64,
+    errors: Vec<String>,
+}
+
+fn ask(address: SocketAddr, text: &[u8; SIZE]) -> io::Result<bool> {
+    let mut stream = TcpStream::connect(address)?;
+    stream.set_nodelay(true)?;
+    stream.set_read_timeout(Some(Duration::from_secs(10)))?;
+    stream.write_all(text)?;
+    let mut got = [0; SIZE];
+    stream.read_exact(&mut got)?;
+    Ok(got == *text)
+}
+
+fn work(address: SocketAddr, thread: u64, start: Instant, on: &AtomicBool) -> Seen {
+    let mut seen = Seen::default();
+    let mut number = 0u64;
+    while on.load(Ordering::Relaxed) {
+        number += 1;
+        let mut text = [0x5a; SIZE];
+        text[..8].copy_from_slice(&thread.to_le_bytes());
+        text[8..16].copy_from_slice(&number.to_le_bytes());
+        let began = start.elapsed();
+        match ask(address, &text) {
+            Ok(true) => {
+                let took = start.elapsed() - began;
+                seen.asks.push((began.as_micros() as u32, took.as_micros() as u32));
+            }
+            Ok(false) => seen.wrong += 1,
+            Err(error) => {
+                match error.kind() {
+                    io::ErrorKind::ConnectionRefused => seen.refused += 1,
+                    io::ErrorKind::ConnectionReset | io::ErrorKind::UnexpectedEof => {
+                        seen.reset += 1
+                    }
+                    _ => seen.other += 1,
+                }
+                seen.errors.push(format!("{:.3} s: {error}", began.as_secs_f64()));
+            }
+        }
+    }
+    seen
+}
+
+/// The median, the 99th of a hundred, and the worst, of sorted numbers.
+fn quantiles(mut took: Vec<u32>) -> String {
+    took.sort_unstable();
+    let at = |part: f64| {
+        took.get(((took.len() as f64 * part) as usize).min(took.len().saturating_sub(1)))
+    };
+    let word = |n: Option<&u32>| n.map_or("null".to_owned(), u32::to_string);
+    format!(
+        "{{\"asks\":{},\"p50\":{},\"p99\":{},\"worst\":{}}}",
+        took.len(),
+        word(at(0.5)),
+        word(at(0.99)),
+        word(took.last())
+    )
+}
+
+fn main() -> Result<(), Box<dyn std::error::Error>> {
+    let words: Vec<String> = env::args().collect();
+    let address: SocketAddr = words[1].parse()?;
+    let threads: u64 = words[2].parse()?;
+    let seconds: f64 = words[3].parse()?;
+    let start = Instant::now();
+    let on = AtomicBool::new(true);
+    let marks = Mutex::new(Vec::new());
+    let all = thread::scope(|scope| {
+        let workers: Vec<_> = (0..threads)
+            .map(|number| {
+                scope.spawn({
+                    let on = &on;
+                    move || work(address, number, start, on)
+                })
+            })
+            .collect();
+        let marking = scope.spawn(|| {
+            for line in io::stdin().lock().lines() {
+                if line.is_err() || line.is_ok_and(|line| line == "end") {
+                    break;
+                }
+                marks.lock().unwrap().push(start.elapsed().as_micros() as u32);
+            }
+        });
+        if seconds > 0.0 {
+            thread::sleep(Duration::from_secs_f64(seconds));
+        } else {
+            let _ = marking.join();
+        }
+        on.store(false, Ordering::Relaxed);
+        workers.into_iter().map(|worker| worker.join().unwrap()).collect::<Vec<_>>()
+    });
+    let took = start.elapsed().as_secs_f64();
+    let marks = marks.into_inner()?;
+    let in_upgrade = |began: u32| {
+        marks.iter().any(|mark| (*mark..mark.saturating_add(1_000_000)).contains(&began))
+    };
+    let (mut within, mut outside) = (Vec::new(), Vec::new());
+    for (began, micros) in all.iter().flat_map(|seen| &seen.asks) {
+        if in_upgrade(*began) { within.push(*micros) } else { outside.push(*micros) }
+    }
+    let sum = |part: fn(&Seen) -> u64| all.iter().map(part).sum::<u64>();
+    let errors: Vec<String> = all
+        .iter()
+        .flat_map(|seen| seen.errors.iter().take(3))
+        .map(|error| format!("{error:?}"))
+        .collect();
+    let asks = within.len() + outside.len();
+    println!(
+        "{{\"asks\":{asks},\"seconds\":{took:.1},\"per_second\":{:.0},\"refused\":{},\"reset\":{},\"other\":{},\"wrong\":{},\"within\":{},\"outside\":{},\"errors\":[{}]}}",
+        asks as f64 / took,
+        sum(|seen| seen.refused),
+        sum(|seen| seen.reset),
+        sum(|seen| seen.other),
+        sum(|seen| seen.wrong),
+        quantiles(within),
+        quantiles(outside),
+        errors.join(",")
+    );
+    Ok(())
+}

@@ -1,0 +1,263 @@
+//! Actions: what the core tells a program.
+
+use crate::words::{Hex, Joined, LineError, Words};
+use std::fmt;
+use std::str::FromStr;
+
+/// What the core tells a program to do. `FORMATS.md`, "Actions", and `EMBEDDING.md`, "What a real host
+/// does", say what each means on a Unix system, and which event answers it.
+#[derive(Clone, Debug, PartialEq, Eq)]
+#[allow(missing_docs)]
+pub enum Action {
+    /// Start the service.
+    Start { service: u32 },
+    /// Give the service up.
+    Fail { service: u32 },
+    /// Bind the endpoint's address: `Bound`, `InUse` or `BindFailed` answers.
+    Bind { service: u32, endpoint: u32 },
+    /// Listen for the endpoint on a descriptor that is held: `Adopted` or `AdoptFailed` answers.
+    Adopt { service: u32, endpoint: u32, fd: u64 },
+    /// Close the descriptor.
+    Close { fd: u64 },
+    /// Remove an old path, and make the receiving socket at `upgrade_sock`.
+    OpenReceiver,
+    /// Accept and receive once: `Received`, `NoSender` or `ReceiveFailed` answers.
+    TryReceive,
+    /// Fork: `Side` answers.
+    Daemonize,
+    /// Tell the waiting parent that its child is ready.
+    NotifyParent,
+    /// Connect to `upgrade_sock` once: `Connected`, `NotThere`, `Connecting` or `ConnectFailed` answers.
+    Connect,
+    /// Send these bytes with these descriptors once: `Sent`, `SendBusy` or `SendFailed` answers.
+    Send { bytes: Vec<u8>, fds: Vec<u64> },
+    /// Tell the services that the server shuts down: `LoopEnded` and `Ended` follow.
+    Broadcast,
+    /// What the endpoint's filter answered. There is nothing to do.
+    Judged { connection: u64, yes: bool },
+    /// Drop the connection.
+    Refuse { connection: u64 },
+    /// Apply these settings in order: `Set` answers.
+    Settings { connection: u64, settings: Vec<Setting> },
+    /// Poll the handshake, for at most 60 seconds: `Shaken` answers.
+    Handshake { connection: u64 },
+    /// Hand the connection to the application: `Finished` follows.
+    Serve { connection: u64 },
+    /// Drop it after a failure.
+    Drop { connection: u64 },
+    /// Let the accept loop that met the failure rest one second.
+    Rest { service: u32, endpoint: u32 },
+    /// Drop a live connection.
+    Cut { connection: u64 },
+    /// Publish the phase; `ms` is the last moment.
+    Phase { phase: Phase, ms: u64 },
+    /// Stop the services' workers, waiting so long.
+    Stop { seconds: u64 },
+}
+
+/// Where a run is.
+#[derive(Clone, Copy, Debug, PartialEq, Eq)]
+#[allow(missing_docs)]
+pub enum Phase {
+    Bootstrap,
+    BootstrapComplete,
+    Running,
+    GracefulUpgradeTransferringFds,
+    GracefulUpgradeCloseTimeout,
+    GracefulTerminate,
+    ShutdownStarted,
+    ShutdownGracePeriod,
+    ShutdownRuntimes,
+    Terminated,
+}
+
+const PHASES: [Phase; 10] = [
+    Phase::Bootstrap,
+    Phase::BootstrapComplete,
+    Phase::Running,
+    Phase::GracefulUpgradeTransferringFds,
+    Phase::GracefulUpgradeCloseTimeout,
+    Phase::GracefulTerminate,
+    Phase::ShutdownStarted,
+    Phase::ShutdownGracePeriod,
+    Phase::ShutdownRuntimes,
+    Phase::Terminated,
+];
+
+impl fmt::Display for Phase {
+    fn fmt(&self, f: &mut fmt::Formatter<'_>) -> fmt::Result {
+        write!(f, "{self:?}")
+    }
+}
+
+/// A setting of an accepted connection.
+#[derive(Clone, Copy, Debug, PartialEq, Eq)]
+#[allow(missing_docs)]
+pub enum Setting {
+    /// Send without waiting for more.
+    NoDelay,
+    /// Keep alive; the times are in nanoseconds.
+    KeepAlive { idle: u64, interval: u64, count: u64, user_timeout: u64 },
+    /// The differentiated services byte.
+    Dscp(u8),
+    /// The size of the buffer for what is sent, in bytes.
+    SndBuf(u64),
+    /// The size of the buffer for what is received, in bytes.
+    RcvBuf(u64),
+}
+
+impl fmt::Display for Setting {
+    fn fmt(&self, f: &mut fmt::Formatter<'_>) -> fmt::Result {
+        match self {
+            Setting::NoDelay => f.write_str("nodelay"),
+            Setting::KeepAlive { idle, interval, count, user_timeout } => {
+                write!(f, "keepalive={idle},{interval},{count},{user_timeout}")
+            }
+            Setting::Dscp(n) => write!(f, "dscp={n}"),
+            Setting::SndBuf(n) => write!(f, "sndbuf={n}"),
+            Setting::RcvBuf(n) => write!(f, "rcvbuf={n}"),
+        }
+    }
+}
+
+impl FromStr for Setting {
+    type Err = LineError;
+
+    fn from_str(word: &str) -> Result<Setting, LineError> {
+        let error = || LineError::new(word);
+        let Some((key, value)) = word.split_once('=') else {
+            return if word == "nodelay" { Ok(Setting::NoDelay) } else { Err(error()) };
+        };
+        match key {
+            "keepalive" => {
+                let times: Vec<u64> = value.split(',').map_while(|n| n.parse().ok()).collect();
+                match times[..] {
+                    [idle, interval, count, user_timeout] => {
+                        Ok(Setting::KeepAlive { idle, interval, count, user_timeout })
+                    }
+                    _ => Err(error()),
+                }
+            }
+            "dscp" => value.parse().map(Setting::Dscp).map_err(|_| error()),
+            "sndbuf" => value.parse().map(Setting::SndBuf).map_err(|_| error()),
+            "rcvbuf" => value.parse().map(Setting::RcvBuf).map_err(|_| error()),
+            _ => Err(error()),
+        }
+    }
+}
+
+/// The action's line, as a record has it.
+impl fmt::Display for Action {
+    fn fmt(&self, f: &mut fmt::Formatter<'_>) -> fmt::Result {
+        match self {
+            Action::Start { service } => write!(f, "start {service}"),
+            Action::Fail { service } => write!(f, "fail {service}"),
+            Action::Bind { service, endpoint } => write!(f, "bind {service} {endpoint}"),
+            Action::Adopt { service, endpoint, fd } => write!(f, "adopt {service} {endpoint} {fd}"),
+            Action::Close { fd } => write!(f, "close {fd}"),
+            Action::OpenReceiver => f.write_str("openreceiver"),
+            Action::TryReceive => f.write_str("tryreceive"),
+            Action::Daemonize => f.write_str("daemonize"),
+            Action::NotifyParent => f.write_str("notifyparent"),
+            Action::Connect => f.write_str("connect"),
+            Action::Send { bytes, fds } => write!(f, "send {} {}", Hex(bytes), Joined(fds)),
+            Action::Broadcast => f.write_str("broadcast"),
+            Action::Judged { connection, yes } => {
+                write!(f, "judged {connection} {}", if *yes { "yes" } else { "no" })
+            }
+            Action::Refuse { connection } => write!(f, "refuse {connection}"),
+            Action::Settings { connection, settings } => {
+                write!(f, "settings {connection}")?;
+                settings.iter().try_for_each(|setting| write!(f, " {setting}"))
+            }
+            Action::Handshake { connection } => write!(f, "handshake {connection}"),
+            Action::Serve { connection } => write!(f, "serve {connection}"),
+            Action::Drop { connection } => write!(f, "drop {connection}"),
+            Action::Rest { service, endpoint } => write!(f, "rest {service} {endpoint}"),
+            Action::Cut { connection } => write!(f, "cut {connection}"),
+            Action::Phase { phase, ms } => write!(f, "phase {phase} {ms}"),
+            Action::Stop { seconds } => write!(f, "stop {seconds}"),
+        }
+    }
+}
+
+impl FromStr for Action {
+    type Err = LineError;
+
+    fn from_str(line: &str) -> Result<Action, LineError> {
+        let mut words = Words::of(line);
+        let action = action_of(&mut words)?;
+        words.end()?;
+        Ok(action)
+    }
+}
+
+fn action_of(words: &mut Words<'_>) -> Result<Action, LineError> {
+    Ok(match words.word()? {
+        "start" => Action::Start { service: words.number()? },
+        "fail" => Action::Fail { service: words.number()? },
+        "bind" => Action::Bind { service: words.number()?, endpoint: words.number()? },
+        "adopt" => Action::Adopt {
+            service: words.number()?,
+            endpoint: words.number()?,
+            fd: words.number()?,
+        },
+        "close" => Action::Close { fd: words.number()? },
+        "openreceiver" => Action::OpenReceiver,
+        "tryreceive" => Action::TryReceive,
+        "daemonize" => Action::Daemonize,
+        "notifyparent" => Action::NotifyParent,
+        "connect" => Action::Connect,
+        "send" => Action::Send { bytes: words.bytes()?, fds: words.numbers()? },
+        "broadcast" => Action::Broadcast,
+        "phase" => {
+            let name = words.word()?;
+            let phase = PHASES.into_iter().find(|phase| phase.to_string() == name);
+            Action::Phase { phase: phase.ok_or(words.error())?, ms: words.number()? }
+        }
+        "stop" => Action::Stop { seconds: words.number()? },
+        key => return connection_action(key, words),
+    })
+}
+
+fn connection_action(key: &str, words: &mut Words<'_>) -> Result<Action, LineError> {
+    Ok(match key {
+        "judged" => Action::Judged { connection: words.number()?, yes: words.either("yes", "no")? },
+        "refuse" => Action::Refuse { connection: words.number()? },
+        "settings" => Action::Settings {
+            connection: words.number()?,
+            settings: words.map(str::parse).collect::<Result<_, _>>()?,
+        },
+        "handshake" => Action::Handshake { connection: words.number()? },
+        "serve" => Action::Serve { connection: words.number()? },
+        "drop" => Action::Drop { connection: words.number()? },
+        "rest" => Action::Rest { service: words.number()?, endpoint: words.number()? },
+        "cut" => Action::Cut { connection: words.number()? },
+        _ => return Err(words.error()),
+    })
+}
+
+#[cfg(test)]
+mod tests {
+    use super::*;
+
+    #[test]
+    fn lines_go_there_and_back() {
+        for line in [
+            "adopt 0 1 7",
+            "send 3132372e302e302e313a3830 3,4",
+            "judged 4 yes",
+            "settings 4 nodelay keepalive=1,2,3,4 dscp=10 sndbuf=4096",
+            "phase GracefulUpgradeCloseTimeout 12",
+            "stop 5",
+        ] {
+            assert_eq!(
+                line.parse::<Action>().map(|action| action.to_string()),
+                Ok(line.to_owned())
+            );
+        }
+        for line in ["", "got moment 1", "phase Setup 0", "settings 1 fast"] {
+            assert!(line.parse::<Action>().is_err(), "{line}");
+        }
+    }
+}

@@ -1,0 +1,130 @@
+//! Words that lines are made of.
+
+use std::fmt;
+use std::str::FromStr;
+
+/// A line that says no event or no action, or a word of it that doesn't fit.
+#[derive(Clone, Debug, PartialEq, Eq)]
+pub struct LineError {
+    line: String,
+}
+
+impl LineError {
+    pub(crate) fn new(line: &str) -> LineError {
+        LineError { line: line.to_owned() }
+    }
+}
+
+impl fmt::Display for LineError {
+    fn fmt(&self, f: &mut fmt::Formatter<'_>) -> fmt::Result {
+        write!(f, "not a line that is known: {:?}", self.line)
+    }
+}
+
+impl std::error::Error for LineError {}
+
+/// The words of a line, one after the other.
+pub(crate) struct Words<'a> {
+    line: &'a str,
+    words: std::str::SplitAsciiWhitespace<'a>,
+}
+
+impl<'a> Words<'a> {
+    pub(crate) fn of(line: &'a str) -> Words<'a> {
+        Words { line, words: line.split_ascii_whitespace() }
+    }
+
+    pub(crate) fn error(&self) -> LineError {
+        LineError::new(self.line)
+    }
+
+    pub(crate) fn word(&mut self) -> Result<&'a str, LineError> {
+        self.words.next().ok_or(LineError::new(self.line))
+    }
+
+    pub(crate) fn number<T: FromStr>(&mut self) -> Result<T, LineError> {
+        let word = self.word()?;
+        word.parse().map_err(|_| self.error())
+    }
+
+    /// One of two words: the first is true.
+    pub(crate) fn either(&mut self, yes: &str, no: &str) -> Result<bool, LineError> {
+        match self.word()? {
+            word if word == yes => Ok(true),
+            word if word == no => Ok(false),
+            _ => Err(self.error()),
+        }
+    }
+
+    pub(crate) fn bytes(&mut self) -> Result<Vec<u8>, LineError> {
+        let word = self.word()?;
+        if word == "-" {
+            return Ok(Vec::new());
+        }
+        let pairs = word.as_bytes().chunks(2);
+        pairs
+            .map(|pair| match pair {
+                [high, low] => Some(digit(*high)? << 4 | digit(*low)?),
+                _ => None,
+            })
+            .collect::<Option<Vec<u8>>>()
+            .ok_or(self.error())
+    }
+
+    pub(crate) fn numbers(&mut self) -> Result<Vec<u64>, LineError> {
+        let word = self.word()?;
+        if word == "-" {
+            return Ok(Vec::new());
+        }
+        let numbers = word.split(',').map(str::parse);
+        numbers.collect::<Result<Vec<u64>, _>>().map_err(|_| self.error())
+    }
+
+    pub(crate) fn end(&mut self) -> Result<(), LineError> {
+        match self.words.next() {
+            None => Ok(()),
+            Some(_) => Err(self.error()),
+        }
+    }
+}
+
+impl<'a> Iterator for Words<'a> {
+    type Item = &'a str;
+
+    fn next(&mut self) -> Option<&'a str> {
+        self.words.next()
+    }
+}
+
+fn digit(byte: u8) -> Option<u8> {
+    match byte {
+        b'0'..=b'9' => Some(byte - b'0'),
+        b'a'..=b'f' => Some(byte - b'a' + 10),
+        _ => None,
+    }
+}
+
+/// Bytes as a word of hexadecimal digits, and a dash for none.
+pub(crate) struct Hex<'a>(pub &'a [u8]);
+
+impl fmt::Display for Hex<'_> {
+    fn fmt(&self, f: &mut fmt::Formatter<'_>) -> fmt::Result {
+        if self.0.is_empty() {
+            return f.write_str("-");
+        }
+        self.0.iter().try_for_each(|byte| write!(f, "{byte:02x}"))
+    }
+}
+
+/// Numbers as a word, joined by commas, and a dash for none.
+pub(crate) struct Joined<'a>(pub &'a [u64]);
+
+impl fmt::Display for Joined<'_> {
+    fn fmt(&self, f: &mut fmt::Formatter<'_>) -> fmt::Result {
+        let Some((first, others)) = self.0.split_first() else {
+            return f.write_str("-");
+        };
+        write!(f, "{first}")?;
+        others.iter().try_for_each(|number| write!(f, ",{number}"))
+    }
+}

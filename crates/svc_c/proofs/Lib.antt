@@ -1,0 +1,4 @@
+pub mod AsBox
+mod PlanLemmas
+mod RoomLemmas
+mod MakingLemmas

@@ -1,0 +1,189 @@
+//! The plan that a script's services are run by.
+
+ghost use Rattle.std.specs.Prelude.{◌≡◌, ◌<◌, ◌≤◌, ◌++◌, ◌∷◌, [], length, map, OnOk, OnErr, IfOk, MatchOption};
+ghost use Rattle.svc_text.specs.declared.service.EndpointLine.{EndpointLine};
+ghost use Rattle.svc_text.specs.Dependencies.{edges_up_to, RefusesAt, RefusesNone};
+ghost use Rattle.svc_text.specs.Edges.{HasEdges};
+ghost use Rattle.svc_text.specs.ScriptPlans.{endpoint_of, addresses_of, depends_of, declared_of, service_plan, plans_from, settled};
+
+use std::alloc::Global;
+use svc_base::{Items, NoMemory, Numbers, Text, Texts};
+use svc_conf::{Opt, ServerConf};
+use svc_graph::{DependencyGraph, EndpointList, EndpointPlan};
+use svc_record::{Plan, ServiceList, ServicePlan, copy_items};
+use svc_text::{EndpointLine, ServiceLine, add_dependencies, filter_number};
+
+/// Appends. An item for which no memory was found is dropped.
+fn push_item<T: Drop>(alloc: Global, list: &mut Items<T>, item: T) -> Result<(), NoMemory>
+    ensures ok { OnOk result (list.new ≡ list.old ++ item ∷ []) }
+    ensures refused { OnErr result (list.new ≡ list.old) }
+{
+    match list.push(alloc, item) {
+        Ok(()) => Ok(()),
+        Err(refused) => Err(refused.reason),
+    }
+}
+
+/// The endpoint that a line names, with this filter.
+fn endpoint_of(
+    alloc: Global,
+    filter: Option<u32>,
+    line: &EndpointLine,
+) -> Result<EndpointPlan, NoMemory>
+    ensures { IfOk result (λ endpoint. endpoint ≡ endpoint_of filter line.now) }
+{
+    Ok(EndpointPlan {
+        address: line.address.copy(alloc)?,
+        unix: line.unix,
+        options: copy_items(alloc, line.options.as_slice())?,
+        filter,
+    })
+}
+
+/// The endpoints that the lines name, in order, with this filter.
+fn endpoints_of(
+    alloc: Global,
+    filter: Option<u32>,
+    lines: &[EndpointLine],
+) -> Result<EndpointList, NoMemory>
+    ensures { IfOk result (λ endpoints. endpoints ≡ map (endpoint_of filter) lines.now) }
+{
+    let mut endpoints = EndpointList::new(alloc);
+    for line in lines {
+        push_item(alloc, &mut endpoints, endpoint_of(alloc, filter, line)?)?;
+    }
+    Ok(endpoints)
+}
+
+/// Their addresses, in order.
+fn addresses_of(alloc: Global, lines: &[EndpointLine]) -> Result<Texts, NoMemory>
+    ensures { IfOk result (λ addresses. addresses ≡ map (λ (e : EndpointLine). e.address) lines.now) }
+{
+    let mut addresses = Texts::new(alloc);
+    for line in lines {
+        push_item(alloc, &mut addresses, line.address.copy(alloc)?)?;
+    }
+    Ok(addresses)
+}
+
+/// Adds the addresses that a line declares beside those of its endpoints.
+fn add_claims(alloc: Global, addresses: &mut Texts, claims: &[Text]) -> Result<(), NoMemory>
+    ensures { OnOk result (addresses.new ≡ addresses.old ++ claims.now) }
+{
+    for claim in claims {
+        push_item(alloc, addresses, claim.copy(alloc)?)?;
+    }
+    Ok(())
+}
+
+/// What a line declares: its endpoints' addresses and its claims, unless it doesn't declare any.
+fn declared_of(alloc: Global, line: &ServiceLine) -> Result<Option<Texts>, NoMemory>
+    ensures { IfOk result (λ declared. declared ≡ declared_of line.now) }
+{
+    if line.undeclared {
+        return Ok(None);
+    }
+    let mut addresses = addresses_of(alloc, line.endpoints.as_slice())?;
+    add_claims(alloc, &mut addresses, line.claims.as_slice())?;
+    Ok(Some(addresses))
+}
+
+/// The services that service s names as its dependencies, ascending.
+fn depends_of(alloc: Global, services: &[ServiceLine], s: u32) -> Result<Numbers, NoMemory>
+    requires few { length services.now ≤ 1024 }
+    requires service { s < length services.now }
+    ensures { IfOk result (λ depends. depends ≡ depends_of services.now s) }
+{
+    let after = services[s as usize].dependencies();
+    let mut depends = Numbers::new(alloc);
+    for b in 0..services.len() as u32 {
+        if after.contains(&b) {
+            push_item(alloc, &mut depends, b)?;
+        }
+    }
+    Ok(depends)
+}
+
+/// Service s, of its line.
+fn service_plan(
+    alloc: Global,
+    services: &[ServiceLine],
+    s: u32,
+    line: &ServiceLine,
+) -> Result<ServicePlan, NoMemory>
+    requires few { length services.now ≤ 1024 }
+    requires service { s < length services.now }
+    ensures { IfOk result (λ plan. plan ≡ service_plan services.now s line.now) }
+{
+    let filter = filter_number(&services[..s as usize], line);
+    Ok(ServicePlan {
+        name: line.name.copy(alloc)?,
+        kind: line.kind,
+        depends: depends_of(alloc, services, s)?,
+        declared: declared_of(alloc, line)?,
+        endpoints: endpoints_of(alloc, filter, line.endpoints.as_slice())?,
+    })
+}
+
+/// The services, of their lines.
+pub(crate) fn service_plans(
+    alloc: Global,
+    services: &[ServiceLine],
+) -> Result<ServiceList, NoMemory>
+    requires { length services.now ≤ 1024 }
+    ensures { IfOk result (λ plans. plans ≡ plans_from services.now 0 services.now) }
+{
+    let mut plans = ServiceList::new(alloc);
+    for s in 0..services.len() as u32 {
+        let line = &services[s as usize];
+        push_item(alloc, &mut plans, service_plan(alloc, services, s, line)?)?;
+    }
+    Ok(plans)
+}
+
+/// The plan of these services with a configuration and flags, with what stands for the settings that
+/// are unset.
+pub(crate) fn settled(conf: &ServerConf, opt: &Opt, eager: bool, services: ServiceList) -> Plan
+    ensures { result ≡ settled conf.now opt.now eager services }
+{
+    Plan {
+        services,
+        grace: conf.grace_period_seconds.unwrap_or(300),
+        stop: conf.graceful_shutdown_timeout_seconds.unwrap_or(5),
+        tasks: conf.listener_tasks_per_fd,
+        limit: conf.upgrade_sock_connect_accept_max_retries.unwrap_or(5),
+        upgrade: opt.upgrade,
+        test: opt.test,
+        eager,
+        daemon: conf.daemon,
+        wait: conf.daemon_wait_for_ready,
+        ready_timeout: conf.daemon_ready_timeout_seconds.unwrap_or(600),
+    }
+}
+
+/// A graph with a node for each of the services, and no dependencies yet.
+fn graph_of(alloc: Global, services: &[ServiceLine]) -> Result<DependencyGraph, NoMemory>
+    ensures { IfOk result (λ graph. HasEdges graph (length services.now) (edges_up_to services.now 0)) }
+{
+    let mut graph = DependencyGraph::new(alloc);
+    for line in services {
+        match graph.add_node(alloc, line.name.copy(alloc)?) {
+            Ok(_) => {}
+            // There are few services, so it is memory that is wanted.
+            Err(_) => return Err(NoMemory),
+        }
+    }
+    Ok(graph)
+}
+
+/// The number of the first service whose dependencies are refused, if one is.
+pub(crate) fn first_refused(
+    alloc: Global,
+    services: &[ServiceLine],
+) -> Result<Option<usize>, NoMemory>
+    requires { length services.now ≤ 1024 }
+    ensures { IfOk result (λ refused. MatchOption refused (RefusesNone services.now) (RefusesAt services.now)) }
+{
+    let mut graph = graph_of(alloc, services)?;
+    add_dependencies(alloc, &mut graph, services)
+}
