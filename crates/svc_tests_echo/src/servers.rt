@@ -36,6 +36,7 @@ fn words_for(alloc: Global, address: SocketAddr, control: SocketAddr) -> Result<
 
 /// What a run of the echo server came to: its status, how many posts it made, and whether an address was in
 /// use.
+#[derive(Clone, Copy)]
 struct Ran {
     status: u8,
     posts: usize,
