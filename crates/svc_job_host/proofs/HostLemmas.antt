@@ -1,6 +1,6 @@
 -- What a host of jobs keeps, as its record grows.
-use Rattle.std.proofs.Common.{ℕ, zero, suc, Bool, true, false, ◌≡◌, ◌<◌, ◌≤◌, ◌+◌, ◌-◌, List, [], ◌∷◌, ◌++◌, length, map, take, Option, refl, sym, ap, ◌∙◌, inl, inr, arith, append_assoc}
-use Rattle.std.specs.Prelude.{slice_get, Some, None, bytes_eq, filter}
+use Rattle.std.proofs.Common.{ℕ, zero, suc, Bool, true, false, ◌≡◌, ◌<◌, ◌≤◌, ◌+◌, List, [], ◌∷◌, ◌++◌, length, map, take, refl, sym, ap, ◌∙◌, inl, inr, arith, append_assoc}
+use Rattle.std.specs.Prelude.{slice_get, Some, bytes_eq, filter}
 use Rattle.std.specs.List.{range_with_len}
 use Rattle.std.proofs.lemmas.Bool.{cases_Bool, cases_eq, and_from}
 use Rattle.std.proofs.lemmas.List.{append-nil, map-append, take_more}
@@ -159,8 +159,3 @@ keeps_new periods t all table = record {
   finished = λ h. absurd (omega arith);
   finished_last = λ h. absurd (omega arith);
 }
-
--- where no cause was found, there is none
-pub no_fault : {X : Type 0} (o : Option X) → ((x : X) → o ≡ Some x → ⊥) → o ≡ None
-no_fault None h = refl
-no_fault (Some x) h = absurd (h x refl)

@@ -1,5 +1,5 @@
 -- For how many moments there is room.
-use Rattle.std.proofs.Common.{ℕ, zero, suc, ◌≤◌, ◌+◌, ◌*◌, ◌/◌, min, arith}
+use Rattle.std.proofs.Common.{ℕ, zero, suc, ◌≤◌, ◌+◌, ◌*◌, ◌/◌, arith}
 use Rattle.std.proofs.Math.Nat.{div-mul-le_self}
 use Rattle.std.proofs.lemmas.Nat.{le-div}
 
@@ -10,10 +10,3 @@ room_used x y j le = less (x / (j + 1)) (div-mul-le_self x (j + 1))
     less : (a : ℕ) → a * (j + 1) ≤ x → a ≤ y / (j + 1) + 1
     less zero h = omega arith
     less (suc a) h = (let fewer : a * (j + 1) ≤ y = omega (arith, le) in let part : a ≤ y / (j + 1) = le-div a y (j + 1) (omega arith) fewer in omega arith)
-
--- an event is taken, and each of j jobs may have run
-pub room_less : (a a' b b' j : ℕ) → a ≤ a' + 1 → b ≤ b' + j → min a (b / (j + 1)) ≤ min a' (b' / (j + 1)) + 1
-room_less a a' b b' j events runs = (let moments : b / (j + 1) ≤ b' / (j + 1) + 1 = room_used b b' j runs in apart (b / (j + 1)) (b' / (j + 1)) moments)
-  where
-    apart : (x y : ℕ) → x ≤ y + 1 → min a x ≤ min a' y + 1
-    apart x y h = omega arith

@@ -1,5 +1,5 @@
 -- The runs of all jobs at one moment, one after the other.
-use Rattle.std.proofs.Common.{ℕ, true, false, ◌≡◌, ◌<◌, ◌≤◌, ◌+◌, ◌==◌, ◌||◌, not, List, [], ◌∷◌, ◌++◌, length, set, get_or, Option, refl, sym, ap, subst, ◌∙◌, inl, inr, arith, append_assoc, length-set}
+use Rattle.std.proofs.Common.{ℕ, true, false, ◌≡◌, ◌<◌, ◌≤◌, ◌+◌, ◌==◌, ◌||◌, not, List, ◌++◌, length, set, get_or, Option, refl, sym, ap, subst, ◌∙◌, inl, inr, arith, append_assoc, length-set}
 use Rattle.std.specs.Prelude.{slice_get, slice_set, Some, None, if◌then◌else◌}
 use Rattle.std.proofs.lemmas.Bool.{cases_eq}
 use Rattle.std.proofs.lemmas.List.{append-nil}

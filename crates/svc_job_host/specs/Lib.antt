@@ -6,6 +6,7 @@ pub mod Timetables
 pub mod JobHosts
 pub mod JobRefusals
 pub mod Upcoming
-pub mod AccountData
+pub mod JobRunnerData
+pub mod JobRunners
 pub mod JobHostData
 pub mod JobRuns

@@ -1,11 +1,8 @@
 //! A host that runs jobs.
 
-ghost use Rattle.std.specs.Prelude.{◌≡◌, ◌+◌, ◌<◌, ◌≤◌, ◌^◌, Option, [], ◌∷◌, length, map, reverse, position, slice_get, Some, None, IfOk, IfErr, IfSome, OnOk, MatchOption};
+ghost use Rattle.std.specs.Prelude.{◌≡◌, ◌<◌, [], length, map, reverse, position, slice_get, Some, None, IfOk, IfErr, OnOk};
 ghost use Rattle.std.specs.Bool.{Decides};
 ghost use Rattle.svc_base.specs.Items.{list_of};
-ghost use Rattle.svc_base.specs.Streams.{Rose};
-ghost use Rattle.svc_record.specs.declared.entry.Entry.TheVariants.{Got};
-ghost use Rattle.svc_record.specs.declared.event.Event.TheVariants as events;
 ghost use Rattle.svc_record.specs.declared.item.Item.TheVariants as items_given;
 ghost use Rattle.svc_server.specs.Hosts.{no_account};
 ghost use Rattle.svc_server.specs.ScriptHosts.{counts_with, handed_with};
@@ -15,21 +12,19 @@ ghost use Rattle.svc_job_host.specs.JobRuns.{TellsJobs, KeepsWords};
 ghost use Rattle.svc_job_host.specs.JobRefusals.{fault_of, is_idle, IsReason};
 ghost use Rattle.svc_job_host.specs.Rows.{HavePeriods, owing};
 ghost use Rattle.svc_job_host.specs.Timetables.{periods_of};
-ghost use Rattle.svc_job_host.specs.Upcoming.{item_of};
 
-use crate::account::Account;
 use crate::job::Job;
 use crate::plan::{JobPlan, RunList};
 use crate::refusals::{JobError, JobRefused};
+use crate::runner::JobRunner;
 use crate::service::JobService;
 use crate::timetable::Timetable;
-use crate::upcoming::{NextItem, are_same, upcoming};
 use std::alloc::Global;
 use std::marker::Model;
 use svc_base::NoMemory;
 use svc_graph::services::ServiceWithDependents;
-use svc_record::{Action, Entries, Event, Item, ShutdownSignal};
-use svc_server::{Host, Next};
+use svc_record::{Action, Entries, Event, Item};
+use svc_server::{AccountHost, Host, Next};
 
 /// A host that runs jobs: it gives the items of a list, one after the other, and at each moment runs
 /// the jobs that are due. A job's first run is followed by its word that it is ready. It keeps what it
@@ -39,41 +34,28 @@ use svc_server::{Host, Next};
 /// room and the last event.
 #[derive(Drop)]
 pub struct JobHost<J: Job> {
-    /// By the jobs' numbers.
-    plans: Vec<JobPlan>,
-    jobs: Vec<J>,
-    items: Vec<Item>,
-    /// How many items it gave.
-    given: usize,
-    timetable: Timetable,
-    account: Account<JobService>,
+    host: AccountHost<JobRunner<J>, JobService>,
 }
 
 impl<J: Job> Model for JobHost<J> {
-    ghost use Rattle.std.specs.Prelude.{◌≡◌, ◌+◌, ◌/◌, length, map, min};
     ghost use Rattle.svc_job_host.specs.JobHostData.{JobHostData};
-    ghost use Rattle.svc_job_host.specs.JobHosts.{KeepsJobs, AreJobItems, AreHeard};
-    ghost use Rattle.svc_job_host.specs.Timetables.{periods_of};
 
     ghost Value = { JobHostData J };
 
     ghost view = { λ h. record {
-      plans = h.plans.items;
-      jobs = h.jobs.items;
-      items = h.items.items;
-      given = h.given;
-      entries = h.account.entries;
-      handed = h.account.handed;
-      runs = h.timetable.runs;
-      faults = h.account.faults;
-      idles = h.account.idles;
-      failures = h.account.failures;
-      spare = min h.account.spare (h.timetable.spare / (length h.jobs.items + 1));
-      last = h.account.last;
+      plans = h.host.inner.plans;
+      jobs = h.host.inner.jobs;
+      items = h.host.inner.items;
+      given = h.host.inner.given;
+      entries = h.host.entries;
+      handed = h.host.handed;
+      runs = h.host.inner.timetable.runs;
+      faults = h.host.faults;
+      idles = h.host.idles;
+      failures = h.host.failures;
+      spare = h.host.spare;
+      last = h.host.last;
     } };
-
-    ghost invariant = { λ h. KeepsJobs (periods_of h.plans.items) h.timetable h.items.items h.given h.account.entries h.account.faults h.account.idles
-        × (length h.jobs.items ≡ length h.plans.items) × AreJobItems h.items.items × AreHeard (map J.told h.jobs.items) h.timetable.runs };
 }
 
 /// The index of the first plan whose period is 0.
@@ -96,21 +78,6 @@ fn fault_of(plans: &[JobPlan], jobs: usize) -> Option<JobError>
         Some(index) => Some(JobError::ZeroPeriod(index as u64)),
         None => None,
     }
-}
-
-/// The plans have these periods, in milliseconds.
-fn have_periods(plans: &[JobPlan], periods: &[u64]) -> bool
-    ensures { Decides result (periods_of plans.now ≡ periods.now) }
-{
-    if plans.len() != periods.len() {
-        return false;
-    }
-    for s in 0..plans.len() {
-        if plans[s].every != periods[s] {
-            return false;
-        }
-    }
-    true
 }
 
 impl<J: Job> JobHost<J> {
@@ -144,14 +111,11 @@ impl<J: Job> JobHost<J> {
             });
         }
         match Timetable::new(alloc, &plans) {
-            Ok(timetable) => Ok(JobHost {
-                plans,
-                jobs,
-                items,
-                given: 0,
-                timetable,
-                account: Account::new(alloc),
-            }),
+            Ok(timetable) => {
+                let runner = JobRunner::new(plans, jobs, items, timetable);
+                let host = AccountHost::new(alloc, runner);
+                Ok(JobHost { host })
+            }
             Err(NoMemory) => Err(JobRefused {
                 reason: JobError::NoMemory,
                 plans,
@@ -166,7 +130,7 @@ impl<J: Job> JobHost<J> {
         ensures runs { list_of result.now ≡ self.now.runs }
         ensures due { self.now.runs ≡ due_runs (periods_of self.now.plans) self.now.entries }
     {
-        self.timetable.runs()
+        self.host.inner().runs()
     }
 
     /// What it keeps at any time.
@@ -178,7 +142,7 @@ impl<J: Job> JobHost<J> {
         ensures finished { 0 < self.now.idles → self.now.given ≡ length self.now.items }
         ensures finished_last { 0 < self.now.idles → owing (periods_of self.now.plans) self.now.entries ≡ [] }
     {
-        let _given = self.given;
+        let _runner = self.host.inner();
     }
 
     /// Its jobs have these periods, in milliseconds, and it gives these items.
@@ -186,103 +150,14 @@ impl<J: Job> JobHost<J> {
         requires { AreJobItems items.now }
         ensures { Decides result ((periods_of self.now.plans ≡ periods.now) × (self.now.items ≡ items.now)) }
     {
-        have_periods(&self.plans, periods) && are_same(&self.items, items)
+        self.host.inner().is_of(periods, items)
     }
 
     /// What it gave and was told, the oldest first.
     pub fn entries(&self) -> &Entries
         ensures { list_of result.now ≡ reverse self.now.entries }
     {
-        self.account.entries()
-    }
-
-    /// The first job that has run and hasn't said yet that it is ready.
-    fn first_waiting(&self) -> Option<usize>
-        ensures number { IfSome result (λ s. s < 2 ^ 32) }
-        ensures row { IfSome result (λ s. s < length self.now.plans) }
-        ensures waiting { MatchOption result (owing (periods_of self.now.plans) self.now.entries ≡ [])
-            (λ s. owing (periods_of self.now.plans) self.now.entries ≡ s ∷ owing (periods_of self.now.plans) (Got (events.Ready s) ∷ self.now.entries)) }
-    {
-        self.timetable.first_owing()
-    }
-
-    /// The item that comes next.
-    fn next_item(&self) -> NextItem
-        ensures { slice_get self.now.items self.now.given ≡ item_of result }
-    {
-        upcoming(&self.items, self.given)
-    }
-
-    /// A job says that it is ready: the first that waits.
-    fn give_ready(&mut self, s: usize)
-        requires room { 0 < self.old.spare }
-        requires number { s < 2 ^ 32 }
-        requires row { s < length self.old.plans }
-        requires first { owing (periods_of self.old.plans) self.old.entries ≡ s ∷ owing (periods_of self.old.plans) (Got (events.Ready s) ∷ self.old.entries) }
-        ensures given { self.new ≡ record self.old { entries = Got (events.Ready s) ∷ self.old.entries; last = Some (events.Ready s); spare = self.new.spare } }
-        ensures room { self.old.spare ≤ self.new.spare + 1 }
-    {
-        self.timetable.take_ready(s);
-        self.account.take(Event::Ready(s as u32));
-    }
-
-    /// Time goes on, and each job that is due runs.
-    fn give_moment(&mut self, moment: u64)
-        requires room { 0 < self.old.spare }
-        requires next { slice_get self.old.items self.old.given ≡ Some (items_given.Event (events.Moment moment)) }
-        requires none_waits { owing (periods_of self.old.plans) self.old.entries ≡ [] }
-        ensures given { self.new ≡ record self.old {
-          jobs = self.new.jobs;
-          given = self.old.given + 1;
-          entries = Got
-              (events.Moment moment) ∷ self.old.entries;
-          runs = self.new.runs;
-          last = Some (events.Moment moment);
-          spare = self.new.spare;
-        } }
-        ensures room { self.old.spare ≤ self.new.spare + 1 }
-    {
-        self.given += 1;
-        self.timetable.take_moment(&mut self.jobs, moment);
-        self.account.take(Event::Moment(moment));
-    }
-
-    /// A signal comes.
-    fn give_signal(&mut self, kind: ShutdownSignal)
-        requires room { 0 < self.old.spare }
-        requires next { slice_get self.old.items self.old.given ≡ Some (items_given.Event (events.Signal kind)) }
-        requires none_waits { owing (periods_of self.old.plans) self.old.entries ≡ [] }
-        ensures given { self.new ≡ record self.old {
-          given = self.old.given + 1;
-          entries = Got (events.Signal kind) ∷ self.old.entries;
-          last = Some
-              (events.Signal kind);
-          spare = self.new.spare;
-        } }
-        ensures room { self.old.spare ≤ self.new.spare + 1 }
-    {
-        self.given += 1;
-        self.account.take(Event::Signal(kind));
-    }
-
-    /// The host fails: a fault comes next, and stays.
-    fn fail(&mut self)
-        requires next { slice_get self.old.items self.old.given ≡ Some items_given.Fault }
-        requires none_waits { owing (periods_of self.old.plans) self.old.entries ≡ [] }
-        ensures faults { Rose self.old.faults self.new.faults }
-        ensures same { self.new ≡ record self.old { faults = self.new.faults } }
-    {
-        self.account.fail();
-    }
-
-    /// Nothing is left.
-    fn idle(&mut self)
-        requires next { slice_get self.old.items self.old.given ≡ None }
-        requires none_waits { owing (periods_of self.old.plans) self.old.entries ≡ [] }
-        ensures idles { Rose self.old.idles self.new.idles }
-        ensures same { self.new ≡ record self.old { idles = self.new.idles } }
-    {
-        self.account.idle();
+        self.host.entries()
     }
 }
 
@@ -299,60 +174,34 @@ impl<J: Job> Host for JobHost<J> {
     ghost last = { λ h. h.last };
 
     fn faults(&self) -> u64 {
-        self.account.faults()
+        self.host.faults()
     }
 
     fn idles(&self) -> u64 {
-        self.account.idles()
+        self.host.idles()
     }
 
     fn failures(&self) -> u64 {
-        self.account.failures()
+        self.host.failures()
     }
 
     fn reserve(&mut self, alloc: Global, n: u64) -> Result<(), NoMemory> {
-        let Some(runs) = n.checked_mul(self.jobs.len() as u64 + 1) else {
-            return Err(NoMemory);
-        };
-        self.account.reserve(alloc, n)?;
-        self.timetable.reserve(alloc, runs)
+        self.host.reserve(alloc, n)
     }
 
     fn next(&mut self) -> Next {
-        if let Some(s) = self.first_waiting() {
-            self.give_ready(s);
-            return Next::Event;
-        }
-        match self.next_item() {
-            NextItem::Moment(moment) => {
-                self.give_moment(moment);
-                Next::Event
-            }
-            NextItem::Signal(kind) => {
-                self.give_signal(kind);
-                Next::Event
-            }
-            NextItem::Fault => {
-                self.fail();
-                Next::Failed
-            }
-            NextItem::Nothing => {
-                self.idle();
-                Next::None
-            }
-        }
+        self.host.next()
     }
 
     fn event(&self) -> &Event {
-        self.account.event()
+        self.host.event()
     }
 
     fn hand(&mut self, s: u32, service: JobService) {
-        self.account.hand(s, service);
+        self.host.hand(s, service);
     }
 
     fn tell(&mut self, action: Action) {
-        self.timetable.note(&action);
-        self.account.tell(action);
+        self.host.tell(action);
     }
 }

@@ -2,13 +2,13 @@
 //! dependencies, run once for their due moments, and stop at the shutdown.
 #![tactic(auto)]
 
-mod account;
 mod host;
 mod job;
 mod plan;
 mod refusals;
 mod row;
 mod run;
+mod runner;
 mod service;
 mod timetable;
 mod upcoming;

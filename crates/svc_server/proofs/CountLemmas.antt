@@ -1,5 +1,5 @@
 -- The counts of a host, turn after turn.
-use Rattle.std.proofs.Common.{ℕ, ◌≡◌, ◌-◌, Bool, true, false, refl, sym, subst, ap, ◌∙◌, Option, Some, None, Ok, Err, arith}
+use Rattle.std.proofs.Common.{ℕ, ◌≡◌, Bool, true, false, refl, sym, subst, ap, ◌∙◌, Option, Some, None, Ok, Err, arith}
 use Rattle.std.specs.Prelude.{Result, IfSome, MatchBool}
 use Rattle.svc_base.specs.Streams.{Rose}
 use Rattle.svc_record.specs.declared.event.Event.{Event}

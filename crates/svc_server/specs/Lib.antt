@@ -1,8 +1,12 @@
 pub mod Hosts
+pub mod AccountData
+pub mod AccountHostData
+pub mod InnerHosts
 pub mod Judges
 pub mod Runs
 pub mod Handing
 pub mod Turns
+pub mod ScriptItemsData
 pub mod ScriptHostData
 pub mod ScriptHosts
 pub mod Servers

@@ -1,5 +1,5 @@
 -- What a script host keeps, and what it tells of that.
-use Rattle.std.specs.Prelude.{ℕ, ◌≡◌, ◌+◌, ◌<◌, List, [], ◌∷◌, ◌++◌, length, All, Option, Some, None, slice_get}
+use Rattle.std.specs.Prelude.{ℕ, ◌≡◌, ◌+◌, ◌<◌, List, [], ◌∷◌, ◌++◌, length, Option, Some, None, slice_get}
 use Rattle.svc_record.specs.declared.action.Action.{Action}
 use Rattle.svc_record.specs.declared.action.Action.TheVariants.{Phase}
 use Rattle.svc_record.specs.declared.action.ExecutionPhase.{ExecutionPhase}
@@ -52,6 +52,11 @@ abbrev pub last_event : List Entry → Option ℕ → Option Event
 last_event entries None = None
 last_event entries (Some i) = got_event (slice_get entries i)
 
+-- what is answered where this item is given
+abbrev pub answer_to : Item → Next
+answer_to (items.Event e) = nexts.Event
+answer_to items.Fault = nexts.Failed
+
 -- an event among the items brings at most 32 descriptors
 abbrev pub GivesFew : Item → Type 0
 GivesFew (items.Event e) = BringsFew e
@@ -82,10 +87,8 @@ pub record FollowsScript (taken left : List Item) (r : Record) (faults idles : �
   pub faulted : faults ≡ item_faults taken
   pub finished : 0 < idles → left ≡ []
 
--- what a script host keeps: its answers and its record tell the items that were given, and the phases are those of its record; what is left has this size, and brings few descriptors
-pub record KeepsScript (answers : List Next) (left : List Item) (size : ℕ) (r : Record) (phases : List ExecutionPhase) (faults idles : ℕ) : Type 0 where
+-- what a script host keeps: its answers and its record tell the items that were given, and the phases are those of its record
+pub record KeepsScript (answers : List Next) (left : List Item) (r : Record) (phases : List ExecutionPhase) (faults idles : ℕ) : Type 0 where
   pub follows : FollowsScript (items_given answers (events_of r)) left r faults idles
   pub counted : event_count answers ≡ length (events_of r)
   pub phases_told : phases ≡ phases_of r
-  pub few : All GivesFew left
-  pub sized : size ≡ length left

@@ -1,6 +1,6 @@
 use Rattle.std.proofs.Common.{refl, reverse, map}
 use Rattle.svc_base.specs.Items.{list_of}
-use Rattle.svc_server.proofs.ScriptLemmas.{last-put, told-put}
+use Rattle.svc_hello.proofs.EntryLemmas.{last-put, told-put}
 use Rattle.svc_hello.specs.Handed.{handed_over}
 use Rattle.svc_hello.proofs.host.HelloHostHost.next.Goals as goal
 

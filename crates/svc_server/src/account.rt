@@ -5,6 +5,7 @@ ghost use Rattle.svc_base.specs.Items.{list_of};
 ghost use Rattle.svc_base.specs.Streams.{Rose};
 ghost use Rattle.svc_record.specs.declared.entry.Entry.TheVariants.{Got, Told};
 ghost use Rattle.svc_server.specs.Hosts.{tells_failure};
+ghost use Rattle.svc_server.specs.InnerHosts.{counted};
 ghost use Rattle.svc_server.specs.ScriptHosts.{last_event};
 
 use std::alloc::Global;
@@ -15,7 +16,7 @@ use svc_record::{Action, Entries, Entry, Event};
 /// What a host gave and was told, the services that it was handed, and its counts. Contracts see them
 /// with the newest first, its room, and the last event.
 #[derive(Drop)]
-pub(crate) struct Account<B> {
+pub(crate) struct HostAccount<B> {
     entries: Entries,
     handed: Reserved<(u32, B)>,
     /// Where the last event that came stands among the entries.
@@ -25,11 +26,11 @@ pub(crate) struct Account<B> {
     failures: u64,
 }
 
-impl<B> Model for Account<B> {
+impl<B> Model for HostAccount<B> {
     ghost use Rattle.std.specs.Prelude.{reverse, min};
     ghost use Rattle.svc_base.specs.Items.{list_of, spare};
     ghost use Rattle.svc_server.specs.ScriptHosts.{last_event};
-    ghost use Rattle.svc_job_host.specs.AccountData.{AccountData};
+    ghost use Rattle.svc_server.specs.AccountData.{AccountData};
 
     ghost Value = { AccountData B };
 
@@ -71,7 +72,7 @@ fn failures_with(failures: u64, event: &Event) -> u64
     }
 }
 
-impl<B> Account<B> {
+impl<B> HostAccount<B> {
     /// The account of a run that hasn't begun.
     pub(crate) fn new(alloc: Global) -> Self
         ensures entries { result.entries ≡ [] }
@@ -81,7 +82,7 @@ impl<B> Account<B> {
         ensures failures { result.failures ≡ 0 }
         ensures last { result.last ≡ None }
     {
-        Account {
+        HostAccount {
             entries: Entries::new(alloc),
             handed: Reserved::new(alloc),
             last: None,
@@ -155,7 +156,7 @@ impl<B> Account<B> {
 
     /// The host fails.
     pub(crate) fn fail(&mut self)
-        ensures faults { Rose self.old.faults self.new.faults }
+        ensures faults { self.new.faults ≡ counted self.old.faults }
         ensures same { self.new ≡ record self.old { faults = self.new.faults } }
     {
         self.faults = self.faults.saturating_add(1);
@@ -163,7 +164,7 @@ impl<B> Account<B> {
 
     /// Nothing comes.
     pub(crate) fn idle(&mut self)
-        ensures idles { Rose self.old.idles self.new.idles }
+        ensures idles { self.new.idles ≡ counted self.old.idles }
         ensures same { self.new ≡ record self.old { idles = self.new.idles } }
     {
         self.idles = self.idles.saturating_add(1);
