@@ -126,7 +126,8 @@ pub(crate) fn may_come(
 ) -> bool
     ensures may { IsTrue result → MayCome generation.now.core event.now }
     ensures means { AllStand (option_copied before.entry) generation.now (option_copied next.entry)
-        → result ≡ may_come (option_map data_of (option_copied before.entry)) (data_of generation.now) (option_map data_of (option_copied next.entry)) event.now }
+        → result ≡ may_come (option_map data_of (option_copied before.entry)) (data_of generation.now)
+        (option_map data_of (option_copied next.entry)) event.now }
 {
     if !generation.core.fits(event) {
         return false;
