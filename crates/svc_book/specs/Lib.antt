@@ -1,3 +1,4 @@
 pub mod BookData
 pub mod Journals
+pub mod Keeping
 pub mod Refusals

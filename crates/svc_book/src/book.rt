@@ -7,11 +7,12 @@ ghost use Rattle.svc_book.specs.Journals.{IsLegal, end_after};
 ghost use Rattle.svc_book.specs.Refusals.{IsDue};
 
 use crate::post::Post;
+use crate::told::{copies, take_actions, take_told};
 use std::alloc::Global;
 use std::marker::Model;
 use svc_base::NoMemory;
 use svc_core::Core;
-use svc_record::{Action, Actions, Event, Plan, StepEnd};
+use svc_record::{Actions, Event, Plan, StepEnd};
 
 /// A core that has begun, with the posts that it was stepped by.
 #[derive(Drop)]
@@ -20,10 +21,13 @@ pub struct Book {
     opening: Actions,
     limit: u64,
     posts: Vec<Post>,
+    // A step tells into these two lists. Between posts they are empty, and keep their room.
+    stage: Actions,
+    second: Actions,
 }
 
 impl Model for Book {
-    ghost use Rattle.std.specs.Prelude.{◌≤◌, ◌<◌, ◌^◌, length};
+    ghost use Rattle.std.specs.Prelude.{◌≡◌, ◌≤◌, ◌<◌, ◌^◌, [], length};
     ghost use Rattle.svc_base.specs.Items.{list_of};
     ghost use Rattle.svc_book.specs.BookData.{BookData, book};
     ghost use Rattle.svc_book.specs.Journals.{record_of, IsLegal};
@@ -34,7 +38,8 @@ impl Model for Book {
     ghost view = { λ b. book b.core.plan (list_of b.opening) b.limit b.posts.items };
 
     ghost invariant = { λ b. StandsFor b.core (record_of (book b.core.plan (list_of b.opening) b.limit b.posts.items) b.posts.items)
-        × IsLegal (book b.core.plan (list_of b.opening) b.limit b.posts.items) b.posts.items × (length b.posts.items ≤ b.limit) × (b.limit < 2 ^ 62) };
+        × IsLegal (book b.core.plan (list_of b.opening) b.limit b.posts.items) b.posts.items × (length b.posts.items ≤ b.limit) × (b.limit < 2 ^ 62)
+        × (list_of b.stage ≡ []) × (list_of b.second ≡ []) };
 }
 
 /// Why a book takes no post.
@@ -69,18 +74,6 @@ fn refused(refusal: Refusal, event: Event) -> BookRefused
     BookRefused { refusal, event }
 }
 
-/// The same actions again.
-fn copies(alloc: Global, actions: &[Action]) -> Result<Actions, NoMemory>
-    ensures { IfOk result (λ again. list_of again ≡ actions.now) }
-{
-    let mut again = Actions::new(alloc);
-    again.reserve(alloc, actions.len() as u64)?;
-    for action in actions {
-        again.put(action.copy(alloc)?);
-    }
-    Ok(again)
-}
-
 impl Book {
     /// A book whose core has begun, and the actions that it told.
     pub fn new(alloc: Global, plan: Plan, limit: u64) -> Result<(Book, Actions), NoMemory>
@@ -103,6 +96,8 @@ impl Book {
                 opening,
                 limit,
                 posts,
+                stage: Actions::new(alloc),
+                second: Actions::new(alloc),
             },
             actions,
         ))
@@ -137,19 +132,19 @@ impl Book {
         let Ok(()) = self.posts.reserve(1) else {
             return Err(refused(Refusal::NoMemory, event));
         };
-        let mut kept = Actions::new(alloc);
-        let mut actions = Actions::new(alloc);
         let Ok(end) = self
             .core
-            .step_twice(alloc, &event, said, &mut kept, &mut actions)
+            .step_twice(alloc, &event, said, &mut self.stage, &mut self.second)
         else {
             return Err(refused(Refusal::NoMemory, event));
         };
+        let told = take_told(alloc, &mut self.stage);
+        let actions = take_actions(alloc, &mut self.second);
         self.posts.push_reserved(Post {
             seat,
             event,
             said,
-            actions: kept,
+            actions: told,
         });
         Ok(Answer {
             place: self.posts.len() as u64,
@@ -168,6 +163,8 @@ impl Book {
             opening: _,
             limit: _,
             posts,
+            stage: _,
+            second: _,
         } = self;
         posts
     }

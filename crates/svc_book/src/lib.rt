@@ -3,6 +3,8 @@
 
 mod book;
 mod post;
+mod told;
 
 pub use book::{Answer, Book, BookRefused, Refusal};
 pub use post::Post;
+pub use told::Told;

@@ -1,6 +1,7 @@
 //! A post of a journal.
+use crate::told::Told;
 use std::marker::Model;
-use svc_record::{Actions, Event};
+use svc_record::Event;
 
 /// One post of a journal: who posted which event, what a filter said, and what was answered.
 #[derive(Drop)]
@@ -8,14 +9,13 @@ pub struct Post {
     pub seat: u64,
     pub event: Event,
     pub said: bool,
-    pub actions: Actions,
+    pub actions: Told,
 }
 
 impl Model for Post {
     ghost use Rattle.svc_record.specs.Journal.{PostData};
-    ghost use Rattle.svc_base.specs.Items.{list_of};
 
     ghost Value = { PostData };
 
-    ghost view = { λ p. record { seat = p.seat; event = p.event; said = p.said; actions = list_of p.actions } };
+    ghost view = { λ p. record { seat = p.seat; event = p.event; said = p.said; actions = p.actions } };
 }

@@ -1,6 +1,6 @@
 use Rattle.std.proofs.Common.{◌≡◌, ◌≤◌, ◌+◌, length, take}
 use Rattle.svc_base.specs.Items.{list_of, spare}
-use Rattle.svc_book.proofs.book.copies.Given as goal
+use Rattle.svc_book.proofs.told.copies.Given as goal
 
 abbrev pub invariant-loop-action : goal.invariant-loop-action
 invariant-loop-action l = record {
