@@ -19,7 +19,7 @@ use Rattle.svc_handover.proofs.TriesLemmas.{asks-due}
 use Rattle.svc_handover.proofs.CoveredLemmas.{offered-live, sent-is, IsOffers}
 use Rattle.svc_handover.proofs.ReceivedLemmas.{received-kept}
 use Rattle.svc_handover.proofs.PairLemmas.{encode-some, flies, read-as-sent}
-use Rattle.svc_handover.proofs.TextLemmas.{table-text}
+use Rattle.svc_handover.proofs.TextLemmas.{table-texts}
 use Rattle.svc_handover.proofs.OperatorLemmas.{never-given-up}
 use Rattle.svc_handover.proofs.ReachLemmas.{failed-later, silent-before, all-more, live-before, live-unsignalled}
 use Rattle.svc_handover.proofs.OperatorLaw.{live-listed, picked}
@@ -110,7 +110,7 @@ module _ (a : List ℕ) (g : Generation) (s : Stands g) (good : Good g a) (held 
     -- it names the address
     sent-names : names_address a (sent_message (history g)) ≡ true
     sent-names = ap (names_address a) offers.1.0 ∙ encode-names (table g.core.plan (history g)) a (live-ascending g.core.plan (before_signal (history g)))
-        (encode-some (table g.core.plan (history g)) (subst (λ x. is_written x ≡ true) offers.1.0 offers.1.1)) (table-text g.core.plan (before_signal (history g)) s.texts) ∙ among came
+        (encode-some (table g.core.plan (history g)) (subst (λ x. is_written x ≡ true) offers.1.0 offers.1.1)) (table-texts g.core.plan (before_signal (history g)) s.texts) ∙ among came
 
     -- and is on its way until the next generation has received it
     by-flight : (h : Generation) → has is_receipt (history h) ≡ false → carries (data_of g) (Some (data_of h)) a ≡ true
@@ -134,7 +134,7 @@ module _ (a : List ℕ) (g : Generation) (s : Stands g) (good : Good g a) (held 
           | inl was ↦ subst (λ r. is_sound_for h.core.plan r a ≡ true) (sym (unsignalled-before (history h) was)) (sound-before h.core.plan (history h) a next_good.sound)
           | inr none ↦ subst (λ r. is_sound_for h.core.plan r a ≡ true) (sym (unsignalled-whole (history h) none)) next_good.sound
         ] in
-        let reads = read-as-sent g.core.plan (history g) (receipt_of u).bytes (receipt_of u).fds (sent_message (history g)) offers.1.0 offers.1.1 (table-text g.core.plan (before_signal (history g)) s.texts) (q.stands.taken before) in
+        let reads = read-as-sent g.core.plan (history g) (receipt_of u).bytes (receipt_of u).fds (sent_message (history g)) offers.1.0 offers.1.1 (table-texts g.core.plan (before_signal (history g)) s.texts) (q.stands.taken before) in
         let live : has_live q.core.plan u (Some a) ≡ true = elim (received-kept q.core.plan u a (addresses (table g.core.plan (history g))) q.stands.new_right before reads.0 reads.1 (among came)) [
           | inl there ↦ there
           | inr gone ↦ clash (has_given_up q.core.plan u a) gone (never-given-up q.core u a q.stands.new_stands q.stands.new_right silent
