@@ -1,8 +1,9 @@
 //! The server: its configuration, its services, and its run.
 
-ghost use Rattle.std.specs.Prelude.{◌≡◌, reverse, length, Some, None, IfOk};
+ghost use Rattle.std.specs.Prelude.{◌≡◌, [], ◌∷◌, ◌++◌, reverse, length, Some, None, IfOk, OnOk};
 ghost use Rattle.svc_base.specs.Items.{list_of};
 ghost use Rattle.svc_conf.specs.Configuration.{defaults};
+ghost use Rattle.svc_graph.specs.Graphs.{node_count, with_node};
 ghost use Rattle.svc_record.specs.Right.{Served};
 ghost use Rattle.svc_server.specs.Servers.{answers_of, plan_of, IsSound};
 ghost use Rattle.svc_hello.specs.HelloPlan.{hello_plan};
@@ -12,8 +13,8 @@ use crate::services::HelloService;
 use std::alloc::Global;
 use svc_base::NoMemory;
 use svc_conf::{ReadError, ServerConf};
-use svc_graph::DependencyError;
 use svc_graph::services::ServiceWithDependents;
+use svc_graph::{DependencyError, ServiceHandle};
 use svc_server::{AddError, Outcome, RunArgs, RunError, Server};
 use thiserror::Error;
 
@@ -48,6 +49,31 @@ fn configuration(alloc: Global) -> Result<ServerConf, NoMemory>
     Ok(conf)
 }
 
+/// Adds a service. One that is refused is let go, and the reason is told.
+fn add(
+    server: &mut Server<HelloService>,
+    alloc: Global,
+    service: HelloService,
+) -> Result<ServiceHandle, HelloError>
+    ensures configuration { server.new.configuration ≡ server.old.configuration }
+    ensures options { server.new.options ≡ server.old.options }
+    ensures eager { server.new.eager ≡ server.old.eager }
+    ensures filters { server.new.filters ≡ server.old.filters }
+    ensures handle { IfOk result (λ handle. handle
+        ≡ record { id = node_count server.old.dependencies; name = ⟦<HelloService as ServiceWithDependents>⟧.named service }) }
+    ensures added { OnOk result (server.new.services.items ≡ server.old.services.items ++ service ∷ []) }
+    ensures node { OnOk result (server.new.dependencies
+        ≡ with_node server.old.dependencies (⟦<HelloService as ServiceWithDependents>⟧.named service)) }
+    ensures sound { IsSound server.old.dependencies (length server.old.filters)
+        (answers_of ⟦<HelloService as ServiceWithDependents>⟧ server.old.services.items)
+        → IsSound server.new.dependencies (length server.new.filters)
+        (answers_of ⟦<HelloService as ServiceWithDependents>⟧ server.new.services.items) }
+{
+    server
+        .add_service(alloc, service)
+        .map_err(|refused| HelloError::Service(refused.reason))
+}
+
 /// The server. Its web service starts once its cache is ready.
 fn hello_server(alloc: Global) -> Result<Server<HelloService>, HelloError>
     ensures plan { IfOk result (λ server. plan_of server.configuration server.options server.eager server.dependencies
@@ -56,12 +82,12 @@ fn hello_server(alloc: Global) -> Result<Server<HelloService>, HelloError>
         (answers_of ⟦<HelloService as ServiceWithDependents>⟧ server.services.items)) }
 {
     let mut server = Server::new_with_opt_and_conf(alloc, None, configuration(alloc)?)?;
-    let cache = server
-        .add_service(alloc, HelloService::cache(alloc, 3)?)
-        .map_err(|refused| HelloError::Service(refused.reason))?;
-    let web = server
-        .add_service(alloc, HelloService::web(alloc, "127.0.0.1:8080")?)
-        .map_err(|refused| HelloError::Service(refused.reason))?;
+    let cache = add(&mut server, alloc, HelloService::cache(alloc, 3)?)?;
+    let web = add(
+        &mut server,
+        alloc,
+        HelloService::web(alloc, "127.0.0.1:8080")?,
+    )?;
     web.add_dependency(alloc, &mut server.dependencies, &cache)?;
     Ok(server)
 }
