@@ -9,9 +9,10 @@ use Rattle.svc_base.specs.Options.{◌>>=◌}
 use Rattle.svc_base.specs.Words.{is_feed, is_blank, is_word, words}
 use Rattle.svc_text.specs.EventLines.{item_of}
 use Rattle.svc_text.specs.Script.{is_header, is_skipped}
-use Rattle.svc_jobs.specs.JobTexts.{period_of, after_of, job_of, service_line, is_daemon, is_job_event, inner_line, script_line, part_with, script_lines_from, script_lines, said_period, periods_from}
-use Rattle.svc_jobs.proofs.PieceLemmas.{none_of, pieces_all, filter_keeps, lines_none}
-use Rattle.svc_jobs.proofs.TextLemmas.{IsWhole, none_both, Writes, line_written}
+use Rattle.svc_main.specs.TextLines.{is_daemon}
+use Rattle.svc_jobs.specs.JobTexts.{period_of, after_of, job_of, service_line, is_job_event, inner_line, script_line, part_with, script_lines_from, script_lines, said_period, periods_from}
+use Rattle.svc_main.proofs.PieceLemmas.{none_of, pieces_all, filter_keeps, lines_none}
+use Rattle.svc_main.proofs.TextLemmas.{IsWhole, none_both, Writes, line_written}
 
 -- ---- no line of the script has a line feed
 

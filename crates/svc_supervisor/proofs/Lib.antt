@@ -7,3 +7,10 @@ pub mod LinkedLemmas
 pub mod PlaceLemmas
 pub mod ClosingLemmas
 pub mod ChainLemmas
+pub mod StepLineLemmas
+pub mod BlockTextLemmas
+pub mod InputLemmas
+pub mod PlanLemmas
+pub mod ServingLemmas
+pub mod TextOfChain
+pub mod AnswerLemmas

@@ -5,3 +5,12 @@ pub mod Carries
 pub mod Kept
 pub mod Refusals
 pub mod Generations
+pub mod StepLines
+pub mod BlockTexts
+pub mod Inputs
+pub mod BlockReadings
+pub mod ChainStatus
+pub mod Serving
+pub mod ChainPrograms
+pub mod PlanReadings
+pub mod Servings

@@ -4,7 +4,7 @@ use Rattle.std.specs.Str.Lines.{lines}
 use Rattle.std.proofs.lemmas.List.Folds.{list_all-append}
 use Rattle.svc_base.specs.Words.{is_feed}
 use Rattle.svc_base.proofs.LineLemmas.{lines-then}
-use Rattle.svc_jobs.proofs.PieceLemmas.{none_of, none_each, strip-return}
+use Rattle.svc_main.proofs.PieceLemmas.{none_of, none_each, strip-return}
 
 -- the text has whole lines: what is written behind it makes lines of its own
 pub record IsWhole (text : List ℕ) : Type 0 where
