@@ -52,11 +52,11 @@ inside_rest (suc n) (y ∷ xs) more x e = (let inner = inside_rest n xs more x e
 -- the first generation has begun by the plan of the first block
 pub begun_serving : (blocks : List BlockParts) (plan : Plan) (plans : List Plan) (s : Serving) → plans_of blocks ≡ plan ∷ plans → s.plans ≡ plans → lines_in s.services ≡ services_of blocks → BeginsChain plan s.chain.generations → ChainKept s.chain.generations
     → s.chain.finished ≡ false → IsServing blocks [] s
-begun_serving blocks plan plans s first rest services begins kept open =
+begun_serving blocks plan plans s first rest services begins kept going =
     let one : length s.chain.generations ≡ 1 = ap (λ (xs : List GenerationData). length xs) begins.alone in
     record {
       left = (record { plan = plan; first = ap (λ (ps : List Plan). slice_get ps 0) first; begins = begins }, kept);
-      open = open;
+      unfinished = going;
       plans = rest ∙ sym (ap (λ (n : ℕ). drop n (plans_of blocks)) one ∙ ap (λ (ps : List Plan). drop 1 ps) first);
       services = services;
     }
@@ -64,13 +64,13 @@ begun_serving blocks plan plans s first rest services begins kept open =
 -- the next one was launched
 pub launched_serving : (blocks : List BlockParts) (before : List Step) (plan : Plan) (old new : Serving) → IsServing blocks before old → old.plans ≡ plan ∷ new.plans → Launches old.chain.generations new.chain.generations plan → ChainKept new.chain.generations
     → new.chain.finished ≡ false → new.services ≡ old.services → IsServing blocks (steps.Launch ∷ before) new
-launched_serving blocks before plan old new h first launches kept open services =
+launched_serving blocks before plan old new h first launches kept going services =
     let n : ℕ = length old.chain.generations in
     let next : drop n (plans_of blocks) ≡ plan ∷ new.plans = sym h.plans ∙ first in
     let more : length new.chain.generations ≡ suc n = ap (λ (xs : List GenerationData). length xs) launches.others ∙ length-append old.chain.generations (launches.newest ∷ []) ∙ omega arith in
     record {
       left = (old.chain.generations, h.left, record { plan = plan; next = here_of n (plans_of blocks) new.plans plan next; launches = launches }, kept);
-      open = open;
+      unfinished = going;
       plans = sym (rest_of n (plans_of blocks) new.plans plan next) ∙ ap (λ (k : ℕ). drop k (plans_of blocks)) (sym more);
       services = ap lines_in services ∙ h.services;
     }
@@ -87,11 +87,11 @@ stepped_length old new k e said end s = ap (λ (xs : List GenerationData). lengt
 
 pub given_serving : (blocks : List BlockParts) (before : List Step) (g : ℕ) (e : Event) (said : Bool) (end : StepEnd) (old new : Serving) → IsServing blocks before old → Steps old.chain.generations new.chain.generations g e said end → said ≡ said_by (slice_get (lines_in old.services) g) e
     → ChainKept new.chain.generations → new.chain.finished ≡ false → new.services ≡ old.services → new.plans ≡ old.plans → IsServing blocks (steps.Event g e ∷ before) new
-given_serving blocks before g e said end old new h stepped is kept open services plans =
+given_serving blocks before g e said end old new h stepped is kept going services plans =
     let answer : said ≡ said_to blocks g e = is ∙ ap (λ (ls : List (List ServiceLine)). said_by (slice_get ls g) e) h.services in
     record {
       left = (old.chain.generations, h.left, record { end = end; steps = subst (λ (b : Bool). Steps old.chain.generations new.chain.generations g e b end) answer stepped }, kept);
-      open = open;
+      unfinished = going;
       plans = plans ∙ h.plans ∙ ap (λ (n : ℕ). drop n (plans_of blocks)) (sym (stepped_length old.chain.generations new.chain.generations g e said end stepped));
       services = ap lines_in services ∙ h.services;
     }

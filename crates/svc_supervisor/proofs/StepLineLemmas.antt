@@ -2,7 +2,9 @@
 use Rattle.std.proofs.Common.{◌≡◌, ℕ, ◌+◌, List, [], ◌∷◌, ◌++◌, Option, Some, None, Result, Ok, Err, refl, ap, sym, ◌∙◌, append_assoc, append-nil}
 use Rattle.std.specs.Str.Lines.{lines}
 use Rattle.svc_supervisor.specs.declared.steps.Step.{Step}
-use Rattle.svc_supervisor.specs.StepLines.{step_in, steps_before, step_before, steps_from}
+use Rattle.svc_text.specs.declared.parsing.ScriptError.{ScriptError}
+use Rattle.svc_text.specs.declared.parsing.ScriptError.TheVariants.{Line, NoMemory}
+use Rattle.svc_supervisor.specs.StepLines.{step_in, steps_before, step_before, steps_from, Reads}
 
 pub steps_none : (more : Result (List Step) ℕ) → steps_before [] more ≡ more
 steps_none (Ok more) = refl
@@ -33,3 +35,9 @@ step_refused front whole n passed rest line after first is h = sym h ∙ ap (ste
 
 pub steps_all : (front : List Step) (whole : Result (List Step) ℕ) (passed : ℕ) (rest : List ℕ) → lines rest ≡ [] → steps_before front (steps_from passed (lines rest)) ≡ whole → whole ≡ Ok front
 steps_all front whole passed rest none h = sym h ∙ ap (λ (ls : List (List ℕ)). steps_before front (steps_from passed ls)) none ∙ ap (λ (xs : List Step). Ok xs) (append-nil front)
+
+-- the refusal of a line is that of the steps
+pub refused_reads : (front : List Step) (whole : Result (List Step) ℕ) (passed : ℕ) (rest line after : List ℕ) (error : ScriptError) → lines rest ≡ line ∷ lines after → Reads {A = Option Step} (λ o. o) (Err error) (step_in (passed + 1) line)
+    → steps_before front (steps_from passed (lines rest)) ≡ whole → Reads {A = List Step} (λ s. s) (Err error) whole
+refused_reads front whole passed rest line after (Line n) first said h = step_refused front whole n passed rest line after first said h
+refused_reads front whole passed rest line after NoMemory first said h = tt

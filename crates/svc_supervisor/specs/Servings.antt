@@ -11,7 +11,7 @@ use Rattle.svc_supervisor.specs.Serving.{plans_of, services_of, LeftBy, Leaves, 
 -- these steps, the newest first, have left the chain; the plans of the other blocks are there, and the services of all
 pub record IsServing (blocks : List BlockParts) (before : List Step) (s : Serving) : Type 0 where
   pub left : LeftBy blocks before s.chain.generations
-  pub open : s.chain.finished ≡ false
+  pub unfinished : s.chain.finished ≡ false
   pub plans : s.plans ≡ drop (length s.chain.generations) (plans_of blocks)
   pub services : lines_in s.services ≡ services_of blocks
 
