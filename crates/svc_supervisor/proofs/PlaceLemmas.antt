@@ -1,25 +1,24 @@
 -- A generation at its place in a chain, and the causes of refusals there.
-use Rattle.std.proofs.Common.{ℕ, zero, suc, Bool, true, false, not, ◌&&◌, List, [], ◌∷◌, ◌++◌, ◌≡◌, ◌<◌, ◌≤◌, ◌-◌, refl, ap, sym, ◌∙◌, subst, arith, length, map, get_or, set, Option, Some, None}
+use Rattle.std.proofs.Common.{ℕ, zero, suc, Bool, true, false, ◌&&◌, List, [], ◌∷◌, ◌++◌, ◌≡◌, ◌<◌, refl, ap, sym, ◌∙◌, subst, arith, length, map, get_or, set, Option, Some, None}
 use Rattle.std.specs.Prelude.{slice_get, IfSome, is_err, OnOk, OnErr, IfOk, Result, Ok, Err, ◌↔◌}
 use Rattle.std.specs.Option.{option_map}
 use Rattle.std.proofs.lemmas.Option.{slice_get-map, slice_get_read}
 use Rattle.svc_record.specs.declared.plan.Plan.{Plan}
 use Rattle.svc_record.specs.declared.action.StepEnd.{StepEnd}
-use Rattle.svc_record.specs.declared.entry.Entry.TheVariants.{Got}
 use Rattle.svc_record.specs.declared.event.Event.{Event}
-use Rattle.svc_record.specs.Record.{Record, has, is_signal}
+use Rattle.svc_record.specs.Record.{Record, has}
 use Rattle.svc_record.specs.Boot.{is_open_receiver}
 use Rattle.svc_record.specs.Fits.{Fits, fits}
 use Rattle.svc_core.specs.Stands.{StandsFor}
 use Rattle.svc_base.proofs.Logic.{bool_same}
-use Rattle.svc_handover.specs.Channel.{channel_of, reached, is_taken, is_receipt, is_sent, is_join, old_may}
+use Rattle.svc_handover.specs.Channel.{reached, is_taken, is_receipt, is_sent, is_join}
 use Rattle.svc_supervisor.specs.declared.generation.Generation.{Generation}
 use Rattle.svc_supervisor.specs.declared.marks.Marks.{Marks}
 use Rattle.svc_supervisor.specs.ChainData.{GenerationData}
-use Rattle.svc_supervisor.specs.Chains.{may_come, may_come_at, may_come_to, before_may, channel_to, generation_before, has_taken, has_taken_at, is_early, is_ready, closed, Steps, Launches}
-use Rattle.svc_supervisor.specs.Generations.{Begins, Takes, IsSame, Stands, EachStands, AllStand, Linked, MayStep, MayLaunch, history, data_of}
+use Rattle.svc_supervisor.specs.Chains.{may_come, may_come_at, may_come_to, generation_before, has_taken, has_taken_at, Steps, Launches}
+use Rattle.svc_supervisor.specs.Generations.{Begins, Takes, Stands, AllStand, Linked, MayStep, MayLaunch, history, data_of}
 use Rattle.svc_supervisor.proofs.GenerationLemmas.{begun, took}
-use Rattle.svc_supervisor.proofs.LinkedLemmas.{stands-at, all-stand, linked-launch, linked-step, linked-same, data-same, data-set}
+use Rattle.svc_supervisor.proofs.LinkedLemmas.{stands-at, all-stand, linked-launch, linked-step, data-set}
 
 pub unless-err : {X E : Type 0} (r : Result X E) (P : Type 0) → is_err r ≡ false → OnOk r P → P
 unless-err (Ok x) P h p = p
@@ -111,13 +110,6 @@ come-held r f m x h k = grind arith
 
 pub come-next : (b f r m k x : Bool) → b ≡ true → b ≡ f → r ≡ true → r ≡ m → k ≡ x → k ≡ (f && (m && x))
 come-next b f r m k x h i j l n = grind arith
-
--- whether it is early
-pub early-by : (r s t h : Bool) → r ≡ true → r ≡ s → t ≡ h → not t ≡ (s && not h)
-early-by r s t h a b c = grind arith
-
-pub late-by : (r s h : Bool) → r ≡ false → r ≡ s → false ≡ (s && not h)
-late-by r s h a b = grind arith
 
 -- what follows from either answer
 pub ok-then : {X E : Type 0} (r : Result X E) (P Q : X → Type 0) → IfOk r P → ((x : X) → P x → Q x) → IfOk r Q

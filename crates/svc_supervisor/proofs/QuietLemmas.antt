@@ -1,10 +1,7 @@
 -- What stands before a generation's first signal, as that is added to.
-use Rattle.std.proofs.Common.{ℕ, Bool, true, false, ◌||◌, ◌&&◌, not, List, [], ◌∷◌, ◌≡◌, refl, ap, sym, ◌∙◌, subst, inl, inr, if◌then◌else◌}
-use Rattle.std.proofs.lemmas.Bool.{cases_Bool, or_cases, or_left, or_right}
-use Rattle.svc_record.specs.declared.plan.Plan.{Plan}
+use Rattle.std.proofs.Common.{Bool, true, false, ◌||◌, List, [], ◌∷◌, ◌≡◌, refl, ap, sym, ◌∙◌, inl, inr, if◌then◌else◌}
+use Rattle.std.proofs.lemmas.Bool.{cases_Bool, or_right}
 use Rattle.svc_record.specs.declared.action.Action.{Action}
-use Rattle.svc_record.specs.declared.action.StepEnd.{StepEnd}
-use Rattle.svc_record.specs.declared.entry.Entry.{Entry}
 use Rattle.svc_record.specs.declared.entry.Entry.TheVariants.{Got, Told}
 use Rattle.svc_record.specs.declared.event.Event.{Event}
 use Rattle.svc_record.specs.declared.event.Event.TheVariants.{Signal}
@@ -27,9 +24,6 @@ before-tell q (a ∷ told) = before-tell (Told a ∷ q) told
 
 pub signal-tell : (q : Record) (told : List Action) → has is_signal (tell q told) ≡ has is_signal q
 signal-tell q told = has-tell is_signal (λ a. refl) q told
-
-pub receipt-tell : (q : Record) (told : List Action) → has is_receipt (tell q told) ≡ has is_receipt q
-receipt-tell q told = has-tell is_receipt (λ a. refl) q told
 
 -- one more event, once a signal came
 before-got : (q : Record) (e : Event) → has is_signal q ≡ true → before_signal (Got e ∷ q) ≡ before_signal q

@@ -1,8 +1,8 @@
 //! The chain: generations that take over one from the other.
 
-ghost use Rattle.std.specs.Prelude.{◌≡◌, ◌∷◌, ◌<◌, ◌≤◌, [], false, true, IfOk, IfErr, OnOk, OnErr, length, slice_get, IsTrue, reverse, IfSome, MatchBool};
+ghost use Rattle.std.specs.Prelude.{◌≡◌, ◌<◌, ◌≤◌, false, true, IfOk, IfErr, OnOk, OnErr, length, slice_get, reverse, IfSome};
 ghost use Rattle.svc_base.specs.Items.{list_of};
-ghost use Rattle.svc_supervisor.specs.Chains.{Launches, Steps, AreClosed, MayBegin, finished_chain, BeginsChain};
+ghost use Rattle.svc_supervisor.specs.Chains.{Launches, Steps, AreClosed, finished_chain, BeginsChain};
 ghost use Rattle.svc_supervisor.specs.Kept.{ChainKept};
 ghost use Rattle.svc_supervisor.specs.Refusals.{IsFirstRefusal, IsLaunchRefusal, IsStepRefusal};
 

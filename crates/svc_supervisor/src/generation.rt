@@ -1,6 +1,6 @@
 //! A generation of a chain: a core that has begun, with the record of its run.
 
-ghost use Rattle.std.specs.Prelude.{◌≡◌, ◌+◌, ◌≤◌, ◌++◌, List, length, map, IsTrue, IfOk, IfErr, OnOk, OnErr, None};
+ghost use Rattle.std.specs.Prelude.{◌≡◌, ◌+◌, ◌≤◌, ◌++◌, length, map, IsTrue, IfOk, IfErr, OnOk, OnErr, None};
 ghost use Rattle.std.specs.Option.{option_copied, option_map};
 ghost use Rattle.svc_base.specs.Items.{list_of, spare};
 ghost use Rattle.svc_record.specs.Validity.{IsValid};
@@ -126,7 +126,8 @@ pub(crate) fn may_come(
 ) -> bool
     ensures may { IsTrue result → MayCome generation.now.core event.now }
     ensures means { AllStand (option_copied before.entry) generation.now (option_copied next.entry)
-        → result ≡ may_come (option_map data_of (option_copied before.entry)) (data_of generation.now) (option_map data_of (option_copied next.entry)) event.now }
+        → result ≡ may_come (option_map data_of (option_copied before.entry)) (data_of generation.now)
+        (option_map data_of (option_copied next.entry)) event.now }
 {
     if !generation.core.fits(event) {
         return false;

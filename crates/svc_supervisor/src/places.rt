@@ -16,7 +16,6 @@ use svc_base::NoMemory;
 use svc_core::{Event, Plan, StepEnd};
 
 /// Whether the generation with this number has taken over from the one before it. The first takes nothing over.
-
 fn has_taken_at(generations: &[Generation], index: usize) -> bool
     requires begun { index < length generations.now }
     ensures { Linked generations.now → result ≡ has_taken_at (map data_of generations.now) index }
@@ -49,7 +48,6 @@ fn generation_after(generations: &[Generation], index: usize) -> Option<&Generat
 }
 
 /// Whether the event may come to the generation with this number.
-
 fn may_come_at(generations: &[Generation], index: usize, event: &Event) -> bool
     requires begun { index < length generations.now }
     ensures may { IsTrue result → IfSome (slice_get generations.now index) (λ g. MayCome g.core event.now) }
@@ -61,7 +59,6 @@ fn may_come_at(generations: &[Generation], index: usize, event: &Event) -> bool
 }
 
 /// A signal comes to the generation with this number before it has taken over.
-
 fn is_early(generations: &[Generation], index: usize, event: &Event) -> bool
     requires begun { index < length generations.now }
     ensures { Linked generations.now → result ≡ is_early (map data_of generations.now) index event.now }
@@ -74,7 +71,6 @@ fn is_early(generations: &[Generation], index: usize, event: &Event) -> bool
 }
 
 /// The event, where it may come to the generation with this number; else why it may not.
-
 pub(crate) fn check_step(
     generations: &[Generation],
     index: usize,
@@ -98,7 +94,6 @@ pub(crate) fn check_step(
 
 /// The generation with this number takes the event, which may come to it. Where memory is refused the event
 /// comes back, and only room has changed.
-
 pub(crate) fn take_at(
     generations: &mut [Generation],
     index: usize,
@@ -116,7 +111,6 @@ pub(crate) fn take_at(
 }
 
 /// Whether a generation can be run by the plan, as the first one or as a later one.
-
 fn may_begin(alloc: Global, plan: &Plan, later: bool) -> Result<bool, NoMemory>
     ensures { IfOk result (λ may. MatchBool may (MayBegin later plan.now) (MayBegin later plan.now → ⊥)) }
 {
@@ -127,7 +121,6 @@ fn may_begin(alloc: Global, plan: &Plan, later: bool) -> Result<bool, NoMemory>
 }
 
 /// The first generation of a chain.
-
 pub(crate) fn first_generation(alloc: Global, plan: Plan) -> Result<Generation, ChainRefused>
     ensures begins { IfOk result (Begins plan) }
     ensures may { OnOk result (MayBegin false plan) }
@@ -145,7 +138,6 @@ pub(crate) fn first_generation(alloc: Global, plan: Plan) -> Result<Generation, 
 }
 
 /// The generation after these.
-
 pub(crate) fn next_generation(
     alloc: Global,
     generations: &[Generation],
