@@ -4,15 +4,17 @@ use Rattle.std.specs.List.{list_any, filter_map, cons_option}
 use Rattle.std.specs.Ordering.{nat_cmp, match_ordering}
 use Rattle.std.specs.declared.cmp.Ordering.{Ordering}
 use Rattle.std.specs.declared.cmp.Ordering.TheVariants.{Less, Equal, Greater}
-use Rattle.std.specs.Cmp.Lexicographic.{slice_cmp}
+use Rattle.std.specs.BTreeMap.{insert_entry}
+use Rattle.std.specs.Cmp.Lexicographic.{slice_cmp, nat_list_cmp_total}
 use Rattle.std.specs.Str.{bytes_eq}
 use Rattle.std.specs.Option.{option_to_list}
 use Rattle.std.proofs.lemmas.Bool.{cases_Bool}
+use Rattle.std.proofs.lemmas.Cmp.{tied_itself}
 use Rattle.std.proofs.lemmas.List.{take_more}
 use Rattle.std.proofs.lemmas.List.Elements.{filter_map-append}
 use Rattle.std.proofs.lemmas.Map.Lookups.{exact_bytes}
 use Rattle.svc_fds.specs.Tables.{Entry as TableEntry, lookup, put, put_all, PrecedesAll, IsAscending}
-use Rattle.svc_fds.proofs.TableLemmas.{differs_back, lesser, same, equal, lookup-put, precedes-trans}
+use Rattle.svc_fds.proofs.TableLemmas.{differs_back, lesser, greater, same, equal, lookup-put, precedes-trans}
 use Rattle.svc_fds.proofs.PairLemmas.{ascending-put_all}
 use Rattle.svc_record.specs.declared.plan.Plan.{Plan}
 use Rattle.svc_record.specs.Record.{Record}
@@ -154,6 +156,20 @@ put_all-more (x ∷ xs) ys es = put_all-more xs ys (put x.0 x.1 es)
 option_last : (o : Option TableEntry) → cons_option o [] ≡ option_to_list o
 option_last (Some e) = refl
 option_last None = refl
+
+-- a map of addresses, with a number set at one of them
+insert_by : (a : List ℕ) (n : ℕ) (e : TableEntry) (es : List TableEntry) (o : Ordering) → slice_cmp nat_cmp e.0 a ≡ o → insert_entry (slice_cmp nat_cmp) es a n ≡ put a n es
+    → insert_entry (slice_cmp nat_cmp) (e ∷ es) a n ≡ match_ordering o (e ∷ put a n es) ((a, n) ∷ es) ((a, n) ∷ e ∷ es)
+insert_by a n e es Less o rest = rw (greater e.0 a o) (ap (λ xs. e ∷ xs) rest)
+insert_by a n e es Equal o rest =
+    let same_address : e.0 ≡ a = exact_bytes e.0 a o in
+    let tied : slice_cmp nat_cmp a e.0 ≡ Equal = subst (λ x. slice_cmp nat_cmp a x ≡ Equal) (sym same_address) (tied_itself nat_list_cmp_total a) in
+    rw tied (ap (λ x. (x, n) ∷ es) same_address)
+insert_by a n e es Greater o rest = rw (lesser e.0 a o) refl
+
+pub insert_entry-put : (a : List ℕ) (n : ℕ) (es : List TableEntry) → insert_entry (slice_cmp nat_cmp) es a n ≡ put a n es
+insert_entry-put a n [] = refl
+insert_entry-put a n (e ∷ es) = insert_by a n e es (slice_cmp nat_cmp e.0 a) refl (insert_entry-put a n es)
 
 -- one descriptor more
 pub put_all-next : (table : List Open) (k : ℕ) (o : Open) (es : List TableEntry) → k < length table → o ≡ get_or table k o

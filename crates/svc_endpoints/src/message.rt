@@ -1,7 +1,7 @@
 //! What is live, as the message to a successor.
 
-ghost use Rattle.std.specs.Prelude.{◌≡◌, ◌+◌, ◌<◌, ◌≤◌, [], length, not, IfOk, OnOk};
-ghost use Rattle.std.specs.List.{list_any, filter_map};
+ghost use Rattle.std.specs.Prelude.{◌≡◌, not, IfOk, OnOk};
+ghost use Rattle.std.specs.List.{list_any};
 ghost use Rattle.std.specs.Option.{option_to_list};
 ghost use Rattle.svc_fds.specs.Tables.{put_all};
 ghost use Rattle.svc_record.specs.declared.plan.Plan.{Plan};
@@ -15,8 +15,9 @@ ghost use Rattle.svc_endpoints.specs.Offered.{open_entry, offer_table, is_addres
 use crate::endpoints::Endpoints;
 use crate::table::Open;
 use std::alloc::Global;
-use svc_base::NoMemory;
-use svc_fds::{EncodeError, Fd, Fds, Message};
+use std::collections::BTreeMap;
+use svc_base::{NoMemory, Text};
+use svc_fds::{EncodeError, FdList, Message, encode};
 
 fn is_addressed(entry: &Open) -> bool
     ensures { result ≡ is_addressed entry.now }
@@ -31,64 +32,45 @@ fn has_addressed(entries: &[Open]) -> bool
     entries.iter().any(|entry| is_addressed(entry))
 }
 
-/// Adds a copy of the descriptor under its address, if it has one.
-fn add_entry(alloc: Global, entry: &Open, fds: &mut Fds) -> Result<(), NoMemory>
-    requires { 0 < fds.old.spare }
-    ensures entries { OnOk result (fds.new.entries ≡ put_all (option_to_list (open_entry entry.now)) fds.old.entries) }
-    ensures room { fds.old.spare ≤ fds.new.spare + 1 }
+/// Sets the descriptor's number at its address, if it has one.
+fn add_entry(alloc: Global, entry: &Open, numbers: &mut BTreeMap<Text, u64>) -> Result<(), NoMemory>
+    ensures { OnOk result (numbers.new.entries
+        ≡ put_all (option_to_list (open_entry entry.now)) numbers.old.entries) }
 {
-    let Some(address) = &entry.address else {
-        return Ok(());
-    };
-    match fds.add(alloc, address.copy(alloc)?, Fd::new(entry.fd)) {
-        Ok(None) => {}
-        Ok(Some(replaced)) => {
-            let _ = replaced.close();
-        }
-        Err(_) => unreachable!(),
+    if let Some(address) = &entry.address {
+        numbers.insert(address.copy(alloc)?, entry.fd)?;
     }
     Ok(())
 }
 
-/// Adds a copy of each descriptor that has an address.
-fn add_entries(alloc: Global, entries: &[Open], fds: &mut Fds) -> Result<(), NoMemory>
-    requires { length entries.now ≤ fds.old.spare }
-    ensures { OnOk result (fds.new.entries ≡ put_all (filter_map open_entry entries.now) fds.old.entries) }
+/// The numbers of the descriptors by their addresses.
+fn offered(alloc: Global, entries: &[Open]) -> Result<BTreeMap<Text, u64>, NoMemory>
+    ensures { IfOk result (λ numbers. numbers.entries ≡ offer_table entries.now) }
 {
+    let mut numbers = BTreeMap::new(alloc);
     for entry in entries {
-        add_entry(alloc, entry, fds)?;
+        add_entry(alloc, entry, &mut numbers)?;
     }
-    Ok(())
+    Ok(numbers)
 }
 
-/// The message of a table, where it has one.
-fn encoded(alloc: Global, fds: &Fds) -> Result<Option<Message>, NoMemory>
-    ensures { IfOk result (λ m. m ≡ encode fds.now.entries) }
+/// The message with these addresses and numbers, where there is one.
+fn encoded(alloc: Global, offered: BTreeMap<Text, u64>) -> Result<Option<Message>, NoMemory>
+    ensures { IfOk result (λ message. message ≡ encode offered.entries) }
 {
-    match fds.encode(alloc) {
+    let mut binds = Vec::new(alloc);
+    let mut fds = FdList::new(alloc);
+    for (bind, fd) in offered {
+        binds.push(bind)?;
+        if let Err(refused) = fds.push(alloc, fd) {
+            return Err(refused.reason);
+        }
+    }
+    match encode(alloc, &binds, fds) {
         Ok(message) => Ok(Some(message)),
         Err(EncodeError::NoMemory) => Err(NoMemory),
         Err(_) => Ok(None),
     }
-}
-
-/// Fills an empty table with copies of the descriptors that have an address. Its message, where it has
-/// one.
-fn filled(alloc: Global, entries: &[Open], fds: &mut Fds) -> Result<Option<Message>, NoMemory>
-    requires { fds.old.entries ≡ [] }
-    ensures { IfOk result (λ m. m ≡ encode (offer_table entries.now)) }
-{
-    fds.reserve(alloc, entries.len() as u64)?;
-    add_entries(alloc, entries, fds)?;
-    encoded(alloc, fds)
-}
-
-/// Spends the copies.
-fn spend(mut fds: Fds) {
-    while let Some((_, fd)) = fds.pop_first() {
-        let _ = fd.close();
-    }
-    fds.finish();
 }
 
 impl Endpoints {
@@ -98,10 +80,8 @@ impl Endpoints {
     pub fn message(&self, alloc: Global) -> Result<Option<Message>, NoMemory>
         ensures { IfOk result (λ m. (p : Plan) (q : Record) → EndpointsStand p self.now.parts q → m ≡ encode (live_table p q)) }
     {
-        let mut fds = Fds::new(alloc);
-        let message = filled(alloc, self.opens(), &mut fds);
-        spend(fds);
-        message
+        let offered = offered(alloc, self.opens())?;
+        encoded(alloc, offered)
     }
 
     /// Something live has an address, so there is something to offer to a successor.

@@ -1,17 +1,19 @@
 -- Pairs that are set in a table, and a table that is written and read again.
-use Rattle.std.proofs.Common.{ℕ, ◌+◌, ◌<◌, Bool, true, false, cond, eqb, List, [], ◌∷◌, ◌++◌, Option, Some, None, ◌≡◌, refl, sym, ap, subst, ◌∙◌, arith, length, take, get_or, append_assoc}
+use Rattle.std.proofs.Common.{ℕ, ◌+◌, ◌<◌, ◌||◌, Bool, true, false, cond, eqb, List, [], ◌∷◌, ◌++◌, Option, Some, None, Result, Ok, Err, IfOk, ◌≡◌, refl, sym, ap, subst, ◌∙◌, arith, length, take, get_or, append_assoc}
 use Rattle.std.specs.Option.{option_to_list}
 use Rattle.std.specs.List.{All, list_any, filter_map, cons_option, zip, join_with_byte}
 use Rattle.std.specs.Char.{is_ascii_whitespace}
 use Rattle.std.specs.Str.{IsUtf8, bytes_eq}
 use Rattle.std.proofs.lemmas.Bool.{ne_eqb, eqb-false, or_parts, or_from, false_from_ne_true, both_ways}
-use Rattle.std.proofs.lemmas.List.{append-nil, map-append, take_more, length-take-le, length-map}
+use Rattle.std.proofs.lemmas.List.{append-nil, take_more, length-take-le, length-map}
 use Rattle.std.proofs.lemmas.List.Elements.{All-cons, All-nil}
 use Rattle.std.proofs.lemmas.Slice.Eq.{bytes_eq-Decides}
 use Rattle.svc_fds.specs.Tables.{Entry, lookup, put, put_all, replaced_by, addresses, numbers, Precedes, PrecedesAll, IsAscending}
 use Rattle.svc_fds.specs.Places.{AllPrecede}
 use Rattle.svc_fds.specs.Lists.{is_among, has_repeat}
-use Rattle.svc_fds.specs.Messages.{words, is_bad_address, has_bad_address, joined, IsMessage, table_of}
+use Rattle.svc_fds.specs.declared.encoding.Message.{Message}
+use Rattle.svc_fds.specs.declared.errors.EncodeError.{EncodeError}
+use Rattle.svc_fds.specs.Messages.{words, is_bad_address, has_bad_address, joined, IsEncodable, written, IsMessage, table_of}
 use Rattle.svc_fds.proofs.TableLemmas.{differs_back, lookup-put, ascending-put}
 use Rattle.svc_fds.proofs.WordLemmas.{words-last, words-next}
 
@@ -87,6 +89,14 @@ read-written es up fine text =
       ap (λ ws. put_all (zip ws (numbers es)) []) same ∙ ap (λ ps. put_all ps []) (zip-parts es) ∙ put_all-ascending es [] up,
     )
 
+-- the same of what was written, where it was
+pub written-again : (r : Result Message EncodeError) (es : List Entry) → IsAscending es → IfOk r (λ m. IsEncodable es × (m ≡ written es)) → IfOk r (λ m. IsUtf8 m.bytes)
+    → IfOk r (λ m. IsMessage m.bytes (length m.fds) × (table_of m.bytes m.fds ≡ es))
+written-again (Ok m) es up ok text =
+    subst (λ (n : Message). IsMessage n.bytes (length n.fds) × (table_of n.bytes n.fds ≡ es)) (sym ok.1)
+    (read-written es up ok.0.addresses (subst (λ (n : Message). IsUtf8 n.bytes) ok.1 text))
+written-again (Err e) es up ok text = tt
+
 -- one word more
 join-more : (x : List ℕ) (xs : List (List ℕ)) (y : List ℕ) → join_with_byte 32 ((x ∷ xs) ++ y ∷ []) ≡ join_with_byte 32 (x ∷ xs) ++ (32 ∷ y)
 join-more x [] y = refl
@@ -98,11 +108,26 @@ join-push (x ∷ xs) n y size =
     ap (λ b. (join_with_byte 32 (x ∷ xs) ++ cond b [] (32 ∷ [])) ++ y) (ne_eqb n 0 (λ e. absurd (omega arith)))
     ∙ append_assoc (join_with_byte 32 (x ∷ xs)) (32 ∷ []) y ∙ sym (join-more x xs y)
 
-pub joined-more : (es : List Entry) (at : ℕ) (e : Entry) → at < length es → e ≡ get_or es at e → (joined (take at es) ++ cond (eqb at 0) [] (32 ∷ [])) ++ e.0 ≡ joined (take (at + 1) es)
-joined-more es at e inside read =
-    join-push (addresses (take at es)) at e.0 (length-map (take at es) (λ x. x.0) ∙ length-take-le at es (omega arith))
-    ∙ ap (λ xs. join_with_byte 32 xs) (sym (map-append (λ (x : Entry). x.0) (take at es) (e ∷ [])))
-    ∙ ap joined (ap (λ (x : Entry). take at es ++ x ∷ []) read ∙ sym (take_more es at e inside))
+pub joined-more : (xs : List (List ℕ)) (at : ℕ) (x : List ℕ) → at < length xs → x ≡ get_or xs at x
+    → (join_with_byte 32 (take at xs) ++ cond (eqb at 0) [] (32 ∷ [])) ++ x ≡ join_with_byte 32 (take (at + 1) xs)
+joined-more xs at x inside read =
+    join-push (take at xs) at x (length-take-le at xs (omega arith))
+    ∙ ap (λ ys. join_with_byte 32 ys) (ap (λ (y : List ℕ). take at xs ++ y ∷ []) read ∙ sym (take_more xs at x inside))
+
+-- what is asked of the addresses is asked of the table
+bad-addresses : (es : List Entry) → list_any is_bad_address (addresses es) ≡ has_bad_address es
+bad-addresses [] = refl
+bad-addresses (e ∷ es) = ap (λ b. is_bad_address e.0 || b) (bad-addresses es)
+
+module _ (es : List Entry) (binds : List (List ℕ)) (same : addresses es ≡ binds) where
+  pub bad-is : list_any is_bad_address binds ≡ has_bad_address es
+  bad-is = ap (λ xs. list_any is_bad_address xs) (sym same) ∙ bad-addresses es
+
+  pub joined-is : join_with_byte 32 binds ≡ joined es
+  joined-is = ap (λ xs. join_with_byte 32 xs) (sym same)
+
+  pub length-is : length binds ≡ length es
+  length-is = ap length (sym same) ∙ length-map es (λ e. e.0)
 
 differ : (a x : List ℕ) → bytes_eq x a ≡ false → bytes_eq a x ≡ false
 differ a x apart = false_from_ne_true (bytes_eq a x) (λ e. let agree : bytes_eq x a ≡ true = (bytes_eq-Decides x a).1 (sym ((bytes_eq-Decides a x).0 e)) in both_ways (bytes_eq x a) apart agree)

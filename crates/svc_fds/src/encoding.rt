@@ -1,11 +1,12 @@
 //! The message that carries a table of descriptors.
 
-ghost use Rattle.std.specs.Prelude.{◌≡◌, ◌==◌, [], ◌∷◌, IfOk, IfErr, length, if◌then◌else◌};
+ghost use Rattle.std.specs.Prelude.{◌≡◌, ◌==◌, [], ◌∷◌, List, IfOk, IfErr, if◌then◌else◌};
 ghost use Rattle.std.specs.Char.{is_ascii_whitespace};
-ghost use Rattle.std.specs.List.{list_any};
+ghost use Rattle.std.specs.List.{list_any, join_with_byte};
+ghost use Rattle.std.specs.Str.{IsUtf8};
 ghost use Rattle.std.specs.String.{string_bytes};
-ghost use Rattle.svc_fds.specs.Tables.{addresses, numbers, IsAscending};
-ghost use Rattle.svc_fds.specs.Messages.{is_bad_address, has_bad_address, joined, IsEncodable, written, EncodeRefusalFits, IsMessage, table_of};
+ghost use Rattle.svc_fds.specs.Tables.{Entry, addresses, numbers};
+ghost use Rattle.svc_fds.specs.Messages.{is_bad_address, IsEncodable, written, EncodeRefusalFits};
 
 use crate::errors::EncodeError;
 use crate::fd::Fd;
@@ -78,10 +79,10 @@ fn is_bad_address(address: &str) -> bool
 }
 
 /// Whether one of the addresses can't stand in a message.
-fn has_bad_address(entries: &[(Text, Fd)]) -> bool
-    ensures { result ≡ has_bad_address entries.now }
+fn has_bad_address(binds: &[Text]) -> bool
+    ensures { result ≡ list_any is_bad_address binds.now }
 {
-    entries.iter().any(|entry| is_bad_address(entry.0.as_str()))
+    binds.iter().any(|bind| is_bad_address(bind.as_str()))
 }
 
 /// What stands before the word of this index.
@@ -92,37 +93,35 @@ fn gap(index: usize) -> &'static str
 }
 
 /// The addresses, joined by single spaces.
-fn joined(alloc: Global, entries: &[(Text, Fd)]) -> Result<String, NoMemory>
-    ensures { IfOk result (λ text. string_bytes text ≡ joined entries.now) }
+fn joined(alloc: Global, binds: &[Text]) -> Result<String, NoMemory>
+    ensures { IfOk result (λ text. string_bytes text ≡ join_with_byte 32 binds.now) }
 {
     let mut text = String::new(alloc);
-    for (index, entry) in entries.iter().enumerate() {
+    for (index, bind) in binds.iter().enumerate() {
         text.push_str(gap(index))?;
-        text.push_str(entry.0.as_str())?;
+        text.push_str(bind.as_str())?;
     }
     Ok(text)
 }
 
-/// The message of a table.
-pub(crate) fn encoded(alloc: Global, entries: &[(Text, Fd)]) -> Result<Message, EncodeError>
-    requires { IsAscending entries.now }
-    ensures ok { IfOk result (λ message. IsEncodable entries.now
-        × (message ≡ written entries.now)) }
-    ensures again { IfOk result (λ message. IsMessage message.bytes (length message.fds)
-        × (table_of message.bytes message.fds ≡ entries.now)) }
-    ensures refusal { IfErr result (λ error. EncodeRefusalFits entries.now error) }
+/// The message of a table that has these addresses and, in the same order, these numbers.
+pub fn encode(alloc: Global, binds: &[Text], fds: Items<u64>) -> Result<Message, EncodeError>
+    ensures ok { (es : List Entry) → addresses es ≡ binds.now → numbers es ≡ fds
+        → IfOk result (λ message. IsEncodable es × (message ≡ written es)) }
+    ensures refusal { (es : List Entry) → addresses es ≡ binds.now
+        → IfErr result (λ error. EncodeRefusalFits es error) }
+    ensures text { IfOk result (λ message. IsUtf8 message.bytes) }
 {
-    if has_bad_address(entries) {
+    if has_bad_address(binds) {
         return Err(EncodeError::BadAddress);
     }
-    let text = joined(alloc, entries)?;
+    let text = joined(alloc, binds)?;
     if text.len() > MESSAGE_LIMIT {
         return Err(EncodeError::TooLong);
     }
-    if entries.len() > FD_LIMIT {
+    if binds.len() > FD_LIMIT {
         return Err(EncodeError::TooMany);
     }
     let bytes = bytes_of(alloc, text.as_str().as_bytes())?;
-    let fds = numbers_of(alloc, entries)?;
     Ok(Message { bytes, fds })
 }

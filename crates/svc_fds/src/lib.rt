@@ -17,7 +17,7 @@ pub mod words;
 
 pub use call::{ChannelCall, Receipt, ReceiveAnswer};
 pub use channel::Channel;
-pub use encoding::{FD_LIMIT, MESSAGE_LIMIT, Message};
+pub use encoding::{FD_LIMIT, MESSAGE_LIMIT, Message, encode};
 pub use errors::{DecodeError, EncodeError, ListsError, ReceiveError, SendError};
 pub use fd::Fd;
 pub use memory_channel::{MemoryChannel, SteadyChannel};

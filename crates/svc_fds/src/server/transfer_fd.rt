@@ -8,7 +8,7 @@ ghost use Rattle.svc_fds.specs.Tables.{addresses, numbers, lookup, put, put_all,
 
 use crate::call::ChannelCall;
 use crate::channel::Channel;
-use crate::encoding::{Message, encoded, numbers_of, texts_of};
+use crate::encoding::{Message, encode, numbers_of, texts_of};
 use crate::errors::{DecodeError, EncodeError, ListsError, ReceiveError, SendError};
 use crate::fd::Fd;
 use crate::place::{Place, place_of, replace_at};
@@ -348,7 +348,9 @@ impl Fds {
             × (table_of message.bytes message.fds ≡ self.now.entries)) }
         ensures refusal { IfErr result (λ error. EncodeRefusalFits self.now.entries error) }
     {
-        encoded(alloc, &self.entries)
+        let binds = texts_of(alloc, &self.entries)?;
+        let fds = numbers_of(alloc, &self.entries)?;
+        encode(alloc, &binds, fds)
     }
 
     /// The table that a message brings: its k-th word with the k-th descriptor.

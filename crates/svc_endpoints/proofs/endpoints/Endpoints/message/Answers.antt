@@ -11,5 +11,5 @@ use Rattle.svc_endpoints.proofs.endpoints.Endpoints.message.Goals as goal
 
 pub returns : goal.returns
 returns c =
-    IfOk-weaker c.filled-message.result (λ m. m ≡ encode (offer_table c.opens.result.now)) (λ m. (p : Plan) (q : Record) → EndpointsStand p c.args.self.now.parts q → m ≡ encode (live_table p q))
-    (λ m told p q h. told ∙ ap (λ t. encode (offer_table t)) c.opens.ensures ∙ ap encode (offer-is p c.args.self.now.parts q h)) c.filled-message.ensures
+    IfOk-weaker c.encoded.result (λ m. m ≡ encode c.in_ok-offered.offered.entries) (λ m. (p : Plan) (q : Record) → EndpointsStand p c.args.self.now.parts q → m ≡ encode (live_table p q))
+    (λ m told p q h. told ∙ ap encode (c.in_ok-offered.ensures ∙ ap offer_table c.opens.ensures ∙ offer-is p c.args.self.now.parts q h)) c.encoded.ensures
