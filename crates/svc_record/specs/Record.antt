@@ -130,10 +130,11 @@ abbrev pub has_cut : Record → Bool
 has_cut [] = false
 has_cut (e ∷ before) = (is_fast_signal e && is_graceful (signal_of before)) || has_cut before
 
--- what stands before the first cut; the record where none came
+-- what stands before the first cut, where one came
 abbrev pub before_cut : Record → Record
 before_cut [] = []
-before_cut (e ∷ before) = if has_cut before then before_cut before else (if has_cut (e ∷ before) then before else e ∷ before)
+before_cut (Got (Signal FastShutdown) ∷ before) = if has_cut before then before_cut before else before
+before_cut (e ∷ before) = before_cut before
 
 -- what stands before the first signal; nothing where none came
 abbrev pub before_signal : Record → Record
