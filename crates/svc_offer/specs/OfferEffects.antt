@@ -11,7 +11,7 @@ use Rattle.svc_record.specs.declared.event.Event.TheVariants as events
 use Rattle.svc_offer.specs.declared.offering.Offering.{Offering}
 use Rattle.svc_offer.specs.declared.offering.Offering.TheVariants.{Nothing, Unasked, Connecting, Connected, Sending, Absent, Delayed, Stalled, Over}
 use Rattle.svc_offer.specs.OfferData.{OfferData}
-use Rattle.svc_offer.specs.OfferState.{is_connect_due, is_send_due, is_stall_over, is_connecting, is_sending}
+use Rattle.svc_offer.specs.OfferState.{is_connect_due, is_send_due, is_stall_over, is_connecting, is_sending, is_going}
 
 -- nothing is offered, and so many absences are borne
 abbrev pub nothing : ℕ → OfferData
@@ -87,6 +87,14 @@ patience_after n answers.SendFailed = n
 -- the part after an answer
 abbrev pub answered : SendAnswer → ℕ → OfferData → OfferData
 answered answer moment d = record { state = answered_state d.patience answer moment; message = d.message; patience = patience_after d.patience answer }
+
+-- what a cut at this moment leaves: an offer that goes on is over
+abbrev pub cut_state : Offering → ℕ → Offering
+cut_state x moment = if is_going x then Over moment else x
+
+-- the part after a cut
+abbrev pub cut_off : ℕ → OfferData → OfferData
+cut_off moment d = record { state = cut_state d.state moment; message = d.message; patience = d.patience }
 
 -- the send of a message
 abbrev pub send_told : Option Message → List Action
