@@ -1,10 +1,8 @@
 -- What a cut leaves of the offer: one that goes on is over. So what goes on was not cut.
 use Rattle.std.proofs.Common.{ℕ, Bool, true, false, not, ◌||◌, ◌&&◌, ◌⊎◌, inl, inr, ◌∷◌, ◌≡◌, refl, ap, sym, ◌∙◌, subst, Option, Some, None, arith, if◌then◌else◌, is_some}
-use Rattle.std.proofs.lemmas.Bool.{cases_Bool, and_parts}
 use Rattle.svc_record.specs.declared.plan.Plan.{Plan}
 use Rattle.svc_record.specs.declared.entry.Entry.TheVariants.{Got}
 use Rattle.svc_record.specs.declared.event.Event.TheVariants.{Signal}
-use Rattle.svc_record.specs.declared.event.ShutdownSignal.{ShutdownSignal}
 use Rattle.svc_record.specs.declared.event.ShutdownSignal.TheVariants.{FastShutdown}
 use Rattle.svc_record.specs.Record.{Record, now, has, is_signal, is_graceful, has_cut, signal_of, before_signal}
 use Rattle.svc_record.specs.Message.{encode}
@@ -13,10 +11,11 @@ use Rattle.svc_record.specs.Offer.{table, is_empty_table, is_written, is_upgrade
 use Rattle.svc_offer.specs.declared.offering.Offering.{Offering}
 use Rattle.svc_offer.specs.declared.offering.Offering.TheVariants.{Nothing, Over}
 use Rattle.svc_offer.specs.OfferData.{OfferData}
-use Rattle.svc_offer.specs.OfferState.{OfferStands, IsOfferSettled, is_offering, is_going, is_asking, tells_next, over_since, is_connect_due, is_send_due}
+use Rattle.svc_offer.specs.OfferState.{OfferStands, IsOfferSettled, is_offering, is_going, over_since, is_connect_due, is_send_due}
 use Rattle.svc_offer.specs.OfferEffects.{cut_state, cut_off}
 use Rattle.svc_offer.proofs.StateFacts.{since-kept, since-here, going-offers, going-on, next-going, asking-goes}
 use Rattle.svc_offer.proofs.RecordFacts.{later-kind, later-before, graceful-came}
+use Rattle.svc_offer.proofs.Signals.{is_over_by}
 
 -- an offer that isn't over was not cut
 no-cut : (up empty written cut answered : Bool) → (up && not empty) ≡ true → (up && ((not empty && (not written || cut)) || answered)) ≡ false → cut ≡ false
@@ -51,14 +50,11 @@ module _ (p : Plan) (q : Record) (graceful : is_graceful (signal_of q) ≡ true)
       ∙ ap (λ b. is_upgrade (signal_of q) && not (is_empty_table (live_table p b))) before-kept
 
   over-cut : is_over p (Got (Signal FastShutdown) ∷ q) ≡ (is_over p q || has_offer p q)
-  over-cut = ap (λ s. by s (before_signal (Got (Signal FastShutdown) ∷ q)) (has_cut (Got (Signal FastShutdown) ∷ q))) kind-kept
-      ∙ ap (λ b. by (signal_of q) b (has_cut (Got (Signal FastShutdown) ∷ q))) before-kept
-      ∙ ap (by (signal_of q) (before_signal q)) cuts
+  over-cut = ap (λ s. is_over_by p s (before_signal (Got (Signal FastShutdown) ∷ q)) (has_cut (Got (Signal FastShutdown) ∷ q)) q) kind-kept
+      ∙ ap (λ b. is_over_by p (signal_of q) b (has_cut (Got (Signal FastShutdown) ∷ q)) q) before-kept
+      ∙ ap (λ c. is_over_by p (signal_of q) (before_signal q) c q) cuts
       ∙ either (is_upgrade (signal_of q)) (is_empty_table (table p q)) (is_written (encode (table p q))) (has_cut q) (is_answered p q)
     where
-      by : Option ShutdownSignal → Record → Bool → Bool
-      by s b cut = is_upgrade s && ((not (is_empty_table (live_table p b)) && (not (is_written (encode (live_table p b))) || cut)) || is_answered p q)
-
       either : (up empty written cut answered : Bool) → (up && ((not empty && (not written || true)) || answered)) ≡ ((up && ((not empty && (not written || cut)) || answered)) || (up && not empty))
       either up empty written cut answered = grind arith
 

@@ -11,7 +11,7 @@ use Rattle.svc_record.specs.declared.event.Event.TheVariants as events
 use Rattle.svc_offer.specs.declared.offering.Offering.{Offering}
 use Rattle.svc_offer.specs.declared.offering.Offering.TheVariants.{Nothing, Unasked, Connecting, Connected, Sending, Absent, Delayed, Stalled, Over}
 use Rattle.svc_offer.specs.OfferData.{OfferData}
-use Rattle.svc_offer.specs.OfferState.{is_connect_due, is_send_due, is_stall_over, is_connecting, is_sending, is_going}
+use Rattle.svc_offer.specs.OfferState.{is_connect_due, is_send_due, is_stall_over, is_connecting, is_sending}
 
 -- nothing is offered, and so many absences are borne
 abbrev pub nothing : ℕ → OfferData
@@ -90,7 +90,9 @@ answered answer moment d = record { state = answered_state d.patience answer mom
 
 -- what a cut at this moment leaves: an offer that goes on is over
 abbrev pub cut_state : Offering → ℕ → Offering
-cut_state x moment = if is_going x then Over moment else x
+cut_state Nothing moment = Nothing
+cut_state (Over at) moment = Over at
+cut_state _ moment = Over moment
 
 -- the part after a cut
 abbrev pub cut_off : ℕ → OfferData → OfferData

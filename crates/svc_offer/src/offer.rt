@@ -12,7 +12,7 @@ ghost use Rattle.svc_record.specs.Descriptors.{live_table};
 ghost use Rattle.svc_record.specs.Message.{encode};
 ghost use Rattle.svc_record.specs.Offer.{is_empty_table};
 ghost use Rattle.svc_offer.specs.OfferState.{OfferStands, IsOfferSettled, is_connecting, is_sending, is_connect_due, is_send_due, is_stall_over, is_going, over_since, numbers_on_offer};
-ghost use Rattle.svc_offer.specs.OfferEffects.{nothing, event_of, is_awaited, begun, ends_by, state_after, answered_state, patience_after, answered, cut_off, send_told, ask_with, asked, sends_at};
+ghost use Rattle.svc_offer.specs.OfferEffects.{nothing, event_of, is_awaited, begun, ends_by, state_after, answered_state, patience_after, answered, cut_state, cut_off, send_told, ask_with, asked, sends_at};
 
 use crate::copies::copy_message;
 use crate::offering::Offering;
@@ -81,6 +81,17 @@ fn answered_state(retry: &mut SendRetry, answer: SendAnswer, moment: u64) -> Off
         return Offering::Over(moment);
     }
     state_after(answer, moment)
+}
+
+/// What a cut leaves at the moment, in milliseconds: an offer that goes on is over.
+fn cut_state(state: Offering, moment: u64) -> Offering
+    ensures { result ≡ cut_state state moment }
+{
+    match state {
+        Offering::Nothing => Offering::Nothing,
+        Offering::Over(at) => Offering::Over(at),
+        _ => Offering::Over(moment),
+    }
 }
 
 /// Tells a send of the message.
@@ -183,9 +194,7 @@ impl Offer {
             → OfferStands p self.new (Got (Signal FastShutdown) ∷ q) }
         ensures settled { (t : ℕ) → IsOfferSettled self.new t }
     {
-        if self.is_going() {
-            self.state = Offering::Over(moment);
-        }
+        self.state = cut_state(self.state, moment);
     }
 
     /// A second copy of the message, where the event lets a send fall due.
