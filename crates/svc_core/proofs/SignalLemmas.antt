@@ -55,7 +55,8 @@ use Rattle.svc_drain.specs.DrainFacts.{is_drain_event}
 use Rattle.svc_drain.proofs.Foreign as drains
 use Rattle.svc_drain.proofs.Records.{cut-signal, uncut-first}
 use Rattle.svc_drain.proofs.Signalled.{stands-later as drain-later, signalled-further}
-use Rattle.svc_drain.proofs.Passing.{passed-got, passed-is, marks-right, unsignalled-unpassed, uncut}
+use Rattle.svc_record.proofs.CutLaws.{unsignalled-unpassed}
+use Rattle.svc_drain.proofs.Passing.{passed-got, passed-is, marks-right, uncut}
 use Rattle.svc_core.specs.StartsState.{StartsStand}
 use Rattle.svc_core.specs.CoreData.{CoreData, is_on}
 use Rattle.svc_core.specs.Copies.{message_at}

@@ -10,11 +10,11 @@ use Rattle.svc_record.specs.declared.event.ShutdownSignal.TheVariants.{FastShutd
 use Rattle.svc_record.specs.Record.{Record, has}
 use Rattle.svc_record.specs.Closes.{is_broadcast}
 use Rattle.svc_record.specs.Drain.{Mark, phase, broadcast, marks_if, told_marks, is_boot_phase}
+use Rattle.svc_record.proofs.CutLaws.{unsignalled-uncut}
 use Rattle.svc_drain.specs.declared.stage.Stage.{Stage}
 use Rattle.svc_drain.specs.declared.stage.Stage.TheVariants.{Running, Offering, Resting, Grace, Ending, CutShort}
 use Rattle.svc_drain.specs.DrainData.{DrainData}
 use Rattle.svc_drain.specs.DrainState.{DrainStands, is_cut, cut_row, stage_fits, stage_marks, is_grace, is_broadcast_told}
-use Rattle.svc_drain.proofs.Records.{unsignalled-uncut}
 
 -- the mark is the broadcast
 abbrev pub is_the_broadcast : Mark → Bool

@@ -17,7 +17,7 @@ use Rattle.svc_drain.specs.declared.stage.Stage.TheVariants.{Running, Offering, 
 use Rattle.svc_drain.specs.DrainData.{DrainData}
 use Rattle.svc_drain.specs.DrainState.{DrainStands, IsDrainSettled, OverIs, is_told_far, is_terminate_signal, is_cut, cut_row, stage_fits, stage_marks, rest_from, rest_at, passes, passes_at}
 use Rattle.svc_drain.specs.DrainFacts.{is_drain_event}
-use Rattle.svc_drain.proofs.Records.{no_moment, unsignalled-uncut}
+use Rattle.svc_drain.proofs.Records.{no_moment}
 use Rattle.svc_drain.proofs.Signalled.{offers-by}
 
 -- the grace period after an offer, by the end of the rest
@@ -176,10 +176,6 @@ passed-other p q e other = refl
 pub passed-got : (p : Plan) (d : DrainData) (over over2 : Option ℕ) (q : Record) (e : Event) → is_drain_event e ≡ false → DrainStands p d over q → IsDrainSettled d over → OverIs p (Got e ∷ q) over2
     → (is_some over ≡ true → over2 ≡ over) → passes p d ≡ false → has_passed p (Got e ∷ q) ≡ false
 passed-got p d over over2 q e other stand settled overs stays unpassed = passed-other p q e other ∙ passed-is p d over q stand settled ∙ unpassed
-
--- before a signal nothing passes
-pub unsignalled-unpassed : (p : Plan) (q : Record) → signal_of q ≡ None → has_passed p q ≡ false
-unsignalled-unpassed p q none = ap (λ b. b || has_passed_by p q (signal_of q)) (unsignalled-uncut q none) ∙ ap (has_passed_by p q) none
 
 -- as long as the waits haven't passed, no cut came
 pub uncut : (p : Plan) (d : DrainData) → passes p d ≡ false → is_cut d.stage ≡ false

@@ -110,13 +110,6 @@ rest-step p q ms = by (rest_end p q) refl
 first-none : (q : Record) (kind : ShutdownSignal) → first_or (signal_of q) kind ≡ None → true ≡ false
 first-none q kind h = sym (first-kind (signal_of q) kind) ∙ ap is_kind h
 
--- nor is there a cut
-pub unsignalled-uncut : (q : Record) → signal_of q ≡ None → has_cut q ≡ false
-unsignalled-uncut [] h = refl
-unsignalled-uncut (Got (Signal kind) ∷ q) h = let e = first-none q kind h in absurd (cc)
-unsignalled-uncut (Got e ∷ q) h = unsignalled-uncut q h
-unsignalled-uncut (Told a ∷ q) h = unsignalled-uncut q h
-
 -- nor does it rest
 pub unsignalled-rest : (p : Plan) (q : Record) → signal_of q ≡ None → rest_end p q ≡ None
 unsignalled-rest p [] h = refl

@@ -27,6 +27,7 @@ pub mod GraceWait
 pub mod OfferedSockets
 pub mod RefusedOffers
 pub mod CutWaits
+pub mod CutLaws
 pub mod Tallies
 pub mod Closing
 pub mod OneLive
