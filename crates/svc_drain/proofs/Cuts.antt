@@ -6,7 +6,7 @@ use Rattle.svc_record.specs.declared.event.Event.TheVariants.{Signal}
 use Rattle.svc_record.specs.declared.event.ShutdownSignal.{ShutdownSignal}
 use Rattle.svc_record.specs.declared.event.ShutdownSignal.TheVariants.{FastShutdown, GracefulTerminate as TerminateSignal, GracefulUpgrade}
 use Rattle.svc_record.specs.declared.action.ExecutionPhase.TheVariants.{Running as RunningPhase, ShutdownStarted}
-use Rattle.svc_record.specs.Record.{Record, has, now, signal_of, before_signal, first_or, is_signal, is_graceful, has_cut, before_cut}
+use Rattle.svc_record.specs.Record.{Record, has, now, signal_of, before_signal, is_signal, is_graceful, has_cut, before_cut}
 use Rattle.svc_record.specs.Descriptors.{live_table}
 use Rattle.svc_record.specs.Offer.{is_upgrade, is_empty_table}
 use Rattle.svc_record.specs.Drain.{Mark, phase, marks_if, row_by, with_start}
@@ -78,7 +78,7 @@ unstarted-row Ending s o row before uncut is h = absurd (cc)
 
 -- a fast signal after a graceful one
 module _ (p : Plan) (d : DrainData) (over over2 : Option ℕ) (q : Record) (graceful : is_graceful d.signal ≡ true) (uncut : is_cut d.stage ≡ false) (settled : IsDrainSettled d over)
-  (overs : OverIs p (Got (Signal FastShutdown) ∷ q) over2) (stand : DrainStands p d over q) where
+    (overs : OverIs p (Got (Signal FastShutdown) ∷ q) over2) (stand : DrainStands p d over q) where
   graceful-first : is_graceful (signal_of q) ≡ true
   graceful-first = ap is_graceful (sym stand.signal_is) ∙ graceful
 

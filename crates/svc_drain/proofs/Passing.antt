@@ -9,7 +9,7 @@ use Rattle.svc_record.specs.declared.event.Event.TheVariants.{Moment, Signal}
 use Rattle.svc_record.specs.declared.event.ShutdownSignal.{ShutdownSignal}
 use Rattle.svc_record.specs.declared.event.ShutdownSignal.TheVariants.{FastShutdown, GracefulTerminate as TerminateSignal, GracefulUpgrade}
 use Rattle.svc_record.specs.declared.action.ExecutionPhase.TheVariants.{Running as RunningPhase, GracefulTerminate, GracefulUpgradeTransferringFds, GracefulUpgradeCloseTimeout, ShutdownStarted, ShutdownGracePeriod, ShutdownRuntimes, Terminated}
-use Rattle.svc_record.specs.Record.{Record, has, times, tell, now, signal_of, before_signal, is_running, has_cut}
+use Rattle.svc_record.specs.Record.{Record, has, times, tell, now, signal_of, before_signal, is_running}
 use Rattle.svc_record.specs.Offer.{has_offer, is_over, is_upgrade}
 use Rattle.svc_record.specs.Drain.{Mark, phase, broadcast, marks_if, is_some_moment, rest_end, grace_over, has_passed_by, has_passed, row_by, with_start, wait_row, PhasesRight}
 use Rattle.svc_drain.specs.declared.stage.Stage.{Stage}

@@ -1,11 +1,12 @@
 use Rattle.std.proofs.Common.{rules, sym, ◌∙◌, ap}
 use Rattle.std.specs.Prelude.{is_some}
+use Rattle.svc_drain.specs.DrainData.{DrainData}
 use Rattle.svc_drain.proofs.Signalled.{after-first, after-later, signalled-further}
 use Rattle.svc_drain.proofs.Cuts.{after-cut}
 use Rattle.svc_drain.proofs.drain.Drain.take_signal.Goals as goal
 
 pub returns-then-is_some-clause-after : goal.returns-then-is_some-clause-after
-returns-then-is_some-clause-after c = c.take_further.ensures ∙ sym (signalled-further c.args.kind c.args.offers c.args.self.now (sym c.is_some.ensures ∙ c.if-is_some.true))
+returns-then-is_some-clause-after c = c.take_further.ensures ∙ sym (signalled-further c.args.kind c.args.offers c.args.self.now (ap (λ (d : DrainData). is_some d.signal) (sym c.self.view_is) ∙ sym c.is_some.ensures ∙ c.if-is_some.true))
 
 pub returns-then-is_some-clause-first : goal.returns-then-is_some-clause-first
 returns-then-is_some-clause-first c = λ p over q none runs offered overs stand. after-first p c.args.self.now _ c.args.kind c.args.offers over q (returns-then-is_some-clause-after c) none runs offered overs stand
