@@ -9,7 +9,7 @@ use Rattle.svc_record.specs.declared.action.ExecutionPhase.TheVariants.{Running 
 use Rattle.svc_record.specs.Record.{Record, has, now, signal_of, before_signal, first_or, is_signal, is_graceful, has_cut, before_cut}
 use Rattle.svc_record.specs.Descriptors.{live_table}
 use Rattle.svc_record.specs.Offer.{is_upgrade, is_empty_table}
-use Rattle.svc_record.specs.Drain.{Mark, phase, marks_if, told_marks, row_by, with_start}
+use Rattle.svc_record.specs.Drain.{Mark, phase, marks_if, row_by, with_start}
 use Rattle.svc_drain.specs.declared.stage.Stage.{Stage}
 use Rattle.svc_drain.specs.declared.stage.Stage.TheVariants.{Running, Offering, Resting, Grace, Ending, CutShort}
 use Rattle.svc_drain.specs.DrainData.{DrainData}
@@ -68,13 +68,13 @@ cut-marks (CutShort started) s o over t row before graceful uncut far fits is = 
 cut-marks Ending s o over t row before graceful uncut far fits is = let e = stage-cut Ending s o over graceful fits in absurd (cc)
 
 -- and has the start of the shutdown in the grace period alone
-cut-unstarted : (g : Stage) (s : Option ShutdownSignal) (o : Bool) (row before : List Mark) → is_cut g ≡ false → row ≡ stage_marks g s o before → is_unstarted (cut_stage g) ≡ true → has_start row ≡ false
-cut-unstarted Running s o row before uncut is h = ap has_start is
-cut-unstarted Offering s o row before uncut is h = ap has_start is
-cut-unstarted Resting s o row before uncut is h = ap has_start is
-cut-unstarted (Grace at) s o row before uncut is h = absurd (cc)
-cut-unstarted (CutShort started) s o row before uncut is h = absurd (cc)
-cut-unstarted Ending s o row before uncut is h = absurd (cc)
+unstarted-row : (g : Stage) (s : Option ShutdownSignal) (o : Bool) (row before : List Mark) → is_cut g ≡ false → row ≡ stage_marks g s o before → is_unstarted (cut_stage g) ≡ true → has_start row ≡ false
+unstarted-row Running s o row before uncut is h = ap has_start is
+unstarted-row Offering s o row before uncut is h = ap has_start is
+unstarted-row Resting s o row before uncut is h = ap has_start is
+unstarted-row (Grace at) s o row before uncut is h = absurd (cc)
+unstarted-row (CutShort started) s o row before uncut is h = absurd (cc)
+unstarted-row Ending s o row before uncut is h = absurd (cc)
 
 -- a fast signal after a graceful one
 module _ (p : Plan) (d : DrainData) (over over2 : Option ℕ) (q : Record) (graceful : is_graceful d.signal ≡ true) (uncut : is_cut d.stage ≡ false) (settled : IsDrainSettled d over)
@@ -119,7 +119,7 @@ module _ (p : Plan) (d : DrainData) (over over2 : Option ℕ) (q : Record) (grac
     grace_is = λ at e w. let h : true ≡ false = sym short ∙ ap is_cut e in absurd (cc);
     marks_are = stand.marks_are
         ∙ ap (λ marks. marks ++ marks_if d.running (phase RunningPhase ∷ [])) (sym row ∙ cut-marks d.stage d.signal d.offers over d.moment (cut_row p (Got (Signal FastShutdown) ∷ q)) (cut_row p q) graceful uncut settled stand.fits row);
-    unstarted = λ h. cut-unstarted d.stage d.signal d.offers (cut_row p (Got (Signal FastShutdown) ∷ q)) (cut_row p q) uncut row h;
+    unstarted = λ h. unstarted-row d.stage d.signal d.offers (cut_row p (Got (Signal FastShutdown) ∷ q)) (cut_row p q) uncut row h;
     unsignalled = stand.unsignalled;
     unrested = λ h. let e : true ≡ false = sym h ∙ (cut-late (cut_stage d.stage) short).0 in absurd (cc);
     at_once = λ h. let e : true ≡ false = sym h ∙ (cut-late (cut_stage d.stage) short).1 d.signal in absurd (cc);
