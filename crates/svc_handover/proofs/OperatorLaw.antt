@@ -19,7 +19,7 @@ use Rattle.svc_record.specs.Drain.{has_passed}
 use Rattle.svc_record.specs.Ends.{has_ended}
 use Rattle.svc_core.specs.CoreData.{CoreData}
 use Rattle.svc_offer.proofs.RecordFacts.{no-kind}
-use Rattle.svc_drain.proofs.Passing.{unsignalled-unpassed}
+use Rattle.svc_record.proofs.CutLaws.{unsignalled-unpassed}
 use Rattle.svc_handover.specs.Channel.{is_in_flight, is_taken, is_sent, sent_message, names_address}
 use Rattle.svc_handover.specs.Pair.{World}
 use Rattle.svc_handover.specs.Handover.{is_covered, has_given_up, is_promised, address_right}

@@ -20,7 +20,7 @@ use Rattle.svc_core.specs.Stands.{StandsFor}
 use Rattle.svc_offer.specs.OfferState.{over_since}
 use Rattle.svc_offer.proofs.RecordFacts.{no-kind}
 use Rattle.svc_drain.proofs.Broadcasts.{unsignalled-silent}
-use Rattle.svc_drain.proofs.Passing.{unsignalled-unpassed}
+use Rattle.svc_record.proofs.CutLaws.{unsignalled-unpassed}
 use Rattle.svc_endpoints.proofs.LiveLemmas.{same_eq}
 use Rattle.svc_endpoints.proofs.GoneLemmas.{closed-is}
 use Rattle.svc_handover.specs.Channel.{is_receipt}

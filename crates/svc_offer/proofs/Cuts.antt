@@ -1,5 +1,5 @@
 -- What a cut leaves of the offer: one that goes on is over. So what goes on was not cut.
-use Rattle.std.proofs.Common.{ℕ, Bool, true, false, not, ◌||◌, ◌&&◌, ◌⊎◌, inl, inr, ◌∷◌, ◌≡◌, refl, ap, sym, ◌∙◌, subst, Option, Some, None, arith, if◌then◌else◌, is_some}
+use Rattle.std.proofs.Common.{ℕ, Bool, true, false, not, ◌||◌, ◌&&◌, ◌⊎◌, inl, inr, ◌∷◌, ◌≡◌, refl, ap, sym, ◌∙◌, subst, Some, arith, is_some}
 use Rattle.svc_record.specs.declared.plan.Plan.{Plan}
 use Rattle.svc_record.specs.declared.entry.Entry.TheVariants.{Got}
 use Rattle.svc_record.specs.declared.event.Event.TheVariants.{Signal}

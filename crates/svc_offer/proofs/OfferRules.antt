@@ -98,7 +98,7 @@ pub one-ask : (p : Plan) (d : OfferData) (q : Record) → OfferStands p d q → 
 one-ask p d q s settled forward =
     ap (λ b. not b || one_holds (is_connect_open q) (is_send_open q) (answer_rests (now q) q)) (goes_on-is p d q s)
     ∙ one-of d.state (now q) (is_connect_open q) (is_send_open q) (answer_rests (now q) q) settled.no_connect settled.no_send (λ going. s.connecting_is (uncut p d q s going)) (λ going. s.sending_is (uncut p d q s going))
-      (λ h. s.rests_is h (now q))
+    (λ h. s.rests_is h (now q))
     (λ h. s.rested h forward (now q) (rests-all (now q)))
 
 fits-forward : (p : Plan) (e : Entry) (q : Record) → event_fits p e q ≡ true → is_forward e q ≡ true

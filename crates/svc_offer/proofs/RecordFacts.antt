@@ -5,6 +5,7 @@ use Rattle.svc_record.specs.declared.event.Event.TheVariants.{Connected, NotTher
 use Rattle.svc_record.specs.declared.event.ShutdownSignal.{ShutdownSignal}
 use Rattle.svc_record.specs.Record.{Record, has, times, is_signal, is_fast_signal, is_graceful, has_cut, signal_of, before_signal, first_or}
 use Rattle.svc_record.specs.Offer.{is_last_answer, is_not_there, is_busy_answer, answer_rests, sends_next}
+use Rattle.svc_record.proofs.CutLaws.{unsignalled-uncut}
 use Rattle.svc_offer.specs.OfferState.{is_offer_answer}
 
 -- what no answer leaves
@@ -58,9 +59,7 @@ first-before q kind h = if-not (has is_signal q) (before_signal q) q h
 
 -- without a signal there is no cut, and the first signal is none
 pub uncut-none : (q : Record) → has is_signal q ≡ false → has_cut q ≡ false
-uncut-none [] h = refl
-uncut-none (Got (Signal kind) ∷ q) h = cc
-uncut-none (_ ∷ q) h = uncut-none q h
+uncut-none q h = unsignalled-uncut q (no-kind q h)
 
 pub first-uncut : (q : Record) (kind : ShutdownSignal) → has is_signal q ≡ false → has_cut (Got (Signal kind) ∷ q) ≡ false
 first-uncut q kind h = ap (λ s. (is_fast_signal (Got (Signal kind)) && is_graceful s) || has_cut q) (no-kind q h) ∙ none (is_fast_signal (Got (Signal kind))) (has_cut q) (uncut-none q h)
