@@ -1,5 +1,5 @@
 -- What the core's steps and their parts keep: one record for each sort.
-use Rattle.std.specs.Prelude.{ℕ, Bool, ◌≡◌, ◌+◌, ◌*◌, ◌≤◌, ◌++◌, true, List, length, Option, Result, MatchResult, OnOk, is_some, ⊤}
+use Rattle.std.specs.Prelude.{false, ℕ, Bool, ◌≡◌, ◌+◌, ◌*◌, ◌≤◌, ◌++◌, true, List, length, Option, Result, MatchResult, OnOk, is_some, ⊤}
 use Rattle.svc_base.specs.declared.memory.NoMemory.{NoMemory}
 use Rattle.svc_base.specs.Items.{list_of, spare}
 use Rattle.svc_fds.specs.declared.encoding.Message.{Message}
