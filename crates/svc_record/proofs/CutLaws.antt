@@ -1,5 +1,5 @@
 -- Before a signal there is no cut, and nothing has passed.
-use Rattle.std.proofs.Common.{Bool, true, false, ◌||◌, ◌∷◌, [], Option, Some, None, ◌≡◌, refl, ap, ◌∙◌}
+use Rattle.std.proofs.Common.{Bool, false, ◌||◌, ◌∷◌, [], Option, Some, None, ◌≡◌, refl, ap, ◌∙◌}
 use Rattle.svc_record.specs.declared.plan.Plan.{Plan}
 use Rattle.svc_record.specs.declared.entry.Entry.TheVariants.{Got, Told}
 use Rattle.svc_record.specs.declared.event.Event.TheVariants.{Signal}

@@ -1,5 +1,5 @@
 -- Runs that a fast signal after a graceful one cuts short: they end at once, whatever is waited for.
-use Rattle.std.proofs.Common.{[], ◌∷◌, codes, ◌≡◌, refl}
+use Rattle.std.proofs.Common.{[], ◌∷◌, ◌≡◌, refl}
 use Rattle.svc_fds.specs.Messages.{is_sayable, message_bytes}
 use Rattle.svc_record.specs.declared.entry.Entry.TheVariants.{Got, Told}
 use Rattle.svc_record.specs.declared.event.Event.TheVariants.{Moment as Time, Signal}
