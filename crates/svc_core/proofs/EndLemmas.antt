@@ -46,7 +46,8 @@ use Rattle.svc_offer.proofs.Foreign as offers
 use Rattle.svc_offer.proofs.OfferRules.{offer-right, one-ask, forward-fits}
 use Rattle.svc_drain.specs.DrainState.{passes}
 use Rattle.svc_drain.specs.DrainEffects.{end_told, stop_after}
-use Rattle.svc_drain.proofs.Passing.{passed-is, passed-tell, unsignalled-unpassed}
+use Rattle.svc_record.proofs.CutLaws.{unsignalled-unpassed}
+use Rattle.svc_drain.proofs.Passing.{passed-is, passed-tell}
 use Rattle.svc_drain.proofs.Ending.{ending-is, marks-at-end}
 use Rattle.svc_connections.specs.ConnectionsState.{numbers}
 use Rattle.svc_connections.proofs.Ending.{cut-right, known-end, none-live}

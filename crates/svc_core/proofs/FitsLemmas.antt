@@ -37,7 +37,7 @@ use Rattle.svc_connections.specs.ConnectionsState.{is_setting, is_shaking, is_se
 use Rattle.svc_connections.proofs.Rests.{finished-row}
 use Rattle.svc_core.specs.CoreData.{CoreData, is_on}
 use Rattle.svc_core.specs.Stands.{StandsFor, MayAccept, ArrivedMayCome, ReadyMayCome, EndedMayCome, BindMayBeAnswered, BoundMayCome, AdoptMayBeAnswered, LoopMayEnd, ReceivedMayCome}
-use Rattle.svc_core.proofs.StepLemmas.{fits-loop, loop-same, broadcast-told, fits-moment, fits-ready, fits-ended, fits-bound, fits-bind, fits-adopt, fits-try, fits-received, fresh, new-is, ends-of, drain-of, offer-of, connections-of, going-on, running-is}
+use Rattle.svc_core.proofs.StepLemmas.{fits-loop, loop-same, broadcast-told, fits-moment, fits-ready, fits-ended, fits-bound, fits-bind, fits-adopt, fits-try, fits-received, fresh, new-is, ends-of, uncut-of, drain-of, offer-of, connections-of, going-on, running-is}
 use Rattle.svc_core.proofs.SignalLemmas.{fits-connect, fits-send}
 use Rattle.svc_core.proofs.HeldLemmas.{fits-side, fits-parent, parent-same}
 use Rattle.svc_core.proofs.ConnectionLemmas.{accepts-same, arrived-is, fits-accept, fits-arrived, fits-set, fits-shaken, fits-finished}
@@ -183,10 +183,10 @@ module _ (core : CoreData) (q : Record) (on : is_on core.end ≡ true) (stands :
 
   -- an answer to a connect, and to a send
   pub connect-fits : (is_connecting core.offer.state ≡ true → (not (has_ended core.plan q) && is_connect_open q) ≡ true) × ((not (has_ended core.plan q) && is_connect_open q) ≡ true → is_connecting core.offer.state ≡ true)
-  connect-fits = ((λ may. fits-connect core q on may stands), (λ fit. sym (offer-of core q stands on).connecting_is ∙ (and_parts (not (has_ended core.plan q)) (is_connect_open q) fit).1))
+  connect-fits = ((λ may. fits-connect core q on may stands), (λ fit. sym ((offer-of core q stands on).connecting_is (uncut-of core q stands on)) ∙ (and_parts (not (has_ended core.plan q)) (is_connect_open q) fit).1))
 
   pub send-fits : (is_sending core.offer.state ≡ true → (not (has_ended core.plan q) && is_send_open q) ≡ true) × ((not (has_ended core.plan q) && is_send_open q) ≡ true → is_sending core.offer.state ≡ true)
-  send-fits = ((λ may. fits-send core q on may stands), (λ fit. sym (offer-of core q stands on).sending_is ∙ (and_parts (not (has_ended core.plan q)) (is_send_open q) fit).1))
+  send-fits = ((λ may. fits-send core q on may stands), (λ fit. sym ((offer-of core q stands on).sending_is (uncut-of core q stands on)) ∙ (and_parts (not (has_ended core.plan q)) (is_send_open q) fit).1))
 
   pub ready-fits : (s : ℕ) → (ReadyMayCome core s → Fits core.plan q (Ready s)) × (Fits core.plan q (Ready s) → ReadyMayCome core s)
   ready-fits s = (

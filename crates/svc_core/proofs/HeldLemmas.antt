@@ -41,7 +41,7 @@ use Rattle.svc_offer.specs.OfferFacts.{is_offer_event}
 use Rattle.svc_offer.proofs.Foreign as offers
 use Rattle.svc_offer.proofs.OfferRules.{held-back-got}
 use Rattle.svc_drain.specs.declared.stage.Stage.{Stage}
-use Rattle.svc_drain.specs.declared.stage.Stage.TheVariants.{Running, Offering as OfferStage, Resting, Grace, Ending}
+use Rattle.svc_drain.specs.declared.stage.Stage.TheVariants.{Running, Offering as OfferStage, Resting, Grace, Ending, CutShort}
 use Rattle.svc_drain.specs.DrainData.{DrainData}
 use Rattle.svc_drain.specs.DrainState.{DrainStands, IsDrainSettled, stage_fits, is_told_far, passes, passes_at}
 use Rattle.svc_drain.specs.DrainEffects.{at_moment}
@@ -80,6 +80,7 @@ idle-stage OfferStage offers over t fits = absurd (cc)
 idle-stage Resting offers over t fits = absurd (cc)
 idle-stage (Grace at) offers over t fits = absurd (cc)
 idle-stage Ending offers over t fits = absurd (cc)
+idle-stage (CutShort started) offers over t fits = absurd (cc)
 
 idle-passes : (p : Plan) (x : Stage) (offers : Bool) (over : Option ℕ) (t : ℕ) → stage_fits x None offers over ≡ true → passes_at p x t ≡ false
 idle-passes p Running offers over t fits = refl
@@ -87,6 +88,7 @@ idle-passes p OfferStage offers over t fits = refl
 idle-passes p Resting offers over t fits = refl
 idle-passes p (Grace at) offers over t fits = absurd (cc)
 idle-passes p Ending offers over t fits = absurd (cc)
+idle-passes p (CutShort started) offers over t fits = absurd (cc)
 
 -- before the server runs no signal came
 module _ (p : Plan) (dr : DrainData) (over : Option ℕ) (q : Record) (stand : DrainStands p dr over q) (idle : dr.running ≡ false) where

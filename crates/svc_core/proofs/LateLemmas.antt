@@ -27,7 +27,7 @@ use Rattle.svc_offer.specs.OfferState.{over_since, is_connect_due, is_send_due}
 use Rattle.svc_offer.specs.OfferEffects.{send_told, ask_with, asked}
 use Rattle.svc_offer.specs.OfferFacts.{has_no_offer_action}
 use Rattle.svc_drain.specs.declared.stage.Stage.{Stage}
-use Rattle.svc_drain.specs.declared.stage.Stage.TheVariants.{Running, Offering as OfferStage, Resting, Grace, Ending}
+use Rattle.svc_drain.specs.declared.stage.Stage.TheVariants.{Running, Offering as OfferStage, Resting, Grace, Ending, CutShort}
 use Rattle.svc_drain.specs.DrainData.{DrainData}
 use Rattle.svc_drain.specs.DrainState.{rest_from}
 use Rattle.svc_drain.specs.DrainEffects.{stage_told, row_told, timeout_told, grace_told, rested_told}
@@ -174,6 +174,8 @@ stage-late OfferStage signal offers over t = timeout-late over t
 stage-late Resting signal offers over t = rested-late over t
 stage-late (Grace at) signal offers over t = refl
 stage-late Ending signal offers over t = refl
+stage-late (CutShort false) signal offers over t = rw (eq-eqb t t refl) refl
+stage-late (CutShort true) signal offers over t = refl
 
 pub row-late : (dr : DrainData) (over : Option ℕ) → are_late dr.moment (row_told dr over) ≡ true
 row-late dr over = stage-late dr.stage dr.signal dr.offers over dr.moment
@@ -199,6 +201,8 @@ stage-other OfferStage signal offers over t = timeout-other over t
 stage-other Resting signal offers over t = rested-other over t
 stage-other (Grace at) signal offers over t = refl
 stage-other Ending signal offers over t = refl
+stage-other (CutShort false) signal offers over t = refl
+stage-other (CutShort true) signal offers over t = refl
 
 pub row-other : (dr : DrainData) (over : Option ℕ) → has_no_offer_action (row_told dr over) ≡ true
 row-other dr over = stage-other dr.stage dr.signal dr.offers over dr.moment

@@ -1,5 +1,5 @@
 -- Moments, signals and answers to the asks of the offer: what each makes of the core, before the rest of the step.
-use Rattle.std.proofs.Common.{ℕ, Bool, true, false, ◌&&◌, ◌||◌, not, List, [], ◌∷◌, ◌≡◌, refl, ap, sym, ◌∙◌, subst, arith, ◌≤◌, ◌-◌, if◌then◌else◌, MatchBool, nat_le, append-nil, inl, inr}
+use Rattle.std.proofs.Common.{ℕ, Bool, true, false, ◌&&◌, ◌||◌, not, List, [], ◌∷◌, ◌≡◌, ◌==◌, refl, ap, sym, ◌∙◌, subst, arith, ◌≤◌, ◌-◌, if◌then◌else◌, MatchBool, nat_le, append-nil, inl, inr}
 use Rattle.std.specs.Prelude.{Option, Some, None, is_some}
 use Rattle.std.proofs.lemmas.Bool.{and_from, or_from, cases_Bool}
 use Rattle.std.proofs.lemmas.Bool.Decides.{nat_tests}
@@ -14,7 +14,7 @@ use Rattle.svc_record.specs.declared.event.Event.{Event}
 use Rattle.svc_record.specs.declared.event.Event.TheVariants as events
 use Rattle.svc_record.specs.declared.event.ShutdownSignal.{ShutdownSignal}
 use Rattle.svc_record.specs.declared.event.ShutdownSignal.TheVariants.{FastShutdown, GracefulTerminate, GracefulUpgrade}
-use Rattle.svc_record.specs.Record.{Record, has, now, tell, is_signal, signal_of, from_the_start}
+use Rattle.svc_record.specs.Record.{Record, has, now, tell, is_signal, is_graceful, signal_of, has_cut, from_the_start}
 use Rattle.svc_record.specs.Asks.{is_connect_open, is_send_open}
 use Rattle.svc_record.specs.Descriptors.{live_table}
 use Rattle.svc_record.specs.Boot.{is_side_child}
@@ -22,7 +22,9 @@ use Rattle.svc_record.specs.Drain.{has_passed}
 use Rattle.svc_record.specs.Ends.{has_ended, ends_tested, TestedRight}
 use Rattle.svc_record.specs.Fits.{fits}
 use Rattle.svc_record.specs.Message.{encode}
-use Rattle.svc_record.specs.Offer.{is_upgrade, is_empty_table, has_offer, is_held_back, is_over, one_ask}
+use Rattle.svc_record.specs.Offer.{is_upgrade, is_empty_table, is_written, is_answered, table, has_offer, is_held_back, is_over, one_ask}
+use Rattle.svc_fds.specs.Tables.{Entry as TableEntry}
+use Rattle.std.specs.List.{list_any}
 use Rattle.svc_record.specs.Right.{Right, OpenRight, EndedRight, in_service}
 use Rattle.svc_record.specs.Starts.{StartsRight}
 use Rattle.svc_record.specs.Endpoints.{EndpointsRight, EndpointsRightLate}
@@ -42,17 +44,19 @@ use Rattle.svc_offer.specs.declared.offering.Offering.{Offering}
 use Rattle.svc_offer.specs.declared.offering.Offering.TheVariants.{Nothing, Unasked, Connecting, Connected, Sending, Absent, Delayed, Stalled, Over}
 use Rattle.svc_offer.specs.OfferData.{OfferData}
 use Rattle.svc_offer.specs.OfferState.{OfferStands, IsOfferSettled, over_since, is_offering, is_connecting, is_sending, is_send_due}
-use Rattle.svc_offer.specs.OfferEffects.{event_of, is_awaited, begun, answered, ends_by, state_after, sends_at, first_state}
+use Rattle.svc_offer.specs.OfferEffects.{event_of, is_awaited, begun, cut_off, answered, ends_by, state_after, sends_at, first_state}
 use Rattle.svc_offer.proofs.Foreign as offers
 use Rattle.svc_offer.proofs.Signals.{stands-later, stands-unoffered}
 use Rattle.svc_offer.proofs.OfferRules.{held-back-got, held-back-answer, released, offer-right, one-ask, forward-fits}
 use Rattle.svc_drain.specs.DrainData.{DrainData}
-use Rattle.svc_drain.specs.DrainState.{DrainStands, IsDrainSettled, OverIs}
-use Rattle.svc_drain.specs.DrainEffects.{at_moment, signalled}
+use Rattle.svc_drain.specs.DrainState.{DrainStands, IsDrainSettled, OverIs, is_cut}
+use Rattle.svc_drain.specs.DrainEffects.{at_moment, at_stage, signalled, cuts, cut_stage}
 use Rattle.svc_drain.specs.DrainFacts.{is_drain_event}
 use Rattle.svc_drain.proofs.Foreign as drains
-use Rattle.svc_drain.proofs.Signalled.{stands-later as drain-later}
-use Rattle.svc_drain.proofs.Passing.{passed-got, passed-is, marks-right, unsignalled-unpassed}
+use Rattle.svc_drain.proofs.Records.{cut-signal, uncut-first}
+use Rattle.svc_drain.proofs.Signalled.{stands-later as drain-later, signalled-further}
+use Rattle.svc_record.proofs.CutLaws.{unsignalled-unpassed}
+use Rattle.svc_drain.proofs.Passing.{passed-got, passed-is, marks-right, uncut}
 use Rattle.svc_core.specs.StartsState.{StartsStand}
 use Rattle.svc_core.specs.CoreData.{CoreData, is_on}
 use Rattle.svc_core.specs.Copies.{message_at}
@@ -65,7 +69,7 @@ use Rattle.svc_connections.specs.ConnectionsFacts.{is_connection_event}
 use Rattle.svc_core.proofs.PassLemmas.{are-failed}
 use Rattle.svc_core.proofs.OpenLemmas.{running-right, right-of, end-same, ended-same, tested-same, served-not}
 use Rattle.svc_core.proofs.FinishLemmas.{on-end}
-use Rattle.svc_core.proofs.StepLemmas.{struck, strike, free-of, no-child, not-ended, drain-of, offer-of, ends-of, settled-of, on-boot, all-started, undue, over-of, giving-loose, fits-moment, going-on, running-is, opened, end-of-boot}
+use Rattle.svc_core.proofs.StepLemmas.{struck, strike, free-of, no-child, not-ended, giving-started, uncut-of, drain-of, offer-of, ends-of, settled-of, on-boot, all-started, undue, over-of, giving-loose, fits-moment, going-on, running-is, opened, end-of-boot}
 
 -- a send that a moment lets fall due
 moment-sends : (x : Offering) (t ms : ℕ) → is_send_due x t ≡ false → is_send_due x ms ≡ true → sends_at x (events.Moment ms) ≡ true
@@ -106,22 +110,41 @@ strike-moment core ms dr copy on free may after drain copied q right stands =
     (λ due. copy-is core (events.Moment ms) copy copied
     (moment-sends core.offer.state core.drain.moment ms (settled-of core q stands on).offer.no_send (subst (λ m. is_send_due core.offer.state m ≡ true) (ap (λ (x : DrainData). x.moment) after) due)))
 
--- a further signal leaves the part on the end of a run as it is
-same-later : (d : DrainData) (kind : ShutdownSignal) (x : Option ShutdownSignal) → d.signal ≡ x → is_some x ≡ true → signalled kind false d ≡ d
-same-later d kind (Some earlier) e h = rw e refl
-same-later d kind None e h = absurd (cc)
+-- a further signal that is no cut leaves the part on the end of a run as it is
+same-later : (d : DrainData) (kind : ShutdownSignal) (x : Option ShutdownSignal) → d.signal ≡ x → is_some x ≡ true → cuts x kind ≡ false → signalled kind false d ≡ d
+same-later d kind (Some earlier) e h calm = rw (e, calm) refl
+same-later d kind None e h calm = absurd (cc)
+
+-- a cut is a fast signal after a graceful one
+fast-cut : (s : Option ShutdownSignal) (kind : ShutdownSignal) → cuts s kind ≡ true → (FastShutdown ≡ kind) × (is_graceful s ≡ true)
+fast-cut s FastShutdown h = (refl, h)
+fast-cut s GracefulTerminate h = absurd (cc)
+fast-cut s GracefulUpgrade h = absurd (cc)
+
+-- after which nothing is held back
+held-cut : (p : Plan) (q : Record) (fd : ℕ) → has_cut q ≡ true → is_held_back p q fd ≡ false
+held-cut p q fd h = ap (λ c. (is_upgrade (signal_of q) && list_any (λ (x : TableEntry). x.1 == fd) (table p q)) && not (is_upgrade (signal_of q) && ((not (is_empty_table (table p q)) && (not (is_written (encode (table p q))) || c)) || is_answered p q))) h
+    ∙ by (is_upgrade (signal_of q)) (table p q) (is_written (encode (table p q))) (is_answered p q)
+  where
+    over : (w a x : Bool) → (x && not ((not w || true) || a)) ≡ false
+    over w a x = grind arith
+
+    by : (u : Bool) (t : List TableEntry) (w a : Bool) → ((u && list_any (λ (x : TableEntry). x.1 == fd) t) && not (u && ((not (is_empty_table t) && (not w || true)) || a))) ≡ false
+    by false t w a = refl
+    by true [] w a = refl
+    by true (x ∷ more) w a = over w a (list_any (λ (y : TableEntry). y.1 == fd) (x ∷ more))
 
 -- a signal
 module _ (core : CoreData) (kind : ShutdownSignal) (on : is_on core.end ≡ true) (runs : core.drain.running ≡ true) (q : Record) (right : Right core.plan q) (stands : StandsFor core q) where
   fits-signal : fits core.plan q (events.Signal kind) ≡ true
   fits-signal = and_from (not (has_ended core.plan q)) (from_the_start q) (going-on core q stands on) (running-is core q stands on ∙ runs)
 
-  strike-signal : (o : OfferData) (dr : DrainData) → OfferStands core.plan o (Got (events.Signal kind) ∷ q) → DrainStands core.plan dr (over_since o.state) (Got (events.Signal kind) ∷ q) → dr.running ≡ core.drain.running
+  strike-signal : (o : OfferData) (dr : DrainData) → has_cut (Got (events.Signal kind) ∷ q) ≡ has_cut q → OfferStands core.plan o (Got (events.Signal kind) ∷ q) → DrainStands core.plan dr (over_since o.state) (Got (events.Signal kind) ∷ q) → dr.running ≡ core.drain.running
       → is_send_due o.state dr.moment ≡ false → Struck (struck core core.starts core.endpoints core.boot o dr) None (Got (events.Signal kind) ∷ q)
-  strike-signal o dr offer drain running unsent =
+  strike-signal o dr calm offer drain running unsent =
       strike core q (events.Signal kind) core.starts core.endpoints core.boot o dr None [] right stands on fits-signal (free-of core q (events.Signal kind) stands fits-signal refl) refl refl tt drain running offer
       (record { started_is = stands.starts.started_is; ready_is = stands.starts.ready_is; ended_is = stands.starts.ended_is })
-      (stands-signal core.plan core.endpoints q kind (ends-of core q stands on))
+      (stands-signal core.plan core.endpoints q kind calm (ends-of core q stands on))
       (foreign.stands-got core.plan core.boot q (events.Signal kind) refl stands.boot) refl refl
       (not-ended core.plan core.boot (Got (events.Signal kind) ∷ q) (on-boot core q stands on))
       (inl ((λ s lt due. all-started core q stands on right runs s lt due), undue core q stands on))
@@ -139,7 +162,14 @@ module _ (core : CoreData) (kind : ShutdownSignal) (on : is_on core.end ≡ true
       by None h = refl
 
   fields-kept : (offers : Bool) (x : Option ShutdownSignal) → core.drain.signal ≡ x → ((signalled kind offers core.drain).running ≡ core.drain.running) × ((signalled kind offers core.drain).moment ≡ core.drain.moment)
-  fields-kept offers (Some earlier) e = (rw e refl, rw e refl)
+  fields-kept offers (Some earlier) e =
+      let is = signalled-further kind offers core.drain (ap is_some e) in
+      let kept = by (cuts core.drain.signal kind) in
+      (ap (λ (x : DrainData). x.running) is ∙ kept.0, ap (λ (x : DrainData). x.moment) is ∙ kept.1)
+    where
+      by : (b : Bool) → let d : DrainData = if b then at_stage (cut_stage core.drain.stage) core.drain else core.drain in (d.running ≡ core.drain.running) × (d.moment ≡ core.drain.moment)
+      by true = (refl, refl)
+      by false = (refl, refl)
   fields-kept offers None e = (rw e refl, rw e refl)
 
   running-kept : (offers : Bool) (dr : DrainData) → dr ≡ signalled kind offers core.drain → dr.running ≡ core.drain.running
@@ -148,15 +178,18 @@ module _ (core : CoreData) (kind : ShutdownSignal) (on : is_on core.end ≡ true
   moment-kept : (offers : Bool) (dr : DrainData) → dr ≡ signalled kind offers core.drain → dr.moment ≡ core.drain.moment
   moment-kept offers dr after = ap (λ (x : DrainData). x.moment) after ∙ (fields-kept offers core.drain.signal refl).1
 
-  -- a further one
-  module _ (came : is_some core.drain.signal ≡ true) where
+  -- a further one that is no cut
+  module _ (came : is_some core.drain.signal ≡ true) (calm : cuts core.drain.signal kind ≡ false) where
     earlier : has is_signal q ≡ true
     earlier = sym came-is ∙ came
 
+    no-cut : has_cut (Got (events.Signal kind) ∷ q) ≡ has_cut q
+    no-cut = cut-signal q kind ∙ ap (λ b. b || has_cut q) (ap (λ s. cuts s kind) (sym (drain-of core q stands on).signal_is) ∙ calm)
+
     later-struck : Struck (struck core core.starts core.endpoints core.boot core.offer core.drain) None (Got (events.Signal kind) ∷ q)
-    later-struck = strike-signal core.offer core.drain (stands-later core.plan core.offer q kind earlier (offer-of core q stands on))
-        (subst (λ (x : DrainData). DrainStands core.plan x (over_since core.offer.state) (Got (events.Signal kind) ∷ q)) (same-later core.drain kind core.drain.signal refl came)
-        (drain-later core.plan core.drain kind false (over_since core.offer.state) q earlier (drain-of core q stands on))) refl (settled-of core q stands on).offer.no_send
+    later-struck = strike-signal core.offer core.drain no-cut (stands-later core.plan core.offer q kind earlier no-cut (offer-of core q stands on))
+        (subst (λ (x : DrainData). DrainStands core.plan x (over_since core.offer.state) (Got (events.Signal kind) ∷ q)) (same-later core.drain kind core.drain.signal refl came calm)
+        (drain-later core.plan core.drain kind false (over_since core.offer.state) q earlier calm (drain-of core q stands on))) refl (settled-of core q stands on).offer.no_send
 
     going : Going core.plan core.starts core.endpoints core.boot core.offer core.drain core.connections (Got (events.Signal kind) ∷ q)
     going = later-struck.going
@@ -235,7 +268,7 @@ module _ (core : CoreData) (kind : ShutdownSignal) (on : is_on core.end ≡ true
       let silent : has is_signal q ≡ false = sym came-is ∙ none_came in
       let empty : is_upgrade (Some kind) ≡ true → is_empty_table (live_table core.plan q) ≡ true = (λ up. nothing (is_upgrade (Some kind)) (is_empty_table (live_table core.plan q)) (says (ends-of core q stands on)) up) in
       let offer = stands-unoffered core.plan core.offer q kind silent empty (offer-of core q stands on) in
-      strike-signal core.offer dr offer
+      strike-signal core.offer dr (uncut-first q kind (signal-none q silent)) offer
       (first core.plan (over_since core.offer.state) q silent runs (λ up. ap not (sym (empty up))) (over-of core.plan core.offer (Got (events.Signal kind) ∷ q) offer)
       (subst (λ over. DrainStands core.plan core.drain over q) (unsignalled-over silent) (drain-of core q stands on))) (running-kept false dr after)
       (ap (is_send_due core.offer.state) (moment-kept false dr after) ∙ (settled-of core q stands on).offer.no_send)
@@ -257,7 +290,7 @@ module _ (core : CoreData) (kind : ShutdownSignal) (on : is_on core.end ≡ true
       let same : GracefulUpgrade ≡ kind = sym (upgrade-is kind (upgrade-of (is_upgrade (Some kind)) (is_empty_table (live_table core.plan q)) offered)) in
       let offer : OfferStands core.plan o (Got (events.Signal kind) ∷ q) = subst (λ k. OfferStands core.plan o (Got (events.Signal k) ∷ q)) same
       (begins core.plan q (drain-of core q stands on).moment_is silent full (written core.plan q (ends-of core q stands on)) (offer-of core q stands on)) in
-      strike-signal o dr offer
+      strike-signal o dr (uncut-first q kind (signal-none q silent)) offer
       (first core.plan (over_since o.state) q silent runs (λ up. ap not (sym full)) (over-of core.plan o (Got (events.Signal kind) ∷ q) offer)
       (subst (λ over. DrainStands core.plan core.drain over q) (unsignalled-over silent) (drain-of core q stands on))) (running-kept true dr told)
       (ap (λ (x : OfferData). is_send_due x.state dr.moment) after ∙ unsent message core.drain.moment dr.moment)
@@ -277,12 +310,52 @@ module _ (core : CoreData) (kind : ShutdownSignal) (on : is_on core.end ≡ true
       unsent (Some w) t u = refl
       unsent None t u = refl
 
--- a further signal tells nothing, and leaves the core as it is
-pub later-keeps : (core : CoreData) (kind : ShutdownSignal) → is_on core.end ≡ true → core.drain.running ≡ true → is_some core.drain.signal ≡ true → (before : List Action) → StepKeeps core core (events.Signal kind) before before core.end
-later-keeps core kind on runs came before = record {
+  -- a cut, and what closes as the offer is over by it
+  pub strike-cut : (o : OfferData) (dr : DrainData) (d : EndpointsData) (gave : List Action) → cuts core.drain.signal kind ≡ true → o ≡ cut_off core.drain.moment core.offer → dr ≡ signalled kind false core.drain
+      → ((p : Plan) (r : Record) → core.drain.moment ≡ now r → is_graceful (signal_of r) ≡ true → OfferStands p core.offer r → OfferStands p o (Got (events.Signal FastShutdown) ∷ r))
+      → ((t : ℕ) → IsOfferSettled o t)
+      → ((p : Plan) (over over2 : Option ℕ) (r : Record) → cuts core.drain.signal kind ≡ true → is_cut core.drain.stage ≡ false → IsDrainSettled core.drain over → OverIs p (Got (events.Signal kind) ∷ r) over2 → DrainStands p core.drain over r → DrainStands p dr over2 (Got (events.Signal kind) ∷ r))
+      → IsGivingUp gave
+      → ((r : Record) (e : Event) → is_endpoints_event e ≡ false → ((fd : ℕ) → is_held_back core.plan (Got e ∷ r) fd ≡ false) → EndpointsStand core.plan core.endpoints r → EndpointsStand core.plan d (tell (Got e ∷ r) gave))
+      → Struck (struck core core.starts d core.boot o dr) None (tell (Got (events.Signal kind) ∷ q) gave)
+  strike-cut o dr d gave cut after told cuts_offer settles cuts_drain giving ends =
+      let fast = fast-cut core.drain.signal kind cut in
+      let was = drain-of core q stands on in
+      let offer : OfferStands core.plan o (Got (events.Signal kind) ∷ q) = subst (λ k. OfferStands core.plan o (Got (events.Signal k) ∷ q)) fast.0
+      (cuts_offer core.plan q was.moment_is (ap is_graceful (sym was.signal_is) ∙ fast.1) (offer-of core q stands on)) in
+      let came : has_cut (Got (events.Signal kind) ∷ q) ≡ true = cut-signal q kind ∙ ap (λ b. b || has_cut q) (ap (λ s. cuts s kind) (sym was.signal_is) ∙ cut) in
+      strike core q (events.Signal kind) core.starts d core.boot o dr None gave right stands on fits-signal (free-of core q (events.Signal kind) stands fits-signal refl) refl refl giving
+      (cuts_drain core.plan (over_since core.offer.state) (over_since o.state) q cut (uncut core.plan core.drain (settled-of core q stands on).waits) (settled-of core q stands on).drain
+      (over-of core.plan o (Got (events.Signal kind) ∷ q) offer) was)
+      (running-kept false dr told) offer
+      (record { started_is = stands.starts.started_is; ready_is = stands.starts.ready_is; ended_is = stands.starts.ended_is })
+      (ends q (events.Signal kind) refl (λ fd. held-cut core.plan (Got (events.Signal kind) ∷ q) fd came) (ends-of core q stands on))
+      (foreign.stands-got core.plan core.boot q (events.Signal kind) refl stands.boot) refl refl
+      (not-ended core.plan core.boot (tell (Got (events.Signal kind) ∷ q) gave) (on-boot core q stands on))
+      (inl (giving-started core.plan (Got (events.Signal kind) ∷ q) gave giving (λ s lt due. all-started core q stands on right runs s lt due), undue core q stands on))
+      (λ due. absurd (let unsent = (settles dr.moment).no_send in cc))
+
+-- the same of a call
+pub cut-strikes : (core : CoreData) (kind : ShutdownSignal) → is_on core.end ≡ true → core.drain.running ≡ true → cuts core.drain.signal kind ≡ true → (o : OfferData) → o ≡ cut_off core.drain.moment core.offer
+    → ((p : Plan) (r : Record) → core.drain.moment ≡ now r → is_graceful (signal_of r) ≡ true → OfferStands p core.offer r → OfferStands p o (Got (events.Signal FastShutdown) ∷ r))
+    → ((t : ℕ) → IsOfferSettled o t)
+    → (dr : DrainData) → dr ≡ signalled kind false core.drain
+    → ((p : Plan) (over over2 : Option ℕ) (r : Record) → cuts core.drain.signal kind ≡ true → is_cut core.drain.stage ≡ false → IsDrainSettled core.drain over → OverIs p (Got (events.Signal kind) ∷ r) over2 → DrainStands p core.drain over r → DrainStands p dr over2 (Got (events.Signal kind) ∷ r))
+    → (d : EndpointsData) (before mid : List Action)
+    → Tells before mid (λ told. IsGivingUp told × ((r : Record) (e : Event) → is_endpoints_event e ≡ false → ((fd : ℕ) → is_held_back core.plan (Got e ∷ r) fd ≡ false) → EndpointsStand core.plan core.endpoints r → EndpointsStand core.plan d (tell (Got e ∷ r) told)))
+    → Tells before mid (λ told. IsGivingUp told × ((q : Record) → Right core.plan q → StandsFor core q → Struck (struck core core.starts d core.boot o dr) None (tell (Got (events.Signal kind) ∷ q) told)))
+cut-strikes core kind on runs cut o after cuts_offer settles dr told cuts_drain d before mid gave = record {
+  told = gave.told;
+  appended = gave.appended;
+  kept = (gave.kept.0, λ q right stands. strike-cut core kind on runs q right stands o dr d gave.told cut after told cuts_offer settles cuts_drain gave.kept.0 gave.kept.1);
+}
+
+-- a further signal that is no cut tells nothing, and leaves the core as it is
+pub later-keeps : (core : CoreData) (kind : ShutdownSignal) → is_on core.end ≡ true → core.drain.running ≡ true → is_some core.drain.signal ≡ true → cuts core.drain.signal kind ≡ false → (before : List Action) → StepKeeps core core (events.Signal kind) before before core.end
+later-keeps core kind on runs came calm before = record {
   told = [];
   appended = sym (append-nil before);
-  kept = λ q right stands. later-step core kind on runs q right stands came;
+  kept = λ q right stands. later-step core kind on runs q right stands came calm;
 }
 
 -- what the event of an answer is
@@ -307,10 +380,10 @@ answer-is p answers.SendFailed = record { apart = refl; plain = refl; boot = ref
 
 -- an ask that is open is answered
 pub fits-connect : (core : CoreData) (q : Record) → is_on core.end ≡ true → is_connecting core.offer.state ≡ true → StandsFor core q → (not (has_ended core.plan q) && is_connect_open q) ≡ true
-fits-connect core q on may stands = and_from (not (has_ended core.plan q)) (is_connect_open q) (going-on core q stands on) ((offer-of core q stands on).connecting_is ∙ may)
+fits-connect core q on may stands = and_from (not (has_ended core.plan q)) (is_connect_open q) (going-on core q stands on) ((offer-of core q stands on).connecting_is (uncut-of core q stands on) ∙ may)
 
 pub fits-send : (core : CoreData) (q : Record) → is_on core.end ≡ true → is_sending core.offer.state ≡ true → StandsFor core q → (not (has_ended core.plan q) && is_send_open q) ≡ true
-fits-send core q on may stands = and_from (not (has_ended core.plan q)) (is_send_open q) (going-on core q stands on) ((offer-of core q stands on).sending_is ∙ may)
+fits-send core q on may stands = and_from (not (has_ended core.plan q)) (is_send_open q) (going-on core q stands on) ((offer-of core q stands on).sending_is (uncut-of core q stands on) ∙ may)
 
 pub fits-answer : (core : CoreData) (q : Record) (a : SendAnswer) → is_on core.end ≡ true → is_awaited core.offer.state a ≡ true → StandsFor core q → fits core.plan q (event_of a) ≡ true
 fits-answer core q answers.Connected on may stands = fits-connect core q on may stands

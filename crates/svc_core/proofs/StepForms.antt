@@ -20,6 +20,7 @@ use Rattle.svc_record.specs.Told.{Tells, IsGivingUp}
 use Rattle.svc_record.specs.Validity.{IsInOrder}
 use Rattle.svc_boot.specs.BootData.{BootData}
 use Rattle.svc_boot.specs.BootEffects.{end_of}
+use Rattle.svc_drain.specs.DrainEffects.{cuts}
 use Rattle.svc_connections.specs.ConnectionsData.{ConnectionsData}
 use Rattle.svc_connections.specs.ConnectionsState.{ConnectionsStand}
 use Rattle.svc_connections.specs.ConnectionsFacts.{is_connection_event}
@@ -154,13 +155,13 @@ forks {core = core} {new = new} {end = end} b after ends begins bare spends =
     let few = few-open (with_end (end_of core.plan b) (with_boot b core)) in
     rw (ends, after) (record { plan = refl; kept = begins; bare = bare; spends = record { few = omega (arith, few, spends.few); room = omega (arith, few, spends.room) } })
 
--- a signal after the first
-pub later-taken : {core : CoreData} {actions : Actions} (kind : ShutdownSignal) → is_on core.end ≡ true → core.drain.running ≡ true → is_some core.drain.signal ≡ true → Steps core core (Signal kind) actions actions core.end
-later-taken {core = core} {actions = actions} kind on runs came =
+-- a signal after the first that is no cut
+pub later-taken : {core : CoreData} {actions : Actions} (kind : ShutdownSignal) → is_on core.end ≡ true → core.drain.running ≡ true → is_some core.drain.signal ≡ true → cuts core.drain.signal kind ≡ false → Steps core core (Signal kind) actions actions core.end
+later-taken {core = core} {actions = actions} kind on runs came calm =
     let few = few-open core in
     record {
       plan = refl;
-      kept = later-keeps core kind on runs came (list_of actions);
+      kept = later-keeps core kind on runs came calm (list_of actions);
       copied = copied-bare (copy_at core (Signal kind)) (list_of actions) (list_of actions) (bare-none (list_of actions));
       spends = record { few = omega (arith, few); room = omega (arith, few) };
     }
@@ -215,8 +216,8 @@ room-of core new e before given after (Err none) enough steps = λ _. (
 
 pub later-of : (core new : CoreData) (e : Event) (before given after : Actions) (result : Result StepEnd NoMemory) → list_of given ≡ list_of before → Ignores core new e given after
     → IgnoresLater core new e (list_of before) (list_of after) result
-later-of core new e before given after result same ignores kind is came =
-    let undone = (subst (λ (x : Event). Ignores core new x given after) is ignores) came in
+later-of core new e before given after result same ignores kind is came calm =
+    let undone = (subst (λ (x : Event). Ignores core new x given after) is ignores) came calm in
     (on_ok result undone.same, on_ok result (ap (λ (a : Actions). list_of a) undone.untold ∙ same))
   where
     on_ok : {P : Type 0} (r : Result StepEnd NoMemory) → P → OnOk r P

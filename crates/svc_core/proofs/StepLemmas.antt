@@ -2,7 +2,7 @@
 use Rattle.std.proofs.Common.{ℕ, Bool, true, false, ◌&&◌, ◌||◌, not, List, [], ◌∷◌, ◌++◌, ◌≡◌, refl, ap, sym, ◌∙◌, subst, arith, ◌≤◌, ◌<◌, length, if◌then◌else◌, MatchBool, nat_le, nat_lt, append-nil, append_assoc, inr}
 use Rattle.std.specs.Prelude.{Option, None, ◌⊎◌}
 use Rattle.std.specs.Bool.{OnTrue, OnFalse}
-use Rattle.std.proofs.lemmas.Bool.{and_from, and_parts, le-leb, or_from}
+use Rattle.std.proofs.lemmas.Bool.{and_from, and_parts, le-leb, or_from, or_parts}
 use Rattle.svc_record.specs.declared.plan.Plan.{Plan}
 use Rattle.svc_record.specs.declared.entry.Entry.TheVariants.{Got, Told}
 use Rattle.svc_record.specs.declared.action.Action.{Action}
@@ -11,11 +11,11 @@ use Rattle.svc_record.specs.declared.action.StepEnd.{StepEnd}
 use Rattle.svc_record.specs.declared.action.StepEnd.TheVariants.{On, Served}
 use Rattle.svc_record.specs.declared.event.Event.{Event}
 use Rattle.svc_record.specs.declared.event.Event.TheVariants.{Moment, Ready, Ended, Bound, Received, NoSenderYet, ReceiveFailed, LoopEnded, Side}
-use Rattle.svc_record.specs.Record.{Record, has, now, tell, last_step, is_running, from_the_start}
+use Rattle.svc_record.specs.Record.{Record, has, now, tell, last_step, is_running, from_the_start, signal_of, has_cut}
 use Rattle.svc_record.specs.Asks.{is_bind_open, is_adopt_open, is_try_open}
 use Rattle.svc_record.specs.Boot.{has_begun, is_read, is_side_child}
 use Rattle.svc_record.specs.Descriptors.{brings}
-use Rattle.svc_record.specs.Drain.{has_passed}
+use Rattle.svc_record.specs.Drain.{has_passed, has_passed_by}
 use Rattle.svc_base.specs.NumberSets.{ascending}
 use Rattle.svc_record.specs.Ends.{has_ended, step_end, ends_tested, has_ended_early, TestedRight}
 use Rattle.svc_record.specs.Fits.{fits, fits_row, may_end, are_new}
@@ -53,7 +53,7 @@ use Rattle.svc_drain.specs.DrainData.{DrainData}
 use Rattle.svc_drain.specs.DrainState.{DrainStands, OverIs, is_broadcast_told}
 use Rattle.svc_drain.specs.DrainFacts.{is_drain_event}
 use Rattle.svc_drain.proofs.Foreign as drains
-use Rattle.svc_drain.proofs.Passing.{passed-got}
+use Rattle.svc_drain.proofs.Passing.{passed-got, uncut}
 use Rattle.svc_drain.proofs.Broadcasts.{broadcast-is}
 use Rattle.svc_connections.specs.ConnectionsState.{ConnectionsStand}
 use Rattle.svc_connections.specs.ConnectionsFacts.{is_connection_event}
@@ -98,6 +98,10 @@ module _ (core : CoreData) (q : Record) (stands : StandsFor core q) (on : is_on 
       ended-is core.plan core.boot q stands.boot
       ∙ or_from (has_passed core.plan q) (is_tested core.plan core.boot || is_early core.boot) unpassed
       (or_from (is_tested core.plan core.boot) (is_early core.boot) live.0 (or_from (is_parent_over core.boot.fork) (is_refused core.boot.receiving) live.2 live.1))
+
+  -- no cut came
+  pub uncut-of : has_cut q ≡ false
+  uncut-of = (or_parts (has_cut q) (has_passed_by core.plan q (signal_of q)) unpassed).0
 
   pub drain-of : DrainStands core.plan core.drain (over_since core.offer.state) q
   drain-of = stands.drain (unserved core.end on)
@@ -152,6 +156,13 @@ giving-quiet q [] h k = k
 giving-quiet q (Fail s ∷ gave) h k = giving-quiet (Told (Fail s) ∷ q) gave h k
 giving-quiet q (Close fd ∷ gave) h k = giving-quiet (Told (Close fd) ∷ q) gave h k
 giving-quiet q (_ ∷ gave) h k = absurd h
+
+-- and starts nothing
+pub giving-started : (p : Plan) (q : Record) (gave : List Action) → IsGivingUp gave → AreStarted p q → AreStarted p (tell q gave)
+giving-started p q [] h k = k
+giving-started p q (Fail s ∷ gave) h k = giving-started p (Told (Fail s) ∷ q) gave h (λ t lt due. k t lt due)
+giving-started p q (Close fd ∷ gave) h k = giving-started p (Told (Close fd) ∷ q) gave h (λ t lt due. k t lt due)
+giving-started p q (_ ∷ gave) h k = absurd h
 
 -- the core with the parts that an event leaves
 abbrev pub struck : CoreData → StartsData → EndpointsData → BootData → OfferData → DrainData → CoreData
@@ -362,7 +373,7 @@ fits-received core q bytes fds on may stands =
 -- which loops may end, by the parts
 module _ (core : CoreData) (q : Record) (s i j : ℕ) (sized : IsEndpointsSized core.plan core.endpoints) (on : is_on core.end ≡ true) (stands : StandsFor core q) where
   pub broadcast-told : has is_broadcast q ≡ is_broadcast_told core.drain
-  broadcast-told = broadcast-is core.plan core.drain (over_since core.offer.state) q (drain-of core q stands on)
+  broadcast-told = broadcast-is core.plan core.drain (over_since core.offer.state) q (uncut core.plan core.drain (settled-of core q stands on).waits) (drain-of core q stands on)
 
   pub loop-same : s < service_count core.plan → is_loop_on core s i j ≡ ((serves core.plan q s && is_endpoint core.plan s i) && (nat_lt j core.plan.tasks && not (has (is_loop_end s i j) q)))
   loop-same inside =

@@ -12,6 +12,7 @@ use Rattle.svc_record.specs.Record.{Record}
 use Rattle.svc_record.specs.Descriptors.{live_table}
 use Rattle.svc_record.specs.Offer.{is_upgrade, is_empty_table}
 use Rattle.svc_endpoints.specs.EndpointsState.{EndpointsStand}
+use Rattle.svc_drain.specs.DrainEffects.{cuts}
 use Rattle.svc_core.specs.CoreData.{CoreData}
 
 -- the signal asks for an upgrade, and the table isn't empty
@@ -27,7 +28,7 @@ abbrev pub is_reached : SendAnswer → Bool
 is_reached Connected = true
 is_reached _ = false
 
--- a signal after the first changes nothing, in the core and of what was told
+-- a signal after the first that doesn't cut its waits short changes nothing, in the core and of what was told
 abbrev pub IgnoresLater : CoreData → CoreData → Event → List Action → List Action → Result StepEnd NoMemory → Type 0
 IgnoresLater old new e before after result =
-    (kind : ShutdownSignal) → e ≡ Signal kind → is_some old.drain.signal ≡ true → OnOk result (new ≡ old) × OnOk result (after ≡ before)
+    (kind : ShutdownSignal) → e ≡ Signal kind → is_some old.drain.signal ≡ true → cuts old.drain.signal kind ≡ false → OnOk result (new ≡ old) × OnOk result (after ≡ before)

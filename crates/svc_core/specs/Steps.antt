@@ -1,5 +1,5 @@
 -- What the core's steps and their parts keep: one record for each sort.
-use Rattle.std.specs.Prelude.{ℕ, Bool, ◌≡◌, ◌+◌, ◌*◌, ◌≤◌, ◌++◌, true, List, length, Option, Result, MatchResult, OnOk, is_some, ⊤}
+use Rattle.std.specs.Prelude.{false, ℕ, Bool, ◌≡◌, ◌+◌, ◌*◌, ◌≤◌, ◌++◌, true, List, length, Option, Result, MatchResult, OnOk, is_some, ⊤}
 use Rattle.svc_base.specs.declared.memory.NoMemory.{NoMemory}
 use Rattle.svc_base.specs.Items.{list_of, spare}
 use Rattle.svc_fds.specs.declared.encoding.Message.{Message}
@@ -12,7 +12,7 @@ use Rattle.svc_record.specs.Judging.{TellsJudged, judged_at}
 use Rattle.svc_record.specs.Record.{Record, tell}
 use Rattle.svc_record.specs.Told.{Tells}
 use Rattle.svc_endpoints.specs.EndpointsState.{open_numbers as table_numbers}
-use Rattle.svc_drain.specs.DrainEffects.{end_told}
+use Rattle.svc_drain.specs.DrainEffects.{cuts, end_told}
 use Rattle.svc_connections.specs.ConnectionsState.{numbers}
 use Rattle.svc_core.specs.CoreData.{CoreData, is_on, with_end}
 use Rattle.svc_core.specs.Copies.{TellsBare, TellsCopied, copy_of, copy_at}
@@ -69,9 +69,9 @@ pub record IsUndone (old new : CoreData) (before after : Actions) : Type 0 where
 abbrev pub StepsOr : CoreData → CoreData → Event → Actions → Actions → Result StepEnd NoMemory → Type 0
 StepsOr old new e before after result = MatchResult result (λ end. Steps old new e before after end) (λ _. IsUndone old new before after)
 
--- a signal after the first changes nothing
+-- a signal after the first that doesn't cut its waits short changes nothing
 abbrev pub Ignores : CoreData → CoreData → Event → Actions → Actions → Type 0
-Ignores old new (Signal kind) before after = is_some old.drain.signal ≡ true → IsUndone old new before after
+Ignores old new (Signal kind) before after = is_some old.drain.signal ≡ true → cuts old.drain.signal kind ≡ false → IsUndone old new before after
 Ignores old new _ before after = ⊤
 
 -- a connection that arrived is judged as was said

@@ -1,6 +1,6 @@
 //! The core: one step for each event.
 
-ghost use Rattle.std.specs.Prelude.{◌≡◌, ◌+◌, ◌*◌, ◌<◌, ◌≤◌, ◌&&◌, [], ◌∷◌, false, true, IfOk, OnErr, OnOk, Option, None};
+ghost use Rattle.std.specs.Prelude.{◌≡◌, ◌+◌, ◌*◌, ◌<◌, ◌≤◌, ◌&&◌, [], ◌∷◌, false, true, IfOk, OnErr, OnOk, Option, None, is_some};
 ghost use Rattle.svc_base.specs.Items.{list_of, spare};
 ghost use Rattle.svc_record.specs.Record.{Record};
 ghost use Rattle.svc_record.specs.Plans.{service_count};
@@ -547,8 +547,8 @@ impl Core {
         Ok(self.finish(None, actions))
     }
 
-    /// The first signal begins the shutdown. By an upgrade what is live is offered. A later signal
-    /// changes nothing.
+    /// The first signal begins the shutdown. By an upgrade what is live is offered. A further signal
+    /// cuts its waits short or changes nothing.
     fn step_signal(
         &mut self,
         alloc: Global,
@@ -560,7 +560,7 @@ impl Core {
         ensures later { Ignores self.old self.new (Event.Signal kind) actions.old actions.new }
     {
         if self.drain.signal().is_some() {
-            return Ok(self.end);
+            return Ok(self.step_further(kind, actions));
         }
         if self.offers_by(kind) {
             let message = self.endpoints.message(alloc)?;
@@ -570,6 +570,23 @@ impl Core {
         }
         self.drain.take_signal(kind, false);
         Ok(self.finish(None, actions))
+    }
+
+    /// A fast signal after a graceful one ends the run at once: the offer is over, so what is abandoned
+    /// and was on offer closes, and nothing more is waited for. Any other further signal changes nothing.
+    fn step_further(&mut self, kind: ShutdownSignal, actions: &mut Actions) -> StepEnd
+        requires may { MayStep self.old (Event.Signal kind) actions.old }
+        requires further { is_some self.old.drain.signal ≡ true }
+        ensures steps { Steps self.old self.new (Event.Signal kind) actions.old actions.new result }
+        ensures later { Ignores self.old self.new (Event.Signal kind) actions.old actions.new }
+    {
+        if !self.drain.cuts(kind) {
+            return self.end;
+        }
+        self.offer.cut(self.drain.moment());
+        self.drain.take_signal(kind, false);
+        self.endpoints.release(&self.plan, actions);
+        self.finish(None, actions)
     }
 
     /// The signal asks for an upgrade, and something is live that can be offered.

@@ -1,5 +1,5 @@
 -- Where the broadcast was told, by the part.
-use Rattle.std.proofs.Common.{ℕ, Bool, true, false, [], ◌∷◌, ◌++◌, Option, Some, None, ◌≡◌, refl, ap, ◌∙◌, if◌then◌else◌}
+use Rattle.std.proofs.Common.{ℕ, Bool, true, false, List, [], ◌∷◌, ◌++◌, Option, Some, None, ◌≡◌, refl, ap, sym, ◌∙◌, if◌then◌else◌}
 use Rattle.std.specs.List.{list_any}
 use Rattle.svc_record.specs.declared.plan.Plan.{Plan}
 use Rattle.svc_record.specs.declared.entry.Entry.TheVariants.{Told}
@@ -10,10 +10,11 @@ use Rattle.svc_record.specs.declared.event.ShutdownSignal.TheVariants.{FastShutd
 use Rattle.svc_record.specs.Record.{Record, has}
 use Rattle.svc_record.specs.Closes.{is_broadcast}
 use Rattle.svc_record.specs.Drain.{Mark, phase, broadcast, marks_if, told_marks, is_boot_phase}
+use Rattle.svc_record.proofs.CutLaws.{unsignalled-uncut}
 use Rattle.svc_drain.specs.declared.stage.Stage.{Stage}
-use Rattle.svc_drain.specs.declared.stage.Stage.TheVariants.{Running, Offering, Resting, Grace, Ending}
+use Rattle.svc_drain.specs.declared.stage.Stage.TheVariants.{Running, Offering, Resting, Grace, Ending, CutShort}
 use Rattle.svc_drain.specs.DrainData.{DrainData}
-use Rattle.svc_drain.specs.DrainState.{DrainStands, stage_fits, stage_marks, is_grace, is_broadcast_told}
+use Rattle.svc_drain.specs.DrainState.{DrainStands, is_cut, cut_row, stage_fits, stage_marks, is_grace, is_broadcast_told}
 
 -- the mark is the broadcast
 abbrev pub is_the_broadcast : Mark → Bool
@@ -37,20 +38,21 @@ run-unmarked true = refl
 run-unmarked false = refl
 
 -- by the stage
-stage-marked : (g : Stage) (s : Option ShutdownSignal) (o r : Bool) → list_any is_the_broadcast (stage_marks g s o ++ marks_if r (phase RunningPhase ∷ [])) ≡ is_grace g
-stage-marked Running s o r = run-unmarked r
-stage-marked Offering s o r = run-unmarked r
-stage-marked Resting s o r = run-unmarked r
-stage-marked (Grace at) (Some GracefulUpgrade) true r = refl
-stage-marked (Grace at) (Some GracefulUpgrade) false r = refl
-stage-marked (Grace at) (Some TerminateSignal) o r = refl
-stage-marked (Grace at) (Some FastShutdown) o r = refl
-stage-marked (Grace at) None o r = refl
-stage-marked Ending s o r = run-unmarked r
+stage-marked : (g : Stage) (s : Option ShutdownSignal) (o r : Bool) (row : List Mark) → is_cut g ≡ false → list_any is_the_broadcast (stage_marks g s o row ++ marks_if r (phase RunningPhase ∷ [])) ≡ is_grace g
+stage-marked Running s o r row h = run-unmarked r
+stage-marked Offering s o r row h = run-unmarked r
+stage-marked Resting s o r row h = run-unmarked r
+stage-marked (Grace at) (Some GracefulUpgrade) true r row h = refl
+stage-marked (Grace at) (Some GracefulUpgrade) false r row h = refl
+stage-marked (Grace at) (Some TerminateSignal) o r row h = refl
+stage-marked (Grace at) (Some FastShutdown) o r row h = refl
+stage-marked (Grace at) None o r row h = refl
+stage-marked Ending s o r row h = run-unmarked r
+stage-marked (CutShort started) s o r row h = absurd (cc)
 
--- the part says whether the broadcast was told
-pub broadcast-is : (p : Plan) (d : DrainData) (over : Option ℕ) (q : Record) → DrainStands p d over q → has is_broadcast q ≡ is_broadcast_told d
-broadcast-is p d over q stand = marked-is q ∙ ap (list_any is_the_broadcast) stand.marks_are ∙ stage-marked d.stage d.signal d.offers d.running
+-- until a cut the part says whether the broadcast was told
+pub broadcast-is : (p : Plan) (d : DrainData) (over : Option ℕ) (q : Record) → is_cut d.stage ≡ false → DrainStands p d over q → has is_broadcast q ≡ is_broadcast_told d
+broadcast-is p d over q uncut stand = marked-is q ∙ ap (list_any is_the_broadcast) stand.marks_are ∙ stage-marked d.stage d.signal d.offers d.running (cut_row p q) uncut
 
 -- it isn't before a signal
 unsignalled-stage : (g : Stage) (o : Bool) (over : Option ℕ) → stage_fits g None o over ≡ true → is_grace g ≡ false
@@ -59,6 +61,7 @@ unsignalled-stage Running o over h = refl
 unsignalled-stage Offering o over h = refl
 unsignalled-stage Resting o over h = refl
 unsignalled-stage Ending o over h = refl
+unsignalled-stage (CutShort started) o over h = refl
 
 pub unsignalled-silent : (p : Plan) (d : DrainData) (over : Option ℕ) (q : Record) → d.signal ≡ None → DrainStands p d over q → has is_broadcast q ≡ false
-unsignalled-silent p d over q none stand = broadcast-is p d over q stand ∙ unsignalled-stage d.stage d.offers over (rw none at stand.fits)
+unsignalled-silent p d over q none stand = broadcast-is p d over q (stand.cut_is ∙ unsignalled-uncut q (sym stand.signal_is ∙ none)) stand ∙ unsignalled-stage d.stage d.offers over (rw none at stand.fits)

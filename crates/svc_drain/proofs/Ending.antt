@@ -1,5 +1,5 @@
 -- What the end tells is what is due, and when each phase is told.
-use Rattle.std.proofs.Common.{ℕ, true, List, [], ◌∷◌, ◌++◌, map, Option, ◌≡◌, refl, ap, sym, ◌∙◌, if◌then◌else◌}
+use Rattle.std.proofs.Common.{ℕ, true, ◌||◌, List, [], ◌∷◌, ◌++◌, map, Option, ◌≡◌, refl, ap, sym, ◌∙◌, if◌then◌else◌}
 use Rattle.svc_record.specs.declared.plan.Plan.{Plan}
 use Rattle.svc_record.specs.declared.entry.Entry.TheVariants.{Told}
 use Rattle.svc_record.specs.declared.action.Action.{Action}
@@ -7,16 +7,16 @@ use Rattle.svc_record.specs.declared.action.Action.TheVariants.{Phase, Cut, Clos
 use Rattle.svc_record.specs.declared.action.ExecutionPhase.TheVariants.{Running as RunningPhase, ShutdownRuntimes, Terminated}
 use Rattle.svc_record.specs.Record.{Record, has, tell, now, signal_of, is_running}
 use Rattle.svc_record.specs.Connections.{live_connections}
-use Rattle.svc_record.specs.Drain.{phase, marks_if, told_marks, due_marks, row_by, is_fast, stop_seconds, live_numbers, last_actions}
+use Rattle.svc_record.specs.Drain.{phase, marks_if, told_marks, due_marks, wait_row, is_fast, stop_seconds, live_numbers, last_actions}
 use Rattle.svc_base.specs.NumberSets.{ascending}
 use Rattle.svc_drain.specs.DrainData.{DrainData}
-use Rattle.svc_drain.specs.DrainState.{DrainStands, IsDrainSettled, stage_marks, passes}
+use Rattle.svc_drain.specs.DrainState.{DrainStands, IsDrainSettled, is_cut, cut_row, stage_marks, passes}
 use Rattle.svc_drain.specs.DrainEffects.{stop_after, stop_told, end_told}
 use Rattle.svc_drain.proofs.Passing.{passed-is, row-is, running-is, passed-tell, row-tell}
 
 -- the seconds that `Stop` carries
 pub stop-is : (p : Plan) (d : DrainData) (over : Option ℕ) (q : Record) → DrainStands p d over q → stop_after p d ≡ stop_seconds p q
-stop-is p d over q stand = ap (λ b. if b then 0 else p.stop) (ap is_fast stand.signal_is)
+stop-is p d over q stand = ap (λ s. if is_fast s || is_cut d.stage then 0 else p.stop) stand.signal_is ∙ ap (λ b. if is_fast (signal_of q) || b then 0 else p.stop) stand.cut_is
 
 -- what the end tells is what is due, where the cuts are of the live connections
 pub ending-is : (p : Plan) (d : DrainData) (over : Option ℕ) (q : Record) (cuts : List ℕ) → DrainStands p d over q → cuts ≡ ascending (live_connections q)
@@ -69,7 +69,7 @@ marks-at-end p d over q cuts closes stand settled passed =
     end-marks p d q cuts closes
     ∙ ap (λ marks. phase Terminated ∷ phase ShutdownRuntimes ∷ marks) (
     stand.marks_are
-    ∙ ap (λ b. stage_marks d.stage d.signal d.offers ++ marks_if b (phase RunningPhase ∷ [])) (sym (end-running p d q cuts closes ∙ running-is p d over q stand))
+    ∙ ap (λ b. stage_marks d.stage d.signal d.offers (cut_row p q) ++ marks_if b (phase RunningPhase ∷ [])) (sym (end-running p d q cuts closes ∙ running-is p d over q stand))
     ∙ ap (λ marks. marks ++ marks_if (has is_running r) (phase RunningPhase ∷ [])) (sym (row-tell p q (end_told p d cuts closes) ∙ row-is p d over q stand settled))
     )
-    ∙ ap (λ b. (marks_if b (phase Terminated ∷ phase ShutdownRuntimes ∷ []) ++ row_by p r (signal_of r)) ++ marks_if (has is_running r) (phase RunningPhase ∷ [])) (sym (passed-tell p q (end_told p d cuts closes) ∙ passed-is p d over q stand settled ∙ passed))
+    ∙ ap (λ b. (marks_if b (phase Terminated ∷ phase ShutdownRuntimes ∷ []) ++ wait_row p r) ++ marks_if (has is_running r) (phase RunningPhase ∷ [])) (sym (passed-tell p q (end_told p d cuts closes) ∙ passed-is p d over q stand settled ∙ passed))

@@ -13,7 +13,7 @@ use Rattle.svc_record.specs.Record.{Record, tell, now, times, is_running}
 use Rattle.svc_record.specs.Offer.{is_upgrade, over_moment}
 use Rattle.svc_record.specs.Drain.{told_marks}
 use Rattle.svc_drain.specs.declared.stage.Stage.{Stage}
-use Rattle.svc_drain.specs.declared.stage.Stage.TheVariants.{Running, Offering, Resting, Grace, Ending}
+use Rattle.svc_drain.specs.declared.stage.Stage.TheVariants.{Running, Offering, Resting, Grace, Ending, CutShort}
 use Rattle.svc_drain.specs.DrainData.{DrainData}
 use Rattle.svc_drain.specs.DrainState.{DrainStands, IsDrainSettled, OverIs, stage_fits, is_terminate_signal, rest_from, rest_at}
 use Rattle.svc_drain.specs.DrainFacts.{is_drain_event, is_drain_action, has_no_drain_action}
@@ -31,9 +31,11 @@ kept-told p d over q a running marks stand = record {
   offers_is = stand.offers_is;
   over_is = record { is = stand.over_is.is; moment = stand.over_is.moment };
   fits = stand.fits;
+  cut_is = stand.cut_is;
   rest_is = stand.rest_is;
   grace_is = stand.grace_is;
   marks_are = marks ∙ stand.marks_are;
+  unstarted = stand.unstarted;
   unsignalled = stand.unsignalled;
   unrested = stand.unrested;
   at_once = stand.at_once;
@@ -67,6 +69,7 @@ fits-later Resting s o over over2 h f =
     and_from (is_upgrade s && o) (is_some over2) parts.0 (ap is_some (f parts.1) ∙ parts.1)
 fits-later (Grace at) s o over over2 h f = fits-terms (is_terminate_signal s) (is_upgrade s) o (is_some over) (is_some over2) h (λ e. ap is_some (f e) ∙ e)
 fits-later Ending s o over over2 h f = h
+fits-later (CutShort started) s o over over2 h f = h
 
 -- as the offer gets over no rest is over
 rest-later : (over over2 : Option ℕ) (t : ℕ) → (is_some over ≡ true → over2 ≡ over) → (is_some over ≡ false → rest_from over2 t ≡ None) → rest_from over2 t ≡ rest_from over t
@@ -79,6 +82,7 @@ rest-at-later Offering over over2 t e = sym e
 rest-at-later Resting over over2 t e = sym e
 rest-at-later (Grace at) over over2 t e = refl
 rest-at-later Ending over over2 t e = sym e
+rest-at-later (CutShort started) over over2 t e = sym e
 
 -- an event by which the offer gets over does so at its moment
 new-rest : (p : Plan) (d : DrainData) (over over2 : Option ℕ) (q : Record) (e : Event) → now (Got e ∷ q) ≡ now q → OverIs p (Got e ∷ q) over2 → DrainStands p d over q → is_some over ≡ false → rest_from over2 d.moment ≡ None
@@ -100,9 +104,11 @@ stands-got p d over over2 q e other settled overs stays stand =
       offers_is = stand.offers_is;
       over_is = overs;
       fits = fits-later d.stage d.signal d.offers over over2 stand.fits stays;
-      rest_is = λ o. stand.rest_is o ∙ rest-at-later d.stage over over2 d.moment later;
+      cut_is = stand.cut_is;
+      rest_is = λ u o. stand.rest_is u o ∙ rest-at-later d.stage over over2 d.moment later;
       grace_is = stand.grace_is;
       marks_are = stand.marks_are;
+      unstarted = stand.unstarted;
       unsignalled = stand.unsignalled;
       unrested = λ b. later ∙ stand.unrested b;
       at_once = stand.at_once;

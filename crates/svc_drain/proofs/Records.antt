@@ -7,12 +7,15 @@ use Rattle.svc_record.specs.declared.action.Action.{Action}
 use Rattle.svc_record.specs.declared.event.Event.TheVariants.{Moment, Signal}
 use Rattle.svc_record.specs.declared.event.ShutdownSignal.{ShutdownSignal}
 use Rattle.svc_record.specs.declared.event.ShutdownSignal.TheVariants.{FastShutdown, GracefulTerminate, GracefulUpgrade}
-use Rattle.svc_record.specs.Record.{Record, has, tell, now, signal_of, before_signal, first_or, is_signal}
+use Rattle.svc_record.specs.Record.{Record, has, tell, now, signal_of, before_signal, first_or, is_signal, is_graceful, has_cut, before_cut}
 use Rattle.svc_record.specs.Message.{encode}
 use Rattle.svc_record.specs.Descriptors.{live_table}
 use Rattle.svc_record.specs.Offer.{has_offer, is_over, over_moment, is_upgrade, is_empty_table, table, is_answered, is_written}
-use Rattle.svc_record.specs.Drain.{rest_end, is_fast}
-use Rattle.svc_drain.specs.DrainState.{rest_from}
+use Rattle.svc_record.specs.Drain.{Mark, rest_end, is_fast, row_by}
+use Rattle.svc_drain.specs.declared.stage.Stage.{Stage}
+use Rattle.svc_drain.specs.declared.stage.Stage.TheVariants.{Running, Offering, Resting, Grace, Ending, CutShort}
+use Rattle.svc_drain.specs.DrainState.{rest_from, is_cut, is_unstarted, cut_row, stage_marks}
+use Rattle.svc_drain.specs.DrainEffects.{cuts}
 
 -- r says the same as q on the moment, the signal and the offer's end
 pub record Unmoved (p : Plan) (q r : Record) : Type 0 where
@@ -22,9 +25,11 @@ pub record Unmoved (p : Plan) (q r : Record) : Type 0 where
   pub over_is : is_over p r ≡ is_over p q
   pub moment_is : over_moment p r ≡ over_moment p q
   pub rest_is : rest_end p r ≡ rest_end p q
+  pub cut_is : has_cut r ≡ has_cut q
+  pub row_is : cut_row p r ≡ cut_row p q
 
 pub unmoved-tell : (p : Plan) (q : Record) (told : List Action) → Unmoved p q (tell q told)
-unmoved-tell p q [] = record { now_is = refl; signal_is = refl; before_is = refl; over_is = refl; moment_is = refl; rest_is = refl }
+unmoved-tell p q [] = record { now_is = refl; signal_is = refl; before_is = refl; over_is = refl; moment_is = refl; rest_is = refl; cut_is = refl; row_is = refl }
 unmoved-tell p q (a ∷ told) = let u = unmoved-tell p (Told a ∷ q) told in record {
   now_is = u.now_is;
   signal_is = u.signal_is;
@@ -32,6 +37,8 @@ unmoved-tell p q (a ∷ told) = let u = unmoved-tell p (Told a ∷ q) told in re
   over_is = u.over_is;
   moment_is = u.moment_is;
   rest_is = u.rest_is;
+  cut_is = u.cut_is;
+  row_is = u.row_is;
 }
 
 -- with that, what it says of an offer is the same
@@ -71,9 +78,17 @@ first-later q kind h = by (signal_of q) (sym (signal-kind q) ∙ h)
     by (Some earlier) k = refl
     by None k = absurd (cc)
 
+graceful-kind : (s : Option ShutdownSignal) → is_graceful s ≡ true → is_kind s ≡ true
+graceful-kind (Some kind) h = refl
+graceful-kind None h = absurd (cc)
+
+-- a graceful first signal came
+pub signal-graceful : (q : Record) → is_graceful (signal_of q) ≡ true → has is_signal q ≡ true
+signal-graceful q h = signal-kind q ∙ graceful-kind (signal_of q) h
+
 -- before a signal no offer is over
 pub unsignalled-over : (p : Plan) (q : Record) → signal_of q ≡ None → is_over p q ≡ false
-unsignalled-over p q h = ap (λ s. is_upgrade s && ((not (is_empty_table (table p q)) && not (is_written (encode (table p q)))) || is_answered p q)) h
+unsignalled-over p q h = ap (λ s. is_upgrade s && ((not (is_empty_table (table p q)) && (not (is_written (encode (table p q))) || has_cut q)) || is_answered p q)) h
 
 -- the first if there is one, else the other
 abbrev pub or_rest : Option ℕ → Option ℕ → Option ℕ
@@ -130,3 +145,48 @@ fast-offers (Some FastShutdown) o b f e = e
 fast-offers (Some GracefulTerminate) o b f e = cc
 fast-offers (Some GracefulUpgrade) o b f e = cc
 fast-offers None o b f e = cc
+
+-- a signal is a cut by its kind and the first one
+pub cut-signal : (q : Record) (kind : ShutdownSignal) → has_cut (Got (Signal kind) ∷ q) ≡ (cuts (signal_of q) kind || has_cut q)
+cut-signal q FastShutdown = refl
+cut-signal q GracefulTerminate = refl
+cut-signal q GracefulUpgrade = refl
+
+cuts-none : (kind : ShutdownSignal) → cuts None kind ≡ false
+cuts-none FastShutdown = refl
+cuts-none GracefulTerminate = refl
+cuts-none GracefulUpgrade = refl
+
+-- the first signal is none
+pub uncut-first : (q : Record) (kind : ShutdownSignal) → signal_of q ≡ None → has_cut (Got (Signal kind) ∷ q) ≡ has_cut q
+uncut-first q kind none = cut-signal q kind ∙ ap (λ b. b || has_cut q) (ap (λ s. cuts s kind) none ∙ cuts-none kind)
+
+-- what stands before a cut stays so
+pub before-later : (q : Record) (kind : ShutdownSignal) → has_cut q ≡ true → before_cut (Got (Signal kind) ∷ q) ≡ before_cut q
+before-later q FastShutdown h = ap (λ b. if b then before_cut q else q) h
+before-later q GracefulTerminate h = refl
+before-later q GracefulUpgrade h = refl
+
+pub row-later : (p : Plan) (q : Record) (kind : ShutdownSignal) → has_cut q ≡ true → cut_row p (Got (Signal kind) ∷ q) ≡ cut_row p q
+row-later p q kind h = ap (λ (x : Record). row_by p x (signal_of x)) (before-later q kind h)
+
+-- only at a cut the row before it counts
+pub same-row : (g : Stage) (s : Option ShutdownSignal) (o : Bool) (row other : List Mark) → (is_cut g ≡ true → row ≡ other) → stage_marks g s o row ≡ stage_marks g s o other
+same-row Running s o row other h = refl
+same-row Offering s o row other h = refl
+same-row Resting s o row other h = refl
+same-row (Grace at) (Some GracefulUpgrade) true row other h = refl
+same-row (Grace at) (Some GracefulUpgrade) false row other h = refl
+same-row (Grace at) (Some GracefulTerminate) o row other h = refl
+same-row (Grace at) (Some FastShutdown) o row other h = refl
+same-row (Grace at) None o row other h = refl
+same-row Ending s o row other h = refl
+same-row (CutShort started) s o row other h = ap (stage_marks (CutShort started) s o) (h refl)
+
+pub cut-unstarted : (g : Stage) → is_unstarted g ≡ true → is_cut g ≡ true
+cut-unstarted (CutShort started) h = refl
+cut-unstarted Running h = cc
+cut-unstarted Offering h = cc
+cut-unstarted Resting h = cc
+cut-unstarted (Grace at) h = cc
+cut-unstarted Ending h = cc

@@ -1,22 +1,24 @@
 -- What the part stands for at its beginning, after a moment, after a signal, and where the server runs.
-use Rattle.std.proofs.Common.{ℕ, Bool, true, false, not, ◌||◌, ◌&&◌, ◌∷◌, Option, Some, None, ◌≡◌, refl, ap, sym, ◌∙◌, subst, if◌then◌else◌, is_some}
+use Rattle.std.proofs.Common.{ℕ, Bool, true, false, not, ◌||◌, ◌&&◌, ◌++◌, [], ◌∷◌, Option, Some, None, ◌≡◌, refl, ap, sym, ◌∙◌, subst, if◌then◌else◌, is_some}
 use Rattle.svc_record.specs.declared.plan.Plan.{Plan}
 use Rattle.svc_record.specs.declared.entry.Entry.TheVariants.{Got}
 use Rattle.svc_record.specs.declared.event.Event.TheVariants.{Signal}
 use Rattle.svc_record.specs.declared.event.ShutdownSignal.{ShutdownSignal}
-use Rattle.svc_record.specs.Record.{Record, has, now, signal_of, before_signal, first_or, is_signal}
+use Rattle.svc_record.specs.Record.{Record, has, now, signal_of, before_signal, first_or, is_signal, has_cut}
 use Rattle.svc_record.specs.Descriptors.{live_table}
 use Rattle.svc_record.specs.Offer.{is_over, over_moment, is_upgrade, is_empty_table, table, is_answered, is_written}
 use Rattle.svc_record.specs.Message.{encode}
+use Rattle.svc_record.specs.declared.action.ExecutionPhase.TheVariants.{Running as RunningPhase}
+use Rattle.svc_record.specs.Drain.{phase, marks_if}
 use Rattle.svc_drain.specs.declared.stage.Stage.{Stage}
-use Rattle.svc_drain.specs.declared.stage.Stage.TheVariants.{Running, Offering, Resting, Grace, Ending}
+use Rattle.svc_drain.specs.declared.stage.Stage.TheVariants.{Running, Offering, Resting, Grace, Ending, CutShort}
 use Rattle.svc_drain.specs.DrainData.{DrainData}
-use Rattle.svc_drain.specs.DrainState.{DrainStands, OverIs, stage_fits}
-use Rattle.svc_drain.specs.DrainEffects.{signalled}
-use Rattle.svc_drain.proofs.Records.{signal-none, first-later, unsignalled-over, unsignalled-rest, rest-new}
+use Rattle.svc_drain.specs.DrainState.{DrainStands, OverIs, stage_fits, is_cut, has_start, cut_row}
+use Rattle.svc_drain.specs.DrainEffects.{signalled, cuts, further}
+use Rattle.svc_drain.proofs.Records.{signal-none, first-later, unsignalled-over, unsignalled-rest, rest-new, cut-signal, uncut-first, row-later, same-row, cut-unstarted}
 
 -- the part with another signal and stage, and with another flag
-abbrev with_signal : DrainData → Option ShutdownSignal → Stage → DrainData
+abbrev pub with_signal : DrainData → Option ShutdownSignal → Stage → DrainData
 with_signal d s g = record { running = d.running; moment = d.moment; signal = s; since = d.since; offers = d.offers; stage = g }
 
 -- whether something is offered, by the part's signal
@@ -49,9 +51,11 @@ first-signal p running moment since o offers kind over q none runs offered overs
           ∙ ap (λ s. is_upgrade (first_or s kind) && not (is_empty_table (live_table p (before_signal (Got (Signal kind) ∷ q))))) (sym nothing);
       over_is = overs;
       fits = refl;
-      rest_is = λ w. unsignalled-rest p q nothing ∙ sym (rest-new over moment at_now);
+      cut_is = stand.cut_is ∙ sym (uncut-first q kind nothing);
+      rest_is = λ u w. unsignalled-rest p q nothing ∙ sym (rest-new over moment at_now);
       grace_is = λ at e w. cc;
       marks_are = stand.marks_are;
+      unstarted = λ e. cc;
       unsignalled = λ e. let c = runs in cc;
       unrested = λ e. rest-new over moment at_now;
       at_once = λ e. refl;
@@ -70,22 +74,26 @@ stands-first p d kind offers over q none runs offered overs stand = by d.signal 
     by None Resting nothing fits h = absurd (cc)
     by None (Grace at) nothing fits h = absurd (cc)
     by None Ending nothing fits h = absurd (cc)
+    by None (CutShort started) nothing fits h = absurd (cc)
 
--- a later signal changes nothing of the part
-later-same : (p : Plan) (d : DrainData) (kind : ShutdownSignal) (offers : Bool) (over : Option ℕ) (q : Record) → has is_signal q ≡ true → DrainStands p d over q → signalled kind offers d ≡ d
-later-same p d kind offers over q came stand = by d.signal (ap (λ s. first_or s kind) stand.signal_is ∙ first-later q kind came ∙ sym stand.signal_is)
+-- a further signal that is no cut changes nothing of the part
+later-same : (p : Plan) (d : DrainData) (kind : ShutdownSignal) (offers : Bool) (over : Option ℕ) (q : Record) → has is_signal q ≡ true → cuts d.signal kind ≡ false → DrainStands p d over q → signalled kind offers d ≡ d
+later-same p d kind offers over q came uncut stand = by d.signal (ap (λ s. first_or s kind) stand.signal_is ∙ first-later q kind came ∙ sym stand.signal_is) uncut
   where
-    by : (s : Option ShutdownSignal) → first_or s kind ≡ s → signalled kind offers (with_signal d s d.stage) ≡ with_signal d s d.stage
-    by (Some earlier) h = refl
-    by None h = absurd (cc)
+    by : (s : Option ShutdownSignal) → first_or s kind ≡ s → cuts s kind ≡ false → signalled kind offers (with_signal d s d.stage) ≡ with_signal d s d.stage
+    by (Some earlier) h u = rw u refl
+    by None h u = absurd (cc)
 
-later-record : (p : Plan) (d : DrainData) (kind : ShutdownSignal) (over : Option ℕ) (q : Record) → has is_signal q ≡ true → DrainStands p d over q → DrainStands p d over (Got (Signal kind) ∷ q)
-later-record p d kind over q came stand =
+later-record : (p : Plan) (d : DrainData) (kind : ShutdownSignal) (over : Option ℕ) (q : Record) → has is_signal q ≡ true → cuts d.signal kind ≡ false → DrainStands p d over q → DrainStands p d over (Got (Signal kind) ∷ q)
+later-record p d kind over q came uncut stand =
     let same : first_or (signal_of q) kind ≡ signal_of q = first-later q kind came in
     let before : before_signal (Got (Signal kind) ∷ q) ≡ before_signal q = ap (λ b. if b then before_signal q else q) came in
+    let calm : has_cut (Got (Signal kind) ∷ q) ≡ has_cut q = cut-signal q kind ∙ ap (λ b. b || has_cut q) (ap (λ s. cuts s kind) (sym stand.signal_is) ∙ uncut) in
+    let row : is_cut d.stage ≡ true → cut_row p (Got (Signal kind) ∷ q) ≡ cut_row p q = λ h. row-later p q kind (sym stand.cut_is ∙ h) in
     let overs : is_over p (Got (Signal kind) ∷ q) ≡ is_over p q =
-    ap (λ s. is_upgrade s && ((not (is_empty_table (live_table p (before_signal (Got (Signal kind) ∷ q)))) && not (is_written (encode (live_table p (before_signal (Got (Signal kind) ∷ q)))))) || is_answered p q)) same
-    ∙ ap (λ r. is_upgrade (signal_of q) && ((not (is_empty_table (live_table p r)) && not (is_written (encode (live_table p r)))) || is_answered p q)) before in
+    ap (λ s. is_upgrade s && ((not (is_empty_table (live_table p (before_signal (Got (Signal kind) ∷ q)))) && (not (is_written (encode (live_table p (before_signal (Got (Signal kind) ∷ q))))) || has_cut (Got (Signal kind) ∷ q))) || is_answered p q)) same
+    ∙ ap (λ r. is_upgrade (signal_of q) && ((not (is_empty_table (live_table p r)) && (not (is_written (encode (live_table p r))) || has_cut (Got (Signal kind) ∷ q))) || is_answered p q)) before
+    ∙ ap (λ b. is_upgrade (signal_of q) && ((not (is_empty_table (table p q)) && (not (is_written (encode (table p q))) || b)) || is_answered p q)) calm in
     record {
       running_is = stand.running_is;
       moment_is = stand.moment_is;
@@ -99,16 +107,20 @@ later-record p d kind over q came stand =
         moment = λ at e. ap (λ b. if b then over_moment p q else now q) (stand.over_is.is ∙ ap is_some e) ∙ stand.over_is.moment at e;
       };
       fits = stand.fits;
+      cut_is = stand.cut_is ∙ sym calm;
       rest_is = stand.rest_is;
       grace_is = stand.grace_is;
-      marks_are = stand.marks_are;
+      marks_are = stand.marks_are ∙ ap (λ marks. marks ++ marks_if d.running (phase RunningPhase ∷ [])) (same-row d.stage d.signal d.offers (cut_row p q) (cut_row p (Got (Signal kind) ∷ q)) (λ h. sym (row h)));
+      unstarted = λ h. ap has_start (row (cut-unstarted d.stage h)) ∙ stand.unstarted h;
       unsignalled = stand.unsignalled;
       unrested = stand.unrested;
       at_once = stand.at_once;
     }
 
-pub stands-later : (p : Plan) (d : DrainData) (kind : ShutdownSignal) (offers : Bool) (over : Option ℕ) (q : Record) → has is_signal q ≡ true → DrainStands p d over q → DrainStands p (signalled kind offers d) over (Got (Signal kind) ∷ q)
-stands-later p d kind offers over q came stand = subst (λ (x : DrainData). DrainStands p x over (Got (Signal kind) ∷ q)) (sym (later-same p d kind offers over q came stand)) (later-record p d kind over q came stand)
+pub stands-later : (p : Plan) (d : DrainData) (kind : ShutdownSignal) (offers : Bool) (over : Option ℕ) (q : Record) → has is_signal q ≡ true → cuts d.signal kind ≡ false → DrainStands p d over q
+    → DrainStands p (signalled kind offers d) over (Got (Signal kind) ∷ q)
+stands-later p d kind offers over q came uncut stand =
+    subst (λ (x : DrainData). DrainStands p x over (Got (Signal kind) ∷ q)) (sym (later-same p d kind offers over q came uncut stand)) (later-record p d kind over q came uncut stand)
 
 -- the same of what the part is after the call
 pub after-first : (p : Plan) (d new : DrainData) (kind : ShutdownSignal) (offers : Bool) (over : Option ℕ) (q : Record) → new ≡ signalled kind offers d → has is_signal q ≡ false → d.running ≡ true
@@ -117,7 +129,15 @@ pub after-first : (p : Plan) (d new : DrainData) (kind : ShutdownSignal) (offers
 after-first p d new kind offers over q after none runs offered overs stand =
     subst (λ (x : DrainData). DrainStands p x over (Got (Signal kind) ∷ q)) (sym after) (stands-first p d kind offers over q none runs offered overs stand)
 
-pub after-later : (p : Plan) (d new : DrainData) (kind : ShutdownSignal) (offers : Bool) (over : Option ℕ) (q : Record) → new ≡ signalled kind offers d → has is_signal q ≡ true
+pub after-later : (p : Plan) (d new : DrainData) (kind : ShutdownSignal) (offers : Bool) (over : Option ℕ) (q : Record) → new ≡ signalled kind offers d → has is_signal q ≡ true → cuts d.signal kind ≡ false
     → DrainStands p d over q → DrainStands p new over (Got (Signal kind) ∷ q)
-after-later p d new kind offers over q after came stand =
-    subst (λ (x : DrainData). DrainStands p x over (Got (Signal kind) ∷ q)) (sym after) (stands-later p d kind offers over q came stand)
+after-later p d new kind offers over q after came uncut stand =
+    subst (λ (x : DrainData). DrainStands p x over (Got (Signal kind) ∷ q)) (sym after) (stands-later p d kind offers over q came uncut stand)
+
+-- a further signal, by the part's signal
+pub signalled-further : (kind : ShutdownSignal) (offers : Bool) (d : DrainData) → is_some d.signal ≡ true → signalled kind offers d ≡ further kind d
+signalled-further kind offers d h = by d.signal h
+  where
+    by : (s : Option ShutdownSignal) → is_some s ≡ true → signalled kind offers (with_signal d s d.stage) ≡ further kind (with_signal d s d.stage)
+    by (Some earlier) k = refl
+    by None k = absurd (cc)

@@ -1,17 +1,18 @@
 -- What each call makes of the part on the end of a run, and what it tells.
-use Rattle.std.specs.Prelude.{ℕ, Bool, true, false, ◌++◌, ◌&&◌, List, [], ◌∷◌, map, Option, Some, None, if◌then◌else◌, is_some}
+use Rattle.std.specs.Prelude.{ℕ, Bool, true, false, ◌++◌, ◌&&◌, ◌||◌, List, [], ◌∷◌, map, Option, Some, None, if◌then◌else◌, is_some}
 use Rattle.svc_record.specs.declared.plan.Plan.{Plan}
 use Rattle.svc_record.specs.declared.action.Action.{Action}
 use Rattle.svc_record.specs.declared.action.Action.TheVariants.{Phase, Broadcast, Cut, Close, Stop}
 use Rattle.svc_record.specs.declared.action.ExecutionPhase.TheVariants.{Running as RunningPhase, GracefulUpgradeTransferringFds, GracefulUpgradeCloseTimeout, GracefulTerminate, ShutdownStarted, ShutdownGracePeriod, ShutdownRuntimes, Terminated}
 use Rattle.svc_record.specs.declared.event.ShutdownSignal.{ShutdownSignal}
 use Rattle.svc_record.specs.declared.event.ShutdownSignal.TheVariants.{FastShutdown, GracefulTerminate as TerminateSignal, GracefulUpgrade}
+use Rattle.svc_record.specs.Record.{is_graceful}
 use Rattle.svc_record.specs.Offer.{is_upgrade}
 use Rattle.svc_record.specs.Drain.{is_fast}
 use Rattle.svc_drain.specs.declared.stage.Stage.{Stage}
-use Rattle.svc_drain.specs.declared.stage.Stage.TheVariants.{Running, Offering, Resting, Grace, Ending}
+use Rattle.svc_drain.specs.declared.stage.Stage.TheVariants.{Running, Offering, Resting, Grace, Ending, CutShort}
 use Rattle.svc_drain.specs.DrainData.{DrainData}
-use Rattle.svc_drain.specs.DrainState.{rest_from}
+use Rattle.svc_drain.specs.DrainState.{rest_from, is_cut}
 
 -- nothing has happened
 abbrev pub still : DrainData
@@ -21,12 +22,32 @@ still = record { running = false; moment = 0; signal = None; since = 0; offers =
 abbrev pub at_moment : ℕ → DrainData → DrainData
 at_moment ms d = record { running = d.running; moment = ms; signal = d.signal; since = d.since; offers = d.offers; stage = d.stage }
 
--- a signal came, by which something is offered or not: only the first changes anything
+-- the shutdown is told as far as this
+abbrev pub at_stage : Stage → DrainData → DrainData
+at_stage stage d = record { running = d.running; moment = d.moment; signal = d.signal; since = d.since; offers = d.offers; stage = stage }
+
+-- a further signal of this kind cuts the waits of the first one short: a fast one after a graceful one
+abbrev pub cuts : Option ShutdownSignal → ShutdownSignal → Bool
+cuts first FastShutdown = is_graceful first
+cuts first _ = false
+
+-- the stage at a cut
+abbrev pub cut_stage : Stage → Stage
+cut_stage (Grace at) = CutShort true
+cut_stage (CutShort started) = CutShort started
+cut_stage Ending = Ending
+cut_stage _ = CutShort false
+
+-- a further signal came: only a cut changes anything
+abbrev pub further : ShutdownSignal → DrainData → DrainData
+further kind d = if cuts d.signal kind then at_stage (cut_stage d.stage) d else d
+
+-- a signal came, by which something is offered or not
 abbrev pub signalled : ShutdownSignal → Bool → DrainData → DrainData
 signalled kind offers d = by d.signal
   where
     by : Option ShutdownSignal → DrainData
-    by (Some earlier) = d
+    by (Some earlier) = further kind d
     by None = record { running = d.running; moment = d.moment; signal = Some kind; since = d.moment; offers = is_upgrade (Some kind) && offers; stage = d.stage }
 
 -- the server runs
@@ -36,10 +57,6 @@ run d = record { running = true; moment = d.moment; signal = d.signal; since = d
 -- what is told so that it runs, at most once
 abbrev pub run_told : DrainData → List Action
 run_told d = if d.running then [] else Phase RunningPhase d.moment ∷ []
-
--- the shutdown is told as far as this
-abbrev pub at_stage : Stage → DrainData → DrainData
-at_stage stage d = record { running = d.running; moment = d.moment; signal = d.signal; since = d.since; offers = d.offers; stage = stage }
 
 -- the stage that is told next, where one is due
 abbrev pub next_stage : Stage → Option ShutdownSignal → Bool → Option ℕ → ℕ → Stage
@@ -52,6 +69,7 @@ next_stage Offering signal offers over t = if is_some over then Resting else Off
 next_stage Resting signal offers over t = if is_some (rest_from over t) then Grace t else Resting
 next_stage (Grace at) signal offers over t = Grace at
 next_stage Ending signal offers over t = Ending
+next_stage (CutShort started) signal offers over t = CutShort true
 
 -- what is told as the offer is over, at the moment t
 abbrev pub timeout_told : Option ℕ → ℕ → List Action
@@ -76,6 +94,8 @@ stage_told Offering signal offers over t = timeout_told over t
 stage_told Resting signal offers over t = rested_told over t
 stage_told (Grace at) signal offers over t = []
 stage_told Ending signal offers over t = []
+stage_told (CutShort false) signal offers over t = Phase ShutdownStarted t ∷ []
+stage_told (CutShort true) signal offers over t = []
 
 -- the part after that
 abbrev pub gone_on : DrainData → Option ℕ → DrainData
@@ -87,7 +107,7 @@ row_told d over = stage_told d.stage d.signal d.offers over d.moment
 
 -- the seconds that the services' workers have to stop
 abbrev pub stop_after : Plan → DrainData → ℕ
-stop_after p d = if is_fast d.signal then 0 else p.stop
+stop_after p d = if is_fast d.signal || is_cut d.stage then 0 else p.stop
 
 -- what is told as the run ends, before the live connections are cut and the live descriptors close
 abbrev pub shutdown_told : DrainData → List Action

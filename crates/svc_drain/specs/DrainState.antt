@@ -1,14 +1,15 @@
 -- The records that the part on the end of a run stands for.
+use Rattle.std.specs.List.{list_any}
 use Rattle.std.specs.Prelude.{ℕ, Bool, true, false, ◌≡◌, ◌-◌, ◌++◌, not, ◌&&◌, ◌||◌, List, [], ◌∷◌, Option, Some, None, nat_le, if◌then◌else◌, is_some}
 use Rattle.svc_record.specs.declared.plan.Plan.{Plan}
 use Rattle.svc_record.specs.declared.event.ShutdownSignal.{ShutdownSignal}
 use Rattle.svc_record.specs.declared.event.ShutdownSignal.TheVariants.{GracefulTerminate as TerminateSignal, GracefulUpgrade}
 use Rattle.svc_record.specs.declared.action.ExecutionPhase.TheVariants.{Running as RunningPhase, GracefulUpgradeTransferringFds, GracefulUpgradeCloseTimeout, GracefulTerminate, ShutdownStarted, ShutdownGracePeriod}
-use Rattle.svc_record.specs.Record.{Record, times, now, signal_of, before_signal, is_running}
+use Rattle.svc_record.specs.Record.{Record, times, now, signal_of, before_signal, is_running, is_graceful, has_cut, before_cut}
 use Rattle.svc_record.specs.Offer.{is_upgrade, has_offer, is_over, over_moment}
-use Rattle.svc_record.specs.Drain.{Mark, phase, broadcast, marks_if, told_marks, rest_end, grace_over, is_fast}
+use Rattle.svc_record.specs.Drain.{Mark, phase, broadcast, marks_if, told_marks, rest_end, grace_over, is_fast, row_by, same_mark, with_start}
 use Rattle.svc_drain.specs.declared.stage.Stage.{Stage}
-use Rattle.svc_drain.specs.declared.stage.Stage.TheVariants.{Running, Offering, Resting, Grace, Ending}
+use Rattle.svc_drain.specs.declared.stage.Stage.TheVariants.{Running, Offering, Resting, Grace, Ending, CutShort}
 use Rattle.svc_drain.specs.DrainData.{DrainData}
 
 -- since when the offer is over, if it is
@@ -28,20 +29,41 @@ stage_fits Offering signal offers over = is_upgrade signal && offers
 stage_fits Resting signal offers over = (is_upgrade signal && offers) && is_some over
 stage_fits (Grace at) signal offers over = is_terminate_signal signal || (is_upgrade signal && (not offers || is_some over))
 stage_fits Ending signal offers over = is_fast signal
+stage_fits (CutShort started) signal offers over = is_graceful signal
 
--- the phases and the broadcast that were told since the signal, the newest first
-abbrev pub stage_marks : Stage → Option ShutdownSignal → Bool → List Mark
-stage_marks Running signal offers = []
-stage_marks Offering signal offers = phase GracefulUpgradeTransferringFds ∷ []
-stage_marks Resting signal offers = phase GracefulUpgradeCloseTimeout ∷ phase GracefulUpgradeTransferringFds ∷ []
-stage_marks (Grace at) (Some GracefulUpgrade) true = phase ShutdownGracePeriod ∷ phase ShutdownStarted ∷ broadcast ∷ phase GracefulUpgradeCloseTimeout ∷ phase GracefulUpgradeTransferringFds ∷ []
-stage_marks (Grace at) (Some GracefulUpgrade) false = phase ShutdownGracePeriod ∷ phase ShutdownStarted ∷ broadcast ∷ phase GracefulUpgradeTransferringFds ∷ []
-stage_marks (Grace at) _ offers = phase ShutdownGracePeriod ∷ phase ShutdownStarted ∷ phase GracefulTerminate ∷ broadcast ∷ []
-stage_marks Ending signal offers = phase ShutdownStarted ∷ []
+-- the waits were cut short
+abbrev pub is_cut : Stage → Bool
+is_cut (CutShort started) = true
+is_cut _ = false
+
+-- they were, and the start of the shutdown wasn't told
+abbrev pub is_unstarted : Stage → Bool
+is_unstarted (CutShort false) = true
+is_unstarted _ = false
+
+-- what was due before a cut
+abbrev pub cut_row : Plan → Record → List Mark
+cut_row p q = row_by p (before_cut q) (signal_of (before_cut q))
+
+-- the start of the shutdown is among these
+abbrev pub has_start : List Mark → Bool
+has_start marks = list_any (same_mark (phase ShutdownStarted)) marks
+
+-- the phases and the broadcast that were told since the signal, the newest first, where the row was due before a cut
+abbrev pub stage_marks : Stage → Option ShutdownSignal → Bool → List Mark → List Mark
+stage_marks Running signal offers row = []
+stage_marks Offering signal offers row = phase GracefulUpgradeTransferringFds ∷ []
+stage_marks Resting signal offers row = phase GracefulUpgradeCloseTimeout ∷ phase GracefulUpgradeTransferringFds ∷ []
+stage_marks (Grace at) (Some GracefulUpgrade) true row = phase ShutdownGracePeriod ∷ phase ShutdownStarted ∷ broadcast ∷ phase GracefulUpgradeCloseTimeout ∷ phase GracefulUpgradeTransferringFds ∷ []
+stage_marks (Grace at) (Some GracefulUpgrade) false row = phase ShutdownGracePeriod ∷ phase ShutdownStarted ∷ broadcast ∷ phase GracefulUpgradeTransferringFds ∷ []
+stage_marks (Grace at) _ offers row = phase ShutdownGracePeriod ∷ phase ShutdownStarted ∷ phase GracefulTerminate ∷ broadcast ∷ []
+stage_marks Ending signal offers row = phase ShutdownStarted ∷ []
+stage_marks (CutShort false) signal offers row = row
+stage_marks (CutShort true) signal offers row = with_start row
 
 -- all that were told so far
-abbrev pub marks_of : DrainData → List Mark
-marks_of d = stage_marks d.stage d.signal d.offers ++ marks_if d.running (phase RunningPhase ∷ [])
+abbrev pub marks_of : Plan → Record → DrainData → List Mark
+marks_of p q d = stage_marks d.stage d.signal d.offers (cut_row p q) ++ marks_if d.running (phase RunningPhase ∷ [])
 
 -- the first moment 5,000 ms or more after the offer was over, at the moment t
 abbrev pub rest_from : Option ℕ → ℕ → Option ℕ
@@ -81,19 +103,21 @@ pub record DrainStands (p : Plan) (d : DrainData) (over : Option ℕ) (q : Recor
   pub offers_is : d.offers ≡ has_offer p q
   pub over_is : OverIs p q over
   pub fits : stage_fits d.stage d.signal d.offers over ≡ true
-  pub rest_is : d.offers ≡ true → rest_end p q ≡ rest_in d over
+  pub cut_is : is_cut d.stage ≡ has_cut q
+  pub rest_is : is_cut d.stage ≡ false → d.offers ≡ true → rest_end p q ≡ rest_in d over
   pub grace_is : (at : ℕ) → d.stage ≡ Grace at → grace_from d at
-  pub marks_are : told_marks q ≡ marks_of d
+  pub marks_are : told_marks q ≡ marks_of p q d
+  pub unstarted : is_unstarted d.stage ≡ true → has_start (cut_row p q) ≡ false
   pub unsignalled : d.running ≡ false → d.signal ≡ None
   pub unrested : is_before_rest d.stage ≡ true → rest_from over d.moment ≡ None
   pub at_once : is_unanswered d.stage d.signal ≡ true → d.moment ≡ d.since
 
--- the broadcast was told at this stage
+-- the broadcast was told at this stage, where no cut came
 abbrev pub is_grace : Stage → Bool
 is_grace (Grace at) = true
 is_grace _ = false
 
--- the broadcast was told
+-- the broadcast was told, where no cut came
 abbrev pub is_broadcast_told : DrainData → Bool
 is_broadcast_told d = is_grace d.stage
 
@@ -105,6 +129,7 @@ is_told_far Offering signal over t = not (is_some over)
 is_told_far Resting signal over t = not (is_some (rest_from over t))
 is_told_far (Grace at) signal over t = true
 is_told_far Ending signal over t = true
+is_told_far (CutShort started) signal over t = started
 
 -- the same as a fact
 abbrev pub IsDrainSettled : DrainData → Option ℕ → Type 0
@@ -114,6 +139,7 @@ IsDrainSettled d over = is_told_far d.stage d.signal over d.moment ≡ true
 abbrev pub passes_at : Plan → Stage → ℕ → Bool
 passes_at p (Grace at) t = grace_over p t at
 passes_at p Ending t = true
+passes_at p (CutShort started) t = true
 passes_at p _ t = false
 
 -- the waits have passed

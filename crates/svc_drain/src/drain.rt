@@ -8,12 +8,12 @@ ghost use Rattle.svc_record.specs.declared.event.Event.TheVariants.{Moment, Sign
 ghost use Rattle.svc_record.specs.declared.event.ShutdownSignal.TheVariants.{GracefulUpgrade};
 ghost use Rattle.svc_record.specs.declared.action.Action.TheVariants.{Phase, Broadcast};
 ghost use Rattle.svc_record.specs.declared.action.ExecutionPhase.TheVariants.{GracefulUpgradeTransferringFds, GracefulTerminate, ShutdownStarted};
-ghost use Rattle.svc_record.specs.Record.{Record, tell, has, is_signal};
+ghost use Rattle.svc_record.specs.Record.{Record, tell, has, is_signal, is_graceful};
 ghost use Rattle.svc_record.specs.Descriptors.{live_table};
 ghost use Rattle.svc_record.specs.Offer.{is_upgrade, is_empty_table};
-ghost use Rattle.svc_drain.specs.declared.stage.Stage.TheVariants.{Running, Offering, Resting, Grace, Ending};
-ghost use Rattle.svc_drain.specs.DrainState.{DrainStands, IsDrainSettled, OverIs, passes, rest_from, is_broadcast_told};
-ghost use Rattle.svc_drain.specs.DrainEffects.{still, at_moment, signalled, run, run_told, at_stage, next_stage, gone_on, row_told, stage_told, timeout_told, grace_told, rested_told, shutdown_told, stop_after, stop_told};
+ghost use Rattle.svc_drain.specs.declared.stage.Stage.TheVariants.{Running, Offering, Resting, Grace, Ending, CutShort};
+ghost use Rattle.svc_drain.specs.DrainState.{DrainStands, IsDrainSettled, OverIs, passes, rest_from, is_broadcast_told, is_cut};
+ghost use Rattle.svc_drain.specs.DrainEffects.{still, at_moment, signalled, further, cuts, cut_stage, run, run_told, at_stage, next_stage, gone_on, row_told, stage_told, timeout_told, grace_told, rested_told, shutdown_told, stop_after, stop_told};
 
 use crate::stage::Stage;
 use std::marker::Model;
@@ -47,6 +47,16 @@ fn is_upgrade_signal(kind: ShutdownSignal) -> bool
     ensures { result ≡ is_upgrade (Some kind) }
 {
     matches!(kind, ShutdownSignal::GracefulUpgrade)
+}
+
+/// The first signal lets the server end gracefully.
+fn is_graceful(first: Option<ShutdownSignal>) -> bool
+    ensures { result ≡ is_graceful first }
+{
+    match first {
+        Some(ShutdownSignal::GracefulTerminate | ShutdownSignal::GracefulUpgrade) => true,
+        _ => false,
+    }
 }
 
 impl Drain {
@@ -87,7 +97,7 @@ impl Drain {
         self.signal
     }
 
-    /// Whether the services' workers were told to finish.
+    /// Whether the services' workers were told to finish, and the grace period lasts.
     pub fn has_broadcast(&self) -> bool
         ensures { result ≡ is_broadcast_told self.now }
     {
@@ -103,21 +113,58 @@ impl Drain {
         self.moment = ms;
     }
 
-    /// A signal came, by which something is offered or not. Only the first has an effect.
+    /// Whether a further signal of this kind cuts the waits of the first one short: a fast one after
+    /// a graceful one.
+    pub fn cuts(&self, kind: ShutdownSignal) -> bool
+        ensures { result ≡ cuts self.now.signal kind }
+    {
+        match kind {
+            ShutdownSignal::FastShutdown => is_graceful(self.signal),
+            _ => false,
+        }
+    }
+
+    /// A signal came, by which something is offered or not. Of the further ones only a fast one after
+    /// a graceful one has an effect: it cuts the waits short.
     pub fn take_signal(&mut self, kind: ShutdownSignal, offers: bool)
         ensures after { self.new ≡ signalled kind offers self.old }
         ensures first { (p : Plan) (over : Option ℕ) (q : Record) → has is_signal q ≡ false → self.old.running ≡ true
             → (is_upgrade (Some kind) ≡ true → offers ≡ not (is_empty_table (live_table p q))) → OverIs p (Got (Signal kind) ∷ q) over
             → DrainStands p self.old None q → DrainStands p self.new over (Got (Signal kind) ∷ q) }
-        ensures later { (p : Plan) (over : Option ℕ) (q : Record) → has is_signal q ≡ true → DrainStands p self.old over q
+        ensures later { (p : Plan) (over : Option ℕ) (q : Record) → has is_signal q ≡ true → cuts self.old.signal kind ≡ false → DrainStands p self.old over q
             → DrainStands p self.new over (Got (Signal kind) ∷ q) }
+        ensures cut { (p : Plan) (over over2 : Option ℕ) (q : Record) → cuts self.old.signal kind ≡ true → is_cut self.old.stage ≡ false → IsDrainSettled self.old over
+            → OverIs p (Got (Signal kind) ∷ q) over2 → DrainStands p self.old over q → DrainStands p self.new over2 (Got (Signal kind) ∷ q) }
     {
         if self.signal.is_some() {
+            self.take_further(kind);
             return;
         }
         self.signal = Some(kind);
         self.since = self.moment;
         self.offers = is_upgrade_signal(kind) && offers;
+    }
+
+    /// A further signal came.
+    fn take_further(&mut self, kind: ShutdownSignal)
+        ensures { self.new ≡ further kind self.old }
+    {
+        if self.cuts(kind) {
+            self.stage = self.cut_stage();
+        }
+    }
+
+    /// The stage at a cut: only where the grace period lasts it was told that the shutdown has
+    /// started.
+    fn cut_stage(&self) -> Stage
+        ensures { result ≡ cut_stage self.now.stage }
+    {
+        match self.stage {
+            Stage::Running | Stage::Offering | Stage::Resting => Stage::CutShort(false),
+            Stage::Grace(_) => Stage::CutShort(true),
+            Stage::CutShort(started) => Stage::CutShort(started),
+            Stage::Ending => Stage::Ending,
+        }
     }
 
     /// Tells that the server runs, where that wasn't told yet.
@@ -164,17 +211,18 @@ impl Drain {
             Stage::Running => self.answer(over, actions),
             Stage::Offering => self.end_offer(over, actions),
             Stage::Resting => self.end_rest(over, actions),
+            Stage::CutShort(started) => self.end_short(started, actions),
             Stage::Grace(_) | Stage::Ending => {}
         }
     }
 
-    /// The grace period has passed, or there is none.
+    /// The grace period has passed, or there is none, or the waits were cut short.
     fn has_passed(&self, plan: &Plan) -> bool
         ensures { result ≡ passes plan.now self.now }
     {
         match self.stage {
             Stage::Grace(at) => plan.grace <= self.moment.saturating_sub(at) / 1000,
-            Stage::Ending => true,
+            Stage::Ending | Stage::CutShort(_) => true,
             _ => false,
         }
     }
@@ -206,6 +254,21 @@ impl Drain {
     {
         actions.put(Action::Phase(ExecutionPhase::ShutdownStarted, self.moment));
         self.stage = Stage::Ending;
+    }
+
+    /// The waits were cut short: the run ends at once.
+    fn end_short(&mut self, started: bool, actions: &mut Actions)
+        requires short { self.old.stage ≡ CutShort started }
+        requires room { 1 ≤ spare actions.old }
+        ensures after { self.new ≡ at_stage (CutShort true) self.old }
+        ensures told { list_of actions.new ≡ list_of actions.old ++ stage_told (CutShort started) self.old.signal self.old.offers None self.old.moment }
+        ensures room { spare actions.old ≤ spare actions.new + 1 }
+        ensures few { length (list_of actions.new) ≤ length (list_of actions.old) + 1 }
+    {
+        if !started {
+            actions.put(Action::Phase(ExecutionPhase::ShutdownStarted, self.moment));
+        }
+        self.stage = Stage::CutShort(true);
     }
 
     /// The services are told to end.
@@ -299,12 +362,20 @@ impl Drain {
         actions.put(Action::Phase(ExecutionPhase::ShutdownRuntimes, self.moment));
     }
 
-    /// How long the services' workers have to stop, in seconds.
+    /// The waits were cut short.
+    fn is_cut(&self) -> bool
+        ensures { result ≡ is_cut self.now.stage }
+    {
+        matches!(self.stage, Stage::CutShort(_))
+    }
+
+    /// How long the services' workers have to stop, in seconds: not at all after a fast signal.
     fn stop_after(&self, plan: &Plan) -> u64
         ensures { result ≡ stop_after plan.now self.now }
     {
         match self.signal {
             Some(ShutdownSignal::FastShutdown) => 0,
+            _ if self.is_cut() => 0,
             _ => plan.stop,
         }
     }

@@ -12,7 +12,8 @@ use Rattle.svc_record.specs.declared.action.BootstrapError.TheVariants.{Transfer
 use Rattle.svc_record.specs.declared.action.ExecutionPhase.TheVariants.{Terminated, ShutdownRuntimes}
 use Rattle.svc_record.specs.Record.{Record, has, tell, last_step, now, signal_of, before_runtimes}
 use Rattle.svc_record.specs.Connections.{live_connections}
-use Rattle.svc_record.specs.Drain.{has_passed, has_passed_by, is_ending, live_numbers, stop_seconds}
+use Rattle.svc_record.specs.Drain.{has_passed, is_ending, live_numbers, stop_seconds}
+use Rattle.svc_record.proofs.CutLaws.{unsignalled-unpassed}
 use Rattle.svc_base.specs.NumberSets.{ascending}
 use Rattle.svc_record.specs.Ends.{step_end, has_ended, has_ended_early, ends_tested, ends_parent_well, ends_parent_badly, ends_transfer, ends_no_sender, ends_bad_message}
 use Rattle.svc_record.specs.Right.{Right, EndedRight, OpenRight, is_test_step}
@@ -131,7 +132,7 @@ ends-journal q x (y ∷ more) = ends-journal (tell (Got x.event ∷ q) x.actions
 
 -- without a signal nothing has passed
 opening_open : (p : Plan) (opening : List Action) → has_passed p (tell [] opening) ≡ false
-opening_open p opening = ap (has_passed_by p (tell [] opening)) (signal_of-tell [] opening)
+opening_open p opening = unsignalled-unpassed p (tell [] opening) (signal_of-tell [] opening)
 
 -- the last post's end is `Served` exactly where its actions stop the server
 pub journal_served : (p : Plan) (opening : List Action) (posts : List PostData) → Legal p opening posts

@@ -9,7 +9,7 @@ use Rattle.svc_record.specs.declared.action.Action.TheVariants.{Start, Fail, Bin
 use Rattle.svc_record.specs.declared.event.Event.{Event}
 use Rattle.svc_record.specs.declared.event.Event.TheVariants.{Bound, InUse, BindFailed, Adopted, AdoptFailed, Received, LoopEnded, Signal}
 use Rattle.svc_record.specs.declared.event.ShutdownSignal.{ShutdownSignal}
-use Rattle.svc_record.specs.Record.{Record, has, is_signal, tell, EachEntry}
+use Rattle.svc_record.specs.Record.{Record, has, is_signal, has_cut, tell, EachEntry}
 use Rattle.svc_record.specs.Offer.{is_held_back}
 use Rattle.svc_record.specs.Descriptors.{Descriptor, descriptors_of, opened_descriptors, live_descriptors, is_opened, is_close, is_doubled, address_of, has_number, has_live, numbers_of}
 use Rattle.svc_record.specs.Drain.{live_numbers}
@@ -90,7 +90,6 @@ foreign p d q (Adopted s i) other = absurd (cc)
 foreign p d q (AdoptFailed s i) other = absurd (cc)
 foreign p d q (Received bytes fds) other = absurd (cc)
 foreign p d q (LoopEnded s i j) other = absurd (cc)
-foreign p d q (Signal kind) other = absurd (cc)
 foreign p d q e other = record {
   going = refl;
   opens = refl;
@@ -103,11 +102,11 @@ foreign p d q e other = record {
 pub stands-got : (p : Plan) (d : EndpointsData) (q : Record) (e : Event) → is_endpoints_event e ≡ false → ((fd : ℕ) → is_held_back p (Got e ∷ q) fd ≡ is_held_back p q fd) → EndpointsStand p d q → EndpointsStand p d (Got e ∷ q)
 stands-got p d q e other held stand = let is = foreign p d q e other in stand-event p d d q e is.going is.opens is.brings is.same held (λ fd. refl) (is.states stand.states) stand.loops stand.kept refl refl stand
 
--- what a signal puts on offer isn't gone
-module _ (p : Plan) (q : Record) (kind : ShutdownSignal) where
+-- what a signal puts on offer isn't gone; one that is no cut takes nothing off it
+module _ (p : Plan) (q : Record) (kind : ShutdownSignal) (uncut : has_cut (Got (Signal kind) ∷ q) ≡ has_cut q) where
   gone_signal : (fd : ℕ) → (has (is_close fd) q ≡ is_gone p q fd) → is_gone p (Got (Signal kind) ∷ q) fd ≡ is_gone p q fd
   gone_signal fd closed = elim (cases_Bool (has is_signal q)) [
-    | inl later ↦ gone-same p q (Got (Signal kind) ∷ q) (λ t. refl) fd refl refl (held-later p q kind fd later) refl
+    | inl later ↦ gone-same p q (Got (Signal kind) ∷ q) (λ t. refl) fd refl refl (held-later p q kind fd later uncut) refl
     | inr first ↦ elim (cases_Bool (is_held_back p (Got (Signal kind) ∷ q) fd)) [
       | inl held ↦ ap (λ b. b || is_drained p q fd) (kept_open (is_turned p q fd) (is_address_abandoned p q (address_of p q fd)) (is_held_back p (Got (Signal kind) ∷ q) fd) (is_held_back p q fd) held
           (or_first (is_gone_now p q fd) (is_drained p q fd) (sym closed ∙ held-first p q kind fd first held)))
@@ -128,9 +127,9 @@ module _ (p : Plan) (q : Record) (kind : ShutdownSignal) where
   pub closes-signal : EachEntry (λ e before. close_once p e before ≡ true) q → ClosesRight p q → ClosesRight p (Got (Signal kind) ∷ q)
   closes-signal once was fd came = was fd came ∙ ap (λ b. if b then 1 else 0) (sym (gone_signal fd (closed-is p q fd once (was fd came))))
 
--- a signal leaves the endpoints as they are
-pub stands-signal : (p : Plan) (d : EndpointsData) (q : Record) (kind : ShutdownSignal) → EndpointsStand p d q → EndpointsStand p d (Got (Signal kind) ∷ q)
-stands-signal p d q kind stand = let was = stand.states in record {
+-- a signal that is no cut leaves the endpoints as they are
+pub stands-signal : (p : Plan) (d : EndpointsData) (q : Record) (kind : ShutdownSignal) → has_cut (Got (Signal kind) ∷ q) ≡ has_cut q → EndpointsStand p d q → EndpointsStand p d (Got (Signal kind) ∷ q)
+stands-signal p d q kind uncut stand = let was = stand.states in record {
   loops = loops-got p d q (Signal kind) refl stand.loops;
   states = record { each = was.each; counts = was.counts; failed_is = was.failed_is; with_is = was.with_is; lost = was.lost; closed_came = was.closed_came };
   kept = stand.kept;
@@ -138,7 +137,7 @@ stands-signal p d q kind stand = let was = stand.states in record {
   asks_known = (refl, stand.asks_known);
   closes_once = (refl, stand.closes_once);
   fails = stand.fails;
-  closes = closes-signal p q kind stand.closes_once stand.closes;
+  closes = closes-signal p q kind uncut stand.closes_once stand.closes;
   one_live = stand.one_live;
   open_are = stand.open_are;
   came_are = stand.came_are;

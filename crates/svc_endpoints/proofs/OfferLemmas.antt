@@ -11,7 +11,7 @@ use Rattle.svc_record.specs.declared.plan.Plan.{Plan}
 use Rattle.svc_record.specs.declared.entry.Entry.TheVariants.{Got}
 use Rattle.svc_record.specs.declared.event.Event.TheVariants.{Signal}
 use Rattle.svc_record.specs.declared.event.ShutdownSignal.{ShutdownSignal}
-use Rattle.svc_record.specs.Record.{Record, has, is_signal, signal_of, first_or, before_signal}
+use Rattle.svc_record.specs.Record.{Record, has, is_signal, has_cut, signal_of, first_or, before_signal}
 use Rattle.svc_record.specs.Message.{encode}
 use Rattle.svc_record.specs.Descriptors.{Descriptor, descriptors_of, opened_descriptors, live_descriptors, live_table, is_opened, is_close, has_number, as_entry}
 use Rattle.svc_record.specs.Offer.{is_upgrade, is_empty_table, is_written, is_answered, is_offered, is_over, is_held_back}
@@ -109,27 +109,30 @@ signal-some (Got (Signal kind) ∷ q) h = first (signal_of q)
     first None = (kind, refl)
 signal-some (e ∷ q) h = signal-some q h
 
--- whether a descriptor is on offer, from the first signal and what stands before it
-abbrev held_by : Plan → Record → ℕ → Option ShutdownSignal → Record → Bool
-held_by p q fd kind before = (is_upgrade kind && in_table fd (live_table p before))
-    && not (is_upgrade kind && ((not (is_empty_table (live_table p before)) && not (is_written (encode (live_table p before)))) || is_answered p q))
+-- whether a descriptor is on offer, from the first signal, what stands before it, and whether a cut came
+abbrev held_by : Plan → Record → ℕ → Option ShutdownSignal → Record → Bool → Bool
+held_by p q fd kind before cut = (is_upgrade kind && in_table fd (live_table p before))
+    && not (is_upgrade kind && ((not (is_empty_table (live_table p before)) && (not (is_written (encode (live_table p before))) || cut)) || is_answered p q))
 
--- a later signal leaves what is on offer
-pub held-later : (p : Plan) (q : Record) (kind : ShutdownSignal) (fd : ℕ) → has is_signal q ≡ true → is_held_back p (Got (Signal kind) ∷ q) fd ≡ is_held_back p q fd
-held-later p q kind fd h =
+-- a later signal that is no cut leaves what is on offer
+pub held-later : (p : Plan) (q : Record) (kind : ShutdownSignal) (fd : ℕ) → has is_signal q ≡ true → has_cut (Got (Signal kind) ∷ q) ≡ has_cut q
+    → is_held_back p (Got (Signal kind) ∷ q) fd ≡ is_held_back p q fd
+held-later p q kind fd h uncut =
     let some = signal-some q h in
     let same : first_or (signal_of q) kind ≡ signal_of q = ap (λ x. first_or x kind) some.1 ∙ sym some.1 in
-    ap (λ x. held_by p q fd x (if has is_signal q then before_signal q else q)) same
-    ∙ ap (λ b. held_by p q fd (signal_of q) (if b then before_signal q else q)) h
+    ap (λ x. held_by p q fd x (if has is_signal q then before_signal q else q) (has_cut (Got (Signal kind) ∷ q))) same
+    ∙ ap (λ b. held_by p q fd (signal_of q) (if b then before_signal q else q) (has_cut (Got (Signal kind) ∷ q))) h
+    ∙ ap (held_by p q fd (signal_of q) (before_signal q)) uncut
 
 -- before the first nothing is on offer
 pub held-before : (p : Plan) (q : Record) (fd : ℕ) → has is_signal q ≡ false → is_held_back p q fd ≡ false
-held-before p q fd h = ap (λ x. held_by p q fd x (before_signal q)) (signal-none q h)
+held-before p q fd h = ap (λ x. held_by p q fd x (before_signal q) (has_cut q)) (signal-none q h)
 
 -- what the first puts on offer is live
 pub held-first : (p : Plan) (q : Record) (kind : ShutdownSignal) (fd : ℕ) → has is_signal q ≡ false → is_held_back p (Got (Signal kind) ∷ q) fd ≡ true → has (is_close fd) q ≡ false
 held-first p q kind fd h held =
-    let now : held_by p q fd (first_or (signal_of q) kind) q ≡ true = ap (λ b. held_by p q fd (first_or (signal_of q) kind) (if b then before_signal q else q)) (sym h) ∙ held in
+    let now : held_by p q fd (first_or (signal_of q) kind) q (has_cut (Got (Signal kind) ∷ q)) ≡ true =
+    ap (λ b. held_by p q fd (first_or (signal_of q) kind) (if b then before_signal q else q) (has_cut (Got (Signal kind) ∷ q))) (sym h) ∙ held in
     (table-live p q fd (second (is_upgrade (first_or (signal_of q) kind)) (in_table fd (live_table p q)) _ now)).1
   where
     second : (a b c : Bool) → ((a && b) && c) ≡ true → b ≡ true

@@ -12,7 +12,7 @@ use Rattle.svc_record.specs.declared.entry.Entry.{Entry}
 use Rattle.svc_record.specs.declared.entry.Entry.TheVariants.{Got, Told}
 use Rattle.svc_record.specs.declared.event.Event.{Event}
 use Rattle.svc_record.specs.declared.event.Event.TheVariants.{Bound, InUse}
-use Rattle.svc_record.specs.Record.{Record, has, now, tell, last_step, is_running, signal_of, EachEntry}
+use Rattle.svc_record.specs.Record.{Record, has, now, tell, last_step, is_running, EachEntry}
 use Rattle.svc_record.specs.Plans.{services, endpoints, endpoint_numbers, address, each_endpoint}
 use Rattle.svc_record.specs.Descriptors.{Descriptor, descriptors_of, opened_descriptors, is_opened, is_close, brings, has_live, address_of}
 use Rattle.svc_record.specs.Asks.{is_adopt_open, is_bind_open, last_adopt}
@@ -22,7 +22,7 @@ use Rattle.svc_record.specs.Starts.{is_started}
 use Rattle.svc_record.specs.Endpoints.{held_numbers, is_held, is_at_work, serves}
 use Rattle.svc_record.specs.Offer.{is_held_back}
 use Rattle.svc_record.specs.Closes.{ClosesRight, is_gone, is_drained, is_broadcast, is_holder, is_adopt_of_open, ended_loops, have_loops_ended, close_once}
-use Rattle.svc_record.specs.Drain.{Mark, phase, marks_if, row_by, has_passed, PhasesRight}
+use Rattle.svc_record.specs.Drain.{Mark, phase, marks_if, wait_row, has_passed, PhasesRight}
 use Rattle.svc_record.specs.Ends.{has_ended, has_ended_early, ends_tested}
 use Rattle.svc_record.specs.Fits.{event_fits}
 use Rattle.svc_record.specs.Right.{SettledRight, EndedRight, OpenRight, is_quiet, is_test_step}
@@ -66,7 +66,7 @@ pub record Leaves (p : Plan) (b y : Record) : Type 0 where
   pub loops : (t k : ℕ) → ended_loops p y t k ≡ ended_loops p b t k
   pub passed : has_passed p y ≡ has_passed p b
   pub early : has_ended_early p y ≡ has_ended_early p b
-  pub row : row_by p y (signal_of y) ≡ row_by p b (signal_of b)
+  pub row : wait_row p y ≡ wait_row p b
 
 -- the answer leaves all of it
 module _ (p : Plan) (b : Record) (t j : ℕ) (live : has_live p b (address p t j) ≡ true) where
@@ -294,8 +294,8 @@ marks-row : (a r : Bool) (row : List Mark) → list_any is_the_broadcast
 marks-row true r row = row-only r row
 marks-row false r row = row-only r row
 
-broadcast-by : (p : Plan) (x : Record) → PhasesRight p x → has is_broadcast x ≡ list_any is_the_broadcast (row_by p x (signal_of x))
-broadcast-by p x phases = marked-is x ∙ ap (list_any is_the_broadcast) phases ∙ marks-row (has_passed p x) (has is_running x) (row_by p x (signal_of x))
+broadcast-by : (p : Plan) (x : Record) → PhasesRight p x → has is_broadcast x ≡ list_any is_the_broadcast (wait_row p x)
+broadcast-by p x phases = marked-is x ∙ ap (list_any is_the_broadcast) phases ∙ marks-row (has_passed p x) (has is_running x) (wait_row p x)
 
 only-tested : (a t c : Bool) → ((a || t) || c) ≡ true → a ≡ false → c ≡ false → t ≡ true
 only-tested a t c h x z = grind arith

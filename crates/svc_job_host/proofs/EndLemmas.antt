@@ -22,7 +22,8 @@ use Rattle.svc_record.specs.Plans.{services, service_count, is_kind, has_kind}
 use Rattle.svc_record.specs.Record.{Record, has, times, tell, now, is_bootstrap, each_entry, EachEntry}
 use Rattle.svc_record.specs.Starts.{is_started, start_known}
 use Rattle.svc_record.specs.Boot.{is_side_parent, is_bad_message, may_begin}
-use Rattle.svc_record.specs.Drain.{has_passed, has_passed_by}
+use Rattle.svc_record.specs.Drain.{has_passed}
+use Rattle.svc_record.proofs.CutLaws.{unsignalled-unpassed}
 use Rattle.svc_record.specs.Ends.{step_end, has_ended, ends_tested, ends_parent_well, ends_parent_badly, ends_transfer, ends_no_sender, ends_bad_message, is_receive_failure, is_no_sender, TestedRight}
 use Rattle.svc_record.specs.Fits.{Fits}
 use Rattle.svc_record.specs.Right.{Right}
@@ -182,7 +183,7 @@ started-known p (Got e ∷ q) s known started = started-known p q s known.1 star
 served-none : (p : Plan) (periods : List ℕ) (q : Record) → KeepsWords periods q → IsServed p q → owing periods q ≡ []
 served-none p periods q keeps served = none-owes periods q (λ s lt owed.
     let none = owed-unsignalled p periods q s keeps.heads keeps.only_jobs served.right.fits served.right.settled.1 lt owed in
-    let passes : has_passed_by p q None ≡ true = subst (λ o. has_passed_by p q o ≡ true) none served.served.drain.passes in cc)
+    let passes = served.served.drain.passes in let silent = unsignalled-unpassed p q none in cc)
 
 -- tested
 tested-none : (p : Plan) (periods : List ℕ) (q : Record) → AllNotify p → each_entry (head_due periods) q ≡ true → Right p q → ends.Tested ≡ step_end p q → owing periods q ≡ []

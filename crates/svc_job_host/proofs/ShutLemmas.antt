@@ -2,18 +2,18 @@
 use Rattle.std.proofs.Common.{Bool, true, false, ◌≡◌, ◌&&◌, List, [], ◌∷◌, ◌++◌, Option, refl, ap, subst, ◌∙◌, inl, inr}
 use Rattle.std.specs.Prelude.{Some, None, if◌then◌else◌}
 use Rattle.std.specs.List.{list_any}
-use Rattle.std.proofs.lemmas.Bool.{cases_Bool, or_right}
+use Rattle.std.proofs.lemmas.Bool.{cases_Bool, or_parts, or_right}
 use Rattle.svc_record.specs.declared.plan.Plan.{Plan}
 use Rattle.svc_record.specs.declared.entry.Entry.TheVariants.{Got, Told}
 use Rattle.svc_record.specs.declared.event.Event.TheVariants.{Moment, Ready, Signal}
 use Rattle.svc_record.specs.declared.event.ShutdownSignal.{ShutdownSignal}
 use Rattle.svc_record.specs.declared.event.ShutdownSignal.TheVariants.{FastShutdown, GracefulTerminate as TerminateSignal, GracefulUpgrade}
 use Rattle.svc_record.specs.declared.action.ExecutionPhase.TheVariants.{Running, Terminated, ShutdownRuntimes}
-use Rattle.svc_record.specs.Record.{Record, has, signal_of, before_signal, is_signal, is_running, each_entry}
+use Rattle.svc_record.specs.Record.{Record, has, signal_of, before_signal, has_cut, before_cut, is_signal, is_running, each_entry}
 use Rattle.svc_record.specs.Closes.{is_broadcast}
 use Rattle.svc_record.specs.Descriptors.{opened_descriptors, live_table}
 use Rattle.svc_record.specs.Offer.{has_offer}
-use Rattle.svc_record.specs.Drain.{Mark, phase, marks_if, row_by, has_passed, has_passed_by, PhasesRight}
+use Rattle.svc_record.specs.Drain.{Mark, phase, marks_if, row_by, with_start, wait_row, has_passed, has_passed_by, PhasesRight}
 use Rattle.svc_job_host.specs.Dues.{is_shutdown}
 use Rattle.svc_job_host.specs.JobHosts.{is_job_entry}
 use Rattle.svc_drain.proofs.Broadcasts.{is_the_broadcast, marked-is}
@@ -53,10 +53,12 @@ by-kind p b more rest GracefulUpgrade none passed = rw none refl
 -- the broadcast was told
 broadcast-told : (p : Plan) (b : Record) (kind : ShutdownSignal) → each_entry (λ e before. is_job_entry e) b ≡ true → PhasesRight p b → has_passed p b ≡ false → signal_of b ≡ Some kind → has is_broadcast b ≡ true
 broadcast-told p b kind only phases passed signal =
+    let unpassed = or_parts (has_cut b) (has_passed_by p b (signal_of b)) passed in
     marked-is b ∙ ap (list_any is_the_broadcast) phases
-    ∙ ap (λ x. list_any is_the_broadcast ((marks_if x (phase Terminated ∷ phase ShutdownRuntimes ∷ []) ++ row_by p b (signal_of b)) ++ marks_if (has is_running b) (phase Running ∷ []))) passed
+    ∙ ap (λ x. list_any is_the_broadcast ((marks_if x (phase Terminated ∷ phase ShutdownRuntimes ∷ []) ++ wait_row p b) ++ marks_if (has is_running b) (phase Running ∷ []))) passed
+    ∙ ap (λ x. list_any is_the_broadcast ((marks_if false (phase Terminated ∷ phase ShutdownRuntimes ∷ []) ++ (if x then with_start (row_by p (before_cut b) (signal_of (before_cut b))) else row_by p b (signal_of b))) ++ marks_if (has is_running b) (phase Running ∷ []))) unpassed.0
     ∙ ap (λ (s : Option ShutdownSignal). list_any is_the_broadcast ((marks_if false (phase Terminated ∷ phase ShutdownRuntimes ∷ []) ++ row_by p b s) ++ marks_if (has is_running b) (phase Running ∷ []))) signal
-    ∙ by-kind p b (phase Terminated ∷ phase ShutdownRuntimes ∷ []) (marks_if (has is_running b) (phase Running ∷ [])) kind (no-offer p b only) (subst (λ (s : Option ShutdownSignal). has_passed_by p b s ≡ false) signal passed)
+    ∙ by-kind p b (phase Terminated ∷ phase ShutdownRuntimes ∷ []) (marks_if (has is_running b) (phase Running ∷ [])) kind (no-offer p b only) (subst (λ (s : Option ShutdownSignal). has_passed_by p b s ≡ false) signal unpassed.1)
 
 shut-by : (q : Record) → has is_broadcast q ≡ true → has is_shutdown q ≡ true
 shut-by [] h = h

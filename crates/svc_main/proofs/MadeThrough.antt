@@ -1,13 +1,13 @@
 -- The events of the generator run through.
 use Rattle.std.proofs.Common.{◌≡◌, ℕ, ◌+◌, ◌≤◌, Bool, true, false, cond, List, [], ◌∷◌, ◌++◌, Some, None, refl, sym, ap, ◌∙◌, inl, inr, append-nil}
 use Rattle.std.specs.List.{list_any}
-use Rattle.std.proofs.lemmas.Bool.{and_from, not_from_false, MatchBool-at_false}
+use Rattle.std.proofs.lemmas.Bool.{and_from, not_from_false, MatchBool-at_false, or_right}
 use Rattle.svc_record.specs.declared.event.Event.{Event}
 use Rattle.svc_record.specs.declared.event.Event.TheVariants as events
 use Rattle.svc_record.specs.declared.event.ShutdownSignal.TheVariants.{FastShutdown}
 use Rattle.svc_record.specs.declared.entry.Entry.TheVariants.{Got}
 use Rattle.svc_record.specs.declared.action.StepEnd.TheVariants.{On, Served}
-use Rattle.svc_record.specs.Record.{Record, has, is_signal, signal_of, first_or}
+use Rattle.svc_record.specs.Record.{Record, has, is_signal, signal_of, first_or, has_cut}
 use Rattle.svc_record.specs.Boot.{is_side_parent, is_bad_message}
 use Rattle.svc_record.specs.Ends.{is_no_sender, is_receive_failure, step_end, has_ended}
 use Rattle.svc_record.specs.Drain.{has_passed, has_passed_by}
@@ -80,7 +80,7 @@ made-passes n q h =
     let last = last-event q (made_events_to n) (events.Signal FastShutdown) (sym h) in
     let none : signal_of last.before ≡ None = no-signal last.before (ap (λ xs. came-in xs) last.events ∙ front-unsigned n (made_events_to n) [] (sym (append-nil (made_events_to n)))) in
     let kind : signal_of q ≡ Some FastShutdown = ap signal_of last.cut ∙ signal-tell (Got (events.Signal FastShutdown) ∷ last.before) last.told ∙ ap (λ o. first_or o FastShutdown) none in
-    ap (has_passed_by (made_plan n) q) kind
+    or_right (has_cut q) (has_passed_by (made_plan n) q (signal_of q)) (ap (has_passed_by (made_plan n) q) kind)
   where
     came-in : List Event → Bool
     came-in xs = list_any is_signal_event xs

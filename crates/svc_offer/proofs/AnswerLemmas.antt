@@ -10,7 +10,7 @@ use Rattle.svc_record.specs.declared.plan.Plan.{Plan}
 use Rattle.svc_record.specs.declared.entry.Entry.TheVariants.{Got}
 use Rattle.svc_record.specs.declared.event.Event.{Event}
 use Rattle.svc_record.specs.declared.event.Event.TheVariants.{Connected, NotThere, StillConnecting, ConnectFailed, Sent, SendBusy, SendFailed}
-use Rattle.svc_record.specs.Record.{Record, now, has, times, signal_of}
+use Rattle.svc_record.specs.Record.{Record, now, has, times, has_cut, signal_of}
 use Rattle.svc_record.specs.Asks.{is_connect_open, is_send_open}
 use Rattle.svc_record.specs.Message.{encode}
 use Rattle.svc_record.specs.Offer.{table, is_empty_table, is_written, is_upgrade, has_offer, is_over, over_moment, is_last_answer, is_not_there, is_busy_answer, answer_rests, sends_next}
@@ -20,12 +20,13 @@ use Rattle.svc_offer.specs.OfferData.{OfferData}
 use Rattle.svc_offer.specs.OfferState.{OfferStands, is_offering, is_connecting, is_sending, is_asking, is_going, over_since, rests_in, sends_in}
 use Rattle.svc_offer.specs.OfferEffects.{answered, answered_state, patience_after, event_of, is_awaited}
 use Rattle.svc_offer.proofs.StateFacts.{since-here, going-offers, going-on, next-going, connecting-asks, sending-asks, asking-goes}
+use Rattle.svc_offer.proofs.Cuts.{uncut}
 
 -- what stands where the offer goes on
 pub record Goes (p : Plan) (q : Record) : Type 0 where
   pub upgrade : is_upgrade (signal_of q) ≡ true
   pub not_over : is_over p q ≡ false
-  pub written : (not (is_empty_table (table p q)) && not (is_written (encode (table p q)))) ≡ false
+  pub written : (not (is_empty_table (table p q)) && (not (is_written (encode (table p q))) || has_cut q)) ≡ false
   pub no_last : has is_last_answer q ≡ false
   pub absences_few : nat_lt p.limit (times is_not_there q) ≡ false
   pub delays_few : nat_le 20 (times is_busy_answer q) ≡ false
@@ -41,7 +42,7 @@ over-parts true false false false false u h = (refl, refl, refl, refl)
 pub goes : (p : Plan) (q : Record) → has_offer p q ≡ true → is_over p q ≡ false → Goes p q
 goes p q offers not_over =
     let up = and_parts (is_upgrade (signal_of q)) (not (is_empty_table (table p q))) offers in
-    let parts = over-parts (is_upgrade (signal_of q)) (not (is_empty_table (table p q)) && not (is_written (encode (table p q)))) (has is_last_answer q) (nat_lt p.limit (times is_not_there q)) (nat_le 20 (times is_busy_answer q)) up.0 not_over in
+    let parts = over-parts (is_upgrade (signal_of q)) (not (is_empty_table (table p q)) && (not (is_written (encode (table p q))) || has_cut q)) (has is_last_answer q) (nat_lt p.limit (times is_not_there q)) (nat_le 20 (times is_busy_answer q)) up.0 not_over in
     record { upgrade = up.0; not_over = not_over; written = parts.0; no_last = parts.1; absences_few = parts.2; delays_few = parts.3 }
 
 fewer : (n : ℕ) → nat_le 20 n ≡ false → nat_lt n 20 ≡ true
@@ -73,8 +74,8 @@ leaves-stands p d q e x n moment going s l =
       offers_is = offers ∙ sym l.offering;
       over_is = l.over;
       since_is = λ at h. since-here (is_over p q) (over_moment p q) (now (Got e ∷ q)) at still (l.now_is ∙ l.moment_is at h);
-      connecting_is = l.connect_answered ∙ sym quiet.0;
-      sending_is = l.send_answered ∙ sym quiet.1;
+      connecting_is = λ cut. l.connect_answered ∙ sym quiet.0;
+      sending_is = λ cut. l.send_answered ∙ sym quiet.1;
       rests_is = λ h t. l.rests (next-going x h) t;
       rested = λ asks. absurd (false-not (is_asking x) l.quiet asks);
       next_is = λ h. l.next (next-going x h);
@@ -167,7 +168,7 @@ module _ (p : Plan) (d : OfferData) (q : Record) (moment : ℕ) (at : moment ≡
     quiet = left-quiet (nat_lt d.patience.absences 1) (steps.Absent moment) moment refl;
     offers = refl;
     same_table = refl;
-    over = by-absent (is_upgrade (signal_of q)) (not (is_empty_table (table p q)) && not (is_written (encode (table p q)))) (has is_last_answer q) (nat_lt p.limit (times is_not_there q + 1)) (nat_le 20 (times is_busy_answer q)) (nat_lt d.patience.absences 1) g.upgrade g.written g.no_last g.delays_few (absent-last p.limit (times is_not_there q) d.patience.absences g.absences_few s.absences_are) ∙ left-over (nat_lt d.patience.absences 1) (steps.Absent moment) moment refl;
+    over = by-absent (is_upgrade (signal_of q)) (not (is_empty_table (table p q)) && (not (is_written (encode (table p q))) || has_cut q)) (has is_last_answer q) (nat_lt p.limit (times is_not_there q + 1)) (nat_le 20 (times is_busy_answer q)) (nat_lt d.patience.absences 1) g.upgrade g.written g.no_last g.delays_few (absent-last p.limit (times is_not_there q) d.patience.absences g.absences_few s.absences_are) ∙ left-over (nat_lt d.patience.absences 1) (steps.Absent moment) moment refl;
     moment_is = λ n h. left-moment (nat_lt d.patience.absences 1) (steps.Absent moment) moment n refl h;
     now_is = sym at;
     connect_answered = refl;
@@ -184,7 +185,7 @@ module _ (p : Plan) (d : OfferData) (q : Record) (moment : ℕ) (at : moment ≡
     quiet = left-quiet (nat_lt d.patience.delays 1) (steps.Delayed moment) moment refl;
     offers = refl;
     same_table = refl;
-    over = by-delay (is_upgrade (signal_of q)) (not (is_empty_table (table p q)) && not (is_written (encode (table p q)))) (has is_last_answer q) (nat_lt p.limit (times is_not_there q)) (nat_le 20 (times is_busy_answer q + 1)) (nat_lt d.patience.delays 1) g.upgrade g.written g.no_last g.absences_few (delay-last (times is_busy_answer q) d.patience.delays g.delays_few s.delays_are) ∙ left-over (nat_lt d.patience.delays 1) (steps.Delayed moment) moment refl;
+    over = by-delay (is_upgrade (signal_of q)) (not (is_empty_table (table p q)) && (not (is_written (encode (table p q))) || has_cut q)) (has is_last_answer q) (nat_lt p.limit (times is_not_there q)) (nat_le 20 (times is_busy_answer q + 1)) (nat_lt d.patience.delays 1) g.upgrade g.written g.no_last g.absences_few (delay-last (times is_busy_answer q) d.patience.delays g.delays_few s.delays_are) ∙ left-over (nat_lt d.patience.delays 1) (steps.Delayed moment) moment refl;
     moment_is = λ n h. left-moment (nat_lt d.patience.delays 1) (steps.Delayed moment) moment n refl h;
     now_is = sym at;
     connect_answered = refl;
@@ -201,7 +202,7 @@ module _ (p : Plan) (d : OfferData) (q : Record) (moment : ℕ) (at : moment ≡
     quiet = refl;
     offers = refl;
     same_table = refl;
-    over = by-last (is_upgrade (signal_of q)) (not (is_empty_table (table p q)) && not (is_written (encode (table p q)))) (nat_lt p.limit (times is_not_there q)) (nat_le 20 (times is_busy_answer q)) g.upgrade;
+    over = by-last (is_upgrade (signal_of q)) (not (is_empty_table (table p q)) && (not (is_written (encode (table p q))) || has_cut q)) (nat_lt p.limit (times is_not_there q)) (nat_le 20 (times is_busy_answer q)) g.upgrade;
     moment_is = λ n h. cc;
     now_is = sym at;
     connect_answered = refl;
@@ -218,7 +219,7 @@ module _ (p : Plan) (d : OfferData) (q : Record) (moment : ℕ) (at : moment ≡
     quiet = refl;
     offers = refl;
     same_table = refl;
-    over = by-last (is_upgrade (signal_of q)) (not (is_empty_table (table p q)) && not (is_written (encode (table p q)))) (nat_lt p.limit (times is_not_there q)) (nat_le 20 (times is_busy_answer q)) g.upgrade;
+    over = by-last (is_upgrade (signal_of q)) (not (is_empty_table (table p q)) && (not (is_written (encode (table p q))) || has_cut q)) (nat_lt p.limit (times is_not_there q)) (nat_le 20 (times is_busy_answer q)) g.upgrade;
     moment_is = λ n h. cc;
     now_is = sym at;
     connect_answered = other;
@@ -235,7 +236,7 @@ module _ (p : Plan) (d : OfferData) (q : Record) (moment : ℕ) (at : moment ≡
     quiet = left-quiet (nat_lt d.patience.delays 1) (steps.Stalled moment) moment refl;
     offers = refl;
     same_table = refl;
-    over = by-delay (is_upgrade (signal_of q)) (not (is_empty_table (table p q)) && not (is_written (encode (table p q)))) (has is_last_answer q) (nat_lt p.limit (times is_not_there q)) (nat_le 20 (times is_busy_answer q + 1)) (nat_lt d.patience.delays 1) g.upgrade g.written g.no_last g.absences_few (delay-last (times is_busy_answer q) d.patience.delays g.delays_few s.delays_are) ∙ left-over (nat_lt d.patience.delays 1) (steps.Stalled moment) moment refl;
+    over = by-delay (is_upgrade (signal_of q)) (not (is_empty_table (table p q)) && (not (is_written (encode (table p q))) || has_cut q)) (has is_last_answer q) (nat_lt p.limit (times is_not_there q)) (nat_le 20 (times is_busy_answer q + 1)) (nat_lt d.patience.delays 1) g.upgrade g.written g.no_last g.absences_few (delay-last (times is_busy_answer q) d.patience.delays g.delays_few s.delays_are) ∙ left-over (nat_lt d.patience.delays 1) (steps.Stalled moment) moment refl;
     moment_is = λ n h. left-moment (nat_lt d.patience.delays 1) (steps.Stalled moment) moment n refl h;
     now_is = sym at;
     connect_answered = other;
@@ -252,7 +253,7 @@ module _ (p : Plan) (d : OfferData) (q : Record) (moment : ℕ) (at : moment ≡
     quiet = refl;
     offers = refl;
     same_table = refl;
-    over = by-last (is_upgrade (signal_of q)) (not (is_empty_table (table p q)) && not (is_written (encode (table p q)))) (nat_lt p.limit (times is_not_there q)) (nat_le 20 (times is_busy_answer q)) g.upgrade;
+    over = by-last (is_upgrade (signal_of q)) (not (is_empty_table (table p q)) && (not (is_written (encode (table p q))) || has_cut q)) (nat_lt p.limit (times is_not_there q)) (nat_le 20 (times is_busy_answer q)) g.upgrade;
     moment_is = λ n h. cc;
     now_is = sym at;
     connect_answered = other;
@@ -265,10 +266,10 @@ module _ (p : Plan) (d : OfferData) (q : Record) (moment : ℕ) (at : moment ≡
 
   -- an ask was answered
   by-connect : is_connecting d.state ≡ true → is_send_open q ≡ false
-  by-connect h = s.sending_is ∙ (connecting-asks d.state h).1
+  by-connect h = s.sending_is (uncut p d q s going) ∙ (connecting-asks d.state h).1
 
   by-send : is_sending d.state ≡ true → is_connect_open q ≡ false
-  by-send h = s.connecting_is ∙ (sending-asks d.state h).1
+  by-send h = s.connecting_is (uncut p d q s going) ∙ (sending-asks d.state h).1
 
 -- the open ask was answered
 pub stands-answered : (p : Plan) (d : OfferData) (q : Record) (answer : SendAnswer) (moment : ℕ) → is_awaited d.state answer ≡ true → moment ≡ now q

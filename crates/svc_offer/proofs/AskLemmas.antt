@@ -8,7 +8,7 @@ use Rattle.svc_fds.specs.declared.encoding.Message.{Message}
 use Rattle.svc_record.specs.declared.plan.Plan.{Plan}
 use Rattle.svc_record.specs.declared.entry.Entry.TheVariants.{Told}
 use Rattle.svc_record.specs.declared.action.Action.TheVariants.{Connect}
-use Rattle.svc_record.specs.Record.{Record, now, tell}
+use Rattle.svc_record.specs.Record.{Record, now, tell, has_cut}
 use Rattle.svc_record.specs.Asks.{is_connect_open, is_send_open}
 use Rattle.svc_record.specs.Message.{encode}
 use Rattle.svc_record.specs.Offer.{table, is_written, has_offer, is_over, goes_on, is_message, answer_rests, sends_next}
@@ -18,6 +18,7 @@ use Rattle.svc_offer.specs.OfferData.{OfferData}
 use Rattle.svc_offer.specs.OfferState.{OfferStands, is_offering, is_connecting, is_sending, is_going, over_since, rests_in, sends_in, tells_next, is_connect_due, is_send_due}
 use Rattle.svc_offer.specs.OfferEffects.{asked, ask_with, send_told}
 use Rattle.svc_offer.proofs.StateFacts.{going-offers, going-on, next-going, next-rests}
+use Rattle.svc_offer.proofs.Cuts.{uncut}
 
 -- a rest that is over stays over
 rest-over : (limit at earlier later : ℕ) → nat_le limit (earlier - at) ≡ true → nat_le earlier later ≡ true → nat_lt (later - at) limit ≡ false
@@ -75,8 +76,11 @@ module _ (p : Plan) (d : OfferData) (q : Record) (moment : ℕ) (sends : Bool) (
   goes : goes_on p q ≡ true
   goes = goes_on-is p d q s ∙ going
 
+  cut : has_cut q ≡ false
+  cut = uncut p d q s going
+
   none-open : (is_connect_open q || is_send_open q) ≡ false
-  none-open = ap (λ b. b || is_send_open q) s.connecting_is ∙ ap (λ b. is_connecting d.state || b) s.sending_is ∙ next-rests d.state x.tells
+  none-open = ap (λ b. b || is_send_open q) (s.connecting_is cut) ∙ ap (λ b. is_connecting d.state || b) (s.sending_is cut) ∙ next-rests d.state x.tells
 
   quiet : (is_connecting d.state ≡ false) × (is_sending d.state ≡ false)
   quiet = or_parts (is_connecting d.state) (is_sending d.state) (next-rests d.state x.tells)
@@ -95,8 +99,8 @@ module _ (p : Plan) (d : OfferData) (q : Record) (moment : ℕ) (sends : Bool) (
     offers_is = s.offers_is ∙ going-offers d.state going;
     over_is = s.over_is ∙ going-on d.state going;
     since_is = λ n h. cc;
-    connecting_is = refl;
-    sending_is = s.sending_is ∙ quiet.1;
+    connecting_is = λ c. refl;
+    sending_is = λ c. s.sending_is c ∙ quiet.1;
     rests_is = λ h. cc;
     rested = λ asks forward t later. rests-over t later;
     next_is = λ h. cc;
@@ -117,8 +121,8 @@ module _ (p : Plan) (d : OfferData) (q : Record) (moment : ℕ) (sends : Bool) (
     offers_is = s.offers_is ∙ going-offers d.state going;
     over_is = s.over_is ∙ going-on d.state going;
     since_is = λ n h. cc;
-    connecting_is = s.connecting_is ∙ quiet.0;
-    sending_is = refl;
+    connecting_is = λ c. s.connecting_is c ∙ quiet.0;
+    sending_is = λ c. refl;
     rests_is = λ h. cc;
     rested = λ asks forward t later. rests-over t later;
     next_is = λ h. cc;

@@ -1,6 +1,7 @@
 pub mod RecordFacts
 pub mod StateFacts
 pub mod Foreign
+pub mod Cuts
 pub mod Signals
 pub mod RetryLemmas
 pub mod AnswerLemmas

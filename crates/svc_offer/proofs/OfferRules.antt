@@ -25,6 +25,7 @@ use Rattle.svc_offer.specs.OfferData.{OfferData}
 use Rattle.svc_offer.specs.OfferState.{OfferStands, IsOfferSettled, is_offering, is_connecting, is_sending, is_asking, is_going, over_since, rests_in, tells_next, is_connect_due, is_send_due, message_numbers, numbers_on_offer, goes_forward, is_forward}
 use Rattle.svc_offer.specs.OfferEffects.{event_of}
 use Rattle.svc_offer.specs.OfferFacts.{is_offer_event}
+use Rattle.svc_offer.proofs.Cuts.{uncut}
 use Rattle.svc_offer.proofs.AskLemmas.{goes_on-is}
 
 -- a rest that isn't over
@@ -55,26 +56,26 @@ holds-third true b c x y z = cc
 holds-third false true c x y z = cc
 
 -- exactly one holds of what the state says
-one-of : (x : Offering) (t : ℕ) (connects sends rest : Bool) → is_connect_due x t ≡ false → is_send_due x t ≡ false → connects ≡ is_connecting x → sends ≡ is_sending x
+one-of : (x : Offering) (t : ℕ) (connects sends rest : Bool) → is_connect_due x t ≡ false → is_send_due x t ≡ false → (is_going x ≡ true → connects ≡ is_connecting x) → (is_going x ≡ true → sends ≡ is_sending x)
     → (tells_next x ≡ true → rest ≡ rests_in x t) → (is_asking x ≡ true → rest ≡ false) → (not (is_going x) || one_holds connects sends rest) ≡ true
 one-of Nothing t connects sends rest c n a b r o = refl
 one-of Unasked t connects sends rest c n a b r o = cc
-one-of Connecting t connects sends rest c n a b r o = holds-first connects sends rest a b (o refl)
+one-of Connecting t connects sends rest c n a b r o = holds-first connects sends rest (a refl) (b refl) (o refl)
 one-of Connected t connects sends rest c n a b r o = cc
-one-of Sending t connects sends rest c n a b r o = holds-second connects sends rest a b (o refl)
-one-of (Absent at) t connects sends rest c n a b r o = holds-third connects sends rest a b (r refl ∙ rests_on 1000 (t - at) c)
-one-of (Delayed at) t connects sends rest c n a b r o = holds-third connects sends rest a b (r refl ∙ rests_on 500 (t - at) c)
-one-of (Stalled at) t connects sends rest c n a b r o = holds-third connects sends rest a b (r refl ∙ rests_on 500 (t - at) n)
+one-of Sending t connects sends rest c n a b r o = holds-second connects sends rest (a refl) (b refl) (o refl)
+one-of (Absent at) t connects sends rest c n a b r o = holds-third connects sends rest (a refl) (b refl) (r refl ∙ rests_on 1000 (t - at) c)
+one-of (Delayed at) t connects sends rest c n a b r o = holds-third connects sends rest (a refl) (b refl) (r refl ∙ rests_on 500 (t - at) c)
+one-of (Stalled at) t connects sends rest c n a b r o = holds-third connects sends rest (a refl) (b refl) (r refl ∙ rests_on 500 (t - at) n)
 one-of (Over at) t connects sends rest c n a b r o = refl
 
 -- at least one does
-some-of : (x : Offering) (t : ℕ) (connects sends rest : Bool) → is_connect_due x t ≡ false → is_send_due x t ≡ false → connects ≡ is_connecting x → sends ≡ is_sending x
+some-of : (x : Offering) (t : ℕ) (connects sends rest : Bool) → is_connect_due x t ≡ false → is_send_due x t ≡ false → (is_going x ≡ true → connects ≡ is_connecting x) → (is_going x ≡ true → sends ≡ is_sending x)
     → (tells_next x ≡ true → rest ≡ rests_in x t) → (not (is_going x) || ((connects || sends) || rest)) ≡ true
 some-of Nothing t connects sends rest c n a b r = refl
 some-of Unasked t connects sends rest c n a b r = cc
-some-of Connecting t connects sends rest c n a b r = ap (λ k. (k || sends) || rest) a
+some-of Connecting t connects sends rest c n a b r = ap (λ k. (k || sends) || rest) (a refl)
 some-of Connected t connects sends rest c n a b r = cc
-some-of Sending t connects sends rest c n a b r = second connects sends rest b
+some-of Sending t connects sends rest c n a b r = second connects sends rest (b refl)
   where
     second : (a b c : Bool) → b ≡ true → ((a || b) || c) ≡ true
     second a b c h = grind arith
@@ -87,7 +88,8 @@ some-of (Over at) t connects sends rest c n a b r = refl
 pub offer-right : (p : Plan) (d : OfferData) (q : Record) → OfferStands p d q → IsOfferSettled d (now q) → OfferRight p q
 offer-right p d q s settled = record {
   goes = ap (λ b. not b || ((is_connect_open q || is_send_open q) || answer_rests (now q) q)) (goes_on-is p d q s)
-      ∙ some-of d.state (now q) (is_connect_open q) (is_send_open q) (answer_rests (now q) q) settled.no_connect settled.no_send s.connecting_is s.sending_is (λ h. s.rests_is h (now q));
+      ∙ some-of d.state (now q) (is_connect_open q) (is_send_open q) (answer_rests (now q) q) settled.no_connect settled.no_send (λ going. s.connecting_is (uncut p d q s going)) (λ going. s.sending_is (uncut p d q s going))
+      (λ h. s.rests_is h (now q));
   in_turn = s.asks_due;
 }
 
@@ -95,7 +97,8 @@ offer-right p d q s settled = record {
 pub one-ask : (p : Plan) (d : OfferData) (q : Record) → OfferStands p d q → IsOfferSettled d (now q) → goes_forward q ≡ true → one_ask p q ≡ true
 one-ask p d q s settled forward =
     ap (λ b. not b || one_holds (is_connect_open q) (is_send_open q) (answer_rests (now q) q)) (goes_on-is p d q s)
-    ∙ one-of d.state (now q) (is_connect_open q) (is_send_open q) (answer_rests (now q) q) settled.no_connect settled.no_send s.connecting_is s.sending_is (λ h. s.rests_is h (now q))
+    ∙ one-of d.state (now q) (is_connect_open q) (is_send_open q) (answer_rests (now q) q) settled.no_connect settled.no_send (λ going. s.connecting_is (uncut p d q s going)) (λ going. s.sending_is (uncut p d q s going))
+    (λ h. s.rests_is h (now q))
     (λ h. s.rested h forward (now q) (rests-all (now q)))
 
 fits-forward : (p : Plan) (e : Entry) (q : Record) → event_fits p e q ≡ true → is_forward e q ≡ true

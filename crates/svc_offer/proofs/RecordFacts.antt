@@ -1,10 +1,11 @@
 -- What a record without an answer or a signal says of the offer, and what a later signal leaves as it was.
-use Rattle.std.proofs.Common.{ℕ, Bool, true, false, [], ◌∷◌, ◌≡◌, refl, Option, Some, None, if◌then◌else◌}
+use Rattle.std.proofs.Common.{ℕ, Bool, true, false, ◌||◌, ◌&&◌, [], ◌∷◌, ◌≡◌, refl, ap, ◌∙◌, arith, Option, Some, None, if◌then◌else◌}
 use Rattle.svc_record.specs.declared.entry.Entry.TheVariants.{Got}
 use Rattle.svc_record.specs.declared.event.Event.TheVariants.{Connected, NotThere, StillConnecting, ConnectFailed, Sent, SendBusy, SendFailed, Signal}
 use Rattle.svc_record.specs.declared.event.ShutdownSignal.{ShutdownSignal}
-use Rattle.svc_record.specs.Record.{Record, has, times, is_signal, signal_of, before_signal, first_or}
+use Rattle.svc_record.specs.Record.{Record, has, times, is_signal, is_fast_signal, is_graceful, has_cut, signal_of, before_signal, first_or}
 use Rattle.svc_record.specs.Offer.{is_last_answer, is_not_there, is_busy_answer, answer_rests, sends_next}
+use Rattle.svc_record.proofs.CutLaws.{unsignalled-uncut}
 use Rattle.svc_offer.specs.OfferState.{is_offer_answer}
 
 -- what no answer leaves
@@ -55,3 +56,19 @@ later-before q kind h = if-so (has is_signal q) (before_signal q) q h
 
 pub first-before : (q : Record) (kind : ShutdownSignal) → has is_signal q ≡ false → before_signal (Got (Signal kind) ∷ q) ≡ q
 first-before q kind h = if-not (has is_signal q) (before_signal q) q h
+
+-- without a signal there is no cut, and the first signal is none
+pub uncut-none : (q : Record) → has is_signal q ≡ false → has_cut q ≡ false
+uncut-none q h = unsignalled-uncut q (no-kind q h)
+
+pub first-uncut : (q : Record) (kind : ShutdownSignal) → has is_signal q ≡ false → has_cut (Got (Signal kind) ∷ q) ≡ false
+first-uncut q kind h = ap (λ s. (is_fast_signal (Got (Signal kind)) && is_graceful s) || has_cut q) (no-kind q h) ∙ none (is_fast_signal (Got (Signal kind))) (has_cut q) (uncut-none q h)
+  where
+    none : (f c : Bool) → c ≡ false → ((f && false) || c) ≡ false
+    none f c k = grind arith
+
+-- a graceful signal came
+pub graceful-came : (q : Record) → is_graceful (signal_of q) ≡ true → has is_signal q ≡ true
+graceful-came [] h = cc
+graceful-came (Got (Signal kind) ∷ q) h = refl
+graceful-came (_ ∷ q) h = graceful-came q h

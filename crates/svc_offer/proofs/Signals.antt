@@ -1,4 +1,4 @@
--- What a signal leaves of the offer: the first one begins it where something is offered, and a later one changes nothing.
+-- What a signal leaves of the offer: the first one begins it where something is offered, and a later one that is no cut changes nothing.
 use Rattle.std.proofs.Common.{ℕ, Bool, true, false, not, ◌||◌, ◌&&◌, ◌∷◌, ◌≡◌, refl, ap, sym, ◌∙◌, subst, Option, Some, None, arith, is_some}
 use Rattle.std.specs.Prelude.{nat_le, nat_lt}
 use Rattle.std.proofs.lemmas.Bool.Decides.{nat_tests}
@@ -8,7 +8,7 @@ use Rattle.svc_record.specs.declared.entry.Entry.TheVariants.{Got}
 use Rattle.svc_record.specs.declared.event.Event.TheVariants.{Signal}
 use Rattle.svc_record.specs.declared.event.ShutdownSignal.{ShutdownSignal}
 use Rattle.svc_record.specs.declared.event.ShutdownSignal.TheVariants.{GracefulUpgrade}
-use Rattle.svc_record.specs.Record.{Record, now, has, times, is_signal, signal_of, before_signal, first_or}
+use Rattle.svc_record.specs.Record.{Record, now, has, times, is_signal, has_cut, signal_of, before_signal, first_or}
 use Rattle.svc_record.specs.Message.{encode}
 use Rattle.svc_record.specs.Descriptors.{live_table}
 use Rattle.svc_record.specs.Offer.{table, is_empty_table, is_written, is_upgrade, has_offer, is_answered, is_over, over_moment, is_last_answer, is_not_there, is_busy_answer}
@@ -18,30 +18,32 @@ use Rattle.svc_offer.specs.OfferData.{OfferData}
 use Rattle.svc_offer.specs.OfferState.{OfferStands, is_offering, is_going, over_since, is_connecting, is_sending}
 use Rattle.svc_offer.specs.OfferEffects.{begun, first_state}
 use Rattle.svc_offer.proofs.StateFacts.{since-kept, since-here, not-going, not-over}
-use Rattle.svc_offer.proofs.RecordFacts.{Unanswered, unanswered, no-kind, later-kind, later-before, first-before}
+use Rattle.svc_offer.proofs.RecordFacts.{Unanswered, unanswered, no-kind, later-kind, later-before, first-before, uncut-none, first-uncut}
 
 -- whether something is offered, by the first signal and by what was before it
 abbrev pub has_offer_by : Plan → Option ShutdownSignal → Record → Bool
 has_offer_by p s b = is_upgrade s && not (is_empty_table (live_table p b))
 
--- and whether that is over
-abbrev pub is_over_by : Plan → Option ShutdownSignal → Record → Record → Bool
-is_over_by p s b q = is_upgrade s && ((not (is_empty_table (live_table p b)) && not (is_written (encode (live_table p b)))) || is_answered p q)
+-- and whether that is over, by whether a cut came
+abbrev pub is_over_by : Plan → Option ShutdownSignal → Record → Bool → Record → Bool
+is_over_by p s b cut q = is_upgrade s && ((not (is_empty_table (live_table p b)) && (not (is_written (encode (live_table p b))) || cut)) || is_answered p q)
 
--- a later signal leaves all as it was
+-- a later signal that is no cut leaves all as it was
 pub offer-later : (p : Plan) (q : Record) (kind : ShutdownSignal) → has is_signal q ≡ true → has_offer p (Got (Signal kind) ∷ q) ≡ has_offer p q
 offer-later p q kind h = ap (λ s. has_offer_by p s (before_signal (Got (Signal kind) ∷ q))) (later-kind q kind h) ∙ ap (λ b. has_offer_by p (signal_of q) b) (later-before q kind h)
 
-pub over-later : (p : Plan) (q : Record) (kind : ShutdownSignal) → has is_signal q ≡ true → is_over p (Got (Signal kind) ∷ q) ≡ is_over p q
-over-later p q kind h = ap (λ s. is_over_by p s (before_signal (Got (Signal kind) ∷ q)) q) (later-kind q kind h) ∙ ap (λ b. is_over_by p (signal_of q) b q) (later-before q kind h)
+pub over-later : (p : Plan) (q : Record) (kind : ShutdownSignal) → has is_signal q ≡ true → has_cut (Got (Signal kind) ∷ q) ≡ has_cut q → is_over p (Got (Signal kind) ∷ q) ≡ is_over p q
+over-later p q kind h uncut = ap (λ s. is_over_by p s (before_signal (Got (Signal kind) ∷ q)) (has_cut (Got (Signal kind) ∷ q)) q) (later-kind q kind h)
+    ∙ ap (λ b. is_over_by p (signal_of q) b (has_cut (Got (Signal kind) ∷ q)) q) (later-before q kind h) ∙ ap (λ c. is_over_by p (signal_of q) (before_signal q) c q) uncut
 
-pub stands-later : (p : Plan) (d : OfferData) (q : Record) (kind : ShutdownSignal) → has is_signal q ≡ true → OfferStands p d q → OfferStands p d (Got (Signal kind) ∷ q)
-stands-later p d q kind h s = record {
+pub stands-later : (p : Plan) (d : OfferData) (q : Record) (kind : ShutdownSignal) → has is_signal q ≡ true → has_cut (Got (Signal kind) ∷ q) ≡ has_cut q
+    → OfferStands p d q → OfferStands p d (Got (Signal kind) ∷ q)
+stands-later p d q kind h uncut s = record {
   offers_is = offer-later p q kind h ∙ s.offers_is;
-  over_is = over-later p q kind h ∙ s.over_is;
+  over_is = over-later p q kind h uncut ∙ s.over_is;
   since_is = λ at e. since-kept (is_over p q) (over_moment p q) (now q) at (s.over_is ∙ ap is_some e) (s.since_is at e);
-  connecting_is = s.connecting_is;
-  sending_is = s.sending_is;
+  connecting_is = λ c. s.connecting_is (sym uncut ∙ c);
+  sending_is = λ c. s.sending_is (sym uncut ∙ c);
   rests_is = s.rests_is;
   rested = s.rested;
   next_is = s.next_is;
@@ -75,14 +77,15 @@ pub offers-none : (p : Plan) (q : Record) → has is_signal q ≡ false → has_
 offers-none p q h = not-upgraded (signal_of q) (not (is_empty_table (table p q))) (no-kind q h)
 
 pub over-none : (p : Plan) (q : Record) → has is_signal q ≡ false → is_over p q ≡ false
-over-none p q h = not-upgraded (signal_of q) ((not (is_empty_table (table p q)) && not (is_written (encode (table p q)))) || is_answered p q) (no-kind q h)
+over-none p q h = not-upgraded (signal_of q) ((not (is_empty_table (table p q)) && (not (is_written (encode (table p q))) || has_cut q)) || is_answered p q) (no-kind q h)
 
 -- whether the first signal offers something, and whether that is over at once
 pub offer-first : (p : Plan) (q : Record) (kind : ShutdownSignal) → has is_signal q ≡ false → has_offer p (Got (Signal kind) ∷ q) ≡ has_offer_by p (Some kind) q
 offer-first p q kind h = ap (λ s. has_offer_by p s (before_signal (Got (Signal kind) ∷ q))) (first-kind q kind h) ∙ ap (λ b. has_offer_by p (Some kind) b) (first-before q kind h)
 
-pub over-first : (p : Plan) (q : Record) (kind : ShutdownSignal) → has is_signal q ≡ false → is_over p (Got (Signal kind) ∷ q) ≡ is_over_by p (Some kind) q q
-over-first p q kind h = ap (λ s. is_over_by p s (before_signal (Got (Signal kind) ∷ q)) q) (first-kind q kind h) ∙ ap (λ b. is_over_by p (Some kind) b q) (first-before q kind h)
+pub over-first : (p : Plan) (q : Record) (kind : ShutdownSignal) → has is_signal q ≡ false → is_over p (Got (Signal kind) ∷ q) ≡ is_over_by p (Some kind) q false q
+over-first p q kind h = ap (λ s. is_over_by p s (before_signal (Got (Signal kind) ∷ q)) (has_cut (Got (Signal kind) ∷ q)) q) (first-kind q kind h)
+    ∙ ap (λ b. is_over_by p (Some kind) b (has_cut (Got (Signal kind) ∷ q)) q) (first-before q kind h) ∙ ap (λ c. is_over_by p (Some kind) q c q) (first-uncut q kind h)
 
 empty-none : (upgrade empty : Bool) → (upgrade ≡ true → empty ≡ true) → (upgrade && not empty) ≡ false
 empty-none true empty h = ap not (h refl)
@@ -103,11 +106,11 @@ stands-unoffered p d q kind h empty s =
     record {
       offers_is = offer-first p q kind h ∙ empty-none (is_upgrade (Some kind)) (is_empty_table (live_table p q)) empty ∙ sym none;
       over_is = over-first p q kind h
-          ∙ empty-on (is_upgrade (Some kind)) (is_empty_table (live_table p q)) (not (is_written (encode (live_table p q)))) (is_answered p q) empty (answered-none p q u)
+          ∙ empty-on (is_upgrade (Some kind)) (is_empty_table (live_table p q)) (not (is_written (encode (live_table p q))) || false) (is_answered p q) empty (answered-none p q u)
           ∙ sym open_end;
       since_is = λ at e. let k : is_some (over_since d.state) ≡ true = ap is_some e in cc;
-      connecting_is = s.connecting_is;
-      sending_is = s.sending_is;
+      connecting_is = λ c. s.connecting_is (uncut-none q h);
+      sending_is = λ c. s.sending_is (uncut-none q h);
       rests_is = s.rests_is;
       rested = s.rested;
       next_is = s.next_is;
@@ -123,7 +126,7 @@ stands-unoffered p d q kind h empty s =
     }
 
 first-over : (message : Option Message) (moment : ℕ) (empty answered : Bool) → empty ≡ false → answered ≡ false
-    → ((not empty && not (is_written message)) || answered) ≡ is_some (over_since (first_state message moment))
+    → ((not empty && (not (is_written message) || false)) || answered) ≡ is_some (over_since (first_state message moment))
 first-over (Some w) moment empty answered e a = grind arith
 first-over None moment empty answered e a = grind arith
 
@@ -154,11 +157,11 @@ stands-begun p d q (Some w) moment at h some is s =
     record {
       offers_is = offer-first p q GracefulUpgrade h ∙ ap not some;
       over_is = over-first p q GracefulUpgrade h
-          ∙ ap (λ m. (not (is_empty_table (live_table p q)) && not (is_written m)) || is_answered p q) (sym is)
+          ∙ ap (λ m. (not (is_empty_table (live_table p q)) && (not (is_written m) || false)) || is_answered p q) (sym is)
           ∙ first-over (Some w) moment (is_empty_table (live_table p q)) (is_answered p q) some (answered-none p q u);
       since_is = λ n e. cc;
-      connecting_is = s.connecting_is ∙ quiet-connect d.state none;
-      sending_is = s.sending_is ∙ quiet-send d.state none;
+      connecting_is = λ c. s.connecting_is (uncut-none q h) ∙ quiet-connect d.state none;
+      sending_is = λ c. s.sending_is (uncut-none q h) ∙ quiet-send d.state none;
       rests_is = λ going t. u.no_rest t;
       rested = λ asks. cc;
       next_is = λ going. u.no_next;
@@ -178,11 +181,11 @@ stands-begun p d q None moment at h some is s =
     record {
       offers_is = offer-first p q GracefulUpgrade h ∙ ap not some;
       over_is = over-first p q GracefulUpgrade h
-          ∙ ap (λ m. (not (is_empty_table (live_table p q)) && not (is_written m)) || is_answered p q) (sym is)
+          ∙ ap (λ m. (not (is_empty_table (live_table p q)) && (not (is_written m) || false)) || is_answered p q) (sym is)
           ∙ first-over None moment (is_empty_table (live_table p q)) (is_answered p q) some (answered-none p q u);
       since_is = λ n e. since-here (is_over p q) (over_moment p q) (now q) n (over-none p q h) (sym at ∙ first-since None moment n e);
-      connecting_is = s.connecting_is ∙ quiet-connect d.state none;
-      sending_is = s.sending_is ∙ quiet-send d.state none;
+      connecting_is = λ c. s.connecting_is (uncut-none q h) ∙ quiet-connect d.state none;
+      sending_is = λ c. s.sending_is (uncut-none q h) ∙ quiet-send d.state none;
       rests_is = λ going. cc;
       rested = λ asks. cc;
       next_is = λ going. cc;

@@ -88,6 +88,16 @@ patience_after n answers.SendFailed = n
 abbrev pub answered : SendAnswer → ℕ → OfferData → OfferData
 answered answer moment d = record { state = answered_state d.patience answer moment; message = d.message; patience = patience_after d.patience answer }
 
+-- what a cut at this moment leaves: an offer that goes on is over
+abbrev pub cut_state : Offering → ℕ → Offering
+cut_state Nothing moment = Nothing
+cut_state (Over at) moment = Over at
+cut_state _ moment = Over moment
+
+-- the part after a cut
+abbrev pub cut_off : ℕ → OfferData → OfferData
+cut_off moment d = record { state = cut_state d.state moment; message = d.message; patience = d.patience }
+
 -- the send of a message
 abbrev pub send_told : Option Message → List Action
 send_told (Some w) = Send w.bytes w.fds ∷ []

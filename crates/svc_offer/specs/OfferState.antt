@@ -5,7 +5,7 @@ use Rattle.svc_record.specs.declared.plan.Plan.{Plan}
 use Rattle.svc_record.specs.declared.entry.Entry.{Entry}
 use Rattle.svc_record.specs.declared.entry.Entry.TheVariants.{Got}
 use Rattle.svc_record.specs.declared.event.Event.TheVariants.{Moment}
-use Rattle.svc_record.specs.Record.{Record, now, has, times, each_entry, EachEntry}
+use Rattle.svc_record.specs.Record.{Record, now, has, times, has_cut, each_entry, EachEntry}
 use Rattle.svc_record.specs.Asks.{is_connect, is_connect_answer, is_connect_open, is_send, is_send_answer, is_send_open}
 use Rattle.svc_record.specs.Message.{encode}
 use Rattle.svc_record.specs.Offer.{table, has_offer, is_over, over_moment, is_not_there, is_busy_answer, answer_rests, sends_next, offer_due, retry_due}
@@ -107,13 +107,13 @@ is_offer_answer e = is_connect_answer e || is_send_answer e
 abbrev pub is_offer_ask : Entry → Bool
 is_offer_ask e = is_connect e || is_send e
 
--- the part says what the record says, and each ask was due as it was told; where nothing is offered, nothing was asked or answered
+-- the part says what the record says, and each ask was due as it was told; where nothing is offered, nothing was asked or answered. An ask that is open at a cut stays unanswered, and the part knows nothing more of it.
 pub record OfferStands (p : Plan) (d : OfferData) (q : Record) : Type 0 where
   pub offers_is : has_offer p q ≡ is_offering d.state
   pub over_is : is_over p q ≡ is_some (over_since d.state)
   pub since_is : (at : ℕ) → over_since d.state ≡ Some at → over_moment p q ≡ at
-  pub connecting_is : is_connect_open q ≡ is_connecting d.state
-  pub sending_is : is_send_open q ≡ is_sending d.state
+  pub connecting_is : has_cut q ≡ false → is_connect_open q ≡ is_connecting d.state
+  pub sending_is : has_cut q ≡ false → is_send_open q ≡ is_sending d.state
   pub rests_is : tells_next d.state ≡ true → (t : ℕ) → answer_rests t q ≡ rests_in d.state t
   pub rested : is_asking d.state ≡ true → goes_forward q ≡ true → (t : ℕ) → nat_le (now q) t ≡ true → answer_rests t q ≡ false
   pub next_is : tells_next d.state ≡ true → sends_next q ≡ sends_in d.state

@@ -1,18 +1,18 @@
 //! The offer to a successor, from the signal to its last answer.
 
-ghost use Rattle.std.specs.Prelude.{◌≡◌, ◌+◌, ◌≤◌, ◌++◌, [], ◌∷◌, length, Option, Some, None, IfOk, true, false};
+ghost use Rattle.std.specs.Prelude.{ℕ, ◌≡◌, ◌+◌, ◌≤◌, ◌++◌, [], ◌∷◌, length, Option, Some, None, IfOk, true, false};
 ghost use Rattle.svc_base.specs.Items.{list_of, spare};
 ghost use Rattle.svc_fds.specs.declared.encoding.Message.{Message};
 ghost use Rattle.svc_record.specs.declared.plan.Plan.{Plan};
 ghost use Rattle.svc_record.specs.declared.entry.Entry.TheVariants.{Got};
 ghost use Rattle.svc_record.specs.declared.event.Event.TheVariants.{Signal};
-ghost use Rattle.svc_record.specs.declared.event.ShutdownSignal.TheVariants.{GracefulUpgrade};
-ghost use Rattle.svc_record.specs.Record.{Record, now, tell, has, is_signal};
+ghost use Rattle.svc_record.specs.declared.event.ShutdownSignal.TheVariants.{GracefulUpgrade, FastShutdown};
+ghost use Rattle.svc_record.specs.Record.{Record, now, tell, has, is_signal, is_graceful, signal_of};
 ghost use Rattle.svc_record.specs.Descriptors.{live_table};
 ghost use Rattle.svc_record.specs.Message.{encode};
 ghost use Rattle.svc_record.specs.Offer.{is_empty_table};
 ghost use Rattle.svc_offer.specs.OfferState.{OfferStands, IsOfferSettled, is_connecting, is_sending, is_connect_due, is_send_due, is_stall_over, is_going, over_since, numbers_on_offer};
-ghost use Rattle.svc_offer.specs.OfferEffects.{nothing, event_of, is_awaited, begun, ends_by, state_after, answered_state, patience_after, answered, send_told, ask_with, asked, sends_at};
+ghost use Rattle.svc_offer.specs.OfferEffects.{nothing, event_of, is_awaited, begun, ends_by, state_after, answered_state, patience_after, answered, cut_state, cut_off, send_told, ask_with, asked, sends_at};
 
 use crate::copies::copy_message;
 use crate::offering::Offering;
@@ -81,6 +81,17 @@ fn answered_state(retry: &mut SendRetry, answer: SendAnswer, moment: u64) -> Off
         return Offering::Over(moment);
     }
     state_after(answer, moment)
+}
+
+/// What a cut leaves at the moment, in milliseconds: an offer that goes on is over.
+fn cut_state(state: Offering, moment: u64) -> Offering
+    ensures { result ≡ cut_state state moment }
+{
+    match state {
+        Offering::Nothing => Offering::Nothing,
+        Offering::Over(at) => Offering::Over(at),
+        _ => Offering::Over(moment),
+    }
 }
 
 /// Tells a send of the message.
@@ -173,6 +184,17 @@ impl Offer {
         ensures stands { (p : Plan) (q : Record) → moment ≡ now q → OfferStands p self.old q → OfferStands p self.new (Got (event_of answer) ∷ q) }
     {
         self.state = answered_state(&mut self.retry, answer, moment);
+    }
+
+    /// A fast signal after the graceful one ends the offer at the moment, in milliseconds, where it
+    /// goes on: an open ask stays unanswered, and nothing more is asked.
+    pub fn cut(&mut self, moment: u64)
+        ensures after { self.new ≡ cut_off moment self.old }
+        ensures stands { (p : Plan) (q : Record) → moment ≡ now q → is_graceful (signal_of q) ≡ true → OfferStands p self.old q
+            → OfferStands p self.new (Got (Signal FastShutdown) ∷ q) }
+        ensures settled { (t : ℕ) → IsOfferSettled self.new t }
+    {
+        self.state = cut_state(self.state, moment);
     }
 
     /// A second copy of the message, where the event lets a send fall due.

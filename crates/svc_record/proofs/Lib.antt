@@ -26,6 +26,8 @@ pub mod RefusedConnections
 pub mod GraceWait
 pub mod OfferedSockets
 pub mod RefusedOffers
+pub mod CutWaits
+pub mod CutLaws
 pub mod Tallies
 pub mod Closing
 pub mod OneLive

@@ -10,7 +10,8 @@ use Rattle.svc_record.specs.declared.event.ShutdownSignal.{ShutdownSignal}
 use Rattle.svc_record.specs.declared.event.ShutdownSignal.TheVariants.{FastShutdown, GracefulTerminate as TerminateSignal, GracefulUpgrade}
 use Rattle.svc_record.specs.declared.action.ExecutionPhase.{ExecutionPhase}
 use Rattle.svc_record.specs.declared.action.ExecutionPhase.TheVariants.{Setup, Bootstrap, BootstrapComplete, Running, GracefulUpgradeTransferringFds, GracefulUpgradeCloseTimeout, GracefulTerminate, ShutdownStarted, ShutdownGracePeriod, ShutdownRuntimes, Terminated}
-use Rattle.svc_record.specs.Record.{Record, has, tell, now, signal_of, before_signal, before_runtimes, is_running, EachEntry, EachEarlier, EachSettled, each_entry, each_earlier, each_settled}
+use Rattle.std.specs.List.{list_any}
+use Rattle.svc_record.specs.Record.{Record, has, tell, now, signal_of, before_signal, before_runtimes, has_cut, before_cut, is_running, EachEntry, EachEarlier, EachSettled, each_entry, each_earlier, each_settled}
 use Rattle.svc_record.specs.Descriptors.{Descriptor, live_descriptors}
 use Rattle.svc_record.specs.Offer.{has_offer, is_over, over_moment}
 use Rattle.svc_record.specs.Connections.{live_connections}
@@ -67,9 +68,9 @@ has_passed_by p q (Some FastShutdown) = true
 has_passed_by p q (Some TerminateSignal) = signal_grace_over p q
 has_passed_by p q (Some GracefulUpgrade) = if has_offer p q then offer_grace_over p q else signal_grace_over p q
 
--- the first signal has come, and its waits have passed
+-- the first signal has come, and its waits have passed or a cut ended them
 abbrev pub has_passed : Plan → Record → Bool
-has_passed p q = has_passed_by p q (signal_of q)
+has_passed p q = has_cut q || has_passed_by p q (signal_of q)
 
 -- the marks if this holds, else none
 abbrev pub marks_if : Bool → List Mark → List Mark
@@ -94,18 +95,6 @@ row_by p q (Some TerminateSignal) = phase ShutdownGracePeriod ∷ phase Shutdown
 row_by p q (Some GracefulUpgrade) = if has_offer p q then offer_row p q
     else phase ShutdownGracePeriod ∷ phase ShutdownStarted ∷ broadcast ∷ phase GracefulUpgradeTransferringFds ∷ []
 
--- those that are due after the signal, the newest first
-abbrev pub row : Plan → Record → List Mark
-row p q = marks_if (has_passed p q) (phase Terminated ∷ phase ShutdownRuntimes ∷ []) ++ row_by p q (signal_of q)
-
--- what is due so far: `Running`, once it was told, and then the row
-abbrev pub due_marks : Plan → Record → List Mark
-due_marks p q = row p q ++ marks_if (has is_running q) (phase Running ∷ [])
-
--- the phases and the broadcast told so far are those that are due. In each settled prefix this says at which event each is told.
-abbrev pub PhasesRight : Plan → Record → Type 0
-PhasesRight p q = told_marks q ≡ due_marks p q
-
 -- a number for each phase, to compare by
 abbrev pub phase_number : ExecutionPhase → ℕ
 phase_number Setup = 0
@@ -125,6 +114,26 @@ abbrev pub same_mark : Mark → Mark → Bool
 same_mark (phase x) (phase y) = phase_number x == phase_number y
 same_mark broadcast broadcast = true
 same_mark _ _ = false
+
+-- the start of the shutdown, unless it is among these, and these
+abbrev pub with_start : List Mark → List Mark
+with_start marks = if list_any (same_mark (phase ShutdownStarted)) marks then marks else phase ShutdownStarted ∷ marks
+
+-- those that are due after the signal and before the end, the newest first: at a cut those that were due before it, and the start of the shutdown
+abbrev pub wait_row : Plan → Record → List Mark
+wait_row p q = if has_cut q then with_start (row_by p (before_cut q) (signal_of (before_cut q))) else row_by p q (signal_of q)
+
+-- those that are due after the signal, the newest first
+abbrev pub row : Plan → Record → List Mark
+row p q = marks_if (has_passed p q) (phase Terminated ∷ phase ShutdownRuntimes ∷ []) ++ wait_row p q
+
+-- what is due so far: `Running`, once it was told, and then the row
+abbrev pub due_marks : Plan → Record → List Mark
+due_marks p q = row p q ++ marks_if (has is_running q) (phase Running ∷ [])
+
+-- the phases and the broadcast told so far are those that are due. In each settled prefix this says at which event each is told.
+abbrev pub PhasesRight : Plan → Record → Type 0
+PhasesRight p q = told_marks q ≡ due_marks p q
 
 -- the two lists are equal
 abbrev pub same_marks : List Mark → List Mark → Bool
@@ -151,9 +160,9 @@ abbrev pub is_fast : Option ShutdownSignal → Bool
 is_fast (Some FastShutdown) = true
 is_fast _ = false
 
--- the seconds that `Stop` carries
+-- the seconds that `Stop` carries: none after a fast first signal or a cut
 abbrev pub stop_seconds : Plan → Record → ℕ
-stop_seconds p q = if is_fast (signal_of q) then 0 else p.stop
+stop_seconds p q = if is_fast (signal_of q) || has_cut q then 0 else p.stop
 
 -- the numbers of the live descriptors
 abbrev pub live_numbers : Plan → Record → List ℕ
@@ -188,7 +197,7 @@ begins_with _ _ = false
 abbrev pub ends_right : Plan → Record → Record → Bool
 ends_right p at r = begins_with (tell [] (last_actions p at)) r
 
--- r has passed and no shorter settled prefix has; each phase is told at its event, with its moment; and from `ShutdownRuntimes` on stand the cuts, the closes, `Stop` and `Terminated`
+-- r has passed and no shorter settled prefix has, so a cut is its last event; each phase is told at its event, with its moment; and from `ShutdownRuntimes` on stand the cuts, the closes, `Stop` and `Terminated`
 pub record Drain (p : Plan) (r : Record) : Type 0 where
   pub passes : has_passed p r ≡ true
   pub first : EachEarlier (λ q. has_passed p q ≡ false) r

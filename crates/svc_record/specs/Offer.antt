@@ -8,7 +8,7 @@ use Rattle.svc_record.specs.declared.action.Action.TheVariants.{Connect, Send}
 use Rattle.svc_record.specs.declared.event.Event.TheVariants.{Connected, NotThere, StillConnecting, ConnectFailed, Sent, SendBusy, SendFailed}
 use Rattle.svc_record.specs.declared.event.ShutdownSignal.{ShutdownSignal}
 use Rattle.svc_record.specs.declared.event.ShutdownSignal.TheVariants.{GracefulUpgrade}
-use Rattle.svc_record.specs.Record.{Record, has, times, now, signal_of, before_signal, EachEntry}
+use Rattle.svc_record.specs.Record.{Record, has, times, now, signal_of, before_signal, has_cut, EachEntry}
 use Rattle.svc_fds.specs.declared.encoding.Message.{Message}
 use Rattle.svc_fds.specs.Tables.{Entry as TableEntry}
 use Rattle.svc_record.specs.Message.{encode}
@@ -64,9 +64,9 @@ is_busy_answer _ = false
 abbrev pub is_answered : Plan → Record → Bool
 is_answered p q = (has is_last_answer q || nat_lt p.limit (times is_not_there q)) || nat_le 20 (times is_busy_answer q)
 
--- the offer is over: it can't be written, or it was answered
+-- the offer is over: it can't be written, a cut came, or it was answered
 abbrev pub is_over : Plan → Record → Bool
-is_over p q = is_upgrade (signal_of q) && ((not (is_empty_table (table p q)) && not (is_written (encode (table p q)))) || is_answered p q)
+is_over p q = is_upgrade (signal_of q) && ((not (is_empty_table (table p q)) && (not (is_written (encode (table p q))) || has_cut q)) || is_answered p q)
 
 -- the descriptor is on offer: it is among what is offered, and the offer isn't over
 abbrev pub is_held_back : Plan → Record → ℕ → Bool

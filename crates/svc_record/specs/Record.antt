@@ -7,6 +7,7 @@ use Rattle.svc_record.specs.declared.action.Action.TheVariants.{Phase}
 use Rattle.svc_record.specs.declared.action.ExecutionPhase.TheVariants.{Running, Bootstrap, BootstrapComplete, ShutdownRuntimes}
 use Rattle.svc_record.specs.declared.event.Event.TheVariants.{Moment, Signal}
 use Rattle.svc_record.specs.declared.event.ShutdownSignal.{ShutdownSignal}
+use Rattle.svc_record.specs.declared.event.ShutdownSignal.TheVariants.{FastShutdown, GracefulTerminate, GracefulUpgrade}
 
 -- a record, the newest entry first
 abbrev pub Record : Type 0
@@ -112,6 +113,28 @@ abbrev pub signal_of : Record → Option ShutdownSignal
 signal_of [] = None
 signal_of (Got (Signal kind) ∷ before) = first_or (signal_of before) kind
 signal_of (e ∷ before) = signal_of before
+
+-- the signal lets the server end gracefully
+abbrev pub is_graceful : Option ShutdownSignal → Bool
+is_graceful (Some GracefulTerminate) = true
+is_graceful (Some GracefulUpgrade) = true
+is_graceful _ = false
+
+-- the event is a fast signal
+abbrev pub is_fast_signal : Entry → Bool
+is_fast_signal (Got (Signal FastShutdown)) = true
+is_fast_signal _ = false
+
+-- a cut came: a fast signal after a first signal that isn't fast
+abbrev pub has_cut : Record → Bool
+has_cut [] = false
+has_cut (e ∷ before) = (is_fast_signal e && is_graceful (signal_of before)) || has_cut before
+
+-- what stands before the first cut, where one came
+abbrev pub before_cut : Record → Record
+before_cut [] = []
+before_cut (Got (Signal FastShutdown) ∷ before) = if has_cut before then before_cut before else before
+before_cut (e ∷ before) = before_cut before
 
 -- what stands before the first signal; nothing where none came
 abbrev pub before_signal : Record → Record

@@ -1,11 +1,11 @@
 use Rattle.std.proofs.Common.{refl, sym, ap, ◌∙◌, arith}
 use Rattle.std.specs.Prelude.{is_some}
 use Rattle.svc_core.proofs.SignalLemmas.{strike-offered, strike-unoffered}
-use Rattle.svc_core.proofs.StepForms.{opened, opened-same, silently-taken, later-taken}
+use Rattle.svc_core.proofs.StepForms.{opened, silently-taken}
 use Rattle.svc_core.proofs.machine.Core.step_signal.Goals as goal
 
 pub returns-then-is_some-clause-steps : goal.returns-then-is_some-clause-steps
-returns-then-is_some-clause-steps c = opened-same c.self.view_is c.requires (λ may. later-taken c.args.kind may.on may.may (ap (λ x. is_some x) (sym c.signal.ensures) ∙ sym c.is_some.ensures ∙ c.if-is_some.true))
+returns-then-is_some-clause-steps c = c.step_further.ensures.steps
 
 pub returns-then-offers_by-clause-steps : goal.returns-then-offers_by-clause-steps
 returns-then-offers_by-clause-steps c = opened c.self.view_is c.requires (λ may. silently-taken c.finish.ensures refl refl (omega arith)
