@@ -26,13 +26,15 @@ struct Seen {
     errors: Vec<String>,
 }
 
-fn ask(address: SocketAddr, text: &[u8; SIZE]) -> io::Result<bool> {
-    let mut stream = TcpStream::connect(address)?;
-    stream.set_nodelay(true)?;
-    stream.set_read_timeout(Some(Duration::from_secs(10)))?;
-    stream.write_all(text)?;
+/// Whether the text came back; else what went wrong, and at which call.
+fn ask(address: SocketAddr, text: &[u8; SIZE]) -> Result<bool, (&'static str, io::Error)> {
+    let mut stream = TcpStream::connect(address).map_err(|error| ("connect", error))?;
+    let set = stream.set_nodelay(true);
+    set.and_then(|()| stream.set_read_timeout(Some(Duration::from_secs(10))))
+        .map_err(|error| ("set", error))?;
+    stream.write_all(text).map_err(|error| ("write", error))?;
     let mut got = [0; SIZE];
-    stream.read_exact(&mut got)?;
+    stream.read_exact(&mut got).map_err(|error| ("read", error))?;
     Ok(got == *text)
 }
 
@@ -51,7 +53,7 @@ fn work(address: SocketAddr, thread: u64, start: Instant, on: &AtomicBool) -> Se
                 seen.asks.push((began.as_micros() as u32, took.as_micros() as u32));
             }
             Ok(false) => seen.wrong += 1,
-            Err(error) => {
+            Err((call, error)) => {
                 match error.kind() {
                     io::ErrorKind::ConnectionRefused => seen.refused += 1,
                     io::ErrorKind::ConnectionReset | io::ErrorKind::UnexpectedEof => {
@@ -59,7 +61,7 @@ fn work(address: SocketAddr, thread: u64, start: Instant, on: &AtomicBool) -> Se
                     }
                     _ => seen.other += 1,
                 }
-                seen.errors.push(format!("{:.3} s: {error}", began.as_secs_f64()));
+                seen.errors.push(format!("{:.4} s, {call}: {error}", began.as_secs_f64()));
             }
         }
     }

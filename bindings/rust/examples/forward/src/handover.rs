@@ -12,6 +12,8 @@ use std::time::Duration;
 
 /// How long the other side of a connection has to send.
 const PATIENCE: Duration = Duration::from_secs(2);
+/// The most bytes of a message.
+const MOST_BYTES: usize = 65_536;
 
 fn remove_old(path: &Path) -> io::Result<()> {
     match fs::remove_file(path) {
@@ -115,12 +117,13 @@ impl Drop for Receiver {
 fn receive_from(from: &UnixStream) -> io::Result<Received> {
     from.set_nonblocking(false)?;
     from.set_read_timeout(Some(PATIENCE))?;
-    let mut bytes = [0; 2048];
+    let mut bytes = vec![0; MOST_BYTES];
     let (count, fds) = receive_descriptors(from, &mut bytes)?;
     if count == 0 {
         return Ok(Received::Failed);
     }
-    Ok(Received::Message(bytes[..count].to_vec(), fds))
+    bytes.truncate(count);
+    Ok(Received::Message(bytes, fds))
 }
 
 /// What a try to connect gave.

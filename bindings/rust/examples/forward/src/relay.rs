@@ -73,7 +73,8 @@ struct Relay {
     up: Half,
     down: Half,
     connected: bool,
-    waits: [Interest; 2],
+    /// What the client's and the upstream's sockets are waited for; none where that one has ended both ways.
+    waits: [Option<Interest>; 2],
 }
 
 impl Relay {
@@ -90,13 +91,38 @@ impl Relay {
         Ok(self.up.shut && self.down.shut)
     }
 
-    /// What the client's and the upstream's sockets are waited for.
-    fn wanted(&self) -> [Interest; 2] {
-        let half = |read: &Half, written: &Half| Interest {
-            read: read.is_empty() && !read.ended,
-            write: !written.is_empty(),
+    /// Whether a socket that is ready though it is waited for nothing was reset.
+    fn look_for_reset(&self, side: usize) -> io::Result<()> {
+        let socket = [&self.client, &self.upstream][side];
+        match self.waits[side] {
+            Some(wait) if wait == Interest::default() => socket.take_error()?.map_or(Ok(()), Err),
+            _ => Ok(()),
+        }
+    }
+
+    /// What the sockets are to be waited for.
+    fn wanted(&self) -> [Option<Interest>; 2] {
+        let half = |read: &Half, written: &Half| {
+            let is_over = read.ended && written.shut;
+            let wait =
+                Interest { read: read.is_empty() && !read.ended, write: !written.is_empty() };
+            (!is_over).then_some(wait)
         };
         [half(&self.up, &self.down), half(&self.down, &self.up)]
+    }
+
+    /// Has the sockets waited for what is wanted now. One that has ended both ways would be ready always.
+    fn wait(&mut self, number: u64, poller: &Poller) -> io::Result<()> {
+        let wanted = self.wanted();
+        for (side, socket) in [&self.client, &self.upstream].into_iter().enumerate() {
+            match wanted[side] {
+                wait if wait == self.waits[side] => {}
+                Some(wait) => poller.change(socket, 2 * number + side as u64, wait)?,
+                None => poller.remove(socket)?,
+            }
+        }
+        self.waits = wanted;
+        Ok(())
     }
 }
 
@@ -119,8 +145,8 @@ impl Relays {
         let waits = [Interest::default(), Interest { read: false, write: true }];
         poller.add(&client, 2 * number, waits[0])?;
         poller.add(&upstream, 2 * number + 1, waits[1])?;
-        let relay =
-            Relay { client, upstream, up: Half::new(), down: Half::new(), connected: false, waits };
+        let (up, down, waits) = (Half::new(), Half::new(), waits.map(Some));
+        let relay = Relay { client, upstream, up, down, connected: false, waits };
         self.relays.insert(number, relay);
         Ok(())
     }
@@ -130,15 +156,11 @@ impl Relays {
     pub fn go_on(&mut self, key: u64, poller: &Poller) -> Option<u64> {
         let number = key / 2;
         let relay = self.relays.get_mut(&number)?;
-        let is_done = relay.go_on().and_then(|done| {
-            let wanted = relay.wanted();
-            if wanted[0] != relay.waits[0] {
-                poller.change(&relay.client, 2 * number, wanted[0])?;
+        let is_done = relay.look_for_reset((key % 2) as usize).and_then(|()| {
+            let done = relay.go_on()?;
+            if !done {
+                relay.wait(number, poller)?;
             }
-            if wanted[1] != relay.waits[1] {
-                poller.change(&relay.upstream, 2 * number + 1, wanted[1])?;
-            }
-            relay.waits = wanted;
             Ok(done)
         });
         // A connection that broke is over, too.
