@@ -24,18 +24,18 @@ pub(crate) enum Place {
 }
 
 /// How the address of an entry stands to another: one comparison of two texts, which takes a step.
-fn compare<L: Ledger>(entry: &(Text, Fd), bind: &str, steps: &mut Steps<L>) -> Ordering
+fn compare<L: Ledger>(entry: &(Text, Fd), bind: &[u8], steps: &mut Steps<L>) -> Ordering
     ensures answer { result ≡ slice_cmp nat_cmp entry.now.0 bind.now }
     ensures step { steps.new ≡ steps.old + 1 }
 {
     steps.tick();
-    entry.0.as_str().cmp(bind)
+    entry.0.as_str().as_bytes().cmp(bind)
 }
 
 /// Looks for an address by halving.
 pub(crate) fn counted_place<L: Ledger>(
     entries: &[(Text, Fd)],
-    bind: &str,
+    bind: &[u8],
     steps: &mut Steps<L>,
 ) -> Place
     requires { IsAscending entries.now }
@@ -57,7 +57,7 @@ pub(crate) fn counted_place<L: Ledger>(
 }
 
 /// Looks for an address where no one counts.
-fn uncounted_place<L: Ledger>(entries: &[(Text, Fd)], bind: &str, blank: Blank) -> Place
+fn uncounted_place<L: Ledger>(entries: &[(Text, Fd)], bind: &[u8], blank: Blank) -> Place
     requires ascending { IsAscending entries.now }
     requires name { blank.name ≡ L.name }
     requires parts { blank.parts ≡ L.parts }
@@ -73,7 +73,7 @@ pub(crate) fn place_of(entries: &[(Text, Fd)], bind: &str) -> Place
     requires { IsAscending entries.now }
     ensures { PlaceFits bind.now entries.now result }
 {
-    uncounted_place::<Brand>(entries, bind, Blank::new(1))
+    uncounted_place::<Brand>(entries, bind.as_bytes(), Blank::new(1))
 }
 
 /// Puts a descriptor in the place of another, which comes back.

@@ -177,7 +177,7 @@ impl Fds {
         ensures counted { steps.old ≤ steps.new }
         ensures cost { 2 ^ (steps.new - steps.old) ≤ 2 * length self.now.entries + 1 }
     {
-        match counted_place(&self.entries, bind, steps) {
+        match counted_place(&self.entries, bind.as_bytes(), steps) {
             Place::Held(at) => Some(&self.entries[at].1),
             Place::Free(_) => None,
         }
