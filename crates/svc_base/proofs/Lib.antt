@@ -3,6 +3,7 @@ pub mod CutLemmas
 pub mod DecimalLemmas
 pub mod LineLemmas
 pub mod Logic
+pub mod NumberRangeLemmas
 pub mod NumberSetLemmas
 pub mod Pieces
 pub mod WordLemmas

@@ -1,6 +1,7 @@
 pub mod Calls
 pub mod FileCalls
 pub mod Items
+pub mod NumberRanges
 pub mod NumberSets
 pub mod Options
 pub mod Streams
