@@ -1,6 +1,10 @@
 //! A dialer over the network.
 
-ghost use Rattle.std.specs.Prelude.{◌≡◌, None};
+ghost use Rattle.std.specs.Prelude.{◌≡◌, None, true};
+ghost use Rattle.std.specs.IoError.{error_kind};
+ghost use Rattle.std.specs.Option.{option_copied};
+ghost use Rattle.svc_socket.specs.Connects.{is_bound, IsFaultOf};
+ghost use Rattle.svc_socket.specs.DialerData.{IsDialed};
 
 use super::dialer::{BindTo, DialAnswer, DialFault, Dialer, OsFault, Target};
 use crate::peer::PeerAddr;
@@ -42,7 +46,9 @@ impl<'a, R: Net> NetDialer<'a, R, R::Stream> {
 }
 
 /// Whether the dial is to go out from a given address or port.
-fn is_bound(from: Option<&BindTo>) -> bool {
+fn is_bound(from: Option<&BindTo>) -> bool
+    ensures { result ≡ is_bound (option_copied from.entry) }
+{
     match from {
         Some(from) => from.addr.is_some() || from.port_range.is_some(),
         None => false,
@@ -50,7 +56,9 @@ fn is_bound(from: Option<&BindTo>) -> bool {
 }
 
 /// What the system's error is.
-fn os_fault(error: &io::Error) -> OsFault {
+fn os_fault(error: &io::Error) -> OsFault
+    ensures { IsFaultOf (error_kind error.now) result }
+{
     match error.kind() {
         ErrorKind::ConnectionRefused => OsFault::Refused,
         ErrorKind::TimedOut => OsFault::TimedOut,
@@ -106,7 +114,12 @@ impl<R: Net> Dialer for NetDialer<'_, R, R::Stream> {
         self.count
     }
 
-    fn dial(&mut self, target: &Target, from: Option<&BindTo>) -> DialAnswer {
+    fn dial(&mut self, target: &Target, from: Option<&BindTo>) -> DialAnswer
+        ensures dialed { IsDialed (record { called = None; faults = self.old.count }) (record { called = None; faults = self.new.count })
+            (record { target = target.now; from = option_copied from.entry; answer = result }) }
+        ensures bound { is_bound (option_copied from.entry) ≡ true → result ≡ DialAnswer.Failed DialFault.Bind None }
+        ensures kept { (fault : _) (local : _) → result ≡ DialAnswer.Failed fault local → self.new.dialed ≡ self.old.dialed }
+    {
         if is_bound(from) {
             self.count = self.count.saturating_add(1);
             return DialAnswer::Failed(DialFault::Bind, None);
