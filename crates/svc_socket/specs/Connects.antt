@@ -1,12 +1,10 @@
 -- What a connect asks of its dialer, and what it answers.
 use Rattle.std.specs.Prelude.{◌≡◌, Bool, true, false, ◌&&◌, ◌||◌, is_some, if◌then◌else◌, List, [], ◌∷◌, Option, Some, None, MatchOption, Result, Ok, Err}
-use Rattle.std.specs.declared.io.ErrorKind.{ErrorKind}
 use Rattle.svc_base.specs.Calls.{Adds}
 use Rattle.svc_socket.specs.DialerData.{DialerData}
 use Rattle.svc_socket.specs.declared.peer.PeerAddr.{PeerAddr}
 use Rattle.svc_socket.specs.declared.connectors.dialer.Target.{Target}
 use Rattle.svc_socket.specs.declared.connectors.dialer.BindTo.{BindTo}
-use Rattle.svc_socket.specs.declared.connectors.dialer.OsFault.{OsFault}
 use Rattle.svc_socket.specs.declared.connectors.dialer.OsFault.TheVariants.{Refused, TimedOut, AddrNotAvailable, PermissionDenied, AddrInUse, NetUnreachable, HostUnreachable, Other}
 use Rattle.svc_socket.specs.declared.connectors.dialer.DialFault.{DialFault}
 use Rattle.svc_socket.specs.declared.connectors.dialer.DialFault.TheVariants.{Socket, Bind, Os}
@@ -21,17 +19,6 @@ use Rattle.svc_socket.specs.declared.connectors.l4.ConnectError.{ConnectError as
 abbrev pub is_bound : Option BindTo → Bool
 is_bound None = false
 is_bound (Some from) = is_some from.addr || is_some from.port_range
-
--- a kind of the system's errors that has a fault of its own
-abbrev pub IsFaultOf : ErrorKind → OsFault → Type 0
-IsFaultOf ErrorKind.ConnectionRefused fault = fault ≡ Refused
-IsFaultOf ErrorKind.TimedOut fault = fault ≡ TimedOut
-IsFaultOf ErrorKind.AddrNotAvailable fault = fault ≡ AddrNotAvailable
-IsFaultOf ErrorKind.PermissionDenied fault = fault ≡ PermissionDenied
-IsFaultOf ErrorKind.AddrInUse fault = fault ≡ AddrInUse
-IsFaultOf ErrorKind.NetworkUnreachable fault = fault ≡ NetUnreachable
-IsFaultOf ErrorKind.HostUnreachable fault = fault ≡ HostUnreachable
-IsFaultOf kind fault = (number : _) × (fault ≡ Other number)
 
 -- the kind of an error, by the fault
 abbrev pub kind_of : DialFault → ConnectKind

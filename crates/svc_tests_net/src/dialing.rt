@@ -1,6 +1,7 @@
 //! How a server connects.
 
 use crate::checking::{holds, same};
+use std::io::ErrorKind;
 use std::net::{Net, OpenListener, OpenStream, SocketAddr, TcpListener};
 use std::process::Abort;
 use svc_base::Text;
@@ -123,6 +124,23 @@ fn each_fault_has_a_kind(rt: HostRuntime) {
     ] {
         let answer = connect(&mut dialer(&rt, &[fault]), &PEER, None);
         same(&rt, kind(answer), Some(expected));
+    }
+}
+
+#[test]
+fn each_kind_of_the_systems_errors_has_a_fault(rt: HostRuntime) {
+    for (kind, fault) in [
+        (ErrorKind::ConnectionRefused, OsFault::Refused),
+        (ErrorKind::TimedOut, OsFault::TimedOut),
+        (ErrorKind::AddrNotAvailable, OsFault::AddrNotAvailable),
+        (ErrorKind::PermissionDenied, OsFault::PermissionDenied),
+        (ErrorKind::AddrInUse, OsFault::AddrInUse),
+        (ErrorKind::NetworkUnreachable, OsFault::NetUnreachable),
+        (ErrorKind::HostUnreachable, OsFault::HostUnreachable),
+        (ErrorKind::ConnectionReset, OsFault::Other(5)),
+        (ErrorKind::Other, OsFault::Other(5)),
+    ] {
+        same(&rt, OsFault::of(kind, 5), fault);
     }
 }
 

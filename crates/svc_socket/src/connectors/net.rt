@@ -1,15 +1,13 @@
 //! A dialer over the network.
 
 ghost use Rattle.std.specs.Prelude.{◌≡◌, None, true};
-ghost use Rattle.std.specs.IoError.{error_kind};
 ghost use Rattle.std.specs.Option.{option_copied};
-ghost use Rattle.svc_socket.specs.Connects.{is_bound, IsFaultOf};
+ghost use Rattle.svc_socket.specs.Connects.{is_bound};
 ghost use Rattle.svc_socket.specs.DialerData.{IsDialed};
 
 use super::dialer::{BindTo, DialAnswer, DialFault, Dialer, OsFault, Target};
 use crate::peer::PeerAddr;
 use std::io;
-use std::io::ErrorKind;
 use std::net::{
     Ipv4Addr, Ipv6Addr, Net, OpenStream, SocketAddr, SocketAddrV4, SocketAddrV6, TcpStream,
 };
@@ -55,20 +53,9 @@ fn is_bound(from: Option<&BindTo>) -> bool
     }
 }
 
-/// What the system's error is.
-fn os_fault(error: &io::Error) -> OsFault
-    ensures { IsFaultOf (error_kind error.now) result }
-{
-    match error.kind() {
-        ErrorKind::ConnectionRefused => OsFault::Refused,
-        ErrorKind::TimedOut => OsFault::TimedOut,
-        ErrorKind::AddrNotAvailable => OsFault::AddrNotAvailable,
-        ErrorKind::PermissionDenied => OsFault::PermissionDenied,
-        ErrorKind::AddrInUse => OsFault::AddrInUse,
-        ErrorKind::NetworkUnreachable => OsFault::NetUnreachable,
-        ErrorKind::HostUnreachable => OsFault::HostUnreachable,
-        _ => OsFault::Other(error.raw_os_error().unwrap_or(0)),
-    }
+/// What the system's error is: its kind, and its number, where it has one.
+fn os_fault(error: &io::Error) -> OsFault {
+    OsFault::of(error.kind(), error.raw_os_error().unwrap_or(0))
 }
 
 fn socket_addr(addr: PeerAddr) -> SocketAddr {
