@@ -3,10 +3,9 @@
 use crate::checking::{holds, prints, same};
 use clap::error::ErrorKind;
 use std::env::temp_dir;
-use std::fs;
-use std::process;
 use std::process::Abort;
 use std::rc::RcStr;
+use std::{fs, process};
 use svc_base::{FileError, Files, MemoryFile, MemoryFiles, SteadyFiles, SystemFiles, Text};
 use svc_conf::{Key, Opt, OptError, ReadError, RuntimeOpts, ServerConf};
 

@@ -1,12 +1,13 @@
 //! What is set on sockets.
 
 use crate::checking::same;
-use std::net::{Net, OpenListener, OpenStream, TcpListener, TcpStream};
+use std::net::{Net, TcpListener, TcpStream};
 use std::process::Abort;
 use svc_socket::{
-    Family, MemoryOptions, NetOptions, OptionCall, OptionError, Options, Setting, SockOption, SteadyOptions,
-    TcpKeepalive, TcpSocketOptions, apply_bind_options, set_dscp, set_recv_buf, set_snd_buf,
-    set_tcp_fastopen_backlog, set_tcp_fastopen_connect, set_tcp_keepalive, settings_of,
+    Family, MemoryOptions, NetOptions, OptionCall, OptionError, Options, Setting, SockOption,
+    SteadyOptions, TcpKeepalive, TcpSocketOptions, apply_bind_options, set_dscp, set_recv_buf,
+    set_snd_buf, set_tcp_fastopen_backlog, set_tcp_fastopen_connect, set_tcp_keepalive,
+    settings_of,
 };
 
 const KEEPALIVE: TcpKeepalive = TcpKeepalive {
@@ -147,7 +148,10 @@ fn sets_no_delay<R: Abort + Net>(rt: &R, address: &str, family: Family) {
     assert!(rt; options.set(SockOption::NoDelay));
     assert_eq!(rt; options.faults(), 0);
     assert_eq!(rt; set_dscp(&mut options, 10), Err(OptionError::SocketError));
-    assert_eq!(rt; set_snd_buf(&mut options, 1), Err(OptionError::ConnectError));
+    assert_eq!(rt;
+        set_snd_buf(&mut options, 1),
+        Err(OptionError::ConnectError)
+    );
     assert_eq!(rt; options.faults(), 2);
     assert_eq!(rt; stream.nodelay().ok(), Some(true));
 }

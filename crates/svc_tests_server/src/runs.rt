@@ -148,7 +148,12 @@ fn fork_and_word<R: Abort + AllocGlobal>(rt: &R) -> Vec<Item>
 fn a_service_is_told_how_long_it_waited_since_the_server_runs(rt: HostRuntime) {
     let rt = &rt;
     let waited = Rc::new(rt.alloc(), Cell::new(0)).ok().expect(rt, "a count");
-    let mut server = with_two(rt, server(rt), a_late_service(rt, &waited), a_late_service(rt, &waited));
+    let mut server = with_two(
+        rt,
+        server(rt),
+        a_late_service(rt, &waited),
+        a_late_service(rt, &waited),
+    );
     server.configuration.daemon = true;
     let mut host = ScriptHost::new(rt.alloc(), fork_and_word(rt));
     let answer = server.run(rt.alloc(), RunArgs { turns: 4 }, &mut host);
