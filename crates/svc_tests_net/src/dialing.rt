@@ -2,7 +2,7 @@
 
 use crate::checking::{holds, same};
 use std::io::ErrorKind;
-use std::net::{Net, OpenStream, SocketAddr, TcpListener};
+use std::net::{Net, OpenListener, OpenStream, SocketAddr, TcpListener};
 use std::process::Abort;
 use svc_base::Text;
 use svc_socket::{

@@ -1,7 +1,7 @@
 //! What is set on sockets.
 
 use crate::checking::same;
-use std::net::{Net, TcpListener, TcpStream};
+use std::net::{Net, OpenListener, OpenStream, TcpListener, TcpStream};
 use std::process::Abort;
 use svc_socket::{
     Family, MemoryOptions, NetOptions, OptionCall, OptionError, Options, Setting, SockOption,
