@@ -1,10 +1,10 @@
 -- A text that is written line by line.
-use Rattle.std.proofs.Common.{◌≡◌, ℕ, ◌+◌, true, not, List, [], ◌∷◌, ◌++◌, refl, sym, ap, ◌∙◌, append_assoc, append-nil}
+use Rattle.std.proofs.Common.{◌≡◌, ℕ, ◌+◌, ◌≤◌, Bool, true, false, not, List, [], ◌∷◌, ◌++◌, refl, sym, ap, ◌∙◌, append_assoc, append-nil, arith, if◌then◌else◌}
 use Rattle.std.specs.Str.Lines.{lines}
 use Rattle.std.proofs.lemmas.List.Folds.{list_all-append}
 use Rattle.svc_base.specs.Words.{is_feed}
 use Rattle.svc_base.proofs.LineLemmas.{lines-then}
-use Rattle.svc_jobs.proofs.PieceLemmas.{none_of, none_each, strip-return}
+use Rattle.svc_main.proofs.PieceLemmas.{none_of, none_each, strip-return}
 
 -- the text has whole lines: what is written behind it makes lines of its own
 pub record IsWhole (text : List ℕ) : Type 0 where
@@ -40,3 +40,8 @@ line_written text line new whole none e = record {
         ∙ whole.splits ((line ++ 13 ∷ 10 ∷ []) ++ more)
         ∙ ap (λ (ls : List (List ℕ)). lines text ++ ls) (line_first line more none)
         ∙ sym (append_assoc (lines text) (line ∷ []) (lines more))
+
+-- one more part at most
+pub one_at_most : (b : Bool) → (if b then 1 else 0) ≤ 1
+one_at_most true = omega arith
+one_at_most false = omega arith

@@ -1,8 +1,8 @@
 use Rattle.std.proofs.Common.{sym, ap, refl, ◌∙◌, ◌≡◌, Ok}
 use Rattle.svc_conf.specs.ConfigurationText.{configuration}
 use Rattle.svc_text.proofs.PlaceLemmas.{is_text, is_no_text}
-use Rattle.svc_jobs.specs.JobTexts.{is_daemon}
-use Rattle.svc_jobs.proofs.script_line.is_daemon.Goals as goal
+use Rattle.svc_main.specs.TextLines.{is_daemon}
+use Rattle.svc_main.proofs.text_lines.is_daemon.Goals as goal
 
 pub returns-in_default : goal.returns-in_default
 unfolding is_daemon
