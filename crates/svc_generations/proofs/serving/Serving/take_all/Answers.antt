@@ -1,0 +1,16 @@
+use Rattle.std.proofs.Common.{◌<◌, ◌≤◌, ap, length, arith}
+use Rattle.svc_supervisor.specs.ChainData.{ChainData}
+use Rattle.std.proofs.lemmas.Option.{slice_get-get_or}
+use Rattle.svc_generations.proofs.ServingLemmas.{stops_at, all_taken}
+use Rattle.svc_generations.proofs.serving.Serving.take_all.Goals as goal
+
+pub returns-in-Some-clause-ends : goal.returns-in-Some-clause-ends
+returns-in-Some-clause-ends c = λ blocks s.
+    let inside : c.loop-k.k < length c.args.steps.now = (let test = c.loop-k-test.true in omega arith) in
+    let refused = rw c.in-Some.is at (c.in_ok-refusal.ensures.took blocks _ (c.loop-k.invariant.serving blocks s)) in
+    stops_at blocks c.args.steps.now c.loop-k.k _ c.in-Some.refusal _ _ (c.loop-k.invariant.serving blocks s) (slice_get-get_or c.args.steps.now c.loop-k.k _ inside) refused.refuses (ap (λ (chain : ChainData). chain.generations) refused.same)
+
+pub returns-clause-ends : goal.returns-clause-ends
+returns-clause-ends c = λ blocks s.
+    let over : length c.args.steps.now ≤ c.loop-k.k = (let test = c.loop-k-test.false in omega arith) in
+    all_taken blocks c.args.steps.now c.loop-k.k c.loop-k.self (c.loop-k.invariant.serving blocks s) over
