@@ -1,4 +1,4 @@
-ghost use Rattle.std.specs.Prelude.{◌≡◌, ◌+◌, ◌-◌, ◌<◌, ◌≤◌, ◌==◌, [], ◌∷◌, ◌++◌, length, List, ℕ, None, OnOk, OnErr, IfErr, vec_len, vec_capacity};
+ghost use Rattle.std.specs.Prelude.{◌≡◌, ◌+◌, ◌-◌, ◌<◌, ◌≤◌, ◌==◌, [], ◌∷◌, ◌++◌, length, List, ℕ, None, OnOk, OnErr, IfErr, vec_len, vec_capacity, reverse};
 ghost use Rattle.std.specs.Option.{option_to_list};
 ghost use Rattle.svc_base.specs.Items.{list_of, spare};
 
@@ -103,6 +103,23 @@ impl<T> Reserved<T> {
             return None;
         }
         Some(self.items.remove(0))
+    }
+
+    /// Turns the order of the items round: `pop_last` then takes them in the order that they had.
+    pub fn reverse(&mut self)
+        ensures turned { reverse (list_of self.new) ≡ list_of self.old }
+        ensures room { spare self.new ≡ spare self.old }
+    {
+        self.items.reverse();
+    }
+
+    /// Takes the last item.
+    pub fn pop_last(&mut self) -> Option<T>
+        ensures items { reverse (list_of self.old) ≡ option_to_list result ++ reverse (list_of self.new) }
+        ensures none { result ≡ None → list_of self.new ≡ [] }
+        ensures room { spare self.old ≤ spare self.new }
+    {
+        self.items.pop()
     }
 }
 

@@ -1,3 +1,5 @@
+use std::fmt;
+
 /// The keepalive of a TCP connection.
 #[derive(Clone, Copy, PartialEq, Eq, Debug)]
 pub struct TcpKeepalive {
@@ -9,6 +11,18 @@ pub struct TcpKeepalive {
     pub count: u64,
     /// Nanoseconds that sent data may stay unanswered.
     pub user_timeout: u64,
+}
+
+impl fmt::Display for TcpKeepalive {
+    fn fmt<W: fmt::Write>(&self, f: &mut fmt::Formatter<W>) -> fmt::Result {
+        let TcpKeepalive {
+            idle,
+            interval,
+            count,
+            user_timeout,
+        } = *self;
+        write!(f, "{idle}ns/{interval}ns/{count}/{user_timeout}ns")
+    }
 }
 
 /// An option that is set on an accepted connection.

@@ -1,5 +1,5 @@
 //! The book: the core with the journal of its posts.
-ghost use Rattle.std.specs.Prelude.{◌≡◌, ◌<◌, ◌≤◌, ◌^◌, [], ◌∷◌, ◌++◌, length, IfOk, IfErr, OnErr};
+ghost use Rattle.std.specs.Prelude.{◌≡◌, ◌<◌, ◌≤◌, ◌^◌, [], ◌∷◌, ◌++◌, length, IfOk, IfErr, IsErrAnd, OnErr};
 ghost use Rattle.svc_base.specs.Items.{list_of};
 ghost use Rattle.svc_record.specs.Validity.{IsValid};
 ghost use Rattle.svc_record.specs.Journal.{post};
@@ -122,6 +122,7 @@ impl Book {
         ensures refused { OnErr result (self.new ≡ self.old) }
         ensures back { IfErr result (λ r. r.event ≡ event) }
         ensures cause { IfErr result (λ r. IsDue self.old event r.refusal) }
+        ensures full { length self.old.posts ≡ self.old.limit → IsErrAnd result (λ r. r.refusal ≡ Refusal.Full) }
     {
         if self.posts.len() as u64 >= self.limit {
             return Err(refused(Refusal::Full, event));

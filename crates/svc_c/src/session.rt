@@ -71,7 +71,8 @@ fn keep_told(told: &mut Actions, entries: &mut Vec<Entry>)
     requires room { vec_len entries.old + length (list_of told.old) ≤ vec_capacity entries.old }
     ensures { entries.new.items ≡ entries.old.items ++ map Told (list_of told.old) }
 {
-    while let Some(action) = told.pop_first() {
+    told.reverse();
+    while let Some(action) = told.pop_last() {
         entries.push_reserved(Entry::Told(action));
     }
 }

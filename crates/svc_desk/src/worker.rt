@@ -73,7 +73,8 @@ pub(crate) struct Tally {
 pub(crate) fn perform_all<D: Desk>(desk: &mut D, mut actions: Actions)
     ensures performed { IsPerformed (D.seen desk.old) (D.seen desk.new) (list_of actions) }
 {
-    while let Some(action) = actions.pop_first() {
+    actions.reverse();
+    while let Some(action) = actions.pop_last() {
         desk.perform(action);
     }
 }

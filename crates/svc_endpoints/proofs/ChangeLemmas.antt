@@ -151,3 +151,6 @@ module _ (p : Plan) (keep : List ℕ) (rows : List (List EndpointState)) (flags 
 
   pub told-is : (before after : List Action) → after ≡ before ++ map Close (gone_numbers p keep (states_of rows flags loops) d.table) → after ≡ before ++ map Close (gone_numbers p keep d d.table)
   told-is before after is = is ∙ same_states (λ (m : EndpointsData). before ++ map Close (gone_numbers p keep m d.table))
+
+  pub drained-by_states : (fd : ℕ) → is_drained_by p (states_of rows flags loops) fd ≡ is_drained_by p d fd
+  drained-by_states fd = same_states (λ (m : EndpointsData). is_drained_by p m fd)

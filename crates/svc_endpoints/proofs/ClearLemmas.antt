@@ -116,15 +116,15 @@ module _ (p : Plan) (keep : List ℕ) (d : EndpointsData) (q : Record) (offer : 
   with_is a = picked-with done d.table table_apart a ∙ ap (left_out ns) (mid.states.with_is a) ∙ sym (with-tell p q ns a)
 
   -- each of them is live
-  goes_live : (g : ℕ) → is_in g ns ≡ true → (is_opened p q g ≡ true) × (has (is_close g) q ≡ false)
-  goes_live g h =
+  pub goes-live : (g : ℕ) → is_in g ns ≡ true → (is_opened p q g ≡ true) × (has (is_close g) q ≡ false)
+  goes-live g h =
       let lives : is_in g (live_numbers p q) ≡ true = sym (any-ascending (λ n. n == g) (live_numbers p q)) ∙ ap (is_in g) (sym mid.open_are) ∙ part_in done g d.table h in
       let parts = and_parts (is_opened p q g) (not (has (is_close g) q)) (sym (live-is p q g) ∙ lives) in
       (parts.0, apart_from (has (is_close g) q) parts.1)
 
   -- and gone
-  goes_gone : (g : ℕ) → is_in g ns ≡ true → is_gone p q g ≡ true
-  goes_gone g h =
+  pub goes-gone : (g : ℕ) → is_in g ns ≡ true → is_gone p q g ≡ true
+  goes-gone g h =
       let at = picked-from done d.table g h in
       let o : Open = at.0 in
       elim (or_cases (is_done_for p d.failed keep o) (is_drained_by p d o.fd) at.1) [
@@ -155,7 +155,7 @@ module _ (p : Plan) (keep : List ℕ) (d : EndpointsData) (q : Record) (offer : 
 
       none_goes : (g : ℕ) → is_new q g ≡ true → is_in g ns ≡ false
       none_goes g new = elim (cases_Bool (is_in g ns)) [
-        | inl y ↦ absurd (not_both (has (brings g) q) (brings-in q g ∙ sym (opened-in p q g) ∙ (goes_live g y).0) new)
+        | inl y ↦ absurd (not_both (has (brings g) q) (brings-in q g ∙ sym (opened-in p q g) ∙ (goes-live g y).0) new)
         | inr n ↦ n
       ]
 
@@ -195,7 +195,7 @@ module _ (p : Plan) (keep : List ℕ) (d : EndpointsData) (q : Record) (offer : 
   closed_then : (fd : ℕ) → is_opened p q fd ≡ true → has (is_close fd) r ≡ true → is_gone p q fd ≡ true
   closed_then fd came h = elim (or_cases (has (is_close fd) q) (is_in fd ns) (sym (closed-tell q ns fd) ∙ h)) [
     | inl before ↦ mid.closed_gone fd came before
-    | inr now ↦ goes_gone fd now
+    | inr now ↦ goes-gone fd now
   ]
 
   -- where it is gone by its address, and still open, it would have gone
@@ -235,7 +235,7 @@ module _ (p : Plan) (keep : List ℕ) (d : EndpointsData) (q : Record) (offer : 
   ]
 
   once : EachEntry (λ e before. close_once p e before ≡ true) r
-  once = once-tell p ns q apart goes_live mid.closes_once
+  once = once-tell p ns q apart goes-live mid.closes_once
     where
       apart : distinct ns ≡ true
       apart = distinct-part done d.table table_apart

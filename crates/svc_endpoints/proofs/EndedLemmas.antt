@@ -1,7 +1,8 @@
 -- What the end of a loop leaves, with the closes that follow it.
-use Rattle.std.proofs.Common.{ℕ, Bool, true, false, ◌||◌, ◌&&◌, ◌==◌, not, inl, inr, List, [], ◌∷◌, ◌++◌, ◌≡◌, refl, ap, sym, ◌∙◌, subst, arith, ◌<◌, ◌≤◌, ◌+◌, length, length-append, map, nat_lt, nat_le, if◌then◌else◌}
+use Rattle.std.proofs.Common.{ℕ, Bool, true, false, ◌||◌, ◌&&◌, ◌==◌, not, inl, inr, List, [], ◌∷◌, ◌++◌, ◌≡◌, refl, ap, sym, ◌∙◌, subst, arith, ◌<◌, ◌≤◌, ◌+◌, length, length-append, map, filter, nat_lt, nat_le, if◌then◌else◌}
 use Rattle.std.specs.List.{list_all}
-use Rattle.std.proofs.lemmas.Bool.{cases_Bool, cases_lt, and_parts, or_cases, or_left, ne_eqb}
+use Rattle.std.proofs.lemmas.List.{length-map}
+use Rattle.std.proofs.lemmas.Bool.{cases_Bool, cases_lt, and_parts, or_cases, or_left, eq-eqb, ne_eqb}
 use Rattle.svc_record.specs.declared.plan.Plan.{Plan}
 use Rattle.svc_record.specs.declared.entry.Entry.TheVariants.{Got}
 use Rattle.svc_record.specs.declared.action.Action.{Action}
@@ -10,7 +11,7 @@ use Rattle.svc_record.specs.declared.event.Event.TheVariants.{LoopEnded}
 use Rattle.svc_record.specs.Record.{Record, has, tell}
 use Rattle.svc_record.specs.Plans.{service_count, endpoints, endpoint_numbers, is_endpoint}
 use Rattle.svc_record.specs.Descriptors.{is_close, is_opened}
-use Rattle.svc_base.specs.NumberSets.{ascending}
+use Rattle.svc_base.specs.NumberSets.{ascending, is_in}
 use Rattle.svc_record.specs.Failed.{has_failed}
 use Rattle.svc_record.specs.Fits.{fits_row, accepts}
 use Rattle.svc_record.specs.Starts.{is_started}
@@ -21,10 +22,11 @@ use Rattle.svc_endpoints.specs.declared.states.EndpointStatus.{EndpointStatus}
 use Rattle.svc_endpoints.specs.declared.states.EndpointStatus.TheVariants.{Idle, Binding, AddressInUse, Adopting, Holding, AdoptionFailed}
 use Rattle.svc_endpoints.specs.declared.loops.LoopEnd.{LoopEnd}
 use Rattle.svc_endpoints.specs.EndpointsData.{EndpointsData}
-use Rattle.svc_endpoints.specs.EndpointsState.{IsEndpointsSized, AreOnOffer, ServesIn, LoopsStand, StatesKept, StatesStand, EndpointsStand, last_at, failed_at, is_holding, is_done}
+use Rattle.svc_endpoints.specs.EndpointsState.{IsEndpointsSized, AreOnOffer, ServesIn, LoopsStand, StatesKept, StatesStand, EndpointsStand, last_at, failed_at, is_holding, is_done, held_of, numbers_of_table}
 use Rattle.svc_endpoints.specs.Loops.{is_loop, has_loop, loop_count}
-use Rattle.svc_endpoints.specs.Uses.{uses, serves_by, accepts_by}
-use Rattle.svc_endpoints.specs.Effects.{loop_ended, cleared, gone_numbers}
+use Rattle.svc_endpoints.specs.Uses.{uses, is_user, is_drained_by, serves_by, accepts_by}
+use Rattle.svc_endpoints.specs.declared.table.Open.{Open}
+use Rattle.svc_endpoints.specs.Effects.{loop_ended, cleared, gone_numbers, goes, is_done_for, drains_at, drained_numbers, drained_out}
 use Rattle.svc_endpoints.proofs.RangeLemmas.{fails0, all0}
 use Rattle.svc_endpoints.proofs.LoopLemmas.{ended-less, has_loop-more, loop_count-more}
 use Rattle.svc_endpoints.proofs.UseLemmas.{drained-is, drained-grows, all_get}
@@ -36,8 +38,9 @@ use Rattle.svc_endpoints.proofs.GoneLemmas.{is_turned, is_gone_now, closed-is}
 use Rattle.svc_endpoints.proofs.GrowLemmas.{gone-grows}
 use Rattle.svc_endpoints.proofs.FailLemmas.{fails-same}
 use Rattle.svc_endpoints.proofs.EventLemmas.{opened_is-event, numbers-event, place-event, turned-event}
-use Rattle.svc_endpoints.proofs.ClearLemmas.{Answered, stands-cleared}
-use Rattle.svc_endpoints.proofs.AnswerLemmas.{giving-closes, cleared-few}
+use Rattle.svc_endpoints.proofs.ClearLemmas.{Answered, stands-cleared, goes-live, goes-gone}
+use Rattle.svc_endpoints.proofs.RestLemmas.{picked-length}
+use Rattle.svc_endpoints.proofs.AnswerLemmas.{giving-closes}
 use Rattle.svc_endpoints.proofs.Laws.{endpoint-inside}
 
 not_empty : (loops : List LoopEnd) (x : LoopEnd) → loops ++ (x ∷ []) ≡ [] → ⊥
@@ -66,6 +69,37 @@ less_done fd f a b Idle g h = h
 less_done fd f a b Binding g h = h
 less_done fd f a b (AddressInUse at) g h = h
 less_done fd f a b AdoptionFailed g h = h
+
+-- what isn't held, or isn't done now either, is used as before
+used_still : (fd : ℕ) (f a b : Bool) (x : EndpointStatus) → a ≡ false → (is_in fd (held_of x) && b) ≡ false → uses fd f a x ≡ true → uses fd f b x ≡ true
+used_still fd f a b (Holding n) e g h = still f b (n == fd) g (rw e at h)
+  where
+    still : (f b c : Bool) → ((c || false) && b) ≡ false → ((not f && true) && c) ≡ true → ((not f && not b) && c) ≡ true
+    still f b c g h = grind arith
+used_still fd f a b (Adopting n) e g h = h
+used_still fd f a b Idle e g h = h
+used_still fd f a b Binding e g h = h
+used_still fd f a b (AddressInUse at) e g h = h
+used_still fd f a b AdoptionFailed e g h = h
+
+-- tests that agree on each of the table pick the same
+same_picks : (f g : Open → Bool) (t : List Open) → ((n : ℕ) → is_in n (numbers_of_table (filter f t)) ≡ false) → (h : Open → Bool) → ((o : Open) → f o ≡ false → g o ≡ h o)
+    → (filter g t ≡ filter h t) × (filter (λ o. not (g o)) t ≡ filter (λ o. not (h o)) t)
+same_picks f g [] none h same = (refl, refl)
+same_picks f g (o ∷ t) none h same = elim (cases_Bool (f o)) [
+  | inl y ↦ absurd (first o.fd (numbers_of_table (filter f t)) (rw y at (none o.fd)))
+  | inr n ↦ (let more = same_picks f g t (rw n at none) h same in let here = same o n in (both g h o t t here more.0, both (λ o. not (g o)) (λ o. not (h o)) o t t (ap not here) more.1))
+]
+  where
+    first : (n : ℕ) (xs : List ℕ) → is_in n (n ∷ xs) ≡ false → ⊥
+    first n xs h = clash (is_in n (n ∷ xs)) (or_left (n == n) (is_in n xs) (eq-eqb n n refl)) h
+
+    both : (g h : Open → Bool) (o : Open) (t u : List Open) → g o ≡ h o → filter g t ≡ filter h u → filter g (o ∷ t) ≡ filter h (o ∷ u)
+    both g h o t u here more = rw here (by_test (h o) o more)
+      where
+        by_test : (b : Bool) (o : Open) → filter g t ≡ filter h u → (if b then o ∷ filter g t else filter g t) ≡ (if b then o ∷ filter h u else filter h u)
+        by_test true o e = ap (λ w. o ∷ w) e
+        by_test false o e = e
 
 module _ (p : Plan) (d : EndpointsData) (q : Record) (sized : IsEndpointsSized p d) (s i j : ℕ) (fit : fits_row p q (LoopEnded s i j) ≡ true) (stand : EndpointsStand p d q) where
   abbrev d2 : EndpointsData
@@ -164,38 +198,105 @@ module _ (p : Plan) (d : EndpointsData) (q : Record) (sized : IsEndpointsSized p
     came_apart = stand.came_apart;
   }
 
+  -- nothing that is live was gone
+  before : Answered p d q
+  before = record {
+    states = stand.states;
+    loops = stand.loops;
+    kept = stand.kept;
+    asks_due = stand.asks_due;
+    asks_known = stand.asks_known;
+    closes_once = stand.closes_once;
+    fails = stand.fails;
+    closed_gone = λ fd came closed. sym (closed_is fd came) ∙ closed;
+    turned_closed = λ fd came turned. closed_is fd came ∙ or_left (is_gone_now p q fd) (is_drained p q fd) (or_left (is_turned p q fd) _ turned);
+    open_are = stand.open_are;
+    came_are = stand.came_are;
+    came_apart = stand.came_apart;
+  }
+    where
+      closed_is : (fd : ℕ) → is_opened p q fd ≡ true → has (is_close fd) q ≡ is_gone p q fd
+      closed_is fd came = closed-is p q fd stand.closes_once (stand.closes fd came)
+
+  none_gone : (keep : List ℕ) → AreOnOffer p keep q → (n : ℕ) → is_in n (gone_numbers p keep d d.table) ≡ false
+  none_gone keep offer n = elim (cases_Bool (is_in n (gone_numbers p keep d d.table))) [
+    | inl y ↦ (let live = goes-live p keep d q offer before n y in
+        absurd (clash (is_gone p q n) (goes-gone p keep d q offer before n y) (sym (closed-is p q n stand.closes_once (stand.closes n live.0)) ∙ live.1)))
+    | inr m ↦ m
+  ]
+
+  -- of what was used, nothing but the endpoint's descriptor is drained now, and that where each of its loops has ended
+  drained_there : (fd : ℕ) → is_drained_by p d fd ≡ false → is_drained_by p d2 fd ≡ drains_at p d2 s i fd
+  drained_there fd was = elim (cases_Bool (is_in fd (held_of (last_at d s i)) && is_done p d2 s i)) [
+    | inl y ↦ (let parts = and_parts (is_in fd (held_of (last_at d s i))) (is_done p d2 s i) y in rw (parts.0, parts.1) refl)
+    | inr n ↦ not_drained n ∙ sym (none (is_in fd (held_of (last_at d s i))) (is_done p d2 s i) (is_drained_by p d2 fd) n)
+  ]
+    where
+      none : (a b c : Bool) → (a && b) ≡ false → (a && (b && c)) ≡ false
+      none a b c h = grind arith
+
+      used : (t k : ℕ) → (is_in fd (held_of (last_at d s i)) && is_done p d2 s i) ≡ false → is_user p d fd t k ≡ true → is_user p d2 fd t k ≡ true
+      used t k n u = elim (cases_Bool (s == t && i == k)) [
+        | inl y ↦ at_here (λ t k. is_user p d fd t k ≡ true → is_user p d2 fd t k ≡ true) s t i k (used_still fd (failed_at d s) (is_done p d s i) (is_done p d2 s i) (last_at d s i) not_done n) y u
+        | inr m ↦ (let same : loop_count d2.loops t k ≡ loop_count d.loops t k = loop_count-more d.loops x t k ∙ (rw m refl) in
+            subst (λ (c : ℕ). uses fd (failed_at d t) (c == p.tasks) (last_at d t k) ≡ true) (sym same) u)
+      ]
+
+      not_drained : (is_in fd (held_of (last_at d s i)) && is_done p d2 s i) ≡ false → is_drained_by p d2 fd ≡ false
+      not_drained n = elim (cases_Bool (is_drained_by p d2 fd)) [
+        | inl y ↦ absurd (clash (is_drained_by p d fd) (drained-grows p d2 d fd (λ t k holds done. holds) (λ t k inside within u. used t k n u) y) was)
+        | inr m ↦ m
+      ]
+
+  -- so what is closed is what goes
+  same-goes : (keep : List ℕ) → AreOnOffer p keep q
+      → (filter (goes p keep d2) d.table ≡ filter (λ (o : Open). drains_at p d2 s i o.fd) d.table)
+      × (filter (λ (o : Open). not (goes p keep d2 o)) d.table ≡ filter (λ (o : Open). not (drains_at p d2 s i o.fd)) d.table)
+  same-goes keep offer = same_picks (goes p keep d) (goes p keep d2) d.table (none_gone keep offer) (λ (o : Open). drains_at p d2 s i o.fd)
+      (λ o f. (let parts = or_parts (is_done_for p d.failed keep o) (is_drained_by p d o.fd) f in rw parts.0 (drained_there o.fd parts.1)))
+    where
+      or_parts : (a b : Bool) → (a || b) ≡ false → (a ≡ false) × (b ≡ false)
+      or_parts true b h = absurd (cc)
+      or_parts false b h = (refl, h)
+
   stands-ended : (keep : List ℕ) → AreOnOffer p keep q → EndpointsStand p (cleared p keep d2) (tell r (map Close (gone_numbers p keep d2 d2.table)))
   stands-ended keep offer = stands-cleared p keep d2 r offer answered
 
 -- what is told, and how much
-module _ (p : Plan) (d mid new : EndpointsData) (s i j : ℕ) (keep : List ℕ) (before after : List Action) (is : mid ≡ loop_ended d s i j) (left : new ≡ cleared p keep mid) (appended : after ≡ before ++ map Close (gone_numbers p keep mid mid.table)) where
+module _ (p : Plan) (d mid new : EndpointsData) (s i j : ℕ) (keep : List ℕ) (before after : List Action) (is : mid ≡ loop_ended d s i j) (left : new ≡ drained_out p s i mid) (appended : after ≡ before ++ map Close (drained_numbers p s i mid)) where
   abbrev made : EndpointsData
   made = loop_ended d s i j
 
-  new_is : new ≡ cleared p keep made
-  new_is = left ∙ ap (cleared p keep) is
+  new_is : new ≡ drained_out p s i made
+  new_is = left ∙ ap (drained_out p s i) is
 
-  told_is : after ≡ before ++ map Close (gone_numbers p keep made made.table)
-  told_is = appended ∙ ap (λ (m : EndpointsData). before ++ map Close (gone_numbers p keep m m.table)) is
+  told_is : after ≡ before ++ map Close (drained_numbers p s i made)
+  told_is = appended ∙ ap (λ (m : EndpointsData). before ++ map Close (drained_numbers p s i m)) is
 
   pub tells-ended : IsEndpointsSized p d
       → Tells before after (λ told. IsGivingUp told × ((q : Record) → fits_row p q (LoopEnded s i j) ≡ true → AreOnOffer p keep q → EndpointsStand p d q → EndpointsStand p new (tell (Got (LoopEnded s i j) ∷ q) told)))
   tells-ended sized = record {
-    told = map Close (gone_numbers p keep made made.table);
+    told = map Close (drained_numbers p s i made);
     appended = told_is;
-    kept = (
-      giving-closes (gone_numbers p keep made made.table),
-      λ q fit offer stand. subst (λ (m : EndpointsData). EndpointsStand p m (tell (Got (LoopEnded s i j) ∷ q) (map Close (gone_numbers p keep made made.table)))) (sym new_is)
-          (stands-ended p d q sized s i j fit stand keep offer),
-    );
+    kept = (giving-closes (drained_numbers p s i made), λ q fit offer stand. stands q fit offer stand);
   }
+    where
+      stands : (q : Record) → fits_row p q (LoopEnded s i j) ≡ true → AreOnOffer p keep q → EndpointsStand p d q → EndpointsStand p new (tell (Got (LoopEnded s i j) ∷ q) (map Close (drained_numbers p s i made)))
+      stands q fit offer stand =
+          let same = same-goes p d q sized s i j fit stand keep offer in
+          let table : cleared p keep made ≡ new = ap (λ (t : List Open). record made { table = t }) same.1 ∙ sym new_is in
+          let told : gone_numbers p keep made made.table ≡ drained_numbers p s i made = ap numbers_of_table same.0 in
+          subst (λ (m : EndpointsData). EndpointsStand p m (tell (Got (LoopEnded s i j) ∷ q) (map Close (drained_numbers p s i made)))) table
+          (subst (λ (ns : List ℕ). EndpointsStand p (cleared p keep made) (tell (Got (LoopEnded s i j) ∷ q) (map Close ns))) told
+          (stands-ended p d q sized s i j fit stand keep offer))
 
   pub few-ended : length after + length new.table ≤ length before + length d.table
   few-ended =
-      let few = cleared-few p keep made in
-      let told = ap length told_is ∙ length-append before (map Close (gone_numbers p keep made made.table)) in
+      let few = picked-length (λ (o : Open). drains_at p made s i o.fd) d.table in
+      let told = ap length told_is ∙ length-append before (map Close (drained_numbers p s i made)) in
+      let closes = length-map (drained_numbers p s i made) Close in
       let rest = ap (λ (m : EndpointsData). length m.table) new_is in
-      omega (arith, few, told, rest)
+      omega (arith, few, told, closes, rest)
 
 -- which services serve, and which of their endpoints accept, by the states
 module _ (p : Plan) (d : EndpointsData) (q : Record) (sized : IsEndpointsSized p d) (s : ℕ) (on : Bool) (inside : s < service_count p) (begun : on ≡ is_started q s) (stand : EndpointsStand p d q) where

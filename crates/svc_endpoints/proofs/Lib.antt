@@ -37,3 +37,6 @@ pub mod ReceivedStands
 pub mod ReceivedTells
 pub mod MessageLemmas
 pub mod WordLemmas
+pub mod BusyLemmas
+pub mod MarkLemmas
+pub mod DrainedLemmas

@@ -1,5 +1,5 @@
 -- What each answer makes of the states.
-use Rattle.std.specs.Prelude.{ℕ, Bool, false, true, not, ◌&&◌, ◌||◌, ◌+◌, List, [], ◌∷◌, ◌++◌, Option, Some, None, map, filter, slice_index_or, slice_set, nat_le, nat_lt, if◌then◌else◌}
+use Rattle.std.specs.Prelude.{ℕ, Bool, false, true, not, ◌&&◌, ◌||◌, ◌+◌, ◌==◌, List, [], ◌∷◌, ◌++◌, Option, Some, None, map, filter, slice_index_or, slice_set, nat_le, nat_lt, if◌then◌else◌}
 use Rattle.std.specs.List.{list_any, list_all}
 use Rattle.svc_record.specs.declared.plan.Plan.{Plan}
 use Rattle.svc_record.specs.Plans.{services, address, names, is_unclaimed}
@@ -12,7 +12,7 @@ use Rattle.svc_endpoints.specs.declared.states.EndpointStatus.TheVariants.{Idle,
 use Rattle.svc_endpoints.specs.declared.states.EndpointState.{EndpointState}
 use Rattle.svc_endpoints.specs.declared.table.Open.{Open}
 use Rattle.svc_endpoints.specs.EndpointsData.{EndpointsData}
-use Rattle.svc_endpoints.specs.EndpointsState.{last_at, times_in_use_at, numbers_with, numbers_of_table}
+use Rattle.svc_endpoints.specs.EndpointsState.{last_at, times_in_use_at, numbers_with, numbers_of_table, held_of, is_done}
 use Rattle.svc_endpoints.specs.Uses.{is_drained_by}
 
 -- the first of them
@@ -185,3 +185,23 @@ turned_away p d words fds = ascending (numbers_out (turns_away p d) (opens_of fd
 -- the numbers came with these words, and the descriptors that don't close at once are live
 abbrev pub received : Plan → EndpointsData → List (List ℕ) → List ℕ → EndpointsData
 received p d words fds = record d { table = put_opens (without_numbers (turned_away p d words fds) (opens_of fds words)) d.table; came = put_numbers fds d.came }
+
+-- the numbers of the table's descriptors with this number
+abbrev pub numbers_like : ℕ → List Open → List ℕ
+numbers_like fd table = numbers_of_table (filter (λ (o : Open). o.fd == fd) table)
+
+-- the states without the descriptor with this number
+abbrev pub without_number : ℕ → EndpointsData → EndpointsData
+without_number fd d = record d { table = filter (λ (o : Open). not (o.fd == fd)) d.table }
+
+-- the descriptor holds endpoint i of s, each loop of which has ended, and is drained
+abbrev pub drains_at : Plan → EndpointsData → ℕ → ℕ → ℕ → Bool
+drains_at p d s i fd = is_in fd (held_of (last_at d s i)) && (is_done p d s i && is_drained_by p d fd)
+
+-- the numbers of those in the table of which that holds
+abbrev pub drained_numbers : Plan → ℕ → ℕ → EndpointsData → List ℕ
+drained_numbers p s i d = numbers_of_table (filter (λ (o : Open). drains_at p d s i o.fd) d.table)
+
+-- the states without them
+abbrev pub drained_out : Plan → ℕ → ℕ → EndpointsData → EndpointsData
+drained_out p s i d = record d { table = filter (λ (o : Open). not (drains_at p d s i o.fd)) d.table }

@@ -1,8 +1,10 @@
 pub mod Loops
 pub mod EndpointsData
 pub mod EndpointsState
+pub mod Rows
 pub mod Uses
 pub mod Effects
 pub mod Visits
 pub mod Foreign
 pub mod Offered
+pub mod Marks

@@ -1,7 +1,10 @@
 //! What answers to asks make of the endpoints.
 
-ghost use Rattle.std.specs.Prelude.{◌≡◌, ◌+◌, ◌<◌, ◌≤◌, ◌++◌, ◌∷◌, ◌==◌, [], length, ℕ, Some, true, false, not, ◌&&◌, nat_lt};
+ghost use Rattle.std.specs.Prelude.{◌≡◌, ◌+◌, ◌<◌, ◌≤◌, ◌++◌, ◌∷◌, ◌==◌, [], length, ℕ, Some, true, false, not, ◌&&◌, nat_lt, map};
 ghost use Rattle.std.specs.List.{list_any};
+ghost use Rattle.std.specs.Option.{option_to_list};
+ghost use Rattle.svc_base.specs.NumberSets.{is_in};
+ghost use Rattle.svc_record.specs.declared.action.Action.TheVariants.{Close};
 ghost use Rattle.svc_base.specs.Items.{list_of, spare};
 ghost use Rattle.svc_record.specs.declared.entry.Entry.TheVariants.{Got};
 ghost use Rattle.svc_record.specs.declared.event.Event.{Event};
@@ -14,15 +17,15 @@ ghost use Rattle.svc_record.specs.Fits.{fits_row, accepts};
 ghost use Rattle.svc_record.specs.Starts.{is_started};
 ghost use Rattle.svc_record.specs.Record.{Record, has, now, tell};
 ghost use Rattle.svc_record.specs.Told.{Tells, IsGivingUp};
-ghost use Rattle.svc_endpoints.specs.EndpointsState.{IsEndpointsSized, EndpointsStand, AreOnOffer, last_at, is_binding, is_adopting, is_done};
+ghost use Rattle.svc_endpoints.specs.EndpointsState.{IsEndpointsSized, EndpointsStand, AreOnOffer, last_at, is_binding, is_adopting, is_done, held_of};
 ghost use Rattle.svc_endpoints.specs.Foreign.{is_endpoints_event};
-ghost use Rattle.svc_endpoints.specs.Effects.{is_last_refusal, refused, bind_failed, adopt_failed, adopted, bound_or_again, has_open, cleared_if, given_up_if, close_told};
+ghost use Rattle.svc_endpoints.specs.Effects.{is_last_refusal, refused, bind_failed, adopt_failed, adopted, bound_or_again, has_open, cleared_if, given_up_if, close_told, drains_at, drained_out, drained_numbers};
 ghost use Rattle.svc_endpoints.specs.Loops.{has_loop};
 ghost use Rattle.svc_endpoints.specs.Uses.{serves_by, accepts_by};
 
 use crate::endpoints::Endpoints;
 use crate::loops::{has_loop, is_done};
-use crate::naming::{address_of, endpoint_count, limit};
+use crate::naming::{address_of, endpoint_count, limit, service_count};
 use crate::states::{EndpointState, EndpointStatus, held_now};
 use svc_base::Text;
 use svc_record::{Action, Actions, Plan};
@@ -173,7 +176,48 @@ impl Endpoints {
         ensures few { length (list_of actions.new) + length self.new.parts.table ≤ length (list_of actions.old) + length self.old.parts.table }
     {
         self.end_loop(s, i, j);
-        self.clear(plan, kept, actions);
+        self.close_drained(plan, s as usize, i as usize, actions);
+    }
+
+    /// Closes the descriptor that holds the endpoint, where it is drained by the end of the endpoint's
+    /// last loop. No other descriptor can be.
+    fn close_drained(&mut self, plan: &Plan, s: usize, i: usize, actions: &mut Actions)
+        requires sized { IsEndpointsSized plan.now self.old.parts }
+        requires room { length self.old.parts.table ≤ spare actions.old }
+        ensures after { self.new.parts ≡ drained_out plan.now s i self.old.parts }
+        ensures told { list_of actions.new ≡ list_of actions.old ++ map Close (drained_numbers plan.now s i self.old.parts) }
+        ensures room { spare actions.old + length self.new.parts.table ≤ spare actions.new + length self.old.parts.table }
+    {
+        if let Some(fd) = self.drained_at(plan, s, i) {
+            self.close_number(fd, actions);
+        }
+    }
+
+    /// The descriptor that holds the endpoint, where each of the endpoint's loops has ended and it is
+    /// drained.
+    fn drained_at(&self, plan: &Plan, s: usize, i: usize) -> Option<u64>
+        requires sized { IsEndpointsSized plan.now self.now.parts }
+        ensures { (fd : ℕ) → is_in fd (option_to_list result) ≡ drains_at plan.now self.now.parts s i fd }
+    {
+        let fd = self.held_at(plan, s, i)?;
+        if is_done(self.ended_loops(), plan.tasks, s, i) && self.is_drained(plan, fd) {
+            return Some(fd);
+        }
+        None
+    }
+
+    /// The descriptor that holds the endpoint.
+    fn held_at(&self, plan: &Plan, s: usize, i: usize) -> Option<u64>
+        requires sized { IsEndpointsSized plan.now self.now.parts }
+        ensures { option_to_list result ≡ held_of (last_at self.now.parts s i) }
+    {
+        if s >= service_count(plan) || i >= endpoint_count(plan, s) {
+            return None;
+        }
+        match self.last(s, i) {
+            EndpointStatus::Holding(fd) => Some(fd),
+            _ => None,
+        }
     }
 
     /// Whether the loop is one of an endpoint of a service that serves, and hasn't ended yet. Says

@@ -9,7 +9,9 @@ ghost use Rattle.svc_record.specs.Tail.{each_once};
 ghost use Rattle.svc_record.specs.Validity.{IsValid};
 ghost use Rattle.svc_endpoints.specs.EndpointsState.{IsEndpointsSized, EndpointsStand, last_at, failed_at, state_at, open_numbers, numbers_with, is_binding, is_adopting, is_holding, all_new};
 ghost use Rattle.svc_base.specs.NumberSets.{is_in};
-ghost use Rattle.svc_endpoints.specs.Effects.{put, put_last, fail_if, has_open, first_of, with_number, with_open, cleared, given_up, gone_numbers, loop_ended, is_abandoned_by, put_opens, put_numbers, opens_of, without_numbers};
+ghost use Rattle.svc_endpoints.specs.declared.states.EndpointStatus.TheVariants.{Idle};
+ghost use Rattle.svc_endpoints.specs.Effects.{put, put_last, fail_if, has_open, first_of, with_number, with_open, cleared, given_up, gone_numbers, loop_ended, is_abandoned_by, put_opens, put_numbers, opens_of, without_numbers, without_number, numbers_like};
+ghost use Rattle.svc_endpoints.specs.Uses.{is_drained_by};
 
 use crate::came::{add_all, contains};
 use crate::loops::{LoopEnd, Loops};
@@ -18,13 +20,15 @@ use crate::states::{
     EndpointState, EndpointStatus, Row, is_adopting, is_binding, new_flags, new_rows,
 };
 use crate::table::{Open, Table};
+use crate::uses::is_drained;
 use std::alloc::Global;
 use std::marker::Model;
 use svc_base::{NoMemory, NumberSet, Text};
 use svc_record::{Action, Actions, Plan};
 
 /// The state of each endpoint, which services have failed, the loops that ended, the live
-/// descriptors with their addresses, and the numbers of all descriptors that came.
+/// descriptors with their addresses, and the numbers of all descriptors that came; beside them the
+/// endpoint that was asked for last, which contracts don't see.
 #[derive(Drop)]
 pub struct Endpoints {
     rows: Vec<Row>,
@@ -32,6 +36,7 @@ pub struct Endpoints {
     loops: Loops,
     table: Table,
     came: NumberSet,
+    last_asked: (usize, usize),
 }
 
 impl Model for Endpoints {
@@ -59,6 +64,7 @@ impl Endpoints {
             loops: Loops::new(alloc),
             table: Table::new(alloc),
             came: NumberSet::new(alloc),
+            last_asked: (0, 0),
         })
     }
 
@@ -202,6 +208,17 @@ impl Endpoints {
         self.rows[s].get(i)
     }
 
+    /// The service's endpoints that may be asked for, or rest: those before the first number are held, and
+    /// of those from the second on nothing is known.
+    pub(crate) fn open_range(&self, s: usize) -> (usize, usize)
+        requires { s < length self.now.parts.rows }
+        ensures before { (k : ℕ) → k < result.0 → is_holding (last_at self.now.parts s k) ≡ true }
+        ensures after { (k : ℕ) → result.1 ≤ k → last_at self.now.parts s k ≡ Idle }
+    {
+        let row = &self.rows[s];
+        row.open_range()
+    }
+
     pub(crate) fn last(&self, s: usize, i: usize) -> EndpointStatus
         requires service { s < length self.now.parts.rows }
         requires endpoint { i < length (slice_index_or self.now.parts.rows s []) }
@@ -229,6 +246,18 @@ impl Endpoints {
     {
         let times_in_use = self.state(s, i).times_in_use;
         self.put(s, i, EndpointState { last, times_in_use });
+    }
+
+    /// The endpoint that was asked for last. Nothing is claimed of it.
+    pub(crate) fn last_asked(&self) -> (usize, usize) {
+        self.last_asked
+    }
+
+    /// The endpoint is asked for.
+    pub(crate) fn note_asked(&mut self, s: usize, i: usize)
+        ensures { self.new ≡ self.old }
+    {
+        self.last_asked = (s, i);
     }
 
     pub(crate) fn has_failed(&self, s: usize) -> bool
@@ -335,6 +364,24 @@ impl Endpoints {
     {
         actions.put(Action::Fail(s));
         self.clear(plan, kept, actions);
+    }
+
+    /// The descriptor is drained.
+    pub(crate) fn is_drained(&self, plan: &Plan, fd: u64) -> bool
+        requires sized { IsEndpointsSized plan.now self.now.parts }
+        ensures { result ≡ is_drained_by plan.now self.now.parts fd }
+    {
+        is_drained(plan, &self.rows, &self.failed, self.loops.as_slice(), fd)
+    }
+
+    /// Closes the live descriptor with this number.
+    pub(crate) fn close_number(&mut self, fd: u64, actions: &mut Actions)
+        requires room { length self.old.parts.table ≤ spare actions.old }
+        ensures after { self.new.parts ≡ without_number fd self.old.parts }
+        ensures told { list_of actions.new ≡ list_of actions.old ++ map Close (numbers_like fd self.old.parts.table) }
+        ensures room { spare actions.old + length self.new.parts.table ≤ spare actions.new + length self.old.parts.table }
+    {
+        self.table.close_number(fd, actions);
     }
 
     /// Closes what nobody needs any more, but for what is kept.

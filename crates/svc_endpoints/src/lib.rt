@@ -6,6 +6,7 @@ mod answers;
 mod came;
 mod endpoints;
 mod loops;
+mod marks;
 mod message;
 mod naming;
 mod received;

@@ -1,8 +1,9 @@
 //! What became of endpoints.
 
-ghost use Rattle.std.specs.Prelude.{◌≡◌, ◌<◌, ◌≤◌, [], length, ℕ, true, false, slice_index_or, slice_set, vec_len, IfOk};
+ghost use Rattle.std.specs.Prelude.{◌≡◌, ◌<◌, ◌≤◌, [], length, ℕ, true, false, slice_index_or, slice_set, vec_len, IfOk, ◌+◌, ◌^◌, ◌≢◌};
 ghost use Rattle.svc_record.specs.declared.plan.Plan.{Plan};
 ghost use Rattle.svc_record.specs.Plans.{service_count, endpoints};
+ghost use Rattle.svc_endpoints.specs.declared.states.EndpointStatus.TheVariants.{Idle};
 ghost use Rattle.svc_endpoints.specs.EndpointsState.{idle, is_binding, is_adopting, is_asking, is_holding};
 ghost use Rattle.svc_endpoints.specs.Effects.{held_now};
 ghost use Rattle.svc_endpoints.specs.Visits.{busy_of};
@@ -41,19 +42,42 @@ pub(crate) struct EndpointState {
     pub times_in_use: u32,
 }
 
-/// The states of one service's endpoints.
+/// The states of one service's endpoints; beside them how many are surely held from the first on, and from
+/// which on none was asked for yet. Contracts see the states alone.
 #[derive(Drop)]
 pub(crate) struct Row {
     states: Vec<EndpointState>,
+    held: usize,
+    touched: usize,
 }
 
 impl Model for Row {
     ghost use Rattle.std.specs.Prelude.{List};
     ghost use Rattle.svc_endpoints.specs.declared.states.EndpointState.{EndpointState};
+    ghost use Rattle.svc_endpoints.specs.Rows.{IsRowKept};
 
     ghost Value = { List EndpointState };
 
     ghost view = { λ r. r.states.items };
+
+    ghost invariant = { λ r. IsRowKept r.states.items r.held r.touched };
+}
+
+/// How many are surely held from the first on, as the endpoint at this place becomes held or not.
+fn held_after(held: usize, at: usize, holding: bool) -> usize
+    requires { at < 2 ^ 60 }
+    ensures before { (k : ℕ) → k < result → k ≢ at → k < held }
+    ensures there { at < result → holding ≡ true }
+    ensures small { result ≤ held + 1 }
+    ensures next { held < result → at ≡ held }
+{
+    if holding && at == held {
+        return held + 1;
+    }
+    if !holding && at < held {
+        return at;
+    }
+    held
 }
 
 impl Row {
@@ -67,7 +91,11 @@ impl Row {
             times_in_use: 0,
         };
         let states = vec![in alloc; state; count]?;
-        Ok(Row { states })
+        Ok(Row {
+            states,
+            held: 0,
+            touched: 0,
+        })
     }
 
     pub(crate) fn get(&self, i: usize) -> EndpointState
@@ -81,7 +109,18 @@ impl Row {
         requires { i < length self.old }
         ensures { self.new ≡ slice_set self.old i state }
     {
+        self.held = held_after(self.held, i, is_holding(state.last));
+        self.touched = self.touched.max(i + 1);
         self.states[i] = state;
+    }
+
+    /// The endpoints that may be asked for, or rest: those before the first number are held, and of those
+    /// from the second on nothing is known.
+    pub(crate) fn open_range(&self) -> (usize, usize)
+        ensures before { (k : ℕ) → k < result.0 → is_holding (slice_index_or self.now k idle).last ≡ true }
+        ensures after { (k : ℕ) → result.1 ≤ k → (slice_index_or self.now k idle).last ≡ Idle }
+    {
+        (self.held, self.touched)
     }
 
     /// The first endpoint that isn't held, else their number.
@@ -91,7 +130,7 @@ impl Row {
         ensures missing { result < length self.now → is_holding (slice_index_or self.now result idle).last ≡ false }
         ensures earlier { (k : ℕ) → k < result → is_holding (slice_index_or self.now k idle).last ≡ true }
     {
-        for i in 0..self.states.len() {
+        for i in self.held..self.states.len() {
             if !is_holding(self.states[i].last) {
                 return i as u32;
             }

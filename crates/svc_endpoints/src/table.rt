@@ -1,17 +1,20 @@
 //! The live descriptors.
 
-ghost use Rattle.std.specs.Prelude.{◌≡◌, ◌+◌, ◌-◌, ◌<◌, ◌≤◌, ◌++◌, ◌∷◌, [], length, ℕ, List, Option, Some, None, OnOk, map, insert, slice_index, vec_len, vec_capacity, ◌||◌, ◌&&◌, false, ◌^◌, if◌then◌else◌};
+ghost use Rattle.std.specs.Prelude.{true, ◌≡◌, ◌+◌, ◌-◌, ◌<◌, ◌≤◌, ◌++◌, ◌∷◌, [], length, ℕ, List, Option, Some, None, OnOk, map, insert, slice_index, vec_len, vec_capacity, ◌||◌, ◌&&◌, false, ◌^◌, if◌then◌else◌, ◌==◌, filter, not};
 ghost use Rattle.std.specs.Option.{option_to_list};
 ghost use Rattle.svc_base.specs.Items.{list_of, spare};
 ghost use Rattle.svc_record.specs.declared.plan.Plan.{Plan};
 ghost use Rattle.svc_record.specs.declared.action.Action.TheVariants.{Close};
 ghost use Rattle.svc_record.specs.Plans.{service_count, same_address};
 ghost use Rattle.svc_endpoints.specs.EndpointsState.{numbers_with, numbers_of_table};
-ghost use Rattle.svc_endpoints.specs.Effects.{first_of, put_open, put_opens, opens_of, without_numbers, passes, is_abandoned_by, is_done_for, goes, gone_numbers, without_gone};
+ghost use Rattle.svc_endpoints.specs.Effects.{first_of, put_open, put_opens, opens_of, without_numbers, passes, is_abandoned_by, is_done_for, goes, gone_numbers, without_gone, numbers_like};
+ghost use Rattle.svc_endpoints.specs.declared.table.Open.{Open};
 ghost use Rattle.svc_endpoints.specs.Uses.{AreStatesSized, states_of};
+ghost use Rattle.svc_endpoints.specs.Marks.{are_marked};
 
 use crate::came::contains;
 use crate::loops::LoopEnd;
+use crate::marks::{mark, may_have};
 use crate::naming::is_abandoned;
 use crate::states::Row;
 use crate::uses::is_drained;
@@ -27,19 +30,26 @@ pub(crate) struct Open {
     pub address: Option<Text>,
 }
 
-/// Live descriptors in ascending number. Contracts see them and for how many more there is memory.
+/// Live descriptors in ascending number. Contracts see them and for how many more there is memory. Beside
+/// them stand marks of their addresses, so that most addresses that none has are told without a walk.
 #[derive(Drop)]
 pub(crate) struct Table {
     entries: Vec<Open>,
+    marks: Vec<bool>,
+    alloc: Global,
 }
 
 impl Model for Table {
     ghost use Rattle.std.specs.Prelude.{List, ℕ, ◌-◌, vec_capacity, vec_len};
+    ghost use Rattle.std.specs.Prelude.{◌≡◌, true};
     ghost use Rattle.svc_endpoints.specs.declared.table.Open.{Open};
+    ghost use Rattle.svc_endpoints.specs.Marks.{are_marked};
 
     ghost Value = { List Open × ℕ };
 
     ghost view = { λ t. (t.entries.items, vec_capacity t.entries - vec_len t.entries) };
+
+    ghost invariant = { λ t. are_marked t.marks.items t.entries.items ≡ true };
 }
 
 fn has_address(entry: &Open, address: &str) -> bool
@@ -173,12 +183,53 @@ fn close_done(
     table.truncate(left);
 }
 
+/// Closes those with this number, and takes them out.
+fn close_like(table: &mut Vec<Open>, fd: u64, actions: &mut Actions)
+    requires room { vec_len table.old ≤ spare actions.old }
+    ensures after { table.new.items ≡ filter (λ (o : Open). not (o.fd == fd)) table.old.items }
+    ensures told { list_of actions.new ≡ list_of actions.old ++ map Close (numbers_like fd table.old.items) }
+    ensures room { spare actions.old ≤ spare actions.new + length (numbers_like fd table.old.items) }
+{
+    let mut left = 0;
+    for i in 0..table.len() {
+        let entry = &table[i];
+        if entry.fd == fd {
+            actions.put(Action::Close(fd));
+        } else {
+            table.swap(left, i);
+            left += 1;
+        }
+    }
+    table.truncate(left);
+}
+
+/// No marks, with places for those of so many addresses; none where there is no memory.
+fn blank_marks(alloc: Global, count: usize) -> Vec<bool> {
+    match vec![in alloc; false; count.saturating_mul(32)] {
+        Ok(marks) => marks,
+        Err(_) => Vec::new(alloc),
+    }
+}
+
+/// The marks of the descriptors, with places for those of so many.
+fn marked(alloc: Global, table: &[Open], count: usize) -> Vec<bool>
+    ensures { are_marked result.items table.now ≡ true }
+{
+    let mut marks = blank_marks(alloc, count);
+    for entry in table {
+        mark(&mut marks, &entry.address);
+    }
+    marks
+}
+
 impl Table {
     pub(crate) fn new(alloc: Global) -> Table
         ensures { list_of result ≡ [] }
     {
         Table {
             entries: Vec::new(alloc),
+            marks: Vec::new(alloc),
+            alloc,
         }
     }
 
@@ -187,10 +238,14 @@ impl Table {
         ensures entries { list_of self.new ≡ list_of self.old }
         ensures room { OnOk result (count ≤ spare self.new) }
     {
-        match self.entries.reserve(count) {
-            Ok(()) => Ok(()),
-            Err(_) => Err(NoMemory),
+        if self.entries.reserve(count).is_err() {
+            return Err(NoMemory);
         }
+        let wanted = self.entries.len().saturating_add(count);
+        if self.marks.len() / 16 < wanted {
+            self.marks = marked(self.alloc, &self.entries, wanted);
+        }
+        Ok(())
     }
 
     pub(crate) fn len(&self) -> usize
@@ -211,6 +266,9 @@ impl Table {
     pub(crate) fn find(&self, address: &str) -> Option<u64>
         ensures { result ≡ first_of (numbers_with (list_of self.now) (Some address.now)) }
     {
+        if !may_have(&self.marks, address) {
+            return None;
+        }
         find_in(&self.entries, address)
     }
 
@@ -221,6 +279,7 @@ impl Table {
         ensures room { spare self.old ≤ spare self.new + 1 }
     {
         let at = place_of(&self.entries, fd);
+        mark(&mut self.marks, &address);
         insert_reserved(&mut self.entries, at, Open { fd, address });
     }
 
@@ -266,6 +325,16 @@ impl Table {
             (gone_numbers plan.now kept.now (states_of rows.now failed.now loops.now) (list_of self.old)) }
     {
         close_done(&mut self.entries, plan, rows, failed, loops, kept, actions);
+    }
+
+    /// Closes the descriptor with this number.
+    pub(crate) fn close_number(&mut self, fd: u64, actions: &mut Actions)
+        requires room { length (list_of self.old) ≤ spare actions.old }
+        ensures after { list_of self.new ≡ filter (λ (o : Open). not (o.fd == fd)) (list_of self.old) }
+        ensures told { list_of actions.new ≡ list_of actions.old ++ map Close (numbers_like fd (list_of self.old)) }
+        ensures room { spare actions.old ≤ spare actions.new + length (numbers_like fd (list_of self.old)) }
+    {
+        close_like(&mut self.entries, fd, actions);
     }
 
     /// Closes each descriptor, in ascending number.

@@ -4,7 +4,7 @@ ghost use Rattle.std.specs.Prelude.{◌≡◌, ◌<◌, ◌&&◌, ◌==◌, [], 
 ghost use Rattle.svc_record.specs.declared.plan.Plan.{Plan};
 ghost use Rattle.svc_record.specs.Plans.{service_count, endpoints};
 ghost use Rattle.svc_endpoints.specs.EndpointsState.{idle};
-ghost use Rattle.svc_endpoints.specs.Uses.{AreStatesSized, states_of, has_held, uses, is_holder_by, is_user, any_holder, any_user, any_endpoint, is_drained_by};
+ghost use Rattle.svc_endpoints.specs.Uses.{AreStatesSized, states_of, has_held, has_offer, is_holder_by, is_user, any_holder, any_user, any_endpoint, is_drained_by};
 
 use crate::loops::{LoopEnd, is_done};
 use crate::naming::{endpoint_count, service_count};
@@ -21,14 +21,12 @@ fn has_held(last: EndpointStatus, fd: u64) -> bool
     }
 }
 
-/// The descriptor is offered to the endpoint, or holds it, and its service hasn't failed and isn't
-/// done with it.
-fn uses(last: EndpointStatus, failed: bool, done: bool, fd: u64) -> bool
-    ensures { result ≡ uses fd failed done last }
+/// The descriptor is offered to the endpoint.
+fn has_offer(last: EndpointStatus, fd: u64) -> bool
+    ensures { result ≡ has_offer fd last }
 {
     match last {
         EndpointStatus::Adopting(n) => n == fd,
-        EndpointStatus::Holding(n) => (!failed && !done) && n == fd,
         _ => false,
     }
 }
@@ -127,8 +125,11 @@ fn is_used_at(
     requires endpoint { i < length (endpoints plan.now s) }
     ensures { result ≡ is_user plan.now (states_of rows.now failed.now loops.now) fd s i }
 {
-    let done = is_done(loops, plan.tasks, s, i);
-    uses(last_of(rows, s, i), failed[s], done, fd)
+    let last = last_of(rows, s, i);
+    if has_held(last, fd) {
+        return !failed[s] && !is_done(loops, plan.tasks, s, i);
+    }
+    has_offer(last, fd)
 }
 
 /// Some endpoint of a service that hasn't failed holds the descriptor, and none uses it any more.

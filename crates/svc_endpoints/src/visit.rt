@@ -78,7 +78,7 @@ impl Endpoints {
         match self.find(text) {
             Some(fd) => Visit::Adopts(j, fd),
             None => {
-                if self.is_kept_busy(plan, text, moment) {
+                if self.is_kept_busy(plan, s as usize, j as usize, moment) {
                     Visit::Nothing
                 } else {
                     Visit::Binds(j)
@@ -100,6 +100,7 @@ impl Endpoints {
         match visit {
             Visit::Nothing => {}
             Visit::Binds(i) => {
+                self.note_asked(s as usize, i as usize);
                 self.put_last(s as usize, i as usize, EndpointStatus::Binding);
                 actions.put(Action::Bind(s, i));
             }
@@ -110,8 +111,35 @@ impl Endpoints {
         }
     }
 
+    /// An endpoint with the address of this one is asked for, or rests. Most often it is this one itself
+    /// that rests, or the one that was asked for last.
+    fn is_kept_busy(&self, plan: &Plan, s: usize, j: usize, moment: u64) -> bool
+        requires sized { IsEndpointsSized plan.now self.now.parts }
+        requires service { s < service_count plan.now }
+        requires endpoint { j < length (endpoints plan.now s) }
+        ensures { result ≡ any_with plan.now (address plan.now s j) (busy_in self.now.parts moment) }
+    {
+        let text = address_of(plan, s, j);
+        if self.is_itself_busy(plan, s, j, moment) {
+            return true;
+        }
+        self.is_last_busy(plan, text, moment) || self.is_any_busy(plan, text, moment)
+    }
+
+    /// The endpoint that was asked for last has the address, and is asked for or rests.
+    fn is_last_busy(&self, plan: &Plan, text: &str, moment: u64) -> bool
+        requires sized { IsEndpointsSized plan.now self.now.parts }
+        ensures { result ≡ true → any_with plan.now (Some text.now) (busy_in self.now.parts moment) ≡ true }
+    {
+        let (s, i) = self.last_asked();
+        if s >= service_count(plan) || i >= endpoint_count(plan, s) {
+            return false;
+        }
+        self.is_busy_at(plan, s, i, text, moment)
+    }
+
     /// An endpoint with the address is asked for, or rests.
-    fn is_kept_busy(&self, plan: &Plan, text: &str, moment: u64) -> bool
+    fn is_any_busy(&self, plan: &Plan, text: &str, moment: u64) -> bool
         requires sized { IsEndpointsSized plan.now self.now.parts }
         ensures { result ≡ any_with plan.now (Some text.now) (busy_in self.now.parts moment) }
     {
@@ -129,7 +157,8 @@ impl Endpoints {
         requires service { t < service_count plan.now }
         ensures { result ≡ any_busy plan.now self.now.parts moment (Some text.now) t }
     {
-        for k in 0..endpoint_count(plan, t) {
+        let (from, touched) = self.open_range(t);
+        for k in from..touched.min(endpoint_count(plan, t)) {
             if self.is_busy_at(plan, t, k, text, moment) {
                 return true;
             }
@@ -144,6 +173,16 @@ impl Endpoints {
         requires endpoint { k < length (endpoints plan.now t) }
         ensures { result ≡ (same_address (address plan.now t k) (Some text.now) && busy_in self.now.parts moment t k) }
     {
-        address_of(plan, t, k) == text && is_busy(self.has_failed(t), moment, self.last(t, k))
+        self.is_itself_busy(plan, t, k, moment) && address_of(plan, t, k) == text
+    }
+
+    /// The endpoint is asked for, or rests.
+    fn is_itself_busy(&self, plan: &Plan, t: usize, k: usize, moment: u64) -> bool
+        requires sized { IsEndpointsSized plan.now self.now.parts }
+        requires service { t < service_count plan.now }
+        requires endpoint { k < length (endpoints plan.now t) }
+        ensures { result ≡ busy_in self.now.parts moment t k }
+    {
+        is_busy(self.has_failed(t), moment, self.last(t, k))
     }
 }

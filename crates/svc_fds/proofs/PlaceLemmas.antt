@@ -1,5 +1,5 @@
 -- What a place says of the table.
-use Rattle.std.proofs.Common.{ℕ, zero, suc, ◌+◌, ◌<◌, List, [], ◌∷◌, ◌++◌, Some, None, ◌≡◌, refl, sym, ap, subst, ◌∙◌, arith, length, take, drop, get_or, set, add-one}
+use Rattle.std.proofs.Common.{ℕ, zero, suc, ◌+◌, ◌<◌, ◌≤◌, List, [], ◌∷◌, ◌++◌, Some, None, ◌≡◌, refl, sym, ap, subst, ◌∙◌, arith, length, take, drop, get_or, set, add-one}
 use Rattle.std.specs.Prelude.{insert, remove, slice_get}
 use Rattle.std.specs.Ordering.{nat_cmp}
 use Rattle.std.specs.declared.cmp.Ordering.TheVariants.{Equal, Greater}
@@ -7,20 +7,36 @@ use Rattle.std.specs.Cmp.Lexicographic.{slice_cmp, nat_list_cmp_total}
 use Rattle.std.proofs.Math.Seq.{take-append_seam}
 use Rattle.std.proofs.lemmas.Cmp.{tied_itself}
 use Rattle.std.proofs.lemmas.Map.Lookups.{exact_bytes}
-use Rattle.std.proofs.lemmas.List.{take-append-drop, drop_more, take_more, set_split}
+use Rattle.std.proofs.lemmas.List.{take-append-drop, drop_more, set_split}
 use Rattle.std.proofs.lemmas.Option.{get_or_from_slice_get}
 use Rattle.svc_fds.specs.Tables.{Entry, lookup, put, without, Precedes, PrecedesAll, IsAscending}
 use Rattle.svc_fds.specs.Places.{AllPrecede, IsHeldAt, IsFreeAt}
 use Rattle.svc_fds.proofs.TableLemmas.{differs, differs_back, lesser, greater, same, precedes-trans}
 
-all_precede-push : (a : List ℕ) (es : List Entry) (e : Entry) → AllPrecede a es → Precedes e.0 a → AllPrecede a (es ++ e ∷ [])
-all_precede-push a [] e all less = (less, tt)
-all_precede-push a (x ∷ es) e all less = (all.0, all_precede-push a es e all.1 less)
+precedes_at : (x : List ℕ) (es : List Entry) (k : ℕ) (d : Entry) → PrecedesAll x es → k < length es → Precedes x (get_or es k d).0
+precedes_at x [] k d all lt = absurd (omega arith)
+precedes_at x (e ∷ es) zero d all lt = all.0
+precedes_at x (e ∷ es) (suc k) d all lt = precedes_at x es k d all.1 (omega arith)
 
--- one entry more that stands before a
-pub all_precede-more : (a : List ℕ) (es : List Entry) (at : ℕ) (e : Entry) → at < length es → e ≡ get_or es at e → AllPrecede a (take at es) → Precedes e.0 a → AllPrecede a (take (at + 1) es)
-all_precede-more a es at e inside read all less =
-    subst (λ front. AllPrecede a front) (sym (take_more es at e inside ∙ ap (λ (x : Entry). take at es ++ x ∷ []) (sym read))) (all_precede-push a (take at es) e all less)
+-- where an entry stands before a, so do those before it
+pub all_precede-to : (a : List ℕ) (es : List Entry) (k : ℕ) (d : Entry) → IsAscending es → k < length es → Precedes (get_or es k d).0 a → AllPrecede a (take (suc k) es)
+all_precede-to a [] k d up lt less = absurd (omega arith)
+all_precede-to a (e ∷ es) zero d up lt less = (less, tt)
+all_precede-to a (e ∷ es) (suc k) d up lt less =
+    (nat_list_cmp_total.trans e.0 (get_or es k d).0 a (precedes_at e.0 es k d up.0 (omega arith)) less, all_precede-to a es k d up.1 (omega arith) less)
+
+-- those before a's own entry stand before a
+all_precede-below : (a : List ℕ) (es : List Entry) (k : ℕ) (d : Entry) → IsAscending es → k < length es → (get_or es k d).0 ≡ a → AllPrecede a (take k es)
+all_precede-below a [] k d up lt same = absurd (omega arith)
+all_precede-below a (e ∷ es) zero d up lt same = tt
+all_precede-below a (e ∷ es) (suc k) d up lt same =
+    (subst (λ x. Precedes e.0 x) same (precedes_at e.0 es k d up.0 (omega arith)), all_precede-below a es k d up.1 (omega arith) same)
+
+-- where an entry stands behind a, so do those behind it
+pub precedes_all-from : (a : List ℕ) (es : List Entry) (k : ℕ) (d : Entry) → IsAscending es → k < length es → slice_cmp nat_cmp (get_or es k d).0 a ≡ Greater → PrecedesAll a (drop k es)
+precedes_all-from a [] k d up lt more = absurd (omega arith)
+precedes_all-from a (e ∷ es) zero d up lt more = (lesser e.0 a more, precedes-trans a e.0 es (lesser e.0 a more) up.0)
+precedes_all-from a (e ∷ es) (suc k) d up lt more = precedes_all-from a es k d up.1 (omega arith) more
 
 ascending-drop : (n : ℕ) (es : List Entry) → IsAscending es → IsAscending (drop n es)
 ascending-drop zero es up = up
@@ -30,22 +46,22 @@ ascending-drop (suc n) (e ∷ es) up = ascending-drop n es up.1
 read_drop : (es : List Entry) (at : ℕ) (e : Entry) → at < length es → e ≡ get_or es at e → drop at es ≡ e ∷ drop (at + 1) es
 read_drop es at e inside read = drop_more es at e inside ∙ ap (λ (x : Entry). x ∷ drop (at + 1) es) (sym read)
 
-pub held-found : (a : List ℕ) (es : List Entry) (at : ℕ) (e : Entry) → at < length es → e ≡ get_or es at e → AllPrecede a (take at es) → slice_cmp nat_cmp e.0 a ≡ Equal → IsHeldAt a es at
-held-found a es at e inside read before tied = record {
+pub held-found : (a : List ℕ) (es : List Entry) (at : ℕ) (e : Entry) → IsAscending es → at < length es → e ≡ get_or es at e → slice_cmp nat_cmp e.0 a ≡ Equal → IsHeldAt a es at
+held-found a es at e up inside read tied = record {
   inside = inside;
-  before = before;
+  before = all_precede-below a es at e up inside (ap (λ (x : Entry). x.0) (sym read) ∙ exact_bytes e.0 a tied);
   fd = e.1;
   here = read_drop es at e inside read ∙ ap (λ x. (x, e.1) ∷ drop (at + 1) es) (exact_bytes e.0 a tied);
 }
 
-pub free-found : (a : List ℕ) (es : List Entry) (at : ℕ) (e : Entry) → IsAscending es → at < length es → e ≡ get_or es at e → AllPrecede a (take at es) → slice_cmp nat_cmp e.0 a ≡ Greater → IsFreeAt a es at
-free-found a es at e up inside read before more =
-    let here = read_drop es at e inside read in
-    let rest : IsAscending (e ∷ drop (at + 1) es) = subst (λ xs. IsAscending xs) here (ascending-drop at es up) in
+-- where the search ends, all before stand before a, and all others behind it
+pub free-found : (a : List ℕ) (es : List Entry) (low high : ℕ) → low ≤ high → high ≤ low → high ≤ length es → AllPrecede a (take low es) → PrecedesAll a (drop high es) → IsFreeAt a es low
+free-found a es low high ordered met within before after =
+    let same : high ≡ low = omega arith in
     record {
       inside = omega arith;
       before = before;
-      after = subst (λ xs. PrecedesAll a xs) (sym here) (lesser e.0 a more, precedes-trans a e.0 (drop (at + 1) es) (lesser e.0 a more) rest.0);
+      after = subst (λ k. PrecedesAll a (drop k es)) same after;
     }
 
 lookup-held : (a : List ℕ) (front : List Entry) (n : ℕ) (back : List Entry) → AllPrecede a front → lookup a (front ++ (a, n) ∷ back) ≡ Some n

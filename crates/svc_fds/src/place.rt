@@ -1,13 +1,18 @@
 //! Where an address stands in a table.
 
-ghost use Rattle.std.specs.Prelude.{◌≡◌, ◌<◌, ℕ, Some, length, slice_get, slice_set};
+ghost use Rattle.std.specs.Prelude.{◌≡◌, ◌+◌, ◌-◌, ◌*◌, ◌^◌, ◌<◌, ◌≤◌, ℕ, Some, length, slice_get, slice_set};
+ghost use Rattle.std.specs.Cmp.Lexicographic.{slice_cmp};
+ghost use Rattle.std.specs.Ordering.{nat_cmp};
 ghost use Rattle.svc_fds.specs.Tables.{IsAscending};
 ghost use Rattle.svc_fds.specs.Places.{PlaceFits};
 
 use crate::fd::Fd;
 use std::cmp::Ordering;
+use std::marker::Brand;
 use std::mem;
+use std::sync::ledger::{Blank, Ledger};
 use svc_base::Text;
+use svc_steps::Steps;
 
 /// Where an address stands among others that ascend, or where it would stand.
 #[derive(Clone, Copy, Debug)]
@@ -18,19 +23,57 @@ pub(crate) enum Place {
     Free(usize),
 }
 
-/// Looks for an address from the front.
+/// How the address of an entry stands to another: one comparison of two texts, which takes a step.
+fn compare<L: Ledger>(entry: &(Text, Fd), bind: &[u8], steps: &mut Steps<L>) -> Ordering
+    ensures answer { result ≡ slice_cmp nat_cmp entry.now.0 bind.now }
+    ensures step { steps.new ≡ steps.old + 1 }
+{
+    steps.tick();
+    entry.0.as_str().as_bytes().cmp(bind)
+}
+
+/// Looks for an address by halving.
+pub(crate) fn counted_place<L: Ledger>(
+    entries: &[(Text, Fd)],
+    bind: &[u8],
+    steps: &mut Steps<L>,
+) -> Place
+    requires { IsAscending entries.now }
+    ensures place { PlaceFits bind.now entries.now result }
+    ensures counted { steps.old ≤ steps.new }
+    ensures cost { 2 ^ (steps.new - steps.old) ≤ 2 * length entries.now + 1 }
+{
+    let mut low = 0;
+    let mut high = entries.len();
+    while low < high {
+        let middle = low + (high - low) / 2;
+        match compare(&entries[middle], bind, steps) {
+            Ordering::Less => low = middle + 1,
+            Ordering::Equal => return Place::Held(middle),
+            Ordering::Greater => high = middle,
+        }
+    }
+    Place::Free(low)
+}
+
+/// Looks for an address where no one counts.
+fn uncounted_place<L: Ledger>(entries: &[(Text, Fd)], bind: &[u8], blank: Blank) -> Place
+    requires ascending { IsAscending entries.now }
+    requires name { blank.name ≡ L.name }
+    requires parts { blank.parts ≡ L.parts }
+    requires some { 0 < blank.parts }
+    ensures { PlaceFits bind.now entries.now result }
+{
+    let mut steps = Steps::<L>::new(blank);
+    counted_place(entries, bind, &mut steps)
+}
+
+/// Where an address stands, or would stand.
 pub(crate) fn place_of(entries: &[(Text, Fd)], bind: &str) -> Place
     requires { IsAscending entries.now }
     ensures { PlaceFits bind.now entries.now result }
 {
-    for (index, entry) in entries.iter().enumerate() {
-        match entry.0.as_str().cmp(bind) {
-            Ordering::Less => {}
-            Ordering::Equal => return Place::Held(index),
-            Ordering::Greater => return Place::Free(index),
-        }
-    }
-    Place::Free(entries.len())
+    uncounted_place::<Brand>(entries, bind.as_bytes(), Blank::new(1))
 }
 
 /// Puts a descriptor in the place of another, which comes back.

@@ -1,7 +1,6 @@
 -- What is answered to a text of jobs, and what a status says of the answer.
-use Rattle.std.proofs.Common.{◌≡◌, ◌==◌, inl, inr, ℕ, Bool, true, List, [], ◌∷◌, length, map, Option, Some, None, Result, Ok, Err, IfOk, IfSome, refl, sym, ap, subst, ◌∙◌, ◌++◌, string_bytes, arith}
+use Rattle.std.proofs.Common.{◌≡◌, inl, inr, ℕ, List, [], length, Option, Some, None, Result, Ok, Err, IfOk, IfSome, sym, ap, subst, ◌∙◌, ◌++◌, string_bytes}
 use Rattle.std.specs.Io.KnownBytes.{Appends}
-use Rattle.std.proofs.lemmas.Bool.{eqb-true}
 use Rattle.svc_record.specs.Record.{Record}
 use Rattle.svc_text.specs.Dependencies.{RefusesNone}
 use Rattle.svc_text.specs.Script.{IsLineOf, AreLines}
@@ -48,8 +47,3 @@ ran_jobs parts numbers end runs r (Ok a) said due run edges =
     subst (λ (l : StatusLine). AnswersJobs parts numbers l (string_bytes a.text)) (sym said.0)
     (edges, (r, record { printed = said.1 ∙ ap (λ (rs : List JobRun). runs_text rs ++ status_line (Run end)) due; run = run }))
 ran_jobs parts numbers end runs r (Err e) said due run edges = tt
-
--- a list without elements has no words
-pub no_words : {X : Type 0} (f : X → List ℕ) (xs : List X) (empty : Bool) → empty ≡ (length xs == 0) → empty ≡ true → map f xs ≡ []
-no_words f [] empty is h = refl
-no_words f (x ∷ xs) empty is h = absurd (let long : (length (x ∷ xs) == 0) ≡ true = sym is ∙ h in let none : length (x ∷ xs) ≡ 0 = eqb-true (length (x ∷ xs)) 0 long in omega arith)

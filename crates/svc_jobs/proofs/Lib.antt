@@ -1,5 +1,3 @@
-pub mod PieceLemmas
-pub mod TextLemmas
 pub mod ScriptLemmas
 pub mod SaidLemmas
 pub mod ReadLemmas

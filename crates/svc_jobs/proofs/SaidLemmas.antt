@@ -24,8 +24,9 @@ use Rattle.svc_text.proofs.PartLemmas.{begun-push, services-push, items-push}
 use Rattle.svc_text.proofs.PlaceLemmas.{skipped_service}
 use Rattle.svc_text.proofs.SkippedLemmas.{skipped_event, skipped_is_no_fault}
 use Rattle.svc_job_host.specs.JobHosts.{is_job_item}
-use Rattle.svc_jobs.specs.JobTexts.{JobLine, period_of, after_of, job_of, after_text, service_line, is_job_event, inner_line, script_line, part_with, script_lines_from, script_lines, said_period, periods_from}
-use Rattle.svc_jobs.proofs.PieceLemmas.{none_of, pieces_none, filter_keeps, none_each}
+use Rattle.svc_jobs.specs.JobTexts.{JobLine, period_of, after_of, job_of, after_text, service_line, is_job_event, inner_line, script_line, script_lines_from, script_lines, said_period, periods_from}
+use Rattle.svc_main.specs.TextLines.{part_with}
+use Rattle.svc_main.proofs.PieceLemmas.{none_of, pieces_none, filter_keeps, none_each}
 
 -- ---- the words of a job's line
 

@@ -9,9 +9,10 @@ use Rattle.svc_base.specs.Options.{◌>>=◌}
 use Rattle.svc_base.specs.Words.{is_feed, is_blank, is_word, words}
 use Rattle.svc_text.specs.EventLines.{item_of}
 use Rattle.svc_text.specs.Script.{is_header, is_skipped}
-use Rattle.svc_jobs.specs.JobTexts.{period_of, after_of, job_of, service_line, is_daemon, is_job_event, inner_line, script_line, part_with, script_lines_from, script_lines, said_period, periods_from}
-use Rattle.svc_jobs.proofs.PieceLemmas.{none_of, pieces_all, filter_keeps, lines_none}
-use Rattle.svc_jobs.proofs.TextLemmas.{IsWhole, none_both, Writes, line_written}
+use Rattle.svc_main.specs.TextLines.{is_daemon, part_with}
+use Rattle.svc_jobs.specs.JobTexts.{period_of, after_of, job_of, service_line, is_job_event, inner_line, script_line, script_lines_from, script_lines, said_period, periods_from}
+use Rattle.svc_main.proofs.PieceLemmas.{none_of, pieces_all, filter_keeps, lines_none}
+use Rattle.svc_main.proofs.TextLemmas.{IsWhole, none_both, Writes, line_written, one_at_most}
 
 -- ---- no line of the script has a line feed
 
@@ -106,10 +107,6 @@ pub record HasScript (all rest text : List ℕ) (part : ℕ) (periods : List ℕ
   pub said : script_lines all ≡ lines text ++ script_lines_from part (lines rest)
   pub paced : periods_from 0 (lines all) ≡ periods ++ periods_from part (lines rest)
   pub room : part + length rest ≤ length all
-
-one_at_most : (b : Bool) → (if b then 1 else 0) ≤ 1
-one_at_most true = omega arith
-one_at_most false = omega arith
 
 pub reads_more : (all rest line after text new : List ℕ) (part now : ℕ) (periods more : List ℕ) → HasScript all rest text part periods → lines rest ≡ line ∷ lines after → length after < length rest
     → new ≡ text ++ (script_line part line ++ 13 ∷ 10 ∷ []) → now ≡ part_with part (script_line part line) → more ≡ periods ++ said_period part (is_header (script_line part line)) line → HasScript all after new now more

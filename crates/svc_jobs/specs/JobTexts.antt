@@ -1,17 +1,15 @@
 -- What a text of jobs says. It is read as a script: each of its lines is one of the script, and services stand for the jobs.
 use Rattle.std.specs.Prelude.{ℕ, ◌^◌, ◌+◌, Bool, false, not, ◌&&◌, ◌||◌, ◌==◌, if◌then◌else◌, List, [], ◌∷◌, ◌++◌, codes, Option, Some, None, Result, Ok, Err}
 use Rattle.std.specs.Option.{option_map, option_to_list}
-use Rattle.std.specs.Str.{bytes_eq, is_utf8}
+use Rattle.std.specs.Str.{bytes_eq}
 use Rattle.std.specs.Str.Lines.{lines}
-use Rattle.svc_conf.specs.declared.server.configuration.ServerConf.{ServerConf}
-use Rattle.svc_conf.specs.declared.server.configuration.read_error.ReadError.{ReadError}
-use Rattle.svc_conf.specs.ConfigurationText.{configuration}
 use Rattle.svc_record.specs.declared.item.Item.{Item}
 use Rattle.svc_base.specs.Options.{◌>>=◌}
 use Rattle.svc_base.specs.Words.{number_of, words}
 use Rattle.svc_text.specs.EventLines.{item_of}
 use Rattle.svc_text.specs.Script.{Parts, is_header, is_skipped, script_of}
 use Rattle.svc_job_host.specs.JobHosts.{is_job_item}
+use Rattle.svc_main.specs.TextLines.{is_daemon, part_with}
 use Rattle.svc_jobs.specs.declared.job_line.JobWords.{JobWords}
 
 -- a line that no script has: its byte is no text
@@ -62,15 +60,6 @@ service_line (Some job) = job.name ++ (codes " notify" ++ after_text job.after)
 abbrev pub kept : Bool → List ℕ → List ℕ
 kept may_stand line = if may_stand then line else no_line
 
--- the configuration has the flag `daemon`
-abbrev pub has_daemon : Result ServerConf ReadError → Bool
-has_daemon (Ok conf) = conf.daemon
-has_daemon (Err error) = false
-
--- the line of the configuration sets that flag, which a run of jobs can't have
-unfoldable pub is_daemon : List ℕ → Bool
-is_daemon line = is_utf8 line && has_daemon (configuration line)
-
 -- the item is a moment, a signal or a fault
 abbrev pub is_job_event : Option Item → Bool
 is_job_event None = false
@@ -90,10 +79,6 @@ script_line part line =
     if bytes_eq line (codes "%jobs") then codes "%services"
     else (if bytes_eq line (codes "%services") then no_line
     else (if is_header line then line else inner_line part line))
-
--- how many parts have begun, with this line of a script
-abbrev pub part_with : ℕ → List ℕ → ℕ
-part_with part line = part + (if is_header line then 1 else 0)
 
 -- the script's lines of these, behind so many beginnings of parts
 abbrev pub script_lines_from : ℕ → List (List ℕ) → List (List ℕ)

@@ -3,54 +3,18 @@
 ghost use Rattle.std.specs.Prelude.{◌≡◌, IfOk};
 ghost use Rattle.svc_text.specs.EventLines.{item_of};
 ghost use Rattle.svc_base.specs.Words.{words};
-ghost use Rattle.svc_text.specs.Script.{is_header, is_skipped};
-ghost use Rattle.svc_jobs.specs.JobTexts.{kept, is_daemon, is_job_event, inner_line, script_line};
+ghost use Rattle.svc_jobs.specs.JobTexts.{kept, is_job_event, inner_line, script_line};
 ghost use Rattle.svc_job_host.specs.JobHosts.{is_job_item};
 
 use crate::job_line::service_line;
 use std::alloc::Global;
-use std::str;
-use svc_base::{NoMemory, split_word};
-use svc_conf::{ReadError, ServerConf};
+use svc_base::NoMemory;
+use svc_main::{is_daemon, is_header, is_skipped};
 use svc_record::{Event, Item};
 use svc_text::item_of_line;
 
 /// A line that no script has: its byte is no text.
 const NO_LINE: &[u8] = b"\xff";
-
-/// The line begins a part of a script.
-#[tactic(auto, unfolding(svc_text::specs::Script::header_of))]
-pub(crate) fn is_header(line: &[u8]) -> bool
-    ensures { result ≡ is_header line.now }
-{
-    line == b"%conf".as_slice() || line == b"%services".as_slice() || line == b"%events".as_slice()
-}
-
-/// The line is blank, or a comment.
-#[tactic(auto, unfolding(svc_text::specs::Script::is_skipped))]
-pub(crate) fn is_skipped(line: &[u8]) -> bool
-    ensures { result ≡ is_skipped (words line.now) }
-{
-    match split_word(line) {
-        None => true,
-        Some((word, _)) => matches!(word.first(), Some(b'#')),
-    }
-}
-
-/// The line of the configuration sets the flag `daemon`.
-#[tactic(auto, unfolding(crate::specs::JobTexts::is_daemon))]
-fn is_daemon(alloc: Global, line: &[u8]) -> Result<bool, NoMemory>
-    ensures { IfOk result (λ daemon. daemon ≡ is_daemon line.now) }
-{
-    let Ok(text) = str::from_utf8(line) else {
-        return Ok(false);
-    };
-    match ServerConf::parse(alloc, text) {
-        Ok(conf) => Ok(conf.daemon),
-        Err(ReadError::NoMemory) => Err(NoMemory),
-        Err(_) => Ok(false),
-    }
-}
 
 fn is_job_item(item: &Item) -> bool
     ensures { result ≡ is_job_item item.now }

@@ -3,12 +3,14 @@
 ghost use Rattle.std.specs.Prelude.{◌≡◌, ◌++◌, ◌∷◌, [], OnOk, IfOk, ◌+◌, ◌<◌, ◌^◌};
 ghost use Rattle.std.specs.Str.Lines.{lines};
 ghost use Rattle.svc_text.specs.Script.{is_header};
-ghost use Rattle.svc_jobs.specs.JobTexts.{script_line, script_lines, part_with, said_period, periods_from};
+ghost use Rattle.svc_main.specs.TextLines.{part_with};
+ghost use Rattle.svc_jobs.specs.JobTexts.{script_line, script_lines, said_period, periods_from};
 
 use crate::job_line::job_of_line;
-use crate::script_line::{is_header, is_skipped, script_line};
+use crate::script_line::script_line;
 use std::alloc::Global;
 use svc_base::{NoMemory, split_line};
+use svc_main::{is_header, is_skipped};
 
 /// The script that the lines so far are read as.
 #[derive(Drop)]

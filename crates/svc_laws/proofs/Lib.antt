@@ -1,2 +1,11 @@
 pub mod PrefixLemmas
 pub mod AskLemmas
+pub mod ToldLemmas
+pub mod WaitLemmas
+pub mod StartLemmas
+pub mod FurtherLemmas
+pub mod AfterLemmas
+pub mod SilentLemmas
+pub mod Verdicts
+pub mod Journals
+pub mod Tails

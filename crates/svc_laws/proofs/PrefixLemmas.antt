@@ -1,12 +1,12 @@
 -- What holds of each entry of a record holds of each entry of what it begins with.
-use Rattle.std.proofs.Common.{Bool, true, ◌+◌, ◌≤◌, inl, inr, [], ◌∷◌, ◌++◌, ◌≡◌, sym, subst, arith}
+use Rattle.std.proofs.Common.{Bool, true, ◌≤◌, inl, inr, [], ◌∷◌, ◌++◌, ◌≡◌, sym, subst, arith}
 use Rattle.std.proofs.lemmas.Bool.{cases_Bool, or_right}
 use Rattle.svc_record.specs.declared.entry.Entry.{Entry}
 use Rattle.svc_record.specs.declared.entry.Entry.TheVariants.{Got}
 use Rattle.svc_record.specs.Record.{Record, has, times, EachEntry}
 use Rattle.svc_record.specs.Facts.{Settled}
 
-entries-behind : (P : Entry → Record → Type 0) (more q : Record) → EachEntry P (more ++ q) → EachEntry P q
+pub entries-behind : (P : Entry → Record → Type 0) (more q : Record) → EachEntry P (more ++ q) → EachEntry P q
 entries-behind P [] q h = h
 entries-behind P (e ∷ more) q h = entries-behind P more q h.1
 

@@ -1,13 +1,18 @@
 //! What follows for every right record.
 
-ghost use Rattle.std.specs.Prelude.{◌≡◌, true, false};
+ghost use Rattle.std.specs.Prelude.{◌≡◌, true, false, List, [], ◌∷◌};
 ghost use Rattle.svc_record.specs.declared.plan.Plan.{Plan};
-ghost use Rattle.svc_record.specs.Record.{Record, EachEntry};
+ghost use Rattle.svc_record.specs.declared.action.Action.{Action};
+ghost use Rattle.svc_record.specs.declared.entry.Entry.TheVariants.{Got};
+ghost use Rattle.svc_record.specs.declared.event.Event.TheVariants.{Signal};
+ghost use Rattle.svc_record.specs.declared.event.ShutdownSignal.{ShutdownSignal};
+ghost use Rattle.svc_record.specs.Record.{Record, EachEntry, tell};
 ghost use Rattle.svc_record.specs.Descriptors.{one_live};
 ghost use Rattle.svc_record.specs.Ends.{has_ended};
 ghost use Rattle.svc_record.specs.Facts.{Settled};
 ghost use Rattle.svc_record.specs.Right.{Right};
 ghost use Rattle.svc_laws.specs.Asking.{is_single};
+ghost use Rattle.svc_laws.specs.Signals.{is_further};
 
 /// No address has two live descriptors in any settled prefix, also in one in which the run has ended.
 pub fn one_live_descriptor()
@@ -19,4 +24,11 @@ pub fn one_live_descriptor()
 pub fn one_ask_of_a_kind()
     ensures { (p : Plan) (r q : Record) → Right p r → Settled q r → has_ended p q ≡ false
         → EachEntry (λ e before. is_single e before ≡ true) q }
+{}
+
+/// A further signal tells nothing: after one that isn't the first, and isn't a fast one that cuts a
+/// graceful wait short, nothing is told before the next event.
+pub fn further_signal()
+    ensures { (p : Plan) (r before : Record) (kind : ShutdownSignal) (told : List Action) → Right p r → is_further kind before ≡ true
+        → Settled (tell (Got (Signal kind) ∷ before) told) r → told ≡ [] }
 {}

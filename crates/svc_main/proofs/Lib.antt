@@ -1,3 +1,5 @@
+pub mod PieceLemmas
+pub mod TextLemmas
 pub mod GeneratorLemmas
 pub mod ServerLemmas
 pub mod AcceptedLemmas

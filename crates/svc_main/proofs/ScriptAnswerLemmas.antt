@@ -1,6 +1,7 @@
 -- The answer to a script is the program's answer.
-use Rattle.std.proofs.Common.{◌≡◌, ◌≤◌, ℕ, List, length, Option, Some, None, Result, Ok, Err, IfOk, inl, inr, refl, sym, subst, ◌∙◌, IfSome}
+use Rattle.std.proofs.Common.{◌≡◌, ◌≤◌, ◌==◌, ℕ, Bool, true, List, [], ◌∷◌, map, arith, length, Option, Some, None, Result, Ok, Err, IfOk, inl, inr, refl, sym, subst, ◌∙◌, IfSome}
 use Rattle.std.specs.Str.Lines.{lines}
+use Rattle.std.proofs.lemmas.Bool.{eqb-true}
 use Rattle.svc_conf.specs.declared.server.configuration.Opt.{Opt}
 use Rattle.svc_text.specs.Script.{Parts, IsLineOf, AreLines, script}
 use Rattle.svc_text.specs.Dependencies.{RefusesNone}
@@ -12,7 +13,7 @@ use Rattle.svc_main.specs.CommandWords.{TakesWords, RefusesWords, made_size, fla
 use Rattle.svc_main.specs.Program.{IsScript, RanText, CountsText, RefusesIn, AnswersScript, IsAnswer, Ends, Faults}
 
 -- what is so of the bytes that were read is so of those that the source tells
-of_left : (left : Option (List ℕ)) (read : List ℕ) (P : List ℕ → Type 0) → IfSome left (λ bytes. read ≡ bytes) → P read → IfSome left P
+pub of_left : (left : Option (List ℕ)) (read : List ℕ) (P : List ℕ → Type 0) → IfSome left (λ bytes. read ≡ bytes) → P read → IfSome left P
 of_left None read P e h = tt
 of_left (Some bytes) read P e h = subst P e h
 
@@ -62,3 +63,8 @@ refused_words words left (Line n) out r a = absurd (not_taken words r a.0)
 refused_words words left ReadFault out r a = absurd (not_taken words r a.0)
 refused_words words left (Run end) out r (inl ran) = absurd (not_taken words r ran.0)
 refused_words words left (Run end) out r (inr made) = none_made words made.1.0 (◌≡◌ {A = StatusLine} (Run end) Words) r.0 made.1.1
+
+-- a list without elements has no words
+pub no_words : {X : Type 0} (f : X → List ℕ) (xs : List X) (empty : Bool) → empty ≡ (length xs == 0) → empty ≡ true → map f xs ≡ []
+no_words f [] empty is h = refl
+no_words f (x ∷ xs) empty is h = absurd (let long : (length (x ∷ xs) == 0) ≡ true = sym is ∙ h in let none : length (x ∷ xs) ≡ 0 = eqb-true (length (x ∷ xs)) 0 long in omega arith)

@@ -1,3 +1,5 @@
+pub mod TextLines
+pub mod Planned
 pub mod Status
 pub mod BlockedLists
 pub mod Services

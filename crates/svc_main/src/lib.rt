@@ -5,12 +5,16 @@ mod answering;
 mod counting;
 mod generator;
 mod outcome;
+mod planning;
 mod program;
 mod runs;
 mod script_filter;
 mod script_service;
 mod services;
+mod text_lines;
 mod words;
 
 pub use outcome::{RunEnd, StatusLine};
+pub use planning::{PlannedScript, plan_script};
 pub use program::{one_answer, serve_script};
+pub use text_lines::{is_daemon, is_header, is_skipped};

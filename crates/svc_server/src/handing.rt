@@ -76,7 +76,8 @@ pub(crate) fn tell_all<B: ServiceWithDependents, H: Host<Service = B>>(
     ensures counts { H.counts host.new ≡ H.counts host.old }
     ensures ahead { H.ahead host.new ≡ H.ahead host.old }
 {
-    while let Some(action) = actions.pop_first() {
+    actions.reverse();
+    while let Some(action) = actions.pop_last() {
         tell_one(plan, boxes, action, host);
     }
 }

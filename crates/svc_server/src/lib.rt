@@ -20,6 +20,7 @@ pub use inner_host::InnerHost;
 pub use run::{Outcome, RunArgs, RunError};
 pub use script_host::ScriptHost;
 pub use server::{AddAllRefused, AddError, AddRefused, Server};
+pub use svc_record::Item;
 pub use svc_shared::{
     CloseRefused, Fed, Feed, Gate, Pass, Post, PostReason, PostRefused, Posted, SharedServer,
     SplitReason, SplitRefused,

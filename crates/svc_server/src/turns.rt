@@ -30,14 +30,24 @@ use svc_graph::services::ServiceWithDependents;
 use svc_record::{Actions, Plan, StepEnd};
 use svc_streams::{ConnectionFilter, Filters};
 
-/// A run on its way: the core, the services that aren't handed over yet, the filters, and an empty
-/// list that has room for the closes of all.
+/// A run on its way: the core, the services that aren't handed over yet, the filters, an empty list
+/// that has room for the closes of all, and one for what an event's step tells, which keeps its room.
 #[derive(Drop)]
 struct Machine<B, F> {
     core: Core,
     boxes: Boxes<B>,
     filters: Filters<F>,
     closing: Actions,
+    told: Actions,
+}
+
+/// Takes all actions out. The room stays.
+fn empty(actions: &mut Actions)
+    ensures { list_of actions.new ≡ [] }
+{
+    while let Some(action) = actions.pop_first() {
+        let _ = action;
+    }
 }
 
 impl<B: ServiceWithDependents, F: ConnectionFilter> Machine<B, F> {
@@ -62,6 +72,7 @@ impl<B: ServiceWithDependents, F: ConnectionFilter> Machine<B, F> {
             boxes,
             filters,
             closing: Actions::new(alloc),
+            told: Actions::new(alloc),
         })
     }
 
@@ -171,12 +182,12 @@ impl<B: ServiceWithDependents, F: ConnectionFilter> Machine<B, F> {
         ensures counts { H.counts host.new ≡ H.counts host.old }
         ensures ahead { H.ahead host.new ≡ H.ahead host.old }
     {
-        let mut actions = Actions::new(alloc);
+        empty(&mut self.told);
         let event = host.event();
         let said = ask_filter(&mut self.filters, self.core.asks(event), event);
-        let end = self.core.step(alloc, event, said, &mut actions)?;
+        let end = self.core.step(alloc, event, said, &mut self.told)?;
         self.boxes.note_event(event);
-        tell_all(self.core.plan(), &mut self.boxes, &mut actions, host);
+        tell_all(self.core.plan(), &mut self.boxes, &mut self.told, host);
         Ok(end)
     }
 

@@ -1,5 +1,5 @@
 -- What a connect asks of its dialer, and what it answers.
-use Rattle.std.specs.Prelude.{◌≡◌, Bool, true, false, ◌&&◌, is_some, if◌then◌else◌, List, [], ◌∷◌, Option, Some, None, MatchOption, Result, Ok, Err}
+use Rattle.std.specs.Prelude.{◌≡◌, Bool, true, false, ◌&&◌, ◌||◌, is_some, if◌then◌else◌, List, [], ◌∷◌, Option, Some, None, MatchOption, Result, Ok, Err}
 use Rattle.svc_base.specs.Calls.{Adds}
 use Rattle.svc_socket.specs.DialerData.{DialerData}
 use Rattle.svc_socket.specs.declared.peer.PeerAddr.{PeerAddr}
@@ -14,6 +14,11 @@ use Rattle.svc_socket.specs.declared.connectors.dialer.DialCall.{DialCall}
 use Rattle.svc_socket.specs.declared.connectors.l4.ConnectKind.{ConnectKind}
 use Rattle.svc_socket.specs.declared.connectors.l4.ConnectKind.TheVariants.{SocketError, BindError, ConnectRefused, ConnectTimedout, ConnectNoRoute, InternalError, ConnectError, NoMemory}
 use Rattle.svc_socket.specs.declared.connectors.l4.ConnectError.{ConnectError as Error}
+
+-- the dial is to go out from a given address, or from a range of ports
+abbrev pub is_bound : Option BindTo → Bool
+is_bound None = false
+is_bound (Some from) = is_some from.addr || is_some from.port_range
 
 -- the kind of an error, by the fault
 abbrev pub kind_of : DialFault → ConnectKind

@@ -4,6 +4,7 @@
 pub mod connectors;
 pub mod laws;
 mod memory;
+mod net_options;
 mod options;
 mod peer;
 pub mod protocols;
@@ -14,6 +15,7 @@ pub use connectors::l4::{ConnectError, ConnectErrorDetails, ConnectKind, connect
 pub use connectors::memory::{FailingDial, MemoryDialer, SteadyDialer};
 pub use connectors::net::{Dialed, NetDialer};
 pub use memory::{MemoryOptions, SteadyOptions};
+pub use net_options::NetOptions;
 pub use options::{Family, OptionCall, Options, SockOption};
 pub use peer::{Peer, PeerAddr};
 pub use protocols::l4::ext::{

@@ -110,7 +110,8 @@ fn put_told(told: &mut Actions, entries: &mut Entries)
     ensures put { list_of entries.new ≡ list_of entries.old ++ told_entries (list_of told.old) }
     ensures room { spare entries.old ≤ spare entries.new + length (list_of told.old) }
 {
-    while let Some(action) = told.pop_first() {
+    told.reverse();
+    while let Some(action) = told.pop_last() {
         entries.put(Entry::Told(action));
     }
 }

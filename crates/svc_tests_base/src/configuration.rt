@@ -2,8 +2,10 @@
 
 use crate::checking::{holds, prints, same};
 use clap::error::ErrorKind;
+use std::env::temp_dir;
 use std::process::Abort;
 use std::rc::RcStr;
+use std::{fs, process};
 use svc_base::{FileError, Files, MemoryFile, MemoryFiles, SteadyFiles, SystemFiles, Text};
 use svc_conf::{Key, Opt, OptError, ReadError, RuntimeOpts, ServerConf};
 
@@ -154,13 +156,44 @@ fn files_are_found_by_their_path(rt: HostRuntime) {
     same(rt, files.calls.len(), 3);
 }
 
+/// What the system reads of a file with these bytes at this path: its length, or why there is no text.
+fn length<R: Abort + fs::Files + AllocGlobal>(
+    rt: &R,
+    path: &str,
+    bytes: &[u8],
+) -> Result<usize, FileError> {
+    assert!(rt; fs::write(rt, path, bytes).is_ok());
+    let mut system = SystemFiles::new(rt);
+    let answer = system.read(rt.alloc(), path);
+    assert!(rt; fs::remove_file(rt, path).is_ok());
+    assert_eq!(rt; system.faults(), u64::from(answer.is_err()));
+    match answer {
+        Ok(text) => Ok(text.as_str().len()),
+        Err(error) => Err(error),
+    }
+}
+
 #[test]
-fn a_file_of_the_system_may_be_missing(rt: HostRuntime) {
+fn files_of_the_system_are_read_whole_or_not_at_all(rt: HostRuntime) {
     let rt = &rt;
     let mut system = SystemFiles::new(rt);
     let refused = system.read(rt.alloc(), "no/such/file").err();
     same(rt, refused, Some(FileError::Failed));
     same(rt, system.faults(), 1);
+    let folder = temp_dir(rt).ok().expect(rt, "a folder");
+    let id = process::id(rt.process());
+    let path = format!(in rt.alloc(); "{}/svc_tests_base.{id}", folder.as_str());
+    let path = path.expect(rt, "a path");
+    let most = vec![in rt.alloc(); b'#'; 16_777_216].expect(rt, "bytes");
+    let more = vec![in rt.alloc(); b'#'; 16_777_217].expect(rt, "bytes");
+    for (bytes, read) in [
+        (b"threads: 3\n".as_slice(), Ok(11)),
+        (b"user: caf\xe9\n", Err(FileError::Failed)),
+        (most.as_slice(), Ok(16_777_216)),
+        (more.as_slice(), Err(FileError::Failed)),
+    ] {
+        same(rt, length(rt, path.as_str(), bytes), read);
+    }
 }
 
 fn words<R: Abort + AllocGlobal>(rt: &R, all: &[&str]) -> Vec<RcStr> {

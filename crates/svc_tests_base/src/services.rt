@@ -4,6 +4,8 @@ ghost use Rattle.std.specs.Prelude.{codes};
 
 use crate::checking::{holds, same};
 use std::alloc::Global;
+use std::cell::Cell;
+use std::process::Abort;
 use svc_base::{NoMemory, Text};
 use svc_conf::RuntimeOpts;
 use svc_graph::services::background::{
@@ -39,10 +41,12 @@ impl Service for Still {
     }
 }
 
-/// A service that keeps no default, and goes on until the server shuts down.
+/// A service that keeps no default, and goes on until the server shuts down. It wants as many threads as it
+/// has accept loops and was told milliseconds of waiting.
 #[derive(Drop)]
 struct Busy {
     listeners: u64,
+    waited: Cell<u64>,
 }
 
 impl Service for Busy {
@@ -66,11 +70,15 @@ impl Service for Busy {
     }
 
     fn threads(&self) -> Option<u64> {
-        Some(self.listeners)
+        self.listeners.checked_add(self.waited.get())
     }
 
     fn runtime_opts_override(&self, global: &RuntimeOpts) -> Option<RuntimeOpts> {
         Some(*global)
+    }
+
+    fn on_startup_delay(&self, waited_ms: u64) {
+        self.waited.set(waited_ms);
     }
 
     fn listen_addresses(&self, _alloc: Global) -> Result<Option<Vec<Text>>, NoMemory> {
@@ -133,18 +141,41 @@ fn a_plain_service_has_defaults(rt: HostRuntime) {
     holds(rt, configs.is_empty());
 }
 
+/// A service that keeps no default, before its start.
+fn new_busy() -> Plain<Busy> {
+    let waited = Cell::new(0);
+    Plain::new(Busy {
+        listeners: 0,
+        waited,
+    })
+}
+
+/// Each call reaches the service.
+fn forwards<R: Abort, S: ServiceWithDependents>(rt: &R, mut busy: S) {
+    let start = busy.poll_start(false, 7, ServiceReadyNotifier::new(4));
+    assert!(rt; matches!(start, StartPoll::Running));
+    assert_eq!(rt; busy.threads(), Some(7));
+    busy.on_startup_delay(20);
+    assert_eq!(rt; busy.threads(), Some(27));
+    assert_eq!(rt; busy.poll_run(false), RunPoll::Pending);
+    assert_eq!(rt; busy.poll_run(true), RunPoll::Ended);
+    let global = RuntimeOpts::default();
+    assert_eq!(rt; busy.runtime_opts_override(&global), Some(global));
+    assert_eq!(rt; busy.name(), "busy");
+    assert_eq!(rt; busy.kind(), Kind::Plain);
+}
+
 #[test]
 fn a_plain_service_forwards_each_call(rt: HostRuntime) {
+    forwards(&rt, new_busy());
+}
+
+#[test]
+fn a_boxed_service_forwards_each_call(rt: HostRuntime) {
     let rt = &rt;
-    let mut busy = Plain::new(Busy { listeners: 0 });
-    let start = busy.poll_start(false, 7, ServiceReadyNotifier::new(4));
-    holds(rt, matches!(start, StartPoll::Running));
-    same(rt, busy.threads(), Some(7));
-    same(rt, busy.poll_run(false), RunPoll::Pending);
-    same(rt, busy.poll_run(true), RunPoll::Ended);
-    let global = RuntimeOpts::default();
-    same(rt, busy.runtime_opts_override(&global), Some(global));
-    same(rt, busy.name(), "busy");
+    let boxed = Box::new(rt.alloc(), new_busy()).ok();
+    let boxed: Box<dyn ServiceWithDependents> = boxed.expect(rt, "a box");
+    forwards(rt, boxed);
 }
 
 #[test]

@@ -92,6 +92,17 @@ fn texts_compare_by_bytes(rt: HostRuntime) {
 }
 
 #[test]
+fn a_text_may_be_long(rt: HostRuntime) {
+    let rt = &rt;
+    let bytes = vec![in rt.alloc(); b'a'; 65_536].expect(rt, "bytes");
+    let long = str::from_utf8(&bytes).ok().expect(rt, "a text");
+    let text = Text::new(rt.alloc(), long).expect(rt, "a text");
+    holds(rt, text.as_str() == long);
+    let copy = text.copy(rt.alloc()).expect(rt, "a text");
+    holds(rt, copy == text);
+}
+
+#[test]
 fn calls_are_told_while_there_is_room(rt: HostRuntime) {
     let rt = &rt;
     let mut calls = Calls::new(rt.alloc(), 2).expect(rt, "calls");

@@ -5,11 +5,11 @@ use std::collections::BTreeSet;
 use std::process::Abort;
 use std::string::ToString;
 use svc_base::Text;
-use svc_boot::server::bootstrap_services::{Bootstrap, BootstrapService};
 use svc_conf::{Opt, ServerConf};
+use svc_core::{Bootstrap, BootstrapService};
 use svc_fds::{AddFdRefused, Fd};
 use svc_graph::Kind;
-use svc_graph::services::{RunPoll, ServiceReadyNotifier, ServiceWithDependents};
+use svc_graph::services::{RunPoll, ServiceReadyNotifier, ServiceWithDependents, StartPoll};
 use svc_record::{Actions, StepEnd};
 
 /// Bootstrapping by itself, with or without an older server to take over from.
@@ -106,11 +106,10 @@ fn the_service_bootstraps(rt: HostRuntime) {
     holds(rt, addresses.is_empty());
     let configs = service.listener_configs(rt.alloc()).expect(rt, "a list");
     holds(rt, configs.is_empty());
-    holds(
-        rt,
-        service
-            .poll_start(false, 1, ServiceReadyNotifier::new(0))
-            .ready(),
-    );
-    same(rt, service.poll_run(false), RunPoll::Ended);
+    // It has no work of its own: the core tells what bootstrapping tells.
+    let start = service.poll_start(false, 1, ServiceReadyNotifier::new(0));
+    holds(rt, matches!(start, StartPoll::Ended) && start.ready());
+    for shutdown in [false, true] {
+        same(rt, service.poll_run(shutdown), RunPoll::Ended);
+    }
 }

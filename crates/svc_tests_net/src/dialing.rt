@@ -1,9 +1,9 @@
 //! How a server connects.
 
 use crate::checking::{holds, same};
-use std::net::TcpListener;
+use std::io::ErrorKind;
+use std::net::{Net, OpenListener, OpenStream, SocketAddr, TcpListener};
 use std::process::Abort;
-use std::test::Fail;
 use svc_base::Text;
 use svc_socket::{
     BindTo, ConnectError, ConnectKind, DialAnswer, DialFault, Dialed, Dialer, FailingDial,
@@ -128,6 +128,23 @@ fn each_fault_has_a_kind(rt: HostRuntime) {
 }
 
 #[test]
+fn each_kind_of_the_systems_errors_has_a_fault(rt: HostRuntime) {
+    for (kind, fault) in [
+        (ErrorKind::ConnectionRefused, OsFault::Refused),
+        (ErrorKind::TimedOut, OsFault::TimedOut),
+        (ErrorKind::AddrNotAvailable, OsFault::AddrNotAvailable),
+        (ErrorKind::PermissionDenied, OsFault::PermissionDenied),
+        (ErrorKind::AddrInUse, OsFault::AddrInUse),
+        (ErrorKind::NetworkUnreachable, OsFault::NetUnreachable),
+        (ErrorKind::HostUnreachable, OsFault::HostUnreachable),
+        (ErrorKind::ConnectionReset, OsFault::Other(5)),
+        (ErrorKind::Other, OsFault::Other(5)),
+    ] {
+        same(&rt, OsFault::of(kind, 5), fault);
+    }
+}
+
+#[test]
 fn a_steady_dialer_never_fails(rt: HostRuntime) {
     let rt = &rt;
     let mut steady = SteadyDialer::new(rt.alloc(), 2).expect(rt, "a dialer");
@@ -142,23 +159,79 @@ fn a_steady_dialer_never_fails(rt: HostRuntime) {
     holds(rt, last.answer == DialAnswer::Connected(Some(PEER)));
 }
 
+/// The address in the form that connects take.
+fn peer(addr: SocketAddr) -> PeerAddr {
+    match addr {
+        SocketAddr::V4(addr) => PeerAddr::V4 {
+            ip: addr.ip().to_bits(),
+            port: addr.port(),
+        },
+        SocketAddr::V6(addr) => PeerAddr::V6 {
+            ip: addr.ip().to_bits(),
+            port: addr.port(),
+        },
+    }
+}
+
+/// The other end of the dialer's stream.
+fn far_end<S: OpenStream>(dialed: &Option<Dialed<S>>) -> Option<PeerAddr> {
+    match dialed {
+        Some(Dialed::Inet(stream)) => stream.peer_addr().ok().map(peer),
+        _ => None,
+    }
+}
+
+/// Listens at this address, dials there, and accepts: the listener's address.
+fn dial_in<R: Abort + Net>(
+    rt: &R,
+    address: &str,
+    dialer: &mut NetDialer<'_, R, R::Stream>,
+) -> PeerAddr {
+    let listener = TcpListener::bind(rt, address).expect(rt, "a listener");
+    let addr = peer(listener.local_addr().expect(rt, "an address"));
+    let local = connect(dialer, &addr, None);
+    let (_, from) = listener.accept().expect(rt, "a connection");
+    assert_eq!(rt; local, Ok(Some(peer(from))));
+    assert_eq!(rt; far_end(&dialer.dialed), Some(addr));
+    addr
+}
+
+/// A dial that would have to go out from there fails, and keeps the stream of the one before.
+fn dial_from<R: Abort + Net>(
+    rt: &R,
+    addr: PeerAddr,
+    from: BindTo,
+    dialer: &mut NetDialer<'_, R, R::Stream>,
+) {
+    let bound = connect(dialer, &addr, Some(&from));
+    assert_eq!(rt; kind(bound), Some(ConnectKind::BindError));
+    assert_eq!(rt; far_end(&dialer.dialed), Some(addr));
+}
+
 #[test]
-fn a_net_dialer_dials_over_loopback(rt: HostRuntime) -> Result<(), Fail> {
-    let listener = TcpListener::bind(&rt, "127.0.0.1:0")?;
-    let port = listener.local_addr()?.port();
-    let ip = 0x7f00_0001;
-    let addr = PeerAddr::V4 { ip, port };
-    let mut dialer = NetDialer::new(&rt);
-    let local = connect(&mut dialer, &addr, None);
-    holds(&rt, matches!(local, Ok(Some(_))));
-    holds(&rt, matches!(dialer.dialed, Some(Dialed::Inet(_))));
-    let bound = connect(&mut dialer, &addr, Some(&range(false)));
-    same(&rt, kind(bound), Some(ConnectKind::BindError));
-    drop(listener);
-    let refused = connect(&mut dialer, &addr, None);
-    same(&rt, kind(refused), Some(ConnectKind::ConnectRefused));
+fn a_net_dialer_dials_over_loopback(rt: HostRuntime) {
+    let rt = &rt;
+    let mut dialer = NetDialer::new(rt);
+    for address in ["127.0.0.1:0", "[::1]:0", "127.0.0.1:0"] {
+        let addr = dial_in(rt, address, &mut dialer);
+        let from_addr = BindTo {
+            addr: Some(PEER),
+            port_range: None,
+            fallback: false,
+        };
+        let from_ports = BindTo {
+            addr: None,
+            port_range: Some((4000, 5000)),
+            fallback: false,
+        };
+        dial_from(rt, addr, range(false), &mut dialer);
+        dial_from(rt, addr, from_addr, &mut dialer);
+        dial_from(rt, addr, from_ports, &mut dialer);
+        // Nobody listens there any more.
+        let refused = connect(&mut dialer, &addr, None);
+        same(rt, kind(refused), Some(ConnectKind::ConnectRefused));
+    }
     let nowhere = connect_uds(rt.alloc(), &mut dialer, "/nowhere/socket");
-    same(&rt, kind(nowhere), Some(ConnectKind::ConnectError));
-    same(&rt, dialer.faults(), 3);
-    Ok(())
+    same(rt, kind(nowhere), Some(ConnectKind::ConnectError));
+    same(rt, dialer.faults(), 13);
 }

@@ -133,6 +133,24 @@ fn listeners_take_each_kind_of_endpoint(rt: HostRuntime) {
     are_at(rt, &listeners, "a,b,c,d,e,f,g,h,");
 }
 
+#[test]
+fn an_address_may_be_long(rt: HostRuntime) {
+    let rt = &rt;
+    let alloc = rt.alloc();
+    let bytes = vec![in alloc; b'a'; 4096].expect(rt, "bytes");
+    let long = str::from_utf8(&bytes).ok().expect(rt, "a text");
+    let mut listeners = Listeners::new(alloc);
+    added(rt, listeners.add_tcp(alloc, long));
+    added(rt, listeners.add_tcp_with_settings(alloc, long, OPTIONS));
+    added(rt, listeners.add_uds(alloc, long, None));
+    added(rt, listeners.add_tls(alloc, long, "cert", "key"));
+    let addresses = listeners.addresses(alloc).expect(rt, "addresses");
+    same(rt, addresses.len(), 4);
+    for address in &addresses {
+        holds(rt, address.as_str() == long);
+    }
+}
+
 /// An application that gives its stream back so often, and counts how often it was cleaned up.
 #[derive(Drop)]
 struct Counting {

@@ -1,11 +1,13 @@
 //! What is set on sockets.
 
-use crate::checking::same;
+use crate::checking::{prints, same};
+use std::net::{Net, OpenListener, OpenStream, TcpListener, TcpStream};
 use std::process::Abort;
 use svc_socket::{
-    Family, MemoryOptions, OptionCall, OptionError, Options, Setting, SockOption, SteadyOptions,
-    TcpKeepalive, TcpSocketOptions, apply_bind_options, set_dscp, set_recv_buf, set_snd_buf,
-    set_tcp_fastopen_backlog, set_tcp_fastopen_connect, set_tcp_keepalive, settings_of,
+    Family, MemoryOptions, NetOptions, OptionCall, OptionError, Options, Setting, SockOption,
+    SteadyOptions, TcpKeepalive, TcpSocketOptions, apply_bind_options, set_dscp, set_recv_buf,
+    set_snd_buf, set_tcp_fastopen_backlog, set_tcp_fastopen_connect, set_tcp_keepalive,
+    settings_of,
 };
 
 const KEEPALIVE: TcpKeepalive = TcpKeepalive {
@@ -14,6 +16,12 @@ const KEEPALIVE: TcpKeepalive = TcpKeepalive {
     count: 5,
     user_timeout: 85_999_999,
 };
+
+#[test]
+fn a_keepalive_is_printed_in_nanoseconds(rt: HostRuntime) {
+    let rt = &rt;
+    prints(rt, KEEPALIVE, "60999999999ns/5000000000ns/5/85999999ns");
+}
 
 /// A socket of this family, which fails at these calls.
 fn socket<R: Abort + AllocGlobal>(rt: &R, family: Family, failing: &[u64]) -> MemoryOptions {
@@ -133,4 +141,29 @@ fn a_connection_has_its_settings_in_order(rt: HostRuntime) {
         Setting::RcvBuf(6),
     ];
     same(rt, all.as_slice(), wanted.as_slice());
+}
+
+/// The options of a stream to this address: the one on small segments is set, the others fail.
+fn sets_no_delay<R: Abort + Net>(rt: &R, address: &str, family: Family) {
+    let listener = TcpListener::bind(rt, address).expect(rt, "a listener");
+    let address = listener.local_addr().expect(rt, "an address");
+    let stream = TcpStream::connect(rt, address).expect(rt, "a stream");
+    assert_eq!(rt; stream.nodelay().ok(), Some(false));
+    let mut options = NetOptions::new(&stream);
+    assert_eq!(rt; options.family(), family);
+    assert!(rt; options.set(SockOption::NoDelay));
+    assert_eq!(rt; options.faults(), 0);
+    assert_eq!(rt; set_dscp(&mut options, 10), Err(OptionError::SocketError));
+    assert_eq!(rt;
+        set_snd_buf(&mut options, 1),
+        Err(OptionError::ConnectError)
+    );
+    assert_eq!(rt; options.faults(), 2);
+    assert_eq!(rt; stream.nodelay().ok(), Some(true));
+}
+
+#[test]
+fn the_options_of_a_stream_are_set_as_far_as_can_be(rt: HostRuntime) {
+    sets_no_delay(&rt, "127.0.0.1:0", Family::V4);
+    sets_no_delay(&rt, "[::1]:0", Family::V6);
 }

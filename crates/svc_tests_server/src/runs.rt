@@ -1,20 +1,22 @@
-//! Runs that the program doesn't make: with turns that are spent, of boxed services, and of a service
-//! that is told how long it waited.
+//! Runs that the program doesn't make: with turns that are spent, of boxed services, and of services
+//! that are told how long they waited.
 
 ghost use Rattle.std.specs.Prelude.{All, codes, length};
+ghost use Rattle.svc_record.specs.declared.item.Item.{Item};
 ghost use Rattle.svc_server.specs.ScriptHosts.{GivesFew};
 ghost use Rattle.svc_server.specs.Servers.{answers_of, IsSound};
 
 use crate::checking::same;
-use crate::servers::{added, listening, server};
+use crate::servers::{Listener, added, listening, notifying, server};
 use std::alloc::Global;
 use std::cell::Cell;
 use std::process::Abort;
 use std::rc::Rc;
+use std::string::ToString;
 use svc_base::{NoMemory, Text};
 use svc_graph::services::{RunPoll, ServiceReadyNotifier, ServiceWithDependents, StartPoll};
 use svc_graph::{EndpointPlan, Kind};
-use svc_record::{Event, ExecutionPhase, Item, ShutdownSignal};
+use svc_record::{Event, ExecutionPhase, Item, ShutdownSignal, Side};
 use svc_server::{Outcome, RunArgs, RunError, ScriptHost, Server};
 
 /// The fast signal alone.
@@ -96,41 +98,102 @@ impl ServiceWithDependents for Late {
     }
 }
 
-/// A server where the second service waits for the first.
-fn late_services<R: Abort + AllocGlobal>(rt: &R, count: &Rc<Cell<u64>>) -> Server<Late>
-    ensures { IsSound result.dependencies (length result.filters)
-        (answers_of ⟦<Late as ServiceWithDependents>⟧ result.services.items) }
+/// A service that tells this cell how long it waited.
+fn a_late_service<R: Abort>(rt: &R, waited: &Rc<Cell<u64>>) -> Late {
+    let waited = waited.clone().expect(rt, "a count");
+    Late { waited }
+}
+
+/// The server with two services more, the second of which waits for the first.
+fn with_two<R: Abort + AllocGlobal, B: ServiceWithDependents>(
+    rt: &R,
+    mut server: Server<B>,
+    first: B,
+    second: B,
+) -> Server<B>
+    ensures { IsSound server.dependencies (length server.filters)
+        (answers_of B.ServiceWithDependents server.services.items)
+        → IsSound result.dependencies (length result.filters)
+        (answers_of B.ServiceWithDependents result.services.items) }
 {
-    let mut server = server(rt);
-    let waited = count.clone().expect(rt, "a count");
-    let first = added(rt, &mut server, Late { waited });
-    let waited = count.clone().expect(rt, "a count");
-    let second = added(rt, &mut server, Late { waited });
+    let first = added(rt, &mut server, first);
+    let second = added(rt, &mut server, second);
     match second.add_dependency(rt.alloc(), &mut server.dependencies, &first) {
         Ok(()) => server,
         Err(_) => panic!(rt; "refused"),
     }
 }
 
-/// The items, and one more.
-fn with<R: Abort>(rt: &R, mut items: Vec<Item>, item: Item) -> Vec<Item>
+/// The items, and one more event.
+fn with<R: Abort>(rt: &R, mut items: Vec<Item>, event: Event) -> Vec<Item>
     requires all { All GivesFew items.items }
-    requires few { GivesFew item }
+    requires few { GivesFew (Item.Event event) }
     ensures { All GivesFew result.items }
 {
-    items.push(item).ok().expect(rt, "a list");
+    items.push(Item::Event(event)).ok().expect(rt, "a list");
     items
 }
 
+/// A fork at 300 ms, at which the server runs, and the first service's word at 1,000 ms.
+fn fork_and_word<R: Abort + AllocGlobal>(rt: &R) -> Vec<Item>
+    ensures { All GivesFew result.items }
+{
+    let items = with(rt, Vec::new(rt.alloc()), Event::Moment(300));
+    let items = with(rt, items, Event::Side(Side::Child));
+    let items = with(rt, items, Event::Moment(1000));
+    with(rt, items, Event::Ready(0))
+}
+
 #[test]
-fn a_service_is_told_how_long_it_waited(rt: HostRuntime) {
+fn a_service_is_told_how_long_it_waited_since_the_server_runs(rt: HostRuntime) {
     let rt = &rt;
     let waited = Rc::new(rt.alloc(), Cell::new(0)).ok().expect(rt, "a count");
-    let server = late_services(rt, &waited);
-    let items = with(rt, Vec::new(rt.alloc()), Item::Event(Event::Moment(700)));
-    let items = with(rt, items, Item::Event(Event::Ready(0)));
+    let mut server = with_two(
+        rt,
+        server(rt),
+        a_late_service(rt, &waited),
+        a_late_service(rt, &waited),
+    );
+    server.configuration.daemon = true;
+    let mut host = ScriptHost::new(rt.alloc(), fork_and_word(rt));
+    let answer = server.run(rt.alloc(), RunArgs { turns: 4 }, &mut host);
+    same(rt, answer, Err(RunError::TurnsSpent));
+    same(rt, waited.get(), 700);
+}
+
+#[test]
+fn a_boxed_service_is_told_how_long_it_waited(rt: HostRuntime) {
+    let rt = &rt;
+    let waited = Rc::new(rt.alloc(), Cell::new(0)).ok().expect(rt, "a count");
+    let first = Box::new(rt.alloc(), a_late_service(rt, &waited)).ok();
+    let first: Box<dyn ServiceWithDependents> = first.expect(rt, "a box");
+    let second = Box::new(rt.alloc(), a_late_service(rt, &waited)).ok();
+    let second: Box<dyn ServiceWithDependents> = second.expect(rt, "a box");
+    let mut server = with_two(rt, server(rt), first, second);
+    server.configuration.daemon = true;
+    let mut host = ScriptHost::new(rt.alloc(), fork_and_word(rt));
+    let answer = server.run(rt.alloc(), RunArgs { turns: 4 }, &mut host);
+    same(rt, answer, Err(RunError::TurnsSpent));
+    same(rt, waited.get(), 700);
+}
+
+/// The last entry of the host's record.
+fn last<R: Abort + AllocGlobal>(rt: &R, host: &ScriptHost<Listener>) -> String {
+    let last = host.entries().as_slice().last().expect(rt, "an entry");
+    last.to_string(rt.alloc()).expect(rt, "a text")
+}
+
+#[test]
+fn what_is_open_closes_where_the_turns_are_spent(rt: HostRuntime) {
+    let rt = &rt;
+    let first = notifying(rt, "db");
+    let second = listening(rt, "api", "127.0.0.1:80");
+    let server = with_two(rt, server(rt), first, second);
+    let items = with(rt, Vec::new(rt.alloc()), Event::Ready(0));
+    let items = with(rt, items, Event::Bound(1, 0, 7));
+    let items = with(rt, items, Event::Signal(ShutdownSignal::FastShutdown));
     let mut host = ScriptHost::new(rt.alloc(), items);
     let answer = server.run(rt.alloc(), RunArgs { turns: 2 }, &mut host);
     same(rt, answer, Err(RunError::TurnsSpent));
-    same(rt, waited.get(), 700);
+    same(rt, last(rt, &host).as_str(), "close 7");
 }

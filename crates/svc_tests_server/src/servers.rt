@@ -96,6 +96,16 @@ pub fn listening<R: Abort + AllocGlobal>(rt: &R, name: &str, address: &str) -> L
     }
 }
 
+/// A service without addresses that says itself when it is ready.
+pub fn notifying<R: Abort + AllocGlobal>(rt: &R, name: &str) -> Listener {
+    Listener {
+        name: Text::new(rt.alloc(), name).expect(rt, "a name"),
+        kind: Kind::Notifying,
+        says: true,
+        addresses: Texts::new(rt.alloc()),
+    }
+}
+
 /// A server without services, with the defaults.
 pub fn server<R: Abort + AllocGlobal, B: ServiceWithDependents>(rt: &R) -> Server<B>
     ensures { IsSound result.dependencies (length result.filters)

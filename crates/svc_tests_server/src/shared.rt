@@ -119,22 +119,31 @@ fn the_65th_split_is_thin(rt: HostRuntime) {
     same(rt, refused.reason, SplitReason::Thin);
 }
 
-/// Each worker waits after its first answer for the other's first.
+/// Each worker waits after its first answer for the other's first. What the gate is told is counted.
 #[derive(Drop)]
 struct Turnstile {
     left: AtomicU64,
     right: AtomicU64,
+    /// How often it was told another worker, or a count that doesn't follow the one before.
+    wrong: AtomicU64,
+    /// How often a worker was given up.
     late: AtomicU64,
 }
 
 impl Gate for Turnstile {
     fn after(&self, worker: u32, answered: u64) {
-        let (mine, theirs) = if worker == 0 {
-            (&self.left, &self.right)
-        } else {
-            (&self.right, &self.left)
+        let (mine, theirs) = match worker {
+            0 => (&self.left, &self.right),
+            1 => (&self.right, &self.left),
+            _ => {
+                self.wrong.fetch_add(1, Ordering::SeqCst);
+                return;
+            }
         };
-        mine.fetch_add(1, Ordering::SeqCst);
+        let before = mine.fetch_add(1, Ordering::SeqCst);
+        if answered != before.saturating_add(1) {
+            self.wrong.fetch_add(1, Ordering::SeqCst);
+        }
         if answered > 1 {
             return;
         }
@@ -144,8 +153,25 @@ impl Gate for Turnstile {
             }
             thread::yield_now();
         }
-        self.late.store(1, Ordering::SeqCst);
+        self.late.fetch_add(1, Ordering::SeqCst);
     }
+}
+
+fn closed_turnstile() -> Turnstile {
+    Turnstile {
+        left: AtomicU64::new(0),
+        right: AtomicU64::new(0),
+        wrong: AtomicU64::new(0),
+        late: AtomicU64::new(0),
+    }
+}
+
+/// The workers were at the gate so often, each after an answer of its own, and none waited in vain.
+fn passed<R: Abort>(rt: &R, gate: &Turnstile, left: u64, right: u64) {
+    assert_eq!(rt; gate.left.load(Ordering::SeqCst), left);
+    assert_eq!(rt; gate.right.load(Ordering::SeqCst), right);
+    assert_eq!(rt; gate.wrong.load(Ordering::SeqCst), 0);
+    assert_eq!(rt; gate.late.load(Ordering::SeqCst), 0);
 }
 
 #[test]
@@ -155,11 +181,7 @@ fn two_workers_post_at_once(rt: HostRuntime) {
     let Ok((left, right)) = server.split(&rt, alloc, pass) else {
         panic!(rt; "split")
     };
-    let gate = Turnstile {
-        left: AtomicU64::new(0),
-        right: AtomicU64::new(0),
-        late: AtomicU64::new(0),
-    };
+    let gate = closed_turnstile();
     let events = vec![in alloc; Event::Ready(0), Event::Moment(1)].expect(&rt, "events");
     let left = Feed { pass: left, events };
     let events = vec![in alloc; Event::Moment(1), Event::Ended(0)].expect(&rt, "events");
@@ -168,7 +190,7 @@ fn two_workers_post_at_once(rt: HostRuntime) {
         events,
     };
     let (one, two) = server.post_two(&rt, alloc, left, right, &gate);
-    same(&rt, gate.late.load(Ordering::SeqCst), 0);
+    passed(&rt, &gate, 2, 2);
     holds(&rt, one.rest.is_empty() && one.refused.is_none());
     holds(&rt, two.rest.is_empty() && two.refused.is_none());
     let whole = server.join(one.pass, two.pass);
@@ -176,6 +198,27 @@ fn two_workers_post_at_once(rt: HostRuntime) {
         panic!(rt; "close")
     };
     same(&rt, posts.len(), 4);
+}
+
+#[test]
+fn a_gate_is_told_of_answered_posts_alone(rt: HostRuntime) {
+    let alloc = rt.alloc();
+    let (server, pass, _) = opened(&rt, 4);
+    let Ok((left, right)) = server.split(&rt, alloc, pass) else {
+        panic!(rt; "split")
+    };
+    let gate = closed_turnstile();
+    let events = vec![in alloc; Event::Ready(0), Event::Ready(0)].expect(&rt, "events");
+    let left = Feed { pass: left, events };
+    let events = vec![in alloc; Event::Moment(1), Event::Moment(1)].expect(&rt, "events");
+    let right = Feed {
+        pass: right,
+        events,
+    };
+    let (one, two) = server.post_two(&rt, alloc, left, right, &gate);
+    passed(&rt, &gate, 1, 2);
+    holds(&rt, matches!(one.refused, Some(PostReason::Stray(_))));
+    same(&rt, (one.rest.len(), two.rest.len()), (1, 0));
 }
 
 /// Holds nobody.

@@ -1,6 +1,6 @@
 //! Listening sockets by address.
 
-ghost use Rattle.std.specs.Prelude.{◌≡◌, ◌+◌, ◌-◌, ◌<◌, ◌≤◌, ◌==◌, [], ◌∷◌, ◌++◌, ℕ, List, Some, None, OnOk, OnErr, IfOk, IfErr, IfSome, length, insert, unwrap_or, is_some, not, IsErrOf, vec_len, vec_capacity, if◌then◌else◌};
+ghost use Rattle.std.specs.Prelude.{◌≡◌, ◌+◌, ◌-◌, ◌*◌, ◌^◌, ◌<◌, ◌≤◌, ◌==◌, [], ◌∷◌, ◌++◌, ℕ, List, Some, None, OnOk, OnErr, IfOk, IfErr, IfSome, length, insert, unwrap_or, is_some, not, IsErrOf, vec_len, vec_capacity, if◌then◌else◌};
 ghost use Rattle.std.specs.Option.{option_copied, option_to_list};
 ghost use Rattle.std.specs.Str.{bytes_eq};
 ghost use Rattle.std.specs.List.{filter_map, zip};
@@ -11,14 +11,16 @@ use crate::channel::Channel;
 use crate::encoding::{Message, encoded, numbers_of, texts_of};
 use crate::errors::{DecodeError, EncodeError, ListsError, ReceiveError, SendError};
 use crate::fd::Fd;
-use crate::place::{Place, place_of, replace_at};
+use crate::place::{Place, counted_place, place_of, replace_at};
 use crate::transfer::{MAX_RETRY, close_all};
 pub use crate::transfer::{get_fds_from, send_fds_to};
 use crate::words::{decode, has_repeat};
 use std::alloc::Global;
 use std::collections::BTreeSet;
 use std::marker::Model;
+use std::sync::ledger::Ledger;
 use svc_base::{Items, NoMemory, Text};
+use svc_steps::Steps;
 
 /// Numbers of descriptors.
 pub type FdList = Items<u64>;
@@ -162,6 +164,20 @@ impl Fds {
         ensures ascending { IsAscending self.now.entries }
     {
         match place_of(&self.entries, bind) {
+            Place::Held(at) => Some(&self.entries[at].1),
+            Place::Free(_) => None,
+        }
+    }
+
+    /// The same, and how many steps that takes: one for each comparison of two addresses. Over 31
+    /// entries there are at most 5, over none there are none.
+    pub fn get_counted<L: Ledger>(&self, bind: &str, steps: &mut Steps<L>) -> Option<&Fd>
+        ensures found { option_copied result ≡ lookup bind.now self.now.entries }
+        ensures ascending { IsAscending self.now.entries }
+        ensures counted { steps.old ≤ steps.new }
+        ensures cost { 2 ^ (steps.new - steps.old) ≤ 2 * length self.now.entries + 1 }
+    {
+        match counted_place(&self.entries, bind.as_bytes(), steps) {
             Place::Held(at) => Some(&self.entries[at].1),
             Place::Free(_) => None,
         }

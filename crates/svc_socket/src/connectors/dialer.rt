@@ -6,6 +6,7 @@ ghost use Rattle.svc_socket.specs.DialerData.{DialerData, IsDialed};
 
 use crate::peer::PeerAddr;
 use std::alloc::Global;
+use std::io::ErrorKind;
 use svc_base::{NoMemory, Text};
 
 /// Where a connect goes.
@@ -62,6 +63,22 @@ pub enum OsFault {
     HostUnreachable,
     /// Another error number.
     Other(i32),
+}
+
+impl OsFault {
+    /// The fault of an error of this kind. One without a fault of its own is told by its number.
+    pub fn of(kind: ErrorKind, number: i32) -> OsFault {
+        match kind {
+            ErrorKind::ConnectionRefused => OsFault::Refused,
+            ErrorKind::TimedOut => OsFault::TimedOut,
+            ErrorKind::AddrNotAvailable => OsFault::AddrNotAvailable,
+            ErrorKind::PermissionDenied => OsFault::PermissionDenied,
+            ErrorKind::AddrInUse => OsFault::AddrInUse,
+            ErrorKind::NetworkUnreachable => OsFault::NetUnreachable,
+            ErrorKind::HostUnreachable => OsFault::HostUnreachable,
+            _ => OsFault::Other(number),
+        }
+    }
 }
 
 /// Why a dial failed.

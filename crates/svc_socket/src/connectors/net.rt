@@ -1,11 +1,13 @@
 //! A dialer over the network.
 
-ghost use Rattle.std.specs.Prelude.{◌≡◌, None};
+ghost use Rattle.std.specs.Prelude.{◌≡◌, None, true};
+ghost use Rattle.std.specs.Option.{option_copied};
+ghost use Rattle.svc_socket.specs.Connects.{is_bound};
+ghost use Rattle.svc_socket.specs.DialerData.{IsDialed};
 
 use super::dialer::{BindTo, DialAnswer, DialFault, Dialer, OsFault, Target};
 use crate::peer::PeerAddr;
 use std::io;
-use std::io::ErrorKind;
 use std::net::{
     Ipv4Addr, Ipv6Addr, Net, OpenStream, SocketAddr, SocketAddrV4, SocketAddrV6, TcpStream,
 };
@@ -42,25 +44,18 @@ impl<'a, R: Net> NetDialer<'a, R, R::Stream> {
 }
 
 /// Whether the dial is to go out from a given address or port.
-fn is_bound(from: Option<&BindTo>) -> bool {
+fn is_bound(from: Option<&BindTo>) -> bool
+    ensures { result ≡ is_bound (option_copied from.entry) }
+{
     match from {
         Some(from) => from.addr.is_some() || from.port_range.is_some(),
         None => false,
     }
 }
 
-/// What the system's error is.
+/// What the system's error is: its kind, and its number, where it has one.
 fn os_fault(error: &io::Error) -> OsFault {
-    match error.kind() {
-        ErrorKind::ConnectionRefused => OsFault::Refused,
-        ErrorKind::TimedOut => OsFault::TimedOut,
-        ErrorKind::AddrNotAvailable => OsFault::AddrNotAvailable,
-        ErrorKind::PermissionDenied => OsFault::PermissionDenied,
-        ErrorKind::AddrInUse => OsFault::AddrInUse,
-        ErrorKind::NetworkUnreachable => OsFault::NetUnreachable,
-        ErrorKind::HostUnreachable => OsFault::HostUnreachable,
-        _ => OsFault::Other(error.raw_os_error().unwrap_or(0)),
-    }
+    OsFault::of(error.kind(), error.raw_os_error().unwrap_or(0))
 }
 
 fn socket_addr(addr: PeerAddr) -> SocketAddr {
@@ -106,7 +101,12 @@ impl<R: Net> Dialer for NetDialer<'_, R, R::Stream> {
         self.count
     }
 
-    fn dial(&mut self, target: &Target, from: Option<&BindTo>) -> DialAnswer {
+    fn dial(&mut self, target: &Target, from: Option<&BindTo>) -> DialAnswer
+        ensures dialed { IsDialed (record { called = None; faults = self.old.count }) (record { called = None; faults = self.new.count })
+            (record { target = target.now; from = option_copied from.entry; answer = result }) }
+        ensures bound { is_bound (option_copied from.entry) ≡ true → result ≡ DialAnswer.Failed DialFault.Bind None }
+        ensures kept { (fault : _) (local : _) → result ≡ DialAnswer.Failed fault local → self.new.dialed ≡ self.old.dialed }
+    {
         if is_bound(from) {
             self.count = self.count.saturating_add(1);
             return DialAnswer::Failed(DialFault::Bind, None);

@@ -1,6 +1,6 @@
 use Rattle.svc_jobs.specs.JobReadings.{job_parts_of}
-use Rattle.svc_main.proofs.ScriptAnswerLemmas.{if_ok}
-use Rattle.svc_jobs.proofs.AnswerLemmas.{jobs_answer, no_words}
+use Rattle.svc_main.proofs.ScriptAnswerLemmas.{if_ok, no_words}
+use Rattle.svc_jobs.proofs.AnswerLemmas.{jobs_answer}
 use Rattle.svc_jobs.proofs.program.make_answer.Goals as goal
 
 pub returns-in-Ok-read_jobs-clause-answer : goal.returns-in-Ok-read_jobs-clause-answer

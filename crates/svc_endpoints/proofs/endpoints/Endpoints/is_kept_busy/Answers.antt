@@ -1,14 +1,15 @@
-use Rattle.std.proofs.Common.{arith, sym, ◌∙◌, Some}
-use Rattle.svc_record.specs.Plans.{service_count}
-use Rattle.svc_endpoints.specs.Visits.{any_busy}
-use Rattle.svc_endpoints.proofs.RangeLemmas.{at0, none0, more_false}
+use Rattle.std.proofs.Common.{sym, subst, ◌∙◌, ◌≡◌, true, Option, List, ℕ}
+use Rattle.std.proofs.lemmas.Bool.{and_from}
+use Rattle.svc_record.specs.Plans.{address, same_address}
+use Rattle.svc_endpoints.specs.Visits.{busy_in}
+use Rattle.svc_endpoints.proofs.BusyLemmas.{one-with}
+use Rattle.svc_endpoints.proofs.LiveLemmas.{same_self}
 use Rattle.svc_endpoints.proofs.endpoints.Endpoints.is_kept_busy.Goals as goal
 
-pub returns-then-is_row_busy : goal.returns-then-is_row_busy
-returns-then-is_row_busy c = let e = c.service_count-t-end.ensures in sym (at0 (any_busy c.args.plan.now c.args.self.now.parts c.args.moment (Some c.args.text.now)) (service_count c.args.plan.now) c.loop-t.t (omega (arith, e)) (sym c.is_row_busy.ensures ∙ c.if-is_row_busy.true))
-
-pub returns : goal.returns
-returns c = let e = c.service_count-t-end.ensures in sym (none0 (any_busy c.args.plan.now c.args.self.now.parts c.args.moment (Some c.args.text.now)) (service_count c.args.plan.now) (λ k lt. c.loop-t.invariant k (omega (arith, e))))
-
-pub loop-t-preserved : goal.loop-t-preserved
-loop-t-preserved c = more_false (any_busy c.args.plan.now c.args.self.now.parts c.args.moment (Some c.args.text.now)) c.loop-t.t c.loop-t.invariant (sym c.is_row_busy.ensures ∙ c.if-is_row_busy.false)
+pub returns-then-is_itself_busy : goal.returns-then-is_itself_busy
+returns-then-is_itself_busy c =
+    let a = address c.args.plan.now c.args.s c.args.j in
+    sym (one-with c.args.plan.now a (busy_in c.args.self.now.parts c.args.moment) c.args.s c.args.j c.requires.service c.requires.endpoint
+    (and_from (same_address a a) (busy_in c.args.self.now.parts c.args.moment c.args.s c.args.j)
+    (subst (λ (b : Option (List ℕ)). same_address b b ≡ true) c.address_of-text.ensures (same_self c.address_of-text.result.now))
+    (sym c.is_itself_busy.ensures ∙ c.if-is_itself_busy.true)))

@@ -3,9 +3,9 @@ use Rattle.svc_endpoints.proofs.EndedLemmas.{tells-ended, few-ended}
 use Rattle.svc_endpoints.proofs.endpoints.Endpoints.take_loop_ended.Goals as goal
 
 pub returns-clause-stands : goal.returns-clause-stands
-returns-clause-stands c = tells-ended c.args.plan.now c.args.self.now.parts c.end_loop.new.self.parts c.clear.new.self.parts c.args.s c.args.i c.args.j c.args.kept.now (list_of c.args.actions.now) (list_of c.clear.new.actions)
-    c.end_loop.ensures c.clear.ensures.after c.clear.ensures.told c.requires.sized
+returns-clause-stands c = tells-ended c.args.plan.now c.args.self.now.parts c.end_loop.new.self.parts c.close_drained.new.self.parts c.args.s c.args.i c.args.j c.args.kept.now (list_of c.args.actions.now) (list_of c.close_drained.new.actions)
+    c.end_loop.ensures c.close_drained.ensures.after c.close_drained.ensures.told c.requires.sized
 
 pub returns-clause-few : goal.returns-clause-few
-returns-clause-few c = few-ended c.args.plan.now c.args.self.now.parts c.end_loop.new.self.parts c.clear.new.self.parts c.args.s c.args.i c.args.j c.args.kept.now (list_of c.args.actions.now) (list_of c.clear.new.actions)
-    c.end_loop.ensures c.clear.ensures.after c.clear.ensures.told
+returns-clause-few c = few-ended c.args.plan.now c.args.self.now.parts c.end_loop.new.self.parts c.close_drained.new.self.parts c.args.s c.args.i c.args.j c.args.kept.now (list_of c.args.actions.now) (list_of c.close_drained.new.actions)
+    c.end_loop.ensures c.close_drained.ensures.after c.close_drained.ensures.told

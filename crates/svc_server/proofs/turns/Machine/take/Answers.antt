@@ -28,8 +28,8 @@ tell_all-requires-clause-may g c =
     let same = ap (names_by named) c.note_event.ensures in
     let can : CanTake c.args.self.now.core left (g.H.Host.account c.args.host.now) (g.H.Host.last c.args.host.now) =
     subst (λ (left : List (Option (List _))). CanTake c.args.self.now.core left (g.H.Host.account c.args.host.now) (g.H.Host.last c.args.host.now)) (sym same) c.requires.can in
-    may-step c.args.self.now.core c.step.new.self left (g.H.Host.account c.args.host.now) c.event-event.result.now (list_of c.new-actions.result) (list_of c.step.new.actions) (list_of c.step.new.actions)
-    c.in_ok-end.end c.in_ok-end.ensures.kept c.new-actions.ensures refl c.in_ok-end.ensures.plan
+    may-step c.args.self.now.core c.step.new.self left (g.H.Host.account c.args.host.now) c.event-event.result.now (list_of c.empty.new.actions) (list_of c.step.new.actions) (list_of c.step.new.actions)
+    c.in_ok-end.end c.in_ok-end.ensures.kept c.empty.ensures refl c.in_ok-end.ensures.plan
     (subst (λ (o : Option Event). CanTake c.args.self.now.core left (g.H.Host.account c.args.host.now) o) c.event-event.ensures can)
 
 pub returns-clause-leaves : goal.returns-clause-leaves
@@ -45,6 +45,6 @@ returns-clause-leaves g c =
     subst (λ (o : Option Event). IfSome o (λ e. (q : Record) → StandsFor core q → Right core.plan q → Hands left account core.plan (Got e ∷ q)
     → Leaves answers now c.step.new.self (names_by named c.tell_all.new.boxes) (g.H.Host.account c.tell_all.new.host) c.in_ok-end.end (Got e ∷ q))) (sym c.event-event.ensures)
     (λ q stands right hands. step-leaves answers now c.ask_filter-said.result core c.step.new.self (names_by named c.note_event.new.self) (names_by named c.tell_all.new.boxes) account (g.H.Host.account c.tell_all.new.host)
-    c.event-event.result.now (list_of c.new-actions.result) (list_of c.step.new.actions) (list_of c.step.new.actions) c.in_ok-end.end c.in_ok-end.ensures.kept c.in_ok-end.ensures.judged asks
-    c.new-actions.ensures refl c.in_ok-end.ensures.plan c.tell_all.ensures.hands q stands right
+    c.event-event.result.now (list_of c.empty.new.actions) (list_of c.step.new.actions) (list_of c.step.new.actions) c.in_ok-end.end c.in_ok-end.ensures.kept c.in_ok-end.ensures.judged asks
+    c.empty.ensures refl c.in_ok-end.ensures.plan c.tell_all.ensures.hands q stands right
     (hands-same left (names_by named c.note_event.new.self) account account core.plan (Got c.event-event.result.now ∷ q) same refl hands))

@@ -1,0 +1,6 @@
+use Rattle.std.proofs.Common.{◌≡◌, ◌<◌, Some, ℕ, false}
+use Rattle.svc_endpoints.specs.Visits.{any_busy}
+use Rattle.svc_endpoints.proofs.endpoints.Endpoints.is_any_busy.Given as goal
+
+abbrev pub invariant-loop-t : goal.invariant-loop-t
+invariant-loop-t l = (u : ℕ) → u < l.t → any_busy l.plan l.self.parts l.moment (Some l.text) u ≡ false

@@ -1,0 +1,26 @@
+-- Marks of addresses, by which most that a table doesn't have are told apart from those that it has.
+use Rattle.std.specs.Prelude.{ℕ, Bool, true, false, ◌+◌, ◌*◌, ◌/◌, ◌%◌, ◌==◌, ◌||◌, ◌&&◌, List, [], ◌∷◌, Option, Some, None, length, slice_index_or}
+use Rattle.std.specs.List.{list_all}
+use Rattle.svc_endpoints.specs.declared.table.Open.{Open}
+
+-- a number below 2 ^ 32 that is made of one and of the bytes
+abbrev pub hash_from : ℕ → List ℕ → ℕ
+hash_from h [] = h
+hash_from h (b ∷ more) = hash_from ((h * 131 + b) % 4294967291) more
+
+-- both marks of the hash are there, or there are no marks at all
+abbrev pub are_set : List Bool → ℕ → Bool
+are_set marks h = (length marks == 0) || (slice_index_or marks (h % length marks) false && slice_index_or marks (h / 65536 % length marks) false)
+
+-- those of the address are
+abbrev pub may_have : List Bool → List ℕ → Bool
+may_have marks a = are_set marks (hash_from 0 a)
+
+-- those of the address are, if there is one
+abbrev pub is_marked : List Bool → Option (List ℕ) → Bool
+is_marked marks (Some a) = may_have marks a
+is_marked marks None = true
+
+-- the address of each descriptor is marked
+abbrev pub are_marked : List Bool → List Open → Bool
+are_marked marks table = list_all (λ (o : Open). is_marked marks o.address) table

@@ -1,0 +1,10 @@
+pub mod StepLines
+pub mod BlockTexts
+pub mod Inputs
+pub mod BlockReadings
+pub mod ChainStatus
+pub mod Serving
+pub mod ChainTells
+pub mod ChainPrograms
+pub mod PlanReadings
+pub mod Servings

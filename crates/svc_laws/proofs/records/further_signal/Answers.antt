@@ -1,0 +1,5 @@
+use Rattle.svc_laws.proofs.SilentLemmas.{further-silent}
+use Rattle.svc_laws.proofs.records.further_signal.Goals as goal
+
+pub returns : goal.returns
+returns c = further-silent

@@ -1,0 +1,6 @@
+use Rattle.std.proofs.Common.{length}
+use Rattle.svc_base.specs.Items.{list_of}
+use Rattle.svc_server.proofs.turns.empty.Given as goal
+
+abbrev pub decreases-loop-action : goal.decreases-loop-action
+decreases-loop-action l = length (list_of l.actions)

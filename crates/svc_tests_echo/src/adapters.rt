@@ -1,0 +1,58 @@
+//! The binder and the accepting socket over TCP.
+
+use crate::checking::{holds, same};
+use crate::clients::{connected, free_address, said_back};
+use std::alloc::Global;
+use std::net::{SocketAddr, TcpListener};
+use std::test::Fail;
+use svc_base::{Setting, Text};
+use svc_echo::{SocketAccepting, SocketBinder};
+use svc_listen::{Accepting, Arrival, BindAnswer, BindOutcome, Binder, ServerAddress};
+
+fn tcp(alloc: Global, address: SocketAddr) -> Result<ServerAddress, Fail> {
+    let text = format!(in alloc; "{address}")?;
+    Ok(ServerAddress::Tcp(Text::new(alloc, text.as_str())?, None))
+}
+
+/// What a try to bind gave, with the number of the descriptor.
+fn outcome_of(answer: BindAnswer) -> BindOutcome {
+    match answer {
+        BindAnswer::Bound(fd) => BindOutcome::Bound(fd.close()),
+        BindAnswer::InUse => BindOutcome::InUse,
+        BindAnswer::Failed => BindOutcome::Failed,
+    }
+}
+
+#[test]
+fn a_busy_address_is_in_use(rt: HostRuntime) -> Result<(), Fail> {
+    let alloc = rt.alloc();
+    let address = free_address(&rt)?;
+    let addr = tcp(alloc, address)?;
+    let mut binder = SocketBinder::new(&rt, alloc, 10)?;
+    let mut other = SocketBinder::new(&rt, alloc, 10)?;
+    same(&rt, outcome_of(binder.bind(&addr)), BindOutcome::Bound(3));
+    same(&rt, outcome_of(other.bind(&addr)), BindOutcome::InUse);
+    same(&rt, (other.faults(), other.waits()), (0, 1));
+    holds(&rt, binder.adopt(&addr, 3));
+    holds(&rt, !binder.adopt(&addr, 4));
+    same(&rt, (binder.faults(), binder.waits()), (1, 0));
+    Ok(())
+}
+
+#[test]
+fn a_connection_is_accepted_and_refused(rt: HostRuntime) -> Result<(), Fail> {
+    let alloc = rt.alloc();
+    let listener = TcpListener::bind(&rt, "127.0.0.1:0")?;
+    listener.set_nonblocking(true)?;
+    let address = listener.local_addr()?;
+    let mut accepting = SocketAccepting::new(alloc, 10, listener)?;
+    same(&rt, accepting.accept(), Arrival::NotYet);
+    let client = connected(&rt, address)?;
+    let arrival = accepting.accept();
+    holds(&rt, matches!(arrival, Arrival::Came(2, _)));
+    holds(&rt, accepting.set(2, &Setting::NoDelay));
+    accepting.refuse(2);
+    holds(&rt, !said_back(&client, b"word").unwrap_or(false));
+    same(&rt, (accepting.faults(), accepting.waits()), (0, 1));
+    Ok(())
+}

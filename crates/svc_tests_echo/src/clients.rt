@@ -1,0 +1,54 @@
+//! Clients of a listener on loopback. Each of their waits is bounded.
+
+use std::io::{Read, Write};
+use std::net::{Net, SocketAddr, TcpListener, TcpStream};
+use std::time::{Clock, Duration};
+use std::{io, thread};
+
+/// The most seconds of one wait.
+const WAIT: u64 = 10;
+
+/// An address on loopback that was free a moment ago.
+pub(crate) fn free_address<R: Net<Listener = TcpListener, Stream = TcpStream>>(
+    rt: &R,
+) -> io::Result<SocketAddr> {
+    TcpListener::bind(rt, "127.0.0.1:0")?.local_addr()
+}
+
+/// Whether a connection is taken at the address now.
+pub(crate) fn is_taken<R: Net<Listener = TcpListener, Stream = TcpStream>>(
+    rt: &R,
+    at: SocketAddr,
+) -> bool {
+    TcpStream::connect_timeout(rt, &at, Duration::from_secs(WAIT)).is_ok()
+}
+
+/// Connects as soon as something listens, within about ten seconds. Each read and write on the connection
+/// ends within ten seconds.
+pub(crate) fn connected<R: Net<Listener = TcpListener, Stream = TcpStream> + Clock>(
+    rt: &R,
+    at: SocketAddr,
+) -> io::Result<TcpStream> {
+    for _ in 0..1000u32 {
+        if let Ok(stream) = TcpStream::connect_timeout(rt, &at, Duration::from_secs(WAIT)) {
+            return bounded(stream);
+        }
+        thread::sleep(rt, Duration::from_millis(10));
+    }
+    bounded(TcpStream::connect_timeout(rt, &at, Duration::from_secs(WAIT))?)
+}
+
+/// Each read and write on the connection ends within ten seconds.
+fn bounded(stream: TcpStream) -> io::Result<TcpStream> {
+    stream.set_read_timeout(Some(Duration::from_secs(WAIT)))?;
+    stream.set_write_timeout(Some(Duration::from_secs(WAIT)))?;
+    Ok(stream)
+}
+
+/// Says a word, and answers whether it came back.
+pub(crate) fn said_back(mut stream: &TcpStream, word: &[u8; 4]) -> io::Result<bool> {
+    stream.write_all(word)?;
+    let mut got = [0u8; 4];
+    stream.read_exact(&mut got)?;
+    Ok(got == *word)
+}

@@ -1,0 +1,58 @@
+//! Plans of one service.
+
+use std::alloc::Global;
+use std::test::Fail;
+use svc_base::{Numbers, Text};
+use svc_desk::Gate;
+use svc_graph::{EndpointList, EndpointPlan, Kind};
+use svc_record::{Plan, ServiceList, ServicePlan};
+use svc_socket::settings_of;
+
+/// A plan with one service, which listens on these addresses.
+pub(crate) fn plan_of(
+    alloc: Global,
+    name: &str,
+    kind: Kind,
+    addresses: &[&str],
+) -> Result<Plan, Fail> {
+    let mut endpoints = EndpointList::new(alloc);
+    for address in addresses {
+        let endpoint = EndpointPlan {
+            address: Text::new(alloc, *address)?,
+            unix: false,
+            options: settings_of(alloc, None)?,
+            filter: None,
+        };
+        endpoints.push(alloc, endpoint)?;
+    }
+    let service = ServicePlan {
+        name: Text::new(alloc, name)?,
+        kind,
+        depends: Numbers::new(alloc),
+        declared: None,
+        endpoints,
+    };
+    let mut services = ServiceList::new(alloc);
+    services.push(alloc, service)?;
+    Ok(Plan {
+        services,
+        grace: 300,
+        stop: 5,
+        tasks: 1,
+        limit: 5,
+        upgrade: false,
+        test: false,
+        eager: false,
+        daemon: false,
+        wait: false,
+        ready_timeout: 600,
+    })
+}
+
+/// Holds nobody.
+#[derive(Drop)]
+pub(crate) struct OpenGate;
+
+impl Gate for OpenGate {
+    fn after(&self, _worker: u32, _answered: u64) {}
+}
