@@ -1,5 +1,5 @@
 -- Places in a list and what follows them.
-use Rattle.std.proofs.Common.{◌≡◌, ℕ, ◌-◌, ◌<◌, Bool, false, not, List, [], ◌∷◌, length, get_or, position, Option, None, unwrap_or, refl, inl, inr, arith, ltb, ◌≤◌}
+use Rattle.std.proofs.Common.{◌≡◌, ℕ, ◌<◌, Bool, false, not, List, [], ◌∷◌, length, get_or, position, Option, None, unwrap_or, refl, inl, inr, arith, ltb, ◌≤◌}
 use Rattle.std.specs.List.{position_or_len, prefix_len}
 use Rattle.std.proofs.lemmas.Bool.Decides.{nat_tests}
 use Rattle.std.proofs.lemmas.Bool.{cases_lt, lt-ltb, cases_Bool}

@@ -2,7 +2,7 @@
 
 ghost use Rattle.std.specs.Prelude.{◌≡◌, ◌-◌, ◌<◌, ◌≤◌, [], ◌∷◌, Some, None, is_some, IfOk};
 ghost use Rattle.std.specs.Option.{option_map};
-ghost use Rattle.svc_base.specs.Calls.{told_of, room_of, Adds};
+ghost use Rattle.svc_base.specs.Calls.{told_of, room_of, Adds, Stays};
 
 use crate::items::Reserved;
 use crate::memory::NoMemory;
@@ -54,11 +54,12 @@ impl<T: Drop> Calls<T> {
         }
     }
 
-    /// Tells no calls from now on.
+    /// Tells no calls from now on, and has no room any more.
     pub fn lose(&mut self)
-        ensures { self.new ≡ (None, room_of self.old) }
+        ensures { self.new ≡ (None, 0) }
     {
         self.whole = false;
+        self.room = 0;
     }
 
     /// One call more.
@@ -66,6 +67,7 @@ impl<T: Drop> Calls<T> {
         ensures call { Adds (told_of self.old) (told_of self.new) (call ∷ []) }
         ensures told { 0 < room_of self.old → is_some (told_of self.new) ≡ is_some (told_of self.old) }
         ensures room { room_of self.new ≡ room_of self.old - 1 }
+        ensures stays { Stays (told_of self.old) (told_of self.new) (room_of self.old) (room_of self.new) }
     {
         if self.room == 0 {
             self.whole = false;

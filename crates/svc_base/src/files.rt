@@ -1,8 +1,8 @@
 //! Files that are read whole.
 
-ghost use Rattle.std.specs.Prelude.{◌≡◌, ◌∷◌, [], true, None, IfOk};
+ghost use Rattle.std.specs.Prelude.{◌≡◌, ◌∷◌, [], true, None, IfOk, OnOk, OnErr};
 ghost use Rattle.svc_base.specs.Calls.{Adds};
-ghost use Rattle.svc_base.specs.FileCalls.{FilesData, IsRead, told, FileFaults};
+ghost use Rattle.svc_base.specs.FileCalls.{FilesData, IsRead, told};
 
 use crate::memory::NoMemory;
 use crate::source::{ReadAllError, Reading, read_all};
@@ -48,7 +48,7 @@ pub trait Files {
     fn faults(&self) -> u64
         ensures { result ≡ (seen self.now).faults };
 
-    /// The text of a file.
+    /// The text of a file. What was told stays told, but where memory runs out.
     fn read(&mut self, alloc: Global, path: &str) -> Result<Text, FileError>
         ensures { IsRead (seen self.old) (seen self.new) path.now result };
 }
@@ -99,7 +99,7 @@ fn new_call(
 }
 
 /// Files in memory. The calls whose numbers, from 0, are listed fail, and so does a path that isn't
-/// there. They tell their calls until they find no memory for one.
+/// there. They tell their calls until they find no memory for one, which is answered as `NoMemory`.
 #[derive(Drop)]
 pub struct MemoryFiles {
     pub files: Vec<MemoryFile>,
@@ -111,6 +111,7 @@ pub struct MemoryFiles {
 }
 
 impl MemoryFiles {
+    /// These files, of which the calls with these numbers fail.
     pub fn new(alloc: Global, files: Vec<MemoryFile>, failing: Vec<u64>) -> Self
         ensures calls { result.calls.items ≡ [] }
         ensures whole { result.whole ≡ true }
@@ -134,34 +135,36 @@ impl MemoryFiles {
         self.failing.contains(&call)
     }
 
-    fn note(&mut self, alloc: Global, path: &str, answer: &Result<Text, FileError>)
+    /// Notes a call. Where there is no memory for it no call is told any more.
+    fn note(
+        &mut self,
+        alloc: Global,
+        path: &str,
+        answer: &Result<Text, FileError>,
+    ) -> Result<(), NoMemory>
         ensures called { Adds (told self.old.whole self.old.calls.items) (told self.new.whole self.new.calls.items)
             (record { path = path.now; answer = answer.now } ∷ []) }
+        ensures stays { OnOk result (self.new.whole ≡ self.old.whole) }
+        ensures lost { OnErr result (told self.new.whole self.new.calls.items ≡ None) }
         ensures count { self.new.count ≡ self.old.count }
     {
-        let Ok(call) = new_call(alloc, path, answer) else {
-            self.whole = false;
-            return;
+        let noted = match new_call(alloc, path, answer) {
+            Ok(call) => self.calls.push(call).map_err(NoMemory::from),
+            Err(error) => Err(error),
         };
-        if self.calls.push(call).is_err() {
+        if noted.is_err() {
             self.whole = false;
         }
+        noted
     }
 
     fn answer(&mut self, alloc: Global, path: &str) -> Result<Text, FileError>
-        ensures count { FileFaults result self.old.count self.new.count }
-        ensures calls { self.new.calls ≡ self.old.calls }
-        ensures whole { self.new.whole ≡ self.old.whole }
+        ensures { self.new ≡ record self.old { asked = self.new.asked } }
     {
-        let answer = if self.fails() {
-            Err(FileError::Failed)
-        } else {
-            text_at(alloc, self.files.as_slice(), path)
-        };
-        if let Err(FileError::Failed) = answer {
-            self.count = self.count.saturating_add(1);
+        if self.fails() {
+            return Err(FileError::Failed);
         }
-        answer
+        text_at(alloc, self.files.as_slice(), path)
     }
 }
 
@@ -174,7 +177,12 @@ impl Files for MemoryFiles {
 
     fn read(&mut self, alloc: Global, path: &str) -> Result<Text, FileError> {
         let answer = self.answer(alloc, path);
-        self.note(alloc, path, &answer);
+        if self.note(alloc, path, &answer).is_err() {
+            return Err(FileError::NoMemory);
+        }
+        if let Err(FileError::Failed) = answer {
+            self.count = self.count.saturating_add(1);
+        }
         answer
     }
 }

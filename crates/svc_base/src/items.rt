@@ -1,4 +1,4 @@
-ghost use Rattle.std.specs.Prelude.{◌≡◌, ◌+◌, ◌-◌, ◌<◌, ◌≤◌, ◌==◌, [], ◌∷◌, ◌++◌, length, List, ℕ, None, OnOk, OnErr, IfErr, vec_len, vec_capacity, reverse};
+ghost use Rattle.std.specs.Prelude.{◌≡◌, ◌+◌, ◌-◌, ◌<◌, ◌≤◌, ◌==◌, [], ◌∷◌, ◌++◌, length, List, ℕ, None, OnOk, OnErr, IfOk, IfErr, vec_len, vec_capacity, reverse};
 ghost use Rattle.std.specs.Option.{option_to_list};
 ghost use Rattle.svc_base.specs.Items.{list_of, spare};
 
@@ -31,6 +31,7 @@ impl<T> Model for Reserved<T> {
 }
 
 impl<T> Reserved<T> {
+    /// No items, and no memory yet.
     pub fn new(alloc: Global) -> Self
         ensures { list_of result ≡ [] }
     {
@@ -39,18 +40,21 @@ impl<T> Reserved<T> {
         }
     }
 
+    /// The items.
     pub fn as_slice(&self) -> &[T]
         ensures { result.now ≡ list_of self.now }
     {
         self.items.as_slice()
     }
 
+    /// How many items there are.
     pub fn len(&self) -> u64
         ensures { result ≡ length (list_of self.now) }
     {
         self.items.len() as u64
     }
 
+    /// Whether there is none.
     pub fn is_empty(&self) -> bool
         ensures { result ≡ (length (list_of self.now) == 0) }
     {
@@ -139,6 +143,7 @@ impl<T> Model for Items<T> {
 }
 
 impl<T> Items<T> {
+    /// No items, and no memory yet.
     pub fn new(alloc: Global) -> Self
         ensures { result ≡ [] }
     {
@@ -147,18 +152,21 @@ impl<T> Items<T> {
         }
     }
 
+    /// The items.
     pub fn as_slice(&self) -> &[T]
         ensures { result.now ≡ self.now }
     {
         self.inner.as_slice()
     }
 
+    /// How many items there are.
     pub fn len(&self) -> u64
         ensures { result ≡ length self.now }
     {
         self.inner.len()
     }
 
+    /// Whether there is none.
     pub fn is_empty(&self) -> bool
         ensures { result ≡ (length self.now == 0) }
     {
@@ -190,8 +198,22 @@ impl<T> Items<T> {
     }
 }
 
+/// These items once more, in exactly the memory that they take.
+pub fn copy_items<T: Copy>(alloc: Global, items: &[T]) -> Result<Items<T>, NoMemory>
+    ensures { IfOk result (λ copied. copied ≡ items.now) }
+{
+    let mut copied = Vec::new(alloc);
+    copied.reserve_exact(items.len())?;
+    copied.extend_from_slice(items)?;
+    Ok(Items {
+        inner: Reserved { items: copied },
+    })
+}
+
+/// Bytes of a message.
 pub type Bytes = Items<u8>;
 
+/// Texts, in order.
 pub type Texts = Items<Text>;
 
 /// Service numbers.

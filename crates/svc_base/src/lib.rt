@@ -19,7 +19,7 @@ mod words;
 pub use calls::Calls;
 pub use decimals::{number, number8, number16, number32};
 pub use files::{FileCall, FileError, Files, MemoryFile, MemoryFiles, SteadyFiles, SystemFiles};
-pub use items::{Bytes, ItemRefused, Items, Numbers, Reserved, Settings, Texts};
+pub use items::{Bytes, ItemRefused, Items, Numbers, Reserved, Settings, Texts, copy_items};
 pub use memory::NoMemory;
 pub use number_set::NumberSet;
 pub use settings::{Setting, TcpKeepalive};

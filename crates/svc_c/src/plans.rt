@@ -7,10 +7,10 @@ ghost use Rattle.svc_text.specs.Edges.{HasEdges};
 ghost use Rattle.svc_text.specs.ScriptPlans.{endpoint_of, addresses_of, depends_of, declared_of, service_plan, plans_from, settled};
 
 use std::alloc::Global;
-use svc_base::{Items, NoMemory, Numbers, Text, Texts};
+use svc_base::{Items, NoMemory, Numbers, Text, Texts, copy_items};
 use svc_conf::{Opt, ServerConf};
 use svc_graph::{DependencyGraph, EndpointList, EndpointPlan};
-use svc_record::{Plan, ServiceList, ServicePlan, copy_items};
+use svc_record::{Plan, ServiceList, ServicePlan};
 use svc_text::{EndpointLine, ServiceLine, add_dependencies, filter_number};
 
 /// Appends. An item for which no memory was found is dropped.

@@ -2,7 +2,7 @@
 use Rattle.std.proofs.Common.{◌≡◌, ◌≢◌, ℕ, ◌+◌, ◌<◌, ◌≤◌, List, [], ◌∷◌, ◌++◌, length, Option, Some, None, refl, sym, ap, ◌∙◌, subst, arith, append_assoc, append-nil, length-append}
 use Rattle.svc_base.specs.Streams.{Rose}
 use Rattle.svc_base.specs.Calls.{Adds}
-use Rattle.svc_base.proofs.CallLemmas.{Adds-nil, Adds-then}
+use Rattle.svc_base.proofs.CallLemmas.{Adds-nil, Adds-then, Stays-same, Stays-then}
 use Rattle.svc_record.specs.declared.event.Event.{Event}
 use Rattle.svc_record.specs.declared.action.Action.{Action}
 use Rattle.svc_record.specs.declared.action.StepEnd.TheVariants.{On}
@@ -17,12 +17,37 @@ use Rattle.svc_shared.proofs.OwnLemmas.{begins-whole, begins-trans}
 use Rattle.svc_desk.specs.declared.stray.Strayed.{Strayed}
 use Rattle.svc_desk.specs.declared.worker.WorkEnd.{WorkEnd}
 use Rattle.svc_desk.specs.declared.worker.WorkEnd.TheVariants as ends
-use Rattle.svc_desk.specs.Desks.{DeskData, IsPerformed, Grew}
-use Rattle.svc_desk.specs.Deeds.{Deed, posted, strayed, events_of, posts_of, actions_of, stray_events, stray, strays_from, OfFront, Follows, LeavesOn, EndsRun, EndsBy, GrewUpTo}
+use Rattle.svc_desk.specs.Desks.{DeskData, DeskStays, IsPerformed, Grew}
+use Rattle.svc_desk.specs.Deeds.{Deed, posted, strayed, events_of, posts_of, actions_of, stray_events, stray, strays_from, OfFront, Follows, LeavesOn, EndsRun, EndsBy, GrewUpTo, call_count}
 use Rattle.svc_desk.specs.Working.{IsDone, IsAtDesk, TurnEnds}
 
+pub stays-same : (d : DeskData) → DeskStays d d
+stays-same d = record {
+  taken = Stays-same d.taken d.room;
+  performed = Stays-same d.performed d.room;
+  refused = Stays-same d.refused d.room;
+  takes = λ some. refl;
+}
+
+pub stays-then : (a b c : DeskData) → DeskStays a b → DeskStays b c → DeskStays a c
+stays-then a b c p q = record {
+  taken = Stays-then p.taken q.taken;
+  performed = Stays-then p.performed q.performed;
+  refused = Stays-then p.refused q.refused;
+  takes = λ some. q.takes some ∙ p.takes (omega (arith, some, q.taken.falls));
+}
+
 pub performed-none : (d : DeskData) → IsPerformed d d []
-performed-none d = record { performed = Adds-nil d.performed; taken = refl; refused = refl; takes = refl; faults = refl; idles = refl }
+performed-none d = record {
+  performed = Adds-nil d.performed;
+  taken = refl;
+  refused = refl;
+  takes = refl;
+  stays = stays-same d;
+  place = omega arith;
+  faults = refl;
+  idles = refl;
+}
 
 pub performed-then : (a b c : DeskData) (xs ys : List Action) → IsPerformed a b xs → IsPerformed b c ys → IsPerformed a c (xs ++ ys)
 performed-then a b c xs ys p q = record {
@@ -30,6 +55,8 @@ performed-then a b c xs ys p q = record {
   taken = q.taken ∙ p.taken;
   refused = q.refused ∙ p.refused;
   takes = q.takes ∙ p.takes;
+  stays = stays-then a b c p.stays q.stays;
+  place = (let n = length-append xs ys in omega (arith, p.place, q.place, n));
   faults = q.faults ∙ p.faults;
   idles = q.idles ∙ p.idles;
 }
@@ -164,6 +191,7 @@ at_desk-then a b c xs ys hand f g = record {
   refused = subst (λ (l : List Event). Adds a.refused c.refused l)
       (joined (stray_events xs) (stray_events ys) (stray_events (xs ++ ys)) (stray_events-append xs ys))
       (Adds-then a.refused b.refused c.refused (stray_events xs ++ []) (stray_events ys ++ hand) f.refused g.refused);
+  stays = stays-then a b c f.stays g.stays;
   faults = (let x = f.faults in let y = g.faults in omega (arith, x, y));
   idles = (let x = f.idles in let y = g.idles in omega (arith, x, y));
 }
@@ -171,11 +199,28 @@ at_desk-then a b c xs ys hand f g = record {
     joined : (u v w : List Event) → w ≡ u ++ v → (u ++ []) ++ (v ++ hand) ≡ w ++ hand
     joined u v w is = ap (λ (l : List Event). l ++ (v ++ hand)) (append-nil u) ∙ (sym (append_assoc u v hand) ∙ ap (λ (l : List Event). l ++ hand) (sym is))
 
+call_count-append : (xs ys : List Deed) (hand : List Event) → call_count (xs ++ ys) hand ≡ call_count xs [] + call_count ys hand
+call_count-append xs ys hand =
+    let actions = ap length (actions-append xs ys) in
+    let each_action = length-append (actions_of xs) (actions_of ys) in
+    let strays = ap length (stray_events-append xs ys) in
+    let each_stray = length-append (stray_events xs) (stray_events ys) in
+    let whole = length-append (stray_events (xs ++ ys)) hand in
+    let none = length-append (stray_events xs) [] in
+    let last = length-append (stray_events ys) hand in
+    omega (arith, actions, each_action, strays, each_stray, whole, none, last)
+
+-- the room that turns took, and then one more turn
+pub place-then : (a b c counter turns : ℕ) (xs ys : List Deed) (hand : List Event) → counter < turns → a ≤ b + (counter + call_count xs [])
+    → b ≤ c + (1 + call_count ys hand) → a ≤ c + (turns + call_count (xs ++ ys) hand)
+place-then a b c counter turns xs ys hand lt f g = let both = call_count-append xs ys hand in omega (arith, lt, f, g, both)
+
 pub at_desk-none : (a : DeskData) → IsAtDesk a a [] []
 at_desk-none a = record {
   taken = Adds-nil a.taken;
   performed = Adds-nil a.performed;
   refused = Adds-nil a.refused;
+  stays = stays-same a;
   faults = (let x : a.faults ≤ a.faults = omega arith in x);
   idles = (let x : a.idles ≤ a.idles = omega arith in x);
 }

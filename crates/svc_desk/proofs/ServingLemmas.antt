@@ -1,5 +1,5 @@
 -- A server opened with two passes, closed with both, and its journal against both desks.
-use Rattle.std.proofs.Common.{◌≡◌, ◌⊎◌, inl, inr, ⊎_elim, ℕ, zero, suc, ◌+◌, ◌≤◌, List, [], ◌∷◌, ◌++◌, length, Option, sym, ap, ◌∙◌, subst}
+use Rattle.std.proofs.Common.{◌≡◌, ◌⊎◌, inl, inr, ⊎_elim, ℕ, zero, suc, ◌+◌, ◌≤◌, List, [], ◌∷◌, ◌++◌, length, Option, sym, ap, ◌∙◌, subst, arith}
 use mathlib.Core.Option.{some, some-ne-none, some-injective}
 use lib.ListN.{get_elem?}
 use Rattle.svc_base.specs.Streams.{Rose}
@@ -30,7 +30,7 @@ use Rattle.svc_desk.specs.Desks.{DeskData, IsPerformed, Grew}
 use Rattle.svc_desk.specs.Deeds.{Deed, events_of, posts_of, actions_of, stray_events, Follows, EndsBy, Shows}
 use Rattle.svc_desk.specs.Working.{IsWorked}
 use Rattle.svc_desk.specs.Serving.{desk_end, StandsFor, OfTwo, IsServed, IsLater, IsHandedBack, AreSides, IsOpened, IsJournalOf}
-use Rattle.svc_desk.proofs.DeedLemmas.{follows-later, ends-later, performed-none}
+use Rattle.svc_desk.proofs.DeedLemmas.{follows-later, ends-later, stays-then, performed-none}
 
 -- CLOSING
 
@@ -84,6 +84,8 @@ shows-from o journal n turns first before mid now log hand strays end p x = reco
   performed = Adds-then before.performed mid.performed now.performed first (actions_of log) p.performed x.performed;
   refused = subst (λ (k : Option (List Event)). Adds k now.refused (stray_events log ++ hand)) p.refused x.refused;
   takes = (x.takes.0, x.takes.1, subst (λ (k : Option ℕ). Grew k now.takes x.takes.0) p.takes x.takes.2);
+  stays = stays-then before mid now p.stays x.stays;
+  place = (let f = p.place in let g = x.place in omega (arith, f, g));
   faults = subst (λ (k : ℕ). k ≤ now.faults) p.faults x.faults;
   idles = subst (λ (k : ℕ). k ≤ now.idles) p.idles x.idles;
   strays_are = x.strays_are;
@@ -100,6 +102,8 @@ shows-later o a b n m turns first before now log hand strays end more same x = r
   performed = x.performed;
   refused = x.refused;
   takes = x.takes;
+  stays = x.stays;
+  place = x.place;
   faults = x.faults;
   idles = x.idles;
   strays_are = x.strays_are;
@@ -147,6 +151,7 @@ worked_later s p turns first before mid now r performed w =
       taken = (events_of w.log ++ w.hand, x.taken);
       performed = (first ++ actions_of w.log, x.performed);
       refused = (stray_events w.log ++ w.hand, x.refused);
+      stays = x.stays;
       faults = x.faults;
       idles = x.idles;
     }

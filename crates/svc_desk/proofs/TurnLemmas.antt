@@ -27,9 +27,9 @@ use Rattle.svc_desk.specs.declared.worker.Tally.{Tally}
 use Rattle.svc_desk.specs.declared.worker.WorkEnd.{WorkEnd}
 use Rattle.svc_desk.specs.declared.worker.WorkEnd.TheVariants as ends
 use Rattle.svc_desk.specs.Desks.{DeskData, IsTaken, IsPerformed, IsRefusedBy, Grew, brought}
-use Rattle.svc_desk.specs.Deeds.{Deed, posted, strayed, events_of, actions_of, stray_events, strays_from, LeavesOn}
+use Rattle.svc_desk.specs.Deeds.{Deed, posted, strayed, events_of, actions_of, stray_events, strays_from, LeavesOn, call_count}
 use Rattle.svc_desk.specs.Working.{IsHandled, IsSettled, IsTurned, TurnEnds, FateIs, fate_by, end_by}
-use Rattle.svc_desk.proofs.DeedLemmas.{begins-length, of_front-whole, events-length, done-none, at_desk-none, grew-none}
+use Rattle.svc_desk.proofs.DeedLemmas.{begins-length, of_front-whole, events-length, done-none, stays-then, at_desk-none, grew-none}
 
 same-list : {T : Type 0} (a b : Option (List T)) → b ≡ a → Adds a b []
 same-list a b is = subst (λ (x : Option (List _)). Adds a x []) (sym is) (Adds-nil a)
@@ -48,6 +48,8 @@ kept_in_hand s p before now event fate q of hand own front is back = record {
   refused = back.refused;
   taken = back.taken;
   takes = back.takes;
+  stays = back.stays;
+  place = (let x = back.place in omega (arith, x));
   faults = back.faults;
   idles = back.idles;
 }
@@ -78,6 +80,8 @@ refused_as s p before now event (reasons.Stray seen) q of hand own front cause b
   refused = back.refused;
   taken = back.taken;
   takes = back.takes;
+  stays = back.stays;
+  place = (let x = back.place in omega (arith, x));
   faults = back.faults;
   idles = back.idles;
 }
@@ -116,6 +120,8 @@ handled_posted s p before now event said r x y =
       refused = same-list before.refused now.refused y.refused;
       taken = y.taken;
       takes = y.takes;
+      stays = y.stays;
+      place = (let p = y.place in let n = ap length (append-nil (list_of r.actions)) in omega (arith, p, n));
       faults = y.faults;
       idles = y.idles;
     }
@@ -132,9 +138,11 @@ turned_idle s p before now answer t u end of none x strays count why = record {
     taken = subst (λ (l : List Event). Adds before.taken now.taken l) none x.taken;
     performed = same-list before.performed now.performed x.performed;
     refused = same-list before.refused now.refused x.refused;
+    stays = x.stays;
     faults = x.faults;
     idles = x.idles;
   };
+  place = (let p = x.place in omega (arith, p));
   strays = strays ∙ sym (append-nil (list_of t.strays));
   count = (omega (arith, count));
   ends = why;
@@ -162,6 +170,7 @@ turned_none s p d t u q end of strays count same is =
       hand = [];
       done = done-none s p of;
       at_desk = at_desk-none d;
+      place = (let x : d.room ≤ d.room + (1 + call_count [] []) = omega arith in x);
       strays = strays ∙ sym (append-nil (list_of t.strays));
       count = (omega (arith, count));
       ends = (
@@ -247,9 +256,11 @@ turned_event s p a b c event fate o t u q end same count more x h y =
             (subst (λ (l : List Event). Adds a.taken b.taken l) (sym h.all) x.taken);
         performed = subst (λ (k : Option (List Action)). Adds k c.performed (actions_of h.log)) x.performed h.performed;
         refused = subst (λ (k : Option (List Event)). Adds k c.refused (stray_events h.log ++ h.hand)) x.refused h.refused;
+        stays = stays-then a b c x.stays h.stays;
         faults = (let f = x.faults in let e = h.faults in omega (arith, f, e));
         idles = (let f = x.idles in let e = h.idles in omega (arith, f, e));
       };
+      place = (let f = x.place in let e = h.place in omega (arith, f, e));
       strays = both.0 ∙ (ap (λ (l : List Strayed). l ++ strays_from (t.taken + 1) h.log) same ∙ ap (λ (k : ℕ). list_of o.strays ++ strays_from (k + 1) h.log)
           count);
       count = (let e = ap length h.all in let f = length-append (events_of h.log) h.hand in let n = events-length h.log in omega (arith, count, more, e, f, n));

@@ -12,7 +12,7 @@ use Rattle.svc_shared.specs.Views.{Begins}
 use Rattle.svc_desk.specs.declared.stray.Strayed.{Strayed}
 use Rattle.svc_desk.specs.declared.worker.WorkEnd.{WorkEnd}
 use Rattle.svc_desk.specs.declared.worker.WorkEnd.TheVariants.{Over, Closed, Full, TurnsSpent, Fault, NoMemory}
-use Rattle.svc_desk.specs.Desks.{DeskData, Grew}
+use Rattle.svc_desk.specs.Desks.{DeskData, DeskStays, Grew}
 
 -- what became of an event that was taken: it was posted, at this place and so; or it strayed, as it didn't fit after so many posts
 pub data Deed : Type 0 where
@@ -88,14 +88,20 @@ EndsBy b journal turns before now log hand NoMemory = (length hand ≤ 1) × Lea
 abbrev pub GrewUpTo : DeskData → DeskData → ℕ → Type 0
 GrewUpTo before now turns = (k : ℕ) × (k ≤ turns) × Grew before.takes now.takes k
 
+-- how often the desk was called beside its takes: once for each action of the posts, each stray and each event in hand
+abbrev pub call_count : List Deed → List Event → ℕ
+call_count log hand = length (actions_of log) + length (stray_events log ++ hand)
+
 -- what a desk shows of a worker's deeds, where n posts of the journal had been seen: the events that it gave, the actions that it performed, first
--- these and then those of the posts, and the events that it took back
+-- these and then those of the posts, and the events that it took back. Each of its calls took room for one at most
 pub record Shows (b : BookData) (journal : List PostData) (n turns : ℕ) (first : List Action) (before now : DeskData) (log : List Deed) (hand : List Event)
     (strays : List Strayed) (end : WorkEnd) : Type 0 where
   pub taken : Adds before.taken now.taken (events_of log ++ hand)
   pub performed : Adds before.performed now.performed (first ++ actions_of log)
   pub refused : Adds before.refused now.refused (stray_events log ++ hand)
   pub takes : GrewUpTo before now turns
+  pub stays : DeskStays before now
+  pub place : before.room ≤ now.room + (turns + (length first + call_count log hand))
   pub faults : before.faults ≤ now.faults
   pub idles : before.idles ≤ now.idles
   pub strays_are : strays ≡ strays_from 1 log

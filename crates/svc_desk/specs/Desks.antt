@@ -1,21 +1,33 @@
 -- What contracts see of a desk, and what its calls change.
-use Rattle.std.specs.Prelude.{◌≡◌, ℕ, ◌+◌, ◌≤◌, List, [], ◌∷◌, Option, Some, None}
+use Rattle.std.specs.Prelude.{◌≡◌, ℕ, ◌+◌, ◌-◌, ◌<◌, ◌≤◌, min, List, [], ◌∷◌, length, Option, Some, None, is_some}
 use Rattle.svc_base.specs.Streams.{Rose}
-use Rattle.svc_base.specs.Calls.{Adds}
+use Rattle.svc_base.specs.Calls.{Adds, Stays}
 use Rattle.svc_record.specs.declared.event.Event.{Event}
 use Rattle.svc_record.specs.declared.action.Action.{Action}
 use Rattle.svc_desk.specs.declared.desk.DeskAnswer.{DeskAnswer}
 use Rattle.svc_desk.specs.declared.desk.DeskAnswer.TheVariants as answers
 
 -- the events that it gave, the actions that it performed and the events that it took back, the oldest first, and the number of its takes, each where
--- it tells it; how often it failed, and how often nothing came any more
+-- it tells it, and for how many more calls it is sure to tell them; how often it failed, and how often nothing came any more
 pub record DeskData : Type 0 where
   pub taken : Option (List Event)
   pub performed : Option (List Action)
   pub refused : Option (List Event)
   pub takes : Option ℕ
+  pub room : ℕ
   pub faults : ℕ
   pub idles : ℕ
+
+-- the room of a desk whose lists have this room and whose takes are so many, which it counts in 64 bits: the least
+abbrev pub least_room : ℕ → ℕ → ℕ → ℕ → ℕ
+least_room taken performed refused takes = min (min taken performed) (min refused (18446744073709551615 - takes))
+
+-- what was told is told as long as room is left, and no call makes room
+pub record DeskStays (before now : DeskData) : Type 0 where
+  pub taken : Stays before.taken now.taken before.room now.room
+  pub performed : Stays before.performed now.performed before.room now.room
+  pub refused : Stays before.refused now.refused before.room now.room
+  pub takes : 0 < now.room → is_some now.takes ≡ is_some before.takes
 
 -- so many takes came to those that were told, where they are still told
 abbrev pub Grew : Option ℕ → Option ℕ → ℕ → Type 0
@@ -42,31 +54,37 @@ abbrev pub TakeIdles : DeskAnswer → ℕ → ℕ → Type 0
 TakeIdles answers.Closed before now = Rose before now
 TakeIdles _ before now = Unit {0}
 
--- it was asked for an event, with this answer
+-- it was asked for an event, with this answer, which takes room for one call at most
 pub record IsTaken (before now : DeskData) (answer : DeskAnswer) : Type 0 where
   pub taken : Adds before.taken now.taken (brought answer)
   pub performed : now.performed ≡ before.performed
   pub refused : now.refused ≡ before.refused
   pub takes : Grew before.takes now.takes 1
+  pub stays : DeskStays before now
+  pub place : before.room ≤ now.room + 1
   pub failed : TakeFaults answer before.faults now.faults
   pub closed : TakeIdles answer before.idles now.idles
   pub faults : before.faults ≤ now.faults
   pub idles : before.idles ≤ now.idles
 
--- it performed these actions, in order
+-- it performed these actions, in order, each of which takes room for one call at most
 pub record IsPerformed (before now : DeskData) (told : List Action) : Type 0 where
   pub performed : Adds before.performed now.performed told
   pub taken : now.taken ≡ before.taken
   pub refused : now.refused ≡ before.refused
   pub takes : now.takes ≡ before.takes
+  pub stays : DeskStays before now
+  pub place : before.room ≤ now.room + length told
   pub faults : now.faults ≡ before.faults
   pub idles : now.idles ≡ before.idles
 
--- it took back an event
+-- it took back an event, which takes room for one call at most
 pub record IsRefusedBy (before now : DeskData) (event : Event) : Type 0 where
   pub refused : Adds before.refused now.refused (event ∷ [])
   pub taken : now.taken ≡ before.taken
   pub performed : now.performed ≡ before.performed
   pub takes : now.takes ≡ before.takes
+  pub stays : DeskStays before now
+  pub place : before.room ≤ now.room + 1
   pub faults : now.faults ≡ before.faults
   pub idles : now.idles ≡ before.idles

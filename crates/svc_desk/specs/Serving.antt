@@ -17,7 +17,7 @@ use Rattle.svc_desk.specs.declared.stray.Strayed.{Strayed}
 use Rattle.svc_desk.specs.declared.worker.WorkEnd.{WorkEnd}
 use Rattle.svc_desk.specs.declared.serving.EchoReason.{EchoReason}
 use Rattle.svc_desk.specs.declared.serving.EchoReason.TheVariants.{BadPlan, NoMemory}
-use Rattle.svc_desk.specs.Desks.{DeskData}
+use Rattle.svc_desk.specs.Desks.{DeskData, DeskStays}
 use Rattle.svc_desk.specs.Deeds.{Deed, posts_of, Shows}
 
 -- a desk after its worker's work, why the worker stopped, and its strays
@@ -54,11 +54,12 @@ pub record IsServed (plan : Plan) (limit turns : ℕ) (left right : DeskData) (o
   pub left_desk : StandsFor origin journal 0 turns origin.opening left one
   pub right_desk : StandsFor origin journal 1 turns [] right two
 
--- the desk is the one from before: its lists begin with what they told then, and its counts didn't fall
+-- the desk is the one from before: its lists begin with what they told then and are told as long as room is left, and its counts didn't fall
 pub record IsLater (before now : DeskData) : Type 0 where
   pub taken : (more : List Event) × Adds before.taken now.taken more
   pub performed : (more : List Action) × Adds before.performed now.performed more
   pub refused : (more : List Event) × Adds before.refused now.refused more
+  pub stays : DeskStays before now
   pub faults : before.faults ≤ now.faults
   pub idles : before.idles ≤ now.idles
 

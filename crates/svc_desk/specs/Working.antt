@@ -19,8 +19,8 @@ use Rattle.svc_desk.specs.declared.worker.Worked.{Worked}
 use Rattle.svc_desk.specs.declared.worker.Fate.{Fate}
 use Rattle.svc_desk.specs.declared.worker.Fate.TheVariants as fates
 use Rattle.svc_desk.specs.declared.worker.Tally.{Tally}
-use Rattle.svc_desk.specs.Desks.{DeskData, Grew}
-use Rattle.svc_desk.specs.Deeds.{Deed, posted, strayed, events_of, posts_of, actions_of, stray_events, stray, strays_from, Follows, LeavesOn, EndsBy, GrewUpTo, Shows}
+use Rattle.svc_desk.specs.Desks.{DeskData, DeskStays, Grew}
+use Rattle.svc_desk.specs.Deeds.{Deed, posted, strayed, events_of, posts_of, actions_of, stray_events, stray, strays_from, Follows, LeavesOn, EndsBy, GrewUpTo, call_count, Shows}
 
 -- these deeds were done with the pass
 pub record IsDone (s : SharedServer) (p : Pass) (log : List Deed) (q : Pass) : Type 0 where
@@ -64,6 +64,8 @@ pub record IsHandled (s : SharedServer) (p : Pass) (before now : DeskData) (even
   pub refused : Adds before.refused now.refused (stray_events log ++ hand)
   pub taken : now.taken ≡ before.taken
   pub takes : now.takes ≡ before.takes
+  pub stays : DeskStays before now
+  pub place : before.room ≤ now.room + call_count log hand
   pub faults : now.faults ≡ before.faults
   pub idles : now.idles ≡ before.idles
 
@@ -84,6 +86,7 @@ pub record IsAtDesk (before now : DeskData) (log : List Deed) (hand : List Event
   pub taken : Adds before.taken now.taken (events_of log ++ hand)
   pub performed : Adds before.performed now.performed (actions_of log)
   pub refused : Adds before.refused now.refused (stray_events log ++ hand)
+  pub stays : DeskStays before now
   pub faults : before.faults ≤ now.faults
   pub idles : before.idles ≤ now.idles
 
@@ -98,6 +101,7 @@ pub record IsTurned (s : SharedServer) (p : Pass) (before now : DeskData) (t u :
   pub hand : List Event
   pub done : IsDone s p log q
   pub at_desk : IsAtDesk before now log hand
+  pub place : before.room ≤ now.room + (1 + call_count log hand)
   pub strays : list_of u.strays ≡ list_of t.strays ++ strays_from (t.taken + 1) log
   pub count : u.taken ≡ t.taken + (length log + length hand)
   pub ends : TurnEnds s before now log hand q end

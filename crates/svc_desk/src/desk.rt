@@ -26,7 +26,8 @@ pub enum DeskAnswer {
 /// that weren't posted.
 ///
 /// A desk may tell three lists, of the events that it gave, of the actions that it performed and of
-/// the events that it took back, and the number of its takes. Its two counts never fall; only `take`
+/// the events that it took back, and the number of its takes. What it tells it goes on to tell as long
+/// as it has room; each call takes room for one at most. Its two counts never fall; only `take`
 /// changes them. A count that stands at its greatest value stays there, and is then said to have risen.
 pub trait Desk {
     // What contracts see of it.

@@ -1,8 +1,8 @@
 //! A desk in memory.
 
-ghost use Rattle.std.specs.Prelude.{◌≡◌, [], reverse, Some, IfOk};
-ghost use Rattle.svc_base.specs.Calls.{told_of, Adds};
-ghost use Rattle.svc_desk.specs.Desks.{brought};
+ghost use Rattle.std.specs.Prelude.{◌≡◌, ◌+◌, ◌≤◌, [], reverse, Some, IfOk};
+ghost use Rattle.svc_base.specs.Calls.{told_of, room_of, Adds, Stays};
+ghost use Rattle.svc_desk.specs.Desks.{brought, least_room};
 ghost use Rattle.svc_desk.specs.MemoryDesks.{GivesNext};
 
 use crate::desk::{Desk, DeskAnswer};
@@ -21,7 +21,8 @@ pub enum DeskItem {
 }
 
 /// A desk in memory. Its takes give its items in order, and then `Closed`. It says yes to every
-/// arrival. It tells each of its three lists for as many entries as it was made with room for.
+/// arrival. It tells each of its three lists for as many entries as it was made with room for, since a
+/// take for whose entry there is no memory gives no event.
 #[derive(Debug, Drop)]
 pub struct MemoryDesk {
     /// What is to come, the next item last.
@@ -43,6 +44,7 @@ impl MemoryDesk {
         ensures performed { IfOk result (λ desk. told_of desk.performed ≡ Some []) }
         ensures refused { IfOk result (λ desk. told_of desk.refused ≡ Some []) }
         ensures takes { IfOk result (λ desk. desk.takes ≡ 0) }
+        ensures room { IfOk result (λ desk. least_room (room_of desk.taken) (room_of desk.performed) (room_of desk.refused) desk.takes ≡ room) }
         ensures faults { IfOk result (λ desk. desk.fault_count ≡ 0) }
         ensures idles { IfOk result (λ desk. desk.idle_count ≡ 0) }
     {
@@ -63,6 +65,8 @@ impl MemoryDesk {
 fn next(alloc: Global, coming: &mut Vec<DeskItem>, taken: &mut Calls<Event>) -> DeskAnswer
     ensures next { GivesNext result coming.old.items coming.new.items }
     ensures taken { Adds (told_of taken.old) (told_of taken.new) (brought result) }
+    ensures stays { Stays (told_of taken.old) (told_of taken.new) (room_of taken.old) (room_of taken.new) }
+    ensures place { room_of taken.old ≤ room_of taken.new + 1 }
 {
     match coming.pop() {
         Some(DeskItem::Event(event)) => match event.copy(alloc) {
@@ -83,7 +87,8 @@ fn next(alloc: Global, coming: &mut Vec<DeskItem>, taken: &mut Calls<Event>) -> 
 
 impl Desk for MemoryDesk {
     ghost use Rattle.std.specs.Prelude.{Some, None, ltb, if◌then◌else◌};
-    ghost use Rattle.svc_base.specs.Calls.{told_of};
+    ghost use Rattle.svc_base.specs.Calls.{told_of, room_of};
+    ghost use Rattle.svc_desk.specs.Desks.{least_room};
 
     // The takes are told until their count stands at its greatest value.
     ghost seen = { λ d. record {
@@ -91,6 +96,7 @@ impl Desk for MemoryDesk {
       performed = told_of d.performed;
       refused = told_of d.refused;
       takes = if ltb d.takes 18446744073709551615 then Some d.takes else None;
+      room = least_room (room_of d.taken) (room_of d.performed) (room_of d.refused) d.takes;
       faults = d.fault_count;
       idles = d.idle_count;
     } };

@@ -1,7 +1,7 @@
 //! A binder, and what accepts connections, over TCP sockets of std.
 
 ghost use Rattle.std.specs.Prelude.{◌≡◌, ◌<◌, [], ◌∷◌, length, Some, IfOk, IfSome};
-ghost use Rattle.svc_base.specs.Calls.{told_of, Adds};
+ghost use Rattle.svc_base.specs.Calls.{told_of, room_of, Adds, Stays};
 ghost use Rattle.svc_listen.specs.BinderData.{outcome_of};
 
 use std::alloc::Global;
@@ -36,6 +36,7 @@ impl<'a, R: Net<Listener = TcpListener, Stream = TcpStream> + Clock> SocketBinde
     /// A binder that tells so many calls. `NoMemory` where there is none for them.
     pub fn new(rt: &'a R, alloc: Global, room: u64) -> Result<Self, NoMemory>
         ensures calls { IfOk result (λ binder. told_of binder.calls ≡ Some []) }
+        ensures room { IfOk result (λ binder. room_of binder.calls ≡ room) }
         ensures faults { IfOk result (λ binder. binder.fault_count ≡ 0) }
         ensures waits { IfOk result (λ binder. binder.wait_count ≡ 0) }
     {
@@ -84,13 +85,15 @@ fn answer_of(outcome: BindOutcome) -> BindAnswer
     }
 }
 
+/// Notes a bind. Where there is no memory for it no call is told any more, and no room is left.
 fn note_bind(
     alloc: Global,
     calls: &mut Calls<BinderCall>,
     addr: &ServerAddress,
     outcome: BindOutcome,
 )
-    ensures { Adds (told_of calls.old) (told_of calls.new) (BinderCall.Bind addr.now outcome ∷ []) }
+    ensures calls { Adds (told_of calls.old) (told_of calls.new) (BinderCall.Bind addr.now outcome ∷ []) }
+    ensures stays { Stays (told_of calls.old) (told_of calls.new) (room_of calls.old) (room_of calls.new) }
 {
     match addr.copy(alloc) {
         Ok(addr) => calls.note(BinderCall::Bind(addr, outcome)),
@@ -98,6 +101,7 @@ fn note_bind(
     }
 }
 
+/// Notes an adoption. Where there is no memory for it no call is told any more, and no room is left.
 fn note_adopt(
     alloc: Global,
     calls: &mut Calls<BinderCall>,
@@ -105,7 +109,8 @@ fn note_adopt(
     fd: u64,
     adopted: bool,
 )
-    ensures { Adds (told_of calls.old) (told_of calls.new) (BinderCall.Adopt addr.now fd adopted ∷ []) }
+    ensures calls { Adds (told_of calls.old) (told_of calls.new) (BinderCall.Adopt addr.now fd adopted ∷ []) }
+    ensures stays { Stays (told_of calls.old) (told_of calls.new) (room_of calls.old) (room_of calls.new) }
 {
     match addr.copy(alloc) {
         Ok(addr) => calls.note(BinderCall::Adopt(addr, fd, adopted)),
@@ -115,7 +120,7 @@ fn note_adopt(
 
 impl<'a, R: Net<Listener = TcpListener, Stream = TcpStream> + Clock> Binder
     for SocketBinder<'a, R> {
-    ghost seen = { λ b. record { called = told_of b.calls; faults = b.fault_count; waits = b.wait_count } };
+    ghost seen = { λ b. record { called = told_of b.calls; room = room_of b.calls; faults = b.fault_count; waits = b.wait_count } };
 
     fn faults(&self) -> u64 {
         self.fault_count
@@ -174,6 +179,7 @@ impl SocketAccepting {
     /// What accepts so, and tells so many calls. `NoMemory` where there is none for them.
     pub fn new(alloc: Global, room: u64, listener: TcpListener) -> Result<Self, NoMemory>
         ensures calls { IfOk result (λ a. told_of a.calls ≡ Some []) }
+        ensures room { IfOk result (λ a. room_of a.calls ≡ room) }
         ensures faults { IfOk result (λ a. a.fault_count ≡ 0) }
         ensures waits { IfOk result (λ a. a.wait_count ≡ 0) }
     {
@@ -222,7 +228,7 @@ fn is_set(streams: &[AcceptedStream], number: u64, setting: Setting) -> bool {
 }
 
 impl Accepting for SocketAccepting {
-    ghost seen = { λ a. record { called = told_of a.calls; faults = a.fault_count; waits = a.wait_count } };
+    ghost seen = { λ a. record { called = told_of a.calls; room = room_of a.calls; faults = a.fault_count; waits = a.wait_count } };
 
     fn faults(&self) -> u64 {
         self.fault_count

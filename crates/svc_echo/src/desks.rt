@@ -1,7 +1,8 @@
 //! Desks over sockets.
 
 ghost use Rattle.std.specs.Prelude.{◌≡◌, [], Some, IfOk};
-ghost use Rattle.svc_base.specs.Calls.{told_of};
+ghost use Rattle.svc_base.specs.Calls.{told_of, room_of};
+ghost use Rattle.svc_desk.specs.Desks.{least_room};
 
 use std::alloc::Global;
 use std::net::{Net, TcpListener, TcpStream};
@@ -14,7 +15,8 @@ use svc_record::{Action, Event, Plan};
 use svc_sockets::{NextRefused, Seat, Slot, Sockets};
 
 /// One of the two desks of a server over sockets, which both share under a lock. It tells each of its
-/// three lists for as many entries as it was made with room for.
+/// three lists for as many entries as it was made with room for, since a take for whose entry there is
+/// no memory gives no event.
 #[derive(Drop)]
 pub struct RealDesk<'a, R: Wait + Net<Listener = TcpListener, Stream = TcpStream> + Clock> {
     pub rt: &'a R,
@@ -68,6 +70,7 @@ pub fn real_desk<'a, R: Wait + Net<Listener = TcpListener, Stream = TcpStream> +
     ensures performed { IfOk result (λ desk. told_of desk.performed ≡ Some []) }
     ensures refused { IfOk result (λ desk. told_of desk.refused ≡ Some []) }
     ensures takes { IfOk result (λ desk. desk.takes ≡ 0) }
+    ensures room { IfOk result (λ desk. least_room (room_of desk.taken) (room_of desk.performed) (room_of desk.refused) desk.takes ≡ room) }
     ensures faults { IfOk result (λ desk. desk.fault_count ≡ 0) }
     ensures idles { IfOk result (λ desk. desk.idle_count ≡ 0) }
 {
@@ -89,7 +92,8 @@ pub fn real_desk<'a, R: Wait + Net<Listener = TcpListener, Stream = TcpStream> +
 impl<'a, R: Wait + Net<Listener = TcpListener, Stream = TcpStream> + Clock> Desk
     for RealDesk<'a, R> {
     ghost use Rattle.std.specs.Prelude.{Some, None, ltb, if◌then◌else◌};
-    ghost use Rattle.svc_base.specs.Calls.{told_of};
+    ghost use Rattle.svc_base.specs.Calls.{told_of, room_of};
+    ghost use Rattle.svc_desk.specs.Desks.{least_room};
 
     // The takes are told until their count stands at its greatest value.
     ghost seen = { λ d. record {
@@ -97,6 +101,7 @@ impl<'a, R: Wait + Net<Listener = TcpListener, Stream = TcpStream> + Clock> Desk
       performed = told_of d.performed;
       refused = told_of d.refused;
       takes = if ltb d.takes 18446744073709551615 then Some d.takes else None;
+      room = least_room (room_of d.taken) (room_of d.performed) (room_of d.refused) d.takes;
       faults = d.fault_count;
       idles = d.idle_count;
     } };

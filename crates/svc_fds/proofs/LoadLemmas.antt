@@ -11,10 +11,10 @@ use Rattle.std.proofs.lemmas.List.{append-nil, map_push}
 use Rattle.svc_fds.specs.declared.call.ChannelCall.{ChannelCall}
 use Rattle.svc_fds.specs.declared.call.ChannelCall.TheVariants.{Close}
 use Rattle.svc_fds.specs.Tables.{Entry, lookup, put, put_all, numbers, PrecedesAll}
-use Rattle.svc_fds.specs.Channels.{Tells}
+use Rattle.svc_base.specs.Calls.{Adds}
 use Rattle.svc_fds.specs.Transfers.{copies, fresh, closes}
 use Rattle.svc_fds.proofs.TableLemmas.{differs, lookup-put}
-use Rattle.svc_fds.proofs.SendLemmas.{Tells-then}
+use Rattle.svc_base.proofs.CallLemmas.{Adds-then}
 
 -- a greater address is looked up as before
 found-kept : (a : List ℕ) (n : ℕ) (t : List Entry) (b : List ℕ) → slice_cmp nat_cmp a b ≡ Less → lookup b (put a n t) ≡ lookup b t
@@ -40,22 +40,22 @@ taken_by false a n rest t now all is = ap (λ x. put_all (fresh rest x) x) is �
 pub taken-added : (a : List ℕ) (n : ℕ) (es rest t now : List Entry) → es ≡ (a, n) ∷ rest → PrecedesAll a rest → now ≡ cond (is_some (lookup a t)) t (put a n t) → put_all (fresh rest now) now ≡ put_all (fresh es t) t
 taken-added a n es rest t now first all is = taken_by (is_some (lookup a t)) a n rest t now all is ∙ ap (λ xs. put_all (fresh xs t) t) (sym first)
 
-closed_by : (held : Bool) (a : List ℕ) (n : ℕ) (rest t now : List Entry) (x y z : Option (List ChannelCall)) (done : List ℕ) → PrecedesAll a rest → now ≡ cond held t (put a n t) → Tells x y (closes done) → Tells y z (cond held (Close n ∷ []) [])
-    → (more : List ℕ) × Tells x z (closes more) × (more ++ numbers (copies rest now) ≡ done ++ numbers (cond held ((a, n) ∷ copies rest t) (copies rest t)))
+closed_by : (held : Bool) (a : List ℕ) (n : ℕ) (rest t now : List Entry) (x y z : Option (List ChannelCall)) (done : List ℕ) → PrecedesAll a rest → now ≡ cond held t (put a n t) → Adds x y (closes done) → Adds y z (cond held (Close n ∷ []) [])
+    → (more : List ℕ) × Adds x z (closes more) × (more ++ numbers (copies rest now) ≡ done ++ numbers (cond held ((a, n) ∷ copies rest t) (copies rest t)))
 closed_by true a n rest t now x y z done all is told closed = (
   done ++ n ∷ [],
-  subst (λ calls. Tells x z calls) (sym (map_push (λ fd. Close fd) done n)) (Tells-then x y z (closes done) (Close n ∷ []) told closed),
+  subst (λ calls. Adds x z calls) (sym (map_push (λ fd. Close fd) done n)) (Adds-then x y z (closes done) (Close n ∷ []) told closed),
   append_assoc done (n ∷ []) (numbers (copies rest now)) ∙ ap (λ s. done ++ (n ∷ numbers (copies rest s))) is,
 )
 closed_by false a n rest t now x y z done all is told closed = (
   done,
-  subst (λ calls. Tells x z calls) (append-nil (closes done)) (Tells-then x y z (closes done) [] told closed),
+  subst (λ calls. Adds x z calls) (append-nil (closes done)) (Adds-then x y z (closes done) [] told closed),
   ap (λ s. done ++ numbers (copies rest s)) is ∙ ap (λ cs. done ++ numbers cs) (copies-kept a n t rest all),
 )
 
 pub taken-closed : (a : List ℕ) (n : ℕ) (es rest t now : List Entry) (x y z : Option (List ChannelCall)) (done ends : List ℕ) → es ≡ (a, n) ∷ rest → PrecedesAll a rest → now ≡ cond (is_some (lookup a t)) t (put a n t)
-    → Tells x y (closes done) → done ++ numbers (copies es t) ≡ ends → Tells y z (cond (is_some (lookup a t)) (Close n ∷ []) [])
-    → (more : List ℕ) × Tells x z (closes more) × (more ++ numbers (copies rest now) ≡ ends)
+    → Adds x y (closes done) → done ++ numbers (copies es t) ≡ ends → Adds y z (cond (is_some (lookup a t)) (Close n ∷ []) [])
+    → (more : List ℕ) × Adds x z (closes more) × (more ++ numbers (copies rest now) ≡ ends)
 taken-closed a n es rest t now x y z done ends first all is told left closed =
     let next = closed_by (is_some (lookup a t)) a n rest t now x y z done all is told closed in
     (next.0, next.1, next.2 ∙ ap (λ xs. done ++ numbers (copies xs t)) (sym first) ∙ left)

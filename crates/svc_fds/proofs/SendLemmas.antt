@@ -1,8 +1,9 @@
 -- A sender's tries, one after another.
-use Rattle.std.proofs.Common.{ℕ, ◌+◌, ◌-◌, ◌<◌, Bool, true, false, cond, ltb, List, [], ◌∷◌, ◌++◌, Option, Some, None, Result, Err, ◌≡◌, refl, sym, ap, subst, ◌∙◌, arith, append_assoc, length, get_or}
+use Rattle.std.proofs.Common.{ℕ, ◌+◌, ◌-◌, ◌<◌, Bool, true, false, cond, ltb, List, [], ◌∷◌, ◌++◌, Option, Result, Err, ◌≡◌, refl, sym, ap, subst, ◌∙◌, arith, append_assoc, length, get_or}
 use Rattle.std.specs.Prelude.{remove}
 use Rattle.std.proofs.lemmas.Bool.{ltb-true, ltb-false}
-use Rattle.std.proofs.lemmas.List.{append-nil, map_push}
+use Rattle.std.proofs.lemmas.List.{map_push}
+use Rattle.svc_base.proofs.CallLemmas.{Adds-nil, Adds-then}
 use Rattle.svc_base.specs.Streams.{Rose}
 use Rattle.svc_fds.specs.declared.call.ChannelCall.{ChannelCall}
 use Rattle.svc_fds.specs.declared.call.ChannelCall.TheVariants.{Close}
@@ -14,7 +15,8 @@ use Rattle.svc_fds.specs.declared.errors.SendError.{SendError}
 use Rattle.svc_fds.specs.declared.errors.SendError.TheVariants as send_errors
 use Rattle.svc_fds.specs.Patience.{Patience}
 use Rattle.svc_fds.specs.Retries.{absences, delays, send_next, after_sends, IsAfterSends}
-use Rattle.svc_fds.specs.Channels.{Tells, SendFaults}
+use Rattle.svc_base.specs.Calls.{Adds}
+use Rattle.svc_fds.specs.Channels.{SendFaults}
 use Rattle.svc_fds.specs.Transfers.{send_calls, sends_asked, Answers, IsSendRun, SendEnds, SendsBy, closes}
 
 -- how many tries may be left at most
@@ -38,20 +40,10 @@ FaultsAt (sends.Refused error) before now = error ≡ send_errors.Transfer → R
 pub record Sending (limit : ℕ) (bytes fds : List ℕ) (before now : Option (List ChannelCall)) (faults_before faults_now : ℕ) (next : SendNext) (state : Patience) : Type 0 where
   pub answers : List SendAnswer
   pub run : IsSendRun limit answers
-  pub told : Tells before now (sends_asked limit bytes fds answers)
+  pub told : Adds before now (sends_asked limit bytes fds answers)
   pub is_next : next ≡ after_sends limit answers
   pub after : IsAfterSends limit answers state
   pub faults : FaultsAt next faults_before faults_now
-
-pub Tells-then : {X : Type 0} (a b c : Option (List X)) (x y : List X) → Tells a b x → Tells b c y → Tells a c (x ++ y)
-Tells-then a b None x y p q = tt
-Tells-then a None (Some now) x y p q = absurd q
-Tells-then None (Some middle) (Some now) x y p q = absurd p
-Tells-then (Some first) (Some middle) (Some now) x y p q = q ∙ ap (λ w. w ++ y) p ∙ append_assoc first x y
-
-pub Tells-none : {X : Type 0} (a : Option (List X)) → Tells a a []
-Tells-none None = tt
-Tells-none (Some xs) = sym (append-nil xs)
 
 same-faults : (next : SendNext) (answer : SendAnswer) (before now : ℕ) → Answers next answer → FaultsAt next before now → now ≡ before
 same-faults (sends.Connect ms) answer before now fits at = at
@@ -80,7 +72,7 @@ pub sending-start : (limit : ℕ) (bytes fds : List ℕ) (calls : Option (List C
 sending-start limit bytes fds calls faults state after = record {
   answers = [];
   run = tt;
-  told = Tells-none calls;
+  told = Adds-nil calls;
   is_next = refl;
   after = after;
   faults = refl;
@@ -89,7 +81,7 @@ sending-start limit bytes fds calls faults state after = record {
 -- one try more
 pub sending-more : (limit : ℕ) (bytes fds : List ℕ) (before now then_now : Option (List ChannelCall)) (faults_before faults_now faults_then : ℕ) (next then_next : SendNext) (state then_state : Patience) (answer : SendAnswer)
     → Sending limit bytes fds before now faults_before faults_now next state
-    → Tells now then_now (send_calls bytes fds next answer) → Answers next answer → SendFaults answer faults_now faults_then
+    → Adds now then_now (send_calls bytes fds next answer) → Answers next answer → SendFaults answer faults_now faults_then
     → ((limit : ℕ) (earlier : List SendAnswer) → IsAfterSends limit earlier state → then_next ≡ send_next limit earlier answer)
     → ((limit : ℕ) (earlier : List SendAnswer) → IsAfterSends limit earlier state → IsAfterSends limit (answer ∷ earlier) then_state)
     → Sending limit bytes fds before then_now faults_before faults_then then_next then_state
@@ -98,7 +90,7 @@ sending-more limit bytes fds before now then_now faults_before faults_now faults
     record {
       answers = answer ∷ sending.answers;
       run = (sending.run, subst (λ n. Answers n answer) sending.is_next fits);
-      told = Tells-then before now then_now (sends_asked limit bytes fds sending.answers) (send_calls bytes fds (after_sends limit sending.answers) answer) sending.told (subst (λ n. Tells now then_now (send_calls bytes fds n answer)) sending.is_next told);
+      told = Adds-then before now then_now (sends_asked limit bytes fds sending.answers) (send_calls bytes fds (after_sends limit sending.answers) answer) sending.told (subst (λ n. Adds now then_now (send_calls bytes fds n answer)) sending.is_next told);
       is_next = e;
       after = after limit sending.answers sending.after;
       faults = subst (λ n. FaultsAt n faults_before faults_then) (sym e)
@@ -173,10 +165,10 @@ first-left [] ys x some read left = absurd (omega arith)
 first-left (z ∷ xs) ys x some read left = ap (λ r. x ∷ r) left ∙ ap (λ n. n ∷ xs) read
 
 -- one descriptor more is closed
-pub close-more : (a b c : Option (List ChannelCall)) (done xs ys all : List ℕ) (x : ℕ) → Tells a b (closes done) → done ++ xs ≡ all → Tells b c (Close x ∷ []) → 0 < length xs → x ≡ get_or xs 0 x → ys ≡ remove xs 0
-    → (more : List ℕ) × Tells a c (closes more) × (more ++ ys ≡ all)
+pub close-more : (a b c : Option (List ChannelCall)) (done xs ys all : List ℕ) (x : ℕ) → Adds a b (closes done) → done ++ xs ≡ all → Adds b c (Close x ∷ []) → 0 < length xs → x ≡ get_or xs 0 x → ys ≡ remove xs 0
+    → (more : List ℕ) × Adds a c (closes more) × (more ++ ys ≡ all)
 close-more a b c done xs ys all x told rest closed some read left = (
   done ++ x ∷ [],
-  subst (λ calls. Tells a c calls) (sym (closes-push done x)) (Tells-then a b c (closes done) (Close x ∷ []) told closed),
+  subst (λ calls. Adds a c calls) (sym (closes-push done x)) (Adds-then a b c (closes done) (Close x ∷ []) told closed),
   append_assoc done (x ∷ []) ys ∙ ap (λ r. done ++ r) (first-left xs ys x some read left) ∙ rest,
 )

@@ -1,5 +1,5 @@
--- What a channel tells of its calls, and what its answers say.
-use Rattle.std.specs.Prelude.{ℕ, ◌≡◌, ◌≤◌, Bool, true, false, Option, Some, None, List, ◌++◌, length}
+-- What the answers of a channel say.
+use Rattle.std.specs.Prelude.{ℕ, ◌≡◌, ◌≤◌, Bool, true, false, length}
 use Rattle.svc_base.specs.Streams.{Rose}
 use Rattle.svc_fds.specs.declared.call.ReceiveAnswer.{ReceiveAnswer}
 use Rattle.svc_fds.specs.declared.call.ReceiveAnswer.TheVariants as answers
@@ -7,12 +7,6 @@ use Rattle.svc_fds.specs.declared.call.Receipt.{Receipt}
 use Rattle.svc_fds.specs.declared.call.Receipt.TheVariants as receipts
 use Rattle.svc_fds.specs.declared.retry.SendAnswer.{SendAnswer}
 use Rattle.svc_fds.specs.declared.retry.SendAnswer.TheVariants.{Connected, NotThere, StillConnecting, ConnectFailed, Sent, SendBusy, SendFailed}
-
--- what is told now is what was told before, and these calls after it. What isn't told stays untold
-abbrev pub Tells : {X : Type 0} → Option (List X) → Option (List X) → List X → Type 0
-Tells before None calls = Unit {0}
-Tells None (Some now) calls = ⊥
-Tells (Some earlier) (Some now) calls = now ≡ earlier ++ calls
 
 -- a receipt, with the numbers of its descriptors
 abbrev pub receipt_of : ReceiveAnswer → Receipt

@@ -7,4 +7,3 @@ pub mod Lists
 pub mod Messages
 pub mod Channels
 pub mod Transfers
-pub mod Logs

@@ -14,7 +14,8 @@ use Rattle.svc_fds.specs.declared.retry.ReceiveNext.TheVariants as receives
 use Rattle.svc_fds.specs.declared.errors.SendError.{SendError}
 use Rattle.svc_fds.specs.declared.errors.ReceiveError.{ReceiveError}
 use Rattle.svc_fds.specs.declared.errors.ReceiveError.TheVariants as receive_errors
-use Rattle.svc_fds.specs.Channels.{Tells, IsConnectAnswer, IsSendAnswer}
+use Rattle.svc_base.specs.Calls.{Adds}
+use Rattle.svc_fds.specs.Channels.{IsConnectAnswer, IsSendAnswer}
 use Rattle.svc_fds.specs.Retries.{after_sends, after_receives, receive_next}
 use Rattle.svc_fds.specs.declared.errors.EncodeError.{EncodeError}
 use Rattle.svc_fds.specs.declared.errors.EncodeError.TheVariants as encode_errors
@@ -68,7 +69,7 @@ SendEnds next (Err error) = next ≡ sends.Refused error
 pub record SendsBy (limit : ℕ) (bytes fds : List ℕ) (before now : Option (List ChannelCall)) (result : Result ℕ SendError) : Type 0 where
   pub answers : List SendAnswer
   pub run : IsSendRun limit answers
-  pub told : Tells before now (sends_asked limit bytes fds answers)
+  pub told : Adds before now (sends_asked limit bytes fds answers)
   pub ended : SendEnds (after_sends limit answers) result
 
 -- a receipt, as the retries take it. Want of memory is none of their answers: it ends a transfer
@@ -101,14 +102,14 @@ receives_asked limit (receipt ∷ earlier) = receives_asked limit earlier ++ rec
 pub record Receives (limit : ℕ) (before now : Option (List ChannelCall)) (bytes fds : List ℕ) : Type 0 where
   pub earlier : List Receipt
   pub wait : IsWait limit earlier
-  pub told : Tells before now (receives_asked limit (receipts.Got bytes fds ∷ earlier))
+  pub told : Adds before now (receives_asked limit (receipts.Got bytes fds ∷ earlier))
 
 -- nothing came: the socket wasn't opened, the last receipt ended the tries, or there was no memory for it
 pub data ReceivesNot (limit : ℕ) (before now : Option (List ChannelCall)) : ReceiveError → Type 0 where
-  not_opened : Tells before now (Listen false ∷ []) → ReceivesNot limit before now receive_errors.Transfer
-  given_up : (receipt : Receipt) (earlier : List Receipt) (error : ReceiveError) → IsWait limit earlier → Tells before now (receives_asked limit (receipt ∷ earlier))
+  not_opened : Adds before now (Listen false ∷ []) → ReceivesNot limit before now receive_errors.Transfer
+  given_up : (receipt : Receipt) (earlier : List Receipt) (error : ReceiveError) → IsWait limit earlier → Adds before now (receives_asked limit (receipt ∷ earlier))
       → receive_next limit (map kind_of earlier) (kind_of receipt) ≡ receives.Refused error → ReceivesNot limit before now error
-  unread : (earlier : List Receipt) → IsWait limit earlier → Tells before now (receives_asked limit (receipts.NoMemory ∷ earlier)) → ReceivesNot limit before now receive_errors.NoMemory
+  unread : (earlier : List Receipt) → IsWait limit earlier → Adds before now (receives_asked limit (receipts.NoMemory ∷ earlier)) → ReceivesNot limit before now receive_errors.NoMemory
 
 -- the entries that came whose addresses are held already, and the others
 abbrev pub copies : List Entry → List Entry → List Entry
@@ -137,13 +138,13 @@ pub record Loads (limit : ℕ) (before now : Option (List ChannelCall)) (old new
   pub received : Receives limit before middle bytes fds
   pub message : IsMessage bytes (length fds)
   pub added : new ≡ put_all (fresh (table_of bytes fds) old) old
-  pub closed : Tells middle now (closes (numbers (copies (table_of bytes fds) old)))
+  pub closed : Adds middle now (closes (numbers (copies (table_of bytes fds) old)))
 
 -- nothing came, or what came was refused and is closed
 pub data LoadsNot (limit : ℕ) (before now : Option (List ChannelCall)) : ReceiveError → Type 0 where
   nothing_came : (error : ReceiveError) → ReceivesNot limit before now error → LoadsNot limit before now error
   turned_away : (bytes fds : List ℕ) (middle : Option (List ChannelCall)) (error : DecodeError) → Receives limit before middle bytes fds → DecodeRefusalFits bytes (length fds) error
-      → Tells middle now (closes fds) → LoadsNot limit before now (receive_error error)
+      → Adds middle now (closes fds) → LoadsNot limit before now (receive_error error)
 
 -- the refusal of a table, as a sender answers it
 abbrev pub send_error : EncodeError → SendError

@@ -10,7 +10,7 @@ ghost use Rattle.svc_fds.specs.Messages.{AreTexts, has_empty_address, is_unjoina
 use crate::errors::EncodeError;
 use crate::fd::Fd;
 use std::alloc::Global;
-use svc_base::{Bytes, Items, NoMemory, Text};
+use svc_base::{Bytes, Items, NoMemory, Text, copy_items};
 
 /// The most bytes of a message of version 1.
 pub const JOINED_LIMIT: usize = 2048;
@@ -54,19 +54,6 @@ pub(crate) fn numbers_of(alloc: Global, entries: &[(Text, Fd)]) -> Result<Items<
         }
     }
     Ok(fds)
-}
-
-/// The bytes once more.
-pub(crate) fn bytes_of(alloc: Global, bytes: &[u8]) -> Result<Bytes, NoMemory>
-    ensures { IfOk result (λ copied. copied ≡ bytes.now) }
-{
-    let mut copied = Bytes::new(alloc);
-    for byte in bytes {
-        if let Err(refused) = copied.push(alloc, *byte) {
-            return Err(refused.reason);
-        }
-    }
-    Ok(copied)
 }
 
 /// Whether there is ASCII whitespace.
@@ -189,7 +176,7 @@ pub(crate) fn encoded(alloc: Global, entries: &[(Text, Fd)]) -> Result<Message, 
     if entries.len() > FD_LIMIT {
         return Err(EncodeError::TooMany);
     }
-    let bytes = bytes_of(alloc, text.as_str().as_bytes())?;
+    let bytes = copy_items(alloc, text.as_str().as_bytes())?;
     let fds = numbers_of(alloc, entries)?;
     Ok(Message { bytes, fds })
 }

@@ -1,22 +1,23 @@
 //! Channels in memory. What is sent through one can be received from it.
 
 ghost use Rattle.std.specs.Prelude.{◌≡◌, [], IfOk, IfSome, Some, not};
+ghost use Rattle.svc_base.specs.Calls.{told_of, room_of};
 ghost use Rattle.svc_fds.specs.Channels.{FaultsUnless};
 
 use crate::call::{ChannelCall, ReceiveAnswer};
 use crate::channel::Channel;
 use crate::fd::Fd;
-use crate::peer::{Log, Peer};
+use crate::peer::{Peer, note_receive, note_send, told_calls};
 use crate::retry::SendAnswer;
 use std::alloc::Global;
-use svc_base::NoMemory;
+use svc_base::{Calls, NoMemory};
 
 /// A channel in memory. The calls that can fail and whose numbers, from 0, are listed fail. It tells
 /// its calls for as many as it was made with room for.
 #[derive(Debug, Drop)]
 pub struct MemoryChannel {
     alloc: Global,
-    log: Log,
+    calls: Calls<ChannelCall>,
     peer: Peer,
     failing: Vec<u64>,
     made: u64,
@@ -24,17 +25,15 @@ pub struct MemoryChannel {
 }
 
 impl MemoryChannel {
-    ghost use Rattle.svc_fds.specs.Logs.{told};
-
     /// A channel without a receiver, with room to tell so many calls.
     pub fn new(alloc: Global, room: u64, failing: Vec<u64>) -> Result<MemoryChannel, NoMemory>
         ensures calls { IfOk result (λ channel. ⟦<MemoryChannel as Channel>⟧.calls channel ≡ Some []) }
+        ensures room { IfOk result (λ channel. ⟦<MemoryChannel as Channel>⟧.room channel ≡ room) }
         ensures faults { IfOk result (λ channel. ⟦<MemoryChannel as Channel>⟧.faulted channel ≡ 0) }
     {
-        let log = Log::new(alloc, room)?;
         Ok(MemoryChannel {
             alloc,
-            log,
+            calls: Calls::new(alloc, room)?,
             peer: Peer::new(alloc),
             failing,
             made: 0,
@@ -46,6 +45,8 @@ impl MemoryChannel {
     pub fn set_busy(&mut self, sends: u64)
         ensures calls { ⟦<MemoryChannel as Channel>⟧.calls self.new
             ≡ ⟦<MemoryChannel as Channel>⟧.calls self.old }
+        ensures room { ⟦<MemoryChannel as Channel>⟧.room self.new
+            ≡ ⟦<MemoryChannel as Channel>⟧.room self.old }
         ensures faults { ⟦<MemoryChannel as Channel>⟧.faulted self.new
             ≡ ⟦<MemoryChannel as Channel>⟧.faulted self.old }
     {
@@ -57,13 +58,12 @@ impl MemoryChannel {
         ensures { IfSome (⟦<MemoryChannel as Channel>⟧.calls self.now)
             (λ calls. result.now ≡ calls) }
     {
-        &self.log.calls
+        told_calls(&self.calls)
     }
 
     /// Counts a call that can fail, and says whether it does.
     fn fails(&mut self) -> bool
-        ensures told { told self.new.log.whole self.new.log.calls.items
-            ≡ told self.old.log.whole self.old.log.calls.items }
+        ensures calls { self.new.calls ≡ self.old.calls }
         ensures cause { FaultsUnless (not result) self.old.count self.new.count }
     {
         let call = self.made;
@@ -77,9 +77,9 @@ impl MemoryChannel {
 }
 
 impl Channel for MemoryChannel {
-    ghost use Rattle.svc_fds.specs.Logs.{told};
+    ghost calls = { λ c. told_of c.calls };
 
-    ghost calls = { λ c. told c.log.whole c.log.calls.items };
+    ghost room = { λ c. room_of c.calls };
 
     ghost faulted = { λ c. c.count };
 
@@ -90,48 +90,53 @@ impl Channel for MemoryChannel {
     fn listen(&mut self) -> bool {
         let opens = !self.fails();
         self.peer.listening = opens;
-        self.log.note(ChannelCall::Listen(opens));
+        self.calls.note(ChannelCall::Listen(opens));
         opens
     }
 
     fn receive(&mut self, alloc: Global) -> ReceiveAnswer {
         if self.fails() {
-            self.log.note_receive(alloc, &ReceiveAnswer::ReceiveFailed);
+            note_receive(alloc, &mut self.calls, &ReceiveAnswer::ReceiveFailed);
             return ReceiveAnswer::ReceiveFailed;
         }
         let answer = self.peer.receive(alloc);
-        self.log.note_receive(alloc, &answer);
+        note_receive(alloc, &mut self.calls, &answer);
         answer
     }
 
     fn connect(&mut self) -> SendAnswer {
         if self.fails() {
-            self.log
+            self.calls
                 .note(ChannelCall::Connect(SendAnswer::ConnectFailed));
             return SendAnswer::ConnectFailed;
         }
         let answer = self.peer.connect();
-        self.log.note(ChannelCall::Connect(answer));
+        self.calls.note(ChannelCall::Connect(answer));
         answer
     }
 
     fn send(&mut self, bytes: &[u8], fds: &[u64]) -> SendAnswer {
         if self.fails() {
-            self.log
-                .note_send(self.alloc, bytes, fds, SendAnswer::SendFailed);
+            note_send(
+                self.alloc,
+                &mut self.calls,
+                bytes,
+                fds,
+                SendAnswer::SendFailed,
+            );
             return SendAnswer::SendFailed;
         }
         let answer = self.peer.send(self.alloc, bytes, fds);
-        self.log.note_send(self.alloc, bytes, fds, answer);
+        note_send(self.alloc, &mut self.calls, bytes, fds, answer);
         answer
     }
 
     fn rest(&mut self, ms: u64) {
-        self.log.note(ChannelCall::Rest(ms));
+        self.calls.note(ChannelCall::Rest(ms));
     }
 
     fn close(&mut self, fd: Fd) {
-        self.log.note(ChannelCall::Close(fd.close()));
+        self.calls.note(ChannelCall::Close(fd.close()));
     }
 }
 
@@ -139,21 +144,19 @@ impl Channel for MemoryChannel {
 #[derive(Debug, Drop)]
 pub struct SteadyChannel {
     alloc: Global,
-    log: Log,
+    calls: Calls<ChannelCall>,
     peer: Peer,
 }
 
 impl SteadyChannel {
-    ghost use Rattle.svc_fds.specs.Logs.{told};
-
     /// A channel without a receiver, with room to tell so many calls.
     pub fn new(alloc: Global, room: u64) -> Result<SteadyChannel, NoMemory>
-        ensures { IfOk result (λ channel. ⟦<SteadyChannel as Channel>⟧.calls channel ≡ Some []) }
+        ensures calls { IfOk result (λ channel. ⟦<SteadyChannel as Channel>⟧.calls channel ≡ Some []) }
+        ensures room { IfOk result (λ channel. ⟦<SteadyChannel as Channel>⟧.room channel ≡ room) }
     {
-        let log = Log::new(alloc, room)?;
         Ok(SteadyChannel {
             alloc,
-            log,
+            calls: Calls::new(alloc, room)?,
             peer: Peer::new(alloc),
         })
     }
@@ -163,14 +166,14 @@ impl SteadyChannel {
         ensures { IfSome (⟦<SteadyChannel as Channel>⟧.calls self.now)
             (λ calls. result.now ≡ calls) }
     {
-        &self.log.calls
+        told_calls(&self.calls)
     }
 }
 
 impl Channel for SteadyChannel {
-    ghost use Rattle.svc_fds.specs.Logs.{told};
+    ghost calls = { λ c. told_of c.calls };
 
-    ghost calls = { λ c. told c.log.whole c.log.calls.items };
+    ghost room = { λ c. room_of c.calls };
 
     ghost faulted = { λ _. 0 };
 
@@ -180,33 +183,33 @@ impl Channel for SteadyChannel {
 
     fn listen(&mut self) -> bool {
         self.peer.listening = true;
-        self.log.note(ChannelCall::Listen(true));
+        self.calls.note(ChannelCall::Listen(true));
         true
     }
 
     fn receive(&mut self, alloc: Global) -> ReceiveAnswer {
         let answer = self.peer.receive(alloc);
-        self.log.note_receive(alloc, &answer);
+        note_receive(alloc, &mut self.calls, &answer);
         answer
     }
 
     fn connect(&mut self) -> SendAnswer {
         let answer = self.peer.connect();
-        self.log.note(ChannelCall::Connect(answer));
+        self.calls.note(ChannelCall::Connect(answer));
         answer
     }
 
     fn send(&mut self, bytes: &[u8], fds: &[u64]) -> SendAnswer {
         let answer = self.peer.send(self.alloc, bytes, fds);
-        self.log.note_send(self.alloc, bytes, fds, answer);
+        note_send(self.alloc, &mut self.calls, bytes, fds, answer);
         answer
     }
 
     fn rest(&mut self, ms: u64) {
-        self.log.note(ChannelCall::Rest(ms));
+        self.calls.note(ChannelCall::Rest(ms));
     }
 
     fn close(&mut self, fd: Fd) {
-        self.log.note(ChannelCall::Close(fd.close()));
+        self.calls.note(ChannelCall::Close(fd.close()));
     }
 }

@@ -1,81 +1,51 @@
-//! What the channels in memory are made of: a log of their calls, and a peer.
+//! What the channels in memory are made of: how they take their calls down, and a peer.
 
-ghost use Rattle.std.specs.Prelude.{◌≡◌, ◌≤◌, ◌∷◌, [], ℕ, true, IfOk, length};
-ghost use Rattle.svc_fds.specs.Channels.{Tells, receipt_of, ReceiveFaults, SendFaults, IsConnectAnswer, IsSendAnswer, IsFew};
-ghost use Rattle.svc_fds.specs.Logs.{told};
+ghost use Rattle.std.specs.Prelude.{◌≡◌, ◌≤◌, ◌∷◌, [], ℕ, IfOk, IfSome, length};
+ghost use Rattle.svc_base.specs.Calls.{told_of, room_of, Adds, Stays};
+ghost use Rattle.svc_fds.specs.Channels.{receipt_of, ReceiveFaults, SendFaults, IsConnectAnswer, IsSendAnswer, IsFew};
 
 use crate::call::{ChannelCall, Receipt, ReceiveAnswer};
-use crate::encoding::bytes_of;
 use crate::fd::Fd;
 use crate::retry::SendAnswer;
 use std::alloc::Global;
-use svc_base::{Bytes, Items, NoMemory};
+use svc_base::{Bytes, Calls, Items, NoMemory, copy_items};
 
-/// A log of calls. It tells them for as many calls as it has room for, and nothing from then on.
-#[derive(Debug, Drop)]
-pub(crate) struct Log {
-    pub(crate) calls: Vec<ChannelCall>,
-    pub(crate) whole: bool,
-}
-
-impl Log {
-    /// A log with room for so many calls.
-    pub(crate) fn new(alloc: Global, room: u64) -> Result<Log, NoMemory>
-        ensures { IfOk result (λ log. told log.whole log.calls.items ≡ told true []) }
-    {
-        let mut calls = Vec::new(alloc);
-        calls.reserve(room as usize)?;
-        Ok(Log { calls, whole: true })
-    }
-
-    /// Takes a call down, if there is room.
-    pub(crate) fn note(&mut self, call: ChannelCall)
-        ensures { Tells (told self.old.whole self.old.calls.items)
-            (told self.new.whole self.new.calls.items) (call ∷ []) }
-    {
-        if self.whole && self.calls.len() < self.calls.capacity() {
-            self.calls.push_reserved(call);
-        } else {
-            self.whole = false;
-        }
-    }
-
-    /// Takes a send down, if there is room.
-    pub(crate) fn note_send(&mut self, alloc: Global, bytes: &[u8], fds: &[u64], answer: SendAnswer)
-        ensures { Tells (told self.old.whole self.old.calls.items)
-            (told self.new.whole self.new.calls.items)
-            (ChannelCall.Send bytes.now fds.now answer ∷ []) }
-    {
-        match copies_of(alloc, bytes, fds) {
-            Ok((bytes, fds)) => self.note(ChannelCall::Send(bytes, fds, answer)),
-            Err(_) => self.whole = false,
-        }
-    }
-
-    /// Takes a receive down, if there is room.
-    pub(crate) fn note_receive(&mut self, alloc: Global, answer: &ReceiveAnswer)
-        ensures { Tells (told self.old.whole self.old.calls.items)
-            (told self.new.whole self.new.calls.items)
-            (ChannelCall.Receive (receipt_of answer.now) ∷ []) }
-    {
-        match receipt(alloc, answer) {
-            Ok(receipt) => self.note(ChannelCall::Receive(receipt)),
-            Err(_) => self.whole = false,
-        }
-    }
-}
-
-/// The numbers once more.
-fn fds_of(alloc: Global, fds: &[u64]) -> Result<Items<u64>, NoMemory>
-    ensures { IfOk result (λ copied. copied ≡ fds.now) }
+/// Takes a send down. Where there is no memory for what was to be sent, no call is told any more.
+pub(crate) fn note_send(
+    alloc: Global,
+    calls: &mut Calls<ChannelCall>,
+    bytes: &[u8],
+    fds: &[u64],
+    answer: SendAnswer,
+)
+    ensures call { Adds (told_of calls.old) (told_of calls.new) (ChannelCall.Send bytes.now fds.now answer ∷ []) }
+    ensures stays { Stays (told_of calls.old) (told_of calls.new) (room_of calls.old) (room_of calls.new) }
 {
-    let mut copied = Items::new(alloc);
-    for fd in fds {
-        if let Err(refused) = copied.push(alloc, *fd) {
-            return Err(refused.reason);
-        }
+    match copies_of(alloc, bytes, fds) {
+        Ok((bytes, fds)) => calls.note(ChannelCall::Send(bytes, fds, answer)),
+        Err(_) => calls.lose(),
     }
-    Ok(copied)
+}
+
+/// Takes a receive down. Where there is no memory for what came, no call is told any more.
+pub(crate) fn note_receive(alloc: Global, calls: &mut Calls<ChannelCall>, answer: &ReceiveAnswer)
+    ensures call { Adds (told_of calls.old) (told_of calls.new) (ChannelCall.Receive (receipt_of answer.now) ∷ []) }
+    ensures stays { Stays (told_of calls.old) (told_of calls.new) (room_of calls.old) (room_of calls.new) }
+{
+    match receipt(alloc, answer) {
+        Ok(receipt) => calls.note(ChannelCall::Receive(receipt)),
+        Err(_) => calls.lose(),
+    }
+}
+
+/// The calls that are told, or none.
+pub(crate) fn told_calls(calls: &Calls<ChannelCall>) -> &[ChannelCall]
+    ensures { IfSome (told_of calls.now) (λ told. result.now ≡ told) }
+{
+    match calls.told() {
+        Some(told) => told,
+        None => &[],
+    }
 }
 
 /// Bytes and numbers once more.
@@ -83,8 +53,8 @@ fn copies_of(alloc: Global, bytes: &[u8], fds: &[u64]) -> Result<(Bytes, Items<u
     ensures bytes { IfOk result (λ copied. copied.0 ≡ bytes.now) }
     ensures fds { IfOk result (λ copied. copied.1 ≡ fds.now) }
 {
-    let bytes = bytes_of(alloc, bytes)?;
-    let fds = fds_of(alloc, fds)?;
+    let bytes = copy_items(alloc, bytes)?;
+    let fds = copy_items(alloc, fds)?;
     Ok((bytes, fds))
 }
 
@@ -122,7 +92,7 @@ fn receipt(alloc: Global, answer: &ReceiveAnswer) -> Result<Receipt, NoMemory>
 {
     match answer {
         ReceiveAnswer::Got(bytes, fds) => {
-            let bytes = bytes_of(alloc, bytes.as_slice())?;
+            let bytes = copy_items(alloc, bytes.as_slice())?;
             let fds = numbers(alloc, fds)?;
             Ok(Receipt::Got(bytes, fds))
         }
@@ -198,7 +168,7 @@ impl Peer {
         if !self.full {
             return ReceiveAnswer::NotYet;
         }
-        let bytes = match bytes_of(alloc, self.bytes.as_slice()) {
+        let bytes = match copy_items(alloc, self.bytes.as_slice()) {
             Ok(bytes) => bytes,
             Err(_) => return ReceiveAnswer::NoMemory,
         };

@@ -3,7 +3,8 @@
 ghost use Rattle.std.specs.Prelude.{◌≡◌, ◌<◌, ◌≤◌, ◌∷◌, ℕ, List, IfOk, IfErr, IfSome, IfNone, IsErrOf, OnOk, Ok, Err, length, unwrap_or, vec_len};
 ghost use Rattle.svc_fds.specs.Retries.{IsAfterReceives, receive_next};
 ghost use Rattle.svc_base.specs.Streams.{Rose};
-ghost use Rattle.svc_fds.specs.Channels.{Tells, SendFaults};
+ghost use Rattle.svc_base.specs.Calls.{Adds, Stays};
+ghost use Rattle.svc_fds.specs.Channels.{SendFaults};
 ghost use Rattle.svc_fds.specs.Transfers.{rested, send_calls, Answers, IsEnd, SendsBy, SendEnds, Receives, ReceivesNot, closes};
 
 use crate::call::ReceiveAnswer;
@@ -20,7 +21,8 @@ pub const MAX_RETRY: u64 = 5;
 
 /// Rests, where there is something to rest.
 fn rest<C: Channel>(channel: &mut C, ms: u64)
-    ensures told { Tells (C.calls channel.old) (C.calls channel.new) (rested ms) }
+    ensures told { Adds (C.calls channel.old) (C.calls channel.new) (rested ms) }
+    ensures stays { Stays (C.calls channel.old) (C.calls channel.new) (C.room channel.old) (C.room channel.new) }
     ensures cause { C.faulted channel.new ≡ C.faulted channel.old }
 {
     if ms > 0 {
@@ -32,8 +34,9 @@ fn rest<C: Channel>(channel: &mut C, ms: u64)
 fn ask<C: Channel>(channel: &mut C, next: SendNext, bytes: &[u8], fds: &[u64]) -> Option<SendAnswer>
     requires { length fds.now ≤ 32 }
     ensures told { IfSome result (λ answer.
-        Tells (C.calls channel.old) (C.calls channel.new)
+        Adds (C.calls channel.old) (C.calls channel.new)
         (send_calls bytes.now fds.now next answer)) }
+    ensures stays { Stays (C.calls channel.old) (C.calls channel.new) (C.room channel.old) (C.room channel.new) }
     ensures fits { IfSome result (λ answer. Answers next answer) }
     ensures cause { IfSome result
         (λ answer. SendFaults answer (C.faulted channel.old) (C.faulted channel.new)) }
@@ -76,6 +79,7 @@ fn send_all<C: Channel>(
     requires { length fds.now ≤ 32 }
     ensures asked { SendsBy limit bytes.now fds.now
         (C.calls channel.old) (C.calls channel.new) result }
+    ensures stays { Stays (C.calls channel.old) (C.calls channel.new) (C.room channel.old) (C.room channel.new) }
     ensures sent { IfOk result (λ n. n ≡ length bytes.now) }
     ensures fault { IsErrOf result SendError.Transfer
         → Rose (C.faulted channel.old) (C.faulted channel.new) }
@@ -103,6 +107,7 @@ pub fn send_fds_to<C: Channel>(
     ensures asked { length payload.now ≤ MESSAGE_LIMIT → length fds.now ≤ FD_LIMIT
         → SendsBy (unwrap_or max_retry MAX_RETRY) payload.now fds.now
         (C.calls channel.old) (C.calls channel.new) result }
+    ensures stays { Stays (C.calls channel.old) (C.calls channel.new) (C.room channel.old) (C.room channel.new) }
     ensures sent { IfOk result (λ n. n ≡ length payload.now) }
     ensures fault { IsErrOf result SendError.Transfer
         → Rose (C.faulted channel.old) (C.faulted channel.new) }
@@ -147,6 +152,7 @@ pub fn get_fds_from<C: Channel>(
     ensures few { IfOk result (λ message. vec_len message.0 ≤ FD_LIMIT) }
     ensures refused { IfErr result (λ error. ReceivesNot (unwrap_or max_retry MAX_RETRY)
         (C.calls channel.old) (C.calls channel.new) error) }
+    ensures stays { Stays (C.calls channel.old) (C.calls channel.new) (C.room channel.old) (C.room channel.new) }
     ensures fault { IsErrOf result ReceiveError.Transfer
         → Rose (C.faulted channel.old) (C.faulted channel.new) }
 {
@@ -171,7 +177,8 @@ pub fn get_fds_from<C: Channel>(
 
 /// Closes each of the descriptors.
 pub(crate) fn close_all<C: Channel>(channel: &mut C, mut fds: Vec<Fd>)
-    ensures told { Tells (C.calls channel.old) (C.calls channel.new) (closes fds.items) }
+    ensures told { Adds (C.calls channel.old) (C.calls channel.new) (closes fds.items) }
+    ensures stays { Stays (C.calls channel.old) (C.calls channel.new) (C.room channel.old) (C.room channel.new) }
     ensures cause { C.faulted channel.new ≡ C.faulted channel.old }
 {
     while !fds.is_empty() {

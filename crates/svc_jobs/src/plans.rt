@@ -6,9 +6,9 @@ ghost use Rattle.svc_job_host.specs.Timetables.{periods_of};
 
 use crate::quiet::QuietJob;
 use std::alloc::Global;
-use svc_base::NoMemory;
+use svc_base::{NoMemory, copy_items};
 use svc_job_host::JobPlan;
-use svc_record::{Event, Item, copy_items};
+use svc_record::{Event, Item};
 use svc_text::ServiceLine;
 
 /// The plan of a job with this period, of the line of its service.

@@ -1,14 +1,14 @@
 -- Settings that were set one after the other.
-use Rattle.std.proofs.Common.{◌≡◌, ℕ, ◌+◌, ◌<◌, Bool, true, false, List, [], ◌∷◌, ◌++◌, length, get_or, take, drop, Option, Some, None, refl, sym, ap, subst, ◌∙◌, append_assoc}
+use Rattle.std.proofs.Common.{◌≡◌, ℕ, ◌+◌, ◌<◌, ◌≤◌, Bool, true, false, List, [], ◌∷◌, ◌++◌, length, get_or, take, drop, Option, Some, None, refl, sym, ap, subst, ◌∙◌, append_assoc, arith}
 use Rattle.std.specs.List.{cons_option}
 use Rattle.std.specs.Option.{option_to_list, option_map}
-use Rattle.std.proofs.lemmas.List.{take_more, take-append-drop}
+use Rattle.std.proofs.lemmas.List.{take_more, take-append-drop, length-append}
 use Rattle.std.proofs.lemmas.List.Elements.{filter_map-append}
 use Rattle.svc_base.specs.Streams.{Rose}
 use Rattle.svc_base.specs.declared.settings.Setting.{Setting}
 use Rattle.svc_base.specs.declared.settings.Setting.TheVariants.{NoDelay, KeepAlive, Dscp, SndBuf, RcvBuf}
 use Rattle.svc_base.specs.Calls.{Adds}
-use Rattle.svc_base.proofs.CallLemmas.{Adds-then}
+use Rattle.svc_base.proofs.CallLemmas.{Adds-then, Stays-then}
 use Rattle.svc_socket.specs.OptionLists.{settings_of}
 use Rattle.svc_socket.specs.declared.protocols.l4.ext.TcpSocketOptions.{TcpSocketOptions}
 use Rattle.svc_listen.specs.AcceptingData.{AcceptingData, IsSet}
@@ -20,10 +20,16 @@ set_calls-append : (c : ℕ) (xs ys : List Setting) → set_calls c (xs ++ ys) �
 set_calls-append c [] ys = refl
 set_calls-append c (x ∷ xs) ys = ap (λ (zs : List AcceptingCall). calls.Set c x true ∷ zs) (set_calls-append c xs ys)
 
+-- the places that both took
+places : (xs ys : List Setting) (a b c : ℕ) → a ≤ b + length xs → b ≤ c + length ys → a ≤ c + length (xs ++ ys)
+places xs ys a b c p q = let e : length (xs ++ ys) ≡ length xs + length ys = length-append xs ys in omega (arith, p, q, e)
+
 -- these, all of which were set, and then those
 pub Sets-then : (r : Bool) (k : ℕ) (xs ys : List Setting) (a b c : AcceptingData) → AllSet k xs a b → Sets k ys b c r → Sets k (xs ++ ys) a c r
 Sets-then true k xs ys a b c p q = record {
   called = subst (Adds a.called c.called) (sym (set_calls-append k xs ys)) (Adds-then a.called b.called c.called _ _ p.called q.called);
+  stays = Stays-then p.stays q.stays;
+  place = places xs ys a.room b.room c.room p.place q.place;
   faults = q.faults ∙ p.faults;
   waits = q.waits ∙ p.waits;
 }
@@ -35,6 +41,8 @@ Sets-then false k xs ys a b c p q =
       back = q.back;
       all = ap (λ (zs : List Setting). xs ++ zs) q.all ∙ sym (append_assoc xs q.front (q.failed ∷ q.back));
       called = subst (Adds a.called c.called) (sym (append_assoc (set_calls k xs) (set_calls k q.front) last_call) ∙ ap (λ (zs : List AcceptingCall). zs ++ last_call) (sym (set_calls-append k xs q.front))) (Adds-then a.called b.called c.called _ _ p.called q.called);
+      stays = Stays-then p.stays q.stays;
+      place = places xs ys a.room b.room c.room p.place q.place;
       faults = subst (λ (n : ℕ). Rose n c.faults) p.faults q.faults;
       waits = q.waits ∙ p.waits;
     }
@@ -47,6 +55,8 @@ Sets-rest k xs ys a b p = record {
   back = p.back ++ ys;
   all = ap (λ (zs : List Setting). zs ++ ys) p.all ∙ append_assoc p.front (p.failed ∷ p.back) ys;
   called = p.called;
+  stays = p.stays;
+  place = let e : length (xs ++ ys) ≡ length xs + length ys = length-append xs ys in omega (arith, p.place, e);
   faults = p.faults;
   waits = p.waits;
 }
@@ -76,8 +86,8 @@ sets_front k steps n a c p = subst (λ (zs : List Setting). SetFails k zs a c) (
 
 -- one setting that was tried
 pub one_tried : (r : Bool) (k : ℕ) (s : Setting) (a b : AcceptingData) → IsSet a b k s r → Sets k (s ∷ []) a b r
-one_tried true k s a b p = record { called = p.called; faults = p.faults; waits = p.waits }
-one_tried false k s a b p = record { front = []; failed = s; back = []; all = refl; called = p.called; faults = p.faults; waits = p.waits }
+one_tried true k s a b p = record { called = p.called; stays = p.stays; place = p.place; faults = p.faults; waits = p.waits }
+one_tried false k s a b p = record { front = []; failed = s; back = []; all = refl; called = p.called; stays = p.stays; place = p.place; faults = p.faults; waits = p.waits }
 
 pub step_tried : (r : Bool) (k : ℕ) (step : Option Setting) (s : Setting) (a b : AcceptingData) → step ≡ Some s → IsSet a b k s r → Sets k (option_to_list step) a b r
 step_tried r k step s a b e p = subst (λ (o : Option Setting). Sets k (option_to_list o) a b r) (sym e) (one_tried r k s a b p)

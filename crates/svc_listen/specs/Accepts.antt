@@ -1,9 +1,9 @@
 -- What becomes of a connection that came.
-use Rattle.std.specs.Prelude.{◌≡◌, ◌≢◌, ℕ, Bool, true, false, List, [], ◌∷◌, ◌++◌, map, length, slice_get, Option, Some, None}
+use Rattle.std.specs.Prelude.{◌≡◌, ◌≢◌, ℕ, ◌+◌, ◌≤◌, Bool, true, false, List, [], ◌∷◌, ◌++◌, map, length, slice_get, Option, Some, None}
 use Rattle.std.specs.List.{filter_map}
 use Rattle.svc_base.specs.Streams.{Rose}
 use Rattle.svc_base.specs.declared.settings.Setting.{Setting}
-use Rattle.svc_base.specs.Calls.{Adds}
+use Rattle.svc_base.specs.Calls.{Adds, Stays}
 use Rattle.svc_socket.specs.OptionLists.{settings_of}
 use Rattle.svc_socket.specs.declared.peer.PeerAddr.{PeerAddr}
 use Rattle.svc_streams.specs.HandshakeData.{HandshakeData}
@@ -56,6 +56,8 @@ set_calls c settings = map (λ s. calls.Set c s true) settings
 -- all of them were set
 pub record AllSet (c : ℕ) (settings : List Setting) (before now : AcceptingData) : Type 0 where
   pub called : Adds before.called now.called (set_calls c settings)
+  pub stays : Stays before.called now.called before.room now.room
+  pub place : before.room ≤ now.room + length settings
   pub faults : now.faults ≡ before.faults
   pub waits : now.waits ≡ before.waits
 
@@ -66,6 +68,8 @@ pub record SetFails (c : ℕ) (settings : List Setting) (before now : AcceptingD
   pub back : List Setting
   pub all : settings ≡ front ++ failed ∷ back
   pub called : Adds before.called now.called (set_calls c front ++ calls.Set c failed false ∷ [])
+  pub stays : Stays before.called now.called before.room now.room
+  pub place : before.room ≤ now.room + length settings
   pub faults : Rose before.faults now.faults
   pub waits : now.waits ≡ before.waits
 

@@ -1,7 +1,7 @@
 -- What contracts see of a binder, and what its calls change.
-use Rattle.std.specs.Prelude.{◌≡◌, ℕ, Bool, true, false, List, [], ◌∷◌, Option}
+use Rattle.std.specs.Prelude.{◌≡◌, ℕ, ◌+◌, ◌≤◌, Bool, true, false, List, [], ◌∷◌, Option}
 use Rattle.svc_base.specs.Streams.{Rose}
-use Rattle.svc_base.specs.Calls.{Adds}
+use Rattle.svc_base.specs.Calls.{Adds, Stays}
 use Rattle.svc_listen.specs.declared.listeners.l4.ServerAddress.{ServerAddress}
 use Rattle.svc_listen.specs.declared.binder.BindAnswer.{BindAnswer}
 use Rattle.svc_listen.specs.declared.binder.BindAnswer.TheVariants as answers
@@ -10,9 +10,11 @@ use Rattle.svc_listen.specs.declared.binder.BindOutcome.TheVariants.{Bound, InUs
 use Rattle.svc_listen.specs.declared.binder.BinderCall.{BinderCall}
 use Rattle.svc_listen.specs.declared.binder.BinderCall.TheVariants.{Bind, Adopt, Rest}
 
--- the calls that it was asked, the oldest first, where it tells them; how often it failed, and how often an address was in use
+-- the calls that it was asked, the oldest first, where it tells them; for how many more calls it is sure to tell them; how often it
+-- failed, and how often an address was in use
 pub record BinderData : Type 0 where
   pub called : Option (List BinderCall)
+  pub room : ℕ
   pub faults : ℕ
   pub waits : ℕ
 
@@ -34,9 +36,10 @@ BindWaits (Bound fd) before now = now ≡ before
 BindWaits InUse before now = Rose before now
 BindWaits Failed before now = now ≡ before
 
--- it was asked once to bind the address, with this answer
+-- it was asked once to bind the address, with this answer; what was told stays told as long as there is room
 pub record IsBound (before now : BinderData) (address : ServerAddress) (outcome : BindOutcome) : Type 0 where
   pub called : Adds before.called now.called (Bind address outcome ∷ [])
+  pub stays : Stays before.called now.called before.room now.room
   pub faults : BindFaults outcome before.faults now.faults
   pub waits : BindWaits outcome before.waits now.waits
 
@@ -45,14 +48,17 @@ abbrev pub AdoptFaults : Bool → ℕ → ℕ → Type 0
 AdoptFaults true before now = now ≡ before
 AdoptFaults false before now = Rose before now
 
--- it was asked to adopt the descriptor of the address, with this answer
+-- it was asked to adopt the descriptor of the address, with this answer; what was told stays told as long as there is room
 pub record IsAdopted (before now : BinderData) (address : ServerAddress) (fd : ℕ) (adopted : Bool) : Type 0 where
   pub called : Adds before.called now.called (Adopt address fd adopted ∷ [])
+  pub stays : Stays before.called now.called before.room now.room
   pub faults : AdoptFaults adopted before.faults now.faults
   pub waits : now.waits ≡ before.waits
 
--- it rested so many milliseconds
+-- it rested so many milliseconds; what was told stays told as long as there is room, and the call takes the place of one
 pub record IsRested (before now : BinderData) (ms : ℕ) : Type 0 where
   pub called : Adds before.called now.called (Rest ms ∷ [])
+  pub stays : Stays before.called now.called before.room now.room
+  pub place : before.room ≤ now.room + 1
   pub faults : now.faults ≡ before.faults
   pub waits : now.waits ≡ before.waits

@@ -1,7 +1,7 @@
 -- How an address comes to a descriptor that listens on it: what a binder is asked, by its answers.
 use Rattle.std.specs.Prelude.{◌≡◌, ℕ, zero, suc, true, false, ◌+◌, ◌-◌, ◌^◌, ◌≤◌, min, List, [], ◌∷◌, ◌++◌, Option, Some, None, Result, Ok, Err, if◌then◌else◌}
 use Rattle.std.specs.Option.{option_map}
-use Rattle.svc_base.specs.Calls.{Adds}
+use Rattle.svc_base.specs.Calls.{Adds, Stays}
 use Rattle.svc_fds.specs.Tables.{Entry, lookup, put}
 use Rattle.svc_listen.specs.Addresses.{text_of, is_unix}
 use Rattle.svc_listen.specs.BinderData.{BinderData, BindFaults, IsAdopted}
@@ -37,10 +37,11 @@ in_use InUse = 1
 in_use outcomes.Failed = 0
 
 -- the address was tried: some tries found it in use, and then came the last, with this answer. It finds
--- the address in use only where no further try is left
+-- the address in use only where no further try is left. What was told stays told as long as there is room
 pub record Tries (before now : BinderData) (address : ServerAddress) (last : BindOutcome) : Type 0 where
   pub busy : ℕ
   pub called : Adds before.called now.called (busy_tries address busy ++ Bind address last ∷ [])
+  pub stays : Stays before.called now.called before.room now.room
   pub few : busy + 1 ≤ most_tries address
   pub spent : last ≡ InUse → busy + 1 ≡ most_tries address
   pub faults : BindFaults last before.faults now.faults

@@ -27,7 +27,8 @@ pub enum AcceptingCall {
     Set(u64, Setting, bool),
 }
 
-/// A listening socket with the connections that came on it.
+/// A listening socket with the connections that came on it. What it told of its calls stays told as
+/// long as there is room.
 pub trait Accepting {
     // What contracts see of it.
     ghost seen: { Self → AcceptingData };

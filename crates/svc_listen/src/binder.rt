@@ -38,7 +38,8 @@ pub enum BinderCall {
 /// What binds addresses and adopts descriptors that are bound. A TCP address is bound as the first one
 /// that its text resolves to, with address reuse and its options set before; of a Unix address the path
 /// is removed before, and its file gets its mode, also where it is adopted. Both calls listen with a
-/// backlog of 65,535.
+/// backlog of 65,535. What it told of its calls stays told as long as there is room; where there is no
+/// memory to tell a bind or an adoption, no room is left.
 pub trait Binder {
     // What contracts see of it.
     ghost seen: { Self → BinderData };

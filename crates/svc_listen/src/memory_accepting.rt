@@ -1,7 +1,7 @@
 //! What accepts connections, in memory.
 
 ghost use Rattle.std.specs.Prelude.{◌≡◌, [], Some, IfOk};
-ghost use Rattle.svc_base.specs.Calls.{told_of};
+ghost use Rattle.svc_base.specs.Calls.{told_of, room_of};
 
 use crate::accepting::{Accepting, AcceptingCall, Arrival};
 use std::alloc::Global;
@@ -33,6 +33,7 @@ impl MemoryAccepting {
         failing: Vec<u64>,
     ) -> Result<Self, NoMemory>
         ensures calls { IfOk result (λ a. told_of a.calls ≡ Some []) }
+        ensures room { IfOk result (λ a. room_of a.calls ≡ room) }
         ensures faults { IfOk result (λ a. a.count ≡ 0) }
         ensures waits { IfOk result (λ a. a.wait_count ≡ 0) }
     {
@@ -70,7 +71,7 @@ impl MemoryAccepting {
 }
 
 impl Accepting for MemoryAccepting {
-    ghost seen = { λ a. record { called = told_of a.calls; faults = a.count; waits = a.wait_count } };
+    ghost seen = { λ a. record { called = told_of a.calls; room = room_of a.calls; faults = a.count; waits = a.wait_count } };
 
     fn faults(&self) -> u64 {
         self.count
@@ -118,6 +119,7 @@ impl SteadyAccepting {
     /// What accepts so, and tells so many calls. `NoMemory` where there is none for them.
     pub fn new(alloc: Global, room: u64, coming: Vec<(u64, Peer)>) -> Result<Self, NoMemory>
         ensures calls { IfOk result (λ a. told_of a.calls ≡ Some []) }
+        ensures room { IfOk result (λ a. room_of a.calls ≡ room) }
         ensures waits { IfOk result (λ a. a.wait_count ≡ 0) }
     {
         Ok(SteadyAccepting {
@@ -129,7 +131,7 @@ impl SteadyAccepting {
 }
 
 impl Accepting for SteadyAccepting {
-    ghost seen = { λ a. record { called = told_of a.calls; faults = 0; waits = a.wait_count } };
+    ghost seen = { λ a. record { called = told_of a.calls; room = room_of a.calls; faults = 0; waits = a.wait_count } };
 
     fn faults(&self) -> u64 {
         0

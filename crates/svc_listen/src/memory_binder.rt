@@ -1,7 +1,7 @@
 //! Binders in memory.
 
 ghost use Rattle.std.specs.Prelude.{◌≡◌, ◌∷◌, [], Some, IfOk};
-ghost use Rattle.svc_base.specs.Calls.{told_of, Adds};
+ghost use Rattle.svc_base.specs.Calls.{told_of, room_of, Adds, Stays};
 ghost use Rattle.svc_listen.specs.BinderData.{outcome_of};
 ghost use Rattle.svc_listen.specs.MemoryBinders.{IsTried};
 
@@ -11,13 +11,15 @@ use std::alloc::Global;
 use svc_base::{Calls, NoMemory};
 use svc_fds::Fd;
 
+/// Notes a bind. Where there is no memory for it no call is told any more, and no room is left.
 fn note_bind(
     alloc: Global,
     calls: &mut Calls<BinderCall>,
     addr: &ServerAddress,
     outcome: BindOutcome,
 )
-    ensures { Adds (told_of calls.old) (told_of calls.new) (BinderCall.Bind addr.now outcome ∷ []) }
+    ensures calls { Adds (told_of calls.old) (told_of calls.new) (BinderCall.Bind addr.now outcome ∷ []) }
+    ensures stays { Stays (told_of calls.old) (told_of calls.new) (room_of calls.old) (room_of calls.new) }
 {
     match addr.copy(alloc) {
         Ok(addr) => calls.note(BinderCall::Bind(addr, outcome)),
@@ -25,6 +27,7 @@ fn note_bind(
     }
 }
 
+/// Notes an adoption. Where there is no memory for it no call is told any more, and no room is left.
 fn note_adopt(
     alloc: Global,
     calls: &mut Calls<BinderCall>,
@@ -32,7 +35,8 @@ fn note_adopt(
     fd: u64,
     adopted: bool,
 )
-    ensures { Adds (told_of calls.old) (told_of calls.new) (BinderCall.Adopt addr.now fd adopted ∷ []) }
+    ensures calls { Adds (told_of calls.old) (told_of calls.new) (BinderCall.Adopt addr.now fd adopted ∷ []) }
+    ensures stays { Stays (told_of calls.old) (told_of calls.new) (room_of calls.old) (room_of calls.new) }
 {
     match addr.copy(alloc) {
         Ok(addr) => calls.note(BinderCall::Adopt(addr, fd, adopted)),
@@ -60,6 +64,7 @@ impl MemoryBinder {
     /// `NoMemory` where there is none for them.
     pub fn new(alloc: Global, room: u64, number: u64, failing: Vec<u64>) -> Result<Self, NoMemory>
         ensures calls { IfOk result (λ binder. told_of binder.calls ≡ Some []) }
+        ensures room { IfOk result (λ binder. room_of binder.calls ≡ room) }
         ensures number { IfOk result (λ binder. binder.number ≡ number) }
         ensures busy { IfOk result (λ binder. binder.busy ≡ 0) }
         ensures faults { IfOk result (λ binder. binder.count ≡ 0) }
@@ -116,7 +121,7 @@ fn answer_of(outcome: BindOutcome) -> BindAnswer
 }
 
 impl Binder for MemoryBinder {
-    ghost seen = { λ b. record { called = told_of b.calls; faults = b.count; waits = b.wait_count } };
+    ghost seen = { λ b. record { called = told_of b.calls; room = room_of b.calls; faults = b.count; waits = b.wait_count } };
 
     fn faults(&self) -> u64 {
         self.count
@@ -160,6 +165,7 @@ impl SteadyBinder {
     /// `NoMemory` where there is none for them.
     pub fn new(alloc: Global, room: u64, number: u64) -> Result<Self, NoMemory>
         ensures calls { IfOk result (λ binder. told_of binder.calls ≡ Some []) }
+        ensures room { IfOk result (λ binder. room_of binder.calls ≡ room) }
         ensures number { IfOk result (λ binder. binder.number ≡ number) }
     {
         Ok(SteadyBinder {
@@ -171,7 +177,7 @@ impl SteadyBinder {
 }
 
 impl Binder for SteadyBinder {
-    ghost seen = { λ b. record { called = told_of b.calls; faults = 0; waits = 0 } };
+    ghost seen = { λ b. record { called = told_of b.calls; room = room_of b.calls; faults = 0; waits = 0 } };
 
     fn faults(&self) -> u64 {
         0

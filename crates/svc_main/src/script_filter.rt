@@ -5,8 +5,7 @@ ghost use Rattle.svc_text.specs.Filters.{is_blocked, blocked_lists};
 ghost use Rattle.svc_main.specs.BlockedLists.{blocked_by};
 
 use std::alloc::Global;
-use svc_base::{Items, NoMemory};
-use svc_record::copy_items;
+use svc_base::{Items, NoMemory, copy_items};
 use svc_socket::{IpNumber, PeerAddr};
 use svc_streams::{ConnectionFilter, Filters};
 use svc_text::{ServiceLine, blocks, is_blocked};

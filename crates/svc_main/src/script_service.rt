@@ -5,10 +5,9 @@ ghost use Rattle.svc_text.specs.ScriptPlans.{endpoint_of};
 ghost use Rattle.svc_text.specs.declared.service.EndpointLine.{EndpointLine};
 
 use std::alloc::Global;
-use svc_base::{Items, NoMemory, Text, Texts};
+use svc_base::{Items, NoMemory, Text, Texts, copy_items};
 use svc_graph::services::{RunPoll, ServiceReadyNotifier, ServiceWithDependents, StartPoll};
 use svc_graph::{EndpointPlan, Kind};
-use svc_record::copy_items;
 use svc_text::{EndpointLine, ServiceLine};
 
 /// A service of a script. It does nothing by itself: its word and its end are items of the script.

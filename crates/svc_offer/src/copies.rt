@@ -3,9 +3,8 @@
 ghost use Rattle.std.specs.Prelude.{◌≡◌, IfOk};
 
 use std::alloc::Global;
-use svc_base::NoMemory;
+use svc_base::{NoMemory, copy_items};
 use svc_fds::Message;
-use svc_record::copy_items;
 
 /// The same message once more.
 pub(crate) fn copy_message(alloc: Global, message: &Message) -> Result<Message, NoMemory>

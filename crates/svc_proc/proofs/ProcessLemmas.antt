@@ -9,6 +9,10 @@ use Rattle.svc_proc.specs.Daemons.{old_name, moving}
 pub Asks-then : (a b c : ProcessData) (xs ys : List ProcessCall) → Asks a b xs → Asks b c ys → Asks a c (xs ++ ys)
 Asks-then a b c xs ys p q = record {
   called = Adds-then a.called b.called c.called xs ys p.called q.called;
+  stays = record {
+    told = λ some. q.stays.told some ∙ p.stays.told (omega (arith, some, q.stays.falls));
+    falls = omega (arith, p.stays.falls, q.stays.falls);
+  };
   passed = omega (arith, p.passed, q.passed);
   number = q.number ∙ p.number;
   faults = q.faults ∙ p.faults;

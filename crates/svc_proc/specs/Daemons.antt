@@ -1,6 +1,6 @@
 -- How a server becomes a daemon.
 use Rattle.std.specs.Prelude.{ℕ, ◌≤◌, Bool, true, false, if◌then◌else◌, List, [], ◌∷◌, ◌++◌, codes, Option, Some, None, Result, Ok, Err, unwrap_or}
-use Rattle.svc_base.specs.Calls.{Adds}
+use Rattle.svc_base.specs.Calls.{Adds, Stays}
 use Rattle.svc_conf.specs.declared.server.configuration.ServerConf.{ServerConf}
 use Rattle.svc_proc.specs.ProcessData.{ProcessData, ForkFaults}
 use Rattle.svc_proc.specs.Limits.{Limit}
@@ -26,6 +26,7 @@ moving path (Some renamed) = Exists path true ∷ Rename path (old_name path) re
 pub record Daemonizes (path : List ℕ) (before now : ProcessData) (fork : ForkAnswer) : Type 0 where
   pub renamed : Option Bool
   pub called : Adds before.called now.called (moving path renamed ++ Fork fork ∷ [])
+  pub stays : Stays before.called now.called before.room now.room
   pub passed : before.moment ≤ now.moment
   pub faults : ForkFaults fork before.faults now.faults
 

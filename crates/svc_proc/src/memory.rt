@@ -1,14 +1,15 @@
 //! Processes in memory.
 
 ghost use Rattle.std.specs.Prelude.{◌≡◌, ◌<◌, [], ◌∷◌, length, Some, IfOk, IfSome};
-ghost use Rattle.svc_base.specs.Calls.{told_of, Adds};
+ghost use Rattle.svc_base.specs.Calls.{told_of, room_of, Adds, Stays};
 
 use crate::process::{ForkAnswer, Process, ProcessCall, SignalAnswer};
 use std::alloc::Global;
 use svc_base::{Calls, NoMemory, Text};
 
 fn note_exists(alloc: Global, calls: &mut Calls<ProcessCall>, path: &str, there: bool)
-    ensures { Adds (told_of calls.old) (told_of calls.new) (ProcessCall.Exists path.now there ∷ []) }
+    ensures call { Adds (told_of calls.old) (told_of calls.new) (ProcessCall.Exists path.now there ∷ []) }
+    ensures stays { Stays (told_of calls.old) (told_of calls.new) (room_of calls.old) (room_of calls.new) }
 {
     match Text::new(alloc, path) {
         Ok(path) => calls.note(ProcessCall::Exists(path, there)),
@@ -17,7 +18,8 @@ fn note_exists(alloc: Global, calls: &mut Calls<ProcessCall>, path: &str, there:
 }
 
 fn note_rename(alloc: Global, calls: &mut Calls<ProcessCall>, from: &str, to: &str, renamed: bool)
-    ensures { Adds (told_of calls.old) (told_of calls.new) (ProcessCall.Rename from.now to.now renamed ∷ []) }
+    ensures call { Adds (told_of calls.old) (told_of calls.new) (ProcessCall.Rename from.now to.now renamed ∷ []) }
+    ensures stays { Stays (told_of calls.old) (told_of calls.new) (room_of calls.old) (room_of calls.new) }
 {
     match (Text::new(alloc, from), Text::new(alloc, to)) {
         (Ok(from), Ok(to)) => calls.note(ProcessCall::Rename(from, to, renamed)),
@@ -69,6 +71,7 @@ impl MemoryProcess {
     /// many calls; `NoMemory` where there is none for them.
     pub fn new(alloc: Global, room: u64, number: u32, failing: Vec<u64>) -> Result<Self, NoMemory>
         ensures calls { IfOk result (λ process. told_of process.calls ≡ Some []) }
+        ensures room { IfOk result (λ process. room_of process.calls ≡ room) }
         ensures number { IfOk result (λ process. process.number ≡ number) }
         ensures start { IfOk result (λ process. process.clock ≡ 0) }
         ensures count { IfOk result (λ process. process.count ≡ 0) }
@@ -108,7 +111,7 @@ impl MemoryProcess {
 }
 
 impl Process for MemoryProcess {
-    ghost seen = { λ p. record { called = told_of p.calls; moment = p.clock; number = p.number; faults = p.count } };
+    ghost seen = { λ p. record { called = told_of p.calls; room = room_of p.calls; moment = p.clock; number = p.number; faults = p.count } };
 
     fn faults(&self) -> u64 {
         self.count
@@ -181,6 +184,7 @@ impl SteadyProcess {
     /// `NoMemory` where there is none for them.
     pub fn new(alloc: Global, room: u64, number: u32) -> Result<Self, NoMemory>
         ensures calls { IfOk result (λ process. told_of process.calls ≡ Some []) }
+        ensures room { IfOk result (λ process. room_of process.calls ≡ room) }
         ensures number { IfOk result (λ process. process.number ≡ number) }
         ensures start { IfOk result (λ process. process.clock ≡ 0) }
     {
@@ -195,7 +199,7 @@ impl SteadyProcess {
 }
 
 impl Process for SteadyProcess {
-    ghost seen = { λ p. record { called = told_of p.calls; moment = p.clock; number = p.number; faults = 0 } };
+    ghost seen = { λ p. record { called = told_of p.calls; room = room_of p.calls; moment = p.clock; number = p.number; faults = 0 } };
 
     fn faults(&self) -> u64 {
         0

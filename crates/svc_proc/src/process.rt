@@ -1,6 +1,6 @@
 //! What a daemon asks of its process.
 
-ghost use Rattle.std.specs.Prelude.{◌≡◌, ◌∷◌, []};
+ghost use Rattle.std.specs.Prelude.{◌≡◌, ◌+◌, ◌≤◌, ◌∷◌, []};
 ghost use Rattle.svc_proc.specs.ProcessData.{ProcessData, Asks, Forks};
 
 use svc_base::Text;
@@ -58,15 +58,18 @@ pub trait Process {
 
     /// Makes a child that goes on from here, as the parent does.
     fn fork(&mut self) -> ForkAnswer
-        ensures { Forks (seen self.old) (seen self.new) result };
+        ensures asks { Forks (seen self.old) (seen self.new) result }
+        ensures place { (seen self.old).room ≤ (seen self.new).room + 1 };
 
     /// Sends the process with this number the signal that its child is ready.
     fn notify(&mut self, pid: u32) -> SignalAnswer
-        ensures { Asks (seen self.old) (seen self.new) (ProcessCall.Notify pid result ∷ []) };
+        ensures asks { Asks (seen self.old) (seen self.new) (ProcessCall.Notify pid result ∷ []) }
+        ensures place { (seen self.old).room ≤ (seen self.new).room + 1 };
 
     /// Rests for so many milliseconds.
     fn rest(&mut self, ms: u64)
-        ensures { Asks (seen self.old) (seen self.new) (ProcessCall.Rest ms ∷ []) };
+        ensures asks { Asks (seen self.old) (seen self.new) (ProcessCall.Rest ms ∷ []) }
+        ensures place { (seen self.old).room ≤ (seen self.new).room + 1 };
 
     /// The moment, in milliseconds. No call lowers it.
     fn now(&self) -> u64

@@ -5,20 +5,7 @@ ghost use Rattle.std.specs.Prelude.{◌≡◌, IfOk};
 use crate::action::Action;
 use crate::event::Event;
 use std::alloc::Global;
-use svc_base::{Items, NoMemory};
-
-/// A list once more, item by item.
-pub fn copy_items<T: Copy>(alloc: Global, items: &[T]) -> Result<Items<T>, NoMemory>
-    ensures { IfOk result (λ copied. copied ≡ items.now) }
-{
-    let mut copied = Items::new(alloc);
-    for item in items {
-        if let Err(refused) = copied.push(alloc, *item) {
-            return Err(refused.reason);
-        }
-    }
-    Ok(copied)
-}
+use svc_base::{NoMemory, copy_items};
 
 impl Event {
     /// The same event once more.

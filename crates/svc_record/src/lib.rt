@@ -11,7 +11,6 @@ mod printed;
 mod validity;
 
 pub use action::{Action, Actions, BootstrapError, ExecutionPhase, StepEnd};
-pub use copies::copy_items;
 pub use entry::{Entries, Entry};
 pub use event::{Event, ShutdownSignal, Side};
 pub use item::Item;

@@ -1,12 +1,12 @@
 -- Options that were set one after the other.
-use Rattle.std.proofs.Common.{◌≡◌, ℕ, ◌+◌, ◌<◌, true, false, List, [], ◌∷◌, ◌++◌, length, get_or, take, drop, Option, Some, None, Result, Ok, Err, refl, sym, ap, subst, ◌∙◌, append_assoc, inl, inr}
+use Rattle.std.proofs.Common.{◌≡◌, ℕ, ◌+◌, ◌<◌, ◌≤◌, true, false, List, [], ◌∷◌, ◌++◌, length, get_or, take, drop, Option, Some, None, Result, Ok, Err, refl, sym, ap, subst, ◌∙◌, append_assoc, arith, inl, inr}
 use Rattle.std.specs.List.{cons_option}
 use Rattle.std.specs.Option.{option_to_list}
-use Rattle.std.proofs.lemmas.List.{take_more, take-append-drop}
+use Rattle.std.proofs.lemmas.List.{take_more, take-append-drop, length-append}
 use Rattle.std.proofs.lemmas.List.Elements.{filter_map-append}
 use Rattle.svc_base.specs.Streams.{Rose}
 use Rattle.svc_base.specs.Calls.{Adds}
-use Rattle.svc_base.proofs.CallLemmas.{Adds-then}
+use Rattle.svc_base.proofs.CallLemmas.{Adds-then, Stays-then}
 use Rattle.svc_socket.specs.OptionsData.{OptionsData, IsAsked}
 use Rattle.svc_socket.specs.Steps.{Steps, given, set_calls, AllSet, Sets}
 use Rattle.svc_socket.specs.declared.options.SockOption.{SockOption}
@@ -20,10 +20,16 @@ set_calls-append : (xs ys : Steps) → set_calls (xs ++ ys) ≡ set_calls xs ++ 
 set_calls-append [] ys = refl
 set_calls-append (x ∷ xs) ys = ap (λ (zs : List OptionCall). record { option = x.0; set = true } ∷ zs) (set_calls-append xs ys)
 
+-- the places that both took
+places : (xs ys : Steps) (a b c : ℕ) → a ≤ b + length xs → b ≤ c + length ys → a ≤ c + length (xs ++ ys)
+places xs ys a b c p q = let e : length (xs ++ ys) ≡ length xs + length ys = length-append xs ys in omega (arith, p, q, e)
+
 all_then : (xs ys : Steps) (last : Answer) (a b c : OptionsData) (r : Answer) → AllSet xs (Ok tt) a b (Ok tt) → Sets ys last b c r → Sets (xs ++ ys) last a c r
 all_then xs ys last a b c r p (inl q) =
     inl (record {
       called = subst (Adds a.called c.called) (sym (set_calls-append xs ys)) (Adds-then a.called b.called c.called _ _ p.called q.called);
+      stays = Stays-then p.stays q.stays;
+      place = places xs ys a.room b.room c.room p.place q.place;
       family = q.family ∙ p.family;
       faults = q.faults ∙ p.faults;
       answer_is = q.answer_is;
@@ -36,6 +42,8 @@ all_then xs ys last a b c r p (inr q) =
       back = q.back;
       all = ap (λ (zs : Steps). xs ++ zs) q.all ∙ sym (append_assoc xs q.front (q.failed ∷ q.back));
       called = subst (Adds a.called c.called) (sym (append_assoc (set_calls xs) (set_calls q.front) last_call) ∙ ap (λ (zs : List OptionCall). zs ++ last_call) (sym (set_calls-append xs q.front))) (Adds-then a.called b.called c.called _ _ p.called q.called);
+      stays = Stays-then p.stays q.stays;
+      place = places xs ys a.room b.room c.room p.place q.place;
       family = q.family ∙ p.family;
       faults = subst (λ (n : ℕ). Rose n c.faults) p.faults q.faults;
       answer_is = q.answer_is;
@@ -56,6 +64,8 @@ Sets-rest xs ys last a b e (inr p) =
       back = p.back ++ ys;
       all = ap (λ (zs : Steps). zs ++ ys) p.all ∙ append_assoc p.front (p.failed ∷ p.back) ys;
       called = p.called;
+      stays = p.stays;
+      place = let e : length (xs ++ ys) ≡ length xs + length ys = length-append xs ys in omega (arith, p.place, e);
       family = p.family;
       faults = p.faults;
       answer_is = p.answer_is;
@@ -85,7 +95,7 @@ sets_front steps n last a c e p = subst (λ (zs : Steps). Sets zs last a c (Err 
 pub step_failed : (step : Option (SockOption × OptionError)) (x : SockOption × OptionError) (b c : OptionsData) → step ≡ Some x → IsAsked b c x.0 false → Sets (option_to_list step) (Ok tt) b c (Err x.1)
 step_failed step x b c e h =
     subst (λ (s : Option (SockOption × OptionError)). Sets (option_to_list s) (Ok tt) b c (Err x.1)) (sym e)
-    (inr (record { front = []; failed = x; back = []; all = refl; called = h.called; family = h.family; faults = h.faults; answer_is = refl }))
+    (inr (record { front = []; failed = x; back = []; all = refl; called = h.called; stays = h.stays; place = h.place; family = h.family; faults = h.faults; answer_is = refl }))
 
 -- ---- what is answered behind them
 
@@ -94,7 +104,7 @@ failed_so xs last a b e (inl p) = absurd (cc (p.answer_is))
 failed_so xs last a b e (inr p) = inr p
 
 ended_so : (xs : Steps) (last : Answer) (a b : OptionsData) → Sets xs (Ok tt) a b (Ok tt) → Sets xs last a b last
-ended_so xs last a b (inl p) = inl (record { called = p.called; family = p.family; faults = p.faults; answer_is = refl })
+ended_so xs last a b (inl p) = inl (record { called = p.called; stays = p.stays; place = p.place; family = p.family; faults = p.faults; answer_is = refl })
 ended_so xs last a b (inr p) = absurd (cc (p.answer_is))
 
 pub Sets-failed : (xs ys : Steps) (last : Answer) (a b : OptionsData) (e : OptionError) → xs ≡ ys → Sets xs (Ok tt) a b (Err e) → Sets ys last a b (Err e)

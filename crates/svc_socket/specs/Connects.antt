@@ -1,6 +1,6 @@
 -- What a connect asks of its dialer, and what it answers.
 use Rattle.std.specs.Prelude.{◌≡◌, Bool, true, false, ◌&&◌, ◌||◌, is_some, if◌then◌else◌, List, [], ◌∷◌, Option, Some, None, MatchOption, Result, Ok, Err}
-use Rattle.svc_base.specs.Calls.{Adds}
+use Rattle.svc_base.specs.Calls.{Adds, Stays}
 use Rattle.svc_socket.specs.DialerData.{DialerData}
 use Rattle.svc_socket.specs.declared.peer.PeerAddr.{PeerAddr}
 use Rattle.svc_socket.specs.declared.connectors.dialer.Target.{Target}
@@ -66,9 +66,10 @@ abbrev pub second_from : Option BindTo → DialAnswer → Option BindTo
 second_from None answer = None
 second_from (Some from) answer = if is_unbound answer && (from.fallback && is_some from.port_range) then Some (without_range from) else None
 
--- these dials were asked
-abbrev pub Dials : DialerData → DialerData → List DialCall → Type 0
-Dials before now calls = Adds before.called now.called calls
+-- these dials were asked; what was told stays told as long as there is room
+pub record Dials (before now : DialerData) (calls : List DialCall) : Type 0 where
+  pub called : Adds before.called now.called calls
+  pub stays : Stays before.called now.called before.room now.room
 
 -- one dial, and a second one where the first falls back; the last one's answer decides
 abbrev pub Connects : DialerData → DialerData → Target → Option BindTo → Result (Option PeerAddr) Error → Type 0

@@ -1,9 +1,9 @@
 -- Options that are set in order, up to the first failure.
-use Rattle.std.specs.Prelude.{◌≡◌, ℕ, Bool, true, false, nat_lt, List, [], ◌∷◌, ◌++◌, map, Option, Result, Ok, Err, ◌⊎◌}
+use Rattle.std.specs.Prelude.{◌≡◌, ℕ, ◌+◌, ◌≤◌, Bool, true, false, nat_lt, List, [], ◌∷◌, ◌++◌, map, length, Option, Result, Ok, Err, ◌⊎◌}
 use Rattle.std.specs.List.{filter_map}
 use Rattle.std.specs.Bool.{MatchBool}
 use Rattle.svc_base.specs.Streams.{Rose}
-use Rattle.svc_base.specs.Calls.{Adds}
+use Rattle.svc_base.specs.Calls.{Adds, Stays}
 use Rattle.svc_socket.specs.OptionsData.{OptionsData}
 use Rattle.svc_socket.specs.declared.options.SockOption.{SockOption}
 use Rattle.svc_socket.specs.declared.options.OptionCall.{OptionCall}
@@ -25,6 +25,8 @@ set_calls steps = map (λ step. record { option = step.0; set = true }) steps
 -- all of them were set, and then this was answered
 pub record AllSet (steps : Steps) (last : Result (Unit {0}) OptionError) (before now : OptionsData) (answer : Result (Unit {0}) OptionError) : Type 0 where
   pub called : Adds before.called now.called (set_calls steps)
+  pub stays : Stays before.called now.called before.room now.room
+  pub place : before.room ≤ now.room + length steps
   pub family : now.family ≡ before.family
   pub faults : now.faults ≡ before.faults
   pub answer_is : answer ≡ last
@@ -36,6 +38,8 @@ pub record Fails (steps : Steps) (before now : OptionsData) (answer : Result (Un
   pub back : Steps
   pub all : steps ≡ front ++ failed ∷ back
   pub called : Adds before.called now.called (set_calls front ++ record { option = failed.0; set = false } ∷ [])
+  pub stays : Stays before.called now.called before.room now.room
+  pub place : before.room ≤ now.room + length steps
   pub family : now.family ≡ before.family
   pub faults : Rose before.faults now.faults
   pub answer_is : answer ≡ Err failed.1

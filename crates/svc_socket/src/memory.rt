@@ -1,7 +1,7 @@
 //! Sockets in memory.
 
 ghost use Rattle.std.specs.Prelude.{◌≡◌, [], Some, IfOk};
-ghost use Rattle.svc_base.specs.Calls.{told_of};
+ghost use Rattle.svc_base.specs.Calls.{told_of, room_of};
 
 use crate::options::{Family, OptionCall, Options, SockOption};
 use std::alloc::Global;
@@ -26,6 +26,7 @@ impl MemoryOptions {
         failing: Vec<u64>,
     ) -> Result<Self, NoMemory>
         ensures calls { IfOk result (λ o. told_of o.calls ≡ Some []) }
+        ensures room { IfOk result (λ o. room_of o.calls ≡ room) }
         ensures family { IfOk result (λ o. o.family ≡ family) }
         ensures count { IfOk result (λ o. o.count ≡ 0) }
     {
@@ -49,7 +50,7 @@ impl MemoryOptions {
 }
 
 impl Options for MemoryOptions {
-    ghost seen = { λ o. record { called = told_of o.calls; family = o.family; faults = o.count } };
+    ghost seen = { λ o. record { called = told_of o.calls; room = room_of o.calls; family = o.family; faults = o.count } };
 
     fn faults(&self) -> u64 {
         self.count
@@ -81,6 +82,7 @@ impl SteadyOptions {
     /// A socket that tells so many calls; `NoMemory` where there is none for them.
     pub fn new(alloc: Global, room: u64, family: Family) -> Result<Self, NoMemory>
         ensures calls { IfOk result (λ o. told_of o.calls ≡ Some []) }
+        ensures room { IfOk result (λ o. room_of o.calls ≡ room) }
         ensures family { IfOk result (λ o. o.family ≡ family) }
     {
         Ok(SteadyOptions {
@@ -91,7 +93,7 @@ impl SteadyOptions {
 }
 
 impl Options for SteadyOptions {
-    ghost seen = { λ o. record { called = told_of o.calls; family = o.family; faults = 0 } };
+    ghost seen = { λ o. record { called = told_of o.calls; room = room_of o.calls; family = o.family; faults = 0 } };
 
     fn faults(&self) -> u64 {
         0

@@ -37,7 +37,7 @@ impl<'a, S: OpenStream> NetOptions<'a, S> {
 }
 
 impl<S: OpenStream> Options for NetOptions<'_, S> {
-    ghost seen = { λ o. record { called = None; family = o.family; faults = o.count } };
+    ghost seen = { λ o. record { called = None; room = 0; family = o.family; faults = o.count } };
 
     fn faults(&self) -> u64 {
         self.count

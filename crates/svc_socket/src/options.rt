@@ -55,7 +55,7 @@ pub trait Options {
     fn faults(&self) -> u64
         ensures { result ≡ (seen self.now).faults };
 
-    /// Sets an option, and answers whether it did.
+    /// Sets an option, and answers whether it did. What was told stays told as long as there is room.
     fn set(&mut self, option: SockOption) -> bool
         ensures { IsAsked (seen self.old) (seen self.new) option result };
 

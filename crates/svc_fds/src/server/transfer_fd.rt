@@ -138,7 +138,7 @@ fn take_unclaimed(entries: &mut Vec<(Text, Fd)>, keep: &BTreeSet<Text>, out: &mu
 impl Fds {
     ghost use Rattle.svc_fds.specs.Lists.{ArePairs, ListsRefusalFits};
     ghost use Rattle.svc_base.specs.Streams.{Rose};
-    ghost use Rattle.svc_fds.specs.Channels.{Tells};
+    ghost use Rattle.svc_base.specs.Calls.{Adds, Stays};
     ghost use Rattle.svc_fds.specs.Transfers.{SendsTable, Loads, LoadsNot, copies, fresh, closes};
     ghost use Rattle.svc_fds.specs.Messages.{is_joinable, is_framed, message_bytes, IsEncodable, written, EncodeRefusalFits, IsMessage, table_of, DecodeRefusalFits};
 
@@ -415,6 +415,7 @@ impl Fds {
     ) -> Result<u64, SendError>
         ensures asked { SendsTable C.calls (unwrap_or max_retry MAX_RETRY) self.now.entries
             channel.old channel.new result }
+        ensures stays { Stays (C.calls channel.old) (C.calls channel.new) (C.room channel.old) (C.room channel.new) }
         ensures sent { IfOk result (λ n. n ≡ length (message_bytes self.now.entries)) }
         ensures fault { IsErrOf result SendError.Transfer
             → Rose (C.faulted channel.old) (C.faulted channel.new) }
@@ -443,6 +444,7 @@ impl Fds {
             (C.calls channel.old) (C.calls channel.new) self.old.entries self.new.entries) }
         ensures refused { IfErr result (λ error. LoadsNot (unwrap_or max_retry MAX_RETRY)
             (C.calls channel.old) (C.calls channel.new) error) }
+        ensures stays { Stays (C.calls channel.old) (C.calls channel.new) (C.room channel.old) (C.room channel.new) }
         ensures unchanged { OnErr result (self.new.entries ≡ self.old.entries) }
         ensures room { OnErr result (self.old.spare ≤ self.new.spare) }
         ensures fault { IsErrOf result ReceiveError.Transfer
@@ -476,8 +478,9 @@ impl Fds {
         requires ascending { IsAscending table.entries }
         ensures added { self.new.entries
             ≡ put_all (fresh table.entries self.old.entries) self.old.entries }
-        ensures closed { Tells (C.calls channel.old) (C.calls channel.new)
+        ensures closed { Adds (C.calls channel.old) (C.calls channel.new)
             (closes (numbers (copies table.entries self.old.entries))) }
+        ensures stays { Stays (C.calls channel.old) (C.calls channel.new) (C.room channel.old) (C.room channel.new) }
         ensures cause { C.faulted channel.new ≡ C.faulted channel.old }
     {
         while let Some((bind, fd)) = table.pop_first() {
@@ -492,8 +495,9 @@ impl Fds {
         ensures entries { self.new.entries ≡ (if is_some (lookup bind self.old.entries)
             then self.old.entries else put bind fd self.old.entries) }
         ensures room { self.old.spare ≤ self.new.spare + 1 }
-        ensures told { Tells (C.calls channel.old) (C.calls channel.new)
+        ensures told { Adds (C.calls channel.old) (C.calls channel.new)
             (if is_some (lookup bind self.old.entries) then ChannelCall.Close fd ∷ [] else []) }
+        ensures stays { Stays (C.calls channel.old) (C.calls channel.new) (C.room channel.old) (C.room channel.new) }
         ensures cause { C.faulted channel.new ≡ C.faulted channel.old }
     {
         if self.get(bind.as_str()).is_some() {

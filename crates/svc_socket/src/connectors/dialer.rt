@@ -116,7 +116,8 @@ pub trait Dialer {
     fn faults(&self) -> u64
         ensures { result ≡ (seen self.now).faults };
 
-    /// Tries once to connect, and answers what came of it.
+    /// Tries once to connect, and answers what came of it. What was told stays told as long as there is room; where
+    /// there is no memory to tell this dial, no room is left.
     fn dial(&mut self, target: &Target, from: Option<&BindTo>) -> DialAnswer
         ensures { IsDialed (seen self.old) (seen self.new) (record {
           target = target.now;

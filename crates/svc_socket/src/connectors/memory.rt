@@ -2,13 +2,14 @@
 
 ghost use Rattle.std.specs.Prelude.{◌≡◌, [], ◌∷◌, Some, IfOk};
 ghost use Rattle.std.specs.Option.{option_copied};
-ghost use Rattle.svc_base.specs.Calls.{told_of, Adds};
+ghost use Rattle.svc_base.specs.Calls.{told_of, room_of, Adds, Stays};
 
 use super::dialer::{BindTo, DialAnswer, DialCall, DialFault, Dialer, Target};
 use crate::peer::PeerAddr;
 use std::alloc::Global;
 use svc_base::{Calls, NoMemory};
 
+/// Notes a dial. Where there is no memory for it no dial is told any more, and no room is left.
 fn note_dial(
     alloc: Global,
     calls: &mut Calls<DialCall>,
@@ -16,11 +17,12 @@ fn note_dial(
     from: Option<&BindTo>,
     answer: DialAnswer,
 )
-    ensures { Adds (told_of calls.old) (told_of calls.new) (record {
+    ensures calls { Adds (told_of calls.old) (told_of calls.new) (record {
       target = target.now;
       from = option_copied from.entry;
       answer = answer;
     } ∷ []) }
+    ensures stays { Stays (told_of calls.old) (told_of calls.new) (room_of calls.old) (room_of calls.new) }
 {
     match target.copy(alloc) {
         Ok(target) => calls.note(DialCall {
@@ -57,6 +59,7 @@ impl MemoryDialer {
     /// for them.
     pub fn new(alloc: Global, room: u64, failing: Vec<FailingDial>) -> Result<Self, NoMemory>
         ensures calls { IfOk result (λ dialer. told_of dialer.calls ≡ Some []) }
+        ensures room { IfOk result (λ dialer. room_of dialer.calls ≡ room) }
         ensures count { IfOk result (λ dialer. dialer.count ≡ 0) }
     {
         Ok(MemoryDialer {
@@ -81,7 +84,7 @@ impl MemoryDialer {
 }
 
 impl Dialer for MemoryDialer {
-    ghost seen = { λ d. record { called = told_of d.calls; faults = d.count } };
+    ghost seen = { λ d. record { called = told_of d.calls; room = room_of d.calls; faults = d.count } };
 
     fn faults(&self) -> u64 {
         self.count
@@ -114,6 +117,7 @@ impl SteadyDialer {
     /// for them.
     pub fn new(alloc: Global, room: u64) -> Result<Self, NoMemory>
         ensures calls { IfOk result (λ dialer. told_of dialer.calls ≡ Some []) }
+        ensures room { IfOk result (λ dialer. room_of dialer.calls ≡ room) }
     {
         Ok(SteadyDialer {
             alloc,
@@ -124,7 +128,7 @@ impl SteadyDialer {
 }
 
 impl Dialer for SteadyDialer {
-    ghost seen = { λ d. record { called = told_of d.calls; faults = 0 } };
+    ghost seen = { λ d. record { called = told_of d.calls; room = room_of d.calls; faults = 0 } };
 
     fn faults(&self) -> u64 {
         0

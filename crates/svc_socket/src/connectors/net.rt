@@ -95,14 +95,14 @@ fn open<R: Net>(net: &R, target: &Target) -> io::Result<(Dialed<R::Stream>, Opti
 }
 
 impl<R: Net> Dialer for NetDialer<'_, R, R::Stream> {
-    ghost seen = { λ d. record { called = None; faults = d.count } };
+    ghost seen = { λ d. record { called = None; room = 0; faults = d.count } };
 
     fn faults(&self) -> u64 {
         self.count
     }
 
     fn dial(&mut self, target: &Target, from: Option<&BindTo>) -> DialAnswer
-        ensures dialed { IsDialed (record { called = None; faults = self.old.count }) (record { called = None; faults = self.new.count })
+        ensures dialed { IsDialed (record { called = None; room = 0; faults = self.old.count }) (record { called = None; room = 0; faults = self.new.count })
             (record { target = target.now; from = option_copied from.entry; answer = result }) }
         ensures bound { is_bound (option_copied from.entry) ≡ true → result ≡ DialAnswer.Failed DialFault.Bind None }
         ensures kept { (fault : _) (local : _) → result ≡ DialAnswer.Failed fault local → self.new.dialed ≡ self.old.dialed }

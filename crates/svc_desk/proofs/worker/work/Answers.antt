@@ -4,8 +4,9 @@ use Rattle.svc_record.specs.declared.event.Event.{Event}
 use Rattle.svc_shared.specs.Posting.{seen_of, origin_of}
 use Rattle.svc_desk.specs.declared.worker.WorkEnd.{WorkEnd}
 use Rattle.svc_desk.specs.Desks.{Grew}
+use Rattle.svc_desk.specs.Deeds.{call_count}
 use Rattle.svc_desk.specs.Working.{IsAtDesk, TurnEnds}
-use Rattle.svc_desk.proofs.DeedLemmas.{done-none, done-then, at_desk-none, at_desk-then, on-then, grew-none, grew-then, takes-then, ends-then, strays-joined}
+use Rattle.svc_desk.proofs.DeedLemmas.{done-none, done-then, at_desk-none, at_desk-then, place-then, on-then, grew-none, grew-then, takes-then, ends-then, strays-joined}
 use Rattle.svc_desk.proofs.worker.work.Goals as goal
 
 pub loop-init : goal.loop-init
@@ -13,6 +14,7 @@ loop-init g c = record {
   log = [];
   done = done-none c.args.shared.now c.args.pass c.requires;
   at_desk = at_desk-none (g.D.Desk.seen c.args.desk.now);
+  place = omega arith;
   on = tt;
   strays = c.new.ensures;
   count = refl;
@@ -42,6 +44,9 @@ returns-in-Some g c =
           performed = at_desk.performed;
           refused = at_desk.refused;
           takes = takes-then a b d c.loop.counter c.args.turns (omega arith) i.takes e.2;
+          stays = at_desk.stays;
+          place = (let room = place-then a.room b.room d.room c.loop.counter c.args.turns i.log t.log t.hand (omega arith) i.place t.place in
+              omega (arith, room));
           faults = at_desk.faults;
           idles = at_desk.idles;
           strays_are = strays-joined c.loop.tally.taken (list_of c.loop.tally.strays) (list_of c.turn-turned.new.tally.strays) i.log t.log i.strays i.count
@@ -65,6 +70,8 @@ loop-preserved g c =
       log = i.log ++ t.log;
       done = done-then s c.args.pass c.loop.pass q i.log t.log i.done t.done;
       at_desk = at_desk-then a b d i.log t.log [] i.at_desk (subst (λ (h : List Event). IsAtDesk b d t.log h) went.0 t.at_desk);
+      place = place-then a.room b.room d.room c.loop.counter (c.loop.counter + 1) i.log t.log [] (omega arith) i.place
+          (subst (λ (h : List Event). b.room ≤ d.room + (1 + call_count t.log h)) went.0 t.place);
       on = on-then (origin_of s) (seen_of c.loop.pass) (seen_of q) i.log t.log t.done.front i.on went.1;
       strays = strays-joined c.loop.tally.taken (list_of c.loop.tally.strays) (list_of c.turn-turned.new.tally.strays) i.log t.log i.strays i.count t.strays;
       count = (let n = t.count in let h = ap length went.0 in let k = i.count in let l = length-append i.log t.log in omega (arith, n, h, k, l));
@@ -89,6 +96,8 @@ returns g c =
           performed = i.at_desk.performed;
           refused = i.at_desk.refused;
           takes = (c.args.turns, (let le : c.args.turns ≤ c.args.turns = omega arith in le), grew);
+          stays = i.at_desk.stays;
+          place = (let room = i.place in omega (arith, room, spent));
           faults = i.at_desk.faults;
           idles = i.at_desk.idles;
           strays_are = i.strays;

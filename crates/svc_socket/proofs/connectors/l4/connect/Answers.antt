@@ -1,5 +1,5 @@
 use Rattle.std.proofs.Common.{sym, ◌∙◌}
-use Rattle.svc_base.proofs.CallLemmas.{Adds-then}
+use Rattle.svc_base.proofs.CallLemmas.{Adds-then, Stays-then}
 use Rattle.svc_socket.proofs.connectors.l4.connect.Goals as goal
 
 pub returns-clause-connects : goal.returns-clause-connects
@@ -9,7 +9,10 @@ returns-clause-connects g c =
       rw e (
         c.dial.result,
         (
-          Adds-then _ _ _ _ _ c.dial-first.ensures.called c.dial.ensures.called,
+          record {
+            called = Adds-then _ _ _ _ _ c.dial-first.ensures.called c.dial.ensures.called;
+            stays = Stays-then c.dial-first.ensures.stays c.dial.ensures.stays;
+          },
           c.outcome-in-Some.ensures,
         ),
       ),

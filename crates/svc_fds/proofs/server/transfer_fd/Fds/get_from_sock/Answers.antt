@@ -1,6 +1,6 @@
 use Rattle.std.proofs.Common.{◌≤◌, sym, subst, arith, length}
 use Rattle.svc_fds.specs.declared.errors.DecodeError.TheVariants as errors
-use Rattle.svc_fds.specs.Channels.{Tells}
+use Rattle.svc_base.specs.Calls.{Adds}
 use Rattle.svc_fds.specs.Messages.{words, DecodeRefusalFits}
 use Rattle.svc_fds.specs.Transfers.{closes, nothing_came, turned_away}
 use Rattle.svc_fds.proofs.LoadLemmas.{few-put, on_no_error}
@@ -26,4 +26,4 @@ returns-clause-refused g c =
     rw c.from.ensures
     (turned_away c.in-Ok.message.1 c.in-Ok.message.0.items (g.C.Channel.calls c.get_fds_from.new.channel) c.in-Err-decode.refused.reason c.in-Ok.ensures.came
     (subst (λ n. DecodeRefusalFits c.in-Ok.message.1 n c.in-Err-decode.refused.reason) c.in-Ok.message.0.ok.0 fits)
-    (subst (λ fds. Tells (g.C.Channel.calls c.get_fds_from.new.channel) (g.C.Channel.calls c.close_all-in-Err-decode.new.channel) (closes fds)) c.in-Err-decode.ensures.back c.close_all-in-Err-decode.ensures.told))
+    (subst (λ fds. Adds (g.C.Channel.calls c.get_fds_from.new.channel) (g.C.Channel.calls c.close_all-in-Err-decode.new.channel) (closes fds)) c.in-Err-decode.ensures.back c.close_all-in-Err-decode.ensures.told))
