@@ -269,8 +269,15 @@ impl DependencyGraph {
             });
         }
         push_edge(alloc, &mut self.rows, dependent, dependency)?;
+        let is_alone = self.needed.next(dependent, 0).is_none();
         self.needed.set(dependency, dependent);
-        spread(&mut self.reach, count as u32, dependent, dependency);
+        spread(
+            &mut self.reach,
+            count as u32,
+            is_alone,
+            dependent,
+            dependency,
+        );
         Ok(())
     }
 
