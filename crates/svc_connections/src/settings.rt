@@ -7,7 +7,7 @@ ghost use Rattle.svc_record.specs.Connections.{first_of, settings_list};
 ghost use Rattle.svc_connections.specs.ConnectionsEffects.{is_of_sort, settings_for};
 
 use std::alloc::Global;
-use svc_base::{NoMemory, Setting, Settings};
+use svc_base::{NoMemory, Setting, Settings, copy_items};
 use svc_record::Plan;
 
 /// The sorts of settings that an endpoint's options give.
@@ -58,20 +58,20 @@ fn push(alloc: Global, list: &mut Settings, setting: Option<Setting>) -> Result<
     }
 }
 
-/// The settings of the connections of an endpoint with these options.
+/// The settings of the connections of an endpoint with these options, in exactly the memory that they take.
 fn settings_for(alloc: Global, unix: bool, options: &[Setting]) -> Result<Settings, NoMemory>
     ensures { IfOk result (λ list. list ≡ settings_for unix options.now) }
 {
+    if unix || options.is_empty() {
+        return copy_items(alloc, &[Setting::NoDelay]);
+    }
     let mut list = Settings::new(alloc);
     push(alloc, &mut list, Some(Setting::NoDelay))?;
-    if unix {
-        return Ok(list);
-    }
     push(alloc, &mut list, Sort::KeepAlive.first_of(options))?;
     push(alloc, &mut list, Sort::Dscp.first_of(options))?;
     push(alloc, &mut list, Sort::SendBuffer.first_of(options))?;
     push(alloc, &mut list, Sort::ReceiveBuffer.first_of(options))?;
-    Ok(list)
+    copy_items(alloc, list.as_slice())
 }
 
 /// The settings of the connections of the service's endpoint.
