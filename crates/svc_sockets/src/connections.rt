@@ -97,6 +97,17 @@ impl Connection {
         };
     }
 
+    /// Whether something is to be told of it.
+    fn has_answer(&self) -> bool {
+        matches!(
+            self.state,
+            ConnectionState::Set(_)
+                | ConnectionState::Shaken
+                | ConnectionState::Signalling(_)
+                | ConnectionState::Finished
+        )
+    }
+
     /// What is to be told of it, which then is told.
     fn next_answer(&mut self) -> Option<Event> {
         let (event, state) = match self.state {
@@ -107,7 +118,6 @@ impl Connection {
             ConnectionState::Signalling(signal) => {
                 (Event::Signal(signal), ConnectionState::Finished)
             }
-            ConnectionState::Finished => (Event::Finished(self.number), ConnectionState::Waiting),
             _ => return None,
         };
         self.state = state;
@@ -115,14 +125,23 @@ impl Connection {
     }
 }
 
-/// The next answer of a connection.
-pub(crate) fn next_answer(connections: &mut [Connection]) -> Option<Event> {
-    for connection in connections.iter_mut() {
-        if let Some(event) = connection.next_answer() {
-            return Some(event);
-        }
+/// The first connection with something to tell.
+fn place_of_next(connections: &[Connection]) -> Option<usize>
+    ensures { IfSome result (λ at. at < length connections.now) }
+{
+    connections
+        .iter()
+        .position(|connection| connection.has_answer())
+}
+
+/// The next answer of a connection. One that the application is done with is dropped: its stream is closed.
+pub(crate) fn next_answer(connections: &mut Vec<Connection>) -> Option<Event> {
+    let at = place_of_next(connections.as_slice())?;
+    if connections[at].state == ConnectionState::Finished {
+        let done = connections.swap_remove(at);
+        return Some(Event::Finished(done.number));
     }
-    None
+    connections[at].next_answer()
 }
 
 /// Each connection that the application has gets a turn.

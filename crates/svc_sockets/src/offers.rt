@@ -4,9 +4,9 @@ use crate::descriptors::Descriptors;
 use crate::slot::{Letter, Slot};
 use std::alloc::Global;
 use std::net::TcpListener;
-use svc_base::{Bytes, NoMemory};
+use svc_base::{Bytes, NoMemory, copy_items};
 use svc_fds::{FdList, MESSAGE_LIMIT};
-use svc_record::{Event, copy_items};
+use svc_record::Event;
 
 /// The most listeners that a letter hands over.
 pub(crate) const MOST_HANDED: usize = 32;

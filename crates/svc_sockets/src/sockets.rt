@@ -334,11 +334,11 @@ impl Sockets {
         if let Some(event) = endpoints::next_answer(self.endpoints.as_mut_slice(), seat) {
             return Some(event);
         }
-        if let Some(event) = connections::next_answer(self.connections.as_mut_slice()) {
+        if let Some(event) = connections::next_answer(&mut self.connections) {
             return Some(event);
         }
         connections::serve_all(self.connections.as_mut_slice());
-        connections::next_answer(self.connections.as_mut_slice())
+        connections::next_answer(&mut self.connections)
     }
 
     /// What is to be told next, if anything is. It doesn't wait.
