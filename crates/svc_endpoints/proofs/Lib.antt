@@ -40,3 +40,4 @@ pub mod WordLemmas
 pub mod BusyLemmas
 pub mod MarkLemmas
 pub mod DrainedLemmas
+pub mod TallyLemmas

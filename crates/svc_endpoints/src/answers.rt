@@ -24,7 +24,7 @@ ghost use Rattle.svc_endpoints.specs.Loops.{has_loop};
 ghost use Rattle.svc_endpoints.specs.Uses.{serves_by, accepts_by};
 
 use crate::endpoints::Endpoints;
-use crate::loops::{has_loop, is_done};
+use crate::loops::is_done;
 use crate::naming::{address_of, endpoint_count, limit, service_count};
 use crate::states::{EndpointState, EndpointStatus, held_now};
 use svc_base::Text;
@@ -200,7 +200,7 @@ impl Endpoints {
         ensures { (fd : ℕ) → is_in fd (option_to_list result) ≡ drains_at plan.now self.now.parts s i fd }
     {
         let fd = self.held_at(plan, s, i)?;
-        if is_done(self.ended_loops(), plan.tasks, s, i) && self.is_drained(plan, fd) {
+        if is_done(self.ended_loops(), plan.tasks, s, i) && self.is_drained(plan, fd, s) {
             return Some(fd);
         }
         None
@@ -262,7 +262,7 @@ impl Endpoints {
         ensures { result ≡ (is_endpoint plan.now s i && (nat_lt j plan.now.tasks && not (has_loop self.now.parts.loops s i j))) }
     {
         (i as usize) < endpoint_count(plan, s as usize)
-            && (j < plan.tasks && !has_loop(self.ended_loops(), s as usize, i as usize, j))
+            && (j < plan.tasks && !self.ended_loops().has(s as usize, i as usize, j))
     }
 
     /// The endpoint is one of the service, and not each of its loops has ended.
