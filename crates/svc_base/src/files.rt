@@ -213,6 +213,7 @@ pub struct SystemFiles<'a, R: fs::Files> {
 }
 
 impl<'a, R: fs::Files> SystemFiles<'a, R> {
+    /// The files of `system`, none read yet.
     pub fn new(system: &'a R) -> Self
         ensures { result.count ≡ 0 }
     {

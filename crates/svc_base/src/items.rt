@@ -219,4 +219,5 @@ pub type Texts = Items<Text>;
 /// Service numbers.
 pub type Numbers = Items<u32>;
 
+/// Socket options, in order.
 pub type Settings = Items<Setting>;

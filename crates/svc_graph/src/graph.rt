@@ -177,6 +177,7 @@ impl DependencyGraph {
         self.names.len()
     }
 
+    /// Whether there is no node.
     pub fn is_empty(&self) -> bool
         ensures { result ≡ (node_count self.now == 0) }
     {

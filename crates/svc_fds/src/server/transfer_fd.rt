@@ -152,6 +152,7 @@ impl Fds {
         }
     }
 
+    /// Whether no descriptor is kept.
     pub fn is_empty(&self) -> bool
         ensures { result ≡ (length self.now.entries == 0) }
     {
