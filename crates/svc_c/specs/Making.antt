@@ -8,7 +8,7 @@ use Rattle.svc_conf.specs.ConfigurationText.{merged}
 use Rattle.svc_record.specs.declared.plan.Plan.{Plan}
 use Rattle.svc_record.specs.declared.action.StepEnd.TheVariants.{On}
 use Rattle.svc_text.specs.declared.service.ServiceLine.{ServiceLine}
-use Rattle.svc_text.specs.Dependencies.{RefusesAt}
+use Rattle.svc_text.specs.Dependencies.{RefusesAt, RefusesNone}
 use Rattle.svc_text.specs.Script.{Parts, IsLineOf, script}
 use Rattle.svc_text.specs.ScriptPlans.{plan_of}
 use Rattle.svc_core.specs.Stands.{HasNotBegun}
@@ -43,7 +43,7 @@ RefusesLine bytes parts n = (k : ℕ) × (RefusesAt parts.services k × IsLineOf
 
 -- the session of a script, or what of it is refused, unless memory ran out
 abbrev pub IsMade : Opt → List ℕ → Result (Box SessionData) MakeError → Type 0
-IsMade opt bytes (Ok s) = (parts : Parts) × ((script bytes ≡ Ok parts) × IsConfigured opt parts (Ok s))
-IsMade opt bytes (Err (Config key)) = (parts : Parts) × ((script bytes ≡ Ok parts) × IsConfigured opt parts (Err (Config key)))
+IsMade opt bytes (Ok s) = (parts : Parts) × ((script bytes ≡ Ok parts) × RefusesNone parts.services × IsConfigured opt parts (Ok s))
+IsMade opt bytes (Err (Config key)) = (parts : Parts) × ((script bytes ≡ Ok parts) × RefusesNone parts.services × IsConfigured opt parts (Err (Config key)))
 IsMade opt bytes (Err (Line n)) = (script bytes ≡ Err n) ⊎ ((parts : Parts) × ((script bytes ≡ Ok parts) × RefusesLine bytes parts n))
 IsMade opt bytes (Err NoMemory) = Unit {0}

@@ -1,5 +1,5 @@
 -- What the calls of a session mean.
-use Rattle.std.specs.Prelude.{ℕ, ◌≡◌, ◌<◌, Bool, true, not, List, [], ◌∷◌, ◌++◌, length, map, take, drop, slice_get, Option, Some, None, unwrap_or, Result, Ok, Err}
+use Rattle.std.specs.Prelude.{ℕ, ◌≡◌, ◌≢◌, ◌<◌, Bool, true, not, List, [], ◌∷◌, ◌++◌, length, map, take, drop, slice_get, Option, Some, None, unwrap_or, Result, Ok, Err}
 use Rattle.std.specs.Option.{option_map}
 use Rattle.svc_record.specs.declared.action.Action.{Action}
 use Rattle.svc_record.specs.declared.action.StepEnd.{StepEnd}
@@ -128,11 +128,15 @@ abbrev pub event_in : List ℕ → Option Event
 event_in [] = None
 event_in (b ∷ line) = event_of (words (b ∷ line))
 
+-- the line isn't empty, and says no event
+abbrev pub IsNoEvent : List ℕ → Type 0
+IsNoEvent line = (line ≢ []) × (event_of (words line) ≡ None)
+
 -- all was closed for the first time, with what the line's event brought; or the session is as it was
 abbrev pub IsClosed : List ℕ → SessionData → SessionData → Result (Unit {0}) StepError → Type 0
-IsClosed line old new (Ok x) = (old.stage ≡ Closed → ⊥) × IsEndedWith (event_in line) old new (Ok x)
+IsClosed line old new (Ok x) = (old.stage ≡ Closed → ⊥) × (IsNoEvent line → ⊥) × IsEndedWith (event_in line) old new (Ok x)
 IsClosed line old new (Err Order) = (new ≡ old) × (old.stage ≡ Closed)
-IsClosed line old new (Err NoEvent) = (new ≡ old) × (event_of (words line) ≡ None)
+IsClosed line old new (Err NoEvent) = (new ≡ old) × (old.stage ≡ Closed → ⊥) × IsNoEvent line
 IsClosed line old new (Err NoMemory) = new ≡ old
 IsClosed line old new (Err Stray) = ⊥
 

@@ -1,5 +1,5 @@
 -- What is answered to a text of jobs, and what a status says of the answer.
-use Rattle.std.proofs.Common.{◌≡◌, inl, inr, ℕ, List, [], length, Option, Some, None, Result, Ok, Err, IfOk, IfSome, sym, ap, subst, ◌∙◌, ◌++◌, string_bytes}
+use Rattle.std.proofs.Common.{◌≡◌, inl, inr, ℕ, List, [], length, Option, Some, None, Result, Ok, Err, IfOk, IfSome, refl, sym, ap, subst, ◌∙◌, ◌++◌, string_bytes}
 use Rattle.std.specs.Io.KnownBytes.{Appends}
 use Rattle.svc_record.specs.Record.{Record}
 use Rattle.svc_text.specs.Dependencies.{RefusesNone}
@@ -38,6 +38,13 @@ ran_from status two three five words left now_left before now Words out a d p e 
 ran_from status two three five words left now_left before now (Line n) out a d p e = absurd (three (sym e))
 ran_from status two three five words left now_left before now ReadFault out a d p e = absurd (five (sym e))
 ran_from status two three five words left now_left before now (Run end) out a d p e = (end, e, a.0, d, (out, a.1, p))
+
+-- words are refused as such
+pub refused_words : (words : List (List ℕ)) (left : Option (List ℕ)) (line : StatusLine) (out : List ℕ) → (words ≡ [] → ⊥) → IsAnswer words left line out → status_of line ≡ 2
+refused_words words left Words out refused a = refl
+refused_words words left (Line n) out refused a = absurd (refused a.0)
+refused_words words left ReadFault out refused a = absurd (refused a.0)
+refused_words words left (Run end) out refused a = absurd (refused a.0)
 
 -- the runs of jobs whose dependencies are sound answer them
 pub ran_jobs : {E : Type 0} (parts : JobParts) (numbers : List ℕ) (end : RunEnd) (runs : List JobRun) (r : Record) (result : Result Answer E)

@@ -25,7 +25,7 @@ use Rattle.svc_main.specs.declared.outcome.RunEnd.TheVariants.{HostFault, Stray,
 use Rattle.svc_main.specs.declared.outcome.StatusLine.{StatusLine}
 use Rattle.svc_main.specs.declared.outcome.StatusLine.TheVariants.{Words, Line, ReadFault, Run}
 use Rattle.svc_main.specs.Status.{status_line, end_status}
-use Rattle.svc_main.specs.Program.{answer_of, Judges, Writes}
+use Rattle.svc_main.specs.Program.{answer_of, Judges, Faults, Writes}
 use Rattle.svc_jobs.specs.JobEnds.{MayEnd}
 use Rattle.svc_jobs.specs.JobServices.{plan_of_jobs}
 use Rattle.svc_jobs.specs.JobTexts.{JobParts, script_lines, jobs_in}
@@ -125,10 +125,11 @@ Ends ReadFault left = Unit {0}
 abbrev pub Ran : ℕ → List (List ℕ) → Option (List ℕ) → Option (List ℕ) → Option (List ℕ) → Option (List ℕ) → Type 0
 Ran status words left now_left before now = (end : RunEnd) × (end_status end ≡ status) × (words ≡ []) × IsAtEnd now_left × Writes before now (RanText left end)
 
--- the sink took a front of an answer
-abbrev pub WritesFront : List (List ℕ) → Option (List ℕ) → Option (List ℕ) → Option (List ℕ) → Type 0
-WritesFront words left before now =
-    (line : StatusLine) × (out : List ℕ) × IsAnswer words left line out × (n : ℕ) × (n ≤ length out) × Appends before now (take n out)
+-- the sink took a front of an answer that had its cause: of a read fault only where the source's count rose, and of a run or a refused line only where the source was read to its end
+abbrev pub WritesFront : List (List ℕ) → Option (List ℕ) → Option (List ℕ) → ℕ → ℕ → Option (List ℕ) → Option (List ℕ) → Type 0
+WritesFront words left now_left faults now_faults before now =
+    (line : StatusLine) × (out : List ℕ) × IsAnswer words left line out × Ends line now_left × Faults line faults now_faults
+    × (n : ℕ) × (n ≤ length out) × Appends before now (take n out)
 
 -- in whatever right record the first of the items came, with the jobs' words: while the run goes on the next item is an event that fits; and with all of them it has passed
 pub record RunsThrough (p : Plan) (all : List Item) : Type 0 where

@@ -57,6 +57,8 @@ pub fn serve_jobs<S: Source, K: Sink>(
     // the record of the run, and how it ended.
     ensures served { result.0 ≡ 0 → Ran 0 (map rc_str_bytes words.now) (S.left source.old) (S.left source.new) (K.written sink.old) (K.written sink.new) }
 
+    // Words give 2, unless the sink fails or memory runs out, and nothing else does.
+    ensures words_refused { (map rc_str_bytes words.now ≢ []) → (result.0 ≡ 2) ⊎ ((result.0 ≡ 6) ⊎ (result.0 ≡ 7)) }
     ensures words { result.0 ≡ 2 → (map rc_str_bytes words.now ≢ []) × Appends (K.written sink.old) (K.written sink.new) (status_line Words) }
 
     // The first refused line, or 0 for a text that is too long.
@@ -71,7 +73,8 @@ pub fn serve_jobs<S: Source, K: Sink>(
         × Appends (K.written sink.old) (K.written sink.new) (status_line ReadFault) }
 
     ensures write_fault { result.0 ≡ 6 → Rose (K.faulted sink.old) (K.faulted sink.new)
-        × WritesFront (map rc_str_bytes words.now) (S.left source.old) (K.written sink.old) (K.written sink.new) }
+        × WritesFront (map rc_str_bytes words.now) (S.left source.old) (S.left source.new) (S.faulted source.old) (S.faulted source.new)
+        (K.written sink.old) (K.written sink.new) }
 
     // Where memory ran out, nothing was written.
     ensures no_memory { result.0 ≡ 7 → K.written sink.new ≡ K.written sink.old }

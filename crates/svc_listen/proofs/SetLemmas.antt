@@ -9,6 +9,7 @@ use Rattle.svc_base.specs.declared.settings.Setting.{Setting}
 use Rattle.svc_base.specs.declared.settings.Setting.TheVariants.{NoDelay, KeepAlive, Dscp, SndBuf, RcvBuf}
 use Rattle.svc_base.specs.Calls.{Adds}
 use Rattle.svc_base.proofs.CallLemmas.{Adds-then, Stays-then}
+use Rattle.svc_socket.proofs.StepLemmas.{places}
 use Rattle.svc_socket.specs.OptionLists.{settings_of}
 use Rattle.svc_socket.specs.declared.protocols.l4.ext.TcpSocketOptions.{TcpSocketOptions}
 use Rattle.svc_listen.specs.AcceptingData.{AcceptingData, IsSet}
@@ -19,10 +20,6 @@ use Rattle.svc_listen.specs.declared.accepting.AcceptingCall.TheVariants as call
 set_calls-append : (c : ℕ) (xs ys : List Setting) → set_calls c (xs ++ ys) ≡ set_calls c xs ++ set_calls c ys
 set_calls-append c [] ys = refl
 set_calls-append c (x ∷ xs) ys = ap (λ (zs : List AcceptingCall). calls.Set c x true ∷ zs) (set_calls-append c xs ys)
-
--- the places that both took
-places : (xs ys : List Setting) (a b c : ℕ) → a ≤ b + length xs → b ≤ c + length ys → a ≤ c + length (xs ++ ys)
-places xs ys a b c p q = let e : length (xs ++ ys) ≡ length xs + length ys = length-append xs ys in omega (arith, p, q, e)
 
 -- these, all of which were set, and then those
 pub Sets-then : (r : Bool) (k : ℕ) (xs ys : List Setting) (a b c : AcceptingData) → AllSet k xs a b → Sets k ys b c r → Sets k (xs ++ ys) a c r

@@ -21,7 +21,7 @@ set_calls-append [] ys = refl
 set_calls-append (x ∷ xs) ys = ap (λ (zs : List OptionCall). record { option = x.0; set = true } ∷ zs) (set_calls-append xs ys)
 
 -- the places that both took
-places : (xs ys : Steps) (a b c : ℕ) → a ≤ b + length xs → b ≤ c + length ys → a ≤ c + length (xs ++ ys)
+pub places : {X : Type 0} (xs ys : List X) (a b c : ℕ) → a ≤ b + length xs → b ≤ c + length ys → a ≤ c + length (xs ++ ys)
 places xs ys a b c p q = let e : length (xs ++ ys) ≡ length xs + length ys = length-append xs ys in omega (arith, p, q, e)
 
 all_then : (xs ys : Steps) (last : Answer) (a b c : OptionsData) (r : Answer) → AllSet xs (Ok tt) a b (Ok tt) → Sets ys last b c r → Sets (xs ++ ys) last a c r

@@ -1,5 +1,5 @@
 use Rattle.std.proofs.Common.{◌∙◌, sym, inl, arith}
-use Rattle.svc_jobs.proofs.AnswerLemmas.{ran_from}
+use Rattle.svc_jobs.proofs.AnswerLemmas.{ran_from, refused_words}
 use Rattle.svc_jobs.proofs.WholeLemmas.{whole_is_served}
 use Rattle.svc_jobs.proofs.program.serve_jobs.Goals as goal
 
@@ -12,6 +12,9 @@ pub returns-in-Ok-write_all-clause-run_error : goal.returns-in-Ok-write_all-clau
 returns-in-Ok-write_all-clause-run_error g c = λ e.
     ran_from 4 (λ q. omega (arith, q)) (λ q. omega (arith, q)) (λ q. omega (arith, q)) _ (g.S.Source.left c.args.source.now) (g.S.Source.left c.make_answer.new.source) _ _ c.in-Ok.answer.line _
     c.in-Ok.ensures.answer c.in-Ok.ensures.ended (rw c.as_bytes.ensures.value at c.in-Ok-write_all.ensures.whole) (sym c.status.ensures ∙ e)
+
+pub returns-in-Ok-write_all-clause-words_refused : goal.returns-in-Ok-write_all-clause-words_refused
+returns-in-Ok-write_all-clause-words_refused g c = λ refused. inl (c.status.ensures ∙ refused_words _ (g.S.Source.left c.args.source.now) c.in-Ok.answer.line _ refused c.in-Ok.ensures.answer)
 
 pub returns-in-Ok-write_all-clause-complete : goal.returns-in-Ok-write_all-clause-complete
 returns-in-Ok-write_all-clause-complete g c = λ bytes parts tells whole source sink.
