@@ -40,3 +40,5 @@ pub mod WordLemmas
 pub mod BusyLemmas
 pub mod MarkLemmas
 pub mod DrainedLemmas
+pub mod TallyLemmas
+pub mod StaysLemmas

@@ -1,9 +1,12 @@
 -- The table of open descriptors, walked from its front.
-use Rattle.std.proofs.Common.{ℕ, zero, Bool, true, false, not, inl, inr, List, [], ◌∷◌, ◌++◌, append_assoc, length-append, map, filter, take, ◌≡◌, refl, ap, sym, ◌∙◌, arith, ◌<◌, ◌≤◌, ◌+◌, length, insert, nat_lt, slice_index, Some, drop, drop-cons, suc, get_or, add-zero}
+use Rattle.std.proofs.Common.{ℕ, zero, Bool, true, false, not, inl, inr, ◌==◌, List, [], ◌∷◌, ◌++◌, append_assoc, length-append, map, filter, take, ◌≡◌, refl, ap, sym, ◌∙◌, arith, ◌<◌, ◌≤◌, ◌+◌, ◌-◌, length, insert, nat_lt, Some, None, drop, drop-cons, suc, get_or, get_or-take, get_or-drop, add-zero}
 use Rattle.svc_endpoints.specs.declared.table.Open.{Open}
-use Rattle.std.proofs.lemmas.Bool.{cases_Bool, cases_eq, false_from_ne_true}
+use Rattle.std.proofs.lemmas.Bool.{cases_Bool, cases_lt, eq-eqb, ne_eqb, false_from_ne_true}
 use Rattle.std.specs.List.{SwappedAt}
-use Rattle.std.proofs.lemmas.List.{append-nil, take_more, get_or-map, get_or-drop, map-append}
+use Rattle.std.specs.List.Sorted.{IsPartitionPoint}
+use Rattle.std.specs.List.{remove}
+use Rattle.std.proofs.lemmas.List.{append-nil, take_more, drop_more, get_or_default, length-take-le, length-drop, take-append-drop, map-append}
+use Rattle.std.proofs.lemmas.List.Edits.{remove-append_right}
 use Rattle.std.proofs.lemmas.List.Elements.{filter-append}
 use Rattle.std.proofs.lemmas.List.Filters.{FiltersInPlace, FiltersInPlace-more_no, FiltersInPlace-more_swap}
 use Rattle.std.proofs.lemmas.Bool.Decides.{Decides-ltb}
@@ -34,25 +37,17 @@ numbers_of-put o (x ∷ more) = elim (cases_Bool (nat_lt o.fd x.fd)) [
 ]
 
 -- where it goes among the others
-pub insert-put_open : (table : List Open) (k : ℕ) (o : Open) → k ≤ length table → ((j : ℕ) → j < k → slice_index (numbers_of_table table) j ≤ o.fd) → (k < length table → o.fd < slice_index (numbers_of_table table) k)
+pub insert-put_open : (table : List Open) (k : ℕ) (o : Open) → k ≤ length table → ((j : ℕ) (d : Open) → j < k → (get_or table j d).fd ≤ o.fd) → ((d : Open) → k < length table → o.fd < (get_or table k d).fd)
     → insert table k o ≡ put_open o table
 insert-put_open [] zero o within below above = refl
 insert-put_open [] (suc k) o within below above = absurd (omega arith)
 insert-put_open (x ∷ more) zero o within below above =
-    let less : o.fd < x.fd = above (omega arith) in
+    let less : o.fd < x.fd = above o (omega arith) in
     rw ((Decides-ltb o.fd x.fd).1 less) refl
 insert-put_open (x ∷ more) (suc k) o within below above =
-    let most : x.fd ≤ o.fd = below 0 (omega arith) in
+    let most : x.fd ≤ o.fd = below 0 o (omega arith) in
     rw (false_from_ne_true (nat_lt o.fd x.fd) (λ h. let less = (Decides-ltb o.fd x.fd).0 h in absurd (omega arith)))
-    (ap (λ xs. x ∷ xs) (insert-put_open more k o (omega arith) (λ j lt. below (suc j) (omega arith)) (λ lt. above (omega arith))))
-
--- the number of one more of them
-pub numbers-next : (table : List Open) (k fd : ℕ) (x : Open) → k < length table → x ≡ get_or table k x → x.fd ≤ fd → ((j : ℕ) → j < k → slice_index (numbers_of_table table) j ≤ fd)
-    → (j : ℕ) → j < k + 1 → slice_index (numbers_of_table table) j ≤ fd
-numbers-next table k fd x lt e here below j less = elim (cases_eq j k) [
-  | inl f ↦ (let at : slice_index (numbers_of_table table) k ≡ x.fd = get_or-map (λ (o : Open). o.fd) table k x 0 lt ∙ ap (λ (o : Open). o.fd) (sym e) in rw f (omega (arith, at)))
-  | inr ne ↦ below j (omega arith)
-]
+    (ap (λ xs. x ∷ xs) (insert-put_open more k o (omega arith) (λ j d lt. below (suc j) d (omega arith)) (λ d lt. above d (omega arith))))
 
 -- what goes of one more of them
 module _ (done : Open → Bool) (table : List Open) (k : ℕ) (x : Open) (lt : k < length table) (is : x ≡ get_or table k x) where
@@ -118,3 +113,81 @@ module _ (done : Open → Bool) (table here_table : List Open) (left k : ℕ) (x
     closes = closes-past done table k x inside at_first start here was.closes h;
     keeps = FiltersInPlace-more_swap was.keeps lt (ap not h) is swapped;
   }
+
+-- what passes the test stands from a up to b
+module _ (done : Open → Bool) where
+  none_picked : (t : List Open) → ((k : ℕ) (d : Open) → k < length t → done (get_or t k d) ≡ false) → picked done t ≡ []
+  none_picked [] none = refl
+  none_picked (x ∷ more) none = rw (none 0 x (omega arith)) (none_picked more (λ k d lt. none (suc k) d (omega arith)))
+
+  -- so these are left
+  pub cut-out : (t : List Open) (a b : ℕ) → a ≤ b → b ≤ length t → ((k : ℕ) (d : Open) → k < a → done (get_or t k d) ≡ false) → ((k : ℕ) (d : Open) → a ≤ k → k < b → done (get_or t k d) ≡ true)
+      → ((k : ℕ) (d : Open) → b ≤ k → k < length t → done (get_or t k d) ≡ false) → take a t ++ drop b t ≡ filter (λ (o : Open). not (done o)) t
+  cut-out [] zero zero le within below among above = refl
+  cut-out [] zero (suc b) le within below among above = absurd (omega arith)
+  cut-out [] (suc a) b le within below among above = absurd (omega arith)
+  cut-out (x ∷ more) (suc a) zero le within below among above = absurd (omega arith)
+  cut-out (x ∷ more) (suc a) (suc b) le within below among above =
+      rw (below 0 x (omega arith)) (ap (λ (w : List Open). x ∷ w)
+      (cut-out more a b (omega arith) (omega arith) (λ k d lt. below (suc k) d (omega arith)) (λ k d low high. among (suc k) d (omega arith) (omega arith)) (λ k d low high. above (suc k) d (omega arith) (omega arith))))
+  cut-out (x ∷ more) zero (suc b) le within below among above =
+      rw (among 0 x (omega arith) (omega arith))
+      (cut-out more 0 b (omega arith) (omega arith) (λ k d lt. absurd (omega arith)) (λ k d low high. among (suc k) d (omega arith) (omega arith)) (λ k d low high. above (suc k) d (omega arith) (omega arith)))
+  cut-out (x ∷ more) zero zero le within below among above =
+      rw (above 0 x (omega arith) (omega arith)) (ap (λ (w : List Open). x ∷ w)
+      (cut-out more 0 0 (omega arith) (omega arith) (λ k d lt. absurd (omega arith)) (λ k d low high. absurd (omega arith)) (λ k d low high. above (suc k) d (omega arith) (omega arith))))
+
+  module _ (t : List Open) where
+    pub closed-none : (start : List Action × ℕ) (a : ℕ) → a ≤ length t → ((k : ℕ) (d : Open) → k < a → done (get_or t k d) ≡ false) → ClosedUpTo done t start start a
+    closed-none start a within below =
+        let long : length (take a t) ≡ a = length-take-le a t within in
+        let none : picked done (take a t) ≡ [] = none_picked (take a t) (λ k d lt. ap done (get_or-take a t k d (omega (arith, long))) ∙ below k d (omega (arith, long))) in
+        record {
+          few = rw none (omega arith);
+          room = rw none (omega arith);
+          told = rw none (sym (append-nil (list_of start)));
+        }
+
+    pub closed-all : (b : ℕ) → b ≤ length t → ((k : ℕ) (d : Open) → b ≤ k → k < length t → done (get_or t k d) ≡ false) → picked done (take b t) ≡ picked done t
+    closed-all b within above =
+        let none : picked done (drop b t) ≡ [] = none_picked (drop b t) (λ k d lt. ap done (get_or-drop b t k d) ∙ above (b + k) d (omega arith) (let long = length-drop b t in omega (arith, long))) in
+        sym (ap (picked done) (sym (take-append-drop b t)) ∙ ap numbers_of_table (filter-append done (take b t) (drop b t)) ∙ map-append (λ (o : Open). o.fd) (filter done (take b t)) (filter done (drop b t))
+        ∙ ap (λ w. picked done (take b t) ++ w) none ∙ append-nil (picked done (take b t)))
+
+-- one more is taken out behind the first a
+pub taken-out : (t : List Open) (a k : ℕ) → a ≤ k → k < length t → remove (take a t ++ drop k t) a ≡ take a t ++ drop (k + 1) t
+taken-out t a k le lt =
+    let long : length (take a t) ≡ a = length-take-le a t (omega arith) in
+    let none : a - a ≡ 0 = omega arith in
+    remove-append_right (take a t) (drop k t) a a long (omega arith) ∙ ap (λ n. take a t ++ remove (drop k t) n) none ∙ ap (λ (w : List Open). take a t ++ drop 1 w) (drop_more t k (record { fd = 0; address = None }) lt)
+
+-- one more of those with this number is closed
+pub closes-next : (fd : ℕ) (t : List Open) (k : ℕ) (start here next : List Action × ℕ) → k < length t → ((d : Open) → (get_or t k d).fd ≡ fd) → ClosedUpTo (λ (o : Open). o.fd == fd) t start here k
+    → list_of next ≡ list_of here ++ Close fd ∷ [] → spare here ≤ spare next + 1 → ClosedUpTo (λ (o : Open). o.fd == fd) t start next (k + 1)
+closes-next fd t k start here next lt same was told room =
+    let none : Open = record { fd = 0; address = None } in
+    let x : Open = get_or t k none in
+    let is : x ≡ get_or t k x = get_or_default t k none x lt in
+    closes-here (λ (o : Open). o.fd == fd) t k x lt is start here was next (eq-eqb x.fd fd (same none)) (told ∙ ap (λ n. list_of here ++ Close n ∷ []) (sym (same none))) room
+
+-- where those with a number stand, by how many have lower ones, and how many none that is higher
+module _ (fd : ℕ) (t : List Open) (first end : ℕ) (within : end ≤ length t) (low : IsPartitionPoint (λ (o : Open). o.fd < fd) (λ (o : Open). fd ≤ o.fd) t first)
+    (high : IsPartitionPoint (λ (o : Open). o.fd ≤ fd) (λ (o : Open). fd < o.fd) t end) where
+  pub below-first : (k : ℕ) (d : Open) → k < first → ((get_or t k d).fd == fd) ≡ false
+  below-first k d lt = ne_eqb (get_or t k d).fd fd (λ e. let less = low.0 k d (omega arith) lt in absurd (omega (arith, less, e)))
+
+  pub same-between : (k : ℕ) (d : Open) → first ≤ k → k < end → (get_or t k d).fd ≡ fd
+  same-between k d le lt = let least = low.1 k d le (omega arith) in let most = high.0 k d (omega arith) lt in omega (arith, least, most)
+
+  pub above-end : (k : ℕ) (d : Open) → end ≤ k → k < length t → ((get_or t k d).fd == fd) ≡ false
+  above-end k d le lt = ne_eqb (get_or t k d).fd fd (λ e. let more = high.1 k d le lt in absurd (omega (arith, more, e)))
+
+  pub first-end : first ≤ length t → first ≤ end
+  first-end inside = elim (cases_lt end first) [
+    | inl less ↦ absurd (
+        let none : Open = record { fd = 0; address = None } in
+        let a = low.0 end none (omega arith) less in
+        let b = high.1 end none (omega arith) (omega arith) in
+        omega (arith, a, b))
+    | inr le ↦ le
+  ]

@@ -8,3 +8,4 @@ pub mod Visits
 pub mod Foreign
 pub mod Offered
 pub mod Marks
+pub mod Stays

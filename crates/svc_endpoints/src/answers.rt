@@ -21,10 +21,11 @@ ghost use Rattle.svc_endpoints.specs.EndpointsState.{IsEndpointsSized, Endpoints
 ghost use Rattle.svc_endpoints.specs.Foreign.{is_endpoints_event};
 ghost use Rattle.svc_endpoints.specs.Effects.{is_last_refusal, refused, bind_failed, adopt_failed, adopted, bound_or_again, has_open, cleared_if, given_up_if, close_told, drains_at, drained_out, drained_numbers};
 ghost use Rattle.svc_endpoints.specs.Loops.{has_loop};
+ghost use Rattle.svc_endpoints.specs.Stays.{FailsOnly, StaysHeld};
 ghost use Rattle.svc_endpoints.specs.Uses.{serves_by, accepts_by};
 
 use crate::endpoints::Endpoints;
-use crate::loops::{has_loop, is_done};
+use crate::loops::is_done;
 use crate::naming::{address_of, endpoint_count, limit, service_count};
 use crate::states::{EndpointState, EndpointStatus, held_now};
 use svc_base::Text;
@@ -55,6 +56,8 @@ impl Endpoints {
             × ((q : Record) → EndpointsStand plan.now self.old.parts q → EndpointsStand plan.now self.new.parts (tell (Got (Bound s i fd) ∷ q) told))) }
         ensures room { spare actions.old + length self.new.parts.table ≤ spare actions.new + length self.old.parts.table + 2 }
         ensures few { length (list_of actions.new) + length self.new.parts.table ≤ length (list_of actions.old) + length self.old.parts.table + 2 }
+        ensures failed { self.new.parts.failed ≡ self.old.parts.failed }
+        ensures held { StaysHeld self.old.parts self.new.parts }
     {
         self.bind_or_close(plan, s, i, fd, text, actions);
     }
@@ -82,6 +85,8 @@ impl Endpoints {
             → EndpointsStand plan.now self.new.parts (tell (Got (InUse s i) ∷ q) told))) }
         ensures room { spare actions.old + length self.new.parts.table ≤ spare actions.new + length self.old.parts.table + 2 }
         ensures few { length (list_of actions.new) + length self.new.parts.table ≤ length (list_of actions.old) + length self.old.parts.table + 2 }
+        ensures failed { FailsOnly s self.old.parts.failed self.new.parts.failed }
+        ensures held { StaysHeld self.old.parts self.new.parts }
     {
         let fails = self.refuse(plan, s, i, moment);
         self.give_up_if(fails, plan, s, kept, actions);
@@ -108,6 +113,8 @@ impl Endpoints {
             → EndpointsStand plan.now self.new.parts (tell (Got (BindFailed s i) ∷ q) told))) }
         ensures room { spare actions.old + length self.new.parts.table ≤ spare actions.new + length self.old.parts.table + 2 }
         ensures few { length (list_of actions.new) + length self.new.parts.table ≤ length (list_of actions.old) + length self.old.parts.table + 2 }
+        ensures failed { FailsOnly s self.old.parts.failed self.new.parts.failed }
+        ensures held { StaysHeld self.old.parts self.new.parts }
     {
         self.end_bind(plan, s, i);
         self.give_up_if(true, plan, s, kept, actions);
@@ -122,6 +129,8 @@ impl Endpoints {
         ensures sized { IsEndpointsSized plan.now self.new.parts }
         ensures stands { (q : Record) → EndpointsStand plan.now self.old.parts q → EndpointsStand plan.now self.new.parts (Got (Adopted s i) ∷ q) }
         ensures table { self.new.parts.table ≡ self.old.parts.table }
+        ensures failed { self.new.parts.failed ≡ self.old.parts.failed }
+        ensures held { StaysHeld self.old.parts self.new.parts }
     {
         self.hold(plan, s, i);
     }
@@ -147,6 +156,8 @@ impl Endpoints {
             → EndpointsStand plan.now self.new.parts (tell (Got (AdoptFailed s i) ∷ q) told))) }
         ensures room { spare actions.old + length self.new.parts.table ≤ spare actions.new + length self.old.parts.table + 2 }
         ensures few { length (list_of actions.new) + length self.new.parts.table ≤ length (list_of actions.old) + length self.old.parts.table + 2 }
+        ensures failed { FailsOnly s self.old.parts.failed self.new.parts.failed }
+        ensures held { StaysHeld self.old.parts self.new.parts }
     {
         self.end_adopt(plan, s, i);
         self.give_up_if(true, plan, s, kept, actions);
@@ -174,6 +185,7 @@ impl Endpoints {
         ensures came { self.new.parts.came ≡ self.old.parts.came }
         ensures room { spare actions.old + length self.new.parts.table ≤ spare actions.new + length self.old.parts.table }
         ensures few { length (list_of actions.new) + length self.new.parts.table ≤ length (list_of actions.old) + length self.old.parts.table }
+        ensures held { StaysHeld self.old.parts self.new.parts }
     {
         self.end_loop(s, i, j);
         self.close_drained(plan, s as usize, i as usize, actions);
@@ -200,7 +212,7 @@ impl Endpoints {
         ensures { (fd : ℕ) → is_in fd (option_to_list result) ≡ drains_at plan.now self.now.parts s i fd }
     {
         let fd = self.held_at(plan, s, i)?;
-        if is_done(self.ended_loops(), plan.tasks, s, i) && self.is_drained(plan, fd) {
+        if is_done(self.ended_loops(), plan.tasks, s, i) && self.is_drained(plan, fd, s) {
             return Some(fd);
         }
         None
@@ -262,7 +274,7 @@ impl Endpoints {
         ensures { result ≡ (is_endpoint plan.now s i && (nat_lt j plan.now.tasks && not (has_loop self.now.parts.loops s i j))) }
     {
         (i as usize) < endpoint_count(plan, s as usize)
-            && (j < plan.tasks && !has_loop(self.ended_loops(), s as usize, i as usize, j))
+            && (j < plan.tasks && !self.ended_loops().has(s as usize, i as usize, j))
     }
 
     /// The endpoint is one of the service, and not each of its loops has ended.
@@ -286,6 +298,7 @@ impl Endpoints {
         ensures came { self.new.parts.came ≡ self.old.parts.came }
         ensures room { spare actions.old + length self.new.parts.table ≤ spare actions.new + length self.old.parts.table }
         ensures few { length (list_of actions.new) + length self.new.parts.table ≤ length (list_of actions.old) + length self.old.parts.table }
+        ensures held { StaysHeld self.old.parts self.new.parts }
     {
         self.clear(plan, &[], actions);
     }

@@ -58,12 +58,15 @@ impl Endpoints {
     {
         let rows = new_rows(alloc, plan)?;
         let failed = new_flags(alloc, service_count(plan))?;
+        let loops = Loops::new(alloc, plan)?;
+        let table = Table::new(alloc);
+        let came = NumberSet::new(alloc);
         Ok(Endpoints {
             rows,
             failed,
-            loops: Loops::new(alloc),
-            table: Table::new(alloc),
-            came: NumberSet::new(alloc),
+            loops,
+            table,
+            came,
             last_asked: (0, 0),
         })
     }
@@ -275,10 +278,10 @@ impl Endpoints {
     }
 
     /// The loops that ended, in order.
-    pub(crate) fn ended_loops(&self) -> &[LoopEnd]
-        ensures { result.now ≡ self.now.parts.loops }
+    pub(crate) fn ended_loops(&self) -> &Loops
+        ensures { list_of result.now ≡ self.now.parts.loops }
     {
-        self.loops.as_slice()
+        &self.loops
     }
 
     /// A loop of the endpoint ended.
@@ -366,12 +369,12 @@ impl Endpoints {
         self.clear(plan, kept, actions);
     }
 
-    /// The descriptor is drained.
-    pub(crate) fn is_drained(&self, plan: &Plan, fd: u64) -> bool
+    /// The descriptor is drained. The endpoints of this service and of those after it are looked at first.
+    pub(crate) fn is_drained(&self, plan: &Plan, fd: u64, from: usize) -> bool
         requires sized { IsEndpointsSized plan.now self.now.parts }
         ensures { result ≡ is_drained_by plan.now self.now.parts fd }
     {
-        is_drained(plan, &self.rows, &self.failed, self.loops.as_slice(), fd)
+        is_drained(plan, &self.rows, &self.failed, &self.loops, fd, from)
     }
 
     /// Closes the live descriptor with this number.
@@ -392,13 +395,7 @@ impl Endpoints {
         ensures told { list_of actions.new ≡ list_of actions.old ++ map Close (gone_numbers plan.now kept.now self.old.parts self.old.parts.table) }
         ensures room { spare actions.old + length self.new.parts.table ≤ spare actions.new + length self.old.parts.table }
     {
-        self.table.close_gone(
-            plan,
-            &self.rows,
-            &self.failed,
-            self.loops.as_slice(),
-            kept,
-            actions,
-        );
+        self.table
+            .close_gone(plan, &self.rows, &self.failed, &self.loops, kept, actions);
     }
 }

@@ -12,6 +12,7 @@ mod naming;
 mod received;
 mod states;
 mod table;
+mod tallies;
 mod uses;
 mod visit;
 

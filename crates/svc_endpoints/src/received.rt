@@ -12,6 +12,7 @@ ghost use Rattle.svc_record.specs.Plans.{service_count};
 ghost use Rattle.svc_record.specs.Record.{Record, tell};
 ghost use Rattle.svc_record.specs.Told.{Tells, IsGivingUp};
 ghost use Rattle.svc_endpoints.specs.EndpointsState.{IsEndpointsSized, EndpointsStand, all_new};
+ghost use Rattle.svc_endpoints.specs.Stays.{StaysHeld};
 ghost use Rattle.svc_endpoints.specs.Effects.{passes, turns_away, turned_away, received, numbers_out, opens_of, put_numbers};
 
 use crate::endpoints::Endpoints;
@@ -77,6 +78,8 @@ impl Endpoints {
         ensures room { IfOk result (λ good. spare actions.old + length self.new.parts.table ≤ spare actions.new + length self.old.parts.table + length fds.now) }
         ensures few { IfOk result (λ good. length (list_of actions.new) + length self.new.parts.table ≤ length
             (list_of actions.old) + length self.old.parts.table + length fds.now) }
+        ensures failed { self.new.parts.failed ≡ self.old.parts.failed }
+        ensures held { StaysHeld self.old.parts self.new.parts }
     {
         let (good, words) = read(alloc, bytes, fds.len())?;
         let mut out = NumberSet::new(alloc);

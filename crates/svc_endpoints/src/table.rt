@@ -2,6 +2,7 @@
 
 ghost use Rattle.std.specs.Prelude.{true, ◌≡◌, ◌+◌, ◌-◌, ◌<◌, ◌≤◌, ◌++◌, ◌∷◌, [], length, ℕ, List, Option, Some, None, OnOk, map, insert, slice_index, vec_len, vec_capacity, ◌||◌, ◌&&◌, false, ◌^◌, if◌then◌else◌, ◌==◌, filter, not};
 ghost use Rattle.std.specs.Option.{option_to_list};
+ghost use Rattle.std.specs.List.Sorted.{IsNonDecreasingBy, IsPartitionPoint};
 ghost use Rattle.svc_base.specs.Items.{list_of, spare};
 ghost use Rattle.svc_record.specs.declared.plan.Plan.{Plan};
 ghost use Rattle.svc_record.specs.declared.action.Action.TheVariants.{Close};
@@ -13,7 +14,7 @@ ghost use Rattle.svc_endpoints.specs.Uses.{AreStatesSized, states_of};
 ghost use Rattle.svc_endpoints.specs.Marks.{are_marked};
 
 use crate::came::contains;
-use crate::loops::LoopEnd;
+use crate::loops::Loops;
 use crate::marks::{mark, may_have};
 use crate::naming::is_abandoned;
 use crate::states::Row;
@@ -41,15 +42,14 @@ pub(crate) struct Table {
 
 impl Model for Table {
     ghost use Rattle.std.specs.Prelude.{List, ℕ, ◌-◌, vec_capacity, vec_len};
-    ghost use Rattle.std.specs.Prelude.{◌≡◌, true};
     ghost use Rattle.svc_endpoints.specs.declared.table.Open.{Open};
-    ghost use Rattle.svc_endpoints.specs.Marks.{are_marked};
+    ghost use Rattle.svc_endpoints.specs.Marks.{IsTableKept};
 
     ghost Value = { List Open × ℕ };
 
     ghost view = { λ t. (t.entries.items, vec_capacity t.entries - vec_len t.entries) };
 
-    ghost invariant = { λ t. are_marked t.marks.items t.entries.items ≡ true };
+    ghost invariant = { λ t. IsTableKept t.marks.items t.entries.items };
 }
 
 fn has_address(entry: &Open, address: &str) -> bool
@@ -86,13 +86,13 @@ fn goes(
     plan: &Plan,
     rows: &[Row],
     failed: &[bool],
-    loops: &[LoopEnd],
+    loops: &Loops,
     kept: &[u64],
 ) -> bool
     requires { AreStatesSized plan.now rows.now failed.now }
-    ensures { result ≡ goes plan.now kept.now (states_of rows.now failed.now loops.now) entry.now }
+    ensures { result ≡ goes plan.now kept.now (states_of rows.now failed.now (list_of loops.now)) entry.now }
 {
-    is_done(entry, plan, failed, kept) || is_drained(plan, rows, failed, loops, entry.fd)
+    is_done(entry, plan, failed, kept) || is_drained(plan, rows, failed, loops, entry.fd, 0)
 }
 
 /// The next word is taken out, if there is one.
@@ -117,18 +117,22 @@ fn find_in(table: &[Open], address: &str) -> Option<u64>
     None
 }
 
-/// Where a descriptor goes among the others.
+/// Behind how many descriptors one goes that stands among them, by halving.
 fn place_of(table: &[Open], fd: u64) -> usize
+    requires rising { IsNonDecreasingBy (λ (o : Open). o.fd) table.now }
     ensures within { result ≤ length table.now }
-    ensures below { (k : ℕ) → k < result → slice_index (numbers_of_table table.now) k ≤ fd }
-    ensures above { result < length table.now → fd < slice_index (numbers_of_table table.now) result }
+    ensures parts { IsPartitionPoint (λ (o : Open). o.fd ≤ fd) (λ (o : Open). fd < o.fd) table.now result }
 {
-    for i in 0..table.len() {
-        if fd < table[i].fd {
-            return i;
-        }
-    }
-    table.len()
+    table.partition_point(|entry| entry.fd <= fd)
+}
+
+/// How many descriptors have lower numbers, by halving.
+fn place_before(table: &[Open], fd: u64) -> usize
+    requires rising { IsNonDecreasingBy (λ (o : Open). o.fd) table.now }
+    ensures within { result ≤ length table.now }
+    ensures parts { IsPartitionPoint (λ (o : Open). o.fd < fd) (λ (o : Open). fd ≤ o.fd) table.now result }
+{
+    table.partition_point(|entry| entry.fd < fd)
 }
 
 /// Inserts into reserved room.
@@ -158,17 +162,17 @@ fn close_done(
     plan: &Plan,
     rows: &[Row],
     failed: &[bool],
-    loops: &[LoopEnd],
+    loops: &Loops,
     kept: &[u64],
     actions: &mut Actions,
 )
     requires sized { AreStatesSized plan.now rows.now failed.now }
     requires room { vec_len table.old ≤ spare actions.old }
-    ensures after { table.new.items ≡ without_gone plan.now kept.now (states_of rows.now failed.now loops.now) table.old.items }
+    ensures after { table.new.items ≡ without_gone plan.now kept.now (states_of rows.now failed.now (list_of loops.now)) table.old.items }
     ensures told { list_of actions.new ≡ list_of actions.old
-        ++ map Close (gone_numbers plan.now kept.now (states_of rows.now failed.now loops.now) table.old.items) }
+        ++ map Close (gone_numbers plan.now kept.now (states_of rows.now failed.now (list_of loops.now)) table.old.items) }
     ensures room { spare actions.old ≤ spare actions.new
-        + length (gone_numbers plan.now kept.now (states_of rows.now failed.now loops.now) table.old.items) }
+        + length (gone_numbers plan.now kept.now (states_of rows.now failed.now (list_of loops.now)) table.old.items) }
 {
     let mut left = 0;
     for i in 0..table.len() {
@@ -183,24 +187,20 @@ fn close_done(
     table.truncate(left);
 }
 
-/// Closes those with this number, and takes them out.
+/// Closes those with this number, which stand one behind the other, and takes them out.
 fn close_like(table: &mut Vec<Open>, fd: u64, actions: &mut Actions)
+    requires rising { IsNonDecreasingBy (λ (o : Open). o.fd) table.old.items }
     requires room { vec_len table.old ≤ spare actions.old }
     ensures after { table.new.items ≡ filter (λ (o : Open). not (o.fd == fd)) table.old.items }
     ensures told { list_of actions.new ≡ list_of actions.old ++ map Close (numbers_like fd table.old.items) }
     ensures room { spare actions.old ≤ spare actions.new + length (numbers_like fd table.old.items) }
 {
-    let mut left = 0;
-    for i in 0..table.len() {
-        let entry = &table[i];
-        if entry.fd == fd {
-            actions.put(Action::Close(fd));
-        } else {
-            table.swap(left, i);
-            left += 1;
-        }
+    let first = place_before(table, fd);
+    let end = place_of(table, fd);
+    for _closed in first..end {
+        actions.put(Action::Close(fd));
+        let _ = table.remove(first);
     }
-    table.truncate(left);
 }
 
 /// No marks, with places for those of so many addresses; none where there is no memory.
@@ -312,17 +312,17 @@ impl Table {
         plan: &Plan,
         rows: &[Row],
         failed: &[bool],
-        loops: &[LoopEnd],
+        loops: &Loops,
         kept: &[u64],
         actions: &mut Actions,
     )
         requires sized { AreStatesSized plan.now rows.now failed.now }
         requires room { length (list_of self.old) ≤ spare actions.old }
-        ensures after { list_of self.new ≡ without_gone plan.now kept.now (states_of rows.now failed.now loops.now) (list_of self.old) }
+        ensures after { list_of self.new ≡ without_gone plan.now kept.now (states_of rows.now failed.now (list_of loops.now)) (list_of self.old) }
         ensures told { list_of actions.new ≡ list_of actions.old
-            ++ map Close (gone_numbers plan.now kept.now (states_of rows.now failed.now loops.now) (list_of self.old)) }
+            ++ map Close (gone_numbers plan.now kept.now (states_of rows.now failed.now (list_of loops.now)) (list_of self.old)) }
         ensures room { spare actions.old ≤ spare actions.new + length
-            (gone_numbers plan.now kept.now (states_of rows.now failed.now loops.now) (list_of self.old)) }
+            (gone_numbers plan.now kept.now (states_of rows.now failed.now (list_of loops.now)) (list_of self.old)) }
     {
         close_done(&mut self.entries, plan, rows, failed, loops, kept, actions);
     }

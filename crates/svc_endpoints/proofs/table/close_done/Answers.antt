@@ -1,4 +1,5 @@
 use Rattle.std.proofs.Common.{arith, sym, ◌∙◌}
+use Rattle.svc_base.specs.Items.{list_of}
 use Rattle.svc_endpoints.specs.Effects.{goes}
 use Rattle.svc_endpoints.specs.Uses.{states_of}
 use Rattle.svc_endpoints.proofs.TableLemmas.{clears-here, clears-past}
@@ -7,7 +8,7 @@ use Rattle.svc_endpoints.proofs.table.close_done.Goals.{then-goes, else-goes}
 
 pub loop-i-preserved : goal.loop-i-preserved
 loop-i-preserved c =
-    let test = goes c.args.plan.now c.args.kept.now (states_of c.args.rows.now c.args.failed.now c.args.loops.now) in
+    let test = goes c.args.plan.now c.args.kept.now (states_of c.args.rows.now c.args.failed.now (list_of c.args.loops.now)) in
     elim c.if-goes.branch [
       | then-goes w ↦ rw (w.table-is, w.actions-is, w.left-is)
           (clears-here test c.args.table.now.items c.loop-i.table.items c.loop-i.left c.loop-i.i c.index-entry.result.now (omega arith) c.index-entry.ensures c.args.actions.now c.loop-i.actions c.loop-i.invariant

@@ -1,14 +1,14 @@
-use Rattle.std.proofs.Common.{arith, sym, ◌∙◌, []}
+use Rattle.std.proofs.Common.{arith, sym, []}
 use Rattle.svc_record.specs.Plans.{service_count}
 use Rattle.svc_endpoints.specs.Uses.{states_of, any_holder}
-use Rattle.svc_endpoints.proofs.RangeLemmas.{at0, none0, more_false}
+use Rattle.svc_endpoints.proofs.RangeLemmas.{in_halves}
 use Rattle.svc_endpoints.proofs.uses.is_held.Goals as goal
 
-pub returns-then-is_held_in : goal.returns-then-is_held_in
-returns-then-is_held_in c = let e = c.service_count-s-end.ensures in sym (at0 (any_holder c.args.plan.now (states_of c.args.rows.now c.args.failed.now []) c.args.fd) (service_count c.args.plan.now) c.loop-s.s (omega (arith, e)) (sym c.is_held_in.ensures ∙ c.if-is_held_in.true))
+pub returns-then-is_held_between : goal.returns-then-is_held_between
+returns-then-is_held_between c = sym (c.is_held_between.ensures.found c.if-is_held_between.true)
 
 pub returns : goal.returns
-returns c = let e = c.service_count-s-end.ensures in sym (none0 (any_holder c.args.plan.now (states_of c.args.rows.now c.args.failed.now []) c.args.fd) (service_count c.args.plan.now) (λ k lt. c.loop-s.invariant k (omega (arith, e))))
-
-pub loop-s-preserved : goal.loop-s-preserved
-loop-s-preserved c = more_false (any_holder c.args.plan.now (states_of c.args.rows.now c.args.failed.now []) c.args.fd) c.loop-s.s c.loop-s.invariant (sym c.is_held_in.ensures ∙ c.if-is_held_in.false)
+returns c =
+    let e = c.service_count-end.ensures in
+    in_halves (any_holder c.args.plan.now (states_of c.args.rows.now c.args.failed.now []) c.args.fd) (service_count c.args.plan.now) c.args.from c.is_held_between-2.result
+    (λ j le lt. c.is_held_between.ensures.none c.if-is_held_between.false j le (omega (arith, e))) c.is_held_between-2.ensures.found (λ off j le lt. c.is_held_between-2.ensures.none off j le (omega (arith, e)))

@@ -1,4 +1,4 @@
-use Rattle.std.proofs.Common.{ap, ◌∙◌, []}
+use Rattle.std.proofs.Common.{ap, refl, ◌∙◌, []}
 use Rattle.svc_base.specs.Items.{list_of}
 use Rattle.svc_endpoints.specs.EndpointsData.{EndpointsData, EndpointsRoom}
 use Rattle.svc_endpoints.specs.Uses.{is_drained_by}
@@ -9,5 +9,5 @@ pub returns : goal.returns
 returns c =
     let d : EndpointsData = record { rows = c.self.inside.rows.items; failed = c.self.inside.failed.items; loops = list_of c.self.inside.loops; table = list_of c.self.inside.table; came = list_of c.self.inside.came } in
     c.is_drained.ensures
-    ∙ drained-by_states c.args.plan.now [] c.deref.result.now c.deref-2.result.now c.as_slice.result.now d c.deref.ensures.value c.deref-2.ensures.value c.as_slice.ensures c.args.fd
+    ∙ drained-by_states c.args.plan.now [] c.deref.result.now c.deref-2.result.now (list_of c.self.inside.loops) d c.deref.ensures.value c.deref-2.ensures.value refl c.args.fd
     ∙ ap (λ (e : EndpointsRoom). is_drained_by c.args.plan.now e.parts c.args.fd) c.self.view_is

@@ -1,0 +1,121 @@
+-- What an answer or a visit leaves of the flags of failed services, and of what is held.
+use Rattle.std.proofs.Common.{ℕ, Bool, true, false, inl, inr, List, [], ◌≡◌, refl, ap, sym, ◌∙◌, subst, arith, ◌<◌, length, Option, Some, None, slice_set, slice_index_or, if◌then◌else◌}
+use Rattle.std.proofs.lemmas.Bool.{cases_Bool}
+use Rattle.svc_record.specs.declared.plan.Plan.{Plan}
+use Rattle.svc_record.specs.Plans.{service_count, endpoints, address, any_with}
+use Rattle.svc_endpoints.specs.declared.states.EndpointStatus.TheVariants.{Idle, Binding, Adopting, Holding, AdoptionFailed}
+use Rattle.svc_endpoints.specs.declared.states.EndpointState.{EndpointState}
+use Rattle.svc_endpoints.specs.declared.visit.Visit.{Visit}
+use Rattle.svc_endpoints.specs.declared.visit.Visit.TheVariants.{Nothing}
+use Rattle.svc_endpoints.specs.EndpointsData.{EndpointsData}
+use Rattle.svc_endpoints.specs.EndpointsState.{IsEndpointsSized, last_at, failed_at, is_binding, is_adopting, is_asking, is_holding, times_in_use_at, numbers_with}
+use Rattle.svc_endpoints.specs.Effects.{first_of, put, fail_if, refused, is_last_refusal, bind_failed, adopt_failed, adopted, held_now, cleared_if, bound_or_again}
+use Rattle.svc_endpoints.specs.Visits.{IsDecided, IsFirst, busy_in, adopt_or_bind, decide_at, after}
+use Rattle.svc_endpoints.specs.Stays.{FailsOnly, StaysHeld}
+use Rattle.svc_endpoints.proofs.OneLemmas.{binding_asks}
+use Rattle.svc_endpoints.proofs.KeptLemmas.{asking_not_holding, adopting_asks}
+use Rattle.svc_endpoints.proofs.ChangeLemmas.{Changed, changed-put}
+use Rattle.svc_endpoints.proofs.VisitedLemmas.{find_first}
+use Rattle.svc_base.proofs.Logic.{clash}
+
+-- where a state changed, it is one of an endpoint that wasn't held
+held-changed : (p : Plan) (d e : EndpointsData) (s i : ℕ) → Changed p d e s i → StaysHeld d e
+held-changed p d e s i h t k held =
+    ap is_holding (h.last t k (λ a b. clash (is_holding (last_at d s i)) (subst (λ u. is_holding (last_at d u i) ≡ true) a (subst (λ j. is_holding (last_at d t j) ≡ true) b held)) h.idle)) ∙ held
+
+-- where the rows stay, all that is held does
+pub held-same : (d e : EndpointsData) → e.rows ≡ d.rows → StaysHeld d e
+held-same d e same t k held = subst (λ r. is_holding (last_at (record d { rows = r }) t k) ≡ true) (sym same) held
+
+held_cleared : (b : Bool) (p : Plan) (keep : List ℕ) (d e : EndpointsData) → StaysHeld d e → StaysHeld d (cleared_if b p keep e)
+held_cleared true p keep d e h t k held = h t k held
+held_cleared false p keep d e h t k held = h t k held
+
+-- a service's flag that is set, or not
+fails_if : (b : Bool) (s : ℕ) (flags : List Bool) (d : EndpointsData) → d.failed ≡ flags → FailsOnly s flags (fail_if b s d).failed
+fails_if true s flags d same = inr (ap (λ f. slice_set f s true) same)
+fails_if false s flags d same = inl same
+
+failed_cleared : (b : Bool) (p : Plan) (keep : List ℕ) (d : EndpointsData) → (cleared_if b p keep d).failed ≡ d.failed
+failed_cleared true p keep d = refl
+failed_cleared false p keep d = refl
+
+-- what an answer leaves, after which what goes is closed
+module _ (p : Plan) (d mid made new : EndpointsData) (b : Bool) (keep : List ℕ) (is : made ≡ mid) (left : new ≡ cleared_if b p keep made) where
+  pub fails-answer : (s : ℕ) → FailsOnly s d.failed mid.failed → FailsOnly s d.failed new.failed
+  fails-answer s h = subst (FailsOnly s d.failed) (sym (ap (λ (m : EndpointsData). m.failed) left ∙ failed_cleared b p keep made ∙ ap (λ (m : EndpointsData). m.failed) is)) h
+
+  pub held-answer : StaysHeld d mid → StaysHeld d new
+  held-answer h = subst (λ (m : EndpointsData). StaysHeld d m) (sym (left ∙ ap (cleared_if b p keep) is)) (held_cleared b p keep d mid h)
+
+-- the flags after each kind of answer
+pub fails-refused : (p : Plan) (d : EndpointsData) (s i moment : ℕ) → FailsOnly s d.failed (refused p d s i moment).failed
+fails-refused p d s i moment = fails_if (is_last_refusal p d s i) s d.failed (put d s i _) refl
+
+pub failed-bound : (b : Bool) (d : EndpointsData) (s i fd : ℕ) (text : List ℕ) → (bound_or_again b d s i fd text).failed ≡ d.failed
+failed-bound true d s i fd text = refl
+failed-bound false d s i fd text = refl
+
+-- what is held after each kind of answer
+module _ (p : Plan) (d : EndpointsData) (s i : ℕ) (sized : IsEndpointsSized p d) (inside : s < service_count p) (within : i < length (endpoints p s)) where
+  in_rows : s < length d.rows
+  in_rows = omega (arith, sized.services)
+
+  in_row : i < length (slice_index_or d.rows s [])
+  in_row = omega (arith, sized.each s inside)
+
+  in_failed : s < length d.failed
+  in_failed = omega (arith, sized.failed)
+
+  pub held-put : (b : Bool) (x : EndpointState) → is_holding (last_at d s i) ≡ false → StaysHeld d (fail_if b s (put d s i x))
+  held-put b x free = held-changed p d (fail_if b s (put d s i x)) s i (changed-put p d s i b x in_rows in_row in_failed within free)
+
+  unheld_binding : is_binding (last_at d s i) ≡ true → is_holding (last_at d s i) ≡ false
+  unheld_binding h = asking_not_holding (last_at d s i) (binding_asks (last_at d s i) h)
+
+  unheld_adopting : is_adopting (last_at d s i) ≡ true → is_holding (last_at d s i) ≡ false
+  unheld_adopting h = asking_not_holding (last_at d s i) (adopting_asks (last_at d s i) h)
+
+  pub held-refused : (moment : ℕ) → is_binding (last_at d s i) ≡ true → StaysHeld d (refused p d s i moment)
+  held-refused moment h = held-put (is_last_refusal p d s i) _ (unheld_binding h)
+
+  pub held-bind_failed : is_binding (last_at d s i) ≡ true → StaysHeld d (bind_failed d s i)
+  held-bind_failed h = held-put true (record { last = Idle; times_in_use = times_in_use_at d s i }) (unheld_binding h)
+
+  pub held-adopt_failed : is_adopting (last_at d s i) ≡ true → StaysHeld d (adopt_failed d s i)
+  held-adopt_failed h = held-put true (record { last = AdoptionFailed; times_in_use = times_in_use_at d s i }) (unheld_adopting h)
+
+  pub held-adopted : is_adopting (last_at d s i) ≡ true → StaysHeld d (adopted d s i)
+  held-adopted h = held-put false (record { last = held_now (last_at d s i); times_in_use = times_in_use_at d s i }) (unheld_adopting h)
+
+  pub held-bound : (b : Bool) (fd : ℕ) (text : List ℕ) → is_binding (last_at d s i) ≡ true → StaysHeld d (bound_or_again b d s i fd text)
+  held-bound true fd text h = held-put false (record { last = Idle; times_in_use = times_in_use_at d s i }) (unheld_binding h)
+  held-bound false fd text h = held-put false (record { last = Holding fd; times_in_use = times_in_use_at d s i }) (unheld_binding h)
+
+-- what is held after a visit
+module _ (p : Plan) (d : EndpointsData) (s : ℕ) (sized : IsEndpointsSized p d) (inside : s < service_count p) where
+  held_asked : (j : ℕ) → IsFirst p d s j → (kept_busy : Bool) (found : Option ℕ) → StaysHeld d (after d s (adopt_or_bind kept_busy j found))
+  held_asked j first kept_busy (Some fd) = held-put p d s j sized inside first.within false (record { last = Adopting fd; times_in_use = times_in_use_at d s j }) first.missing
+  held_asked j first true None = λ t k held. held
+  held_asked j first false None = held-put p d s j sized inside first.within false (record { last = Binding; times_in_use = times_in_use_at d s j }) first.missing
+
+  held_first : (j : ℕ) → IsFirst p d s j → (asking kept_busy : Bool) (found : Option ℕ) → StaysHeld d (after d s (if asking then Nothing else adopt_or_bind kept_busy j found))
+  held_first j first true kept_busy found = λ t k held. held
+  held_first j first false kept_busy found = held_asked j first kept_busy found
+
+  held_where : (v w : Visit) → v ≡ w → StaysHeld d (after d s w) → StaysHeld d (after d s v)
+  held_where v w is h = subst (λ (x : Visit). StaysHeld d (after d s x)) (sym is) h
+
+  held_on : (moment : ℕ) (v : Visit) → IsDecided p d s true moment v → StaysHeld d (after d s v)
+  held_on moment v decided = elim (cases_Bool (failed_at d s)) [
+    | inl bad ↦ held_where v Nothing (decided.failed bad) (λ t k held. held)
+    | inr free ↦ elim (find_first p d s (length (endpoints p s)) (omega arith)) [
+      | inl all ↦ held_where v Nothing (decided.held refl free all) (λ t k held. held)
+      | inr some ↦ held_where v (decide_at p d s moment some.0) (decided.first refl free some.0 some.1)
+          (held_first some.0 some.1 (is_asking (last_at d s some.0)) (any_with p (address p s some.0) (busy_in d moment)) (first_of (numbers_with d.table (address p s some.0))))
+    ]
+  ]
+
+  pub held-visit : (on : Bool) (moment : ℕ) (v : Visit) → IsDecided p d s on moment v → StaysHeld d (after d s v)
+  held-visit true moment v decided = held_on moment v decided
+  held-visit false moment v decided = held_where v Nothing (decided.off refl) (λ t k held. held)

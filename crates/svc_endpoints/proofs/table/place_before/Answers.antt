@@ -1,0 +1,10 @@
+use Rattle.std.proofs.Common.{ltb, ltb-true, ltb-false, rules}
+use Rattle.std.proofs.lemmas.List.Sorted.{IsPartitionPoint-from_clause, IsPartitionedBy-ltb}
+use Rattle.svc_endpoints.specs.declared.table.Open.{Open}
+use Rattle.svc_endpoints.proofs.table.place_before.Goals as goal
+
+pub returns-clause-parts : goal.returns-clause-parts
+returns-clause-parts c =
+    let parted = IsPartitionedBy-ltb (λ (o : Open). o.fd) c.args.table.now c.args.fd c.requires.rising in
+    let point = IsPartitionPoint-from_clause (λ (o : Open). ltb o.fd c.args.fd) _ _ c.partition_point.ensures.partitioned parted (λ a r q k. search rules) in
+    (λ k d low high. ltb-true _ _ (point.0 k d low high), λ k d low high. ltb-false _ _ (point.1 k d low high))

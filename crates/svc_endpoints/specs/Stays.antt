@@ -1,0 +1,12 @@
+-- What a call leaves of the flags of failed services, and of what is held.
+use Rattle.std.specs.Prelude.{ℕ, Bool, true, ◌≡◌, ◌⊎◌, List, slice_set}
+use Rattle.svc_endpoints.specs.EndpointsData.{EndpointsData}
+use Rattle.svc_endpoints.specs.EndpointsState.{last_at, is_holding}
+
+-- the flags stay, but for the service's, which may be set now
+abbrev pub FailsOnly : ℕ → List Bool → List Bool → Type 0
+FailsOnly s flags next = (next ≡ flags) ⊎ (next ≡ slice_set flags s true)
+
+-- each endpoint that is held stays held
+abbrev pub StaysHeld : EndpointsData → EndpointsData → Type 0
+StaysHeld d next = (t k : ℕ) → is_holding (last_at d t k) ≡ true → is_holding (last_at next t k) ≡ true
