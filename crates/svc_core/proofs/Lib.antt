@@ -1,7 +1,9 @@
 pub mod RecordLemmas
 pub mod StartsLemmas
+pub mod WaitsLemmas
 pub mod GoingLemmas
 pub mod PassLemmas
+pub mod SkipLemmas
 pub mod ClosesLemmas
 pub mod OpenLemmas
 pub mod TestedLemmas

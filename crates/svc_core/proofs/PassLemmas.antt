@@ -263,7 +263,7 @@ module _ (p : Plan) (valid : IsValid p) (order : List ℕ) (dr : DrainData) (k :
   starts-same : starts_now p st d.failed b.complete here ≡ (not (is_started q here) && is_due p q here)
   starts-same = starts-is p st d.failed b.complete q here valid inside was.going.starts (are-failed p d q was.going.ends) (sym was.going.boot.begin.complete_is)
 
-  wait-half : starts_now p st d.failed b.complete here ≡ false → Half p order k st d b o dr cn q
+  pub wait-half : starts_now p st d.failed b.complete here ≡ false → Half p order k st d b o dr cn q
   wait-half e =
       let due : false ≡ (not (is_started q here) && is_due p q here) = sym e ∙ starts-same in
       record {
@@ -488,7 +488,7 @@ none-begins p valid order dr k place in_order st st' d b false before after size
     rw same (starting-none p valid order dr k place in_order st d b before after sized untested due told)
 
 -- the second half: an ask if there is one to make
-ask-whole : (p : Plan) (order : List ℕ) (k : ℕ) (st : StartsData) (d d' : EndpointsData) (b : BootData) (o : OfferData) (dr : DrainData) (cn : ConnectionsData) (q : Record) (told : List Action) → is_tested p b ≡ false
+pub ask-whole : (p : Plan) (order : List ℕ) (k : ℕ) (st : StartsData) (d d' : EndpointsData) (b : BootData) (o : OfferData) (dr : DrainData) (cn : ConnectionsData) (q : Record) (told : List Action) → is_tested p b ≡ false
     → IsAskOf (slice_index order k) told → Visited p d' (slice_index order k) q told → Half p order k st d b o dr cn q → PassedUpTo p order (k + 1) st d' b o dr cn (tell q told)
 ask-whole p order k st d d' b o dr cn q told untested ask visited half = record {
   going = going-from p st d' b o dr cn (tell q told)

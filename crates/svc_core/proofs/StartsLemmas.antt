@@ -81,7 +81,7 @@ count-start p (Got e ∷ q) s h = count-start p q s h.1
 count-start p (Told a ∷ q) s h = count_step p q s a (count-start p q s h.1) h.0
 
 -- a flag that is set
-flag-set : (flags : List Bool) (s t : ℕ) → s < length flags → is_flagged (slice_set flags s true) t ≡ ((s == t) || is_flagged flags t)
+pub flag-set : (flags : List Bool) (s t : ℕ) → s < length flags → is_flagged (slice_set flags s true) t ≡ ((s == t) || is_flagged flags t)
 flag-set flags s t lt = elim (cases_eq t s) [
   | inl e ↦ subst (λ u. is_flagged (slice_set flags s true) u ≡ ((s == u) || is_flagged flags u)) (sym e)
       (get_or-set_same flags s true false lt ∙ sym (ap (λ b. b || is_flagged flags s) (eq-eqb s s refl)))

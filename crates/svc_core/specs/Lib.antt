@@ -1,7 +1,9 @@
 pub mod StartsData
 pub mod StartsState
+pub mod WaitsData
 pub mod Copies
 pub mod CoreData
+pub mod WaitsState
 pub mod Passes
 pub mod Rooms
 pub mod Stands

@@ -1,6 +1,7 @@
 //! The server core: a step for each event, and the actions that it tells.
 #![tactic(auto)]
 
+mod bits;
 mod copies;
 mod ends;
 mod machine;
@@ -8,6 +9,7 @@ mod pass;
 mod phase_reader;
 mod plans;
 mod starts;
+mod waits;
 
 pub use machine::Core;
 pub use phase_reader::PhaseReader;

@@ -26,8 +26,9 @@ mod forking;
 use crate::copies::{SecondCopy, repeat};
 use crate::ends::{is_on, is_served};
 use crate::pass::pass;
-use crate::plans::{address_of, asked_filter};
+use crate::plans::{address_of, asked_filter, service_count};
 use crate::starts::Starts;
+use crate::waits::Waits;
 use std::alloc::Global;
 use std::marker::Model;
 use svc_base::NoMemory;
@@ -52,16 +53,19 @@ pub struct Core {
     drain: Drain,
     connections: Connections,
     end: StepEnd,
+    /// Which services the pass visits.
+    waits: Waits,
 }
 
 impl Model for Core {
-    ghost use Rattle.svc_core.specs.CoreData.{CoreData, IsFormed};
+    ghost use Rattle.svc_core.specs.CoreData.{CoreData};
+    ghost use Rattle.svc_core.specs.WaitsState.{IsKept};
 
     ghost Value = { CoreData };
 
     ghost view = { λ c. record { plan = c.plan; order = c.order.items; starts = c.starts; endpoints = c.endpoints.parts; boot = c.boot; offer = c.offer; drain = c.drain; connections = c.connections.parts; end = c.end } };
 
-    ghost invariant = { λ c. IsFormed c.plan c.order.items c.starts c.endpoints.parts };
+    ghost invariant = { λ c. IsKept c.plan c.order.items c.starts c.endpoints.parts c.waits };
 }
 
 impl Core {
@@ -77,6 +81,7 @@ impl Core {
         let boot = Boot::new(plan.limit);
         let offer = Offer::new(plan.limit);
         let connections = Connections::new(alloc);
+        let waits = Waits::new(alloc, service_count(&plan), order.len())?;
         Ok(Core {
             plan,
             order,
@@ -87,6 +92,7 @@ impl Core {
             drain: Drain::new(),
             connections,
             end: StepEnd::On,
+            waits,
         })
     }
 
@@ -178,6 +184,12 @@ impl Core {
         ensures { Visits self.old self.new actions.old actions.new }
     {
         if self.may_start() {
+            self.waits.catch_up(
+                &self.plan,
+                &self.starts,
+                self.endpoints.failed(),
+                self.boot.is_complete(),
+            );
             pass(
                 &self.plan,
                 &self.order,
@@ -185,6 +197,7 @@ impl Core {
                 &mut self.starts,
                 &mut self.endpoints,
                 &mut self.boot,
+                &mut self.waits,
                 actions,
             );
         }
@@ -393,6 +406,7 @@ impl Core {
         ensures { Steps self.old self.new (Event.Ready s) actions.old actions.new result }
     {
         self.starts.take_ready(&self.plan, s);
+        self.waits.mark(s);
         self.finish(None, actions)
     }
 
@@ -402,6 +416,7 @@ impl Core {
         ensures { Steps self.old self.new (Event.Ended s) actions.old actions.new result }
     {
         self.starts.take_ended(&self.plan, s);
+        self.waits.mark(s);
         self.finish(None, actions)
     }
 
@@ -421,6 +436,7 @@ impl Core {
         self.endpoints.reserve()?;
         self.endpoints
             .take_bound(&self.plan, s, i, fd, address, actions);
+        self.waits.forget();
         Ok(self.finish(None, actions))
     }
 
@@ -433,6 +449,7 @@ impl Core {
         let kept = self.offer.numbers_on_offer();
         self.endpoints
             .take_in_use(&self.plan, s, i, moment, kept, actions);
+        self.waits.forget();
         self.finish(None, actions)
     }
 
@@ -444,6 +461,7 @@ impl Core {
         let kept = self.offer.numbers_on_offer();
         self.endpoints
             .take_bind_failed(&self.plan, s, i, kept, actions);
+        self.waits.forget();
         self.finish(None, actions)
     }
 
@@ -453,6 +471,7 @@ impl Core {
         ensures { Steps self.old self.new (Event.Adopted s i) actions.old actions.new result }
     {
         self.endpoints.take_adopted(&self.plan, s, i);
+        self.waits.forget();
         self.finish(None, actions)
     }
 
@@ -464,6 +483,7 @@ impl Core {
         let kept = self.offer.numbers_on_offer();
         self.endpoints
             .take_adopt_failed(&self.plan, s, i, kept, actions);
+        self.waits.forget();
         self.finish(None, actions)
     }
 
@@ -482,6 +502,7 @@ impl Core {
         let good = self
             .endpoints
             .take_received(alloc, &self.plan, bytes, fds, actions)?;
+        self.waits.forget();
         self.boot.take_received(good);
         Ok(self.finish(None, actions))
     }

@@ -1,15 +1,19 @@
 //! The pass over the services: it starts what is due, asks for endpoints, and begins to bootstrap.
 
-ghost use Rattle.std.specs.Prelude.{◌≡◌, ◌+◌, ◌*◌, ◌<◌, ◌≤◌, length, false};
+ghost use Rattle.std.specs.Prelude.{◌≡◌, ◌+◌, ◌*◌, ◌<◌, ◌≤◌, ◌&&◌, ◌==◌, length, slice_index, false};
 ghost use Rattle.svc_base.specs.Items.{list_of, spare};
+ghost use Rattle.svc_record.specs.Plans.{service_count, endpoints};
+ghost use Rattle.svc_record.specs.Validity.{IsValid, IsInOrder};
 ghost use Rattle.svc_core.specs.Copies.{TellsBare};
 ghost use Rattle.svc_core.specs.CoreData.{IsFormed};
-ghost use Rattle.svc_core.specs.StartsState.{IsStartsSized};
+ghost use Rattle.svc_core.specs.StartsState.{IsStartsSized, is_flagged};
 ghost use Rattle.svc_core.specs.Passes.{StartsAt, VisitsAt, VisitsAll, is_tested, begin_room};
 ghost use Rattle.svc_core.specs.Steps.{Spends};
+ghost use Rattle.svc_core.specs.WaitsState.{IsKnown, StartsOnly, WaitsStill, ClosesDone};
 
-use crate::plans::is_bootstrap;
+use crate::plans::{depends_of, endpoint_count, is_bootstrap};
 use crate::starts::Starts;
+use crate::waits::Waits;
 use svc_boot::Boot;
 use svc_drain::Drain;
 use svc_endpoints::Endpoints;
@@ -41,6 +45,7 @@ fn start(
     ensures starts_sized { IsStartsSized plan.now starts.new }
     ensures bare { TellsBare (list_of actions.old) (list_of actions.new) }
     ensures spends { Spends (begin_room boot.old + 1) (begin_room boot.new) actions.old actions.new }
+    ensures only { StartsOnly plan.now endpoints.now.parts.failed boot.old.complete (slice_index order.now k) starts.old starts.new }
     ensures started { StartsAt plan.now order.now drain.now k starts.old starts.new endpoints.now boot.old boot.new actions.old actions.new }
 {
     let s = order[k];
@@ -70,6 +75,8 @@ fn visit(
     ensures table { endpoints.new.parts.table ≡ endpoints.old.parts.table }
     ensures bare { TellsBare (list_of actions.old) (list_of actions.new) }
     ensures spends { Spends (begin_room boot.old + 2) (begin_room boot.new) actions.old actions.new }
+    ensures failed { endpoints.new.parts.failed ≡ endpoints.old.parts.failed }
+    ensures only { StartsOnly plan.now endpoints.old.parts.failed boot.old.complete (slice_index order.now k) starts.old starts.new }
     ensures passed { VisitsAt plan.now order.now drain.now k starts.old starts.new endpoints.old endpoints.new boot.old boot.new actions.old actions.new }
 {
     if is_tested(plan, boot) {
@@ -84,7 +91,90 @@ fn visit(
     endpoints.visit(plan, s, is_started, drain.moment(), actions);
 }
 
-/// Visits each service once, in the startup order, unless the run was tested at one of them.
+/// Where the service at the place isn't started and a dependency of it isn't marked as ready, the place
+/// waits for that one.
+fn waits_still(plan: &Plan, order: &[u32], k: usize, starts: &Starts, waits: &mut Waits) -> bool
+    requires valid { IsValid plan.now }
+    requires in_order { IsInOrder plan.now order.now }
+    requires place { k < length order.now }
+    requires sized { IsStartsSized plan.now starts.now }
+    requires count { length waits.old.marks ≡ service_count plan.now }
+    ensures { WaitsStill plan.now starts.now (slice_index order.now k) k waits.old waits.new result }
+{
+    let s = order[k];
+    if starts.is_started(plan, s) {
+        return false;
+    }
+    match waits.lacking(plan, s) {
+        None => false,
+        Some(at) => {
+            waits.park(k, depends_of(plan, s)[at]);
+            true
+        }
+    }
+}
+
+/// The service is started and has no endpoint.
+fn is_done(plan: &Plan, starts: &Starts, s: u32) -> bool
+    requires service { s < service_count plan.now }
+    requires sized { IsStartsSized plan.now starts.now }
+    ensures { result ≡ (is_flagged starts.now.started s && (length (endpoints plan.now s) == 0)) }
+{
+    starts.is_started(plan, s) && endpoint_count(plan, s) == 0
+}
+
+/// A service that is started and has no endpoint isn't visited any more.
+fn close_done(plan: &Plan, order: &[u32], k: usize, starts: &Starts, waits: &mut Waits)
+    requires in_order { IsInOrder plan.now order.now }
+    requires place { k < length order.now }
+    requires sized { IsStartsSized plan.now starts.now }
+    ensures { ClosesDone plan.now starts.now (slice_index order.now k) k waits.old waits.new }
+{
+    if !is_done(plan, starts, order[k]) {
+        return;
+    }
+    waits.close(k);
+}
+
+/// Visits the service at an open place, and keeps what is known of the places.
+fn attend(
+    plan: &Plan,
+    order: &[u32],
+    k: usize,
+    drain: &Drain,
+    starts: &mut Starts,
+    endpoints: &mut Endpoints,
+    boot: &mut Boot,
+    waits: &mut Waits,
+    actions: &mut Actions,
+)
+    requires formed { IsFormed plan.now order.now starts.old endpoints.old.parts }
+    requires place { k < length order.now }
+    requires room { 2 + begin_room boot.old ≤ spare actions.old }
+    requires known { IsKnown plan.now order.now starts.old endpoints.old.parts.failed boot.old.complete waits.old }
+    ensures formed { IsFormed plan.now order.now starts.new endpoints.new.parts }
+    ensures table { endpoints.new.parts.table ≡ endpoints.old.parts.table }
+    ensures known { IsKnown plan.now order.now starts.new endpoints.new.parts.failed boot.new.complete waits.new }
+    ensures bare { TellsBare (list_of actions.old) (list_of actions.new) }
+    ensures spends { Spends (begin_room boot.old + 2) (begin_room boot.new) actions.old actions.new }
+    ensures passed { VisitsAt plan.now order.now drain.now k starts.old starts.new endpoints.old endpoints.new boot.old boot.new actions.old actions.new }
+{
+    if waits_still(plan, order, k, starts, waits) {
+        return;
+    }
+    visit(plan, order, k, drain, starts, endpoints, boot, actions);
+    waits.note(
+        plan,
+        starts,
+        endpoints.failed(),
+        boot.is_complete(),
+        order[k],
+    );
+    close_done(plan, order, k, starts, waits);
+}
+
+/// Visits each service once, in the startup order, unless the run was tested at one of them. A service
+/// of which a visit would tell nothing is passed over at once.
 pub(crate) fn pass(
     plan: &Plan,
     order: &[u32],
@@ -92,17 +182,24 @@ pub(crate) fn pass(
     starts: &mut Starts,
     endpoints: &mut Endpoints,
     boot: &mut Boot,
+    waits: &mut Waits,
     actions: &mut Actions,
 )
     requires formed { IsFormed plan.now order.now starts.old endpoints.old.parts }
     requires room { 2 * length order.now + begin_room boot.old ≤ spare actions.old }
+    requires known { IsKnown plan.now order.now starts.old endpoints.old.parts.failed boot.old.complete waits.old }
     ensures formed { IsFormed plan.now order.now starts.new endpoints.new.parts }
     ensures table { endpoints.new.parts.table ≡ endpoints.old.parts.table }
+    ensures known { IsKnown plan.now order.now starts.new endpoints.new.parts.failed boot.new.complete waits.new }
     ensures bare { TellsBare (list_of actions.old) (list_of actions.new) }
     ensures spends { Spends (begin_room boot.old + 2 * length order.now) (begin_room boot.new) actions.old actions.new }
     ensures passed { VisitsAll plan.now order.now drain.now starts.old starts.new endpoints.old endpoints.new boot.old boot.new actions.old actions.new }
 {
-    for k in 0..order.len() {
-        visit(plan, order, k, drain, starts, endpoints, boot, actions);
+    let mut from = 0;
+    while let Some(k) = waits.next(from, order.len()) {
+        attend(
+            plan, order, k, drain, starts, endpoints, boot, waits, actions,
+        );
+        from = k + 1;
     }
 }

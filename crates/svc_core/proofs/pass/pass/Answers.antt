@@ -1,17 +1,46 @@
-use Rattle.std.proofs.Common.{arith, ◌∙◌, ◌+◌}
+use Rattle.std.proofs.Common.{arith, refl, sym, append-nil, ◌∙◌, ◌+◌, length}
 use Rattle.svc_base.specs.Items.{list_of}
-use Rattle.svc_core.proofs.CopyLemmas.{bare-then}
-use Rattle.svc_core.proofs.PassLemmas.{passes-then}
+use Rattle.svc_core.proofs.CopyLemmas.{bare-none, bare-then}
+use Rattle.svc_core.proofs.PassLemmas.{passes-none, passes-then}
+use Rattle.svc_core.proofs.SkipLemmas.{passes-skip}
 use Rattle.svc_core.proofs.pass.pass.Goals as goal
 
-pub loop-k-preserved : goal.loop-k-preserved
-loop-k-preserved c = record {
-  formed = c.visit.ensures.formed;
-  table = c.visit.ensures.table ∙ c.loop-k.invariant.table;
-  bare = bare-then (list_of c.args.actions.now) (list_of c.loop-k.actions) (list_of c.visit.new.actions) c.loop-k.invariant.bare c.visit.ensures.bare;
+pub loop-k-init : goal.loop-k-init
+loop-k-init c = record {
+  within = omega arith;
+  formed = c.requires.formed;
+  table = refl;
+  known = c.requires.known;
+  bare = bare-none (list_of c.args.actions.now);
   spends = record { few = omega arith; room = omega arith };
-  passed = passes-then c.args.plan.now c.args.order.now c.args.drain.now 0 c.loop-k.k (c.loop-k.k + 1) c.args.starts.now c.loop-k.starts c.visit.new.starts
-      c.args.endpoints.now.parts c.loop-k.endpoints.parts c.visit.new.endpoints.parts c.args.boot.now c.loop-k.boot c.visit.new.boot
-      (list_of c.args.actions.now) (list_of c.loop-k.actions) (list_of c.visit.new.actions)
-      c.loop-k.invariant.passed c.visit.ensures.passed;
+  passed = passes-none c.args.plan.now c.args.order.now c.args.drain.now 0 c.args.starts.now c.args.endpoints.now.parts c.args.boot.now (list_of c.args.actions.now) (sym (append-nil (list_of c.args.actions.now)));
 }
+
+pub loop-k-preserved : goal.loop-k-preserved
+loop-k-preserved c =
+    let found = c.in-Some.ensures.found in
+    let skipped = passes-skip c.args.plan.now c.loop-k.invariant.formed.valid c.args.order.now c.args.drain.now c.loop-k.from c.in-Some.k found.0 (omega (arith, found.1)) c.loop-k.invariant.formed.in_order
+    c.loop-k.starts c.loop-k.endpoints.parts c.loop-k.boot c.loop-k.waits (list_of c.loop-k.actions) c.loop-k.invariant.formed.starts c.loop-k.invariant.known c.in-Some.ensures.least in
+    record {
+      within = omega (arith, found.1);
+      formed = c.attend.ensures.formed;
+      table = c.attend.ensures.table ∙ c.loop-k.invariant.table;
+      known = c.attend.ensures.known;
+      bare = bare-then (list_of c.args.actions.now) (list_of c.loop-k.actions) (list_of c.attend.new.actions) c.loop-k.invariant.bare c.attend.ensures.bare;
+      spends = record { few = omega (arith, found.0, c.loop-k.invariant.spends.few, c.attend.ensures.spends.few); room = omega (arith, found.0, c.loop-k.invariant.spends.room, c.attend.ensures.spends.room) };
+      passed = passes-then c.args.plan.now c.args.order.now c.args.drain.now 0 c.in-Some.k (c.in-Some.k + 1) c.args.starts.now c.loop-k.starts c.attend.new.starts
+          c.args.endpoints.now.parts c.loop-k.endpoints.parts c.attend.new.endpoints.parts c.args.boot.now c.loop-k.boot c.attend.new.boot
+          (list_of c.args.actions.now) (list_of c.loop-k.actions) (list_of c.attend.new.actions)
+          (passes-then c.args.plan.now c.args.order.now c.args.drain.now 0 c.loop-k.from c.in-Some.k c.args.starts.now c.loop-k.starts c.loop-k.starts
+          c.args.endpoints.now.parts c.loop-k.endpoints.parts c.loop-k.endpoints.parts c.args.boot.now c.loop-k.boot c.loop-k.boot
+          (list_of c.args.actions.now) (list_of c.loop-k.actions) (list_of c.loop-k.actions) c.loop-k.invariant.passed skipped)
+          c.attend.ensures.passed;
+    }
+
+pub returns-clause-passed : goal.returns-clause-passed
+returns-clause-passed c =
+    passes-then c.args.plan.now c.args.order.now c.args.drain.now 0 c.loop-k.from (length c.args.order.now) c.args.starts.now c.loop-k.starts c.loop-k.starts
+    c.args.endpoints.now.parts c.loop-k.endpoints.parts c.loop-k.endpoints.parts c.args.boot.now c.loop-k.boot c.loop-k.boot
+    (list_of c.args.actions.now) (list_of c.loop-k.actions) (list_of c.loop-k.actions) c.loop-k.invariant.passed
+    (passes-skip c.args.plan.now c.loop-k.invariant.formed.valid c.args.order.now c.args.drain.now c.loop-k.from (length c.args.order.now) c.loop-k.invariant.within (omega arith) c.loop-k.invariant.formed.in_order
+    c.loop-k.starts c.loop-k.endpoints.parts c.loop-k.boot c.loop-k.waits (list_of c.loop-k.actions) c.loop-k.invariant.formed.starts c.loop-k.invariant.known c.in_default.ensures.none)

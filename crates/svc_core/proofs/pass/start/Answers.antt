@@ -4,6 +4,7 @@ use Rattle.svc_graph.specs.declared.plan.Kind.TheVariants.{Bootstrap}
 use Rattle.svc_record.specs.Plans.{has_kind}
 use Rattle.svc_core.specs.StartsState.{starts_now}
 use Rattle.svc_core.proofs.PassLemmas.{starting-boot, none-begins}
+use Rattle.svc_core.proofs.WaitsLemmas.{starts-only}
 use Rattle.svc_core.proofs.pass.start.Goals.{else-starts_now-via-then-starts_now+then-is_bootstrap+else-not-is_begun, else-starts_now-via-then-starts_now+else-is_bootstrap, else-starts_now-via-else-starts_now}
 use Rattle.svc_core.proofs.pass.start.Goals as goal
 
@@ -39,3 +40,19 @@ returns-else-starts_now-clause-started c =
 
     other_kind : (k b : Bool) {x : Bool} → x ≡ false → x ≡ k → (k && not b) ≡ false
     other_kind k b h e = grind (arith, h, e)
+
+pub returns-then-not-is_begun-clause-only : goal.returns-then-not-is_begun-clause-only
+returns-then-not-is_begun-clause-only c =
+    starts-only c.args.plan.now c.args.starts.now c.visit-starts_now.new.self c.args.endpoints.now.parts.failed c.args.boot.now.complete (slice_index c.args.order.now c.args.k) c.visit-starts_now.result
+    (c.visit-starts_now.ensures.due
+    ∙ ap (λ (failed : List Bool). starts_now c.args.plan.now c.args.starts.now failed c.is_complete-complete.result (slice_index c.args.order.now c.args.k)) c.failed.ensures
+    ∙ ap (λ (complete : Bool). starts_now c.args.plan.now c.args.starts.now c.args.endpoints.now.parts.failed complete (slice_index c.args.order.now c.args.k)) c.is_complete-complete.ensures)
+    c.visit-starts_now.ensures.after
+
+pub returns-else-starts_now-clause-only : goal.returns-else-starts_now-clause-only
+returns-else-starts_now-clause-only c =
+    starts-only c.args.plan.now c.args.starts.now c.visit-starts_now.new.self c.args.endpoints.now.parts.failed c.args.boot.now.complete (slice_index c.args.order.now c.args.k) c.visit-starts_now.result
+    (c.visit-starts_now.ensures.due
+    ∙ ap (λ (failed : List Bool). starts_now c.args.plan.now c.args.starts.now failed c.is_complete-complete.result (slice_index c.args.order.now c.args.k)) c.failed.ensures
+    ∙ ap (λ (complete : Bool). starts_now c.args.plan.now c.args.starts.now c.args.endpoints.now.parts.failed complete (slice_index c.args.order.now c.args.k)) c.is_complete-complete.ensures)
+    c.visit-starts_now.ensures.after

@@ -1,6 +1,7 @@
-use Rattle.std.proofs.Common.{sym, ◌∙◌}
+use Rattle.std.proofs.Common.{sym, ◌∙◌, slice_index}
 use Rattle.svc_base.specs.Items.{list_of}
 use Rattle.svc_core.proofs.PassLemmas.{visit-passes, visit-tests, passes-stay}
+use Rattle.svc_core.proofs.WaitsLemmas.{starts-none}
 use Rattle.svc_core.proofs.pass.visit.Goals as goal
 
 pub returns-then-is_tested-clause-passed : goal.returns-then-is_tested-clause-passed
@@ -16,3 +17,12 @@ returns-clause-passed c =
     c.args.boot.now c.start.new.boot (list_of c.args.actions.now) (list_of c.start.new.actions) (list_of c.visit.new.actions)
     (sym c.is_tested-2.ensures ∙ c.if-is_tested-2.false) c.start.ensures.started
     (rw (c.is_started-is_started.ensures, c.moment.ensures) at c.visit.ensures.visited)
+
+pub returns-then-is_tested-clause-only : goal.returns-then-is_tested-clause-only
+returns-then-is_tested-clause-only c = starts-none c.args.plan.now c.args.starts.now c.args.endpoints.now.parts.failed c.args.boot.now.complete (slice_index c.args.order.now c.args.k)
+
+pub returns-then-is_tested-2-clause-only : goal.returns-then-is_tested-2-clause-only
+returns-then-is_tested-2-clause-only c = c.start.ensures.only
+
+pub returns-clause-only : goal.returns-clause-only
+returns-clause-only c = c.start.ensures.only

@@ -20,7 +20,7 @@ returns-then-passed c = opened-goes (λ core. Tried core c.args.copy) answer_roo
       (rw c.over_since-over.ensures at c.go_on-passed.ensures.after) (rw c.moment.ensures at c.ask.ensures.after)
       (rw c.over_since-over.ensures at c.go_on-passed.ensures.stands) (rw c.over_since-over.ensures at c.go_on-passed.ensures.settled)
       (rw c.moment.ensures at c.ask.ensures.stands) (rw c.moment.ensures at c.ask.ensures.settled)
-      (list_of c.args.actions.now) (list_of c.go_on-passed.new.actions) (list_of c.ask.new.actions) (list_of c.end_run.new.actions) c.self.invariant.in_order
+      (list_of c.args.actions.now) (list_of c.go_on-passed.new.actions) (list_of c.ask.new.actions) (list_of c.end_run.new.actions) c.self.invariant.formed.in_order
       (sym c.go_on-passed.ensures.passes ∙ c.if-passed.true)
       (rw c.over_since-over.ensures at c.go_on-passed.ensures.told) (rw c.moment.ensures at c.ask.ensures.told) c.end_run.ensures.told);
   copied = bare-last (copy_of c.args.copy) (list_of c.args.actions.now) (list_of c.ask.new.actions) (list_of c.end_run.new.actions)
@@ -36,7 +36,7 @@ returns c = opened-goes (λ core. Tried core c.args.copy) answer_room c.self.vie
       (rw c.over_since-over.ensures at c.go_on-passed.ensures.after) (rw c.moment.ensures at c.ask.ensures.after)
       (rw c.over_since-over.ensures at c.go_on-passed.ensures.stands) (rw c.over_since-over.ensures at c.go_on-passed.ensures.settled)
       (rw c.moment.ensures at c.ask.ensures.stands) (rw c.moment.ensures at c.ask.ensures.settled)
-      (list_of c.args.actions.now) (list_of c.go_on-passed.new.actions) (list_of c.ask.new.actions) c.self.invariant.in_order
+      (list_of c.args.actions.now) (list_of c.go_on-passed.new.actions) (list_of c.ask.new.actions) c.self.invariant.formed.in_order
       (sym c.go_on-passed.ensures.passes ∙ c.if-passed.false)
       (rw c.over_since-over.ensures at c.go_on-passed.ensures.told) (rw c.moment.ensures at c.ask.ensures.told);
   copied = answer-copied c.args.copy (list_of c.args.actions.now) (list_of c.go_on-passed.new.actions) (list_of c.ask.new.actions) c.self.inside.offer c.moment.result c.self.inside.drain c.over_since-over.result c.go_on-passed.ensures.told c.ask.ensures.told;

@@ -151,7 +151,7 @@ returns-in-ReceiveFailed-clause-means c = λ q stands. (
 
 pub returns-in-LoopEnded-clause-means : goal.returns-in-LoopEnded-clause-means
 returns-in-LoopEnded-clause-means c = λ q stands. (
-    let sized = subst (λ (core : CoreData). IsEndpointsSized core.plan core.endpoints) c.self.view_is c.self.invariant.endpoints in
+    let sized = subst (λ (core : CoreData). IsEndpointsSized core.plan core.endpoints) c.self.view_is c.self.invariant.formed.endpoints in
     let both = loop-fits c.args.self.now q (subst (λ (core : CoreData). is_on core.end ≡ true) c.self.view_is (sym c.is_on.ensures ∙ c.if-not-is_on.false)) stands sized c.in-LoopEnded.s c.in-LoopEnded.i c.in-LoopEnded.j in (
       λ holds. rw c.in-LoopEnded.is (both.0 (c.loop_fits.ensures.0 holds)),
       λ fit. c.loop_fits.ensures.1 (both.1 (rw c.in-LoopEnded.is at fit)),
@@ -167,14 +167,14 @@ returns-in-Signal-clause-means c = λ q stands. (
 
 pub returns-in-Arrived-clause-means : goal.returns-in-Arrived-clause-means
 returns-in-Arrived-clause-means c = λ q stands. (
-    let both = arrived-fits c.args.self.now q (subst (λ (core : CoreData). is_on core.end ≡ true) c.self.view_is (sym c.is_on.ensures ∙ c.if-not-is_on.false)) stands (subst (λ (core : CoreData). IsEndpointsSized core.plan core.endpoints) c.self.view_is c.self.invariant.endpoints) c.in-Arrived.s c.in-Arrived.i c.in-Arrived.c c.in-Arrived.field-3 in (
+    let both = arrived-fits c.args.self.now q (subst (λ (core : CoreData). is_on core.end ≡ true) c.self.view_is (sym c.is_on.ensures ∙ c.if-not-is_on.false)) stands (subst (λ (core : CoreData). IsEndpointsSized core.plan core.endpoints) c.self.view_is c.self.invariant.formed.endpoints) c.in-Arrived.s c.in-Arrived.i c.in-Arrived.c c.in-Arrived.field-3 in (
       λ holds. rw c.in-Arrived.is (both.0 (c.arrived_fits.ensures.0 holds)),
       λ fit. c.arrived_fits.ensures.1 (both.1 (rw c.in-Arrived.is at fit)),
     ))
 
 pub returns-in-AcceptFailed-clause-means : goal.returns-in-AcceptFailed-clause-means
 returns-in-AcceptFailed-clause-means c = λ q stands. (
-    let both = accept-fits c.args.self.now q (subst (λ (core : CoreData). is_on core.end ≡ true) c.self.view_is (sym c.is_on.ensures ∙ c.if-not-is_on.false)) stands (subst (λ (core : CoreData). IsEndpointsSized core.plan core.endpoints) c.self.view_is c.self.invariant.endpoints) c.in-AcceptFailed.s c.in-AcceptFailed.i c.in-AcceptFailed.field-2 in (
+    let both = accept-fits c.args.self.now q (subst (λ (core : CoreData). is_on core.end ≡ true) c.self.view_is (sym c.is_on.ensures ∙ c.if-not-is_on.false)) stands (subst (λ (core : CoreData). IsEndpointsSized core.plan core.endpoints) c.self.view_is c.self.invariant.formed.endpoints) c.in-AcceptFailed.s c.in-AcceptFailed.i c.in-AcceptFailed.field-2 in (
       λ holds. rw c.in-AcceptFailed.is (both.0 (c.accepts.ensures.0 holds)),
       λ fit. c.accepts.ensures.1 (both.1 (rw c.in-AcceptFailed.is at fit)),
     ))

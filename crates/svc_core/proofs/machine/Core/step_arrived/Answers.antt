@@ -13,5 +13,5 @@ returns-clause-steps c = opened c.self.view_is c.requires (λ may.
     (rw (sym c.in_ok-settings.ensures) (arrived-copied c.args.c c.args.peer.now c.verdict_on-verdict.result c.in_ok-settings.settings)) c.take_arrived.ensures.told
     (arrived-length c.args.c c.args.peer.now c.verdict_on-verdict.result c.self.inside.connections.parts c.take_arrived.new.self.parts (rw c.in_ok-reserve.ensures.parts at c.take_arrived.ensures.after))
     (record { few = omega arith; room = omega arith })
-    (λ q stands. fits-arrived _ q c.args.s c.args.i c.args.c c.args.peer.now c.self.invariant.endpoints may.on stands may.may)
+    (λ q stands. fits-arrived _ q c.args.s c.args.i c.args.c c.args.peer.now c.self.invariant.formed.endpoints may.on stands may.may)
     (λ q. (rw c.in_ok-reserve.ensures.parts at c.take_arrived.ensures.stands) c.self.inside.plan c.args.s c.args.i q c.in_ok-settings.ensures (filterless c.self.inside.plan c.args.s c.args.i c.args.said c.verdict_on-verdict.result c.verdict_on-verdict.ensures)))

@@ -5,5 +5,5 @@ use Rattle.svc_core.proofs.StepForms.{opened, held}
 use Rattle.svc_core.proofs.machine.Core.step_child_ready.Goals as goal
 
 pub returns : goal.returns
-returns c = opened c.self.view_is c.requires (λ may. held c.hold.ensures.after c.hold.ensures.end refl refl refl c.self.invariant.in_order
+returns c = opened c.self.view_is c.requires (λ may. held c.hold.ensures.after c.hold.ensures.end refl refl refl c.self.invariant.formed.in_order
     (ends-held _ ChildReady _ 0 refl refl refl (λ q. refl) may.on may.may c.take_child_ready.ensures.after (c.take_child_ready.ensures.stands c.self.inside.plan)))

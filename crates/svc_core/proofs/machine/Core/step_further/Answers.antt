@@ -1,6 +1,7 @@
-use Rattle.std.proofs.Common.{refl, sym, ◌∙◌, arith}
+use Rattle.std.proofs.Common.{refl, sym, ◌∙◌, arith, Bool, List, rules, subst}
 use Rattle.svc_core.proofs.SignalLemmas.{cut-strikes}
 use Rattle.svc_core.proofs.StepForms.{opened, opened-same, gives-up, later-taken}
+use Rattle.svc_core.specs.WaitsState.{IsWatched}
 use Rattle.svc_core.proofs.machine.Core.step_further.Goals as goal
 
 pub returns-then-not-cuts-clause-steps : goal.returns-then-not-cuts-clause-steps
@@ -10,3 +11,9 @@ pub returns-clause-steps : goal.returns-clause-steps
 returns-clause-steps c = opened c.self.view_is c.requires.may (λ may. gives-up c.finish.ensures refl refl (record { few = omega arith; room = omega arith })
     (cut-strikes _ c.args.kind may.on may.may (sym c.cuts.ensures ∙ c.if-not-cuts.false) _ (rw c.moment.ensures at c.cut.ensures.after) (rw c.moment.ensures at c.cut.ensures.stands) c.cut.ensures.settled
     _ c.take_signal.ensures.after c.take_signal.ensures.cut _ _ _ c.release.ensures.stands))
+
+pub invariant_of-self : goal.invariant_of-self
+invariant_of-self c = record {
+  formed = search rules;
+  watched = subst (λ (failed : List Bool). IsWatched c.self.inside.plan c.self.inside.order.items c.self.inside.starts failed c.self.inside.waits) (sym (c.release.ensures.failed)) c.self.invariant.watched;
+}

@@ -1,11 +1,21 @@
-use Rattle.std.proofs.Common.{refl, ap, length, arith}
+use Rattle.std.proofs.Common.{refl, ap, length, arith, Bool, List, rules, sym, subst, ◌∙◌}
 use Rattle.svc_endpoints.specs.EndpointsData.{EndpointsData}
 use Rattle.svc_core.proofs.StepLemmas.{strike-loop}
 use Rattle.svc_core.proofs.StepForms.{opened, gives-up}
+use Rattle.svc_core.specs.WaitsState.{IsWatched, IsKept}
 use Rattle.svc_core.proofs.machine.Core.step_loop_ended.Goals as goal
 
 pub returns : goal.returns
 returns c = opened c.self.view_is c.requires (λ may.
     let same = ap (λ (d : EndpointsData). length d.table) c.in_ok-reserve_loop.ensures.parts in
     gives-up c.finish.ensures refl refl (record { few = omega (arith, same); room = omega (arith, same) })
-    (strike-loop _ c.args.s c.args.i c.args.j _ _ _ c.self.invariant.endpoints may.on may.may (rw (c.in_ok-reserve_loop.ensures.parts, c.numbers_on_offer-kept.ensures) at c.take_loop_ended.ensures.stands)))
+    (strike-loop _ c.args.s c.args.i c.args.j _ _ _ c.self.invariant.formed.endpoints may.on may.may (rw (c.in_ok-reserve_loop.ensures.parts, c.numbers_on_offer-kept.ensures) at c.take_loop_ended.ensures.stands)))
+
+pub invariant_of-self-2 : goal.invariant_of-self-2
+invariant_of-self-2 c = record {
+  formed = search rules;
+  watched = subst (λ (failed : List Bool). IsWatched c.self.inside.plan c.self.inside.order.items c.self.inside.starts failed c.self.inside.waits) (sym (c.take_loop_ended.ensures.failed ∙ ap (λ (d : EndpointsData). d.failed) c.in_ok-reserve_loop.ensures.parts)) c.self.invariant.watched;
+}
+
+pub invariant_of-self : goal.invariant_of-self
+invariant_of-self c = subst (λ (d : EndpointsData). IsKept c.self.inside.plan c.self.inside.order.items c.self.inside.starts d c.self.inside.waits) (sym c.reserve_loop.ensures.parts) c.self.invariant

@@ -1,0 +1,109 @@
+-- Which services the pass needn't visit, and why.
+use Rattle.std.specs.Prelude.{ℕ, Bool, true, false, not, ◌≡◌, ◌<◌, ◌==◌, ◌||◌, ◌&&◌, ◌⊎◌, List, length, slice_index, slice_set}
+use Rattle.std.specs.Bool.{OnTrue}
+use Rattle.svc_graph.specs.Bits.{is_set}
+use Rattle.svc_record.specs.declared.plan.Plan.{Plan}
+use Rattle.svc_record.specs.Plans.{service_count, depends, endpoints}
+use Rattle.svc_endpoints.specs.EndpointsData.{EndpointsData}
+use Rattle.svc_core.specs.CoreData.{IsFormed}
+use Rattle.svc_core.specs.StartsData.{StartsData}
+use Rattle.svc_core.specs.StartsState.{is_flagged, ready_now, due_now, start_if}
+use Rattle.svc_core.specs.WaitsData.{WaitsData}
+
+-- the place is open: the pass visits it
+abbrev pub is_open : WaitsData → ℕ → Bool
+is_open w k = is_set w.bits (length w.marks) k
+
+-- the dependency at this place of the service's list isn't marked
+pub record IsUnmarked (p : Plan) (marks : List Bool) (s at : ℕ) : Type 0 where
+  pub within : at < length (depends p s)
+  pub inside : slice_index (depends p s) at < length marks
+  pub unmarked : is_flagged marks (slice_index (depends p s) at) ≡ false
+
+-- the service's place waits for such a dependency
+pub record IsWaiting (p : Plan) (w : WaitsData) (s k : ℕ) : Type 0 where
+  pub at : ℕ
+  pub lacks : IsUnmarked p w.marks s at
+  pub waits : is_set w.bits (slice_index (depends p s) at) k ≡ true
+
+-- a visit of the service at the place tells nothing: it is started and has no endpoints, or isn't started and waits
+abbrev pub IsIdle : Plan → StartsData → WaitsData → ℕ → ℕ → Type 0
+IsIdle p st w s k = ((is_flagged st.started s ≡ true) × (length (endpoints p s) ≡ 0)) ⊎ ((is_flagged st.started s ≡ false) × IsWaiting p w s k)
+
+-- so it is at each place that isn't open
+abbrev pub AreIdle : Plan → List ℕ → StartsData → WaitsData → Type 0
+AreIdle p order st w = (k : ℕ) → k < length order → is_open w k ≡ false → IsIdle p st w (slice_index order k) k
+
+-- each service that is ready is marked
+abbrev pub KnowsReady : Plan → StartsData → List Bool → Bool → WaitsData → Type 0
+KnowsReady p st failed complete w = (s : ℕ) → s < service_count p → ready_now p st failed complete s ≡ true → is_flagged w.marks s ≡ true
+
+-- the same but for this service
+abbrev pub KnowsOthers : Plan → StartsData → List Bool → Bool → ℕ → WaitsData → Type 0
+KnowsOthers p st failed complete s w = (t : ℕ) → t < service_count p → (s == t) ≡ false → ready_now p st failed complete t ≡ true → is_flagged w.marks t ≡ true
+
+-- between two steps: what was ready when it was last looked at all is marked
+pub record IsWatched (p : Plan) (order : List ℕ) (st : StartsData) (failed : List Bool) (w : WaitsData) : Type 0 where
+  pub count : length w.marks ≡ service_count p
+  pub idle : AreIdle p order st w
+  pub ready : OnTrue w.fresh (KnowsReady p st failed w.complete w)
+
+-- in a pass: what is ready is marked
+pub record IsKnown (p : Plan) (order : List ℕ) (st : StartsData) (failed : List Bool) (complete : Bool) (w : WaitsData) : Type 0 where
+  pub count : length w.marks ≡ service_count p
+  pub idle : AreIdle p order st w
+  pub complete_is : w.complete ≡ complete
+  pub ready : KnowsReady p st failed complete w
+
+-- services were marked, and each place that waited for one of them is open
+pub record Opens (old new : WaitsData) : Type 0 where
+  pub count : length new.marks ≡ length old.marks
+  pub kept : (d : ℕ) → is_flagged old.marks d ≡ true → is_flagged new.marks d ≡ true
+  pub waits : (a b : ℕ) → is_set old.bits a b ≡ true → is_set new.bits a b ≡ true
+  pub opened : (d k : ℕ) → is_flagged old.marks d ≡ false → is_flagged new.marks d ≡ true → is_set old.bits d k ≡ true → is_open new k ≡ true
+
+-- the service is marked, and the places that waited for it are open
+pub record IsMarked (s : ℕ) (old new : WaitsData) : Type 0 where
+  pub marks : new.marks ≡ slice_set old.marks s true
+  pub bits : (a b : ℕ) → is_set new.bits a b ≡ (is_set old.bits a b || (a == length old.marks && is_set old.bits s b))
+  pub fresh : new.fresh ≡ old.fresh
+  pub complete : new.complete ≡ old.complete
+
+-- only bits have changed
+pub record HasBits (to : ℕ → ℕ → Bool) (old new : WaitsData) : Type 0 where
+  pub marks : new.marks ≡ old.marks
+  pub bits : (a b : ℕ) → is_set new.bits a b ≡ to a b
+  pub fresh : new.fresh ≡ old.fresh
+  pub complete : new.complete ≡ old.complete
+
+-- the place isn't open any more
+abbrev pub ClosesPlace : ℕ → WaitsData → WaitsData → Type 0
+ClosesPlace k old new = HasBits (λ a b. is_set old.bits a b && not (a == length old.marks && b == k)) old new
+
+-- and it waits for the service
+abbrev pub Parks : ℕ → ℕ → WaitsData → WaitsData → Type 0
+Parks k d old new = HasBits (λ a b. (is_set old.bits a b || (a == d && b == k)) && not (a == length old.marks && b == k)) old new
+
+-- what is ready must be looked at anew
+abbrev pub stale : WaitsData → WaitsData
+stale w = record { bits = w.bits; marks = w.marks; fresh = false; complete = w.complete }
+
+-- the service may have been started, where all that it depends on was ready
+pub record StartsOnly (p : Plan) (failed : List Bool) (complete : Bool) (s : ℕ) (st st' : StartsData) : Type 0 where
+  pub starts : Bool
+  pub due : starts ≡ true → due_now p st failed complete s ≡ true
+  pub after : st' ≡ start_if starts s st
+
+-- a service that isn't started waits at its place, or nothing has changed
+abbrev pub WaitsStill : Plan → StartsData → ℕ → ℕ → WaitsData → WaitsData → Bool → Type 0
+WaitsStill p st s k old new true = (is_flagged st.started s ≡ false) × ((at : ℕ) × (IsUnmarked p old.marks s at × Parks k (slice_index (depends p s) at) old new))
+WaitsStill p st s k old new false = new ≡ old
+
+-- the place is closed, where its service is started and has no endpoint
+abbrev pub ClosesDone : Plan → StartsData → ℕ → ℕ → WaitsData → WaitsData → Type 0
+ClosesDone p st s k old new = (new ≡ old) ⊎ (((is_flagged st.started s ≡ true) × (length (endpoints p s) ≡ 0)) × ClosesPlace k old new)
+
+-- what a core keeps: its parts fit the plan, and what its pass leaves out needn't be visited
+pub record IsKept (p : Plan) (order : List ℕ) (st : StartsData) (d : EndpointsData) (w : WaitsData) : Type 0 where
+  pub formed : IsFormed p order st d
+  pub watched : IsWatched p order st d.failed w

@@ -1,0 +1,287 @@
+//! The places of the startup order that a pass visits, and what the others wait for.
+
+ghost use Rattle.std.specs.Prelude.{◌≡◌, ◌<◌, ◌≤◌, ◌+◌, ℕ, true, false, length, slice_index, All, IfOk, IfSome, IfNone};
+ghost use Rattle.svc_graph.specs.Bits.{is_set, HasRows};
+ghost use Rattle.svc_record.specs.Plans.{service_count};
+ghost use Rattle.svc_record.specs.Validity.{IsValid};
+ghost use Rattle.svc_core.specs.StartsState.{IsStartsSized, is_flagged, ready_now};
+ghost use Rattle.std.specs.Bool.{OnTrue};
+ghost use Rattle.svc_core.specs.WaitsState.{is_open, IsUnmarked, KnowsReady, KnowsOthers, Opens, IsMarked, ClosesPlace, Parks, stale};
+
+use crate::bits::Bits;
+use crate::plans::depends_of;
+use crate::starts::Starts;
+use std::alloc::Global;
+use std::marker::Model;
+use svc_base::NoMemory;
+use svc_record::Plan;
+
+/// Which places are open, so that a pass visits them. A service that isn't started waits at its place
+/// for one dependency that isn't marked as ready; one that is started and has no endpoint is done. Any
+/// other place is open.
+#[derive(Drop)]
+pub(crate) struct Waits {
+    /// Row s has the places that wait for service s, the last row those that are open.
+    bits: Bits,
+    /// Which services are marked: at least each that is ready, while `fresh` says so.
+    marks: Vec<bool>,
+    /// How many of each service's dependencies are still to be looked at, at most.
+    looked: Vec<usize>,
+    fresh: bool,
+    /// Whether bootstrapping was complete when all were last looked at.
+    complete: bool,
+}
+
+impl Model for Waits {
+    ghost use Rattle.svc_core.specs.WaitsData.{WaitsData, AreWaitsSized};
+
+    ghost Value = { WaitsData };
+
+    ghost view = { λ w. record { bits = w.bits; marks = w.marks.items; fresh = w.fresh; complete = w.complete } };
+
+    ghost invariant = { λ w. AreWaitsSized w.bits w.marks.items w.looked.items };
+}
+
+/// Rows for so many services, and one in which each of so many places is open.
+fn all_open(alloc: Global, services: u32, places: usize) -> Result<Bits, NoMemory>
+    requires services { services ≤ 1024 }
+    requires places { places ≤ 1024 }
+    ensures rows { IfOk result (λ bits. HasRows bits (services + 1)) }
+    ensures open { IfOk result (λ bits. (k : ℕ) → k < places → is_set bits services k ≡ true) }
+{
+    let mut bits = Bits::new(alloc, services + 1)?;
+    for k in 0..places {
+        bits.set(services, k as u32);
+    }
+    Ok(bits)
+}
+
+/// The place of the last number, of the first `left`, that isn't marked.
+fn last_unmarked(depends: &[u32], marks: &[bool], left: usize) -> Option<usize>
+    requires left { left ≤ length depends.now }
+    requires inside { All (λ d. d < length marks.now) depends.now }
+    ensures { IfSome result (λ at. (at < length depends.now) × (is_flagged marks.now (slice_index depends.now at) ≡ false)) }
+{
+    let mut left = left;
+    while left > 0 {
+        if !marks[depends[left - 1] as usize] {
+            return Some(left - 1);
+        }
+        left -= 1;
+    }
+    None
+}
+
+/// How many are still to be looked at.
+fn left_of(found: Option<usize>) -> usize {
+    match found {
+        Some(at) => at.saturating_add(1),
+        None => 0,
+    }
+}
+
+impl Waits {
+    /// Each place is open, and nothing is known to be ready.
+    pub(crate) fn new(alloc: Global, services: usize, places: usize) -> Result<Waits, NoMemory>
+        requires services { services ≤ 1024 }
+        requires places { places ≤ 1024 }
+        ensures count { IfOk result (λ w. length w.marks ≡ services) }
+        ensures open { IfOk result (λ w. (k : ℕ) → k < places → is_open w k ≡ true) }
+        ensures stale { IfOk result (λ w. w.fresh ≡ false) }
+    {
+        let bits = all_open(alloc, services as u32, places)?;
+        let marks = vec![in alloc; false; services]?;
+        let looked = vec![in alloc; usize::MAX; services]?;
+        Ok(Waits {
+            bits,
+            marks,
+            looked,
+            fresh: false,
+            complete: false,
+        })
+    }
+
+    /// The row of the places that are open.
+    fn open_row(&self) -> u32
+        ensures row { result ≡ length self.now.marks }
+        ensures few { result ≤ 1024 }
+    {
+        self.marks.len() as u32
+    }
+
+    /// The least open place from one on, before the end.
+    pub(crate) fn next(&self, from: usize, end: usize) -> Option<usize>
+        requires { end ≤ 1024 }
+        ensures found { IfSome result (λ k. (from ≤ k) × (k < end)) }
+        ensures least { IfSome result (λ k. (c : ℕ) → from ≤ c → c < k → is_open self.now c ≡ false) }
+        ensures none { IfNone result ((c : ℕ) → from ≤ c → c < end → is_open self.now c ≡ false) }
+    {
+        if from >= end {
+            return None;
+        }
+        match self.bits.next(self.open_row(), from as u32) {
+            Some(k) => {
+                if (k as usize) < end {
+                    Some(k as usize)
+                } else {
+                    None
+                }
+            }
+            None => None,
+        }
+    }
+
+    /// Services may have become ready that aren't marked.
+    pub(crate) fn forget(&mut self)
+        ensures { self.new ≡ stale self.old }
+    {
+        self.fresh = false;
+    }
+
+    /// Marks the service as ready, and opens the places that wait for it.
+    pub(crate) fn mark(&mut self, s: u32)
+        requires { s < length self.old.marks }
+        ensures { IsMarked s self.old self.new }
+    {
+        let row = self.open_row();
+        self.bits.join(row, s);
+        self.marks[s as usize] = true;
+    }
+
+    /// The place isn't visited any more.
+    pub(crate) fn close(&mut self, k: usize)
+        requires { k < 1024 }
+        ensures { ClosesPlace k self.old self.new }
+    {
+        let row = self.open_row();
+        self.bits.clear(row, k as u32);
+    }
+
+    /// The place isn't visited until the service is marked.
+    pub(crate) fn park(&mut self, k: usize, d: u32)
+        requires place { k < 1024 }
+        requires service { d < length self.old.marks }
+        ensures { Parks k d self.old self.new }
+    {
+        let row = self.open_row();
+        self.bits.set(d, k as u32);
+        self.bits.clear(row, k as u32);
+    }
+
+    /// The place of a dependency of the service that isn't marked, the last one first. Those behind it
+    /// aren't looked at again.
+    pub(crate) fn lacking(&mut self, plan: &Plan, s: u32) -> Option<usize>
+        requires service { s < service_count plan.now }
+        requires valid { IsValid plan.now }
+        requires count { length self.old.marks ≡ service_count plan.now }
+        ensures same { self.new ≡ self.old }
+        ensures lacks { IfSome result (λ at. IsUnmarked plan.now self.old.marks s at) }
+    {
+        let depends = depends_of(plan, s);
+        let left = self.looked[s as usize].min(depends.len());
+        let found = last_unmarked(depends, &self.marks, left);
+        self.looked[s as usize] = left_of(found);
+        found
+    }
+
+    /// Marks the service where it is ready.
+    fn look_at(&mut self, plan: &Plan, starts: &Starts, failed: &[bool], complete: bool, s: u32)
+        requires count { length self.old.marks ≡ service_count plan.now }
+        requires service { s < service_count plan.now }
+        requires sized { IsStartsSized plan.now starts.now }
+        requires flags { length failed.now ≡ service_count plan.now }
+        ensures opens { Opens self.old self.new }
+        ensures complete { self.new.complete ≡ self.old.complete }
+        ensures ready { ready_now plan.now starts.now failed.now complete s ≡ true → is_flagged self.new.marks s ≡ true }
+    {
+        if self.marks[s as usize] {
+            return;
+        }
+        if starts.is_ready(plan, failed, complete, s) {
+            self.mark(s);
+        }
+    }
+
+    /// Marks each service that is ready.
+    fn refresh(&mut self, plan: &Plan, starts: &Starts, failed: &[bool], complete: bool)
+        requires count { length self.old.marks ≡ service_count plan.now }
+        requires sized { IsStartsSized plan.now starts.now }
+        requires flags { length failed.now ≡ service_count plan.now }
+        ensures opens { Opens self.old self.new }
+        ensures complete { self.new.complete ≡ complete }
+        ensures ready { KnowsReady plan.now starts.now failed.now complete self.new }
+    {
+        self.look_at_all(plan, starts, failed, complete);
+        self.fresh = true;
+        self.complete = complete;
+    }
+
+    fn look_at_all(&mut self, plan: &Plan, starts: &Starts, failed: &[bool], complete: bool)
+        requires count { length self.old.marks ≡ service_count plan.now }
+        requires sized { IsStartsSized plan.now starts.now }
+        requires flags { length failed.now ≡ service_count plan.now }
+        ensures opens { Opens self.old self.new }
+        ensures ready { KnowsReady plan.now starts.now failed.now complete self.new }
+    {
+        for s in 0..self.open_row() {
+            self.look_at(plan, starts, failed, complete, s);
+        }
+    }
+
+    /// Each service that is ready is marked, by a look at all where that isn't known.
+    pub(crate) fn catch_up(&mut self, plan: &Plan, starts: &Starts, failed: &[bool], complete: bool)
+        requires count { length self.old.marks ≡ service_count plan.now }
+        requires sized { IsStartsSized plan.now starts.now }
+        requires flags { length failed.now ≡ service_count plan.now }
+        requires watched { OnTrue self.old.fresh (KnowsReady plan.now starts.now failed.now self.old.complete self.old) }
+        ensures opens { Opens self.old self.new }
+        ensures complete { self.new.complete ≡ complete }
+        ensures ready { KnowsReady plan.now starts.now failed.now complete self.new }
+    {
+        if self.is_fresh_at(complete) {
+            return;
+        }
+        self.refresh(plan, starts, failed, complete);
+    }
+
+    /// Nothing may have become ready since all were looked at, but by an event that marked it.
+    fn is_fresh_at(&self, complete: bool) -> bool
+        ensures fresh { result ≡ true → self.now.fresh ≡ true }
+        ensures complete { result ≡ true → self.now.complete ≡ complete }
+    {
+        self.fresh && self.is_at(complete)
+    }
+
+    /// All were looked at with bootstrapping as far as that.
+    fn is_at(&self, complete: bool) -> bool
+        ensures { result ≡ true → self.now.complete ≡ complete }
+    {
+        self.complete == complete
+    }
+
+    /// After a visit of the service: it is marked where it is ready by now, and where bootstrapping has
+    /// become complete all are looked at.
+    pub(crate) fn note(
+        &mut self,
+        plan: &Plan,
+        starts: &Starts,
+        failed: &[bool],
+        complete: bool,
+        s: u32,
+    )
+        requires count { length self.old.marks ≡ service_count plan.now }
+        requires service { s < service_count plan.now }
+        requires sized { IsStartsSized plan.now starts.now }
+        requires flags { length failed.now ≡ service_count plan.now }
+        requires others { KnowsOthers plan.now starts.now failed.now self.old.complete s self.old }
+        ensures opens { Opens self.old self.new }
+        ensures complete { self.new.complete ≡ complete }
+        ensures ready { KnowsReady plan.now starts.now failed.now complete self.new }
+    {
+        if !self.is_at(complete) {
+            self.refresh(plan, starts, failed, complete);
+            return;
+        }
+        self.look_at(plan, starts, failed, complete, s);
+    }
+}
