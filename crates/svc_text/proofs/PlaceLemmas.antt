@@ -41,6 +41,10 @@ pub fits_skipped : (n : ℕ) (eager : Bool) (ss : List ServiceLine) (line : List
 unfolding line_fits place_fits
 fits_skipped n eager ss line e h k = rw (e, h, k) (either_true (n == 1))
 
+pub blank_skipped : (ws : List (List ℕ)) → ws ≡ [] → is_skipped ws ≡ true
+unfolding is_skipped
+blank_skipped ws e = rw e refl
+
 pub fits_item : (n : ℕ) (eager : Bool) (ss : List ServiceLine) (line : List ℕ) → is_utf8 line ≡ true → header_of line ≡ None → (n == 1) ≡ false → is_skipped (words line) ≡ false
     → says_item n eager ss (words line) ≡ line_fits n eager ss line
 unfolding line_fits place_fits

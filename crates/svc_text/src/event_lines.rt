@@ -1,6 +1,6 @@
 //! What a line says as an event, or as a fault.
 
-ghost use Rattle.std.specs.Prelude.{◌≡◌, IfOk};
+ghost use Rattle.std.specs.Prelude.{◌≡◌, ◌∷◌, IfOk};
 ghost use Rattle.svc_base.specs.Words.{words};
 ghost use Rattle.svc_text.specs.EventLines.{signal_of, side_of, ok_of, bare_event, event_of_one, event_of_two, event_of_three, event_of_four, received_of, event_of, is_fault, item_of};
 
@@ -196,9 +196,17 @@ fn received_of(alloc: Global, first: &[u8], second: &[u8]) -> Result<Option<Even
 pub fn event_of_line(alloc: Global, line: &[u8]) -> Result<Option<Event>, NoMemory>
     ensures { IfOk result (λ o. o ≡ event_of (words line.now)) }
 {
-    let Some((key, rest)) = split_word(line) else {
-        return Ok(None);
-    };
+    match split_word(line) {
+        Some((key, rest)) => event_of_key(alloc, key, rest),
+        None => Ok(None),
+    }
+}
+
+/// The event that a key says with what follows it.
+#[tactic(auto, unfolding(crate::specs::EventLines::event_of))]
+fn event_of_key(alloc: Global, key: &[u8], rest: &[u8]) -> Result<Option<Event>, NoMemory>
+    ensures { IfOk result (λ o. o ≡ event_of (key.now ∷ words rest.now)) }
+{
     let Some((first, rest)) = split_word(rest) else {
         return Ok(bare_event(key));
     };
@@ -220,27 +228,35 @@ pub fn event_of_line(alloc: Global, line: &[u8]) -> Result<Option<Event>, NoMemo
     Ok(event_of_four(key, first, second, third, fourth))
 }
 
-/// The line is the word `fault` alone.
+/// The key is `fault`, and nothing follows it.
 #[tactic(auto, unfolding(crate::specs::EventLines::is_fault))]
-fn is_fault(line: &[u8]) -> bool
-    ensures { result ≡ is_fault (words line.now) }
+fn is_fault(key: &[u8], rest: &[u8]) -> bool
+    ensures { result ≡ is_fault (key.now ∷ words rest.now) }
 {
-    match split_word(line) {
-        Some((word, rest)) => word == b"fault".as_slice() && split_word(rest).is_none(),
-        None => false,
+    key == b"fault".as_slice() && split_word(rest).is_none()
+}
+
+/// The item that a key says with what follows it: an event, or the fault of the host.
+#[tactic(auto, unfolding(crate::specs::EventLines::item_of))]
+pub(crate) fn item_of_key(alloc: Global, key: &[u8], rest: &[u8]) -> Result<Option<Item>, NoMemory>
+    ensures { IfOk result (λ o. o ≡ item_of (key.now ∷ words rest.now)) }
+{
+    if is_fault(key, rest) {
+        return Ok(Some(Item::Fault));
+    }
+    match event_of_key(alloc, key, rest)? {
+        Some(event) => Ok(Some(Item::Event(event))),
+        None => Ok(None),
     }
 }
 
-/// The item that a line says: an event, or the fault of the host.
-#[tactic(auto, unfolding(crate::specs::EventLines::item_of))]
+/// The item that a line says.
+#[tactic(auto, unfolding(crate::specs::EventLines::item_of, crate::specs::EventLines::is_fault, crate::specs::EventLines::event_of))]
 pub fn item_of_line(alloc: Global, line: &[u8]) -> Result<Option<Item>, NoMemory>
     ensures { IfOk result (λ o. o ≡ item_of (words line.now)) }
 {
-    if is_fault(line) {
-        return Ok(Some(Item::Fault));
-    }
-    match event_of_line(alloc, line)? {
-        Some(event) => Ok(Some(Item::Event(event))),
+    match split_word(line) {
+        Some((key, rest)) => item_of_key(alloc, key, rest),
         None => Ok(None),
     }
 }

@@ -1,6 +1,6 @@
 //! The lines of a script, one after the other.
 
-ghost use Rattle.std.specs.Prelude.{◌≡◌, ◌+◌, ◌++◌, ◌==◌, ◌||◌, [], ◌∷◌, not, true, false, OnOk, is_some};
+ghost use Rattle.std.specs.Prelude.{List, ℕ, ◌≡◌, ◌+◌, ◌++◌, ◌==◌, ◌||◌, [], ◌∷◌, not, true, false, OnOk, is_some};
 ghost use Rattle.std.specs.Str.{is_utf8};
 ghost use Rattle.svc_text.specs.declared.part.Part.TheVariants.{Nothing};
 ghost use Rattle.svc_text.specs.Outcome.{After, Said, Tests};
@@ -10,7 +10,7 @@ ghost use Rattle.svc_base.specs.Words.{words};
 ghost use Rattle.svc_text.specs.ServiceLines.{service_of, is_eager};
 ghost use Rattle.svc_text.specs.Script.{part_number, is_skipped, is_next, says_service, says_item, line_fits};
 
-use crate::event_lines::item_of_line;
+use crate::event_lines::item_of_key;
 use crate::part::{Part, header_of};
 use crate::service::{ServiceLine, is_eager, service_of_line};
 use std::alloc::{AllocFailed, Global};
@@ -54,14 +54,12 @@ pub struct Reading {
     pub items: Vec<Item>,
 }
 
+/// The line whose first word this is is a comment.
 #[tactic(auto, unfolding(crate::specs::Script::is_skipped))]
-fn is_skipped(line: &[u8]) -> bool
-    ensures { result ≡ is_skipped (words line.now) }
+fn is_comment(word: &[u8]) -> bool
+    ensures { (ws : List (List ℕ)) → result ≡ is_skipped (word.now ∷ ws) }
 {
-    match split_word(line) {
-        None => true,
-        Some((word, _)) => matches!(word.first(), Some(b'#')),
-    }
+    matches!(word.first(), Some(b'#'))
 }
 
 fn is_text(line: &[u8]) -> bool
@@ -143,29 +141,36 @@ impl Reading {
         self.take_service(alloc, line)
     }
 
-    fn take_event(&mut self, alloc: Global, line: &[u8]) -> Result<(), LineError>
-        ensures test { Tests (is_some (item_of (words line.now))) result }
-        ensures items { OnOk result (self.new.items.items ≡ self.old.items.items ++ option_to_list (item_of (words line.now))) }
+    fn take_event(&mut self, alloc: Global, key: &[u8], rest: &[u8]) -> Result<(), LineError>
+        ensures test { Tests (is_some (item_of (key.now ∷ words rest.now))) result }
+        ensures items { OnOk result (self.new.items.items ≡ self.old.items.items ++ option_to_list (item_of (key.now ∷ words rest.now))) }
         ensures part { OnOk result (self.new.part ≡ self.old.part) }
         ensures services { OnOk result (self.new.services.items ≡ self.old.services.items) }
         ensures eager { OnOk result (self.new.eager ≡ self.old.eager) }
     {
-        let Some(item) = item_of_line(alloc, line)? else {
+        let Some(item) = item_of_key(alloc, key, rest)? else {
             return Err(LineError::Refused);
         };
         self.items.push(item)?;
         Ok(())
     }
 
-    /// Takes a line that begins no part.
+    /// Takes a line that begins no part, cut behind its first word.
     #[tactic(auto, unfolding(crate::specs::Script::says_item))]
-    fn take_item(&mut self, alloc: Global, line: &[u8]) -> Result<(), LineError>
+    fn take_item(
+        &mut self,
+        alloc: Global,
+        line: &[u8],
+        word: &[u8],
+        rest: &[u8],
+    ) -> Result<(), LineError>
+        requires { words line.now ≡ word.now ∷ words rest.now }
         ensures test { Tests (says_item (part_number self.old.part) self.old.eager self.old.services.items (words line.now)) result }
         ensures said { OnOk result (Said self.old (words line.now) self.new) }
     {
         match self.part {
             Part::Services => self.take_service_line(alloc, line),
-            Part::Events => self.take_event(alloc, line),
+            Part::Events => self.take_event(alloc, word, rest),
             Part::Nothing | Part::Conf => Err(LineError::Refused),
         }
     }
@@ -184,9 +189,12 @@ impl Reading {
         if self.part.number() == 1 {
             return Ok(());
         }
-        if is_skipped(line) {
+        let Some((word, rest)) = split_word(line) else {
+            return Ok(());
+        };
+        if is_comment(word) {
             return Ok(());
         }
-        self.take_item(alloc, line)
+        self.take_item(alloc, line, word, rest)
     }
 }
