@@ -8,10 +8,13 @@ use Rattle.svc_graph.specs.Bits.{is_set}
 use Rattle.svc_graph.specs.declared.plan.Kind.TheVariants.{Plain, Bootstrap}
 use Rattle.svc_record.specs.declared.plan.Plan.{Plan}
 use Rattle.svc_record.specs.Plans.{service_count, depends, has_kind}
+use Rattle.svc_endpoints.specs.EndpointsData.{EndpointsData}
+use Rattle.svc_endpoints.specs.EndpointsState.{IsEndpointsSized, failed_at}
+use Rattle.svc_endpoints.specs.Stays.{FailsOnly, StaysHeld}
 use Rattle.svc_core.specs.StartsData.{StartsData}
 use Rattle.svc_core.specs.StartsState.{IsStartsSized, is_flagged, ready_now, due_now, starts_now, start_if, word_taken, end_taken}
 use Rattle.svc_core.specs.WaitsData.{WaitsData}
-use Rattle.svc_core.specs.WaitsState.{IsUnmarked, IsWaiting, IsIdle, AreIdle, KnowsReady, KnowsOthers, IsWatched, IsKnown, Opens, IsMarked, HasBits, Parks, ClosesDone, WaitsStill, StartsOnly, is_open, stale}
+use Rattle.svc_core.specs.WaitsState.{IsUnmarked, IsWaiting, HasAll, IsIdle, AreIdle, KnowsReady, KnowsOthers, IsWatched, IsKnown, Opens, IsMarked, MarksIf, HasBits, Parks, ClosesDone, WaitsStill, StartsOnly, is_open}
 use Rattle.svc_core.proofs.StartsLemmas.{flag-set}
 
 -- Boolean algebra, over plain variables
@@ -78,8 +81,8 @@ still_off u v k grown off = elim (cases_Bool (is_open u k)) [
   | inr was ↦ was
 ]
 
-pub opens-idle : (p : Plan) (order : List ℕ) (st : StartsData) (u v : WaitsData) → Opens u v → AreIdle p order st u → AreIdle p order st v
-opens-idle p order st u v grown idle = λ k lt off.
+pub opens-idle : (p : Plan) (order : List ℕ) (st : StartsData) (d : EndpointsData) (u v : WaitsData) → Opens u v → AreIdle p order st d u → AreIdle p order st d v
+opens-idle p order st d u v grown idle = λ k lt off.
     elim (idle k lt (still_off u v k grown off)) [
       | inl done ↦ inl done
       | inr waits ↦ inr (waits.0, waiting (slice_index order k) k off waits.1)
@@ -113,24 +116,40 @@ not-due p st failed complete w s at count knows lacks = elim (cases_Bool (due_no
 ]
 
 -- a start of a service that was due leaves the others waiting
-idle_start : (p : Plan) (order : List ℕ) (st : StartsData) (failed : List Bool) (complete : Bool) (w : WaitsData) (s : ℕ) (starts : Bool) → s < length st.started → length w.marks ≡ service_count p → KnowsReady p st failed complete w
-    → (starts ≡ true → due_now p st failed complete s ≡ true) → AreIdle p order st w → AreIdle p order (start_if starts s st) w
-idle_start p order st failed complete w s false lt count knows due idle = idle
-idle_start p order st failed complete w s true lt count knows due idle = λ k inside off.
+idle_start : (p : Plan) (order : List ℕ) (st : StartsData) (d : EndpointsData) (failed : List Bool) (complete : Bool) (w : WaitsData) (s : ℕ) (starts : Bool) → s < length st.started → length w.marks ≡ service_count p → KnowsReady p st failed complete w
+    → (starts ≡ true → due_now p st failed complete s ≡ true) → AreIdle p order st d w → AreIdle p order (start_if starts s st) d w
+idle_start p order st d failed complete w s false lt count knows due idle = idle
+idle_start p order st d failed complete w s true lt count knows due idle = λ k inside off.
     elim (idle k inside off) [
       | inl done ↦ inl (flag-set st.started s (slice_index order k) lt ∙ or_right (s == slice_index order k) (is_flagged st.started (slice_index order k)) done.0, done.1)
       | inr waits ↦ elim (cases_eq s (slice_index order k)) [
         | inl same ↦ and_clash (due_now p st failed complete s) (due refl)
             (subst (λ t. due_now p st failed complete t ≡ false) (sym same) (not-due p st failed complete w (slice_index order k) waits.1.at count knows waits.1.lacks))
-            (IsIdle p (start_if true s st) w (slice_index order k) k)
+            (IsIdle p (start_if true s st) d w (slice_index order k) k)
         | inr ne ↦ inr (flag-set st.started s (slice_index order k) lt ∙ ap (λ b. b || is_flagged st.started (slice_index order k)) (ne_eqb s (slice_index order k) ne) ∙ waits.0, waits.1)
       ]
     ]
 
-pub idle-start : (p : Plan) (order : List ℕ) (st st' : StartsData) (failed : List Bool) (complete : Bool) (w : WaitsData) (s : ℕ) → s < length st.started → length w.marks ≡ service_count p → KnowsReady p st failed complete w
-    → StartsOnly p failed complete s st st' → AreIdle p order st w → AreIdle p order st' w
-idle-start p order st st' failed complete w s lt count knows only idle =
-    subst (λ x. AreIdle p order x w) (sym only.after) (idle_start p order st failed complete w s only.starts lt count knows only.due idle)
+pub idle-start : (p : Plan) (order : List ℕ) (st st' : StartsData) (d : EndpointsData) (failed : List Bool) (complete : Bool) (w : WaitsData) (s : ℕ) → s < length st.started → length w.marks ≡ service_count p → KnowsReady p st failed complete w
+    → StartsOnly p failed complete s st st' → AreIdle p order st d w → AreIdle p order st' d w
+idle-start p order st st' d failed complete w s lt count knows only idle =
+    subst (λ x. AreIdle p order x d w) (sym only.after) (idle_start p order st d failed complete w s only.starts lt count knows only.due idle)
+
+-- what is held stays held, and no failure is taken back
+pub record KeepsHeld (d d' : EndpointsData) : Type 0 where
+  pub held : StaysHeld d d'
+  pub failed : (s : ℕ) → failed_at d s ≡ true → failed_at d' s ≡ true
+
+pub idle-kept : (p : Plan) (order : List ℕ) (st : StartsData) (d d' : EndpointsData) (w : WaitsData) → KeepsHeld d d' → AreIdle p order st d w → AreIdle p order st d' w
+idle-kept p order st d d' w keeps idle = λ k lt off.
+    elim (idle k lt off) [
+      | inl done ↦ inl (done.0, has_all (slice_index order k) done.1)
+      | inr waits ↦ inr waits
+    ]
+  where
+    has_all : (s : ℕ) → HasAll p d s → HasAll p d' s
+    has_all s (inl bad) = inl (keeps.failed s bad)
+    has_all s (inr all) = inr (λ i within. keeps.held s i (all i within))
 
 others_start : (p : Plan) (st : StartsData) (failed : List Bool) (complete : Bool) (w : WaitsData) (s : ℕ) (starts : Bool) → s < length st.started → KnowsReady p st failed complete w → KnowsOthers p (start_if starts s st) failed complete s w
 others_start p st failed complete w s false lt knows = λ t inside ne on. knows t inside on
@@ -173,49 +192,95 @@ when_fresh : (b c : Bool) (A B : Type 0) → c ≡ b → (A → B) → OnTrue b 
 when_fresh true c A B e f h = subst (λ x. OnTrue x B) (sym e) (f h)
 when_fresh false c A B e f h = subst (λ x. OnTrue x B) (sym e) tt
 
-watched_marked : (p : Plan) (order : List ℕ) (st st' : StartsData) (failed : List Bool) (s : ℕ) (w v : WaitsData) → s < length w.marks → AreIdle p order st' w → ((complete : Bool) → KnowsReady p st failed complete w → KnowsOthers p st' failed complete s w)
-    → IsMarked s w v → IsWatched p order st failed w → IsWatched p order st' failed v
-watched_marked p order st st' failed s w v lt idle others m was = record {
+watched_marked : (p : Plan) (order : List ℕ) (st st' : StartsData) (d d' : EndpointsData) (s : ℕ) (w v : WaitsData) → s < length w.marks → AreIdle p order st' d' w
+    → ((complete : Bool) → KnowsReady p st d.failed complete w → KnowsOthers p st' d'.failed complete s w) → IsMarked s w v → IsWatched p order st d w → IsWatched p order st' d' v
+watched_marked p order st st' d d' s w v lt idle others m was = record {
   count = marked-count s w v m ∙ was.count;
-  idle = opens-idle p order st' w v (opens-marked s w v lt m) idle;
-  ready = when_fresh w.fresh v.fresh (KnowsReady p st failed w.complete w) (KnowsReady p st' failed v.complete v) m.fresh
-      (λ knows. subst (λ complete. KnowsReady p st' failed complete v) (sym m.complete) (all-marked p st' failed w.complete s w v lt (others w.complete knows) m)) was.ready;
+  idle = opens-idle p order st' d' w v (opens-marked s w v lt m) idle;
+  ready = when_fresh w.fresh v.fresh (KnowsReady p st d.failed w.complete w) (KnowsReady p st' d'.failed v.complete v) m.fresh
+      (λ knows. subst (λ complete. KnowsReady p st' d'.failed complete v) (sym m.complete) (all-marked p st' d'.failed w.complete s w v lt (others w.complete knows) m)) was.ready;
 }
 
 -- the event of a service's word, and of the end of its work
-pub watched-word : (p : Plan) (order : List ℕ) (st : StartsData) (failed : List Bool) (s : ℕ) (w v : WaitsData) → s < service_count p → IsStartsSized p st → IsMarked s w v → IsWatched p order st failed w → IsWatched p order (word_taken s st) failed v
-watched-word p order st failed s w v inside sized m was =
-    watched_marked p order st (word_taken s st) failed s w v (let n = was.count in omega arith) was.idle
-    (λ complete. others-word p st failed complete w s (let n = sized.ready in omega arith)) m was
+pub watched-word : (p : Plan) (order : List ℕ) (st : StartsData) (d : EndpointsData) (s : ℕ) (w v : WaitsData) → s < service_count p → IsStartsSized p st → IsMarked s w v → IsWatched p order st d w → IsWatched p order (word_taken s st) d v
+watched-word p order st d s w v inside sized m was =
+    watched_marked p order st (word_taken s st) d d s w v (let n = was.count in omega arith) was.idle
+    (λ complete. others-word p st d.failed complete w s (let n = sized.ready in omega arith)) m was
 
-pub watched-end : (p : Plan) (order : List ℕ) (st : StartsData) (failed : List Bool) (s : ℕ) (w v : WaitsData) → s < service_count p → IsStartsSized p st → IsMarked s w v → IsWatched p order st failed w → IsWatched p order (end_taken s st) failed v
-watched-end p order st failed s w v inside sized m was =
-    watched_marked p order st (end_taken s st) failed s w v (let n = was.count in omega arith) was.idle
-    (λ complete. others-end p st failed complete w s (let n = sized.ended in omega arith)) m was
+pub watched-end : (p : Plan) (order : List ℕ) (st : StartsData) (d : EndpointsData) (s : ℕ) (w v : WaitsData) → s < service_count p → IsStartsSized p st → IsMarked s w v → IsWatched p order st d w → IsWatched p order (end_taken s st) d v
+watched-end p order st d s w v inside sized m was =
+    watched_marked p order st (end_taken s st) d d s w v (let n = was.count in omega arith) was.idle
+    (λ complete. others-end p st d.failed complete w s (let n = sized.ended in omega arith)) m was
 
--- what must be looked at anew is kept whatever has failed since
-pub watched-stale : (p : Plan) (order : List ℕ) (st : StartsData) (failed after : List Bool) (w : WaitsData) → IsWatched p order st failed w → IsWatched p order st after (stale w)
-watched-stale p order st failed after w was = record {
+-- an answer to an ask changes at most whether this service has failed
+pub others-failed : (p : Plan) (st : StartsData) (failed failed' : List Bool) (complete : Bool) (w : WaitsData) (s : ℕ) → ((t : ℕ) → (s == t) ≡ false → is_flagged failed' t ≡ is_flagged failed t) → KnowsReady p st failed complete w
+    → KnowsOthers p st failed' complete s w
+others-failed p st failed failed' complete w s same knows = λ t inside ne on.
+    knows t inside (subst (λ b. (((is_flagged st.ready t || is_flagged st.ended t) || b) || (is_flagged st.started t && (has_kind p Plain t || (has_kind p Bootstrap t && complete)))) ≡ true) (same t ne) on)
+
+-- a service that hasn't failed is as ready as it was
+less_ready : (a b c : Bool) → ((a || false) || b) ≡ true → ((a || c) || b) ≡ true
+less_ready a b c h = grind arith
+
+knows_failed : (p : Plan) (st : StartsData) (failed failed' : List Bool) (complete : Bool) (w : WaitsData) (s : ℕ) → ((t : ℕ) → (s == t) ≡ false → is_flagged failed' t ≡ is_flagged failed t) → is_flagged failed' s ≡ false
+    → KnowsReady p st failed complete w → KnowsReady p st failed' complete w
+knows_failed p st failed failed' complete w s same off knows = λ t inside on.
+    elim (cases_eq s t) [
+      | inl here ↦ knows t inside (less_ready (is_flagged st.ready t || is_flagged st.ended t) (is_flagged st.started t && (has_kind p Plain t || (has_kind p Bootstrap t && complete))) (is_flagged failed t)
+          (subst (λ b. (((is_flagged st.ready t || is_flagged st.ended t) || b) || (is_flagged st.started t && (has_kind p Plain t || (has_kind p Bootstrap t && complete)))) ≡ true)
+          (subst (λ u. is_flagged failed' u ≡ false) here off) on))
+      | inr ne ↦ others-failed p st failed failed' complete w s same knows t inside (ne_eqb s t ne) on
+    ]
+
+watched_if : (p : Plan) (order : List ℕ) (st : StartsData) (d d' : EndpointsData) (s : ℕ) (w v : WaitsData) (b : Bool) → b ≡ failed_at d' s → s < length w.marks → KeepsHeld d d' → ((t : ℕ) → (s == t) ≡ false → failed_at d' t ≡ failed_at d t)
+    → MarksIf b s w v → IsWatched p order st d w → IsWatched p order st d' v
+watched_if p order st d d' s w v true e lt keeps same m was =
+    watched_marked p order st st d d' s w v lt (idle-kept p order st d d' w keeps was.idle) (λ complete. others-failed p st d.failed d'.failed complete w s same) m was
+watched_if p order st d d' s w v false e lt keeps same m was = subst (λ x. IsWatched p order st d' x) (sym m) (record {
   count = was.count;
-  idle = λ k lt off.
-      elim (was.idle k lt off) [
-        | inl done ↦ inl done
-        | inr waits ↦ inr (waits.0, record { at = waits.1.at; lacks = waits.1.lacks; waits = waits.1.waits })
-      ];
-  ready = tt;
+  idle = idle-kept p order st d d' w keeps was.idle;
+  ready = when_fresh w.fresh w.fresh (KnowsReady p st d.failed w.complete w) (KnowsReady p st d'.failed w.complete w) refl (knows_failed p st d.failed d'.failed w.complete w s same (sym e)) was.ready;
+})
+
+-- the flags of failed services after such an answer
+flag_others : (s : ℕ) (flags next : List Bool) → s < length flags → FailsOnly s flags next → (t : ℕ) → (s == t) ≡ false → is_flagged next t ≡ is_flagged flags t
+flag_others s flags next lt (inl same) t ne = ap (λ f. is_flagged f t) same
+flag_others s flags next lt (inr set) t ne = ap (λ f. is_flagged f t) set ∙ flag-set flags s t lt ∙ ap (λ b. b || is_flagged flags t) ne
+
+flag_stays : (s : ℕ) (flags next : List Bool) → s < length flags → FailsOnly s flags next → (t : ℕ) → is_flagged flags t ≡ true → is_flagged next t ≡ true
+flag_stays s flags next lt (inl same) t on = ap (λ f. is_flagged f t) same ∙ on
+flag_stays s flags next lt (inr set) t on = ap (λ f. is_flagged f t) set ∙ flag-set flags s t lt ∙ or_right (s == t) (is_flagged flags t) on
+
+pub watched-answer : (p : Plan) (order : List ℕ) (st : StartsData) (d d' : EndpointsData) (s : ℕ) (w v : WaitsData) → s < service_count p → IsEndpointsSized p d → FailsOnly s d.failed d'.failed → StaysHeld d d'
+    → MarksIf (failed_at d' s) s w v → IsWatched p order st d w → IsWatched p order st d' v
+watched-answer p order st d d' s w v inside sized fails held m was =
+    let lt : s < length d.failed = (let n = sized.failed in omega arith) in
+    watched_if p order st d d' s w v (failed_at d' s) refl (let n = was.count in omega arith)
+    (record { held = held; failed = flag_stays s d.failed d'.failed lt fails }) (flag_others s d.failed d'.failed lt fails) m was
+
+-- so it is where no service failed
+pub keeps-same : (d d' : EndpointsData) → StaysHeld d d' → d'.failed ≡ d.failed → KeepsHeld d d'
+keeps-same d d' held same = record { held = held; failed = λ s on. ap (λ flags. is_flagged flags s) same ∙ on }
+
+pub watched-same : (p : Plan) (order : List ℕ) (st : StartsData) (d d' : EndpointsData) (w : WaitsData) → StaysHeld d d' → d'.failed ≡ d.failed
+    → IsWatched p order st d w → IsWatched p order st d' w
+watched-same p order st d d' w held same was = record {
+  count = was.count;
+  idle = idle-kept p order st d d' w (keeps-same d d' held same) was.idle;
+  ready = subst (λ failed. OnTrue w.fresh (KnowsReady p st failed w.complete w)) (sym same) was.ready;
 }
 
 -- before a pass, and after it
-pub known-caught : (p : Plan) (order : List ℕ) (st : StartsData) (failed : List Bool) (complete : Bool) (w v : WaitsData) → IsWatched p order st failed w → Opens w v → v.complete ≡ complete → KnowsReady p st failed complete v
-    → IsKnown p order st failed complete v
-known-caught p order st failed complete w v was grown complete_is knows =
-    record { count = grown.count ∙ was.count; idle = opens-idle p order st w v grown was.idle; complete_is = complete_is; ready = knows }
+pub known-caught : (p : Plan) (order : List ℕ) (st : StartsData) (d : EndpointsData) (complete : Bool) (w v : WaitsData) → IsWatched p order st d w → Opens w v → v.complete ≡ complete → KnowsReady p st d.failed complete v
+    → IsKnown p order st d complete v
+known-caught p order st d complete w v was grown complete_is knows =
+    record { count = grown.count ∙ was.count; idle = opens-idle p order st d w v grown was.idle; complete_is = complete_is; ready = knows }
 
-pub watched-known : (p : Plan) (order : List ℕ) (st : StartsData) (failed : List Bool) (complete : Bool) (w : WaitsData) → IsKnown p order st failed complete w → IsWatched p order st failed w
-watched-known p order st failed complete w known = record {
+pub watched-known : (p : Plan) (order : List ℕ) (st : StartsData) (d : EndpointsData) (complete : Bool) (w : WaitsData) → IsKnown p order st d complete w → IsWatched p order st d w
+watched-known p order st d complete w known = record {
   count = known.count;
   idle = known.idle;
-  ready = anyhow w.fresh (KnowsReady p st failed w.complete w) (subst (λ c. KnowsReady p st failed c w) (sym known.complete_is) known.ready);
+  ready = anyhow w.fresh (KnowsReady p st d.failed w.complete w) (subst (λ c. KnowsReady p st d.failed c w) (sym known.complete_is) known.ready);
 }
   where
     anyhow : (b : Bool) (A : Type 0) → A → OnTrue b A
@@ -223,19 +288,19 @@ watched-known p order st failed complete w known = record {
     anyhow false A h = tt
 
 -- at the beginning each place is open
-pub watched-open : (p : Plan) (order : List ℕ) (st : StartsData) (failed : List Bool) (w : WaitsData) → length w.marks ≡ service_count p → ((k : ℕ) → k < length order → is_open w k ≡ true) → w.fresh ≡ false → IsWatched p order st failed w
-watched-open p order st failed w count opened off = record {
+pub watched-open : (p : Plan) (order : List ℕ) (st : StartsData) (d : EndpointsData) (w : WaitsData) → length w.marks ≡ service_count p → ((k : ℕ) → k < length order → is_open w k ≡ true) → w.fresh ≡ false → IsWatched p order st d w
+watched-open p order st d w count opened off = record {
   count = count;
-  idle = λ k lt closed. and_clash (is_open w k) (opened k lt) closed (IsIdle p st w (slice_index order k) k);
-  ready = when_fresh false w.fresh (KnowsReady p st failed w.complete w) (KnowsReady p st failed w.complete w) off (λ knows. knows) tt;
+  idle = λ k lt closed. and_clash (is_open w k) (opened k lt) closed (IsIdle p st d w (slice_index order k) k);
+  ready = when_fresh false w.fresh (KnowsReady p st d.failed w.complete w) (KnowsReady p st d.failed w.complete w) off (λ knows. knows) tt;
 }
 
 -- a change of bits at one place leaves the others idle
-idle_bits : (p : Plan) (order : List ℕ) (st : StartsData) (k : ℕ) (bits : ℕ → ℕ → Bool) (w v : WaitsData) → HasBits bits w v → ((a b : ℕ) → (b == k) ≡ false → bits a b ≡ is_set w.bits a b)
-    → (k < length order → IsIdle p st v (slice_index order k) k) → AreIdle p order st w → AreIdle p order st v
-idle_bits p order st k bits w v has others here idle = λ j lt off.
+idle_bits : (p : Plan) (order : List ℕ) (st : StartsData) (d : EndpointsData) (k : ℕ) (bits : ℕ → ℕ → Bool) (w v : WaitsData) → HasBits bits w v → ((a b : ℕ) → (b == k) ≡ false → bits a b ≡ is_set w.bits a b)
+    → (k < length order → IsIdle p st d v (slice_index order k) k) → AreIdle p order st d w → AreIdle p order st d v
+idle_bits p order st d k bits w v has others here idle = λ j lt off.
     elim (cases_eq j k) [
-      | inl same ↦ subst (λ i. IsIdle p st v (slice_index order i) i) (sym same) (here (subst (λ i. i < length order) same lt))
+      | inl same ↦ subst (λ i. IsIdle p st d v (slice_index order i) i) (sym same) (here (subst (λ i. i < length order) same lt))
       | inr ne ↦ elim (idle j lt (sym (bit j ne (length w.marks)) ∙ ap (λ marks. is_set v.bits (length marks) j) (sym has.marks) ∙ off)) [
         | inl done ↦ inl done
         | inr waits ↦ inr (
@@ -261,14 +326,14 @@ parked_other set d row here off = grind arith
 parked_here : (set d row here : Bool) → d ≡ true → here ≡ true → row ≡ false → ((set || (d && here)) && not (row && here)) ≡ true
 parked_here set d row here on there off = grind arith
 
-pub idle-closed : (p : Plan) (order : List ℕ) (st : StartsData) (k : ℕ) (w v : WaitsData) → ClosesDone p st (slice_index order k) k w v → AreIdle p order st w → AreIdle p order st v
-idle-closed p order st k w v (inl same) idle = subst (λ x. AreIdle p order st x) (sym same) idle
-idle-closed p order st k w v (inr closes) idle =
-    idle_bits p order st k (λ a b. is_set w.bits a b && not (a == length w.marks && b == k)) w v closes.1
+pub idle-closed : (p : Plan) (order : List ℕ) (st : StartsData) (d : EndpointsData) (k : ℕ) (w v : WaitsData) → ClosesDone p st d (slice_index order k) k w v → AreIdle p order st d w → AreIdle p order st d v
+idle-closed p order st d k w v (inl same) idle = subst (λ x. AreIdle p order st d x) (sym same) idle
+idle-closed p order st d k w v (inr closes) idle =
+    idle_bits p order st d k (λ a b. is_set w.bits a b && not (a == length w.marks && b == k)) w v closes.1
     (λ a b off. cleared_other (is_set w.bits a b) (a == length w.marks) (b == k) off) (λ lt. inl closes.0) idle
 
-pub parked-idle : (p : Plan) (st : StartsData) (s k at : ℕ) (w v : WaitsData) → is_flagged st.started s ≡ false → IsUnmarked p w.marks s at → Parks k (slice_index (depends p s) at) w v → IsIdle p st v s k
-parked-idle p st s k at w v off lacks parks =
+pub parked-idle : (p : Plan) (st : StartsData) (e : EndpointsData) (s k at : ℕ) (w v : WaitsData) → is_flagged st.started s ≡ false → IsUnmarked p w.marks s at → Parks k (slice_index (depends p s) at) w v → IsIdle p st e v s k
+parked-idle p st e s k at w v off lacks parks =
     let d : ℕ = slice_index (depends p s) at in
     inr (
       off,
@@ -279,51 +344,51 @@ parked-idle p st s k at w v off lacks parks =
       },
     )
 
-pub idle-parked : (p : Plan) (order : List ℕ) (st : StartsData) (k at : ℕ) (w v : WaitsData) → is_flagged st.started (slice_index order k) ≡ false → IsUnmarked p w.marks (slice_index order k) at
-    → Parks k (slice_index (depends p (slice_index order k)) at) w v → AreIdle p order st w → AreIdle p order st v
-idle-parked p order st k at w v off lacks parks idle =
+pub idle-parked : (p : Plan) (order : List ℕ) (st : StartsData) (e : EndpointsData) (k at : ℕ) (w v : WaitsData) → is_flagged st.started (slice_index order k) ≡ false → IsUnmarked p w.marks (slice_index order k) at
+    → Parks k (slice_index (depends p (slice_index order k)) at) w v → AreIdle p order st e w → AreIdle p order st e v
+idle-parked p order st e k at w v off lacks parks idle =
     let d : ℕ = slice_index (depends p (slice_index order k)) at in
-    idle_bits p order st k (λ a b. (is_set w.bits a b || (a == d && b == k)) && not (a == length w.marks && b == k)) w v parks
+    idle_bits p order st e k (λ a b. (is_set w.bits a b || (a == d && b == k)) && not (a == length w.marks && b == k)) w v parks
     (λ a b ne. parked_other (is_set w.bits a b) (a == d) (a == length w.marks) (b == k) ne)
-    (λ lt. parked-idle p st (slice_index order k) k at w v off lacks parks) idle
+    (λ lt. parked-idle p st e (slice_index order k) k at w v off lacks parks) idle
 
 -- the same marks know the same
-pub known-bits : (p : Plan) (order : List ℕ) (st : StartsData) (failed : List Bool) (complete : Bool) (bits : ℕ → ℕ → Bool) (w v : WaitsData) → HasBits bits w v → AreIdle p order st v → IsKnown p order st failed complete w
-    → IsKnown p order st failed complete v
-known-bits p order st failed complete bits w v has idle known = record {
+pub known-bits : (p : Plan) (order : List ℕ) (st : StartsData) (d : EndpointsData) (complete : Bool) (bits : ℕ → ℕ → Bool) (w v : WaitsData) → HasBits bits w v → AreIdle p order st d v → IsKnown p order st d complete w
+    → IsKnown p order st d complete v
+known-bits p order st d complete bits w v has idle known = record {
   count = ap (λ marks. length marks) has.marks ∙ known.count;
   idle = idle;
   complete_is = has.complete ∙ known.complete_is;
   ready = λ s inside on. ap (λ marks. is_flagged marks s) has.marks ∙ known.ready s inside on;
 }
 
--- after a visit: the service may have been started, what is ready was marked, and the place may have been closed
-pub attended : (p : Plan) (order : List ℕ) (st st' : StartsData) (failed failed' : List Bool) (complete complete' : Bool) (w v x : WaitsData) (k : ℕ) → IsStartsSized p st → slice_index order k < service_count p
-    → IsKnown p order st failed complete w → StartsOnly p failed complete (slice_index order k) st st' → Opens w v → v.complete ≡ complete' → KnowsReady p st' failed' complete' v → ClosesDone p st' (slice_index order k) k v x
-    → IsKnown p order st' failed' complete' x
-attended p order st st' failed failed' complete complete' w v x k sized inside known only grown complete_is knows closes =
+-- after a visit: the service may have been started, what is held stays held, what is ready was marked, and the place may have been closed
+pub attended : (p : Plan) (order : List ℕ) (st st' : StartsData) (d d' : EndpointsData) (complete complete' : Bool) (w v x : WaitsData) (k : ℕ) → IsStartsSized p st → slice_index order k < service_count p
+    → IsKnown p order st d complete w → StartsOnly p d.failed complete (slice_index order k) st st' → KeepsHeld d d' → Opens w v → v.complete ≡ complete' → KnowsReady p st' d'.failed complete' v
+    → ClosesDone p st' d' (slice_index order k) k v x → IsKnown p order st' d' complete' x
+attended p order st st' d d' complete complete' w v x k sized inside known only keeps grown complete_is knows closes =
     let lt : slice_index order k < length st.started = (let n = sized.started in omega arith) in
-    let started : AreIdle p order st' w = idle-start p order st st' failed complete w (slice_index order k) lt known.count known.ready only known.idle in
-    let idle : AreIdle p order st' v = opens-idle p order st' w v grown started in
-    let noted : IsKnown p order st' failed' complete' v = record { count = grown.count ∙ known.count; idle = idle; complete_is = complete_is; ready = knows } in
+    let started : AreIdle p order st' d w = idle-start p order st st' d d.failed complete w (slice_index order k) lt known.count known.ready only known.idle in
+    let idle : AreIdle p order st' d' v = opens-idle p order st' d' w v grown (idle-kept p order st' d d' w keeps started) in
+    let noted : IsKnown p order st' d' complete' v = record { count = grown.count ∙ known.count; idle = idle; complete_is = complete_is; ready = knows } in
     elim closes [
-      | inl same ↦ subst (λ y. IsKnown p order st' failed' complete' y) (sym same) noted
-      | inr done ↦ known-bits p order st' failed' complete' (λ a b. is_set v.bits a b && not (a == length v.marks && b == k)) v x done.1 (idle-closed p order st' k v x (inr done) idle) noted
+      | inl same ↦ subst (λ y. IsKnown p order st' d' complete' y) (sym same) noted
+      | inr done ↦ known-bits p order st' d' complete' (λ a b. is_set v.bits a b && not (a == length v.marks && b == k)) v x done.1 (idle-closed p order st' d' k v x (inr done) idle) noted
     ]
 
 -- what is known of the others then
-pub attended-others : (p : Plan) (order : List ℕ) (st st' : StartsData) (failed failed' : List Bool) (complete : Bool) (w : WaitsData) (s : ℕ) → IsStartsSized p st → s < service_count p → failed' ≡ failed
-    → IsKnown p order st failed complete w → StartsOnly p failed complete s st st' → KnowsOthers p st' failed' w.complete s w
-attended-others p order st st' failed failed' complete w s sized inside same known only =
+pub attended-others : (p : Plan) (order : List ℕ) (st st' : StartsData) (d : EndpointsData) (failed' : List Bool) (complete : Bool) (w : WaitsData) (s : ℕ) → IsStartsSized p st → s < service_count p → failed' ≡ d.failed
+    → IsKnown p order st d complete w → StartsOnly p d.failed complete s st st' → KnowsOthers p st' failed' w.complete s w
+attended-others p order st st' d failed' complete w s sized inside same known only =
     subst (λ f. KnowsOthers p st' f w.complete s w) (sym same)
-    (subst (λ c. KnowsOthers p st' failed c s w) (sym known.complete_is) (others-start p st st' failed complete w s (let n = sized.started in omega arith) known.ready only))
+    (subst (λ c. KnowsOthers p st' d.failed c s w) (sym known.complete_is) (others-start p st st' d.failed complete w s (let n = sized.started in omega arith) known.ready only))
 
 -- a visit of a service that still waits
-pub parked : (p : Plan) (order : List ℕ) (st : StartsData) (failed : List Bool) (complete : Bool) (w v : WaitsData) (k at : ℕ) → is_flagged st.started (slice_index order k) ≡ false → IsUnmarked p w.marks (slice_index order k) at
-    → Parks k (slice_index (depends p (slice_index order k)) at) w v → IsKnown p order st failed complete w → IsKnown p order st failed complete v
-parked p order st failed complete w v k at off lacks parks known =
+pub parked : (p : Plan) (order : List ℕ) (st : StartsData) (e : EndpointsData) (complete : Bool) (w v : WaitsData) (k at : ℕ) → is_flagged st.started (slice_index order k) ≡ false → IsUnmarked p w.marks (slice_index order k) at
+    → Parks k (slice_index (depends p (slice_index order k)) at) w v → IsKnown p order st e complete w → IsKnown p order st e complete v
+parked p order st e complete w v k at off lacks parks known =
     let d : ℕ = slice_index (depends p (slice_index order k)) at in
-    known-bits p order st failed complete (λ a b. (is_set w.bits a b || (a == d && b == k)) && not (a == length w.marks && b == k)) w v parks (idle-parked p order st k at w v off lacks parks known.idle) known
+    known-bits p order st e complete (λ a b. (is_set w.bits a b || (a == d && b == k)) && not (a == length w.marks && b == k)) w v parks (idle-parked p order st e k at w v off lacks parks known.idle) known
 
 -- what holds while nothing has to be looked at anew
 pub on-fresh : {A : Type 0} (b : Bool) → b ≡ true → OnTrue b A → A

@@ -2,7 +2,7 @@
 use Rattle.std.specs.Prelude.{ℕ, Bool, List, ◌≡◌, ◌≤◌, ◌+◌, length}
 use Rattle.svc_graph.specs.Bits.{HasRows}
 
--- a row of bits for each service, with the places that wait for it, and one of the places that are open; which services are marked as ready; whether all that were ready are, and with bootstrapping complete or not
+-- a row of bits for each service, with the places that wait for it, and one of the places that are open; which services are marked as ready; whether all were looked at, and with bootstrapping complete or not
 pub record WaitsData : Type 0 where
   pub bits : List ℕ
   pub marks : List Bool

@@ -5,6 +5,7 @@ use Rattle.svc_graph.specs.Bits.{is_set}
 use Rattle.svc_record.specs.declared.plan.Plan.{Plan}
 use Rattle.svc_record.specs.Plans.{service_count, depends, endpoints}
 use Rattle.svc_endpoints.specs.EndpointsData.{EndpointsData}
+use Rattle.svc_endpoints.specs.EndpointsState.{last_at, failed_at, is_holding}
 use Rattle.svc_core.specs.CoreData.{IsFormed}
 use Rattle.svc_core.specs.StartsData.{StartsData}
 use Rattle.svc_core.specs.StartsState.{is_flagged, ready_now, due_now, start_if}
@@ -26,13 +27,17 @@ pub record IsWaiting (p : Plan) (w : WaitsData) (s k : ℕ) : Type 0 where
   pub lacks : IsUnmarked p w.marks s at
   pub waits : is_set w.bits (slice_index (depends p s) at) k ≡ true
 
--- a visit of the service at the place tells nothing: it is started and has no endpoints, or isn't started and waits
-abbrev pub IsIdle : Plan → StartsData → WaitsData → ℕ → ℕ → Type 0
-IsIdle p st w s k = ((is_flagged st.started s ≡ true) × (length (endpoints p s) ≡ 0)) ⊎ ((is_flagged st.started s ≡ false) × IsWaiting p w s k)
+-- there is nothing to ask for: the service has failed, or each of its endpoints is held
+abbrev pub HasAll : Plan → EndpointsData → ℕ → Type 0
+HasAll p d s = (failed_at d s ≡ true) ⊎ ((i : ℕ) → i < length (endpoints p s) → is_holding (last_at d s i) ≡ true)
+
+-- a visit of the service at the place tells nothing: it is started with nothing to ask for, or isn't started and waits
+abbrev pub IsIdle : Plan → StartsData → EndpointsData → WaitsData → ℕ → ℕ → Type 0
+IsIdle p st d w s k = ((is_flagged st.started s ≡ true) × HasAll p d s) ⊎ ((is_flagged st.started s ≡ false) × IsWaiting p w s k)
 
 -- so it is at each place that isn't open
-abbrev pub AreIdle : Plan → List ℕ → StartsData → WaitsData → Type 0
-AreIdle p order st w = (k : ℕ) → k < length order → is_open w k ≡ false → IsIdle p st w (slice_index order k) k
+abbrev pub AreIdle : Plan → List ℕ → StartsData → EndpointsData → WaitsData → Type 0
+AreIdle p order st d w = (k : ℕ) → k < length order → is_open w k ≡ false → IsIdle p st d w (slice_index order k) k
 
 -- each service that is ready is marked
 abbrev pub KnowsReady : Plan → StartsData → List Bool → Bool → WaitsData → Type 0
@@ -43,17 +48,17 @@ abbrev pub KnowsOthers : Plan → StartsData → List Bool → Bool → ℕ → 
 KnowsOthers p st failed complete s w = (t : ℕ) → t < service_count p → (s == t) ≡ false → ready_now p st failed complete t ≡ true → is_flagged w.marks t ≡ true
 
 -- between two steps: what was ready when it was last looked at all is marked
-pub record IsWatched (p : Plan) (order : List ℕ) (st : StartsData) (failed : List Bool) (w : WaitsData) : Type 0 where
+pub record IsWatched (p : Plan) (order : List ℕ) (st : StartsData) (d : EndpointsData) (w : WaitsData) : Type 0 where
   pub count : length w.marks ≡ service_count p
-  pub idle : AreIdle p order st w
-  pub ready : OnTrue w.fresh (KnowsReady p st failed w.complete w)
+  pub idle : AreIdle p order st d w
+  pub ready : OnTrue w.fresh (KnowsReady p st d.failed w.complete w)
 
 -- in a pass: what is ready is marked
-pub record IsKnown (p : Plan) (order : List ℕ) (st : StartsData) (failed : List Bool) (complete : Bool) (w : WaitsData) : Type 0 where
+pub record IsKnown (p : Plan) (order : List ℕ) (st : StartsData) (d : EndpointsData) (complete : Bool) (w : WaitsData) : Type 0 where
   pub count : length w.marks ≡ service_count p
-  pub idle : AreIdle p order st w
+  pub idle : AreIdle p order st d w
   pub complete_is : w.complete ≡ complete
-  pub ready : KnowsReady p st failed complete w
+  pub ready : KnowsReady p st d.failed complete w
 
 -- services were marked, and each place that waited for one of them is open
 pub record Opens (old new : WaitsData) : Type 0 where
@@ -68,6 +73,11 @@ pub record IsMarked (s : ℕ) (old new : WaitsData) : Type 0 where
   pub bits : (a b : ℕ) → is_set new.bits a b ≡ (is_set old.bits a b || (a == length old.marks && is_set old.bits s b))
   pub fresh : new.fresh ≡ old.fresh
   pub complete : new.complete ≡ old.complete
+
+-- the service is marked, where b says so
+abbrev pub MarksIf : Bool → ℕ → WaitsData → WaitsData → Type 0
+MarksIf true s old new = IsMarked s old new
+MarksIf false s old new = new ≡ old
 
 -- only bits have changed
 pub record HasBits (to : ℕ → ℕ → Bool) (old new : WaitsData) : Type 0 where
@@ -84,10 +94,6 @@ ClosesPlace k old new = HasBits (λ a b. is_set old.bits a b && not (a == length
 abbrev pub Parks : ℕ → ℕ → WaitsData → WaitsData → Type 0
 Parks k d old new = HasBits (λ a b. (is_set old.bits a b || (a == d && b == k)) && not (a == length old.marks && b == k)) old new
 
--- what is ready must be looked at anew
-abbrev pub stale : WaitsData → WaitsData
-stale w = record { bits = w.bits; marks = w.marks; fresh = false; complete = w.complete }
-
 -- the service may have been started, where all that it depends on was ready
 pub record StartsOnly (p : Plan) (failed : List Bool) (complete : Bool) (s : ℕ) (st st' : StartsData) : Type 0 where
   pub starts : Bool
@@ -99,11 +105,11 @@ abbrev pub WaitsStill : Plan → StartsData → ℕ → ℕ → WaitsData → Wa
 WaitsStill p st s k old new true = (is_flagged st.started s ≡ false) × ((at : ℕ) × (IsUnmarked p old.marks s at × Parks k (slice_index (depends p s) at) old new))
 WaitsStill p st s k old new false = new ≡ old
 
--- the place is closed, where its service is started and has no endpoint
-abbrev pub ClosesDone : Plan → StartsData → ℕ → ℕ → WaitsData → WaitsData → Type 0
-ClosesDone p st s k old new = (new ≡ old) ⊎ (((is_flagged st.started s ≡ true) × (length (endpoints p s) ≡ 0)) × ClosesPlace k old new)
+-- the place is closed, where its service is started with nothing to ask for
+abbrev pub ClosesDone : Plan → StartsData → EndpointsData → ℕ → ℕ → WaitsData → WaitsData → Type 0
+ClosesDone p st d s k old new = (new ≡ old) ⊎ (((is_flagged st.started s ≡ true) × HasAll p d s) × ClosesPlace k old new)
 
 -- what a core keeps: its parts fit the plan, and what its pass leaves out needn't be visited
 pub record IsKept (p : Plan) (order : List ℕ) (st : StartsData) (d : EndpointsData) (w : WaitsData) : Type 0 where
   pub formed : IsFormed p order st d
-  pub watched : IsWatched p order st d.failed w
+  pub watched : IsWatched p order st d w

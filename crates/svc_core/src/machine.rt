@@ -436,7 +436,6 @@ impl Core {
         self.endpoints.reserve()?;
         self.endpoints
             .take_bound(&self.plan, s, i, fd, address, actions);
-        self.waits.forget();
         Ok(self.finish(None, actions))
     }
 
@@ -449,7 +448,7 @@ impl Core {
         let kept = self.offer.numbers_on_offer();
         self.endpoints
             .take_in_use(&self.plan, s, i, moment, kept, actions);
-        self.waits.forget();
+        self.waits.mark_failed(self.endpoints.failed(), s);
         self.finish(None, actions)
     }
 
@@ -461,7 +460,7 @@ impl Core {
         let kept = self.offer.numbers_on_offer();
         self.endpoints
             .take_bind_failed(&self.plan, s, i, kept, actions);
-        self.waits.forget();
+        self.waits.mark_failed(self.endpoints.failed(), s);
         self.finish(None, actions)
     }
 
@@ -471,7 +470,6 @@ impl Core {
         ensures { Steps self.old self.new (Event.Adopted s i) actions.old actions.new result }
     {
         self.endpoints.take_adopted(&self.plan, s, i);
-        self.waits.forget();
         self.finish(None, actions)
     }
 
@@ -483,7 +481,7 @@ impl Core {
         let kept = self.offer.numbers_on_offer();
         self.endpoints
             .take_adopt_failed(&self.plan, s, i, kept, actions);
-        self.waits.forget();
+        self.waits.mark_failed(self.endpoints.failed(), s);
         self.finish(None, actions)
     }
 
@@ -502,7 +500,6 @@ impl Core {
         let good = self
             .endpoints
             .take_received(alloc, &self.plan, bytes, fds, actions)?;
-        self.waits.forget();
         self.boot.take_received(good);
         Ok(self.finish(None, actions))
     }

@@ -1,15 +1,17 @@
 //! The pass over the services: it starts what is due, asks for endpoints, and begins to bootstrap.
 
-ghost use Rattle.std.specs.Prelude.{◌≡◌, ◌+◌, ◌*◌, ◌<◌, ◌≤◌, ◌&&◌, ◌==◌, length, slice_index, false};
+ghost use Rattle.std.specs.Prelude.{◌≡◌, ◌+◌, ◌*◌, ◌<◌, ◌≤◌, length, slice_index, true, false};
 ghost use Rattle.svc_base.specs.Items.{list_of, spare};
-ghost use Rattle.svc_record.specs.Plans.{service_count, endpoints};
+ghost use Rattle.svc_record.specs.Plans.{service_count};
 ghost use Rattle.svc_record.specs.Validity.{IsValid, IsInOrder};
 ghost use Rattle.svc_core.specs.Copies.{TellsBare};
 ghost use Rattle.svc_core.specs.CoreData.{IsFormed};
 ghost use Rattle.svc_core.specs.StartsState.{IsStartsSized, is_flagged};
 ghost use Rattle.svc_core.specs.Passes.{StartsAt, VisitsAt, VisitsAll, is_tested, begin_room};
 ghost use Rattle.svc_core.specs.Steps.{Spends};
-ghost use Rattle.svc_core.specs.WaitsState.{IsKnown, StartsOnly, WaitsStill, ClosesDone};
+ghost use Rattle.svc_endpoints.specs.EndpointsState.{IsEndpointsSized};
+ghost use Rattle.svc_endpoints.specs.Stays.{StaysHeld};
+ghost use Rattle.svc_core.specs.WaitsState.{HasAll, IsKnown, StartsOnly, WaitsStill, ClosesDone};
 
 use crate::plans::{depends_of, endpoint_count, is_bootstrap};
 use crate::starts::Starts;
@@ -76,6 +78,7 @@ fn visit(
     ensures bare { TellsBare (list_of actions.old) (list_of actions.new) }
     ensures spends { Spends (begin_room boot.old + 2) (begin_room boot.new) actions.old actions.new }
     ensures failed { endpoints.new.parts.failed ≡ endpoints.old.parts.failed }
+    ensures held { StaysHeld endpoints.old.parts endpoints.new.parts }
     ensures only { StartsOnly plan.now endpoints.old.parts.failed boot.old.complete (slice_index order.now k) starts.old starts.new }
     ensures passed { VisitsAt plan.now order.now drain.now k starts.old starts.new endpoints.old endpoints.new boot.old boot.new actions.old actions.new }
 {
@@ -114,23 +117,47 @@ fn waits_still(plan: &Plan, order: &[u32], k: usize, starts: &Starts, waits: &mu
     }
 }
 
-/// The service is started and has no endpoint.
-fn is_done(plan: &Plan, starts: &Starts, s: u32) -> bool
+/// The service has failed, or each of its endpoints is held.
+fn has_all(plan: &Plan, endpoints: &Endpoints, s: u32) -> bool
     requires service { s < service_count plan.now }
-    requires sized { IsStartsSized plan.now starts.now }
-    ensures { result ≡ (is_flagged starts.now.started s && (length (endpoints plan.now s) == 0)) }
+    requires sized { IsEndpointsSized plan.now endpoints.now.parts }
+    ensures { result ≡ true → HasAll plan.now endpoints.now.parts s }
 {
-    starts.is_started(plan, s) && endpoint_count(plan, s) == 0
+    if endpoint_count(plan, s) == 0 {
+        return true;
+    }
+    if endpoints.failed()[s as usize] {
+        return true;
+    }
+    endpoints.accepts(plan, s, 0, true)
 }
 
-/// A service that is started and has no endpoint isn't visited any more.
-fn close_done(plan: &Plan, order: &[u32], k: usize, starts: &Starts, waits: &mut Waits)
+/// The service is started, and there is nothing to ask for.
+fn is_done(plan: &Plan, starts: &Starts, endpoints: &Endpoints, s: u32) -> bool
+    requires service { s < service_count plan.now }
+    requires sized { IsStartsSized plan.now starts.now }
+    requires ends { IsEndpointsSized plan.now endpoints.now.parts }
+    ensures { result ≡ true → (is_flagged starts.now.started s ≡ true) × HasAll plan.now endpoints.now.parts s }
+{
+    starts.is_started(plan, s) && has_all(plan, endpoints, s)
+}
+
+/// A service that is started isn't visited any more once there is nothing to ask for.
+fn close_done(
+    plan: &Plan,
+    order: &[u32],
+    k: usize,
+    starts: &Starts,
+    endpoints: &Endpoints,
+    waits: &mut Waits,
+)
     requires in_order { IsInOrder plan.now order.now }
     requires place { k < length order.now }
     requires sized { IsStartsSized plan.now starts.now }
-    ensures { ClosesDone plan.now starts.now (slice_index order.now k) k waits.old waits.new }
+    requires ends { IsEndpointsSized plan.now endpoints.now.parts }
+    ensures { ClosesDone plan.now starts.now endpoints.now.parts (slice_index order.now k) k waits.old waits.new }
 {
-    if !is_done(plan, starts, order[k]) {
+    if !is_done(plan, starts, endpoints, order[k]) {
         return;
     }
     waits.close(k);
@@ -151,10 +178,10 @@ fn attend(
     requires formed { IsFormed plan.now order.now starts.old endpoints.old.parts }
     requires place { k < length order.now }
     requires room { 2 + begin_room boot.old ≤ spare actions.old }
-    requires known { IsKnown plan.now order.now starts.old endpoints.old.parts.failed boot.old.complete waits.old }
+    requires known { IsKnown plan.now order.now starts.old endpoints.old.parts boot.old.complete waits.old }
     ensures formed { IsFormed plan.now order.now starts.new endpoints.new.parts }
     ensures table { endpoints.new.parts.table ≡ endpoints.old.parts.table }
-    ensures known { IsKnown plan.now order.now starts.new endpoints.new.parts.failed boot.new.complete waits.new }
+    ensures known { IsKnown plan.now order.now starts.new endpoints.new.parts boot.new.complete waits.new }
     ensures bare { TellsBare (list_of actions.old) (list_of actions.new) }
     ensures spends { Spends (begin_room boot.old + 2) (begin_room boot.new) actions.old actions.new }
     ensures passed { VisitsAt plan.now order.now drain.now k starts.old starts.new endpoints.old endpoints.new boot.old boot.new actions.old actions.new }
@@ -170,7 +197,7 @@ fn attend(
         boot.is_complete(),
         order[k],
     );
-    close_done(plan, order, k, starts, waits);
+    close_done(plan, order, k, starts, endpoints, waits);
 }
 
 /// Visits each service once, in the startup order, unless the run was tested at one of them. A service
@@ -187,10 +214,10 @@ pub(crate) fn pass(
 )
     requires formed { IsFormed plan.now order.now starts.old endpoints.old.parts }
     requires room { 2 * length order.now + begin_room boot.old ≤ spare actions.old }
-    requires known { IsKnown plan.now order.now starts.old endpoints.old.parts.failed boot.old.complete waits.old }
+    requires known { IsKnown plan.now order.now starts.old endpoints.old.parts boot.old.complete waits.old }
     ensures formed { IsFormed plan.now order.now starts.new endpoints.new.parts }
     ensures table { endpoints.new.parts.table ≡ endpoints.old.parts.table }
-    ensures known { IsKnown plan.now order.now starts.new endpoints.new.parts.failed boot.new.complete waits.new }
+    ensures known { IsKnown plan.now order.now starts.new endpoints.new.parts boot.new.complete waits.new }
     ensures bare { TellsBare (list_of actions.old) (list_of actions.new) }
     ensures spends { Spends (begin_room boot.old + 2 * length order.now) (begin_room boot.new) actions.old actions.new }
     ensures passed { VisitsAll plan.now order.now drain.now starts.old starts.new endpoints.old endpoints.new boot.old boot.new actions.old actions.new }

@@ -6,7 +6,7 @@ ghost use Rattle.svc_record.specs.Plans.{service_count};
 ghost use Rattle.svc_record.specs.Validity.{IsValid};
 ghost use Rattle.svc_core.specs.StartsState.{IsStartsSized, is_flagged, ready_now};
 ghost use Rattle.std.specs.Bool.{OnTrue};
-ghost use Rattle.svc_core.specs.WaitsState.{is_open, IsUnmarked, KnowsReady, KnowsOthers, Opens, IsMarked, ClosesPlace, Parks, stale};
+ghost use Rattle.svc_core.specs.WaitsState.{is_open, IsUnmarked, KnowsReady, KnowsOthers, Opens, IsMarked, MarksIf, ClosesPlace, Parks};
 
 use crate::bits::Bits;
 use crate::plans::depends_of;
@@ -17,16 +17,17 @@ use svc_base::NoMemory;
 use svc_record::Plan;
 
 /// Which places are open, so that a pass visits them. A service that isn't started waits at its place
-/// for one dependency that isn't marked as ready; one that is started and has no endpoint is done. Any
-/// other place is open.
+/// for one dependency that isn't marked as ready; one that is started and has failed, or holds each of
+/// its endpoints, is done. Any other place is open.
 #[derive(Drop)]
 pub(crate) struct Waits {
     /// Row s has the places that wait for service s, the last row those that are open.
     bits: Bits,
-    /// Which services are marked: at least each that is ready, while `fresh` says so.
+    /// Which services are marked: at least each that is ready, once all were looked at.
     marks: Vec<bool>,
     /// How many of each service's dependencies are still to be looked at, at most.
     looked: Vec<usize>,
+    /// Whether all were looked at.
     fresh: bool,
     /// Whether bootstrapping was complete when all were last looked at.
     complete: bool,
@@ -131,13 +132,6 @@ impl Waits {
         }
     }
 
-    /// Services may have become ready that aren't marked.
-    pub(crate) fn forget(&mut self)
-        ensures { self.new ≡ stale self.old }
-    {
-        self.fresh = false;
-    }
-
     /// Marks the service as ready, and opens the places that wait for it.
     pub(crate) fn mark(&mut self, s: u32)
         requires { s < length self.old.marks }
@@ -146,6 +140,17 @@ impl Waits {
         let row = self.open_row();
         self.bits.join(row, s);
         self.marks[s as usize] = true;
+    }
+
+    /// Marks the service as ready where it has failed.
+    pub(crate) fn mark_failed(&mut self, failed: &[bool], s: u32)
+        requires service { s < length self.old.marks }
+        requires flags { length failed.now ≡ length self.old.marks }
+        ensures { MarksIf (is_flagged failed.now s) s self.old self.new }
+    {
+        if failed[s as usize] {
+            self.mark(s);
+        }
     }
 
     /// The place isn't visited any more.

@@ -20,7 +20,7 @@ pub loop-k-preserved : goal.loop-k-preserved
 loop-k-preserved c =
     let found = c.in-Some.ensures.found in
     let skipped = passes-skip c.args.plan.now c.loop-k.invariant.formed.valid c.args.order.now c.args.drain.now c.loop-k.from c.in-Some.k found.0 (omega (arith, found.1)) c.loop-k.invariant.formed.in_order
-    c.loop-k.starts c.loop-k.endpoints.parts c.loop-k.boot c.loop-k.waits (list_of c.loop-k.actions) c.loop-k.invariant.formed.starts c.loop-k.invariant.known c.in-Some.ensures.least in
+    c.loop-k.starts c.loop-k.endpoints.parts c.loop-k.boot c.loop-k.waits (list_of c.loop-k.actions) c.loop-k.invariant.formed.starts c.loop-k.invariant.formed.endpoints c.loop-k.invariant.known c.in-Some.ensures.least in
     record {
       within = omega (arith, found.1);
       formed = c.attend.ensures.formed;
@@ -43,4 +43,4 @@ returns-clause-passed c =
     c.args.endpoints.now.parts c.loop-k.endpoints.parts c.loop-k.endpoints.parts c.args.boot.now c.loop-k.boot c.loop-k.boot
     (list_of c.args.actions.now) (list_of c.loop-k.actions) (list_of c.loop-k.actions) c.loop-k.invariant.passed
     (passes-skip c.args.plan.now c.loop-k.invariant.formed.valid c.args.order.now c.args.drain.now c.loop-k.from (length c.args.order.now) c.loop-k.invariant.within (omega arith) c.loop-k.invariant.formed.in_order
-    c.loop-k.starts c.loop-k.endpoints.parts c.loop-k.boot c.loop-k.waits (list_of c.loop-k.actions) c.loop-k.invariant.formed.starts c.loop-k.invariant.known c.in_default.ensures.none)
+    c.loop-k.starts c.loop-k.endpoints.parts c.loop-k.boot c.loop-k.waits (list_of c.loop-k.actions) c.loop-k.invariant.formed.starts c.loop-k.invariant.formed.endpoints c.loop-k.invariant.known c.in_default.ensures.none)

@@ -38,13 +38,13 @@ returns-else-may_start c = record {
 pub pass-requires-clause-known : goal.pass-requires-clause-known
 pass-requires-clause-known c =
     rw c.deref.ensures.value
-    (known-caught c.self.inside.plan c.self.inside.order.items c.self.inside.starts c.self.inside.endpoints.parts.failed c.self.inside.boot.complete c.self.inside.waits c.catch_up.new.self c.self.invariant.watched
+    (known-caught c.self.inside.plan c.self.inside.order.items c.self.inside.starts c.self.inside.endpoints.parts c.self.inside.boot.complete c.self.inside.waits c.catch_up.new.self c.self.invariant.watched
     c.catch_up.ensures.opens (c.catch_up.ensures.complete ∙ c.is_complete.ensures) (rw (c.failed.ensures, c.is_complete.ensures) at c.catch_up.ensures.ready))
 
 pub invariant_of-self : goal.invariant_of-self
 invariant_of-self c = record {
   formed = rw c.deref.ensures.value at c.pass.ensures.formed;
-  watched = watched-known c.self.inside.plan c.self.inside.order.items c.pass.new.starts c.pass.new.endpoints.parts.failed c.pass.new.boot.complete c.pass.new.waits (rw c.deref.ensures.value at c.pass.ensures.known);
+  watched = watched-known c.self.inside.plan c.self.inside.order.items c.pass.new.starts c.pass.new.endpoints.parts c.pass.new.boot.complete c.pass.new.waits (rw c.deref.ensures.value at c.pass.ensures.known);
 }
 
 pub catch_up-requires-clause-watched : goal.catch_up-requires-clause-watched

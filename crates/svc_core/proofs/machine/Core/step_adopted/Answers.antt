@@ -1,11 +1,9 @@
-use Rattle.std.proofs.Common.{List, length, refl, ap, arith, rules, sym, subst}
+use Rattle.std.proofs.Common.{List, length, refl, ap, arith, rules}
 use Rattle.svc_record.specs.declared.event.Event.TheVariants.{Adopted}
 use Rattle.svc_endpoints.specs.declared.table.Open.{Open}
 use Rattle.svc_core.proofs.StepLemmas.{strike-answer, fits-adopt, silently}
 use Rattle.svc_core.proofs.StepForms.{opened, gives-up}
-use Rattle.svc_core.specs.WaitsData.{WaitsData}
-use Rattle.svc_core.specs.WaitsState.{IsWatched}
-use Rattle.svc_core.proofs.WaitsLemmas.{watched-stale}
+use Rattle.svc_core.proofs.WaitsLemmas.{watched-same}
 use Rattle.svc_core.proofs.machine.Core.step_adopted.Goals as goal
 
 pub returns : goal.returns
@@ -18,6 +16,5 @@ returns c = opened c.self.view_is c.requires (λ may.
 pub invariant_of-self : goal.invariant_of-self
 invariant_of-self c = record {
   formed = search rules;
-  watched = subst (λ (w : WaitsData). IsWatched c.self.inside.plan c.self.inside.order.items c.self.inside.starts c.take_adopted.new.self.parts.failed w) (sym c.forget.ensures)
-      (watched-stale c.self.inside.plan c.self.inside.order.items c.self.inside.starts c.self.inside.endpoints.parts.failed c.take_adopted.new.self.parts.failed c.self.inside.waits c.self.invariant.watched);
+  watched = watched-same c.self.inside.plan c.self.inside.order.items c.self.inside.starts c.self.inside.endpoints.parts c.take_adopted.new.self.parts c.self.inside.waits c.take_adopted.ensures.held c.take_adopted.ensures.failed c.self.invariant.watched;
 }

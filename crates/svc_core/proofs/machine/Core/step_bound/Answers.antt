@@ -1,11 +1,11 @@
-use Rattle.std.proofs.Common.{refl, ap, length, arith, rules, sym, subst}
+use Rattle.std.proofs.Common.{refl, ap, length, arith, rules, sym, subst, ◌∙◌}
 use Rattle.svc_record.specs.declared.event.Event.TheVariants.{Bound}
 use Rattle.svc_endpoints.specs.EndpointsData.{EndpointsData}
 use Rattle.svc_core.proofs.StepLemmas.{strike-answer, fits-bound, unheld}
 use Rattle.svc_core.proofs.StepForms.{opened, gives-up}
-use Rattle.svc_core.specs.WaitsData.{WaitsData}
-use Rattle.svc_core.specs.WaitsState.{IsWatched, IsKept}
-use Rattle.svc_core.proofs.WaitsLemmas.{watched-stale}
+use Rattle.svc_endpoints.specs.Stays.{StaysHeld}
+use Rattle.svc_core.specs.WaitsState.{IsKept}
+use Rattle.svc_core.proofs.WaitsLemmas.{watched-same}
 use Rattle.svc_core.proofs.machine.Core.step_bound.Goals as goal
 
 pub returns : goal.returns
@@ -15,12 +15,12 @@ returns c = opened c.self.view_is c.requires (λ may.
     (strike-answer _ (Bound c.args.s c.args.i c.args.fd) _ _ _ may.on refl refl refl refl refl (λ q stands. fits-bound _ q c.args.s c.args.i c.args.fd may.on may.may stands)
     (unheld _ _ _ _ _ (Bound c.args.s c.args.i c.args.fd) _ _ (rw c.in_ok-reserve.ensures.parts at c.take_bound.ensures.stands))))
 
+pub invariant_of-self : goal.invariant_of-self
+invariant_of-self c = subst (λ (d : EndpointsData). IsKept c.self.inside.plan c.self.inside.order.items c.self.inside.starts d c.self.inside.waits) (sym c.reserve.ensures.parts) c.self.invariant
+
 pub invariant_of-self-2 : goal.invariant_of-self-2
 invariant_of-self-2 c = record {
   formed = search rules;
-  watched = subst (λ (w : WaitsData). IsWatched c.self.inside.plan c.self.inside.order.items c.self.inside.starts c.take_bound.new.self.parts.failed w) (sym c.forget.ensures)
-      (watched-stale c.self.inside.plan c.self.inside.order.items c.self.inside.starts c.self.inside.endpoints.parts.failed c.take_bound.new.self.parts.failed c.self.inside.waits c.self.invariant.watched);
+  watched = watched-same c.self.inside.plan c.self.inside.order.items c.self.inside.starts c.self.inside.endpoints.parts c.take_bound.new.self.parts c.self.inside.waits
+      (subst (λ (d : EndpointsData). StaysHeld d c.take_bound.new.self.parts) c.in_ok-reserve.ensures.parts c.take_bound.ensures.held) (c.take_bound.ensures.failed ∙ ap (λ (d : EndpointsData). d.failed) c.in_ok-reserve.ensures.parts) c.self.invariant.watched;
 }
-
-pub invariant_of-self : goal.invariant_of-self
-invariant_of-self c = subst (λ (d : EndpointsData). IsKept c.self.inside.plan c.self.inside.order.items c.self.inside.starts d c.self.inside.waits) (sym c.reserve.ensures.parts) c.self.invariant

@@ -20,7 +20,7 @@ mark-requires c =
 pub invariant_of-self : goal.invariant_of-self
 invariant_of-self c = record {
   formed = search rules;
-  watched = subst (λ (st : StartsData). IsWatched c.self.inside.plan c.self.inside.order.items st c.self.inside.endpoints.parts.failed c.mark.new.self) (sym c.take_ended.ensures.end)
-      (watched-end c.self.inside.plan c.self.inside.order.items c.self.inside.starts c.self.inside.endpoints.parts.failed c.args.s c.self.inside.waits c.mark.new.self
+  watched = subst (λ (st : StartsData). IsWatched c.self.inside.plan c.self.inside.order.items st c.self.inside.endpoints.parts c.mark.new.self) (sym c.take_ended.ensures.end)
+      (watched-end c.self.inside.plan c.self.inside.order.items c.self.inside.starts c.self.inside.endpoints.parts c.args.s c.self.inside.waits c.mark.new.self
       (subst (λ (core : CoreData). c.args.s < service_count core.plan) (sym c.self.view_is) c.requires.may.inside) c.self.invariant.formed.starts c.mark.ensures c.self.invariant.watched);
 }

@@ -1,7 +1,7 @@
-use Rattle.std.proofs.Common.{refl, sym, ◌∙◌, arith, Bool, List, rules, subst}
+use Rattle.std.proofs.Common.{refl, sym, ◌∙◌, arith, rules}
 use Rattle.svc_core.proofs.SignalLemmas.{cut-strikes}
 use Rattle.svc_core.proofs.StepForms.{opened, opened-same, gives-up, later-taken}
-use Rattle.svc_core.specs.WaitsState.{IsWatched}
+use Rattle.svc_core.proofs.WaitsLemmas.{watched-same}
 use Rattle.svc_core.proofs.machine.Core.step_further.Goals as goal
 
 pub returns-then-not-cuts-clause-steps : goal.returns-then-not-cuts-clause-steps
@@ -15,5 +15,5 @@ returns-clause-steps c = opened c.self.view_is c.requires.may (λ may. gives-up 
 pub invariant_of-self : goal.invariant_of-self
 invariant_of-self c = record {
   formed = search rules;
-  watched = subst (λ (failed : List Bool). IsWatched c.self.inside.plan c.self.inside.order.items c.self.inside.starts failed c.self.inside.waits) (sym (c.release.ensures.failed)) c.self.invariant.watched;
+  watched = watched-same c.self.inside.plan c.self.inside.order.items c.self.inside.starts c.self.inside.endpoints.parts c.release.new.self.parts c.self.inside.waits c.release.ensures.held c.release.ensures.failed c.self.invariant.watched;
 }

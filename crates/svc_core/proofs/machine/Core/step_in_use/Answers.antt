@@ -1,10 +1,12 @@
-use Rattle.std.proofs.Common.{refl, arith, rules, sym, subst}
+use Rattle.std.proofs.Common.{Bool, List, length, ◌<◌, refl, ap, arith, rules, sym, subst}
 use Rattle.svc_record.specs.declared.event.Event.TheVariants.{InUse}
 use Rattle.svc_core.proofs.StepLemmas.{strike-answer, fits-bind}
 use Rattle.svc_core.proofs.StepForms.{opened, gives-up}
-use Rattle.svc_core.specs.WaitsData.{WaitsData}
-use Rattle.svc_core.specs.WaitsState.{IsWatched}
-use Rattle.svc_core.proofs.WaitsLemmas.{watched-stale}
+use Rattle.svc_record.specs.Plans.{service_count}
+use Rattle.svc_core.specs.CoreData.{CoreData}
+use Rattle.svc_core.specs.StartsState.{is_flagged}
+use Rattle.svc_core.specs.WaitsState.{MarksIf}
+use Rattle.svc_core.proofs.WaitsLemmas.{watched-answer}
 use Rattle.svc_core.proofs.machine.Core.step_in_use.Goals as goal
 
 pub returns : goal.returns
@@ -12,9 +14,18 @@ returns c = opened c.self.view_is c.requires (λ may. gives-up c.finish.ensures 
     (strike-answer _ (InUse c.args.s c.args.i) _ _ _ may.on refl refl refl refl refl (λ q stands. fits-bind _ q c.args.s c.args.i may.on may.may stands)
     (rw (c.moment-moment.ensures, c.numbers_on_offer-kept.ensures) at c.take_in_use.ensures.stands)))
 
+pub mark_failed-requires : goal.mark_failed-requires
+mark_failed-requires c =
+    let inside = subst (λ (core : CoreData). c.args.s < service_count core.plan) (sym c.self.view_is) c.requires.may.inside in
+    let count = c.self.invariant.watched.count in
+    let flags = ap (λ (failed : List Bool). length failed) c.failed.ensures in
+    let sized = c.take_in_use.ensures.sized.failed in
+    record { service = omega arith; flags = omega arith }
+
 pub invariant_of-self : goal.invariant_of-self
 invariant_of-self c = record {
   formed = search rules;
-  watched = subst (λ (w : WaitsData). IsWatched c.self.inside.plan c.self.inside.order.items c.self.inside.starts c.take_in_use.new.self.parts.failed w) (sym c.forget.ensures)
-      (watched-stale c.self.inside.plan c.self.inside.order.items c.self.inside.starts c.self.inside.endpoints.parts.failed c.take_in_use.new.self.parts.failed c.self.inside.waits c.self.invariant.watched);
+  watched = watched-answer c.self.inside.plan c.self.inside.order.items c.self.inside.starts c.self.inside.endpoints.parts c.take_in_use.new.self.parts c.args.s c.self.inside.waits c.mark_failed.new.self
+      (subst (λ (core : CoreData). c.args.s < service_count core.plan) (sym c.self.view_is) c.requires.may.inside) c.self.invariant.formed.endpoints c.take_in_use.ensures.failed c.take_in_use.ensures.held
+      (subst (λ (failed : List Bool). MarksIf (is_flagged failed c.args.s) c.args.s c.self.inside.waits c.mark_failed.new.self) c.failed.ensures c.mark_failed.ensures) c.self.invariant.watched;
 }

@@ -1,8 +1,10 @@
-use Rattle.std.proofs.Common.{refl, ap, length, arith, Bool, List, rules, sym, subst, ◌∙◌}
+use Rattle.std.proofs.Common.{refl, ap, length, arith, rules, sym, subst, ◌∙◌}
 use Rattle.svc_endpoints.specs.EndpointsData.{EndpointsData}
 use Rattle.svc_core.proofs.StepLemmas.{strike-loop}
 use Rattle.svc_core.proofs.StepForms.{opened, gives-up}
-use Rattle.svc_core.specs.WaitsState.{IsWatched, IsKept}
+use Rattle.svc_endpoints.specs.Stays.{StaysHeld}
+use Rattle.svc_core.specs.WaitsState.{IsKept}
+use Rattle.svc_core.proofs.WaitsLemmas.{watched-same}
 use Rattle.svc_core.proofs.machine.Core.step_loop_ended.Goals as goal
 
 pub returns : goal.returns
@@ -11,11 +13,12 @@ returns c = opened c.self.view_is c.requires (λ may.
     gives-up c.finish.ensures refl refl (record { few = omega (arith, same); room = omega (arith, same) })
     (strike-loop _ c.args.s c.args.i c.args.j _ _ _ c.self.invariant.formed.endpoints may.on may.may (rw (c.in_ok-reserve_loop.ensures.parts, c.numbers_on_offer-kept.ensures) at c.take_loop_ended.ensures.stands)))
 
+pub invariant_of-self : goal.invariant_of-self
+invariant_of-self c = subst (λ (d : EndpointsData). IsKept c.self.inside.plan c.self.inside.order.items c.self.inside.starts d c.self.inside.waits) (sym c.reserve_loop.ensures.parts) c.self.invariant
+
 pub invariant_of-self-2 : goal.invariant_of-self-2
 invariant_of-self-2 c = record {
   formed = search rules;
-  watched = subst (λ (failed : List Bool). IsWatched c.self.inside.plan c.self.inside.order.items c.self.inside.starts failed c.self.inside.waits) (sym (c.take_loop_ended.ensures.failed ∙ ap (λ (d : EndpointsData). d.failed) c.in_ok-reserve_loop.ensures.parts)) c.self.invariant.watched;
+  watched = watched-same c.self.inside.plan c.self.inside.order.items c.self.inside.starts c.self.inside.endpoints.parts c.take_loop_ended.new.self.parts c.self.inside.waits
+      (subst (λ (d : EndpointsData). StaysHeld d c.take_loop_ended.new.self.parts) c.in_ok-reserve_loop.ensures.parts c.take_loop_ended.ensures.held) (c.take_loop_ended.ensures.failed ∙ ap (λ (d : EndpointsData). d.failed) c.in_ok-reserve_loop.ensures.parts) c.self.invariant.watched;
 }
-
-pub invariant_of-self : goal.invariant_of-self
-invariant_of-self c = subst (λ (d : EndpointsData). IsKept c.self.inside.plan c.self.inside.order.items c.self.inside.starts d c.self.inside.waits) (sym c.reserve_loop.ensures.parts) c.self.invariant
