@@ -170,13 +170,6 @@ all-marked p st failed complete s w v lt others m = λ t inside on.
       | inr ne ↦ marked-is s t w v lt m ∙ or_right (s == t) (is_flagged w.marks t) (others t inside (ne_eqb s t ne) on)
     ]
 
-pub all-others : (p : Plan) (st : StartsData) (failed : List Bool) (complete : Bool) (s : ℕ) (w : WaitsData) → ready_now p st failed complete s ≡ false → KnowsOthers p st failed complete s w → KnowsReady p st failed complete w
-all-others p st failed complete s w off others = λ t inside on.
-    elim (cases_eq s t) [
-      | inl same ↦ and_clash (ready_now p st failed complete s) (subst (λ u. ready_now p st failed complete u ≡ true) (sym same) on) off (is_flagged w.marks t ≡ true)
-      | inr ne ↦ others t inside (ne_eqb s t ne) on
-    ]
-
 -- a service's word, or the end of its work, leaves the others as they were
 others-word : (p : Plan) (st : StartsData) (failed : List Bool) (complete : Bool) (w : WaitsData) (s : ℕ) → s < length st.ready → KnowsReady p st failed complete w → KnowsOthers p (word_taken s st) failed complete s w
 others-word p st failed complete w s lt knows = λ t inside ne on.

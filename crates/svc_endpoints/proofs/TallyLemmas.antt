@@ -65,14 +65,6 @@ module _ (loops : List LoopEnd) (before : List ℕ) (s i j : ℕ) where
   pub linked-of : (at : ℕ) → 0 < at → at ≡ last_end loops s i at → is_loop_of s i (loop_at loops (at - 1)) ≡ true
   linked-of at some e = let one : (at - 1) + 1 ≡ at = omega arith in last-is loops s i (at - 1) (subst (λ k. last_end loops s i k ≡ k) (sym one) (sym e))
 
-  pub linked-found : (at : ℕ) → 0 < at → at ≤ length loops → is_loop s i j (loop_at loops (at - 1)) ≡ true → has_loop (take at loops) s i j ≡ true
-  linked-found at some le h =
-      let one : (at - 1) + 1 ≡ at = omega arith in
-      subst (λ k. has_loop (take k loops) s i j ≡ true) one (has_loop-next loops s i j (at - 1) (omega arith) ∙ or_true (has_loop (take (at - 1) loops) s i j) (is_loop s i j (loop_at loops (at - 1))) h)
-    where
-      or_true : (a b : Bool) → b ≡ true → (a || b) ≡ true
-      or_true a b y = grind arith
-
   pub linked-past : (at : ℕ) → 0 < at → at ≤ length loops → is_loop s i j (loop_at loops (at - 1)) ≡ false → has_loop (take at loops) s i j ≡ has_loop (take (last_end loops s i (at - 1)) loops) s i j
   linked-past at some le h =
       let one : (at - 1) + 1 ≡ at = omega arith in
@@ -185,10 +177,3 @@ few-counted loops before rows s i was = elim (cases_lt i (length (slice_index_or
     | inl inside ↦ (let e = (was.each s i (inside, within)).count in let f = length-filter (is_loop_of s i) loops in let g = count_by-le-length (is_loop_of s i) loops in omega (arith, e, f, g))
   ]
 ]
-
--- where nothing ended and nothing is told
-pub none-tallied : (rows : List (List Tally)) → ((s i : ℕ) → tally_at rows s i ≡ untold) → AreTallied [] [] rows
-none-tallied rows blank = record {
-  long = refl;
-  each = λ s i has. subst (IsTallied [] [] s i) (sym (blank s i)) (record { count = refl; last = refl; links = λ k lt h. absurd (omega arith) });
-}

@@ -1,6 +1,6 @@
 //! The live descriptors.
 
-ghost use Rattle.std.specs.Prelude.{true, ◌≡◌, ◌+◌, ◌-◌, ◌<◌, ◌≤◌, ◌++◌, ◌∷◌, [], length, ℕ, List, Option, Some, None, OnOk, map, insert, slice_index, vec_len, vec_capacity, ◌||◌, ◌&&◌, false, ◌^◌, if◌then◌else◌, ◌==◌, filter, not};
+ghost use Rattle.std.specs.Prelude.{true, ◌≡◌, ◌+◌, ◌-◌, ◌<◌, ◌≤◌, ◌++◌, ◌∷◌, [], length, ℕ, List, Option, Some, None, OnOk, map, insert, vec_len, vec_capacity, ◌||◌, ◌&&◌, false, ◌^◌, if◌then◌else◌, ◌==◌, filter, not};
 ghost use Rattle.std.specs.Option.{option_to_list};
 ghost use Rattle.std.specs.List.Sorted.{IsNonDecreasingBy, IsPartitionPoint};
 ghost use Rattle.svc_base.specs.Items.{list_of, spare};

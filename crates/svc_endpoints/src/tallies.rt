@@ -1,6 +1,6 @@
 //! How many loops of each endpoint ended, and which of them was the last.
 
-ghost use Rattle.std.specs.Prelude.{◌≡◌, ◌+◌, ◌<◌, ◌≤◌, [], length, ℕ, slice_index_or, MatchOption, IfOk, vec_len};
+ghost use Rattle.std.specs.Prelude.{◌≡◌, ◌+◌, ◌<◌, ◌≤◌, length, ℕ, slice_index_or, MatchOption, IfOk};
 ghost use Rattle.svc_record.specs.Plans.{service_count};
 ghost use Rattle.svc_endpoints.specs.Loops.{untold, tally_at, HasTally, counted, counted_in};
 
