@@ -1,4 +1,7 @@
+pub mod BlockLemmas
 pub mod LiveLemmas
+pub mod CameLemmas
+pub mod LiveBlocks
 pub mod Aside
 pub mod Parts
 pub mod Foreign

@@ -20,7 +20,7 @@ below-all n [] k h lt = absurd (omega arith)
 below-all n (m ∷ ns) zero h lt = ltb-true n m (and_parts (nat_lt n m) (list_all (λ m. nat_lt n m) ns) h).0
 below-all n (m ∷ ns) (suc k) h lt = below-all n ns k (and_parts (nat_lt n m) (list_all (λ m. nat_lt n m) ns) h).1 (omega arith)
 
-climbs-at : (ns : List ℕ) (i j : ℕ) → climbs ns ≡ true → i ≤ j → j < length ns → get_or ns i 0 ≤ get_or ns j 0
+pub climbs-at : (ns : List ℕ) (i j : ℕ) → climbs ns ≡ true → i ≤ j → j < length ns → get_or ns i 0 ≤ get_or ns j 0
 climbs-at [] i j h le lt = absurd (omega arith)
 climbs-at (n ∷ ns) zero zero h le lt = omega arith
 climbs-at (n ∷ ns) (suc i) zero h le lt = absurd (omega arith)
@@ -34,7 +34,7 @@ nobody = record { number = 0; stage = Setting }
 number-at : (live : List Connection) (k : ℕ) → k < length live → get_or (numbers live) k 0 ≡ (get_or live k nobody).number
 number-at live k lt = get_or-map (λ (x : Connection). x.number) live k nobody 0 lt
 
-same-length : (live : List Connection) → length (numbers live) ≡ length live
+pub same-length : (live : List Connection) → length (numbers live) ≡ length live
 same-length live = length-map live (λ (x : Connection). x.number)
 
 module _ (live : List Connection) (rise : climbs (numbers live) ≡ true) (c : ℕ) where

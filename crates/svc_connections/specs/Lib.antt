@@ -3,3 +3,5 @@ pub mod ConnectionsState
 pub mod ConnectionsEffects
 pub mod ConnectionsFacts
 pub mod Places
+pub mod Blocks
+pub mod LiveTable

@@ -2,6 +2,8 @@
 //! what is live at the end is cut.
 #![tactic(auto)]
 
+mod blocks;
+mod came;
 mod connections;
 mod live;
 mod settings;

@@ -1,33 +1,51 @@
 //! The live connections.
 
-ghost use Rattle.std.specs.Prelude.{◌≡◌, ◌+◌, ◌-◌, ◌<◌, ◌≤◌, ◌++◌, ◌^◌, length, ℕ, Option, OnOk, IfOk, IfErr, [], insert, vec_len, vec_capacity, true};
+ghost use Rattle.std.specs.Prelude.{◌≡◌, ◌+◌, ◌<◌, ◌≤◌, ◌++◌, ◌^◌, length, Option, OnOk, IfOk, IfErr, [], true};
 ghost use Rattle.svc_base.specs.Items.{list_of, spare};
 ghost use Rattle.svc_connections.specs.ConnectionsState.{climbs, numbers, stage_of};
 ghost use Rattle.svc_connections.specs.ConnectionsEffects.{put_connection, at_stage, without, cuts};
+ghost use Rattle.svc_connections.specs.Blocks.{joined};
 ghost use Rattle.svc_connections.specs.Places.{IsPlaceOf, IsGapFor};
 
+use crate::blocks::{Keyed, begin, block_for, insert_at, remove_at, reserve_block, set_at};
 use crate::stage::{Connection, Stage};
 use std::alloc::Global;
 use std::marker::Model;
 use svc_base::NoMemory;
 use svc_record::{Action, Actions};
 
-/// Live connections in ascending number. Contracts see them and for how many more there is memory.
+/// So many connections have no memory.
+const MOST: usize = (1 << 59) - 1;
+
+/// Live connections in ascending number. Contracts see them, and whether there is memory for one
+/// more.
 #[derive(Drop)]
 pub(crate) struct Live {
-    entries: Vec<Connection>,
+    blocks: Vec<Vec<Connection>>,
+    empty: Vec<Connection>,
+    count: usize,
+    alloc: Global,
 }
 
 impl Model for Live {
-    ghost use Rattle.std.specs.Prelude.{List, ℕ, ◌-◌, ◌≡◌, true, vec_capacity, vec_len};
+    ghost use Rattle.std.specs.Prelude.{List, ℕ, ◌-◌, ◌<◌, ◌^◌, ◌≡◌, length, min};
     ghost use Rattle.svc_connections.specs.declared.stage.Connection.{Connection};
-    ghost use Rattle.svc_connections.specs.ConnectionsState.{climbs, numbers};
+    ghost use Rattle.svc_connections.specs.Blocks.{joined, room_of};
+    ghost use Rattle.svc_connections.specs.LiveTable.{IsLiveTable};
 
     ghost Value = { List Connection × ℕ };
 
-    ghost view = { λ l. (l.entries.items, vec_capacity l.entries - vec_len l.entries) };
+    ghost view = { λ l. (joined l.blocks.items, min (room_of l.empty l.blocks) (2 ^ 59 - 1 - l.count)) };
 
-    ghost invariant = { λ l. climbs (numbers l.entries.items) ≡ true };
+    ghost invariant = { λ l. IsLiveTable l.blocks.items l.empty.items l.count };
+}
+
+impl Keyed for Connection {
+    ghost key_of = { λ x. x.number };
+
+    fn key(&self) -> u64 {
+        self.number
+    }
 }
 
 /// Where the connection is, or where it would go.
@@ -37,16 +55,6 @@ fn search(entries: &[Connection], c: u64) -> Result<usize, usize>
     ensures absent { IfErr result (IsGapFor c (numbers entries.now)) }
 {
     entries.binary_search_by_key(&c, |x| x.number)
-}
-
-/// Inserts into reserved room.
-fn insert_reserved(entries: &mut Vec<Connection>, at: usize, connection: Connection)
-    requires place { at ≤ vec_len entries.old }
-    requires room { vec_len entries.old < vec_capacity entries.old }
-    ensures items { entries.new.items ≡ insert entries.old.items at connection }
-    ensures room { vec_capacity entries.old - vec_len entries.old ≤ vec_capacity entries.new - vec_len entries.new + 1 }
-{
-    let _ = entries.insert(at, connection);
 }
 
 /// Cuts each of them.
@@ -60,12 +68,26 @@ fn cut_each(entries: &[Connection], actions: &mut Actions)
     }
 }
 
+/// Cuts each of them, block after block.
+fn cut_blocks(blocks: &[Vec<Connection>], actions: &mut Actions)
+    requires room { length (joined blocks.now) ≤ spare actions.old }
+    ensures told { list_of actions.new ≡ list_of actions.old ++ cuts (joined blocks.now) }
+    ensures room { spare actions.old ≤ spare actions.new + length (joined blocks.now) }
+{
+    for block in blocks {
+        cut_each(block, actions);
+    }
+}
+
 impl Live {
     pub(crate) fn new(alloc: Global) -> Live
         ensures { list_of result ≡ [] }
     {
         Live {
-            entries: Vec::new(alloc),
+            blocks: Vec::new(alloc),
+            empty: Vec::new(alloc),
+            count: 0,
+            alloc,
         }
     }
 
@@ -74,32 +96,29 @@ impl Live {
         ensures entries { list_of self.new ≡ list_of self.old }
         ensures room { OnOk result (0 < spare self.new) }
     {
-        match self.entries.reserve(1) {
-            Ok(()) => Ok(()),
-            Err(_) => Err(NoMemory),
+        if self.count == MOST {
+            return Err(NoMemory);
         }
-    }
-
-    /// The live connections, in ascending number.
-    pub(crate) fn as_slice(&self) -> &[Connection]
-        ensures { result.now ≡ list_of self.now }
-    {
-        self.entries.as_slice()
+        reserve_block(&mut self.blocks, &mut self.empty)
     }
 
     pub(crate) fn len(&self) -> usize
         ensures small { result < 2 ^ 59 }
         ensures length { result ≡ length (list_of self.now) }
     {
-        self.entries.as_slice().len()
+        self.count
     }
 
     /// How far the connection has come, if it is live.
     pub(crate) fn stage_of(&self, c: u64) -> Option<Stage>
         ensures { result ≡ stage_of (list_of self.now) c }
     {
-        match search(&self.entries, c) {
-            Ok(at) => Some(self.entries[at].stage),
+        if self.blocks.is_empty() {
+            return None;
+        }
+        let block = &self.blocks[block_for(&self.blocks, c)];
+        match search(block, c) {
+            Ok(place) => Some(block[place].stage),
             Err(_) => None,
         }
     }
@@ -107,34 +126,57 @@ impl Live {
     /// Takes a connection. One that is live stays as it is.
     pub(crate) fn put(&mut self, connection: Connection)
         requires { 0 < spare self.old }
-        ensures entries { list_of self.new ≡ put_connection connection (list_of self.old) }
-        ensures room { spare self.old ≤ spare self.new + 1 }
+        ensures { list_of self.new ≡ put_connection connection (list_of self.old) }
     {
-        match search(&self.entries, connection.number) {
+        let alloc = self.alloc;
+        if self.blocks.is_empty() {
+            begin(&mut self.blocks, &mut self.empty, connection, alloc);
+            self.count = 1;
+            return;
+        }
+        let at = block_for(&self.blocks, connection.number);
+        match search(&self.blocks[at], connection.number) {
             Ok(_) => {}
-            Err(at) => insert_reserved(&mut self.entries, at, connection),
+            Err(place) => {
+                insert_at(
+                    &mut self.blocks,
+                    &mut self.empty,
+                    at,
+                    place,
+                    connection,
+                    alloc,
+                );
+                self.count += 1;
+            }
         }
     }
 
     /// The connection has come to the stage, if it is live.
     pub(crate) fn move_to(&mut self, c: u64, stage: Stage)
-        ensures entries { list_of self.new ≡ at_stage c stage (list_of self.old) }
-        ensures room { spare self.old ≤ spare self.new }
+        ensures { list_of self.new ≡ at_stage c stage (list_of self.old) }
     {
-        match search(&self.entries, c) {
-            Ok(at) => self.entries[at] = Connection { number: c, stage },
+        if self.blocks.is_empty() {
+            return;
+        }
+        let at = block_for(&self.blocks, c);
+        match search(&self.blocks[at], c) {
+            Ok(place) => set_at(&mut self.blocks, at, place, Connection { number: c, stage }),
             Err(_) => {}
         }
     }
 
     /// The connection is live no more.
     pub(crate) fn remove(&mut self, c: u64)
-        ensures entries { list_of self.new ≡ without c (list_of self.old) }
-        ensures room { spare self.old ≤ spare self.new }
+        ensures { list_of self.new ≡ without c (list_of self.old) }
     {
-        match search(&self.entries, c) {
-            Ok(at) => {
-                let _ = self.entries.remove(at);
+        if self.blocks.is_empty() {
+            return;
+        }
+        let at = block_for(&self.blocks, c);
+        match search(&self.blocks[at], c) {
+            Ok(place) => {
+                remove_at(&mut self.blocks, &mut self.empty, at, place);
+                self.count -= 1;
             }
             Err(_) => {}
         }
@@ -146,6 +188,6 @@ impl Live {
         ensures told { list_of actions.new ≡ list_of actions.old ++ cuts (list_of self.now) }
         ensures room { spare actions.old ≤ spare actions.new + length (list_of self.now) }
     {
-        cut_each(&self.entries, actions);
+        cut_blocks(&self.blocks, actions);
     }
 }
