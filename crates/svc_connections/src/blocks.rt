@@ -9,7 +9,7 @@ use std::alloc::Global;
 use std::mem;
 use svc_base::NoMemory;
 
-/// A block with so many entries is cut in two.
+/// A block with so many entries is split.
 const FULL: usize = 256;
 
 /// What has a key.
@@ -84,20 +84,35 @@ pub(crate) fn begin<T: Copy>(blocks: &mut Vec<Vec<T>>, empty: &mut Vec<T>, entry
     let _ = blocks.push(block);
 }
 
-/// Moves the upper half of a full block.
-fn halve<T: Copy>(block: &mut Vec<T>, upper: &mut Vec<T>)
+/// Where a block is split: in the middle, or before the last entry if that one filled it, so that
+/// keys that ascend leave no block half empty.
+fn split_place(place: usize) -> usize
+    ensures lower { 0 < result }
+    ensures upper { result < 256 }
+{
+    if place == FULL - 1 {
+        FULL - 1
+    } else {
+        FULL / 2
+    }
+}
+
+/// Moves the entries of a full block from the place on.
+fn split<T: Copy>(block: &mut Vec<T>, upper: &mut Vec<T>, place: usize)
     requires full { length block.old.items ≡ 256 }
+    requires some { 0 < place }
+    requires within { place < 256 }
     requires nothing { upper.old.items ≡ [] }
     requires room { 256 ≤ vec_capacity upper.old }
     ensures entries { block.new.items ++ upper.new.items ≡ block.old.items }
     ensures lower { is_block block.new ≡ true }
     ensures upper { is_block upper.new ≡ true }
 {
-    let _ = upper.extend_from_slice(&block[FULL / 2..]);
-    block.truncate(FULL / 2);
+    let _ = upper.extend_from_slice(&block[place..]);
+    block.truncate(place);
 }
 
-/// Inserts into a block. Where that fills it, its upper half comes back.
+/// Inserts into a block. Where that fills it, its upper part comes back.
 fn insert_in<T: Copy>(
     block: &mut Vec<T>,
     empty: &mut Vec<T>,
@@ -119,7 +134,7 @@ fn insert_in<T: Copy>(
         return None;
     }
     let mut upper = mem::replace(empty, Vec::new(alloc));
-    halve(block, &mut upper);
+    split(block, &mut upper, split_place(place));
     Some(upper)
 }
 
