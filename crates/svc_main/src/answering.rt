@@ -108,7 +108,8 @@ fn run_script(
         → IfOk result (λ a. (end : RunEnd) × (a.line ≡ RunLine end) × RanText opt parts end (string_bytes a.text)) }
 {
     let left = run_over(alloc, server, items)?;
-    ran(alloc, left.end, left.host.entries().as_slice())
+    let entries = left.host.into_entries();
+    ran(alloc, left.end, entries.as_slice())
 }
 
 /// The counts of the record of a run, and its status line.

@@ -72,6 +72,16 @@ fn failures_with(failures: u64, event: &Event) -> u64
     }
 }
 
+impl<B: Drop> HostAccount<B> {
+    /// What was got and told, the oldest first. All else is let go.
+    pub(crate) fn into_entries(self) -> Entries
+        ensures { list_of result ≡ reverse self.entries }
+    {
+        let HostAccount { entries, .. } = self;
+        entries
+    }
+}
+
 impl<B> HostAccount<B> {
     /// The account of a run that hasn't begun.
     pub(crate) fn new(alloc: Global) -> Self

@@ -77,6 +77,16 @@ impl<H: InnerHost, B> AccountHost<H, B> {
     }
 }
 
+impl<H: InnerHost + Drop, B: Drop> AccountHost<H, B> {
+    /// What it gave and was told, the oldest first. All else is let go.
+    pub fn into_entries(self) -> Entries
+        ensures { list_of result ≡ reverse self.entries }
+    {
+        let AccountHost { account, .. } = self;
+        account.into_entries()
+    }
+}
+
 /// It tells everything.
 impl<H: InnerHost, B: ServiceWithDependents> Host for AccountHost<H, B> {
     type Service = B;

@@ -70,6 +70,15 @@ impl<B: ServiceWithDependents> ScriptHost<B> {
         self.host.entries()
     }
 
+    /// What it gave and was told, the oldest first. All else is let go.
+    pub fn into_entries(self) -> Entries
+        ensures entries { list_of result ≡ reverse self.entries }
+        ensures follows { FollowsScript self.taken self.left self.entries self.faults self.idles }
+    {
+        let _items = self.host.inner();
+        self.host.into_entries()
+    }
+
     /// The phases that it was told, the oldest first.
     pub fn phases(&self) -> &[ExecutionPhase]
         ensures { result.now ≡ phases_of self.now.entries }
