@@ -39,7 +39,10 @@ fn answer_run<S: Source>(alloc: Global, words: &[RcStr], source: &mut S) -> Resu
         Err(ReadAllError::NoMemory) => return Err(NoMemory),
     };
     match parse(alloc, &bytes) {
-        Ok(script) => answer_script(alloc, opt, script),
+        Ok(script) => {
+            drop(bytes);
+            answer_script(alloc, opt, script)
+        }
         Err(ScriptError::Line(n)) => said(alloc, StatusLine::Line(n as u64)),
         Err(ScriptError::NoMemory) => Err(NoMemory),
     }
