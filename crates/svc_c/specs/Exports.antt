@@ -22,8 +22,10 @@ Places making.NoMemory place before after = (place ≡ 0) × (after ≡ before)
 
 -- the handle has the session that was made, or none, and the number says why
 abbrev pub Makes : Bool → Bool → Bool → List ℕ → Option SessionData → ℕ → List ℕ → List ℕ → ℕ → Type 0
-Makes upgrade daemon test bytes (Some s) place before after n = (n ≡ 0) × ((b : Box SessionData) × ((b.value ≡ s) × IsMade (flags_of upgrade daemon test) bytes (Ok b)))
-Makes upgrade daemon test bytes None place before after n = (error : MakeError) × ((n ≡ make_number error) × (IsMade (flags_of upgrade daemon test) bytes (Err error) × Places error place before after))
+Makes upgrade daemon test bytes (Some s) place before after n =
+    (n ≡ 0) × ((b : Box SessionData) × ((b.value ≡ s) × IsMade (flags_of upgrade daemon test) bytes (Ok b)))
+Makes upgrade daemon test bytes None place before after n =
+    (error : MakeError) × ((n ≡ make_number error) × (IsMade (flags_of upgrade daemon test) bytes (Err error) × Places error place before after))
 
 -- a fact of the sessions that two handles have
 abbrev pub Both : Option SessionData → Option SessionData → (SessionData → SessionData → Type 0) → Type 0
@@ -41,7 +43,8 @@ Reports (Err error) filter said = Unit {0}
 
 -- whether the event of a line may come
 abbrev pub Tests : List ℕ → Option SessionData → Option SessionData → ℕ → Bool → ℕ → Type 0
-Tests line old new filter said n = Both old new (λ s t. (t ≡ s) × ((answer : Result Asked StepError) × ((n ≡ fits_number answer) × (IsAsked line s answer × Reports answer filter said))))
+Tests line old new filter said n =
+    Both old new (λ s t. (t ≡ s) × ((answer : Result Asked StepError) × ((n ≡ fits_number answer) × (IsAsked line s answer × Reports answer filter said))))
 
 -- the step of a line's event
 abbrev pub Steps : List ℕ → Bool → Option SessionData → Option SessionData → ℕ → Type 0
@@ -56,7 +59,8 @@ Measures (Err told.NoMemory) size = size ≡ 0
 -- the lines of what the last call got and told
 abbrev pub Tells : Option SessionData → Option SessionData → List ℕ → List ℕ → ℕ → ℕ → Type 0
 Tells old new before after size n =
-    Both old new (λ s t. (t ≡ s) × ((answer : Result ℕ ToldError) × ((n ≡ told_number answer) × (IsToldIn s.entries before after answer × Measures answer size))))
+    Both old new (λ s t. (t ≡ s) × ((answer : Result ℕ ToldError) × ((n ≡ told_number answer)
+    × (IsToldIn s.entries before after answer × Measures answer size))))
 
 -- how the run has ended so far
 abbrev pub Ends : Option SessionData → Option SessionData → ℕ → Type 0

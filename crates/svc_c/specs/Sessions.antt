@@ -89,13 +89,18 @@ IsTaken e said old new (Err _) = ⊥
 
 -- the event of the line may come and its step was taken, or the session is as it was
 abbrev pub IsStepped : List ℕ → Bool → SessionData → SessionData → Result StepEnd StepError → Type 0
-IsStepped line said old new (Ok end) = (old.stage ≡ Begun) × ((e : Event) × ((event_of (words line) ≡ Some e) × (MayCome old.core e × IsTaken e said old new (Ok end))))
+IsStepped line said old new (Ok end) =
+    (old.stage ≡ Begun) × ((e : Event) × ((event_of (words line) ≡ Some e) × (MayCome old.core e × IsTaken e said old new (Ok end))))
 IsStepped line said old new (Err error) = (new ≡ old) × IsUntaken line old error
+
+-- which filter is asked at the event, and what the blocked addresses say
+abbrev pub Asks : SessionData → Event → Asked → Type 0
+Asks s e asked = (asked.filter ≡ asked_filter s.core.plan e) × (asked.said ≡ own_word s.services e)
 
 -- the event of the line may come, and what is asked at it; or why not
 abbrev pub IsAsked : List ℕ → SessionData → Result Asked StepError → Type 0
 IsAsked line s (Ok asked) =
-    (s.stage ≡ Begun) × ((e : Event) × ((event_of (words line) ≡ Some e) × (MayCome s.core e × ((asked.filter ≡ asked_filter s.core.plan e) × (asked.said ≡ own_word s.services e)))))
+    (s.stage ≡ Begun) × ((e : Event) × ((event_of (words line) ≡ Some e) × (MayCome s.core e × Asks s e asked)))
 IsAsked line s (Err error) = IsUntaken line s error
 
 -- how many descriptors an event brings that is left unfinished

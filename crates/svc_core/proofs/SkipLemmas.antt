@@ -13,13 +13,13 @@ use Rattle.svc_endpoints.specs.EndpointsData.{EndpointsData}
 use Rattle.svc_endpoints.specs.EndpointsState.{IsEndpointsSized, EndpointsStand, failed_at, last_at, is_holding, is_done}
 use Rattle.svc_endpoints.specs.Uses.{accepts_by}
 use Rattle.svc_endpoints.specs.Visits.{Visited}
-use Rattle.svc_endpoints.proofs.VisitedLemmas.{visited-failed, visited-held}
+use Rattle.svc_endpoints.proofs.VisitedLemmas.{visited-failed, visited-held, visited-asked}
 use Rattle.svc_boot.specs.BootData.{BootData}
 use Rattle.svc_drain.specs.DrainData.{DrainData}
 use Rattle.svc_core.specs.StartsData.{StartsData}
 use Rattle.svc_core.specs.StartsState.{IsStartsSized, is_flagged, starts_now, due_now}
 use Rattle.svc_core.specs.WaitsData.{WaitsData}
-use Rattle.svc_core.specs.WaitsState.{HasAll, IsIdle, KnowsReady, IsKnown, is_open}
+use Rattle.svc_core.specs.WaitsState.{HasAll, AsksNothing, IsIdle, KnowsReady, IsKnown, is_open}
 use Rattle.svc_core.specs.Passes.{Passes, is_tested}
 use Rattle.svc_core.proofs.WaitsLemmas.{not-due}
 use Rattle.svc_core.proofs.PassLemmas.{wait-half, ask-whole, passes-none, passes-stay, passes-then}
@@ -45,6 +45,11 @@ has-visited p d s q sized inside stand on (inr all) = elim (cases_Bool (failed_a
   | inr free ↦ visited-held p d s q sized stand inside on free all
 ]
 
+-- nor where an ask of it is open
+nothing-visited : (p : Plan) (d : EndpointsData) (s : ℕ) (q : Record) → IsEndpointsSized p d → s < service_count p → EndpointsStand p d q → is_started q s ≡ true → AsksNothing p d s → Visited p d s q []
+nothing-visited p d s q sized inside stand on (inl all) = has-visited p d s q sized inside stand on all
+nothing-visited p d s q sized inside stand on (inr ask) = visited-asked p d s q sized stand inside on ask.at ask.within ask.asks
+
 -- each endpoint of a service that serves is held
 served : (on free held there left : Bool) → ((((on && free) && held) && there) && left) ≡ true → held ≡ true
 served on free held there left h = grind arith
@@ -55,7 +60,7 @@ has-served p d s h = inr (λ i lt. below (λ k. is_holding (last_at d s k)) (len
 
 -- and its endpoints are as right as they can be
 idle-visited : (p : Plan) (st : StartsData) (d : EndpointsData) (w : WaitsData) (s k : ℕ) (q : Record) → IsEndpointsSized p d → s < service_count p → is_flagged st.started s ≡ is_started q s → EndpointsStand p d q → IsIdle p st d w s k → Visited p d s q []
-idle-visited p st d w s k q sized inside is stand (inl done) = has-visited p d s q sized inside stand (sym is ∙ done.0) done.1
+idle-visited p st d w s k q sized inside is stand (inl done) = nothing-visited p d s q sized inside stand (sym is ∙ done.0) done.1
 idle-visited p st d w s k q sized inside is stand (inr waits) =
     let off : is_started q s ≡ false = sym is ∙ waits.0 in
     record { stands = stand; right = λ silent i lt. rw off refl; right_late = λ i lt. rw off refl }

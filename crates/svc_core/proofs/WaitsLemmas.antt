@@ -1,20 +1,21 @@
 -- What becomes of the places that a pass leaves out.
-use Rattle.std.proofs.Common.{ℕ, Bool, true, false, ◌||◌, ◌&&◌, not, ◌==◌, inl, inr, List, ◌≡◌, ◌≢◌, refl, ap, sym, ◌∙◌, subst, arith, ◌<◌, length, length-set, slice_index}
+use Rattle.std.proofs.Common.{ℕ, zero, suc, Bool, true, false, ◌||◌, ◌&&◌, not, ◌==◌, inl, inr, List, ◌≡◌, ◌≢◌, refl, ap, sym, ◌∙◌, subst, arith, ◌<◌, ◌≤◌, ◌+◌, length, length-set, take, slice_index}
 use Rattle.std.specs.Bool.{OnTrue}
 use Rattle.std.specs.List.{list_all}
-use Rattle.std.proofs.lemmas.Bool.{eq-eqb, ne_eqb, or_left, or_right, cases_eq, cases_Bool}
-use Rattle.std.proofs.lemmas.List.Folds.{list_all_at}
+use Rattle.std.proofs.lemmas.Bool.{eq-eqb, ne_eqb, or_left, or_right, cases_eq, cases_lt, cases_Bool}
+use Rattle.std.proofs.lemmas.List.Folds.{list_all_at, list_any_more}
 use Rattle.svc_graph.specs.Bits.{is_set}
 use Rattle.svc_graph.specs.declared.plan.Kind.TheVariants.{Plain, Bootstrap}
 use Rattle.svc_record.specs.declared.plan.Plan.{Plan}
 use Rattle.svc_record.specs.Plans.{service_count, depends, has_kind}
+use Rattle.svc_record.specs.Validity.{IsStartupOrder, is_listed}
 use Rattle.svc_endpoints.specs.EndpointsData.{EndpointsData}
-use Rattle.svc_endpoints.specs.EndpointsState.{IsEndpointsSized, failed_at}
-use Rattle.svc_endpoints.specs.Stays.{FailsOnly, StaysHeld}
+use Rattle.svc_endpoints.specs.EndpointsState.{IsEndpointsSized, failed_at, last_at, is_asking, is_holding}
+use Rattle.svc_endpoints.specs.Stays.{FailsOnly, StaysHeld, OthersStay}
 use Rattle.svc_core.specs.StartsData.{StartsData}
 use Rattle.svc_core.specs.StartsState.{IsStartsSized, is_flagged, ready_now, due_now, starts_now, start_if, word_taken, end_taken}
 use Rattle.svc_core.specs.WaitsData.{WaitsData}
-use Rattle.svc_core.specs.WaitsState.{IsUnmarked, IsWaiting, HasAll, IsIdle, AreIdle, KnowsReady, KnowsOthers, IsWatched, IsKnown, Opens, IsMarked, MarksIf, HasBits, Parks, ClosesDone, WaitsStill, StartsOnly, is_open}
+use Rattle.svc_core.specs.WaitsState.{IsUnmarked, IsWaiting, AsksNothing, AreApart, IsOpenOf, Reopens, IsIdle, AreIdle, KnowsReady, KnowsOthers, IsWatched, IsKnown, Opens, IsMarked, MarksIf, HasBits, Parks, ClosesDone, WaitsStill, StartsOnly, is_open}
 use Rattle.svc_core.proofs.StartsLemmas.{flag-set}
 
 -- Boolean algebra, over plain variables
@@ -135,21 +136,74 @@ pub idle-start : (p : Plan) (order : List ℕ) (st st' : StartsData) (d : Endpoi
 idle-start p order st st' d failed complete w s lt count knows only idle =
     subst (λ x. AreIdle p order x d w) (sym only.after) (idle_start p order st d failed complete w s only.starts lt count knows only.due idle)
 
--- what is held stays held, and no failure is taken back
-pub record KeepsHeld (d d' : EndpointsData) : Type 0 where
+-- what is held stays held, no failure is taken back, and at most this service's asks change
+pub record KeepsHeld (s : ℕ) (d d' : EndpointsData) : Type 0 where
   pub held : StaysHeld d d'
-  pub failed : (s : ℕ) → failed_at d s ≡ true → failed_at d' s ≡ true
+  pub failed : (t : ℕ) → failed_at d t ≡ true → failed_at d' t ≡ true
+  pub others : OthersStay s d d'
 
-pub idle-kept : (p : Plan) (order : List ℕ) (st : StartsData) (d d' : EndpointsData) (w : WaitsData) → KeepsHeld d d' → AreIdle p order st d w → AreIdle p order st d' w
-idle-kept p order st d d' w keeps idle = λ k lt off.
+nothing_kept : (p : Plan) (d d' : EndpointsData) (s t : ℕ) → KeepsHeld s d d' → t ≢ s → AsksNothing p d t → AsksNothing p d' t
+nothing_kept p d d' s t keeps ne (inl (inl bad)) = inl (inl (keeps.failed t bad))
+nothing_kept p d d' s t keeps ne (inl (inr all)) = inl (inr (λ i within. keeps.held t i (all i within)))
+nothing_kept p d d' s t keeps ne (inr ask) = inr (record { at = ask.at; within = ask.within; asks = ap is_asking (keeps.others t ask.at ne) ∙ ask.asks })
+
+pub idle-kept : (p : Plan) (order : List ℕ) (st : StartsData) (d d' : EndpointsData) (s : ℕ) (w : WaitsData) → KeepsHeld s d d' → IsOpenOf order s w → AreIdle p order st d w → AreIdle p order st d' w
+idle-kept p order st d d' s w keeps opened idle = λ k lt off.
+    elim (cases_eq (slice_index order k) s) [
+      | inl same ↦ and_clash (is_open w k) (opened k lt same) off (IsIdle p st d' w (slice_index order k) k)
+      | inr ne ↦ elim (idle k lt off) [
+        | inl done ↦ inl (done.0, nothing_kept p d d' s (slice_index order k) keeps ne done.1)
+        | inr waits ↦ inr waits
+      ]
+    ]
+
+-- where no state changes and no service fails, all stay idle
+nothing_rows : (p : Plan) (d d' : EndpointsData) (t : ℕ) → d'.rows ≡ d.rows → d'.failed ≡ d.failed → AsksNothing p d t → AsksNothing p d' t
+nothing_rows p d d' t rows failed (inl (inl bad)) = inl (inl (ap (λ flags. is_flagged flags t) failed ∙ bad))
+nothing_rows p d d' t rows failed (inl (inr all)) = inl (inr (λ i within. ap (λ r. is_holding (last_at (record d { rows = r }) t i)) rows ∙ all i within))
+nothing_rows p d d' t rows failed (inr ask) = inr (record { at = ask.at; within = ask.within; asks = ap (λ r. is_asking (last_at (record d { rows = r }) t ask.at)) rows ∙ ask.asks })
+
+idle_rows : (p : Plan) (order : List ℕ) (st : StartsData) (d d' : EndpointsData) (w : WaitsData) → d'.rows ≡ d.rows → d'.failed ≡ d.failed → AreIdle p order st d w → AreIdle p order st d' w
+idle_rows p order st d d' w rows failed idle = λ k lt off.
     elim (idle k lt off) [
-      | inl done ↦ inl (done.0, has_all (slice_index order k) done.1)
+      | inl done ↦ inl (done.0, nothing_rows p d d' (slice_index order k) rows failed done.1)
       | inr waits ↦ inr waits
     ]
+
+-- no service stands twice in the startup order
+listed_at : (order : List ℕ) (k j : ℕ) → j < k → k ≤ length order → is_listed (take k order) (slice_index order j) ≡ true
+listed_at order zero j lt le = absurd (omega arith)
+listed_at order (suc k) j lt le = subst (λ n. is_listed (take n order) (slice_index order j) ≡ true) (one_more k)
+    (list_any_more (λ x. x == slice_index order j) order k 0 (omega arith) ∙ elim (cases_eq j k) [
+      | inl same ↦ or_right (is_listed (take k order) (slice_index order j)) (slice_index order k == slice_index order j) (eq-eqb (slice_index order k) (slice_index order j) (ap (slice_index order) (sym same)))
+      | inr ne ↦ or_left (is_listed (take k order) (slice_index order j)) (slice_index order k == slice_index order j) (listed_at order k j (omega arith) (omega arith))
+    ])
   where
-    has_all : (s : ℕ) → HasAll p d s → HasAll p d' s
-    has_all s (inl bad) = inl (keeps.failed s bad)
-    has_all s (inr all) = inr (λ i within. keeps.held s i (all i within))
+    one_more : (n : ℕ) → n + 1 ≡ suc n
+    one_more n = omega arith
+
+pub order-apart : (p : Plan) (order : List ℕ) → IsStartupOrder p order → AreApart order
+order-apart p order least j k lt inside same =
+    and_clash (is_listed (take k order) (slice_index order k)) (subst (λ s. is_listed (take k order) s ≡ true) same (listed_at order k j lt (omega arith))) (least.next k inside).fresh ⊥
+
+-- where a place is open, its service has no other that isn't
+pub open-of : (order : List ℕ) (k : ℕ) (w : WaitsData) → AreApart order → k < length order → is_open w k ≡ true → IsOpenOf order (slice_index order k) w
+open-of order k w apart inside on j within same = elim (cases_lt j k) [
+  | inl lt ↦ absurd (apart j k lt inside same)
+  | inr ge ↦ elim (cases_eq k j) [
+    | inl here ↦ subst (λ i. is_open w i ≡ true) here on
+    | inr ne ↦ absurd (apart k j (omega arith) within (sym same))
+  ]
+]
+
+-- a service whose place was opened
+opens_reopened : (order : List ℕ) (s : ℕ) (u w : WaitsData) → Reopens order s u w → Opens u w
+opens_reopened order s u w r = record {
+  count = ap (λ marks. length marks) r.marks;
+  kept = λ t on. ap (λ marks. is_flagged marks t) r.marks ∙ on;
+  waits = r.kept;
+  opened = λ t k off on waits. and_clash (is_flagged u.marks t) (sym (ap (λ marks. is_flagged marks t) r.marks) ∙ on) off (is_open w k ≡ true);
+}
 
 others_start : (p : Plan) (st : StartsData) (failed : List Bool) (complete : Bool) (w : WaitsData) (s : ℕ) (starts : Bool) → s < length st.started → KnowsReady p st failed complete w → KnowsOthers p (start_if starts s st) failed complete s w
 others_start p st failed complete w s false lt knows = λ t inside ne on. knows t inside on
@@ -225,13 +279,22 @@ knows_failed p st failed failed' complete w s same off knows = λ t inside on.
       | inr ne ↦ others-failed p st failed failed' complete w s same knows t inside (ne_eqb s t ne) on
     ]
 
-watched_if : (p : Plan) (order : List ℕ) (st : StartsData) (d d' : EndpointsData) (s : ℕ) (w v : WaitsData) (b : Bool) → b ≡ failed_at d' s → s < length w.marks → KeepsHeld d d' → ((t : ℕ) → (s == t) ≡ false → failed_at d' t ≡ failed_at d t)
+-- the service's place is open again
+watched_reopened : (p : Plan) (order : List ℕ) (st : StartsData) (d : EndpointsData) (s : ℕ) (u w : WaitsData) → Reopens order s u w → IsWatched p order st d u → IsWatched p order st d w
+watched_reopened p order st d s u w r was = record {
+  count = ap (λ marks. length marks) r.marks ∙ was.count;
+  idle = opens-idle p order st d u w (opens_reopened order s u w r) was.idle;
+  ready = when_fresh u.fresh w.fresh (KnowsReady p st d.failed u.complete u) (KnowsReady p st d.failed w.complete w) r.fresh
+      (λ knows t inside on. ap (λ marks. is_flagged marks t) r.marks ∙ knows t inside (subst (λ complete. ready_now p st d.failed complete t ≡ true) r.complete on)) was.ready;
+}
+
+watched_if : (p : Plan) (order : List ℕ) (st : StartsData) (d d' : EndpointsData) (s : ℕ) (w v : WaitsData) (b : Bool) → b ≡ failed_at d' s → s < length w.marks → KeepsHeld s d d' → IsOpenOf order s w → ((t : ℕ) → (s == t) ≡ false → failed_at d' t ≡ failed_at d t)
     → MarksIf b s w v → IsWatched p order st d w → IsWatched p order st d' v
-watched_if p order st d d' s w v true e lt keeps same m was =
-    watched_marked p order st st d d' s w v lt (idle-kept p order st d d' w keeps was.idle) (λ complete. others-failed p st d.failed d'.failed complete w s same) m was
-watched_if p order st d d' s w v false e lt keeps same m was = subst (λ x. IsWatched p order st d' x) (sym m) (record {
+watched_if p order st d d' s w v true e lt keeps opened same m was =
+    watched_marked p order st st d d' s w v lt (idle-kept p order st d d' s w keeps opened was.idle) (λ complete. others-failed p st d.failed d'.failed complete w s same) m was
+watched_if p order st d d' s w v false e lt keeps opened same m was = subst (λ x. IsWatched p order st d' x) (sym m) (record {
   count = was.count;
-  idle = idle-kept p order st d d' w keeps was.idle;
+  idle = idle-kept p order st d d' s w keeps opened was.idle;
   ready = when_fresh w.fresh w.fresh (KnowsReady p st d.failed w.complete w) (KnowsReady p st d'.failed w.complete w) refl (knows_failed p st d.failed d'.failed w.complete w s same (sym e)) was.ready;
 })
 
@@ -244,22 +307,33 @@ flag_stays : (s : ℕ) (flags next : List Bool) → s < length flags → FailsOn
 flag_stays s flags next lt (inl same) t on = ap (λ f. is_flagged f t) same ∙ on
 flag_stays s flags next lt (inr set) t on = ap (λ f. is_flagged f t) set ∙ flag-set flags s t lt ∙ or_right (s == t) (is_flagged flags t) on
 
-pub watched-answer : (p : Plan) (order : List ℕ) (st : StartsData) (d d' : EndpointsData) (s : ℕ) (w v : WaitsData) → s < service_count p → IsEndpointsSized p d → FailsOnly s d.failed d'.failed → StaysHeld d d'
-    → MarksIf (failed_at d' s) s w v → IsWatched p order st d w → IsWatched p order st d' v
-watched-answer p order st d d' s w v inside sized fails held m was =
+pub watched-answer : (p : Plan) (order : List ℕ) (st : StartsData) (d d' : EndpointsData) (s : ℕ) (u w v : WaitsData) → s < service_count p → IsEndpointsSized p d → FailsOnly s d.failed d'.failed → StaysHeld d d' → OthersStay s d d'
+    → Reopens order s u w → MarksIf (failed_at d' s) s w v → IsWatched p order st d u → IsWatched p order st d' v
+watched-answer p order st d d' s u w v inside sized fails held others r m was =
     let lt : s < length d.failed = (let n = sized.failed in omega arith) in
-    watched_if p order st d d' s w v (failed_at d' s) refl (let n = was.count in omega arith)
-    (record { held = held; failed = flag_stays s d.failed d'.failed lt fails }) (flag_others s d.failed d'.failed lt fails) m was
+    let reopened = watched_reopened p order st d s u w r was in
+    watched_if p order st d d' s w v (failed_at d' s) refl (let n = reopened.count in omega arith)
+    (record { held = held; failed = flag_stays s d.failed d'.failed lt fails; others = others }) r.opened (flag_others s d.failed d'.failed lt fails) m reopened
 
 -- so it is where no service failed
-pub keeps-same : (d d' : EndpointsData) → StaysHeld d d' → d'.failed ≡ d.failed → KeepsHeld d d'
-keeps-same d d' held same = record { held = held; failed = λ s on. ap (λ flags. is_flagged flags s) same ∙ on }
+pub keeps-same : (s : ℕ) (d d' : EndpointsData) → StaysHeld d d' → OthersStay s d d' → d'.failed ≡ d.failed → KeepsHeld s d d'
+keeps-same s d d' held others same = record { held = held; failed = λ t on. ap (λ flags. is_flagged flags t) same ∙ on; others = others }
 
-pub watched-same : (p : Plan) (order : List ℕ) (st : StartsData) (d d' : EndpointsData) (w : WaitsData) → StaysHeld d d' → d'.failed ≡ d.failed
+pub watched-held : (p : Plan) (order : List ℕ) (st : StartsData) (d d' : EndpointsData) (s : ℕ) (u w : WaitsData) → StaysHeld d d' → OthersStay s d d' → d'.failed ≡ d.failed → Reopens order s u w
+    → IsWatched p order st d u → IsWatched p order st d' w
+watched-held p order st d d' s u w held others same r was =
+    let reopened = watched_reopened p order st d s u w r was in record {
+      count = reopened.count;
+      idle = idle-kept p order st d d' s w (keeps-same s d d' held others same) r.opened reopened.idle;
+      ready = subst (λ failed. OnTrue w.fresh (KnowsReady p st failed w.complete w)) (sym same) reopened.ready;
+    }
+
+-- and where no state changed
+pub watched-same : (p : Plan) (order : List ℕ) (st : StartsData) (d d' : EndpointsData) (w : WaitsData) → d'.rows ≡ d.rows → d'.failed ≡ d.failed
     → IsWatched p order st d w → IsWatched p order st d' w
-watched-same p order st d d' w held same was = record {
+watched-same p order st d d' w rows same was = record {
   count = was.count;
-  idle = idle-kept p order st d d' w (keeps-same d d' held same) was.idle;
+  idle = idle_rows p order st d d' w rows same was.idle;
   ready = subst (λ failed. OnTrue w.fresh (KnowsReady p st failed w.complete w)) (sym same) was.ready;
 }
 
@@ -357,12 +431,12 @@ known-bits p order st d complete bits w v has idle known = record {
 
 -- after a visit: the service may have been started, what is held stays held, what is ready was marked, and the place may have been closed
 pub attended : (p : Plan) (order : List ℕ) (st st' : StartsData) (d d' : EndpointsData) (complete complete' : Bool) (w v x : WaitsData) (k : ℕ) → IsStartsSized p st → slice_index order k < service_count p
-    → IsKnown p order st d complete w → StartsOnly p d.failed complete (slice_index order k) st st' → KeepsHeld d d' → Opens w v → v.complete ≡ complete' → KnowsReady p st' d'.failed complete' v
+    → IsKnown p order st d complete w → StartsOnly p d.failed complete (slice_index order k) st st' → KeepsHeld (slice_index order k) d d' → IsOpenOf order (slice_index order k) w → Opens w v → v.complete ≡ complete' → KnowsReady p st' d'.failed complete' v
     → ClosesDone p st' d' (slice_index order k) k v x → IsKnown p order st' d' complete' x
-attended p order st st' d d' complete complete' w v x k sized inside known only keeps grown complete_is knows closes =
+attended p order st st' d d' complete complete' w v x k sized inside known only keeps opened grown complete_is knows closes =
     let lt : slice_index order k < length st.started = (let n = sized.started in omega arith) in
     let started : AreIdle p order st' d w = idle-start p order st st' d d.failed complete w (slice_index order k) lt known.count known.ready only known.idle in
-    let idle : AreIdle p order st' d' v = opens-idle p order st' d' w v grown (idle-kept p order st' d d' w keeps started) in
+    let idle : AreIdle p order st' d' v = opens-idle p order st' d' w v grown (idle-kept p order st' d d' (slice_index order k) w keeps opened started) in
     let noted : IsKnown p order st' d' complete' v = record { count = grown.count ∙ known.count; idle = idle; complete_is = complete_is; ready = knows } in
     elim closes [
       | inl same ↦ subst (λ y. IsKnown p order st' d' complete' y) (sym same) noted

@@ -1,11 +1,11 @@
 -- Which services the pass needn't visit, and why.
-use Rattle.std.specs.Prelude.{ℕ, Bool, true, false, not, ◌≡◌, ◌<◌, ◌==◌, ◌||◌, ◌&&◌, ◌⊎◌, List, length, slice_index, slice_set}
+use Rattle.std.specs.Prelude.{ℕ, Bool, true, false, not, ◌≡◌, ◌≢◌, ◌<◌, ◌==◌, ◌||◌, ◌&&◌, ◌⊎◌, List, length, slice_index, slice_set}
 use Rattle.std.specs.Bool.{OnTrue}
 use Rattle.svc_graph.specs.Bits.{is_set}
 use Rattle.svc_record.specs.declared.plan.Plan.{Plan}
 use Rattle.svc_record.specs.Plans.{service_count, depends, endpoints}
 use Rattle.svc_endpoints.specs.EndpointsData.{EndpointsData}
-use Rattle.svc_endpoints.specs.EndpointsState.{last_at, failed_at, is_holding}
+use Rattle.svc_endpoints.specs.EndpointsState.{last_at, failed_at, is_asking, is_holding}
 use Rattle.svc_core.specs.CoreData.{IsFormed}
 use Rattle.svc_core.specs.StartsData.{StartsData}
 use Rattle.svc_core.specs.StartsState.{is_flagged, ready_now, due_now, start_if}
@@ -31,9 +31,19 @@ pub record IsWaiting (p : Plan) (w : WaitsData) (s k : ℕ) : Type 0 where
 abbrev pub HasAll : Plan → EndpointsData → ℕ → Type 0
 HasAll p d s = (failed_at d s ≡ true) ⊎ ((i : ℕ) → i < length (endpoints p s) → is_holding (last_at d s i) ≡ true)
 
--- a visit of the service at the place tells nothing: it is started with nothing to ask for, or isn't started and waits
+-- an ask of the service is open
+pub record HasAsk (p : Plan) (d : EndpointsData) (s : ℕ) : Type 0 where
+  pub at : ℕ
+  pub within : at < length (endpoints p s)
+  pub asks : is_asking (last_at d s at) ≡ true
+
+-- there is nothing to ask for now
+abbrev pub AsksNothing : Plan → EndpointsData → ℕ → Type 0
+AsksNothing p d s = HasAll p d s ⊎ HasAsk p d s
+
+-- a visit of the service at the place tells nothing: it is started with nothing to ask for now, or isn't started and waits
 abbrev pub IsIdle : Plan → StartsData → EndpointsData → WaitsData → ℕ → ℕ → Type 0
-IsIdle p st d w s k = ((is_flagged st.started s ≡ true) × HasAll p d s) ⊎ ((is_flagged st.started s ≡ false) × IsWaiting p w s k)
+IsIdle p st d w s k = ((is_flagged st.started s ≡ true) × AsksNothing p d s) ⊎ ((is_flagged st.started s ≡ false) × IsWaiting p w s k)
 
 -- so it is at each place that isn't open
 abbrev pub AreIdle : Plan → List ℕ → StartsData → EndpointsData → WaitsData → Type 0
@@ -90,7 +100,27 @@ pub record HasBits (to : ℕ → ℕ → Bool) (old new : WaitsData) : Type 0 wh
 abbrev pub ClosesPlace : ℕ → WaitsData → WaitsData → Type 0
 ClosesPlace k old new = HasBits (λ a b. is_set old.bits a b && not (a == length old.marks && b == k)) old new
 
--- and it waits for the service
+-- the place is open again
+abbrev pub OpensPlace : ℕ → WaitsData → WaitsData → Type 0
+OpensPlace k old new = HasBits (λ a b. is_set old.bits a b || (a == length old.marks && b == k)) old new
+
+-- no service has two places
+abbrev pub AreApart : List ℕ → Type 0
+AreApart order = (j k : ℕ) → j < k → k < length order → slice_index order j ≢ slice_index order k
+
+-- the service's place is open
+abbrev pub IsOpenOf : List ℕ → ℕ → WaitsData → Type 0
+IsOpenOf order s w = (k : ℕ) → k < length order → slice_index order k ≡ s → is_open w k ≡ true
+
+-- the service's place is open again
+pub record Reopens (order : List ℕ) (s : ℕ) (old new : WaitsData) : Type 0 where
+  pub marks : new.marks ≡ old.marks
+  pub kept : (a b : ℕ) → is_set old.bits a b ≡ true → is_set new.bits a b ≡ true
+  pub opened : IsOpenOf order s new
+  pub fresh : new.fresh ≡ old.fresh
+  pub complete : new.complete ≡ old.complete
+
+-- the place isn't open any more, and waits for the service
 abbrev pub Parks : ℕ → ℕ → WaitsData → WaitsData → Type 0
 Parks k d old new = HasBits (λ a b. (is_set old.bits a b || (a == d && b == k)) && not (a == length old.marks && b == k)) old new
 
@@ -105,9 +135,9 @@ abbrev pub WaitsStill : Plan → StartsData → ℕ → ℕ → WaitsData → Wa
 WaitsStill p st s k old new true = (is_flagged st.started s ≡ false) × ((at : ℕ) × (IsUnmarked p old.marks s at × Parks k (slice_index (depends p s) at) old new))
 WaitsStill p st s k old new false = new ≡ old
 
--- the place is closed, where its service is started with nothing to ask for
+-- the place is closed, where its service is started with nothing to ask for now
 abbrev pub ClosesDone : Plan → StartsData → EndpointsData → ℕ → ℕ → WaitsData → WaitsData → Type 0
-ClosesDone p st d s k old new = (new ≡ old) ⊎ (((is_flagged st.started s ≡ true) × HasAll p d s) × ClosesPlace k old new)
+ClosesDone p st d s k old new = (new ≡ old) ⊎ (((is_flagged st.started s ≡ true) × AsksNothing p d s) × ClosesPlace k old new)
 
 -- what a core keeps: its parts fit the plan, and what its pass leaves out needn't be visited
 pub record IsKept (p : Plan) (order : List ℕ) (st : StartsData) (d : EndpointsData) (w : WaitsData) : Type 0 where

@@ -1,7 +1,6 @@
 //! The server core: a step for each event, and the actions that it tells.
 #![tactic(auto)]
 
-mod bits;
 mod copies;
 mod ends;
 mod machine;

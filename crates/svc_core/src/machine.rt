@@ -436,6 +436,7 @@ impl Core {
         self.endpoints.reserve()?;
         self.endpoints
             .take_bound(&self.plan, s, i, fd, address, actions);
+        self.waits.reopen(&self.order, s);
         Ok(self.finish(None, actions))
     }
 
@@ -448,6 +449,7 @@ impl Core {
         let kept = self.offer.numbers_on_offer();
         self.endpoints
             .take_in_use(&self.plan, s, i, moment, kept, actions);
+        self.waits.reopen(&self.order, s);
         self.waits.mark_failed(self.endpoints.failed(), s);
         self.finish(None, actions)
     }
@@ -460,6 +462,7 @@ impl Core {
         let kept = self.offer.numbers_on_offer();
         self.endpoints
             .take_bind_failed(&self.plan, s, i, kept, actions);
+        self.waits.reopen(&self.order, s);
         self.waits.mark_failed(self.endpoints.failed(), s);
         self.finish(None, actions)
     }
@@ -470,6 +473,7 @@ impl Core {
         ensures { Steps self.old self.new (Event.Adopted s i) actions.old actions.new result }
     {
         self.endpoints.take_adopted(&self.plan, s, i);
+        self.waits.reopen(&self.order, s);
         self.finish(None, actions)
     }
 
@@ -481,6 +485,7 @@ impl Core {
         let kept = self.offer.numbers_on_offer();
         self.endpoints
             .take_adopt_failed(&self.plan, s, i, kept, actions);
+        self.waits.reopen(&self.order, s);
         self.waits.mark_failed(self.endpoints.failed(), s);
         self.finish(None, actions)
     }

@@ -2,16 +2,16 @@
 
 ghost use Rattle.std.specs.Prelude.{◌≡◌, ◌+◌, ◌*◌, ◌<◌, ◌≤◌, length, slice_index, true, false};
 ghost use Rattle.svc_base.specs.Items.{list_of, spare};
-ghost use Rattle.svc_record.specs.Plans.{service_count};
+ghost use Rattle.svc_record.specs.Plans.{service_count, endpoints};
 ghost use Rattle.svc_record.specs.Validity.{IsValid, IsInOrder};
 ghost use Rattle.svc_core.specs.Copies.{TellsBare};
 ghost use Rattle.svc_core.specs.CoreData.{IsFormed};
 ghost use Rattle.svc_core.specs.StartsState.{IsStartsSized, is_flagged};
 ghost use Rattle.svc_core.specs.Passes.{StartsAt, VisitsAt, VisitsAll, is_tested, begin_room};
 ghost use Rattle.svc_core.specs.Steps.{Spends};
-ghost use Rattle.svc_endpoints.specs.EndpointsState.{IsEndpointsSized};
-ghost use Rattle.svc_endpoints.specs.Stays.{StaysHeld};
-ghost use Rattle.svc_core.specs.WaitsState.{HasAll, IsKnown, StartsOnly, WaitsStill, ClosesDone};
+ghost use Rattle.svc_endpoints.specs.EndpointsState.{IsEndpointsSized, is_asking, last_at};
+ghost use Rattle.svc_endpoints.specs.Stays.{StaysHeld, OthersStay};
+ghost use Rattle.svc_core.specs.WaitsState.{HasAll, HasAsk, AsksNothing, IsKnown, StartsOnly, WaitsStill, ClosesDone, is_open};
 
 use crate::plans::{depends_of, endpoint_count, is_bootstrap};
 use crate::starts::Starts;
@@ -79,6 +79,7 @@ fn visit(
     ensures spends { Spends (begin_room boot.old + 2) (begin_room boot.new) actions.old actions.new }
     ensures failed { endpoints.new.parts.failed ≡ endpoints.old.parts.failed }
     ensures held { StaysHeld endpoints.old.parts endpoints.new.parts }
+    ensures others { OthersStay (slice_index order.now k) endpoints.old.parts endpoints.new.parts }
     ensures only { StartsOnly plan.now endpoints.old.parts.failed boot.old.complete (slice_index order.now k) starts.old starts.new }
     ensures passed { VisitsAt plan.now order.now drain.now k starts.old starts.new endpoints.old endpoints.new boot.old boot.new actions.old actions.new }
 {
@@ -132,17 +133,51 @@ fn has_all(plan: &Plan, endpoints: &Endpoints, s: u32) -> bool
     endpoints.accepts(plan, s, 0, true)
 }
 
-/// The service is started, and there is nothing to ask for.
-fn is_done(plan: &Plan, starts: &Starts, endpoints: &Endpoints, s: u32) -> bool
+/// An ask of the service is open.
+fn has_ask(plan: &Plan, endpoints: &Endpoints, s: u32) -> bool
+    requires service { s < service_count plan.now }
+    requires sized { IsEndpointsSized plan.now endpoints.now.parts }
+    ensures { result ≡ true → HasAsk plan.now endpoints.now.parts s }
+{
+    for i in 0..endpoint_count(plan, s) {
+        if is_asking(plan, endpoints, s, i as u32) {
+            return true;
+        }
+    }
+    false
+}
+
+/// An ask of the endpoint is open.
+fn is_asking(plan: &Plan, parts: &Endpoints, s: u32, i: u32) -> bool
+    requires service { s < service_count plan.now }
+    requires endpoint { i < length (endpoints plan.now s) }
+    requires sized { IsEndpointsSized plan.now parts.now.parts }
+    ensures { result ≡ is_asking (last_at parts.now.parts s i) }
+{
+    parts.is_binding(plan, s, i) || parts.is_adopting(plan, s, i)
+}
+
+/// There is nothing to ask for now: the service has all, or an ask of it is open. The asks are looked at
+/// only after a visit that told something, since what rests is visited often.
+fn asks_nothing(plan: &Plan, endpoints: &Endpoints, s: u32, told: bool) -> bool
+    requires service { s < service_count plan.now }
+    requires sized { IsEndpointsSized plan.now endpoints.now.parts }
+    ensures { result ≡ true → AsksNothing plan.now endpoints.now.parts s }
+{
+    has_all(plan, endpoints, s) || (told && has_ask(plan, endpoints, s))
+}
+
+/// The service is started, and there is nothing to ask for now.
+fn is_done(plan: &Plan, starts: &Starts, endpoints: &Endpoints, s: u32, told: bool) -> bool
     requires service { s < service_count plan.now }
     requires sized { IsStartsSized plan.now starts.now }
     requires ends { IsEndpointsSized plan.now endpoints.now.parts }
-    ensures { result ≡ true → (is_flagged starts.now.started s ≡ true) × HasAll plan.now endpoints.now.parts s }
+    ensures { result ≡ true → (is_flagged starts.now.started s ≡ true) × AsksNothing plan.now endpoints.now.parts s }
 {
-    starts.is_started(plan, s) && has_all(plan, endpoints, s)
+    starts.is_started(plan, s) && asks_nothing(plan, endpoints, s, told)
 }
 
-/// A service that is started isn't visited any more once there is nothing to ask for.
+/// A service that is started isn't visited while there is nothing to ask for.
 fn close_done(
     plan: &Plan,
     order: &[u32],
@@ -150,6 +185,7 @@ fn close_done(
     starts: &Starts,
     endpoints: &Endpoints,
     waits: &mut Waits,
+    told: bool,
 )
     requires in_order { IsInOrder plan.now order.now }
     requires place { k < length order.now }
@@ -157,7 +193,7 @@ fn close_done(
     requires ends { IsEndpointsSized plan.now endpoints.now.parts }
     ensures { ClosesDone plan.now starts.now endpoints.now.parts (slice_index order.now k) k waits.old waits.new }
 {
-    if !is_done(plan, starts, endpoints, order[k]) {
+    if !is_done(plan, starts, endpoints, order[k], told) {
         return;
     }
     waits.close(k);
@@ -179,6 +215,7 @@ fn attend(
     requires place { k < length order.now }
     requires room { 2 + begin_room boot.old ≤ spare actions.old }
     requires known { IsKnown plan.now order.now starts.old endpoints.old.parts boot.old.complete waits.old }
+    requires open { is_open waits.old k ≡ true }
     ensures formed { IsFormed plan.now order.now starts.new endpoints.new.parts }
     ensures table { endpoints.new.parts.table ≡ endpoints.old.parts.table }
     ensures known { IsKnown plan.now order.now starts.new endpoints.new.parts boot.new.complete waits.new }
@@ -189,6 +226,7 @@ fn attend(
     if waits_still(plan, order, k, starts, waits) {
         return;
     }
+    let count = actions.len();
     visit(plan, order, k, drain, starts, endpoints, boot, actions);
     waits.note(
         plan,
@@ -197,7 +235,8 @@ fn attend(
         boot.is_complete(),
         order[k],
     );
-    close_done(plan, order, k, starts, endpoints, waits);
+    let told = actions.len() > count;
+    close_done(plan, order, k, starts, endpoints, waits, told);
 }
 
 /// Visits each service once, in the startup order, unless the run was tested at one of them. A service

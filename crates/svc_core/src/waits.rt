@@ -1,24 +1,24 @@
 //! The places of the startup order that a pass visits, and what the others wait for.
 
-ghost use Rattle.std.specs.Prelude.{◌≡◌, ◌<◌, ◌≤◌, ◌+◌, ℕ, true, false, length, slice_index, All, IfOk, IfSome, IfNone};
+ghost use Rattle.std.specs.Prelude.{◌≡◌, ◌<◌, ◌≤◌, ◌+◌, ◌≢◌, ℕ, true, false, length, slice_index, All, IfOk, IfSome, IfNone};
 ghost use Rattle.svc_graph.specs.Bits.{is_set, HasRows};
 ghost use Rattle.svc_record.specs.Plans.{service_count};
 ghost use Rattle.svc_record.specs.Validity.{IsValid};
 ghost use Rattle.svc_core.specs.StartsState.{IsStartsSized, is_flagged, ready_now};
 ghost use Rattle.std.specs.Bool.{OnTrue};
-ghost use Rattle.svc_core.specs.WaitsState.{is_open, IsUnmarked, KnowsReady, KnowsOthers, Opens, IsMarked, MarksIf, ClosesPlace, Parks};
+ghost use Rattle.svc_core.specs.WaitsState.{is_open, IsUnmarked, KnowsReady, KnowsOthers, Opens, IsMarked, MarksIf, ClosesPlace, OpensPlace, AreApart, Reopens, Parks};
 
-use crate::bits::Bits;
 use crate::plans::depends_of;
 use crate::starts::Starts;
 use std::alloc::Global;
 use std::marker::Model;
 use svc_base::NoMemory;
+use svc_graph::Bits;
 use svc_record::Plan;
 
 /// Which places are open, so that a pass visits them. A service that isn't started waits at its place
 /// for one dependency that isn't marked as ready; one that is started and has failed, or holds each of
-/// its endpoints, is done. Any other place is open.
+/// its endpoints, is done; and one of which an ask is open waits for the answer. Any other place is open.
 #[derive(Drop)]
 pub(crate) struct Waits {
     /// Row s has the places that wait for service s, the last row those that are open.
@@ -50,7 +50,8 @@ fn all_open(alloc: Global, services: u32, places: usize) -> Result<Bits, NoMemor
     ensures rows { IfOk result (λ bits. HasRows bits (services + 1)) }
     ensures open { IfOk result (λ bits. (k : ℕ) → k < places → is_set bits services k ≡ true) }
 {
-    let mut bits = Bits::new(alloc, services + 1)?;
+    let mut bits = Bits::new(alloc);
+    bits.grow(services + 1)?;
     for k in 0..places {
         bits.set(services, k as u32);
     }
@@ -69,6 +70,19 @@ fn last_unmarked(depends: &[u32], marks: &[bool], left: usize) -> Option<usize>
             return Some(left - 1);
         }
         left -= 1;
+    }
+    None
+}
+
+/// The place of the service.
+fn place_of(order: &[u32], s: u32) -> Option<usize>
+    ensures found { IfSome result (λ k. (k < length order.now) × (slice_index order.now k ≡ s)) }
+    ensures none { IfNone result ((k : ℕ) → k < length order.now → slice_index order.now k ≢ s) }
+{
+    for k in 0..order.len() {
+        if order[k] == s {
+            return Some(k);
+        }
     }
     None
 }
@@ -114,6 +128,7 @@ impl Waits {
     pub(crate) fn next(&self, from: usize, end: usize) -> Option<usize>
         requires { end ≤ 1024 }
         ensures found { IfSome result (λ k. (from ≤ k) × (k < end)) }
+        ensures open { IfSome result (λ k. is_open self.now k ≡ true) }
         ensures least { IfSome result (λ k. (c : ℕ) → from ≤ c → c < k → is_open self.now c ≡ false) }
         ensures none { IfNone result ((c : ℕ) → from ≤ c → c < end → is_open self.now c ≡ false) }
     {
@@ -150,6 +165,26 @@ impl Waits {
     {
         if failed[s as usize] {
             self.mark(s);
+        }
+    }
+
+    /// The place is visited again.
+    fn open(&mut self, k: usize)
+        requires { k < 1024 }
+        ensures { OpensPlace k self.old self.new }
+    {
+        let row = self.open_row();
+        self.bits.set(row, k as u32);
+    }
+
+    /// The service's place is visited again.
+    pub(crate) fn reopen(&mut self, order: &[u32], s: u32)
+        requires short { length order.now ≤ 1024 }
+        requires apart { AreApart order.now }
+        ensures { Reopens order.now s self.old self.new }
+    {
+        if let Some(k) = place_of(order, s) {
+            self.open(k);
         }
     }
 

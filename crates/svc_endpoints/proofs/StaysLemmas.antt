@@ -1,20 +1,22 @@
--- What an answer or a visit leaves of the flags of failed services, and of what is held.
+-- What an answer or a visit leaves of the flags of failed services, of what is held, and of the states of the other services.
 use Rattle.std.proofs.Common.{ℕ, Bool, true, false, inl, inr, List, [], ◌≡◌, refl, ap, sym, ◌∙◌, subst, arith, ◌<◌, length, Option, Some, None, slice_set, slice_index_or, if◌then◌else◌}
-use Rattle.std.proofs.lemmas.Bool.{cases_Bool}
+use Rattle.std.proofs.lemmas.Bool.{cases_Bool, ne_eqb}
 use Rattle.svc_record.specs.declared.plan.Plan.{Plan}
 use Rattle.svc_record.specs.Plans.{service_count, endpoints, address, any_with}
 use Rattle.svc_endpoints.specs.declared.states.EndpointStatus.TheVariants.{Idle, Binding, Adopting, Holding, AdoptionFailed}
 use Rattle.svc_endpoints.specs.declared.states.EndpointState.{EndpointState}
 use Rattle.svc_endpoints.specs.declared.visit.Visit.{Visit}
-use Rattle.svc_endpoints.specs.declared.visit.Visit.TheVariants.{Nothing}
+use Rattle.svc_endpoints.specs.declared.visit.Visit.TheVariants.{Nothing, Binds, Adopts}
 use Rattle.svc_endpoints.specs.EndpointsData.{EndpointsData}
 use Rattle.svc_endpoints.specs.EndpointsState.{IsEndpointsSized, last_at, failed_at, is_binding, is_adopting, is_asking, is_holding, times_in_use_at, numbers_with}
 use Rattle.svc_endpoints.specs.Effects.{first_of, put, fail_if, refused, is_last_refusal, bind_failed, adopt_failed, adopted, held_now, cleared_if, bound_or_again}
-use Rattle.svc_endpoints.specs.Visits.{IsDecided, IsFirst, busy_in, adopt_or_bind, decide_at, after}
-use Rattle.svc_endpoints.specs.Stays.{FailsOnly, StaysHeld}
+use Rattle.svc_endpoints.specs.Visits.{IsDecided, IsFirst, IsWithin, busy_in, adopt_or_bind, decide_at, after}
+use Rattle.svc_endpoints.specs.Stays.{FailsOnly, StaysHeld, OthersStay}
 use Rattle.svc_endpoints.proofs.OneLemmas.{binding_asks}
 use Rattle.svc_endpoints.proofs.KeptLemmas.{asking_not_holding, adopting_asks}
 use Rattle.svc_endpoints.proofs.ChangeLemmas.{Changed, changed-put}
+use Rattle.svc_endpoints.proofs.PutLemmas.{last_at-put}
+use Rattle.svc_endpoints.proofs.StatesLemmas.{last_at-fail}
 use Rattle.svc_endpoints.proofs.VisitedLemmas.{find_first}
 use Rattle.svc_base.proofs.Logic.{clash}
 
@@ -119,3 +121,42 @@ module _ (p : Plan) (d : EndpointsData) (s : ℕ) (sized : IsEndpointsSized p d)
   pub held-visit : (on : Bool) (moment : ℕ) (v : Visit) → IsDecided p d s on moment v → StaysHeld d (after d s v)
   held-visit true moment v decided = held_on moment v decided
   held-visit false moment v decided = held_where v Nothing (decided.off refl) (λ t k held. held)
+
+-- what the other services are left
+others-then : (s : ℕ) (d e f : EndpointsData) → OthersStay s d e → f.rows ≡ e.rows → OthersStay s d f
+others-then s d e f h same t k ne = ap (λ (r : List (List EndpointState)). last_at (record d { rows = r }) t k) same ∙ h t k ne
+
+rows_cleared : (b : Bool) (p : Plan) (keep : List ℕ) (d : EndpointsData) → (cleared_if b p keep d).rows ≡ d.rows
+rows_cleared true p keep d = refl
+rows_cleared false p keep d = refl
+
+pub others-answer : (p : Plan) (d mid made new : EndpointsData) (b : Bool) (keep : List ℕ) (s : ℕ) → made ≡ mid → new ≡ cleared_if b p keep made → OthersStay s d mid → OthersStay s d new
+others-answer p d mid made new b keep s is left h =
+    others-then s d mid new h (ap (λ (m : EndpointsData). m.rows) left ∙ rows_cleared b p keep made ∙ ap (λ (m : EndpointsData). m.rows) is)
+
+module _ (p : Plan) (d : EndpointsData) (s i : ℕ) (sized : IsEndpointsSized p d) (inside : s < service_count p) (within : i < length (endpoints p s)) where
+  pub others-put : (b : Bool) (x : EndpointState) → OthersStay s d (fail_if b s (put d s i x))
+  others-put b x t k ne =
+      last_at-fail b s (put d s i x) t k ∙ last_at-put d s i x (omega (arith, sized.services)) (omega (arith, sized.each s inside)) t k
+      ∙ (rw (ne_eqb s t (λ e. ne (sym e))) refl)
+
+  pub others-refused : (moment : ℕ) → OthersStay s d (refused p d s i moment)
+  others-refused moment = others-put (is_last_refusal p d s i) _
+
+  pub others-bind_failed : OthersStay s d (bind_failed d s i)
+  others-bind_failed = others-put true (record { last = Idle; times_in_use = times_in_use_at d s i })
+
+  pub others-adopt_failed : OthersStay s d (adopt_failed d s i)
+  others-adopt_failed = others-put true (record { last = AdoptionFailed; times_in_use = times_in_use_at d s i })
+
+  pub others-adopted : OthersStay s d (adopted d s i)
+  others-adopted = others-put false (record { last = held_now (last_at d s i); times_in_use = times_in_use_at d s i })
+
+  pub others-bound : (b : Bool) (fd : ℕ) (text : List ℕ) → OthersStay s d (bound_or_again b d s i fd text)
+  others-bound true fd text = others-put false (record { last = Idle; times_in_use = times_in_use_at d s i })
+  others-bound false fd text = others-put false (record { last = Holding fd; times_in_use = times_in_use_at d s i })
+
+pub others-visit : (p : Plan) (d : EndpointsData) (s : ℕ) → IsEndpointsSized p d → s < service_count p → (v : Visit) → IsWithin p s v → OthersStay s d (after d s v)
+others-visit p d s sized inside Nothing within = λ t k ne. refl
+others-visit p d s sized inside (Binds i) within = others-put p d s i sized inside within false (record { last = Binding; times_in_use = times_in_use_at d s i })
+others-visit p d s sized inside (Adopts i fd) within = others-put p d s i sized inside within false (record { last = Adopting fd; times_in_use = times_in_use_at d s i })

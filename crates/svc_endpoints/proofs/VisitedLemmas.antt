@@ -36,7 +36,7 @@ use Rattle.svc_endpoints.proofs.EventLemmas.{closes-told}
 use Rattle.svc_endpoints.specs.Uses.{uses, is_drained_by}
 use Rattle.svc_endpoints.proofs.RangeLemmas.{at0, get0, all0}
 use Rattle.svc_endpoints.proofs.StatesLemmas.{has_open-is, stands-asked, stands-offered}
-use Rattle.svc_endpoints.proofs.KeptLemmas.{kept-asked, kept-offered}
+use Rattle.svc_endpoints.proofs.KeptLemmas.{asking_not_holding, kept-asked, kept-offered}
 use Rattle.svc_endpoints.proofs.SharedLemmas.{right-bind, right-adopt, late-bind, late-adopt, cases_Option}
 use Rattle.svc_endpoints.proofs.LiveLemmas.{same_eq}
 use Rattle.svc_endpoints.proofs.VisitLemmas.{held-is, ask_open-is, holds-is, any_busy-is, busy_counts}
@@ -313,6 +313,10 @@ module _ (p : Plan) (d : EndpointsData) (s : ℕ) (q : Record) (sized : IsEndpoi
         ]
       ]
     ]
+
+  -- an ask of the service is open, so its visit tells nothing
+  pub visited-asked : (j : ℕ) → j < length (endpoints p s) → is_asking (last_at d s j) ≡ true → Visited p d s q []
+  visited-asked j within asks = visited-open (kept.asking_free s j asks) j (record { within = within; missing = asking_not_holding (last_at d s j) asks; earlier = λ k lt. kept.turn s j k asks lt }) asks
 
   pub leaves-on : (v : Visit) → IsDecided p d s true (now q) v → Visited p (after d s v) s q (told_by s v)
   leaves-on v decided = elim (cases_Bool (failed_at d s)) [

@@ -1,5 +1,5 @@
--- What a call leaves of the flags of failed services, and of what is held.
-use Rattle.std.specs.Prelude.{ℕ, Bool, true, ◌≡◌, ◌⊎◌, List, slice_set}
+-- What a call leaves of the flags of failed services, of what is held, and of the states of the other services.
+use Rattle.std.specs.Prelude.{ℕ, Bool, true, ◌≡◌, ◌≢◌, ◌⊎◌, List, slice_set}
 use Rattle.svc_endpoints.specs.EndpointsData.{EndpointsData}
 use Rattle.svc_endpoints.specs.EndpointsState.{last_at, is_holding}
 
@@ -10,3 +10,7 @@ FailsOnly s flags next = (next ≡ flags) ⊎ (next ≡ slice_set flags s true)
 -- each endpoint that is held stays held
 abbrev pub StaysHeld : EndpointsData → EndpointsData → Type 0
 StaysHeld d next = (t k : ℕ) → is_holding (last_at d t k) ≡ true → is_holding (last_at next t k) ≡ true
+
+-- the endpoints of each service but this one stay as they are
+abbrev pub OthersStay : ℕ → EndpointsData → EndpointsData → Type 0
+OthersStay s d next = (t k : ℕ) → t ≢ s → last_at next t k ≡ last_at d t k

@@ -80,6 +80,7 @@ impl Endpoints {
             (list_of actions.old) + length self.old.parts.table + length fds.now) }
         ensures failed { self.new.parts.failed ≡ self.old.parts.failed }
         ensures held { StaysHeld self.old.parts self.new.parts }
+        ensures rows { self.new.parts.rows ≡ self.old.parts.rows }
     {
         let (good, words) = read(alloc, bytes, fds.len())?;
         let mut out = NumberSet::new(alloc);

@@ -7,7 +7,7 @@ ghost use Rattle.svc_record.specs.Record.{Record, now};
 ghost use Rattle.svc_record.specs.Starts.{is_started};
 ghost use Rattle.svc_record.specs.Told.{Tells};
 ghost use Rattle.svc_endpoints.specs.EndpointsState.{IsEndpointsSized, EndpointsStand};
-ghost use Rattle.svc_endpoints.specs.Stays.{StaysHeld};
+ghost use Rattle.svc_endpoints.specs.Stays.{StaysHeld, OthersStay};
 ghost use Rattle.svc_endpoints.specs.Visits.{busy_in, any_busy, decide_at, IsWithin, IsDecided, IsAskOf, Visited, told_by, after};
 
 use crate::endpoints::Endpoints;
@@ -43,6 +43,7 @@ impl Endpoints {
         ensures room { spare actions.old ≤ spare actions.new + 1 }
         ensures few { length (list_of actions.new) ≤ length (list_of actions.old) + 1 }
         ensures held { StaysHeld self.old.parts self.new.parts }
+        ensures others { OthersStay s self.old.parts self.new.parts }
     {
         let visit = self.decide(plan, s, started, moment);
         self.tell_visit(plan, s, visit, actions);

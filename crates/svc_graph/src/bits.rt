@@ -11,9 +11,9 @@ use svc_base::NoMemory;
 /// How many words a row has.
 const ROW_WORDS: usize = 16;
 
-/// Rows of 1,024 bits, none of them set at first. Contracts see the words.
+/// Rows of 1,024 bits, none of them set at first: sets of services, and of places in their order. Contracts see the words.
 #[derive(Debug, Drop)]
-pub(crate) struct Bits {
+pub struct Bits {
     words: Vec<u64>,
 }
 
@@ -74,7 +74,7 @@ fn word_of(x: u32, y: u32) -> usize
 
 impl Bits {
     /// No row.
-    pub(crate) fn new(alloc: Global) -> Self
+    pub fn new(alloc: Global) -> Self
         ensures { result ≡ [] }
     {
         Bits {
@@ -82,8 +82,8 @@ impl Bits {
         }
     }
 
-    /// The same bits once more.
-    pub(crate) fn copied(&self, alloc: Global) -> Result<Bits, NoMemory>
+    /// The same bits once more. Refused where memory runs out (`NoMemory`).
+    pub fn copied(&self, alloc: Global) -> Result<Bits, NoMemory>
         ensures { IfOk result (λ copy. copy ≡ self.now) }
     {
         Ok(Bits {
@@ -91,8 +91,8 @@ impl Bits {
         })
     }
 
-    /// Makes at least this many rows.
-    pub(crate) fn grow(&mut self, rows: u32) -> Result<(), NoMemory>
+    /// Makes at least this many rows; the bits are as they were. Refused where memory runs out (`NoMemory`).
+    pub fn grow(&mut self, rows: u32) -> Result<(), NoMemory>
         ensures rows { OnOk result (HasRows self.new rows) }
         ensures kept { length self.old ≤ length self.new }
         ensures same { (a b : ℕ) → is_set self.new a b ≡ is_set self.old a b }
@@ -104,7 +104,7 @@ impl Bits {
     }
 
     /// Whether bit `y` of row `x` is set.
-    pub(crate) fn has(&self, x: u32, y: u32) -> bool
+    pub fn has(&self, x: u32, y: u32) -> bool
         requires row { HasRows self.now (x + 1) }
         requires bit { y < 1024 }
         ensures { result ≡ is_set self.now x y }
@@ -113,7 +113,7 @@ impl Bits {
     }
 
     /// Sets bit `y` of row `x`.
-    pub(crate) fn set(&mut self, x: u32, y: u32)
+    pub fn set(&mut self, x: u32, y: u32)
         requires row { HasRows self.old (x + 1) }
         requires bit { y < 1024 }
         ensures len { length self.new ≡ length self.old }
@@ -124,7 +124,7 @@ impl Bits {
     }
 
     /// Clears bit `y` of row `x`.
-    pub(crate) fn clear(&mut self, x: u32, y: u32)
+    pub fn clear(&mut self, x: u32, y: u32)
         requires row { HasRows self.old (x + 1) }
         requires bit { y < 1024 }
         ensures len { length self.new ≡ length self.old }
@@ -135,7 +135,7 @@ impl Bits {
     }
 
     /// A row takes over the bits of another one.
-    pub(crate) fn join(&mut self, into: u32, from: u32)
+    pub fn join(&mut self, into: u32, from: u32)
         requires into { HasRows self.old (into + 1) }
         requires from { HasRows self.old (from + 1) }
         requires apart { into ≢ from }
@@ -150,7 +150,7 @@ impl Bits {
     }
 
     /// The least bit of a row from `from` on that is set.
-    pub(crate) fn next(&self, x: u32, from: u32) -> Option<u32>
+    pub fn next(&self, x: u32, from: u32) -> Option<u32>
         requires row { HasRows self.now (x + 1) }
         ensures found { IfSome result (λ b. (from ≤ b) × (b < 1024) × (is_set self.now x b ≡ true)) }
         ensures least { IfSome result (λ b. (c : ℕ) → from ≤ c → c < b → is_set self.now x c ≡ false) }

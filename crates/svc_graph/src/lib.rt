@@ -10,6 +10,7 @@ mod reach;
 pub mod services;
 mod sort;
 
+pub use bits::Bits;
 pub use graph::{
     AddNodeReason, AddNodeRefused, DependencyError, DependencyGraph, NODE_LIMIT, Waiting,
 };

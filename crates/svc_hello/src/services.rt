@@ -1,6 +1,6 @@
 //! The services: a cache that fills before it is ready, and a web service that listens.
 
-ghost use Rattle.std.specs.Prelude.{◌≡◌, Some, None, map, codes, IfOk};
+ghost use Rattle.std.specs.Prelude.{◌≡◌, Some, None, is_some, map, codes, IfOk};
 ghost use Rattle.std.specs.Option.{option_to_list};
 ghost use Rattle.svc_hello.specs.Services.{kind_of, endpoint_at};
 ghost use Rattle.svc_hello.specs.declared.services.Work.TheVariants as works;
@@ -55,7 +55,9 @@ impl HelloService {
     }
 
     /// Whether it listens.
-    pub fn listens(&self) -> bool {
+    pub fn listens(&self) -> bool
+        ensures { result ≡ is_some self.now.address }
+    {
         self.address.is_some()
     }
 }

@@ -1,6 +1,6 @@
 //! What is outside of the server. A real host asks the operating system here; this one answers at once.
 
-ghost use Rattle.std.specs.Prelude.{IfSome};
+ghost use Rattle.std.specs.Prelude.{◌≡◌, false, IfSome};
 ghost use Rattle.svc_server.specs.Hosts.{BringsFew};
 
 use svc_record::{Action, Event, ExecutionPhase, ShutdownSignal, Side};
@@ -33,7 +33,10 @@ pub struct World {
 
 impl World {
     /// A world from which so many visitors come.
-    pub fn new(visitors: u64) -> Self {
+    pub fn new(visitors: u64) -> Self
+        ensures visitors { result.visitors ≡ visitors }
+        ensures open { result.shutdown ≡ false }
+    {
         World {
             visitors,
             greeted: 0,

@@ -72,6 +72,7 @@ fn is_text(line: &[u8]) -> bool
 }
 
 impl Reading {
+    /// Nothing read yet: no part has begun.
     pub fn new(alloc: Global) -> Self
         ensures part { result.part ≡ Nothing }
         ensures services { result.services.items ≡ [] }

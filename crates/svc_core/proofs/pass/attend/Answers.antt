@@ -1,9 +1,9 @@
-use Rattle.std.proofs.Common.{ap, length, sym, ◌∙◌, slice_index, subst}
+use Rattle.std.proofs.Common.{ap, length, sym, true, ◌≡◌, ◌∙◌, slice_index, subst}
 use Rattle.svc_base.specs.Items.{list_of}
 use Rattle.svc_core.specs.WaitsData.{WaitsData}
-use Rattle.svc_core.specs.WaitsState.{IsKnown}
+use Rattle.svc_core.specs.WaitsState.{IsKnown, is_open}
 use Rattle.svc_core.proofs.CopyLemmas.{bare-none}
-use Rattle.svc_core.proofs.WaitsLemmas.{attended, attended-others, keeps-same, parked, parked-idle, still-parked, still-same}
+use Rattle.svc_core.proofs.WaitsLemmas.{attended, attended-others, keeps-same, open-of, order-apart, parked, parked-idle, still-parked, still-same}
 use Rattle.svc_core.proofs.SkipLemmas.{passes-idle}
 use Rattle.svc_core.proofs.pass.attend.Goals as goal
 
@@ -36,7 +36,8 @@ returns-clause-known c =
     let known = subst (λ (w : WaitsData). IsKnown c.args.plan.now c.args.order.now c.args.starts.now c.args.endpoints.now.parts c.args.boot.now.complete w) (sym same) c.requires.known in
     attended c.args.plan.now c.args.order.now c.args.starts.now c.visit.new.starts c.args.endpoints.now.parts c.visit.new.endpoints.parts c.args.boot.now.complete c.visit.new.boot.complete
     c.waits_still.new.waits c.note.new.self c.close_done.new.waits c.args.k c.requires.formed.starts (c.requires.formed.in_order.inside c.args.k c.requires.place)
-    known c.visit.ensures.only (keeps-same c.args.endpoints.now.parts c.visit.new.endpoints.parts c.visit.ensures.held c.visit.ensures.failed) c.note.ensures.opens (rw c.is_complete.ensures at c.note.ensures.complete) (rw (c.failed.ensures, c.is_complete.ensures) at c.note.ensures.ready) c.close_done.ensures
+    known c.visit.ensures.only (keeps-same (slice_index c.args.order.now c.args.k) c.args.endpoints.now.parts c.visit.new.endpoints.parts c.visit.ensures.held c.visit.ensures.others c.visit.ensures.failed)
+    (open-of c.args.order.now c.args.k c.waits_still.new.waits (order-apart c.args.plan.now c.args.order.now c.requires.formed.least) c.requires.place (subst (λ (w : WaitsData). is_open w c.args.k ≡ true) (sym same) c.requires.open)) c.note.ensures.opens (rw c.is_complete.ensures at c.note.ensures.complete) (rw (c.failed.ensures, c.is_complete.ensures) at c.note.ensures.ready) c.close_done.ensures
 
 pub note-requires-clause-count : goal.note-requires-clause-count
 note-requires-clause-count c =

@@ -3,7 +3,7 @@ use Rattle.svc_record.specs.declared.event.Event.TheVariants.{Adopted}
 use Rattle.svc_endpoints.specs.declared.table.Open.{Open}
 use Rattle.svc_core.proofs.StepLemmas.{strike-answer, fits-adopt, silently}
 use Rattle.svc_core.proofs.StepForms.{opened, gives-up}
-use Rattle.svc_core.proofs.WaitsLemmas.{watched-same}
+use Rattle.svc_core.proofs.WaitsLemmas.{order-apart, watched-held}
 use Rattle.svc_core.proofs.machine.Core.step_adopted.Goals as goal
 
 pub returns : goal.returns
@@ -16,5 +16,9 @@ returns c = opened c.self.view_is c.requires (λ may.
 pub invariant_of-self : goal.invariant_of-self
 invariant_of-self c = record {
   formed = search rules;
-  watched = watched-same c.self.inside.plan c.self.inside.order.items c.self.inside.starts c.self.inside.endpoints.parts c.take_adopted.new.self.parts c.self.inside.waits c.take_adopted.ensures.held c.take_adopted.ensures.failed c.self.invariant.watched;
+  watched = watched-held c.self.inside.plan c.self.inside.order.items c.self.inside.starts c.self.inside.endpoints.parts c.take_adopted.new.self.parts c.args.s c.self.inside.waits c.reopen.new.self
+      c.take_adopted.ensures.held c.take_adopted.ensures.others c.take_adopted.ensures.failed (rw c.deref.ensures.value at c.reopen.ensures) c.self.invariant.watched;
 }
+
+pub reopen-requires : goal.reopen-requires
+reopen-requires c = rw c.deref.ensures.value (record { short = c.self.invariant.formed.in_order.short; apart = order-apart c.self.inside.plan c.self.inside.order.items c.self.invariant.formed.least })

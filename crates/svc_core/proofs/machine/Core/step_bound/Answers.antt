@@ -3,9 +3,9 @@ use Rattle.svc_record.specs.declared.event.Event.TheVariants.{Bound}
 use Rattle.svc_endpoints.specs.EndpointsData.{EndpointsData}
 use Rattle.svc_core.proofs.StepLemmas.{strike-answer, fits-bound, unheld}
 use Rattle.svc_core.proofs.StepForms.{opened, gives-up}
-use Rattle.svc_endpoints.specs.Stays.{StaysHeld}
+use Rattle.svc_endpoints.specs.Stays.{StaysHeld, OthersStay}
 use Rattle.svc_core.specs.WaitsState.{IsKept}
-use Rattle.svc_core.proofs.WaitsLemmas.{watched-same}
+use Rattle.svc_core.proofs.WaitsLemmas.{order-apart, watched-held}
 use Rattle.svc_core.proofs.machine.Core.step_bound.Goals as goal
 
 pub returns : goal.returns
@@ -21,6 +21,11 @@ invariant_of-self c = subst (λ (d : EndpointsData). IsKept c.self.inside.plan c
 pub invariant_of-self-2 : goal.invariant_of-self-2
 invariant_of-self-2 c = record {
   formed = search rules;
-  watched = watched-same c.self.inside.plan c.self.inside.order.items c.self.inside.starts c.self.inside.endpoints.parts c.take_bound.new.self.parts c.self.inside.waits
-      (subst (λ (d : EndpointsData). StaysHeld d c.take_bound.new.self.parts) c.in_ok-reserve.ensures.parts c.take_bound.ensures.held) (c.take_bound.ensures.failed ∙ ap (λ (d : EndpointsData). d.failed) c.in_ok-reserve.ensures.parts) c.self.invariant.watched;
+  watched = watched-held c.self.inside.plan c.self.inside.order.items c.self.inside.starts c.self.inside.endpoints.parts c.take_bound.new.self.parts c.args.s c.self.inside.waits c.reopen.new.self
+      (subst (λ (d : EndpointsData). StaysHeld d c.take_bound.new.self.parts) c.in_ok-reserve.ensures.parts c.take_bound.ensures.held)
+      (subst (λ (d : EndpointsData). OthersStay c.args.s d c.take_bound.new.self.parts) c.in_ok-reserve.ensures.parts c.take_bound.ensures.others) (c.take_bound.ensures.failed ∙ ap (λ (d : EndpointsData). d.failed) c.in_ok-reserve.ensures.parts)
+      (rw c.deref.ensures.value at c.reopen.ensures) c.self.invariant.watched;
 }
+
+pub reopen-requires : goal.reopen-requires
+reopen-requires c = rw c.deref.ensures.value (record { short = c.self.invariant.formed.in_order.short; apart = order-apart c.self.inside.plan c.self.inside.order.items c.self.invariant.formed.least })

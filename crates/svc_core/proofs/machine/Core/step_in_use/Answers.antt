@@ -1,4 +1,4 @@
-use Rattle.std.proofs.Common.{Bool, List, length, ◌<◌, refl, ap, arith, rules, sym, subst}
+use Rattle.std.proofs.Common.{Bool, List, length, ◌<◌, refl, ap, arith, rules, sym, subst, ◌∙◌}
 use Rattle.svc_record.specs.declared.event.Event.TheVariants.{InUse}
 use Rattle.svc_core.proofs.StepLemmas.{strike-answer, fits-bind}
 use Rattle.svc_core.proofs.StepForms.{opened, gives-up}
@@ -6,7 +6,7 @@ use Rattle.svc_record.specs.Plans.{service_count}
 use Rattle.svc_core.specs.CoreData.{CoreData}
 use Rattle.svc_core.specs.StartsState.{is_flagged}
 use Rattle.svc_core.specs.WaitsState.{MarksIf}
-use Rattle.svc_core.proofs.WaitsLemmas.{watched-answer}
+use Rattle.svc_core.proofs.WaitsLemmas.{order-apart, watched-answer}
 use Rattle.svc_core.proofs.machine.Core.step_in_use.Goals as goal
 
 pub returns : goal.returns
@@ -17,7 +17,7 @@ returns c = opened c.self.view_is c.requires (λ may. gives-up c.finish.ensures 
 pub mark_failed-requires : goal.mark_failed-requires
 mark_failed-requires c =
     let inside = subst (λ (core : CoreData). c.args.s < service_count core.plan) (sym c.self.view_is) c.requires.may.inside in
-    let count = c.self.invariant.watched.count in
+    let count = ap (λ (marks : List Bool). length marks) c.reopen.ensures.marks ∙ c.self.invariant.watched.count in
     let flags = ap (λ (failed : List Bool). length failed) c.failed.ensures in
     let sized = c.take_in_use.ensures.sized.failed in
     record { service = omega arith; flags = omega arith }
@@ -25,7 +25,11 @@ mark_failed-requires c =
 pub invariant_of-self : goal.invariant_of-self
 invariant_of-self c = record {
   formed = search rules;
-  watched = watched-answer c.self.inside.plan c.self.inside.order.items c.self.inside.starts c.self.inside.endpoints.parts c.take_in_use.new.self.parts c.args.s c.self.inside.waits c.mark_failed.new.self
-      (subst (λ (core : CoreData). c.args.s < service_count core.plan) (sym c.self.view_is) c.requires.may.inside) c.self.invariant.formed.endpoints c.take_in_use.ensures.failed c.take_in_use.ensures.held
-      (subst (λ (failed : List Bool). MarksIf (is_flagged failed c.args.s) c.args.s c.self.inside.waits c.mark_failed.new.self) c.failed.ensures c.mark_failed.ensures) c.self.invariant.watched;
+  watched = watched-answer c.self.inside.plan c.self.inside.order.items c.self.inside.starts c.self.inside.endpoints.parts c.take_in_use.new.self.parts c.args.s c.self.inside.waits c.reopen.new.self c.mark_failed.new.self
+      (subst (λ (core : CoreData). c.args.s < service_count core.plan) (sym c.self.view_is) c.requires.may.inside) c.self.invariant.formed.endpoints c.take_in_use.ensures.failed c.take_in_use.ensures.held c.take_in_use.ensures.others
+      (rw c.deref.ensures.value at c.reopen.ensures)
+      (subst (λ (failed : List Bool). MarksIf (is_flagged failed c.args.s) c.args.s c.reopen.new.self c.mark_failed.new.self) c.failed.ensures c.mark_failed.ensures) c.self.invariant.watched;
 }
+
+pub reopen-requires : goal.reopen-requires
+reopen-requires c = rw c.deref.ensures.value (record { short = c.self.invariant.formed.in_order.short; apart = order-apart c.self.inside.plan c.self.inside.order.items c.self.invariant.formed.least })

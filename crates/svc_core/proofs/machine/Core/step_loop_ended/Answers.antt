@@ -2,7 +2,6 @@ use Rattle.std.proofs.Common.{refl, ap, length, arith, rules, sym, subst, ◌∙
 use Rattle.svc_endpoints.specs.EndpointsData.{EndpointsData}
 use Rattle.svc_core.proofs.StepLemmas.{strike-loop}
 use Rattle.svc_core.proofs.StepForms.{opened, gives-up}
-use Rattle.svc_endpoints.specs.Stays.{StaysHeld}
 use Rattle.svc_core.specs.WaitsState.{IsKept}
 use Rattle.svc_core.proofs.WaitsLemmas.{watched-same}
 use Rattle.svc_core.proofs.machine.Core.step_loop_ended.Goals as goal
@@ -20,5 +19,5 @@ pub invariant_of-self-2 : goal.invariant_of-self-2
 invariant_of-self-2 c = record {
   formed = search rules;
   watched = watched-same c.self.inside.plan c.self.inside.order.items c.self.inside.starts c.self.inside.endpoints.parts c.take_loop_ended.new.self.parts c.self.inside.waits
-      (subst (λ (d : EndpointsData). StaysHeld d c.take_loop_ended.new.self.parts) c.in_ok-reserve_loop.ensures.parts c.take_loop_ended.ensures.held) (c.take_loop_ended.ensures.failed ∙ ap (λ (d : EndpointsData). d.failed) c.in_ok-reserve_loop.ensures.parts) c.self.invariant.watched;
+      (c.take_loop_ended.ensures.rows ∙ ap (λ (d : EndpointsData). d.rows) c.in_ok-reserve_loop.ensures.parts) (c.take_loop_ended.ensures.failed ∙ ap (λ (d : EndpointsData). d.failed) c.in_ok-reserve_loop.ensures.parts) c.self.invariant.watched;
 }

@@ -3,8 +3,8 @@ use Rattle.svc_base.specs.Items.{list_of}
 use Rattle.svc_endpoints.specs.EndpointsData.{EndpointsData}
 use Rattle.svc_endpoints.specs.Effects.{has_open, close_told}
 use Rattle.svc_endpoints.proofs.BoundStands.{tells-bound, bound-few}
-use Rattle.svc_endpoints.proofs.StaysLemmas.{failed-bound, held-bound}
-use Rattle.svc_endpoints.specs.Stays.{StaysHeld}
+use Rattle.svc_endpoints.proofs.StaysLemmas.{failed-bound, held-bound, others-bound}
+use Rattle.svc_endpoints.specs.Stays.{StaysHeld, OthersStay}
 use Rattle.svc_endpoints.proofs.endpoints.Endpoints.take_bound.Goals as goal
 
 pub returns-clause-stands : goal.returns-clause-stands
@@ -31,3 +31,7 @@ returns-clause-failed c = ap (λ (m : EndpointsData). m.failed) c.bind_or_close.
 pub returns-clause-held : goal.returns-clause-held
 returns-clause-held c = subst (λ (m : EndpointsData). StaysHeld c.args.self.now.parts m) (sym c.bind_or_close.ensures.after)
     (held-bound c.args.plan.now c.args.self.now.parts c.args.s c.args.i c.requires.sized c.requires.service c.requires.endpoint (has_open c.args.self.now.parts.table (Some c.args.text)) c.args.fd c.args.text c.requires.asks)
+
+pub returns-clause-others : goal.returns-clause-others
+returns-clause-others c = subst (λ (m : EndpointsData). OthersStay c.args.s c.args.self.now.parts m) (sym c.bind_or_close.ensures.after)
+    (others-bound c.args.plan.now c.args.self.now.parts c.args.s c.args.i c.requires.sized c.requires.service c.requires.endpoint (has_open c.args.self.now.parts.table (Some c.args.text)) c.args.fd c.args.text)

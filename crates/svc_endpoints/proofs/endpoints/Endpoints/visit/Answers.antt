@@ -1,9 +1,9 @@
 use Rattle.std.proofs.Common.{sym, subst}
 use Rattle.svc_base.specs.Items.{list_of}
 use Rattle.svc_endpoints.proofs.VisitedLemmas.{tells-visit}
-use Rattle.svc_endpoints.proofs.StaysLemmas.{held-visit}
+use Rattle.svc_endpoints.proofs.StaysLemmas.{held-visit, others-visit}
 use Rattle.svc_endpoints.specs.EndpointsData.{EndpointsData}
-use Rattle.svc_endpoints.specs.Stays.{StaysHeld}
+use Rattle.svc_endpoints.specs.Stays.{StaysHeld, OthersStay}
 use Rattle.svc_endpoints.proofs.endpoints.Endpoints.visit.Goals as goal
 
 pub returns-clause-visited : goal.returns-clause-visited
@@ -13,3 +13,7 @@ returns-clause-visited c = tells-visit c.args.plan.now c.args.self.now.parts c.t
 pub returns-clause-held : goal.returns-clause-held
 returns-clause-held c = subst (λ (m : EndpointsData). StaysHeld c.args.self.now.parts m) (sym c.tell_visit.ensures.after)
     (held-visit c.args.plan.now c.args.self.now.parts c.args.s c.requires.sized c.requires.service c.args.started c.args.moment c.decide-visit.result c.decide-visit.ensures.is)
+
+pub returns-clause-others : goal.returns-clause-others
+returns-clause-others c = subst (λ (m : EndpointsData). OthersStay c.args.s c.args.self.now.parts m) (sym c.tell_visit.ensures.after)
+    (others-visit c.args.plan.now c.args.self.now.parts c.args.s c.requires.sized c.requires.service c.decide-visit.result c.decide-visit.ensures.within)
