@@ -1,5 +1,5 @@
 //! What every crate stands on: want of memory, texts, lists, sets of numbers, lines and words of
-//! texts, settings, told calls, and sources and sinks of bytes that count their faults.
+//! texts, settings, the options of runtimes, told calls, and sources and sinks of bytes that count their faults.
 #![tactic(auto)]
 
 mod calls;
@@ -9,6 +9,7 @@ mod files;
 mod items;
 mod memory;
 mod number_set;
+mod runtime;
 mod settings;
 mod sink;
 mod source;
@@ -22,6 +23,7 @@ pub use files::{FileCall, FileError, Files, MemoryFile, MemoryFiles, SteadyFiles
 pub use items::{Bytes, ItemRefused, Items, Numbers, Reserved, Settings, Texts, copy_items};
 pub use memory::NoMemory;
 pub use number_set::NumberSet;
+pub use runtime::{RuntimeMetricsOpts, RuntimeMetricsPollTimeHistogramScale, RuntimeOpts};
 pub use settings::{Setting, TcpKeepalive};
 pub use sink::{MemorySink, Put, Sink, SteadySink, WriteFault, Writing, write_all};
 pub use source::{

@@ -19,7 +19,7 @@ use Rattle.svc_conf.specs.declared.server.configuration.field.OptionalNumberKey.
 use Rattle.svc_conf.specs.declared.server.configuration.field.OptionalNumberKey.TheVariants as OptionalNumbers
 use Rattle.svc_conf.specs.declared.server.configuration.kind.Kind.{Kind}
 use Rattle.svc_conf.specs.declared.server.configuration.kind.Kind.TheVariants.{Known, Opens, Item}
-use Rattle.svc_conf.specs.declared.server.configuration.runtime.RuntimeMetricsPollTimeHistogramScale.TheVariants.{Linear, Log}
+use Rattle.svc_base.specs.declared.runtime.RuntimeMetricsPollTimeHistogramScale.TheVariants.{Linear, Log}
 use Rattle.svc_conf.specs.declared.server.configuration.values.Value.{Value}
 use Rattle.svc_conf.specs.declared.server.configuration.said.Said.{Said}
 use Rattle.svc_conf.specs.declared.server.configuration.said.Said.TheVariants as said

@@ -4,7 +4,7 @@ use Rattle.std.specs.Prelude.{Bool, true, false, ◌==◌, if◌then◌else◌, 
 use Rattle.svc_conf.specs.declared.server.configuration.ServerConf.{ServerConf}
 use Rattle.svc_conf.specs.declared.server.configuration.key.Key.{Key}
 use Rattle.svc_conf.specs.declared.server.configuration.key.Key.TheVariants.{MaxBlockingThreads, RuntimeMetricsPollTimeHistogramResolutionMicros, RuntimeMetricsPollTimeHistogramBuckets, ListenerTasksPerFd, DaemonReadyTimeoutSeconds, DaemonNotifyTimeoutSeconds}
-use Rattle.svc_conf.specs.declared.server.configuration.runtime.RuntimeOpts.{RuntimeOpts}
+use Rattle.svc_base.specs.declared.runtime.RuntimeOpts.{RuntimeOpts}
 use Rattle.svc_conf.specs.OptionalNumbers.{is_zero, is_above}
 
 -- the configuration for which nothing was set

@@ -20,7 +20,7 @@ use Rattle.svc_conf.specs.declared.server.configuration.field.Field.{Field}
 use Rattle.svc_conf.specs.declared.server.configuration.field.Field.TheVariants.{Number, Flag, Text, OptionalText, OptionalNumber, Scale}
 use Rattle.svc_conf.specs.declared.server.configuration.field.Field.TheVariants as fields
 use Rattle.svc_conf.specs.declared.server.configuration.ServerConf.{ServerConf}
-use Rattle.svc_conf.specs.declared.server.configuration.runtime.RuntimeMetricsPollTimeHistogramScale.{RuntimeMetricsPollTimeHistogramScale}
+use Rattle.svc_base.specs.declared.runtime.RuntimeMetricsPollTimeHistogramScale.{RuntimeMetricsPollTimeHistogramScale}
 
 -- what the value of a key is
 abbrev pub field_of : Key → Field

@@ -6,8 +6,8 @@ use Rattle.std.specs.Fmt.{decimal}
 use Rattle.std.specs.Str.{is_utf8}
 use Rattle.svc_conf.specs.declared.server.configuration.ServerConf.{ServerConf}
 use Rattle.svc_conf.specs.declared.server.configuration.key.Key.{Key}
-use Rattle.svc_conf.specs.declared.server.configuration.runtime.RuntimeMetricsPollTimeHistogramScale.{RuntimeMetricsPollTimeHistogramScale}
-use Rattle.svc_conf.specs.declared.server.configuration.runtime.RuntimeMetricsPollTimeHistogramScale.TheVariants.{Linear, Log}
+use Rattle.svc_base.specs.declared.runtime.RuntimeMetricsPollTimeHistogramScale.{RuntimeMetricsPollTimeHistogramScale}
+use Rattle.svc_base.specs.declared.runtime.RuntimeMetricsPollTimeHistogramScale.TheVariants.{Linear, Log}
 use Rattle.svc_conf.specs.declared.server.configuration.field.Field.{Field}
 use Rattle.svc_conf.specs.declared.server.configuration.field.Field.TheVariants as fields
 use Rattle.svc_conf.specs.OptionalNumbers.{is_zero}

@@ -3,8 +3,8 @@ use Rattle.std.specs.Prelude.{ℕ, ◌^◌, Bool, true, false, not, ◌||◌, �
 use Rattle.std.specs.Option.{option_map}
 use Rattle.std.specs.List.{list_any}
 use Rattle.std.specs.Str.{bytes_eq, is_utf8}
-use Rattle.svc_conf.specs.declared.server.configuration.runtime.RuntimeMetricsPollTimeHistogramScale.{RuntimeMetricsPollTimeHistogramScale}
-use Rattle.svc_conf.specs.declared.server.configuration.runtime.RuntimeMetricsPollTimeHistogramScale.TheVariants.{Linear, Log}
+use Rattle.svc_base.specs.declared.runtime.RuntimeMetricsPollTimeHistogramScale.{RuntimeMetricsPollTimeHistogramScale}
+use Rattle.svc_base.specs.declared.runtime.RuntimeMetricsPollTimeHistogramScale.TheVariants.{Linear, Log}
 use Rattle.svc_conf.specs.declared.server.configuration.field.OptionalNumberKey.{OptionalNumberKey}
 use Rattle.svc_conf.specs.declared.server.configuration.field.OptionalNumberKey.TheVariants.{DaemonReadyTimeoutSeconds, DaemonNotifyTimeoutSeconds}
 use Rattle.svc_conf.specs.declared.server.configuration.field.Field.{Field}

@@ -1,6 +1,6 @@
 -- The life of an application that a service has, and what the service answers.
 use Rattle.std.specs.Prelude.{◌≡◌, Bool, true, false, ◌||◌, List, Option, Some, None, is_some, unwrap_or, if◌then◌else◌}
-use Rattle.svc_conf.specs.declared.server.configuration.runtime.RuntimeOpts.{RuntimeOpts}
+use Rattle.svc_base.specs.declared.runtime.RuntimeOpts.{RuntimeOpts}
 use Rattle.svc_graph.specs.declared.services.RunPoll.{RunPoll}
 use Rattle.svc_graph.specs.declared.services.RunPoll.TheVariants.{Pending, Ended}
 use Rattle.svc_streams.specs.Events.{AppCall, CleanedUp, IsCalled}

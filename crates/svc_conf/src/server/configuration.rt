@@ -9,7 +9,6 @@ mod kind;
 mod place;
 mod read_error;
 mod reading;
-mod runtime;
 mod said;
 mod values;
 mod words;
@@ -17,9 +16,9 @@ mod yaml;
 
 pub use key::Key;
 pub use read_error::ReadError;
-pub use runtime::{RuntimeMetricsOpts, RuntimeMetricsPollTimeHistogramScale, RuntimeOpts};
 use std::alloc::Global;
 use svc_base::{NoMemory, Text, Texts};
+pub use svc_base::{RuntimeMetricsOpts, RuntimeMetricsPollTimeHistogramScale, RuntimeOpts};
 pub use words::OptError;
 
 const MAX_RUNTIME_METRICS_POLL_TIME_HISTOGRAM_BUCKETS: u64 = 1024;

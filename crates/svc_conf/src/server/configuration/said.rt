@@ -4,10 +4,9 @@ ghost use Rattle.std.specs.Prelude.{◌≡◌, [], OnOk};
 ghost use Rattle.std.specs.List.{push};
 
 use super::field::{FlagKey, ListKey, NumberKey, OptionalNumberKey, OptionalTextKey, TextKey};
-use super::runtime::RuntimeMetricsPollTimeHistogramScale;
 use crate::server::configuration::ServerConf;
 use std::alloc::Global;
-use svc_base::{NoMemory, Text, Texts};
+use svc_base::{NoMemory, RuntimeMetricsPollTimeHistogramScale, Text, Texts};
 
 /// The value of a key, or an item of a list.
 #[derive(Drop)]

@@ -8,11 +8,10 @@ ghost use Rattle.svc_base.specs.Words.{number_of};
 
 use super::cuts::{before_comment, is_end, past_blanks, without_end};
 use super::field::{Field, OptionalNumberKey};
-use super::runtime::RuntimeMetricsPollTimeHistogramScale;
 use super::said::Said;
 use std::alloc::Global;
 use std::str;
-use svc_base::{NoMemory, Text, number};
+use svc_base::{NoMemory, RuntimeMetricsPollTimeHistogramScale, Text, number};
 
 /// The value of a line: what it means, and whether it stood in quotes.
 #[derive(Drop)]

@@ -9,12 +9,11 @@ ghost use Rattle.svc_conf.specs.Printing.{is_plain_byte, is_plain_front, needs_n
 use super::field::{
     Field, FlagKey, KEYS, ListKey, NumberKey, OptionalNumberKey, OptionalTextKey, TextKey, field_of,
 };
-use super::runtime::RuntimeMetricsPollTimeHistogramScale;
 use super::values::{ends_in_colon, is_null_word};
 use crate::server::configuration::{Key, ServerConf};
 use std::alloc::Global;
 use std::str;
-use svc_base::{NoMemory, Text, Texts};
+use svc_base::{NoMemory, RuntimeMetricsPollTimeHistogramScale, Text, Texts};
 
 fn put(out: &mut Vec<u8>, bytes: &[u8]) -> Result<(), NoMemory>
     ensures { OnOk result (out.new.items ≡ out.old.items ++ bytes.now) }

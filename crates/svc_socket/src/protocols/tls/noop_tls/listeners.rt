@@ -1,7 +1,6 @@
 //! The listening side.
 
 use super::stream::SslStream;
-use svc_conf::ServerConf;
 use thiserror::Error;
 
 /// There is no TLS. The stream comes back.
@@ -41,8 +40,8 @@ impl TlsSettings {
     /// Does nothing.
     pub fn set_offload_threadpool(&mut self, _pools: u64, _threads: u64) {}
 
-    /// Does nothing.
-    pub fn set_offload_threadpool_from_server_conf(&mut self, _conf: &ServerConf) {}
+    /// Does nothing, whatever the configuration of the server is.
+    pub fn set_offload_threadpool_from_server_conf<C>(&mut self, _conf: &C) {}
 }
 
 impl Acceptor {
