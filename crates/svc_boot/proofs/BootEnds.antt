@@ -13,7 +13,7 @@ use Rattle.svc_record.specs.declared.action.BootstrapError.TheVariants.{Transfer
 use Rattle.svc_record.specs.Record.{Record, has, times, once_if, now, is_running, is_bootstrap, is_bootstrap_complete, EachEntry}
 use Rattle.svc_record.specs.Asks.{is_daemonize, is_try, is_try_open}
 use Rattle.svc_record.specs.Boot.{BootRight, boots, has_begun, is_notify, is_open_receiver, is_good_message, is_side_parent, runs, receive_right, complete_right, boot_entries_right, start_after_boot, try_rests}
-use Rattle.svc_record.specs.Drain.{has_passed}
+use Rattle.svc_record.specs.Drain.{waits_are_over}
 use Rattle.svc_record.specs.Ends.{step_end, has_ended, has_ended_early, is_child_ready, ends_tested, ends_parent_well, ends_parent_badly, ends_transfer, ends_no_sender, ends_bad_message}
 use Rattle.svc_record.specs.Fits.{parent_waits}
 use Rattle.svc_boot.specs.declared.fork.Fork.{Fork}
@@ -161,17 +161,17 @@ module _ (p : Plan) (d : BootData) (q : Record) (stand : BootStands p d q) where
   bad_message-is = stand.receiving.bad_is
 
   -- the run's end, unless it has passed
-  pub end-is : step_end p q ≡ (if has_passed p q then Served else end_of p d)
+  pub end-is : step_end p q ≡ (if waits_are_over p q then Served else end_of p d)
   end-is = rw (tested-is, parent_well-is, parent_badly-is, transfer-is, no_sender-is, bad_message-is)
-      (ap (λ x. if has_passed p q then Served else (if p.test && d.begun then Tested else x)) (early-end d.fork d.receiving stand.fork.status_is))
+      (ap (λ x. if waits_are_over p q then Served else (if p.test && d.begun then Tested else x)) (early-end d.fork d.receiving stand.fork.status_is))
 
   -- whether it has ended otherwise than served or tested
   pub early-is : has_ended_early p q ≡ is_early d
   early-is = rw (parent_well-is, parent_badly-is, transfer-is, no_sender-is, bad_message-is) (early-either d.fork d.receiving)
 
   -- whether it has ended
-  pub ended-is : has_ended p q ≡ (has_passed p q || is_over p d)
-  ended-is = rw (tested-is, early-is) (or_three (has_passed p q) (p.test && d.begun) (is_early d))
+  pub ended-is : has_ended p q ≡ (waits_are_over p q || is_over p d)
+  ended-is = rw (tested-is, early-is) (or_three (waits_are_over p q) (p.test && d.begun) (is_early d))
     where
       or_three : (a b c : Bool) → ((a || b) || c) ≡ (a || (b || c))
       or_three a b c = grind arith

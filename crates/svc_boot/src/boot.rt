@@ -54,7 +54,7 @@ fn miss(retry: &mut ReceiveRetry) -> bool
 }
 
 /// The fork after it came at the moment, in milliseconds, by whether a parent waits.
-fn take_fork(side: Side, wait: bool, moment: u64) -> Fork
+fn fork_after(side: Side, wait: bool, moment: u64) -> Fork
     ensures { result ≡ side_taken wait side moment }
 {
     match side {
@@ -161,16 +161,16 @@ impl Boot {
 
     /// The fork that was awaited came at the moment, in milliseconds: the child goes on, and the
     /// parent waits for it, or ends where the plan doesn't wait.
-    pub fn take_side(&mut self, plan: &Plan, side: Side, moment: u64)
+    pub fn on_side(&mut self, plan: &Plan, side: Side, moment: u64)
         requires { is_asked self.old.fork ≡ true }
         ensures after { self.new ≡ forked (side_taken plan.now.wait side moment) self.old }
         ensures stands { (q : Record) → moment ≡ now q → BootStands plan.now self.old q → BootStands plan.now self.new (Got (Sides side) ∷ q) }
     {
-        self.fork = take_fork(side, plan.wait, moment);
+        self.fork = fork_after(side, plan.wait, moment);
     }
 
     /// The child is ready for which the parent waits, and so the parent ends well.
-    pub fn take_child_ready(&mut self)
+    pub fn on_child_ready(&mut self)
         requires { is_waiting self.old.fork ≡ true }
         ensures after { self.new ≡ forked (Over 0) self.old }
         ensures stands { (p : Plan) (q : Record) → BootStands p self.old q → BootStands p self.new (Got ChildReady ∷ q) }
@@ -180,7 +180,7 @@ impl Boot {
 
     /// The child is gone for which the parent waits, or the parent couldn't drop its rights, and so
     /// the parent ends badly.
-    pub fn take_parent_failure(&mut self)
+    pub fn on_parent_failure(&mut self)
         requires { is_waiting self.old.fork ≡ true }
         ensures after { self.new ≡ forked (Over 1) self.old }
         ensures stands { (p : Plan) (q : Record) (e : Event) → is_parent_failure (Got e) ≡ true → BootStands p self.old q → BootStands p self.new (Got e ∷ q) }
@@ -302,7 +302,7 @@ impl Boot {
 
     /// The open try met no sender at the moment, in milliseconds: it is tried again later, or there
     /// was one miss too many.
-    pub fn take_no_sender(&mut self, moment: u64)
+    pub fn on_no_sender(&mut self, moment: u64)
         requires { is_trying self.old.receiving ≡ true }
         ensures after { self.new ≡ missed moment self.old }
         ensures stands { (p : Plan) (q : Record) → moment ≡ now q → BootStands p self.old q → BootStands p self.new (Got NoSenderYet ∷ q) }
@@ -315,7 +315,7 @@ impl Boot {
     }
 
     /// The open try failed.
-    pub fn take_failed(&mut self)
+    pub fn on_receive_failed(&mut self)
         requires { is_trying self.old.receiving ≡ true }
         ensures after { self.new ≡ failed self.old }
         ensures stands { (p : Plan) (q : Record) → BootStands p self.old q → BootStands p self.new (Got ReceiveFailed ∷ q) }
@@ -324,7 +324,7 @@ impl Boot {
     }
 
     /// The open try brought a message. It can be read, or ends the run.
-    pub fn take_received(&mut self, good: bool)
+    pub fn on_received(&mut self, good: bool)
         requires { is_trying self.old.receiving ≡ true }
         ensures after { self.new ≡ received good self.old }
         ensures stands { (p : Plan) (q : Record) (bytes fds : List ℕ) → good ≡ is_read (decode bytes (length fds)) → BootStands p self.old q

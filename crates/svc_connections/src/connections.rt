@@ -70,7 +70,7 @@ fn tell_judged(c: u64, peer: &Peer, said: bool, actions: &mut Actions)
 
 /// Accepting at the service's endpoint failed with this number: it rests where too many files are
 /// open.
-pub fn take_accept_failed(s: u32, i: u32, number: u32, actions: &mut Actions)
+pub fn on_accept_failed(s: u32, i: u32, number: u32, actions: &mut Actions)
     requires room { 1 ≤ spare actions.old }
     ensures told { list_of actions.new ≡ list_of actions.old ++ rest_told s i number }
     ensures stands { (p : Plan) (d : ConnectionsData) (q : Record) → is_endpoint p s i ≡ true → ConnectionsStand p d q
@@ -157,7 +157,7 @@ impl Connections {
 
     /// A new connection arrived at the service's endpoint from the peer, of which the filter says
     /// yes or no: it is refused, or the settings are applied.
-    pub fn take_arrived(
+    pub fn on_arrived(
         &mut self,
         c: u64,
         peer: &Peer,
@@ -187,7 +187,7 @@ impl Connections {
     }
 
     /// The connection goes on to the stage, or is live no more.
-    fn go_on(&mut self, c: u64, ok: bool, stage: Stage)
+    fn advance_to(&mut self, c: u64, ok: bool, stage: Stage)
         ensures { self.new.parts ≡ gone_on c ok stage self.old.parts }
     {
         if ok {
@@ -199,7 +199,7 @@ impl Connections {
 
     /// The connection's settings were applied, and its handshake is polled; or they weren't, and it
     /// is dropped.
-    pub fn take_set(&mut self, c: u64, ok: bool, actions: &mut Actions)
+    pub fn on_set(&mut self, c: u64, ok: bool, actions: &mut Actions)
         requires awaited { is_setting (stage_of self.old.parts.live c) ≡ true }
         requires room { 1 ≤ spare actions.old }
         ensures after { self.new.parts ≡ gone_on c ok Shaking self.old.parts }
@@ -209,7 +209,7 @@ impl Connections {
         ensures room { spare actions.old ≤ spare actions.new + 1 }
         ensures few { length (list_of actions.new) ≤ length (list_of actions.old) + 1 }
     {
-        self.go_on(c, ok, Stage::Shaking);
+        self.advance_to(c, ok, Stage::Shaking);
         if ok {
             actions.put(Action::Handshake(c));
         } else {
@@ -218,7 +218,7 @@ impl Connections {
     }
 
     /// The connection's handshake is done, and it is served; or it failed, and it is dropped.
-    pub fn take_shaken(&mut self, c: u64, ok: bool, actions: &mut Actions)
+    pub fn on_shaken(&mut self, c: u64, ok: bool, actions: &mut Actions)
         requires awaited { is_shaking (stage_of self.old.parts.live c) ≡ true }
         requires room { 1 ≤ spare actions.old }
         ensures after { self.new.parts ≡ gone_on c ok Serving self.old.parts }
@@ -228,7 +228,7 @@ impl Connections {
         ensures room { spare actions.old ≤ spare actions.new + 1 }
         ensures few { length (list_of actions.new) ≤ length (list_of actions.old) + 1 }
     {
-        self.go_on(c, ok, Stage::Serving);
+        self.advance_to(c, ok, Stage::Serving);
         if ok {
             actions.put(Action::Serve(c));
         } else {
@@ -237,7 +237,7 @@ impl Connections {
     }
 
     /// The application is done with the connection.
-    pub fn take_finished(&mut self, c: u64)
+    pub fn on_finished(&mut self, c: u64)
         requires served { is_serving (stage_of self.old.parts.live c) ≡ true }
         ensures after { self.new.parts ≡ finished c self.old.parts }
         ensures stands { (p : Plan) (q : Record) → ConnectionsStand p self.old.parts q → ConnectionsStand p self.new.parts (Got (Finished c) ∷ q) }

@@ -9,6 +9,6 @@ mod live;
 mod settings;
 mod stage;
 
-pub use connections::{Connections, take_accept_failed};
+pub use connections::{Connections, on_accept_failed};
 pub use settings::settings_of;
 pub use stage::{Connection, Stage};

@@ -14,7 +14,7 @@ use Rattle.svc_record.specs.Record.{Record, has, times, now, tell, is_signal, is
 use Rattle.svc_record.specs.Asks.{is_settings_open, is_handshake_open}
 use Rattle.svc_record.specs.Boot.{runs, has_begun}
 use Rattle.svc_record.specs.Connections.{arrived_numbers, is_arrival, is_serve, is_known, is_live_connection, has_filter}
-use Rattle.svc_record.specs.Drain.{has_passed, moment_right}
+use Rattle.svc_record.specs.Drain.{waits_are_over, moment_right}
 use Rattle.svc_base.specs.NumberSets.{ascending}
 use Rattle.svc_record.specs.Ends.{has_ended, ends_tested, TestedRight}
 use Rattle.svc_record.specs.Endpoints.{EndpointsRight, EndpointsRightLate}
@@ -291,7 +291,7 @@ module _ (core : CoreData) (cn : ConnectionsData) (e : Event) (told : List Actio
   pub dealt-right : StepRight (with_connections cn core) (tell (Got e ∷ q) told) core.end
   dealt-right =
       let settled = settled-of core q stands on in
-      let unpassed : has_passed core.plan dealt ≡ false = passed-is core.plan core.drain (over_since core.offer.state) dealt going.drain settled.drain ∙ settled.waits in
+      let unpassed : waits_are_over core.plan dealt ≡ false = passed-is core.plan core.drain (over_since core.offer.state) dealt going.drain settled.drain ∙ settled.waits in
       let end : core.end ≡ end_of core.plan core.boot = stands.end_is ∙ end-of-boot core q stands on in
       record {
         stands = record {

@@ -18,7 +18,7 @@ use Rattle.svc_record.specs.Boot.{BootRight, may_begin, has_begun, runs, start_a
 use Rattle.svc_record.specs.Closes.{ClosesRight, close_once}
 use Rattle.svc_record.specs.Connections.{ConnRight, connection_known, live_connections}
 use Rattle.svc_record.specs.Descriptors.{Descriptor, opened_descriptors, is_opened, is_close}
-use Rattle.svc_record.specs.Drain.{Drain, PhasesRight, is_ending, has_passed, every_moment_right, last_actions, live_numbers}
+use Rattle.svc_record.specs.Drain.{Drain, PhasesRight, is_ending, waits_are_over, every_moment_right, last_actions, live_numbers}
 use Rattle.svc_base.specs.NumberSets.{ascending}
 use Rattle.svc_record.specs.Ends.{has_ended, has_ended_early, ends_tested, TestedRight}
 use Rattle.svc_record.specs.Endpoints.{EndpointsRight}
@@ -48,7 +48,7 @@ use Rattle.svc_drain.specs.DrainState.{passes}
 use Rattle.svc_drain.specs.DrainEffects.{end_told, stop_after}
 use Rattle.svc_record.proofs.CutLaws.{unsignalled-unpassed}
 use Rattle.svc_drain.proofs.Passing.{passed-is, passed-tell}
-use Rattle.svc_drain.proofs.Ending.{ending-is, marks-at-end}
+use Rattle.svc_drain.proofs.Terminating.{ending-is, marks-at-end}
 use Rattle.svc_connections.specs.ConnectionsState.{numbers}
 use Rattle.svc_connections.proofs.Ending.{cut-right, known-end, none-live}
 use Rattle.svc_core.specs.CoreData.{CoreData, with_end}
@@ -84,10 +84,10 @@ unended-before p q e h = not_ended (has_ended p q) (fits_row p q e) h
     not_ended : (a c : Bool) → (not a && c) ≡ true → a ≡ false
     not_ended a c k = grind arith
 
-unpassed-before : (p : Plan) (q : Record) → has_ended p q ≡ false → has_passed p q ≡ false
-unpassed-before p q h = (or_parts (has_passed p q) (ends_tested p q) (or_parts (has_passed p q || ends_tested p q) (has_ended_early p q) h).0).0
+unpassed-before : (p : Plan) (q : Record) → has_ended p q ≡ false → waits_are_over p q ≡ false
+unpassed-before p q h = (or_parts (waits_are_over p q) (ends_tested p q) (or_parts (waits_are_over p q || ends_tested p q) (has_ended_early p q) h).0).0
 
-silent-earlier : (p : Plan) (q : Record) → EachEntry (λ e before. event_fits p e before ≡ true) q → EachEarlier (λ before. has_passed p before ≡ false) q
+silent-earlier : (p : Plan) (q : Record) → EachEntry (λ e before. event_fits p e before ≡ true) q → EachEarlier (λ before. waits_are_over p before ≡ false) q
 silent-earlier p [] h = tt
 silent-earlier p (Got e ∷ q) h = (unpassed-before p q (unended-before p q e h.0), silent-earlier p q h.1)
 silent-earlier p (Told a ∷ q) h = silent-earlier p q h.1
@@ -179,10 +179,10 @@ module _ (core : CoreData) (q : Record) (in_order : IsInOrder core.plan core.ord
       subst (EachEntry (λ e before. test e before ≡ true)) (sym split)
       (a, (b, each-closes test c cut_at fds (each-cuts test k runtimes_at cs (f, h))))
 
-  passed : has_passed p q ≡ true
+  passed : waits_are_over p q ≡ true
   passed = passed-is core.plan core.drain (over_since core.offer.state) q at.going.drain at.drain ∙ waits
 
-  end-passed : has_passed p ended_at ≡ true
+  end-passed : waits_are_over p ended_at ≡ true
   end-passed = passed-tell p q last ∙ passed
 
   -- a signal came, so the server runs
@@ -293,7 +293,7 @@ module _ (core : CoreData) (q : Record) (in_order : IsInOrder core.plan core.ord
   end-drain : Drain p ended_at
   end-drain = record {
     passes = end-passed;
-    first = EachEarlier-tell (λ before. has_passed p before ≡ false) q last (silent-earlier p q at.going.entries.fits);
+    first = EachEarlier-tell (λ before. waits_are_over p before ≡ false) q last (silent-earlier p q at.going.entries.fits);
     phases = (end-marks, EachEarlier-tell (PhasesRight p) q last (EachEarlier-weaker (OpenRight p) (PhasesRight p) (λ b h. h.phases) q earlier-open));
     moments = end-moments;
     ends = subst (λ b. ended_at ≡ tell b (last_actions p b)) (sym end-at) end-actions;
@@ -406,7 +406,7 @@ module _ (core : CoreData) (q : Record) (in_order : IsInOrder core.plan core.ord
       one_ask = (end-asks, EachEarlier-tell (λ before. one_ask p before ≡ true) q last at.going.asks);
       tested = not_true (ends_tested p ended_at) (TestedRight p ended_at) end-untested;
       closes = end-closes;
-      last_step = to_true (has_passed p ended_at) (LastStepRight p (before_runtimes ended_at)) (subst (LastStepRight p) (sym end-at) last-step);
+      last_step = to_true (waits_are_over p ended_at) (LastStepRight p (before_runtimes ended_at)) (subst (LastStepRight p) (sym end-at) last-step);
       moments = end-moments;
       known_starts = each-end (start_known p) (λ f b. refl) (λ n b. refl) refl refl refl at.going.entries.known_starts;
       known_asks = each-end (ask_known p) (λ f b. refl) (λ n b. refl) refl refl refl at.going.ends.asks_known;
@@ -423,7 +423,7 @@ module _ (core : CoreData) (q : Record) (in_order : IsInOrder core.plan core.ord
       in_turn = each-end (ask_due p) (λ f b. refl) (λ n b. refl) refl refl refl at.going.ends.asks_due;
       fails = (end-fails, EachEarlier-tell (FailsRight p) q last at.going.fails);
     };
-    passed = to_true (has_passed p ended_at) (PassedRight p ended_at) (record {
+    passed = to_true (waits_are_over p ended_at) (PassedRight p ended_at) (record {
       served = end-served;
       boot = end-boot;
       offer = offer-right p core.offer ended_at end-offer-stands offer-settled;

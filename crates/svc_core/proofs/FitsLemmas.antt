@@ -22,7 +22,7 @@ use Rattle.svc_record.specs.Descriptors.{brings}
 use Rattle.svc_record.specs.declared.action.StepEnd.{StepEnd}
 use Rattle.svc_record.specs.declared.action.StepEnd.TheVariants.{On, Served, Tested, Parent, Ended as EndedBy}
 use Rattle.svc_record.specs.declared.action.BootstrapError.TheVariants.{Transfer, NoSender, BadMessage}
-use Rattle.svc_record.specs.Drain.{has_passed}
+use Rattle.svc_record.specs.Drain.{waits_are_over}
 use Rattle.svc_record.specs.Ends.{has_ended, step_end, ends_tested, ends_parent_well, ends_parent_badly, ends_transfer, ends_no_sender, ends_bad_message}
 use Rattle.svc_record.specs.Closes.{is_broadcast, is_loop_end, have_loops_ended}
 use Rattle.svc_record.specs.Connections.{is_arrival, is_serve, is_live_connection}
@@ -283,7 +283,7 @@ pub ended-none : (core : CoreData) (q : Record) (e : Event) → is_on core.end �
 ended-none core q e off stands fit = ended (has_ended core.plan q) (step_end core.plan q) (sym (ap is_on stands.end_is) ∙ off) (goes_on core.plan q) (and_parts (not (has_ended core.plan q)) (fits_row core.plan q e) fit).0
   where
     goes_on : (p : Plan) (r : Record) → has_ended p r ≡ false → is_on (step_end p r) ≡ true
-    goes_on p r h = by (has_passed p r) (ends_tested p r) (ends_parent_well p r) (ends_parent_badly p r) (ends_transfer r) (ends_no_sender p r) (ends_bad_message r) h
+    goes_on p r h = by (waits_are_over p r) (ends_tested p r) (ends_parent_well p r) (ends_parent_badly p r) (ends_transfer r) (ends_no_sender p r) (ends_bad_message r) h
       where
         by : (a b c d f g i : Bool) → ((a || b) || (((c || d) || f) || (g || i))) ≡ false
             → is_on (if a then Served else (if b then Tested else (if c then Parent 0 else (if d then Parent 1 else (if f then EndedBy Transfer else (if g then EndedBy NoSender else (if i then EndedBy BadMessage else On))))))) ≡ true

@@ -41,7 +41,7 @@ use Rattle.svc_offer.specs.OfferFacts.{is_offer_event}
 use Rattle.svc_offer.proofs.Foreign as offers
 use Rattle.svc_offer.proofs.OfferRules.{held-back-got}
 use Rattle.svc_drain.specs.declared.stage.Stage.{Stage}
-use Rattle.svc_drain.specs.declared.stage.Stage.TheVariants.{Running, Offering as OfferStage, Resting, Grace, Ending, CutShort}
+use Rattle.svc_drain.specs.declared.stage.Stage.TheVariants.{Running, Offering as OfferStage, CloseTimeout, Grace, Terminating, CutShort}
 use Rattle.svc_drain.specs.DrainData.{DrainData}
 use Rattle.svc_drain.specs.DrainState.{DrainStands, IsDrainSettled, stage_fits, is_told_far, passes, passes_at}
 use Rattle.svc_drain.specs.DrainEffects.{at_moment}
@@ -77,17 +77,17 @@ awaits-is p f q stand forks none = awaits-by p.daemon (is_child f) (stand.daemon
 idle-stage : (x : Stage) (offers : Bool) (over : Option ℕ) (t : ℕ) → stage_fits x None offers over ≡ true → is_told_far x None over t ≡ true
 idle-stage Running offers over t fits = refl
 idle-stage OfferStage offers over t fits = absurd (cc)
-idle-stage Resting offers over t fits = absurd (cc)
+idle-stage CloseTimeout offers over t fits = absurd (cc)
 idle-stage (Grace at) offers over t fits = absurd (cc)
-idle-stage Ending offers over t fits = absurd (cc)
+idle-stage Terminating offers over t fits = absurd (cc)
 idle-stage (CutShort started) offers over t fits = absurd (cc)
 
 idle-passes : (p : Plan) (x : Stage) (offers : Bool) (over : Option ℕ) (t : ℕ) → stage_fits x None offers over ≡ true → passes_at p x t ≡ false
 idle-passes p Running offers over t fits = refl
 idle-passes p OfferStage offers over t fits = refl
-idle-passes p Resting offers over t fits = refl
+idle-passes p CloseTimeout offers over t fits = refl
 idle-passes p (Grace at) offers over t fits = absurd (cc)
-idle-passes p Ending offers over t fits = absurd (cc)
+idle-passes p Terminating offers over t fits = absurd (cc)
 idle-passes p (CutShort started) offers over t fits = absurd (cc)
 
 -- before the server runs no signal came

@@ -27,7 +27,7 @@ use Rattle.svc_offer.specs.OfferState.{over_since, is_connect_due, is_send_due}
 use Rattle.svc_offer.specs.OfferEffects.{send_told, ask_with, asked}
 use Rattle.svc_offer.specs.OfferFacts.{has_no_offer_action}
 use Rattle.svc_drain.specs.declared.stage.Stage.{Stage}
-use Rattle.svc_drain.specs.declared.stage.Stage.TheVariants.{Running, Offering as OfferStage, Resting, Grace, Ending, CutShort}
+use Rattle.svc_drain.specs.declared.stage.Stage.TheVariants.{Running, Offering as OfferStage, CloseTimeout, Grace, Terminating, CutShort}
 use Rattle.svc_drain.specs.DrainData.{DrainData}
 use Rattle.svc_drain.specs.DrainState.{rest_from}
 use Rattle.svc_drain.specs.DrainEffects.{stage_told, row_told, timeout_told, grace_told, rested_told}
@@ -171,9 +171,9 @@ stage-late Running (Some TerminateSignal) offers over t = rw (eq-eqb t t refl) r
 stage-late Running (Some GracefulUpgrade) false over t = rw (eq-eqb t t refl) refl
 stage-late Running (Some GracefulUpgrade) true over t = rw (eq-eqb t t refl) (timeout-late over t)
 stage-late OfferStage signal offers over t = timeout-late over t
-stage-late Resting signal offers over t = rested-late over t
+stage-late CloseTimeout signal offers over t = rested-late over t
 stage-late (Grace at) signal offers over t = refl
-stage-late Ending signal offers over t = refl
+stage-late Terminating signal offers over t = refl
 stage-late (CutShort false) signal offers over t = rw (eq-eqb t t refl) refl
 stage-late (CutShort true) signal offers over t = refl
 
@@ -198,9 +198,9 @@ stage-other Running (Some TerminateSignal) offers over t = refl
 stage-other Running (Some GracefulUpgrade) false over t = refl
 stage-other Running (Some GracefulUpgrade) true over t = timeout-other over t
 stage-other OfferStage signal offers over t = timeout-other over t
-stage-other Resting signal offers over t = rested-other over t
+stage-other CloseTimeout signal offers over t = rested-other over t
 stage-other (Grace at) signal offers over t = refl
-stage-other Ending signal offers over t = refl
+stage-other Terminating signal offers over t = refl
 stage-other (CutShort false) signal offers over t = refl
 stage-other (CutShort true) signal offers over t = refl
 

@@ -12,7 +12,7 @@ use Rattle.svc_record.specs.Plans.{service_count, endpoints}
 use Rattle.svc_record.specs.Record.{Record, has, times, is_signal, is_running, is_bootstrap_complete, from_the_start}
 use Rattle.svc_record.specs.Starts.{is_started, is_due, StartsRight}
 use Rattle.svc_record.specs.Boot.{runs}
-use Rattle.svc_record.specs.Drain.{every_moment_right, moment_right, is_boot_phase, has_passed}
+use Rattle.svc_record.specs.Drain.{every_moment_right, moment_right, is_boot_phase, waits_are_over}
 use Rattle.svc_record.specs.Offer.{one_ask}
 use Rattle.svc_record.specs.Ends.{has_ended, ends_tested, step_end, TestedRight}
 use Rattle.svc_record.specs.Endpoints.{endpoint_right, endpoint_right_late, EndpointsRight, EndpointsRightLate}
@@ -125,7 +125,7 @@ module _ (p : Plan) (st : StartsData) (d : EndpointsData) (b : BootData) (o : Of
   running-right runs_now = going.drain.running_is ∙ ap (λ c. if c then 1 else 0) (runs_now ∙ sym runs-same)
 
   -- where its waits haven't passed
-  module _ (unpassed : has_passed p q ≡ false) where
+  module _ (unpassed : waits_are_over p q ≡ false) where
     pub end-same : step_end p q ≡ end_of p b
     end-same = end-is p b q going.boot ∙ ap (λ c. if c then Served else end_of p b) unpassed
 
@@ -139,7 +139,7 @@ module _ (p : Plan) (st : StartsData) (d : EndpointsData) (b : BootData) (o : Of
       starts = going.entries.starts;
       settled = (settled, going.earlier);
       asks = record { in_turn = going.ends.asks_due; fails = (going.ends.fails, going.fails) };
-      passed = not_true (has_passed p q) (PassedRight p q) unpassed;
+      passed = not_true (waits_are_over p q) (PassedRight p q) unpassed;
       stronger = record {
         boots = going.boot.boots_due;
         tries = going.boot.tries_due;
@@ -147,7 +147,7 @@ module _ (p : Plan) (st : StartsData) (d : EndpointsData) (b : BootData) (o : Of
         one_ask = (asks, going.asks);
         tested = tested;
         closes = going.ends.closes_once;
-        last_step = not_true (has_passed p q) _ unpassed;
+        last_step = not_true (waits_are_over p q) _ unpassed;
         moments = going.entries.moments;
         known_starts = going.entries.known_starts;
         known_asks = going.ends.asks_known;
@@ -224,7 +224,7 @@ ended-end p b off = elim (cases_Bool (p.test && b.begun)) [
 pub step-on : (core : CoreData) (q : Record) → IsInOrder core.plan core.order → Answered core q → passes core.plan core.drain ≡ false → StepRight core q core.end
 step-on core q in_order at waits =
     let going = at.going in
-    let unpassed : has_passed core.plan q ≡ false = passed-is core.plan core.drain (over_since core.offer.state) q going.drain at.drain ∙ waits in
+    let unpassed : waits_are_over core.plan q ≡ false = passed-is core.plan core.drain (over_since core.offer.state) q going.drain at.drain ∙ waits in
     record {
       stands = record {
         drain = λ e. going.drain;

@@ -18,7 +18,7 @@ use Rattle.svc_record.specs.Record.{Record, has, now, tell, is_signal, is_gracef
 use Rattle.svc_record.specs.Asks.{is_connect_open, is_send_open}
 use Rattle.svc_record.specs.Descriptors.{live_table}
 use Rattle.svc_record.specs.Boot.{is_side_child}
-use Rattle.svc_record.specs.Drain.{has_passed}
+use Rattle.svc_record.specs.Drain.{waits_are_over}
 use Rattle.svc_record.specs.Ends.{has_ended, ends_tested, TestedRight}
 use Rattle.svc_record.specs.Fits.{fits}
 use Rattle.svc_record.specs.Message.{encode}
@@ -225,7 +225,7 @@ module _ (core : CoreData) (kind : ShutdownSignal) (on : is_on core.end ≡ true
     pub later-step : StepRight core (Got (events.Signal kind) ∷ q) core.end
     later-step =
         let settled = settled-of core q stands on in
-        let unpassed : has_passed core.plan (Got (events.Signal kind) ∷ q) ≡ false = passed-is core.plan core.drain (over_since core.offer.state) (Got (events.Signal kind) ∷ q) going.drain settled.drain ∙ settled.waits in
+        let unpassed : waits_are_over core.plan (Got (events.Signal kind) ∷ q) ≡ false = passed-is core.plan core.drain (over_since core.offer.state) (Got (events.Signal kind) ∷ q) going.drain settled.drain ∙ settled.waits in
         let end : core.end ≡ end_of core.plan core.boot = stands.end_is ∙ end-of-boot core q stands on in
         record {
           stands = record {

@@ -15,7 +15,7 @@ use Rattle.svc_record.specs.Record.{Record, has, now, tell, last_step, is_runnin
 use Rattle.svc_record.specs.Asks.{is_bind_open, is_adopt_open, is_try_open}
 use Rattle.svc_record.specs.Boot.{has_begun, is_read, is_side_child}
 use Rattle.svc_record.specs.Descriptors.{brings}
-use Rattle.svc_record.specs.Drain.{has_passed, has_passed_by}
+use Rattle.svc_record.specs.Drain.{waits_are_over, has_passed_by}
 use Rattle.svc_base.specs.NumberSets.{ascending}
 use Rattle.svc_record.specs.Ends.{has_ended, step_end, ends_tested, has_ended_early, TestedRight}
 use Rattle.svc_record.specs.Fits.{fits, fits_row, may_end, are_new}
@@ -80,8 +80,8 @@ module _ (core : CoreData) (q : Record) (stands : StandsFor core q) (on : is_on 
   on-now : is_on (step_end core.plan q) ≡ true
   on-now = sym (ap is_on stands.end_is) ∙ on
 
-  unpassed : has_passed core.plan q ≡ false
-  unpassed = not_passed (has_passed core.plan q) (end_of core.plan core.boot) (sym (ap is_on (end-is core.plan core.boot q stands.boot)) ∙ on-now)
+  unpassed : waits_are_over core.plan q ≡ false
+  unpassed = not_passed (waits_are_over core.plan q) (end_of core.plan core.boot) (sym (ap is_on (end-is core.plan core.boot q stands.boot)) ∙ on-now)
     where
       not_passed : (c : Bool) (e : StepEnd) → is_on (if c then Served else e) ≡ true → c ≡ false
       not_passed true e h = absurd (cc)
@@ -96,7 +96,7 @@ module _ (core : CoreData) (q : Record) (stands : StandsFor core q) (on : is_on 
   pub unended : has_ended core.plan q ≡ false
   unended = let live = on-end core.plan core.boot on-boot in
       ended-is core.plan core.boot q stands.boot
-      ∙ or_from (has_passed core.plan q) (is_tested core.plan core.boot || is_early core.boot) unpassed
+      ∙ or_from (waits_are_over core.plan q) (is_tested core.plan core.boot || is_early core.boot) unpassed
       (or_from (is_tested core.plan core.boot) (is_early core.boot) live.0 (or_from (is_parent_over core.boot.fork) (is_refused core.boot.receiving) live.2 live.1))
 
   -- no cut came

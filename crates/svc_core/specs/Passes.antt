@@ -12,7 +12,7 @@ use Rattle.svc_record.specs.Endpoints.{endpoint_right, endpoint_right_late}
 use Rattle.svc_record.specs.Closes.{is_broadcast}
 use Rattle.svc_record.specs.AskRules.{FailsRight}
 use Rattle.svc_record.specs.Boot.{has_begun, start_after_boot}
-use Rattle.svc_record.specs.Drain.{is_ending, every_moment_right, has_passed}
+use Rattle.svc_record.specs.Drain.{is_ending, every_moment_right, waits_are_over}
 use Rattle.svc_record.specs.Offer.{one_ask}
 use Rattle.svc_record.specs.Fits.{event_fits}
 use Rattle.svc_record.specs.Right.{SettledRight, is_quiet, is_test_step}
@@ -75,7 +75,7 @@ AreStarted p q = (s : ℕ) → s < service_count p → is_due p q s ≡ true →
 
 -- the waits after a signal haven't passed, and nothing is to be asked of a successor, so that the run may end in its bootstrapping
 pub record MayEnd (p : Plan) (q : Record) : Type 0 where
-  pub unpassed : has_passed p q ≡ false
+  pub unpassed : waits_are_over p q ≡ false
   pub asks : one_ask p q ≡ true
 
 -- each of the first k services of the order is started where it is due, and each of its endpoints is held or waits; what is held is live where the broadcast wasn't told

@@ -165,7 +165,7 @@ impl Core {
     /// What follows from an event: bootstrapping is completed, services are visited, the server runs,
     /// a handover is tried for again, and what is due of the offer and of the signal is told. Where
     /// the event ended the run, nothing follows. The copy is of the message, where its send is due.
-    fn finish(&mut self, copy: Option<Message>, actions: &mut Actions) -> StepEnd
+    fn settle(&mut self, copy: Option<Message>, actions: &mut Actions) -> StepEnd
         requires { finish_room self.old ≤ spare actions.old }
         ensures { Goes (Struck self.old copy) (finish_room self.old) self.old self.new copy actions.old actions.new result }
     {
@@ -174,12 +174,12 @@ impl Core {
             return self.end;
         }
         self.boot.complete(self.drain.moment(), actions);
-        self.start_up(actions);
-        self.go_on(copy, actions)
+        self.startup_pass(actions);
+        self.advance(copy, actions)
     }
 
     /// Visits the services, where they may start.
-    fn start_up(&mut self, actions: &mut Actions)
+    fn startup_pass(&mut self, actions: &mut Actions)
         requires { visit_room self.old ≤ spare actions.old }
         ensures { Visits self.old self.new actions.old actions.new }
     {
@@ -212,7 +212,7 @@ impl Core {
 
     /// The server runs, a handover is tried for again, and the offer and the signal are answered,
     /// unless the run was tested.
-    fn go_on(&mut self, copy: Option<Message>, actions: &mut Actions) -> StepEnd
+    fn advance(&mut self, copy: Option<Message>, actions: &mut Actions) -> StepEnd
         requires { go_room self.old ≤ spare actions.old }
         ensures { Goes (Visited self.old copy) (go_room self.old) self.old self.new copy actions.old actions.new result }
     {
@@ -222,21 +222,21 @@ impl Core {
         }
         if !self.may_start() {
             self.boot.try_again(self.drain.moment(), actions);
-            return self.answer(copy, actions);
+            return self.advance_shutdown(copy, actions);
         }
         self.drain.run_once(actions);
         self.boot.try_again(self.drain.moment(), actions);
-        self.answer(copy, actions)
+        self.advance_shutdown(copy, actions)
     }
 
     /// Tells what follows the signal, and asks the successor for what is due of the offer. The run
     /// ends where all the signal's waits have passed.
-    fn answer(&mut self, copy: Option<Message>, actions: &mut Actions) -> StepEnd
+    fn advance_shutdown(&mut self, copy: Option<Message>, actions: &mut Actions) -> StepEnd
         requires { answer_room self.old ≤ spare actions.old }
         ensures { Goes (Tried self.old copy) (answer_room self.old) self.old self.new copy actions.old actions.new result }
     {
         let over = self.offer.over_since();
-        let passed = self.drain.go_on(&self.plan, over, actions);
+        let passed = self.drain.publish_due(&self.plan, over, actions);
         self.offer.ask(self.drain.moment(), copy, actions);
         if passed {
             return self.end_run(actions);
@@ -396,8 +396,8 @@ impl Core {
             return Ok(self.step_waiting(ms, actions));
         }
         let copy = self.message_at(alloc, &Event::Moment(ms))?;
-        self.drain.take_moment(ms);
-        Ok(self.finish(copy, actions))
+        self.drain.on_moment(ms);
+        Ok(self.settle(copy, actions))
     }
 
     /// What waited for the service's word starts.
@@ -405,9 +405,9 @@ impl Core {
         requires { MayStep self.old (Event.Ready s) actions.old }
         ensures { Steps self.old self.new (Event.Ready s) actions.old actions.new result }
     {
-        self.starts.take_ready(&self.plan, s);
+        self.starts.on_ready(&self.plan, s);
         self.waits.mark(s);
-        self.finish(None, actions)
+        self.settle(None, actions)
     }
 
     /// What waited for the end of the service's work starts.
@@ -415,9 +415,9 @@ impl Core {
         requires { MayStep self.old (Event.Ended s) actions.old }
         ensures { Steps self.old self.new (Event.Ended s) actions.old actions.new result }
     {
-        self.starts.take_ended(&self.plan, s);
+        self.starts.on_ended(&self.plan, s);
         self.waits.mark(s);
-        self.finish(None, actions)
+        self.settle(None, actions)
     }
 
     /// The descriptor is held, or closed again where its address has one.
@@ -435,9 +435,9 @@ impl Core {
         let address = address_of(&self.plan, s, i).copy(alloc)?;
         self.endpoints.reserve()?;
         self.endpoints
-            .take_bound(&self.plan, s, i, fd, address, actions);
+            .on_bound(&self.plan, s, i, fd, address, actions);
         self.waits.reopen(&self.order, s);
-        Ok(self.finish(None, actions))
+        Ok(self.settle(None, actions))
     }
 
     /// The endpoint rests, or its service fails.
@@ -448,10 +448,10 @@ impl Core {
         let moment = self.drain.moment();
         let kept = self.offer.numbers_on_offer();
         self.endpoints
-            .take_in_use(&self.plan, s, i, moment, kept, actions);
+            .on_in_use(&self.plan, s, i, moment, kept, actions);
         self.waits.reopen(&self.order, s);
         self.waits.mark_failed(self.endpoints.failed(), s);
-        self.finish(None, actions)
+        self.settle(None, actions)
     }
 
     /// The service fails.
@@ -461,10 +461,10 @@ impl Core {
     {
         let kept = self.offer.numbers_on_offer();
         self.endpoints
-            .take_bind_failed(&self.plan, s, i, kept, actions);
+            .on_bind_failed(&self.plan, s, i, kept, actions);
         self.waits.reopen(&self.order, s);
         self.waits.mark_failed(self.endpoints.failed(), s);
-        self.finish(None, actions)
+        self.settle(None, actions)
     }
 
     /// The endpoint is held.
@@ -472,9 +472,9 @@ impl Core {
         requires { MayStep self.old (Event.Adopted s i) actions.old }
         ensures { Steps self.old self.new (Event.Adopted s i) actions.old actions.new result }
     {
-        self.endpoints.take_adopted(&self.plan, s, i);
+        self.endpoints.on_adopted(&self.plan, s, i);
         self.waits.reopen(&self.order, s);
-        self.finish(None, actions)
+        self.settle(None, actions)
     }
 
     /// The service fails.
@@ -484,10 +484,10 @@ impl Core {
     {
         let kept = self.offer.numbers_on_offer();
         self.endpoints
-            .take_adopt_failed(&self.plan, s, i, kept, actions);
+            .on_adopt_failed(&self.plan, s, i, kept, actions);
         self.waits.reopen(&self.order, s);
         self.waits.mark_failed(self.endpoints.failed(), s);
-        self.finish(None, actions)
+        self.settle(None, actions)
     }
 
     /// What an older server sent is held, or closed where nobody needs it; and bootstrapping is
@@ -504,9 +504,9 @@ impl Core {
     {
         let good = self
             .endpoints
-            .take_received(alloc, &self.plan, bytes, fds, actions)?;
-        self.boot.take_received(good);
-        Ok(self.finish(None, actions))
+            .on_received(alloc, &self.plan, bytes, fds, actions)?;
+        self.boot.on_received(good);
+        Ok(self.settle(None, actions))
     }
 
     /// The handover is tried for again later, or given up.
@@ -514,8 +514,8 @@ impl Core {
         requires { MayStep self.old Event.NoSenderYet actions.old }
         ensures { Steps self.old self.new Event.NoSenderYet actions.old actions.new result }
     {
-        self.boot.take_no_sender(self.drain.moment());
-        self.finish(None, actions)
+        self.boot.on_no_sender(self.drain.moment());
+        self.settle(None, actions)
     }
 
     /// The run ends.
@@ -523,8 +523,8 @@ impl Core {
         requires { MayStep self.old Event.ReceiveFailed actions.old }
         ensures { Steps self.old self.new Event.ReceiveFailed actions.old actions.new result }
     {
-        self.boot.take_failed();
-        self.finish(None, actions)
+        self.boot.on_receive_failed();
+        self.settle(None, actions)
     }
 
     /// The successor is there: the message is sent.
@@ -534,7 +534,7 @@ impl Core {
     {
         let copy = self.message_at(alloc, &Event::Connected)?;
         self.offer.take(SendAnswer::Connected, self.drain.moment());
-        Ok(self.finish(copy, actions))
+        Ok(self.settle(copy, actions))
     }
 
     /// The offer goes on later, or is over. Once it is over, what is abandoned and was on offer
@@ -547,9 +547,9 @@ impl Core {
         self.offer.take(answer, self.drain.moment());
         if self.offer.over_since().is_some() {
             self.endpoints.release(&self.plan, actions);
-            return self.finish(None, actions);
+            return self.settle(None, actions);
         }
-        self.finish(None, actions)
+        self.settle(None, actions)
     }
 
     /// A loop of an endpoint ended: a descriptor that no loop uses any more closes.
@@ -566,8 +566,8 @@ impl Core {
         self.endpoints.reserve_loop()?;
         let kept = self.offer.numbers_on_offer();
         self.endpoints
-            .take_loop_ended(&self.plan, s, i, j, kept, actions);
-        Ok(self.finish(None, actions))
+            .on_loop_ended(&self.plan, s, i, j, kept, actions);
+        Ok(self.settle(None, actions))
     }
 
     /// The first signal begins the shutdown. By an upgrade what is live is offered. A further signal
@@ -588,11 +588,11 @@ impl Core {
         if self.offers_by(kind) {
             let message = self.endpoints.message(alloc)?;
             self.offer.begin(message, self.drain.moment());
-            self.drain.take_signal(kind, true);
-            return Ok(self.finish(None, actions));
+            self.drain.on_signal(kind, true);
+            return Ok(self.settle(None, actions));
         }
-        self.drain.take_signal(kind, false);
-        Ok(self.finish(None, actions))
+        self.drain.on_signal(kind, false);
+        Ok(self.settle(None, actions))
     }
 
     /// A fast signal after a graceful one ends the run at once: the offer is over, so what is abandoned
@@ -607,9 +607,9 @@ impl Core {
             return self.end;
         }
         self.offer.cut(self.drain.moment());
-        self.drain.take_signal(kind, false);
+        self.drain.on_signal(kind, false);
         self.endpoints.release(&self.plan, actions);
-        self.finish(None, actions)
+        self.settle(None, actions)
     }
 
     /// The signal asks for an upgrade, and something is live that can be offered.

@@ -99,7 +99,7 @@ impl Starts {
     }
 
     /// The service says that it is ready.
-    pub(crate) fn take_ready(&mut self, plan: &Plan, s: u32)
+    pub(crate) fn on_ready(&mut self, plan: &Plan, s: u32)
         requires service { s < service_count plan.now }
         requires sized { IsStartsSized plan.now self.old }
         ensures sized { IsStartsSized plan.now self.new }
@@ -109,7 +109,7 @@ impl Starts {
     }
 
     /// The service's work is done.
-    pub(crate) fn take_ended(&mut self, plan: &Plan, s: u32)
+    pub(crate) fn on_ended(&mut self, plan: &Plan, s: u32)
         requires service { s < service_count plan.now }
         requires sized { IsStartsSized plan.now self.old }
         ensures sized { IsStartsSized plan.now self.new }

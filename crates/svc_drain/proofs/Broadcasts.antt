@@ -12,7 +12,7 @@ use Rattle.svc_record.specs.Closes.{is_broadcast}
 use Rattle.svc_record.specs.Drain.{Mark, phase, broadcast, marks_if, told_marks, is_boot_phase}
 use Rattle.svc_record.proofs.CutLaws.{unsignalled-uncut}
 use Rattle.svc_drain.specs.declared.stage.Stage.{Stage}
-use Rattle.svc_drain.specs.declared.stage.Stage.TheVariants.{Running, Offering, Resting, Grace, Ending, CutShort}
+use Rattle.svc_drain.specs.declared.stage.Stage.TheVariants.{Running, Offering, CloseTimeout, Grace, Terminating, CutShort}
 use Rattle.svc_drain.specs.DrainData.{DrainData}
 use Rattle.svc_drain.specs.DrainState.{DrainStands, is_cut, cut_row, stage_fits, stage_marks, is_grace, is_broadcast_told}
 
@@ -41,13 +41,13 @@ run-unmarked false = refl
 stage-marked : (g : Stage) (s : Option ShutdownSignal) (o r : Bool) (row : List Mark) → is_cut g ≡ false → list_any is_the_broadcast (stage_marks g s o row ++ marks_if r (phase RunningPhase ∷ [])) ≡ is_grace g
 stage-marked Running s o r row h = run-unmarked r
 stage-marked Offering s o r row h = run-unmarked r
-stage-marked Resting s o r row h = run-unmarked r
+stage-marked CloseTimeout s o r row h = run-unmarked r
 stage-marked (Grace at) (Some GracefulUpgrade) true r row h = refl
 stage-marked (Grace at) (Some GracefulUpgrade) false r row h = refl
 stage-marked (Grace at) (Some TerminateSignal) o r row h = refl
 stage-marked (Grace at) (Some FastShutdown) o r row h = refl
 stage-marked (Grace at) None o r row h = refl
-stage-marked Ending s o r row h = run-unmarked r
+stage-marked Terminating s o r row h = run-unmarked r
 stage-marked (CutShort started) s o r row h = absurd (cc)
 
 -- until a cut the part says whether the broadcast was told
@@ -59,8 +59,8 @@ unsignalled-stage : (g : Stage) (o : Bool) (over : Option ℕ) → stage_fits g 
 unsignalled-stage (Grace at) o over h = absurd (cc)
 unsignalled-stage Running o over h = refl
 unsignalled-stage Offering o over h = refl
-unsignalled-stage Resting o over h = refl
-unsignalled-stage Ending o over h = refl
+unsignalled-stage CloseTimeout o over h = refl
+unsignalled-stage Terminating o over h = refl
 unsignalled-stage (CutShort started) o over h = refl
 
 pub unsignalled-silent : (p : Plan) (d : DrainData) (over : Option ℕ) (q : Record) → d.signal ≡ None → DrainStands p d over q → has is_broadcast q ≡ false

@@ -11,7 +11,7 @@ use Rattle.svc_record.specs.Descriptors.{live_table}
 use Rattle.svc_record.specs.Offer.{is_upgrade, is_empty_table}
 use Rattle.svc_record.specs.Drain.{Mark, phase, marks_if, row_by, with_start}
 use Rattle.svc_drain.specs.declared.stage.Stage.{Stage}
-use Rattle.svc_drain.specs.declared.stage.Stage.TheVariants.{Running, Offering, Resting, Grace, Ending, CutShort}
+use Rattle.svc_drain.specs.declared.stage.Stage.TheVariants.{Running, Offering, CloseTimeout, Grace, Terminating, CutShort}
 use Rattle.svc_drain.specs.DrainData.{DrainData}
 use Rattle.svc_drain.specs.DrainState.{DrainStands, IsDrainSettled, OverIs, is_told_far, is_before_rest, is_unanswered, is_cut, is_unstarted, has_start, cut_row, stage_fits, stage_marks}
 use Rattle.svc_drain.specs.DrainEffects.{signalled, cuts, cut_stage, at_stage}
@@ -23,30 +23,30 @@ use Rattle.svc_drain.proofs.Passing.{row-is}
 stage-cut : (g : Stage) (s : Option ShutdownSignal) (o : Bool) (over : Option ℕ) → is_graceful s ≡ true → stage_fits g s o over ≡ true → is_cut (cut_stage g) ≡ true
 stage-cut Running s o over graceful fits = refl
 stage-cut Offering s o over graceful fits = refl
-stage-cut Resting s o over graceful fits = refl
+stage-cut CloseTimeout s o over graceful fits = refl
 stage-cut (Grace at) s o over graceful fits = refl
 stage-cut (CutShort started) s o over graceful fits = refl
-stage-cut Ending (Some FastShutdown) o over graceful fits = absurd (cc)
-stage-cut Ending (Some TerminateSignal) o over graceful fits = absurd (cc)
-stage-cut Ending (Some GracefulUpgrade) o over graceful fits = absurd (cc)
-stage-cut Ending None o over graceful fits = absurd (cc)
+stage-cut Terminating (Some FastShutdown) o over graceful fits = absurd (cc)
+stage-cut Terminating (Some TerminateSignal) o over graceful fits = absurd (cc)
+stage-cut Terminating (Some GracefulUpgrade) o over graceful fits = absurd (cc)
+stage-cut Terminating None o over graceful fits = absurd (cc)
 
 -- what such a stage says of the rest and of the signal
 cut-late : (g : Stage) → is_cut g ≡ true → (is_before_rest g ≡ false) × ((s : Option ShutdownSignal) → is_unanswered g s ≡ false)
 cut-late (CutShort started) h = (refl, λ s. refl)
 cut-late Running h = absurd (cc)
 cut-late Offering h = absurd (cc)
-cut-late Resting h = absurd (cc)
+cut-late CloseTimeout h = absurd (cc)
 cut-late (Grace at) h = absurd (cc)
-cut-late Ending h = absurd (cc)
+cut-late Terminating h = absurd (cc)
 
 cut-fits : (g : Stage) (s : Option ShutdownSignal) (o : Bool) (over : Option ℕ) → is_graceful s ≡ true → is_cut g ≡ true → stage_fits g s o over ≡ true
 cut-fits (CutShort started) s o over graceful h = graceful
 cut-fits Running s o over graceful h = absurd (cc)
 cut-fits Offering s o over graceful h = absurd (cc)
-cut-fits Resting s o over graceful h = absurd (cc)
+cut-fits CloseTimeout s o over graceful h = absurd (cc)
 cut-fits (Grace at) s o over graceful h = absurd (cc)
-cut-fits Ending s o over graceful h = absurd (cc)
+cut-fits Terminating s o over graceful h = absurd (cc)
 
 -- in the grace period it was told that the shutdown has started
 grace-started : (at : ℕ) (s : Option ShutdownSignal) (o : Bool) (row : List Mark) → has_start (stage_marks (Grace at) s o row) ≡ true
@@ -62,19 +62,19 @@ cut-marks : (g : Stage) (s : Option ShutdownSignal) (o : Bool) (over : Option �
 cut-marks Running (Some kind) o over t row before graceful uncut far fits is = absurd (cc)
 cut-marks Running None o over t row before graceful uncut far fits is = absurd (cc)
 cut-marks Offering s o over t row before graceful uncut far fits is = refl
-cut-marks Resting s o over t row before graceful uncut far fits is = refl
+cut-marks CloseTimeout s o over t row before graceful uncut far fits is = refl
 cut-marks (Grace at) s o over t row before graceful uncut far fits is = sym (ap (λ b. if b then row else phase ShutdownStarted ∷ row) (ap has_start is ∙ grace-started at s o before))
 cut-marks (CutShort started) s o over t row before graceful uncut far fits is = absurd (cc)
-cut-marks Ending s o over t row before graceful uncut far fits is = let e = stage-cut Ending s o over graceful fits in absurd (cc)
+cut-marks Terminating s o over t row before graceful uncut far fits is = let e = stage-cut Terminating s o over graceful fits in absurd (cc)
 
 -- and has the start of the shutdown in the grace period alone
 unstarted-row : (g : Stage) (s : Option ShutdownSignal) (o : Bool) (row before : List Mark) → is_cut g ≡ false → row ≡ stage_marks g s o before → is_unstarted (cut_stage g) ≡ true → has_start row ≡ false
 unstarted-row Running s o row before uncut is h = ap has_start is
 unstarted-row Offering s o row before uncut is h = ap has_start is
-unstarted-row Resting s o row before uncut is h = ap has_start is
+unstarted-row CloseTimeout s o row before uncut is h = ap has_start is
 unstarted-row (Grace at) s o row before uncut is h = absurd (cc)
 unstarted-row (CutShort started) s o row before uncut is h = absurd (cc)
-unstarted-row Ending s o row before uncut is h = absurd (cc)
+unstarted-row Terminating s o row before uncut is h = absurd (cc)
 
 -- a fast signal after a graceful one
 module _ (p : Plan) (d : DrainData) (over over2 : Option ℕ) (q : Record) (graceful : is_graceful d.signal ≡ true) (uncut : is_cut d.stage ≡ false) (settled : IsDrainSettled d over)

@@ -13,7 +13,7 @@ use Rattle.svc_record.specs.Record.{Record, tell, now, times, is_running}
 use Rattle.svc_record.specs.Offer.{is_upgrade, over_moment}
 use Rattle.svc_record.specs.Drain.{told_marks}
 use Rattle.svc_drain.specs.declared.stage.Stage.{Stage}
-use Rattle.svc_drain.specs.declared.stage.Stage.TheVariants.{Running, Offering, Resting, Grace, Ending, CutShort}
+use Rattle.svc_drain.specs.declared.stage.Stage.TheVariants.{Running, Offering, CloseTimeout, Grace, Terminating, CutShort}
 use Rattle.svc_drain.specs.DrainData.{DrainData}
 use Rattle.svc_drain.specs.DrainState.{DrainStands, IsDrainSettled, OverIs, stage_fits, is_terminate_signal, rest_from, rest_at}
 use Rattle.svc_drain.specs.DrainFacts.{is_drain_event, is_drain_action, has_no_drain_action}
@@ -64,11 +64,11 @@ fits-terms t u o false over2 h f = grind arith
 fits-later : (g : Stage) (s : Option ShutdownSignal) (o : Bool) (over over2 : Option ℕ) → stage_fits g s o over ≡ true → (is_some over ≡ true → over2 ≡ over) → stage_fits g s o over2 ≡ true
 fits-later Running s o over over2 h f = refl
 fits-later Offering s o over over2 h f = h
-fits-later Resting s o over over2 h f =
+fits-later CloseTimeout s o over over2 h f =
     let parts = and_parts (is_upgrade s && o) (is_some over) h in
     and_from (is_upgrade s && o) (is_some over2) parts.0 (ap is_some (f parts.1) ∙ parts.1)
 fits-later (Grace at) s o over over2 h f = fits-terms (is_terminate_signal s) (is_upgrade s) o (is_some over) (is_some over2) h (λ e. ap is_some (f e) ∙ e)
-fits-later Ending s o over over2 h f = h
+fits-later Terminating s o over over2 h f = h
 fits-later (CutShort started) s o over over2 h f = h
 
 -- as the offer gets over no rest is over
@@ -79,9 +79,9 @@ rest-later (Some at) over2 t f new = ap (λ x. rest_from x t) (f refl)
 rest-at-later : (g : Stage) (over over2 : Option ℕ) (t : ℕ) → rest_from over2 t ≡ rest_from over t → rest_at g over t ≡ rest_at g over2 t
 rest-at-later Running over over2 t e = sym e
 rest-at-later Offering over over2 t e = sym e
-rest-at-later Resting over over2 t e = sym e
+rest-at-later CloseTimeout over over2 t e = sym e
 rest-at-later (Grace at) over over2 t e = refl
-rest-at-later Ending over over2 t e = sym e
+rest-at-later Terminating over over2 t e = sym e
 rest-at-later (CutShort started) over over2 t e = sym e
 
 -- an event by which the offer gets over does so at its moment

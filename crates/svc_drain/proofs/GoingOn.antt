@@ -11,7 +11,7 @@ use Rattle.svc_record.specs.Record.{Record, tell, times, now, is_running}
 use Rattle.svc_record.specs.Offer.{is_upgrade, is_empty_table, table}
 use Rattle.svc_record.specs.Drain.{Mark, phase, broadcast, marks_if, told_marks}
 use Rattle.svc_drain.specs.declared.stage.Stage.{Stage}
-use Rattle.svc_drain.specs.declared.stage.Stage.TheVariants.{Running, Offering, Resting, Grace, Ending, CutShort}
+use Rattle.svc_drain.specs.declared.stage.Stage.TheVariants.{Running, Offering, CloseTimeout, Grace, Terminating, CutShort}
 use Rattle.svc_drain.specs.DrainData.{DrainData}
 use Rattle.svc_drain.specs.DrainState.{DrainStands, is_before_rest, is_unanswered, is_cut, is_unstarted, has_start, cut_row, stage_fits, stage_marks, marks_of, grace_from, rest_from, rest_at}
 use Rattle.svc_drain.specs.DrainEffects.{at_stage, grace_told, gone_on, row_told}
@@ -61,8 +61,8 @@ from-signal m since at e same = cc
 
 -- the first signal is answered
 answered-fast : (p : Plan) (r : Bool) (m c : ℕ) (o : Bool) (over : Option ℕ) (q : Record) → DrainStands p (part r m (Some FastShutdown) c o Running) over q
-    → DrainStands p (part r m (Some FastShutdown) c o Ending) over (tell q (Phase ShutdownStarted m ∷ []))
-answered-fast p r m c o over q stand = restage p (part r m (Some FastShutdown) c o Running) over q Ending (Phase ShutdownStarted m ∷ []) refl refl refl
+    → DrainStands p (part r m (Some FastShutdown) c o Terminating) over (tell q (Phase ShutdownStarted m ∷ []))
+answered-fast p r m c o over q stand = restage p (part r m (Some FastShutdown) c o Running) over q Terminating (Phase ShutdownStarted m ∷ []) refl refl refl
     (λ n w. let f = fast-offers (Some FastShutdown) o (not (is_empty_table (table p q))) refl (offers-by p (part r m (Some FastShutdown) c o Running) over q stand) in absurd (cc))
     (λ at e w. cc)
     (ap (λ marks. phase ShutdownStarted ∷ marks) stand.marks_are)
@@ -103,7 +103,7 @@ answered-offer p r m c None q stand = restage p (part r m (Some GracefulUpgrade)
     (λ h. refl)
     (λ h. cc)
     stand
-answered-offer p r m c (Some at) q stand = restage p (part r m (Some GracefulUpgrade) c true Running) (Some at) q Resting (Phase GracefulUpgradeTransferringFds m ∷ Phase GracefulUpgradeCloseTimeout m ∷ []) refl refl refl
+answered-offer p r m c (Some at) q stand = restage p (part r m (Some GracefulUpgrade) c true Running) (Some at) q CloseTimeout (Phase GracefulUpgradeTransferringFds m ∷ Phase GracefulUpgradeCloseTimeout m ∷ []) refl refl refl
     (λ n w. refl)
     (λ at e w. cc)
     (ap (λ marks. phase GracefulUpgradeCloseTimeout ∷ phase GracefulUpgradeTransferringFds ∷ marks) stand.marks_are)
@@ -116,7 +116,7 @@ answered-offer p r m c (Some at) q stand = restage p (part r m (Some GracefulUpg
 offered : (p : Plan) (r : Bool) (m : ℕ) (s : Option ShutdownSignal) (c : ℕ) (o : Bool) (over : Option ℕ) (q : Record) → DrainStands p (part r m s c o Offering) over q
     → DrainStands p (gone_on (part r m s c o Offering) over) over (tell q (row_told (part r m s c o Offering) over))
 offered p r m s c o None q stand = stand
-offered p r m s c o (Some at) q stand = restage p (part r m s c o Offering) (Some at) q Resting (Phase GracefulUpgradeCloseTimeout m ∷ []) refl (and_from (is_upgrade s && o) true stand.fits refl) refl
+offered p r m s c o (Some at) q stand = restage p (part r m s c o Offering) (Some at) q CloseTimeout (Phase GracefulUpgradeCloseTimeout m ∷ []) refl (and_from (is_upgrade s && o) true stand.fits refl) refl
     (λ n w. refl)
     (λ at e w. cc)
     (ap (λ marks. phase GracefulUpgradeCloseTimeout ∷ marks) stand.marks_are)
@@ -126,10 +126,10 @@ offered p r m s c o (Some at) q stand = restage p (part r m s c o Offering) (Som
     stand
 
 -- the rest is over
-rested : (p : Plan) (r : Bool) (m : ℕ) (s : Option ShutdownSignal) (c : ℕ) (o : Bool) (over x : Option ℕ) (q : Record) → rest_from over m ≡ x → (is_some x ≡ true → x ≡ Some m) → DrainStands p (part r m s c o Resting) over q
-    → DrainStands p (part r m s c o (if is_some x then Grace m else Resting)) over (tell q (if is_some x then Broadcast ∷ grace_told m else []))
+rested : (p : Plan) (r : Bool) (m : ℕ) (s : Option ShutdownSignal) (c : ℕ) (o : Bool) (over x : Option ℕ) (q : Record) → rest_from over m ≡ x → (is_some x ≡ true → x ≡ Some m) → DrainStands p (part r m s c o CloseTimeout) over q
+    → DrainStands p (part r m s c o (if is_some x then Grace m else CloseTimeout)) over (tell q (if is_some x then Broadcast ∷ grace_told m else []))
 rested p r m s c o over None q is ends stand = stand
-rested p r m (Some GracefulUpgrade) c true over (Some k) q is ends stand = restage p (part r m (Some GracefulUpgrade) c true Resting) over q (Grace m) (Broadcast ∷ grace_told m) refl stand.fits refl
+rested p r m (Some GracefulUpgrade) c true over (Some k) q is ends stand = restage p (part r m (Some GracefulUpgrade) c true CloseTimeout) over q (Grace m) (Broadcast ∷ grace_told m) refl stand.fits refl
     (λ n w. is ∙ ends refl)
     (λ at e w. cc)
     (ap (λ marks. phase ShutdownGracePeriod ∷ phase ShutdownStarted ∷ broadcast ∷ marks) stand.marks_are)
@@ -163,9 +163,9 @@ gone p r m (Some TerminateSignal) c o Running over q stand = answered-terminate 
 gone p r m (Some GracefulUpgrade) c false Running over q stand = answered-plain p r m c over q stand
 gone p r m (Some GracefulUpgrade) c true Running over q stand = answered-offer p r m c over q stand
 gone p r m s c o Offering over q stand = offered p r m s c o over q stand
-gone p r m s c o Resting over q stand = rested p r m s c o over (rest_from over m) q refl (rest-ends over m) stand
+gone p r m s c o CloseTimeout over q stand = rested p r m s c o over (rest_from over m) q refl (rest-ends over m) stand
 gone p r m s c o (Grace at) over q stand = stand
-gone p r m s c o Ending over q stand = stand
+gone p r m s c o Terminating over q stand = stand
 gone p r m s c o (CutShort false) over q stand = shortened p r m s c o over q stand
 gone p r m s c o (CutShort true) over q stand = stand
 

@@ -5,4 +5,4 @@ pub mod Foreign
 pub mod Passing
 pub mod Cuts
 pub mod Broadcasts
-pub mod Ending
+pub mod Terminating

@@ -11,9 +11,9 @@ use Rattle.svc_record.specs.declared.event.ShutdownSignal.TheVariants.{FastShutd
 use Rattle.svc_record.specs.declared.action.ExecutionPhase.TheVariants.{Running as RunningPhase, GracefulTerminate, GracefulUpgradeTransferringFds, GracefulUpgradeCloseTimeout, ShutdownStarted, ShutdownGracePeriod, ShutdownRuntimes, Terminated}
 use Rattle.svc_record.specs.Record.{Record, has, times, tell, now, signal_of, before_signal, is_running}
 use Rattle.svc_record.specs.Offer.{has_offer, is_over, is_upgrade}
-use Rattle.svc_record.specs.Drain.{Mark, phase, broadcast, marks_if, is_some_moment, rest_end, grace_over, has_passed_by, has_passed, row_by, with_start, wait_row, PhasesRight}
+use Rattle.svc_record.specs.Drain.{Mark, phase, broadcast, marks_if, is_some_moment, rest_end, grace_over, has_passed_by, waits_are_over, row_by, with_start, wait_row, PhasesRight}
 use Rattle.svc_drain.specs.declared.stage.Stage.{Stage}
-use Rattle.svc_drain.specs.declared.stage.Stage.TheVariants.{Running, Offering, Resting, Grace, Ending, CutShort}
+use Rattle.svc_drain.specs.declared.stage.Stage.TheVariants.{Running, Offering, CloseTimeout, Grace, Terminating, CutShort}
 use Rattle.svc_drain.specs.DrainData.{DrainData}
 use Rattle.svc_drain.specs.DrainState.{DrainStands, IsDrainSettled, OverIs, is_told_far, is_terminate_signal, is_cut, cut_row, stage_fits, stage_marks, rest_from, rest_at, passes, passes_at}
 use Rattle.svc_drain.specs.DrainFacts.{is_drain_event}
@@ -65,15 +65,15 @@ waits-stage p Running (Some kind) o over rest t since fits far is grace plain = 
 waits-stage p Offering (Some GracefulUpgrade) true over rest t since fits far is grace plain = ap (grace_after p t) (is refl refl ∙ ap (λ x. rest_from x t) (no_moment over far))
 waits-stage p Offering (Some GracefulUpgrade) false over rest t since fits far is grace plain = absurd (cc)
 waits-stage p Offering _ o over rest t since fits far is grace plain = absurd (cc)
-waits-stage p Resting (Some GracefulUpgrade) true over rest t since fits far is grace plain = ap (grace_after p t) (is refl refl ∙ no_moment (rest_from over t) far)
-waits-stage p Resting (Some GracefulUpgrade) false over rest t since fits far is grace plain = absurd (cc)
-waits-stage p Resting _ o over rest t since fits far is grace plain = absurd (cc)
+waits-stage p CloseTimeout (Some GracefulUpgrade) true over rest t since fits far is grace plain = ap (grace_after p t) (is refl refl ∙ no_moment (rest_from over t) far)
+waits-stage p CloseTimeout (Some GracefulUpgrade) false over rest t since fits far is grace plain = absurd (cc)
+waits-stage p CloseTimeout _ o over rest t since fits far is grace plain = absurd (cc)
 waits-stage p (Grace at) (Some TerminateSignal) o over rest t since fits far is grace plain = ap (grace_over p t) (sym (grace at refl (plain refl)))
 waits-stage p (Grace at) (Some GracefulUpgrade) true over rest t since fits far is grace plain = ap (grace_after p t) (is refl refl)
 waits-stage p (Grace at) (Some GracefulUpgrade) false over rest t since fits far is grace plain = ap (grace_over p t) (sym (grace at refl refl))
 waits-stage p (Grace at) _ o over rest t since fits far is grace plain = absurd (cc)
-waits-stage p Ending (Some FastShutdown) o over rest t since fits far is grace plain = refl
-waits-stage p Ending _ o over rest t since fits far is grace plain = absurd (cc)
+waits-stage p Terminating (Some FastShutdown) o over rest t since fits far is grace plain = refl
+waits-stage p Terminating _ o over rest t since fits far is grace plain = absurd (cc)
 waits-stage p (CutShort started) s o over rest t since fits far is grace plain = refl
 
 -- the row by the stage
@@ -84,15 +84,15 @@ row-stage Running (Some kind) o over rest t before fits far is = absurd (cc)
 row-stage Offering (Some GracefulUpgrade) true over rest t before fits far is = let e = no_moment over far in rw (is refl refl, e) refl
 row-stage Offering (Some GracefulUpgrade) false over rest t before fits far is = absurd (cc)
 row-stage Offering _ o over rest t before fits far is = absurd (cc)
-row-stage Resting (Some GracefulUpgrade) true over rest t before fits far is = rw (is refl refl ∙ no_moment (rest_from over t) far, fits) refl
-row-stage Resting (Some GracefulUpgrade) false over rest t before fits far is = absurd (cc)
-row-stage Resting _ o over rest t before fits far is = absurd (cc)
+row-stage CloseTimeout (Some GracefulUpgrade) true over rest t before fits far is = rw (is refl refl ∙ no_moment (rest_from over t) far, fits) refl
+row-stage CloseTimeout (Some GracefulUpgrade) false over rest t before fits far is = absurd (cc)
+row-stage CloseTimeout _ o over rest t before fits far is = absurd (cc)
 row-stage (Grace at) (Some TerminateSignal) o over rest t before fits far is = refl
 row-stage (Grace at) (Some GracefulUpgrade) true over rest t before fits far is = rw (is refl refl, fits) refl
 row-stage (Grace at) (Some GracefulUpgrade) false over rest t before fits far is = refl
 row-stage (Grace at) _ o over rest t before fits far is = absurd (cc)
-row-stage Ending (Some FastShutdown) o over rest t before fits far is = refl
-row-stage Ending _ o over rest t before fits far is = absurd (cc)
+row-stage Terminating (Some FastShutdown) o over rest t before fits far is = refl
+row-stage Terminating _ o over rest t before fits far is = absurd (cc)
 row-stage (CutShort true) s o over rest t before fits far is = refl
 row-stage (CutShort false) s o over rest t before fits far is = absurd (cc)
 
@@ -104,7 +104,7 @@ terminate-offers None o b e t = cc
 
 module _ (p : Plan) (d : DrainData) (over : Option ℕ) (q : Record) (stand : DrainStands p d over q) (settled : IsDrainSettled d over) where
   -- the waits have passed exactly where the part says so
-  pub passed-is : has_passed p q ≡ passes p d
+  pub passed-is : waits_are_over p q ≡ passes p d
   passed-is =
       ap (λ b. b || has_passed_by p q (signal_of q)) (sym stand.cut_is)
       ∙ ap (λ b. is_cut d.stage || b) (
@@ -152,10 +152,10 @@ marks-right p d over q unpassed settled stand =
     ∙ ap (λ b. (marks_if b (phase Terminated ∷ phase ShutdownRuntimes ∷ []) ++ wait_row p q) ++ marks_if (has is_running q) (phase RunningPhase ∷ [])) (sym (passed-is p d over q stand settled ∙ unpassed))
 
 -- what is told changes nothing of that
-pub passed-told : (p : Plan) (q : Record) (a : Action) → has_passed p (Told a ∷ q) ≡ has_passed p q
+pub passed-told : (p : Plan) (q : Record) (a : Action) → waits_are_over p (Told a ∷ q) ≡ waits_are_over p q
 passed-told p q a = refl
 
-pub passed-tell : (p : Plan) (q : Record) (told : List Action) → has_passed p (tell q told) ≡ has_passed p q
+pub passed-tell : (p : Plan) (q : Record) (told : List Action) → waits_are_over p (tell q told) ≡ waits_are_over p q
 passed-tell p q [] = refl
 passed-tell p q (a ∷ told) = passed-tell p (Told a ∷ q) told ∙ passed-told p q a
 
@@ -167,14 +167,14 @@ pub row-tell : (p : Plan) (q : Record) (told : List Action) → wait_row p (tell
 row-tell p q [] = refl
 row-tell p q (a ∷ told) = row-tell p (Told a ∷ q) told ∙ row-told p q a
 
-passed-other : (p : Plan) (q : Record) (e : Event) → is_drain_event e ≡ false → has_passed p (Got e ∷ q) ≡ has_passed p q
+passed-other : (p : Plan) (q : Record) (e : Event) → is_drain_event e ≡ false → waits_are_over p (Got e ∷ q) ≡ waits_are_over p q
 passed-other p q (Moment ms) other = absurd (cc)
 passed-other p q (Signal kind) other = absurd (cc)
 passed-other p q e other = refl
 
 -- nor does an event that isn't the part's
 pub passed-got : (p : Plan) (d : DrainData) (over over2 : Option ℕ) (q : Record) (e : Event) → is_drain_event e ≡ false → DrainStands p d over q → IsDrainSettled d over → OverIs p (Got e ∷ q) over2
-    → (is_some over ≡ true → over2 ≡ over) → passes p d ≡ false → has_passed p (Got e ∷ q) ≡ false
+    → (is_some over ≡ true → over2 ≡ over) → passes p d ≡ false → waits_are_over p (Got e ∷ q) ≡ false
 passed-got p d over over2 q e other stand settled overs stays unpassed = passed-other p q e other ∙ passed-is p d over q stand settled ∙ unpassed
 
 -- as long as the waits haven't passed, no cut came
@@ -185,6 +185,6 @@ uncut p d unpassed = by d.stage unpassed
     by (CutShort started) h = absurd (cc)
     by Running h = refl
     by Offering h = refl
-    by Resting h = refl
+    by CloseTimeout h = refl
     by (Grace at) h = refl
-    by Ending h = refl
+    by Terminating h = refl

@@ -13,7 +13,7 @@ use Rattle.svc_record.specs.Descriptors.{live_table}
 use Rattle.svc_record.specs.Offer.{has_offer, is_over, over_moment, is_upgrade, is_empty_table, table, is_answered, is_written}
 use Rattle.svc_record.specs.Drain.{Mark, rest_end, is_fast, row_by}
 use Rattle.svc_drain.specs.declared.stage.Stage.{Stage}
-use Rattle.svc_drain.specs.declared.stage.Stage.TheVariants.{Running, Offering, Resting, Grace, Ending, CutShort}
+use Rattle.svc_drain.specs.declared.stage.Stage.TheVariants.{Running, Offering, CloseTimeout, Grace, Terminating, CutShort}
 use Rattle.svc_drain.specs.DrainState.{rest_from, is_cut, is_unstarted, cut_row, stage_marks}
 use Rattle.svc_drain.specs.DrainEffects.{cuts}
 
@@ -174,19 +174,19 @@ row-later p q kind h = ap (λ (x : Record). row_by p x (signal_of x)) (before-la
 pub same-row : (g : Stage) (s : Option ShutdownSignal) (o : Bool) (row other : List Mark) → (is_cut g ≡ true → row ≡ other) → stage_marks g s o row ≡ stage_marks g s o other
 same-row Running s o row other h = refl
 same-row Offering s o row other h = refl
-same-row Resting s o row other h = refl
+same-row CloseTimeout s o row other h = refl
 same-row (Grace at) (Some GracefulUpgrade) true row other h = refl
 same-row (Grace at) (Some GracefulUpgrade) false row other h = refl
 same-row (Grace at) (Some GracefulTerminate) o row other h = refl
 same-row (Grace at) (Some FastShutdown) o row other h = refl
 same-row (Grace at) None o row other h = refl
-same-row Ending s o row other h = refl
+same-row Terminating s o row other h = refl
 same-row (CutShort started) s o row other h = ap (stage_marks (CutShort started) s o) (h refl)
 
 pub cut-unstarted : (g : Stage) → is_unstarted g ≡ true → is_cut g ≡ true
 cut-unstarted (CutShort started) h = refl
 cut-unstarted Running h = cc
 cut-unstarted Offering h = cc
-cut-unstarted Resting h = cc
+cut-unstarted CloseTimeout h = cc
 cut-unstarted (Grace at) h = cc
-cut-unstarted Ending h = cc
+cut-unstarted Terminating h = cc

@@ -11,7 +11,7 @@ use Rattle.svc_record.specs.Message.{encode}
 use Rattle.svc_record.specs.declared.action.ExecutionPhase.TheVariants.{Running as RunningPhase}
 use Rattle.svc_record.specs.Drain.{phase, marks_if}
 use Rattle.svc_drain.specs.declared.stage.Stage.{Stage}
-use Rattle.svc_drain.specs.declared.stage.Stage.TheVariants.{Running, Offering, Resting, Grace, Ending, CutShort}
+use Rattle.svc_drain.specs.declared.stage.Stage.TheVariants.{Running, Offering, CloseTimeout, Grace, Terminating, CutShort}
 use Rattle.svc_drain.specs.DrainData.{DrainData}
 use Rattle.svc_drain.specs.DrainState.{DrainStands, OverIs, stage_fits, is_cut, has_start, cut_row}
 use Rattle.svc_drain.specs.DrainEffects.{signalled, cuts, further}
@@ -71,9 +71,9 @@ stands-first p d kind offers over q none runs offered overs stand = by d.signal 
     by (Some earlier) g nothing fits h = absurd (cc)
     by None Running nothing fits h = first-signal p d.running d.moment d.since d.offers offers kind over q none runs offered overs h
     by None Offering nothing fits h = absurd (cc)
-    by None Resting nothing fits h = absurd (cc)
+    by None CloseTimeout nothing fits h = absurd (cc)
     by None (Grace at) nothing fits h = absurd (cc)
-    by None Ending nothing fits h = absurd (cc)
+    by None Terminating nothing fits h = absurd (cc)
     by None (CutShort started) nothing fits h = absurd (cc)
 
 -- a further signal that is no cut changes nothing of the part

@@ -10,7 +10,7 @@ use Rattle.svc_record.specs.Record.{is_graceful}
 use Rattle.svc_record.specs.Offer.{is_upgrade}
 use Rattle.svc_record.specs.Drain.{is_fast}
 use Rattle.svc_drain.specs.declared.stage.Stage.{Stage}
-use Rattle.svc_drain.specs.declared.stage.Stage.TheVariants.{Running, Offering, Resting, Grace, Ending, CutShort}
+use Rattle.svc_drain.specs.declared.stage.Stage.TheVariants.{Running, Offering, CloseTimeout, Grace, Terminating, CutShort}
 use Rattle.svc_drain.specs.DrainData.{DrainData}
 use Rattle.svc_drain.specs.DrainState.{rest_from, is_cut}
 
@@ -35,7 +35,7 @@ cuts first _ = false
 abbrev pub cut_stage : Stage → Stage
 cut_stage (Grace at) = CutShort true
 cut_stage (CutShort started) = CutShort started
-cut_stage Ending = Ending
+cut_stage Terminating = Terminating
 cut_stage _ = CutShort false
 
 -- a further signal came: only a cut changes anything
@@ -61,14 +61,14 @@ run_told d = if d.running then [] else Phase RunningPhase d.moment ∷ []
 -- the stage that is told next, where one is due
 abbrev pub next_stage : Stage → Option ShutdownSignal → Bool → Option ℕ → ℕ → Stage
 next_stage Running None offers over t = Running
-next_stage Running (Some FastShutdown) offers over t = Ending
+next_stage Running (Some FastShutdown) offers over t = Terminating
 next_stage Running (Some TerminateSignal) offers over t = Grace t
 next_stage Running (Some GracefulUpgrade) false over t = Grace t
-next_stage Running (Some GracefulUpgrade) true over t = if is_some over then Resting else Offering
-next_stage Offering signal offers over t = if is_some over then Resting else Offering
-next_stage Resting signal offers over t = if is_some (rest_from over t) then Grace t else Resting
+next_stage Running (Some GracefulUpgrade) true over t = if is_some over then CloseTimeout else Offering
+next_stage Offering signal offers over t = if is_some over then CloseTimeout else Offering
+next_stage CloseTimeout signal offers over t = if is_some (rest_from over t) then Grace t else CloseTimeout
 next_stage (Grace at) signal offers over t = Grace at
-next_stage Ending signal offers over t = Ending
+next_stage Terminating signal offers over t = Terminating
 next_stage (CutShort started) signal offers over t = CutShort true
 
 -- what is told as the offer is over, at the moment t
@@ -91,9 +91,9 @@ stage_told Running (Some TerminateSignal) offers over t = Broadcast ∷ Phase Gr
 stage_told Running (Some GracefulUpgrade) false over t = Phase GracefulUpgradeTransferringFds t ∷ Broadcast ∷ grace_told t
 stage_told Running (Some GracefulUpgrade) true over t = Phase GracefulUpgradeTransferringFds t ∷ timeout_told over t
 stage_told Offering signal offers over t = timeout_told over t
-stage_told Resting signal offers over t = rested_told over t
+stage_told CloseTimeout signal offers over t = rested_told over t
 stage_told (Grace at) signal offers over t = []
-stage_told Ending signal offers over t = []
+stage_told Terminating signal offers over t = []
 stage_told (CutShort false) signal offers over t = Phase ShutdownStarted t ∷ []
 stage_told (CutShort true) signal offers over t = []
 

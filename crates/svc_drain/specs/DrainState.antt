@@ -9,7 +9,7 @@ use Rattle.svc_record.specs.Record.{Record, times, now, signal_of, before_signal
 use Rattle.svc_record.specs.Offer.{is_upgrade, has_offer, is_over, over_moment}
 use Rattle.svc_record.specs.Drain.{Mark, phase, broadcast, marks_if, told_marks, rest_end, grace_over, is_fast, row_by, same_mark, with_start}
 use Rattle.svc_drain.specs.declared.stage.Stage.{Stage}
-use Rattle.svc_drain.specs.declared.stage.Stage.TheVariants.{Running, Offering, Resting, Grace, Ending, CutShort}
+use Rattle.svc_drain.specs.declared.stage.Stage.TheVariants.{Running, Offering, CloseTimeout, Grace, Terminating, CutShort}
 use Rattle.svc_drain.specs.DrainData.{DrainData}
 
 -- since when the offer is over, if it is
@@ -26,9 +26,9 @@ is_terminate_signal _ = false
 abbrev pub stage_fits : Stage → Option ShutdownSignal → Bool → Option ℕ → Bool
 stage_fits Running signal offers over = true
 stage_fits Offering signal offers over = is_upgrade signal && offers
-stage_fits Resting signal offers over = (is_upgrade signal && offers) && is_some over
+stage_fits CloseTimeout signal offers over = (is_upgrade signal && offers) && is_some over
 stage_fits (Grace at) signal offers over = is_terminate_signal signal || (is_upgrade signal && (not offers || is_some over))
-stage_fits Ending signal offers over = is_fast signal
+stage_fits Terminating signal offers over = is_fast signal
 stage_fits (CutShort started) signal offers over = is_graceful signal
 
 -- the waits were cut short
@@ -53,11 +53,11 @@ has_start marks = list_any (same_mark (phase ShutdownStarted)) marks
 abbrev pub stage_marks : Stage → Option ShutdownSignal → Bool → List Mark → List Mark
 stage_marks Running signal offers row = []
 stage_marks Offering signal offers row = phase GracefulUpgradeTransferringFds ∷ []
-stage_marks Resting signal offers row = phase GracefulUpgradeCloseTimeout ∷ phase GracefulUpgradeTransferringFds ∷ []
+stage_marks CloseTimeout signal offers row = phase GracefulUpgradeCloseTimeout ∷ phase GracefulUpgradeTransferringFds ∷ []
 stage_marks (Grace at) (Some GracefulUpgrade) true row = phase ShutdownGracePeriod ∷ phase ShutdownStarted ∷ broadcast ∷ phase GracefulUpgradeCloseTimeout ∷ phase GracefulUpgradeTransferringFds ∷ []
 stage_marks (Grace at) (Some GracefulUpgrade) false row = phase ShutdownGracePeriod ∷ phase ShutdownStarted ∷ broadcast ∷ phase GracefulUpgradeTransferringFds ∷ []
 stage_marks (Grace at) _ offers row = phase ShutdownGracePeriod ∷ phase ShutdownStarted ∷ phase GracefulTerminate ∷ broadcast ∷ []
-stage_marks Ending signal offers row = phase ShutdownStarted ∷ []
+stage_marks Terminating signal offers row = phase ShutdownStarted ∷ []
 stage_marks (CutShort false) signal offers row = row
 stage_marks (CutShort true) signal offers row = with_start row
 
@@ -126,9 +126,9 @@ abbrev pub is_told_far : Stage → Option ShutdownSignal → Option ℕ → ℕ 
 is_told_far Running None over t = true
 is_told_far Running (Some kind) over t = false
 is_told_far Offering signal over t = not (is_some over)
-is_told_far Resting signal over t = not (is_some (rest_from over t))
+is_told_far CloseTimeout signal over t = not (is_some (rest_from over t))
 is_told_far (Grace at) signal over t = true
-is_told_far Ending signal over t = true
+is_told_far Terminating signal over t = true
 is_told_far (CutShort started) signal over t = started
 
 -- the same as a fact
@@ -138,7 +138,7 @@ IsDrainSettled d over = is_told_far d.stage d.signal over d.moment ≡ true
 -- the waits have passed at this stage and moment
 abbrev pub passes_at : Plan → Stage → ℕ → Bool
 passes_at p (Grace at) t = grace_over p t at
-passes_at p Ending t = true
+passes_at p Terminating t = true
 passes_at p (CutShort started) t = true
 passes_at p _ t = false
 

@@ -11,7 +11,7 @@ ghost use Rattle.svc_record.specs.declared.action.ExecutionPhase.TheVariants.{Gr
 ghost use Rattle.svc_record.specs.Record.{Record, tell, has, is_signal, is_graceful};
 ghost use Rattle.svc_record.specs.Descriptors.{live_table};
 ghost use Rattle.svc_record.specs.Offer.{is_upgrade, is_empty_table};
-ghost use Rattle.svc_drain.specs.declared.stage.Stage.TheVariants.{Running, Offering, Resting, Grace, Ending, CutShort};
+ghost use Rattle.svc_drain.specs.declared.stage.Stage.TheVariants.{Running, Offering, CloseTimeout, Grace, Terminating, CutShort};
 ghost use Rattle.svc_drain.specs.DrainState.{DrainStands, IsDrainSettled, OverIs, passes, rest_from, is_broadcast_told, is_cut};
 ghost use Rattle.svc_drain.specs.DrainEffects.{still, at_moment, signalled, further, cuts, cut_stage, run, run_told, at_stage, next_stage, gone_on, row_told, stage_told, timeout_told, grace_told, rested_told, shutdown_told, stop_after, stop_told};
 
@@ -105,7 +105,7 @@ impl Drain {
     }
 
     /// Time has gone on to this moment.
-    pub fn take_moment(&mut self, ms: u64)
+    pub fn on_moment(&mut self, ms: u64)
         ensures after { self.new ≡ at_moment ms self.old }
         ensures stands { (p : Plan) (over : Option ℕ) (q : Record) → IsDrainSettled self.old over → DrainStands p self.old over q
             → DrainStands p self.new over (Got (Moment ms) ∷ q) }
@@ -126,7 +126,7 @@ impl Drain {
 
     /// A signal came, by which something is offered or not. Of the further ones only a fast one after
     /// a graceful one has an effect: it cuts the waits short.
-    pub fn take_signal(&mut self, kind: ShutdownSignal, offers: bool)
+    pub fn on_signal(&mut self, kind: ShutdownSignal, offers: bool)
         ensures after { self.new ≡ signalled kind offers self.old }
         ensures first { (p : Plan) (over : Option ℕ) (q : Record) → has is_signal q ≡ false → self.old.running ≡ true
             → (is_upgrade (Some kind) ≡ true → offers ≡ not (is_empty_table (live_table p q))) → OverIs p (Got (Signal kind) ∷ q) over
@@ -137,7 +137,7 @@ impl Drain {
             → OverIs p (Got (Signal kind) ∷ q) over2 → DrainStands p self.old over q → DrainStands p self.new over2 (Got (Signal kind) ∷ q) }
     {
         if self.signal.is_some() {
-            self.take_further(kind);
+            self.on_further_signal(kind);
             return;
         }
         self.signal = Some(kind);
@@ -146,7 +146,7 @@ impl Drain {
     }
 
     /// A further signal came.
-    fn take_further(&mut self, kind: ShutdownSignal)
+    fn on_further_signal(&mut self, kind: ShutdownSignal)
         ensures { self.new ≡ further kind self.old }
     {
         if self.cuts(kind) {
@@ -160,10 +160,10 @@ impl Drain {
         ensures { result ≡ cut_stage self.now.stage }
     {
         match self.stage {
-            Stage::Running | Stage::Offering | Stage::Resting => Stage::CutShort(false),
+            Stage::Running | Stage::Offering | Stage::CloseTimeout => Stage::CutShort(false),
             Stage::Grace(_) => Stage::CutShort(true),
             Stage::CutShort(started) => Stage::CutShort(started),
-            Stage::Ending => Stage::Ending,
+            Stage::Terminating => Stage::Terminating,
         }
     }
 
@@ -185,7 +185,7 @@ impl Drain {
 
     /// Tells what is due of the shutdown, where the offer is over since the moment, if it is. Whether
     /// all waits have passed.
-    pub fn go_on(&mut self, plan: &Plan, over: Option<u64>, actions: &mut Actions) -> bool
+    pub fn publish_due(&mut self, plan: &Plan, over: Option<u64>, actions: &mut Actions) -> bool
         requires room { 4 ≤ spare actions.old }
         ensures after { self.new ≡ gone_on self.old over }
         ensures told { list_of actions.new ≡ list_of actions.old ++ row_told self.old over }
@@ -195,12 +195,12 @@ impl Drain {
         ensures room { spare actions.old ≤ spare actions.new + 4 }
         ensures few { length (list_of actions.new) ≤ length (list_of actions.old) + 4 }
     {
-        self.tell_next(over, actions);
-        self.has_passed(plan)
+        self.publish_next(over, actions);
+        self.waits_are_over(plan)
     }
 
     /// Tells the next stage, where one is due.
-    fn tell_next(&mut self, over: Option<u64>, actions: &mut Actions)
+    fn publish_next(&mut self, over: Option<u64>, actions: &mut Actions)
         requires room { 4 ≤ spare actions.old }
         ensures after { self.new ≡ gone_on self.old over }
         ensures told { list_of actions.new ≡ list_of actions.old ++ row_told self.old over }
@@ -210,19 +210,19 @@ impl Drain {
         match self.stage {
             Stage::Running => self.answer(over, actions),
             Stage::Offering => self.end_offer(over, actions),
-            Stage::Resting => self.end_rest(over, actions),
+            Stage::CloseTimeout => self.end_rest(over, actions),
             Stage::CutShort(started) => self.end_short(started, actions),
-            Stage::Grace(_) | Stage::Ending => {}
+            Stage::Grace(_) | Stage::Terminating => {}
         }
     }
 
     /// The grace period has passed, or there is none, or the waits were cut short.
-    fn has_passed(&self, plan: &Plan) -> bool
+    fn waits_are_over(&self, plan: &Plan) -> bool
         ensures { result ≡ passes plan.now self.now }
     {
         match self.stage {
             Stage::Grace(at) => plan.grace <= self.moment.saturating_sub(at) / 1000,
-            Stage::Ending | Stage::CutShort(_) => true,
+            Stage::Terminating | Stage::CutShort(_) => true,
             _ => false,
         }
     }
@@ -247,13 +247,13 @@ impl Drain {
     /// The run ends at once.
     fn answer_fast(&mut self, actions: &mut Actions)
         requires room { 1 ≤ spare actions.old }
-        ensures after { self.new ≡ at_stage Ending self.old }
+        ensures after { self.new ≡ at_stage Terminating self.old }
         ensures told { list_of actions.new ≡ list_of actions.old ++ Phase ShutdownStarted self.old.moment ∷ [] }
         ensures room { spare actions.old ≤ spare actions.new + 1 }
         ensures few { length (list_of actions.new) ≤ length (list_of actions.old) + 1 }
     {
         actions.put(Action::Phase(ExecutionPhase::ShutdownStarted, self.moment));
-        self.stage = Stage::Ending;
+        self.stage = Stage::Terminating;
     }
 
     /// The waits were cut short: the run ends at once.
@@ -318,14 +318,14 @@ impl Drain {
     /// Where the offer is over, it is waited.
     fn end_offer(&mut self, over: Option<u64>, actions: &mut Actions)
         requires room { 1 ≤ spare actions.old }
-        ensures after { self.new ≡ at_stage (if is_some over then Resting else self.old.stage) self.old }
+        ensures after { self.new ≡ at_stage (if is_some over then CloseTimeout else self.old.stage) self.old }
         ensures told { list_of actions.new ≡ list_of actions.old ++ timeout_told over self.old.moment }
         ensures room { spare actions.old ≤ spare actions.new + 1 }
         ensures few { length (list_of actions.new) ≤ length (list_of actions.old) + 1 }
     {
         if over.is_some() {
             actions.put(Action::Phase(ExecutionPhase::GracefulUpgradeCloseTimeout, self.moment));
-            self.stage = Stage::Resting;
+            self.stage = Stage::CloseTimeout;
         }
     }
 

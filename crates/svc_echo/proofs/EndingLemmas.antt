@@ -12,7 +12,7 @@ use Rattle.svc_record.specs.declared.action.BootstrapError.TheVariants.{Transfer
 use Rattle.svc_record.specs.declared.action.ExecutionPhase.TheVariants.{Terminated, ShutdownRuntimes}
 use Rattle.svc_record.specs.Record.{Record, has, tell, last_step, now, signal_of, before_runtimes}
 use Rattle.svc_record.specs.Connections.{live_connections}
-use Rattle.svc_record.specs.Drain.{has_passed, is_ending, live_numbers, stop_seconds}
+use Rattle.svc_record.specs.Drain.{waits_are_over, is_ending, live_numbers, stop_seconds}
 use Rattle.svc_record.proofs.CutLaws.{unsignalled-unpassed}
 use Rattle.svc_base.specs.NumberSets.{ascending}
 use Rattle.svc_record.specs.Ends.{step_end, has_ended, has_ended_early, ends_tested, ends_parent_well, ends_parent_badly, ends_transfer, ends_no_sender, ends_bad_message}
@@ -56,12 +56,12 @@ none_of false false true a b c h = cc
 none_of false false false a b c h = cc
 
 -- a right record whose last step stopped the server is that of a run that was served
-pub served_if_stopped : (p : Plan) (r : Record) → Right p r → stops_last (last_step r) ≡ true → has_passed p r ≡ true
+pub served_if_stopped : (p : Plan) (r : Record) → Right p r → stops_last (last_step r) ≡ true → waits_are_over p r ≡ true
 served_if_stopped p [] right h = cc
 served_if_stopped p (Got e ∷ q) right h = cc
 served_if_stopped p (Told a ∷ []) right h = cc
 served_if_stopped p (Told a ∷ Got e ∷ q) right h = cc
-served_if_stopped p (Told a ∷ Told b ∷ q) right h = by (has_passed p r) refl
+served_if_stopped p (Told a ∷ Told b ∷ q) right h = by (waits_are_over p r) refl
   where
     r : Record
     r = Told a ∷ Told b ∷ q
@@ -73,18 +73,18 @@ served_if_stopped p (Told a ∷ Told b ∷ q) right h = by (has_passed p r) refl
     while_open open_right = let t : has is_ending r ≡ true = or_second (is_ending (Told a)) (is_ending (Told b)) (has is_ending q) (stop_ends b parts.0) in
         let f : has is_ending r ≡ false = open_right.no_end in cc
 
-    by_ends : (tested early : Bool) → ends_tested p r ≡ tested → has_ended_early p r ≡ early → has_passed p r ≡ false → has_ended p r ≡ true → EndedRight p r → ⊥
+    by_ends : (tested early : Bool) → ends_tested p r ≡ tested → has_ended_early p r ≡ early → waits_are_over p r ≡ false → has_ended p r ≡ true → EndedRight p r → ⊥
     by_ends tested true et ee never e right_end = let silent : a ∷ b ∷ last_step q ≡ [] = rw ee at right_end.early in cc
     by_ends true false et ee never e right_end = let step = rw et at right_end.tested in
         let t : is_test_step (now r) (last_step r) ≡ true = step.0 in
         let f : is_test_step (now r) (last_step r) ≡ false = not_tested (now r) a (b ∷ last_step q) parts.1 in cc
-    by_ends false false et ee never e right_end = none_of (has_passed p r) (ends_tested p r) (has_ended_early p r) never et ee e
+    by_ends false false et ee never e right_end = none_of (waits_are_over p r) (ends_tested p r) (has_ended_early p r) never et ee e
 
-    by_settled : (ended : Bool) → has_ended p r ≡ ended → MatchBool ended (EndedRight p r) (OpenRight p r) → has_passed p r ≡ false → ⊥
+    by_settled : (ended : Bool) → has_ended p r ≡ ended → MatchBool ended (EndedRight p r) (OpenRight p r) → waits_are_over p r ≡ false → ⊥
     by_settled true e right_end never = by_ends (ends_tested p r) (has_ended_early p r) refl refl never e right_end
     by_settled false e right_open never = while_open right_open
 
-    by : (b : Bool) → has_passed p r ≡ b → has_passed p r ≡ true
+    by : (b : Bool) → waits_are_over p r ≡ b → waits_are_over p r ≡ true
     by true e = e
     by false e = absurd (by_settled (has_ended p r) refl right.settled.0 e)
 
@@ -99,7 +99,7 @@ last_told at cuts closes n t m =
     ap (λ (q : Record). stops_last (last_step q)) e
 
 -- a right record of a run that was served stopped the server in its last step
-pub stopped_if_served : (p : Plan) (r : Record) → Right p r → has_passed p r ≡ true → stops_last (last_step r) ≡ true
+pub stopped_if_served : (p : Plan) (r : Record) → Right p r → waits_are_over p r ≡ true → stops_last (last_step r) ≡ true
 stopped_if_served p r right e =
     let passed = rw e at right.passed in
     let at : Record = before_runtimes r in
@@ -115,13 +115,13 @@ other_end false false false false true w h = cc
 other_end false false false false false true h = cc
 other_end false false false false false false h = cc
 
-pub end_if_passed : (p : Plan) (r : Record) → has_passed p r ≡ true → step_end p r ≡ ServedEnd
+pub end_if_passed : (p : Plan) (r : Record) → waits_are_over p r ≡ true → step_end p r ≡ ServedEnd
 end_if_passed p r e = rw e refl
 
-pub passed_if_end : (p : Plan) (r : Record) → step_end p r ≡ ServedEnd → has_passed p r ≡ true
-passed_if_end p r h = by (has_passed p r) refl
+pub passed_if_end : (p : Plan) (r : Record) → step_end p r ≡ ServedEnd → waits_are_over p r ≡ true
+passed_if_end p r h = by (waits_are_over p r) refl
   where
-    by : (b : Bool) → has_passed p r ≡ b → has_passed p r ≡ true
+    by : (b : Bool) → waits_are_over p r ≡ b → waits_are_over p r ≡ true
     by true e = e
     by false e = absurd (other_end (ends_tested p r) (ends_parent_well p r) (ends_parent_badly p r) (ends_transfer r) (ends_no_sender p r) (ends_bad_message r) (rw e at h))
 
@@ -131,13 +131,13 @@ ends-journal q x [] = sym (ap stops_last (last_step-tell (Got x.event ∷ q) x.a
 ends-journal q x (y ∷ more) = ends-journal (tell (Got x.event ∷ q) x.actions) y more
 
 -- without a signal nothing has passed
-opening_open : (p : Plan) (opening : List Action) → has_passed p (tell [] opening) ≡ false
+opening_open : (p : Plan) (opening : List Action) → waits_are_over p (tell [] opening) ≡ false
 opening_open p opening = unsignalled-unpassed p (tell [] opening) (signal_of-tell [] opening)
 
 -- the last post's end is `Served` exactly where its actions stop the server
 pub journal_served : (p : Plan) (opening : List Action) (posts : List PostData) → Legal p opening posts
     → (ends_with_stop posts ≡ true) ↔ (step_end p (journal_record opening posts) ≡ ServedEnd)
-journal_served p opening [] legal = (λ h. cc, λ h. let t : has_passed p (tell [] opening) ≡ true = passed_if_end p (tell [] opening) h in let f : has_passed p (tell [] opening) ≡ false = opening_open p opening in cc)
+journal_served p opening [] legal = (λ h. cc, λ h. let t : waits_are_over p (tell [] opening) ≡ true = passed_if_end p (tell [] opening) h in let f : waits_are_over p (tell [] opening) ≡ false = opening_open p opening in cc)
 journal_served p opening (x ∷ posts) legal =
     let r : Record = journal_record opening (x ∷ posts) in
     let same : ends_with_stop (x ∷ posts) ≡ stops_last (last_step r) = ends-journal (tell [] opening) x posts in

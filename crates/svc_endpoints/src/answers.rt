@@ -34,7 +34,7 @@ use svc_record::{Action, Actions, Plan};
 impl Endpoints {
     /// The bind of the endpoint brought a descriptor: it holds the endpoint, or is closed again
     /// where a live one has the address. Room for it was reserved.
-    pub fn take_bound(
+    pub fn on_bound(
         &mut self,
         plan: &Plan,
         s: u32,
@@ -66,7 +66,7 @@ impl Endpoints {
     /// The address of the endpoint was in use at the moment, in milliseconds. The endpoint rests,
     /// or its service fails, is given up, and what nobody needs any more is closed. What is on offer
     /// to a successor is kept.
-    pub fn take_in_use(
+    pub fn on_in_use(
         &mut self,
         plan: &Plan,
         s: u32,
@@ -96,7 +96,7 @@ impl Endpoints {
 
     /// The endpoint couldn't be bound: its service fails, is given up, and what nobody needs any
     /// more is closed. What is on offer to a successor is kept.
-    pub fn take_bind_failed(
+    pub fn on_bind_failed(
         &mut self,
         plan: &Plan,
         s: u32,
@@ -124,7 +124,7 @@ impl Endpoints {
     }
 
     /// The endpoint holds the descriptor that it was offered.
-    pub fn take_adopted(&mut self, plan: &Plan, s: u32, i: u32)
+    pub fn on_adopted(&mut self, plan: &Plan, s: u32, i: u32)
         requires sized { IsEndpointsSized plan.now self.old.parts }
         requires service { s < service_count plan.now }
         requires endpoint { i < length (endpoints plan.now s) }
@@ -141,7 +141,7 @@ impl Endpoints {
 
     /// The endpoint couldn't take the descriptor that it was offered: its service fails, is given
     /// up, and what nobody needs any more is closed. What is on offer to a successor is kept.
-    pub fn take_adopt_failed(
+    pub fn on_adopt_failed(
         &mut self,
         plan: &Plan,
         s: u32,
@@ -170,7 +170,7 @@ impl Endpoints {
 
     /// A loop of an endpoint ended: what is drained by that is closed. What is on offer to a
     /// successor is kept. Room for the loop was reserved.
-    pub fn take_loop_ended(
+    pub fn on_loop_ended(
         &mut self,
         plan: &Plan,
         s: u32,

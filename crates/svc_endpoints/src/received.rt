@@ -55,7 +55,7 @@ impl Endpoints {
     /// k-th descriptor has the k-th word as its address, and it closes at once where a live one has
     /// that address, or no service claims it, or it is abandoned. Where it can't, none has an
     /// address. Whether it can be read. After `NoMemory` nothing has changed.
-    pub fn take_received(
+    pub fn on_received(
         &mut self,
         alloc: Global,
         plan: &Plan,

@@ -7,7 +7,7 @@ use Rattle.svc_record.specs.declared.action.Action.TheVariants.{Close}
 use Rattle.svc_record.specs.Record.{Record, has, before_runtimes, EachEntry, EachEarlier, each_entry, each_earlier}
 use Rattle.svc_record.specs.Descriptors.{is_close, is_doubled}
 use Rattle.svc_record.specs.Closes.{ClosesRight, is_drained, close_once}
-use Rattle.svc_record.specs.Drain.{has_passed, last_actions}
+use Rattle.svc_record.specs.Drain.{waits_are_over, last_actions}
 use Rattle.svc_record.specs.Ends.{has_ended}
 use Rattle.svc_record.specs.Fits.{event_fits, fits_row}
 use Rattle.svc_record.specs.Right.{Right, SettledRight, LastStepRight, PassedRight}
@@ -50,18 +50,18 @@ earlier-caused p (Told a ∷ q) fits once settled = earlier-caused p q fits.1 on
 
 -- before the end
 last-caused : (core : CoreData) (q : Record) → StandsFor core q → Right core.plan q → are_caused core.plan (before_end core.plan q) ≡ true
-last-caused core q stand right = by (has_passed core.plan q) refl
+last-caused core q stand right = by (waits_are_over core.plan q) refl
   where
-    by : (c : Bool) → has_passed core.plan q ≡ c → are_caused core.plan (if c then before_runtimes q else q) ≡ true
+    by : (c : Bool) → waits_are_over core.plan q ≡ c → are_caused core.plan (if c then before_runtimes q else q) ≡ true
     by true passed =
-        let last = on_true (has_passed core.plan q) (LastStepRight core.plan (before_runtimes q)) passed right.stronger.last_step in
-        let ends = (on_true (has_passed core.plan q) (PassedRight core.plan q) passed right.passed).served.drain.ends in
+        let last = on_true (waits_are_over core.plan q) (LastStepRight core.plan (before_runtimes q)) passed right.stronger.last_step in
+        let ends = (on_true (waits_are_over core.plan q) (PassedRight core.plan q) passed right.passed).served.drain.ends in
         let once = each-part (λ e before. close_once core.plan e before ≡ true) (before_runtimes q) (last_actions core.plan (before_runtimes q))
         (subst (λ r. EachEntry (λ e before. close_once core.plan e before ≡ true) r) ends right.stronger.closes) in
         all-caused core.plan (before_runtimes q) once last.closes (before_runtimes q) (λ fd h. h)
     by false goes =
         let unserved : is_served core.end ≡ false = off (is_served core.end)
-        (λ hit. clash (has_passed core.plan q) (served-passed core.plan q (subst (λ x. is_served x ≡ true) stand.end_is hit)) goes) in
+        (λ hit. clash (waits_are_over core.plan q) (served-passed core.plan q (subst (λ x. is_served x ≡ true) stand.end_is hit)) goes) in
         all-caused core.plan q right.stronger.closes (stand.endpoints unserved).closes q (λ fd h. h)
       where
         off : (c : Bool) → (c ≡ true → ⊥) → c ≡ false

@@ -15,7 +15,7 @@ use Rattle.svc_record.specs.Record.{Record, has, is_signal, signal_of, before_si
 use Rattle.svc_record.specs.Plans.{is_among, same_address}
 use Rattle.svc_record.specs.Descriptors.{Descriptor, live_descriptors, live_table, as_entry, has_live}
 use Rattle.svc_record.specs.Offer.{is_upgrade, is_over, table}
-use Rattle.svc_record.specs.Drain.{has_passed}
+use Rattle.svc_record.specs.Drain.{waits_are_over}
 use Rattle.svc_record.specs.Ends.{has_ended}
 use Rattle.svc_core.specs.CoreData.{CoreData}
 use Rattle.svc_offer.proofs.RecordFacts.{no-kind}
@@ -120,7 +120,7 @@ module _ (old new : CoreData) (w : World) (stand : PairStands old new w) (a : Li
 
   -- the new side goes on
   goes-on : has_ended new.plan w.new ≡ false
-  goes-on = unended (has_ended new.plan w.new) (has_passed new.plan w.new) up_new (unsignalled-unpassed new.plan w.new (no-kind w.new silent))
+  goes-on = unended (has_ended new.plan w.new) (waits_are_over new.plan w.new) up_new (unsignalled-unpassed new.plan w.new (no-kind w.new silent))
     where
       unended : (x y : Bool) → (x && not y) ≡ false → y ≡ false → x ≡ false
       unended x y h k = grind arith

@@ -12,7 +12,7 @@ use Rattle.svc_record.specs.Failed.{has_failed}
 use Rattle.svc_record.specs.Endpoints.{serves}
 use Rattle.svc_record.specs.Offer.{is_held_back}
 use Rattle.svc_record.specs.Closes.{is_gone, is_received, is_address_unclaimed, is_address_abandoned, is_drained, is_holder, is_adopt_of_open, have_loops_ended, is_broadcast}
-use Rattle.svc_record.specs.Drain.{has_passed}
+use Rattle.svc_record.specs.Drain.{waits_are_over}
 use Rattle.svc_record.specs.Right.{Right}
 use Rattle.svc_record.proofs.ClosesOnce.{closed_was_opened}
 use Rattle.svc_core.specs.CoreData.{CoreData, is_served}
@@ -86,8 +86,8 @@ gone-off r u d h b o dr x y z w = rw (x, y, z, w) (none r)
 pub never-given-up : (core : CoreData) (q : Record) (a : List ℕ) → StandsFor core q → Right core.plan q → has is_signal q ≡ false → is_named core.plan a ≡ true → is_sound_for core.plan q a ≡ true → has_given_up core.plan q a ≡ false
 never-given-up core q a stand right silent named sound = false_from_ne_true (has_given_up core.plan q a) (λ hit.
     let g = given-up core.plan q a q hit in
-    let unpassed : has_passed core.plan q ≡ false = unsignalled-unpassed core.plan q (no-kind q silent) in
-    let unserved : is_served core.end ≡ false = false_from_ne_true (is_served core.end) (λ s. clash (has_passed core.plan q) (served-passed core.plan q (subst (λ x. is_served x ≡ true) stand.end_is s)) unpassed) in
+    let unpassed : waits_are_over core.plan q ≡ false = unsignalled-unpassed core.plan q (no-kind q silent) in
+    let unserved : is_served core.end ≡ false = false_from_ne_true (is_served core.end) (λ s. clash (waits_are_over core.plan q) (served-passed core.plan q (subst (λ x. is_served x ≡ true) stand.end_is s)) unpassed) in
     let dr = stand.drain unserved in
     let quiet : has is_broadcast q ≡ false = unsignalled-silent core.plan core.drain (over_since core.offer.state) q (dr.signal_is ∙ no-kind q silent) dr in
     let opened : is_opened core.plan q g.fd ≡ true = closed_was_opened core.plan q g.fd right.stronger.closes g.closed in

@@ -22,7 +22,7 @@ use Rattle.svc_record.specs.Starts.{is_started}
 use Rattle.svc_record.specs.Endpoints.{held_numbers, is_held, is_at_work, serves}
 use Rattle.svc_record.specs.Offer.{is_held_back}
 use Rattle.svc_record.specs.Closes.{ClosesRight, is_gone, is_drained, is_broadcast, is_holder, is_adopt_of_open, ended_loops, have_loops_ended, close_once}
-use Rattle.svc_record.specs.Drain.{Mark, phase, marks_if, wait_row, has_passed, PhasesRight}
+use Rattle.svc_record.specs.Drain.{Mark, phase, marks_if, wait_row, waits_are_over, PhasesRight}
 use Rattle.svc_record.specs.Ends.{has_ended, has_ended_early, ends_tested}
 use Rattle.svc_record.specs.Fits.{event_fits}
 use Rattle.svc_record.specs.Right.{SettledRight, EndedRight, OpenRight, is_quiet, is_test_step}
@@ -64,7 +64,7 @@ pub record Leaves (p : Plan) (b y : Record) : Type 0 where
   pub held : (t k : ℕ) → held_numbers p y t k ≡ held_numbers p b t k
   pub back : (fd : ℕ) → is_held_back p y fd ≡ is_held_back p b fd
   pub loops : (t k : ℕ) → ended_loops p y t k ≡ ended_loops p b t k
-  pub passed : has_passed p y ≡ has_passed p b
+  pub passed : waits_are_over p y ≡ waits_are_over p b
   pub early : has_ended_early p y ≡ has_ended_early p b
   pub row : wait_row p y ≡ wait_row p b
 
@@ -295,7 +295,7 @@ marks-row true r row = row-only r row
 marks-row false r row = row-only r row
 
 broadcast-by : (p : Plan) (x : Record) → PhasesRight p x → has is_broadcast x ≡ list_any is_the_broadcast (wait_row p x)
-broadcast-by p x phases = marked-is x ∙ ap (list_any is_the_broadcast) phases ∙ marks-row (has_passed p x) (has is_running x) (wait_row p x)
+broadcast-by p x phases = marked-is x ∙ ap (list_any is_the_broadcast) phases ∙ marks-row (waits_are_over p x) (has is_running x) (wait_row p x)
 
 only-tested : (a t c : Bool) → ((a || t) || c) ≡ true → a ≡ false → c ≡ false → t ≡ true
 only-tested a t c h x z = grind arith
@@ -315,8 +315,8 @@ step-closes p s i b e told over going before settled = by (tell (Got e ∷ b) to
           ∙ sym (broadcast-by p b before.phases),
     )
     by y leaves at true off ended =
-        let parts = or_parts (has_passed p b || ends_tested p b) (has_ended_early p b) going in
-        let tested = only-tested (has_passed p y) (ends_tested p y) (has_ended_early p y) off
-        (leaves.passed ∙ (or_parts (has_passed p b) (ends_tested p b) parts.0).0) (leaves.early ∙ parts.1) in
+        let parts = or_parts (waits_are_over p b || ends_tested p b) (has_ended_early p b) going in
+        let tested = only-tested (waits_are_over p y) (ends_tested p y) (has_ended_early p y) off
+        (leaves.passed ∙ (or_parts (waits_are_over p b) (ends_tested p b) parts.0).0) (leaves.early ∙ parts.1) in
         let right = on_true (ends_tested p y) ((is_test_step (now y) (last_step y) ≡ true) × ClosesRight p y) tested ended.tested in
         (right.1, test-silent y (now y) right.0 ∙ ap (has is_broadcast) at)

@@ -8,11 +8,11 @@ use Rattle.svc_record.specs.Record.{Record, before_runtimes, each_entry, each_ea
 use Rattle.svc_record.specs.Descriptors.{address_of, is_doubled}
 use Rattle.svc_record.specs.Closes.{is_received, is_address_unclaimed, is_address_abandoned, is_drained}
 use Rattle.svc_record.specs.Offer.{is_held_back}
-use Rattle.svc_record.specs.Drain.{has_passed}
+use Rattle.svc_record.specs.Drain.{waits_are_over}
 
 -- what stands before `ShutdownRuntimes`, where the run went through its shutdown; else the whole
 abbrev pub before_end : Plan → Record → Record
-before_end p q = if has_passed p q then before_runtimes q else q
+before_end p q = if waits_are_over p q then before_runtimes q else q
 
 -- it was received, and no service claims its address
 abbrev pub is_received_unclaimed : Plan → Record → ℕ → Bool

@@ -9,14 +9,14 @@ use Rattle.svc_record.specs.Plans.{services, names}
 use Rattle.svc_record.specs.Descriptors.{has_live}
 use Rattle.svc_record.specs.Failed.{has_failed}
 use Rattle.svc_record.specs.Offer.{is_upgrade, is_over}
-use Rattle.svc_record.specs.Drain.{has_passed}
+use Rattle.svc_record.specs.Drain.{waits_are_over}
 use Rattle.svc_record.specs.Ends.{has_ended}
 use Rattle.svc_handover.specs.Channel.{is_in_flight, is_sent, sent_message, names_address}
 use Rattle.svc_handover.specs.Pair.{World}
 
 -- the run has ended otherwise than served, so that all that it had open is closed
 abbrev pub is_down : Plan → Record → Bool
-is_down p q = has_ended p q && not (has_passed p q)
+is_down p q = has_ended p q && not (waits_are_over p q)
 
 -- a side has an open descriptor of the address
 abbrev pub is_up_with : Plan → Record → List ℕ → Bool

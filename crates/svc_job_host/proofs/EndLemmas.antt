@@ -22,7 +22,7 @@ use Rattle.svc_record.specs.Plans.{services, service_count, is_kind, has_kind}
 use Rattle.svc_record.specs.Record.{Record, has, times, tell, now, is_bootstrap, each_entry, EachEntry}
 use Rattle.svc_record.specs.Starts.{is_started, start_known}
 use Rattle.svc_record.specs.Boot.{is_side_parent, is_bad_message, may_begin}
-use Rattle.svc_record.specs.Drain.{has_passed}
+use Rattle.svc_record.specs.Drain.{waits_are_over}
 use Rattle.svc_record.proofs.CutLaws.{unsignalled-unpassed}
 use Rattle.svc_record.specs.Ends.{step_end, has_ended, ends_tested, ends_parent_well, ends_parent_badly, ends_transfer, ends_no_sender, ends_bad_message, is_receive_failure, is_no_sender, TestedRight}
 use Rattle.svc_record.specs.Fits.{Fits}
@@ -121,12 +121,12 @@ calm p q end only is =
     let transfer : ends_transfer q ≡ false = only-lacks is_receive_failure (λ m. refl) (λ k. refl) (λ s. refl) (λ a. refl) q only in
     let sender : ends_no_sender p q ≡ false = ap (λ n. nat_lt p.limit n) (none-times is_no_sender q (only-lacks is_no_sender (λ m. refl) (λ k. refl) (λ s. refl) (λ a. refl) q only)) ∙ above p.limit in
     let message : ends_bad_message q ≡ false = only-lacks is_bad_message (λ m. refl) (λ k. refl) (λ s. refl) (λ a. refl) q only in
-    calm-by (has_passed p q) (ends_tested p q) end
-    (is ∙ ap (λ x. end_by (has_passed p q) (ends_tested p q) x (ends_parent_badly p q) (ends_transfer q) (ends_no_sender p q) (ends_bad_message q)) well
-    ∙ ap (λ x. end_by (has_passed p q) (ends_tested p q) false x (ends_transfer q) (ends_no_sender p q) (ends_bad_message q)) badly
-    ∙ ap (λ x. end_by (has_passed p q) (ends_tested p q) false false x (ends_no_sender p q) (ends_bad_message q)) transfer
-    ∙ ap (λ x. end_by (has_passed p q) (ends_tested p q) false false false x (ends_bad_message q)) sender
-    ∙ ap (λ x. end_by (has_passed p q) (ends_tested p q) false false false false x) message)
+    calm-by (waits_are_over p q) (ends_tested p q) end
+    (is ∙ ap (λ x. end_by (waits_are_over p q) (ends_tested p q) x (ends_parent_badly p q) (ends_transfer q) (ends_no_sender p q) (ends_bad_message q)) well
+    ∙ ap (λ x. end_by (waits_are_over p q) (ends_tested p q) false x (ends_transfer q) (ends_no_sender p q) (ends_bad_message q)) badly
+    ∙ ap (λ x. end_by (waits_are_over p q) (ends_tested p q) false false x (ends_no_sender p q) (ends_bad_message q)) transfer
+    ∙ ap (λ x. end_by (waits_are_over p q) (ends_tested p q) false false false x (ends_bad_message q)) sender
+    ∙ ap (λ x. end_by (waits_are_over p q) (ends_tested p q) false false false false x) message)
   where
     above : (n : ℕ) → nat_lt n 0 ≡ false
     above n = grind (arith, nat_tests)
@@ -188,7 +188,7 @@ served-none p periods q keeps served = none-owes periods q (λ s lt owed.
 -- tested
 tested-none : (p : Plan) (periods : List ℕ) (q : Record) → AllNotify p → each_entry (head_due periods) q ≡ true → Right p q → ends.Tested ≡ step_end p q → owing periods q ≡ []
 tested-none p periods q notify heads right end = none-owes periods q (λ s lt owed.
-    let tests : ends_tested p q ≡ true = tested-by (has_passed p q) (ends_tested p q) (ends_parent_well p q) (ends_parent_badly p q) (ends_transfer q) (ends_no_sender p q) (ends_bad_message q) end in
+    let tests : ends_tested p q ≡ true = tested-by (waits_are_over p q) (ends_tested p q) (ends_parent_well p q) (ends_parent_badly p q) (ends_transfer q) (ends_no_sender p q) (ends_bad_message q) end in
     let test = (and_parts p.test (has is_bootstrap q) tests).0 in
     let tested : TestedRight p q = subst (λ b. OnTrue b (TestedRight p q)) tests right.stronger.tested in
     let eager = (and_parts p.eager (may_begin p q) (left-only (p.eager && may_begin p q) _ tested.begun (none-boots p q (services p) notify))).0 in

@@ -13,7 +13,7 @@ use Rattle.svc_record.specs.Record.{Record, has, now, signal_of, is_bootstrap, i
 use Rattle.svc_record.specs.Starts.{is_start, is_started, is_ready_event}
 use Rattle.svc_record.specs.Asks.{is_daemonize}
 use Rattle.svc_record.specs.Boot.{boots, has_begun, is_notify, is_good_message, receive_right, complete_right, runs, start_after_boot}
-use Rattle.svc_record.specs.Drain.{has_passed}
+use Rattle.svc_record.specs.Drain.{waits_are_over}
 use Rattle.svc_record.specs.Ends.{has_ended, has_ended_early, ends_tested}
 use Rattle.svc_record.specs.Fits.{event_fits}
 use Rattle.svc_record.specs.Right.{SettledRight, EndedRight, OpenRight}
@@ -169,8 +169,8 @@ owed-unsignalled p periods (Got (Moment m) ∷ b) s heads only fits settled lt o
     let parts = and_parts (is_none (owing periods b)) (each_entry (head_due periods) b) heads in
     let first = moment-owed periods b m s lt parts.0 owed in
     let open_b = open-before p b _ fits.0 settled.0 in
-    let on = off-parts (has_passed p b || ends_tested p b) (has_ended_early p b) open_b.0 in
-    unsignalled p b only open_b.1.phases (off-parts (has_passed p b) (ends_tested p b) on.0).0 (runs-on periods b m s first)
+    let on = off-parts (waits_are_over p b || ends_tested p b) (has_ended_early p b) open_b.0 in
+    unsignalled p b only open_b.1.phases (off-parts (waits_are_over p b) (ends_tested p b) on.0).0 (runs-on periods b m s first)
 owed-unsignalled p periods (Got (Ready k) ∷ b) s heads only fits settled lt owed =
     let parts = and_parts (bytes_eq (take 1 (owing periods b)) (k ∷ [])) (each_entry (head_due periods) b) heads in
     owed-unsignalled p periods b s parts.1 only fits.1 settled.1 lt (and_parts (owes periods b s) (not (k == s)) owed).0

@@ -13,7 +13,7 @@ use Rattle.svc_record.specs.Record.{Record, has, signal_of, before_signal, has_c
 use Rattle.svc_record.specs.Closes.{is_broadcast}
 use Rattle.svc_record.specs.Descriptors.{opened_descriptors, live_table}
 use Rattle.svc_record.specs.Offer.{has_offer}
-use Rattle.svc_record.specs.Drain.{Mark, phase, marks_if, row_by, with_start, wait_row, has_passed, has_passed_by, PhasesRight}
+use Rattle.svc_record.specs.Drain.{Mark, phase, marks_if, row_by, with_start, wait_row, waits_are_over, has_passed_by, PhasesRight}
 use Rattle.svc_job_host.specs.Dues.{is_shutdown}
 use Rattle.svc_job_host.specs.JobHosts.{is_job_entry}
 use Rattle.svc_drain.proofs.Broadcasts.{is_the_broadcast, marked-is}
@@ -51,7 +51,7 @@ by-kind p b more rest TerminateSignal none passed = refl
 by-kind p b more rest GracefulUpgrade none passed = rw none refl
 
 -- the broadcast was told
-broadcast-told : (p : Plan) (b : Record) (kind : ShutdownSignal) → each_entry (λ e before. is_job_entry e) b ≡ true → PhasesRight p b → has_passed p b ≡ false → signal_of b ≡ Some kind → has is_broadcast b ≡ true
+broadcast-told : (p : Plan) (b : Record) (kind : ShutdownSignal) → each_entry (λ e before. is_job_entry e) b ≡ true → PhasesRight p b → waits_are_over p b ≡ false → signal_of b ≡ Some kind → has is_broadcast b ≡ true
 broadcast-told p b kind only phases passed signal =
     let unpassed = or_parts (has_cut b) (has_passed_by p b (signal_of b)) passed in
     marked-is b ∙ ap (list_any is_the_broadcast) phases
@@ -68,7 +68,7 @@ shut-by (e ∷ q) h = elim (cases_Bool (is_broadcast e)) [
 ]
 
 -- so before the shutdown no signal came
-pub unsignalled : (p : Plan) (b : Record) → each_entry (λ e before. is_job_entry e) b ≡ true → PhasesRight p b → has_passed p b ≡ false → has is_shutdown b ≡ false → signal_of b ≡ None
+pub unsignalled : (p : Plan) (b : Record) → each_entry (λ e before. is_job_entry e) b ≡ true → PhasesRight p b → waits_are_over p b ≡ false → has is_shutdown b ≡ false → signal_of b ≡ None
 unsignalled p b only phases passed on = by (signal_of b) refl
   where
     by : (o : Option ShutdownSignal) → signal_of b ≡ o → signal_of b ≡ None

@@ -17,7 +17,7 @@ use Rattle.svc_record.specs.declared.action.StepEnd.TheVariants as ends
 use Rattle.svc_record.specs.declared.item.Item.{Item}
 use Rattle.svc_record.specs.declared.item.Item.TheVariants as items
 use Rattle.svc_record.specs.Record.{Record, tell, each_entry, EachEntry}
-use Rattle.svc_record.specs.Drain.{has_passed}
+use Rattle.svc_record.specs.Drain.{waits_are_over}
 use Rattle.svc_record.specs.Ends.{ends_tested, ends_parent_well, ends_parent_badly, ends_transfer, ends_no_sender, ends_bad_message}
 use Rattle.svc_record.specs.Tail.{closing_actions}
 use Rattle.svc_server.specs.declared.run.Outcome.{Outcome}
@@ -52,7 +52,7 @@ pub may_end : (p : Plan) (turns given : ℕ) (answer : Result Outcome RunError) 
     → turns ≡ (length all + length periods) + 1 → RunEnds p turns answer r → MayEnd answer
 may_end p turns given (Ok outcomes.Served) periods all r test keeps taken enough end = tt
 may_end p turns given (Ok outcomes.TestPassed) periods all r test keeps taken enough (finished, end) =
-    (let tests : ends_tested p finished ≡ true = tested-by (has_passed p finished) (ends_tested p finished) (ends_parent_well p finished) (ends_parent_badly p finished) (ends_transfer finished) (ends_no_sender p finished) (ends_bad_message finished) end.ended in
+    (let tests : ends_tested p finished ≡ true = tested-by (waits_are_over p finished) (ends_tested p finished) (ends_parent_well p finished) (ends_parent_badly p finished) (ends_transfer finished) (ends_no_sender p finished) (ends_bad_message finished) end.ended in
     let never = rw test at tests in cc)
 may_end p turns given (Ok (outcomes.Parent n)) periods all r test keeps taken enough (finished, end) = calm p finished (ends.Parent n) (never_ends p periods r finished keeps end.closed) end.ended
 may_end p turns given (Err (errors.Bootstrap error)) periods all r test keeps taken enough (finished, end) = calm p finished (ends.Ended error) (never_ends p periods r finished keeps end.closed) end.ended

@@ -11,7 +11,7 @@ use Rattle.svc_record.specs.declared.event.Event.TheVariants.{Ready}
 use Rattle.svc_record.specs.declared.item.Item.{Item}
 use Rattle.svc_record.specs.declared.item.Item.TheVariants as items
 use Rattle.svc_record.specs.Record.{Record}
-use Rattle.svc_record.specs.Drain.{has_passed}
+use Rattle.svc_record.specs.Drain.{waits_are_over}
 use Rattle.svc_record.specs.Ends.{has_ended}
 use Rattle.svc_record.specs.Tail.{closing_actions}
 use Rattle.svc_text.specs.Dependencies.{RefusesAt}
@@ -53,7 +53,7 @@ not_fault p all left more r finished t s next given =
 
 not_out : (p : Plan) (all left : List Item) (r finished : Record) → RunsThrough p all → IsClosed p r finished None → left ≡ [] → all ≡ map items.Event (items_of r) ++ left → ⊥
 not_out p all left r finished t s next given =
-    let passed : has_passed p finished ≡ true =
+    let passed : waits_are_over p finished ≡ true =
     t.passes finished s.right (given ∙ ap (λ (xs : List Item). map items.Event (items_of r) ++ xs) next ∙ append-nil (map items.Event (items_of r)) ∙ ap (map items.Event) (closed_items p r finished s)) in
     let ended : has_ended p finished ≡ true = rw passed refl in
     clash (has_ended p finished) ended s.goes_on

@@ -9,7 +9,7 @@ use Rattle.svc_record.specs.declared.item.Item.{Item}
 use Rattle.svc_record.specs.declared.item.Item.TheVariants as items
 use Rattle.svc_record.specs.declared.plan.Plan.{Plan}
 use Rattle.svc_record.specs.Record.{Record, EachEntry}
-use Rattle.svc_record.specs.Drain.{has_passed}
+use Rattle.svc_record.specs.Drain.{waits_are_over}
 use Rattle.svc_record.specs.Ends.{has_ended}
 use Rattle.svc_record.specs.Fits.{Fits}
 use Rattle.svc_record.specs.Right.{Right}
@@ -135,7 +135,7 @@ WritesFront words left now_left faults now_faults before now =
 pub record RunsThrough (p : Plan) (all : List Item) : Type 0 where
   pub fits : (q : Record) (e : Event) (more : List Item) → Right p q → has_ended p q ≡ false → all ≡ map items.Event (items_of q) ++ items.Event e ∷ more → Fits p q e
   pub faultless : (q : Record) (more : List Item) → Right p q → has_ended p q ≡ false → all ≡ map items.Event (items_of q) ++ items.Fault ∷ more → ⊥
-  pub passes : (q : Record) → Right p q → all ≡ map items.Event (items_of q) → has_passed p q ≡ true
+  pub passes : (q : Record) → Right p q → all ≡ map items.Event (items_of q) → waits_are_over p q ≡ true
 
 -- there are no words, the source tells bytes within the limit that say jobs, a server can be run with their configuration, and their items run through
 pub record IsWholeText (words : List (List ℕ)) (bytes : List ℕ) (parts : JobParts) : Type 0 where

@@ -15,7 +15,7 @@ use Rattle.svc_record.specs.Plans.{has_kind}
 use Rattle.svc_record.specs.Asks.{is_daemonize}
 use Rattle.svc_record.specs.Starts.{is_start, is_started, start_due, start_known}
 use Rattle.svc_record.specs.Boot.{BootRight, is_side_child, is_notify, is_good_message, has_begun, boots, receive_right, complete_right}
-use Rattle.svc_record.specs.Drain.{has_passed}
+use Rattle.svc_record.specs.Drain.{waits_are_over}
 use Rattle.svc_record.specs.Ends.{has_ended, has_ended_early, ends_tested, TestedRight}
 use Rattle.svc_record.specs.Fits.{event_fits}
 use Rattle.svc_record.specs.Facts.{Settled}
@@ -51,7 +51,7 @@ open_at p r q right s on = subst (λ x. MatchBool x (EndedRight p q) (OpenRight 
 
 -- what is known before the signal
 pub record Before (p : Plan) (b : Record) : Type 0 where
-  pub unpassed : has_passed p b ≡ false
+  pub unpassed : waits_are_over p b ≡ false
   pub untested : ends_tested p b ≡ false
   pub early : has_ended_early p b ≡ false
   pub runs : from_the_start b ≡ true
@@ -63,8 +63,8 @@ before-signal p r b kind told w =
     let fit = and_parts (not (has_ended p b)) (from_the_start b)
     (entries_before P told (after kind b) (entries-settled P r (tell (after kind b) told) w.right.fits w.settled)).0 in
     let on = apart_from (has_ended p b) fit.0 in
-    let parts = or_parts (has_passed p b || ends_tested p b) (has_ended_early p b) on in
-    let first = or_parts (has_passed p b) (ends_tested p b) parts.0 in
+    let parts = or_parts (waits_are_over p b || ends_tested p b) (has_ended_early p b) on in
+    let first = or_parts (waits_are_over p b) (ends_tested p b) parts.0 in
     record {
       unpassed = first.0;
       untested = first.1;
@@ -154,7 +154,7 @@ tested_not p r b q right (inr s) known begun y =
     let P : Entry → Record → Type 0 = λ e before. event_fits p e before ≡ true in
     let fit = (entries-behind P s.1.0 (Got s.0 ∷ q) (subst (EachEntry P) s.1.1 right.fits)).0 in
     let on = apart_from (has_ended p q) (and_parts (not (has_ended p q)) _ fit).0 in
-    clash (ends_tested p q) y (or_parts (has_passed p q) (ends_tested p q) (or_parts _ (has_ended_early p q) on).0).1
+    clash (ends_tested p q) y (or_parts (waits_are_over p q) (ends_tested p q) (or_parts _ (has_ended_early p q) on).0).1
 
 untested : (p : Plan) (r b q : Record) → Right p r → Settled q r → Before p b → has_begun p q ≡ has_begun p b → ends_tested p q ≡ false
 untested p r b q right s known begun = false_where (ends_tested p q) (λ y. tested_not p r b q right s known begun y)

@@ -13,7 +13,7 @@ use Rattle.svc_record.specs.Record.{Record, has, tell, now, is_signal, is_runnin
 use Rattle.svc_record.specs.Message.{encode}
 use Rattle.svc_record.specs.Descriptors.{live_table}
 use Rattle.svc_record.specs.Offer.{is_upgrade, is_empty_table, is_written, has_offer, is_answered, is_over, is_offered, is_held_back, goes_on}
-use Rattle.svc_record.specs.Drain.{Mark, phase, rest_end, grace_over, signal_grace_over, offer_grace_over, has_passed_by, has_passed, marks_if, offer_row, row_by, wait_row, due_marks}
+use Rattle.svc_record.specs.Drain.{Mark, phase, rest_end, grace_over, signal_grace_over, offer_grace_over, has_passed_by, waits_are_over, marks_if, offer_row, row_by, wait_row, due_marks}
 use Rattle.svc_laws.specs.Signals.{is_further}
 use Rattle.svc_laws.proofs.ToldLemmas.{kept}
 
@@ -109,7 +109,7 @@ by-same p b q w (Some FastShutdown) = refl
 by-same p b q w (Some GracefulTerminate) = signal_grace-same p b q w
 by-same p b q w (Some GracefulUpgrade) = if_same _ _ _ _ _ _ (offer-same p b q w) (grace-same p b q w) (signal_grace-same p b q w)
 
-pub passed-same : (p : Plan) (b q : Record) → SameWaits p b q → has_passed p q ≡ has_passed p b
+pub passed-same : (p : Plan) (b q : Record) → SameWaits p b q → waits_are_over p q ≡ waits_are_over p b
 passed-same p b q w = ap (λ c. c || has_passed_by p q (signal_of q)) w.cut
     ∙ (ap (λ s. has_cut b || has_passed_by p q s) w.signal ∙ ap (λ x. has_cut b || x) (by-same p b q w (signal_of b)))
 
@@ -136,4 +136,4 @@ due_by passed row running = (marks_if passed (phase Terminated ∷ phase Shutdow
 pub due-same : (p : Plan) (b q : Record) → SameWaits p b q → has_cut b ≡ false → has is_running q ≡ has is_running b → due_marks p q ≡ due_marks p b
 unfolding due_by
 due-same p b q w uncut runs = ap (λ x. due_by x (wait_row p q) (has is_running q)) (passed-same p b q w)
-    ∙ (ap (λ r. due_by (has_passed p b) r (has is_running q)) (wait_row-same p b q w uncut) ∙ ap (λ x. due_by (has_passed p b) (wait_row p b) x) runs)
+    ∙ (ap (λ r. due_by (waits_are_over p b) r (has is_running q)) (wait_row-same p b q w uncut) ∙ ap (λ x. due_by (waits_are_over p b) (wait_row p b) x) runs)

@@ -21,7 +21,7 @@ use Rattle.svc_record.specs.Starts.{is_start, is_ready_event, start_known}
 use Rattle.svc_record.specs.Endpoints.{is_held}
 use Rattle.svc_record.specs.Closes.{close_once}
 use Rattle.svc_record.specs.Connections.{live_connections}
-use Rattle.svc_record.specs.Drain.{has_passed, last_actions, live_numbers}
+use Rattle.svc_record.specs.Drain.{waits_are_over, last_actions, live_numbers}
 use Rattle.svc_record.proofs.CutLaws.{unsignalled-unpassed}
 use Rattle.svc_base.specs.NumberSets.{ascending}
 use Rattle.svc_record.specs.Fits.{event_fits}
@@ -150,7 +150,7 @@ all-events n r more served h =
     elim (front-or-all n (events_of r) more h) [
       | inl front ↦
           let none : signal_of r ≡ None = no-signal r (front-unsigned n (events_of r) front.0 front.1) in
-          absurd (both_ways (has_passed (made_plan n) r) (unsignalled-unpassed (made_plan n) r none) served.drain.passes)
+          absurd (both_ways (waits_are_over (made_plan n) r) (unsignalled-unpassed (made_plan n) r none) served.drain.passes)
       | inr all ↦ all
     ]
 

@@ -5,7 +5,7 @@ use Rattle.svc_record.specs.declared.action.StepEnd.TheVariants as ends
 use Rattle.svc_record.specs.declared.entry.Entry.{Entry}
 use Rattle.svc_record.specs.declared.item.Item.TheVariants as items
 use Rattle.svc_record.specs.Record.{Record}
-use Rattle.svc_record.specs.Drain.{has_passed}
+use Rattle.svc_record.specs.Drain.{waits_are_over}
 use Rattle.svc_server.specs.Runs.{events_of}
 use Rattle.svc_main.specs.declared.answering.Answer.{Answer}
 use Rattle.svc_main.specs.declared.outcome.RunEnd.{RunEnd}
@@ -25,7 +25,7 @@ through n few = record {
   events = made_events n;
   only_events = refl;
   each_fits = λ q e more right goes h. made-fits n q e more few right goes h;
-  ends_served = λ q more right h. subst EndsServed (sym (made-goes n q more h)) (either (has_passed (made_plan n) q));
+  ends_served = λ q more right h. subst EndsServed (sym (made-goes n q more h)) (either (waits_are_over (made_plan n) q));
   passes = λ q right h. made-passes n q h;
 }
   where

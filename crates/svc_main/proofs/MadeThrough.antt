@@ -10,7 +10,7 @@ use Rattle.svc_record.specs.declared.action.StepEnd.TheVariants.{On, Served}
 use Rattle.svc_record.specs.Record.{Record, has, is_signal, signal_of, first_or, has_cut}
 use Rattle.svc_record.specs.Boot.{is_side_parent, is_bad_message}
 use Rattle.svc_record.specs.Ends.{is_no_sender, is_receive_failure, step_end, has_ended}
-use Rattle.svc_record.specs.Drain.{has_passed, has_passed_by}
+use Rattle.svc_record.specs.Drain.{waits_are_over, has_passed_by}
 use Rattle.svc_record.specs.Fits.{Fits}
 use Rattle.svc_record.specs.Right.{Right, EndedRight, OpenRight}
 use Rattle.svc_server.specs.Runs.{events_of}
@@ -49,7 +49,7 @@ made-fits n q e more few right goes h =
     ])
 
 -- the run ends by its shutdown alone
-pub made-goes : (n : ℕ) (q : Record) (more : List Event) → made_events n ≡ events_of q ++ more → step_end (made_plan n) q ≡ cond (has_passed (made_plan n) q) Served On
+pub made-goes : (n : ℕ) (q : Record) (more : List Event) → made_events n ≡ events_of q ++ more → step_end (made_plan n) q ≡ cond (waits_are_over (made_plan n) q) Served On
 made-goes n q more h =
     let odd : came q is_odd ≡ false = usual-came (events_of q) (all-usual n (events_of q) more h) in
     let parent : has is_side_parent q ≡ false = has-came is_side_parent (λ a. refl) q ∙ came-none (λ e. is_side_parent (Got e)) q f odd in
@@ -75,7 +75,7 @@ made-goes n q more h =
     m e u = refl
 
 -- with all of them it has passed
-pub made-passes : (n : ℕ) (q : Record) → made_events n ≡ events_of q → has_passed (made_plan n) q ≡ true
+pub made-passes : (n : ℕ) (q : Record) → made_events n ≡ events_of q → waits_are_over (made_plan n) q ≡ true
 made-passes n q h =
     let last = last-event q (made_events_to n) (events.Signal FastShutdown) (sym h) in
     let none : signal_of last.before ≡ None = no-signal last.before (ap (λ xs. came-in xs) last.events ∙ front-unsigned n (made_events_to n) [] (sym (append-nil (made_events_to n)))) in

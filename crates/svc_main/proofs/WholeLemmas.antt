@@ -13,7 +13,7 @@ use Rattle.svc_record.specs.declared.event.Event.{Event}
 use Rattle.svc_record.specs.declared.item.Item.{Item}
 use Rattle.svc_record.specs.declared.item.Item.TheVariants as items
 use Rattle.svc_record.specs.Record.{Record}
-use Rattle.svc_record.specs.Drain.{has_passed}
+use Rattle.svc_record.specs.Drain.{waits_are_over}
 use Rattle.svc_record.specs.Ends.{has_ended}
 use Rattle.svc_record.specs.Tail.{closing_actions}
 use Rattle.svc_text.specs.Dependencies.{RefusesAt}
@@ -74,7 +74,7 @@ not_out p script_items left r finished t s takes =
     let events : events_of r ≡ events_of finished = ap events_of s.closed ∙ events-tell finished (closing_actions p finished None) in
     let all : map items.Event t.events ≡ map items.Event (events_of finished) =
     sym t.only_events ∙ takes.taken ∙ ap (λ (xs : List Item). map items.Event (events_of r) ++ xs) takes.left ∙ append-nil (map items.Event (events_of r)) ∙ ap (map items.Event) events in
-    let passed : has_passed p finished ≡ true = t.passes finished s.right (same_events t.events (events_of finished) all) in
+    let passed : waits_are_over p finished ≡ true = t.passes finished s.right (same_events t.events (events_of finished) all) in
     let ended : has_ended p finished ≡ true = rw passed refl in
     false≢true (sym s.goes_on ∙ ended)
 

@@ -15,7 +15,7 @@ use Rattle.svc_record.specs.declared.item.Item.{Item}
 use Rattle.svc_record.specs.declared.item.Item.TheVariants as items
 use Rattle.svc_record.specs.Record.{Record, times, EachEntry}
 use Rattle.svc_record.specs.Connections.{said_right}
-use Rattle.svc_record.specs.Drain.{has_passed}
+use Rattle.svc_record.specs.Drain.{waits_are_over}
 use Rattle.svc_record.specs.Ends.{step_end, has_ended}
 use Rattle.svc_record.specs.Fits.{Fits}
 use Rattle.svc_record.specs.Right.{Right}
@@ -184,7 +184,7 @@ pub record RunsThrough (p : Plan) (script_items : List Item) : Type 0 where
   pub only_events : script_items ≡ map items.Event events
   pub each_fits : (q : Record) (e : Event) (more : List Event) → Right p q → has_ended p q ≡ false → events ≡ events_of q ++ e ∷ more → Fits p q e
   pub ends_served : (q : Record) (more : List Event) → Right p q → events ≡ events_of q ++ more → EndsServed (step_end p q)
-  pub passes : (q : Record) → Right p q → events ≡ events_of q → has_passed p q ≡ true
+  pub passes : (q : Record) → Right p q → events ≡ events_of q → waits_are_over p q ≡ true
 
 -- the words are taken, the source tells bytes that are a script, a server can be run with its configuration, and its events run through
 pub record IsWholeScript (words : List (List ℕ)) (bytes : List ℕ) (parts : Parts) : Type 0 where

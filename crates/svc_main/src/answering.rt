@@ -69,7 +69,7 @@ fn ran(alloc: Global, end: RunEnd, entries: &[Entry]) -> Result<Answer, NoMemory
 
 /// What the run of a server leaves.
 #[derive(Drop)]
-struct RunLeft {
+struct FinishedRun {
     end: RunEnd,
     host: ScriptHost<ScriptService>,
 }
@@ -79,7 +79,7 @@ fn run_over(
     alloc: Global,
     server: Server<ScriptService, ScriptFilter>,
     items: Vec<Item>,
-) -> Result<RunLeft, NoMemory>
+) -> Result<FinishedRun, NoMemory>
     requires few { All BringsFew items.items }
     requires lines { (services : List ServiceLine) × HasLines services (length services) server.dependencies server.filters
         (answers_of ⟦<ScriptService as ServiceWithDependents>⟧ server.services.items) }
@@ -90,7 +90,7 @@ fn run_over(
     let turns = items.len() as u64 + 1;
     let mut host = ScriptHost::new(alloc, items);
     let end = run_items(alloc, server, turns, &mut host)?;
-    Ok(RunLeft { end, host })
+    Ok(FinishedRun { end, host })
 }
 
 /// Runs the server of a script over the script's items, and prints what its run leaves.

@@ -11,7 +11,7 @@ use Rattle.svc_record.specs.Closes.{closes_right, close_once}
 use Rattle.svc_record.specs.AskRules.{fails_right, ask_due, ask_known}
 use Rattle.svc_record.specs.Offer.{offer_right, offer_due, retry_due, one_ask}
 use Rattle.svc_record.specs.Connections.{arrivals, connection_right, rests_right, rest_due, conn_right, connection_known}
-use Rattle.svc_record.specs.Drain.{phases_right, every_moment_right, has_passed, ends_right, is_ending}
+use Rattle.svc_record.specs.Drain.{phases_right, every_moment_right, waits_are_over, ends_right, is_ending}
 use Rattle.svc_record.specs.Boot.{boot_entries_right, stands_first, fork_first, start_after_boot, boot_right, boot_due, try_due, may_begin, has_begun}
 use Rattle.svc_record.specs.Ends.{has_ended, has_ended_early, ends_tested, visited_services}
 use Rattle.svc_record.specs.Fits.{event_fits}
@@ -115,14 +115,14 @@ tested_refused_by p r = unless (may_begin p r) TestForked (unless (has_begun p r
 
 -- the clauses of a record that has passed that refuse it
 abbrev passed_refused_by : Plan → Record → List Clause
-passed_refused_by p r = unless (each_earlier (λ q. not (has_passed p q)) r) FirstToPass (unless (each_settled (phases_right p) r) AllPhases (unless (ends_right p (before_runtimes r) r) LastActions
+passed_refused_by p r = unless (each_earlier (λ q. not (waits_are_over p q)) r) FirstToPass (unless (each_settled (phases_right p) r) AllPhases (unless (ends_right p (before_runtimes r) r) LastActions
     (unless (not (has is_ending (before_runtimes r))) EndNowhereElse (unless (each_settled (serves_right p) r) Serves
     (unless (list_all (λ (d : Descriptor). times (is_close d.number) r == 1) (opened_descriptors p r)) AllClosed (unless (each_entry (close_due p) r) ClosedAfter
     (unless (last_step_right p (before_runtimes r)) LastStep (unless (boot_right p r) BeginningOfAll (unless (offer_right p r && each_entry (offer_due p) r) OfferOfAll (unless (conn_right p r) ConnectionsOfAll []))))))))))
 
 -- the clauses that refuse the record
 abbrev pub refused_by : Plan → Record → List Clause
-refused_by p r = entries_refused_by p r ++ parts_refused_by p r ++ prefixes_refused_by p r ++ ends_refused_by p r ++ where_due (ends_tested p r) (tested_refused_by p r) ++ where_due (has_passed p r) (passed_refused_by p r)
+refused_by p r = entries_refused_by p r ++ parts_refused_by p r ++ prefixes_refused_by p r ++ ends_refused_by p r ++ where_due (ends_tested p r) (tested_refused_by p r) ++ where_due (waits_are_over p r) (passed_refused_by p r)
 
 -- exactly these clauses refuse the record, so it isn't right
 abbrev pub IsRefusedBy : Plan → Record → List Clause → Type 0

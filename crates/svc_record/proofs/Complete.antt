@@ -19,7 +19,7 @@ use Rattle.svc_record.specs.Closes.{ClosesRight, closes_right, close_right, clos
 use Rattle.svc_record.specs.AskRules.{FailsRight, fails_right, ask_due, ask_known}
 use Rattle.svc_record.specs.Offer.{OfferRight, offer_right, offer_due, retry_due, one_ask}
 use Rattle.svc_record.specs.Connections.{ConnRight, conn_right, rest_due, live_connections, connection_known}
-use Rattle.svc_record.specs.Drain.{Mark, phase, broadcast, Drain, drain_right, PhasesRight, phases_right, phase_number, same_mark, same_marks, told_marks, has_passed, moment_right, every_moment_right, ends_right, last_actions, live_numbers, begins_with, is_told, stop_seconds}
+use Rattle.svc_record.specs.Drain.{Mark, phase, broadcast, Drain, drain_right, PhasesRight, phases_right, phase_number, same_mark, same_marks, told_marks, waits_are_over, moment_right, every_moment_right, ends_right, last_actions, live_numbers, begins_with, is_told, stop_seconds}
 use Rattle.svc_base.specs.NumberSets.{ascending}
 use Rattle.svc_record.specs.Boot.{BootRight, boot_right, stands_first, fork_first, start_after_boot, try_due, boot_due}
 use Rattle.svc_record.specs.Ends.{has_ended, has_ended_early, ends_tested, TestedRight, tested_right, visited_services, is_visited}
@@ -173,7 +173,7 @@ ends p at r e = subst (λ z. begins_with (tell [] (last_actions p at)) z ≡ tru
         (Told (Phase ShutdownRuntimes (now at)) ∷ []) (same (now at), tt)
 
 pub drains : (p : Plan) (r : Record) → Drain p r → drain_right p r ≡ true
-drains p r h = and _ _ (and _ _ (and _ _ (and _ _ h.passes (earlier (λ q. not (has_passed p q)) (λ q. has_passed p q ≡ false) (λ q t. not_from_false (has_passed p q) t) r h.first))
+drains p r h = and _ _ (and _ _ (and _ _ (and _ _ h.passes (earlier (λ q. not (waits_are_over p q)) (λ q. waits_are_over p q ≡ false) (λ q t. not_from_false (waits_are_over p q) t) r h.first))
     (settled (phases_right p) (PhasesRight p) (phases p) r h.phases)) (entries every_moment_right r h.moments))
     (and _ _ (ends p (before_runtimes r) r h.ends) (not_from_false _ h.nowhere_else))
 
@@ -195,7 +195,7 @@ last_step_clause p at h = and _ _ (and _ _ (and _ _ (starts p at h.starts) (held
 pub stronger : (p : Plan) (r : Record) → Stronger p r → is_stronger p r ≡ true
 stronger p r h = and _ _ (and _ _ (and _ _ (and _ _ (and _ _ (entries (boot_due p) r h.boots) (entries try_due r h.tries)) (entries retry_due r h.retries))
     (and _ _ (settled (one_ask p) (λ q. one_ask p q ≡ true) (λ q t. t) r h.one_ask) (on_true (ends_tested p r) _ _ (tested p r) h.tested)))
-    (and _ _ (and _ _ (entries (close_once p) r h.closes) (on_true (has_passed p r) _ _ (last_step_clause p (before_runtimes r)) h.last_step)) (entries every_moment_right r h.moments)))
+    (and _ _ (and _ _ (entries (close_once p) r h.closes) (on_true (waits_are_over p r) _ _ (last_step_clause p (before_runtimes r)) h.last_step)) (entries every_moment_right r h.moments)))
     (and _ _ (and _ _ (entries (start_known p) r h.known_starts) (entries (ask_known p) r h.known_asks)) (entries (connection_known p) r h.known_connections))
 
 served_by_words : (p : Plan) (r : Record) → Served p r → is_served_by_words p r ≡ true
@@ -212,5 +212,5 @@ passing p r h = and _ _ (and _ _ (served_by_words p r h.served) (boot p r h.boot
 -- a right record passes the test
 pub test_from_right : (p : Plan) (r : Record) → Right p r → is_right p r ≡ true
 test_from_right p r h = and _ _ (and _ _ (and _ _ (and _ _ (entries (event_fits p) r h.fits) (entries (start_due p) r h.starts)) (settled (settled_right p) (SettledRight p) (settled_clause p) r h.settled))
-    (and _ _ (and _ _ (entries (ask_due p) r h.asks.in_turn) (settled (fails_right p) (FailsRight p) (fails p) r h.asks.fails)) (on_true (has_passed p r) _ _ (passing p r) h.passed)))
+    (and _ _ (and _ _ (entries (ask_due p) r h.asks.in_turn) (settled (fails_right p) (FailsRight p) (fails p) r h.asks.fails)) (on_true (waits_are_over p r) _ _ (passing p r) h.passed)))
     (stronger p r h.stronger)

@@ -16,7 +16,7 @@ use Rattle.svc_record.specs.Plans.{same_address}
 use Rattle.svc_record.specs.Message.{decode}
 use Rattle.svc_record.specs.Descriptors.{Descriptor, descriptors_of, opened_descriptors, with_words, words_or_none, has_live, has_number, is_opened, is_close, is_doubled, one_live}
 use Rattle.svc_record.specs.Closes.{ClosesRight, is_gone}
-use Rattle.svc_record.specs.Drain.{has_passed}
+use Rattle.svc_record.specs.Drain.{waits_are_over}
 use Rattle.svc_record.specs.Ends.{has_ended, has_ended_early, ends_tested}
 use Rattle.svc_record.specs.Fits.{event_fits, fits_row}
 use Rattle.svc_record.specs.Right.{Right, EndedRight, OpenRight, SettledRight}
@@ -195,16 +195,16 @@ early_one p _ before early on h = h
 silent_one : (p : Plan) (r : Record) → EachEntry (λ e before. event_fits p e before ≡ true) r → EachEarlier (SettledRight p) r → has_ended_early p r ≡ true → last_step r ≡ [] → one_live p r ≡ true
 silent_one p [] fit settled early silent = refl
 silent_one p (Got e ∷ before) fit settled early silent = let on = not_ended p e before fit.0 in
-    early_one p e before early (or_parts (has_passed p before || ends_tested p before) (has_ended_early p before) on).1 (open_one p before settled.0 on)
+    early_one p e before early (or_parts (waits_are_over p before || ends_tested p before) (has_ended_early p before) on).1 (open_one p before settled.0 on)
 silent_one p (Told a ∷ before) fit settled early silent = absurd (cc)
 
 -- where the run hasn't passed
-going_one : (p : Plan) (r : Record) → EachEntry (λ e before. event_fits p e before ≡ true) r → EachSettled (SettledRight p) r → has_passed p r ≡ false → one_live p r ≡ true
+going_one : (p : Plan) (r : Record) → EachEntry (λ e before. event_fits p e before ≡ true) r → EachSettled (SettledRight p) r → waits_are_over p r ≡ false → one_live p r ≡ true
 going_one p r fit settled on = elim (cases_Bool (ends_tested p r)) [
   | inl tested ↦ closes_one p r (on_true_at (ends_tested p r) _ (ended (or_left _ _ (or_right _ _ tested))).tested tested).1
   | inr untested ↦ elim (cases_Bool (has_ended_early p r)) [
     | inl early ↦ silent_one p r fit settled.1 early (on_true_at (has_ended_early p r) _ (ended (or_right _ _ early)).early early)
-    | inr still ↦ open_one p r settled.0 (or_from (has_passed p r || ends_tested p r) (has_ended_early p r) (or_from (has_passed p r) (ends_tested p r) on untested) still)
+    | inr still ↦ open_one p r settled.0 (or_from (waits_are_over p r || ends_tested p r) (has_ended_early p r) (or_from (waits_are_over p r) (ends_tested p r) on untested) still)
   ]
 ]
   where
@@ -218,8 +218,8 @@ earlier_one p (Told a ∷ before) fit settled = earlier_one p before fit.1 settl
 
 pub one-live : (p : Plan) (r : Record) → Right p r → EachSettled (λ q. one_live p q ≡ true) r
 one-live p r right = (
-  elim (cases_Bool (has_passed p r)) [
-    | inl over ↦ doubled_one p r (λ fd h. (on_true_at (has_passed p r) _ right.passed over).served.closed_once fd (doubled_opened p r fd h))
+  elim (cases_Bool (waits_are_over p r)) [
+    | inl over ↦ doubled_one p r (λ fd h. (on_true_at (waits_are_over p r) _ right.passed over).served.closed_once fd (doubled_opened p r fd h))
     | inr on ↦ going_one p r right.fits right.settled on
   ],
   earlier_one p r right.fits right.settled.1,

@@ -21,7 +21,7 @@ use Rattle.svc_record.specs.Closes.{ClosesRight, closes_right, close_right, clos
 use Rattle.svc_record.specs.AskRules.{FailsRight, fails_right, ask_due, ask_known}
 use Rattle.svc_record.specs.Offer.{OfferRight, offer_right, offer_due, retry_due, one_ask}
 use Rattle.svc_record.specs.Connections.{ConnRight, conn_right, connection_right, arrivals, rests_right, rest_due, live_connections, connection_known}
-use Rattle.svc_record.specs.Drain.{Mark, phase, broadcast, Drain, drain_right, PhasesRight, phases_right, phase_number, same_mark, same_marks, told_marks, due_marks, has_passed, moment_right, every_moment_right, ends_right, last_actions, live_numbers, is_ending, begins_with, is_told}
+use Rattle.svc_record.specs.Drain.{Mark, phase, broadcast, Drain, drain_right, PhasesRight, phases_right, phase_number, same_mark, same_marks, told_marks, due_marks, waits_are_over, moment_right, every_moment_right, ends_right, last_actions, live_numbers, is_ending, begins_with, is_told}
 use Rattle.svc_base.specs.NumberSets.{ascending}
 use Rattle.svc_record.specs.Boot.{BootRight, boot_right, boot_entries_right, stands_first, fork_first, start_after_boot, try_due, boot_due}
 use Rattle.svc_record.specs.Ends.{has_ended, has_ended_early, ends_tested, TestedRight, tested_right, visited_services}
@@ -227,7 +227,7 @@ pub drains : (p : Plan) (r : Record) → drain_right p r ≡ true → Drain p r
 drains p r e = let a = both _ _ e in let b = both _ _ a.0 in let c = both _ _ b.0 in let d = both _ _ c.0 in let f = both _ _ a.1 in
     record {
       passes = d.0;
-      first = earlier (λ q. not (has_passed p q)) (λ q. has_passed p q ≡ false) (λ q t. not-true (has_passed p q) t) r d.1;
+      first = earlier (λ q. not (waits_are_over p q)) (λ q. waits_are_over p q ≡ false) (λ q t. not-true (waits_are_over p q) t) r d.1;
       phases = settled (phases_right p) (PhasesRight p) (phases p) r c.1;
       moments = entries every_moment_right r b.1;
       ends = ends p r f.0;
@@ -263,7 +263,7 @@ stronger p r e = let a = both _ _ e in let b = both _ _ a.0 in let c = both _ _ 
       one_ask = settled (one_ask p) (λ q. one_ask p q ≡ true) (λ q t. t) r f.0;
       tested = on_true (ends_tested p r) _ _ (tested p r) f.1;
       closes = entries (close_once p) r h.0;
-      last_step = on_true (has_passed p r) _ _ (last_step_clause p (before_runtimes r)) h.1;
+      last_step = on_true (waits_are_over p r) _ _ (last_step_clause p (before_runtimes r)) h.1;
       moments = entries every_moment_right r g.1;
       known_starts = entries (start_known p) r l.0;
       known_asks = entries (ask_known p) r l.1;
@@ -297,6 +297,6 @@ right_from_test p r e = let w = both (is_right_by_words p r) (is_stronger p r) e
       starts = entries (start_due p) r c.1;
       settled = settled (settled_right p) (SettledRight p) (settled_clause p) r b.1;
       asks = record { in_turn = entries (ask_due p) r f.0; fails = settled (fails_right p) (FailsRight p) (fails p) r f.1 };
-      passed = on_true (has_passed p r) _ _ (passing p r s) d.1;
+      passed = on_true (waits_are_over p r) _ _ (passing p r s) d.1;
       stronger = s;
     }

@@ -69,8 +69,8 @@ has_passed_by p q (Some TerminateSignal) = signal_grace_over p q
 has_passed_by p q (Some GracefulUpgrade) = if has_offer p q then offer_grace_over p q else signal_grace_over p q
 
 -- the first signal has come, and its waits have passed or a cut ended them
-abbrev pub has_passed : Plan → Record → Bool
-has_passed p q = has_cut q || has_passed_by p q (signal_of q)
+abbrev pub waits_are_over : Plan → Record → Bool
+waits_are_over p q = has_cut q || has_passed_by p q (signal_of q)
 
 -- the marks if this holds, else none
 abbrev pub marks_if : Bool → List Mark → List Mark
@@ -125,7 +125,7 @@ wait_row p q = if has_cut q then with_start (row_by p (before_cut q) (signal_of 
 
 -- those that are due after the signal, the newest first
 abbrev pub row : Plan → Record → List Mark
-row p q = marks_if (has_passed p q) (phase Terminated ∷ phase ShutdownRuntimes ∷ []) ++ wait_row p q
+row p q = marks_if (waits_are_over p q) (phase Terminated ∷ phase ShutdownRuntimes ∷ []) ++ wait_row p q
 
 -- what is due so far: `Running`, once it was told, and then the row
 abbrev pub due_marks : Plan → Record → List Mark
@@ -199,8 +199,8 @@ ends_right p at r = begins_with (tell [] (last_actions p at)) r
 
 -- r has passed and no shorter settled prefix has, so a cut is its last event; each phase is told at its event, with its moment; and from `ShutdownRuntimes` on stand the cuts, the closes, `Stop` and `Terminated`
 pub record Drain (p : Plan) (r : Record) : Type 0 where
-  pub passes : has_passed p r ≡ true
-  pub first : EachEarlier (λ q. has_passed p q ≡ false) r
+  pub passes : waits_are_over p r ≡ true
+  pub first : EachEarlier (λ q. waits_are_over p q ≡ false) r
   pub phases : EachSettled (PhasesRight p) r
   pub moments : EachEntry (λ e before. every_moment_right e before ≡ true) r
   pub ends : r ≡ tell (before_runtimes r) (last_actions p (before_runtimes r))
@@ -208,5 +208,5 @@ pub record Drain (p : Plan) (r : Record) : Type 0 where
 
 -- the same as a test
 abbrev pub drain_right : Plan → Record → Bool
-drain_right p r = (((has_passed p r && each_earlier (λ q. not (has_passed p q)) r) && each_settled (phases_right p) r) && each_entry every_moment_right r)
+drain_right p r = (((waits_are_over p r && each_earlier (λ q. not (waits_are_over p q)) r) && each_settled (phases_right p) r) && each_entry every_moment_right r)
     && (ends_right p (before_runtimes r) r && not (has is_ending (before_runtimes r)))

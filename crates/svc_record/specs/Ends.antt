@@ -15,7 +15,7 @@ use Rattle.svc_record.specs.Plans.{endpoints, endpoint_numbers, has_kind}
 use Rattle.svc_record.specs.Starts.{is_start, is_started, is_due, start_right, startup_order}
 use Rattle.svc_record.specs.Endpoints.{endpoint_right_late}
 use Rattle.svc_record.specs.Boot.{is_side_parent, is_bad_message, may_begin, has_begun, start_after_boot}
-use Rattle.svc_record.specs.Drain.{has_passed}
+use Rattle.svc_record.specs.Drain.{waits_are_over}
 
 -- the event is `ChildReady`
 abbrev pub is_child_ready : Entry → Bool
@@ -75,7 +75,7 @@ ends_bad_message q = has is_bad_message q
 
 -- how the run has ended, if it has
 abbrev pub step_end : Plan → Record → StepEnd
-step_end p q = if has_passed p q then Served else (if ends_tested p q then Tested else (if ends_parent_well p q then Parent 0 else (if ends_parent_badly p q then Parent 1
+step_end p q = if waits_are_over p q then Served else (if ends_tested p q then Tested else (if ends_parent_well p q then Parent 0 else (if ends_parent_badly p q then Parent 1
     else (if ends_transfer q then Ended Transfer else (if ends_no_sender p q then Ended NoSender else (if ends_bad_message q then Ended BadMessage else On))))))
 
 -- otherwise than served or tested
@@ -84,7 +84,7 @@ has_ended_early p q = ((ends_parent_well p q || ends_parent_badly p q) || ends_t
 
 -- the run has ended in some way
 abbrev pub has_ended : Plan → Record → Bool
-has_ended p q = (has_passed p q || ends_tested p q) || has_ended_early p q
+has_ended p q = (waits_are_over p q || ends_tested p q) || has_ended_early p q
 
 -- the services of the list before the first one that bootstraps and is started
 abbrev pub before_boot : Plan → Record → List ℕ → List ℕ

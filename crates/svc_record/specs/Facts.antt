@@ -10,7 +10,7 @@ use Rattle.svc_record.specs.Failed.{has_failed}
 use Rattle.svc_record.specs.Starts.{is_ready}
 use Rattle.svc_record.specs.Endpoints.{is_held_by, is_held, holds, serves, rests, is_busy, waits}
 use Rattle.svc_record.specs.Closes.{is_abandoned, is_drained, is_gone}
-use Rattle.svc_record.specs.Drain.{has_passed}
+use Rattle.svc_record.specs.Drain.{waits_are_over}
 
 -- q is the record, or what stands before one of its events
 abbrev pub Settled : Record → Record → Type 0
@@ -78,4 +78,4 @@ Gone p q fd = IsTrue (is_gone p q fd)
 
 -- the signal came and its waits have passed
 abbrev pub Passed : Plan → Record → Type 0
-Passed p q = IsTrue (has_passed p q)
+Passed p q = IsTrue (waits_are_over p q)

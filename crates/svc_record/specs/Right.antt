@@ -15,7 +15,7 @@ use Rattle.svc_record.specs.Endpoints.{EndpointsRight, EndpointsRightLate, endpo
 use Rattle.svc_record.specs.Closes.{ClosesRight, closes_right, close_once}
 use Rattle.svc_record.specs.AskRules.{AsksRight, ask_due, fails_right, ask_known}
 use Rattle.svc_record.specs.Offer.{OfferRight, offer_right, offer_due, retry_due, one_ask}
-use Rattle.svc_record.specs.Drain.{Drain, drain_right, has_passed, PhasesRight, phases_right, moment_right, every_moment_right, is_ending}
+use Rattle.svc_record.specs.Drain.{Drain, drain_right, waits_are_over, PhasesRight, phases_right, moment_right, every_moment_right, is_ending}
 use Rattle.svc_record.specs.Boot.{BootRight, boot_right, try_due, boot_due}
 use Rattle.svc_record.specs.Connections.{ConnRight, conn_right, connection_known}
 use Rattle.svc_record.specs.Ends.{has_ended, has_ended_early, ends_tested, TestedRight, tested_right}
@@ -62,7 +62,7 @@ pub record Stronger (p : Plan) (r : Record) : Type 0 where
   pub one_ask : EachSettled (λ q. one_ask p q ≡ true) r
   pub tested : OnTrue (ends_tested p r) (TestedRight p r)
   pub closes : EachEntry (λ e before. close_once p e before ≡ true) r
-  pub last_step : OnTrue (has_passed p r) (LastStepRight p (before_runtimes r))
+  pub last_step : OnTrue (waits_are_over p r) (LastStepRight p (before_runtimes r))
   pub moments : EachEntry (λ e before. every_moment_right e before ≡ true) r
   pub known_starts : EachEntry (λ e before. start_known p e before ≡ true) r
   pub known_asks : EachEntry (λ e before. ask_known p e before ≡ true) r
@@ -71,7 +71,7 @@ pub record Stronger (p : Plan) (r : Record) : Type 0 where
 -- the same as a test
 abbrev pub is_stronger : Plan → Record → Bool
 is_stronger p r = ((((each_entry (boot_due p) r && each_entry try_due r) && each_entry retry_due r) && (each_settled (one_ask p) r && (not (ends_tested p r) || tested_right p r)))
-    && ((each_entry (close_once p) r && (not (has_passed p r) || last_step_right p (before_runtimes r))) && each_entry every_moment_right r))
+    && ((each_entry (close_once p) r && (not (waits_are_over p r) || last_step_right p (before_runtimes r))) && each_entry every_moment_right r))
     && ((each_entry (start_known p) r && each_entry (ask_known p) r) && each_entry (connection_known p) r)
 
 -- the record of a run that served
@@ -166,13 +166,13 @@ pub record Right (p : Plan) (r : Record) : Type 0 where
   pub starts : EachEntry (λ e before. start_due p e before ≡ true) r
   pub settled : EachSettled (SettledRight p) r
   pub asks : AsksRight p r
-  pub passed : OnTrue (has_passed p r) (PassedRight p r)
+  pub passed : OnTrue (waits_are_over p r) (PassedRight p r)
   pub stronger : Stronger p r
 
 -- the words of it as a test
 abbrev pub is_right_by_words : Plan → Record → Bool
 is_right_by_words p r = ((each_entry (event_fits p) r && each_entry (start_due p) r) && each_settled (settled_right p) r)
-    && ((each_entry (ask_due p) r && each_settled (fails_right p) r) && (not (has_passed p r) || passed_right p r))
+    && ((each_entry (ask_due p) r && each_settled (fails_right p) r) && (not (waits_are_over p r) || passed_right p r))
 
 -- the same as a test
 abbrev pub is_right : Plan → Record → Bool

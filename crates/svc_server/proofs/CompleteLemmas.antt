@@ -10,7 +10,7 @@ use Rattle.svc_record.specs.declared.action.StepEnd.{StepEnd}
 use Rattle.svc_record.specs.declared.action.StepEnd.TheVariants as ends
 use Rattle.svc_record.specs.Record.{Record, tell, EachEntry}
 use Rattle.svc_record.specs.Connections.{Verdict}
-use Rattle.svc_record.specs.Drain.{has_passed}
+use Rattle.svc_record.specs.Drain.{waits_are_over}
 use Rattle.svc_record.specs.Ends.{has_ended, has_ended_early, ends_tested}
 use Rattle.svc_record.specs.Fits.{fits, event_fits}
 use Rattle.svc_record.specs.Tail.{closing_actions}
@@ -26,20 +26,20 @@ fits-before : (p : Plan) (q : Record) (told : List Action) → EachEntry (λ e b
 fits-before p q [] h = h
 fits-before p q (a ∷ told) h = (fits-before p (Told a ∷ q) told h).1
 
-unpassed : (p : Plan) (q : Record) → has_ended p q ≡ false → has_passed p q ≡ false
-unpassed p q h = (or_parts (has_passed p q) (ends_tested p q) (or_parts (has_passed p q || ends_tested p q) (has_ended_early p q) h).0).0
+unpassed : (p : Plan) (q : Record) → has_ended p q ≡ false → waits_are_over p q ≡ false
+unpassed p q h = (or_parts (waits_are_over p q) (ends_tested p q) (or_parts (waits_are_over p q || ends_tested p q) (has_ended_early p q) h).0).0
 
 -- a record that was closed while the run went on hasn't passed
 closed-goes : (p : Plan) (r finished : Record) → IsClosed p r finished None → GoesWell p r → ⊥
 closed-goes p r finished closed well =
     let live = unpassed p finished closed.goes_on in
-    let here : has_passed p finished ≡ true = sym (passed-tell p finished (closing_actions p finished None)) ∙ (sym (ap (has_passed p) closed.closed) ∙ well.passed) in
+    let here : waits_are_over p finished ≡ true = sym (passed-tell p finished (closing_actions p finished None)) ∙ (sym (ap (waits_are_over p) closed.closed) ∙ well.passed) in
     cc
 
 -- nor one that ended otherwise
 ended-goes : (p : Plan) (end : StepEnd) (r finished : Record) → IsEndedSo p end r finished → GoesWell p r → end ≡ ends.Served
 ended-goes p end r finished so well =
-    let here : has_passed p finished ≡ true = sym (passed-tell p finished (closing_actions p finished None)) ∙ (sym (ap (has_passed p) so.closed) ∙ well.passed) in
+    let here : waits_are_over p finished ≡ true = sym (passed-tell p finished (closing_actions p finished None)) ∙ (sym (ap (waits_are_over p) so.closed) ∙ well.passed) in
     so.ended ∙ rw here refl
 
 -- nor one whose last event doesn't fit
@@ -52,7 +52,7 @@ ends-through p turns (Ok Served) r h well = tt
 ends-through p turns (Ok TestPassed) r h well = absurd (let same = ended-goes p ends.Tested r h.0 h.1 well in cc)
 ends-through p turns (Ok (Parent n)) r h well = absurd (let same = ended-goes p (ends.Parent n) r h.0 h.1 well in cc)
 ends-through p turns (Err (Bootstrap error)) r h well = absurd (let same = ended-goes p (ends.Ended error) r h.0 h.1 well in cc)
-ends-through p turns (Err (Config key)) r h well = absurd (let none = subst (λ (x : Record). has_passed p x ≡ true) h well.passed in cc)
+ends-through p turns (Err (Config key)) r h well = absurd (let none = subst (λ (x : Record). waits_are_over p x ≡ true) h well.passed in cc)
 ends-through p turns (Err HostFault) r h well = absurd (closed-goes p r h.0 h.1 well)
 ends-through p turns (Err (Stray k)) r h well = absurd (stray-goes p r h.0 h.1.0 h.1.1.closed h.1.1.misfit well)
 ends-through p turns (Err TurnsSpent) r h well = absurd (closed-goes p r h.0 h.1.closed well)

@@ -28,7 +28,7 @@ use Rattle.svc_server.specs.declared.host.Next.TheVariants as nexts
 use Rattle.svc_server.specs.Hosts.{Account, no_account, ComesWith, AheadAfter, item_of, account_after, with_entry}
 use Rattle.svc_server.specs.Judges.{IsSaid, Judges}
 use Rattle.svc_server.specs.Runs.{events_of, names_of, IsClosed, IsEndedSo, RunEnds, RunTells, RunTakes, taken_items, LeavesNothing, answer_of}
-use Rattle.svc_server.specs.Handing.{account_of, names_by, Hands}
+use Rattle.svc_server.specs.Handing.{account_of, names_left, Hands}
 use Rattle.svc_server.specs.Turns.{IsAt, IsAtEvent, IsSomewhereAtEvent, IsAhead, ClosesTo, Leaves, RunGives, TurnGives, EventGives, FailsBy}
 use Rattle.svc_server.proofs.SaidLemmas.{said-untold, judges-got, closing-judges}
 use Rattle.svc_server.proofs.AnswerOfStep.{served_from_answer, on_from_answer, failure_from_answer}
@@ -337,16 +337,16 @@ at-came core core2 left left2 account middle account2 k (Some e) q comes same_co
 
 -- ---- the first step
 
-left-first : {B : Type 0} (named : B → List ℕ) (services : List B) → names_by named (map Some services) ≡ map Some (map named services)
+left-first : {B : Type 0} (named : B → List ℕ) (services : List B) → names_left named (map Some services) ≡ map Some (map named services)
 left-first named [] = refl
 left-first named (x ∷ xs) = ap (λ ys. Some (named x) ∷ ys) (left-first named xs)
 
 -- all services are left, and nothing was told
 pub hands-first : {B : Type 0} (named : B → List ℕ) (services : List B) (boxes : List (Option B)) (account : Option Account) (p q : Plan) → q ≡ p → boxes ≡ map Some services → map named services ≡ names_of p
-    → IfSome account (λ a. a ≡ no_account) → Hands (names_by named boxes) account q []
+    → IfSome account (λ a. a ≡ no_account) → Hands (names_left named boxes) account q []
 hands-first named services boxes account p q same left names first =
-    subst (λ x. Hands (names_by named boxes) account x []) (sym same)
-    (record { left_is = ap (names_by named) left ∙ (left-first named services ∙ ap (map Some) names); told_is = first })
+    subst (λ x. Hands (names_left named boxes) account x []) (sym same)
+    (record { left_is = ap (names_left named) left ∙ (left-first named services ∙ ap (map Some) names); told_is = first })
 
 pub gives-nothing : (verdict : Verdict) (account : Option Account) (p : Plan) (turns : ℕ) (before now : Option (List Item)) → IfSome account (λ a. a ≡ account_of p []) → now ≡ before → RunGives verdict p turns (Err NoMemory) account before now
 gives-nothing verdict account p turns before now told same =

@@ -15,7 +15,7 @@ use Rattle.svc_record.specs.Plans.{service}
 use Rattle.svc_record.specs.Record.{Record, tell, EachEntry}
 use Rattle.svc_record.specs.Ends.{step_end, has_ended}
 use Rattle.svc_record.specs.Connections.{Verdict}
-use Rattle.svc_record.specs.Drain.{has_passed}
+use Rattle.svc_record.specs.Drain.{waits_are_over}
 use Rattle.svc_record.specs.Fits.{Fits, event_fits}
 use Rattle.svc_record.specs.Right.{Right, Served as ServedRecord}
 use Rattle.svc_record.specs.Tail.{with_event, closing_actions, tail_right}
@@ -132,7 +132,7 @@ RunCounts (Err NoMemory) before now = IsUnfailed before now
 -- each event of the record fits what stands before it, and the record has passed: a signal came, and its waits are over
 pub record GoesWell (p : Plan) (r : Record) : Type 0 where
   pub fits : EachEntry (λ e before. event_fits p e before ≡ true) r
-  pub passed : has_passed p r ≡ true
+  pub passed : waits_are_over p r ≡ true
 
 -- the run served, or memory was refused
 abbrev pub GoesThrough : Result Outcome RunError → Type 0

@@ -2,7 +2,7 @@
 
 ghost use Rattle.std.specs.Prelude.{◌≡◌, ◌<◌, map, Option, Some, None, List, IfOk, slice_get, slice_set, unwrap_or};
 ghost use Rattle.std.specs.Option.{option_map};
-ghost use Rattle.svc_server.specs.Handing.{names_by};
+ghost use Rattle.svc_server.specs.Handing.{names_left};
 
 use std::alloc::Global;
 use std::marker::Model;
@@ -14,7 +14,7 @@ use svc_record::{Action, Event, ExecutionPhase, Plan};
 /// The services that aren't handed over yet, by their numbers, and the time that goes by. Contracts
 /// see the services alone.
 #[derive(Drop)]
-pub(crate) struct Boxes<B> {
+pub(crate) struct PendingServices<B> {
     boxes: Vec<Option<B>>,
     /// The last moment that came, in milliseconds.
     moment: u64,
@@ -22,7 +22,7 @@ pub(crate) struct Boxes<B> {
     running: Option<u64>,
 }
 
-impl<B> Model for Boxes<B> {
+impl<B> Model for PendingServices<B> {
     ghost use Rattle.std.specs.Prelude.{List, Option};
 
     ghost Value = { List (Option B) };
@@ -38,12 +38,12 @@ fn has_dependencies(plan: &Plan, s: u32) -> bool {
     }
 }
 
-impl<B: ServiceWithDependents> Boxes<B> {
+impl<B: ServiceWithDependents> PendingServices<B> {
     /// All services are left.
     pub(crate) fn new(alloc: Global, services: Vec<B>) -> Result<Self, NoMemory>
         ensures { IfOk result (λ boxes. boxes ≡ map Some services.items) }
     {
-        Ok(Boxes {
+        Ok(PendingServices {
             boxes: services
                 .into_iter()
                 .map(|service| Some(service))
@@ -81,8 +81,8 @@ impl<B: ServiceWithDependents> Boxes<B> {
 
     /// Takes the service out. One that waited for others is told how long.
     pub(crate) fn take(&mut self, plan: &Plan, s: u32) -> Option<B>
-        ensures left { names_by B.named self.new ≡ slice_set (names_by B.named self.old) s None }
-        ensures taken { option_map B.named result ≡ unwrap_or (slice_get (names_by B.named self.old) s) None }
+        ensures left { names_left B.named self.new ≡ slice_set (names_left B.named self.old) s None }
+        ensures taken { option_map B.named result ≡ unwrap_or (slice_get (names_left B.named self.old) s) None }
     {
         let waited = self.waited();
         let taken = take_at(&mut self.boxes, s as usize);
@@ -97,8 +97,8 @@ impl<B: ServiceWithDependents> Boxes<B> {
 
 /// Takes out what stands at the place.
 fn take_at<B: ServiceWithDependents>(boxes: &mut Vec<Option<B>>, place: usize) -> Option<B>
-    ensures left { names_by B.named boxes.new.items ≡ slice_set (names_by B.named boxes.old.items) place None }
-    ensures taken { option_map B.named result ≡ unwrap_or (slice_get (names_by B.named boxes.old.items) place) None }
+    ensures left { names_left B.named boxes.new.items ≡ slice_set (names_left B.named boxes.old.items) place None }
+    ensures taken { option_map B.named result ≡ unwrap_or (slice_get (names_left B.named boxes.old.items) place) None }
 {
     if place >= boxes.len() {
         return None;

@@ -6,9 +6,9 @@ ghost use Rattle.svc_record.specs.declared.plan.Plan.{Plan};
 ghost use Rattle.svc_record.specs.declared.action.Action.TheVariants.{Start};
 ghost use Rattle.svc_record.specs.declared.entry.Entry.TheVariants.{Told};
 ghost use Rattle.svc_record.specs.Record.{Record, tell};
-ghost use Rattle.svc_server.specs.Handing.{names_by, Hands, DueStart, DueStarts, MayHand, MayHandAll};
+ghost use Rattle.svc_server.specs.Handing.{names_left, Hands, DueStart, DueStarts, MayHand, MayHandAll};
 
-use crate::boxes::Boxes;
+use crate::boxes::PendingServices;
 use crate::host::Host;
 use svc_graph::services::ServiceWithDependents;
 use svc_record::{Action, Actions, Plan};
@@ -16,14 +16,14 @@ use svc_record::{Action, Actions, Plan};
 /// Hands the service over, and tells its start.
 fn start<B: ServiceWithDependents, H: Host<Service = B>>(
     plan: &Plan,
-    boxes: &mut Boxes<B>,
+    boxes: &mut PendingServices<B>,
     s: u32,
     host: &mut H,
 )
     requires room { 2 ≤ H.spare host.old }
-    requires may { MayHand (names_by B.named boxes.old) (H.account host.old) (Start s) }
-    ensures hands { (p : Plan) (q : Record) → Hands (names_by B.named boxes.old) (H.account host.old) p q → DueStart p q (Start s)
-        → Hands (names_by B.named boxes.new) (H.account host.new) p (Told (Start s) ∷ q) }
+    requires may { MayHand (names_left B.named boxes.old) (H.account host.old) (Start s) }
+    ensures hands { (p : Plan) (q : Record) → Hands (names_left B.named boxes.old) (H.account host.old) p q → DueStart p q (Start s)
+        → Hands (names_left B.named boxes.new) (H.account host.new) p (Told (Start s) ∷ q) }
     ensures room { H.spare host.old ≤ H.spare host.new + 2 }
     ensures counts { H.counts host.new ≡ H.counts host.old }
     ensures ahead { H.ahead host.new ≡ H.ahead host.old }
@@ -40,14 +40,14 @@ fn start<B: ServiceWithDependents, H: Host<Service = B>>(
 /// Tells an action; a service that starts is handed over before.
 fn tell_one<B: ServiceWithDependents, H: Host<Service = B>>(
     plan: &Plan,
-    boxes: &mut Boxes<B>,
+    boxes: &mut PendingServices<B>,
     action: Action,
     host: &mut H,
 )
     requires room { 2 ≤ H.spare host.old }
-    requires may { MayHand (names_by B.named boxes.old) (H.account host.old) action }
-    ensures hands { (p : Plan) (q : Record) → Hands (names_by B.named boxes.old) (H.account host.old) p q → DueStart p q action
-        → Hands (names_by B.named boxes.new) (H.account host.new) p (Told action ∷ q) }
+    requires may { MayHand (names_left B.named boxes.old) (H.account host.old) action }
+    ensures hands { (p : Plan) (q : Record) → Hands (names_left B.named boxes.old) (H.account host.old) p q → DueStart p q action
+        → Hands (names_left B.named boxes.new) (H.account host.new) p (Told action ∷ q) }
     ensures room { H.spare host.old ≤ H.spare host.new + 2 }
     ensures counts { H.counts host.new ≡ H.counts host.old }
     ensures ahead { H.ahead host.new ≡ H.ahead host.old }
@@ -63,14 +63,14 @@ fn tell_one<B: ServiceWithDependents, H: Host<Service = B>>(
 /// right before its start.
 pub(crate) fn tell_all<B: ServiceWithDependents, H: Host<Service = B>>(
     plan: &Plan,
-    boxes: &mut Boxes<B>,
+    boxes: &mut PendingServices<B>,
     actions: &mut Actions,
     host: &mut H,
 )
     requires room { 2 * length (list_of actions.old) ≤ H.spare host.old }
-    requires may { MayHandAll (names_by B.named boxes.old) (H.account host.old) (list_of actions.old) }
-    ensures hands { (p : Plan) (q : Record) → Hands (names_by B.named boxes.old) (H.account host.old) p q → DueStarts p q (list_of actions.old)
-        → Hands (names_by B.named boxes.new) (H.account host.new) p (tell q (list_of actions.old)) }
+    requires may { MayHandAll (names_left B.named boxes.old) (H.account host.old) (list_of actions.old) }
+    ensures hands { (p : Plan) (q : Record) → Hands (names_left B.named boxes.old) (H.account host.old) p q → DueStarts p q (list_of actions.old)
+        → Hands (names_left B.named boxes.new) (H.account host.new) p (tell q (list_of actions.old)) }
     ensures told { list_of actions.new ≡ [] }
     ensures room { H.spare host.old ≤ H.spare host.new + 2 * length (list_of actions.old) }
     ensures counts { H.counts host.new ≡ H.counts host.old }

@@ -11,7 +11,7 @@ use crate::host::Host;
 use crate::run::{Outcome, RunArgs, RunError};
 use crate::server::adding::fault_of;
 use crate::server::addresses::expected_addresses;
-use crate::server::lists::turn_round;
+use crate::server::lists::reversed;
 use crate::server::planning::{is_test, is_upgrade, service_plans, status_of};
 use crate::turns::run_plan;
 pub use refusals::{AddAllRefused, AddError, AddRefused};
@@ -201,13 +201,13 @@ impl<B: ServiceWithDependents, F: ConnectionFilter> Server<B, F> {
                 services,
             });
         }
-        turn_round(&mut services);
+        reversed(&mut services);
         while let Some(service) = services.pop() {
             match self.add_service(alloc, service) {
                 Ok(handle) => handles.push_reserved(handle),
                 Err(refused) => {
                     services.push_reserved(refused.service);
-                    turn_round(&mut services);
+                    reversed(&mut services);
                     return Err(AddAllRefused {
                         reason: refused.reason,
                         index: handles.len() as u64,

@@ -13,13 +13,13 @@ ghost use Rattle.svc_core.specs.CoreData.{is_served};
 ghost use Rattle.svc_core.specs.Rooms.{tell_room, close_room};
 ghost use Rattle.svc_core.specs.Stands.{StandsFor, HasNotBegun, MayCome};
 ghost use Rattle.svc_server.specs.Hosts.{ComesWith, no_account};
-ghost use Rattle.svc_server.specs.Handing.{names_by, Hands};
+ghost use Rattle.svc_server.specs.Handing.{names_left, Hands};
 ghost use Rattle.svc_server.specs.Judges.{Judges, NamesFilters};
 ghost use Rattle.svc_server.specs.Turns.{IsAt, IsSomewhere, IsJudgedSomewhere, IsSomewhereAtEvent, IsAhead, HasRoom, CanClose, ClosesTo, CanTake, Leaves, RunGives, TurnGives, TurnCounts, EventGives, FailsBy, AnswersEvent};
 ghost use Rattle.svc_server.specs.Runs.{RunTells, RunCounts, RunTakes, IsConfigured, answer_of, names_of};
 
 use crate::asking::ask_filter;
-use crate::boxes::Boxes;
+use crate::boxes::PendingServices;
 use crate::handing::tell_all;
 use crate::host::{Host, Next};
 use crate::run::{Outcome, RunError};
@@ -33,9 +33,9 @@ use svc_streams::{ConnectionFilter, Filters};
 /// A run on its way: the core, the services that aren't handed over yet, the filters, an empty list
 /// that has room for the closes of all, and one for what an event's step tells, which keeps its room.
 #[derive(Drop)]
-struct Machine<B, F> {
+struct Run<B, F> {
     core: Core,
-    boxes: Boxes<B>,
+    boxes: PendingServices<B>,
     filters: Filters<F>,
     closing: Actions,
     told: Actions,
@@ -50,7 +50,7 @@ fn empty(actions: &mut Actions)
     }
 }
 
-impl<B: ServiceWithDependents, F: ConnectionFilter> Machine<B, F> {
+impl<B: ServiceWithDependents, F: ConnectionFilter> Run<B, F> {
     /// Nothing was told yet, and all services are left.
     fn new(
         alloc: Global,
@@ -66,8 +66,8 @@ impl<B: ServiceWithDependents, F: ConnectionFilter> Machine<B, F> {
         ensures empty { IfOk result (λ machine. list_of machine.closing ≡ []) }
     {
         let core = Core::new(alloc, plan)?;
-        let boxes = Boxes::new(alloc, services)?;
-        Ok(Machine {
+        let boxes = PendingServices::new(alloc, services)?;
+        Ok(Run {
             core,
             boxes,
             filters,
@@ -79,8 +79,8 @@ impl<B: ServiceWithDependents, F: ConnectionFilter> Machine<B, F> {
     /// Closes all.
     fn close<H: Host<Service = B>>(&mut self, host: &mut H)
         requires room { HasRoom self.old.core self.old.closing (H.spare host.old) }
-        requires can { CanClose self.old.core (names_by B.named self.old.boxes) (H.account host.old) None }
-        ensures closed { ClosesTo self.old.core (names_by B.named self.old.boxes) (names_by B.named self.new.boxes) (H.account host.old)
+        requires can { CanClose self.old.core (names_left B.named self.old.boxes) (H.account host.old) None }
+        ensures closed { ClosesTo self.old.core (names_left B.named self.old.boxes) (names_left B.named self.new.boxes) (H.account host.old)
             (H.account host.new) None }
         ensures core { self.new.core ≡ self.old.core }
         ensures filters { self.new.filters ≡ self.old.filters }
@@ -95,8 +95,8 @@ impl<B: ServiceWithDependents, F: ConnectionFilter> Machine<B, F> {
     fn close_with_event<H: Host<Service = B>>(&mut self, host: &mut H)
         requires room { HasRoom self.old.core self.old.closing (H.spare host.old) }
         requires few { ComesWith Next.Event (H.last host.old) }
-        requires can { CanClose self.old.core (names_by B.named self.old.boxes) (H.account host.old) (H.last host.old) }
-        ensures closed { ClosesTo self.old.core (names_by B.named self.old.boxes) (names_by B.named self.new.boxes) (H.account host.old)
+        requires can { CanClose self.old.core (names_left B.named self.old.boxes) (H.account host.old) (H.last host.old) }
+        ensures closed { ClosesTo self.old.core (names_left B.named self.old.boxes) (names_left B.named self.new.boxes) (H.account host.old)
             (H.account host.new) (H.last host.old) }
         ensures core { self.new.core ≡ self.old.core }
         ensures filters { self.new.filters ≡ self.old.filters }
@@ -137,11 +137,11 @@ impl<B: ServiceWithDependents, F: ConnectionFilter> Machine<B, F> {
     ) -> Result<StepEnd, NoMemory>
         requires first { HasNotBegun self.old.core }
         requires empty { list_of self.old.closing ≡ [] }
-        requires hands { Hands (names_by B.named self.old.boxes) (H.account host.old) self.old.core.plan [] }
+        requires hands { Hands (names_left B.named self.old.boxes) (H.account host.old) self.old.core.plan [] }
         ensures plan { IfOk result (λ _. self.new.core.plan ≡ self.old.core.plan) }
         ensures filters { self.new.filters ≡ self.old.filters }
         ensures leaves { IfOk result (λ end. Leaves (verdict_at F.verdict self.old.filters) (verdict_at F.verdict self.new.filters)
-            self.new.core (names_by B.named self.new.boxes) (H.account host.new) end []) }
+            self.new.core (names_left B.named self.new.boxes) (H.account host.new) end []) }
         ensures room { OnOk result (HasRoom self.new.core self.new.closing (H.spare host.new)) }
         ensures untold { OnErr result (H.account host.new ≡ H.account host.old) }
         ensures counts { H.counts host.new ≡ H.counts host.old }
@@ -165,13 +165,13 @@ impl<B: ServiceWithDependents, F: ConnectionFilter> Machine<B, F> {
     ) -> Result<StepEnd, NoMemory>
         requires fits { IfSome (H.last host.old) (MayCome self.old.core) }
         requires room { 2 * tell_room self.old.core ≤ H.spare host.old }
-        requires can { CanTake self.old.core (names_by B.named self.old.boxes) (H.account host.old) (H.last host.old) }
+        requires can { CanTake self.old.core (names_left B.named self.old.boxes) (H.account host.old) (H.last host.old) }
         requires known { NamesFilters self.old.core.plan (length self.old.filters) }
         ensures plan { IfOk result (λ _. self.new.core.plan ≡ self.old.core.plan) }
         ensures leaves { IfOk result (λ end. IfSome (H.last host.old) (λ e. (q : Record) → StandsFor self.old.core q → Right self.old.core.plan q
-            → Hands (names_by B.named self.old.boxes) (H.account host.old) self.old.core.plan (Got e ∷ q)
+            → Hands (names_left B.named self.old.boxes) (H.account host.old) self.old.core.plan (Got e ∷ q)
             → Leaves (verdict_at F.verdict self.old.filters) (verdict_at F.verdict self.new.filters)
-            self.new.core (names_by B.named self.new.boxes) (H.account host.new) end (Got e ∷ q))) }
+            self.new.core (names_left B.named self.new.boxes) (H.account host.new) end (Got e ∷ q))) }
         ensures room { OnOk result (2 * close_room self.new.core ≤ H.spare host.new) }
         ensures few { OnOk result (close_room self.new.core ≤ tell_room self.old.core) }
         ensures refused { OnErr result (self.new.core ≡ self.old.core) }
@@ -202,11 +202,11 @@ impl<B: ServiceWithDependents, F: ConnectionFilter> Machine<B, F> {
         requires room { HasRoom self.old.core self.old.closing (H.spare host.old) }
         requires list { tell_room self.old.core ≤ spare self.old.closing }
         requires told { 2 * tell_room self.old.core ≤ H.spare host.old }
-        requires at { IsSomewhereAtEvent self.old.core (names_by B.named self.old.boxes) (H.account host.old) k (H.last host.old) }
+        requires at { IsSomewhereAtEvent self.old.core (names_left B.named self.old.boxes) (H.account host.old) k (H.last host.old) }
         requires known { NamesFilters self.old.core.plan (length self.old.filters) }
         ensures gives { IfSome (H.last host.old)
             (EventGives (verdict_at F.verdict self.old.filters) (verdict_at F.verdict self.new.filters) self.old.core self.new.core
-            (names_by B.named self.old.boxes) (names_by B.named self.new.boxes)
+            (names_left B.named self.old.boxes) (names_left B.named self.new.boxes)
             (H.account host.old) (H.account host.new) k result (H.ahead host.old) (H.ahead host.new)) }
         ensures room { OnOk result (HasRoom self.new.core self.new.closing (H.spare host.new)) }
         ensures plan { self.new.core.plan ≡ self.old.core.plan }
@@ -237,13 +237,13 @@ impl<B: ServiceWithDependents, F: ConnectionFilter> Machine<B, F> {
     ) -> Result<StepEnd, RunError>
         requires small { k < u64.MAX }
         requires room { HasRoom self.old.core self.old.closing (H.spare host.old) }
-        requires at { IsSomewhere self.old.core (names_by B.named self.old.boxes) (H.account host.old) k StepEnd.On }
+        requires at { IsSomewhere self.old.core (names_left B.named self.old.boxes) (H.account host.old) k StepEnd.On }
         requires known { NamesFilters self.old.core.plan (length self.old.filters) }
         ensures gives { (verdict : Verdict) (turns : ℕ) (before : Option (List Item)) (q : Record) → k < turns
-            → IsAt self.old.core (names_by B.named self.old.boxes) (H.account host.old) k StepEnd.On q
+            → IsAt self.old.core (names_left B.named self.old.boxes) (H.account host.old) k StepEnd.On q
             → IsAhead before (H.ahead host.old) q
             → Judges verdict (verdict_at F.verdict self.old.filters) self.old.core.plan q
-            → TurnGives verdict (verdict_at F.verdict self.new.filters) self.new.core (names_by B.named self.new.boxes) (H.account host.new) k turns result before (H.ahead host.new) }
+            → TurnGives verdict (verdict_at F.verdict self.new.filters) self.new.core (names_left B.named self.new.boxes) (H.account host.new) k turns result before (H.ahead host.new) }
         ensures room { OnOk result (HasRoom self.new.core self.new.closing (H.spare host.new)) }
         ensures plan { self.new.core.plan ≡ self.old.core.plan }
         ensures filters { length self.new.filters ≡ length self.old.filters }
@@ -276,9 +276,9 @@ impl<B: ServiceWithDependents, F: ConnectionFilter> Machine<B, F> {
     ) -> Result<Outcome, RunError>
         requires answers { answer_of end ≡ Some answer }
         requires room { HasRoom self.old.core self.old.closing (H.spare host.old) }
-        requires at { (k : ℕ) × IsSomewhere self.old.core (names_by B.named self.old.boxes) (H.account host.old) k end }
+        requires at { (k : ℕ) × IsSomewhere self.old.core (names_left B.named self.old.boxes) (H.account host.old) k end }
         ensures gives { (verdict : Verdict) (k turns : ℕ) (before : Option (List Item)) (q : Record) → k ≤ turns
-            → IsAt self.old.core (names_by B.named self.old.boxes) (H.account host.old) k end q
+            → IsAt self.old.core (names_left B.named self.old.boxes) (H.account host.old) k end q
             → IsAhead before (H.ahead host.old) q
             → Judges verdict (verdict_at F.verdict self.old.filters) self.old.core.plan q
             → RunGives verdict self.old.core.plan turns result (H.account host.new) before (H.ahead host.new) }
@@ -300,11 +300,11 @@ impl<B: ServiceWithDependents, F: ConnectionFilter> Machine<B, F> {
         host: &mut H,
     ) -> Result<Outcome, RunError>
         requires room { HasRoom self.old.core self.old.closing (H.spare host.old) }
-        requires at { IsJudgedSomewhere (verdict_at F.verdict self.old.filters) self.old.core (names_by B.named self.old.boxes)
+        requires at { IsJudgedSomewhere (verdict_at F.verdict self.old.filters) self.old.core (names_left B.named self.old.boxes)
             (H.account host.old) 0 StepEnd.On }
         requires known { NamesFilters self.old.core.plan (length self.old.filters) }
         ensures gives { (verdict : Verdict) (before : Option (List Item)) (q : Record)
-            → IsAt self.old.core (names_by B.named self.old.boxes) (H.account host.old) 0 StepEnd.On q
+            → IsAt self.old.core (names_left B.named self.old.boxes) (H.account host.old) 0 StepEnd.On q
             → IsAhead before (H.ahead host.old) q
             → Judges verdict (verdict_at F.verdict self.old.filters) self.old.core.plan q
             → RunGives verdict self.old.core.plan turns result (H.account host.new) before (H.ahead host.new) }
@@ -334,7 +334,7 @@ impl<B: ServiceWithDependents, F: ConnectionFilter> Machine<B, F> {
     ) -> Result<Outcome, RunError>
         requires first { HasNotBegun self.old.core }
         requires empty { list_of self.old.closing ≡ [] }
-        requires hands { Hands (names_by B.named self.old.boxes) (H.account host.old) self.old.core.plan [] }
+        requires hands { Hands (names_left B.named self.old.boxes) (H.account host.old) self.old.core.plan [] }
         requires known { NamesFilters self.old.core.plan (length self.old.filters) }
         ensures gives { RunGives (verdict_at F.verdict self.old.filters) self.old.core.plan turns result (H.account host.new) (H.ahead host.old)
             (H.ahead host.new) }
@@ -391,7 +391,7 @@ pub(crate) fn run_plan<B: ServiceWithDependents, F: ConnectionFilter, H: Host<Se
     ensures takes { IfSome (H.account host.new) (λ a. IfSome (H.ahead host.old) (λ before. IfSome (H.ahead host.new) (RunTakes result a.entries before))) }
     ensures configured { IsConfigured result }
 {
-    match Machine::new(alloc, plan, services, filters) {
+    match Run::new(alloc, plan, services, filters) {
         Ok(machine) => {
             let mut machine = machine;
             machine.run(alloc, turns, host)

@@ -5,11 +5,11 @@ use lib.ListN.{get_elem?}
 use Rattle.atomic_table.specs.Table.{State, opening, Final, Seen}
 use Rattle.svc_record.specs.Journal.{PostData, own_posts}
 use Rattle.svc_book.specs.BookData.{BookData}
-use Rattle.svc_shared.specs.declared.view.Hand.{Hand}
+use Rattle.svc_shared.specs.declared.view.SeatView.{SeatView}
 use Rattle.svc_shared.specs.declared.view.Ended.{Ended}
 use Rattle.svc_shared.specs.declared.view.View.{View}
 use Rattle.svc_shared.specs.Views.{Slot, Begins, book_of, hand_of, IsWhole, first_hand, first_view}
-use Rattle.svc_shared.specs.Rule.{Role, fresh, drawn, seated, kept, may_post, owner_of, IsSeatOf, home, Knows, HandFits, PassesPart, Posted, Kept}
+use Rattle.svc_shared.specs.Rule.{Role, fresh, drawn, seated, kept, may_post, owner_of, IsSeatOf, home, Knows, SeatFits, PassesPart, Posted, Kept}
 use Rattle.svc_shared.specs.Posting.{OfSeats}
 use Rattle.svc_shared.proofs.PartsLemmas.{alone, whole_free, hand_at}
 use Rattle.svc_base.proofs.Logic.{some-inj, none-some}
@@ -36,7 +36,7 @@ first_owner zero id e = (maybe.some-injective 0 id e, refl)
 first_owner (suc zero) id e = absurd (maybe.some-ne-none id (sym e))
 first_owner (suc (suc n)) id e = absurd (maybe.some-ne-none id (sym e))
 
-first_fits : (b : BookData) → HandFits b first_role (λ _. 0) 0 (first_hand b)
+first_fits : (b : BookData) → SeatFits b first_role (λ _. 0) 0 (first_hand b)
 first_fits b = record {
   origin_is = refl;
   number_is = refl;
@@ -67,7 +67,7 @@ opens b items none is =
         };
         passes = record {
           undrawn = undrawn;
-          each = λ id h at live. subst (λ (x : ℕ × Hand). HandFits b first_role (λ _. 0) x.0 x.1) (λ i. (sym ((one-of (first_hand b) h id at).0) i, (one-of (first_hand b) h id at).1 i)) (first_fits b);
+          each = λ id h at live. subst (λ (x : ℕ × SeatView). SeatFits b first_role (λ _. 0) x.0 x.1) (λ i. (sym ((one-of (first_hand b) h id at).0) i, (one-of (first_hand b) h id at).1 i)) (first_fits b);
           owner = λ n id is. let z = first_owner n id is in (first_hand b, subst (λ (k : ℕ). get_elem? (first_hand b ∷ []) k ≡ maybe.some (first_hand b)) z.0 refl, refl, inl z.1);
         };
         posted = tt;
@@ -78,16 +78,16 @@ opens b items none is =
 -- THE END
 
 -- the seat of each post is the pass's own or an ended one of it, as there is no other pass
-module _ (b : BookData) (next : ℕ) (role : ℕ → Role) (keeper : ℕ → ℕ) (hands : List Hand) (passes : PassesPart b next role keeper hands) (id : ℕ) (h : Hand) (at : get_elem? hands id ≡ maybe.some h) (live : h.spent ≡ false) (whole : IsWhole h) where
-  same_hand : (j : ℕ) (g : Hand) → get_elem? hands j ≡ maybe.some g → g.spent ≡ false → h ≡ g
+module _ (b : BookData) (next : ℕ) (role : ℕ → Role) (keeper : ℕ → ℕ) (hands : List SeatView) (passes : PassesPart b next role keeper hands) (id : ℕ) (h : SeatView) (at : get_elem? hands id ≡ maybe.some h) (live : h.spent ≡ false) (whole : IsWhole h) where
+  same_hand : (j : ℕ) (g : SeatView) → get_elem? hands j ≡ maybe.some g → g.spent ≡ false → h ≡ g
   same_hand j g at-g live-g = let e = alone b next role keeper hands passes id j h g at live whole at-g live-g in
       maybe.some-injective h g (sym at ∙ (ap (get_elem? hands) (sym e) ∙ at-g))
 
   seat_of : (n : ℕ) (r : Role) → role n ≡ r → may_post r ≡ true → IsSeatOf h n
   seat_of n fresh is may = absurd (cc)
   seat_of n (drawn j) is may = absurd (cc)
-  seat_of n (seated j) is may = let s = passes.owner n j (ap owner_of is) in subst (λ (g : Hand). IsSeatOf g n) (sym (same_hand j s.0 s.1 s.2)) s.3
-  seat_of n (kept j) is may = let s = passes.owner n j (ap owner_of is) in subst (λ (g : Hand). IsSeatOf g n) (sym (same_hand j s.0 s.1 s.2)) s.3
+  seat_of n (seated j) is may = let s = passes.owner n j (ap owner_of is) in subst (λ (g : SeatView). IsSeatOf g n) (sym (same_hand j s.0 s.1 s.2)) s.3
+  seat_of n (kept j) is may = let s = passes.owner n j (ap owner_of is) in subst (λ (g : SeatView). IsSeatOf g n) (sym (same_hand j s.0 s.1 s.2)) s.3
 
   seats_of : (journal : List PostData) → Posted role journal → OfSeats h journal
   seats_of [] posted = tt

@@ -4,7 +4,7 @@ use mathlib.Core.List.{map-append}
 use Rattle.std.proofs.lemmas.List.{reverse-append}
 use Rattle.svc_record.specs.declared.event.Event.{Event}
 use Rattle.svc_record.specs.Journal.{PostData}
-use Rattle.svc_shared.specs.declared.view.Hand.{Hand}
+use Rattle.svc_shared.specs.declared.view.SeatView.{SeatView}
 use Rattle.svc_shared.specs.declared.view.Note.{Note}
 use Rattle.svc_shared.specs.declared.work.Fed.{Fed}
 use Rattle.svc_shared.specs.declared.refusals.PostRefused.{PostRefused}
@@ -19,7 +19,7 @@ use Rattle.svc_shared.proofs.OwnLemmas.{begins-whole, begins-trans}
 
 pub feeds_on : (s : SharedServer) (p : Pass) (done : List Event) (m : Pass) (e : Event) (q : Pass) → IsFedSo s p done m → IsFedSo s m (e ∷ []) q → IsFedSo s p (done ++ e ∷ []) q
 feeds_on s p done m e q f g =
-    let seat : (hand_in m).number ≡ (hand_in p).number = ap (λ (h : Hand). h.number) f.hand_is in record {
+    let seat : (hand_in m).number ≡ (hand_in p).number = ap (λ (h : SeatView). h.number) f.hand_is in record {
       of = g.of;
       hand_is = g.hand_is ∙ f.hand_is;
       front = begins-trans (seen_of q) (seen_of m) (seen_of p) g.front f.front;

@@ -8,10 +8,10 @@ use lib.Seq.{map-set}
 use Rattle.atomic_table.proofs.Lists.{at_set, set_else}
 use Rattle.svc_record.specs.Journal.{PostData}
 use Rattle.svc_book.specs.BookData.{BookData}
-use Rattle.svc_shared.specs.declared.view.Hand.{Hand}
+use Rattle.svc_shared.specs.declared.view.SeatView.{SeatView}
 use Rattle.svc_shared.specs.declared.view.View.{View}
 use Rattle.svc_shared.specs.Views.{hand_of, drew}
-use Rattle.svc_shared.specs.Rule.{Role, fresh, drawn, seated, kept, may_post, owner_of, IsSeatOf, HandFits, PassesPart, Parts}
+use Rattle.svc_shared.specs.Rule.{Role, fresh, drawn, seated, kept, may_post, owner_of, IsSeatOf, SeatFits, PassesPart, Parts}
 use Rattle.svc_shared.proofs.OwnLemmas.{set_there, posted-by}
 use Rattle.svc_shared.proofs.PartsLemmas.{hand_at, turn_moved}
 use Rattle.svc_base.proofs.Logic.{some-inj, none-some}
@@ -24,8 +24,8 @@ place_of (seated id) = maybe.some id
 place_of (kept id) = maybe.some id
 
 -- a hand fits on where no number of its seat changes its role, and no number of its share its keeper
-pub fits_on : (b : BookData) (role role' : ℕ → Role) (keeper keeper' : ℕ → ℕ) (j : ℕ) (h : Hand) → ((n : ℕ) → place_of (role n) ≡ maybe.some j → role' n ≡ role n) → ((x : ℕ) → keeper x ≡ j → keeper' x ≡ j)
-    → HandFits b role keeper j h → HandFits b role' keeper' j h
+pub fits_on : (b : BookData) (role role' : ℕ → Role) (keeper keeper' : ℕ → ℕ) (j : ℕ) (h : SeatView) → ((n : ℕ) → place_of (role n) ≡ maybe.some j → role' n ≡ role n) → ((x : ℕ) → keeper x ≡ j → keeper' x ≡ j)
+    → SeatFits b role keeper j h → SeatFits b role' keeper' j h
 fits_on b role role' keeper keeper' j h same stays f = record {
   origin_is = f.origin_is;
   number_is = same h.number (ap place_of f.number_is) ∙ f.number_is;
@@ -49,13 +49,13 @@ module _ (role : ℕ → Role) (id k : ℕ) where
   drawn_else n ne = ap (λ (t : Bool). if t then drawn id else role n) (ne_eqb n k ne)
 
 module _ (b : BookData) (next : ℕ) (role : ℕ → Role) (keeper : ℕ → ℕ) (journal : List PostData) (holder : maybe.Option ℕ) (views : List View) (parts : Parts b journal holder next role keeper views) (id : ℕ) (v : View) (at : get_elem? views id ≡ maybe.some v) (live : v.hand.spent ≡ false) where
-  abbrev hands : List Hand
+  abbrev hands : List SeatView
   hands = map hand_of views
 
   at_hand : get_elem? hands id ≡ maybe.some v.hand
   at_hand = hand_at b next role keeper journal holder views parts id v at live id v at
 
-  mine : HandFits b role keeper id v.hand
+  mine : SeatFits b role keeper id v.hand
   mine = parts.passes.each id v.hand at_hand live
 
   is_fresh : role next ≡ fresh
@@ -68,7 +68,7 @@ module _ (b : BookData) (next : ℕ) (role : ℕ → Role) (keeper : ℕ → ℕ
   draw_passes = record {
     undrawn = λ n le. drawn_else role id next n (λ e. omega arith) ∙ parts.passes.undrawn n (omega arith);
     each = λ j h e h-live. ⊎_elim
-        (λ (t : (j ≡ id) × ((drew v next).hand ≡ h)). subst (λ (x : ℕ × Hand). HandFits b (drawn_role role id next) keeper x.0 x.1) (λ i. (sym t.0 i, t.1 i)) record {
+        (λ (t : (j ≡ id) × ((drew v next).hand ≡ h)). subst (λ (x : ℕ × SeatView). SeatFits b (drawn_role role id next) keeper x.0 x.1) (λ i. (sym t.0 i, t.1 i)) record {
           origin_is = mine.origin_is;
           number_is = drawn_else role id next v.hand.number (not-fresh v.hand.number id (ap place_of mine.number_is)) ∙ mine.number_is;
           drawn_is = λ n is. subst (λ (m : ℕ). drawn_role role id next m ≡ drawn id) (some-inj next n is) (drawn_here role id next);
@@ -83,7 +83,7 @@ module _ (b : BookData) (next : ℕ) (role : ℕ → Role) (keeper : ℕ → ℕ
         (λ (e : n ≡ next). absurd (maybe.some-ne-none i (sym is ∙ ap owner_of (ap (λ (m : ℕ). drawn_role role id next m) e ∙ drawn_here role id next))))
         (λ (ne : n ≢ next). let was = parts.passes.owner n i (ap owner_of (sym (drawn_else role id next n ne)) ∙ is) in dite (ℕ_discrete i id)
         (λ (e : i ≡ id). let same : was.0 ≡ v.hand = maybe.some-injective was.0 v.hand (sym was.1 ∙ (ap (get_elem? hands) e ∙ at_hand)) in
-        ((drew v next).hand, subst (λ (m : ℕ). get_elem? (set hands id (drew v next).hand) m ≡ maybe.some (drew v next).hand) (sym e) (set_there hands id v.hand (drew v next).hand at_hand), live, subst (λ (g : Hand). IsSeatOf g n) same was.3))
+        ((drew v next).hand, subst (λ (m : ℕ). get_elem? (set hands id (drew v next).hand) m ≡ maybe.some (drew v next).hand) (sym e) (set_there hands id v.hand (drew v next).hand at_hand), live, subst (λ (g : SeatView). IsSeatOf g n) same was.3))
         (λ (ne' : i ≢ id). (was.0, set_else hands id i (drew v next).hand ne' ∙ was.1, was.2, was.3)));
   }
 

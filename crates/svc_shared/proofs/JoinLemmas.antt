@@ -9,11 +9,11 @@ use Rattle.std.proofs.lemmas.Bool.{cases_lt}
 use Rattle.atomic_table.proofs.Lists.{at_set, set_else, at_longer}
 use Rattle.svc_record.specs.Journal.{PostData, own_posts}
 use Rattle.svc_book.specs.BookData.{BookData}
-use Rattle.svc_shared.specs.declared.view.Hand.{Hand}
+use Rattle.svc_shared.specs.declared.view.SeatView.{SeatView}
 use Rattle.svc_shared.specs.declared.view.Ended.{Ended}
 use Rattle.svc_shared.specs.declared.view.View.{View}
 use Rattle.svc_shared.specs.Views.{hand_of, glued, spent_view, ended_seat}
-use Rattle.svc_shared.specs.Rule.{Role, fresh, drawn, seated, kept, may_post, owner_of, IsSeatOf, is_holder, HandFits, PassesPart, Parts}
+use Rattle.svc_shared.specs.Rule.{Role, fresh, drawn, seated, kept, may_post, owner_of, IsSeatOf, is_holder, SeatFits, PassesPart, Parts}
 use Rattle.svc_shared.proofs.OwnLemmas.{set_there, posted-by, at_both, at_right}
 use Rattle.svc_shared.proofs.PartsLemmas.{hand_at, turn_moved}
 use Rattle.svc_shared.proofs.HandLemmas.{place_of, fits_on}
@@ -70,13 +70,13 @@ module _ (id other : ℕ) where
 module _ (b : BookData) (next : ℕ) (role : ℕ → Role) (keeper : ℕ → ℕ) (journal : List PostData) (holder : maybe.Option ℕ) (views : List View) (parts : Parts b journal holder next role keeper views)
     (id : ℕ) (v : View) (at : get_elem? views id ≡ maybe.some v) (live : v.hand.spent ≡ false)
     (other : ℕ) (w : View) (w-at : get_elem? views other ≡ maybe.some w) (w-live : w.hand.spent ≡ false) (ne : other ≢ id) (w-free : w.sight.holding ≡ false) (right_after : w.hand.low ≡ v.hand.high + 1) where
-  abbrev hands : List Hand
+  abbrev hands : List SeatView
   hands = map hand_of views
 
   abbrev both : View
   both = glued v w
 
-  abbrev B : Hand
+  abbrev B : SeatView
   B = both.hand
 
   abbrev role' : ℕ → Role
@@ -85,7 +85,7 @@ module _ (b : BookData) (next : ℕ) (role : ℕ → Role) (keeper : ℕ → ℕ
   abbrev keeper' : ℕ → ℕ
   keeper' x = if keeper x == other then id else keeper x
 
-  abbrev hands' : List Hand
+  abbrev hands' : List SeatView
   hands' = set (set hands id B) other spent_view.hand
 
   ne' : id ≢ other
@@ -97,10 +97,10 @@ module _ (b : BookData) (next : ℕ) (role : ℕ → Role) (keeper : ℕ → ℕ
   at_other : get_elem? hands other ≡ maybe.some w.hand
   at_other = hand_at b next role keeper journal holder views parts id v at live other w w-at
 
-  mine : HandFits b role keeper id v.hand
+  mine : SeatFits b role keeper id v.hand
   mine = parts.passes.each id v.hand at_hand live
 
-  theirs : HandFits b role keeper other w.hand
+  theirs : SeatFits b role keeper other w.hand
   theirs = parts.passes.each other w.hand at_other w-live
 
   keeps_here : (x : ℕ) → keeper x ≡ other → keeper' x ≡ id
@@ -122,7 +122,7 @@ module _ (b : BookData) (next : ℕ) (role : ℕ → Role) (keeper : ℕ → ℕ
       one zero is = subst P (maybe.some-injective (ended_seat w) e is) last
       one (suc i) is = absurd (maybe.some-ne-none e (sym is))
 
-  both_fits : HandFits b role' keeper' id B
+  both_fits : SeatFits b role' keeper' id B
   both_fits =
       let l : v.hand.low ≤ v.hand.high = mine.some_share in
       let r : w.hand.low ≤ w.hand.high = theirs.some_share in record {
@@ -156,9 +156,9 @@ module _ (b : BookData) (next : ℕ) (role : ℕ → Role) (keeper : ℕ → ℕ
   join_passes = record {
     undrawn = λ n le. ap (rejoin id other) (parts.passes.undrawn n le);
     each = λ j h e h-live. ⊎_elim
-        (λ (gone : (j ≡ other) × (spent_view.hand ≡ h)). absurd (apart (ap (λ (g : Hand). g.spent) gone.1 ∙ h-live)))
+        (λ (gone : (j ≡ other) × (spent_view.hand ≡ h)). absurd (apart (ap (λ (g : SeatView). g.spent) gone.1 ∙ h-live)))
         (λ (still : (j ≢ other) × (get_elem? (set hands id B) j ≡ maybe.some h)). ⊎_elim
-        (λ (t : (j ≡ id) × (B ≡ h)). subst (λ (x : ℕ × Hand). HandFits b role' keeper' x.0 x.1) (λ i. (sym t.0 i, t.1 i)) both_fits)
+        (λ (t : (j ≡ id) × (B ≡ h)). subst (λ (x : ℕ × SeatView). SeatFits b role' keeper' x.0 x.1) (λ i. (sym t.0 i, t.1 i)) both_fits)
         (λ (t : (j ≢ id) × (get_elem? hands j ≡ maybe.some h)). fits_on b role role' keeper keeper' j h (λ n is. rejoin_else id other j (role n) still.0 is)
         (λ x is. keeps_else x (λ same. still.0 (sym is ∙ same)) ∙ is) (parts.passes.each j h t.1 h-live))
         (at_set hands id j B h still.1))
@@ -166,15 +166,15 @@ module _ (b : BookData) (next : ℕ) (role : ℕ → Role) (keeper : ℕ → ℕ
     owner = λ n i is. ⊎_elim
         (λ (taken : (owner_of (role n) ≡ maybe.some other) × (id ≡ i)). let was = parts.passes.owner n other taken.0 in
         let same : was.0 ≡ w.hand = maybe.some-injective was.0 w.hand (sym was.1 ∙ at_other) in
-        (B, subst (λ (x : ℕ). get_elem? hands' x ≡ maybe.some B) taken.1 there_both, live, seat_right n (subst (λ (g : Hand). IsSeatOf g n) same was.3)))
+        (B, subst (λ (x : ℕ). get_elem? hands' x ≡ maybe.some B) taken.1 there_both, live, seat_right n (subst (λ (g : SeatView). IsSeatOf g n) same was.3)))
         (λ (still : (i ≢ other) × (owner_of (role n) ≡ maybe.some i)). stays n i still.0 still.1)
         (owned_before id other i (role n) is);
   }
     where
-      stays : (n i : ℕ) → i ≢ other → owner_of (role n) ≡ maybe.some i → (h : Hand) × (get_elem? hands' i ≡ maybe.some h) × (h.spent ≡ false) × IsSeatOf h n
+      stays : (n i : ℕ) → i ≢ other → owner_of (role n) ≡ maybe.some i → (h : SeatView) × (get_elem? hands' i ≡ maybe.some h) × (h.spent ≡ false) × IsSeatOf h n
       stays n i i-ne is = let was = parts.passes.owner n i is in dite (ℕ_discrete i id)
           (λ (e : i ≡ id). let same : was.0 ≡ v.hand = maybe.some-injective was.0 v.hand (sym was.1 ∙ (ap (get_elem? hands) e ∙ at_hand)) in
-          (B, subst (λ (x : ℕ). get_elem? hands' x ≡ maybe.some B) (sym e) there_both, live, seat_left n (subst (λ (g : Hand). IsSeatOf g n) same was.3)))
+          (B, subst (λ (x : ℕ). get_elem? hands' x ≡ maybe.some B) (sym e) there_both, live, seat_left n (subst (λ (g : SeatView). IsSeatOf g n) same was.3)))
           (λ (n-e : i ≢ id). (was.0, set_else (set hands id B) other i spent_view.hand i-ne ∙ (set_else hands id i B n-e ∙ was.1), was.2, was.3))
 
   pub joins : Parts b journal holder next role' keeper' (set (set views id both) other spent_view)
@@ -192,7 +192,7 @@ module _ (b : BookData) (next : ℕ) (role : ℕ → Role) (keeper : ℕ → ℕ
               let free : j ≢ other = (λ e. apart (sym (eq-eqb j other e) ∙ (sym (ap (λ (h : maybe.Option ℕ). is_holder h other) is) ∙ (sym r.holding_is ∙ w-free)))) in
               let u = turn.held j is in (u.0, set_else (set views id both) other j spent_view free ∙ u.1, u.2);
         };
-        passes = subst (PassesPart b next role' keeper') (sym (map-set hand_of (set views id both) other spent_view ∙ ap (λ (hs : List Hand). set hs other spent_view.hand) (map-set hand_of views id both))) join_passes;
+        passes = subst (PassesPart b next role' keeper') (sym (map-set hand_of (set views id both) other spent_view ∙ ap (λ (hs : List SeatView). set hs other spent_view.hand) (map-set hand_of views id both))) join_passes;
         posted = posted-by role role' journal (λ n may. rejoin_posts id other (role n) may) parts.posted;
         whole = λ j u e u-live u-whole u-free n is. ⊎_elim (λ (gone : (j ≡ other) × (spent_view ≡ u)). absurd (apart (ap (λ (x : View). x.hand.spent) gone.1 ∙ u-live)))
             (λ (still : (j ≢ other) × (get_elem? (set views id both) j ≡ maybe.some u)). ⊎_elim

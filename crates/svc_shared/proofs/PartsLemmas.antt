@@ -8,7 +8,7 @@ use lib.Seq.{map-set}
 use Rattle.atomic_table.proofs.Lists.{at_set, set_again, set_else, at_map}
 use Rattle.svc_record.specs.Journal.{PostData}
 use Rattle.svc_book.specs.BookData.{BookData}
-use Rattle.svc_shared.specs.declared.view.Hand.{Hand}
+use Rattle.svc_shared.specs.declared.view.SeatView.{SeatView}
 use Rattle.svc_shared.specs.declared.view.View.{View}
 use Rattle.svc_shared.specs.Views.{hand_of, IsWhole, most}
 use Rattle.svc_shared.specs.Rule.{Role, is_holder, Knows, TurnPart, PassesPart, Posted, Parts}
@@ -16,7 +16,7 @@ use Rattle.svc_shared.proofs.OwnLemmas.{set_there}
 
 module _ (b : BookData) (next : ℕ) (role : ℕ → Role) (keeper : ℕ → ℕ) where
   -- beside a pass with the whole share there is no other
-  pub alone : (hands : List Hand) → PassesPart b next role keeper hands → (i j : ℕ) (h g : Hand) → get_elem? hands i ≡ maybe.some h → h.spent ≡ false → IsWhole h
+  pub alone : (hands : List SeatView) → PassesPart b next role keeper hands → (i j : ℕ) (h g : SeatView) → get_elem? hands i ≡ maybe.some h → h.spent ≡ false → IsWhole h
       → get_elem? hands j ≡ maybe.some g → g.spent ≡ false → j ≡ i
   alone hands p i j h g at-h live-h whole at-g live-g =
       let fh = p.each i h at-h live-h in
@@ -65,7 +65,7 @@ module _ (b : BookData) (next : ℕ) (role : ℕ → Role) (keeper : ℕ → ℕ
         → (IsWhole w.hand → w.sight.holding ≡ false → (n : ℕ) → w.sight.last ≡ Some n → n ≡ 2 * length journal')
         → Parts b journal' holder' next role keeper (set views id w)
     moved journal' holder' w same knows others holds posted reads = record {
-      turn = turn_moved journal' holder' w (ap (λ (h : Hand). h.spent) same ∙ live) knows others holds;
+      turn = turn_moved journal' holder' w (ap (λ (h : SeatView). h.spent) same ∙ live) knows others holds;
       passes = subst (PassesPart b next role keeper) (same_hands w same) parts.passes;
       posted = posted;
       whole = λ j u e u-live u-whole u-free n is. ⊎_elim (λ (t : (j ≡ id) × (w ≡ u)). mine u t.1 u-whole u-free n is)

@@ -8,7 +8,7 @@ use Rattle.svc_record.specs.Journal.{PostData, post, own_posts}
 use Rattle.svc_book.specs.Journals.{FitsAfter, IsLegal, end_after}
 use Rattle.svc_book.specs.Refusals.{IsDue}
 use Rattle.svc_shared.specs.declared.view.Note.{Note}
-use Rattle.svc_shared.specs.declared.view.Hand.{Hand}
+use Rattle.svc_shared.specs.declared.view.SeatView.{SeatView}
 use Rattle.svc_shared.specs.declared.view.View.{View}
 use Rattle.svc_shared.specs.declared.pass.Pass.{Pass}
 use Rattle.svc_shared.specs.declared.pass.Posted.{Posted}
@@ -34,10 +34,10 @@ module _ (s : SharedServer) (p : Pass) (of : IsOf s p) (word : ℕ) (m0 m1 : Min
   hand = ap (λ (v : View). v.hand) turn.view_is ∙ waited.hand_is
 
   origin : m1.0.hand.origin ≡ Some (origin_of s)
-  origin = ap (λ (h : Hand). h.origin) hand ∙ of.1
+  origin = ap (λ (h : SeatView). h.origin) hand ∙ of.1
 
   number : m1.0.hand.number ≡ (hand_in p).number
-  number = ap (λ (h : Hand). h.number) hand
+  number = ap (λ (h : SeatView). h.number) hand
 
   own_kept : m1.0.sight.own ≡ own_of p
   own_kept = ap (λ (v : View). v.sight.own) turn.view_is ∙ waited.own_is
@@ -62,7 +62,7 @@ module _ (s : SharedServer) (p : Pass) (of : IsOf s p) (word : ℕ) (m0 m1 : Min
       let hands : hand_in r.pass ≡ m1.0.hand = ap (λ (v : View). v.hand) view in
       let owns : own_of r.pass ≡ own_posts after m1.0.hand.number = ap (λ (v : View). v.sight.own) view in
       let place : r.place ≡ length after = with.place_is in record {
-        of = (table ∙ of.0, ap (λ (h : Hand). h.origin) hands ∙ origin);
+        of = (table ∙ of.0, ap (λ (h : SeatView). h.origin) hands ∙ origin);
         hand_is = hands ∙ hand;
         long = place ∙ ap (length {A = PostData}) (sym sees);
         last = (m1.0.sight.base, sees, front);
@@ -90,7 +90,7 @@ module _ (s : SharedServer) (p : Pass) (of : IsOf s p) (word : ℕ) (m0 m1 : Min
       let all = noted_last (notes_of p) waited.notes in
       let last : LastNote p r.pass word = (all.0, ap (λ (v : View). v.sight.notes) view ∙ all.1) in
       let twice : word ≡ 2 * length base = turn.turn.word_is in record {
-        of = (table ∙ of.0, ap (λ (h : Hand). h.origin) hands ∙ origin);
+        of = (table ∙ of.0, ap (λ (h : SeatView). h.origin) hands ∙ origin);
         hand_is = hands ∙ hand;
         own_is = owns ∙ (sym turn.turn.own_is ∙ own_kept);
         front = subst (λ (xs : List PostData). Begins xs (seen_of p)) (sym sees) front;
@@ -115,7 +115,7 @@ pub busy_by : (s : SharedServer) (p : Pass) (of : IsOf s p) (word : ℕ) (event 
     → IsRefused (IsBusy p r.pass) s p event r
 busy_by s p of word event r table same reason lost =
     record {
-      of = (table ∙ of.0, ap (λ (h : Hand). h.origin) kept.0 ∙ of.1);
+      of = (table ∙ of.0, ap (λ (h : SeatView). h.origin) kept.0 ∙ of.1);
       hand_is = kept.0;
       own_is = kept.2;
       front = subst (λ (xs : List PostData). Begins xs (seen_of p)) (sym kept.1) (begins-whole (seen_of p));

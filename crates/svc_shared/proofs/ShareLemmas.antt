@@ -1,7 +1,7 @@
 -- From what the steps of a split and a join tell to what the calls tell.
 use Rattle.std.proofs.Common.{◌≡◌, ℕ, List, [], ◌∷◌, sym, ap, ◌∙◌, subst, Option, Some}
 use Rattle.svc_record.specs.Journal.{PostData, own_posts}
-use Rattle.svc_shared.specs.declared.view.Hand.{Hand}
+use Rattle.svc_shared.specs.declared.view.SeatView.{SeatView}
 use Rattle.svc_shared.specs.declared.view.View.{View}
 use Rattle.svc_shared.specs.declared.pass.Pass.{Pass}
 use Rattle.svc_shared.specs.declared.pass.SharedServer.{SharedServer}
@@ -33,7 +33,7 @@ joined_by s l r q n found of table is now one two =
     let view : q.place.me.0 ≡ settled G found = ap (λ (x : Mine). x.0) now ∙ ap (λ (v : View). settled v found) n-is in
     let sees : seen_of q ≡ longer (seen_of l) (seen_of r) = ap (λ (v : View). v.sight.seen) view in
     let hand : hand_in q ≡ G.hand = ap (λ (v : View). v.hand) view in record {
-      of = (table ∙ of.0, ap (λ (h : Hand). h.origin) hand ∙ of.1);
+      of = (table ∙ of.0, ap (λ (h : SeatView). h.origin) hand ∙ of.1);
       hand_is = hand;
       front_left = subst (λ (xs : List PostData). Begins xs (seen_of l)) (sym sees) (subst (λ (v : View). Begins (longer v.sight.seen v.sight.told) v.sight.seen) n-is one);
       front_right = subst (λ (xs : List PostData). Begins xs (seen_of r)) (sym sees) (subst (λ (v : View). Begins (longer v.sight.seen v.sight.told) v.sight.told) n-is two);

@@ -11,10 +11,10 @@ use Rattle.std.proofs.lemmas.List.{length-map}
 use Rattle.atomic_table.proofs.Lists.{at_set, set_else, at_longer, at_last}
 use Rattle.svc_record.specs.Journal.{PostData, own_posts}
 use Rattle.svc_book.specs.BookData.{BookData}
-use Rattle.svc_shared.specs.declared.view.Hand.{Hand}
+use Rattle.svc_shared.specs.declared.view.SeatView.{SeatView}
 use Rattle.svc_shared.specs.declared.view.View.{View}
 use Rattle.svc_shared.specs.Views.{hand_of, lower, upper, middle, drawn_or}
-use Rattle.svc_shared.specs.Rule.{Role, fresh, drawn, seated, kept, may_post, owner_of, IsSeatOf, is_holder, Knows, HandFits, PassesPart, Parts}
+use Rattle.svc_shared.specs.Rule.{Role, fresh, drawn, seated, kept, may_post, owner_of, IsSeatOf, is_holder, Knows, SeatFits, PassesPart, Parts}
 use Rattle.svc_shared.proofs.OwnLemmas.{set_there, own-none, posted-by, at_below, at_more}
 use Rattle.svc_shared.proofs.PartsLemmas.{hand_at, turn_moved}
 use Rattle.svc_shared.proofs.HandLemmas.{place_of, fits_on}
@@ -44,16 +44,16 @@ module _ (keeper : ℕ → ℕ) (id m mid : ℕ) where
   keeps_else x ne = ap (λ (t : Bool). if t then (if ltb mid x then m else id) else keeper x) (ne_eqb (keeper x) id ne)
 
 module _ (b : BookData) (next : ℕ) (role : ℕ → Role) (keeper : ℕ → ℕ) (journal : List PostData) (holder : maybe.Option ℕ) (views : List View) (parts : Parts b journal holder next role keeper views) (id : ℕ) (v : View) (at : get_elem? views id ≡ maybe.some v) (live : v.hand.spent ≡ false) (k : ℕ) (has : v.hand.drawn ≡ Some k) (two : v.hand.low < v.hand.high) where
-  abbrev hands : List Hand
+  abbrev hands : List SeatView
   hands = map hand_of views
 
   abbrev m : ℕ
   m = length views
 
-  abbrev L : Hand
+  abbrev L : SeatView
   L = (lower v).hand
 
-  abbrev U : Hand
+  abbrev U : SeatView
   U = (upper v).hand
 
   abbrev role' : ℕ → Role
@@ -65,7 +65,7 @@ module _ (b : BookData) (next : ℕ) (role : ℕ → Role) (keeper : ℕ → ℕ
   at_hand : get_elem? hands id ≡ maybe.some v.hand
   at_hand = hand_at b next role keeper journal holder views parts id v at live id v at
 
-  mine : HandFits b role keeper id v.hand
+  mine : SeatFits b role keeper id v.hand
   mine = parts.passes.each id v.hand at_hand live
 
   was_drawn : role k ≡ drawn id
@@ -90,7 +90,7 @@ module _ (b : BookData) (next : ℕ) (role : ℕ → Role) (keeper : ℕ → ℕ
   drawn-fresh : (i : ℕ) → drawn i ≡ fresh → ⊥
   drawn-fresh i e = cc
 
-  lower_fits : HandFits b role' keeper' id L
+  lower_fits : SeatFits b role' keeper' id L
   lower_fits = record {
     origin_is = mine.origin_is;
     number_is = split_else role m k v.hand.number (not-k v.hand.number (seated id) mine.number_is (drawn-seated id id)) ∙ mine.number_is;
@@ -101,7 +101,7 @@ module _ (b : BookData) (next : ℕ) (role : ℕ → Role) (keeper : ℕ → ℕ
     share = λ x low high. keeps_low keeper id m (middle v.hand) x (mine.share x low (omega arith)) high;
   }
 
-  upper_fits : HandFits b role' keeper' m U
+  upper_fits : SeatFits b role' keeper' m U
   upper_fits = record {
     origin_is = mine.origin_is;
     number_is = ap role' number_of ∙ split_here role m k;
@@ -117,19 +117,19 @@ module _ (b : BookData) (next : ℕ) (role : ℕ → Role) (keeper : ℕ → ℕ
     undrawn = λ n le. let f = parts.passes.undrawn n le in split_else role m k n (not-k n fresh f (drawn-fresh id)) ∙ f;
     each = λ j h e h-live. ⊎_elim
         (λ (old : get_elem? (set hands id L) j ≡ maybe.some h). ⊎_elim
-        (λ (t : (j ≡ id) × (L ≡ h)). subst (λ (x : ℕ × Hand). HandFits b role' keeper' x.0 x.1) (λ i. (sym t.0 i, t.1 i)) lower_fits)
+        (λ (t : (j ≡ id) × (L ≡ h)). subst (λ (x : ℕ × SeatView). SeatFits b role' keeper' x.0 x.1) (λ i. (sym t.0 i, t.1 i)) lower_fits)
         (λ (t : (j ≢ id) × (get_elem? hands j ≡ maybe.some h)). fits_on b role role' keeper keeper' j h
         (λ n is. split_else role m k n (λ same. t.0 (maybe.some-injective j id (sym is ∙ (ap (λ (x : ℕ). place_of (role x)) same ∙ ap place_of was_drawn)))))
         (λ x is. keeps_else keeper id m (middle v.hand) x (λ same. t.0 (sym is ∙ same)) ∙ is) (parts.passes.each j h t.1 h-live))
         (at_set hands id j L h old))
-        (λ (new : (j ≡ length (set hands id L)) × (U ≡ h)). subst (λ (x : ℕ × Hand). HandFits b role' keeper' x.0 x.1) (λ i. (sym (new.0 ∙ long) i, new.1 i)) upper_fits)
+        (λ (new : (j ≡ length (set hands id L)) × (U ≡ h)). subst (λ (x : ℕ × SeatView). SeatFits b role' keeper' x.0 x.1) (λ i. (sym (new.0 ∙ long) i, new.1 i)) upper_fits)
         (at_more (set hands id L) U h j e);
     owner = λ n i is. dite (ℕ_discrete n k)
         (λ (e : n ≡ k). let who : m ≡ i = maybe.some-injective m i (sym (ap owner_of (ap role' e ∙ split_here role m k)) ∙ is) in
         (U, subst (λ (x : ℕ). get_elem? (set hands id L ++ U ∷ []) x ≡ maybe.some U) who (at_last (set hands id L) U m long), live, inl (e ∙ sym number_of)))
         (λ (ne : n ≢ k). let was = parts.passes.owner n i (ap owner_of (sym (split_else role m k n ne)) ∙ is) in dite (ℕ_discrete i id)
         (λ (e : i ≡ id). let same : was.0 ≡ v.hand = maybe.some-injective was.0 v.hand (sym was.1 ∙ (ap (get_elem? hands) e ∙ at_hand)) in
-        (L, subst (λ (x : ℕ). get_elem? (set hands id L ++ U ∷ []) x ≡ maybe.some L) (sym e) (at_longer (set hands id L) (U ∷ []) id L (set_there hands id v.hand L at_hand)), live, subst (λ (g : Hand). IsSeatOf g n) same was.3))
+        (L, subst (λ (x : ℕ). get_elem? (set hands id L ++ U ∷ []) x ≡ maybe.some L) (sym e) (at_longer (set hands id L) (U ∷ []) id L (set_there hands id v.hand L at_hand)), live, subst (λ (g : SeatView). IsSeatOf g n) same was.3))
         (λ (ne' : i ≢ id). (was.0, at_longer (set hands id L) (U ∷ []) i was.0 (set_else hands id i L ne' ∙ was.1), was.2, was.3)));
   }
 
@@ -152,7 +152,7 @@ module _ (b : BookData) (next : ℕ) (role : ℕ → Role) (keeper : ℕ → ℕ
               (λ (new : (j ≡ length (set views id (lower v))) × (upper v ≡ u)). subst (λ (x : ℕ × View). Knows journal holder x.0 x.1) (λ i. (sym (new.0 ∙ vlong) i, new.1 i)) knows) (at_more (set views id (lower v)) (upper v) u j e);
           held = λ j is. let u = turn.held j is in (u.0, at_longer (set views id (lower v)) (upper v ∷ []) j u.0 u.1, u.2);
         };
-        passes = subst (PassesPart b next role' keeper') (sym (map-append hand_of (set views id (lower v)) (upper v ∷ []) ∙ ap (λ (hs : List Hand). hs ++ U ∷ []) (map-set hand_of views id (lower v)))) split_passes;
+        passes = subst (PassesPart b next role' keeper') (sym (map-append hand_of (set views id (lower v)) (upper v ∷ []) ∙ ap (λ (hs : List SeatView). hs ++ U ∷ []) (map-set hand_of views id (lower v)))) split_passes;
         posted = posted-by role role' journal (λ n may. ap may_post (split_else role m k n (λ e. apart' (sym (ap may_post (ap role e ∙ was_drawn)) ∙ may))) ∙ may) parts.posted;
         whole = λ j u e u-live u-whole u-free n is. ⊎_elim (λ (old : get_elem? (set views id (lower v)) j ≡ maybe.some u). ⊎_elim
             (λ (t : (j ≡ id) × (lower v ≡ u)). absurd (none-some n (ap (λ (x : View). x.sight.last) t.1 ∙ is)))

@@ -10,7 +10,7 @@ use Rattle.svc_record.specs.Journal.{PostData, post, own_posts}
 use Rattle.svc_book.specs.BookData.{BookData}
 use Rattle.svc_book.specs.Journals.{FitsAfter, IsLegal, end_after}
 use Rattle.svc_shared.specs.declared.view.Note.{Note}
-use Rattle.svc_shared.specs.declared.view.Hand.{Hand}
+use Rattle.svc_shared.specs.declared.view.SeatView.{SeatView}
 use Rattle.svc_shared.specs.declared.view.Ended.{Ended}
 use Rattle.svc_shared.specs.declared.view.View.{View}
 use Rattle.svc_shared.specs.declared.pass.Pass.{Pass}
@@ -29,7 +29,7 @@ abbrev pub view_of : Pass → View
 view_of p = p.place.me.0
 
 -- its number, its share, a drawn number and its ended seats
-abbrev pub hand_in : Pass → Hand
+abbrev pub hand_in : Pass → SeatView
 hand_in p = p.place.me.0.hand
 
 -- the front of the journal that it has seen
@@ -106,7 +106,7 @@ abbrev pub never : ℕ → Type 0
 never word = ⊥
 
 -- each post is of the pass's number or of one of its ended seats
-abbrev pub OfSeats : Hand → List PostData → Type 0
+abbrev pub OfSeats : SeatView → List PostData → Type 0
 OfSeats h [] = Unit {0}
 OfSeats h (p ∷ ps) = IsSeatOf h p.seat × OfSeats h ps
 

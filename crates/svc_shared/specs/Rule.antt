@@ -5,7 +5,7 @@ use lib.ListN.{get_elem?}
 use Rattle.atomic_table.specs.Table.{State}
 use Rattle.svc_record.specs.Journal.{PostData, own_posts}
 use Rattle.svc_book.specs.BookData.{BookData}
-use Rattle.svc_shared.specs.declared.view.Hand.{Hand}
+use Rattle.svc_shared.specs.declared.view.SeatView.{SeatView}
 use Rattle.svc_shared.specs.declared.view.Ended.{Ended}
 use Rattle.svc_shared.specs.declared.view.View.{View}
 use Rattle.svc_shared.specs.Views.{Slot, Begins, book_of, hand_of, IsWhole, most}
@@ -32,7 +32,7 @@ owner_of (seated id) = maybe.some id
 owner_of (kept id) = maybe.some id
 
 -- the number of the pass, or of one of its ended seats
-abbrev pub IsSeatOf : Hand → ℕ → Type 0
+abbrev pub IsSeatOf : SeatView → ℕ → Type 0
 IsSeatOf h n = (n ≡ h.number) ⊎ ((k : ℕ) × (e : Ended) × (get_elem? h.ended k ≡ maybe.some e) × (e.number ≡ n))
 
 -- the turn's word: twice the number of posts, and one more while a seat holds the turn
@@ -69,7 +69,7 @@ pub record TurnPart (journal : List PostData) (holder : maybe.Option ℕ) (views
 -- THE PASSES' PART, which reads the hands alone
 
 -- the roles of a hand's numbers, and the keeper of its share, are this seat
-pub record HandFits (b : BookData) (role : ℕ → Role) (keeper : ℕ → ℕ) (id : ℕ) (h : Hand) : Type 0 where
+pub record SeatFits (b : BookData) (role : ℕ → Role) (keeper : ℕ → ℕ) (id : ℕ) (h : SeatView) : Type 0 where
   pub origin_is : h.origin ≡ Some b
   pub number_is : role h.number ≡ seated id
   pub drawn_is : (n : ℕ) → h.drawn ≡ Some n → role n ≡ drawn id
@@ -79,11 +79,11 @@ pub record HandFits (b : BookData) (role : ℕ → Role) (keeper : ℕ → ℕ) 
   pub share : (x : ℕ) → h.low ≤ x → x ≤ h.high → keeper x ≡ id
 
 -- numbers from the next one on are fresh; every hand that isn't spent fits
-pub record PassesPart (b : BookData) (next : ℕ) (role : ℕ → Role) (keeper : ℕ → ℕ) (hands : List Hand) : Type 0 where
+pub record PassesPart (b : BookData) (next : ℕ) (role : ℕ → Role) (keeper : ℕ → ℕ) (hands : List SeatView) : Type 0 where
   pub undrawn : (n : ℕ) → next ≤ n → role n ≡ fresh
-  pub each : (id : ℕ) (h : Hand) → get_elem? hands id ≡ maybe.some h → h.spent ≡ false → HandFits b role keeper id h
+  pub each : (id : ℕ) (h : SeatView) → get_elem? hands id ≡ maybe.some h → h.spent ≡ false → SeatFits b role keeper id h
   -- whose number a seated one or a kept one is
-  pub owner : (n id : ℕ) → owner_of (role n) ≡ maybe.some id → (h : Hand) × (get_elem? hands id ≡ maybe.some h) × (h.spent ≡ false) × IsSeatOf h n
+  pub owner : (n id : ℕ) → owner_of (role n) ≡ maybe.some id → (h : SeatView) × (get_elem? hands id ≡ maybe.some h) × (h.spent ≡ false) × IsSeatOf h n
 
 -- WHAT JOINS THEM
 

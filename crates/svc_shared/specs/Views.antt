@@ -5,7 +5,7 @@ use Rattle.svc_record.specs.Journal.{PostData, own_posts}
 use Rattle.svc_book.specs.BookData.{BookData}
 use Rattle.svc_shared.specs.declared.view.Note.{Note}
 use Rattle.svc_shared.specs.declared.view.Ended.{Ended}
-use Rattle.svc_shared.specs.declared.view.Hand.{Hand}
+use Rattle.svc_shared.specs.declared.view.SeatView.{SeatView}
 use Rattle.svc_shared.specs.declared.view.View.{View}
 
 -- what a slot holds: the book, or nothing while it is out of it
@@ -29,7 +29,7 @@ abbrev pub note : ℕ → ℕ → Note
 note i n = record { word = i; found = n }
 
 -- the hand of a view
-abbrev pub hand_of : View → Hand
+abbrev pub hand_of : View → SeatView
 hand_of v = v.hand
 
 -- the greatest number
@@ -37,11 +37,11 @@ abbrev pub most : ℕ
 most = 18446744073709551615
 
 -- the share has every number
-abbrev pub IsWhole : Hand → Type 0
+abbrev pub IsWhole : SeatView → Type 0
 IsWhole h = (h.low ≡ 0) × (h.high ≡ most)
 
 -- the hand of the first pass: number 0, the whole share, and 1 drawn
-abbrev pub first_hand : BookData → Hand
+abbrev pub first_hand : BookData → SeatView
 first_hand b = record { spent = false; origin = Some b; number = 0; drawn = Some 1; low = 0; high = most; ended = [] }
 
 -- the view of the first pass, which has seen nothing
@@ -73,7 +73,7 @@ left v journal = record {
 }
 
 -- the hand with a drawn number
-abbrev pub with_drawn : Hand → ℕ → Hand
+abbrev pub with_drawn : SeatView → ℕ → SeatView
 with_drawn h k = record { spent = h.spent; origin = h.origin; number = h.number; drawn = Some k; low = h.low; high = h.high; ended = h.ended }
 
 -- a number was drawn
@@ -84,7 +84,7 @@ drew v k = record {
 }
 
 -- the last number of the lower half of a share. Of an odd share the lower half has one number more
-abbrev pub middle : Hand → ℕ
+abbrev pub middle : SeatView → ℕ
 middle h = h.low + (h.high - h.low) / 2
 
 -- the drawn number, else this one
@@ -93,11 +93,11 @@ drawn_or (Some k) d = k
 drawn_or None d = d
 
 -- the hand after a split
-abbrev pub lower_hand : Hand → Hand
+abbrev pub lower_hand : SeatView → SeatView
 lower_hand h = record { spent = h.spent; origin = h.origin; number = h.number; drawn = None; low = h.low; high = middle h; ended = h.ended }
 
 -- the hand of the second pass
-abbrev pub upper_hand : Hand → ℕ → Hand
+abbrev pub upper_hand : SeatView → ℕ → SeatView
 upper_hand h k = record { spent = h.spent; origin = h.origin; number = k; drawn = None; low = middle h + 1; high = h.high; ended = [] }
 
 -- the view after a split
@@ -119,7 +119,7 @@ abbrev pub ended_seat : View → Ended
 ended_seat w = record { number = w.hand.number; own = w.sight.own }
 
 -- the left hand, with the right one's share, and its number as that of an ended seat with these posts
-abbrev pub glued_hand : Hand → Hand → List (ℕ × PostData) → Hand
+abbrev pub glued_hand : SeatView → SeatView → List (ℕ × PostData) → SeatView
 glued_hand h g posts = record { spent = h.spent; origin = h.origin; number = h.number; drawn = h.drawn; low = h.low; high = g.high; ended = (h.ended ++ g.ended) ++ record { number = g.number; own = posts } ∷ [] }
 
 -- the right pass ends in the left one

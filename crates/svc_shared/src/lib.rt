@@ -14,5 +14,5 @@ mod work;
 pub use pass::{Pass, Posted, SharedServer};
 pub use refusals::{CloseRefused, PostReason, PostRefused, SplitReason, SplitRefused};
 pub use svc_book::Post;
-pub use view::{Ended, Hand, Note, Sight, View};
+pub use view::{Ended, JournalView, Note, SeatView, View};
 pub use work::{Fed, Feed, Gate};

@@ -18,7 +18,7 @@ pub struct SharedServer {
 
 /// The number of a pass, the first and the last number of its share, and perhaps a drawn number.
 #[derive(Clone, Copy)]
-pub(crate) struct Lot {
+pub(crate) struct ShareState {
     pub number: u64,
     pub low: u64,
     pub high: u64,
@@ -29,7 +29,7 @@ pub(crate) struct Lot {
 #[derive(Drop)]
 pub struct Pass {
     pub(crate) place: Place,
-    pub(crate) lot: Lot,
+    pub(crate) lot: ShareState,
     ghost idle: { IsIdle place.me },
     ghost some_share: { lot.low ≤ lot.high },
     ghost number_is: { lot.number ≡ place.me.0.hand.number },

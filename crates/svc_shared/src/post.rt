@@ -5,7 +5,7 @@ ghost use Rattle.svc_record.specs.Journal.{post};
 ghost use Rattle.svc_shared.specs.Turn.{IsIdle, HasTurn, TookLater, LeftWith};
 ghost use Rattle.svc_shared.specs.Posting.{IsOf, IsPosted, IsRefused, IsBusy, never, reason_is, LeftFor, hand_in};
 
-use crate::pass::{Lot, Pass, Posted, SharedServer};
+use crate::pass::{Pass, Posted, ShareState, SharedServer};
 use crate::refusals::{PostReason, PostRefused};
 use crate::view::Place;
 use std::alloc::Global;
@@ -97,7 +97,7 @@ impl SharedServer {
         &self,
         alloc: Global,
         mut place: Place,
-        lot: Lot,
+        lot: ShareState,
         word: u64,
         event: Event,
         said: bool,

@@ -6,7 +6,7 @@ ghost use Rattle.svc_book.specs.Journals.{IsLegal};
 ghost use Rattle.svc_shared.specs.Views.{first_view, IsWhole};
 ghost use Rattle.svc_shared.specs.Posting.{IsOf, IsClosed, IsUnclosed, origin_of, view_of, hand_in};
 
-use crate::pass::{Lot, Pass, SharedServer};
+use crate::pass::{Pass, ShareState, SharedServer};
 use crate::refusals::CloseRefused;
 use atomic_table::Table;
 use std::alloc::Global;
@@ -38,7 +38,7 @@ impl SharedServer {
             return Err(NoMemory);
         };
         let server = SharedServer { board };
-        let lot = Lot {
+        let lot = ShareState {
             number: 0,
             low: 0,
             high: u64::MAX,

@@ -4,8 +4,8 @@ ghost use Rattle.svc_shared.specs.Turn.{IsIdle};
 ghost use Rattle.svc_shared.specs.Sharing.{Drawn, Undrawn, IsCut, IsSplit, IsUnsplit, IsJoined};
 ghost use Rattle.svc_shared.specs.Posting.{IsOf, hand_in};
 
-use crate::pass::{Lot, Pass, SharedServer};
-use crate::plays::{Count, Cut, Draw, Glue, Look, Settle};
+use crate::pass::{Pass, ShareState, SharedServer};
+use crate::plays::{AfterJoin, AllocateSeat, JoinSeat, LoadNext, LoadTurn, SplitSeat};
 use crate::refusals::{SplitReason, SplitRefused};
 use crate::view::Place;
 use std::alloc::Global;
@@ -66,11 +66,11 @@ impl SharedServer {
     {
         let shared = &self.board.shared;
         for _ in rt.forever() {
-            let k = shared.load::<Count>(place, 1);
+            let k = shared.load::<LoadNext>(place, 1);
             if k == u64::MAX {
                 return None;
             }
-            if shared.compare_exchange::<Draw>(place, 1, k, k + 1) == k {
+            if shared.compare_exchange::<AllocateSeat>(place, 1, k, k + 1) == k {
                 return Some(k);
             }
         }
@@ -78,7 +78,7 @@ impl SharedServer {
     }
 
     /// Cuts the share in two halves. The second pass has the number that was drawn.
-    fn cut(&self, mut place: Place, lot: Lot, number: u64) -> (Pass, Pass)
+    fn cut(&self, mut place: Place, lot: ShareState, number: u64) -> (Pass, Pass)
         requires table { place.table_id ≡ self.now.board.shared.table_id }
         requires idle { IsIdle place.me }
         requires drawn { place.me.0.hand.drawn ≡ Some number }
@@ -90,16 +90,16 @@ impl SharedServer {
         ensures cut { IsCut number place.me result.0.place.me result.1.place.me }
     {
         let shared = &self.board.shared;
-        let _ = shared.load::<Look>(&mut place, 0);
-        let second = shared.split_seat::<Cut>(&mut place);
+        let _ = shared.load::<LoadTurn>(&mut place, 0);
+        let second = shared.split_seat::<SplitSeat>(&mut place);
         let middle = lot.low + (lot.high - lot.low) / 2;
-        let lower = Lot {
+        let lower = ShareState {
             number: lot.number,
             low: lot.low,
             high: middle,
             drawn: None,
         };
-        let upper = Lot {
+        let upper = ShareState {
             number,
             low: middle + 1,
             high: lot.high,
@@ -127,9 +127,9 @@ impl SharedServer {
             lot: upper,
         } = right;
         let shared = &self.board.shared;
-        shared.join_seat::<Glue>(&mut place, other);
-        let _ = shared.load::<Settle>(&mut place, 0);
-        let both = Lot {
+        shared.join_seat::<JoinSeat>(&mut place, other);
+        let _ = shared.load::<AfterJoin>(&mut place, 0);
+        let both = ShareState {
             number: lot.number,
             low: lot.low,
             high: upper.high,

@@ -6,7 +6,7 @@ ghost use Rattle.svc_shared.specs.Views.{book_of, left};
 ghost use Rattle.svc_shared.specs.Turn.{IsIdle, HasTurn, Lifted, GivesBack, Took, Lost, LeftWith, LeftWithout};
 
 use crate::pass::SharedServer;
-use crate::plays::{Leave, Look, Take};
+use crate::plays::{AcquireTurn, LoadTurn, ReleaseTurn};
 use crate::view::{Board, Place};
 use std::alloc::Global;
 use svc_book::{Answer, Book, BookRefused};
@@ -23,11 +23,11 @@ impl SharedServer {
         ensures lost { IfErr result (λ word. Lost word place.old.me place.new.me) }
     {
         let shared = &self.board.shared;
-        let found = shared.load::<Look>(place, 0);
+        let found = shared.load::<LoadTurn>(place, 0);
         if found % 2 == 1 {
             return Err(found);
         }
-        let now = shared.compare_exchange::<Take>(place, 0, found, found + 1);
+        let now = shared.compare_exchange::<AcquireTurn>(place, 0, found, found + 1);
         if now != found {
             return Err(now);
         }
@@ -35,7 +35,7 @@ impl SharedServer {
     }
 
     /// Lifts the book out of the slot that the seat holds.
-    fn lift(&self, place: &mut Place, word: u64) -> Book
+    fn take_book(&self, place: &mut Place, word: u64) -> Book
         requires table { place.old.table_id ≡ self.now.board.shared.table_id }
         requires turn { HasTurn self.now.board.shared.key.value word place.old.me }
         ensures table { (place.new.table_id ≡ place.old.table_id) × (place.new.id ≡ place.old.id) }
@@ -64,7 +64,7 @@ impl SharedServer {
         let _ = self
             .board
             .shared
-            .compare_exchange::<Leave>(place, 0, word + 1, next);
+            .compare_exchange::<ReleaseTurn>(place, 0, word + 1, next);
     }
 
     /// Posts with the turn in hand, and leaves the turn, also where memory was refused.
@@ -86,7 +86,7 @@ impl SharedServer {
             (post number event said (list_of a.actions)) a.place a.end place.old.me place.new.me) }
         ensures refused { IfErr result (λ r. (r.event ≡ event) × LeftWithout self.now.board.shared.key.value event r.refusal place.old.me place.new.me) }
     {
-        let mut book = self.lift(place, word);
+        let mut book = self.take_book(place, word);
         match book.post(alloc, number, event, said) {
             Ok(answer) => {
                 self.leave(place, book, word, word + 2);

@@ -75,7 +75,7 @@ impl SharedServer {
     }
 
     /// Posts the events in order, up to the first refusal.
-    fn work_off<R: Wait, G: Gate>(
+    fn post_all<R: Wait, G: Gate>(
         &self,
         rt: &R,
         alloc: Global,
@@ -128,11 +128,11 @@ impl SharedServer {
             || -> Fed
                 requires { IsOf server.now left.pass }
                 ensures { IsFed server.entry.now left.pass left.events.items result }
-            { server.work_off(rt, alloc, left, 0, gate) },
+            { server.post_all(rt, alloc, left, 0, gate) },
             || -> Fed
                 requires { IsOf server.now right.pass }
                 ensures { IsFed server.entry.now right.pass right.events.items result }
-            { server.work_off(rt, alloc, right, 1, gate) },
+            { server.post_all(rt, alloc, right, 1, gate) },
         )
     }
 }

@@ -15,7 +15,7 @@ use Rattle.svc_base.specs.Words.{words}
 use Rattle.svc_text.specs.EndpointOptions.{same_sort, option_of, last_tcp_from, options_at, with_option_at}
 use Rattle.svc_text.proofs.OptionLemmas.{with_option_at-length, with_option_at-addresses}
 use Rattle.svc_text.specs.ServiceLines.{name_of, kind_of, boots, numbers_of, is_address, address_of, with_after, endpoint_at, with_endpoint, with_claim, with_undeclared, ip_in, with_block, with_option_of, with_setting, with_address, with_item, is_undeclared, with_items, bare, service_of, is_eager}
-use Rattle.svc_text.specs.declared.part.Part.{Part}
+use Rattle.svc_text.specs.declared.part.Section.{Section}
 use Rattle.svc_text.specs.Script.{header_of, is_next, is_skipped, says_service, says_item, place_fits, line_fits, said_services}
 use Rattle.svc_text.proofs.PlaceLemmas.{skipped_service, eager_service, header_says, item_says}
 use Rattle.svc_text.specs.Accepted.{IsAccepted, AreAccepted}
@@ -217,7 +217,7 @@ said_if true xs ys h f = f refl
 pub accepted_line : (part : ℕ) (eager : Bool) (xs : List ServiceLine) (line : List ℕ) → AreAccepted xs → line_fits part eager xs line ≡ true → AreAccepted (xs ++ said_services part line)
 accepted_line part eager xs line h f = by_header (header_of line) refl
   where
-    by_header : (o : Option Part) → header_of line ≡ o → AreAccepted (xs ++ said_services part line)
+    by_header : (o : Option Section) → header_of line ≡ o → AreAccepted (xs ++ said_services part line)
     by_header (Some p) e = subst (λ (ys : List ServiceLine). AreAccepted (xs ++ ys)) (sym (header_says part line p e).0) (subst AreAccepted (sym (append-nil xs)) h)
     by_header None e =
         subst (λ (ys : List ServiceLine). AreAccepted (xs ++ ys)) (sym (item_says part line e).0)

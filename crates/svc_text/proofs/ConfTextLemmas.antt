@@ -11,7 +11,7 @@ use Rattle.std.proofs.Math.Seq.{take-append_seam, drop-append_seam}
 use Rattle.svc_base.specs.Words.{is_feed, EndsLine, IsCut}
 use Rattle.svc_text.specs.declared.reading.Reading.{Reading}
 use Rattle.svc_text.specs.Outcome.{After}
-use Rattle.svc_text.specs.Script.{part_number, line_fits, is_header, begun, part_of}
+use Rattle.svc_text.specs.Script.{section_index, line_fits, is_header, begun, part_of}
 use Rattle.svc_text.specs.declared.conf_text.ConfText.{ConfText}
 use Rattle.svc_text.specs.ConfTexts.{between, text_at, passed, IsConfText}
 use Rattle.svc_base.proofs.LineLemmas.{parts_then}
@@ -245,11 +245,11 @@ one_more all rest line after ls c (suc (suc w)) m place h p b hd e u t k =
 
 -- the same of a reading, at the line that it takes
 pub one_line_more : (all rest line after : List ℕ) (n : ℕ) (r s : Reading) (c d : ConfText) → HasRead all rest n r → lines rest ≡ line ∷ lines after
-    → line_fits (part_number r.part) r.eager r.services.items line ≡ true → After r line s → HasText all rest (take n (lines all)) c → IsCut rest line after
-    → d ≡ passed c (part_number r.part) (part_number s.part) (length all - length after) → HasText all after (take (n + 1) (lines all)) d
+    → line_fits (section_index r.part) r.eager r.services.items line ≡ true → After r line s → HasText all rest (take n (lines all)) c → IsCut rest line after
+    → d ≡ passed c (section_index r.part) (section_index s.part) (length all - length after) → HasText all after (take (n + 1) (lines all)) d
 unfolding line_fits
 one_line_more all rest line after n r s c d h e f a t k is =
     let next = next_line all rest line after n r h e in
     let text : IsUtf8 line = IsUtf8-from_is_utf8 line (and_parts (is_utf8 line) _ f).0 in
-    let more = one_more all rest line after (take n (lines all)) c (part_number r.part) (part_number s.part) (length all - length after) (is_header line) refl (sym h.said.part) refl a.part text t k in
-    subst (HasText all after (take (n + 1) (lines all))) (sym is) (subst (λ (ls : List (List ℕ)). HasText all after ls (passed c (part_number r.part) (part_number s.part) (length all - length after))) (sym next.more) more)
+    let more = one_more all rest line after (take n (lines all)) c (section_index r.part) (section_index s.part) (length all - length after) (is_header line) refl (sym h.said.part) refl a.part text t k in
+    subst (HasText all after (take (n + 1) (lines all))) (sym is) (subst (λ (ls : List (List ℕ)). HasText all after ls (passed c (section_index r.part) (section_index s.part) (length all - length after))) (sym next.more) more)

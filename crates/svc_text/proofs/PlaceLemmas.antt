@@ -11,12 +11,12 @@ use Rattle.svc_text.specs.Words.{text_in}
 use Rattle.svc_base.specs.Words.{words}
 use Rattle.svc_text.specs.EventLines.{item_of}
 use Rattle.svc_text.proofs.SkippedLemmas.{skipped_event, skipped_is_no_fault}
-use Rattle.svc_text.specs.declared.part.Part.{Part}
+use Rattle.svc_text.specs.declared.part.Section.{Section}
 use Rattle.svc_text.specs.declared.service.ServiceLine.{ServiceLine}
 use Rattle.svc_text.specs.declared.reading.Reading.{Reading}
 use Rattle.svc_text.specs.declared.reading.LineError.{LineError}
 use Rattle.svc_text.specs.ServiceLines.{is_name, name_of, service_of, is_eager}
-use Rattle.svc_text.specs.Script.{part_number, header_of, is_header, is_skipped, says_item, place_fits, line_fits, said_services, said_eager, said_items}
+use Rattle.svc_text.specs.Script.{section_index, header_of, is_header, is_skipped, says_item, place_fits, line_fits, said_services, said_eager, said_items}
 use Rattle.svc_text.specs.Outcome.{After, Said, Tests}
 
 -- ---- whether a line fits
@@ -25,7 +25,7 @@ pub fits_not_text : (n : ℕ) (eager : Bool) (ss : List ServiceLine) (line : Lis
 unfolding line_fits
 fits_not_text n eager ss line e = rw e refl
 
-pub fits_header : (n : ℕ) (eager : Bool) (ss : List ServiceLine) (line : List ℕ) (p : Part) → is_utf8 line ≡ true → header_of line ≡ Some p → (part_number p == n + 1) ≡ line_fits n eager ss line
+pub fits_header : (n : ℕ) (eager : Bool) (ss : List ServiceLine) (line : List ℕ) (p : Section) → is_utf8 line ≡ true → header_of line ≡ Some p → (section_index p == n + 1) ≡ line_fits n eager ss line
 unfolding line_fits place_fits
 fits_header n eager ss line p e h = rw (e, h) refl
 
@@ -88,7 +88,7 @@ skipped_item : (ws : List (List ℕ)) → is_skipped ws ≡ true → item_of ws 
 unfolding item_of
 skipped_item ws h = rw (skipped_is_no_fault ws h, skipped_event ws h) refl
 
-pub header_says : (n : ℕ) (line : List ℕ) (p : Part) → header_of line ≡ Some p → (said_services n line ≡ []) × (said_items n line ≡ []) × (said_eager n line ≡ false)
+pub header_says : (n : ℕ) (line : List ℕ) (p : Section) → header_of line ≡ Some p → (said_services n line ≡ []) × (said_items n line ≡ []) × (said_eager n line ≡ false)
 unfolding said_services said_items said_eager
 header_says n line p h =
     let t : is_header line ≡ true = rw h refl in
@@ -124,12 +124,12 @@ or_false : (b : Bool) → b ≡ (b || false)
 or_false true = refl
 or_false false = refl
 
-pub after_header : (old new : Reading) (line : List ℕ) (p : Part) → header_of line ≡ Some p → (part_number p == part_number old.part + 1) ≡ true → new ≡ record old { part = p } → After old line new
+pub after_header : (old new : Reading) (line : List ℕ) (p : Section) → header_of line ≡ Some p → (section_index p == section_index old.part + 1) ≡ true → new ≡ record old { part = p } → After old line new
 after_header old new line p h t e =
-    let n : ℕ = part_number old.part in
+    let n : ℕ = section_index old.part in
     let says = header_says n line p h in
     let is : is_header line ≡ true = rw h refl in
-    let stepped : part_number new.part ≡ n + 1 = ap (λ (r : Reading). part_number r.part) e ∙ eqb-true _ _ t in
+    let stepped : section_index new.part ≡ n + 1 = ap (λ (r : Reading). section_index r.part) e ∙ eqb-true _ _ t in
     record {
       part = stepped ∙ rw is refl;
       eager = ap (λ (r : Reading). r.eager) e ∙ rw says.2 (or_false old.eager);
@@ -138,19 +138,19 @@ after_header old new line p h t e =
     }
 
 -- a line that says nothing
-silent : (r : Reading) (line : List ℕ) → header_of line ≡ None → said_services (part_number r.part) line ≡ [] → said_items (part_number r.part) line ≡ [] → said_eager (part_number r.part) line ≡ false → After r line r
+silent : (r : Reading) (line : List ℕ) → header_of line ≡ None → said_services (section_index r.part) line ≡ [] → said_items (section_index r.part) line ≡ [] → said_eager (section_index r.part) line ≡ false → After r line r
 silent r line h ss es ea =
     let is : is_header line ≡ false = rw h refl in
     record {
-      part = rw is (sym (add-zero (part_number r.part)));
+      part = rw is (sym (add-zero (section_index r.part)));
       eager = rw ea (or_false r.eager);
       services = rw ss (sym (append-nil _));
       items = rw es (sym (append-nil _));
     }
 
-pub after_conf : (r : Reading) (line : List ℕ) → header_of line ≡ None → part_number r.part ≡ 1 → After r line r
+pub after_conf : (r : Reading) (line : List ℕ) → header_of line ≡ None → section_index r.part ≡ 1 → After r line r
 after_conf r line h k =
-    let n : ℕ = part_number r.part in
+    let n : ℕ = section_index r.part in
     let says = item_says n line h in
     let two : (n == 2) ≡ false = ap (λ (m : ℕ). m == 2) k in
     let three : (n == 3) ≡ false = ap (λ (m : ℕ). m == 3) k in
@@ -162,7 +162,7 @@ nothing_both false c e = refl
 
 pub after_skipped : (r : Reading) (line : List ℕ) → header_of line ≡ None → is_skipped (words line) ≡ true → After r line r
 after_skipped r line h k =
-    let n : ℕ = part_number r.part in
+    let n : ℕ = section_index r.part in
     let says = item_says n line h in
     silent r line h
     (says.0 ∙ nothing_either (n == 2) _ (skipped_service (words line) k))
@@ -171,11 +171,11 @@ after_skipped r line h k =
 
 pub after_item : (old new : Reading) (line : List ℕ) → header_of line ≡ None → Said old (words line) new → After old line new
 after_item old new line h said =
-    let n : ℕ = part_number old.part in
+    let n : ℕ = section_index old.part in
     let says = item_says n line h in
     let is : is_header line ≡ false = rw h refl in
     record {
-      part = ap part_number said.0 ∙ rw is (sym (add-zero n));
+      part = ap section_index said.0 ∙ rw is (sym (add-zero n));
       eager = said.2 ∙ ap (λ (b : Bool). old.eager || b) (sym says.2);
       services = said.1 ∙ ap (λ (xs : List ServiceLine). old.services.items ++ xs) (sym says.0);
       items = said.3 ∙ ap (λ (xs : List Item). old.items.items ++ xs) (sym says.1);

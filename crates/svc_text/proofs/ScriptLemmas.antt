@@ -12,11 +12,11 @@ use Rattle.svc_base.specs.Words.{words}
 use Rattle.svc_text.specs.declared.service.ServiceLine.{ServiceLine}
 use Rattle.svc_text.specs.ServiceLines.{service_of}
 use Rattle.svc_text.specs.declared.reading.Reading.{Reading}
-use Rattle.svc_text.specs.declared.part.Part.TheVariants.{Nothing}
+use Rattle.svc_text.specs.declared.part.Section.TheVariants.{Nothing}
 use Rattle.svc_text.specs.Outcome.{After}
 use Rattle.svc_text.specs.Accepted.{AreAccepted, BringsFew}
 use Rattle.svc_text.specs.Fronts.{HasSaid}
-use Rattle.svc_text.specs.Script.{IsLineOf, AreLines, part_number, line_fits, fits_at, first_misfit, is_header, begun, part_of, services_in, eager_in, items_in, said_services, said_eager, said_items}
+use Rattle.svc_text.specs.Script.{IsLineOf, AreLines, section_index, line_fits, fits_at, first_misfit, is_header, begun, part_of, services_in, eager_in, items_in, said_services, said_eager, said_items}
 use Rattle.svc_text.proofs.AcceptLemmas.{accepted_none, accepted_line}
 use Rattle.svc_text.proofs.FewLemmas.{few_none, few_said}
 use Rattle.svc_text.proofs.PartLemmas.{begun-push, services-push, eager-push, items-push}
@@ -73,7 +73,7 @@ none_read all r p s b e = record {
   rest_is = refl;
   within = omega arith;
   fit = record { below = λ k lt. absurd (omega arith) };
-  said = record { part = ap part_number p; services = s; eager = b; items = e; accepted = subst AreAccepted (sym s) accepted_none; few = subst (All BringsFew) (sym e) few_none };
+  said = record { part = ap section_index p; services = s; eager = b; items = e; accepted = subst AreAccepted (sym s) accepted_none; few = subst (All BringsFew) (sym e) few_none };
 }
 
 -- the next line, and those after it
@@ -98,7 +98,7 @@ next_line all rest line after n r h e =
     record { here = p.0; is = p.1; more = p.2; rest = p.3 }
 
 -- the reading's test is the definition's
-pub fits_next : (all rest line after : List ℕ) (n : ℕ) (r : Reading) → HasRead all rest n r → Next all n line after → fits_at (lines all) n ≡ line_fits (part_number r.part) r.eager r.services.items line
+pub fits_next : (all rest line after : List ℕ) (n : ℕ) (r : Reading) → HasRead all rest n r → Next all n line after → fits_at (lines all) n ≡ line_fits (section_index r.part) r.eager r.services.items line
 unfolding fits_at
 fits_next all rest line after n r h e = rw (h.said.part, h.said.eager, h.said.services, e.is) refl
 
@@ -106,18 +106,18 @@ both : {X Y : Type 0} (f : X → ℕ → Y) {x y : X} {m n : ℕ} → x ≡ y �
 both f {x} {y} {m} {n} e g = ap (λ z. f z m) e ∙ ap (f y) g
 
 -- what one more line adds
-said_more : (ls : List (List ℕ)) (line : List ℕ) (r s : Reading) → HasSaid ls r → line_fits (part_number r.part) r.eager r.services.items line ≡ true → After r line s → HasSaid (ls ++ line ∷ []) s
+said_more : (ls : List (List ℕ)) (line : List ℕ) (r s : Reading) → HasSaid ls r → line_fits (section_index r.part) r.eager r.services.items line ≡ true → After r line s → HasSaid (ls ++ line ∷ []) s
 said_more ls line r s h t a = record {
   part = a.part ∙ ap (λ (m : ℕ). m + cond (is_header line) 1 0) h.part ∙ sym (begun-push ls line);
   services = a.services ∙ both (λ (xs : List ServiceLine) m. xs ++ said_services m line) h.services h.part ∙ sym (services-push ls line);
   eager = a.eager ∙ both (λ (b : Bool) m. b || said_eager m line) h.eager h.part ∙ sym (eager-push ls line);
   items = a.items ∙ both (λ (xs : List Item) m. xs ++ said_items m line) h.items h.part ∙ sym (items-push ls line);
-  accepted = subst AreAccepted (sym a.services) (accepted_line (part_number r.part) r.eager r.services.items line h.accepted t);
-  few = subst (All BringsFew) (sym a.items) (All-append BringsFew r.items.items (said_items (part_number r.part) line) h.few (few_said (part_number r.part) line));
+  accepted = subst AreAccepted (sym a.services) (accepted_line (section_index r.part) r.eager r.services.items line h.accepted t);
+  few = subst (All BringsFew) (sym a.items) (All-append BringsFew r.items.items (said_items (section_index r.part) line) h.few (few_said (section_index r.part) line));
 }
 
 pub reads_more : (all rest line after : List ℕ) (n : ℕ) (r s : Reading) → HasRead all rest n r → lines rest ≡ line ∷ lines after
-    → line_fits (part_number r.part) r.eager r.services.items line ≡ true → After r line s → HasRead all after (n + 1) s
+    → line_fits (section_index r.part) r.eager r.services.items line ≡ true → After r line s → HasRead all after (n + 1) s
 reads_more all rest line after n r s h e t a =
     let next = next_line all rest line after n r h e in
     record {
@@ -140,9 +140,9 @@ said_few part line = one_at_most _ (service_of (words line))
 
 few_more : (old new : Reading) (line : List ℕ) → After old line new → (length old.services.items ≤ length new.services.items) × (length new.services.items ≤ length old.services.items + 1)
 few_more old new line a =
-    let e : length (new.services.items) ≡ length (old.services.items ++ said_services (part_number old.part) line) = ap length a.services in
-    let f = said_few (part_number old.part) line in
-    let m = length-append (old.services.items) (said_services (part_number old.part) line) in
+    let e : length (new.services.items) ≡ length (old.services.items ++ said_services (section_index old.part) line) = ap length a.services in
+    let f = said_few (section_index old.part) line in
+    let m = length-append (old.services.items) (said_services (section_index old.part) line) in
     (omega arith, omega arith)
 
 pub lines_none : (ls : List (List ℕ)) (count : ℕ) (ns : List ℕ) → count ≡ 0 → ns ≡ [] → AreLines ls count ns

@@ -5,7 +5,7 @@ use Rattle.svc_conf.specs.declared.server.configuration.read_error.ReadError.{Re
 use Rattle.svc_text.specs.declared.parsing.Script.{Script}
 use Rattle.svc_text.specs.declared.parsing.ScriptError.{ScriptError}
 use Rattle.svc_text.specs.declared.parsing.ScriptError.TheVariants.{Line, NoMemory}
-use Rattle.svc_text.specs.Script.{Parts, part_number, is_header, refused_line, said_services, said_eager, said_items}
+use Rattle.svc_text.specs.Script.{Parts, section_index, is_header, refused_line, said_services, said_eager, said_items}
 use Rattle.std.specs.Option.{option_to_list}
 use Rattle.svc_text.specs.EventLines.{item_of}
 use Rattle.svc_text.specs.ServiceLines.{service_of, is_eager}
@@ -31,18 +31,18 @@ SaysConf (Err NoMemory) before read = Unit {0}
 
 -- the reading after one more line
 pub record After (old : Reading) (line : List ℕ) (new : Reading) : Type 0 where
-  pub part : part_number new.part ≡ part_number old.part + (if is_header line then 1 else 0)
-  pub eager : new.eager ≡ (old.eager || said_eager (part_number old.part) line)
-  pub services : new.services.items ≡ old.services.items ++ said_services (part_number old.part) line
-  pub items : new.items.items ≡ old.items.items ++ said_items (part_number old.part) line
+  pub part : section_index new.part ≡ section_index old.part + (if is_header line then 1 else 0)
+  pub eager : new.eager ≡ (old.eager || said_eager (section_index old.part) line)
+  pub services : new.services.items ≡ old.services.items ++ said_services (section_index old.part) line
+  pub items : new.items.items ≡ old.items.items ++ said_items (section_index old.part) line
 
 -- the reading after these words, in a line that begins no part and isn't one of the configuration
 abbrev pub Said : Reading → List (List ℕ) → Reading → Type 0
 Said old ws new =
     (new.part ≡ old.part)
-    × (new.services.items ≡ old.services.items ++ (if part_number old.part == 2 then option_to_list (service_of ws) else []))
-    × (new.eager ≡ (old.eager || ((part_number old.part == 2) && is_eager ws)))
-    × (new.items.items ≡ old.items.items ++ (if part_number old.part == 3 then option_to_list (item_of ws) else []))
+    × (new.services.items ≡ old.services.items ++ (if section_index old.part == 2 then option_to_list (service_of ws) else []))
+    × (new.eager ≡ (old.eager || ((section_index old.part == 2) && is_eager ws)))
+    × (new.items.items ≡ old.items.items ++ (if section_index old.part == 3 then option_to_list (item_of ws) else []))
 
 -- a test that was passed, or was the refusal
 abbrev pub Tests : {A : Type 0} → Bool → Result A LineError → Type 0

@@ -12,20 +12,20 @@ use Rattle.svc_conf.specs.ConfigurationText.{said_from, overridden_by}
 use Rattle.svc_base.specs.Words.{words}
 use Rattle.svc_record.specs.declared.item.Item.{Item}
 use Rattle.svc_text.specs.EventLines.{item_of}
-use Rattle.svc_text.specs.declared.part.Part.{Part}
-use Rattle.svc_text.specs.declared.part.Part.TheVariants.{Nothing, Conf, Services, Events}
+use Rattle.svc_text.specs.declared.part.Section.{Section}
+use Rattle.svc_text.specs.declared.part.Section.TheVariants.{Nothing, Conf, Services, Events}
 use Rattle.svc_text.specs.declared.service.ServiceLine.{ServiceLine}
 use Rattle.svc_text.specs.ServiceLines.{service_of, is_eager}
 
 -- the number of headers from the start to this part's
-abbrev pub part_number : Part → ℕ
-part_number Nothing = 0
-part_number Conf = 1
-part_number Services = 2
-part_number Events = 3
+abbrev pub section_index : Section → ℕ
+section_index Nothing = 0
+section_index Conf = 1
+section_index Services = 2
+section_index Events = 3
 
 -- the part that a header line begins
-unfoldable pub header_of : List ℕ → Option Part
+unfoldable pub header_of : List ℕ → Option Section
 header_of line =
     if bytes_eq line (codes "%conf") then Some Conf
     else (if bytes_eq line (codes "%services") then Some Services
@@ -77,8 +77,8 @@ unfoldable pub says_item : ℕ → Bool → List ServiceLine → List (List ℕ)
 says_item part eager services ws = if part == 2 then says_service eager services ws else (if part == 3 then is_some (item_of ws) else false)
 
 -- a line, which may begin a part, fits its place; those of the configuration are looked at together
-unfoldable pub place_fits : ℕ → Bool → List ServiceLine → List ℕ → Option Part → Bool
-place_fits part eager services line (Some p) = part_number p == part + 1
+unfoldable pub place_fits : ℕ → Bool → List ServiceLine → List ℕ → Option Section → Bool
+place_fits part eager services line (Some p) = section_index p == part + 1
 place_fits part eager services line None = (part == 1) || (is_skipped (words line) || says_item part eager services (words line))
 
 -- a line fits what was said before it

@@ -4,12 +4,12 @@ ghost use Rattle.std.specs.Prelude.{◌≡◌, ◌+◌, ◌<◌, ◌^◌, length
 ghost use Rattle.std.specs.Str.{IsUtf8};
 ghost use Rattle.std.specs.Str.Lines.{lines};
 ghost use Rattle.svc_conf.specs.ConfigurationText.{configuration};
-ghost use Rattle.svc_text.specs.Script.{part_number};
+ghost use Rattle.svc_text.specs.Script.{section_index};
 ghost use Rattle.svc_text.specs.Outcome.{SaysConf};
 ghost use Rattle.svc_text.specs.ConfTexts.{passed};
 
 use crate::parsing::ScriptError;
-use crate::part::Part;
+use crate::part::Section;
 use std::alloc::Global;
 use std::str;
 use svc_conf::{ReadError, ServerConf};
@@ -26,19 +26,19 @@ pub struct ConfText {
 impl ConfText {
     /// Passes one more line, which ends at this place. `was` is the part in which it stands, `now` the
     /// part of what follows it.
-    pub fn pass(&mut self, was: Part, now: Part, place: usize)
+    pub fn pass(&mut self, was: Section, now: Section, place: usize)
         requires { self.old.before + 1 < 2 ^ 64 }
-        ensures { self.new ≡ passed self.old (part_number was) (part_number now) place }
+        ensures { self.new ≡ passed self.old (section_index was) (section_index now) place }
     {
         match now {
-            Part::Nothing => self.before += 1,
-            Part::Conf => {
-                if matches!(was, Part::Nothing) {
+            Section::Nothing => self.before += 1,
+            Section::Conf => {
+                if matches!(was, Section::Nothing) {
                     self.start = place;
                 }
                 self.end = place;
             }
-            Part::Services | Part::Events => {}
+            Section::Services | Section::Events => {}
         }
     }
 }

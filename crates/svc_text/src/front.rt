@@ -11,7 +11,7 @@ use svc_base::{NoMemory, split_line};
 /// The lines of a script up to the first that doesn't fit those before it. Those of the configuration
 /// are found, and not yet looked at.
 #[derive(Debug, Drop)]
-pub struct Front {
+pub struct ParsedPrefix {
     /// How many lines fit.
     pub number: usize,
     /// The next line doesn't fit.
@@ -35,7 +35,7 @@ fn note_line(lines: &mut Vec<usize>, services: usize, number: usize) -> Result<(
 }
 
 /// The lines of these bytes that fit.
-pub fn front_of(alloc: Global, bytes: &[u8]) -> Result<Front, NoMemory>
+pub fn parse_prefix(alloc: Global, bytes: &[u8]) -> Result<ParsedPrefix, NoMemory>
     ensures { IfOk result (λ front. IsFront bytes.now front) }
 {
     let mut lines = Vec::new(alloc);
@@ -52,7 +52,7 @@ pub fn front_of(alloc: Global, bytes: &[u8]) -> Result<Front, NoMemory>
         match reading.take_line(alloc, line) {
             Ok(()) => {}
             Err(LineError::Refused) => {
-                return Ok(Front {
+                return Ok(ParsedPrefix {
                     number,
                     refused: true,
                     conf,
@@ -67,7 +67,7 @@ pub fn front_of(alloc: Global, bytes: &[u8]) -> Result<Front, NoMemory>
         conf.pass(was, reading.part, bytes.len() - rest.len());
         note_line(&mut lines, reading.services.len(), number)?;
     }
-    Ok(Front {
+    Ok(ParsedPrefix {
         number,
         refused: false,
         conf,

@@ -8,7 +8,7 @@ ghost use Rattle.svc_text.specs.Fronts.{finished};
 ghost use Rattle.svc_text.specs.Accepted.{AreAccepted, BringsFew};
 
 use crate::conf_text::read_conf;
-use crate::front::{Front, front_of};
+use crate::front::{ParsedPrefix, parse_prefix};
 use crate::service::ServiceLine;
 use std::alloc::Global;
 use svc_conf::ServerConf;
@@ -42,7 +42,7 @@ pub enum ScriptError {
 }
 
 /// What a script says, of the lines that fit and the configuration.
-fn finished(front: Front, conf: ServerConf) -> Result<Script, ScriptError>
+fn finished(front: ParsedPrefix, conf: ServerConf) -> Result<Script, ScriptError>
     requires { front.number + 1 < 2 ^ 64 }
     ensures { result ≡ finished front conf }
 {
@@ -50,7 +50,7 @@ fn finished(front: Front, conf: ServerConf) -> Result<Script, ScriptError>
     if front.refused || front.reading.part.number() != 3 {
         return Err(ScriptError::Line(next));
     }
-    let Front { reading, lines, .. } = front;
+    let ParsedPrefix { reading, lines, .. } = front;
     Ok(Script {
         conf,
         services: reading.services,
@@ -67,7 +67,7 @@ pub fn parse(alloc: Global, bytes: &[u8]) -> Result<Script, ScriptError>
     ensures few { IfOk result (λ s. All BringsFew s.items.items) }
     ensures numbers { IfOk result (λ s. AreLines (lines bytes.now) (length s.services.items) s.lines.items) }
 {
-    let Ok(front) = front_of(alloc, bytes) else {
+    let Ok(front) = parse_prefix(alloc, bytes) else {
         return Err(ScriptError::NoMemory);
     };
     let text = &bytes[front.conf.start..front.conf.end];

@@ -2,16 +2,16 @@
 
 ghost use Rattle.std.specs.Prelude.{List, ℕ, ◌≡◌, ◌+◌, ◌++◌, ◌==◌, ◌||◌, [], ◌∷◌, not, true, false, OnOk, is_some};
 ghost use Rattle.std.specs.Str.{is_utf8};
-ghost use Rattle.svc_text.specs.declared.part.Part.TheVariants.{Nothing};
+ghost use Rattle.svc_text.specs.declared.part.Section.TheVariants.{Nothing};
 ghost use Rattle.svc_text.specs.Outcome.{After, Said, Tests};
 ghost use Rattle.std.specs.Option.{option_to_list};
 ghost use Rattle.svc_text.specs.EventLines.{item_of};
 ghost use Rattle.svc_base.specs.Words.{words};
 ghost use Rattle.svc_text.specs.ServiceLines.{service_of, is_eager};
-ghost use Rattle.svc_text.specs.Script.{part_number, is_skipped, is_next, says_service, says_item, line_fits};
+ghost use Rattle.svc_text.specs.Script.{section_index, is_skipped, is_next, says_service, says_item, line_fits};
 
 use crate::event_lines::item_of_key;
-use crate::part::{Part, header_of};
+use crate::part::{Section, header_of};
 use crate::service::{ServiceLine, is_eager, service_of_line};
 use std::alloc::{AllocFailed, Global};
 use std::str;
@@ -48,7 +48,7 @@ impl<T: Drop> From<AllocFailed<T>> for LineError {
 /// What the lines so far said.
 #[derive(Debug, Drop)]
 pub struct Reading {
-    pub part: Part,
+    pub part: Section,
     pub services: Vec<ServiceLine>,
     pub eager: bool,
     pub items: Vec<Item>,
@@ -80,7 +80,7 @@ impl Reading {
         ensures items { result.items.items ≡ [] }
     {
         Reading {
-            part: Part::Nothing,
+            part: Section::Nothing,
             services: Vec::new(alloc),
             eager: false,
             items: Vec::new(alloc),
@@ -88,8 +88,8 @@ impl Reading {
     }
 
     /// Begins the next part.
-    fn begin(&mut self, part: Part) -> Result<(), LineError>
-        ensures test { Tests (part_number part == part_number self.old.part + 1) result }
+    fn begin(&mut self, part: Section) -> Result<(), LineError>
+        ensures test { Tests (section_index part == section_index self.old.part + 1) result }
         ensures ok { OnOk result (self.new ≡ record self.old { part = part }) }
     {
         if part.number() != self.part.number() + 1 {
@@ -166,19 +166,19 @@ impl Reading {
         rest: &[u8],
     ) -> Result<(), LineError>
         requires { words line.now ≡ word.now ∷ words rest.now }
-        ensures test { Tests (says_item (part_number self.old.part) self.old.eager self.old.services.items (words line.now)) result }
+        ensures test { Tests (says_item (section_index self.old.part) self.old.eager self.old.services.items (words line.now)) result }
         ensures said { OnOk result (Said self.old (words line.now) self.new) }
     {
         match self.part {
-            Part::Services => self.take_service_line(alloc, line),
-            Part::Events => self.take_event(alloc, word, rest),
-            Part::Nothing | Part::Conf => Err(LineError::Refused),
+            Section::Services => self.take_service_line(alloc, line),
+            Section::Events => self.take_event(alloc, word, rest),
+            Section::Nothing | Section::Conf => Err(LineError::Refused),
         }
     }
 
     /// Takes one more line, where it fits those before it. Those of the configuration aren't looked at.
     pub fn take_line(&mut self, alloc: Global, line: &[u8]) -> Result<(), LineError>
-        ensures test { Tests (line_fits (part_number self.old.part) self.old.eager self.old.services.items line.now) result }
+        ensures test { Tests (line_fits (section_index self.old.part) self.old.eager self.old.services.items line.now) result }
         ensures after { OnOk result (After self.old line.now self.new) }
     {
         if !is_text(line) {

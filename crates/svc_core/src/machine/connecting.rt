@@ -7,7 +7,7 @@ use super::Core;
 use crate::plans::verdict_on;
 use std::alloc::Global;
 use svc_base::NoMemory;
-use svc_connections::{settings_of, take_accept_failed};
+use svc_connections::{on_accept_failed, settings_of};
 use svc_record::{Actions, Event, StepEnd};
 use svc_socket::Peer;
 
@@ -33,7 +33,7 @@ impl Core {
         self.connections.reserve()?;
         let verdict = verdict_on(&self.plan, s, i, said);
         self.connections
-            .take_arrived(c, peer, verdict, settings, actions);
+            .on_arrived(c, peer, verdict, settings, actions);
         Ok(self.end)
     }
 
@@ -48,7 +48,7 @@ impl Core {
         requires { MayStep self.old (Event.AcceptFailed s i number) actions.old }
         ensures { Steps self.old self.new (Event.AcceptFailed s i number) actions.old actions.new result }
     {
-        take_accept_failed(s, i, number, actions);
+        on_accept_failed(s, i, number, actions);
         self.end
     }
 
@@ -57,7 +57,7 @@ impl Core {
         requires { MayStep self.old (Event.Set c ok) actions.old }
         ensures { Steps self.old self.new (Event.Set c ok) actions.old actions.new result }
     {
-        self.connections.take_set(c, ok, actions);
+        self.connections.on_set(c, ok, actions);
         self.end
     }
 
@@ -66,7 +66,7 @@ impl Core {
         requires { MayStep self.old (Event.Shaken c ok) actions.old }
         ensures { Steps self.old self.new (Event.Shaken c ok) actions.old actions.new result }
     {
-        self.connections.take_shaken(c, ok, actions);
+        self.connections.on_shaken(c, ok, actions);
         self.end
     }
 
@@ -75,7 +75,7 @@ impl Core {
         requires { MayStep self.old (Event.Finished c) actions.old }
         ensures { Steps self.old self.new (Event.Finished c) actions.old actions.new result }
     {
-        self.connections.take_finished(c);
+        self.connections.on_finished(c);
         self.end
     }
 }

@@ -43,9 +43,9 @@ impl Core {
     {
         if self.is_eager() {
             self.boot.begin(&self.plan, self.drain.moment(), actions);
-            return self.finish(None, actions);
+            return self.settle(None, actions);
         }
-        self.finish(None, actions)
+        self.settle(None, actions)
     }
 
     /// Nothing is told: what came says how the run goes on.
@@ -83,7 +83,7 @@ impl Core {
         ensures { Steps self.old self.new (Event.Side Side.Child) actions.old actions.new result }
     {
         self.boot
-            .take_side(&self.plan, Side::Child, self.drain.moment());
+            .on_side(&self.plan, Side::Child, self.drain.moment());
         self.bootstrap(actions)
     }
 
@@ -93,7 +93,7 @@ impl Core {
         ensures { Steps self.old self.new (Event.Side Side.Parent) actions.old actions.new result }
     {
         self.boot
-            .take_side(&self.plan, Side::Parent, self.drain.moment());
+            .on_side(&self.plan, Side::Parent, self.drain.moment());
         self.hold()
     }
 
@@ -102,7 +102,7 @@ impl Core {
         requires { MayStep self.old Event.ChildReady actions.old }
         ensures { Steps self.old self.new Event.ChildReady actions.old actions.new result }
     {
-        self.boot.take_child_ready();
+        self.boot.on_child_ready();
         self.hold()
     }
 
@@ -112,7 +112,7 @@ impl Core {
         requires failure { is_parent_failure (Got event.now) ≡ true }
         ensures { Steps self.old self.new event.now actions.old actions.new result }
     {
-        self.boot.take_parent_failure();
+        self.boot.on_parent_failure();
         self.hold()
     }
 
@@ -123,7 +123,7 @@ impl Core {
         requires held { is_free self.old.plan self.old.boot.fork ≡ false }
         ensures { Steps self.old self.new (Event.Moment ms) actions.old actions.new result }
     {
-        self.drain.take_moment(ms);
+        self.drain.on_moment(ms);
         self.boot.wait_on(&self.plan, ms);
         self.hold()
     }

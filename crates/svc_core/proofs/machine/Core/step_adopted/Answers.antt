@@ -8,16 +8,16 @@ use Rattle.svc_core.proofs.machine.Core.step_adopted.Goals as goal
 
 pub returns : goal.returns
 returns c = opened c.self.view_is c.requires (λ may.
-    let same = ap (λ (table : List Open). length table) c.take_adopted.ensures.table in
-    gives-up c.finish.ensures refl refl (record { few = omega (arith, same); room = omega (arith, same) })
+    let same = ap (λ (table : List Open). length table) c.on_adopted.ensures.table in
+    gives-up c.settle.ensures refl refl (record { few = omega (arith, same); room = omega (arith, same) })
     (strike-answer _ (Adopted c.args.s c.args.i) _ _ _ may.on refl refl refl refl refl (λ q stands. fits-adopt _ q c.args.s c.args.i may.on may.may stands)
-    (silently _ _ _ _ _ (Adopted c.args.s c.args.i) _ c.take_adopted.ensures.stands)))
+    (silently _ _ _ _ _ (Adopted c.args.s c.args.i) _ c.on_adopted.ensures.stands)))
 
 pub invariant_of-self : goal.invariant_of-self
 invariant_of-self c = record {
   formed = search rules;
-  watched = watched-held c.self.inside.plan c.self.inside.order.items c.self.inside.starts c.self.inside.endpoints.parts c.take_adopted.new.self.parts c.args.s c.self.inside.waits c.reopen.new.self
-      c.take_adopted.ensures.held c.take_adopted.ensures.others c.take_adopted.ensures.failed (rw c.deref.ensures.value at c.reopen.ensures) c.self.invariant.watched;
+  watched = watched-held c.self.inside.plan c.self.inside.order.items c.self.inside.starts c.self.inside.endpoints.parts c.on_adopted.new.self.parts c.args.s c.self.inside.waits c.reopen.new.self
+      c.on_adopted.ensures.held c.on_adopted.ensures.others c.on_adopted.ensures.failed (rw c.deref.ensures.value at c.reopen.ensures) c.self.invariant.watched;
 }
 
 pub reopen-requires : goal.reopen-requires

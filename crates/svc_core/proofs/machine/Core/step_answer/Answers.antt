@@ -5,12 +5,12 @@ use Rattle.svc_core.proofs.WaitsLemmas.{watched-same}
 use Rattle.svc_core.proofs.machine.Core.step_answer.Goals as goal
 
 pub returns-then-is_some : goal.returns-then-is_some
-returns-then-is_some c = opened c.self.view_is c.requires.may (λ may. gives-up c.finish.ensures refl refl (record { few = omega arith; room = omega arith })
+returns-then-is_some c = opened c.self.view_is c.requires.may (λ may. gives-up c.settle.ensures refl refl (record { few = omega arith; room = omega arith })
     (strike-ends _ c.args.answer may.on (awaited-row _ c.args.answer may.may) _ (rw c.moment.ensures at c.take.ensures.after) (rw c.moment.ensures at c.take.ensures.stands)
     _ _ _ c.over_since.result c.over_since.ensures (sym c.is_some.ensures ∙ c.if-is_some.true) c.requires.rests c.release.ensures.stands))
 
 pub returns : goal.returns
-returns c = opened c.self.view_is c.requires.may (λ may. silently-taken c.finish-2.ensures refl refl (omega arith)
+returns c = opened c.self.view_is c.requires.may (λ may. silently-taken c.settle-2.ensures refl refl (omega arith)
     (strike-rests _ c.args.answer may.on (awaited-row _ c.args.answer may.may) _ (rw c.moment.ensures at c.take.ensures.after) (rw c.moment.ensures at c.take.ensures.stands)
     c.over_since.result c.over_since.ensures (sym c.is_some.ensures ∙ c.if-is_some.false) c.requires.rests))
 

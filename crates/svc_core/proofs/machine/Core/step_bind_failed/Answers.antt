@@ -10,23 +10,23 @@ use Rattle.svc_core.proofs.WaitsLemmas.{order-apart, watched-answer}
 use Rattle.svc_core.proofs.machine.Core.step_bind_failed.Goals as goal
 
 pub returns : goal.returns
-returns c = opened c.self.view_is c.requires (λ may. gives-up c.finish.ensures refl refl (record { few = omega arith; room = omega arith })
+returns c = opened c.self.view_is c.requires (λ may. gives-up c.settle.ensures refl refl (record { few = omega arith; room = omega arith })
     (strike-answer _ (BindFailed c.args.s c.args.i) _ _ _ may.on refl refl refl refl refl (λ q stands. fits-bind _ q c.args.s c.args.i may.on may.may stands)
-    (timeless _ _ _ _ _ (BindFailed c.args.s c.args.i) _ _ (rw c.numbers_on_offer-kept.ensures at c.take_bind_failed.ensures.stands))))
+    (timeless _ _ _ _ _ (BindFailed c.args.s c.args.i) _ _ (rw c.numbers_on_offer-kept.ensures at c.on_bind_failed.ensures.stands))))
 
 pub mark_failed-requires : goal.mark_failed-requires
 mark_failed-requires c =
     let inside = subst (λ (core : CoreData). c.args.s < service_count core.plan) (sym c.self.view_is) c.requires.may.inside in
     let count = ap (λ (marks : List Bool). length marks) c.reopen.ensures.marks ∙ c.self.invariant.watched.count in
     let flags = ap (λ (failed : List Bool). length failed) c.failed.ensures in
-    let sized = c.take_bind_failed.ensures.sized.failed in
+    let sized = c.on_bind_failed.ensures.sized.failed in
     record { service = omega arith; flags = omega arith }
 
 pub invariant_of-self : goal.invariant_of-self
 invariant_of-self c = record {
   formed = search rules;
-  watched = watched-answer c.self.inside.plan c.self.inside.order.items c.self.inside.starts c.self.inside.endpoints.parts c.take_bind_failed.new.self.parts c.args.s c.self.inside.waits c.reopen.new.self c.mark_failed.new.self
-      (subst (λ (core : CoreData). c.args.s < service_count core.plan) (sym c.self.view_is) c.requires.may.inside) c.self.invariant.formed.endpoints c.take_bind_failed.ensures.failed c.take_bind_failed.ensures.held c.take_bind_failed.ensures.others
+  watched = watched-answer c.self.inside.plan c.self.inside.order.items c.self.inside.starts c.self.inside.endpoints.parts c.on_bind_failed.new.self.parts c.args.s c.self.inside.waits c.reopen.new.self c.mark_failed.new.self
+      (subst (λ (core : CoreData). c.args.s < service_count core.plan) (sym c.self.view_is) c.requires.may.inside) c.self.invariant.formed.endpoints c.on_bind_failed.ensures.failed c.on_bind_failed.ensures.held c.on_bind_failed.ensures.others
       (rw c.deref.ensures.value at c.reopen.ensures)
       (subst (λ (failed : List Bool). MarksIf (is_flagged failed c.args.s) c.args.s c.reopen.new.self c.mark_failed.new.self) c.failed.ensures c.mark_failed.ensures) c.self.invariant.watched;
 }

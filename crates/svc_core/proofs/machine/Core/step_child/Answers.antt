@@ -5,4 +5,4 @@ use Rattle.svc_core.proofs.machine.Core.step_child.Goals as goal
 
 pub returns : goal.returns
 returns c = opened c.self.view_is c.requires (λ may. child-begins c.bootstrap.ensures refl refl refl
-    (child-may _ _ may.on may.may c.take_side.ensures.after (rw c.moment.ensures at c.take_side.ensures.stands)))
+    (child-may _ _ may.on may.may c.on_side.ensures.after (rw c.moment.ensures at c.on_side.ensures.stands)))

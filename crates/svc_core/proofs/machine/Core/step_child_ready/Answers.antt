@@ -6,4 +6,4 @@ use Rattle.svc_core.proofs.machine.Core.step_child_ready.Goals as goal
 
 pub returns : goal.returns
 returns c = opened c.self.view_is c.requires (λ may. held c.hold.ensures.after c.hold.ensures.end refl refl refl c.self.invariant.formed.in_order
-    (ends-held _ ChildReady _ 0 refl refl refl (λ q. refl) may.on may.may c.take_child_ready.ensures.after (c.take_child_ready.ensures.stands c.self.inside.plan)))
+    (ends-held _ ChildReady _ 0 refl refl refl (λ q. refl) may.on may.may c.on_child_ready.ensures.after (c.on_child_ready.ensures.stands c.self.inside.plan)))

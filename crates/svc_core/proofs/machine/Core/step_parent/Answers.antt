@@ -5,4 +5,4 @@ use Rattle.svc_core.proofs.machine.Core.step_parent.Goals as goal
 
 pub returns : goal.returns
 returns c = opened c.self.view_is c.requires (λ may. held c.hold.ensures.after c.hold.ensures.end refl refl refl c.self.invariant.formed.in_order
-    (parent-held _ _ may.on may.may (rw c.moment.ensures at c.take_side.ensures.after) (rw c.moment.ensures at c.take_side.ensures.stands)))
+    (parent-held _ _ may.on may.may (rw c.moment.ensures at c.on_side.ensures.after) (rw c.moment.ensures at c.on_side.ensures.stands)))

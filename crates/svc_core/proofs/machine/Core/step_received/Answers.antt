@@ -8,6 +8,6 @@ returns c = opened c.self.view_is c.requires (λ may.
     let brought = may.may.few in
     let few = c.in_ok-good.ensures.few in
     let room = c.in_ok-good.ensures.room in
-    gives-up c.finish.ensures refl refl (record { few = omega (arith, brought, few); room = omega (arith, brought, room) })
-    (strike-received _ c.args.bytes.now c.args.fds.now c.in_ok-good.good _ _ _ _ may.on may.may c.in_ok-good.ensures.good c.take_received-2.ensures.after
-    (λ q. c.take_received-2.ensures.stands c.self.inside.plan q c.args.bytes.now c.args.fds.now c.in_ok-good.ensures.good) c.in_ok-good.ensures.stands))
+    gives-up c.settle.ensures refl refl (record { few = omega (arith, brought, few); room = omega (arith, brought, room) })
+    (strike-received _ c.args.bytes.now c.args.fds.now c.in_ok-good.good _ _ _ _ may.on may.may c.in_ok-good.ensures.good c.on_received-2.ensures.after
+    (λ q. c.on_received-2.ensures.stands c.self.inside.plan q c.args.bytes.now c.args.fds.now c.in_ok-good.ensures.good) c.in_ok-good.ensures.stands))

@@ -1,7 +1,7 @@
 use Rattle.std.proofs.Common.{rules, ◌≡◌, ◌<◌, ◌∙◌, ap, subst, sym, ℕ}
 use mathlib.Core.Option.{none}
 use Rattle.atomic_table.specs.Table.{step}
-use Rattle.svc_shared.specs.declared.view.Hand.{Hand}
+use Rattle.svc_shared.specs.declared.view.SeatView.{SeatView}
 use Rattle.svc_shared.specs.Views.{Mine}
 use Rattle.svc_shared.proofs.StepLemmas.{looks}
 use Rattle.svc_shared.proofs.PassSteps.{cuts}
@@ -17,8 +17,8 @@ split_seat-second-requires c =
     let two : c.args.place.me.0.hand.low < c.args.place.me.0.hand.high = subst (λ (p : ℕ × ℕ). p.0 < p.1) (λ i. (c.requires.low i, c.requires.high i)) c.requires.two in (
       search rules,
       search rules,
-      cuts c.args.self.now.board.shared.key.value _ c.load.new.seat.me.0 (ap (λ (h : Hand). h.spent) hand ∙ c.requires.idle.live) c.args.number (ap (λ (h : Hand). h.drawn) hand ∙ c.requires.drawn)
-          (subst (λ (h : Hand). h.low < h.high) (sym hand) two),
+      cuts c.args.self.now.board.shared.key.value _ c.load.new.seat.me.0 (ap (λ (h : SeatView). h.spent) hand ∙ c.requires.idle.live) c.args.number (ap (λ (h : SeatView). h.drawn) hand ∙ c.requires.drawn)
+          (subst (λ (h : SeatView). h.low < h.high) (sym hand) two),
     )
 
 pub returns-clause-cut : goal.returns-clause-cut

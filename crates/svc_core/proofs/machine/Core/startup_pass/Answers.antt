@@ -1,0 +1,52 @@
+use Rattle.std.proofs.Common.{refl, sym, ◌∙◌, arith, Bool, List, subst}
+use Rattle.svc_base.specs.Items.{list_of}
+use Rattle.svc_core.proofs.CopyLemmas.{bare-none}
+use Rattle.svc_core.proofs.FinishLemmas.{start-up, start-none}
+use Rattle.svc_core.proofs.GoForms.{opened-visits}
+use Rattle.std.specs.Bool.{OnTrue}
+use Rattle.svc_core.specs.WaitsState.{KnowsReady}
+use Rattle.svc_core.proofs.WaitsLemmas.{known-caught, watched-known}
+use Rattle.svc_core.proofs.machine.Core.startup_pass.Goals as goal
+
+pub returns-then-may_start : goal.returns-then-may_start
+returns-then-may_start c =
+    opened-visits c.self.view_is (record {
+      plan = refl;
+      order = refl;
+      table = c.pass.ensures.table;
+      connections = refl;
+      kept = start-up _ c.pass.new.starts c.pass.new.endpoints.parts c.pass.new.boot (list_of c.args.actions.now) (list_of c.pass.new.actions)
+          (rw (← c.self.view_is) at (sym c.may_start.ensures ∙ c.if-may_start.true)) (rw c.deref.ensures.value at c.pass.ensures.passed);
+      bare = c.pass.ensures.bare;
+      spends =
+          let few = rw c.deref.ensures.value at c.pass.ensures.spends.few in
+          let room = rw c.deref.ensures.value at c.pass.ensures.spends.room in
+          record { few = omega (arith, few); room = omega (arith, room) };
+    })
+
+pub returns-else-may_start : goal.returns-else-may_start
+returns-else-may_start c = record {
+  plan = refl;
+  order = refl;
+  table = refl;
+  connections = refl;
+  kept = start-none c.args.self.now (list_of c.args.actions.now) (sym c.may_start.ensures ∙ c.if-may_start.false);
+  bare = bare-none (list_of c.args.actions.now);
+  spends = record { few = omega arith; room = omega arith };
+}
+
+pub pass-requires-clause-known : goal.pass-requires-clause-known
+pass-requires-clause-known c =
+    rw c.deref.ensures.value
+    (known-caught c.self.inside.plan c.self.inside.order.items c.self.inside.starts c.self.inside.endpoints.parts c.self.inside.boot.complete c.self.inside.waits c.catch_up.new.self c.self.invariant.watched
+    c.catch_up.ensures.opens (c.catch_up.ensures.complete ∙ c.is_complete.ensures) (rw (c.failed.ensures, c.is_complete.ensures) at c.catch_up.ensures.ready))
+
+pub invariant_of-self : goal.invariant_of-self
+invariant_of-self c = record {
+  formed = rw c.deref.ensures.value at c.pass.ensures.formed;
+  watched = watched-known c.self.inside.plan c.self.inside.order.items c.pass.new.starts c.pass.new.endpoints.parts c.pass.new.boot.complete c.pass.new.waits (rw c.deref.ensures.value at c.pass.ensures.known);
+}
+
+pub catch_up-requires-clause-watched : goal.catch_up-requires-clause-watched
+catch_up-requires-clause-watched c =
+    subst (λ (failed : List Bool). OnTrue c.self.inside.waits.fresh (KnowsReady c.self.inside.plan c.self.inside.starts failed c.self.inside.waits.complete c.self.inside.waits)) (sym c.failed.ensures) c.self.invariant.watched.ready

@@ -1,5 +1,0 @@
-use Rattle.svc_drain.proofs.GoingOn.{after-gone_on}
-use Rattle.svc_drain.proofs.drain.Drain.go_on.Goals as goal
-
-pub returns-clause-stands : goal.returns-clause-stands
-returns-clause-stands c = λ p q stand. after-gone_on p c.args.self.now c.tell_next.new.self c.args.over q c.tell_next.ensures.after stand

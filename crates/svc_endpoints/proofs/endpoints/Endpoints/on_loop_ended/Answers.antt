@@ -1,0 +1,17 @@
+use Rattle.std.proofs.Common.{ap, ◌∙◌}
+use Rattle.svc_base.specs.Items.{list_of}
+use Rattle.svc_endpoints.proofs.EndedLemmas.{tells-ended, few-ended}
+use Rattle.svc_endpoints.proofs.StaysLemmas.{held-same}
+use Rattle.svc_endpoints.specs.EndpointsData.{EndpointsData}
+use Rattle.svc_endpoints.proofs.endpoints.Endpoints.on_loop_ended.Goals as goal
+
+pub returns-clause-stands : goal.returns-clause-stands
+returns-clause-stands c = tells-ended c.args.plan.now c.args.self.now.parts c.end_loop.new.self.parts c.close_drained.new.self.parts c.args.s c.args.i c.args.j c.args.kept.now (list_of c.args.actions.now) (list_of c.close_drained.new.actions)
+    c.end_loop.ensures c.close_drained.ensures.after c.close_drained.ensures.told c.requires.sized
+
+pub returns-clause-few : goal.returns-clause-few
+returns-clause-few c = few-ended c.args.plan.now c.args.self.now.parts c.end_loop.new.self.parts c.close_drained.new.self.parts c.args.s c.args.i c.args.j c.args.kept.now (list_of c.args.actions.now) (list_of c.close_drained.new.actions)
+    c.end_loop.ensures c.close_drained.ensures.after c.close_drained.ensures.told
+
+pub returns-clause-held : goal.returns-clause-held
+returns-clause-held c = held-same c.args.self.now.parts c.close_drained.new.self.parts (ap (λ (m : EndpointsData). m.rows) c.close_drained.ensures.after ∙ ap (λ (m : EndpointsData). m.rows) c.end_loop.ensures)
