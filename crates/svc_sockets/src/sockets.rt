@@ -49,6 +49,11 @@ pub enum NextRefused {
 }
 
 impl From<NoMemory> for NextRefused {
+    ghost use Rattle.std.specs.Prelude.{◌≡◌};
+    ghost use Rattle.svc_sockets.specs.declared.sockets.NextRefused.TheVariants.{NoMemory};
+
+    ghost from_gives = { λ _ refused. refused ≡ NoMemory };
+
     fn from(_: NoMemory) -> Self {
         NextRefused::NoMemory
     }
