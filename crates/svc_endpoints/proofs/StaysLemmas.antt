@@ -1,17 +1,19 @@
--- What an answer or a visit leaves of the flags of failed services, of what is held, and of the states of the other services.
-use Rattle.std.proofs.Common.{ℕ, Bool, true, false, inl, inr, List, [], ◌≡◌, refl, ap, sym, ◌∙◌, subst, arith, ◌<◌, length, Option, Some, None, slice_set, slice_index_or, if◌then◌else◌}
+-- What an answer or a visit leaves of the flags of failed services, of what is held, of the states of the other services, and of addresses without a live descriptor.
+use Rattle.std.proofs.Common.{ℕ, Bool, true, false, not, ◌&&◌, ◌==◌, inl, inr, List, [], ◌∷◌, filter, ◌≡◌, refl, ap, sym, ◌∙◌, subst, arith, ◌<◌, length, Option, Some, None, slice_set, slice_index_or, if◌then◌else◌}
 use Rattle.std.proofs.lemmas.Bool.{cases_Bool, ne_eqb}
 use Rattle.svc_record.specs.declared.plan.Plan.{Plan}
-use Rattle.svc_record.specs.Plans.{service_count, endpoints, address, any_with}
+use Rattle.svc_record.specs.Plans.{service_count, endpoints, address, same_address, any_with}
+use Rattle.svc_endpoints.specs.declared.states.EndpointStatus.{EndpointStatus}
 use Rattle.svc_endpoints.specs.declared.states.EndpointStatus.TheVariants.{Idle, Binding, Adopting, Holding, AdoptionFailed}
 use Rattle.svc_endpoints.specs.declared.states.EndpointState.{EndpointState}
+use Rattle.svc_endpoints.specs.declared.table.Open.{Open}
 use Rattle.svc_endpoints.specs.declared.visit.Visit.{Visit}
 use Rattle.svc_endpoints.specs.declared.visit.Visit.TheVariants.{Nothing, Binds, Adopts}
 use Rattle.svc_endpoints.specs.EndpointsData.{EndpointsData}
 use Rattle.svc_endpoints.specs.EndpointsState.{IsEndpointsSized, last_at, failed_at, is_binding, is_adopting, is_asking, is_holding, times_in_use_at, numbers_with}
-use Rattle.svc_endpoints.specs.Effects.{first_of, put, fail_if, refused, is_last_refusal, bind_failed, adopt_failed, adopted, held_now, cleared_if, bound_or_again}
+use Rattle.svc_endpoints.specs.Effects.{first_of, has_open, goes, put, fail_if, refused, is_last_refusal, bind_failed, adopt_failed, adopted, held_now, cleared_if, bound_or_again}
 use Rattle.svc_endpoints.specs.Visits.{IsDecided, IsFirst, IsWithin, busy_in, adopt_or_bind, decide_at, after}
-use Rattle.svc_endpoints.specs.Stays.{FailsOnly, StaysHeld, OthersStay}
+use Rattle.svc_endpoints.specs.Stays.{FailsOnly, StaysHeld, StaysUnheld, OthersStay, GainsNone}
 use Rattle.svc_endpoints.proofs.OneLemmas.{binding_asks}
 use Rattle.svc_endpoints.proofs.KeptLemmas.{asking_not_holding, adopting_asks}
 use Rattle.svc_endpoints.proofs.ChangeLemmas.{Changed, changed-put}
@@ -160,3 +162,58 @@ pub others-visit : (p : Plan) (d : EndpointsData) (s : ℕ) → IsEndpointsSized
 others-visit p d s sized inside Nothing within = λ t k ne. refl
 others-visit p d s sized inside (Binds i) within = others-put p d s i sized inside within false (record { last = Binding; times_in_use = times_in_use_at d s i })
 others-visit p d s sized inside (Adopts i fd) within = others-put p d s i sized inside within false (record { last = Adopting fd; times_in_use = times_in_use_at d s i })
+
+-- what isn't held by them
+unheld_if : (c : Bool) (x y : EndpointStatus) → is_holding x ≡ false → is_holding y ≡ false → is_holding (if c then x else y) ≡ false
+unheld_if true x y h g = h
+unheld_if false x y h g = g
+
+unheld-then : (d e f : EndpointsData) → StaysUnheld d e → f.rows ≡ e.rows → StaysUnheld d f
+unheld-then d e f h same t k off = ap (λ (r : List (List EndpointState)). is_holding (last_at (record d { rows = r }) t k)) same ∙ h t k off
+
+pub unheld-answer : (p : Plan) (d mid made new : EndpointsData) (b : Bool) (keep : List ℕ) → made ≡ mid → new ≡ cleared_if b p keep made → StaysUnheld d mid → StaysUnheld d new
+unheld-answer p d mid made new b keep is left h =
+    unheld-then d mid new h (ap (λ (m : EndpointsData). m.rows) left ∙ rows_cleared b p keep made ∙ ap (λ (m : EndpointsData). m.rows) is)
+
+module _ (p : Plan) (d : EndpointsData) (s i : ℕ) (sized : IsEndpointsSized p d) (inside : s < service_count p) (within : i < length (endpoints p s)) where
+  pub unheld-put : (b : Bool) (x : EndpointState) → is_holding x.last ≡ false → StaysUnheld d (fail_if b s (put d s i x))
+  unheld-put b x free t k off =
+      ap is_holding (last_at-fail b s (put d s i x) t k ∙ last_at-put d s i x (omega (arith, sized.services)) (omega (arith, sized.each s inside)) t k)
+      ∙ unheld_if (s == t && i == k) x.last (last_at d t k) free off
+
+  pub unheld-refused : (moment : ℕ) → StaysUnheld d (refused p d s i moment)
+  unheld-refused moment = unheld-put (is_last_refusal p d s i) _ refl
+
+  pub unheld-bind_failed : StaysUnheld d (bind_failed d s i)
+  unheld-bind_failed = unheld-put true (record { last = Idle; times_in_use = times_in_use_at d s i }) refl
+
+  pub unheld-adopt_failed : StaysUnheld d (adopt_failed d s i)
+  unheld-adopt_failed = unheld-put true (record { last = AdoptionFailed; times_in_use = times_in_use_at d s i }) refl
+
+pub unheld-visit : (p : Plan) (d : EndpointsData) (s : ℕ) → IsEndpointsSized p d → s < service_count p → (v : Visit) → IsWithin p s v → StaysUnheld d (after d s v)
+unheld-visit p d s sized inside Nothing within = λ t k off. off
+unheld-visit p d s sized inside (Binds i) within = unheld-put p d s i sized inside within false (record { last = Binding; times_in_use = times_in_use_at d s i }) refl
+unheld-visit p d s sized inside (Adopts i fd) within = unheld-put p d s i sized inside within false (record { last = Adopting fd; times_in_use = times_in_use_at d s i }) refl
+
+-- a part of the table has no address that the table hasn't
+open_left : (f : Open → Bool) (table : List Open) (a : Option (List ℕ)) → has_open table a ≡ false → has_open (filter f table) a ≡ false
+open_left f [] a none = refl
+open_left f (o ∷ more) a none = elim (cases_Bool (same_address o.address a)) [
+  | inl y ↦ absurd (let no = rw y at none in cc)
+  | inr n ↦ (let rest = open_left f more a (rw n at none) in elim (cases_Bool (f o)) [
+    | inl kept ↦ rw (kept, n) rest
+    | inr gone ↦ rw gone rest
+  ])
+]
+
+pub gains-filter : (d new : EndpointsData) (f : Open → Bool) → new.table ≡ filter f d.table → GainsNone d new
+gains-filter d new f is a none = ap (λ table. has_open table a) is ∙ open_left f d.table a none
+
+gains_cleared : (b : Bool) (p : Plan) (keep : List ℕ) (d : EndpointsData) → GainsNone d (cleared_if b p keep d)
+gains_cleared true p keep d a none = open_left (λ (o : Open). not (goes p keep d o)) d.table a none
+gains_cleared false p keep d a none = none
+
+pub gains-answer : (p : Plan) (d mid made new : EndpointsData) (b : Bool) (keep : List ℕ) → made ≡ mid → new ≡ cleared_if b p keep made → mid.table ≡ d.table → GainsNone d new
+gains-answer p d mid made new b keep is left same a none =
+    ap (λ (m : EndpointsData). has_open m.table a) left
+    ∙ gains_cleared b p keep made a (ap (λ (m : EndpointsData). has_open m.table a) is ∙ ap (λ table. has_open table a) same ∙ none)

@@ -27,6 +27,8 @@ use Rattle.svc_endpoints.specs.Effects.{first_of, not_empty, put_last, asked, of
 use Rattle.svc_endpoints.specs.Loops.{has_loop}
 use Rattle.svc_endpoints.proofs.OpenedLemmas.{live-pair}
 use Rattle.svc_endpoints.specs.Visits.{IsAskOf, busy_in, IsFirst, IsDecided, decide_at, after, told_by, Visited}
+use Rattle.svc_endpoints.specs.Rests.{SharesWith}
+use Rattle.svc_endpoints.proofs.BusyLemmas.{one-with}
 use Rattle.svc_endpoints.proofs.GoneLemmas.{loops-told, is_gone_now, closed-is}
 use Rattle.svc_endpoints.proofs.LoopLemmas.{no_loops}
 use Rattle.svc_endpoints.proofs.UseLemmas.{drained-is, used-not_drained}
@@ -59,6 +61,10 @@ right_by_wait p q s j i e le w = or_right (not (is_at_work p q s)) (holds p q s 
 late_by_wait : (p : Plan) (q : Record) (s j i : ℕ) → first_missing p q s (endpoint_numbers p s) ≡ Some j → j ≤ i → waits_at p q s j ≡ true → endpoint_right_late p q s i ≡ true
 late_by_wait p q s j i e le w = or_right (not (is_at_work p q s)) (is_held p q s i || waits p q s i) (or_right (is_held p q s i) (waits p q s i)
     (rw e (and_from (nat_le j i) (waits_at p q s j) (le_true j i le) w)))
+
+first_none : (xs : List ℕ) → not_empty xs ≡ false → first_of xs ≡ None
+first_none [] e = refl
+first_none (x ∷ xs) e = absurd (cc)
 
 none_first : (xs : List ℕ) → first_of xs ≡ None → not_empty xs ≡ false
 none_first [] e = refl
@@ -317,6 +323,14 @@ module _ (p : Plan) (d : EndpointsData) (s : ℕ) (q : Record) (sized : IsEndpoi
   -- an ask of the service is open, so its visit tells nothing
   pub visited-asked : (j : ℕ) → j < length (endpoints p s) → is_asking (last_at d s j) ≡ true → Visited p d s q []
   visited-asked j within asks = visited-open (kept.asking_free s j asks) j (record { within = within; missing = asking_not_holding (last_at d s j) asks; earlier = λ k lt. kept.turn s j k asks lt }) asks
+
+  -- its first endpoint that isn't held has an address that is kept busy, so its visit tells nothing
+  pub visited-shared : (t : ℕ) → t < service_count p → (x : SharesWith p d s t) → busy_in d (now q) t x.other ≡ true → Visited p d s q []
+  visited-shared t within x busy = elim (cases_Bool (failed_at d s)) [
+    | inl bad ↦ visited-failed bad
+    | inr free ↦ visited-busy free x.at x.first (first_none (numbers_with d.table (address p s x.at)) x.none)
+        (one-with p (address p s x.at) (busy_in d (now q)) t x.other within x.other_first.within (and_from (same_address (address p t x.other) (address p s x.at)) (busy_in d (now q) t x.other) x.same busy))
+  ]
 
   pub leaves-on : (v : Visit) → IsDecided p d s true (now q) v → Visited p (after d s v) s q (told_by s v)
   leaves-on v decided = elim (cases_Bool (failed_at d s)) [

@@ -9,3 +9,4 @@ pub mod Foreign
 pub mod Offered
 pub mod Marks
 pub mod Stays
+pub mod Rests

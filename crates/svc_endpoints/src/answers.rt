@@ -21,7 +21,7 @@ ghost use Rattle.svc_endpoints.specs.EndpointsState.{IsEndpointsSized, Endpoints
 ghost use Rattle.svc_endpoints.specs.Foreign.{is_endpoints_event};
 ghost use Rattle.svc_endpoints.specs.Effects.{is_last_refusal, refused, bind_failed, adopt_failed, adopted, bound_or_again, has_open, cleared_if, given_up_if, close_told, drains_at, drained_out, drained_numbers};
 ghost use Rattle.svc_endpoints.specs.Loops.{has_loop};
-ghost use Rattle.svc_endpoints.specs.Stays.{FailsOnly, StaysHeld, OthersStay};
+ghost use Rattle.svc_endpoints.specs.Stays.{FailsOnly, StaysHeld, StaysUnheld, OthersStay, GainsNone};
 ghost use Rattle.svc_endpoints.specs.Uses.{serves_by, accepts_by};
 
 use crate::endpoints::Endpoints;
@@ -88,6 +88,8 @@ impl Endpoints {
         ensures few { length (list_of actions.new) + length self.new.parts.table ≤ length (list_of actions.old) + length self.old.parts.table + 2 }
         ensures failed { FailsOnly s self.old.parts.failed self.new.parts.failed }
         ensures held { StaysHeld self.old.parts self.new.parts }
+        ensures unheld { StaysUnheld self.old.parts self.new.parts }
+        ensures gains { GainsNone self.old.parts self.new.parts }
         ensures others { OthersStay s self.old.parts self.new.parts }
     {
         let fails = self.refuse(plan, s, i, moment);
@@ -117,6 +119,8 @@ impl Endpoints {
         ensures few { length (list_of actions.new) + length self.new.parts.table ≤ length (list_of actions.old) + length self.old.parts.table + 2 }
         ensures failed { FailsOnly s self.old.parts.failed self.new.parts.failed }
         ensures held { StaysHeld self.old.parts self.new.parts }
+        ensures unheld { StaysUnheld self.old.parts self.new.parts }
+        ensures gains { GainsNone self.old.parts self.new.parts }
         ensures others { OthersStay s self.old.parts self.new.parts }
     {
         self.end_bind(plan, s, i);
@@ -162,6 +166,8 @@ impl Endpoints {
         ensures few { length (list_of actions.new) + length self.new.parts.table ≤ length (list_of actions.old) + length self.old.parts.table + 2 }
         ensures failed { FailsOnly s self.old.parts.failed self.new.parts.failed }
         ensures held { StaysHeld self.old.parts self.new.parts }
+        ensures unheld { StaysUnheld self.old.parts self.new.parts }
+        ensures gains { GainsNone self.old.parts self.new.parts }
         ensures others { OthersStay s self.old.parts self.new.parts }
     {
         self.end_adopt(plan, s, i);
@@ -191,6 +197,7 @@ impl Endpoints {
         ensures room { spare actions.old + length self.new.parts.table ≤ spare actions.new + length self.old.parts.table }
         ensures few { length (list_of actions.new) + length self.new.parts.table ≤ length (list_of actions.old) + length self.old.parts.table }
         ensures held { StaysHeld self.old.parts self.new.parts }
+        ensures gains { GainsNone self.old.parts self.new.parts }
         ensures rows { self.new.parts.rows ≡ self.old.parts.rows }
     {
         self.end_loop(s, i, j);
@@ -305,6 +312,7 @@ impl Endpoints {
         ensures room { spare actions.old + length self.new.parts.table ≤ spare actions.new + length self.old.parts.table }
         ensures few { length (list_of actions.new) + length self.new.parts.table ≤ length (list_of actions.old) + length self.old.parts.table }
         ensures held { StaysHeld self.old.parts self.new.parts }
+        ensures gains { GainsNone self.old.parts self.new.parts }
         ensures rows { self.new.parts.rows ≡ self.old.parts.rows }
     {
         self.clear(plan, &[], actions);

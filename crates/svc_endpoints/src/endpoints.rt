@@ -36,7 +36,7 @@ pub struct Endpoints {
     loops: Loops,
     table: Table,
     came: NumberSet,
-    last_asked: (usize, usize),
+    last_asked: (u32, u32),
 }
 
 impl Model for Endpoints {
@@ -252,12 +252,12 @@ impl Endpoints {
     }
 
     /// The endpoint that was asked for last. Nothing is claimed of it.
-    pub(crate) fn last_asked(&self) -> (usize, usize) {
+    pub(crate) fn last_asked(&self) -> (u32, u32) {
         self.last_asked
     }
 
     /// The endpoint is asked for.
-    pub(crate) fn note_asked(&mut self, s: usize, i: usize)
+    pub(crate) fn note_asked(&mut self, s: u32, i: u32)
         ensures { self.new ≡ self.old }
     {
         self.last_asked = (s, i);

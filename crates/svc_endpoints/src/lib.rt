@@ -10,6 +10,7 @@ mod marks;
 mod message;
 mod naming;
 mod received;
+mod rests;
 mod states;
 mod table;
 mod tallies;
@@ -17,3 +18,4 @@ mod uses;
 mod visit;
 
 pub use endpoints::Endpoints;
+pub use rests::Standing;

@@ -1,6 +1,6 @@
 //! What became of endpoints.
 
-ghost use Rattle.std.specs.Prelude.{◌≡◌, ◌<◌, ◌≤◌, [], length, ℕ, true, false, slice_index_or, slice_set, vec_len, IfOk, ◌+◌, ◌^◌, ◌≢◌};
+ghost use Rattle.std.specs.Prelude.{◌≡◌, ◌<◌, ◌≤◌, [], length, ℕ, true, false, slice_index_or, slice_set, vec_len, IfOk, IfSome, ◌+◌, ◌^◌, ◌≢◌};
 ghost use Rattle.svc_record.specs.declared.plan.Plan.{Plan};
 ghost use Rattle.svc_record.specs.Plans.{service_count, endpoints};
 ghost use Rattle.svc_endpoints.specs.declared.states.EndpointStatus.TheVariants.{Idle};
@@ -209,6 +209,23 @@ pub(crate) fn is_busy(failed: bool, moment: u64, last: EndpointStatus) -> bool
         EndpointStatus::Binding | EndpointStatus::Adopting(_) => true,
         EndpointStatus::AddressInUse(at) => !failed && moment.saturating_sub(at) < REST,
         _ => false,
+    }
+}
+
+/// The last moment of the rest that lasts at this one.
+pub(crate) fn rest_end(moment: u64, last: EndpointStatus) -> Option<u64>
+    ensures lasts { IfSome result (λ end. moment ≤ end) }
+    ensures busy { IfSome result (λ end. (m : ℕ) → m ≤ end → busy_of false m last ≡ true) }
+{
+    match last {
+        EndpointStatus::AddressInUse(at) => {
+            if moment.saturating_sub(at) < REST {
+                Some(at.saturating_add(REST - 1))
+            } else {
+                None
+            }
+        }
+        _ => None,
     }
 }
 

@@ -7,7 +7,7 @@ ghost use Rattle.svc_record.specs.Record.{Record, now};
 ghost use Rattle.svc_record.specs.Starts.{is_started};
 ghost use Rattle.svc_record.specs.Told.{Tells};
 ghost use Rattle.svc_endpoints.specs.EndpointsState.{IsEndpointsSized, EndpointsStand};
-ghost use Rattle.svc_endpoints.specs.Stays.{StaysHeld, OthersStay};
+ghost use Rattle.svc_endpoints.specs.Stays.{StaysHeld, StaysUnheld, OthersStay};
 ghost use Rattle.svc_endpoints.specs.Visits.{busy_in, any_busy, decide_at, IsWithin, IsDecided, IsAskOf, Visited, told_by, after};
 
 use crate::endpoints::Endpoints;
@@ -43,6 +43,7 @@ impl Endpoints {
         ensures room { spare actions.old ≤ spare actions.new + 1 }
         ensures few { length (list_of actions.new) ≤ length (list_of actions.old) + 1 }
         ensures held { StaysHeld self.old.parts self.new.parts }
+        ensures unheld { StaysUnheld self.old.parts self.new.parts }
         ensures others { OthersStay s self.old.parts self.new.parts }
     {
         let visit = self.decide(plan, s, started, moment);
@@ -103,7 +104,7 @@ impl Endpoints {
         match visit {
             Visit::Nothing => {}
             Visit::Binds(i) => {
-                self.note_asked(s as usize, i as usize);
+                self.note_asked(s, i);
                 self.put_last(s as usize, i as usize, EndpointStatus::Binding);
                 actions.put(Action::Bind(s, i));
             }
@@ -135,6 +136,7 @@ impl Endpoints {
         ensures { result ≡ true → any_with plan.now (Some text.now) (busy_in self.now.parts moment) ≡ true }
     {
         let (s, i) = self.last_asked();
+        let (s, i) = (s as usize, i as usize);
         if s >= service_count(plan) || i >= endpoint_count(plan, s) {
             return false;
         }

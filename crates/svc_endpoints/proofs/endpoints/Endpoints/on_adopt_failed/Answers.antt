@@ -3,7 +3,7 @@ use Rattle.svc_base.specs.Items.{list_of}
 use Rattle.svc_record.specs.declared.event.Event.TheVariants.{AdoptFailed}
 use Rattle.svc_endpoints.specs.Effects.{adopt_failed}
 use Rattle.svc_endpoints.proofs.AnswerLemmas.{tells-answer, few-answer, after-adopt_failed}
-use Rattle.svc_endpoints.proofs.StaysLemmas.{fails-answer, held-answer, held-adopt_failed, others-answer, others-adopt_failed}
+use Rattle.svc_endpoints.proofs.StaysLemmas.{fails-answer, held-answer, held-adopt_failed, others-answer, others-adopt_failed, unheld-answer, unheld-adopt_failed, gains-answer}
 use Rattle.svc_endpoints.proofs.endpoints.Endpoints.on_adopt_failed.Goals as goal
 
 pub returns-clause-stands : goal.returns-clause-stands
@@ -28,3 +28,11 @@ returns-clause-held c = held-answer c.args.plan.now c.args.self.now.parts (adopt
 pub returns-clause-others : goal.returns-clause-others
 returns-clause-others c = others-answer c.args.plan.now c.args.self.now.parts (adopt_failed c.args.self.now.parts c.args.s c.args.i) c.end_adopt.new.self.parts c.give_up_if.new.self.parts true c.args.kept.now c.args.s
     c.end_adopt.ensures c.give_up_if.ensures.after (others-adopt_failed c.args.plan.now c.args.self.now.parts c.args.s c.args.i c.requires.sized c.requires.service c.requires.endpoint)
+
+pub returns-clause-unheld : goal.returns-clause-unheld
+returns-clause-unheld c = unheld-answer c.args.plan.now c.args.self.now.parts (adopt_failed c.args.self.now.parts c.args.s c.args.i) c.end_adopt.new.self.parts c.give_up_if.new.self.parts true c.args.kept.now
+    c.end_adopt.ensures c.give_up_if.ensures.after (unheld-adopt_failed c.args.plan.now c.args.self.now.parts c.args.s c.args.i c.requires.sized c.requires.service c.requires.endpoint)
+
+pub returns-clause-gains : goal.returns-clause-gains
+returns-clause-gains c = gains-answer c.args.plan.now c.args.self.now.parts (adopt_failed c.args.self.now.parts c.args.s c.args.i) c.end_adopt.new.self.parts c.give_up_if.new.self.parts true c.args.kept.now
+    c.end_adopt.ensures c.give_up_if.ensures.after refl

@@ -1,8 +1,10 @@
-use Rattle.std.proofs.Common.{ap, ◌∙◌}
+use Rattle.std.proofs.Common.{ap, not, ◌∙◌}
 use Rattle.svc_base.specs.Items.{list_of}
 use Rattle.svc_endpoints.proofs.EndedLemmas.{tells-ended, few-ended}
-use Rattle.svc_endpoints.proofs.StaysLemmas.{held-same}
+use Rattle.svc_endpoints.proofs.StaysLemmas.{held-same, gains-filter}
 use Rattle.svc_endpoints.specs.EndpointsData.{EndpointsData}
+use Rattle.svc_endpoints.specs.declared.table.Open.{Open}
+use Rattle.svc_endpoints.specs.Effects.{drains_at, has_open}
 use Rattle.svc_endpoints.proofs.endpoints.Endpoints.on_loop_ended.Goals as goal
 
 pub returns-clause-stands : goal.returns-clause-stands
@@ -15,3 +17,7 @@ returns-clause-few c = few-ended c.args.plan.now c.args.self.now.parts c.end_loo
 
 pub returns-clause-held : goal.returns-clause-held
 returns-clause-held c = held-same c.args.self.now.parts c.close_drained.new.self.parts (ap (λ (m : EndpointsData). m.rows) c.close_drained.ensures.after ∙ ap (λ (m : EndpointsData). m.rows) c.end_loop.ensures)
+
+pub returns-clause-gains : goal.returns-clause-gains
+returns-clause-gains c = λ a none. gains-filter c.end_loop.new.self.parts c.close_drained.new.self.parts (λ (o : Open). not (drains_at c.args.plan.now c.end_loop.new.self.parts c.args.s c.args.i o.fd))
+    (ap (λ (m : EndpointsData). m.table) c.close_drained.ensures.after) a (ap (λ (m : EndpointsData). has_open m.table a) c.end_loop.ensures ∙ none)

@@ -1,8 +1,10 @@
-use Rattle.std.proofs.Common.{ap}
+use Rattle.std.proofs.Common.{[], ap, not}
 use Rattle.svc_base.specs.Items.{list_of}
 use Rattle.svc_endpoints.proofs.ReleaseLemmas.{tells-release, few-release}
-use Rattle.svc_endpoints.proofs.StaysLemmas.{held-same}
+use Rattle.svc_endpoints.proofs.StaysLemmas.{held-same, gains-filter}
 use Rattle.svc_endpoints.specs.EndpointsData.{EndpointsData}
+use Rattle.svc_endpoints.specs.declared.table.Open.{Open}
+use Rattle.svc_endpoints.specs.Effects.{goes}
 use Rattle.svc_endpoints.proofs.endpoints.Endpoints.release.Goals as goal
 
 pub returns-clause-stands : goal.returns-clause-stands
@@ -13,3 +15,6 @@ returns-clause-few c = few-release c.args.plan.now c.args.self.now.parts c.clear
 
 pub returns-clause-held : goal.returns-clause-held
 returns-clause-held c = held-same c.args.self.now.parts c.clear.new.self.parts (ap (λ (m : EndpointsData). m.rows) c.clear.ensures.after)
+
+pub returns-clause-gains : goal.returns-clause-gains
+returns-clause-gains c = gains-filter c.args.self.now.parts c.clear.new.self.parts (λ (o : Open). not (goes c.args.plan.now [] c.args.self.now.parts o)) (ap (λ (m : EndpointsData). m.table) c.clear.ensures.after)

@@ -1,9 +1,9 @@
 use Rattle.std.proofs.Common.{sym, subst}
 use Rattle.svc_base.specs.Items.{list_of}
 use Rattle.svc_endpoints.proofs.VisitedLemmas.{tells-visit}
-use Rattle.svc_endpoints.proofs.StaysLemmas.{held-visit, others-visit}
+use Rattle.svc_endpoints.proofs.StaysLemmas.{held-visit, unheld-visit, others-visit}
 use Rattle.svc_endpoints.specs.EndpointsData.{EndpointsData}
-use Rattle.svc_endpoints.specs.Stays.{StaysHeld, OthersStay}
+use Rattle.svc_endpoints.specs.Stays.{StaysHeld, StaysUnheld, OthersStay}
 use Rattle.svc_endpoints.proofs.endpoints.Endpoints.visit.Goals as goal
 
 pub returns-clause-visited : goal.returns-clause-visited
@@ -17,3 +17,7 @@ returns-clause-held c = subst (λ (m : EndpointsData). StaysHeld c.args.self.now
 pub returns-clause-others : goal.returns-clause-others
 returns-clause-others c = subst (λ (m : EndpointsData). OthersStay c.args.s c.args.self.now.parts m) (sym c.tell_visit.ensures.after)
     (others-visit c.args.plan.now c.args.self.now.parts c.args.s c.requires.sized c.requires.service c.decide-visit.result c.decide-visit.ensures.within)
+
+pub returns-clause-unheld : goal.returns-clause-unheld
+returns-clause-unheld c = subst (λ (m : EndpointsData). StaysUnheld c.args.self.now.parts m) (sym c.tell_visit.ensures.after)
+    (unheld-visit c.args.plan.now c.args.self.now.parts c.args.s c.requires.sized c.requires.service c.decide-visit.result c.decide-visit.ensures.within)
