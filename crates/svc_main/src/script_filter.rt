@@ -5,15 +5,15 @@ ghost use Rattle.svc_text.specs.Filters.{is_blocked, blocked_lists};
 ghost use Rattle.svc_main.specs.BlockedLists.{blocked_by};
 
 use std::alloc::Global;
-use svc_base::{Items, NoMemory, copy_items};
-use svc_socket::{IpNumber, PeerAddr};
+use svc_base::NoMemory;
+use svc_socket::PeerAddr;
 use svc_streams::{ConnectionFilter, Filters};
-use svc_text::{ServiceLine, blocks, is_blocked};
+use svc_text::{BlockedAddrs, ServiceLine, blocks};
 
 /// A filter that refuses the connections of these addresses, and takes all others.
 #[derive(Drop)]
 pub(crate) struct ScriptFilter {
-    pub blocked: Items<IpNumber>,
+    pub blocked: BlockedAddrs,
 }
 
 impl ConnectionFilter for ScriptFilter {
@@ -21,8 +21,8 @@ impl ConnectionFilter for ScriptFilter {
 
     fn should_accept(&mut self, peer: Option<&PeerAddr>) -> bool {
         match peer {
-            Some(peer) => !is_blocked(self.blocked.as_slice(), Some(*peer)),
-            None => !is_blocked(self.blocked.as_slice(), None),
+            Some(peer) => !self.blocked.has(Some(*peer)),
+            None => !self.blocked.has(None),
         }
     }
 }
@@ -39,7 +39,7 @@ fn add_filter(
         return Ok(());
     }
     let filter = ScriptFilter {
-        blocked: copy_items(alloc, line.blocked.as_slice())?,
+        blocked: BlockedAddrs::new(alloc, line.blocked.as_slice())?,
     };
     match filters.add(alloc, filter) {
         Ok(_) => Ok(()),

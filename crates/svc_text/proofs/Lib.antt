@@ -20,3 +20,4 @@ pub mod FewLemmas
 pub mod ScriptLemmas
 pub mod FrontLemmas
 pub mod PlanLemmas
+pub mod BlockedLemmas

@@ -12,3 +12,4 @@ pub mod Dependencies
 pub mod Edges
 pub mod ScriptPlans
 pub mod Filters
+pub mod BlockedNumbers

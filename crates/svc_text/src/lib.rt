@@ -1,6 +1,7 @@
 //! The script that a run is read from, and the text of its record.
 #![tactic(auto)]
 
+mod blocked;
 mod conf_text;
 mod endpoint_lines;
 mod event_lines;
@@ -17,6 +18,7 @@ mod reading;
 mod refused;
 mod service;
 
+pub use blocked::BlockedAddrs;
 pub use endpoint_lines::EndpointLines;
 pub use event_lines::{event_of_line, item_of_line};
 pub use filters::{blocks, filter_number, is_blocked};
