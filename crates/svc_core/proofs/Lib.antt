@@ -1,5 +1,6 @@
 pub mod RecordLemmas
 pub mod StartsLemmas
+pub mod ParkedLemmas
 pub mod WaitsLemmas
 pub mod GoingLemmas
 pub mod PassLemmas

@@ -1,5 +1,5 @@
 -- What becomes of the places that a pass leaves out.
-use Rattle.std.proofs.Common.{ℕ, zero, suc, Bool, true, false, ◌||◌, ◌&&◌, not, ◌==◌, inl, inr, List, ◌≡◌, ◌≢◌, refl, ap, sym, ◌∙◌, subst, arith, ◌<◌, ◌≤◌, ◌+◌, length, length-set, take, slice_index}
+use Rattle.std.proofs.Common.{ℕ, zero, suc, Bool, true, false, ◌||◌, ◌&&◌, not, ◌==◌, inl, inr, List, ◌≡◌, ◌≢◌, refl, ap, sym, ◌∙◌, subst, arith, ◌<◌, ◌≤◌, ◌+◌, ◌*◌, length, length-set, min, take, slice_index}
 use Rattle.std.specs.Bool.{OnTrue}
 use Rattle.std.specs.List.{list_all}
 use Rattle.std.proofs.lemmas.Bool.{eq-eqb, ne_eqb, or_left, or_right, cases_eq, cases_lt, cases_Bool}
@@ -11,12 +11,16 @@ use Rattle.svc_record.specs.Plans.{service_count, depends, has_kind}
 use Rattle.svc_record.specs.Validity.{IsStartupOrder, is_listed}
 use Rattle.svc_endpoints.specs.EndpointsData.{EndpointsData}
 use Rattle.svc_endpoints.specs.EndpointsState.{IsEndpointsSized, failed_at, last_at, is_asking, is_holding}
-use Rattle.svc_endpoints.specs.Stays.{FailsOnly, StaysHeld, OthersStay}
+use Rattle.svc_endpoints.specs.Effects.{has_open}
+use Rattle.svc_endpoints.specs.Rests.{HasAll, IsBusyUntil, AsksFirst, RestsUntil, WaitsBehind}
+use Rattle.svc_endpoints.specs.Stays.{FailsOnly, StaysHeld, StaysUnheld, OthersStay, GainsNone}
+use Rattle.svc_endpoints.specs.Visits.{IsFirst}
 use Rattle.svc_core.specs.StartsData.{StartsData}
 use Rattle.svc_core.specs.StartsState.{IsStartsSized, is_flagged, ready_now, due_now, starts_now, start_if, word_taken, end_taken}
 use Rattle.svc_core.specs.WaitsData.{WaitsData}
-use Rattle.svc_core.specs.WaitsState.{IsUnmarked, IsWaiting, AsksNothing, AreApart, IsOpenOf, Reopens, IsIdle, AreIdle, KnowsReady, KnowsOthers, IsWatched, IsKnown, Opens, IsMarked, MarksIf, HasBits, Parks, ClosesDone, WaitsStill, StartsOnly, is_open}
+use Rattle.svc_core.specs.WaitsState.{IsUnmarked, IsWaiting, AsksNothing, AreApart, IsOpenOf, Reopens, StaysBusy, IsParked, IsIdle, AreIdle, KnowsReady, KnowsOthers, IsWatched, IsKnown, Opens, IsMarked, MarksIf, HasBits, JoinsRow, Frees, FreesAll, Wakes, ClosesPlace, LeavesPlace, Parks, ParksBehind, ParksResting, WaitsStill, StartsOnly, is_open, is_behind, is_parked, is_resting}
 use Rattle.svc_core.proofs.StartsLemmas.{flag-set}
+use Rattle.svc_core.proofs.ParkedLemmas.{first-one, parked-grown, parked-on, parked-started, parked-kept, parked-others, parked-rows}
 
 -- Boolean algebra, over plain variables
 and_clash : (a : Bool) → a ≡ true → a ≡ false → (A : Type 0) → A
@@ -30,7 +34,7 @@ all_at P xs at lt all = elim (cases_Bool (P (slice_index xs at))) [
 ]
 
 pub opens-none : (w : WaitsData) → Opens w w
-opens-none w = record { count = refl; kept = λ d on. on; waits = λ a b e. e; opened = λ d k off on waits. and_clash (is_flagged w.marks d) on off (is_open w k ≡ true) }
+opens-none w = record { count = refl; kept = λ d on. on; waits = λ a b e. e; opened = λ d k off on waits. and_clash (is_flagged w.marks d) on off (is_open w k ≡ true); until = refl }
 
 pub opens-then : (u v w : WaitsData) → Opens u v → Opens v w → Opens u w
 opens-then u v w first next = record {
@@ -42,6 +46,7 @@ opens-then u v w first next = record {
         | inl early ↦ subst (λ n. is_set w.bits n k ≡ true) (sym next.count) (next.waits (length v.marks) k (first.opened d k off early waits))
         | inr late ↦ next.opened d k late on (first.waits d k waits)
       ];
+  until = next.until ∙ first.until;
 }
 
 -- a service that was marked
@@ -73,6 +78,7 @@ opens-marked s w v lt m = record {
       ] in
       subst (λ n. is_set v.bits n k ≡ true) (sym (marked-count s w v m))
       (m.bits (length w.marks) k ∙ joined_on (is_set w.bits (length w.marks) k) (length w.marks == length w.marks) (is_set w.bits s k) (eq-eqb (length w.marks) (length w.marks) refl) here));
+  until = m.until;
 }
 
 -- a place that isn't open by then wasn't before
@@ -82,11 +88,12 @@ still_off u v k grown off = elim (cases_Bool (is_open u k)) [
   | inr was ↦ was
 ]
 
-pub opens-idle : (p : Plan) (order : List ℕ) (st : StartsData) (d : EndpointsData) (u v : WaitsData) → Opens u v → AreIdle p order st d u → AreIdle p order st d v
-opens-idle p order st d u v grown idle = λ k lt off.
+pub opens-idle : (p : Plan) (order : List ℕ) (st : StartsData) (d : EndpointsData) (from : ℕ) (u v : WaitsData) → Opens u v → AreIdle p order st d from u → AreIdle p order st d from v
+opens-idle p order st d from u v grown idle = λ k lt off.
     elim (idle k lt (still_off u v k grown off)) [
       | inl done ↦ inl done
-      | inr waits ↦ inr (waits.0, waiting (slice_index order k) k off waits.1)
+      | inr (inl waits) ↦ inr (inl (waits.0, waiting (slice_index order k) k off waits.1))
+      | inr (inr parked) ↦ inr (inr (parked.0, parked-grown p order st.started d from u v (slice_index order k) k grown.count grown.waits grown.until parked.1))
     ]
   where
     unmarked : (d k : ℕ) → is_open v k ≡ false → is_flagged u.marks d ≡ false → is_set u.bits d k ≡ true → is_flagged v.marks d ≡ false
@@ -117,24 +124,28 @@ not-due p st failed complete w s at count knows lacks = elim (cases_Bool (due_no
 ]
 
 -- a start of a service that was due leaves the others waiting
-idle_start : (p : Plan) (order : List ℕ) (st : StartsData) (d : EndpointsData) (failed : List Bool) (complete : Bool) (w : WaitsData) (s : ℕ) (starts : Bool) → s < length st.started → length w.marks ≡ service_count p → KnowsReady p st failed complete w
-    → (starts ≡ true → due_now p st failed complete s ≡ true) → AreIdle p order st d w → AreIdle p order (start_if starts s st) d w
-idle_start p order st d failed complete w s false lt count knows due idle = idle
-idle_start p order st d failed complete w s true lt count knows due idle = λ k inside off.
+idle_start : (p : Plan) (order : List ℕ) (st : StartsData) (d : EndpointsData) (failed : List Bool) (complete : Bool) (from : ℕ) (w : WaitsData) (s : ℕ) (starts : Bool) → s < length st.started → length w.marks ≡ service_count p → KnowsReady p st failed complete w
+    → (starts ≡ true → due_now p st failed complete s ≡ true) → AreIdle p order st d from w → AreIdle p order (start_if starts s st) d from w
+idle_start p order st d failed complete from w s false lt count knows due idle = idle
+idle_start p order st d failed complete from w s true lt count knows due idle = λ k inside off.
     elim (idle k inside off) [
-      | inl done ↦ inl (flag-set st.started s (slice_index order k) lt ∙ or_right (s == slice_index order k) (is_flagged st.started (slice_index order k)) done.0, done.1)
-      | inr waits ↦ elim (cases_eq s (slice_index order k)) [
+      | inl done ↦ inl (more (slice_index order k) done.0, done.1)
+      | inr (inl waits) ↦ elim (cases_eq s (slice_index order k)) [
         | inl same ↦ and_clash (due_now p st failed complete s) (due refl)
             (subst (λ t. due_now p st failed complete t ≡ false) (sym same) (not-due p st failed complete w (slice_index order k) waits.1.at count knows waits.1.lacks))
-            (IsIdle p (start_if true s st) d w (slice_index order k) k)
-        | inr ne ↦ inr (flag-set st.started s (slice_index order k) lt ∙ ap (λ b. b || is_flagged st.started (slice_index order k)) (ne_eqb s (slice_index order k) ne) ∙ waits.0, waits.1)
+            (IsIdle p order (start_if true s st) d from w (slice_index order k) k)
+        | inr ne ↦ inr (inl (flag-set st.started s (slice_index order k) lt ∙ ap (λ b. b || is_flagged st.started (slice_index order k)) (ne_eqb s (slice_index order k) ne) ∙ waits.0, waits.1))
       ]
+      | inr (inr parked) ↦ inr (inr (more (slice_index order k) parked.0, parked-started p order st.started (start_if true s st).started d from w (slice_index order k) k more parked.1))
     ]
+  where
+    more : (t : ℕ) → is_flagged st.started t ≡ true → is_flagged (start_if true s st).started t ≡ true
+    more t on = flag-set st.started s t lt ∙ or_right (s == t) (is_flagged st.started t) on
 
-pub idle-start : (p : Plan) (order : List ℕ) (st st' : StartsData) (d : EndpointsData) (failed : List Bool) (complete : Bool) (w : WaitsData) (s : ℕ) → s < length st.started → length w.marks ≡ service_count p → KnowsReady p st failed complete w
-    → StartsOnly p failed complete s st st' → AreIdle p order st d w → AreIdle p order st' d w
-idle-start p order st st' d failed complete w s lt count knows only idle =
-    subst (λ x. AreIdle p order x d w) (sym only.after) (idle_start p order st d failed complete w s only.starts lt count knows only.due idle)
+pub idle-start : (p : Plan) (order : List ℕ) (st st' : StartsData) (d : EndpointsData) (failed : List Bool) (complete : Bool) (from : ℕ) (w : WaitsData) (s : ℕ) → s < length st.started → length w.marks ≡ service_count p → KnowsReady p st failed complete w
+    → StartsOnly p failed complete s st st' → AreIdle p order st d from w → AreIdle p order st' d from w
+idle-start p order st st' d failed complete from w s lt count knows only idle =
+    subst (λ x. AreIdle p order x d from w) (sym only.after) (idle_start p order st d failed complete from w s only.starts lt count knows only.due idle)
 
 -- what is held stays held, no failure is taken back, and at most this service's asks change
 pub record KeepsHeld (s : ℕ) (d d' : EndpointsData) : Type 0 where
@@ -147,15 +158,25 @@ nothing_kept p d d' s t keeps ne (inl (inl bad)) = inl (inl (keeps.failed t bad)
 nothing_kept p d d' s t keeps ne (inl (inr all)) = inl (inr (λ i within. keeps.held t i (all i within)))
 nothing_kept p d d' s t keeps ne (inr ask) = inr (record { at = ask.at; within = ask.within; asks = ap is_asking (keeps.others t ask.at ne) ∙ ask.asks })
 
-pub idle-kept : (p : Plan) (order : List ℕ) (st : StartsData) (d d' : EndpointsData) (s : ℕ) (w : WaitsData) → KeepsHeld s d d' → IsOpenOf order s w → AreIdle p order st d w → AreIdle p order st d' w
-idle-kept p order st d d' s w keeps opened idle = λ k lt off.
+pub idle-kept : (p : Plan) (order : List ℕ) (st : StartsData) (d d' : EndpointsData) (from s : ℕ) (w : WaitsData) → KeepsHeld s d d' → IsOpenOf order s w
+    → ((k : ℕ) → k < length order → is_open w k ≡ false → slice_index order k ≢ s → IsParked p order st.started d from w (slice_index order k) k → IsParked p order st.started d' from w (slice_index order k) k)
+    → AreIdle p order st d from w → AreIdle p order st d' from w
+idle-kept p order st d d' from s w keeps opened moves idle = λ k lt off.
     elim (cases_eq (slice_index order k) s) [
-      | inl same ↦ and_clash (is_open w k) (opened k lt same) off (IsIdle p st d' w (slice_index order k) k)
+      | inl same ↦ and_clash (is_open w k) (opened k lt same) off (IsIdle p order st d' from w (slice_index order k) k)
       | inr ne ↦ elim (idle k lt off) [
         | inl done ↦ inl (done.0, nothing_kept p d d' s (slice_index order k) keeps ne done.1)
-        | inr waits ↦ inr waits
+        | inr (inl waits) ↦ inr (inl waits)
+        | inr (inr parked) ↦ inr (inr (parked.0, moves k lt off ne parked.1))
       ]
     ]
+
+-- where nothing is held by it, and the service's place is still to be visited
+pub idle-unheld : (p : Plan) (order : List ℕ) (st : StartsData) (d d' : EndpointsData) (from s : ℕ) (w : WaitsData) → KeepsHeld s d d' → StaysUnheld d d' → GainsNone d d' → ((t : ℕ) → t ≢ s → failed_at d' t ≡ failed_at d t)
+    → ((k : ℕ) → k < length order → slice_index order k ≡ s → (is_open w k ≡ true) × (from ≤ k)) → AreIdle p order st d from w → AreIdle p order st d' from w
+idle-unheld p order st d d' from s w keeps unheld gains failed opened =
+    idle-kept p order st d d' from s w keeps (λ k lt same. (opened k lt same).0)
+    (λ k lt off ne x. parked-kept p order st.started d d' from w s (slice_index order k) k keeps.held unheld gains keeps.others failed opened lt x)
 
 -- where no state changes and no service fails, all stay idle
 nothing_rows : (p : Plan) (d d' : EndpointsData) (t : ℕ) → d'.rows ≡ d.rows → d'.failed ≡ d.failed → AsksNothing p d t → AsksNothing p d' t
@@ -163,11 +184,14 @@ nothing_rows p d d' t rows failed (inl (inl bad)) = inl (inl (ap (λ flags. is_f
 nothing_rows p d d' t rows failed (inl (inr all)) = inl (inr (λ i within. ap (λ r. is_holding (last_at (record d { rows = r }) t i)) rows ∙ all i within))
 nothing_rows p d d' t rows failed (inr ask) = inr (record { at = ask.at; within = ask.within; asks = ap (λ r. is_asking (last_at (record d { rows = r }) t ask.at)) rows ∙ ask.asks })
 
-idle_rows : (p : Plan) (order : List ℕ) (st : StartsData) (d d' : EndpointsData) (w : WaitsData) → d'.rows ≡ d.rows → d'.failed ≡ d.failed → AreIdle p order st d w → AreIdle p order st d' w
-idle_rows p order st d d' w rows failed idle = λ k lt off.
+idle_rows : (p : Plan) (order : List ℕ) (st : StartsData) (d d' : EndpointsData) (w : WaitsData) → d'.rows ≡ d.rows → d'.failed ≡ d.failed
+    → ((k : ℕ) → is_open w k ≡ false → IsParked p order st.started d 0 w (slice_index order k) k → IsParked p order st.started d' 0 w (slice_index order k) k)
+    → AreIdle p order st d 0 w → AreIdle p order st d' 0 w
+idle_rows p order st d d' w rows failed moves idle = λ k lt off.
     elim (idle k lt off) [
       | inl done ↦ inl (done.0, nothing_rows p d d' (slice_index order k) rows failed done.1)
-      | inr waits ↦ inr waits
+      | inr (inl waits) ↦ inr (inl waits)
+      | inr (inr parked) ↦ inr (inr (parked.0, moves k off parked.1))
     ]
 
 -- no service stands twice in the startup order
@@ -203,7 +227,39 @@ opens_reopened order s u w r = record {
   kept = λ t on. ap (λ marks. is_flagged marks t) r.marks ∙ on;
   waits = r.kept;
   opened = λ t k off on waits. and_clash (is_flagged u.marks t) (sym (ap (λ marks. is_flagged marks t) r.marks) ∙ on) off (is_open w k ≡ true);
+  until = r.until;
 }
+
+-- a row of places that was opened
+joined_is : (row until : ℕ) (u v : WaitsData) (k : ℕ) → JoinsRow row until u v → is_set u.bits row k ≡ true → is_open v k ≡ true
+joined_is row until u v k j on =
+    ap (λ marks. is_set v.bits (length marks) k) j.marks ∙ j.bits (length u.marks) k
+    ∙ joined_on (is_set u.bits (length u.marks) k) (length u.marks == length u.marks) (is_set u.bits row k) (eq-eqb (length u.marks) (length u.marks) refl) on
+
+kept_off : (a n s : Bool) → n ≡ false → (a || (n && s)) ≡ a
+kept_off a n s off = grind arith
+
+-- the other rows are as they were
+joined_same : (row until : ℕ) (u v : WaitsData) (a k : ℕ) → JoinsRow row until u v → a ≢ length u.marks → is_set v.bits a k ≡ is_set u.bits a k
+joined_same row until u v a k j ne = j.bits a k ∙ kept_off (is_set u.bits a k) (a == length u.marks) (is_set u.bits row k) (ne_eqb a (length u.marks) ne)
+
+pub opens-joined : (row : ℕ) (u v : WaitsData) → JoinsRow row u.until u v → Opens u v
+opens-joined row u v j = record {
+  count = ap (λ marks. length marks) j.marks;
+  kept = λ t on. ap (λ marks. is_flagged marks t) j.marks ∙ on;
+  waits = λ a b e. j.bits a b ∙ or_left (is_set u.bits a b) (a == length u.marks && is_set u.bits row b) e;
+  opened = λ t k off on waits. and_clash (is_flagged u.marks t) (sym (ap (λ marks. is_flagged marks t) j.marks) ∙ on) off (is_open v k ≡ true);
+  until = j.until_is;
+}
+
+-- what waited behind the service is open, and so is what waited behind any
+pub none-behind : (t : ℕ) (u v : WaitsData) (k : ℕ) → Frees t u v → is_behind v t k ≡ true → is_open v k ≡ true
+none-behind t u v k j on = joined_is (length u.marks + 1 + t) u.until u v k j
+    (sym (joined_same (length u.marks + 1 + t) u.until u v (length u.marks + 1 + t) k j (λ e. omega arith)) ∙ sym (ap (λ marks. is_set v.bits (length marks + 1 + t) k) j.marks) ∙ on)
+
+pub none-parked : (u v : WaitsData) (k : ℕ) → FreesAll u v → is_parked v k ≡ true → is_open v k ≡ true
+none-parked u v k j on = joined_is (2 * length u.marks + 1) u.until u v k j
+    (sym (joined_same (2 * length u.marks + 1) u.until u v (2 * length u.marks + 1) k j (λ e. omega arith)) ∙ sym (ap (λ marks. is_set v.bits (2 * length marks + 1) k) j.marks) ∙ on)
 
 others_start : (p : Plan) (st : StartsData) (failed : List Bool) (complete : Bool) (w : WaitsData) (s : ℕ) (starts : Bool) → s < length st.started → KnowsReady p st failed complete w → KnowsOthers p (start_if starts s st) failed complete s w
 others_start p st failed complete w s false lt knows = λ t inside ne on. knows t inside on
@@ -239,11 +295,11 @@ when_fresh : (b c : Bool) (A B : Type 0) → c ≡ b → (A → B) → OnTrue b 
 when_fresh true c A B e f h = subst (λ x. OnTrue x B) (sym e) (f h)
 when_fresh false c A B e f h = subst (λ x. OnTrue x B) (sym e) tt
 
-watched_marked : (p : Plan) (order : List ℕ) (st st' : StartsData) (d d' : EndpointsData) (s : ℕ) (w v : WaitsData) → s < length w.marks → AreIdle p order st' d' w
+watched_marked : (p : Plan) (order : List ℕ) (st st' : StartsData) (d d' : EndpointsData) (s : ℕ) (w v : WaitsData) → s < length w.marks → AreIdle p order st' d' 0 w
     → ((complete : Bool) → KnowsReady p st d.failed complete w → KnowsOthers p st' d'.failed complete s w) → IsMarked s w v → IsWatched p order st d w → IsWatched p order st' d' v
 watched_marked p order st st' d d' s w v lt idle others m was = record {
   count = marked-count s w v m ∙ was.count;
-  idle = opens-idle p order st' d' w v (opens-marked s w v lt m) idle;
+  idle = opens-idle p order st' d' 0 w v (opens-marked s w v lt m) idle;
   ready = when_fresh w.fresh v.fresh (KnowsReady p st d.failed w.complete w) (KnowsReady p st' d'.failed v.complete v) m.fresh
       (λ knows. subst (λ complete. KnowsReady p st' d'.failed complete v) (sym m.complete) (all-marked p st' d'.failed w.complete s w v lt (others w.complete knows) m)) was.ready;
 }
@@ -279,22 +335,30 @@ knows_failed p st failed failed' complete w s same off knows = λ t inside on.
       | inr ne ↦ others-failed p st failed failed' complete w s same knows t inside (ne_eqb s t ne) on
     ]
 
--- the service's place is open again
-watched_reopened : (p : Plan) (order : List ℕ) (st : StartsData) (d : EndpointsData) (s : ℕ) (u w : WaitsData) → Reopens order s u w → IsWatched p order st d u → IsWatched p order st d w
-watched_reopened p order st d s u w r was = record {
-  count = ap (λ marks. length marks) r.marks ∙ was.count;
-  idle = opens-idle p order st d u w (opens_reopened order s u w r) was.idle;
-  ready = when_fresh u.fresh w.fresh (KnowsReady p st d.failed u.complete u) (KnowsReady p st d.failed w.complete w) r.fresh
-      (λ knows t inside on. ap (λ marks. is_flagged marks t) r.marks ∙ knows t inside (subst (λ complete. ready_now p st d.failed complete t ≡ true) r.complete on)) was.ready;
+-- more places are open
+watched_opened : (p : Plan) (order : List ℕ) (st : StartsData) (d : EndpointsData) (u w : WaitsData) → Opens u w → w.marks ≡ u.marks → w.fresh ≡ u.fresh → w.complete ≡ u.complete → IsWatched p order st d u → IsWatched p order st d w
+watched_opened p order st d u w grown marks fresh complete was = record {
+  count = grown.count ∙ was.count;
+  idle = opens-idle p order st d 0 u w grown was.idle;
+  ready = when_fresh u.fresh w.fresh (KnowsReady p st d.failed u.complete u) (KnowsReady p st d.failed w.complete w) fresh
+      (λ knows t inside on. ap (λ m. is_flagged m t) marks ∙ knows t inside (subst (λ c. ready_now p st d.failed c t ≡ true) complete on)) was.ready;
 }
 
-watched_if : (p : Plan) (order : List ℕ) (st : StartsData) (d d' : EndpointsData) (s : ℕ) (w v : WaitsData) (b : Bool) → b ≡ failed_at d' s → s < length w.marks → KeepsHeld s d d' → IsOpenOf order s w → ((t : ℕ) → (s == t) ≡ false → failed_at d' t ≡ failed_at d t)
+-- the service's place is open again
+watched_reopened : (p : Plan) (order : List ℕ) (st : StartsData) (d : EndpointsData) (s : ℕ) (u w : WaitsData) → Reopens order s u w → IsWatched p order st d u → IsWatched p order st d w
+watched_reopened p order st d s u w r was = watched_opened p order st d u w (opens_reopened order s u w r) r.marks r.fresh r.complete was
+
+-- a row of places is open again
+watched_joined : (p : Plan) (order : List ℕ) (st : StartsData) (d : EndpointsData) (row : ℕ) (u w : WaitsData) → JoinsRow row u.until u w → IsWatched p order st d u → IsWatched p order st d w
+watched_joined p order st d row u w j was = watched_opened p order st d u w (opens-joined row u w j) j.marks j.fresh j.complete was
+
+watched_if : (p : Plan) (order : List ℕ) (st : StartsData) (d d' : EndpointsData) (s : ℕ) (w v : WaitsData) (b : Bool) → b ≡ failed_at d' s → s < length w.marks → AreIdle p order st d' 0 w → ((t : ℕ) → (s == t) ≡ false → failed_at d' t ≡ failed_at d t)
     → MarksIf b s w v → IsWatched p order st d w → IsWatched p order st d' v
-watched_if p order st d d' s w v true e lt keeps opened same m was =
-    watched_marked p order st st d d' s w v lt (idle-kept p order st d d' s w keeps opened was.idle) (λ complete. others-failed p st d.failed d'.failed complete w s same) m was
-watched_if p order st d d' s w v false e lt keeps opened same m was = subst (λ x. IsWatched p order st d' x) (sym m) (record {
+watched_if p order st d d' s w v true e lt idle same m was =
+    watched_marked p order st st d d' s w v lt idle (λ complete. others-failed p st d.failed d'.failed complete w s same) m was
+watched_if p order st d d' s w v false e lt idle same m was = subst (λ x. IsWatched p order st d' x) (sym m) (record {
   count = was.count;
-  idle = idle-kept p order st d d' s w keeps opened was.idle;
+  idle = idle;
   ready = when_fresh w.fresh w.fresh (KnowsReady p st d.failed w.complete w) (KnowsReady p st d'.failed w.complete w) refl (knows_failed p st d.failed d'.failed w.complete w s same (sym e)) was.ready;
 })
 
@@ -307,46 +371,146 @@ flag_stays : (s : ℕ) (flags next : List Bool) → s < length flags → FailsOn
 flag_stays s flags next lt (inl same) t on = ap (λ f. is_flagged f t) same ∙ on
 flag_stays s flags next lt (inr set) t on = ap (λ f. is_flagged f t) set ∙ flag-set flags s t lt ∙ or_right (s == t) (is_flagged flags t) on
 
-pub watched-answer : (p : Plan) (order : List ℕ) (st : StartsData) (d d' : EndpointsData) (s : ℕ) (u w v : WaitsData) → s < service_count p → IsEndpointsSized p d → FailsOnly s d.failed d'.failed → StaysHeld d d' → OthersStay s d d'
+pub watched-answer : (p : Plan) (order : List ℕ) (st : StartsData) (d d' : EndpointsData) (s : ℕ) (u w v : WaitsData) → s < service_count p → IsEndpointsSized p d → FailsOnly s d.failed d'.failed → StaysHeld d d' → StaysUnheld d d' → GainsNone d d' → OthersStay s d d'
     → Reopens order s u w → MarksIf (failed_at d' s) s w v → IsWatched p order st d u → IsWatched p order st d' v
-watched-answer p order st d d' s u w v inside sized fails held others r m was =
+watched-answer p order st d d' s u w v inside sized fails held unheld gains others r m was =
     let lt : s < length d.failed = (let n = sized.failed in omega arith) in
     let reopened = watched_reopened p order st d s u w r was in
+    let same = flag_others s d.failed d'.failed lt fails in
     watched_if p order st d d' s w v (failed_at d' s) refl (let n = reopened.count in omega arith)
-    (record { held = held; failed = flag_stays s d.failed d'.failed lt fails; others = others }) r.opened (flag_others s d.failed d'.failed lt fails) m reopened
+    (idle-unheld p order st d d' 0 s w (record { held = held; failed = flag_stays s d.failed d'.failed lt fails; others = others }) unheld gains
+    (λ t ne. same t (ne_eqb s t (λ e. ne (sym e)))) (λ k lt same. (r.opened k lt same, omega arith)) reopened.idle)
+    same m reopened
+
+-- what was open stays so
+pub grown-open : (u v : WaitsData) (k : ℕ) → Opens u v → is_open u k ≡ true → is_open v k ≡ true
+grown-open u v k grown on = subst (λ n. is_set v.bits n k ≡ true) (sym grown.count) (grown.waits (length u.marks) k on)
+
+opened_then : (order : List ℕ) (s : ℕ) (u v : WaitsData) → Opens u v → IsOpenOf order s u → IsOpenOf order s v
+opened_then order s u v grown opened k lt same = grown-open u v k grown (opened k lt same)
 
 -- so it is where no service failed
 pub keeps-same : (s : ℕ) (d d' : EndpointsData) → StaysHeld d d' → OthersStay s d d' → d'.failed ≡ d.failed → KeepsHeld s d d'
 keeps-same s d d' held others same = record { held = held; failed = λ t on. ap (λ flags. is_flagged flags t) same ∙ on; others = others }
 
-pub watched-held : (p : Plan) (order : List ℕ) (st : StartsData) (d d' : EndpointsData) (s : ℕ) (u w : WaitsData) → StaysHeld d d' → OthersStay s d d' → d'.failed ≡ d.failed → Reopens order s u w
-    → IsWatched p order st d u → IsWatched p order st d' w
-watched-held p order st d d' s u w held others same r was =
-    let reopened = watched_reopened p order st d s u w r was in record {
-      count = reopened.count;
-      idle = idle-kept p order st d d' s w (keeps-same s d d' held others same) r.opened reopened.idle;
-      ready = subst (λ failed. OnTrue w.fresh (KnowsReady p st failed w.complete w)) (sym same) reopened.ready;
+-- what waits behind it was opened
+pub watched-adopted : (p : Plan) (order : List ℕ) (st : StartsData) (d d' : EndpointsData) (s : ℕ) (u w v : WaitsData) → StaysHeld d d' → OthersStay s d d' → d'.failed ≡ d.failed → GainsNone d d' → Reopens order s u w → Frees s w v
+    → IsWatched p order st d u → IsWatched p order st d' v
+watched-adopted p order st d d' s u w v held others same gains r j was =
+    let freed = watched_joined p order st d (length w.marks + 1 + s) w v j (watched_reopened p order st d s u w r was) in record {
+      count = freed.count;
+      idle = idle-kept p order st d d' 0 s v (keeps-same s d d' held others same) (opened_then order s w v (opens-joined (length w.marks + 1 + s) w v j) r.opened)
+          (λ k lt off ne x. elim (cases_eq (slice_index order x.by) s) [
+            | inl here ↦ and_clash (is_open v k) (none-behind s w v k j (subst (λ t. is_behind v t k ≡ true) here x.behind)) off (IsParked p order st.started d' 0 v (slice_index order k) k)
+            | inr other ↦ parked-others p order st.started d d' 0 v s (slice_index order k) k gains others same ne x other
+          ]) freed.idle;
+      ready = subst (λ failed. OnTrue v.fresh (KnowsReady p st failed v.complete v)) (sym same) freed.ready;
     }
 
--- and where no state changed
-pub watched-same : (p : Plan) (order : List ℕ) (st : StartsData) (d d' : EndpointsData) (w : WaitsData) → d'.rows ≡ d.rows → d'.failed ≡ d.failed
+-- and where an address may have gained a live descriptor, all that waits behind a service
+pub watched-bound : (p : Plan) (order : List ℕ) (st : StartsData) (d d' : EndpointsData) (s : ℕ) (u w v : WaitsData) → StaysHeld d d' → OthersStay s d d' → d'.failed ≡ d.failed → Reopens order s u w → FreesAll w v
+    → IsWatched p order st d u → IsWatched p order st d' v
+watched-bound p order st d d' s u w v held others same r j was =
+    let freed = watched_joined p order st d (2 * length w.marks + 1) w v j (watched_reopened p order st d s u w r was) in record {
+      count = freed.count;
+      idle = idle-kept p order st d d' 0 s v (keeps-same s d d' held others same) (opened_then order s w v (opens-joined (2 * length w.marks + 1) w v j) r.opened)
+          (λ k lt off ne x. and_clash (is_open v k) (none-parked w v k j x.parked) off (IsParked p order st.started d' 0 v (slice_index order k) k)) freed.idle;
+      ready = subst (λ failed. OnTrue v.fresh (KnowsReady p st failed v.complete v)) (sym same) freed.ready;
+    }
+
+-- where no state changed
+watched_rows : (p : Plan) (order : List ℕ) (st : StartsData) (d d' : EndpointsData) (w : WaitsData) → d'.rows ≡ d.rows → d'.failed ≡ d.failed
+    → ((k : ℕ) → is_open w k ≡ false → IsParked p order st.started d 0 w (slice_index order k) k → IsParked p order st.started d' 0 w (slice_index order k) k)
     → IsWatched p order st d w → IsWatched p order st d' w
-watched-same p order st d d' w rows same was = record {
+watched_rows p order st d d' w rows same moves was = record {
   count = was.count;
-  idle = idle_rows p order st d d' w rows same was.idle;
+  idle = idle_rows p order st d d' w rows same moves was.idle;
   ready = subst (λ failed. OnTrue w.fresh (KnowsReady p st failed w.complete w)) (sym same) was.ready;
 }
 
--- before a pass, and after it
-pub known-caught : (p : Plan) (order : List ℕ) (st : StartsData) (d : EndpointsData) (complete : Bool) (w v : WaitsData) → IsWatched p order st d w → Opens w v → v.complete ≡ complete → KnowsReady p st d.failed complete v
-    → IsKnown p order st d complete v
-known-caught p order st d complete w v was grown complete_is knows =
-    record { count = grown.count ∙ was.count; idle = opens-idle p order st d w v grown was.idle; complete_is = complete_is; ready = knows }
+pub watched-same : (p : Plan) (order : List ℕ) (st : StartsData) (d d' : EndpointsData) (w : WaitsData) → d'.rows ≡ d.rows → d'.failed ≡ d.failed → GainsNone d d'
+    → IsWatched p order st d w → IsWatched p order st d' w
+watched-same p order st d d' w rows same gains =
+    watched_rows p order st d d' w rows same (λ k off x. parked-rows p order st.started d d' 0 w (slice_index order k) k rows same gains x)
 
-pub watched-known : (p : Plan) (order : List ℕ) (st : StartsData) (d : EndpointsData) (complete : Bool) (w : WaitsData) → IsKnown p order st d complete w → IsWatched p order st d w
-watched-known p order st d complete w known = record {
+pub watched-received : (p : Plan) (order : List ℕ) (st : StartsData) (d d' : EndpointsData) (w v : WaitsData) → d'.rows ≡ d.rows → d'.failed ≡ d.failed → FreesAll w v
+    → IsWatched p order st d w → IsWatched p order st d' v
+watched-received p order st d d' w v rows same j was =
+    watched_rows p order st d d' v rows same (λ k off x. and_clash (is_open v k) (none-parked w v k j x.parked) off (IsParked p order st.started d' 0 v (slice_index order k) k))
+    (watched_joined p order st d (2 * length w.marks + 1) w v j was)
+
+-- once a rest may be over, all that rest are open
+idle_woken : (p : Plan) (order : List ℕ) (st : StartsData) (d : EndpointsData) (w v : WaitsData) → JoinsRow (2 * length w.marks + 2) v.until w v → AreIdle p order st d 0 w → AreIdle p order st d 0 v
+idle_woken p order st d w v j idle = λ k lt off.
+    elim (idle k lt (was_off k off)) [
+      | inl done ↦ inl done
+      | inr (inl waits) ↦ inr (inl (
+        waits.0,
+        record {
+          at = waits.1.at;
+          lacks = subst (λ marks. IsUnmarked p marks (slice_index order k) waits.1.at) (sym j.marks) waits.1.lacks;
+          waits = grown (slice_index (depends p (slice_index order k)) waits.1.at) k waits.1.waits;
+        },
+      ))
+      | inr (inr parked) ↦ inr (inr (
+        parked.0,
+        record {
+          by = parked.1.by;
+          earlier = parked.1.earlier;
+          started = parked.1.started;
+          shares = parked.1.shares;
+          busy = woken parked.1.by (slice_index order parked.1.by) parked.1.shares.other parked.1.busy;
+          behind = ap (λ marks. is_set v.bits (length marks + 1 + slice_index order parked.1.by) k) j.marks ∙ grown (length w.marks + 1 + slice_index order parked.1.by) k parked.1.behind;
+          parked = ap (λ marks. is_set v.bits (2 * length marks + 1) k) j.marks ∙ grown (2 * length w.marks + 1) k parked.1.parked;
+        },
+      ))
+    ]
+  where
+    grown : (a b : ℕ) → is_set w.bits a b ≡ true → is_set v.bits a b ≡ true
+    grown a b e = j.bits a b ∙ or_left (is_set w.bits a b) (a == length w.marks && is_set w.bits (2 * length w.marks + 2) b) e
+
+    stays_open : (k : ℕ) → is_open w k ≡ true → is_open v k ≡ true
+    stays_open k on = ap (λ marks. is_set v.bits (length marks) k) j.marks ∙ grown (length w.marks) k on
+
+    was_off : (k : ℕ) → is_open v k ≡ false → is_open w k ≡ false
+    was_off k off = elim (cases_Bool (is_open w k)) [
+      | inl on ↦ and_clash (is_open v k) (stays_open k on) off (is_open w k ≡ false)
+      | inr was ↦ was
+    ]
+
+    woken : (e t i : ℕ) → StaysBusy d 0 w e t i → StaysBusy d 0 v e t i
+    woken e t i (inl asks) = inl asks
+    woken e t i (inr (inl next)) = inr (inl (stays_open e next.0, next.1))
+    woken e t i (inr (inr rest)) = inr (inl (joined_is (2 * length w.marks + 2) v.until w v e j rest.0, omega arith))
+
+pub watched-woken : (p : Plan) (order : List ℕ) (st : StartsData) (d : EndpointsData) (w v : WaitsData) → Wakes w v → IsWatched p order st d w → IsWatched p order st d v
+watched-woken p order st d w v (inl same) was = subst (λ x. IsWatched p order st d x) (sym same) was
+watched-woken p order st d w v (inr j) was = record {
+  count = ap (λ marks. length marks) j.marks ∙ was.count;
+  idle = idle_woken p order st d w v j was.idle;
+  ready = when_fresh w.fresh v.fresh (KnowsReady p st d.failed w.complete w) (KnowsReady p st d.failed v.complete v) j.fresh
+      (λ knows t inside on. ap (λ m. is_flagged m t) j.marks ∙ knows t inside (subst (λ c. ready_now p st d.failed c t ≡ true) j.complete on)) was.ready;
+}
+
+-- before a pass, and after it
+pub known-caught : (p : Plan) (order : List ℕ) (st : StartsData) (d : EndpointsData) (complete : Bool) (moment : ℕ) (w v : WaitsData) → IsWatched p order st d w → Opens w v → v.complete ≡ complete → KnowsReady p st d.failed complete v
+    → moment ≤ w.until → IsKnown p order st d complete moment 0 v
+known-caught p order st d complete moment w v was grown complete_is knows soon =
+    record { count = grown.count ∙ was.count; idle = opens-idle p order st d 0 w v grown was.idle; complete_is = complete_is; ready = knows; soon = (let same = grown.until in omega arith) }
+
+-- a pass that has gone on over places that aren't open
+pub idle-on : (p : Plan) (order : List ℕ) (st : StartsData) (d : EndpointsData) (from next : ℕ) (w : WaitsData) → ((e : ℕ) → from ≤ e → is_open w e ≡ true → next ≤ e) → AreIdle p order st d from w → AreIdle p order st d next w
+idle-on p order st d from next w far idle = λ k lt off.
+    elim (idle k lt off) [
+      | inl done ↦ inl done
+      | inr (inl waits) ↦ inr (inl waits)
+      | inr (inr parked) ↦ inr (inr (parked.0, parked-on p order st.started d from next w (slice_index order k) k parked.1 (far parked.1.by)))
+    ]
+
+pub watched-known : (p : Plan) (order : List ℕ) (st : StartsData) (d : EndpointsData) (complete : Bool) (moment from : ℕ) (w : WaitsData) → IsKnown p order st d complete moment from w → IsWatched p order st d w
+watched-known p order st d complete moment from w known = record {
   count = known.count;
-  idle = known.idle;
+  idle = idle-on p order st d from 0 w (λ e le on. omega arith) known.idle;
   ready = anyhow w.fresh (KnowsReady p st d.failed w.complete w) (subst (λ c. KnowsReady p st d.failed c w) (sym known.complete_is) known.ready);
 }
   where
@@ -358,34 +522,63 @@ watched-known p order st d complete w known = record {
 pub watched-open : (p : Plan) (order : List ℕ) (st : StartsData) (d : EndpointsData) (w : WaitsData) → length w.marks ≡ service_count p → ((k : ℕ) → k < length order → is_open w k ≡ true) → w.fresh ≡ false → IsWatched p order st d w
 watched-open p order st d w count opened off = record {
   count = count;
-  idle = λ k lt closed. and_clash (is_open w k) (opened k lt) closed (IsIdle p st d w (slice_index order k) k);
+  idle = λ k lt closed. and_clash (is_open w k) (opened k lt) closed (IsIdle p order st d 0 w (slice_index order k) k);
   ready = when_fresh false w.fresh (KnowsReady p st d.failed w.complete w) (KnowsReady p st d.failed w.complete w) off (λ knows. knows) tt;
 }
 
--- a change of bits at one place leaves the others idle
-idle_bits : (p : Plan) (order : List ℕ) (st : StartsData) (d : EndpointsData) (k : ℕ) (bits : ℕ → ℕ → Bool) (w v : WaitsData) → HasBits bits w v → ((a b : ℕ) → (b == k) ≡ false → bits a b ≡ is_set w.bits a b)
-    → (k < length order → IsIdle p st d v (slice_index order k) k) → AreIdle p order st d w → AreIdle p order st d v
-idle_bits p order st d k bits w v has others here idle = λ j lt off.
+-- a change at one place leaves the others idle, where what waits behind its service still has reason to
+idle_moved : (p : Plan) (order : List ℕ) (st : StartsData) (d : EndpointsData) (from next k : ℕ) (bits : ℕ → ℕ → Bool) (until : ℕ) (w v : WaitsData) → HasBits bits until w v → ((a b : ℕ) → (b == k) ≡ false → bits a b ≡ is_set w.bits a b)
+    → until ≤ w.until → ((e : ℕ) → from ≤ e → e ≢ k → next ≤ e) → (k < length order → is_open v k ≡ false → IsIdle p order st d next v (slice_index order k) k)
+    → ((j : ℕ) (x : IsParked p order st.started d from w (slice_index order j) j) → is_open w j ≡ false → x.by ≡ k → StaysBusy d next v x.by (slice_index order x.by) x.shares.other)
+    → AreIdle p order st d from w → AreIdle p order st d next v
+idle_moved p order st d from next k bits until w v has others less far here behind idle = λ j lt off.
     elim (cases_eq j k) [
-      | inl same ↦ subst (λ i. IsIdle p st d v (slice_index order i) i) (sym same) (here (subst (λ i. i < length order) same lt))
-      | inr ne ↦ elim (idle j lt (sym (bit j ne (length w.marks)) ∙ ap (λ marks. is_set v.bits (length marks) j) (sym has.marks) ∙ off)) [
+      | inl same ↦ subst (λ i. IsIdle p order st d next v (slice_index order i) i) (sym same) (here (subst (λ i. i < length order) same lt) (subst (λ i. is_open v i ≡ false) same off))
+      | inr ne ↦ (let was : is_open w j ≡ false = sym (bit j ne (length w.marks)) ∙ ap (λ marks. is_set v.bits (length marks) j) (sym has.marks) ∙ off in elim (idle j lt was) [
         | inl done ↦ inl done
-        | inr waits ↦ inr (
+        | inr (inl waits) ↦ inr (inl (
           waits.0,
           record {
             at = waits.1.at;
             lacks = subst (λ marks. IsUnmarked p marks (slice_index order j) waits.1.at) (sym has.marks) waits.1.lacks;
             waits = bit j ne (slice_index (depends p (slice_index order j)) waits.1.at) ∙ waits.1.waits;
           },
-        )
-      ]
+        ))
+        | inr (inr parked) ↦ inr (inr (
+          parked.0,
+          record {
+            by = parked.1.by;
+            earlier = parked.1.earlier;
+            started = parked.1.started;
+            shares = parked.1.shares;
+            busy = elim (cases_eq parked.1.by k) [
+              | inl there ↦ behind j parked.1 was there
+              | inr other ↦ moved parked.1.by (slice_index order parked.1.by) parked.1.shares.other other parked.1.busy
+            ];
+            behind = ap (λ marks. is_set v.bits (length marks + 1 + slice_index order parked.1.by) j) has.marks ∙ bit j ne (length w.marks + 1 + slice_index order parked.1.by) ∙ parked.1.behind;
+            parked = ap (λ marks. is_set v.bits (2 * length marks + 1) j) has.marks ∙ bit j ne (2 * length w.marks + 1) ∙ parked.1.parked;
+          },
+        ))
+      ])
     ]
   where
     bit : (j : ℕ) → j ≢ k → (a : ℕ) → is_set v.bits a j ≡ is_set w.bits a j
     bit j ne a = has.bits a j ∙ others a j (ne_eqb j k ne)
 
+    moved : (e t i : ℕ) → e ≢ k → StaysBusy d from w e t i → StaysBusy d next v e t i
+    moved e t i ne (inl asks) = inl asks
+    moved e t i ne (inr (inl opened)) = inr (inl (ap (λ marks. is_set v.bits (length marks) e) has.marks ∙ bit e ne (length w.marks) ∙ opened.0, far e opened.1 ne))
+    moved e t i ne (inr (inr rest)) =
+        inr (inr (ap (λ marks. is_set v.bits (2 * length marks + 2) e) has.marks ∙ bit e ne (2 * length w.marks + 2) ∙ rest.0, λ m le. rest.1 m (let same = has.until_is in omega arith)))
+
 cleared_other : (set row here : Bool) → here ≡ false → (set && not (row && here)) ≡ set
 cleared_other set row here off = grind arith
+
+left_other : (set x y here : Bool) → here ≡ false → ((set && not (x && here)) && not (y && here)) ≡ set
+left_other set x y here off = grind arith
+
+left_open : (set x y here : Bool) → set ≡ true → x ≡ false → y ≡ false → ((set && not (x && here)) && not (y && here)) ≡ true
+left_open set x y here on p q = grind arith
 
 parked_other : (set d row here : Bool) → here ≡ false → ((set || (d && here)) && not (row && here)) ≡ set
 parked_other set d row here off = grind arith
@@ -393,69 +586,237 @@ parked_other set d row here off = grind arith
 parked_here : (set d row here : Bool) → d ≡ true → here ≡ true → row ≡ false → ((set || (d && here)) && not (row && here)) ≡ true
 parked_here set d row here on there off = grind arith
 
-pub idle-closed : (p : Plan) (order : List ℕ) (st : StartsData) (d : EndpointsData) (k : ℕ) (w v : WaitsData) → ClosesDone p st d (slice_index order k) k w v → AreIdle p order st d w → AreIdle p order st d v
-idle-closed p order st d k w v (inl same) idle = subst (λ x. AreIdle p order st d x) (sym same) idle
-idle-closed p order st d k w v (inr closes) idle =
-    idle_bits p order st d k (λ a b. is_set w.bits a b && not (a == length w.marks && b == k)) w v closes.1
-    (λ a b off. cleared_other (is_set w.bits a b) (a == length w.marks) (b == k) off) (λ lt. inl closes.0) idle
+kept_there : (set row here : Bool) → set ≡ true → row ≡ false → (set && not (row && here)) ≡ true
+kept_there set row here on off = grind arith
 
-pub parked-idle : (p : Plan) (st : StartsData) (e : EndpointsData) (s k at : ℕ) (w v : WaitsData) → is_flagged st.started s ≡ false → IsUnmarked p w.marks s at → Parks k (slice_index (depends p s) at) w v → IsIdle p st e v s k
-parked-idle p st e s k at w v off lacks parks =
-    let d : ℕ = slice_index (depends p s) at in
-    inr (
-      off,
-      record {
-        at = at;
-        lacks = subst (λ marks. IsUnmarked p marks s at) (sym parks.marks) lacks;
-        waits = parks.bits d k ∙ parked_here (is_set w.bits d k) (d == d) (d == length w.marks) (k == k) (eq-eqb d d refl) (eq-eqb k k refl) (ne_eqb d (length w.marks) (λ e. (let lt = lacks.inside in omega arith)));
-      },
-    )
+behind_other : (set x y row here : Bool) → here ≡ false → (((set || (x && here)) || (y && here)) && not (row && here)) ≡ set
+behind_other set x y row here off = grind arith
 
-pub idle-parked : (p : Plan) (order : List ℕ) (st : StartsData) (e : EndpointsData) (k at : ℕ) (w v : WaitsData) → is_flagged st.started (slice_index order k) ≡ false → IsUnmarked p w.marks (slice_index order k) at
-    → Parks k (slice_index (depends p (slice_index order k)) at) w v → AreIdle p order st e w → AreIdle p order st e v
-idle-parked p order st e k at w v off lacks parks idle =
-    let d : ℕ = slice_index (depends p (slice_index order k)) at in
-    idle_bits p order st e k (λ a b. (is_set w.bits a b || (a == d && b == k)) && not (a == length w.marks && b == k)) w v parks
-    (λ a b ne. parked_other (is_set w.bits a b) (a == d) (a == length w.marks) (b == k) ne)
-    (λ lt. parked-idle p st e (slice_index order k) k at w v off lacks parks) idle
+-- what is set there, or was, is set then
+behind_on : (set x y row here : Bool) → here ≡ true → row ≡ false → ((set || x) || y) ≡ true → (((set || (x && here)) || (y && here)) && not (row && here)) ≡ true
+behind_on set x y row here there off on = grind arith
+
+resting_other : (set x y z row here : Bool) → here ≡ false → ((((set || (x && here)) || (y && here)) || (z && here)) && not (row && here)) ≡ set
+resting_other set x y z row here off = grind arith
+
+resting_on : (set x y z row here : Bool) → here ≡ true → row ≡ false → (((set || x) || y) || z) ≡ true → ((((set || (x && here)) || (y && here)) || (z && here)) && not (row && here)) ≡ true
+resting_on set x y z row here there off on = grind arith
 
 -- the same marks know the same
-pub known-bits : (p : Plan) (order : List ℕ) (st : StartsData) (d : EndpointsData) (complete : Bool) (bits : ℕ → ℕ → Bool) (w v : WaitsData) → HasBits bits w v → AreIdle p order st d v → IsKnown p order st d complete w
-    → IsKnown p order st d complete v
-known-bits p order st d complete bits w v has idle known = record {
+known_bits : (p : Plan) (order : List ℕ) (st : StartsData) (d : EndpointsData) (complete : Bool) (moment from next : ℕ) (bits : ℕ → ℕ → Bool) (until : ℕ) (w v : WaitsData) → HasBits bits until w v → moment ≤ until → AreIdle p order st d next v
+    → IsKnown p order st d complete moment from w → IsKnown p order st d complete moment next v
+known_bits p order st d complete moment from next bits until w v has soon idle known = record {
   count = ap (λ marks. length marks) has.marks ∙ known.count;
   idle = idle;
   complete_is = has.complete ∙ known.complete_is;
   ready = λ s inside on. ap (λ marks. is_flagged marks s) has.marks ∙ known.ready s inside on;
+  soon = (let same = has.until_is in omega arith);
 }
 
--- after a visit: the service may have been started, what is held stays held, what is ready was marked, and the place may have been closed
-pub attended : (p : Plan) (order : List ℕ) (st st' : StartsData) (d d' : EndpointsData) (complete complete' : Bool) (w v x : WaitsData) (k : ℕ) → IsStartsSized p st → slice_index order k < service_count p
-    → IsKnown p order st d complete w → StartsOnly p d.failed complete (slice_index order k) st st' → KeepsHeld (slice_index order k) d d' → IsOpenOf order (slice_index order k) w → Opens w v → v.complete ≡ complete' → KnowsReady p st' d'.failed complete' v
-    → ClosesDone p st' d' (slice_index order k) k v x → IsKnown p order st' d' complete' x
-attended p order st st' d d' complete complete' w v x k sized inside known only keeps opened grown complete_is knows closes =
-    let lt : slice_index order k < length st.started = (let n = sized.started in omega arith) in
-    let started : AreIdle p order st' d w = idle-start p order st st' d d.failed complete w (slice_index order k) lt known.count known.ready only known.idle in
-    let idle : AreIdle p order st' d' v = opens-idle p order st' d' w v grown (idle-kept p order st' d d' (slice_index order k) w keeps opened started) in
-    let noted : IsKnown p order st' d' complete' v = record { count = grown.count ∙ known.count; idle = idle; complete_is = complete_is; ready = knows } in
-    elim closes [
-      | inl same ↦ subst (λ y. IsKnown p order st' d' complete' y) (sym same) noted
-      | inr done ↦ known-bits p order st' d' complete' (λ a b. is_set v.bits a b && not (a == length v.marks && b == k)) v x done.1 (idle-closed p order st' d' k v x (inr done) idle) noted
-    ]
+module _ (p : Plan) (order : List ℕ) (st : StartsData) (d : EndpointsData) (complete : Bool) (moment k : ℕ) (w : WaitsData) where
+  -- nothing waits behind a service that isn't started
+  unstarted : (A : Type 0) → is_flagged st.started (slice_index order k) ≡ false → (j : ℕ) (x : IsParked p order st.started d k w (slice_index order j) j) → x.by ≡ k → A
+  unstarted A off j x same = and_clash (is_flagged st.started (slice_index order k)) (subst (λ e. is_flagged st.started (slice_index order e) ≡ true) same x.started) off A
+
+  pub known-unstarted : is_flagged st.started (slice_index order k) ≡ false → is_open w k ≡ true → IsKnown p order st d complete moment k w → IsKnown p order st d complete moment (k + 1) w
+  known-unstarted off opened known =
+      known_bits p order st d complete moment k (k + 1) (λ a b. is_set w.bits a b) w.until w w same known.soon
+      (idle_moved p order st d k (k + 1) k (λ a b. is_set w.bits a b) w.until w w same (λ a b e. refl) (omega arith) (λ e le ne. omega arith)
+      (λ lt closed. and_clash (is_open w k) opened closed (IsIdle p order st d (k + 1) w (slice_index order k) k))
+      (λ j x closed there. unstarted (StaysBusy d (k + 1) w x.by (slice_index order x.by) x.shares.other) off j x there) known.idle) known
+    where
+      same : HasBits (λ a b. is_set w.bits a b) w.until w w
+      same = record { marks = refl; bits = λ a b. refl; fresh = refl; complete = refl; until_is = refl }
+
+  -- a service that still waits for another one to be ready
+  pub parked-waits : (s at : ℕ) (v : WaitsData) → IsUnmarked p w.marks s at → Parks k (slice_index (depends p s) at) w v → IsWaiting p v s k
+  parked-waits s at v lacks parks =
+      let r : ℕ = slice_index (depends p s) at in record {
+        at = at;
+        lacks = subst (λ marks. IsUnmarked p marks s at) (sym parks.marks) lacks;
+        waits = parks.bits r k ∙ parked_here (is_set w.bits r k) (r == r) (r == length w.marks) (k == k) (eq-eqb r r refl) (eq-eqb k k refl) (ne_eqb r (length w.marks) (λ e. (let lt = lacks.inside in omega arith)));
+      }
+
+  pub known-parked : (at : ℕ) (v : WaitsData) → is_flagged st.started (slice_index order k) ≡ false → IsUnmarked p w.marks (slice_index order k) at → Parks k (slice_index (depends p (slice_index order k)) at) w v
+      → IsKnown p order st d complete moment k w → IsKnown p order st d complete moment (k + 1) v
+  known-parked at v off lacks parks known =
+      let r : ℕ = slice_index (depends p (slice_index order k)) at in
+      known_bits p order st d complete moment k (k + 1) (λ a b. (is_set w.bits a b || (a == r && b == k)) && not (a == length w.marks && b == k)) w.until w v parks known.soon
+      (idle_moved p order st d k (k + 1) k (λ a b. (is_set w.bits a b || (a == r && b == k)) && not (a == length w.marks && b == k)) w.until w v parks
+      (λ a b ne. parked_other (is_set w.bits a b) (a == r) (a == length w.marks) (b == k) ne) (omega arith) (λ e le ne. omega arith)
+      (λ lt closed. inr (inl (off, parked-waits (slice_index order k) at v lacks parks)))
+      (λ j x closed there. unstarted (StaysBusy d (k + 1) v x.by (slice_index order x.by) x.shares.other) off j x there) known.idle) known
+
+  -- a place that is visited waits behind nothing, and what waits behind its service does so until then
+  pub left-open : (v : WaitsData) → LeavesPlace k w v → is_open w k ≡ true → is_open v k ≡ true
+  left-open v left opened =
+      ap (λ marks. is_set v.bits (length marks) k) left.marks ∙ left.bits (length w.marks) k
+      ∙ left_open (is_set w.bits (length w.marks) k) (length w.marks == 2 * length w.marks + 1) (length w.marks == 2 * length w.marks + 2) (k == k) opened
+      (ne_eqb (length w.marks) (2 * length w.marks + 1) (λ e. omega arith)) (ne_eqb (length w.marks) (2 * length w.marks + 2) (λ e. omega arith))
+
+  pub known-left : (v : WaitsData) → LeavesPlace k w v → is_open w k ≡ true → IsKnown p order st d complete moment k w → IsKnown p order st d complete moment k v
+  known-left v left opened known =
+      known_bits p order st d complete moment k k (λ a b. (is_set w.bits a b && not (a == 2 * length w.marks + 1 && b == k)) && not (a == 2 * length w.marks + 2 && b == k)) w.until w v left known.soon
+      (idle_moved p order st d k k k (λ a b. (is_set w.bits a b && not (a == 2 * length w.marks + 1 && b == k)) && not (a == 2 * length w.marks + 2 && b == k)) w.until w v left
+      (λ a b ne. left_other (is_set w.bits a b) (a == 2 * length w.marks + 1) (a == 2 * length w.marks + 2) (b == k) ne) (omega arith) (λ e le ne. le)
+      (λ lt closed. and_clash (is_open v k) (left-open v left opened) closed (IsIdle p order st d k v (slice_index order k) k))
+      (λ j x closed there. inr (inl (subst (λ e. is_open v e ≡ true) (sym there) (left-open v left opened), omega arith))) known.idle) known
+
+  -- an ask of the service is open
+  pub known-asking : (v : WaitsData) → is_flagged st.started (slice_index order k) ≡ true → AsksFirst p d (slice_index order k) → ClosesPlace k w v → IsKnown p order st d complete moment k w → IsKnown p order st d complete moment (k + 1) v
+  known-asking v on ask closes known =
+      known_bits p order st d complete moment k (k + 1) (λ a b. is_set w.bits a b && not (a == length w.marks && b == k)) w.until w v closes known.soon
+      (idle_moved p order st d k (k + 1) k (λ a b. is_set w.bits a b && not (a == length w.marks && b == k)) w.until w v closes
+      (λ a b ne. cleared_other (is_set w.bits a b) (a == length w.marks) (b == k) ne) (omega arith) (λ e le ne. omega arith)
+      (λ lt closed. inl (on, inr (record { at = ask.at; within = ask.first.within; asks = ask.asks })))
+      (λ j x closed there. inl (asks_there x.by x.shares.other there x.shares.other_first)) known.idle) known
+    where
+      asks_there : (e i : ℕ) → e ≡ k → IsFirst p d (slice_index order e) i → is_asking (last_at d (slice_index order e) i) ≡ true
+      asks_there e i same first = subst (λ n. IsFirst p d (slice_index order n) i → is_asking (last_at d (slice_index order n) i) ≡ true) (sym same)
+          (λ f. subst (λ n. is_asking (last_at d (slice_index order k) n) ≡ true) (first-one p d (slice_index order k) ask.at i ask.first f) ask.asks) first
+
+  -- it rests
+  pub known-resting : (end : ℕ) (v : WaitsData) → is_flagged st.started (slice_index order k) ≡ true → RestsUntil p d (slice_index order k) moment end → ParksResting k (slice_index order k) end w v
+      → IsKnown p order st d complete moment k w → IsKnown p order st d complete moment (k + 1) v
+  known-resting end v on rests parks known =
+      let to : ℕ → ℕ → Bool = λ a b. (((is_set w.bits a b || (a == length w.marks + 1 + slice_index order k && b == k)) || (a == 2 * length w.marks + 1 && b == k)) || (a == 2 * length w.marks + 2 && b == k)) && not (a == length w.marks && b == k) in
+      known_bits p order st d complete moment k (k + 1) to (min w.until end) w v parks (let a = known.soon in let b = rests.lasts in omega arith)
+      (idle_moved p order st d k (k + 1) k to (min w.until end) w v parks
+      (λ a b ne. resting_other (is_set w.bits a b) (a == length w.marks + 1 + slice_index order k) (a == 2 * length w.marks + 1) (a == 2 * length w.marks + 2) (a == length w.marks) (b == k) ne) (omega arith) (λ e le ne. omega arith)
+      (λ lt closed. inr (inr (
+        on,
+        record {
+          by = k;
+          earlier = omega arith;
+          started = on;
+          shares = rests.shares;
+          busy = inr (inr (rests_now, busy));
+          behind = ap (λ marks. is_set v.bits (length marks + 1 + slice_index order k) k) parks.marks ∙ set (length w.marks + 1 + slice_index order k) (λ e. omega arith) (first_on (length w.marks + 1 + slice_index order k));
+          parked = ap (λ marks. is_set v.bits (2 * length marks + 1) k) parks.marks ∙ set (2 * length w.marks + 1) (λ e. omega arith) (second_on (2 * length w.marks + 1));
+        },
+      )))
+      (λ j x closed there. inr (inr (subst (λ e. is_resting v e ≡ true) (sym there) rests_now, busy_there x.by x.shares.other there x.shares.other_first))) known.idle) known
+    where
+      set : (a : ℕ) → a ≢ length w.marks → (((is_set w.bits a k || (a == length w.marks + 1 + slice_index order k)) || (a == 2 * length w.marks + 1)) || (a == 2 * length w.marks + 2)) ≡ true → is_set v.bits a k ≡ true
+      set a ne one = parks.bits a k ∙ resting_on (is_set w.bits a k) (a == length w.marks + 1 + slice_index order k) (a == 2 * length w.marks + 1) (a == 2 * length w.marks + 2) (a == length w.marks) (k == k) (eq-eqb k k refl) (ne_eqb a (length w.marks) ne) one
+
+      first_on : (a : ℕ) → (((is_set w.bits a k || (a == a)) || (a == 2 * length w.marks + 1)) || (a == 2 * length w.marks + 2)) ≡ true
+      first_on a = or_left _ (a == 2 * length w.marks + 2) (or_left _ (a == 2 * length w.marks + 1) (or_right (is_set w.bits a k) (a == a) (eq-eqb a a refl)))
+
+      second_on : (a : ℕ) → (((is_set w.bits a k || (a == length w.marks + 1 + slice_index order k)) || (a == a)) || (a == 2 * length w.marks + 2)) ≡ true
+      second_on a = or_left _ (a == 2 * length w.marks + 2) (or_right (is_set w.bits a k || (a == length w.marks + 1 + slice_index order k)) (a == a) (eq-eqb a a refl))
+
+      third_on : (a : ℕ) → (((is_set w.bits a k || (a == length w.marks + 1 + slice_index order k)) || (a == 2 * length w.marks + 1)) || (a == a)) ≡ true
+      third_on a = or_right ((is_set w.bits a k || (a == length w.marks + 1 + slice_index order k)) || (a == 2 * length w.marks + 1)) (a == a) (eq-eqb a a refl)
+
+      rests_now : is_resting v k ≡ true
+      rests_now = ap (λ marks. is_set v.bits (2 * length marks + 2) k) parks.marks ∙ set (2 * length w.marks + 2) (λ e. omega arith) (third_on (2 * length w.marks + 2))
+
+      busy : IsBusyUntil d (slice_index order k) rests.shares.other v.until
+      busy m le = rests.busy m (let same = parks.until_is in omega arith)
+
+      busy_there : (e i : ℕ) → e ≡ k → IsFirst p d (slice_index order e) i → IsBusyUntil d (slice_index order e) i v.until
+      busy_there e i same first = subst (λ n. IsFirst p d (slice_index order n) i → IsBusyUntil d (slice_index order n) i v.until) (sym same)
+          (λ f. subst (λ n. IsBusyUntil d (slice_index order k) n v.until) (first-one p d (slice_index order k) rests.shares.other i rests.shares.other_first f) busy) first
+
+  -- what waited behind the service is open, so the pass may go on
+  pub known-freed : (v : WaitsData) → Frees (slice_index order k) w v → IsKnown p order st d complete moment k w → IsKnown p order st d complete moment (k + 1) v
+  known-freed v freed known = known_bits p order st d complete moment k (k + 1) _ w.until w v freed known.soon
+      (λ j lt off. elim (opens-idle p order st d k w v (opens-joined (length w.marks + 1 + slice_index order k) w v freed) known.idle j lt off) [
+        | inl done ↦ inl done
+        | inr (inl waits) ↦ inr (inl waits)
+        | inr (inr x) ↦ inr (inr (
+          x.0,
+          parked-on p order st.started d k (k + 1) v (slice_index order j) j x.1
+              (λ le on. elim (cases_eq x.1.by k) [
+                | inl there ↦ and_clash (is_open v j) (none-behind (slice_index order k) w v j freed (subst (λ e. is_behind v (slice_index order e) j ≡ true) there x.1.behind)) off (k + 1 ≤ x.1.by)
+                | inr ne ↦ omega arith
+              ]),
+        ))
+      ]) known
+
+  pub freed-open : (v : WaitsData) → Frees (slice_index order k) w v → is_open w k ≡ true → is_open v k ≡ true
+  freed-open v freed opened = ap (λ marks. is_set v.bits (length marks) k) freed.marks ∙ freed.bits (length w.marks) k ∙ or_left (is_set w.bits (length w.marks) k) _ opened
+
+  -- then the place may be closed
+  late : (v : WaitsData) (t i : ℕ) → (is_resting w k ≡ true → is_resting v k ≡ true) → v.until ≡ w.until → (e : ℕ) → e ≡ k → StaysBusy d (k + 1) w e t i → StaysBusy d (k + 1) v e t i
+  late v t i same until e there (inl asks) = inl asks
+  late v t i same until e there (inr (inl next)) = absurd (let le = next.1 in omega arith)
+  late v t i same until e there (inr (inr rest)) = inr (inr (subst (λ n. is_resting v n ≡ true) (sym there) (same (subst (λ n. is_resting w n ≡ true) there rest.0)), subst (λ m. IsBusyUntil d t i m) (sym until) rest.1))
+
+  pub known-closed : (v : WaitsData) → is_flagged st.started (slice_index order k) ≡ true → HasAll p d (slice_index order k) → ClosesPlace k w v → IsKnown p order st d complete moment (k + 1) w → IsKnown p order st d complete moment (k + 1) v
+  known-closed v on all closes known =
+      known_bits p order st d complete moment (k + 1) (k + 1) (λ a b. is_set w.bits a b && not (a == length w.marks && b == k)) w.until w v closes known.soon
+      (idle_moved p order st d (k + 1) (k + 1) k (λ a b. is_set w.bits a b && not (a == length w.marks && b == k)) w.until w v closes
+      (λ a b ne. cleared_other (is_set w.bits a b) (a == length w.marks) (b == k) ne) (omega arith) (λ e le ne. le)
+      (λ lt closed. inl (on, inl all))
+      (λ j x closed there. late v (slice_index order x.by) x.shares.other same closes.until_is x.by there x.busy) known.idle) known
+    where
+      same : is_resting w k ≡ true → is_resting v k ≡ true
+      same rests = ap (λ marks. is_set v.bits (2 * length marks + 2) k) closes.marks ∙ closes.bits (2 * length w.marks + 2) k
+          ∙ kept_there (is_set w.bits (2 * length w.marks + 2) k) (2 * length w.marks + 2 == length w.marks) (k == k) rests (ne_eqb (2 * length w.marks + 2) (length w.marks) (λ e. omega arith))
+
+  -- or wait behind another one
+  pub known-behind : (e : ℕ) (v : WaitsData) → e ≤ k → is_flagged st.started (slice_index order k) ≡ true → is_flagged st.started (slice_index order e) ≡ true → WaitsBehind p d (slice_index order k) (slice_index order e)
+      → ParksBehind k (slice_index order e) w v → IsKnown p order st d complete moment (k + 1) w → IsKnown p order st d complete moment (k + 1) v
+  known-behind e v le on started waits parks known =
+      let to : ℕ → ℕ → Bool = λ a b. ((is_set w.bits a b || (a == length w.marks + 1 + slice_index order e && b == k)) || (a == 2 * length w.marks + 1 && b == k)) && not (a == length w.marks && b == k) in
+      known_bits p order st d complete moment (k + 1) (k + 1) to w.until w v parks known.soon
+      (idle_moved p order st d (k + 1) (k + 1) k to w.until w v parks
+      (λ a b ne. behind_other (is_set w.bits a b) (a == length w.marks + 1 + slice_index order e) (a == 2 * length w.marks + 1) (a == length w.marks) (b == k) ne) (omega arith) (λ i low ne. low)
+      (λ lt closed. inr (inr (
+        on,
+        record {
+          by = e;
+          earlier = le;
+          started = started;
+          shares = waits.shares;
+          busy = inl waits.asks;
+          behind = ap (λ marks. is_set v.bits (length marks + 1 + slice_index order e) k) parks.marks ∙ set (length w.marks + 1 + slice_index order e) (λ i. omega arith) (first_on (length w.marks + 1 + slice_index order e));
+          parked = ap (λ marks. is_set v.bits (2 * length marks + 1) k) parks.marks ∙ set (2 * length w.marks + 1) (λ i. omega arith) (second_on (2 * length w.marks + 1));
+        },
+      )))
+      (λ j x closed there. late v (slice_index order x.by) x.shares.other same parks.until_is x.by there x.busy) known.idle) known
+    where
+      set : (a : ℕ) → a ≢ length w.marks → ((is_set w.bits a k || (a == length w.marks + 1 + slice_index order e)) || (a == 2 * length w.marks + 1)) ≡ true → is_set v.bits a k ≡ true
+      set a ne one = parks.bits a k ∙ behind_on (is_set w.bits a k) (a == length w.marks + 1 + slice_index order e) (a == 2 * length w.marks + 1) (a == length w.marks) (k == k) (eq-eqb k k refl) (ne_eqb a (length w.marks) ne) one
+
+      first_on : (a : ℕ) → ((is_set w.bits a k || (a == a)) || (a == 2 * length w.marks + 1)) ≡ true
+      first_on a = or_left (is_set w.bits a k || (a == a)) (a == 2 * length w.marks + 1) (or_right (is_set w.bits a k) (a == a) (eq-eqb a a refl))
+
+      second_on : (a : ℕ) → ((is_set w.bits a k || (a == length w.marks + 1 + slice_index order e)) || (a == a)) ≡ true
+      second_on a = or_right (is_set w.bits a k || (a == length w.marks + 1 + slice_index order e)) (a == a) (eq-eqb a a refl)
+
+      same : is_resting w k ≡ true → is_resting v k ≡ true
+      same rests = ap (λ marks. is_set v.bits (2 * length marks + 2) k) parks.marks ∙ set (2 * length w.marks + 2) (λ i. omega arith)
+          (or_left (is_set w.bits (2 * length w.marks + 2) k || (2 * length w.marks + 2 == length w.marks + 1 + slice_index order e)) (2 * length w.marks + 2 == 2 * length w.marks + 1)
+          (or_left (is_set w.bits (2 * length w.marks + 2) k) (2 * length w.marks + 2 == length w.marks + 1 + slice_index order e) rests))
+
+-- after a visit: the service may have been started, what is held stays held and nothing else is, and what is ready was marked
+pub attended : (p : Plan) (order : List ℕ) (st st' : StartsData) (d d' : EndpointsData) (complete complete' : Bool) (moment : ℕ) (w v : WaitsData) (k : ℕ) → IsStartsSized p st → slice_index order k < service_count p → AreApart order → k < length order
+    → IsKnown p order st d complete moment k w → StartsOnly p d.failed complete (slice_index order k) st st' → StaysHeld d d' → StaysUnheld d d' → OthersStay (slice_index order k) d d' → d'.failed ≡ d.failed → d'.table ≡ d.table → is_open w k ≡ true
+    → Opens w v → v.complete ≡ complete' → KnowsReady p st' d'.failed complete' v → IsKnown p order st' d' complete' moment k v
+attended p order st st' d d' complete complete' moment w v k sized inside apart lt known only held unheld others failed table opened grown complete_is knows =
+    let started : AreIdle p order st' d k w = idle-start p order st st' d d.failed complete k w (slice_index order k) (let n = sized.started in omega arith) known.count known.ready only known.idle in
+    record {
+      count = grown.count ∙ known.count;
+      idle = opens-idle p order st' d' k w v grown (idle-unheld p order st' d d' k (slice_index order k) w (keeps-same (slice_index order k) d d' held others failed) unheld
+          (λ a none. ap (λ t. has_open t a) table ∙ none) (λ t ne. ap (λ flags. is_flagged flags t) failed)
+          (λ j within same. (open-of order k w apart lt opened j within same, at_place j within same)) started);
+      complete_is = complete_is;
+      ready = knows;
+      soon = (let same = grown.until in let soon = known.soon in omega arith);
+    }
+  where
+    at_place : (j : ℕ) → j < length order → slice_index order j ≡ slice_index order k → k ≤ j
+    at_place j within same = elim (cases_lt j k) [ inl lower ↦ absurd (apart j k lower lt same) | inr ge ↦ ge ]
 
 -- what is known of the others then
-pub attended-others : (p : Plan) (order : List ℕ) (st st' : StartsData) (d : EndpointsData) (failed' : List Bool) (complete : Bool) (w : WaitsData) (s : ℕ) → IsStartsSized p st → s < service_count p → failed' ≡ d.failed
-    → IsKnown p order st d complete w → StartsOnly p d.failed complete s st st' → KnowsOthers p st' failed' w.complete s w
-attended-others p order st st' d failed' complete w s sized inside same known only =
+pub attended-others : (p : Plan) (order : List ℕ) (st st' : StartsData) (d : EndpointsData) (failed' : List Bool) (complete : Bool) (moment from : ℕ) (w : WaitsData) (s : ℕ) → IsStartsSized p st → s < service_count p → failed' ≡ d.failed
+    → IsKnown p order st d complete moment from w → StartsOnly p d.failed complete s st st' → KnowsOthers p st' failed' w.complete s w
+attended-others p order st st' d failed' complete moment from w s sized inside same known only =
     subst (λ f. KnowsOthers p st' f w.complete s w) (sym same)
     (subst (λ c. KnowsOthers p st' d.failed c s w) (sym known.complete_is) (others-start p st st' d.failed complete w s (let n = sized.started in omega arith) known.ready only))
-
--- a visit of a service that still waits
-pub parked : (p : Plan) (order : List ℕ) (st : StartsData) (e : EndpointsData) (complete : Bool) (w v : WaitsData) (k at : ℕ) → is_flagged st.started (slice_index order k) ≡ false → IsUnmarked p w.marks (slice_index order k) at
-    → Parks k (slice_index (depends p (slice_index order k)) at) w v → IsKnown p order st e complete w → IsKnown p order st e complete v
-parked p order st e complete w v k at off lacks parks known =
-    let d : ℕ = slice_index (depends p (slice_index order k)) at in
-    known-bits p order st e complete (λ a b. (is_set w.bits a b || (a == d && b == k)) && not (a == length w.marks && b == k)) w v parks (idle-parked p order st e k at w v off lacks parks known.idle) known
 
 -- what holds while nothing has to be looked at anew
 pub on-fresh : {A : Type 0} (b : Bool) → b ≡ true → OnTrue b A → A

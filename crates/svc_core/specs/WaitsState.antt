@@ -1,11 +1,12 @@
 -- Which services the pass needn't visit, and why.
-use Rattle.std.specs.Prelude.{ℕ, Bool, true, false, not, ◌≡◌, ◌≢◌, ◌<◌, ◌==◌, ◌||◌, ◌&&◌, ◌⊎◌, List, length, slice_index, slice_set}
+use Rattle.std.specs.Prelude.{ℕ, Bool, true, false, not, ◌≡◌, ◌≢◌, ◌<◌, ◌≤◌, ◌+◌, ◌*◌, ◌==◌, ◌||◌, ◌&&◌, ◌⊎◌, List, length, min, slice_index, slice_set}
 use Rattle.std.specs.Bool.{OnTrue}
 use Rattle.svc_graph.specs.Bits.{is_set}
 use Rattle.svc_record.specs.declared.plan.Plan.{Plan}
 use Rattle.svc_record.specs.Plans.{service_count, depends, endpoints}
 use Rattle.svc_endpoints.specs.EndpointsData.{EndpointsData}
-use Rattle.svc_endpoints.specs.EndpointsState.{last_at, failed_at, is_asking, is_holding}
+use Rattle.svc_endpoints.specs.EndpointsState.{last_at, is_asking}
+use Rattle.svc_endpoints.specs.Rests.{HasAll, SharesWith, IsBusyUntil}
 use Rattle.svc_core.specs.CoreData.{IsFormed}
 use Rattle.svc_core.specs.StartsData.{StartsData}
 use Rattle.svc_core.specs.StartsState.{is_flagged, ready_now, due_now, start_if}
@@ -14,6 +15,18 @@ use Rattle.svc_core.specs.WaitsData.{WaitsData}
 -- the place is open: the pass visits it
 abbrev pub is_open : WaitsData → ℕ → Bool
 is_open w k = is_set w.bits (length w.marks) k
+
+-- the place waits behind the service t
+abbrev pub is_behind : WaitsData → ℕ → ℕ → Bool
+is_behind w t k = is_set w.bits (length w.marks + 1 + t) k
+
+-- the place waits behind some service
+abbrev pub is_parked : WaitsData → ℕ → Bool
+is_parked w k = is_set w.bits (2 * length w.marks + 1) k
+
+-- the place's service rests
+abbrev pub is_resting : WaitsData → ℕ → Bool
+is_resting w k = is_set w.bits (2 * length w.marks + 2) k
 
 -- the dependency at this place of the service's list isn't marked
 pub record IsUnmarked (p : Plan) (marks : List Bool) (s at : ℕ) : Type 0 where
@@ -27,10 +40,6 @@ pub record IsWaiting (p : Plan) (w : WaitsData) (s k : ℕ) : Type 0 where
   pub lacks : IsUnmarked p w.marks s at
   pub waits : is_set w.bits (slice_index (depends p s) at) k ≡ true
 
--- there is nothing to ask for: the service has failed, or each of its endpoints is held
-abbrev pub HasAll : Plan → EndpointsData → ℕ → Type 0
-HasAll p d s = (failed_at d s ≡ true) ⊎ ((i : ℕ) → i < length (endpoints p s) → is_holding (last_at d s i) ≡ true)
-
 -- an ask of the service is open
 pub record HasAsk (p : Plan) (d : EndpointsData) (s : ℕ) : Type 0 where
   pub at : ℕ
@@ -41,13 +50,29 @@ pub record HasAsk (p : Plan) (d : EndpointsData) (s : ℕ) : Type 0 where
 abbrev pub AsksNothing : Plan → EndpointsData → ℕ → Type 0
 AsksNothing p d s = HasAll p d s ⊎ HasAsk p d s
 
--- a visit of the service at the place tells nothing: it is started with nothing to ask for now, or isn't started and waits
-abbrev pub IsIdle : Plan → StartsData → EndpointsData → WaitsData → ℕ → ℕ → Type 0
-IsIdle p st d w s k = ((is_flagged st.started s ≡ true) × AsksNothing p d s) ⊎ ((is_flagged st.started s ≡ false) × IsWaiting p w s k)
+-- endpoint k of t, which is at the place e, is busy: it is asked for; or a pass that has come to the place `from` visits it before it goes on; or it rests
+abbrev pub StaysBusy : EndpointsData → ℕ → WaitsData → ℕ → ℕ → ℕ → Type 0
+StaysBusy d from w e t k = (is_asking (last_at d t k) ≡ true) ⊎ (((is_open w e ≡ true) × (from ≤ e)) ⊎ ((is_resting w e ≡ true) × IsBusyUntil d t k w.until))
 
--- so it is at each place that isn't open
-abbrev pub AreIdle : Plan → List ℕ → StartsData → EndpointsData → WaitsData → Type 0
-AreIdle p order st d w = (k : ℕ) → k < length order → is_open w k ≡ false → IsIdle p st d w (slice_index order k) k
+-- the place waits behind a started service that has no later place, and an endpoint of which keeps the service's address busy; where the service rests, behind itself
+pub record IsParked (p : Plan) (order : List ℕ) (on : List Bool) (d : EndpointsData) (from : ℕ) (w : WaitsData) (s k : ℕ) : Type 0 where
+  pub by : ℕ
+  pub earlier : by ≤ k
+  pub started : is_flagged on (slice_index order by) ≡ true
+  pub shares : SharesWith p d s (slice_index order by)
+  pub busy : StaysBusy d from w by (slice_index order by) shares.other
+  pub behind : is_behind w (slice_index order by) k ≡ true
+  pub parked : is_parked w k ≡ true
+
+-- a visit of the service at the place tells nothing: it is started with nothing to ask for now, or waits behind a service, or isn't started and waits
+abbrev pub IsIdle : Plan → List ℕ → StartsData → EndpointsData → ℕ → WaitsData → ℕ → ℕ → Type 0
+IsIdle p order st d from w s k =
+    ((is_flagged st.started s ≡ true) × AsksNothing p d s)
+    ⊎ (((is_flagged st.started s ≡ false) × IsWaiting p w s k) ⊎ ((is_flagged st.started s ≡ true) × IsParked p order st.started d from w s k))
+
+-- so it is at each place that isn't open, as a pass has come to the place `from`
+abbrev pub AreIdle : Plan → List ℕ → StartsData → EndpointsData → ℕ → WaitsData → Type 0
+AreIdle p order st d from w = (k : ℕ) → k < length order → is_open w k ≡ false → IsIdle p order st d from w (slice_index order k) k
 
 -- each service that is ready is marked
 abbrev pub KnowsReady : Plan → StartsData → List Bool → Bool → WaitsData → Type 0
@@ -60,15 +85,16 @@ KnowsOthers p st failed complete s w = (t : ℕ) → t < service_count p → (s 
 -- between two steps: what was ready when it was last looked at all is marked
 pub record IsWatched (p : Plan) (order : List ℕ) (st : StartsData) (d : EndpointsData) (w : WaitsData) : Type 0 where
   pub count : length w.marks ≡ service_count p
-  pub idle : AreIdle p order st d w
+  pub idle : AreIdle p order st d 0 w
   pub ready : OnTrue w.fresh (KnowsReady p st d.failed w.complete w)
 
--- in a pass: what is ready is marked
-pub record IsKnown (p : Plan) (order : List ℕ) (st : StartsData) (d : EndpointsData) (complete : Bool) (w : WaitsData) : Type 0 where
+-- in a pass that has come to the place `from`: what is ready is marked, and what rests still does
+pub record IsKnown (p : Plan) (order : List ℕ) (st : StartsData) (d : EndpointsData) (complete : Bool) (moment from : ℕ) (w : WaitsData) : Type 0 where
   pub count : length w.marks ≡ service_count p
-  pub idle : AreIdle p order st d w
+  pub idle : AreIdle p order st d from w
   pub complete_is : w.complete ≡ complete
   pub ready : KnowsReady p st d.failed complete w
+  pub soon : moment ≤ w.until
 
 -- services were marked, and each place that waited for one of them is open
 pub record Opens (old new : WaitsData) : Type 0 where
@@ -76,6 +102,7 @@ pub record Opens (old new : WaitsData) : Type 0 where
   pub kept : (d : ℕ) → is_flagged old.marks d ≡ true → is_flagged new.marks d ≡ true
   pub waits : (a b : ℕ) → is_set old.bits a b ≡ true → is_set new.bits a b ≡ true
   pub opened : (d k : ℕ) → is_flagged old.marks d ≡ false → is_flagged new.marks d ≡ true → is_set old.bits d k ≡ true → is_open new k ≡ true
+  pub until : new.until ≡ old.until
 
 -- the service is marked, and the places that waited for it are open
 pub record IsMarked (s : ℕ) (old new : WaitsData) : Type 0 where
@@ -83,26 +110,28 @@ pub record IsMarked (s : ℕ) (old new : WaitsData) : Type 0 where
   pub bits : (a b : ℕ) → is_set new.bits a b ≡ (is_set old.bits a b || (a == length old.marks && is_set old.bits s b))
   pub fresh : new.fresh ≡ old.fresh
   pub complete : new.complete ≡ old.complete
+  pub until : new.until ≡ old.until
 
 -- the service is marked, where b says so
 abbrev pub MarksIf : Bool → ℕ → WaitsData → WaitsData → Type 0
 MarksIf true s old new = IsMarked s old new
 MarksIf false s old new = new ≡ old
 
--- only bits have changed
-pub record HasBits (to : ℕ → ℕ → Bool) (old new : WaitsData) : Type 0 where
+-- only bits have changed, and up to which moment all that rest do
+pub record HasBits (to : ℕ → ℕ → Bool) (until : ℕ) (old new : WaitsData) : Type 0 where
   pub marks : new.marks ≡ old.marks
   pub bits : (a b : ℕ) → is_set new.bits a b ≡ to a b
   pub fresh : new.fresh ≡ old.fresh
   pub complete : new.complete ≡ old.complete
+  pub until_is : new.until ≡ until
 
 -- the place isn't open any more
 abbrev pub ClosesPlace : ℕ → WaitsData → WaitsData → Type 0
-ClosesPlace k old new = HasBits (λ a b. is_set old.bits a b && not (a == length old.marks && b == k)) old new
+ClosesPlace k old new = HasBits (λ a b. is_set old.bits a b && not (a == length old.marks && b == k)) old.until old new
 
 -- the place is open again
 abbrev pub OpensPlace : ℕ → WaitsData → WaitsData → Type 0
-OpensPlace k old new = HasBits (λ a b. is_set old.bits a b || (a == length old.marks && b == k)) old new
+OpensPlace k old new = HasBits (λ a b. is_set old.bits a b || (a == length old.marks && b == k)) old.until old new
 
 -- no service has two places
 abbrev pub AreApart : List ℕ → Type 0
@@ -119,10 +148,43 @@ pub record Reopens (order : List ℕ) (s : ℕ) (old new : WaitsData) : Type 0 w
   pub opened : IsOpenOf order s new
   pub fresh : new.fresh ≡ old.fresh
   pub complete : new.complete ≡ old.complete
+  pub until : new.until ≡ old.until
 
 -- the place isn't open any more, and waits for the service
 abbrev pub Parks : ℕ → ℕ → WaitsData → WaitsData → Type 0
-Parks k d old new = HasBits (λ a b. (is_set old.bits a b || (a == d && b == k)) && not (a == length old.marks && b == k)) old new
+Parks k d old new = HasBits (λ a b. (is_set old.bits a b || (a == d && b == k)) && not (a == length old.marks && b == k)) old.until old new
+
+-- the places in this row are open again
+abbrev pub JoinsRow : ℕ → ℕ → WaitsData → WaitsData → Type 0
+JoinsRow row until old new = HasBits (λ a b. is_set old.bits a b || (a == length old.marks && is_set old.bits row b)) until old new
+
+-- the places that wait behind the service are open again
+abbrev pub Frees : ℕ → WaitsData → WaitsData → Type 0
+Frees t old new = JoinsRow (length old.marks + 1 + t) old.until old new
+
+-- all places that wait behind a service are open again
+abbrev pub FreesAll : WaitsData → WaitsData → Type 0
+FreesAll old new = JoinsRow (2 * length old.marks + 1) old.until old new
+
+-- what rests is open again, or nothing has changed
+abbrev pub Wakes : WaitsData → WaitsData → Type 0
+Wakes old new = (new ≡ old) ⊎ JoinsRow (2 * length old.marks + 2) new.until old new
+
+-- the place waits behind no service
+abbrev pub LeavesPlace : ℕ → WaitsData → WaitsData → Type 0
+LeavesPlace k old new =
+    HasBits (λ a b. (is_set old.bits a b && not (a == 2 * length old.marks + 1 && b == k)) && not (a == 2 * length old.marks + 2 && b == k)) old.until old new
+
+-- the place isn't open any more, and waits behind the service
+abbrev pub ParksBehind : ℕ → ℕ → WaitsData → WaitsData → Type 0
+ParksBehind k t old new =
+    HasBits (λ a b. ((is_set old.bits a b || (a == length old.marks + 1 + t && b == k)) || (a == 2 * length old.marks + 1 && b == k)) && not (a == length old.marks && b == k)) old.until old new
+
+-- the same, and its service rests up to the end
+abbrev pub ParksResting : ℕ → ℕ → ℕ → WaitsData → WaitsData → Type 0
+ParksResting k t end old new =
+    HasBits (λ a b. (((is_set old.bits a b || (a == length old.marks + 1 + t && b == k)) || (a == 2 * length old.marks + 1 && b == k)) || (a == 2 * length old.marks + 2 && b == k))
+    && not (a == length old.marks && b == k)) (min old.until end) old new
 
 -- the service may have been started, where all that it depends on was ready
 pub record StartsOnly (p : Plan) (failed : List Bool) (complete : Bool) (s : ℕ) (st st' : StartsData) : Type 0 where
@@ -134,10 +196,6 @@ pub record StartsOnly (p : Plan) (failed : List Bool) (complete : Bool) (s : ℕ
 abbrev pub WaitsStill : Plan → StartsData → ℕ → ℕ → WaitsData → WaitsData → Bool → Type 0
 WaitsStill p st s k old new true = (is_flagged st.started s ≡ false) × ((at : ℕ) × (IsUnmarked p old.marks s at × Parks k (slice_index (depends p s) at) old new))
 WaitsStill p st s k old new false = new ≡ old
-
--- the place is closed, where its service is started with nothing to ask for now
-abbrev pub ClosesDone : Plan → StartsData → EndpointsData → ℕ → ℕ → WaitsData → WaitsData → Type 0
-ClosesDone p st d s k old new = (new ≡ old) ⊎ (((is_flagged st.started s ≡ true) × AsksNothing p d s) × ClosesPlace k old new)
 
 -- what a core keeps: its parts fit the plan, and what its pass leaves out needn't be visited
 pub record IsKept (p : Plan) (order : List ℕ) (st : StartsData) (d : EndpointsData) (w : WaitsData) : Type 0 where

@@ -184,6 +184,7 @@ impl Core {
         ensures { Visits self.old self.new actions.old actions.new }
     {
         if self.may_start() {
+            self.waits.wake(self.drain.moment());
             self.waits.catch_up(
                 &self.plan,
                 &self.starts,
@@ -437,6 +438,7 @@ impl Core {
         self.endpoints
             .on_bound(&self.plan, s, i, fd, address, actions);
         self.waits.reopen(&self.order, s);
+        self.waits.free_all();
         Ok(self.settle(None, actions))
     }
 
@@ -474,6 +476,7 @@ impl Core {
     {
         self.endpoints.on_adopted(&self.plan, s, i);
         self.waits.reopen(&self.order, s);
+        self.waits.free(s);
         self.settle(None, actions)
     }
 
@@ -505,6 +508,7 @@ impl Core {
         let good = self
             .endpoints
             .on_received(alloc, &self.plan, bytes, fds, actions)?;
+        self.waits.free_all();
         self.boot.on_received(good);
         Ok(self.settle(None, actions))
     }

@@ -9,16 +9,16 @@ ghost use Rattle.svc_core.specs.CoreData.{IsFormed};
 ghost use Rattle.svc_core.specs.StartsState.{IsStartsSized, is_flagged};
 ghost use Rattle.svc_core.specs.Passes.{StartsAt, VisitsAt, VisitsAll, is_tested, begin_room};
 ghost use Rattle.svc_core.specs.Steps.{Spends};
-ghost use Rattle.svc_endpoints.specs.EndpointsState.{IsEndpointsSized, is_asking, last_at};
-ghost use Rattle.svc_endpoints.specs.Stays.{StaysHeld, OthersStay};
-ghost use Rattle.svc_core.specs.WaitsState.{HasAll, HasAsk, AsksNothing, IsKnown, StartsOnly, WaitsStill, ClosesDone, is_open};
+ghost use Rattle.svc_endpoints.specs.Rests.{IsStanding, WaitsBehind};
+ghost use Rattle.svc_endpoints.specs.Stays.{StaysHeld, StaysUnheld, OthersStay};
+ghost use Rattle.svc_core.specs.WaitsState.{IsKnown, StartsOnly, WaitsStill, is_open};
 
-use crate::plans::{depends_of, endpoint_count, is_bootstrap};
+use crate::plans::{depends_of, is_bootstrap};
 use crate::starts::Starts;
 use crate::waits::Waits;
 use svc_boot::Boot;
 use svc_drain::Drain;
-use svc_endpoints::Endpoints;
+use svc_endpoints::{Endpoints, Standing};
 use svc_record::{Actions, Plan};
 
 /// The run was tested: bootstrapping has begun, and that is all.
@@ -79,6 +79,7 @@ fn visit(
     ensures spends { Spends (begin_room boot.old + 2) (begin_room boot.new) actions.old actions.new }
     ensures failed { endpoints.new.parts.failed ≡ endpoints.old.parts.failed }
     ensures held { StaysHeld endpoints.old.parts endpoints.new.parts }
+    ensures unheld { StaysUnheld endpoints.old.parts endpoints.new.parts }
     ensures others { OthersStay (slice_index order.now k) endpoints.old.parts endpoints.new.parts }
     ensures only { StartsOnly plan.now endpoints.old.parts.failed boot.old.complete (slice_index order.now k) starts.old starts.new }
     ensures passed { VisitsAt plan.now order.now drain.now k starts.old starts.new endpoints.old endpoints.new boot.old boot.new actions.old actions.new }
@@ -118,85 +119,99 @@ fn waits_still(plan: &Plan, order: &[u32], k: usize, starts: &Starts, waits: &mu
     }
 }
 
-/// The service has failed, or each of its endpoints is held.
-fn has_all(plan: &Plan, endpoints: &Endpoints, s: u32) -> bool
-    requires service { s < service_count plan.now }
-    requires sized { IsEndpointsSized plan.now endpoints.now.parts }
-    ensures { result ≡ true → HasAll plan.now endpoints.now.parts s }
+/// What becomes of the place of a service that was visited: it is left out of the next visits while they
+/// would tell nothing.
+fn settle(
+    plan: &Plan,
+    order: &[u32],
+    k: usize,
+    drain: &Drain,
+    starts: &Starts,
+    endpoints: &Endpoints,
+    complete: bool,
+    waits: &mut Waits,
+)
+    requires formed { IsFormed plan.now order.now starts.now endpoints.now.parts }
+    requires place { k < length order.now }
+    requires known { IsKnown plan.now order.now starts.now endpoints.now.parts complete drain.now.moment k waits.old }
+    requires open { is_open waits.old k ≡ true }
+    ensures { IsKnown plan.now order.now starts.now endpoints.now.parts complete drain.now.moment (k + 1) waits.new }
 {
-    if endpoint_count(plan, s) == 0 {
-        return true;
+    let s = order[k];
+    if !starts.is_started(plan, s) {
+        return;
     }
-    if endpoints.failed()[s as usize] {
-        return true;
-    }
-    endpoints.accepts(plan, s, 0, true)
+    let moment = drain.moment();
+    let standing = endpoints.standing(plan, s, moment);
+    settle_started(
+        plan, order, k, starts, endpoints, complete, moment, standing, waits,
+    );
 }
 
-/// An ask of the service is open.
-fn has_ask(plan: &Plan, endpoints: &Endpoints, s: u32) -> bool
-    requires service { s < service_count plan.now }
-    requires sized { IsEndpointsSized plan.now endpoints.now.parts }
-    ensures { result ≡ true → HasAsk plan.now endpoints.now.parts s }
-{
-    for i in 0..endpoint_count(plan, s) {
-        if is_asking(plan, endpoints, s, i as u32) {
-            return true;
-        }
-    }
-    false
-}
-
-/// An ask of the endpoint is open.
-fn is_asking(plan: &Plan, parts: &Endpoints, s: u32, i: u32) -> bool
-    requires service { s < service_count plan.now }
-    requires endpoint { i < length (endpoints plan.now s) }
-    requires sized { IsEndpointsSized plan.now parts.now.parts }
-    ensures { result ≡ is_asking (last_at parts.now.parts s i) }
-{
-    parts.is_binding(plan, s, i) || parts.is_adopting(plan, s, i)
-}
-
-/// There is nothing to ask for now: the service has all, or an ask of it is open. The asks are looked at
-/// only after a visit that told something, since what rests is visited often.
-fn asks_nothing(plan: &Plan, endpoints: &Endpoints, s: u32, told: bool) -> bool
-    requires service { s < service_count plan.now }
-    requires sized { IsEndpointsSized plan.now endpoints.now.parts }
-    ensures { result ≡ true → AsksNothing plan.now endpoints.now.parts s }
-{
-    has_all(plan, endpoints, s) || (told && has_ask(plan, endpoints, s))
-}
-
-/// The service is started, and there is nothing to ask for now.
-fn is_done(plan: &Plan, starts: &Starts, endpoints: &Endpoints, s: u32, told: bool) -> bool
-    requires service { s < service_count plan.now }
-    requires sized { IsStartsSized plan.now starts.now }
-    requires ends { IsEndpointsSized plan.now endpoints.now.parts }
-    ensures { result ≡ true → (is_flagged starts.now.started s ≡ true) × AsksNothing plan.now endpoints.now.parts s }
-{
-    starts.is_started(plan, s) && asks_nothing(plan, endpoints, s, told)
-}
-
-/// A service that is started isn't visited while there is nothing to ask for.
-fn close_done(
+/// The same of a service that is started, by how it stands.
+fn settle_started(
     plan: &Plan,
     order: &[u32],
     k: usize,
     starts: &Starts,
     endpoints: &Endpoints,
+    complete: bool,
+    moment: u64,
+    standing: Standing,
     waits: &mut Waits,
-    told: bool,
 )
-    requires in_order { IsInOrder plan.now order.now }
+    requires formed { IsFormed plan.now order.now starts.now endpoints.now.parts }
     requires place { k < length order.now }
-    requires sized { IsStartsSized plan.now starts.now }
-    requires ends { IsEndpointsSized plan.now endpoints.now.parts }
-    ensures { ClosesDone plan.now starts.now endpoints.now.parts (slice_index order.now k) k waits.old waits.new }
+    requires started { is_flagged starts.now.started (slice_index order.now k) ≡ true }
+    requires stands { IsStanding plan.now endpoints.now.parts (slice_index order.now k) moment standing }
+    requires known { IsKnown plan.now order.now starts.now endpoints.now.parts complete moment k waits.old }
+    requires open { is_open waits.old k ≡ true }
+    ensures { IsKnown plan.now order.now starts.now endpoints.now.parts complete moment (k + 1) waits.new }
 {
-    if !is_done(plan, starts, endpoints, order[k], told) {
+    match standing {
+        Standing::Asking => waits.close_asking(k),
+        Standing::Resting(end) => waits.rest(k, order[k], end),
+        Standing::Served => {
+            waits.free(order[k]);
+            waits.close(k);
+        }
+        Standing::Behind(t) => {
+            waits.free(order[k]);
+            settle_behind(
+                plan, order, k, starts, endpoints, complete, moment, t, waits,
+            );
+        }
+        Standing::Due => waits.free(order[k]),
+    }
+}
+
+/// A service that is started waits behind another one, where that one has an earlier place.
+fn settle_behind(
+    plan: &Plan,
+    order: &[u32],
+    k: usize,
+    starts: &Starts,
+    endpoints: &Endpoints,
+    complete: bool,
+    moment: u64,
+    t: u32,
+    waits: &mut Waits,
+)
+    requires formed { IsFormed plan.now order.now starts.now endpoints.now.parts }
+    requires place { k < length order.now }
+    requires started { is_flagged starts.now.started (slice_index order.now k) ≡ true }
+    requires waits { WaitsBehind plan.now endpoints.now.parts (slice_index order.now k) t }
+    requires known { IsKnown plan.now order.now starts.now endpoints.now.parts complete moment (k + 1) waits.old }
+    requires open { is_open waits.old k ≡ true }
+    ensures { IsKnown plan.now order.now starts.now endpoints.now.parts complete moment (k + 1) waits.new }
+{
+    let e = waits.last_asked();
+    if e > k || order[e] != t {
         return;
     }
-    waits.close(k);
+    if starts.is_started(plan, t) {
+        waits.park_behind(k, t);
+    }
 }
 
 /// Visits the service at an open place, and keeps what is known of the places.
@@ -214,11 +229,11 @@ fn attend(
     requires formed { IsFormed plan.now order.now starts.old endpoints.old.parts }
     requires place { k < length order.now }
     requires room { 2 + begin_room boot.old ≤ spare actions.old }
-    requires known { IsKnown plan.now order.now starts.old endpoints.old.parts boot.old.complete waits.old }
+    requires known { IsKnown plan.now order.now starts.old endpoints.old.parts boot.old.complete drain.now.moment k waits.old }
     requires open { is_open waits.old k ≡ true }
     ensures formed { IsFormed plan.now order.now starts.new endpoints.new.parts }
     ensures table { endpoints.new.parts.table ≡ endpoints.old.parts.table }
-    ensures known { IsKnown plan.now order.now starts.new endpoints.new.parts boot.new.complete waits.new }
+    ensures known { IsKnown plan.now order.now starts.new endpoints.new.parts boot.new.complete drain.now.moment (k + 1) waits.new }
     ensures bare { TellsBare (list_of actions.old) (list_of actions.new) }
     ensures spends { Spends (begin_room boot.old + 2) (begin_room boot.new) actions.old actions.new }
     ensures passed { VisitsAt plan.now order.now drain.now k starts.old starts.new endpoints.old endpoints.new boot.old boot.new actions.old actions.new }
@@ -226,17 +241,11 @@ fn attend(
     if waits_still(plan, order, k, starts, waits) {
         return;
     }
-    let count = actions.len();
+    waits.leave(k);
     visit(plan, order, k, drain, starts, endpoints, boot, actions);
-    waits.note(
-        plan,
-        starts,
-        endpoints.failed(),
-        boot.is_complete(),
-        order[k],
-    );
-    let told = actions.len() > count;
-    close_done(plan, order, k, starts, endpoints, waits, told);
+    let complete = boot.is_complete();
+    waits.note(plan, starts, endpoints.failed(), complete, order[k]);
+    settle(plan, order, k, drain, starts, endpoints, complete, waits);
 }
 
 /// Visits each service once, in the startup order, unless the run was tested at one of them. A service
@@ -253,10 +262,10 @@ pub(crate) fn pass(
 )
     requires formed { IsFormed plan.now order.now starts.old endpoints.old.parts }
     requires room { 2 * length order.now + begin_room boot.old ≤ spare actions.old }
-    requires known { IsKnown plan.now order.now starts.old endpoints.old.parts boot.old.complete waits.old }
+    requires known { IsKnown plan.now order.now starts.old endpoints.old.parts boot.old.complete drain.now.moment 0 waits.old }
     ensures formed { IsFormed plan.now order.now starts.new endpoints.new.parts }
     ensures table { endpoints.new.parts.table ≡ endpoints.old.parts.table }
-    ensures known { IsKnown plan.now order.now starts.new endpoints.new.parts boot.new.complete waits.new }
+    ensures known { IsKnown plan.now order.now starts.new endpoints.new.parts boot.new.complete drain.now.moment (length order.now) waits.new }
     ensures bare { TellsBare (list_of actions.old) (list_of actions.new) }
     ensures spends { Spends (begin_room boot.old + 2 * length order.now) (begin_room boot.new) actions.old actions.new }
     ensures passed { VisitsAll plan.now order.now drain.now starts.old starts.new endpoints.old endpoints.new boot.old boot.new actions.old actions.new }

@@ -1,12 +1,12 @@
 //! The places of the startup order that a pass visits, and what the others wait for.
 
-ghost use Rattle.std.specs.Prelude.{◌≡◌, ◌<◌, ◌≤◌, ◌+◌, ◌≢◌, ℕ, true, false, length, slice_index, All, IfOk, IfSome, IfNone};
+ghost use Rattle.std.specs.Prelude.{◌≡◌, ◌<◌, ◌≤◌, ◌+◌, ◌*◌, ◌≢◌, ℕ, true, false, length, slice_index, All, IfOk, IfSome, IfNone};
 ghost use Rattle.svc_graph.specs.Bits.{is_set, HasRows};
 ghost use Rattle.svc_record.specs.Plans.{service_count};
 ghost use Rattle.svc_record.specs.Validity.{IsValid};
 ghost use Rattle.svc_core.specs.StartsState.{IsStartsSized, is_flagged, ready_now};
 ghost use Rattle.std.specs.Bool.{OnTrue};
-ghost use Rattle.svc_core.specs.WaitsState.{is_open, IsUnmarked, KnowsReady, KnowsOthers, Opens, IsMarked, MarksIf, ClosesPlace, OpensPlace, AreApart, Reopens, Parks};
+ghost use Rattle.svc_core.specs.WaitsState.{is_open, IsUnmarked, KnowsReady, KnowsOthers, Opens, IsMarked, MarksIf, ClosesPlace, OpensPlace, AreApart, Reopens, Parks, JoinsRow, Frees, FreesAll, Wakes, LeavesPlace, ParksBehind, ParksResting};
 
 use crate::plans::depends_of;
 use crate::starts::Starts;
@@ -18,10 +18,14 @@ use svc_record::Plan;
 
 /// Which places are open, so that a pass visits them. A service that isn't started waits at its place
 /// for one dependency that isn't marked as ready; one that is started and has failed, or holds each of
-/// its endpoints, is done; and one of which an ask is open waits for the answer. Any other place is open.
+/// its endpoints, is done; one of which an ask is open waits for the answer; and one whose address is kept
+/// busy waits behind the service of which an endpoint does so, where it rests behind itself. Any other
+/// place is open.
 #[derive(Drop)]
 pub(crate) struct Waits {
-    /// Row s has the places that wait for service s, the last row those that are open.
+    /// For each service a row of the places that wait for it to be ready, then one of those that are open;
+    /// for each service a row of those that wait behind it, then one of all these, and one of those that
+    /// rest.
     bits: Bits,
     /// Which services are marked: at least each that is ready, once all were looked at.
     marks: Vec<bool>,
@@ -31,6 +35,10 @@ pub(crate) struct Waits {
     fresh: bool,
     /// Whether bootstrapping was complete when all were last looked at.
     complete: bool,
+    /// Up to which moment all that rest do, in milliseconds.
+    until: u64,
+    /// The place of the service that was last seen to ask, which contracts don't see.
+    asked: usize,
 }
 
 impl Model for Waits {
@@ -38,20 +46,20 @@ impl Model for Waits {
 
     ghost Value = { WaitsData };
 
-    ghost view = { λ w. record { bits = w.bits; marks = w.marks.items; fresh = w.fresh; complete = w.complete } };
+    ghost view = { λ w. record { bits = w.bits; marks = w.marks.items; fresh = w.fresh; complete = w.complete; until = w.until } };
 
     ghost invariant = { λ w. AreWaitsSized w.bits w.marks.items w.looked.items };
 }
 
-/// Rows for so many services, and one in which each of so many places is open.
+/// Rows for so many services, and among them the one in which each of so many places is open.
 fn all_open(alloc: Global, services: u32, places: usize) -> Result<Bits, NoMemory>
     requires services { services ≤ 1024 }
     requires places { places ≤ 1024 }
-    ensures rows { IfOk result (λ bits. HasRows bits (services + 1)) }
+    ensures rows { IfOk result (λ bits. HasRows bits (2 * services + 3)) }
     ensures open { IfOk result (λ bits. (k : ℕ) → k < places → is_set bits services k ≡ true) }
 {
     let mut bits = Bits::new(alloc);
-    bits.grow(services + 1)?;
+    bits.grow(2 * services + 3)?;
     for k in 0..places {
         bits.set(services, k as u32);
     }
@@ -113,6 +121,8 @@ impl Waits {
             looked,
             fresh: false,
             complete: false,
+            until: u64::MAX,
+            asked: 0,
         })
     }
 
@@ -206,6 +216,94 @@ impl Waits {
         let row = self.open_row();
         self.bits.set(d, k as u32);
         self.bits.clear(row, k as u32);
+    }
+
+    /// The places that wait behind the service are visited again.
+    pub(crate) fn free(&mut self, t: u32)
+        requires { t < length self.old.marks }
+        ensures { Frees t self.old self.new }
+    {
+        let row = self.open_row();
+        self.bits.join(row, row + 1 + t);
+    }
+
+    /// All places that wait behind a service are visited again.
+    pub(crate) fn free_all(&mut self)
+        ensures { FreesAll self.old self.new }
+    {
+        let row = self.open_row();
+        self.bits.join(row, 2 * row + 1);
+    }
+
+    /// What rests is visited again, once one of the rests is over at the moment, in milliseconds.
+    pub(crate) fn wake(&mut self, moment: u64)
+        ensures wakes { Wakes self.old self.new }
+        ensures soon { moment ≤ self.new.until }
+    {
+        if moment <= self.until {
+            return;
+        }
+        self.wake_all();
+    }
+
+    /// What rests is visited again.
+    fn wake_all(&mut self)
+        ensures wakes { JoinsRow (2 * length self.old.marks + 2) self.new.until self.old self.new }
+        ensures last { self.new.until ≡ u64.MAX }
+    {
+        let row = self.open_row();
+        self.bits.join(row, 2 * row + 2);
+        self.until = u64::MAX;
+    }
+
+    /// The place waits behind no service.
+    pub(crate) fn leave(&mut self, k: usize)
+        requires { k < 1024 }
+        ensures { LeavesPlace k self.old self.new }
+    {
+        let row = self.open_row();
+        self.bits.clear(2 * row + 1, k as u32);
+        self.bits.clear(2 * row + 2, k as u32);
+    }
+
+    /// The place isn't visited until the service has another state.
+    pub(crate) fn park_behind(&mut self, k: usize, t: u32)
+        requires place { k < 1024 }
+        requires service { t < length self.old.marks }
+        ensures { ParksBehind k t self.old self.new }
+    {
+        let row = self.open_row();
+        self.bits.set(row + 1 + t, k as u32);
+        self.bits.set(2 * row + 1, k as u32);
+        self.bits.clear(row, k as u32);
+    }
+
+    /// The service's place isn't visited until its rest is over.
+    pub(crate) fn rest(&mut self, k: usize, s: u32, end: u64)
+        requires place { k < 1024 }
+        requires service { s < length self.old.marks }
+        ensures { ParksResting k s end self.old self.new }
+    {
+        let row = self.open_row();
+        self.bits.set(row + 1 + s, k as u32);
+        self.bits.set(2 * row + 1, k as u32);
+        self.bits.set(2 * row + 2, k as u32);
+        self.bits.clear(row, k as u32);
+        self.until = self.until.min(end);
+    }
+
+    /// The service at the place asks, so its place isn't visited.
+    pub(crate) fn close_asking(&mut self, k: usize)
+        requires { k < 1024 }
+        ensures { ClosesPlace k self.old self.new }
+    {
+        self.close(k);
+        self.asked = k;
+    }
+
+    /// The place of the service that was last seen to ask. Nothing is claimed of it.
+    pub(crate) fn last_asked(&self) -> usize {
+        self.asked
     }
 
     /// The place of a dependency of the service that isn't marked, the last one first. Those behind it

@@ -1,6 +1,6 @@
 //! How a started service stands, as far as a visit of it goes.
 
-ghost use Rattle.std.specs.Prelude.{◌≡◌, ◌<◌, ℕ, Some, true, false, length};
+ghost use Rattle.std.specs.Prelude.{◌≡◌, ◌<◌, ℕ, Some, true, false};
 ghost use Rattle.svc_record.specs.Plans.{service_count, address};
 ghost use Rattle.svc_endpoints.specs.EndpointsState.{IsEndpointsSized, failed_at};
 ghost use Rattle.svc_endpoints.specs.Effects.{has_open};

@@ -2,7 +2,7 @@ use Rattle.std.proofs.Common.{arith, refl, sym, append-nil, ◌∙◌, ◌+◌, 
 use Rattle.svc_base.specs.Items.{list_of}
 use Rattle.svc_core.proofs.CopyLemmas.{bare-none, bare-then}
 use Rattle.svc_core.proofs.PassLemmas.{passes-none, passes-then}
-use Rattle.svc_core.proofs.SkipLemmas.{passes-skip}
+use Rattle.svc_core.proofs.SkipLemmas.{known-skip, passes-skip}
 use Rattle.svc_core.proofs.pass.pass.Goals as goal
 
 pub loop-k-init : goal.loop-k-init
@@ -44,3 +44,9 @@ returns-clause-passed c =
     (list_of c.args.actions.now) (list_of c.loop-k.actions) (list_of c.loop-k.actions) c.loop-k.invariant.passed
     (passes-skip c.args.plan.now c.loop-k.invariant.formed.valid c.args.order.now c.args.drain.now c.loop-k.from (length c.args.order.now) c.loop-k.invariant.within (omega arith) c.loop-k.invariant.formed.in_order
     c.loop-k.starts c.loop-k.endpoints.parts c.loop-k.boot c.loop-k.waits (list_of c.loop-k.actions) c.loop-k.invariant.formed.starts c.loop-k.invariant.formed.endpoints c.loop-k.invariant.known c.in_default.ensures.none)
+
+pub attend-requires-clause-known : goal.attend-requires-clause-known
+attend-requires-clause-known c = known-skip c.args.plan.now c.args.order.now c.loop-k.starts c.loop-k.endpoints.parts c.loop-k.boot.complete c.args.drain.now.moment c.loop-k.from c.in-Some.k c.loop-k.waits c.in-Some.ensures.least c.loop-k.invariant.known
+
+pub returns-clause-known : goal.returns-clause-known
+returns-clause-known c = known-skip c.args.plan.now c.args.order.now c.loop-k.starts c.loop-k.endpoints.parts c.loop-k.boot.complete c.args.drain.now.moment c.loop-k.from (length c.args.order.now) c.loop-k.waits c.in_default.ensures.none c.loop-k.invariant.known

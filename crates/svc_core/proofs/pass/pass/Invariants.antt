@@ -12,7 +12,7 @@ invariant-loop-k l = record {
   within : l.from ≤ length l.order;
   formed : IsFormed l.plan l.order l.starts l.endpoints.parts;
   table : l.endpoints.parts.table ≡ l.initial.endpoints.parts.table;
-  known : IsKnown l.plan l.order l.starts l.endpoints.parts l.boot.complete l.waits;
+  known : IsKnown l.plan l.order l.starts l.endpoints.parts l.boot.complete l.drain.moment l.from l.waits;
   bare : TellsBare (list_of l.initial.actions) (list_of l.actions);
   spends : Spends (begin_room l.initial.boot + 2 * l.from) (begin_room l.boot) l.initial.actions l.actions;
   passed : Passes l.plan l.order l.drain 0 l.from l.initial.starts l.starts l.initial.endpoints.parts l.endpoints.parts l.initial.boot l.boot (list_of l.initial.actions) (list_of l.actions);

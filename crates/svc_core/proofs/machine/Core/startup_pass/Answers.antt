@@ -5,7 +5,7 @@ use Rattle.svc_core.proofs.FinishLemmas.{start-up, start-none}
 use Rattle.svc_core.proofs.GoForms.{opened-visits}
 use Rattle.std.specs.Bool.{OnTrue}
 use Rattle.svc_core.specs.WaitsState.{KnowsReady}
-use Rattle.svc_core.proofs.WaitsLemmas.{known-caught, watched-known}
+use Rattle.svc_core.proofs.WaitsLemmas.{known-caught, watched-known, watched-woken}
 use Rattle.svc_core.proofs.machine.Core.startup_pass.Goals as goal
 
 pub returns-then-may_start : goal.returns-then-may_start
@@ -38,15 +38,17 @@ returns-else-may_start c = record {
 pub pass-requires-clause-known : goal.pass-requires-clause-known
 pass-requires-clause-known c =
     rw c.deref.ensures.value
-    (known-caught c.self.inside.plan c.self.inside.order.items c.self.inside.starts c.self.inside.endpoints.parts c.self.inside.boot.complete c.self.inside.waits c.catch_up.new.self c.self.invariant.watched
-    c.catch_up.ensures.opens (c.catch_up.ensures.complete ∙ c.is_complete.ensures) (rw (c.failed.ensures, c.is_complete.ensures) at c.catch_up.ensures.ready))
+    (known-caught c.self.inside.plan c.self.inside.order.items c.self.inside.starts c.self.inside.endpoints.parts c.self.inside.boot.complete c.self.inside.drain.moment c.wake.new.self c.catch_up.new.self
+    (watched-woken c.self.inside.plan c.self.inside.order.items c.self.inside.starts c.self.inside.endpoints.parts c.self.inside.waits c.wake.new.self c.wake.ensures.wakes c.self.invariant.watched)
+    c.catch_up.ensures.opens (c.catch_up.ensures.complete ∙ c.is_complete.ensures) (rw (c.failed.ensures, c.is_complete.ensures) at c.catch_up.ensures.ready) (rw c.moment.ensures at c.wake.ensures.soon))
 
 pub invariant_of-self : goal.invariant_of-self
 invariant_of-self c = record {
   formed = rw c.deref.ensures.value at c.pass.ensures.formed;
-  watched = watched-known c.self.inside.plan c.self.inside.order.items c.pass.new.starts c.pass.new.endpoints.parts c.pass.new.boot.complete c.pass.new.waits (rw c.deref.ensures.value at c.pass.ensures.known);
+  watched = watched-known c.self.inside.plan c.self.inside.order.items c.pass.new.starts c.pass.new.endpoints.parts c.pass.new.boot.complete c.self.inside.drain.moment _ c.pass.new.waits (rw c.deref.ensures.value at c.pass.ensures.known);
 }
 
 pub catch_up-requires-clause-watched : goal.catch_up-requires-clause-watched
 catch_up-requires-clause-watched c =
-    subst (λ (failed : List Bool). OnTrue c.self.inside.waits.fresh (KnowsReady c.self.inside.plan c.self.inside.starts failed c.self.inside.waits.complete c.self.inside.waits)) (sym c.failed.ensures) c.self.invariant.watched.ready
+    subst (λ (failed : List Bool). OnTrue c.wake.new.self.fresh (KnowsReady c.self.inside.plan c.self.inside.starts failed c.wake.new.self.complete c.wake.new.self)) (sym c.failed.ensures)
+    (watched-woken c.self.inside.plan c.self.inside.order.items c.self.inside.starts c.self.inside.endpoints.parts c.self.inside.waits c.wake.new.self c.wake.ensures.wakes c.self.invariant.watched).ready

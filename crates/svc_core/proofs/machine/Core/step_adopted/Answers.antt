@@ -1,9 +1,12 @@
-use Rattle.std.proofs.Common.{List, length, refl, ap, arith, rules}
+use Rattle.std.proofs.Common.{Bool, List, length, ◌<◌, ◌∙◌, refl, sym, subst, ap, arith, rules}
 use Rattle.svc_record.specs.declared.event.Event.TheVariants.{Adopted}
 use Rattle.svc_endpoints.specs.declared.table.Open.{Open}
+use Rattle.svc_endpoints.specs.Effects.{has_open}
+use Rattle.svc_record.specs.Plans.{service_count}
+use Rattle.svc_core.specs.CoreData.{CoreData}
 use Rattle.svc_core.proofs.StepLemmas.{strike-answer, fits-adopt, silently}
 use Rattle.svc_core.proofs.StepForms.{opened, gives-up}
-use Rattle.svc_core.proofs.WaitsLemmas.{order-apart, watched-held}
+use Rattle.svc_core.proofs.WaitsLemmas.{order-apart, watched-adopted}
 use Rattle.svc_core.proofs.machine.Core.step_adopted.Goals as goal
 
 pub returns : goal.returns
@@ -16,9 +19,15 @@ returns c = opened c.self.view_is c.requires (λ may.
 pub invariant_of-self : goal.invariant_of-self
 invariant_of-self c = record {
   formed = search rules;
-  watched = watched-held c.self.inside.plan c.self.inside.order.items c.self.inside.starts c.self.inside.endpoints.parts c.on_adopted.new.self.parts c.args.s c.self.inside.waits c.reopen.new.self
-      c.on_adopted.ensures.held c.on_adopted.ensures.others c.on_adopted.ensures.failed (rw c.deref.ensures.value at c.reopen.ensures) c.self.invariant.watched;
+  watched = watched-adopted c.self.inside.plan c.self.inside.order.items c.self.inside.starts c.self.inside.endpoints.parts c.on_adopted.new.self.parts c.args.s c.self.inside.waits c.reopen.new.self c.free.new.self
+      c.on_adopted.ensures.held c.on_adopted.ensures.others c.on_adopted.ensures.failed (λ a none. ap (λ (table : List Open). has_open table a) c.on_adopted.ensures.table ∙ none) (rw c.deref.ensures.value at c.reopen.ensures) c.free.ensures c.self.invariant.watched;
 }
 
 pub reopen-requires : goal.reopen-requires
 reopen-requires c = rw c.deref.ensures.value (record { short = c.self.invariant.formed.in_order.short; apart = order-apart c.self.inside.plan c.self.inside.order.items c.self.invariant.formed.least })
+
+pub free-requires : goal.free-requires
+free-requires c =
+    let inside = subst (λ (core : CoreData). c.args.s < service_count core.plan) (sym c.self.view_is) c.requires.may.inside in
+    let count = ap (λ (marks : List Bool). length marks) c.reopen.ensures.marks ∙ c.self.invariant.watched.count in
+    omega arith

@@ -17,5 +17,5 @@ returns c = opened c.self.view_is c.requires.may (λ may. silently-taken c.settl
 pub invariant_of-self : goal.invariant_of-self
 invariant_of-self c = record {
   formed = search rules;
-  watched = watched-same c.self.inside.plan c.self.inside.order.items c.self.inside.starts c.self.inside.endpoints.parts c.release.new.self.parts c.self.inside.waits c.release.ensures.rows c.release.ensures.failed c.self.invariant.watched;
+  watched = watched-same c.self.inside.plan c.self.inside.order.items c.self.inside.starts c.self.inside.endpoints.parts c.release.new.self.parts c.self.inside.waits c.release.ensures.rows c.release.ensures.failed c.release.ensures.gains c.self.invariant.watched;
 }

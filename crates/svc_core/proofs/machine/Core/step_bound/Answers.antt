@@ -5,7 +5,7 @@ use Rattle.svc_core.proofs.StepLemmas.{strike-answer, fits-bound, unheld}
 use Rattle.svc_core.proofs.StepForms.{opened, gives-up}
 use Rattle.svc_endpoints.specs.Stays.{StaysHeld, OthersStay}
 use Rattle.svc_core.specs.WaitsState.{IsKept}
-use Rattle.svc_core.proofs.WaitsLemmas.{order-apart, watched-held}
+use Rattle.svc_core.proofs.WaitsLemmas.{order-apart, watched-bound}
 use Rattle.svc_core.proofs.machine.Core.step_bound.Goals as goal
 
 pub returns : goal.returns
@@ -21,10 +21,10 @@ invariant_of-self c = subst (λ (d : EndpointsData). IsKept c.self.inside.plan c
 pub invariant_of-self-2 : goal.invariant_of-self-2
 invariant_of-self-2 c = record {
   formed = search rules;
-  watched = watched-held c.self.inside.plan c.self.inside.order.items c.self.inside.starts c.self.inside.endpoints.parts c.on_bound.new.self.parts c.args.s c.self.inside.waits c.reopen.new.self
+  watched = watched-bound c.self.inside.plan c.self.inside.order.items c.self.inside.starts c.self.inside.endpoints.parts c.on_bound.new.self.parts c.args.s c.self.inside.waits c.reopen.new.self c.free_all.new.self
       (subst (λ (d : EndpointsData). StaysHeld d c.on_bound.new.self.parts) c.in_ok-reserve.ensures.parts c.on_bound.ensures.held)
       (subst (λ (d : EndpointsData). OthersStay c.args.s d c.on_bound.new.self.parts) c.in_ok-reserve.ensures.parts c.on_bound.ensures.others) (c.on_bound.ensures.failed ∙ ap (λ (d : EndpointsData). d.failed) c.in_ok-reserve.ensures.parts)
-      (rw c.deref.ensures.value at c.reopen.ensures) c.self.invariant.watched;
+      (rw c.deref.ensures.value at c.reopen.ensures) c.free_all.ensures c.self.invariant.watched;
 }
 
 pub reopen-requires : goal.reopen-requires
