@@ -12,7 +12,7 @@ use Rattle.svc_record.specs.Validity.{IsValid}
 use Rattle.svc_record.specs.Journal.{PostData, own_posts}
 use Rattle.svc_book.specs.BookData.{BookData}
 use Rattle.svc_shared.specs.declared.view.Ended.{Ended}
-use Rattle.svc_shared.specs.declared.view.Hand.{Hand}
+use Rattle.svc_shared.specs.declared.view.SeatView.{SeatView}
 use Rattle.svc_shared.specs.declared.pass.Pass.{Pass}
 use Rattle.svc_shared.specs.declared.pass.SharedServer.{SharedServer}
 use Rattle.svc_shared.specs.Views.{Begins}
@@ -34,7 +34,7 @@ use Rattle.svc_desk.proofs.DeedLemmas.{follows-later, ends-later, stays-then, pe
 
 -- CLOSING
 
-module _ (h : Hand) (m n : ℕ) (e : Ended) (number_is : h.number ≡ m) (ended_is : h.ended ≡ e ∷ []) (other_is : e.number ≡ n) where
+module _ (h : SeatView) (m n : ℕ) (e : Ended) (number_is : h.number ≡ m) (ended_is : h.ended ≡ e ∷ []) (other_is : e.number ≡ n) where
   one_ended : (k : ℕ) (f : Ended) (seat : ℕ) → get_elem? (e ∷ []) k ≡ some f → f.number ≡ seat → seat ≡ n
   one_ended zero f seat at is = sym is ∙ (sym (ap (λ (g : Ended). g.number) (some-injective e f at)) ∙ other_is)
   one_ended (suc k) f seat at is = absurd (some-ne-none f (sym at))
@@ -51,9 +51,9 @@ pub closed_over : (s : SharedServer) (l r q : Pass) (m n : ℕ) (journal : List 
     → IsJournalOf s l r m n journal
 closed_over s l r q m n journal x j c =
     let e : Ended = record { number = (hand_in r).number; own = own_of r } in
-    let number_is : (hand_in q).number ≡ m = ap (λ (h : Hand). h.number) j.hand_is ∙ x.left_number in
+    let number_is : (hand_in q).number ≡ m = ap (λ (h : SeatView). h.number) j.hand_is ∙ x.left_number in
     let ended_is : (hand_in q).ended ≡ e ∷ [] =
-    ap (λ (h : Hand). h.ended) j.hand_is ∙ (ap (λ (es : List Ended). (es ++ (hand_in r).ended) ++ e ∷ []) x.left_ended ∙ ap
+    ap (λ (h : SeatView). h.ended) j.hand_is ∙ (ap (λ (es : List Ended). (es ++ (hand_in r).ended) ++ e ∷ []) x.left_ended ∙ ap
     (λ (es : List Ended). es ++ e ∷ []) x.right_ended) in record {
       front_left = begins-trans journal (seen_of q) (seen_of l) c.front j.front_left;
       front_right = begins-trans journal (seen_of q) (seen_of r) c.front j.front_right;
