@@ -1,6 +1,8 @@
+pub mod BlockLemmas
 pub mod CallLemmas
 pub mod CutLemmas
 pub mod DecimalLemmas
+pub mod KeyLemmas
 pub mod LineLemmas
 pub mod Logic
 pub mod NumberSetLemmas

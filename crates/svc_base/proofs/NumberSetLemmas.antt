@@ -1,14 +1,10 @@
 -- Lists of numbers in ascending order, and without doubles.
-use Rattle.std.proofs.Common.{ℕ, zero, suc, Bool, true, false, ◌||◌, ◌&&◌, not, ◌==◌, inl, inr, List, [], ◌∷◌, ◌≡◌, refl, ap, sym, ◌∙◌, arith, ◌<◌, ◌≤◌, ◌+◌, length, if◌then◌else◌, filter, slice_index, insert, nat_lt, get_or, Ok, Err}
+use Rattle.std.proofs.Common.{ℕ, Bool, true, false, ◌||◌, ◌&&◌, not, ◌==◌, inl, inr, List, [], ◌∷◌, ◌≡◌, refl, ap, sym, ◌∙◌, arith, ◌+◌, length, if◌then◌else◌, filter, nat_lt}
 use Rattle.std.specs.List.{list_any, list_all}
-use Rattle.std.proofs.lemmas.Bool.{eq-eqb, ne_eqb, and_parts, and_from, or_parts, or_cases, or_left, or_right, cases_Bool, cases_lt, false_from_ne_true}
-use Rattle.std.proofs.lemmas.Bool.Decides.{Decides-ltb}
-use Rattle.std.specs.Ordering.{nat_cmp}
-use Rattle.std.specs.List.Sorted.{IsNonDecreasing, IsBinarySearchResult}
-use Rattle.std.proofs.lemmas.List.Sorted.{searched}
-use Rattle.std.proofs.lemmas.Grind.{get_or_default_zero}
-use Rattle.std.proofs.lemmas.List.Folds.{list_any_at, list_any_none}
+use Rattle.std.proofs.lemmas.Bool.{eq-eqb, ne_eqb, and_parts, and_from, or_parts, or_cases, or_left, or_right, cases_Bool}
+use Rattle.svc_base.specs.Blocks.{put_by}
 use Rattle.svc_base.specs.NumberSets.{is_in, distinct, put_number, ascending}
+use Rattle.svc_base.proofs.KeyLemmas.{all-weaker}
 use Rattle.svc_base.proofs.Logic.{not_in, apart_from}
 
 or_swap : (a b c : Bool) → (b || (a || c)) ≡ (a || (b || c))
@@ -42,18 +38,13 @@ distinct-ascending (n ∷ more) h =
     let parts = and_parts (not (is_in n more)) (distinct more) h in
     distinct-put n (ascending more) (any-ascending (λ x. x == n) more ∙ apart_from (is_in n more) parts.0) (distinct-ascending more parts.1)
 
--- where it goes among the others
-pub insert-put : (xs : List ℕ) (k n : ℕ) → k ≤ length xs → ((j : ℕ) → j < k → slice_index xs j ≤ n) → ((j : ℕ) → k ≤ j → j < length xs → n < slice_index xs j)
-    → insert xs k n ≡ put_number n xs
-insert-put [] zero n within below above = refl
-insert-put [] (suc k) n within below above = absurd (omega arith)
-insert-put (m ∷ more) zero n within below above =
-    let less : n < m = above 0 (omega arith) (omega arith) in
-    rw ((Decides-ltb n m).1 less) refl
-insert-put (m ∷ more) (suc k) n within below above =
-    let most : m ≤ n = below 0 (omega arith) in
-    rw (false_from_ne_true (nat_lt n m) (λ h. let less = (Decides-ltb n m).0 h in absurd (omega arith)))
-    (ap (λ xs. m ∷ xs) (insert-put more k n (omega arith) (λ j lt. below (suc j) (omega arith)) (λ j le lt. above (suc j) (omega arith) (omega arith))))
+-- the same as one more entry in ascending key
+pub put-is : (n : ℕ) (xs : List ℕ) → put_by (λ (m : ℕ). m) n xs ≡ put_number n xs
+put-is n [] = refl
+put-is n (m ∷ more) = elim (cases_Bool (nat_lt n m)) [
+  | inl below ↦ rw below refl
+  | inr above ↦ rw above (ap (λ xs. m ∷ xs) (put-is n more))
+]
 
 pub length-put : (n : ℕ) (xs : List ℕ) → length (put_number n xs) ≡ length xs + 1
 length-put n [] = refl
@@ -62,36 +53,13 @@ length-put n (m ∷ more) = elim (cases_Bool (nat_lt n m)) [
   | inr above ↦ rw above (let h = length-put n more in omega arith)
 ]
 
--- a search over numbers that rise
-found-in : (xs : List ℕ) (fd k : ℕ) → k < length xs → get_or xs k 0 ≡ fd → is_in fd xs ≡ true
-found-in xs fd k lt e = list_any_at (λ n. n == fd) xs k 0 lt (eq-eqb (get_or xs k 0) fd e)
-
-module _ (xs : List ℕ) (fd : ℕ) (rising : IsNonDecreasing xs) where
-  pub found : (k : ℕ) → IsBinarySearchResult (λ y. nat_cmp y fd) xs (Ok k) → is_in fd xs ≡ true
-  found k result = let at = searched xs fd (Ok k) result (λ i j le lt. rising i j 0 le lt) in found-in xs fd k at.0 at.1
-
-  pub between : (k : ℕ) → IsBinarySearchResult (λ y. nat_cmp y fd) xs (Err k)
-      → (k ≤ length xs) × ((j : ℕ) → j < k → get_or xs j 0 < fd) × ((j : ℕ) → k ≤ j → j < length xs → fd < get_or xs j 0)
-  between k result = searched xs fd (Err k) result (λ i j le lt. rising i j 0 le lt)
-
-  pub not-found : (k : ℕ) → IsBinarySearchResult (λ y. nat_cmp y fd) xs (Err k) → is_in fd xs ≡ false
-  not-found k result =
-      let at = between k result in
-      list_any_none (λ n. n == fd) xs (λ j d lt. ne_eqb (get_or xs j d) fd (λ e. (
-      let here : get_or xs j 0 ≡ fd = sym (get_or_default_zero xs j d lt) ∙ e in
-      elim (cases_lt j k) [
-        | inl less ↦ (let below = at.1 j less in absurd (omega arith))
-        | inr more ↦ (let above = at.2 j (omega arith) lt in absurd (omega arith))
-      ])))
-
 -- each number is at least the one before it
 abbrev pub rises : List ℕ → Bool
 rises [] = true
 rises (n ∷ more) = list_all (λ m. not (nat_lt m n)) more && rises more
 
 pub all-grows : (f g : ℕ → Bool) (xs : List ℕ) → ((k : ℕ) → f k ≡ true → g k ≡ true) → list_all f xs ≡ true → list_all g xs ≡ true
-all-grows f g [] grow h = refl
-all-grows f g (x ∷ xs) grow h = let parts = and_parts (f x) (list_all f xs) h in and_from (g x) (list_all g xs) (grow x parts.0) (all-grows f g xs grow parts.1)
+all-grows f g xs grow h = all-weaker f g xs grow h
 
 and_swap : (a b c : Bool) → (b && (a && c)) ≡ (a && (b && c))
 and_swap a b c = grind arith

@@ -1,12 +1,17 @@
-//! What every crate stands on: want of memory, texts, lists, sets of numbers, lines and words of
-//! texts, settings, the options of runtimes, told calls, and sources and sinks of bytes that count their faults.
+//! What every crate stands on: want of memory, texts, lists, entries in ascending key, sets of numbers, lines and words
+//! of texts, settings, the options of runtimes, told calls, and sources and sinks of bytes that count their faults.
 #![tactic(auto)]
 
+mod block_edits;
+mod block_memory;
+mod block_places;
+mod blocks;
 mod calls;
 mod decimals;
 mod equality;
 mod files;
 mod items;
+mod keyed;
 mod memory;
 mod number_set;
 mod runtime;
@@ -17,10 +22,12 @@ mod status;
 mod text;
 mod words;
 
+pub use blocks::Blocks;
 pub use calls::Calls;
 pub use decimals::{number, number8, number16, number32};
 pub use files::{FileCall, FileError, Files, MemoryFile, MemoryFiles, SteadyFiles, SystemFiles};
 pub use items::{Bytes, ItemRefused, Items, Numbers, Reserved, Settings, Texts, copy_items};
+pub use keyed::Keyed;
 pub use memory::NoMemory;
 pub use number_set::NumberSet;
 pub use runtime::{RuntimeMetricsOpts, RuntimeMetricsPollTimeHistogramScale, RuntimeOpts};

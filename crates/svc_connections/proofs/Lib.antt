@@ -1,7 +1,4 @@
-pub mod BlockLemmas
 pub mod LiveLemmas
-pub mod CameLemmas
-pub mod LiveBlocks
 pub mod Aside
 pub mod Parts
 pub mod Foreign

@@ -1,179 +1,123 @@
 -- Live connections in ascending number, and what becomes of one of them.
-use Rattle.std.proofs.Common.{ℕ, zero, suc, Bool, true, false, not, ◌==◌, inl, inr, List, [], ◌∷◌, ◌≡◌, refl, ap, sym, ◌∙◌, subst, arith, ◌<◌, ◌≤◌, length, filter, set, insert, nat_lt, get_or, Ok, Err, Some, None, Result, IfOk, IfErr}
-use Rattle.std.specs.List.{list_all, remove}
-use Rattle.std.specs.List.Sorted.{IsSearchInRange, IsBinarySearchResult, IsNonDecreasingBy}
-use Rattle.std.specs.Ordering.{nat_cmp, ordering_index}
-use Rattle.std.proofs.lemmas.Bool.{eq-eqb, ne_eqb, and_parts, and_from, cases_Bool, lt-ltb, ltb-true, not_from_false, le-ltb}
-use Rattle.std.proofs.lemmas.Bool.Decides.{nat_tests}
-use Rattle.std.proofs.lemmas.Cmp.{ranked}
-use Rattle.std.proofs.lemmas.List.{get_or-map, length-map}
-use Rattle.std.proofs.lemmas.List.Sorted.{IsNonDecreasingBy-from_default}
+use Rattle.std.proofs.Common.{ℕ, Bool, true, false, not, ◌==◌, inl, inr, List, [], ◌∷◌, ◌++◌, ◌≡◌, refl, ap, sym, ◌∙◌, subst, arith, filter, nat_lt, Some, None, Option, Bor, IfSome, IfNone, is_some}
+use Rattle.std.specs.Bool.{OnTrue, OnFalse}
+use Rattle.std.specs.List.{list_all}
+use Rattle.std.proofs.lemmas.Bool.{eq-eqb, ne_eqb, and_parts, and_from, or_parts, cases_Bool, ltb-true, le-ltb}
+use Rattle.std.proofs.lemmas.List.Folds.{list_all-map}
+use Rattle.svc_base.specs.Items.{list_of}
+use Rattle.svc_base.specs.Blocks.{put_by, has_key, StandsIn}
+use Rattle.svc_base.proofs.KeyLemmas.{all-mid, none-over}
 use Rattle.svc_connections.specs.declared.stage.Connection.{Connection}
 use Rattle.svc_connections.specs.declared.stage.Stage.{Stage}
-use Rattle.svc_connections.specs.declared.stage.Stage.TheVariants.{Setting}
 use Rattle.svc_connections.specs.ConnectionsState.{numbers, climbs, stage_of}
 use Rattle.svc_connections.specs.ConnectionsEffects.{put_connection, at_stage, without}
-use Rattle.svc_connections.specs.Places.{IsPlaceOf, IsGapFor}
 
-below-all : (n : ℕ) (ns : List ℕ) (k : ℕ) → list_all (λ m. nat_lt n m) ns ≡ true → k < length ns → n < get_or ns k 0
-below-all n [] k h lt = absurd (omega arith)
-below-all n (m ∷ ns) zero h lt = ltb-true n m (and_parts (nat_lt n m) (list_all (λ m. nat_lt n m) ns) h).0
-below-all n (m ∷ ns) (suc k) h lt = below-all n ns k (and_parts (nat_lt n m) (list_all (λ m. nat_lt n m) ns) h).1 (omega arith)
-
-pub climbs-at : (ns : List ℕ) (i j : ℕ) → climbs ns ≡ true → i ≤ j → j < length ns → get_or ns i 0 ≤ get_or ns j 0
-climbs-at [] i j h le lt = absurd (omega arith)
-climbs-at (n ∷ ns) zero zero h le lt = omega arith
-climbs-at (n ∷ ns) (suc i) zero h le lt = absurd (omega arith)
-climbs-at (n ∷ ns) zero (suc j) h le lt = let less = below-all n ns j (and_parts (list_all (λ m. nat_lt n m) ns) (climbs ns) h).0 (omega arith) in omega arith
-climbs-at (n ∷ ns) (suc i) (suc j) h le lt = climbs-at ns i j (and_parts (list_all (λ m. nat_lt n m) ns) (climbs ns) h).1 (omega arith) (omega arith)
-
--- a connection for an index past the end
-abbrev nobody : Connection
-nobody = record { number = 0; stage = Setting }
-
-number-at : (live : List Connection) (k : ℕ) → k < length live → get_or (numbers live) k 0 ≡ (get_or live k nobody).number
-number-at live k lt = get_or-map (λ (x : Connection). x.number) live k nobody 0 lt
-
-pub same-length : (live : List Connection) → length (numbers live) ≡ length live
-same-length live = length-map live (λ (x : Connection). x.number)
-
-module _ (live : List Connection) (rise : climbs (numbers live) ≡ true) (c : ℕ) where
-  -- the comparisons with c rise along the list, as a binary search asks
-  comparisons-rise : IsNonDecreasingBy (λ (x : Connection). ordering_index (nat_cmp x.number c)) live
-  comparisons-rise = IsNonDecreasingBy-from_default (λ (x : Connection). ordering_index (nat_cmp x.number c)) live nobody (λ i j le lt.
-      let up : get_or (numbers live) i 0 ≤ get_or (numbers live) j 0 = climbs-at (numbers live) i j rise le (let same = same-length live in omega arith) in
-      let a = number-at live i (omega arith) in
-      let b = number-at live j lt in
-      let keys : (get_or live i nobody).number ≤ (get_or live j nobody).number = omega arith in
-      grind (arith, nat_tests))
-
-  -- a binary search by number ends at the number, or at the gap for it
-  pub searched : (r : Result ℕ ℕ) → IsSearchInRange r (length live) → IsBinarySearchResult (λ (x : Connection). nat_cmp x.number c) live r
-      → record { found : IfOk r (IsPlaceOf c (numbers live)); absent : IfErr r (IsGapFor c (numbers live)) }
-  searched (Ok at) within equal = record {
-    found = record { within = let same = same-length live in omega arith; here = number-at live at within ∙ ranked _ c _ (sym (equal nobody)) };
-    absent = tt;
-  }
-  searched (Err at) within parted = let same = same-length live in record {
-    found = tt;
-    absent = record {
-      within = omega arith;
-      below = λ j lt. subst (λ (n : ℕ). n < c) (sym (number-at live j (omega arith))) (ranked _ c _ (sym ((parted comparisons-rise).0 j nobody (omega arith) lt)));
-      above = λ j le lt. subst (λ (n : ℕ). c < n) (sym (number-at live j (omega arith))) (ranked _ c _ (sym ((parted comparisons-rise).1 j nobody le (omega arith))));
-    };
-  }
-
--- none of the numbers is c
-abbrev pub Apart : ℕ → List ℕ → Type 0
-Apart c ns = list_all (λ n. not (n == c)) ns ≡ true
-
-apart-below : (n c : ℕ) → n < c → (n == c) ≡ false
-apart-below n c lt = ne_eqb n c (λ e. omega arith)
-
-apart-above : (n c : ℕ) → c < n → (n == c) ≡ false
-apart-above n c lt = ne_eqb n c (λ e. omega arith)
-
-above-apart : (n c : ℕ) (ns : List ℕ) → n ≡ c → list_all (λ m. nat_lt n m) ns ≡ true → Apart c ns
-above-apart n c [] e h = refl
-above-apart n c (m ∷ ns) e h = let parts = and_parts (nat_lt n m) (list_all (λ m. nat_lt n m) ns) h in
-    let less = ltb-true n m parts.0 in
-    and_from (not (m == c)) (list_all (λ n. not (n == c)) ns) (not_from_false (m == c) (apart-above m c (omega arith))) (above-apart n c ns e parts.1)
-
-gap-apart : (c : ℕ) (ns : List ℕ) (k : ℕ) → IsGapFor c ns k → Apart c ns
-gap-apart c [] k gap = refl
-gap-apart c (n ∷ ns) zero gap = and_from (not (n == c)) (list_all (λ n. not (n == c)) ns) (not_from_false (n == c) (apart-above n c (gap.above 0 (omega arith) (omega arith))))
-    (gap-apart c ns zero (record { within = omega arith; below = λ j lt. absurd (omega arith); above = λ j le lt. gap.above (suc j) (omega arith) (omega arith) }))
-gap-apart c (n ∷ ns) (suc k) gap = and_from (not (n == c)) (list_all (λ n. not (n == c)) ns) (not_from_false (n == c) (apart-below n c (gap.below 0 (omega arith))))
-    (gap-apart c ns k (let within = gap.within in record { within = omega arith; below = λ j lt. gap.below (suc j) (omega arith); above = λ j le lt. gap.above (suc j) (omega arith) (omega arith) }))
-
-apart-head : (n c : ℕ) (ns : List ℕ) → Apart c (n ∷ ns) → ((n == c) ≡ false) × Apart c ns
-apart-head n c ns h = let parts = and_parts (not (n == c)) (list_all (λ n. not (n == c)) ns) h in (plain (n == c) parts.0, parts.1)
-  where
-    plain : (b : Bool) → not b ≡ true → b ≡ false
-    plain b h = grind arith
+abbrev number : Connection → ℕ
+number x = x.number
 
 -- where none has the number, nothing changes
-pub none-stage : (c : ℕ) (live : List Connection) → Apart c (numbers live) → stage_of live c ≡ None
+none-stage : (c : ℕ) (live : List Connection) → has_key number c live ≡ false → stage_of live c ≡ None
 none-stage c [] h = refl
-none-stage c (x ∷ live) h = let parts = apart-head x.number c (numbers live) h in rw parts.0 (none-stage c live parts.1)
+none-stage c (x ∷ live) h = let parts = or_parts (x.number == c) (has_key number c live) h in rw parts.0 (none-stage c live parts.1)
 
-pub none-moved : (c : ℕ) (stage : Stage) (live : List Connection) → Apart c (numbers live) → at_stage c stage live ≡ live
+none-moved : (c : ℕ) (stage : Stage) (live : List Connection) → has_key number c live ≡ false → at_stage c stage live ≡ live
 none-moved c stage [] h = refl
-none-moved c stage (x ∷ live) h = let parts = apart-head x.number c (numbers live) h in rw parts.0 (ap (λ (xs : List Connection). x ∷ xs) (none-moved c stage live parts.1))
+none-moved c stage (x ∷ live) h = let parts = or_parts (x.number == c) (has_key number c live) h in rw parts.0 (ap (λ (xs : List Connection). x ∷ xs) (none-moved c stage live parts.1))
 
-pub none-without : (c : ℕ) (live : List Connection) → Apart c (numbers live) → without c live ≡ live
+none-without : (c : ℕ) (live : List Connection) → has_key number c live ≡ false → without c live ≡ live
 none-without c [] h = refl
-none-without c (x ∷ live) h = let parts = apart-head x.number c (numbers live) h in rw parts.0 (ap (λ (xs : List Connection). x ∷ xs) (none-without c live parts.1))
+none-without c (x ∷ live) h = let parts = or_parts (x.number == c) (has_key number c live) h in rw parts.0 (ap (λ (xs : List Connection). x ∷ xs) (none-without c live parts.1))
 
--- what comes before a place has another number
-earlier : (n c : ℕ) (ns : List ℕ) (k : ℕ) → list_all (λ m. nat_lt n m) ns ≡ true → k < length ns → get_or ns k 0 ≡ c → (n == c) ≡ false
-earlier n c ns k h lt e = let less = below-all n ns k h lt in apart-below n c (omega arith)
+-- a new one goes where its number does
+none-put : (x : Connection) (live : List Connection) → has_key number x.number live ≡ false → put_by number x live ≡ put_connection x live
+none-put x [] h = refl
+none-put x (y ∷ live) h = elim (cases_Bool (nat_lt x.number y.number)) [
+  | inl below ↦ rw below refl
+  | inr above ↦ (let parts = or_parts (y.number == x.number) (has_key number x.number live) h in rw (above, parts.0) (ap (λ (xs : List Connection). y ∷ xs) (none-put x live parts.1)))
+]
 
-later-place : (n c : ℕ) (ns : List ℕ) (k : ℕ) → IsPlaceOf c (n ∷ ns) (suc k) → IsPlaceOf c ns k
-later-place n c ns k at = let within = at.within in record { within = omega arith; here = at.here }
+-- what comes before one has a lower number, and what comes behind it a higher one
+before-less : (y x : Connection) (front back : List Connection) → list_all (λ m. nat_lt y.number m) (numbers (front ++ x ∷ back)) ≡ true → nat_lt y.number x.number ≡ true
+before-less y x front back h = all-mid (λ (z : Connection). nat_lt y.number z.number) front x back (sym (list_all-map (λ m. nat_lt y.number m) number (front ++ x ∷ back)) ∙ h)
 
-module _ (c : ℕ) where
-  pub placed-stage : (live : List Connection) (k : ℕ) (d : Connection) → climbs (numbers live) ≡ true → IsPlaceOf c (numbers live) k → stage_of live c ≡ Some (get_or live k d).stage
-  placed-stage [] k d rise at = absurd (let within = at.within in omega arith)
-  placed-stage (x ∷ live) zero d rise at = rw (eq-eqb x.number c at.here) refl
-  placed-stage (x ∷ live) (suc k) d rise at =
-      let parts = and_parts (list_all (λ m. nat_lt x.number m) (numbers live)) (climbs (numbers live)) rise in
-      let next = later-place x.number c (numbers live) k at in
-      rw (earlier x.number c (numbers live) k parts.0 next.within next.here) (placed-stage live k d parts.1 next)
+earlier : (c : ℕ) (y x : Connection) (front back : List Connection) → x.number ≡ c → list_all (λ m. nat_lt y.number m) (numbers (front ++ x ∷ back)) ≡ true → (y.number == c) ≡ false
+earlier c y x front back same h = let less = ltb-true y.number x.number (before-less y x front back h) in ne_eqb y.number c (λ e. omega arith)
 
-  pub placed-moved : (live : List Connection) (k : ℕ) (stage : Stage) → climbs (numbers live) ≡ true → IsPlaceOf c (numbers live) k → set live k (record { number = c; stage = stage }) ≡ at_stage c stage live
-  placed-moved [] k stage rise at = refl
-  placed-moved (x ∷ live) zero stage rise at =
-      let parts = and_parts (list_all (λ m. nat_lt x.number m) (numbers live)) (climbs (numbers live)) rise in
-      rw (eq-eqb x.number c at.here) (ap (λ (n : ℕ). record { number = n; stage = stage } ∷ live) (sym at.here)
-      ∙ ap (λ (xs : List Connection). record { number = x.number; stage = stage } ∷ xs) (sym (none-moved c stage live (above-apart x.number c (numbers live) at.here parts.0))))
-  placed-moved (x ∷ live) (suc k) stage rise at =
-      let parts = and_parts (list_all (λ m. nat_lt x.number m) (numbers live)) (climbs (numbers live)) rise in
-      let next = later-place x.number c (numbers live) k at in
-      rw (earlier x.number c (numbers live) k parts.0 next.within next.here) (ap (λ (xs : List Connection). x ∷ xs) (placed-moved live k stage parts.1 next))
+later : (c : ℕ) (x : Connection) (back : List Connection) → x.number ≡ c → list_all (λ m. nat_lt x.number m) (numbers back) ≡ true → has_key number c back ≡ false
+later c x back same h = none-over number c back (ap (λ (n : ℕ). list_all (λ (y : Connection). nat_lt n y.number) back) (sym same) ∙ sym (list_all-map (λ m. nat_lt x.number m) number back) ∙ h)
 
-  pub placed-without : (live : List Connection) (k : ℕ) → climbs (numbers live) ≡ true → IsPlaceOf c (numbers live) k → remove live k ≡ without c live
-  placed-without [] k rise at = absurd (let within = at.within in omega arith)
-  placed-without (x ∷ live) zero rise at =
-      let parts = and_parts (list_all (λ m. nat_lt x.number m) (numbers live)) (climbs (numbers live)) rise in
-      rw (eq-eqb x.number c at.here) (sym (none-without c live (above-apart x.number c (numbers live) at.here parts.0)))
-  placed-without (x ∷ live) (suc k) rise at =
-      let parts = and_parts (list_all (λ m. nat_lt x.number m) (numbers live)) (climbs (numbers live)) rise in
-      let next = later-place x.number c (numbers live) k at in
-      rw (earlier x.number c (numbers live) k parts.0 next.within next.here) (ap (λ (xs : List Connection). x ∷ xs) (placed-without live k parts.1 next))
+placed-stage : (c : ℕ) (front : List Connection) (x : Connection) (back : List Connection) → x.number ≡ c → climbs (numbers (front ++ x ∷ back)) ≡ true → stage_of (front ++ x ∷ back) c ≡ Some x.stage
+placed-stage c [] x back same h = rw (eq-eqb x.number c same) refl
+placed-stage c (y ∷ front) x back same h =
+    let parts = and_parts (list_all (λ m. nat_lt y.number m) (numbers (front ++ x ∷ back))) (climbs (numbers (front ++ x ∷ back))) h in
+    rw (earlier c y x front back same parts.0) (placed-stage c front x back same parts.1)
 
--- a connection that is there stays as it is
-pub placed-put : (x : Connection) (live : List Connection) (k : ℕ) → climbs (numbers live) ≡ true → IsPlaceOf x.number (numbers live) k → live ≡ put_connection x live
-placed-put x [] k rise at = absurd (let within = at.within in omega arith)
-placed-put x (y ∷ live) zero rise at =
-    let here = at.here in
-    rw (le-ltb x.number y.number (omega arith), eq-eqb y.number x.number here) refl
-placed-put x (y ∷ live) (suc k) rise at =
-    let parts = and_parts (list_all (λ m. nat_lt y.number m) (numbers live)) (climbs (numbers live)) rise in
-    let next = later-place y.number x.number (numbers live) k at in
-    let less = below-all y.number (numbers live) k parts.0 next.within in
-    let here = next.here in
-    rw (le-ltb x.number y.number (omega arith), earlier y.number x.number (numbers live) k parts.0 next.within next.here) (ap (λ (xs : List Connection). y ∷ xs) (placed-put x live k parts.1 next))
+placed-moved : (c : ℕ) (stage : Stage) (front : List Connection) (x : Connection) (back : List Connection) → x.number ≡ c → climbs (numbers (front ++ x ∷ back)) ≡ true
+    → front ++ record { number = c; stage = stage } ∷ back ≡ at_stage c stage (front ++ x ∷ back)
+placed-moved c stage [] x back same h =
+    let parts = and_parts (list_all (λ m. nat_lt x.number m) (numbers back)) (climbs (numbers back)) h in
+    rw (eq-eqb x.number c same) (ap (λ (n : ℕ). record { number = n; stage = stage } ∷ back) (sym same)
+    ∙ ap (λ (xs : List Connection). record { number = x.number; stage = stage } ∷ xs) (sym (none-moved c stage back (later c x back same parts.0))))
+placed-moved c stage (y ∷ front) x back same h =
+    let parts = and_parts (list_all (λ m. nat_lt y.number m) (numbers (front ++ x ∷ back))) (climbs (numbers (front ++ x ∷ back))) h in
+    rw (earlier c y x front back same parts.0) (ap (λ (xs : List Connection). y ∷ xs) (placed-moved c stage front x back same parts.1))
 
--- where a new one goes among the others
-pub gap-put : (x : Connection) (live : List Connection) (k : ℕ) → IsGapFor x.number (numbers live) k → insert live k x ≡ put_connection x live
-gap-put x [] zero gap = refl
-gap-put x [] (suc k) gap = absurd (let within = gap.within in omega arith)
-gap-put x (y ∷ live) zero gap = rw (lt-ltb x.number y.number (gap.above 0 (omega arith) (omega arith))) refl
-gap-put x (y ∷ live) (suc k) gap =
-    let less = gap.below 0 (omega arith) in
-    let within = gap.within in
-    let next : IsGapFor x.number (numbers live) k = record { within = omega arith; below = λ j lt. gap.below (suc j) (omega arith); above = λ j le lt. gap.above (suc j) (omega arith) (omega arith) } in
-    rw (le-ltb x.number y.number (omega arith), apart-below y.number x.number less) (ap (λ (xs : List Connection). y ∷ xs) (gap-put x live k next))
+placed-without : (c : ℕ) (front : List Connection) (x : Connection) (back : List Connection) → x.number ≡ c → climbs (numbers (front ++ x ∷ back)) ≡ true → front ++ back ≡ without c (front ++ x ∷ back)
+placed-without c [] x back same h =
+    let parts = and_parts (list_all (λ m. nat_lt x.number m) (numbers back)) (climbs (numbers back)) h in
+    rw (eq-eqb x.number c same) (sym (none-without c back (later c x back same parts.0)))
+placed-without c (y ∷ front) x back same h =
+    let parts = and_parts (list_all (λ m. nat_lt y.number m) (numbers (front ++ x ∷ back))) (climbs (numbers (front ++ x ∷ back))) h in
+    rw (earlier c y x front back same parts.0) (ap (λ (xs : List Connection). y ∷ xs) (placed-without c front x back same parts.1))
 
-pub gap-stage : (c : ℕ) (live : List Connection) (k : ℕ) → IsGapFor c (numbers live) k → stage_of live c ≡ None
-gap-stage c live k gap = none-stage c live (gap-apart c (numbers live) k gap)
+placed-put : (z : Connection) (front : List Connection) (x : Connection) (back : List Connection) → x.number ≡ z.number → climbs (numbers (front ++ x ∷ back)) ≡ true
+    → front ++ x ∷ back ≡ put_connection z (front ++ x ∷ back)
+placed-put z [] x back same h = rw (le-ltb z.number x.number (omega arith), eq-eqb x.number z.number same) refl
+placed-put z (y ∷ front) x back same h =
+    let parts = and_parts (list_all (λ m. nat_lt y.number m) (numbers (front ++ x ∷ back))) (climbs (numbers (front ++ x ∷ back))) h in
+    let less = ltb-true y.number x.number (before-less y x front back parts.0) in
+    rw (le-ltb z.number y.number (omega arith), earlier z.number y x front back same parts.0) (ap (λ (xs : List Connection). y ∷ xs) (placed-put z front x back same parts.1))
 
-pub gap-moved : (c : ℕ) (stage : Stage) (live : List Connection) (k : ℕ) → IsGapFor c (numbers live) k → at_stage c stage live ≡ live
-gap-moved c stage live k gap = none-moved c stage live (gap-apart c (numbers live) k gap)
+-- the same of what was found
+module _ (c : ℕ) (live : List Connection) (rise : climbs (numbers live) ≡ true) (x : Connection) (s : StandsIn number c live x) where
+  rise-is : climbs (numbers (s.front ++ x ∷ s.back)) ≡ true
+  rise-is = ap (λ (xs : List Connection). climbs (numbers xs)) (sym s.is) ∙ rise
 
-pub gap-without : (c : ℕ) (live : List Connection) (k : ℕ) → IsGapFor c (numbers live) k → without c live ≡ live
-gap-without c live k gap = none-without c live (gap-apart c (numbers live) k gap)
+  pub found-stage : Some x.stage ≡ stage_of live c
+  found-stage = sym (ap (λ (xs : List Connection). stage_of xs c) s.is ∙ placed-stage c s.front x s.back s.has rise-is)
+
+  found-moved : (stage : Stage) → s.front ++ record { number = c; stage = stage } ∷ s.back ≡ at_stage c stage live
+  found-moved stage = placed-moved c stage s.front x s.back s.has rise-is ∙ ap (at_stage c stage) (sym s.is)
+
+  found-without : s.front ++ s.back ≡ without c live
+  found-without = placed-without c s.front x s.back s.has rise-is ∙ ap (without c) (sym s.is)
+
+found-put : (z : Connection) (live : List Connection) → climbs (numbers live) ≡ true → (x : Connection) → StandsIn number z.number live x → live ≡ put_connection z live
+found-put z live rise x s = s.is ∙ placed-put z s.front x s.back s.has (ap (λ (xs : List Connection). climbs (numbers xs)) (sym s.is) ∙ rise) ∙ ap (put_connection z) (sym s.is)
+
+pub none-found : (c : ℕ) (live : List Connection) → has_key number c live ≡ false → None ≡ stage_of live c
+none-found c live h = sym (none-stage c live h)
+
+-- what a search, a move and a removal leave
+pub put-left : (z : Connection) (live : List Connection) (r : Option (Bor Connection)) → climbs (numbers live) ≡ true → IfSome r (λ x. StandsIn number z.number live x.now) → is_some r ≡ true → live ≡ put_connection z live
+put-left z live (Some x) rise found some = found-put z live rise x.now found
+put-left z live None rise found some = absurd (cc)
+
+pub put-new : (z : Connection) (live : List Connection) (r : Option (Bor Connection)) → IfNone r (has_key number z.number live ≡ false) → is_some r ≡ false → put_by number z live ≡ put_connection z live
+put-new z live None absent none = none-put z live absent
+put-new z live (Some x) absent none = absurd (cc)
+
+pub moved-left : (c : ℕ) (stage : Stage) (old new : List Connection × ℕ) (r : Bool) → climbs (numbers (list_of old)) ≡ true
+    → OnTrue r ((x : Connection) × (s : StandsIn number c (list_of old) x) × (list_of new ≡ s.front ++ record { number = c; stage = stage } ∷ s.back))
+    → OnFalse r (has_key number c (list_of old) ≡ false) → OnFalse r (new ≡ old) → list_of new ≡ at_stage c stage (list_of old)
+moved-left c stage old new true rise replaced absent same = replaced.2 ∙ found-moved c (list_of old) rise replaced.0 replaced.1 stage
+moved-left c stage old new false rise replaced absent same = ap list_of same ∙ sym (none-moved c stage (list_of old) absent)
+
+pub removed-left : (c : ℕ) (old new : List Connection × ℕ) (r : Option Connection) → climbs (numbers (list_of old)) ≡ true
+    → IfSome r (λ x. (s : StandsIn number c (list_of old) x) × (list_of new ≡ s.front ++ s.back)) → IfNone r (has_key number c (list_of old) ≡ false) → IfNone r (new ≡ old)
+    → list_of new ≡ without c (list_of old)
+removed-left c old new (Some x) rise removed absent same = removed.1 ∙ found-without c (list_of old) rise x removed.0
+removed-left c old new None rise removed absent same = ap list_of same ∙ sym (none-without c (list_of old) absent)
 
 -- a connection that moves keeps its number
 pub numbers-moved : (c : ℕ) (stage : Stage) (live : List Connection) → numbers (at_stage c stage live) ≡ numbers live

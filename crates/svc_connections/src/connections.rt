@@ -13,12 +13,11 @@ ghost use Rattle.svc_connections.specs.ConnectionsData.{ConnectionsData};
 ghost use Rattle.svc_connections.specs.ConnectionsState.{ConnectionsStand, is_new, is_setting, is_shaking, is_serving, stage_of};
 ghost use Rattle.svc_connections.specs.ConnectionsEffects.{nothing, taken_in, arrived, arrived_told, judged_told, is_refused, gone_on, set_told, shaken_told, finished, rest_told, cuts};
 
-use crate::came::Came;
 use crate::live::Live;
 use crate::stage::{Connection, Stage};
 use std::alloc::Global;
 use std::marker::Model;
-use svc_base::{NoMemory, Settings};
+use svc_base::{NoMemory, NumberSet, Settings};
 use svc_record::{Action, Actions};
 use svc_socket::Peer;
 
@@ -29,7 +28,7 @@ const TOO_MANY_FILES: u32 = 24;
 #[derive(Drop)]
 pub struct Connections {
     live: Live,
-    came: Came,
+    came: NumberSet,
 }
 
 impl Model for Connections {
@@ -91,7 +90,7 @@ impl Connections {
     {
         Connections {
             live: Live::new(alloc),
-            came: Came::new(alloc),
+            came: NumberSet::new(alloc),
         }
     }
 
@@ -101,7 +100,7 @@ impl Connections {
         ensures room { OnOk result (0 < self.new.room) }
     {
         self.live.reserve()?;
-        self.came.reserve()
+        self.came.reserve(1)
     }
 
     /// No connection with this number has arrived.

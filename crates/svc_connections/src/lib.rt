@@ -2,8 +2,6 @@
 //! what is live at the end is cut.
 #![tactic(auto)]
 
-mod blocks;
-mod came;
 mod connections;
 mod live;
 mod settings;

@@ -1,17 +1,16 @@
 -- The marks of a table's addresses.
-use Rattle.std.proofs.Common.{ℕ, Bool, true, false, inl, inr, List, [], ◌∷◌, ◌++◌, filter, take, insert, arith, ◌≤◌, ◌≡◌, refl, ap, sym, ◌∙◌, subst, ◌<◌, ◌+◌, length, get_or, Option, Some, None, nat_lt}
+use Rattle.std.proofs.Common.{ℕ, Bool, true, false, inl, inr, List, [], ◌∷◌, ◌++◌, filter, take, ◌≡◌, refl, ap, sym, ◌∙◌, subst, ◌<◌, ◌+◌, length, get_or, Vec, Option, Some, None, nat_lt}
 use Rattle.std.proofs.lemmas.Bool.{cases_Bool, and_parts, and_from}
-use Rattle.std.specs.List.Sorted.{IsPartitionPoint}
 use Rattle.std.proofs.lemmas.List.{take_more}
-use Rattle.std.proofs.lemmas.List.Sorted.{IsNonDecreasingBy-insert}
-use Rattle.std.proofs.lemmas.List.Kept.{IsNonDecreasingBy-filter}
+use Rattle.svc_base.specs.Blocks.{joined}
+use Rattle.svc_base.proofs.KeyLemmas.{all-both}
+use Rattle.svc_base.proofs.BlockLemmas.{joined-front}
 use Rattle.svc_base.proofs.Logic.{clash}
 use Rattle.svc_record.specs.Plans.{same_address}
 use Rattle.svc_endpoints.specs.declared.table.Open.{Open}
 use Rattle.svc_endpoints.specs.EndpointsState.{numbers_with}
 use Rattle.svc_endpoints.specs.Effects.{put_open}
-use Rattle.svc_endpoints.specs.Marks.{may_have, is_marked, are_marked, IsTableKept}
-use Rattle.svc_endpoints.proofs.TableLemmas.{insert-put_open}
+use Rattle.svc_endpoints.specs.Marks.{may_have, is_marked, are_marked}
 use Rattle.svc_endpoints.proofs.LiveLemmas.{same_eq}
 
 -- an address whose marks aren't set is of none
@@ -24,7 +23,7 @@ unmarked-none marks a (o ∷ t) h n =
       | inr other ↦ rw other (unmarked-none marks a t parts.1 n)
     ]
 
-marked-put : (marks : List Bool) (o : Open) (t : List Open) → is_marked marks o.address ≡ true → are_marked marks t ≡ true → are_marked marks (put_open o t) ≡ true
+pub marked-put : (marks : List Bool) (o : Open) (t : List Open) → is_marked marks o.address ≡ true → are_marked marks t ≡ true → are_marked marks (put_open o t) ≡ true
 marked-put marks o [] here h = and_from (is_marked marks o.address) true here refl
 marked-put marks o (x ∷ t) here h =
     let parts = and_parts (is_marked marks x.address) (are_marked marks t) h in
@@ -33,7 +32,7 @@ marked-put marks o (x ∷ t) here h =
       | inr above ↦ rw above (and_from (is_marked marks x.address) (are_marked marks (put_open o t)) parts.0 (marked-put marks o t here parts.1))
     ]
 
-marked-filter : (marks : List Bool) (f : Open → Bool) (t : List Open) → are_marked marks t ≡ true → are_marked marks (filter f t) ≡ true
+pub marked-filter : (marks : List Bool) (f : Open → Bool) (t : List Open) → are_marked marks t ≡ true → are_marked marks (filter f t) ≡ true
 marked-filter marks f [] h = refl
 marked-filter marks f (o ∷ t) h =
     let parts = and_parts (is_marked marks o.address) (are_marked marks t) h in
@@ -47,7 +46,7 @@ still_marked : (marks more : List Bool) (a : Option (List ℕ)) → ((b : List �
 still_marked marks more (Some a) kept h = kept a h
 still_marked marks more None kept h = refl
 
-marked-grows : (marks more : List Bool) (t : List Open) → ((b : List ℕ) → may_have marks b ≡ true → may_have more b ≡ true) → are_marked marks t ≡ true → are_marked more t ≡ true
+pub marked-grows : (marks more : List Bool) (t : List Open) → ((b : List ℕ) → may_have marks b ≡ true → may_have more b ≡ true) → are_marked marks t ≡ true → are_marked more t ≡ true
 marked-grows marks more [] kept h = refl
 marked-grows marks more (o ∷ t) kept h =
     let parts = and_parts (is_marked marks o.address) (are_marked marks t) h in
@@ -65,19 +64,9 @@ marked-next marks more t k x lt is kept here h =
     subst (λ (w : List Open). are_marked more w ≡ true) (sym (take_more t k x lt ∙ ap (λ y. take k t ++ y ∷ []) (sym is)))
     (marked_last more (take k t) x (marked-grows marks more (take k t) kept h) here)
 
--- what is kept of a table from which some are taken out
-pub kept-filter : (marks : List Bool) (f : Open → Bool) (t : List Open) → IsTableKept marks t → IsTableKept marks (filter f t)
-kept-filter marks f t h = record {
-  marked = marked-filter marks f t h.marked;
-  rising = IsNonDecreasingBy-filter (λ (o : Open). o.fd) f t h.rising;
-}
-
--- the same of one with one more
-pub kept-insert : (marks more : List Bool) (t : List Open) (k : ℕ) (o : Open) → k ≤ length t → IsPartitionPoint (λ (x : Open). x.fd ≤ o.fd) (λ (x : Open). o.fd < x.fd) t k
-    → ((b : List ℕ) → may_have marks b ≡ true → may_have more b ≡ true) → is_marked more o.address ≡ true → IsTableKept marks t → IsTableKept more (insert t k o)
-kept-insert marks more t k o within parts kept here h =
-    let placed : insert t k o ≡ put_open o t = insert-put_open t k o within (λ j d lt. parts.0 j d (omega arith) lt) (λ d lt. parts.1 k d (omega arith) lt) in
-    record {
-      marked = subst (λ (w : List Open). are_marked more w ≡ true) (sym placed) (marked-put more o t here (marked-grows marks more t kept h.marked));
-      rising = IsNonDecreasingBy-insert (λ (x : Open). x.fd) t k o h.rising within (λ j d lt. parts.0 j d (omega arith) lt) (λ j d low high. let less = parts.1 j d low high in omega arith);
-    }
+-- those of one block after another
+pub marked-block : {Z : Type 0} (marks more : List Bool) (bs : List (Vec Open Z)) (i : ℕ) (b : Vec Open Z) → i < length bs → b ≡ get_or bs i b → ((a : List ℕ) → may_have marks a ≡ true → may_have more a ≡ true)
+    → are_marked more b.items ≡ true → are_marked marks (joined (take i bs)) ≡ true → are_marked more (joined (take (i + 1) bs)) ≡ true
+marked-block marks more bs i b lt read kept here h =
+    ap (are_marked more) (joined-front bs i b lt read)
+    ∙ all-both (λ (o : Open). is_marked more o.address) (joined (take i bs)) b.items (marked-grows marks more (joined (take i bs)) kept h) here

@@ -1,5 +1,5 @@
 -- The table that the live descriptors make is the one that the record says.
-use Rattle.std.proofs.Common.{ℕ, Bool, false, not, ◌+◌, ◌<◌, inl, inr, List, [], ◌∷◌, ◌++◌, Option, Some, None, ◌≡◌, refl, sym, ap, subst, ◌∙◌, length, map, filter, take, get_or, if◌then◌else◌}
+use Rattle.std.proofs.Common.{ℕ, Vec, drop, ◌||◌, true, Bool, false, not, ◌+◌, ◌<◌, inl, inr, List, [], ◌∷◌, ◌++◌, Option, Some, None, ◌≡◌, refl, sym, ap, subst, ◌∙◌, length, map, filter, take, get_or, if◌then◌else◌}
 use Rattle.std.specs.List.{list_any, filter_map, cons_option}
 use Rattle.std.specs.Ordering.{nat_cmp, match_ordering}
 use Rattle.std.specs.declared.cmp.Ordering.{Ordering}
@@ -7,7 +7,10 @@ use Rattle.std.specs.declared.cmp.Ordering.TheVariants.{Less, Equal, Greater}
 use Rattle.std.specs.Cmp.Lexicographic.{slice_cmp}
 use Rattle.std.specs.Str.{bytes_eq}
 use Rattle.std.specs.Option.{option_to_list}
-use Rattle.std.proofs.lemmas.Bool.{cases_Bool}
+use Rattle.std.proofs.lemmas.Bool.{cases_Bool, or_left}
+use Rattle.std.proofs.lemmas.List.Folds.{list_any-append}
+use Rattle.svc_base.specs.Blocks.{joined}
+use Rattle.svc_base.proofs.BlockLemmas.{joined-front, joined-back}
 use Rattle.std.proofs.lemmas.List.{take_more}
 use Rattle.std.proofs.lemmas.List.Elements.{filter_map-append}
 use Rattle.std.proofs.lemmas.Map.Lookups.{exact_bytes}
@@ -163,3 +166,21 @@ put_all-next table k o es inside read =
     ∙ ap (λ xs. put_all (filter_map open_entry (take k table) ++ xs) es) (sym (option_last (open_entry o)))
     ∙ ap (λ xs. put_all xs es) (sym (filter_map-append open_entry (take k table) (o ∷ [])))
     ∙ ap (λ xs. put_all (filter_map open_entry xs) es) (ap (λ (x : Open). take k table ++ x ∷ []) read ∙ sym (take_more table k o inside))
+
+-- the descriptors of one block more
+pub put_all-block : {Z : Type 0} (bs : List (Vec Open Z)) (k : ℕ) (b : Vec Open Z) (es : List TableEntry) → k < length bs → b ≡ get_or bs k b
+    → put_all (filter_map open_entry b.items) (put_all (filter_map open_entry (joined (take k bs))) es) ≡ put_all (filter_map open_entry (joined (take (k + 1) bs))) es
+put_all-block bs k b es lt read =
+    sym (put_all-more (filter_map open_entry (joined (take k bs))) (filter_map open_entry b.items) es)
+    ∙ ap (λ xs. put_all xs es) (sym (ap (filter_map open_entry) (joined-front bs k b lt read) ∙ filter_map-append open_entry (joined (take k bs)) b.items))
+
+-- whether some descriptor of a block, or of those behind it, has an address
+module _ {Z : Type 0} (bs : List (Vec Open Z)) (k : ℕ) (b : Vec Open Z) (lt : k < length bs) (read : b ≡ get_or bs k b) where
+  any_back : list_any is_addressed (joined (drop k bs)) ≡ (list_any is_addressed b.items || list_any is_addressed (joined (drop (k + 1) bs)))
+  any_back = ap (list_any is_addressed) (joined-back bs k b lt read) ∙ list_any-append is_addressed b.items (joined (drop (k + 1) bs))
+
+  pub addressed-here : list_any is_addressed b.items ≡ true → true ≡ list_any is_addressed (joined (drop k bs))
+  addressed-here h = sym (any_back ∙ or_left (list_any is_addressed b.items) (list_any is_addressed (joined (drop (k + 1) bs))) h)
+
+  pub addressed-past : list_any is_addressed b.items ≡ false → list_any is_addressed (joined (drop (k + 1) bs)) ≡ list_any is_addressed (joined (drop k bs))
+  addressed-past h = sym (any_back ∙ (rw h refl))

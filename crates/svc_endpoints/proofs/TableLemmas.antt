@@ -1,23 +1,24 @@
 -- The table of open descriptors, walked from its front.
-use Rattle.std.proofs.Common.{ℕ, zero, Bool, true, false, not, inl, inr, ◌==◌, List, [], ◌∷◌, ◌++◌, append_assoc, length-append, map, filter, take, ◌≡◌, refl, ap, sym, ◌∙◌, arith, ◌<◌, ◌≤◌, ◌+◌, ◌-◌, length, insert, nat_lt, Some, None, drop, drop-cons, suc, get_or, get_or-take, get_or-drop, add-zero}
+use Rattle.std.proofs.Common.{ℕ, suc, Bool, true, false, not, inl, inr, ◌==◌, List, [], ◌∷◌, ◌++◌, append_assoc, length-append, length-set, map, filter, take, drop, set, drop-cons, ◌≡◌, refl, ap, sym, ◌∙◌, subst, arith, ◌<◌, ◌≤◌, ◌+◌, ◌-◌, length, nat_lt, Some, Option, is_some, get_or, get_or-drop, add-zero, Vec}
 use Rattle.svc_endpoints.specs.declared.table.Open.{Open}
-use Rattle.std.proofs.lemmas.Bool.{cases_Bool, cases_lt, eq-eqb, ne_eqb, false_from_ne_true}
+use Rattle.std.proofs.lemmas.Bool.{cases_Bool, eq-eqb, eqb-true, or_parts}
 use Rattle.std.specs.List.{SwappedAt}
-use Rattle.std.specs.List.Sorted.{IsPartitionPoint}
-use Rattle.std.specs.List.{remove}
-use Rattle.std.proofs.lemmas.List.{append-nil, take_more, drop_more, get_or_default, length-take-le, length-drop, take-append-drop, map-append}
-use Rattle.std.proofs.lemmas.List.Edits.{remove-append_right}
+use Rattle.std.specs.Vec.{vec_items}
+use Rattle.std.proofs.lemmas.List.{append-nil, take_more, take_more_set, map-append, drop-set-lt, drop-drop, take_all}
+use Rattle.std.proofs.lemmas.List.Concat.{flat_map-append}
+use Rattle.std.proofs.lemmas.List.Folds.{length-flat_map-take}
 use Rattle.std.proofs.lemmas.List.Elements.{filter-append}
 use Rattle.std.proofs.lemmas.List.Filters.{FiltersInPlace, FiltersInPlace-more_no, FiltersInPlace-more_swap}
-use Rattle.std.proofs.lemmas.Bool.Decides.{Decides-ltb}
+use Rattle.svc_base.specs.Blocks.{joined, put_by, has_key, StandsIn}
 use Rattle.svc_base.specs.Items.{list_of, spare}
+use Rattle.svc_base.specs.NumberSets.{put_number}
+use Rattle.svc_base.proofs.BlockLemmas.{joined-front, joined-back}
 use Rattle.svc_record.specs.declared.action.Action.{Action}
 use Rattle.svc_record.specs.declared.action.Action.TheVariants.{Close}
-use Rattle.svc_base.specs.NumberSets.{put_number}
-use Rattle.svc_endpoints.specs.EndpointsState.{numbers_with, numbers_of_table}
 use Rattle.svc_record.specs.Plans.{same_address}
-use Rattle.svc_endpoints.specs.Effects.{put_open}
-use Rattle.svc_endpoints.proofs.RestLemmas.{picked}
+use Rattle.svc_endpoints.specs.EndpointsState.{numbers_with, numbers_of_table}
+use Rattle.svc_endpoints.specs.Effects.{first_of, put_open, numbers_like}
+use Rattle.svc_endpoints.proofs.RestLemmas.{picked, unpicked, picked-length}
 
 front : (table : List Open) (k : ℕ) (x : Open) → k < length table → x ≡ get_or table k x → drop k table ≡ x ∷ drop (k + 1) table
 front table k x lt e = let one : suc k ≡ k + 1 = omega arith in drop-cons table k x lt ∙ ap (λ y. y ∷ drop (suc k) table) (sym e) ∙ ap (λ n. x ∷ drop n table) one
@@ -36,18 +37,13 @@ numbers_of-put o (x ∷ more) = elim (cases_Bool (nat_lt o.fd x.fd)) [
   | inr above ↦ rw above (ap (λ w. x.fd ∷ w) (numbers_of-put o more))
 ]
 
--- where it goes among the others
-pub insert-put_open : (table : List Open) (k : ℕ) (o : Open) → k ≤ length table → ((j : ℕ) (d : Open) → j < k → (get_or table j d).fd ≤ o.fd) → ((d : Open) → k < length table → o.fd < (get_or table k d).fd)
-    → insert table k o ≡ put_open o table
-insert-put_open [] zero o within below above = refl
-insert-put_open [] (suc k) o within below above = absurd (omega arith)
-insert-put_open (x ∷ more) zero o within below above =
-    let less : o.fd < x.fd = above o (omega arith) in
-    rw ((Decides-ltb o.fd x.fd).1 less) refl
-insert-put_open (x ∷ more) (suc k) o within below above =
-    let most : x.fd ≤ o.fd = below 0 o (omega arith) in
-    rw (false_from_ne_true (nat_lt o.fd x.fd) (λ h. let less = (Decides-ltb o.fd x.fd).0 h in absurd (omega arith)))
-    (ap (λ xs. x ∷ xs) (insert-put_open more k o (omega arith) (λ j d lt. below (suc j) d (omega arith)) (λ d lt. above d (omega arith))))
+-- the same as one more entry in ascending key
+pub put-open : (o : Open) (table : List Open) → put_by (λ (o : Open). o.fd) o table ≡ put_open o table
+put-open o [] = refl
+put-open o (x ∷ more) = elim (cases_Bool (nat_lt o.fd x.fd)) [
+  | inl below ↦ rw below refl
+  | inr above ↦ rw above (ap (λ xs. x ∷ xs) (put-open o more))
+]
 
 -- what goes of one more of them
 module _ (done : Open → Bool) (table : List Open) (k : ℕ) (x : Open) (lt : k < length table) (is : x ≡ get_or table k x) where
@@ -114,80 +110,143 @@ module _ (done : Open → Bool) (table here_table : List Open) (left k : ℕ) (x
     keeps = FiltersInPlace-more_swap was.keeps lt (ap not h) is swapped;
   }
 
--- what passes the test stands from a up to b
-module _ (done : Open → Bool) where
-  none_picked : (t : List Open) → ((k : ℕ) (d : Open) → k < length t → done (get_or t k d) ≡ false) → picked done t ≡ []
-  none_picked [] none = refl
-  none_picked (x ∷ more) none = rw (none 0 x (omega arith)) (none_picked more (λ k d lt. none (suc k) d (omega arith)))
+-- what is picked of two lists
+picked-append : (done : Open → Bool) (xs ys : List Open) → picked done (xs ++ ys) ≡ picked done xs ++ picked done ys
+picked-append done xs ys = ap numbers_of_table (filter-append done xs ys) ∙ map-append (λ (o : Open). o.fd) (filter done xs) (filter done ys)
 
-  -- so these are left
-  pub cut-out : (t : List Open) (a b : ℕ) → a ≤ b → b ≤ length t → ((k : ℕ) (d : Open) → k < a → done (get_or t k d) ≡ false) → ((k : ℕ) (d : Open) → a ≤ k → k < b → done (get_or t k d) ≡ true)
-      → ((k : ℕ) (d : Open) → b ≤ k → k < length t → done (get_or t k d) ≡ false) → take a t ++ drop b t ≡ filter (λ (o : Open). not (done o)) t
-  cut-out [] zero zero le within below among above = refl
-  cut-out [] zero (suc b) le within below among above = absurd (omega arith)
-  cut-out [] (suc a) b le within below among above = absurd (omega arith)
-  cut-out (x ∷ more) (suc a) zero le within below among above = absurd (omega arith)
-  cut-out (x ∷ more) (suc a) (suc b) le within below among above =
-      rw (below 0 x (omega arith)) (ap (λ (w : List Open). x ∷ w)
-      (cut-out more a b (omega arith) (omega arith) (λ k d lt. below (suc k) d (omega arith)) (λ k d low high. among (suc k) d (omega arith) (omega arith)) (λ k d low high. above (suc k) d (omega arith) (omega arith))))
-  cut-out (x ∷ more) zero (suc b) le within below among above =
-      rw (among 0 x (omega arith) (omega arith))
-      (cut-out more 0 b (omega arith) (omega arith) (λ k d lt. absurd (omega arith)) (λ k d low high. among (suc k) d (omega arith) (omega arith)) (λ k d low high. above (suc k) d (omega arith) (omega arith)))
-  cut-out (x ∷ more) zero zero le within below among above =
-      rw (above 0 x (omega arith) (omega arith)) (ap (λ (w : List Open). x ∷ w)
-      (cut-out more 0 0 (omega arith) (omega arith) (λ k d lt. absurd (omega arith)) (λ k d low high. absurd (omega arith)) (λ k d low high. above (suc k) d (omega arith) (omega arith))))
+-- of the first k blocks the descriptors that pass the test are closed, and the others are left
+pub record ClearedBlocks {Z : Type 0} (done : Open → Bool) (bs here_bs : List (Vec Open Z)) (start here : List Action × ℕ) (k : ℕ) : Type 0 where
+  pub left : joined (take k here_bs) ≡ unpicked done (joined (take k bs))
+  pub rest : drop k here_bs ≡ drop k bs
+  pub same : length here_bs ≡ length bs
+  pub room : spare start ≤ spare here + length (picked done (joined (take k bs)))
+  pub told : list_of here ≡ list_of start ++ map Close (picked done (joined (take k bs)))
 
-  module _ (t : List Open) where
-    pub closed-none : (start : List Action × ℕ) (a : ℕ) → a ≤ length t → ((k : ℕ) (d : Open) → k < a → done (get_or t k d) ≡ false) → ClosedUpTo done t start start a
-    closed-none start a within below =
-        let long : length (take a t) ≡ a = length-take-le a t within in
-        let none : picked done (take a t) ≡ [] = none_picked (take a t) (λ k d lt. ap done (get_or-take a t k d (omega (arith, long))) ∙ below k d (omega (arith, long))) in
-        record {
-          few = rw none (omega arith);
-          room = rw none (omega arith);
-          told = rw none (sym (append-nil (list_of start)));
-        }
+module _ {Z : Type 0} (done : Open → Bool) (bs here_bs : List (Vec Open Z)) (start here : List Action × ℕ) (k : ℕ) (b : Vec Open Z) (lt : k < length here_bs) (is : b ≡ get_or here_bs k b)
+    (was : ClearedBlocks done bs here_bs start here k) where
+  first_block : b ≡ get_or bs k b
+  first_block =
+      let at : (vs : List (Vec Open Z)) → get_or vs k b ≡ get_or (drop k vs) 0 b = λ vs. ap (λ n. get_or vs n b) (sym (add-zero k)) ∙ sym (get_or-drop k vs 0 b) in
+      is ∙ at here_bs ∙ ap (λ vs. get_or vs 0 b) was.rest ∙ sym (at bs)
 
-    pub closed-all : (b : ℕ) → b ≤ length t → ((k : ℕ) (d : Open) → b ≤ k → k < length t → done (get_or t k d) ≡ false) → picked done (take b t) ≡ picked done t
-    closed-all b within above =
-        let none : picked done (drop b t) ≡ [] = none_picked (drop b t) (λ k d lt. ap done (get_or-drop b t k d) ∙ above (b + k) d (omega arith) (let long = length-drop b t in omega (arith, long))) in
-        sym (ap (picked done) (sym (take-append-drop b t)) ∙ ap numbers_of_table (filter-append done (take b t) (drop b t)) ∙ map-append (λ (o : Open). o.fd) (filter done (take b t)) (filter done (drop b t))
-        ∙ ap (λ w. picked done (take b t) ++ w) none ∙ append-nil (picked done (take b t)))
+  inside_block : k < length bs
+  inside_block = let same = was.same in omega arith
 
--- one more is taken out behind the first a
-pub taken-out : (t : List Open) (a k : ℕ) → a ≤ k → k < length t → remove (take a t ++ drop k t) a ≡ take a t ++ drop (k + 1) t
-taken-out t a k le lt =
-    let long : length (take a t) ≡ a = length-take-le a t (omega arith) in
-    let none : a - a ≡ 0 = omega arith in
-    remove-append_right (take a t) (drop k t) a a long (omega arith) ∙ ap (λ n. take a t ++ remove (drop k t) n) none ∙ ap (λ (w : List Open). take a t ++ drop 1 w) (drop_more t k (record { fd = 0; address = None }) lt)
+  -- there is room for what goes of the block
+  pub block-fits : length (joined bs) ≤ spare start → length b.items ≤ spare here
+  block-fits fits =
+      let room = was.room in
+      let few = picked-length done (joined (take k bs)) in
+      let most = length-flat_map-take vec_items bs k b inside_block in
+      let size = ap (λ (v : Vec Open Z). length v.items) first_block in
+      omega arith
 
--- one more of those with this number is closed
-pub closes-next : (fd : ℕ) (t : List Open) (k : ℕ) (start here next : List Action × ℕ) → k < length t → ((d : Open) → (get_or t k d).fd ≡ fd) → ClosedUpTo (λ (o : Open). o.fd == fd) t start here k
-    → list_of next ≡ list_of here ++ Close fd ∷ [] → spare here ≤ spare next + 1 → ClosedUpTo (λ (o : Open). o.fd == fd) t start next (k + 1)
-closes-next fd t k start here next lt same was told room =
-    let none : Open = record { fd = 0; address = None } in
-    let x : Open = get_or t k none in
-    let is : x ≡ get_or t k x = get_or_default t k none x lt in
-    closes-here (λ (o : Open). o.fd == fd) t k x lt is start here was next (eq-eqb x.fd fd (same none)) (told ∙ ap (λ n. list_of here ++ Close n ∷ []) (sym (same none))) room
+  pub block-cleared : (v : Vec Open Z) (next : List Action × ℕ) → v.items ≡ unpicked done b.items → list_of next ≡ list_of here ++ map Close (picked done b.items) → spare here ≤ spare next + length (picked done b.items)
+      → ClearedBlocks done bs (set here_bs k v) start next (k + 1)
+  block-cleared v next items told room =
+      let one : suc k ≡ k + 1 = omega arith in
+      let more = joined-front bs k b inside_block first_block in
+      let gone : picked done (joined (take (k + 1) bs)) ≡ picked done (joined (take k bs)) ++ picked done b.items = ap (picked done) more ∙ picked-append done (joined (take k bs)) b.items in
+      record {
+        left = ap joined (take_more_set here_bs k v lt) ∙ flat_map-append vec_items (take k here_bs) (v ∷ []) ∙ ap (λ (xs : List Open). joined (take k here_bs) ++ xs) (append-nil v.items)
+            ∙ ap (λ (xs : List Open). xs ++ v.items) was.left ∙ ap (λ (xs : List Open). unpicked done (joined (take k bs)) ++ xs) items
+            ∙ sym (ap (unpicked done) more ∙ filter-append (λ (o : Open). not (done o)) (joined (take k bs)) b.items);
+        rest = drop-set-lt (k + 1) here_bs k v (omega arith) ∙ next_rest one;
+        same = length-set here_bs k v ∙ was.same;
+        room = (let before = was.room in omega (arith, ap length gone, length-append (picked done (joined (take k bs))) (picked done b.items)));
+        told = told ∙ ap (λ w. w ++ map Close (picked done b.items)) was.told ∙ append_assoc (list_of start) (map Close (picked done (joined (take k bs)))) (map Close (picked done b.items))
+            ∙ ap (λ w. list_of start ++ w) (sym (ap (map Close) gone ∙ map-append Close (picked done (joined (take k bs))) (picked done b.items)));
+      }
+    where
+      next_rest : suc k ≡ k + 1 → drop (k + 1) here_bs ≡ drop (k + 1) bs
+      next_rest one = sym (drop-drop 1 k here_bs) ∙ ap (λ (vs : List (Vec Open Z)). drop 1 vs) was.rest ∙ drop-drop 1 k bs
 
--- where those with a number stand, by how many have lower ones, and how many none that is higher
-module _ (fd : ℕ) (t : List Open) (first end : ℕ) (within : end ≤ length t) (low : IsPartitionPoint (λ (o : Open). o.fd < fd) (λ (o : Open). fd ≤ o.fd) t first)
-    (high : IsPartitionPoint (λ (o : Open). o.fd ≤ fd) (λ (o : Open). fd < o.fd) t end) where
-  pub below-first : (k : ℕ) (d : Open) → k < first → ((get_or t k d).fd == fd) ≡ false
-  below-first k d lt = ne_eqb (get_or t k d).fd fd (λ e. let less = low.0 k d (omega arith) lt in absurd (omega (arith, less, e)))
+-- after the last block
+module _ {Z : Type 0} (done : Open → Bool) (bs here_bs : List (Vec Open Z)) (start here : List Action × ℕ) (k : ℕ) (was : ClearedBlocks done bs here_bs start here k) (end : length bs ≤ k) where
+  whole : joined (take k bs) ≡ joined bs
+  whole = ap joined (take_all k bs end)
 
-  pub same-between : (k : ℕ) (d : Open) → first ≤ k → k < end → (get_or t k d).fd ≡ fd
-  same-between k d le lt = let least = low.1 k d le (omega arith) in let most = high.0 k d (omega arith) lt in omega (arith, least, most)
+  pub cleared-left : joined here_bs ≡ unpicked done (joined bs)
+  cleared-left = sym (ap joined (take_all k here_bs (let same = was.same in omega arith))) ∙ was.left ∙ ap (unpicked done) whole
 
-  pub above-end : (k : ℕ) (d : Open) → end ≤ k → k < length t → ((get_or t k d).fd == fd) ≡ false
-  above-end k d le lt = ne_eqb (get_or t k d).fd fd (λ e. let more = high.1 k d le lt in absurd (omega (arith, more, e)))
+  pub cleared-told : list_of here ≡ list_of start ++ map Close (picked done (joined bs))
+  cleared-told = was.told ∙ ap (λ (w : List Open). list_of start ++ map Close (picked done w)) whole
 
-  pub first-end : first ≤ length t → first ≤ end
-  first-end inside = elim (cases_lt end first) [
-    | inl less ↦ absurd (
-        let none : Open = record { fd = 0; address = None } in
-        let a = low.0 end none (omega arith) less in
-        let b = high.1 end none (omega arith) (omega arith) in
-        omega (arith, a, b))
-    | inr le ↦ le
-  ]
+  pub cleared-room : spare start ≤ spare here + length (picked done (joined bs))
+  cleared-room = subst (λ (w : List Open). spare start ≤ spare here + length (picked done w)) whole was.room
+
+-- the numbers with an address, of two lists
+numbers_with-append : (xs ys : List Open) (a : Option (List ℕ)) → numbers_with (xs ++ ys) a ≡ numbers_with xs a ++ numbers_with ys a
+numbers_with-append [] ys a = refl
+numbers_with-append (x ∷ xs) ys a = elim (cases_Bool (same_address x.address a)) [
+  | inl y ↦ rw y (ap (λ w. x.fd ∷ w) (numbers_with-append xs ys a))
+  | inr n ↦ rw n (numbers_with-append xs ys a)
+]
+
+first-some : (ns ms : List ℕ) → is_some (first_of ns) ≡ true → first_of ns ≡ first_of (ns ++ ms)
+first-some [] ms h = absurd (cc)
+first-some (n ∷ ns) ms h = refl
+
+first-none : (ns ms : List ℕ) → is_some (first_of ns) ≡ false → ns ++ ms ≡ ms
+first-none [] ms h = refl
+first-none (n ∷ ns) ms h = absurd (cc)
+
+-- a search in the next block
+module _ {Z : Type 0} (bs : List (Vec Open Z)) (k : ℕ) (b : Vec Open Z) (lt : k < length bs) (is : b ≡ get_or bs k b) (a : Option (List ℕ)) where
+  back_is : numbers_with (joined (drop k bs)) a ≡ numbers_with b.items a ++ numbers_with (joined (drop (k + 1) bs)) a
+  back_is = ap (λ (w : List Open). numbers_with w a) (joined-back bs k b lt is) ∙ numbers_with-append b.items (joined (drop (k + 1) bs)) a
+
+  pub block-found : is_some (first_of (numbers_with b.items a)) ≡ true → first_of (numbers_with b.items a) ≡ first_of (numbers_with (joined (drop k bs)) a)
+  block-found h = first-some (numbers_with b.items a) (numbers_with (joined (drop (k + 1) bs)) a) h ∙ ap first_of (sym back_is)
+
+  pub block-past : is_some (first_of (numbers_with b.items a)) ≡ false → numbers_with (joined (drop (k + 1) bs)) a ≡ numbers_with (joined (drop k bs)) a
+  block-past h = sym (back_is ∙ first-none (numbers_with b.items a) (numbers_with (joined (drop (k + 1) bs)) a) h)
+
+-- those with this number go one by one
+pub record ClosingLike (fd : ℕ) (first table : List Open) (start here : List Action × ℕ) : Type 0 where
+  pub left : filter (λ (o : Open). not (o.fd == fd)) table ≡ filter (λ (o : Open). not (o.fd == fd)) first
+  pub told : list_of here ++ map Close (numbers_like fd table) ≡ list_of start ++ map Close (numbers_like fd first)
+  pub room : spare start + length (numbers_like fd table) ≤ spare here + length (numbers_like fd first)
+  pub fits : length table ≤ spare here
+
+like-next : (fd : ℕ) (front : List Open) (x : Open) (back : List Open) → x.fd ≡ fd → numbers_like fd (front ++ x ∷ back) ≡ fd ∷ numbers_like fd (front ++ back)
+like-next fd [] x back same = rw (eq-eqb x.fd fd same) (ap (λ n. n ∷ numbers_like fd back) same)
+like-next fd (y ∷ front) x back same = elim (cases_Bool (y.fd == fd)) [
+  | inl here ↦ rw here (ap (λ w. y.fd ∷ w) (like-next fd front x back same) ∙ ap (λ n. n ∷ fd ∷ numbers_like fd (front ++ back)) (eqb-true y.fd fd here)
+      ∙ ap (λ n. fd ∷ n ∷ numbers_like fd (front ++ back)) (sym (eqb-true y.fd fd here)))
+  | inr other ↦ rw other (like-next fd front x back same)
+]
+
+unlike-next : (fd : ℕ) (front : List Open) (x : Open) (back : List Open) → x.fd ≡ fd → filter (λ (o : Open). not (o.fd == fd)) (front ++ back) ≡ filter (λ (o : Open). not (o.fd == fd)) (front ++ x ∷ back)
+unlike-next fd [] x back same = rw (eq-eqb x.fd fd same) refl
+unlike-next fd (y ∷ front) x back same = elim (cases_Bool (y.fd == fd)) [
+  | inl here ↦ rw here (unlike-next fd front x back same)
+  | inr other ↦ rw other (ap (λ (w : List Open). y ∷ w) (unlike-next fd front x back same))
+]
+
+pub like-none : (fd : ℕ) (table : List Open) → has_key (λ (o : Open). o.fd) fd table ≡ false → numbers_like fd table ≡ []
+like-none fd [] h = refl
+like-none fd (x ∷ table) h = let parts = or_parts (x.fd == fd) (has_key (λ (o : Open). o.fd) fd table) h in rw parts.0 (like-none fd table parts.1)
+
+pub unlike-none : (fd : ℕ) (table : List Open) → has_key (λ (o : Open). o.fd) fd table ≡ false → table ≡ filter (λ (o : Open). not (o.fd == fd)) table
+unlike-none fd [] h = refl
+unlike-none fd (x ∷ table) h = let parts = or_parts (x.fd == fd) (has_key (λ (o : Open). o.fd) fd table) h in rw parts.0 (ap (λ (w : List Open). x ∷ w) (unlike-none fd table parts.1))
+
+pub shorter : (fd : ℕ) (table new : List Open) (x : Open) (s : StandsIn (λ (o : Open). o.fd) fd table x) → new ≡ s.front ++ s.back → length new + 1 ≡ length table
+shorter fd table new x s after =
+    let old = ap length s.is in
+    let now = ap length after in
+    omega (arith, length-append s.front (x ∷ s.back), length-append s.front s.back)
+
+pub closing-next : (fd : ℕ) (first table new : List Open) (start here next : List Action × ℕ) (x : Open) (s : StandsIn (λ (o : Open). o.fd) fd table x) → new ≡ s.front ++ s.back
+    → list_of next ≡ list_of here ++ Close fd ∷ [] → spare here ≤ spare next + 1 → ClosingLike fd first table start here → ClosingLike fd first new start next
+closing-next fd first table new start here next x s after told room was =
+    let like : numbers_like fd table ≡ fd ∷ numbers_like fd new = ap (numbers_like fd) s.is ∙ like-next fd s.front x s.back s.has ∙ ap (λ (w : List Open). fd ∷ numbers_like fd w) (sym after) in
+    let size = ap length like in
+    record {
+      left = ap (filter (λ (o : Open). not (o.fd == fd))) after ∙ unlike-next fd s.front x s.back s.has ∙ ap (filter (λ (o : Open). not (o.fd == fd))) (sym s.is) ∙ was.left;
+      told = ap (λ (w : List Action). w ++ map Close (numbers_like fd new)) told ∙ append_assoc (list_of here) (Close fd ∷ []) (map Close (numbers_like fd new))
+          ∙ ap (λ w. list_of here ++ map Close w) (sym like) ∙ was.told;
+      room = (let before = was.room in omega arith);
+      fits = (let before = was.fits in let less = shorter fd table new x s after in omega arith);
+    }

@@ -1,7 +1,6 @@
--- What is kept of a table: its order, and marks of addresses, by which most that it doesn't have are told apart from those that it has.
-use Rattle.std.specs.Prelude.{ℕ, Bool, true, false, ◌≡◌, ◌+◌, ◌*◌, ◌/◌, ◌%◌, ◌==◌, ◌||◌, ◌&&◌, List, [], ◌∷◌, Option, Some, None, length, slice_index_or}
+-- What is kept of a table: marks of addresses, by which most that it doesn't have are told apart from those that it has.
+use Rattle.std.specs.Prelude.{ℕ, Bool, true, false, ◌+◌, ◌*◌, ◌/◌, ◌%◌, ◌==◌, ◌||◌, ◌&&◌, List, [], ◌∷◌, Option, Some, None, length, slice_index_or}
 use Rattle.std.specs.List.{list_all}
-use Rattle.std.specs.List.Sorted.{IsNonDecreasingBy}
 use Rattle.svc_endpoints.specs.declared.table.Open.{Open}
 
 -- a number below 2 ^ 32 that is made of one and of the bytes
@@ -25,8 +24,3 @@ is_marked marks None = true
 -- the address of each descriptor is marked
 abbrev pub are_marked : List Bool → List Open → Bool
 are_marked marks table = list_all (λ (o : Open). is_marked marks o.address) table
-
--- the address of each descriptor is marked, and the numbers don't fall
-pub record IsTableKept (marks : List Bool) (table : List Open) : Type 0 where
-  pub marked : are_marked marks table ≡ true
-  pub rising : IsNonDecreasingBy (λ (o : Open). o.fd) table

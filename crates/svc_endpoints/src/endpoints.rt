@@ -19,7 +19,7 @@ use crate::naming::{is_abandoned, service_count};
 use crate::states::{
     EndpointState, EndpointStatus, Row, is_adopting, is_binding, new_flags, new_rows,
 };
-use crate::table::{Open, Table};
+use crate::table::Table;
 use crate::uses::is_drained;
 use std::alloc::Global;
 use std::marker::Model;
@@ -308,11 +308,11 @@ impl Endpoints {
         row.first_missing()
     }
 
-    /// The live descriptors, in ascending number.
-    pub(crate) fn opens(&self) -> &[Open]
-        ensures { result.now ≡ self.now.parts.table }
+    /// The live descriptors.
+    pub(crate) fn table(&self) -> &Table
+        ensures { list_of result.now ≡ self.now.parts.table }
     {
-        self.table.opens()
+        &self.table
     }
 
     /// The live descriptor with this address.

@@ -3,6 +3,8 @@
 ghost use Rattle.std.specs.Prelude.{◌≡◌, ◌+◌, ◌<◌, ◌≤◌, [], length, not, IfOk, OnOk};
 ghost use Rattle.std.specs.List.{list_any, filter_map};
 ghost use Rattle.std.specs.Option.{option_to_list};
+ghost use Rattle.svc_base.specs.Blocks.{joined};
+ghost use Rattle.svc_base.specs.Items.{list_of};
 ghost use Rattle.svc_fds.specs.Tables.{put_all};
 ghost use Rattle.svc_record.specs.declared.plan.Plan.{Plan};
 ghost use Rattle.svc_record.specs.Record.{Record};
@@ -13,7 +15,7 @@ ghost use Rattle.svc_endpoints.specs.EndpointsState.{EndpointsStand};
 ghost use Rattle.svc_endpoints.specs.Offered.{open_entry, offer_table, is_addressed};
 
 use crate::endpoints::Endpoints;
-use crate::table::Open;
+use crate::table::{Open, Table};
 use std::alloc::Global;
 use svc_base::NoMemory;
 use svc_fds::{EncodeError, Fd, Fds, Message};
@@ -29,6 +31,18 @@ fn has_addressed(entries: &[Open]) -> bool
     ensures { result ≡ list_any is_addressed entries.now }
 {
     entries.iter().any(|entry| is_addressed(entry))
+}
+
+/// The same, block after block.
+fn has_addressed_block(blocks: &[Vec<Open>]) -> bool
+    ensures { result ≡ list_any is_addressed (joined blocks.now) }
+{
+    for block in blocks {
+        if has_addressed(block) {
+            return true;
+        }
+    }
+    false
 }
 
 /// Adds a copy of the descriptor under its address, if it has one.
@@ -53,10 +67,22 @@ fn add_entry(alloc: Global, entry: &Open, fds: &mut Fds) -> Result<(), NoMemory>
 /// Adds a copy of each descriptor that has an address.
 fn add_entries(alloc: Global, entries: &[Open], fds: &mut Fds) -> Result<(), NoMemory>
     requires { length entries.now ≤ fds.old.spare }
-    ensures { OnOk result (fds.new.entries ≡ put_all (filter_map open_entry entries.now) fds.old.entries) }
+    ensures entries { OnOk result (fds.new.entries ≡ put_all (filter_map open_entry entries.now) fds.old.entries) }
+    ensures room { OnOk result (fds.old.spare ≤ fds.new.spare + length entries.now) }
 {
     for entry in entries {
         add_entry(alloc, entry, fds)?;
+    }
+    Ok(())
+}
+
+/// The same, block after block.
+fn add_blocks(alloc: Global, blocks: &[Vec<Open>], fds: &mut Fds) -> Result<(), NoMemory>
+    requires { length (joined blocks.now) ≤ fds.old.spare }
+    ensures { OnOk result (fds.new.entries ≡ put_all (filter_map open_entry (joined blocks.now)) fds.old.entries) }
+{
+    for block in blocks {
+        add_entries(alloc, block, fds)?;
     }
     Ok(())
 }
@@ -76,12 +102,12 @@ fn encoded(alloc: Global, fds: &Fds) -> Result<Option<Message>, NoMemory>
 
 /// Fills an empty table with copies of the descriptors that have an address. Its message, where it has
 /// one.
-fn filled(alloc: Global, entries: &[Open], fds: &mut Fds) -> Result<Option<Message>, NoMemory>
+fn filled(alloc: Global, table: &Table, fds: &mut Fds) -> Result<Option<Message>, NoMemory>
     requires { fds.old.entries ≡ [] }
-    ensures { IfOk result (λ m. m ≡ encode (offer_table entries.now)) }
+    ensures { IfOk result (λ m. m ≡ encode (offer_table (list_of table.now))) }
 {
-    fds.reserve(alloc, entries.len() as u64)?;
-    add_entries(alloc, entries, fds)?;
+    fds.reserve(alloc, table.len() as u64)?;
+    add_blocks(alloc, table.as_blocks(), fds)?;
     encoded(alloc, fds)
 }
 
@@ -100,7 +126,7 @@ impl Endpoints {
         ensures { IfOk result (λ m. (p : Plan) (q : Record) → EndpointsStand p self.now.parts q → m ≡ encode (live_table p q)) }
     {
         let mut fds = Fds::new(alloc);
-        let message = filled(alloc, self.opens(), &mut fds);
+        let message = filled(alloc, self.table(), &mut fds);
         spend(fds);
         message
     }
@@ -109,6 +135,6 @@ impl Endpoints {
     pub fn offers_anything(&self) -> bool
         ensures { (p : Plan) (q : Record) → EndpointsStand p self.now.parts q → result ≡ not (is_empty_table (live_table p q)) }
     {
-        has_addressed(self.opens())
+        has_addressed_block(self.table().as_blocks())
     }
 }

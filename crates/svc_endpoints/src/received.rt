@@ -1,6 +1,7 @@
 //! What an older server's message brings.
 
 ghost use Rattle.std.specs.Prelude.{◌≡◌, ◌+◌, ◌<◌, ◌≤◌, ◌++◌, ◌∷◌, [], length, IfOk, OnErr, slice_get, map, true, false};
+ghost use Rattle.svc_base.specs.Blocks.{joined};
 ghost use Rattle.svc_base.specs.Items.{list_of, spare};
 ghost use Rattle.svc_record.specs.declared.action.Action.TheVariants.{Close};
 ghost use Rattle.svc_record.specs.declared.entry.Entry.TheVariants.{Got};
@@ -47,6 +48,17 @@ fn close_numbers(numbers: &[u64], actions: &mut Actions)
 {
     for fd in numbers {
         actions.put(Action::Close(*fd));
+    }
+}
+
+/// The same, block after block.
+fn close_number_blocks(blocks: &[Vec<u64>], actions: &mut Actions)
+    requires room { length (joined blocks.now) ≤ spare actions.old }
+    ensures told { list_of actions.new ≡ list_of actions.old ++ map Close (joined blocks.now) }
+    ensures room { spare actions.old ≤ spare actions.new + length (joined blocks.now) }
+{
+    for block in blocks {
+        close_numbers(block, actions);
     }
 }
 
@@ -110,7 +122,7 @@ impl Endpoints {
         ensures room { spare actions.old ≤ spare actions.new + length (turned_away plan.now self.old.parts words.items fds.now) }
     {
         self.turn_away(plan, &words, fds, &mut out);
-        close_numbers(out.as_slice(), actions);
+        close_number_blocks(out.as_blocks(), actions);
         self.take_rest(words, fds, &out);
     }
 

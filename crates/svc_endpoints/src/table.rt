@@ -1,8 +1,8 @@
 //! The live descriptors.
 
-ghost use Rattle.std.specs.Prelude.{true, ◌≡◌, ◌+◌, ◌-◌, ◌<◌, ◌≤◌, ◌++◌, ◌∷◌, [], length, ℕ, List, Option, Some, None, OnOk, map, insert, vec_len, vec_capacity, ◌||◌, ◌&&◌, false, ◌^◌, if◌then◌else◌, ◌==◌, filter, not};
+ghost use Rattle.std.specs.Prelude.{true, ◌≡◌, ◌+◌, ◌<◌, ◌≤◌, ◌++◌, [], length, ℕ, List, Option, Some, None, OnOk, map, vec_len, ◌||◌, ◌&&◌, false, ◌^◌, if◌then◌else◌, ◌==◌, filter, not};
 ghost use Rattle.std.specs.Option.{option_to_list};
-ghost use Rattle.std.specs.List.Sorted.{IsNonDecreasingBy, IsPartitionPoint};
+ghost use Rattle.svc_base.specs.Blocks.{joined};
 ghost use Rattle.svc_base.specs.Items.{list_of, spare};
 ghost use Rattle.svc_record.specs.declared.plan.Plan.{Plan};
 ghost use Rattle.svc_record.specs.declared.action.Action.TheVariants.{Close};
@@ -11,7 +11,7 @@ ghost use Rattle.svc_endpoints.specs.EndpointsState.{numbers_with, numbers_of_ta
 ghost use Rattle.svc_endpoints.specs.Effects.{first_of, put_open, put_opens, opens_of, without_numbers, passes, is_abandoned_by, is_done_for, goes, gone_numbers, without_gone, numbers_like};
 ghost use Rattle.svc_endpoints.specs.declared.table.Open.{Open};
 ghost use Rattle.svc_endpoints.specs.Uses.{AreStatesSized, states_of};
-ghost use Rattle.svc_endpoints.specs.Marks.{are_marked};
+ghost use Rattle.svc_endpoints.specs.Marks.{may_have, are_marked};
 
 use crate::came::contains;
 use crate::loops::Loops;
@@ -21,7 +21,7 @@ use crate::states::Row;
 use crate::uses::is_drained;
 use std::alloc::Global;
 use std::marker::Model;
-use svc_base::{NoMemory, NumberSet, Text};
+use svc_base::{Blocks, Keyed, NoMemory, NumberSet, Text};
 use svc_record::{Action, Actions, Plan};
 
 /// A live descriptor, with the address with which it was opened, if it has one.
@@ -35,21 +35,30 @@ pub(crate) struct Open {
 /// them stand marks of their addresses, so that most addresses that none has are told without a walk.
 #[derive(Drop)]
 pub(crate) struct Table {
-    entries: Vec<Open>,
+    entries: Blocks<Open>,
     marks: Vec<bool>,
     alloc: Global,
 }
 
 impl Model for Table {
-    ghost use Rattle.std.specs.Prelude.{List, ℕ, ◌-◌, vec_capacity, vec_len};
+    ghost use Rattle.std.specs.Prelude.{List, ℕ, ◌≡◌, true};
+    ghost use Rattle.svc_base.specs.Items.{list_of};
     ghost use Rattle.svc_endpoints.specs.declared.table.Open.{Open};
-    ghost use Rattle.svc_endpoints.specs.Marks.{IsTableKept};
+    ghost use Rattle.svc_endpoints.specs.Marks.{are_marked};
 
     ghost Value = { List Open × ℕ };
 
-    ghost view = { λ t. (t.entries.items, vec_capacity t.entries - vec_len t.entries) };
+    ghost view = { λ t. t.entries };
 
-    ghost invariant = { λ t. IsTableKept t.marks.items t.entries.items };
+    ghost invariant = { λ t. are_marked t.marks.items (list_of t.entries) ≡ true };
+}
+
+impl Keyed for Open {
+    ghost key_of = { λ o. o.fd };
+
+    fn key(&self) -> u64 {
+        self.fd
+    }
 }
 
 fn has_address(entry: &Open, address: &str) -> bool
@@ -117,32 +126,17 @@ fn find_in(table: &[Open], address: &str) -> Option<u64>
     None
 }
 
-/// Behind how many descriptors one goes that stands among them, by halving.
-fn place_of(table: &[Open], fd: u64) -> usize
-    requires rising { IsNonDecreasingBy (λ (o : Open). o.fd) table.now }
-    ensures within { result ≤ length table.now }
-    ensures parts { IsPartitionPoint (λ (o : Open). o.fd ≤ fd) (λ (o : Open). fd < o.fd) table.now result }
+/// The same, block after block.
+fn find_in_blocks(blocks: &[Vec<Open>], address: &str) -> Option<u64>
+    ensures { result ≡ first_of (numbers_with (joined blocks.now) (Some address.now)) }
 {
-    table.partition_point(|entry| entry.fd <= fd)
-}
-
-/// How many descriptors have lower numbers, by halving.
-fn place_before(table: &[Open], fd: u64) -> usize
-    requires rising { IsNonDecreasingBy (λ (o : Open). o.fd) table.now }
-    ensures within { result ≤ length table.now }
-    ensures parts { IsPartitionPoint (λ (o : Open). o.fd < fd) (λ (o : Open). fd ≤ o.fd) table.now result }
-{
-    table.partition_point(|entry| entry.fd < fd)
-}
-
-/// Inserts into reserved room.
-fn insert_reserved(table: &mut Vec<Open>, at: usize, entry: Open)
-    requires place { at ≤ vec_len table.old }
-    requires room { vec_len table.old < vec_capacity table.old }
-    ensures items { table.new.items ≡ insert table.old.items at entry }
-    ensures room { vec_capacity table.old - vec_len table.old ≤ vec_capacity table.new - vec_len table.new + 1 }
-{
-    let _ = table.insert(at, entry);
+    for block in blocks {
+        let found = find_in(block, address);
+        if found.is_some() {
+            return found;
+        }
+    }
+    None
 }
 
 /// Closes each of them.
@@ -153,6 +147,17 @@ fn close_each(table: &[Open], actions: &mut Actions)
 {
     for entry in table {
         actions.put(Action::Close(entry.fd));
+    }
+}
+
+/// The same, block after block.
+fn close_blocks(blocks: &[Vec<Open>], actions: &mut Actions)
+    requires room { length (joined blocks.now) ≤ spare actions.old }
+    ensures told { list_of actions.new ≡ list_of actions.old ++ map Close (numbers_of_table (joined blocks.now)) }
+    ensures room { spare actions.old ≤ spare actions.new + length (joined blocks.now) }
+{
+    for block in blocks {
+        close_each(block, actions);
     }
 }
 
@@ -187,19 +192,38 @@ fn close_done(
     table.truncate(left);
 }
 
-/// Closes those with this number, which stand one behind the other, and takes them out.
-fn close_like(table: &mut Vec<Open>, fd: u64, actions: &mut Actions)
-    requires rising { IsNonDecreasingBy (λ (o : Open). o.fd) table.old.items }
-    requires room { vec_len table.old ≤ spare actions.old }
-    ensures after { table.new.items ≡ filter (λ (o : Open). not (o.fd == fd)) table.old.items }
-    ensures told { list_of actions.new ≡ list_of actions.old ++ map Close (numbers_like fd table.old.items) }
-    ensures room { spare actions.old ≤ spare actions.new + length (numbers_like fd table.old.items) }
+/// The same, block after block.
+fn close_done_blocks(
+    blocks: &mut Vec<Vec<Open>>,
+    plan: &Plan,
+    rows: &[Row],
+    failed: &[bool],
+    loops: &Loops,
+    kept: &[u64],
+    actions: &mut Actions,
+)
+    requires sized { AreStatesSized plan.now rows.now failed.now }
+    requires room { length (joined blocks.old.items) ≤ spare actions.old }
+    ensures after { joined blocks.new.items ≡ without_gone plan.now kept.now (states_of rows.now failed.now (list_of loops.now)) (joined blocks.old.items) }
+    ensures told { list_of actions.new ≡ list_of actions.old
+        ++ map Close (gone_numbers plan.now kept.now (states_of rows.now failed.now (list_of loops.now)) (joined blocks.old.items)) }
+    ensures room { spare actions.old ≤ spare actions.new
+        + length (gone_numbers plan.now kept.now (states_of rows.now failed.now (list_of loops.now)) (joined blocks.old.items)) }
 {
-    let first = place_before(table, fd);
-    let end = place_of(table, fd);
-    for _closed in first..end {
+    for at in 0..blocks.len() {
+        close_done(&mut blocks[at], plan, rows, failed, loops, kept, actions);
+    }
+}
+
+/// Closes those with this number, and takes them out.
+fn close_like(table: &mut Blocks<Open>, fd: u64, actions: &mut Actions)
+    requires room { length (list_of table.old) ≤ spare actions.old }
+    ensures after { list_of table.new ≡ filter (λ (o : Open). not (o.fd == fd)) (list_of table.old) }
+    ensures told { list_of actions.new ≡ list_of actions.old ++ map Close (numbers_like fd (list_of table.old)) }
+    ensures room { spare actions.old ≤ spare actions.new + length (numbers_like fd (list_of table.old)) }
+{
+    while let Some(_closed) = table.remove(fd) {
         actions.put(Action::Close(fd));
-        let _ = table.remove(first);
     }
 }
 
@@ -211,13 +235,23 @@ fn blank_marks(alloc: Global, count: usize) -> Vec<bool> {
     }
 }
 
+/// Marks the addresses of the descriptors.
+fn mark_each(marks: &mut Vec<bool>, table: &[Open])
+    ensures marked { are_marked marks.new.items table.now ≡ true }
+    ensures kept { (a : List ℕ) → may_have marks.old.items a ≡ true → may_have marks.new.items a ≡ true }
+{
+    for entry in table {
+        mark(marks, &entry.address);
+    }
+}
+
 /// The marks of the descriptors, with places for those of so many.
-fn marked(alloc: Global, table: &[Open], count: usize) -> Vec<bool>
-    ensures { are_marked result.items table.now ≡ true }
+fn marked(alloc: Global, blocks: &[Vec<Open>], count: usize) -> Vec<bool>
+    ensures { are_marked result.items (joined blocks.now) ≡ true }
 {
     let mut marks = blank_marks(alloc, count);
-    for entry in table {
-        mark(&mut marks, &entry.address);
+    for block in blocks {
+        mark_each(&mut marks, block);
     }
     marks
 }
@@ -227,7 +261,7 @@ impl Table {
         ensures { list_of result ≡ [] }
     {
         Table {
-            entries: Vec::new(alloc),
+            entries: Blocks::new(alloc),
             marks: Vec::new(alloc),
             alloc,
         }
@@ -238,12 +272,10 @@ impl Table {
         ensures entries { list_of self.new ≡ list_of self.old }
         ensures room { OnOk result (count ≤ spare self.new) }
     {
-        if self.entries.reserve(count).is_err() {
-            return Err(NoMemory);
-        }
+        self.entries.reserve(count)?;
         let wanted = self.entries.len().saturating_add(count);
         if self.marks.len() / 16 < wanted {
-            self.marks = marked(self.alloc, &self.entries, wanted);
+            self.marks = marked(self.alloc, self.entries.as_blocks(), wanted);
         }
         Ok(())
     }
@@ -252,14 +284,14 @@ impl Table {
         ensures small { result < 2 ^ 60 }
         ensures length { result ≡ length (list_of self.now) }
     {
-        self.entries.as_slice().len()
+        self.entries.len()
     }
 
-    /// The live descriptors, in ascending number.
-    pub(crate) fn opens(&self) -> &[Open]
-        ensures { result.now ≡ list_of self.now }
+    /// The live descriptors, in ascending number, block after block.
+    pub(crate) fn as_blocks(&self) -> &[Vec<Open>]
+        ensures { joined result.now ≡ list_of self.now }
     {
-        &self.entries
+        self.entries.as_blocks()
     }
 
     /// The live descriptor with this address.
@@ -269,7 +301,7 @@ impl Table {
         if !may_have(&self.marks, address) {
             return None;
         }
-        find_in(&self.entries, address)
+        find_in_blocks(self.entries.as_blocks(), address)
     }
 
     /// Takes a descriptor.
@@ -278,9 +310,8 @@ impl Table {
         ensures entries { list_of self.new ≡ put_open (record { fd = fd; address = address }) (list_of self.old) }
         ensures room { spare self.old ≤ spare self.new + 1 }
     {
-        let at = place_of(&self.entries, fd);
         mark(&mut self.marks, &address);
-        insert_reserved(&mut self.entries, at, Open { fd, address });
+        self.entries.insert(Open { fd, address });
     }
 
     /// Takes descriptors, each with the word at its place if there is one, but for those that are
@@ -324,7 +355,9 @@ impl Table {
         ensures room { spare actions.old ≤ spare actions.new + length
             (gone_numbers plan.now kept.now (states_of rows.now failed.now (list_of loops.now)) (list_of self.old)) }
     {
-        close_done(&mut self.entries, plan, rows, failed, loops, kept, actions);
+        let mut blocks = self.entries.take_blocks();
+        close_done_blocks(&mut blocks, plan, rows, failed, loops, kept, actions);
+        self.entries.put_blocks(blocks);
     }
 
     /// Closes the descriptor with this number.
@@ -343,6 +376,6 @@ impl Table {
         ensures told { list_of actions.new ≡ list_of actions.old ++ map Close (numbers_of_table (list_of self.now)) }
         ensures room { spare actions.old ≤ spare actions.new + length (list_of self.now) }
     {
-        close_each(&self.entries, actions);
+        close_blocks(self.entries.as_blocks(), actions);
     }
 }

@@ -1,7 +1,7 @@
 use Rattle.std.proofs.Common.{◌≡◌, ◌≤◌, ◌+◌, ◌++◌, take, length}
+use Rattle.svc_base.specs.Blocks.{joined}
 use Rattle.svc_base.specs.Items.{list_of, spare}
 use Rattle.svc_connections.specs.ConnectionsEffects.{cuts}
-use Rattle.svc_connections.specs.Blocks.{joined}
 use Rattle.svc_connections.proofs.live.cut_blocks.Given as goal
 
 abbrev pub invariant-loop-block : goal.invariant-loop-block

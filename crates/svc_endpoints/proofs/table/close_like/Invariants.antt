@@ -1,11 +1,11 @@
-use Rattle.std.proofs.Common.{◌≡◌, ◌==◌, ◌++◌, take, drop}
-use Rattle.svc_endpoints.specs.declared.table.Open.{Open}
-use Rattle.svc_endpoints.proofs.TableLemmas.{ClosedUpTo}
+use Rattle.std.proofs.Common.{length}
+use Rattle.svc_base.specs.Items.{list_of}
+use Rattle.svc_endpoints.proofs.TableLemmas.{ClosingLike}
 use Rattle.svc_endpoints.proofs.table.close_like.Given as goal
 
--- those from the first one up to this are closed and out
+-- those that are still there, and what is told of the others
 abbrev pub invariant-loop-closed : goal.invariant-loop-closed
-invariant-loop-closed l = record {
-  closes : ClosedUpTo (λ (o : Open). o.fd == l.fd) l.initial.table.items l.initial.actions l.actions l._closed;
-  rest : l.table.items ≡ take l.first l.initial.table.items ++ drop l._closed l.initial.table.items;
-}
+invariant-loop-closed l = ClosingLike l.fd (list_of l.initial.table) (list_of l.table) l.initial.actions l.actions
+
+abbrev pub decreases-loop-closed : goal.decreases-loop-closed
+decreases-loop-closed l = length (list_of l.table)

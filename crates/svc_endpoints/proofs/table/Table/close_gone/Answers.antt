@@ -1,12 +1,27 @@
-use Rattle.std.proofs.Common.{List, sym, subst, not}
+use Rattle.std.proofs.Common.{List, ◌≡◌, length, ap, ◌∙◌, not, arith}
 use Rattle.svc_base.specs.Items.{list_of}
+use Rattle.svc_base.specs.Blocks.{joined, rises_by}
+use Rattle.svc_base.proofs.KeyLemmas.{rises-filter}
 use Rattle.svc_endpoints.specs.declared.table.Open.{Open}
 use Rattle.svc_endpoints.specs.Effects.{goes}
 use Rattle.svc_endpoints.specs.Uses.{states_of}
-use Rattle.svc_endpoints.specs.Marks.{IsTableKept}
-use Rattle.svc_endpoints.proofs.MarkLemmas.{kept-filter}
+use Rattle.svc_endpoints.specs.Marks.{are_marked}
+use Rattle.svc_endpoints.proofs.RestLemmas.{unpicked, picked-length}
+use Rattle.svc_endpoints.proofs.MarkLemmas.{marked-filter}
 use Rattle.svc_endpoints.proofs.table.Table.close_gone.Goals as goal
 
+pub put_blocks-requires : goal.put_blocks-requires
+put_blocks-requires c =
+    let done = goes c.args.plan.now c.args.kept.now (states_of c.args.rows.now c.args.failed.now (list_of c.args.loops.now)) in
+    let size = ap length c.close_done_blocks.ensures.after in
+    let few = c.take_blocks-blocks.ensures.few in
+    record {
+      rise = ap (rises_by (λ (o : Open). o.fd)) c.close_done_blocks.ensures.after ∙ rises-filter (λ (o : Open). o.fd) (λ (o : Open). not (done o)) (joined c.take_blocks-blocks.result.items) c.take_blocks-blocks.ensures.rise;
+      few = omega (arith, picked-length done (joined c.take_blocks-blocks.result.items));
+    }
+
 pub invariant_of-self : goal.invariant_of-self
-invariant_of-self c = subst (λ (t : List Open). IsTableKept c.self.inside.marks.items t) (sym c.close_done.ensures.after)
-    (kept-filter c.self.inside.marks.items (λ (o : Open). not (goes c.args.plan.now c.args.kept.now (states_of c.args.rows.now c.args.failed.now (list_of c.args.loops.now)) o)) c.self.inside.entries.items c.self.invariant)
+invariant_of-self c =
+    let done = goes c.args.plan.now c.args.kept.now (states_of c.args.rows.now c.args.failed.now (list_of c.args.loops.now)) in
+    let left : list_of c.put_blocks.new.self ≡ unpicked done (list_of c.self.inside.entries) = c.put_blocks.ensures ∙ c.close_done_blocks.ensures.after ∙ ap (unpicked done) c.take_blocks-blocks.ensures.entries in
+    ap (are_marked c.self.inside.marks.items) left ∙ marked-filter c.self.inside.marks.items (λ (o : Open). not (done o)) (list_of c.self.inside.entries) c.self.invariant

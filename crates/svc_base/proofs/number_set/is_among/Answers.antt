@@ -1,9 +1,0 @@
-use Rattle.std.proofs.Common.{sym}
-use Rattle.svc_base.proofs.NumberSetLemmas.{found, not-found}
-use Rattle.svc_base.proofs.number_set.is_among.Goals as goal
-
-pub returns-in-Ok : goal.returns-in-Ok
-returns-in-Ok c = sym (found c.args.numbers.now c.args.number c.requires.rising c.in-Ok.field-0 c.in-Ok.ensures.position)
-
-pub returns-in-Err : goal.returns-in-Err
-returns-in-Err c = sym (not-found c.args.numbers.now c.args.number c.requires.rising c.in-Err.field-0 c.in-Err.ensures.position)

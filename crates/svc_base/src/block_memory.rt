@@ -1,0 +1,121 @@
+//! Memory for more entries in blocks.
+
+ghost use Rattle.std.specs.Prelude.{◌≡◌, ◌+◌, ◌<◌, ◌^◌, length, take, OnOk, vec_len, true};
+ghost use Rattle.svc_base.specs.Blocks.{are_wide, KeepsEntries};
+
+use crate::memory::NoMemory;
+use std::alloc::Global;
+
+/// A block with more entries is cut.
+const FULL: usize = 256;
+
+/// So many entries go from a block that is cut.
+const HALF: usize = FULL / 2;
+
+/// How much more is reserved than what is asked for.
+pub(crate) const SLACK: usize = 64;
+
+/// Where a block of so many entries is cut. The last one stays full, so that keys that ascend leave no
+/// block half empty.
+fn cut_place(len: usize, is_last: bool) -> usize
+    requires { 256 < len }
+    ensures lower { 0 < result }
+    ensures upper { result < len }
+{
+    if is_last && len < 2 * FULL {
+        FULL
+    } else {
+        len - HALF
+    }
+}
+
+/// Cuts entries off the block there, if it has too many.
+fn cut<T: Drop>(blocks: &mut Vec<Vec<T>>, at: usize) -> Result<(), NoMemory>
+    requires { at < vec_len blocks.old }
+    ensures { KeepsEntries blocks.old.items blocks.new.items }
+{
+    let len = blocks[at].len();
+    if len <= FULL {
+        return Ok(());
+    }
+    let place = cut_place(len, at + 1 == blocks.len());
+    blocks.reserve(1)?;
+    let upper = blocks[at].split_off(place)?;
+    let _ = blocks.insert(at + 1, upper);
+    Ok(())
+}
+
+/// Cuts the block there into blocks that are no larger than the others.
+fn cut_whole<T: Drop>(blocks: &mut Vec<Vec<T>>, at: usize) -> Result<(), NoMemory>
+    requires { at < vec_len blocks.old }
+    ensures { KeepsEntries blocks.old.items blocks.new.items }
+{
+    for _part in 0..blocks[at].len() / HALF {
+        cut(blocks, at)?;
+    }
+    Ok(())
+}
+
+/// Cuts each block that has too many entries.
+fn cut_each<T: Drop>(blocks: &mut Vec<Vec<T>>) -> Result<(), NoMemory>
+    ensures { KeepsEntries blocks.old.items blocks.new.items }
+{
+    for at in (0..blocks.len()).rev() {
+        cut_whole(blocks, at)?;
+    }
+    Ok(())
+}
+
+/// Reserves memory for so many more entries in the block there, and a little more where it has none.
+fn widen<T>(blocks: &mut Vec<Vec<T>>, at: usize, room: usize) -> Result<(), NoMemory>
+    requires at { at < vec_len blocks.old }
+    requires few { room < 2 ^ 60 }
+    ensures kept { KeepsEntries blocks.old.items blocks.new.items }
+    ensures same { length blocks.new.items ≡ length blocks.old.items }
+    ensures room { OnOk result (are_wide room (take at blocks.old.items) ≡ true → are_wide room (take (at + 1) blocks.new.items) ≡ true) }
+{
+    let block = &mut blocks[at];
+    if block.capacity() - block.len() < room {
+        block.reserve_exact(room + SLACK / 4)?;
+    }
+    Ok(())
+}
+
+/// Reserves memory for so many more entries in each block.
+fn widen_each<T>(blocks: &mut Vec<Vec<T>>, room: usize) -> Result<(), NoMemory>
+    requires { room < 2 ^ 60 }
+    ensures kept { KeepsEntries blocks.old.items blocks.new.items }
+    ensures room { OnOk result (are_wide room blocks.new.items ≡ true) }
+{
+    for at in 0..blocks.len() {
+        widen(blocks, at, room)?;
+    }
+    Ok(())
+}
+
+/// There is a first block.
+fn begin<T: Drop>(blocks: &mut Vec<Vec<T>>, alloc: Global) -> Result<(), NoMemory>
+    ensures kept { KeepsEntries blocks.old.items blocks.new.items }
+    ensures some { OnOk result (0 < length blocks.new.items) }
+{
+    if blocks.is_empty() {
+        blocks.push(Vec::new(alloc))?;
+    }
+    Ok(())
+}
+
+/// After it there is a block, none has too many entries, and each has memory for so many more.
+pub(crate) fn make_room<T: Drop>(
+    blocks: &mut Vec<Vec<T>>,
+    room: usize,
+    alloc: Global,
+) -> Result<(), NoMemory>
+    requires { room < 2 ^ 60 }
+    ensures kept { KeepsEntries blocks.old.items blocks.new.items }
+    ensures some { OnOk result (0 < length blocks.new.items) }
+    ensures room { OnOk result (are_wide room blocks.new.items ≡ true) }
+{
+    begin(blocks, alloc)?;
+    cut_each(blocks)?;
+    widen_each(blocks, room)
+}

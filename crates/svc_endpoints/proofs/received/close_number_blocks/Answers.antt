@@ -1,0 +1,11 @@
+use Rattle.std.proofs.Common.{ℕ, rules, ◌<◌, ap, ◌∙◌, arith, Vec, Global, length}
+use Rattle.std.specs.Vec.{vec_items}
+use Rattle.std.proofs.lemmas.List.Folds.{length-flat_map-take}
+use Rattle.svc_endpoints.proofs.received.close_number_blocks.Goals as goal
+
+pub close_numbers-requires : goal.close_numbers-requires
+close_numbers-requires c =
+    let lt : c.loop-block.block-index < length c.args.blocks.now = search rules in
+    let fits = length-flat_map-take vec_items c.args.blocks.now c.loop-block.block-index c.block-item.result lt in
+    let size = ap length c.deref.ensures.value ∙ ap (λ (v : Vec ℕ Global). length v.items) c.block-item.is in
+    record { room = omega arith }

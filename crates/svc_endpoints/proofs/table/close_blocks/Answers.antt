@@ -1,0 +1,12 @@
+use Rattle.std.proofs.Common.{rules, ◌<◌, ap, ◌∙◌, arith, Vec, Global, length}
+use Rattle.std.specs.Vec.{vec_items}
+use Rattle.std.proofs.lemmas.List.Folds.{length-flat_map-take}
+use Rattle.svc_endpoints.specs.declared.table.Open.{Open}
+use Rattle.svc_endpoints.proofs.table.close_blocks.Goals as goal
+
+pub close_each-requires : goal.close_each-requires
+close_each-requires c =
+    let lt : c.loop-block.block-index < length c.args.blocks.now = search rules in
+    let fits = length-flat_map-take vec_items c.args.blocks.now c.loop-block.block-index c.block-item.result lt in
+    let size = ap length c.deref.ensures.value ∙ ap (λ (v : Vec Open Global). length v.items) c.block-item.is in
+    record { room = omega arith }
