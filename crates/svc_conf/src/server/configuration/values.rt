@@ -134,6 +134,7 @@ fn has_colon(text: &[u8]) -> bool
     false
 }
 
+/// Whether the text's last byte is a colon.
 pub fn ends_in_colon(text: &[u8]) -> bool
     ensures { result ≡ ends_in_colon text.now }
 {
@@ -190,6 +191,7 @@ pub fn value_of(alloc: Global, rest: &[u8]) -> Result<Option<Value>, NoMemory>
     value_from(alloc, past_blanks(rest))
 }
 
+/// Whether the text is one of the words for a value that isn't there: `null`, `Null`, `NULL` or `~`.
 pub fn is_null_word(text: &[u8]) -> bool
     ensures { result ≡ is_null_word text.now }
 {
