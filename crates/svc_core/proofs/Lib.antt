@@ -2,6 +2,7 @@ pub mod RecordLemmas
 pub mod StartsLemmas
 pub mod ParkedLemmas
 pub mod WaitsLemmas
+pub mod PlaceLemmas
 pub mod GoingLemmas
 pub mod PassLemmas
 pub mod SkipLemmas

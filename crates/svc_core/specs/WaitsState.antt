@@ -137,6 +137,11 @@ OpensPlace k old new = HasBits (λ a b. is_set old.bits a b || (a == length old.
 abbrev pub AreApart : List ℕ → Type 0
 AreApart order = (j k : ℕ) → j < k → k < length order → slice_index order j ≢ slice_index order k
 
+-- an order that has room in a row of bits
+pub record IsShortOrder (order : List ℕ) : Type 0 where
+  pub short : length order ≤ 1024
+  pub apart : AreApart order
+
 -- the service's place is open
 abbrev pub IsOpenOf : List ℕ → ℕ → WaitsData → Type 0
 IsOpenOf order s w = (k : ℕ) → k < length order → slice_index order k ≡ s → is_open w k ≡ true

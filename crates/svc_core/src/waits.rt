@@ -6,7 +6,7 @@ ghost use Rattle.svc_record.specs.Plans.{service_count};
 ghost use Rattle.svc_record.specs.Validity.{IsValid};
 ghost use Rattle.svc_core.specs.StartsState.{IsStartsSized, is_flagged, ready_now};
 ghost use Rattle.std.specs.Bool.{OnTrue};
-ghost use Rattle.svc_core.specs.WaitsState.{is_open, IsUnmarked, KnowsReady, KnowsOthers, Opens, IsMarked, MarksIf, ClosesPlace, OpensPlace, AreApart, Reopens, Parks, JoinsRow, Frees, FreesAll, Wakes, LeavesPlace, ParksBehind, ParksResting};
+ghost use Rattle.svc_core.specs.WaitsState.{is_open, IsUnmarked, KnowsReady, KnowsOthers, Opens, IsMarked, MarksIf, ClosesPlace, OpensPlace, IsShortOrder, Reopens, Parks, JoinsRow, Frees, FreesAll, Wakes, LeavesPlace, ParksBehind, ParksResting};
 
 use crate::plans::depends_of;
 use crate::starts::Starts;
@@ -189,8 +189,7 @@ impl Waits {
 
     /// The service's place is visited again.
     pub(crate) fn reopen(&mut self, order: &[u32], s: u32)
-        requires short { length order.now ≤ 1024 }
-        requires apart { AreApart order.now }
+        requires { IsShortOrder order.now }
         ensures { Reopens order.now s self.old self.new }
     {
         if let Some(k) = place_of(order, s) {

@@ -4,7 +4,7 @@ use Rattle.svc_graph.specs.declared.plan.Kind.TheVariants.{Bootstrap}
 use Rattle.svc_record.specs.Plans.{has_kind}
 use Rattle.svc_core.specs.StartsState.{starts_now}
 use Rattle.svc_core.proofs.PassLemmas.{starting-boot, none-begins}
-use Rattle.svc_core.proofs.WaitsLemmas.{starts-only}
+use Rattle.svc_core.proofs.PlaceLemmas.{starts-only}
 use Rattle.svc_core.proofs.pass.start.Goals.{else-starts_now-via-then-starts_now+then-is_bootstrap+else-not-is_begun, else-starts_now-via-then-starts_now+else-is_bootstrap, else-starts_now-via-else-starts_now}
 use Rattle.svc_core.proofs.pass.start.Goals as goal
 

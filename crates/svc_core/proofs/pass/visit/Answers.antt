@@ -1,7 +1,7 @@
 use Rattle.std.proofs.Common.{sym, ◌∙◌, slice_index}
 use Rattle.svc_base.specs.Items.{list_of}
 use Rattle.svc_core.proofs.PassLemmas.{visit-passes, visit-tests, passes-stay}
-use Rattle.svc_core.proofs.WaitsLemmas.{starts-none}
+use Rattle.svc_core.proofs.PlaceLemmas.{starts-none}
 use Rattle.svc_core.proofs.pass.visit.Goals as goal
 
 pub returns-then-is_tested-clause-passed : goal.returns-then-is_tested-clause-passed

@@ -6,7 +6,7 @@ use Rattle.svc_record.specs.Plans.{service_count}
 use Rattle.svc_core.specs.CoreData.{CoreData}
 use Rattle.svc_core.proofs.StepLemmas.{strike-answer, fits-adopt, silently}
 use Rattle.svc_core.proofs.StepForms.{opened, gives-up}
-use Rattle.svc_core.proofs.WaitsLemmas.{order-apart, watched-adopted}
+use Rattle.svc_core.proofs.WaitsLemmas.{short-order, watched-adopted}
 use Rattle.svc_core.proofs.machine.Core.step_adopted.Goals as goal
 
 pub returns : goal.returns
@@ -24,7 +24,7 @@ invariant_of-self c = record {
 }
 
 pub reopen-requires : goal.reopen-requires
-reopen-requires c = rw c.deref.ensures.value (record { short = c.self.invariant.formed.in_order.short; apart = order-apart c.self.inside.plan c.self.inside.order.items c.self.invariant.formed.least })
+reopen-requires c = rw c.deref.ensures.value (short-order c.self.invariant.formed)
 
 pub free-requires : goal.free-requires
 free-requires c =

@@ -5,7 +5,7 @@ use Rattle.svc_core.proofs.StepLemmas.{strike-answer, fits-bound, unheld}
 use Rattle.svc_core.proofs.StepForms.{opened, gives-up}
 use Rattle.svc_endpoints.specs.Stays.{StaysHeld, OthersStay}
 use Rattle.svc_core.specs.WaitsState.{IsKept}
-use Rattle.svc_core.proofs.WaitsLemmas.{order-apart, watched-bound}
+use Rattle.svc_core.proofs.WaitsLemmas.{short-order, watched-bound}
 use Rattle.svc_core.proofs.machine.Core.step_bound.Goals as goal
 
 pub returns : goal.returns
@@ -28,4 +28,4 @@ invariant_of-self-2 c = record {
 }
 
 pub reopen-requires : goal.reopen-requires
-reopen-requires c = rw c.deref.ensures.value (record { short = c.self.invariant.formed.in_order.short; apart = order-apart c.self.inside.plan c.self.inside.order.items c.self.invariant.formed.least })
+reopen-requires c = rw c.deref.ensures.value (short-order c.self.invariant.formed)

@@ -6,7 +6,7 @@ use Rattle.svc_record.specs.Plans.{service_count}
 use Rattle.svc_core.specs.CoreData.{CoreData}
 use Rattle.svc_core.specs.StartsState.{is_flagged}
 use Rattle.svc_core.specs.WaitsState.{MarksIf}
-use Rattle.svc_core.proofs.WaitsLemmas.{order-apart, watched-answer}
+use Rattle.svc_core.proofs.WaitsLemmas.{short-order, watched-answer}
 use Rattle.svc_core.proofs.machine.Core.step_in_use.Goals as goal
 
 pub returns : goal.returns
@@ -32,4 +32,4 @@ invariant_of-self c = record {
 }
 
 pub reopen-requires : goal.reopen-requires
-reopen-requires c = rw c.deref.ensures.value (record { short = c.self.invariant.formed.in_order.short; apart = order-apart c.self.inside.plan c.self.inside.order.items c.self.invariant.formed.least })
+reopen-requires c = rw c.deref.ensures.value (short-order c.self.invariant.formed)

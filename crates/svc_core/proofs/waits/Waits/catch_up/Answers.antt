@@ -1,6 +1,7 @@
 use Rattle.std.proofs.Common.{Bool, subst}
 use Rattle.svc_core.specs.WaitsState.{KnowsReady}
-use Rattle.svc_core.proofs.WaitsLemmas.{opens-none, on-fresh}
+use Rattle.svc_core.proofs.WaitsLemmas.{opens-none}
+use Rattle.svc_core.proofs.PlaceLemmas.{on-fresh}
 use Rattle.svc_core.proofs.waits.Waits.catch_up.Goals as goal
 
 pub returns-then-is_fresh_at-clause-opens : goal.returns-then-is_fresh_at-clause-opens
