@@ -1,12 +1,13 @@
 -- Live connections in ascending number, and what becomes of one of them.
-use Rattle.std.proofs.Common.{ℕ, Bool, true, false, not, ◌==◌, inl, inr, List, [], ◌∷◌, ◌++◌, ◌≡◌, refl, ap, sym, ◌∙◌, subst, arith, filter, nat_lt, Some, None, Option, Bor, IfSome, IfNone, is_some}
+use Rattle.std.proofs.Common.{ℕ, Bool, true, false, not, ◌==◌, inl, inr, List, [], ◌∷◌, ◌++◌, ◌≡◌, refl, ap, sym, ◌∙◌, arith, filter, nat_lt, Some, None, Option, Bor, IfSome, IfNone, is_some}
 use Rattle.std.specs.Bool.{OnTrue, OnFalse}
 use Rattle.std.specs.List.{list_all}
 use Rattle.std.proofs.lemmas.Bool.{eq-eqb, ne_eqb, and_parts, and_from, or_parts, cases_Bool, ltb-true, le-ltb}
 use Rattle.std.proofs.lemmas.List.Folds.{list_all-map}
 use Rattle.svc_base.specs.Items.{list_of}
 use Rattle.svc_base.specs.Blocks.{put_by, has_key, StandsIn}
-use Rattle.svc_base.proofs.KeyLemmas.{all-mid, none-over}
+use Rattle.svc_base.proofs.KeyLemmas.{all-mid, all-weaker, none-over}
+use Rattle.svc_base.proofs.NumberSetLemmas.{all-filter}
 use Rattle.svc_connections.specs.declared.stage.Connection.{Connection}
 use Rattle.svc_connections.specs.declared.stage.Stage.{Stage}
 use Rattle.svc_connections.specs.ConnectionsState.{numbers, climbs, stage_of}
@@ -16,7 +17,7 @@ abbrev number : Connection → ℕ
 number x = x.number
 
 -- where none has the number, nothing changes
-none-stage : (c : ℕ) (live : List Connection) → has_key number c live ≡ false → stage_of live c ≡ None
+pub none-stage : (c : ℕ) (live : List Connection) → has_key number c live ≡ false → stage_of live c ≡ None
 none-stage c [] h = refl
 none-stage c (x ∷ live) h = let parts = or_parts (x.number == c) (has_key number c live) h in rw parts.0 (none-stage c live parts.1)
 
@@ -95,9 +96,6 @@ module _ (c : ℕ) (live : List Connection) (rise : climbs (numbers live) ≡ tr
 found-put : (z : Connection) (live : List Connection) → climbs (numbers live) ≡ true → (x : Connection) → StandsIn number z.number live x → live ≡ put_connection z live
 found-put z live rise x s = s.is ∙ placed-put z s.front x s.back s.has (ap (λ (xs : List Connection). climbs (numbers xs)) (sym s.is) ∙ rise) ∙ ap (put_connection z) (sym s.is)
 
-pub none-found : (c : ℕ) (live : List Connection) → has_key number c live ≡ false → None ≡ stage_of live c
-none-found c live h = sym (none-stage c live h)
-
 -- what a search, a move and a removal leave
 pub put-left : (z : Connection) (live : List Connection) (r : Option (Bor Connection)) → climbs (numbers live) ≡ true → IfSome r (λ x. StandsIn number z.number live x.now) → is_some r ≡ true → live ≡ put_connection z live
 put-left z live (Some x) rise found some = found-put z live rise x.now found
@@ -134,13 +132,6 @@ numbers-without c (x ∷ live) = elim (cases_Bool (x.number == c)) [
   | inr n ↦ rw n (ap (λ (ns : List ℕ). x.number ∷ ns) (numbers-without c live))
 ]
 
-all-filter : (test f : ℕ → Bool) (ns : List ℕ) → list_all test ns ≡ true → list_all test (filter f ns) ≡ true
-all-filter test f [] h = refl
-all-filter test f (n ∷ ns) h = let parts = and_parts (test n) (list_all test ns) h in elim (cases_Bool (f n)) [
-  | inl y ↦ rw y (and_from (test n) (list_all test (filter f ns)) parts.0 (all-filter test f ns parts.1))
-  | inr out ↦ rw out (all-filter test f ns parts.1)
-]
-
 climbs-filter : (f : ℕ → Bool) (ns : List ℕ) → climbs ns ≡ true → climbs (filter f ns) ≡ true
 climbs-filter f [] h = refl
 climbs-filter f (n ∷ ns) h = let parts = and_parts (list_all (λ m. nat_lt n m) ns) (climbs ns) h in elim (cases_Bool (f n)) [
@@ -167,10 +158,6 @@ all-put test x (y ∷ live) t h = let parts = and_parts (test y.number) (list_al
 climb-on : (n m k : ℕ) → nat_lt n m ≡ true → nat_lt m k ≡ true → nat_lt n k ≡ true
 climb-on n m k a b = grind arith
 
-all-on : (n m : ℕ) (ns : List ℕ) → nat_lt n m ≡ true → list_all (λ k. nat_lt m k) ns ≡ true → list_all (λ k. nat_lt n k) ns ≡ true
-all-on n m [] lt h = refl
-all-on n m (k ∷ ns) lt h = let parts = and_parts (nat_lt m k) (list_all (λ k. nat_lt m k) ns) h in and_from (nat_lt n k) (list_all (λ k. nat_lt n k) ns) (climb-on n m k lt parts.0) (all-on n m ns lt parts.1)
-
 over : (n m : ℕ) → nat_lt n m ≡ false → (m == n) ≡ false → nat_lt m n ≡ true
 over n m a b = grind arith
 
@@ -178,7 +165,7 @@ pub climbs-put : (x : Connection) (live : List Connection) → climbs (numbers l
 climbs-put x [] h = refl
 climbs-put x (y ∷ live) h = let parts = and_parts (list_all (λ m. nat_lt y.number m) (numbers live)) (climbs (numbers live)) h in elim (cases_Bool (nat_lt x.number y.number)) [
   | inl below ↦ rw below (and_from (list_all (λ m. nat_lt x.number m) (numbers (y ∷ live))) (climbs (numbers (y ∷ live)))
-      (and_from (nat_lt x.number y.number) (list_all (λ m. nat_lt x.number m) (numbers live)) below (all-on x.number y.number (numbers live) below parts.0)) h)
+      (and_from (nat_lt x.number y.number) (list_all (λ m. nat_lt x.number m) (numbers live)) below (all-weaker (λ m. nat_lt y.number m) (λ m. nat_lt x.number m) (numbers live) (λ m g. climb-on x.number y.number m below g) parts.0)) h)
   | inr above ↦ elim (cases_Bool (y.number == x.number)) [
     | inl same ↦ rw (above, same) h
     | inr other ↦ rw (above, other) (and_from (list_all (λ m. nat_lt y.number m) (numbers (put_connection x live))) (climbs (numbers (put_connection x live)))
