@@ -25,6 +25,10 @@ climb-on n m k a b = grind arith
 all-over : (n m : ℕ) (ns : List ℕ) → nat_lt n m ≡ true → list_all (λ k. nat_lt m k) ns ≡ true → list_all (λ k. nat_lt n k) ns ≡ true
 all-over n m ns below h = all-weaker (λ k. nat_lt m k) (λ k. nat_lt n k) ns (λ k g. climb-on n m k below g) h
 
+-- where all have higher numbers, none has this one
+behind-more : (c : ℕ) (live : List Connection) → list_all (λ m. nat_lt c m) (numbers live) ≡ true → has_key number c live ≡ false
+behind-more c live h = none-over number c live (sym (list_all-map (λ m. nat_lt c m) number live) ∙ h)
+
 -- where none has the number, nothing changes
 none-before : (c : ℕ) (front back : List Connection) → has_key number c front ≡ false → stage_of (front ++ back) c ≡ stage_of back c
 none-before c [] back h = refl
@@ -49,12 +53,8 @@ new-put x (y ∷ live) h = elim (cases_Bool (nat_lt x.number y.number)) [
   | inr above ↦ (let parts = or_parts (y.number == x.number) (has_key number x.number live) h in rw (above, parts.0) (ap (λ (xs : List Connection). y ∷ xs) (new-put x live parts.1)))
 ]
 
--- what stands behind has a higher number
-behind-more : (c : ℕ) (live : List Connection) → list_all (λ m. nat_lt c m) (numbers live) ≡ true → has_key number c live ≡ false
-behind-more c live h = none-over number c live (sym (list_all-map (λ m. nat_lt c m) number live) ∙ h)
-
 pub old-put : (x : Connection) (live : List Connection) → climbs (numbers live) ≡ true → has_key number x.number live ≡ true → live ≡ put_connection x live
-old-put x [] rise h = absurd (cc)
+old-put x [] rise h = cc
 old-put x (y ∷ live) rise h =
     let parts = and_parts (list_all (λ m. nat_lt y.number m) (numbers live)) (climbs (numbers live)) rise in
     elim (cases_Bool (nat_lt x.number y.number)) [

@@ -7,7 +7,7 @@ use Rattle.svc_connections.proofs.live.Live.move_to.Goals as goal
 
 pub returns : goal.returns
 returns c = rw (← c.self.view_is) (moved-left c.args.c c.args.stage c.self.inside.connections c.replace.new.self c.replace.result c.self.invariant
-        c.replace.ensures.replaced c.replace.ensures.absent c.replace.ensures.same)
+    c.replace.ensures.replaced c.replace.ensures.absent c.replace.ensures.same)
 
 pub invariant_of-self : goal.invariant_of-self
 invariant_of-self c =

@@ -7,7 +7,7 @@ use Rattle.svc_connections.proofs.live.Live.remove.Goals as goal
 
 pub returns : goal.returns
 returns c = rw (← c.self.view_is) (removed-left c.args.c c.self.inside.connections c.remove.new.self c.remove.result c.self.invariant
-        c.remove.ensures.removed c.remove.ensures.absent c.remove.ensures.same)
+    c.remove.ensures.removed c.remove.ensures.absent c.remove.ensures.same)
 
 pub invariant_of-self : goal.invariant_of-self
 invariant_of-self c =
