@@ -1,24 +1,41 @@
 -- Live connections in ascending number, and what becomes of one of them.
-use Rattle.std.proofs.Common.{ℕ, Bool, true, false, not, ◌==◌, inl, inr, List, [], ◌∷◌, ◌++◌, ◌≡◌, refl, ap, sym, ◌∙◌, subst, arith, filter, nat_lt, Some, None, Option, Bor, IfSome, IfNone, is_some}
+use Rattle.std.proofs.Common.{ℕ, Bool, true, false, not, ◌==◌, inl, inr, List, [], ◌∷◌, ◌++◌, ◌≡◌, refl, ap, sym, ◌∙◌, arith, filter, nat_lt, Some, None, Option, IfSome, IfNone}
 use Rattle.std.specs.Bool.{OnTrue, OnFalse}
 use Rattle.std.specs.List.{list_all}
-use Rattle.std.proofs.lemmas.Bool.{eq-eqb, ne_eqb, and_parts, and_from, or_parts, cases_Bool, ltb-true, le-ltb}
+use Rattle.std.proofs.lemmas.Bool.{eq-eqb, ne_eqb, and_parts, and_from, or_parts, or_from, cases_Bool, ltb-true}
+use Rattle.std.proofs.lemmas.List.{append-nil, map-append}
+use Rattle.std.proofs.lemmas.List.Elements.{filter-append}
 use Rattle.std.proofs.lemmas.List.Folds.{list_all-map}
 use Rattle.svc_base.specs.Items.{list_of}
 use Rattle.svc_base.specs.Blocks.{put_by, has_key, StandsIn}
-use Rattle.svc_base.proofs.KeyLemmas.{all-mid, none-over}
+use Rattle.svc_base.proofs.KeyLemmas.{all-mid, all-weaker, none-over}
+use Rattle.svc_base.proofs.NumberSetLemmas.{all-filter}
 use Rattle.svc_connections.specs.declared.stage.Connection.{Connection}
 use Rattle.svc_connections.specs.declared.stage.Stage.{Stage}
 use Rattle.svc_connections.specs.ConnectionsState.{numbers, climbs, stage_of}
-use Rattle.svc_connections.specs.ConnectionsEffects.{put_connection, at_stage, without}
+use Rattle.svc_connections.specs.ConnectionsEffects.{put_connection, moved, at_stage, without}
 
-abbrev number : Connection → ℕ
+abbrev pub number : Connection → ℕ
 number x = x.number
 
+-- what is above a number is above a lower one
+climb-on : (n m k : ℕ) → nat_lt n m ≡ true → nat_lt m k ≡ true → nat_lt n k ≡ true
+climb-on n m k a b = grind arith
+
+all-over : (n m : ℕ) (ns : List ℕ) → nat_lt n m ≡ true → list_all (λ k. nat_lt m k) ns ≡ true → list_all (λ k. nat_lt n k) ns ≡ true
+all-over n m ns below h = all-weaker (λ k. nat_lt m k) (λ k. nat_lt n k) ns (λ k g. climb-on n m k below g) h
+
+-- where all have higher numbers, none has this one
+behind-more : (c : ℕ) (live : List Connection) → list_all (λ m. nat_lt c m) (numbers live) ≡ true → has_key number c live ≡ false
+behind-more c live h = none-over number c live (sym (list_all-map (λ m. nat_lt c m) number live) ∙ h)
+
 -- where none has the number, nothing changes
-none-stage : (c : ℕ) (live : List Connection) → has_key number c live ≡ false → stage_of live c ≡ None
-none-stage c [] h = refl
-none-stage c (x ∷ live) h = let parts = or_parts (x.number == c) (has_key number c live) h in rw parts.0 (none-stage c live parts.1)
+none-before : (c : ℕ) (front back : List Connection) → has_key number c front ≡ false → stage_of (front ++ back) c ≡ stage_of back c
+none-before c [] back h = refl
+none-before c (x ∷ front) back h = let parts = or_parts (x.number == c) (has_key number c front) h in rw parts.0 (none-before c front back parts.1)
+
+pub none-stage : (c : ℕ) (live : List Connection) → has_key number c live ≡ false → stage_of live c ≡ None
+none-stage c live h = ap (λ (xs : List Connection). stage_of xs c) (sym (append-nil live)) ∙ none-before c live [] h
 
 none-moved : (c : ℕ) (stage : Stage) (live : List Connection) → has_key number c live ≡ false → at_stage c stage live ≡ live
 none-moved c stage [] h = refl
@@ -28,95 +45,66 @@ none-without : (c : ℕ) (live : List Connection) → has_key number c live ≡ 
 none-without c [] h = refl
 none-without c (x ∷ live) h = let parts = or_parts (x.number == c) (has_key number c live) h in rw parts.0 (ap (λ (xs : List Connection). x ∷ xs) (none-without c live parts.1))
 
--- a new one goes where its number does
-none-put : (x : Connection) (live : List Connection) → has_key number x.number live ≡ false → put_by number x live ≡ put_connection x live
-none-put x [] h = refl
-none-put x (y ∷ live) h = elim (cases_Bool (nat_lt x.number y.number)) [
+-- a new one goes where its number does, and one that is there stays
+pub new-put : (x : Connection) (live : List Connection) → has_key number x.number live ≡ false → put_by number x live ≡ put_connection x live
+new-put x [] h = refl
+new-put x (y ∷ live) h = elim (cases_Bool (nat_lt x.number y.number)) [
   | inl below ↦ rw below refl
-  | inr above ↦ (let parts = or_parts (y.number == x.number) (has_key number x.number live) h in rw (above, parts.0) (ap (λ (xs : List Connection). y ∷ xs) (none-put x live parts.1)))
+  | inr above ↦ (let parts = or_parts (y.number == x.number) (has_key number x.number live) h in rw (above, parts.0) (ap (λ (xs : List Connection). y ∷ xs) (new-put x live parts.1)))
 ]
 
--- what comes before one has a lower number, and what comes behind it a higher one
-before-less : (y x : Connection) (front back : List Connection) → list_all (λ m. nat_lt y.number m) (numbers (front ++ x ∷ back)) ≡ true → nat_lt y.number x.number ≡ true
-before-less y x front back h = all-mid (λ (z : Connection). nat_lt y.number z.number) front x back (sym (list_all-map (λ m. nat_lt y.number m) number (front ++ x ∷ back)) ∙ h)
+pub old-put : (x : Connection) (live : List Connection) → climbs (numbers live) ≡ true → has_key number x.number live ≡ true → live ≡ put_connection x live
+old-put x [] rise h = cc
+old-put x (y ∷ live) rise h =
+    let parts = and_parts (list_all (λ m. nat_lt y.number m) (numbers live)) (climbs (numbers live)) rise in
+    elim (cases_Bool (nat_lt x.number y.number)) [
+      | inl below ↦ absurd (let none = behind-more x.number (y ∷ live) (and_from (nat_lt x.number y.number) (list_all (λ m. nat_lt x.number m) (numbers live)) below (all-over x.number y.number (numbers live) below parts.0)) in cc)
+      | inr above ↦ elim (cases_Bool (y.number == x.number)) [
+        | inl same ↦ rw (above, same) refl
+        | inr other ↦ rw (above, other) (ap (λ (xs : List Connection). y ∷ xs) (old-put x live parts.1 (rw other at h)))
+      ]
+    ]
 
-earlier : (c : ℕ) (y x : Connection) (front back : List Connection) → x.number ≡ c → list_all (λ m. nat_lt y.number m) (numbers (front ++ x ∷ back)) ≡ true → (y.number == c) ≡ false
-earlier c y x front back same h = let less = ltb-true y.number x.number (before-less y x front back h) in ne_eqb y.number c (λ e. omega arith)
-
-later : (c : ℕ) (x : Connection) (back : List Connection) → x.number ≡ c → list_all (λ m. nat_lt x.number m) (numbers back) ≡ true → has_key number c back ≡ false
-later c x back same h = none-over number c back (ap (λ (n : ℕ). list_all (λ (y : Connection). nat_lt n y.number) back) (sym same) ∙ sym (list_all-map (λ m. nat_lt x.number m) number back) ∙ h)
-
-placed-stage : (c : ℕ) (front : List Connection) (x : Connection) (back : List Connection) → x.number ≡ c → climbs (numbers (front ++ x ∷ back)) ≡ true → stage_of (front ++ x ∷ back) c ≡ Some x.stage
-placed-stage c [] x back same h = rw (eq-eqb x.number c same) refl
-placed-stage c (y ∷ front) x back same h =
-    let parts = and_parts (list_all (λ m. nat_lt y.number m) (numbers (front ++ x ∷ back))) (climbs (numbers (front ++ x ∷ back))) h in
-    rw (earlier c y x front back same parts.0) (placed-stage c front x back same parts.1)
-
-placed-moved : (c : ℕ) (stage : Stage) (front : List Connection) (x : Connection) (back : List Connection) → x.number ≡ c → climbs (numbers (front ++ x ∷ back)) ≡ true
-    → front ++ record { number = c; stage = stage } ∷ back ≡ at_stage c stage (front ++ x ∷ back)
-placed-moved c stage [] x back same h =
-    let parts = and_parts (list_all (λ m. nat_lt x.number m) (numbers back)) (climbs (numbers back)) h in
-    rw (eq-eqb x.number c same) (ap (λ (n : ℕ). record { number = n; stage = stage } ∷ back) (sym same)
-    ∙ ap (λ (xs : List Connection). record { number = x.number; stage = stage } ∷ xs) (sym (none-moved c stage back (later c x back same parts.0))))
-placed-moved c stage (y ∷ front) x back same h =
-    let parts = and_parts (list_all (λ m. nat_lt y.number m) (numbers (front ++ x ∷ back))) (climbs (numbers (front ++ x ∷ back))) h in
-    rw (earlier c y x front back same parts.0) (ap (λ (xs : List Connection). y ∷ xs) (placed-moved c stage front x back same parts.1))
-
-placed-without : (c : ℕ) (front : List Connection) (x : Connection) (back : List Connection) → x.number ≡ c → climbs (numbers (front ++ x ∷ back)) ≡ true → front ++ back ≡ without c (front ++ x ∷ back)
-placed-without c [] x back same h =
-    let parts = and_parts (list_all (λ m. nat_lt x.number m) (numbers back)) (climbs (numbers back)) h in
-    rw (eq-eqb x.number c same) (sym (none-without c back (later c x back same parts.0)))
-placed-without c (y ∷ front) x back same h =
-    let parts = and_parts (list_all (λ m. nat_lt y.number m) (numbers (front ++ x ∷ back))) (climbs (numbers (front ++ x ∷ back))) h in
-    rw (earlier c y x front back same parts.0) (ap (λ (xs : List Connection). y ∷ xs) (placed-without c front x back same parts.1))
-
-placed-put : (z : Connection) (front : List Connection) (x : Connection) (back : List Connection) → x.number ≡ z.number → climbs (numbers (front ++ x ∷ back)) ≡ true
-    → front ++ x ∷ back ≡ put_connection z (front ++ x ∷ back)
-placed-put z [] x back same h = rw (le-ltb z.number x.number (omega arith), eq-eqb x.number z.number same) refl
-placed-put z (y ∷ front) x back same h =
-    let parts = and_parts (list_all (λ m. nat_lt y.number m) (numbers (front ++ x ∷ back))) (climbs (numbers (front ++ x ∷ back))) h in
-    let less = ltb-true y.number x.number (before-less y x front back parts.0) in
-    rw (le-ltb z.number y.number (omega arith), earlier z.number y x front back same parts.0) (ap (λ (xs : List Connection). y ∷ xs) (placed-put z front x back same parts.1))
-
--- the same of what was found
+-- of a connection that stands among the others
 module _ (c : ℕ) (live : List Connection) (rise : climbs (numbers live) ≡ true) (x : Connection) (s : StandsIn number c live x) where
+  front-apart : (front : List Connection) → climbs (numbers (front ++ x ∷ s.back)) ≡ true → has_key number c front ≡ false
+  front-apart [] h = refl
+  front-apart (y ∷ front) h =
+      let parts = and_parts (list_all (λ m. nat_lt y.number m) (numbers (front ++ x ∷ s.back))) (climbs (numbers (front ++ x ∷ s.back))) h in
+      let all = sym (list_all-map (λ m. nat_lt y.number m) number (front ++ x ∷ s.back)) ∙ parts.0 in
+      let less = ltb-true y.number x.number (all-mid (λ (z : Connection). nat_lt y.number z.number) front x s.back all) in
+      let has = s.has in
+      or_from (y.number == c) (has_key number c front) (ne_eqb y.number c (λ e. omega arith)) (front-apart front parts.1)
+
+  back-apart : (front : List Connection) → climbs (numbers (front ++ x ∷ s.back)) ≡ true → has_key number c s.back ≡ false
+  back-apart [] h = behind-more c s.back (ap (λ (n : ℕ). list_all (λ m. nat_lt n m) (numbers s.back)) (sym s.has) ∙ (and_parts (list_all (λ m. nat_lt x.number m) (numbers s.back)) (climbs (numbers s.back)) h).0)
+  back-apart (y ∷ front) h = back-apart front (and_parts (list_all (λ m. nat_lt y.number m) (numbers (front ++ x ∷ s.back))) (climbs (numbers (front ++ x ∷ s.back))) h).1
+
   rise-is : climbs (numbers (s.front ++ x ∷ s.back)) ≡ true
   rise-is = ap (λ (xs : List Connection). climbs (numbers xs)) (sym s.is) ∙ rise
 
-  pub found-stage : Some x.stage ≡ stage_of live c
-  found-stage = sym (ap (λ (xs : List Connection). stage_of xs c) s.is ∙ placed-stage c s.front x s.back s.has rise-is)
+  pub found-stage : stage_of live c ≡ Some x.stage
+  found-stage = ap (λ (xs : List Connection). stage_of xs c) s.is ∙ none-before c s.front (x ∷ s.back) (front-apart s.front rise-is) ∙ (rw (eq-eqb x.number c s.has) refl)
 
-  found-moved : (stage : Stage) → s.front ++ record { number = c; stage = stage } ∷ s.back ≡ at_stage c stage live
-  found-moved stage = placed-moved c stage s.front x s.back s.has rise-is ∙ ap (at_stage c stage) (sym s.is)
+  found-moved : (stage : Stage) → at_stage c stage live ≡ s.front ++ record { number = c; stage = stage } ∷ s.back
+  found-moved stage = ap (at_stage c stage) s.is ∙ map-append (moved c stage) s.front (x ∷ s.back)
+      ∙ (rw (none-moved c stage s.front (front-apart s.front rise-is), none-moved c stage s.back (back-apart s.front rise-is), eq-eqb x.number c s.has, s.has) refl)
 
-  found-without : s.front ++ s.back ≡ without c live
-  found-without = placed-without c s.front x s.back s.has rise-is ∙ ap (without c) (sym s.is)
+  found-without : without c live ≡ s.front ++ s.back
+  found-without = ap (without c) s.is ∙ filter-append (λ (y : Connection). not (y.number == c)) s.front (x ∷ s.back)
+      ∙ (rw (none-without c s.front (front-apart s.front rise-is), eq-eqb x.number c s.has, none-without c s.back (back-apart s.front rise-is)) refl)
 
-found-put : (z : Connection) (live : List Connection) → climbs (numbers live) ≡ true → (x : Connection) → StandsIn number z.number live x → live ≡ put_connection z live
-found-put z live rise x s = s.is ∙ placed-put z s.front x s.back s.has (ap (λ (xs : List Connection). climbs (numbers xs)) (sym s.is) ∙ rise) ∙ ap (put_connection z) (sym s.is)
-
-pub none-found : (c : ℕ) (live : List Connection) → has_key number c live ≡ false → None ≡ stage_of live c
-none-found c live h = sym (none-stage c live h)
-
--- what a search, a move and a removal leave
-pub put-left : (z : Connection) (live : List Connection) (r : Option (Bor Connection)) → climbs (numbers live) ≡ true → IfSome r (λ x. StandsIn number z.number live x.now) → is_some r ≡ true → live ≡ put_connection z live
-put-left z live (Some x) rise found some = found-put z live rise x.now found
-put-left z live None rise found some = absurd (cc)
-
-pub put-new : (z : Connection) (live : List Connection) (r : Option (Bor Connection)) → IfNone r (has_key number z.number live ≡ false) → is_some r ≡ false → put_by number z live ≡ put_connection z live
-put-new z live None absent none = none-put z live absent
-put-new z live (Some x) absent none = absurd (cc)
-
+-- what a move and a removal leave
 pub moved-left : (c : ℕ) (stage : Stage) (old new : List Connection × ℕ) (r : Bool) → climbs (numbers (list_of old)) ≡ true
     → OnTrue r ((x : Connection) × (s : StandsIn number c (list_of old) x) × (list_of new ≡ s.front ++ record { number = c; stage = stage } ∷ s.back))
     → OnFalse r (has_key number c (list_of old) ≡ false) → OnFalse r (new ≡ old) → list_of new ≡ at_stage c stage (list_of old)
-moved-left c stage old new true rise replaced absent same = replaced.2 ∙ found-moved c (list_of old) rise replaced.0 replaced.1 stage
+moved-left c stage old new true rise replaced absent same = replaced.2 ∙ sym (found-moved c (list_of old) rise replaced.0 replaced.1 stage)
 moved-left c stage old new false rise replaced absent same = ap list_of same ∙ sym (none-moved c stage (list_of old) absent)
 
 pub removed-left : (c : ℕ) (old new : List Connection × ℕ) (r : Option Connection) → climbs (numbers (list_of old)) ≡ true
     → IfSome r (λ x. (s : StandsIn number c (list_of old) x) × (list_of new ≡ s.front ++ s.back)) → IfNone r (has_key number c (list_of old) ≡ false) → IfNone r (new ≡ old)
     → list_of new ≡ without c (list_of old)
-removed-left c old new (Some x) rise removed absent same = removed.1 ∙ found-without c (list_of old) rise x removed.0
+removed-left c old new (Some x) rise removed absent same = removed.1 ∙ sym (found-without c (list_of old) rise x removed.0)
 removed-left c old new None rise removed absent same = ap list_of same ∙ sym (none-without c (list_of old) absent)
 
 -- a connection that moves keeps its number
@@ -132,13 +120,6 @@ numbers-without c [] = refl
 numbers-without c (x ∷ live) = elim (cases_Bool (x.number == c)) [
   | inl y ↦ rw y (numbers-without c live)
   | inr n ↦ rw n (ap (λ (ns : List ℕ). x.number ∷ ns) (numbers-without c live))
-]
-
-all-filter : (test f : ℕ → Bool) (ns : List ℕ) → list_all test ns ≡ true → list_all test (filter f ns) ≡ true
-all-filter test f [] h = refl
-all-filter test f (n ∷ ns) h = let parts = and_parts (test n) (list_all test ns) h in elim (cases_Bool (f n)) [
-  | inl y ↦ rw y (and_from (test n) (list_all test (filter f ns)) parts.0 (all-filter test f ns parts.1))
-  | inr out ↦ rw out (all-filter test f ns parts.1)
 ]
 
 climbs-filter : (f : ℕ → Bool) (ns : List ℕ) → climbs ns ≡ true → climbs (filter f ns) ≡ true
@@ -164,13 +145,6 @@ all-put test x (y ∷ live) t h = let parts = and_parts (test y.number) (list_al
   ]
 ]
 
-climb-on : (n m k : ℕ) → nat_lt n m ≡ true → nat_lt m k ≡ true → nat_lt n k ≡ true
-climb-on n m k a b = grind arith
-
-all-on : (n m : ℕ) (ns : List ℕ) → nat_lt n m ≡ true → list_all (λ k. nat_lt m k) ns ≡ true → list_all (λ k. nat_lt n k) ns ≡ true
-all-on n m [] lt h = refl
-all-on n m (k ∷ ns) lt h = let parts = and_parts (nat_lt m k) (list_all (λ k. nat_lt m k) ns) h in and_from (nat_lt n k) (list_all (λ k. nat_lt n k) ns) (climb-on n m k lt parts.0) (all-on n m ns lt parts.1)
-
 over : (n m : ℕ) → nat_lt n m ≡ false → (m == n) ≡ false → nat_lt m n ≡ true
 over n m a b = grind arith
 
@@ -178,7 +152,7 @@ pub climbs-put : (x : Connection) (live : List Connection) → climbs (numbers l
 climbs-put x [] h = refl
 climbs-put x (y ∷ live) h = let parts = and_parts (list_all (λ m. nat_lt y.number m) (numbers live)) (climbs (numbers live)) h in elim (cases_Bool (nat_lt x.number y.number)) [
   | inl below ↦ rw below (and_from (list_all (λ m. nat_lt x.number m) (numbers (y ∷ live))) (climbs (numbers (y ∷ live)))
-      (and_from (nat_lt x.number y.number) (list_all (λ m. nat_lt x.number m) (numbers live)) below (all-on x.number y.number (numbers live) below parts.0)) h)
+      (and_from (nat_lt x.number y.number) (list_all (λ m. nat_lt x.number m) (numbers live)) below (all-over x.number y.number (numbers live) below parts.0)) h)
   | inr above ↦ elim (cases_Bool (y.number == x.number)) [
     | inl same ↦ rw (above, same) h
     | inr other ↦ rw (above, other) (and_from (list_all (λ m. nat_lt y.number m) (numbers (put_connection x live))) (climbs (numbers (put_connection x live)))

@@ -1,18 +1,15 @@
-use Rattle.std.proofs.Common.{List, ℕ, ap, ◌∙◌}
+use Rattle.std.proofs.Common.{List, ap, ◌∙◌}
 use Rattle.svc_base.specs.Items.{list_of}
 use Rattle.svc_connections.specs.declared.stage.Connection.{Connection}
 use Rattle.svc_connections.specs.ConnectionsState.{climbs, numbers}
-use Rattle.svc_connections.specs.ConnectionsEffects.{without}
 use Rattle.svc_connections.proofs.LiveLemmas.{removed-left, climbs-without}
 use Rattle.svc_connections.proofs.live.Live.remove.Goals as goal
 
 pub returns : goal.returns
-returns c =
-    removed-left c.args.c c.self.inside.connections c.remove.new.self c.remove.result c.self.invariant c.remove.ensures.removed c.remove.ensures.absent c.remove.ensures.same
-    ∙ ap (λ (l : List Connection × ℕ). without c.args.c (list_of l)) c.self.view_is
+returns c = rw (← c.self.view_is) (removed-left c.args.c c.self.inside.connections c.remove.new.self c.remove.result c.self.invariant
+    c.remove.ensures.removed c.remove.ensures.absent c.remove.ensures.same)
 
 pub invariant_of-self : goal.invariant_of-self
 invariant_of-self c =
-    ap (λ (xs : List Connection). climbs (numbers xs))
-    (removed-left c.args.c c.self.inside.connections c.remove.new.self c.remove.result c.self.invariant c.remove.ensures.removed c.remove.ensures.absent c.remove.ensures.same)
+    ap (λ (xs : List Connection). climbs (numbers xs)) (rw (← c.self.view_is) at (returns c))
     ∙ climbs-without c.args.c (list_of c.self.inside.connections) c.self.invariant

@@ -1,16 +1,10 @@
-use Rattle.std.proofs.Common.{List, ℕ, ap, ◌∙◌}
+use Rattle.std.proofs.Common.{sym}
 use Rattle.svc_base.specs.Items.{list_of}
-use Rattle.svc_connections.specs.declared.stage.Connection.{Connection}
-use Rattle.svc_connections.specs.ConnectionsState.{stage_of}
-use Rattle.svc_connections.proofs.LiveLemmas.{found-stage, none-found}
+use Rattle.svc_connections.proofs.LiveLemmas.{found-stage, none-stage}
 use Rattle.svc_connections.proofs.live.Live.stage_of.Goals as goal
 
 pub returns-in-Some : goal.returns-in-Some
-returns-in-Some c =
-    found-stage c.args.c (list_of c.self.inside.connections) c.self.invariant c.in-Some.connection.now c.in-Some.ensures.found
-    ∙ ap (λ (l : List Connection × ℕ). stage_of (list_of l) c.args.c) c.self.view_is
+returns-in-Some c = rw (← c.self.view_is) (sym (found-stage c.args.c (list_of c.self.inside.connections) c.self.invariant c.in-Some.connection.now c.in-Some.ensures.found))
 
 pub returns-in-None : goal.returns-in-None
-returns-in-None c =
-    none-found c.args.c (list_of c.self.inside.connections) c.in-None.ensures.absent
-    ∙ ap (λ (l : List Connection × ℕ). stage_of (list_of l) c.args.c) c.self.view_is
+returns-in-None c = rw (← c.self.view_is) (sym (none-stage c.args.c (list_of c.self.inside.connections) c.in-None.ensures.absent))
