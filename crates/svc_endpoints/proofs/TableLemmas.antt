@@ -1,5 +1,5 @@
 -- The table of open descriptors, walked from its front.
-use Rattle.std.proofs.Common.{ℕ, suc, Bool, true, false, not, inl, inr, ◌==◌, List, [], ◌∷◌, ◌++◌, append_assoc, length-append, length-set, map, filter, take, drop, set, drop-cons, ◌≡◌, refl, ap, sym, ◌∙◌, subst, arith, ◌<◌, ◌≤◌, ◌+◌, ◌-◌, length, nat_lt, Some, Option, is_some, get_or, get_or-drop, add-zero, Vec}
+use Rattle.std.proofs.Common.{ℕ, suc, Bool, true, false, not, inl, inr, ◌==◌, List, [], ◌∷◌, ◌++◌, append_assoc, length-append, length-set, map, filter, take, drop, set, drop-cons, ◌≡◌, refl, ap, sym, ◌∙◌, subst, arith, ◌<◌, ◌≤◌, ◌+◌, length, nat_lt, Some, Option, is_some, get_or, get_or-drop, add-zero, Vec}
 use Rattle.svc_endpoints.specs.declared.table.Open.{Open}
 use Rattle.std.proofs.lemmas.Bool.{cases_Bool, eq-eqb, eqb-true, or_parts}
 use Rattle.std.specs.List.{SwappedAt}

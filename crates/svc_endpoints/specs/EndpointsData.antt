@@ -4,13 +4,14 @@ use Rattle.svc_endpoints.specs.declared.states.EndpointState.{EndpointState}
 use Rattle.svc_endpoints.specs.declared.loops.LoopEnd.{LoopEnd}
 use Rattle.svc_endpoints.specs.declared.table.Open.{Open}
 
--- for each service the state of each of its endpoints, and whether it has failed; the loops that ended; the live descriptors with their addresses, and the numbers of all that came, both in ascending order
+-- for each service the state of each of its endpoints, and whether it has failed; the loops that ended; the live descriptors with their addresses, and the numbers of all that came, both in ascending order; the sums of the addresses that several endpoints may have
 pub record EndpointsData : Type 0 where
   pub rows : List (List EndpointState)
   pub failed : List Bool
   pub loops : List LoopEnd
   pub table : List Open
   pub came : List ℕ
+  pub shared : List ℕ
 
 -- the same, and for how many more descriptors and ended loops there is memory
 pub record EndpointsRoom : Type 0 where

@@ -21,6 +21,7 @@ use Rattle.svc_endpoints.specs.declared.states.EndpointState.{EndpointState}
 use Rattle.svc_endpoints.specs.declared.table.Open.{Open}
 use Rattle.svc_endpoints.specs.EndpointsData.{EndpointsData}
 use Rattle.svc_endpoints.specs.Loops.{has_loop, loop_count}
+use Rattle.svc_endpoints.specs.Sums.{AreShared}
 
 -- a bind of it is open
 abbrev pub is_binding : EndpointStatus → Bool
@@ -116,12 +117,13 @@ abbrev pub all_new : List ℕ → List ℕ → Bool
 all_new came [] = true
 all_new came (fd ∷ fds) = (not (is_in fd came) && not (is_in fd fds)) && all_new came fds
 
--- one flag and one row for each service, and in the row a state for each of its endpoints, which are few
+-- one flag and one row for each service, and in the row a state for each of its endpoints, which are few; and the sum of each address that several of them have
 pub record IsEndpointsSized (p : Plan) (d : EndpointsData) : Type 0 where
   pub services : length d.rows ≡ service_count p
   pub failed : length d.failed ≡ service_count p
   pub each : (s : ℕ) → s < service_count p → length (slice_index_or d.rows s []) ≡ length (endpoints p s)
   pub few : (s : ℕ) → s < service_count p → length (endpoints p s) ≤ 64
+  pub shared : AreShared p d.shared
 
 -- what the states keep among themselves: an ask is of a service that hasn't failed, whose earlier endpoints are held; while no loop ended, what is held or offered is the one live descriptor of its address; no address has two, and no descriptor two addresses
 pub record StatesKept (p : Plan) (d : EndpointsData) : Type 0 where

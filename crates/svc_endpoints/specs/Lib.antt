@@ -1,5 +1,7 @@
 pub mod Loops
 pub mod EndpointsData
+pub mod Marks
+pub mod Sums
 pub mod EndpointsState
 pub mod Rows
 pub mod Uses
@@ -7,6 +9,5 @@ pub mod Effects
 pub mod Visits
 pub mod Foreign
 pub mod Offered
-pub mod Marks
 pub mod Stays
 pub mod Rests

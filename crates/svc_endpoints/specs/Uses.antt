@@ -12,7 +12,7 @@ use Rattle.svc_endpoints.specs.EndpointsState.{last_at, failed_at, is_holding, i
 
 -- the states alone, with no descriptors
 abbrev pub states_of : List (List EndpointState) → List Bool → List LoopEnd → EndpointsData
-states_of rows failed loops = record { rows = rows; failed = failed; loops = loops; table = []; came = [] }
+states_of rows failed loops = record { rows = rows; failed = failed; loops = loops; table = []; came = []; shared = [] }
 
 -- one flag and one row for each service, and in the row a state for each of its endpoints
 pub record AreStatesSized (p : Plan) (rows : List (List EndpointState)) (flags : List Bool) : Type 0 where

@@ -11,6 +11,7 @@ ghost use Rattle.svc_endpoints.specs.EndpointsState.{IsEndpointsSized, Endpoints
 ghost use Rattle.svc_base.specs.NumberSets.{is_in};
 ghost use Rattle.svc_endpoints.specs.declared.states.EndpointStatus.TheVariants.{Idle};
 ghost use Rattle.svc_endpoints.specs.Effects.{put, put_last, fail_if, has_open, first_of, with_number, with_open, cleared, given_up, gone_numbers, loop_ended, is_abandoned_by, put_opens, put_numbers, opens_of, without_numbers, without_number, numbers_like};
+ghost use Rattle.svc_endpoints.specs.Sums.{sum_of};
 ghost use Rattle.svc_endpoints.specs.Uses.{is_drained_by};
 
 use crate::came::{add_all, contains};
@@ -19,6 +20,7 @@ use crate::naming::{is_abandoned, service_count};
 use crate::states::{
     EndpointState, EndpointStatus, Row, is_adopting, is_binding, new_flags, new_rows,
 };
+use crate::sums::{shared_sums, sum_of};
 use crate::table::Table;
 use crate::uses::is_drained;
 use std::alloc::Global;
@@ -27,8 +29,9 @@ use svc_base::{NoMemory, NumberSet, Text};
 use svc_record::{Action, Actions, Plan};
 
 /// The state of each endpoint, which services have failed, the loops that ended, the live
-/// descriptors with their addresses, and the numbers of all descriptors that came; beside them the
-/// endpoint that was asked for last, which contracts don't see.
+/// descriptors with their addresses, the numbers of all descriptors that came, and the sums of the
+/// addresses that several endpoints may have; beside them the endpoint that was asked for last, which
+/// contracts don't see.
 #[derive(Drop)]
 pub struct Endpoints {
     rows: Vec<Row>,
@@ -36,6 +39,7 @@ pub struct Endpoints {
     loops: Loops,
     table: Table,
     came: NumberSet,
+    shared: NumberSet,
     last_asked: (u32, u32),
 }
 
@@ -46,7 +50,7 @@ impl Model for Endpoints {
 
     ghost Value = { EndpointsRoom };
 
-    ghost view = { λ e. record { parts = record { rows = e.rows.items; failed = e.failed.items; loops = list_of e.loops; table = list_of e.table; came = list_of e.came }; room = min (spare e.table) (spare e.came); loop_room = spare e.loops } };
+    ghost view = { λ e. record { parts = record { rows = e.rows.items; failed = e.failed.items; loops = list_of e.loops; table = list_of e.table; came = list_of e.came; shared = list_of e.shared }; room = min (spare e.table) (spare e.came); loop_room = spare e.loops } };
 }
 
 impl Endpoints {
@@ -61,12 +65,14 @@ impl Endpoints {
         let loops = Loops::new(alloc, plan)?;
         let table = Table::new(alloc);
         let came = NumberSet::new(alloc);
+        let shared = shared_sums(alloc, plan)?;
         Ok(Endpoints {
             rows,
             failed,
             loops,
             table,
             came,
+            shared,
             last_asked: (0, 0),
         })
     }
@@ -249,6 +255,13 @@ impl Endpoints {
     {
         let times_in_use = self.state(s, i).times_in_use;
         self.put(s, i, EndpointState { last, times_in_use });
+    }
+
+    /// More than one endpoint may have the address.
+    pub(crate) fn may_share(&self, address: &str) -> bool
+        ensures { result ≡ is_in (sum_of address.now) self.now.parts.shared }
+    {
+        self.shared.has(sum_of(address))
     }
 
     /// The endpoint that was asked for last. Nothing is claimed of it.

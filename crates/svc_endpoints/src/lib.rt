@@ -12,6 +12,7 @@ mod naming;
 mod received;
 mod rests;
 mod states;
+mod sums;
 mod table;
 mod tallies;
 mod uses;

@@ -6,7 +6,7 @@ ghost use Rattle.svc_endpoints.specs.Marks.{hash_from, are_set, may_have, is_mar
 use svc_base::Text;
 
 /// A number that is made of the bytes.
-fn hash(bytes: &[u8]) -> u64
+pub(crate) fn hash(bytes: &[u8]) -> u64
     ensures value { result ≡ hash_from 0 bytes.now }
 {
     let mut hash = 0u64;

@@ -116,7 +116,7 @@ impl Endpoints {
     }
 
     /// An endpoint with the address of this one is asked for, or rests. Most often it is this one itself
-    /// that rests, or the one that was asked for last.
+    /// that rests, or no other one has the address, or it is the one that was asked for last.
     fn is_kept_busy(&self, plan: &Plan, s: usize, j: usize, moment: u64) -> bool
         requires sized { IsEndpointsSized plan.now self.now.parts }
         requires service { s < service_count plan.now }
@@ -126,6 +126,9 @@ impl Endpoints {
         let text = address_of(plan, s, j);
         if self.is_itself_busy(plan, s, j, moment) {
             return true;
+        }
+        if !self.may_share(text) {
+            return false;
         }
         self.is_last_busy(plan, text, moment) || self.is_any_busy(plan, text, moment)
     }

@@ -1,8 +1,7 @@
-use Rattle.std.proofs.Common.{◌≡◌, [], length, map, ap, sym, ◌∙◌, arith, ◌++◌}
+use Rattle.std.proofs.Common.{length, map, ap, sym, ◌∙◌, arith, ◌++◌}
 use Rattle.std.proofs.lemmas.List.{append-nil}
 use Rattle.svc_base.specs.Items.{list_of}
 use Rattle.svc_record.specs.declared.action.Action.TheVariants.{Close}
-use Rattle.svc_endpoints.specs.Effects.{numbers_like}
 use Rattle.svc_endpoints.proofs.TableLemmas.{shorter, closing-next, like-none, unlike-none}
 use Rattle.svc_endpoints.proofs.table.close_like.Goals as goal
 

@@ -1,4 +1,4 @@
-use Rattle.std.proofs.Common.{rules, arith, sym, ap, ◌∙◌, ◌≡◌, ◌<◌, length, List, Some, is_some, true, false}
+use Rattle.std.proofs.Common.{arith, sym, ap, ◌∙◌, ◌≡◌, List, Some, is_some, true, false}
 use Rattle.svc_endpoints.specs.declared.table.Open.{Open}
 use Rattle.svc_endpoints.specs.EndpointsState.{numbers_with}
 use Rattle.svc_endpoints.specs.Effects.{first_of}

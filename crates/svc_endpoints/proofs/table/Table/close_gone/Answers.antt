@@ -1,4 +1,4 @@
-use Rattle.std.proofs.Common.{List, ◌≡◌, length, ap, ◌∙◌, not, arith}
+use Rattle.std.proofs.Common.{◌≡◌, length, ap, ◌∙◌, not, arith}
 use Rattle.svc_base.specs.Items.{list_of}
 use Rattle.svc_base.specs.Blocks.{joined, rises_by}
 use Rattle.svc_base.proofs.KeyLemmas.{rises-filter}

@@ -1,0 +1,33 @@
+-- Sums of addresses, by which an address that one endpoint alone has is told.
+use Rattle.std.specs.Prelude.{ℕ, true, ◌≡◌, ◌≢◌, ◌⊎◌, ◌<◌, List, Some, length}
+use Rattle.svc_record.specs.declared.plan.Plan.{Plan}
+use Rattle.svc_record.specs.Plans.{service_count, endpoints, address}
+use Rattle.svc_base.specs.NumberSets.{is_in}
+use Rattle.svc_endpoints.specs.Marks.{hash_from}
+
+-- a number that is made of the address
+abbrev pub sum_of : List ℕ → ℕ
+sum_of a = hash_from 0 a
+
+-- endpoint i of s is one of the plan, and has this address
+pub record HasAddress (p : Plan) (s i : ℕ) (a : List ℕ) : Type 0 where
+  pub inside : s < service_count p
+  pub within : i < length (endpoints p s)
+  pub named : address p s i ≡ Some a
+
+-- of each address that two different endpoints have the sum is among these
+abbrev pub AreShared : Plan → List ℕ → Type 0
+AreShared p shared = (t k s i : ℕ) (a : List ℕ) → (t ≡ s → k ≢ i) → HasAddress p t k a → HasAddress p s i a → is_in (sum_of a) shared ≡ true
+
+-- endpoint k of t stands before endpoint i of s
+abbrev pub IsBefore : ℕ → ℕ → ℕ → ℕ → Type 0
+IsBefore t k s i = (t < s) ⊎ ((t ≡ s) × (k < i))
+
+-- of the endpoints before endpoint i of s each one's sum was seen, and that of an address that two of them have is shared
+pub record AreNoted (p : Plan) (s i : ℕ) (seen shared : List ℕ) : Type 0 where
+  pub each : (t k : ℕ) (a : List ℕ) → IsBefore t k s i → HasAddress p t k a → is_in (sum_of a) seen ≡ true
+  pub twice : (t k u j : ℕ) (a : List ℕ) → IsBefore t k u j → IsBefore u j s i → HasAddress p t k a → HasAddress p u j a → is_in (sum_of a) shared ≡ true
+
+-- none of the numbers is gone
+abbrev pub Grows : List ℕ → List ℕ → Type 0
+Grows old new = (n : ℕ) → is_in n old ≡ true → is_in n new ≡ true

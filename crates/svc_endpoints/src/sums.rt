@@ -1,0 +1,75 @@
+//! Sums of addresses, by which an address that one endpoint alone has is told.
+
+ghost use Rattle.std.specs.Prelude.{◌≡◌, ◌+◌, ◌<◌, IfOk, OnOk, true};
+ghost use Rattle.svc_base.specs.Items.{list_of};
+ghost use Rattle.svc_base.specs.NumberSets.{is_in};
+ghost use Rattle.svc_record.specs.Plans.{service_count};
+ghost use Rattle.svc_endpoints.specs.Sums.{sum_of, AreShared, AreNoted, Grows};
+
+use crate::marks::hash;
+use crate::naming::{address_of, endpoint_count, service_count};
+use std::alloc::Global;
+use svc_base::{NoMemory, NumberSet};
+use svc_record::Plan;
+
+/// A number that is made of the address.
+pub(crate) fn sum_of(address: &str) -> u64
+    ensures { result ≡ sum_of address.now }
+{
+    hash(address.as_bytes())
+}
+
+/// Puts the number in, unless it is there.
+fn put_in(numbers: &mut NumberSet, number: u64) -> Result<(), NoMemory>
+    ensures put { OnOk result (is_in number (list_of numbers.new) ≡ true) }
+    ensures kept { OnOk result (Grows (list_of numbers.old) (list_of numbers.new)) }
+{
+    if numbers.has(number) {
+        return Ok(());
+    }
+    numbers.reserve(1)?;
+    numbers.add(number);
+    Ok(())
+}
+
+/// Notes an endpoint's sum. One that was seen before is shared.
+fn note(seen: &mut NumberSet, shared: &mut NumberSet, sum: u64) -> Result<(), NoMemory>
+    ensures here { OnOk result (is_in sum (list_of seen.new) ≡ true) }
+    ensures twice { OnOk result (is_in sum (list_of seen.old) ≡ true → is_in sum (list_of shared.new) ≡ true) }
+    ensures seen { OnOk result (Grows (list_of seen.old) (list_of seen.new)) }
+    ensures shared { OnOk result (Grows (list_of shared.old) (list_of shared.new)) }
+{
+    if seen.has(sum) {
+        return put_in(shared, sum);
+    }
+    put_in(seen, sum)
+}
+
+/// Notes the sums of a service's endpoints.
+fn note_row(
+    plan: &Plan,
+    s: usize,
+    seen: &mut NumberSet,
+    shared: &mut NumberSet,
+) -> Result<(), NoMemory>
+    requires service { s < service_count plan.now }
+    requires noted { AreNoted plan.now s 0 (list_of seen.old) (list_of shared.old) }
+    ensures { OnOk result (AreNoted plan.now (s + 1) 0 (list_of seen.new) (list_of shared.new)) }
+{
+    for i in 0..endpoint_count(plan, s) {
+        note(seen, shared, sum_of(address_of(plan, s, i)))?;
+    }
+    Ok(())
+}
+
+/// The sums of the addresses that more than one endpoint may have.
+pub(crate) fn shared_sums(alloc: Global, plan: &Plan) -> Result<NumberSet, NoMemory>
+    ensures { IfOk result (λ shared. AreShared plan.now (list_of shared)) }
+{
+    let mut seen = NumberSet::new(alloc);
+    let mut shared = NumberSet::new(alloc);
+    for s in 0..service_count(plan) {
+        note_row(plan, s, &mut seen, &mut shared)?;
+    }
+    Ok(shared)
+}
