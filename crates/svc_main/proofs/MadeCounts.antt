@@ -101,19 +101,6 @@ each-within P r (e ∷ q) f h = ((h.0, later e f), each-within P r q (later e f)
     later (Told a) g t none = g t none
     later (Got x) g t none = (or_parts (came q t) _ (sym (list_any-append t (events_of q) (x ∷ [])) ∙ g t none)).0
 
-count-onto : (t : Entry → Bool) (acc r : Record) → count_by t (fold (λ ys x. x ∷ ys) acc r) ≡ count_by t acc + times t r
-count-onto t acc [] = omega arith
-count-onto t acc (e ∷ r) =
-    let more = count-onto t (e ∷ acc) r in
-    let first : count_by t (e ∷ acc) ≡ count_by t (e ∷ []) + count_by t acc = count-append t (e ∷ []) acc in
-    elim (cases_Bool (t e)) [
-      | inl found ↦ let one = times-step t e r true found in let here : count_by t (e ∷ []) ≡ 0 + 1 = rw found refl in omega (arith, more, one, first, here)
-      | inr missing ↦ let one = times-step t e r false missing in let here : count_by t (e ∷ []) ≡ 0 + 0 = rw missing refl in omega (arith, more, one, first, here)
-    ]
-
-pub count-reverse : (t : Entry → Bool) (r : Record) → count_by t (reverse r) ≡ times t r
-count-reverse t r = count-onto t [] r ∙ zero-add (times t r)
-
 -- ---- what is told from the end on
 
 events-told : (q : Record) (told : List Action) → events_of (tell q told) ≡ events_of q

@@ -1,10 +1,9 @@
 -- The run of the generator's services serves, and what is counted in it.
-use Rattle.std.proofs.Common.{◌≡◌, ℕ, ◌*◌, ◌≤◌, Bool, true, false, cond, List, ◌++◌, reverse, string_bytes, refl, sym, ap, subst, ◌∙◌, Ok, Err, IfOk}
-use Rattle.std.specs.Prelude.{Result, count_by}
+use Rattle.std.proofs.Common.{◌≡◌, ℕ, ◌*◌, ◌≤◌, Bool, true, false, cond, List, ◌++◌, string_bytes, refl, sym, ap, subst, ◌∙◌, Ok, Err, IfOk}
+use Rattle.std.specs.Prelude.{Result}
 use Rattle.svc_record.specs.declared.action.StepEnd.TheVariants as ends
-use Rattle.svc_record.specs.declared.entry.Entry.{Entry}
 use Rattle.svc_record.specs.declared.item.Item.TheVariants as items
-use Rattle.svc_record.specs.Record.{Record}
+use Rattle.svc_record.specs.Record.{Record, times}
 use Rattle.svc_record.specs.Drain.{waits_are_over}
 use Rattle.svc_server.specs.Runs.{events_of}
 use Rattle.svc_main.specs.declared.answering.Answer.{Answer}
@@ -16,7 +15,7 @@ use Rattle.svc_main.specs.Counts.{is_any_start, is_any_bind, is_any_close, count
 use Rattle.svc_main.specs.Generator.{made_parts, made_plan, made_events, no_flags}
 use Rattle.svc_main.specs.Program.{EndsServed, RunsThrough, IsRunOf, PrintsCounts, CountsText}
 use Rattle.svc_main.proofs.MadeThrough.{made-fits, made-goes, made-passes}
-use Rattle.svc_main.proofs.MadeCounts.{Done, all-events, count-starts, count-binds, count-closes, count-reverse}
+use Rattle.svc_main.proofs.MadeCounts.{Done, all-events, count-starts, count-binds, count-closes}
 use Rattle.svc_main.proofs.WholeLemmas.{front_of, through_served}
 
 -- the generator's events run through
@@ -42,7 +41,7 @@ done n r few run =
     let front = front_of (made_events n) (events_of r) run.left run.takes.taken in
     record { few = few; served = served.served; right = served.right; events = all-events n r front.0 served.served front.1 }
 
-prints : (n : ℕ) (out : List ℕ) (r : Record) → n ≤ 1024 → IsRunOf no_flags (made_parts n) Served r → out ≡ summary (reverse r) ++ status_line (Run Served) → PrintsCounts n out r
+prints : (n : ℕ) (out : List ℕ) (r : Record) → n ≤ 1024 → IsRunOf no_flags (made_parts n) Served r → out ≡ summary r ++ status_line (Run Served) → PrintsCounts n out r
 prints n out r few run printed =
     let d = done n r few run in
     let starts = count-starts n r d in
@@ -51,30 +50,27 @@ prints n out r few run printed =
     record {
       printed =
           printed
-          ∙ ap (λ (m : ℕ). count_lines m (count-of is_any_bind) (count-of is_any_close) ++ status_line (Run Served)) (count-reverse is_any_start r ∙ starts)
-          ∙ ap (λ (m : ℕ). count_lines n m (count-of is_any_close) ++ status_line (Run Served)) (count-reverse is_any_bind r ∙ binds)
-          ∙ ap (λ (m : ℕ). count_lines n (2 * n) m ++ status_line (Run Served)) (count-reverse is_any_close r ∙ closes);
+          ∙ ap (λ (m : ℕ). count_lines m (times is_any_bind r) (times is_any_close r) ++ status_line (Run Served)) starts
+          ∙ ap (λ (m : ℕ). count_lines n m (times is_any_close r) ++ status_line (Run Served)) binds
+          ∙ ap (λ (m : ℕ). count_lines n (2 * n) m ++ status_line (Run Served)) closes;
       run = run;
       events = d.events;
       starts = starts;
       binds = binds;
       closes = closes;
     }
-  where
-    count-of : (Entry → Bool) → ℕ
-    count-of t = count_by t (reverse r)
 
 -- where memory was found for the counts
-pub ran_made : {E : Type 0} (n : ℕ) (end : RunEnd) (shown : List Entry) (r : Record) (result : Result Answer E) → n ≤ 1024
-    → IfOk result (λ (a : Answer). (a.line ≡ Run end) × (string_bytes a.text ≡ summary shown ++ status_line (Run end))) → shown ≡ reverse r → IsRunOf no_flags (made_parts n) end r
+pub ran_made : {E : Type 0} (n : ℕ) (end : RunEnd) (r : Record) (result : Result Answer E) → n ≤ 1024
+    → IfOk result (λ (a : Answer). (a.line ≡ Run end) × (string_bytes a.text ≡ summary r ++ status_line (Run end))) → IsRunOf no_flags (made_parts n) end r
     → IfOk result (λ (a : Answer). (a.line ≡ Run Served) × CountsText n (string_bytes a.text))
-ran_made n end shown r (Ok a) few said reversed run =
+ran_made n end r (Ok a) few said run =
     let served : end ≡ Served = made_served n end r few run in (
       said.0 ∙ ap Run served,
       (
         r,
         prints n (string_bytes a.text) r few (subst (λ (x : RunEnd). IsRunOf no_flags (made_parts n) x r) served run)
-            (said.1 ∙ ap (λ (es : List Entry). summary es ++ status_line (Run end)) reversed ∙ ap (λ (x : RunEnd). summary (reverse r) ++ status_line (Run x)) served),
+            (said.1 ∙ ap (λ (x : RunEnd). summary r ++ status_line (Run x)) served),
       ),
     )
-ran_made n end shown r (Err e) few said reversed run = tt
+ran_made n end r (Err e) few said run = tt

@@ -1,9 +1,10 @@
 -- What the generator's command counts in a record.
-use Rattle.std.specs.Prelude.{ℕ, Bool, true, false, List, [], ◌∷◌, ◌++◌, codes, count_by}
+use Rattle.std.specs.Prelude.{ℕ, Bool, true, false, ◌≡◌, List, [], ◌∷◌, ◌++◌, codes}
 use Rattle.std.specs.Fmt.{decimal}
 use Rattle.svc_record.specs.declared.entry.Entry.{Entry}
 use Rattle.svc_record.specs.declared.entry.Entry.TheVariants.{Told}
 use Rattle.svc_record.specs.declared.action.Action.TheVariants.{Start, Bind, Close}
+use Rattle.svc_record.specs.Record.{Record, times}
 
 -- the entry tells `Start`
 abbrev pub is_any_start : Entry → Bool
@@ -29,5 +30,11 @@ abbrev pub count_lines : ℕ → ℕ → ℕ → List ℕ
 count_lines starts binds closes = count_line (codes "starts ") starts ++ (count_line (codes "binds ") binds ++ count_line (codes "closes ") closes)
 
 -- how many services were started, how often an endpoint was bound, and how many descriptors were closed
-abbrev pub summary : List Entry → List ℕ
-summary entries = count_lines (count_by is_any_start entries) (count_by is_any_bind entries) (count_by is_any_close entries)
+abbrev pub summary : Record → List ℕ
+summary r = count_lines (times is_any_start r) (times is_any_bind r) (times is_any_close r)
+
+-- these are the counts of the record
+pub record HasCounts (starts binds closes : ℕ) (r : Record) : Type 0 where
+  pub starts_are : starts ≡ times is_any_start r
+  pub binds_are : binds ≡ times is_any_bind r
+  pub closes_are : closes ≡ times is_any_close r

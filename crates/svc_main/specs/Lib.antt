@@ -6,4 +6,5 @@ pub mod Services
 pub mod CommandWords
 pub mod Generator
 pub mod Counts
+pub mod RecordingHostData
 pub mod Program

@@ -1,6 +1,6 @@
 //! What is answered to a script, and by the generator.
 
-ghost use Rattle.std.specs.Prelude.{◌≡◌, ◌≤◌, ℕ, ◌++◌, length, map, List, All, IfOk, OnOk, string_bytes};
+ghost use Rattle.std.specs.Prelude.{◌≡◌, ◌≤◌, ℕ, ◌++◌, [], length, map, reverse, List, All, IfOk, OnOk, string_bytes};
 ghost use Rattle.svc_record.specs.Text.{text_of, EntryFits};
 ghost use Rattle.svc_text.specs.Accepted.{AreAccepted, BringsFew};
 ghost use Rattle.svc_conf.specs.declared.server.configuration.Opt.{Opt};
@@ -18,9 +18,11 @@ ghost use Rattle.svc_main.specs.Counts.{summary};
 ghost use Rattle.svc_main.specs.Generator.{made_events, made_parts, no_flags};
 ghost use Rattle.svc_main.specs.Program.{IsRunOf, RanText, CountsText, AnswersScript};
 
-use crate::counting::summary;
+use crate::counting::RecordCounts;
 use crate::generator::{made_items, made_services, no_flags};
 use crate::outcome::{RunEnd, StatusLine};
+use crate::recorder::Recorder;
+use crate::recording_host::RecordingHost;
 use crate::runs::run_items;
 use crate::script_filter::ScriptFilter;
 use crate::script_service::ScriptService;
@@ -30,9 +32,9 @@ use std::fmt::Write;
 use svc_base::NoMemory;
 use svc_conf::{Opt, ServerConf};
 use svc_graph::services::ServiceWithDependents;
-use svc_record::{Entry, Item};
-use svc_server::{ScriptHost, Server};
-use svc_text::{Script, ScriptError, record_text};
+use svc_record::Item;
+use svc_server::Server;
+use svc_text::{RecordText, Script, ScriptError};
 
 /// A status line, and what is to be written with it.
 #[derive(Debug, Drop)]
@@ -55,45 +57,48 @@ fn read_line(line: StatusLine)
     ensures { StatusFits line }
 {}
 
-/// The record of a run, and its status line.
-fn ran(alloc: Global, end: RunEnd, entries: &[Entry]) -> Result<Answer, NoMemory>
-    ensures text { IfOk result (λ a. (a.line ≡ RunLine end) × (string_bytes a.text ≡ text_of entries.now ++ status_line (RunLine end))) }
-    ensures numbers { OnOk result (All EntryFits entries.now × StatusFits (RunLine end)) }
+/// The text of the record of a run, and its status line.
+fn ran(end: RunEnd, record: RecordText) -> Result<Answer, NoMemory>
+    ensures text { IfOk result (λ a. (a.line ≡ RunLine end) × (string_bytes a.text ≡ text_of (reverse record) ++ status_line (RunLine end))) }
+    ensures numbers { OnOk result (All EntryFits (reverse record) × StatusFits (RunLine end)) }
 {
     let line = StatusLine::Run(end);
     read_line(line);
-    let mut text = record_text(alloc, entries)?;
+    let mut text = record.into_text()?;
     writeln!(text, "{line}")?;
     Ok(Answer { line, text })
 }
 
 /// What the run of a server leaves.
 #[derive(Drop)]
-struct FinishedRun {
+struct FinishedRun<R> {
     end: RunEnd,
-    host: ScriptHost<ScriptService>,
+    recorder: R,
 }
 
-/// Runs a server over these items.
-fn run_over(
+/// Runs a server over these items, and shows its record to the recorder.
+fn run_over<R: Recorder + Drop>(
     alloc: Global,
     server: Server<ScriptService, ScriptFilter>,
     items: Vec<Item>,
-) -> Result<FinishedRun, NoMemory>
+    recorder: R,
+) -> Result<FinishedRun<R>, NoMemory>
     requires few { All BringsFew items.items }
+    requires first { R.record recorder ≡ [] }
     requires lines { (services : List ServiceLine) × HasLines services (length services) server.dependencies server.filters
         (answers_of ⟦<ScriptService as ServiceWithDependents>⟧ server.services.items) }
     ensures { (opt : Opt) (parts : Parts) → IsServerOf opt parts server.configuration server.options server.eager
         server.dependencies server.filters (answers_of ⟦<ScriptService as ServiceWithDependents>⟧ server.services.items)
-        → parts.items ≡ items.items → IfOk result (λ left. IsRunOf opt parts left.end left.host.entries) }
+        → parts.items ≡ items.items → IfOk result (λ left. IsRunOf opt parts left.end (R.record left.recorder)) }
 {
     let turns = items.len() as u64 + 1;
-    let mut host = ScriptHost::new(alloc, items);
+    let mut host = RecordingHost::new(items, recorder);
     let end = run_items(alloc, server, turns, &mut host)?;
-    Ok(FinishedRun { end, host })
+    let recorder = host.into_recorder();
+    Ok(FinishedRun { end, recorder })
 }
 
-/// Runs the server of a script over the script's items, and prints what its run leaves.
+/// Runs the server of a script over the script's items, and prints its record.
 fn run_script(
     alloc: Global,
     server: Server<ScriptService, ScriptFilter>,
@@ -107,22 +112,21 @@ fn run_script(
         → parts.items ≡ items.items
         → IfOk result (λ a. (end : RunEnd) × (a.line ≡ RunLine end) × RanText opt parts end (string_bytes a.text)) }
 {
-    let left = run_over(alloc, server, items)?;
-    let entries = left.host.into_entries();
-    ran(alloc, left.end, entries.as_slice())
+    let left = run_over(alloc, server, items, RecordText::new(alloc))?;
+    ran(left.end, left.recorder)
 }
 
 /// The counts of the record of a run, and its status line.
-fn counted(alloc: Global, end: RunEnd, entries: &[Entry]) -> Result<Answer, NoMemory>
-    ensures { IfOk result (λ a. (a.line ≡ RunLine end) × (string_bytes a.text ≡ summary entries.now ++ status_line (RunLine end))) }
+fn counted(alloc: Global, end: RunEnd, counts: &RecordCounts) -> Result<Answer, NoMemory>
+    ensures { IfOk result (λ a. (a.line ≡ RunLine end) × (string_bytes a.text ≡ summary counts.now ++ status_line (RunLine end))) }
 {
     let line = StatusLine::Run(end);
-    let mut text = summary(alloc, entries)?;
+    let mut text = counts.summary(alloc)?;
     writeln!(text, "{line}")?;
     Ok(Answer { line, text })
 }
 
-/// Runs the server of the generator's services over its events, and counts what its run leaves.
+/// Runs the server of the generator's services over its events, and counts what its record tells.
 fn run_made(
     alloc: Global,
     server: Server<ScriptService, ScriptFilter>,
@@ -136,8 +140,8 @@ fn run_made(
         → items.items ≡ map item.Event (made_events n)
         → IfOk result (λ a. (a.line ≡ RunLine Served) × CountsText n (string_bytes a.text)) }
 {
-    let left = run_over(alloc, server, items)?;
-    counted(alloc, left.end, left.host.entries().as_slice())
+    let left = run_over(alloc, server, items, RecordCounts::new())?;
+    counted(alloc, left.end, &left.recorder)
 }
 
 /// The counts of the run of n services of the generator.

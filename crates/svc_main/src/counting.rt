@@ -1,11 +1,14 @@
-//! What is counted in a record.
+//! What is counted in a record, as it grows.
 
-ghost use Rattle.std.specs.Prelude.{◌≡◌, IfOk, count_by, string_bytes};
+ghost use Rattle.std.specs.Prelude.{◌≡◌, ◌+◌, [], ◌∷◌, if◌then◌else◌, IfOk, IfSome, string_bytes};
 ghost use Rattle.svc_main.specs.Counts.{is_any_start, is_any_bind, is_any_close, summary};
 
+use crate::recorder::Recorder;
 use std::alloc::Global;
 use std::fmt::Write;
+use std::marker::Model;
 use svc_base::NoMemory;
+use svc_history::History;
 use svc_record::{Action, Entry};
 
 fn is_start(entry: &Entry) -> bool
@@ -26,37 +29,85 @@ fn is_close(entry: &Entry) -> bool
     matches!(entry, Entry::Told(Action::Close(_)))
 }
 
-/// How many services were started.
-fn starts(entries: &[Entry]) -> usize
-    ensures { result ≡ count_by is_any_start entries.now }
-{
-    entries.iter().filter(|entry| is_start(*entry)).count()
+/// How many services were started, how often an endpoint was bound, and how many descriptors were
+/// closed. Contracts see the record, the newest entry first.
+#[derive(Drop)]
+pub(crate) struct RecordCounts {
+    starts: u64,
+    binds: u64,
+    closes: u64,
+    /// A count went past its greatest value, so they tell nothing.
+    is_past: bool,
+    entries: History<Entry>,
 }
 
-/// How often an endpoint was bound.
-fn binds(entries: &[Entry]) -> usize
-    ensures { result ≡ count_by is_any_bind entries.now }
-{
-    entries.iter().filter(|entry| is_bind(*entry)).count()
+impl Model for RecordCounts {
+    ghost use Rattle.std.specs.Prelude.{◌≡◌, false};
+    ghost use Rattle.svc_record.specs.Record.{Record};
+    ghost use Rattle.svc_main.specs.Counts.{HasCounts};
+
+    ghost Value = { Record };
+
+    ghost view = { λ c. c.entries };
+
+    ghost invariant = { λ c. c.is_past ≡ false → HasCounts c.starts c.binds c.closes c.entries };
 }
 
-/// How many descriptors were closed.
-fn closes(entries: &[Entry]) -> usize
-    ensures { result ≡ count_by is_any_close entries.now }
+/// The count with this entry, where it can be told.
+fn counted(count: u64, counts: bool) -> Option<u64>
+    ensures { IfSome result (λ n. n ≡ (if counts then count + 1 else count)) }
 {
-    entries.iter().filter(|entry| is_close(*entry)).count()
+    if counts {
+        count.checked_add(1)
+    } else {
+        Some(count)
+    }
 }
 
-/// The three counts, a line each.
-pub(crate) fn summary(alloc: Global, entries: &[Entry]) -> Result<String, NoMemory>
-    ensures { IfOk result (λ text. string_bytes text ≡ summary entries.now) }
-{
-    let starts = starts(entries);
-    let binds = binds(entries);
-    let closes = closes(entries);
-    let mut text = String::new(alloc);
-    writeln!(text, "starts {starts}")?;
-    writeln!(text, "binds {binds}")?;
-    writeln!(text, "closes {closes}")?;
-    Ok(text)
+impl RecordCounts {
+    /// The counts of a record with no entry.
+    pub(crate) fn new() -> Self
+        ensures { result ≡ [] }
+    {
+        RecordCounts {
+            starts: 0,
+            binds: 0,
+            closes: 0,
+            is_past: false,
+            entries: History::new(),
+        }
+    }
+
+    /// The three counts, a line each. There is no memory for a count past 2^64.
+    pub(crate) fn summary(&self, alloc: Global) -> Result<String, NoMemory>
+        ensures { IfOk result (λ text. string_bytes text ≡ summary self.now) }
+    {
+        if self.is_past {
+            return Err(NoMemory);
+        }
+        let mut text = String::new(alloc);
+        writeln!(text, "starts {}", self.starts)?;
+        writeln!(text, "binds {}", self.binds)?;
+        writeln!(text, "closes {}", self.closes)?;
+        Ok(text)
+    }
+}
+
+/// It keeps the counts.
+impl Recorder for RecordCounts {
+    ghost record = { λ c. c };
+
+    fn note(&mut self, entry: &Entry) {
+        self.entries.push(entry);
+        let starts = counted(self.starts, is_start(entry));
+        let binds = counted(self.binds, is_bind(entry));
+        let closes = counted(self.closes, is_close(entry));
+        if let (Some(starts), Some(binds), Some(closes)) = (starts, binds, closes) {
+            self.starts = starts;
+            self.binds = binds;
+            self.closes = closes;
+        } else {
+            self.is_past = true;
+        }
+    }
 }

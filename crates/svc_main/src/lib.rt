@@ -7,6 +7,8 @@ mod generator;
 mod outcome;
 mod planning;
 mod program;
+mod recorder;
+mod recording_host;
 mod runs;
 mod script_filter;
 mod script_service;

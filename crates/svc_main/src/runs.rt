@@ -12,29 +12,31 @@ ghost use Rattle.svc_main.specs.Services.{HasLines, IsServerOf};
 ghost use Rattle.svc_main.specs.Program.{answer_of, Judges, TellsRun};
 
 use crate::outcome::RunEnd;
+use crate::recorder::Recorder;
+use crate::recording_host::RecordingHost;
 use crate::script_filter::ScriptFilter;
 use crate::script_service::ScriptService;
 use std::alloc::Global;
 use svc_base::NoMemory;
 use svc_graph::services::ServiceWithDependents;
-use svc_server::{Host, Outcome, RunArgs, RunError, ScriptHost, Server};
+use svc_server::{Host, Outcome, RunArgs, RunError, Server};
 
 /// Runs a script's server over a host that has fewer items ahead than there are turns.
-pub(crate) fn run_items(
+pub(crate) fn run_items<R: Recorder>(
     alloc: Global,
     server: Server<ScriptService, ScriptFilter>,
     turns: u64,
-    host: &mut ScriptHost<ScriptService>,
+    host: &mut RecordingHost<R, ScriptService>,
 ) -> Result<RunEnd, NoMemory>
     requires lines { (services : List ServiceLine) × HasLines services (length services) server.dependencies server.filters
         (answers_of ⟦<ScriptService as ServiceWithDependents>⟧ server.services.items) }
-    requires first { ⟦<ScriptHost<ScriptService> as Host>⟧.account host.old ≡ Some no_account }
+    requires first { ⟦<RecordingHost<R, ScriptService> as Host>⟧.account host.old ≡ Some no_account }
     requires few { length host.old.left < turns }
     ensures tells { (opt : Opt) (parts : Parts) → IsServerOf opt parts server.configuration server.options server.eager
         server.dependencies server.filters (answers_of ⟦<ScriptService as ServiceWithDependents>⟧ server.services.items)
-        → IfOk result (λ end. TellsRun parts.services (plan_of opt parts) turns (answer_of end) host.new.entries) }
+        → IfOk result (λ end. TellsRun parts.services (plan_of opt parts) turns (answer_of end) (R.record host.new.recorder)) }
     ensures judged { IfOk result (λ end. Judges end server.configuration) }
-    ensures takes { IfOk result (λ end. RunTakes (answer_of end) host.new.entries host.old.left host.new.left) }
+    ensures takes { IfOk result (λ end. RunTakes (answer_of end) (R.record host.new.recorder) host.old.left host.new.left) }
 {
     match server.run(alloc, RunArgs { turns }, host) {
         Ok(Outcome::Served) => Ok(RunEnd::Served),

@@ -58,7 +58,7 @@ fn event_at(entries: &[Entry], place: Option<usize>) -> &Event
 }
 
 /// The count of events that tell a failure, with this event.
-fn failures_with(failures: u64, event: &Event) -> u64
+pub fn failures_with(failures: u64, event: &Event) -> u64
     ensures { MatchBool (tells_failure event.now) (Rose failures result) (result ≡ failures) }
 {
     match event {

@@ -14,6 +14,7 @@ mod script_items;
 mod server;
 mod turns;
 
+pub use account::failures_with;
 pub use account_host::AccountHost;
 pub use host::{Host, Next};
 pub use inner_host::InnerHost;

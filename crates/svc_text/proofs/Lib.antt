@@ -2,6 +2,7 @@ pub mod Visible
 pub mod DigitLemmas
 pub mod ListLemmas
 pub mod PieceLemmas
+pub mod TextLemmas
 pub mod HexLemmas
 pub mod WordBack
 pub mod EventBack

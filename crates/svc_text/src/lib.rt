@@ -24,6 +24,6 @@ pub use event_lines::{event_of_line, item_of_line};
 pub use filters::{blocks, filter_number, is_blocked};
 pub use parsing::{Script, ScriptError, parse};
 pub use plans::accepted_plan;
-pub use printing::{one_record, record_text};
+pub use printing::{RecordText, one_record, record_text};
 pub use refused::{add_dependencies, one_refused_service};
 pub use service::{EndpointLine, ServiceLine};
