@@ -1,7 +1,7 @@
 -- How many starts, binds and closes a run of the generator's services has.
-use Rattle.std.proofs.Common.{◌≡◌, ◌⊎◌, ℕ, zero, suc, ◌+◌, ◌-◌, ◌*◌, ◌<◌, ◌≤◌, Bool, true, false, ◌||◌, ◌==◌, cond, ltb, List, [], ◌∷◌, ◌++◌, length, map, reverse, None, refl, sym, ap, ◌∙◌, inl, inr, arith, append-nil, zero-add}
+use Rattle.std.proofs.Common.{◌≡◌, ◌⊎◌, ℕ, zero, suc, ◌+◌, ◌-◌, ◌*◌, ◌<◌, ◌≤◌, Bool, true, false, ◌||◌, ◌==◌, cond, ltb, List, [], ◌∷◌, ◌++◌, length, map, None, refl, sym, ap, ◌∙◌, inl, inr, arith, append-nil}
 use Rattle.std.specs.Prelude.{count_by}
-use Rattle.std.specs.List.{list_any, fold}
+use Rattle.std.specs.List.{list_any}
 use Rattle.std.proofs.lemmas.Bool.{and_parts, and_from, or_cases, or_left, or_parts, or_from, ltb-true, eqb-true, eq-eqb, ne_eqb, both_ways, cases_Bool, cases_lt, cases_eq, cases_order, lt-ltb, le-ltb, not-true, OnTrue_at}
 use Rattle.std.proofs.lemmas.List.Folds.{list_any-append}
 use Rattle.svc_record.specs.declared.plan.Plan.{Plan}

@@ -11,7 +11,7 @@ use Rattle.svc_main.specs.declared.outcome.RunEnd.{RunEnd}
 use Rattle.svc_main.specs.declared.outcome.RunEnd.TheVariants.{Served}
 use Rattle.svc_main.specs.declared.outcome.StatusLine.TheVariants.{Run}
 use Rattle.svc_main.specs.Status.{status_line}
-use Rattle.svc_main.specs.Counts.{is_any_start, is_any_bind, is_any_close, count_lines, summary}
+use Rattle.svc_main.specs.Counts.{is_any_bind, is_any_close, count_lines, summary}
 use Rattle.svc_main.specs.Generator.{made_parts, made_plan, made_events, no_flags}
 use Rattle.svc_main.specs.Program.{EndsServed, RunsThrough, IsRunOf, PrintsCounts, CountsText}
 use Rattle.svc_main.proofs.MadeThrough.{made-fits, made-goes, made-passes}

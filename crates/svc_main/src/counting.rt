@@ -1,6 +1,6 @@
 //! What is counted in a record, as it grows.
 
-ghost use Rattle.std.specs.Prelude.{◌≡◌, ◌+◌, [], ◌∷◌, if◌then◌else◌, IfOk, IfSome, string_bytes};
+ghost use Rattle.std.specs.Prelude.{◌≡◌, ◌+◌, [], if◌then◌else◌, IfOk, IfSome, string_bytes};
 ghost use Rattle.svc_main.specs.Counts.{is_any_start, is_any_bind, is_any_close, summary};
 
 use crate::recorder::Recorder;

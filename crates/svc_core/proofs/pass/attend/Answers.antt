@@ -3,8 +3,8 @@ use Rattle.svc_base.specs.Items.{list_of}
 use Rattle.svc_core.specs.WaitsData.{WaitsData}
 use Rattle.svc_core.specs.WaitsState.{LeavesPlace}
 use Rattle.svc_core.proofs.CopyLemmas.{bare-none}
-use Rattle.svc_core.proofs.WaitsLemmas.{grown-open, known-left, known-parked, left-open, order-apart, parked-waits}
-use Rattle.svc_core.proofs.PlaceLemmas.{attended, attended-others, still-parked, still-same}
+use Rattle.svc_core.proofs.WaitsLemmas.{grown-open, order-apart}
+use Rattle.svc_core.proofs.PlaceLemmas.{attended, attended-others, still-parked, still-same, known-left, known-parked, left-open, parked-waits}
 use Rattle.svc_core.proofs.SkipLemmas.{passes-waiting}
 use Rattle.svc_core.proofs.pass.attend.Goals as goal
 

@@ -1,5 +1,5 @@
 use Rattle.std.proofs.Common.{sym, ◌∙◌}
-use Rattle.svc_core.proofs.WaitsLemmas.{known-unstarted}
+use Rattle.svc_core.proofs.PlaceLemmas.{known-unstarted}
 use Rattle.svc_core.proofs.pass.settle.Goals as goal
 
 pub returns-then-not-is_started : goal.returns-then-not-is_started

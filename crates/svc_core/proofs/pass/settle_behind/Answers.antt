@@ -2,7 +2,7 @@ use Rattle.std.proofs.Common.{true, ◌≡◌, ◌∙◌, sym, subst, slice_inde
 use Rattle.svc_endpoints.specs.Rests.{WaitsBehind}
 use Rattle.svc_core.specs.StartsState.{is_flagged}
 use Rattle.svc_core.specs.WaitsState.{ParksBehind}
-use Rattle.svc_core.proofs.WaitsLemmas.{known-behind}
+use Rattle.svc_core.proofs.PlaceLemmas.{known-behind}
 use Rattle.svc_core.proofs.pass.settle_behind.Goals as goal
 
 pub returns-then-is_started : goal.returns-then-is_started

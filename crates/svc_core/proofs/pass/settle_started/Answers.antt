@@ -1,4 +1,4 @@
-use Rattle.svc_core.proofs.WaitsLemmas.{freed-open, known-asking, known-closed, known-freed, known-resting}
+use Rattle.svc_core.proofs.PlaceLemmas.{freed-open, known-asking, known-closed, known-freed, known-resting}
 use Rattle.svc_core.proofs.pass.settle_started.Goals as goal
 
 pub returns-in-Asking : goal.returns-in-Asking
