@@ -1,10 +1,9 @@
 //! The host: it gives the server events, polls its services, and is told actions.
 
-ghost use Rattle.std.specs.Prelude.{◌≡◌, ◌-◌, ◌≤◌, map, reverse, min, All, Some, IsSome, IfSome, MatchBool, vec_len, vec_capacity};
+ghost use Rattle.std.specs.Prelude.{◌≡◌, ◌-◌, ◌≤◌, map, reverse, min, All, Some, IsSome, IfSome, vec_len, vec_capacity};
 ghost use Rattle.std.specs.VecDeque.{deque_len, deque_capacity};
 ghost use Rattle.svc_base.specs.Items.{list_of, spare};
-ghost use Rattle.svc_base.specs.Streams.{Rose};
-ghost use Rattle.svc_server.specs.Hosts.{BringsFew, no_account, tells_failure};
+ghost use Rattle.svc_server.specs.Hosts.{BringsFew, no_account};
 ghost use Rattle.svc_server.specs.ScriptHosts.{last_event};
 ghost use Rattle.svc_hello.specs.Handed.{handed_over};
 
@@ -15,7 +14,7 @@ use std::alloc::Global;
 use std::collections::VecDeque;
 use svc_base::{NoMemory, Reserved};
 use svc_record::{Action, Entries, Entry, Event};
-use svc_server::{Host, Next};
+use svc_server::{Host, Next, failures_with};
 
 /// A host in memory, with its world. It keeps the record of its run.
 #[derive(Drop)]
@@ -45,21 +44,6 @@ fn event_at(entries: &[Entry], place: Option<usize>) -> &Event
     match entries.get(i) {
         Some(Entry::Got(event)) => event,
         _ => unreachable!(),
-    }
-}
-
-/// The count of events that tell a failure, with this one.
-fn failures_with(failures: u64, event: &Event) -> u64
-    ensures { MatchBool (tells_failure event.now) (Rose failures result) (result ≡ failures) }
-{
-    match event {
-        Event::BindFailed(..)
-        | Event::AdoptFailed(..)
-        | Event::ReceiveFailed
-        | Event::ConnectFailed
-        | Event::SendFailed
-        | Event::AcceptFailed(..) => failures.saturating_add(1),
-        _ => failures,
     }
 }
 

@@ -85,8 +85,9 @@ impl<R: Recorder, B: ServiceWithDependents + Drop> RecordingHost<R, B> {
         self.failures = failures_with(self.failures, &event);
         let entry = Entry::Got(event);
         self.recorder.note(&entry);
-        if let Entry::Got(event) = entry {
-            self.last = Some(event);
+        match entry {
+            Entry::Got(event) => self.last = Some(event),
+            Entry::Told(_action) => {}
         }
     }
 }
