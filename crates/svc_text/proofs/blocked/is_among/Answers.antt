@@ -1,5 +1,5 @@
 use Rattle.std.proofs.Common.{sym}
-use Rattle.svc_base.proofs.NumberSetLemmas.{found, not-found}
+use Rattle.svc_text.proofs.BlockedLemmas.{found, not-found}
 use Rattle.svc_text.proofs.blocked.is_among.Goals as goal
 
 pub returns-in-Ok : goal.returns-in-Ok
