@@ -2,7 +2,6 @@
 use Rattle.std.proofs.Common.{◌≡◌, ℕ, ◌*◌, ◌≤◌, Bool, true, false, cond, List, ◌++◌, string_bytes, refl, sym, ap, subst, ◌∙◌, Ok, Err, IfOk}
 use Rattle.std.specs.Prelude.{Result}
 use Rattle.svc_record.specs.declared.action.StepEnd.TheVariants as ends
-use Rattle.svc_record.specs.declared.item.Item.TheVariants as items
 use Rattle.svc_record.specs.Record.{Record, times}
 use Rattle.svc_record.specs.Drain.{waits_are_over}
 use Rattle.svc_server.specs.Runs.{events_of}

@@ -1,5 +1,5 @@
 -- What the program answers, and why.
-use Rattle.std.specs.Prelude.{◌≡◌, ℕ, All, ◌<◌, ◌≤◌, ◌⊎◌, ◌+◌, ◌*◌, true, false, List, [], ◌∷◌, ◌++◌, length, take, map, reverse, slice_index, Option, Some, None, Result, Ok, Err, IfSome}
+use Rattle.std.specs.Prelude.{◌≡◌, ℕ, All, ◌<◌, ◌≤◌, ◌⊎◌, ◌+◌, ◌*◌, true, false, List, ◌∷◌, ◌++◌, length, take, map, reverse, slice_index, Option, Some, None, Result, Ok, Err, IfSome}
 use Rattle.std.specs.Io.KnownBytes.{Appends, IsAtEnd}
 use Rattle.std.specs.Str.Lines.{lines}
 use Rattle.svc_base.specs.Streams.{Rose}

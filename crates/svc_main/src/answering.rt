@@ -58,13 +58,13 @@ fn read_line(line: StatusLine)
 {}
 
 /// The text of the record of a run, and its status line.
-fn ran(end: RunEnd, record: RecordText) -> Result<Answer, NoMemory>
-    ensures text { IfOk result (λ a. (a.line ≡ RunLine end) × (string_bytes a.text ≡ text_of (reverse record) ++ status_line (RunLine end))) }
-    ensures numbers { OnOk result (All EntryFits (reverse record) × StatusFits (RunLine end)) }
+fn ran(end: RunEnd, lines: RecordText) -> Result<Answer, NoMemory>
+    ensures text { IfOk result (λ a. (a.line ≡ RunLine end) × (string_bytes a.text ≡ text_of (reverse lines) ++ status_line (RunLine end))) }
+    ensures numbers { OnOk result (All EntryFits (reverse lines) × StatusFits (RunLine end)) }
 {
     let line = StatusLine::Run(end);
     read_line(line);
-    let mut text = record.into_text()?;
+    let mut text = lines.into_text()?;
     writeln!(text, "{line}")?;
     Ok(Answer { line, text })
 }
@@ -84,12 +84,12 @@ fn run_over<R: Recorder + Drop>(
     recorder: R,
 ) -> Result<FinishedRun<R>, NoMemory>
     requires few { All BringsFew items.items }
-    requires first { R.record recorder ≡ [] }
+    requires first { R.shown recorder ≡ [] }
     requires lines { (services : List ServiceLine) × HasLines services (length services) server.dependencies server.filters
         (answers_of ⟦<ScriptService as ServiceWithDependents>⟧ server.services.items) }
     ensures { (opt : Opt) (parts : Parts) → IsServerOf opt parts server.configuration server.options server.eager
         server.dependencies server.filters (answers_of ⟦<ScriptService as ServiceWithDependents>⟧ server.services.items)
-        → parts.items ≡ items.items → IfOk result (λ left. IsRunOf opt parts left.end (R.record left.recorder)) }
+        → parts.items ≡ items.items → IfOk result (λ left. IsRunOf opt parts left.end (R.shown left.recorder)) }
 {
     let turns = items.len() as u64 + 1;
     let mut host = RecordingHost::new(items, recorder);

@@ -95,7 +95,7 @@ impl RecordCounts {
 
 /// It keeps the counts.
 impl Recorder for RecordCounts {
-    ghost record = { λ c. c };
+    ghost shown = { λ c. c };
 
     fn note(&mut self, entry: &Entry) {
         self.entries.push(entry);

@@ -9,16 +9,16 @@ use svc_text::RecordText;
 /// What is kept of a record that grows: it is shown each entry once, as it comes.
 pub(crate) trait Recorder {
     // What it was shown, the newest first.
-    ghost record: { Self → Record };
+    ghost shown: { Self → Record };
 
     /// Is shown the next entry.
     fn note(&mut self, entry: &Entry)
-        ensures { record self.new ≡ entry.now ∷ record self.old };
+        ensures { shown self.new ≡ entry.now ∷ shown self.old };
 }
 
 /// It keeps the text.
 impl Recorder for RecordText {
-    ghost record = { λ r. r };
+    ghost shown = { λ r. r };
 
     fn note(&mut self, entry: &Entry) {
         self.put(entry);

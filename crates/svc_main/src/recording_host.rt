@@ -57,7 +57,7 @@ impl<R: Recorder, B: ServiceWithDependents + Drop> RecordingHost<R, B> {
     /// more than 32 descriptors.
     pub(crate) fn new(items: Vec<Item>, recorder: R) -> Self
         requires few { All GivesFew items.items }
-        requires first { R.record recorder ≡ [] }
+        requires first { R.shown recorder ≡ [] }
         ensures ahead { ⟦<RecordingHost<R, B> as Host>⟧.ahead result ≡ Some items.items }
         ensures account { ⟦<RecordingHost<R, B> as Host>⟧.account result ≡ Some no_account }
     {
@@ -74,7 +74,7 @@ impl<R: Recorder, B: ServiceWithDependents + Drop> RecordingHost<R, B> {
 
     /// An event comes.
     fn take(&mut self, event: Event)
-        ensures record { R.record self.new.recorder ≡ Got event ∷ R.record self.old.recorder }
+        ensures shown { R.shown self.new.recorder ≡ Got event ∷ R.shown self.old.recorder }
         ensures last { self.new.last ≡ Some event }
         ensures failures { MatchBool (tells_failure event) (Rose self.old.failures self.new.failures) (self.new.failures ≡ self.old.failures) }
         ensures left { self.new.left ≡ self.old.left }
@@ -106,7 +106,7 @@ impl<R: Recorder + Drop, B: Drop> RecordingHost<R, B> {
 impl<R: Recorder, B: ServiceWithDependents + Drop> Host for RecordingHost<R, B> {
     type Service = B;
 
-    ghost account = { λ h. Some (record { entries = R.record h.recorder; handed = map (handed_with B.named) h.handed }) };
+    ghost account = { λ h. Some (record { entries = R.shown h.recorder; handed = map (handed_with B.named) h.handed }) };
 
     ghost counts = { λ h. counts_with h.faults h.idles h.failures };
 

@@ -34,9 +34,9 @@ pub(crate) fn run_items<R: Recorder>(
     requires few { length host.old.left < turns }
     ensures tells { (opt : Opt) (parts : Parts) → IsServerOf opt parts server.configuration server.options server.eager
         server.dependencies server.filters (answers_of ⟦<ScriptService as ServiceWithDependents>⟧ server.services.items)
-        → IfOk result (λ end. TellsRun parts.services (plan_of opt parts) turns (answer_of end) (R.record host.new.recorder)) }
+        → IfOk result (λ end. TellsRun parts.services (plan_of opt parts) turns (answer_of end) (R.shown host.new.recorder)) }
     ensures judged { IfOk result (λ end. Judges end server.configuration) }
-    ensures takes { IfOk result (λ end. RunTakes (answer_of end) (R.record host.new.recorder) host.old.left host.new.left) }
+    ensures takes { IfOk result (λ end. RunTakes (answer_of end) (R.shown host.new.recorder) host.old.left host.new.left) }
 {
     match server.run(alloc, RunArgs { turns }, host) {
         Ok(Outcome::Served) => Ok(RunEnd::Served),
