@@ -84,6 +84,6 @@ set-grows marks more h len kept are =
           let first = and_parts (has_mark marks h 0) (has_mark marks h 1) halves.0 in
           let last = and_parts (has_mark marks h 2) (has_mark marks h 3) halves.1 in
           or_right (length more == 0) (low2 && high2) (and_from low2 high2
-            (and_from (has_mark more h 0) (has_mark more h 1) (kept 0 first.0) (kept 1 first.1))
-            (and_from (has_mark more h 2) (has_mark more h 3) (kept 2 last.0) (kept 3 last.1))))
+          (and_from (has_mark more h 0) (has_mark more h 1) (kept 0 first.0) (kept 1 first.1))
+          (and_from (has_mark more h 2) (has_mark more h 3) (kept 2 last.0) (kept 3 last.1))))
     ]

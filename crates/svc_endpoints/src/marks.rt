@@ -55,7 +55,7 @@ fn set_mark(marks: &mut Vec<bool>, hash: u64, k: u64)
     requires small { hash < 2 ^ 32 }
     requires few { k < 4 }
     requires some { 0 < vec_len marks.old }
-    ensures length { vec_len marks.new ≡ vec_len marks.old }
+    ensures length { length marks.new.items ≡ length marks.old.items }
     ensures set { has_mark marks.new.items hash k ≡ true }
     ensures kept { (h j : ℕ) → has_mark marks.old.items h j ≡ true → has_mark marks.new.items h j ≡ true }
 {
