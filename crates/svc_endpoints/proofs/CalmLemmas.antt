@@ -1,55 +1,39 @@
 -- Which services are calm, as an endpoint's state changes or a service fails.
-use Rattle.std.proofs.Common.{ℕ, Bool, true, false, not, ◌&&◌, ◌||◌, inl, inr, List, [], ◌≡◌, ◌≢◌, refl, ap, sym, ◌∙◌, subst, arith, ◌<◌, ◌≤◌, ◌*◌, length, Option, slice_set, slice_index_or}
-use Rattle.std.proofs.lemmas.Bool.{cases_eq}
+use Rattle.std.proofs.Common.{ℕ, Bool, true, false, not, ◌&&◌, ◌||◌, ◌==◌, inl, inr, List, [], ◌≡◌, ◌≢◌, refl, ap, sym, ◌∙◌, subst, arith, ◌<◌, length, Option, slice_set, slice_index_or}
+use Rattle.std.proofs.lemmas.Bool.{cases_eq, or_right, eq-eqb, ne_eqb}
 use Rattle.std.proofs.lemmas.List.{length-set, get_or-set_same, get_or-set_other}
 use Rattle.svc_graph.specs.Bits.{is_set, HasRows}
 use Rattle.svc_record.specs.declared.plan.Plan.{Plan}
 use Rattle.svc_record.specs.Plans.{endpoints, address, same_address}
-use Rattle.svc_endpoints.specs.declared.states.EndpointStatus.{EndpointStatus}
-use Rattle.svc_endpoints.specs.declared.states.EndpointStatus.TheVariants.{Idle, Binding, AddressInUse, Adopting, Holding, AdoptionFailed}
 use Rattle.svc_endpoints.specs.declared.states.EndpointState.{EndpointState}
 use Rattle.svc_endpoints.specs.EndpointsData.{EndpointsData}
-use Rattle.svc_endpoints.specs.EndpointsState.{idle}
 use Rattle.svc_endpoints.specs.Visits.{busy_in, any_busy}
-use Rattle.svc_endpoints.specs.Calm.{IsCalm, IsRowCalm, IsServiceCalm, AreBusyKnown}
+use Rattle.svc_endpoints.specs.Calm.{IsRowCalm, IsServiceCalm, AreBusyKnown}
 use Rattle.svc_endpoints.proofs.RangeLemmas.{none0}
-use Rattle.svc_endpoints.proofs.BusyLemmas.{idle-rests, and-none}
+use Rattle.svc_endpoints.proofs.BusyLemmas.{and-none}
 
--- what is calm stays so as its service fails
-calm_failed : (failed : Bool) (x : EndpointStatus) → IsCalm false x → IsCalm failed x
-calm_failed false x calm = calm
-calm_failed true x calm = λ moment. fewer (calm moment)
+-- the bits of a row, as one of them is set or cleared
+pub set-here : (was : Bool) (s : ℕ) → (was || ((0 == 0) && (s == s))) ≡ true
+set-here was s = or_right was (s == s) (eq-eqb s s refl)
+
+pub set-other : (was : Bool) (t s : ℕ) → t ≢ s → (was || ((0 == 0) && (t == s))) ≡ was
+set-other was t s ne = rw (ne_eqb t s ne) (plain was)
   where
-    fewer : {a b : Bool} → (a || (true && b)) ≡ false → (a || (false && b)) ≡ false
-    fewer h = grind arith
+    plain : (b : Bool) → (b || false) ≡ b
+    plain b = grind arith
 
--- nothing is known of any endpoint
-pub known-new : (rows : List (List EndpointState)) (failed : List Bool) (busy : List ℕ) → length rows ≤ 1024 → length failed ≡ length rows → HasRows busy 1
-    → ((s i : ℕ) → slice_index_or (slice_index_or rows s []) i idle ≡ idle) → AreBusyKnown rows failed busy
-known-new rows failed busy few flags bits blank = record {
-  few = few;
-  flags = flags;
-  bits = bits;
-  calm = λ s off k moment. idle-rests (slice_index_or failed s false) moment (slice_index_or (slice_index_or rows s []) k idle).last (ap (λ (x : EndpointState). x.last) (blank s k));
-}
+pub clear-here : (was : Bool) (s : ℕ) → (was && not ((0 == 0) && (s == s))) ≡ false
+clear-here was s = and-none was (not (s == s)) (ap not (eq-eqb s s refl))
+
+pub clear-other : (was : Bool) (t s : ℕ) → t ≢ s → (was && not ((0 == 0) && (t == s))) ≡ was
+clear-other was t s ne = rw (ne_eqb t s ne) (plain was)
+  where
+    plain : (b : Bool) → (b && true) ≡ b
+    plain b = grind arith
 
 module _ (rows : List (List EndpointState)) (failed : List Bool) (busy next : List ℕ) (s : ℕ) (known : AreBusyKnown rows failed busy) (same : length next ≡ length busy) (others : (t : ℕ) → t ≢ s → is_set next 0 t ≡ is_set busy 0 t) where
   bits_next : HasRows next 1
   bits_next = let old = known.bits in omega (arith, old, same)
-
-  -- one row changes
-  pub known-put : (row : List EndpointState) → s < length rows → (is_set next 0 s ≡ false → IsRowCalm false row) → AreBusyKnown (slice_set rows s row) failed next
-  known-put row inside here = record {
-    few = subst (λ n. n ≤ 1024) (sym (length-set rows s row)) known.few;
-    flags = known.flags ∙ sym (length-set rows s row);
-    bits = bits_next;
-    calm = λ t off. elim (cases_eq t s) [
-      | inl e ↦ subst (λ (r : List EndpointState). IsRowCalm (slice_index_or failed t false) r)
-          (sym (subst (λ u. slice_index_or (slice_set rows s row) u [] ≡ row) (sym e) (get_or-set_same rows s row [] inside)))
-          (λ k. calm_failed (slice_index_or failed t false) (slice_index_or row k idle).last (here (subst (λ u. is_set next 0 u ≡ false) e off) k))
-      | inr ne ↦ subst (λ (r : List EndpointState). IsRowCalm (slice_index_or failed t false) r) (sym (get_or-set_other rows s t row [] ne)) (known.calm t (sym (others t ne) ∙ off))
-    ];
-  }
 
   -- the service fails
   pub known-failed : s < length failed → (is_set next 0 s ≡ false → IsRowCalm true (slice_index_or rows s [])) → AreBusyKnown rows (slice_set failed s true) next

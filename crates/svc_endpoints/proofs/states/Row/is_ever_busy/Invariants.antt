@@ -1,4 +1,4 @@
-use Rattle.std.proofs.Common.{◌≡◌, ◌<◌, ℕ, slice_index_or}
+use Rattle.std.proofs.Common.{◌<◌, ℕ, slice_index_or}
 use Rattle.svc_endpoints.specs.EndpointsState.{idle}
 use Rattle.svc_endpoints.specs.Calm.{IsCalm}
 use Rattle.svc_endpoints.proofs.states.Row.is_ever_busy.Given as goal
