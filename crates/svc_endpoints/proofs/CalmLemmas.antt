@@ -1,4 +1,4 @@
--- Which services are calm, as an endpoint's state changes or a service fails.
+-- A row of bits with one of them set or cleared; which services are calm as one fails; and of a calm one no endpoint is busy.
 use Rattle.std.proofs.Common.{ℕ, Bool, true, false, not, ◌&&◌, ◌||◌, ◌==◌, inl, inr, List, [], ◌≡◌, ◌≢◌, refl, ap, sym, ◌∙◌, subst, arith, ◌<◌, length, Option, slice_set, slice_index_or}
 use Rattle.std.proofs.lemmas.Bool.{cases_eq, or_right, eq-eqb, ne_eqb}
 use Rattle.std.proofs.lemmas.List.{length-set, get_or-set_same, get_or-set_other}
