@@ -227,7 +227,7 @@ pub(crate) fn is_busy(failed: bool, moment: u64, last: EndpointStatus) -> bool
 }
 
 /// The same at some moment.
-pub(crate) fn is_ever_busy(failed: bool, last: EndpointStatus) -> bool
+fn is_ever_busy(failed: bool, last: EndpointStatus) -> bool
     ensures { result ≡ false → IsCalm failed last }
 {
     match last {
