@@ -38,6 +38,7 @@ pub mod ReceivedTells
 pub mod MessageLemmas
 pub mod WordLemmas
 pub mod BusyLemmas
+pub mod CalmLemmas
 pub mod SumLemmas
 pub mod MarkLemmas
 pub mod DrainedLemmas

@@ -1,6 +1,6 @@
 -- The marks of a table's addresses.
-use Rattle.std.proofs.Common.{ℕ, Bool, true, false, inl, inr, List, [], ◌∷◌, ◌++◌, filter, take, ◌≡◌, refl, ap, sym, ◌∙◌, subst, ◌<◌, ◌+◌, length, get_or, Vec, Option, Some, None, nat_lt}
-use Rattle.std.proofs.lemmas.Bool.{cases_Bool, and_parts, and_from}
+use Rattle.std.proofs.Common.{ℕ, Bool, true, false, ◌&&◌, ◌==◌, inl, inr, List, [], ◌∷◌, ◌++◌, filter, take, ◌≡◌, refl, ap, sym, ◌∙◌, subst, ◌<◌, ◌+◌, length, get_or, Vec, Option, Some, None, nat_lt}
+use Rattle.std.proofs.lemmas.Bool.{cases_Bool, and_parts, and_from, or_cases, or_left, or_right}
 use Rattle.std.proofs.lemmas.List.{take_more}
 use Rattle.svc_base.specs.Blocks.{joined}
 use Rattle.svc_base.proofs.KeyLemmas.{all-both}
@@ -10,7 +10,7 @@ use Rattle.svc_record.specs.Plans.{same_address}
 use Rattle.svc_endpoints.specs.declared.table.Open.{Open}
 use Rattle.svc_endpoints.specs.EndpointsState.{numbers_with}
 use Rattle.svc_endpoints.specs.Effects.{put_open}
-use Rattle.svc_endpoints.specs.Marks.{may_have, is_marked, are_marked}
+use Rattle.svc_endpoints.specs.Marks.{has_mark, are_set, may_have, is_marked, are_marked}
 use Rattle.svc_endpoints.proofs.LiveLemmas.{same_eq}
 
 -- an address whose marks aren't set is of none
@@ -70,3 +70,20 @@ pub marked-block : {Z : Type 0} (marks more : List Bool) (bs : List (Vec Open Z)
 marked-block marks more bs i b lt read kept here h =
     ap (are_marked more) (joined-front bs i b lt read)
     ∙ all-both (λ (o : Open). is_marked more o.address) (joined (take i bs)) b.items (marked-grows marks more (joined (take i bs)) kept h) here
+
+-- marks that are all kept stay those of a hash
+pub set-grows : (marks more : List Bool) (h : ℕ) → length more ≡ length marks → ((k : ℕ) → has_mark marks h k ≡ true → has_mark more h k ≡ true) → are_set marks h ≡ true → are_set more h ≡ true
+set-grows marks more h len kept are =
+    let low = has_mark marks h 0 && has_mark marks h 1 in
+    let high = has_mark marks h 2 && has_mark marks h 3 in
+    let low2 = has_mark more h 0 && has_mark more h 1 in
+    let high2 = has_mark more h 2 && has_mark more h 3 in
+    elim (or_cases (length marks == 0) (low && high) are) [
+      | inl none ↦ or_left (length more == 0) (low2 && high2) (subst (λ n. (n == 0) ≡ true) (sym len) none)
+      | inr all ↦ (let halves = and_parts low high all in
+          let first = and_parts (has_mark marks h 0) (has_mark marks h 1) halves.0 in
+          let last = and_parts (has_mark marks h 2) (has_mark marks h 3) halves.1 in
+          or_right (length more == 0) (low2 && high2) (and_from low2 high2
+          (and_from (has_mark more h 0) (has_mark more h 1) (kept 0 first.0) (kept 1 first.1))
+          (and_from (has_mark more h 2) (has_mark more h 3) (kept 2 last.0) (kept 3 last.1))))
+    ]

@@ -7,6 +7,7 @@ pub mod Rows
 pub mod Uses
 pub mod Effects
 pub mod Visits
+pub mod Calm
 pub mod Foreign
 pub mod Offered
 pub mod Stays

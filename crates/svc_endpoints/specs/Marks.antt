@@ -8,9 +8,17 @@ abbrev pub hash_from : ℕ → List ℕ → ℕ
 hash_from h [] = h
 hash_from h (b ∷ more) = hash_from ((h * 131 + b) % 4294967291) more
 
--- both marks of the hash are there, or there are no marks at all
+-- how far apart the places of a hash's marks are
+abbrev pub stride_of : ℕ → ℕ
+stride_of h = h * 2654435769 / 65536
+
+-- the k-th mark of the hash is there
+abbrev pub has_mark : List Bool → ℕ → ℕ → Bool
+has_mark marks h k = slice_index_or marks ((h + k * stride_of h) % length marks) false
+
+-- the four marks of the hash are there, or there are no marks at all
 abbrev pub are_set : List Bool → ℕ → Bool
-are_set marks h = (length marks == 0) || (slice_index_or marks (h % length marks) false && slice_index_or marks (h / 65536 % length marks) false)
+are_set marks h = (length marks == 0) || ((has_mark marks h 0 && has_mark marks h 1) && (has_mark marks h 2 && has_mark marks h 3))
 
 -- those of the address are
 abbrev pub may_have : List Bool → List ℕ → Bool

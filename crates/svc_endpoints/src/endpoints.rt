@@ -1,8 +1,9 @@
 //! The endpoints of all services, and the descriptors that came.
 
-ghost use Rattle.std.specs.Prelude.{◌≡◌, ◌+◌, ◌<◌, ◌≤◌, ◌++◌, ◌∷◌, ◌==◌, [], length, slice_index_or, ℕ, Some, Option, IfOk, OnOk, map, filter, not, ◌&&◌, slice_index, take, drop, true, false, ◌^◌};
+ghost use Rattle.std.specs.Prelude.{◌≡◌, ◌+◌, ◌<◌, ◌≤◌, ◌++◌, ◌∷◌, ◌==◌, [], length, slice_index_or, ℕ, Some, Option, IfOk, IfSome, IfNone, OnOk, map, filter, not, ◌&&◌, slice_index, take, drop, true, false, ◌^◌, ◌≢◌};
 ghost use Rattle.std.specs.List.{list_any};
 ghost use Rattle.svc_base.specs.Items.{list_of, spare};
+ghost use Rattle.svc_graph.specs.Bits.{is_set, HasRows};
 ghost use Rattle.svc_record.specs.declared.action.Action.TheVariants.{Close};
 ghost use Rattle.svc_record.specs.Plans.{service_count, endpoints, address};
 ghost use Rattle.svc_record.specs.Tail.{each_once};
@@ -12,6 +13,7 @@ ghost use Rattle.svc_base.specs.NumberSets.{is_in};
 ghost use Rattle.svc_endpoints.specs.declared.states.EndpointStatus.TheVariants.{Idle};
 ghost use Rattle.svc_endpoints.specs.Effects.{put, put_last, fail_if, has_open, first_of, with_number, with_open, cleared, given_up, gone_numbers, loop_ended, is_abandoned_by, put_opens, put_numbers, opens_of, without_numbers, without_number, numbers_like};
 ghost use Rattle.svc_endpoints.specs.Sums.{sum_of};
+ghost use Rattle.svc_endpoints.specs.Calm.{IsServiceCalm};
 ghost use Rattle.svc_endpoints.specs.Uses.{is_drained_by};
 
 use crate::came::{add_all, contains};
@@ -26,12 +28,14 @@ use crate::uses::is_drained;
 use std::alloc::Global;
 use std::marker::Model;
 use svc_base::{NoMemory, NumberSet, Text};
+use svc_graph::Bits;
 use svc_record::{Action, Actions, Plan};
 
 /// The state of each endpoint, which services have failed, the loops that ended, the live
 /// descriptors with their addresses, the numbers of all descriptors that came, and the sums of the
-/// addresses that several endpoints may have; beside them the endpoint that was asked for last, which
-/// contracts don't see.
+/// addresses that several endpoints may have; beside them a bit for each service, which is set where one of
+/// its endpoints may be busy with its address at some moment, and the endpoint that was asked for last,
+/// which contracts don't see.
 #[derive(Drop)]
 pub struct Endpoints {
     rows: Vec<Row>,
@@ -40,6 +44,7 @@ pub struct Endpoints {
     table: Table,
     came: NumberSet,
     shared: NumberSet,
+    busy: Bits,
     last_asked: (u32, u32),
 }
 
@@ -47,10 +52,37 @@ impl Model for Endpoints {
     ghost use Rattle.std.specs.Prelude.{min};
     ghost use Rattle.svc_base.specs.Items.{list_of, spare};
     ghost use Rattle.svc_endpoints.specs.EndpointsData.{EndpointsRoom};
+    ghost use Rattle.svc_endpoints.specs.Calm.{AreBusyKnown};
 
     ghost Value = { EndpointsRoom };
 
     ghost view = { λ e. record { parts = record { rows = e.rows.items; failed = e.failed.items; loops = list_of e.loops; table = list_of e.table; came = list_of e.came; shared = list_of e.shared }; room = min (spare e.table) (spare e.came); loop_room = spare e.loops } };
+
+    ghost invariant = { λ e. AreBusyKnown e.rows.items e.failed.items e.busy };
+}
+
+/// A bit for each service, none of them set.
+fn no_bits(alloc: Global) -> Result<Bits, NoMemory>
+    ensures { IfOk result (λ bits. HasRows bits 1) }
+{
+    let mut bits = Bits::new(alloc);
+    bits.grow(1)?;
+    Ok(bits)
+}
+
+/// Sets the service's bit, or clears it.
+fn put_bit(bits: &mut Bits, s: u32, on: bool)
+    requires bits { HasRows bits.old 1 }
+    requires service { s < 1024 }
+    ensures rows { length bits.new ≡ length bits.old }
+    ensures here { is_set bits.new 0 s ≡ on }
+    ensures others { (t : ℕ) → t ≢ s → is_set bits.new 0 t ≡ is_set bits.old 0 t }
+{
+    if on {
+        bits.set(0, s);
+    } else {
+        bits.clear(0, s);
+    }
 }
 
 impl Endpoints {
@@ -66,6 +98,7 @@ impl Endpoints {
         let table = Table::new(alloc);
         let came = NumberSet::new(alloc);
         let shared = shared_sums(alloc, plan)?;
+        let busy = no_bits(alloc)?;
         Ok(Endpoints {
             rows,
             failed,
@@ -73,6 +106,7 @@ impl Endpoints {
             table,
             came,
             shared,
+            busy,
             last_asked: (0, 0),
         })
     }
@@ -244,6 +278,8 @@ impl Endpoints {
     {
         let row = &mut self.rows[s];
         row.set(i, state);
+        let is_busy = row.is_ever_busy(false);
+        put_bit(&mut self.busy, s as u32, is_busy);
     }
 
     /// The endpoint has this state, and its count stays.
@@ -262,6 +298,25 @@ impl Endpoints {
         ensures { result ≡ is_in (sum_of address.now) self.now.parts.shared }
     {
         self.shared.has(sum_of(address))
+    }
+
+    /// The first service from this one on of which an endpoint may be busy with its address at some moment.
+    pub(crate) fn next_busy(&self, from: u32) -> Option<u32>
+        ensures found { IfSome result (λ t. (from ≤ t) × (t < length self.now.parts.rows)) }
+        ensures few { IfSome result (λ t. t < 1024) }
+        ensures least { IfSome result (λ t. (u : ℕ) → from ≤ u → u < t → IsServiceCalm self.now.parts u) }
+        ensures none { IfNone result ((u : ℕ) → from ≤ u → u < length self.now.parts.rows → IsServiceCalm self.now.parts u) }
+    {
+        match self.busy.next(0, from) {
+            Some(t) => {
+                if (t as usize) < self.rows.len() {
+                    Some(t)
+                } else {
+                    None
+                }
+            }
+            None => None,
+        }
     }
 
     /// The endpoint that was asked for last. Nothing is claimed of it.
@@ -288,6 +343,9 @@ impl Endpoints {
         ensures { self.new.parts ≡ fail_if true s self.old.parts }
     {
         self.failed[s] = true;
+        let row = &self.rows[s];
+        let is_busy = row.is_ever_busy(true);
+        put_bit(&mut self.busy, s as u32, is_busy);
     }
 
     /// The loops that ended, in order.

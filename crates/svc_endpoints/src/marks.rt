@@ -1,13 +1,14 @@
 //! Marks of addresses, by which most that a table doesn't have are told apart from those that it has.
 
-ghost use Rattle.std.specs.Prelude.{◌≡◌, ◌<◌, ◌%◌, ◌/◌, ℕ, List, true};
-ghost use Rattle.svc_endpoints.specs.Marks.{hash_from, are_set, may_have, is_marked};
+ghost use Rattle.std.specs.Prelude.{◌≡◌, ◌<◌, ◌+◌, ◌*◌, ◌%◌, ◌^◌, ℕ, List, length, vec_len, true};
+ghost use Rattle.svc_endpoints.specs.Marks.{hash_from, stride_of, has_mark, are_set, may_have, is_marked};
 
 use svc_base::Text;
 
 /// A number that is made of the bytes.
 pub(crate) fn hash(bytes: &[u8]) -> u64
     ensures value { result ≡ hash_from 0 bytes.now }
+    ensures small { result < 2 ^ 32 }
 {
     let mut hash = 0u64;
     for byte in bytes {
@@ -16,14 +17,26 @@ pub(crate) fn hash(bytes: &[u8]) -> u64
     hash
 }
 
-/// The places of a hash's two marks among so many.
-fn places(hash: u64, count: usize) -> (usize, usize)
-    requires { 0 < count }
-    ensures first { result.0 ≡ hash % count }
-    ensures second { result.1 ≡ hash / 65536 % count }
+/// The place of a hash's k-th mark among so many. A mark is as far from the one before as a product of the
+/// hash says, in which each bit of the hash counts.
+fn place(hash: u64, k: u64, count: usize) -> usize
+    requires small { hash < 2 ^ 32 }
+    requires few { k < 4 }
+    requires some { 0 < count }
+    ensures { result ≡ (hash + k * stride_of hash) % count }
 {
-    let count = count as u64;
-    ((hash % count) as usize, (hash / 65_536 % count) as usize)
+    let stride = hash * 2_654_435_769 / 65_536;
+    ((hash + k * stride) % count as u64) as usize
+}
+
+/// The hash's k-th mark is there.
+fn has(marks: &[bool], hash: u64, k: u64) -> bool
+    requires small { hash < 2 ^ 32 }
+    requires few { k < 4 }
+    requires some { 0 < length marks.now }
+    ensures { result ≡ has_mark marks.now hash k }
+{
+    marks[place(hash, k, marks.len())]
 }
 
 /// The address may be one of those that were marked. Where there are no marks any may be.
@@ -33,21 +46,36 @@ pub(crate) fn may_have(marks: &[bool], address: &str) -> bool
     if marks.is_empty() {
         return true;
     }
-    let (first, second) = places(hash(address.as_bytes()), marks.len());
-    marks[first] && marks[second]
+    let hash = hash(address.as_bytes());
+    (has(marks, hash, 0) && has(marks, hash, 1)) && (has(marks, hash, 2) && has(marks, hash, 3))
 }
 
-/// Sets both marks of the hash.
+/// Sets the hash's k-th mark.
+fn set_mark(marks: &mut Vec<bool>, hash: u64, k: u64)
+    requires small { hash < 2 ^ 32 }
+    requires few { k < 4 }
+    requires some { 0 < vec_len marks.old }
+    ensures length { length marks.new.items ≡ length marks.old.items }
+    ensures set { has_mark marks.new.items hash k ≡ true }
+    ensures kept { (h j : ℕ) → has_mark marks.old.items h j ≡ true → has_mark marks.new.items h j ≡ true }
+{
+    let at = place(hash, k, marks.len());
+    marks[at] = true;
+}
+
+/// Sets the four marks of the hash.
 fn set(marks: &mut Vec<bool>, hash: u64)
+    requires { hash < 2 ^ 32 }
     ensures set { are_set marks.new.items hash ≡ true }
     ensures kept { (h : ℕ) → are_set marks.old.items h ≡ true → are_set marks.new.items h ≡ true }
 {
     if marks.is_empty() {
         return;
     }
-    let (first, second) = places(hash, marks.len());
-    marks[first] = true;
-    marks[second] = true;
+    set_mark(marks, hash, 0);
+    set_mark(marks, hash, 1);
+    set_mark(marks, hash, 2);
+    set_mark(marks, hash, 3);
 }
 
 /// Marks the address, if there is one.

@@ -7,6 +7,7 @@ ghost use Rattle.svc_endpoints.specs.declared.states.EndpointStatus.TheVariants.
 ghost use Rattle.svc_endpoints.specs.EndpointsState.{idle, is_binding, is_adopting, is_asking, is_holding};
 ghost use Rattle.svc_endpoints.specs.Effects.{held_now};
 ghost use Rattle.svc_endpoints.specs.Visits.{busy_of};
+ghost use Rattle.svc_endpoints.specs.Calm.{IsCalm, IsRowCalm};
 
 use crate::naming::{endpoint_count, service_count};
 use std::alloc::Global;
@@ -123,6 +124,19 @@ impl Row {
         (self.held, self.touched)
     }
 
+    /// One of the endpoints is busy with its address at some moment, if nothing changes.
+    pub(crate) fn is_ever_busy(&self, failed: bool) -> bool
+        ensures { result ≡ false → IsRowCalm failed self.now }
+    {
+        let (from, touched) = self.open_range();
+        for k in from..touched.min(self.states.len()) {
+            if is_ever_busy(failed, self.get(k).last) {
+                return true;
+            }
+        }
+        false
+    }
+
     /// The first endpoint that isn't held, else their number.
     pub(crate) fn first_missing(&self) -> u32
         requires few { length self.now ≤ 64 }
@@ -208,6 +222,17 @@ pub(crate) fn is_busy(failed: bool, moment: u64, last: EndpointStatus) -> bool
     match last {
         EndpointStatus::Binding | EndpointStatus::Adopting(_) => true,
         EndpointStatus::AddressInUse(at) => !failed && moment.saturating_sub(at) < REST,
+        _ => false,
+    }
+}
+
+/// The same at some moment.
+fn is_ever_busy(failed: bool, last: EndpointStatus) -> bool
+    ensures { result ≡ false → IsCalm failed last }
+{
+    match last {
+        EndpointStatus::Binding | EndpointStatus::Adopting(_) => true,
+        EndpointStatus::AddressInUse(_) => !failed,
         _ => false,
     }
 }

@@ -151,10 +151,12 @@ impl Endpoints {
         requires sized { IsEndpointsSized plan.now self.now.parts }
         ensures { result ≡ any_with plan.now (Some text.now) (busy_in self.now.parts moment) }
     {
-        for t in 0..service_count(plan) {
-            if self.is_row_busy(plan, t, text, moment) {
+        let mut from = 0;
+        while let Some(t) = self.next_busy(from) {
+            if self.is_row_busy(plan, t as usize, text, moment) {
                 return true;
             }
+            from = t + 1;
         }
         false
     }
