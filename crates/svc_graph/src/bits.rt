@@ -97,8 +97,9 @@ impl Bits {
         ensures kept { length self.old ≤ length self.new }
         ensures same { (a b : ℕ) → is_set self.new a b ≡ is_set self.old a b }
     {
-        while self.words.len() < ROW_WORDS * rows as usize {
-            self.words.push(0)?;
+        let wanted = ROW_WORDS * rows as usize;
+        if self.words.len() < wanted {
+            self.words.resize(wanted, 0)?;
         }
         Ok(())
     }

@@ -1,6 +1,6 @@
 //! The graph of dependencies.
 
-ghost use Rattle.std.specs.Prelude.{◌≡◌, ◌↔◌, IsTrue, ◌<◌, ◌≤◌, ◌+◌, ◌==◌, ◌&&◌, ◌||◌, ℕ, [], ◌∷◌, ◌++◌, length, slice_get, slice_set, Some, IsErrAnd, IfOk, IfErr, OnOk, OnErr, vec_len, vec_capacity, nat_lt};
+ghost use Rattle.std.specs.Prelude.{◌≡◌, ◌↔◌, IsTrue, ◌<◌, ◌≤◌, ◌+◌, ◌==◌, ◌&&◌, ◌||◌, ℕ, [], ◌∷◌, ◌++◌, length, slice_get, slice_set, Some, IsErrAnd, IfOk, IfErr, OnOk, OnErr, vec_len, vec_capacity, nat_lt, true};
 ghost use Rattle.std.specs.List.Sorted.{IsStrictlyIncreasing};
 ghost use Rattle.svc_graph.specs.Graphs.{row_of, is_listed};
 ghost use Rattle.svc_graph.specs.Bits.{is_set, HasRows};
@@ -140,6 +140,18 @@ fn rows_with(alloc: Global, bits: &Bits, count: u32, node: u32) -> Result<Vec<u3
         }
     }
     Ok(nodes)
+}
+
+/// Each number is greater than the one before it.
+fn is_ascending(numbers: &[u32]) -> bool
+    ensures { result ≡ true → IsStrictlyIncreasing numbers.now }
+{
+    for k in 1..numbers.len() {
+        if numbers[k] <= numbers[k - 1] {
+            return false;
+        }
+    }
+    true
 }
 
 /// Whether the name stands at the number.
@@ -290,6 +302,7 @@ impl DependencyGraph {
     {
         sorted(alloc, &self.rows, &self.needed)
     }
+
     /// The numbers that a number of the graph depends on, in ascending order.
     pub fn get_dependencies(&self, alloc: Global, s: u32) -> Result<Vec<u32>, NoMemory>
         requires { s < node_count self.now }
@@ -298,6 +311,10 @@ impl DependencyGraph {
             → is_listed numbers.items a ≡ is_edge self.now s a) }
         ensures graph { IsGraph self.now }
     {
+        let row = self.rows[s as usize].as_slice();
+        if is_ascending(row) {
+            return Ok(row.to_vec(alloc)?);
+        }
         rows_with(alloc, &self.needed, self.names.len() as u32, s)
     }
 }

@@ -4,6 +4,7 @@
 mod answering;
 mod counting;
 mod generator;
+mod items_left;
 mod outcome;
 mod planning;
 mod program;

@@ -6,10 +6,10 @@ ghost use Rattle.svc_record.specs.declared.entry.Entry.TheVariants.{Got};
 ghost use Rattle.svc_server.specs.Hosts.{no_account, tells_failure};
 ghost use Rattle.svc_server.specs.ScriptHosts.{GivesFew, counts_with, handed_with};
 
+use crate::items_left::ItemsLeft;
 use crate::recorder::Recorder;
 use std::alloc::Global;
 use std::marker::Model;
-use std::vec;
 use svc_base::NoMemory;
 use svc_graph::services::ServiceWithDependents;
 use svc_history::History;
@@ -22,7 +22,7 @@ use svc_server::{Host, Next, failures_with};
 #[derive(Drop)]
 pub(crate) struct RecordingHost<R: Recorder, B> {
     /// The items that are left.
-    left: vec::IntoIter<Item>,
+    left: ItemsLeft,
     recorder: R,
     handed: History<(u32, B)>,
     last: Option<Event>,
@@ -32,15 +32,14 @@ pub(crate) struct RecordingHost<R: Recorder, B> {
 }
 
 impl<R: Recorder, B> Model for RecordingHost<R, B> {
-    ghost use Rattle.std.specs.Prelude.{◌≡◌, length, All};
-    ghost use Rattle.std.specs.Vec.Iter.{into_iter_items, into_iter_len};
+    ghost use Rattle.std.specs.Prelude.{All};
     ghost use Rattle.svc_main.specs.RecordingHostData.{RecordingHostData};
     ghost use Rattle.svc_server.specs.ScriptHosts.{GivesFew};
 
     ghost Value = { RecordingHostData R B };
 
     ghost view = { λ h. record {
-      left = into_iter_items h.left;
+      left = h.left;
       recorder = h.recorder;
       handed = h.handed;
       last = h.last;
@@ -49,7 +48,7 @@ impl<R: Recorder, B> Model for RecordingHost<R, B> {
       failures = h.failures;
     } };
 
-    ghost invariant = { λ h. All GivesFew (into_iter_items h.left) × (into_iter_len h.left ≡ length (into_iter_items h.left)) };
+    ghost invariant = { λ h. All GivesFew h.left };
 }
 
 impl<R: Recorder, B: ServiceWithDependents + Drop> RecordingHost<R, B> {
@@ -62,7 +61,7 @@ impl<R: Recorder, B: ServiceWithDependents + Drop> RecordingHost<R, B> {
         ensures account { ⟦<RecordingHost<R, B> as Host>⟧.account result ≡ Some no_account }
     {
         RecordingHost {
-            left: items.into_iter(),
+            left: ItemsLeft::new(items),
             recorder,
             handed: History::new(),
             last: None,
