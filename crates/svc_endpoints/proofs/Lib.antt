@@ -40,7 +40,7 @@ pub mod WordLemmas
 pub mod BusyLemmas
 pub mod CalmLemmas
 pub mod SumLemmas
-pub mod MarkLemmas
+pub mod TableSums
 pub mod DrainedLemmas
 pub mod TallyLemmas
 pub mod StaysLemmas

@@ -1,6 +1,5 @@
 pub mod Loops
 pub mod EndpointsData
-pub mod Marks
 pub mod Sums
 pub mod EndpointsState
 pub mod Rows

@@ -6,7 +6,6 @@ mod answers;
 mod came;
 mod endpoints;
 mod loops;
-mod marks;
 mod message;
 mod naming;
 mod received;

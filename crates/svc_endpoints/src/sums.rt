@@ -1,16 +1,27 @@
-//! Sums of addresses, by which an address that one endpoint alone has is told.
+//! Sums of addresses, by which an address that one endpoint alone has is told, and one that no live
+//! descriptor has.
 
-ghost use Rattle.std.specs.Prelude.{◌≡◌, ◌+◌, ◌<◌, IfOk, OnOk, true};
-ghost use Rattle.svc_base.specs.Items.{list_of};
+ghost use Rattle.std.specs.Prelude.{◌≡◌, ◌+◌, ◌<◌, ◌≤◌, IfOk, OnOk, true};
+ghost use Rattle.svc_base.specs.Items.{list_of, spare};
 ghost use Rattle.svc_base.specs.NumberSets.{is_in};
 ghost use Rattle.svc_record.specs.Plans.{service_count};
-ghost use Rattle.svc_endpoints.specs.Sums.{sum_of, AreShared, AreNoted, Grows};
+ghost use Rattle.svc_endpoints.specs.Sums.{hash_from, sum_of, has_sum, AreShared, AreNoted, Grows};
 
-use crate::marks::hash;
 use crate::naming::{address_of, endpoint_count, service_count};
 use std::alloc::Global;
-use svc_base::{NoMemory, NumberSet};
+use svc_base::{NoMemory, NumberSet, Text};
 use svc_record::Plan;
+
+/// A number that is made of the bytes.
+fn hash(bytes: &[u8]) -> u64
+    ensures { result ≡ hash_from 0 bytes.now }
+{
+    let mut hash = 0u64;
+    for byte in bytes {
+        hash = (hash * 131 + *byte as u64) % 4_294_967_291;
+    }
+    hash
+}
 
 /// A number that is made of the address.
 pub(crate) fn sum_of(address: &str) -> u64
@@ -19,16 +30,37 @@ pub(crate) fn sum_of(address: &str) -> u64
     hash(address.as_bytes())
 }
 
+/// Takes the number, unless it is there.
+fn take(numbers: &mut NumberSet, number: u64)
+    requires { 0 < spare numbers.old }
+    ensures put { is_in number (list_of numbers.new) ≡ true }
+    ensures kept { Grows (list_of numbers.old) (list_of numbers.new) }
+    ensures room { spare numbers.old ≤ spare numbers.new + 1 }
+{
+    if !numbers.has(number) {
+        numbers.add(number);
+    }
+}
+
+/// Takes the sum of the address, if there is one and its sum isn't there.
+pub(crate) fn take_sum(sums: &mut NumberSet, address: &Option<Text>)
+    requires { 0 < spare sums.old }
+    ensures put { has_sum (list_of sums.new) address.now ≡ true }
+    ensures kept { Grows (list_of sums.old) (list_of sums.new) }
+    ensures room { spare sums.old ≤ spare sums.new + 1 }
+{
+    if let Some(text) = address {
+        take(sums, sum_of(text.as_str()));
+    }
+}
+
 /// Puts the number in, unless it is there.
 fn put_in(numbers: &mut NumberSet, number: u64) -> Result<(), NoMemory>
     ensures put { OnOk result (is_in number (list_of numbers.new) ≡ true) }
     ensures kept { OnOk result (Grows (list_of numbers.old) (list_of numbers.new)) }
 {
-    if numbers.has(number) {
-        return Ok(());
-    }
     numbers.reserve(1)?;
-    numbers.add(number);
+    take(numbers, number);
     Ok(())
 }
 

@@ -11,13 +11,12 @@ ghost use Rattle.svc_endpoints.specs.EndpointsState.{numbers_with, numbers_of_ta
 ghost use Rattle.svc_endpoints.specs.Effects.{first_of, put_open, put_opens, opens_of, without_numbers, passes, is_abandoned_by, is_done_for, goes, gone_numbers, without_gone, numbers_like};
 ghost use Rattle.svc_endpoints.specs.declared.table.Open.{Open};
 ghost use Rattle.svc_endpoints.specs.Uses.{AreStatesSized, states_of};
-ghost use Rattle.svc_endpoints.specs.Marks.{may_have, are_marked};
 
 use crate::came::contains;
 use crate::loops::Loops;
-use crate::marks::{mark, may_have};
 use crate::naming::is_abandoned;
 use crate::states::Row;
+use crate::sums::{sum_of, take_sum};
 use crate::uses::is_drained;
 use std::alloc::Global;
 use std::marker::Model;
@@ -32,25 +31,25 @@ pub(crate) struct Open {
 }
 
 /// Live descriptors in ascending number. Contracts see them and for how many more there is memory. Beside
-/// them stand marks of their addresses, so that most addresses that none has are told without a walk.
+/// them stand the sums of their addresses, so that nearly each address that none has is told without a walk.
+/// The sum of one that is gone stays, as the number of each that came does.
 #[derive(Drop)]
 pub(crate) struct Table {
     entries: Blocks<Open>,
-    marks: Vec<bool>,
-    alloc: Global,
+    sums: NumberSet,
 }
 
 impl Model for Table {
-    ghost use Rattle.std.specs.Prelude.{List, ℕ, ◌≡◌, true};
-    ghost use Rattle.svc_base.specs.Items.{list_of};
+    ghost use Rattle.std.specs.Prelude.{List, ℕ, ◌≡◌, true, min};
+    ghost use Rattle.svc_base.specs.Items.{list_of, spare};
     ghost use Rattle.svc_endpoints.specs.declared.table.Open.{Open};
-    ghost use Rattle.svc_endpoints.specs.Marks.{are_marked};
+    ghost use Rattle.svc_endpoints.specs.Sums.{have_sums};
 
     ghost Value = { List Open × ℕ };
 
-    ghost view = { λ t. t.entries };
+    ghost view = { λ t. (list_of t.entries, min (spare t.entries) (spare t.sums)) };
 
-    ghost invariant = { λ t. are_marked t.marks.items (list_of t.entries) ≡ true };
+    ghost invariant = { λ t. have_sums (list_of t.sums) (list_of t.entries) ≡ true };
 }
 
 impl Keyed for Open {
@@ -227,57 +226,24 @@ fn close_like(table: &mut Blocks<Open>, fd: u64, actions: &mut Actions)
     }
 }
 
-/// No marks, with places for those of so many addresses; none where there is no memory.
-fn blank_marks(alloc: Global, count: usize) -> Vec<bool> {
-    match vec![in alloc; false; count.saturating_mul(32)] {
-        Ok(marks) => marks,
-        Err(_) => Vec::new(alloc),
-    }
-}
-
-/// Marks the addresses of the descriptors.
-fn mark_each(marks: &mut Vec<bool>, table: &[Open])
-    ensures marked { are_marked marks.new.items table.now ≡ true }
-    ensures kept { (a : List ℕ) → may_have marks.old.items a ≡ true → may_have marks.new.items a ≡ true }
-{
-    for entry in table {
-        mark(marks, &entry.address);
-    }
-}
-
-/// The marks of the descriptors, with places for those of so many.
-fn marked(alloc: Global, blocks: &[Vec<Open>], count: usize) -> Vec<bool>
-    ensures { are_marked result.items (joined blocks.now) ≡ true }
-{
-    let mut marks = blank_marks(alloc, count);
-    for block in blocks {
-        mark_each(&mut marks, block);
-    }
-    marks
-}
-
 impl Table {
     pub(crate) fn new(alloc: Global) -> Table
         ensures { list_of result ≡ [] }
     {
         Table {
             entries: Blocks::new(alloc),
-            marks: Vec::new(alloc),
-            alloc,
+            sums: NumberSet::new(alloc),
         }
     }
 
-    /// After it there is room for so many more descriptors.
+    /// After it there is room for so many more descriptors. `NoMemory` where there is none; nothing has
+    /// changed then.
     pub(crate) fn reserve(&mut self, count: usize) -> Result<(), NoMemory>
         ensures entries { list_of self.new ≡ list_of self.old }
         ensures room { OnOk result (count ≤ spare self.new) }
     {
         self.entries.reserve(count)?;
-        let wanted = self.entries.len().saturating_add(count);
-        if self.marks.len() / 16 < wanted {
-            self.marks = marked(self.alloc, self.entries.as_blocks(), wanted);
-        }
-        Ok(())
+        self.sums.reserve(count)
     }
 
     pub(crate) fn len(&self) -> usize
@@ -298,7 +264,7 @@ impl Table {
     pub(crate) fn find(&self, address: &str) -> Option<u64>
         ensures { result ≡ first_of (numbers_with (list_of self.now) (Some address.now)) }
     {
-        if !may_have(&self.marks, address) {
+        if !self.sums.has(sum_of(address)) {
             return None;
         }
         find_in_blocks(self.entries.as_blocks(), address)
@@ -310,7 +276,7 @@ impl Table {
         ensures entries { list_of self.new ≡ put_open (record { fd = fd; address = address }) (list_of self.old) }
         ensures room { spare self.old ≤ spare self.new + 1 }
     {
-        mark(&mut self.marks, &address);
+        take_sum(&mut self.sums, &address);
         self.entries.insert(Open { fd, address });
     }
 

@@ -2,8 +2,8 @@ use Rattle.std.proofs.Common.{ap, ◌∙◌, List, ℕ}
 use Rattle.svc_base.specs.Items.{list_of}
 use Rattle.svc_endpoints.specs.declared.table.Open.{Open}
 use Rattle.svc_endpoints.specs.Effects.{put_open}
-use Rattle.svc_endpoints.specs.Marks.{are_marked}
-use Rattle.svc_endpoints.proofs.MarkLemmas.{marked-put, marked-grows}
+use Rattle.svc_endpoints.specs.Sums.{have_sums}
+use Rattle.svc_endpoints.proofs.TableSums.{summed-put, summed-grows}
 use Rattle.svc_endpoints.proofs.TableLemmas.{put-open}
 use Rattle.svc_endpoints.proofs.table.Table.add.Goals as goal
 
@@ -15,6 +15,6 @@ returns-clause-entries c =
 
 pub invariant_of-self : goal.invariant_of-self
 invariant_of-self c =
-    ap (are_marked c.mark.new.marks.items) (c.insert.ensures.entries ∙ put-open (record { fd = c.args.fd; address = c.args.address }) (list_of c.self.inside.entries))
-    ∙ marked-put c.mark.new.marks.items (record { fd = c.args.fd; address = c.args.address }) (list_of c.self.inside.entries) c.mark.ensures.marked
-    (marked-grows c.self.inside.marks.items c.mark.new.marks.items (list_of c.self.inside.entries) c.mark.ensures.kept c.self.invariant)
+    ap (have_sums (list_of c.take_sum.new.sums)) (c.insert.ensures.entries ∙ put-open (record { fd = c.args.fd; address = c.args.address }) (list_of c.self.inside.entries))
+    ∙ summed-put (list_of c.take_sum.new.sums) (record { fd = c.args.fd; address = c.args.address }) (list_of c.self.inside.entries) c.take_sum.ensures.put
+    (summed-grows (list_of c.self.inside.sums) (list_of c.take_sum.new.sums) (list_of c.self.inside.entries) c.take_sum.ensures.kept c.self.invariant)

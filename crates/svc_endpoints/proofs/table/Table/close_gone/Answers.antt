@@ -5,9 +5,9 @@ use Rattle.svc_base.proofs.KeyLemmas.{rises-filter}
 use Rattle.svc_endpoints.specs.declared.table.Open.{Open}
 use Rattle.svc_endpoints.specs.Effects.{goes}
 use Rattle.svc_endpoints.specs.Uses.{states_of}
-use Rattle.svc_endpoints.specs.Marks.{are_marked}
+use Rattle.svc_endpoints.specs.Sums.{have_sums}
 use Rattle.svc_endpoints.proofs.RestLemmas.{unpicked, picked-length}
-use Rattle.svc_endpoints.proofs.MarkLemmas.{marked-filter}
+use Rattle.svc_endpoints.proofs.TableSums.{summed-filter}
 use Rattle.svc_endpoints.proofs.table.Table.close_gone.Goals as goal
 
 pub put_blocks-requires : goal.put_blocks-requires
@@ -24,4 +24,4 @@ pub invariant_of-self : goal.invariant_of-self
 invariant_of-self c =
     let done = goes c.args.plan.now c.args.kept.now (states_of c.args.rows.now c.args.failed.now (list_of c.args.loops.now)) in
     let left : list_of c.put_blocks.new.self ≡ unpicked done (list_of c.self.inside.entries) = c.put_blocks.ensures ∙ c.close_done_blocks.ensures.after ∙ ap (unpicked done) c.take_blocks-blocks.ensures.entries in
-    ap (are_marked c.self.inside.marks.items) left ∙ marked-filter c.self.inside.marks.items (λ (o : Open). not (done o)) (list_of c.self.inside.entries) c.self.invariant
+    ap (have_sums (list_of c.self.inside.sums)) left ∙ summed-filter (list_of c.self.inside.sums) (λ (o : Open). not (done o)) (list_of c.self.inside.entries) c.self.invariant

@@ -1,6 +1,6 @@
 use Rattle.std.proofs.Common.{◌≡◌, ◌<◌, drop}
-use Rattle.svc_endpoints.specs.Marks.{hash_from}
-use Rattle.svc_endpoints.proofs.marks.hash.Given as goal
+use Rattle.svc_endpoints.specs.Sums.{hash_from}
+use Rattle.svc_endpoints.proofs.sums.hash.Given as goal
 
 abbrev pub invariant-loop-byte : goal.invariant-loop-byte
 invariant-loop-byte l = record {
