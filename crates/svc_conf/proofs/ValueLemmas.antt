@@ -1,13 +1,13 @@
 -- How the values of a configuration text are read byte by byte.
 use Rattle.std.proofs.Common.{◌≡◌, ℕ, ◌+◌, ◌-◌, ◌<◌, ◌≤◌, Bool, true, false, ◌==◌, eqb, cond, List, [], ◌∷◌, ◌++◌, length, get_or, take, drop, Option, Some, None, refl, sym, ap, ◌∙◌, inl, inr, arith, append_assoc}
 use Rattle.std.proofs.lemmas.Bool.{cases_Bool}
-use Rattle.std.proofs.lemmas.List.{take_more}
+use Rattle.std.proofs.lemmas.List.{take_more, drop_more, take_rest, append-nil}
 use Rattle.std.proofs.Math.Seq.{take-length}
 use Rattle.svc_conf.specs.TextLines.{unless_blank, without_end}
 use Rattle.svc_base.specs.Words.{is_blank}
 use Rattle.std.specs.Str.{is_utf8, IsUtf8}
 use Rattle.std.proofs.lemmas.Str.{is_utf8-from_IsUtf8, IsUtf8-from_is_utf8}
-use Rattle.svc_conf.specs.Values.{behind, double, ends_in_colon, value_in}
+use Rattle.svc_conf.specs.Values.{behind, single, double, ends_in_colon, value_in}
 
 -- the last byte is a colon, or there is none and the one before was
 abbrev pub ends_or : Bool → List ℕ → Bool
@@ -21,6 +21,10 @@ behind-behind xs ys (Some cut) = ap (λ (v : List ℕ). Some (v, cut.1)) (sym (a
 pub double-other : (b : ℕ) (bs : List ℕ) → (b == 34) ≡ false → (b == 92) ≡ false → double (b ∷ bs) ≡ behind (b ∷ []) (double bs)
 double-other b [] e f = rw e refl
 double-other b (c ∷ bs) e f = rw (e, f) refl
+
+pub single-other : (b : ℕ) (bs : List ℕ) → (b == 39) ≡ false → single (b ∷ bs) ≡ behind (b ∷ []) (single bs)
+single-other b [] e = rw e refl
+single-other b (c ∷ bs) e = rw e refl
 
 without_end-last : (xs : List ℕ) (b : ℕ) → without_end (xs ++ b ∷ []) ≡ cond (is_blank b) (without_end xs) (xs ++ b ∷ [])
 without_end-last [] b = refl
@@ -69,3 +73,28 @@ pub double_on : (rest bytes new more : List ℕ) (b : ℕ) (o : Option (List ℕ
 double_on rest bytes new more b o some ne next pushed h =
     let e : double rest ≡ behind (b ∷ []) (double more) = sym (ap double (first_and_rest rest some)) ∙ next ne in
     rw pushed (sym (behind-behind bytes (b ∷ []) (double more)) ∙ ap (behind bytes) (sym e) ∙ h)
+
+pub behind-nil : (o : Option (List ℕ × List ℕ)) → behind [] o ≡ o
+behind-nil None = refl
+behind-nil (Some cut) = refl
+
+-- a byte that stands for itself goes before what is quoted
+pub whole_on : (cut : List ℕ → Option (List ℕ × List ℕ)) (xs : List ℕ) (i : ℕ) (o : Option (List ℕ × List ℕ)) → i < length xs
+    → cut (get_or xs i 0 ∷ drop (i + 1) xs) ≡ behind (get_or xs i 0 ∷ []) (cut (drop (i + 1) xs))
+    → behind (take i xs) (cut (drop i xs)) ≡ o → behind (take (i + 1) xs) (cut (drop (i + 1) xs)) ≡ o
+whole_on cut xs i o inside stands h =
+    rw (take_more xs i 0 inside) (
+    sym (behind-behind (take i xs) (get_or xs i 0 ∷ []) (cut (drop (i + 1) xs)))
+    ∙ ap (behind (take i xs)) (sym (ap cut (drop_more xs i 0 inside) ∙ stands))
+    ∙ h)
+
+double-closed : (bs : List ℕ) → double (34 ∷ bs) ≡ Some ([], bs)
+double-closed [] = refl
+double-closed (b ∷ bs) = refl
+
+-- the first quote closes what stands for itself
+pub whole_end : (xs : List ℕ) (i : ℕ) → i < length xs → get_or xs i 0 ≡ 34 → behind (take i xs) (double (drop i xs)) ≡ double xs
+    → double xs ≡ Some (take i xs, take (length xs - (i + 1)) (drop (i + 1) xs))
+whole_end xs i inside quote h =
+    let closed : double (drop i xs) ≡ Some ([], drop (i + 1) xs) = ap double (drop_more xs i 0 inside ∙ ap (λ (b : ℕ). b ∷ drop (i + 1) xs) quote) ∙ double-closed (drop (i + 1) xs) in
+    rw (take_rest xs (i + 1)) (sym h ∙ ap (behind (take i xs)) closed ∙ ap (λ (front : List ℕ). Some (front, drop (i + 1) xs)) (append-nil (take i xs)))

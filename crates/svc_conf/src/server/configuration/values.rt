@@ -1,6 +1,6 @@
 //! The values of a configuration text.
 
-ghost use Rattle.std.specs.Prelude.{◌≡◌, ◌^◌, ◌≤◌, ◌==◌, [], ◌∷◌, length, false, IfOk, IfSome, MatchOption, None};
+ghost use Rattle.std.specs.Prelude.{◌≡◌, ◌^◌, ◌≤◌, ◌==◌, [], ◌∷◌, length, false, IfOk, IfSome, MatchOption, Some, None};
 ghost use Rattle.std.specs.Option.{option_map};
 ghost use Rattle.svc_conf.specs.TextLines.{first_is};
 ghost use Rattle.svc_conf.specs.Values.{single, double, escaped, behind, value_in, quoted_value, is_mark, has_colon, ends_in_colon, is_plain, plain_value, value_from, value_of, is_null_word, is_unset, flag_in, scale_in, number_value, flag_value, scale_value, text_value, optional, may_be_zero, allowed, empty_list, said_of};
@@ -37,6 +37,23 @@ fn single<'a>(alloc: Global, text: &'a [u8]) -> Result<Option<(Vec<u8>, &'a [u8]
         bytes.push(*first)?;
     }
     Ok(None)
+}
+
+/// The text up to a closing single quote, and what follows it, as they stand. `None` where no quote
+/// closes it or two stand for one before that.
+fn whole_single(text: &[u8]) -> Option<(&[u8], &[u8])>
+    ensures { IfSome result (λ cut. single text.now ≡ Some (cut.0.now, cut.1.now)) }
+{
+    for (i, b) in text.iter().enumerate() {
+        if *b == b'\'' {
+            let after = &text[i + 1..];
+            return match after {
+                [b'\'', ..] => None,
+                _ => Some((&text[..i], after)),
+            };
+        }
+    }
+    None
 }
 
 /// What a byte behind a backslash stands for.
@@ -90,6 +107,22 @@ fn double<'a>(alloc: Global, text: &'a [u8]) -> Result<Option<(Vec<u8>, &'a [u8]
     Ok(None)
 }
 
+/// The text up to a closing double quote, and what follows it, as they stand. `None` where no quote
+/// closes it or a backslash stands before that.
+fn whole_double(text: &[u8]) -> Option<(&[u8], &[u8])>
+    ensures { IfSome result (λ cut. double text.now ≡ Some (cut.0.now, cut.1.now)) }
+{
+    for (i, b) in text.iter().enumerate() {
+        if *b == b'"' {
+            return Some((&text[..i], &text[i + 1..]));
+        }
+        if *b == b'\\' {
+            return None;
+        }
+    }
+    None
+}
+
 /// The bytes as a value, where they are a text.
 fn value_in(alloc: Global, quoted: bool, bytes: &[u8]) -> Result<Option<Value>, NoMemory>
     ensures { IfOk result (λ value. value ≡ value_in quoted bytes.now) }
@@ -110,6 +143,37 @@ fn quoted_value(alloc: Global, cut: Option<(Vec<u8>, &[u8])>) -> Result<Option<V
     match cut {
         Some((bytes, after)) if is_end(after) => value_in(alloc, true, &bytes),
         _ => Ok(None),
+    }
+}
+
+/// The value of a quoted text that stands as it is, before what follows its closing quote.
+fn whole_value(alloc: Global, text: &[u8], after: &[u8]) -> Result<Option<Value>, NoMemory>
+    ensures { IfOk result (λ value. value ≡ quoted_value (Some (text.now, after.now))) }
+{
+    if is_end(after) {
+        value_in(alloc, true, text)
+    } else {
+        Ok(None)
+    }
+}
+
+/// The value in single quotes, behind the first of them.
+fn single_value(alloc: Global, text: &[u8]) -> Result<Option<Value>, NoMemory>
+    ensures { IfOk result (λ value. value ≡ quoted_value (single text.now)) }
+{
+    match whole_single(text) {
+        Some((whole, after)) => whole_value(alloc, whole, after),
+        None => quoted_value(alloc, single(alloc, text)?),
+    }
+}
+
+/// The value in double quotes, behind the first of them.
+fn double_value(alloc: Global, text: &[u8]) -> Result<Option<Value>, NoMemory>
+    ensures { IfOk result (λ value. value ≡ quoted_value (double text.now)) }
+{
+    match whole_double(text) {
+        Some((whole, after)) => whole_value(alloc, whole, after),
+        None => quoted_value(alloc, double(alloc, text)?),
     }
 }
 
@@ -177,8 +241,8 @@ fn value_from(alloc: Global, text: &[u8]) -> Result<Option<Value>, NoMemory>
     ensures { IfOk result (λ value. value ≡ value_from text.now) }
 {
     match text {
-        [b'\'', more @ ..] => quoted_value(alloc, single(alloc, more)?),
-        [b'"', more @ ..] => quoted_value(alloc, double(alloc, more)?),
+        [b'\'', more @ ..] => single_value(alloc, more),
+        [b'"', more @ ..] => double_value(alloc, more),
         _ => plain_value(alloc, without_end(before_comment(text))),
     }
 }
