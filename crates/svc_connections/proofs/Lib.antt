@@ -9,3 +9,4 @@ pub mod Unheard
 pub mod Arrivals
 pub mod Rests
 pub mod Ending
+mod Came

@@ -12,8 +12,9 @@ use Rattle.svc_base.proofs.KeyLemmas.{all-mid, all-weaker, none-over}
 use Rattle.svc_base.proofs.NumberSetLemmas.{all-filter}
 use Rattle.svc_connections.specs.declared.stage.Connection.{Connection}
 use Rattle.svc_connections.specs.declared.stage.Stage.{Stage}
-use Rattle.svc_connections.specs.ConnectionsState.{numbers, climbs, stage_of}
+use Rattle.svc_connections.specs.ConnectionsState.{numbers, climbs, stage_of, is_live}
 use Rattle.svc_connections.specs.ConnectionsEffects.{put_connection, moved, at_stage, without}
+use Rattle.svc_connections.proofs.StageLemmas.{moved-here}
 
 abbrev pub number : Connection → ℕ
 number x = x.number
@@ -37,6 +38,13 @@ none-before c (x ∷ front) back h = let parts = or_parts (x.number == c) (has_k
 pub none-stage : (c : ℕ) (live : List Connection) → has_key number c live ≡ false → stage_of live c ≡ None
 none-stage c live h = ap (λ (xs : List Connection). stage_of xs c) (sym (append-nil live)) ∙ none-before c live [] h
 
+pub none-key : (c : ℕ) (live : List Connection) → stage_of live c ≡ None → has_key number c live ≡ false
+none-key c [] h = refl
+none-key c (x ∷ live) h = elim (cases_Bool (x.number == c)) [
+  | inl same ↦ absurd (let k : Some x.stage ≡ None = rw same at h in cc)
+  | inr other ↦ or_from (x.number == c) (has_key number c live) other (none-key c live (rw other at h))
+]
+
 none-moved : (c : ℕ) (stage : Stage) (live : List Connection) → has_key number c live ≡ false → at_stage c stage live ≡ live
 none-moved c stage [] h = refl
 none-moved c stage (x ∷ live) h = let parts = or_parts (x.number == c) (has_key number c live) h in rw parts.0 (ap (λ (xs : List Connection). x ∷ xs) (none-moved c stage live parts.1))
@@ -45,25 +53,13 @@ none-without : (c : ℕ) (live : List Connection) → has_key number c live ≡ 
 none-without c [] h = refl
 none-without c (x ∷ live) h = let parts = or_parts (x.number == c) (has_key number c live) h in rw parts.0 (ap (λ (xs : List Connection). x ∷ xs) (none-without c live parts.1))
 
--- a new one goes where its number does, and one that is there stays
+-- a new one goes where its number does
 pub new-put : (x : Connection) (live : List Connection) → has_key number x.number live ≡ false → put_by number x live ≡ put_connection x live
 new-put x [] h = refl
 new-put x (y ∷ live) h = elim (cases_Bool (nat_lt x.number y.number)) [
   | inl below ↦ rw below refl
   | inr above ↦ (let parts = or_parts (y.number == x.number) (has_key number x.number live) h in rw (above, parts.0) (ap (λ (xs : List Connection). y ∷ xs) (new-put x live parts.1)))
 ]
-
-pub old-put : (x : Connection) (live : List Connection) → climbs (numbers live) ≡ true → has_key number x.number live ≡ true → live ≡ put_connection x live
-old-put x [] rise h = cc
-old-put x (y ∷ live) rise h =
-    let parts = and_parts (list_all (λ m. nat_lt y.number m) (numbers live)) (climbs (numbers live)) rise in
-    elim (cases_Bool (nat_lt x.number y.number)) [
-      | inl below ↦ absurd (let none = behind-more x.number (y ∷ live) (and_from (nat_lt x.number y.number) (list_all (λ m. nat_lt x.number m) (numbers live)) below (all-over x.number y.number (numbers live) below parts.0)) in cc)
-      | inr above ↦ elim (cases_Bool (y.number == x.number)) [
-        | inl same ↦ rw (above, same) refl
-        | inr other ↦ rw (above, other) (ap (λ (xs : List Connection). y ∷ xs) (old-put x live parts.1 (rw other at h)))
-      ]
-    ]
 
 -- of a connection that stands among the others
 module _ (c : ℕ) (live : List Connection) (rise : climbs (numbers live) ≡ true) (x : Connection) (s : StandsIn number c live x) where
@@ -101,6 +97,14 @@ pub moved-left : (c : ℕ) (stage : Stage) (old new : List Connection × ℕ) (r
 moved-left c stage old new true rise replaced absent same = replaced.2 ∙ sym (found-moved c (list_of old) rise replaced.0 replaced.1 stage)
 moved-left c stage old new false rise replaced absent same = ap list_of same ∙ sym (none-moved c stage (list_of old) absent)
 
+-- what was moved has come so far
+pub moved-stage : (c : ℕ) (stage : Stage) (old new : List Connection × ℕ) (r : Bool) → climbs (numbers (list_of old)) ≡ true → r ≡ true
+    → OnTrue r ((x : Connection) × (s : StandsIn number c (list_of old) x) × (list_of new ≡ s.front ++ record { number = c; stage = stage } ∷ s.back))
+    → list_of new ≡ at_stage c stage (list_of old) → stage_of (list_of new) c ≡ Some stage
+moved-stage c stage old new true rise is replaced after = ap (λ (xs : List Connection). stage_of xs c) after ∙ moved-here c stage (list_of old)
+    (ap is_live (found-stage c (list_of old) rise replaced.0 replaced.1))
+moved-stage c stage old new false rise is replaced after = cc
+
 pub removed-left : (c : ℕ) (old new : List Connection × ℕ) (r : Option Connection) → climbs (numbers (list_of old)) ≡ true
     → IfSome r (λ x. (s : StandsIn number c (list_of old) x) × (list_of new ≡ s.front ++ s.back)) → IfNone r (has_key number c (list_of old) ≡ false) → IfNone r (new ≡ old)
     → list_of new ≡ without c (list_of old)
@@ -135,7 +139,7 @@ climbs-without c live h = ap climbs (numbers-without c live) ∙ climbs-filter (
 pub climbs-moved : (c : ℕ) (stage : Stage) (live : List Connection) → climbs (numbers live) ≡ true → climbs (numbers (at_stage c stage live)) ≡ true
 climbs-moved c stage live h = ap climbs (numbers-moved c stage live) ∙ h
 
-all-put : (test : ℕ → Bool) (x : Connection) (live : List Connection) → test x.number ≡ true → list_all test (numbers live) ≡ true → list_all test (numbers (put_connection x live)) ≡ true
+pub all-put : (test : ℕ → Bool) (x : Connection) (live : List Connection) → test x.number ≡ true → list_all test (numbers live) ≡ true → list_all test (numbers (put_connection x live)) ≡ true
 all-put test x [] t h = and_from (test x.number) true t refl
 all-put test x (y ∷ live) t h = let parts = and_parts (test y.number) (list_all test (numbers live)) h in elim (cases_Bool (nat_lt x.number y.number)) [
   | inl below ↦ rw below (and_from (test x.number) (list_all test (numbers (y ∷ live))) t h)

@@ -1,5 +1,5 @@
 -- The records that the part on connections stands for.
-use Rattle.std.specs.Prelude.{ℕ, Bool, true, false, ◌==◌, ◌≡◌, not, ◌&&◌, ◌||◌, List, [], ◌∷◌, Option, Some, None, map, nat_lt, if◌then◌else◌}
+use Rattle.std.specs.Prelude.{ℕ, Bool, true, false, ◌==◌, ◌≡◌, not, ◌&&◌, ◌||◌, List, [], ◌∷◌, Option, Some, None, IfSome, map, nat_lt, if◌then◌else◌}
 use Rattle.std.specs.List.{list_all}
 use Rattle.svc_record.specs.declared.plan.Plan.{Plan}
 use Rattle.svc_record.specs.Record.{Record, has, is_runtimes, EachEntry}
@@ -24,6 +24,15 @@ numbers live = map (λ (x : Connection). x.number) live
 abbrev pub stage_of : List Connection → ℕ → Option Stage
 stage_of [] c = None
 stage_of (x ∷ more) c = if x.number == c then Some x.stage else stage_of more c
+
+-- the live connections are in ascending number, and the latest of them, if it is known, has come so far
+pub record IsLive (live : List Connection) (latest : Option Connection) : Type 0 where
+  pub rise : climbs (numbers live) ≡ true
+  pub latest_is : IfSome latest (λ x. stage_of live x.number ≡ Some x.stage)
+
+-- each live connection arrived
+abbrev pub all_came : List ℕ → List Connection → Bool
+all_came came live = list_all (λ n. is_in n came) (numbers live)
 
 -- its settings are being applied
 abbrev pub is_setting : Option Stage → Bool

@@ -32,13 +32,16 @@ pub struct Connections {
 }
 
 impl Model for Connections {
-    ghost use Rattle.std.specs.Prelude.{min};
+    ghost use Rattle.std.specs.Prelude.{◌≡◌, min, true};
     ghost use Rattle.svc_base.specs.Items.{list_of, spare};
     ghost use Rattle.svc_connections.specs.ConnectionsData.{ConnectionsRoom};
+    ghost use Rattle.svc_connections.specs.ConnectionsState.{all_came};
 
     ghost Value = { ConnectionsRoom };
 
     ghost view = { λ c. record { parts = record { live = list_of c.live; came = list_of c.came }; room = min (spare c.live) (spare c.came) } };
+
+    ghost invariant = { λ c. all_came (list_of c.came) (list_of c.live) ≡ true };
 }
 
 /// The peer is known.

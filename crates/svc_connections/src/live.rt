@@ -1,6 +1,6 @@
 //! The live connections.
 
-ghost use Rattle.std.specs.Prelude.{◌≡◌, ◌+◌, ◌<◌, ◌≤◌, ◌++◌, ◌^◌, length, Option, OnOk, []};
+ghost use Rattle.std.specs.Prelude.{◌≡◌, ◌+◌, ◌<◌, ◌≤◌, ◌++◌, ◌^◌, length, Option, None, OnOk, []};
 ghost use Rattle.svc_base.specs.Blocks.{joined};
 ghost use Rattle.svc_base.specs.Items.{list_of, spare};
 ghost use Rattle.svc_connections.specs.ConnectionsState.{stage_of};
@@ -13,22 +13,25 @@ use svc_base::{Blocks, Keyed, NoMemory};
 use svc_record::{Action, Actions};
 
 /// Live connections in ascending number. Contracts see them, and for how many more there is memory.
+/// The one that last came or went on is kept at hand: mostly the next event is its own, and asks for
+/// its stage without a search.
 #[derive(Drop)]
 pub(crate) struct Live {
     connections: Blocks<Connection>,
+    latest: Option<Connection>,
 }
 
 impl Model for Live {
-    ghost use Rattle.std.specs.Prelude.{List, ℕ, ◌≡◌, true};
+    ghost use Rattle.std.specs.Prelude.{List, ℕ};
     ghost use Rattle.svc_base.specs.Items.{list_of};
     ghost use Rattle.svc_connections.specs.declared.stage.Connection.{Connection};
-    ghost use Rattle.svc_connections.specs.ConnectionsState.{climbs, numbers};
+    ghost use Rattle.svc_connections.specs.ConnectionsState.{IsLive};
 
     ghost Value = { List Connection × ℕ };
 
     ghost view = { λ l. l.connections };
 
-    ghost invariant = { λ l. climbs (numbers (list_of l.connections)) ≡ true };
+    ghost invariant = { λ l. IsLive (list_of l.connections) l.latest };
 }
 
 impl Keyed for Connection {
@@ -67,6 +70,7 @@ impl Live {
     {
         Live {
             connections: Blocks::new(alloc),
+            latest: None,
         }
     }
 
@@ -89,28 +93,40 @@ impl Live {
     pub(crate) fn stage_of(&self, c: u64) -> Option<Stage>
         ensures { result ≡ stage_of (list_of self.now) c }
     {
+        match self.latest {
+            Some(latest) if latest.number == c => Some(latest.stage),
+            _ => self.search_stage(c),
+        }
+    }
+
+    /// The same, by a search.
+    fn search_stage(&self, c: u64) -> Option<Stage>
+        ensures { result ≡ stage_of (list_of self.now) c }
+    {
         match self.connections.find(c) {
             Some(connection) => Some(connection.stage),
             None => None,
         }
     }
 
-    /// Takes a connection. One that is live stays as it is.
+    /// Takes a connection that isn't live.
     pub(crate) fn put(&mut self, connection: Connection)
-        requires { 0 < spare self.old }
+        requires room { 0 < spare self.old }
+        requires new { stage_of (list_of self.old) connection.number ≡ None }
         ensures { list_of self.new ≡ put_connection connection (list_of self.old) }
     {
-        if self.connections.find(connection.number).is_some() {
-            return;
-        }
         self.connections.insert(connection);
+        self.latest = Some(connection);
     }
 
     /// The connection has come to the stage, if it is live.
     pub(crate) fn move_to(&mut self, c: u64, stage: Stage)
         ensures { list_of self.new ≡ at_stage c stage (list_of self.old) }
     {
-        let _ = self.connections.replace(Connection { number: c, stage });
+        let connection = Connection { number: c, stage };
+        if self.connections.replace(connection) {
+            self.latest = Some(connection);
+        }
     }
 
     /// The connection is live no more.
@@ -118,6 +134,7 @@ impl Live {
         ensures { list_of self.new ≡ without c (list_of self.old) }
     {
         let _ = self.connections.remove(c);
+        self.latest = None;
     }
 
     /// Cuts each connection, in ascending number.
