@@ -1,6 +1,7 @@
 pub mod Configuration
 pub mod ConfigurationText
 pub mod Fields
+pub mod FieldGroups
 pub mod Keys
 pub mod Kinds
 pub mod OptWords

@@ -1,9 +1,11 @@
 //! What the value of each key is.
 
-ghost use Rattle.std.specs.Prelude.{◌≡◌, ◌∷◌, [], find};
+ghost use Rattle.std.specs.Prelude.{◌≡◌, ◌∷◌, [], find, false, MatchOption};
 ghost use Rattle.std.specs.Str.{bytes_eq};
 ghost use Rattle.svc_conf.specs.Keys.{key_name};
+ghost use Rattle.svc_conf.specs.declared.server.configuration.field.Field.TheVariants.{OptionalNumber};
 ghost use Rattle.svc_conf.specs.Fields.{field_of, key_of};
+ghost use Rattle.svc_conf.specs.FieldGroups.{is_optional_number};
 
 use crate::server::configuration::Key;
 
@@ -123,72 +125,76 @@ pub const KEYS: [Key; 35] = [
     Key::DaemonNotifyTimeoutSeconds,
 ];
 
-/// What the value of a key is.
-pub fn field_of(key: Key) -> Field
+/// The key as one whose value is a number or unset, if it is one.
+fn optional_number(key: Key) -> Option<OptionalNumberKey>
+    ensures { MatchOption result (is_optional_number (field_of key) ≡ false) (λ number. field_of key ≡ OptionalNumber number) }
+{
+    let number = match key {
+        Key::GracePeriodSeconds => OptionalNumberKey::GracePeriodSeconds,
+        Key::GracefulShutdownTimeoutSeconds => OptionalNumberKey::GracefulShutdownTimeoutSeconds,
+        Key::UpstreamConnectOffloadThreadpools =>
+            OptionalNumberKey::UpstreamConnectOffloadThreadpools,
+        Key::UpstreamConnectOffloadThreadPerPool =>
+            OptionalNumberKey::UpstreamConnectOffloadThreadPerPool,
+        Key::DownstreamTlsOffloadThreadpools => OptionalNumberKey::DownstreamTlsOffloadThreadpools,
+        Key::DownstreamTlsOffloadThreadPerPool =>
+            OptionalNumberKey::DownstreamTlsOffloadThreadPerPool,
+        Key::UpgradeSockConnectAcceptMaxRetries =>
+            OptionalNumberKey::UpgradeSockConnectAcceptMaxRetries,
+        Key::MaxBlockingThreads => OptionalNumberKey::MaxBlockingThreads,
+        Key::BlockingThreadsTtlSeconds => OptionalNumberKey::BlockingThreadsTtlSeconds,
+        Key::FastTimeoutToTokioThresholdSeconds =>
+            OptionalNumberKey::FastTimeoutToTokioThresholdSeconds,
+        Key::RuntimeMetricsPollTimeHistogramResolutionMicros =>
+            OptionalNumberKey::RuntimeMetricsPollTimeHistogramResolutionMicros,
+        Key::RuntimeMetricsPollTimeHistogramBuckets =>
+            OptionalNumberKey::RuntimeMetricsPollTimeHistogramBuckets,
+        Key::DaemonReadyTimeoutSeconds => OptionalNumberKey::DaemonReadyTimeoutSeconds,
+        Key::DaemonNotifyTimeoutSeconds => OptionalNumberKey::DaemonNotifyTimeoutSeconds,
+        _ => return None,
+    };
+    Some(number)
+}
+
+/// What the value of a key is that isn't a number or unset.
+fn other_field(key: Key) -> Field
+    requires { is_optional_number (field_of key) ≡ false }
     ensures { result ≡ field_of key }
 {
     match key {
         Key::Version => Field::Number(NumberKey::Version),
-        Key::Daemon => Field::Flag(FlagKey::Daemon),
-        Key::ErrorLog => Field::OptionalText(OptionalTextKey::ErrorLog),
-        Key::PidFile => Field::Text(TextKey::PidFile),
-        Key::UpgradeSock => Field::Text(TextKey::UpgradeSock),
-        Key::User => Field::OptionalText(OptionalTextKey::User),
-        Key::Group => Field::OptionalText(OptionalTextKey::Group),
-        Key::WorkingDirectory => Field::OptionalText(OptionalTextKey::WorkingDirectory),
         Key::Threads => Field::Number(NumberKey::Threads),
         Key::ListenerTasksPerFd => Field::Number(NumberKey::ListenerTasksPerFd),
+        Key::UpstreamKeepalivePoolSize => Field::Number(NumberKey::UpstreamKeepalivePoolSize),
+        Key::MaxRetries => Field::Number(NumberKey::MaxRetries),
+        Key::Daemon => Field::Flag(FlagKey::Daemon),
         Key::WorkStealing => Field::Flag(FlagKey::WorkStealing),
         Key::RuntimeEnableAltTimer => Field::Flag(FlagKey::RuntimeEnableAltTimer),
-        Key::CaFile => Field::OptionalText(OptionalTextKey::CaFile),
-        Key::GracePeriodSeconds => Field::OptionalNumber(OptionalNumberKey::GracePeriodSeconds),
-        Key::GracefulShutdownTimeoutSeconds => Field::OptionalNumber(
-            OptionalNumberKey::GracefulShutdownTimeoutSeconds,
-        ),
-        Key::ClientBindToIpv4 => Field::List(ListKey::ClientBindToIpv4),
-        Key::ClientBindToIpv6 => Field::List(ListKey::ClientBindToIpv6),
-        Key::UpstreamKeepalivePoolSize => Field::Number(NumberKey::UpstreamKeepalivePoolSize),
-        Key::UpstreamConnectOffloadThreadpools => Field::OptionalNumber(
-            OptionalNumberKey::UpstreamConnectOffloadThreadpools,
-        ),
-        Key::UpstreamConnectOffloadThreadPerPool => Field::OptionalNumber(
-            OptionalNumberKey::UpstreamConnectOffloadThreadPerPool,
-        ),
-        Key::DownstreamTlsOffloadThreadpools => Field::OptionalNumber(
-            OptionalNumberKey::DownstreamTlsOffloadThreadpools,
-        ),
-        Key::DownstreamTlsOffloadThreadPerPool => Field::OptionalNumber(
-            OptionalNumberKey::DownstreamTlsOffloadThreadPerPool,
-        ),
         Key::UpstreamDebugSslKeylog => Field::Flag(FlagKey::UpstreamDebugSslKeylog),
-        Key::MaxRetries => Field::Number(NumberKey::MaxRetries),
-        Key::UpgradeSockConnectAcceptMaxRetries => Field::OptionalNumber(
-            OptionalNumberKey::UpgradeSockConnectAcceptMaxRetries,
-        ),
-        Key::MaxBlockingThreads => Field::OptionalNumber(OptionalNumberKey::MaxBlockingThreads),
-        Key::BlockingThreadsTtlSeconds => Field::OptionalNumber(
-            OptionalNumberKey::BlockingThreadsTtlSeconds,
-        ),
-        Key::FastTimeoutToTokioThresholdSeconds => Field::OptionalNumber(
-            OptionalNumberKey::FastTimeoutToTokioThresholdSeconds,
-        ),
         Key::RuntimeMetricsPollTimeHistogram => Field::Flag(
             FlagKey::RuntimeMetricsPollTimeHistogram,
         ),
-        Key::RuntimeMetricsPollTimeHistogramScale => Field::Scale,
-        Key::RuntimeMetricsPollTimeHistogramResolutionMicros => Field::OptionalNumber(
-            OptionalNumberKey::RuntimeMetricsPollTimeHistogramResolutionMicros,
-        ),
-        Key::RuntimeMetricsPollTimeHistogramBuckets => Field::OptionalNumber(
-            OptionalNumberKey::RuntimeMetricsPollTimeHistogramBuckets,
-        ),
         Key::DaemonWaitForReady => Field::Flag(FlagKey::DaemonWaitForReady),
-        Key::DaemonReadyTimeoutSeconds => Field::OptionalNumber(
-            OptionalNumberKey::DaemonReadyTimeoutSeconds,
-        ),
-        Key::DaemonNotifyTimeoutSeconds => Field::OptionalNumber(
-            OptionalNumberKey::DaemonNotifyTimeoutSeconds,
-        ),
+        Key::PidFile => Field::Text(TextKey::PidFile),
+        Key::UpgradeSock => Field::Text(TextKey::UpgradeSock),
+        Key::ErrorLog => Field::OptionalText(OptionalTextKey::ErrorLog),
+        Key::User => Field::OptionalText(OptionalTextKey::User),
+        Key::Group => Field::OptionalText(OptionalTextKey::Group),
+        Key::WorkingDirectory => Field::OptionalText(OptionalTextKey::WorkingDirectory),
+        Key::CaFile => Field::OptionalText(OptionalTextKey::CaFile),
+        Key::ClientBindToIpv4 => Field::List(ListKey::ClientBindToIpv4),
+        Key::ClientBindToIpv6 => Field::List(ListKey::ClientBindToIpv6),
+        _ => Field::Scale,
+    }
+}
+
+/// What the value of a key is.
+pub fn field_of(key: Key) -> Field
+    ensures { result ≡ field_of key }
+{
+    match optional_number(key) {
+        Some(number) => Field::OptionalNumber(number),
+        None => other_field(key),
     }
 }
 
