@@ -81,7 +81,7 @@ impl Core {
         let boot = Boot::new(plan.limit);
         let offer = Offer::new(plan.limit);
         let connections = Connections::new(alloc);
-        let waits = Waits::new(alloc, service_count(&plan), order.len())?;
+        let waits = Waits::new(alloc, service_count(&plan), &order)?;
         Ok(Core {
             plan,
             order,

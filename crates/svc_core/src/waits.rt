@@ -39,6 +39,8 @@ pub(crate) struct Waits {
     until: u64,
     /// The place of the service that was last seen to ask, which contracts don't see.
     asked: usize,
+    /// The place of each service in the startup order, which contracts don't see.
+    places: Vec<u32>,
 }
 
 impl Model for Waits {
@@ -82,8 +84,33 @@ fn last_unmarked(depends: &[u32], marks: &[bool], left: usize) -> Option<usize>
     None
 }
 
-/// The place of the service.
-fn place_of(order: &[u32], s: u32) -> Option<usize>
+/// The place of each of so many services, and 0 where it has none.
+fn places_in(alloc: Global, services: usize, order: &[u32]) -> Result<Vec<u32>, NoMemory>
+    requires { length order.now ≤ 1024 }
+{
+    let mut places = vec![in alloc; 0u32; services]?;
+    for k in 0..order.len() {
+        if let Some(place) = places.get_mut(order[k] as usize) {
+            *place = k as u32;
+        }
+    }
+    Ok(places)
+}
+
+/// The place that is noted for the service, if the service stands there.
+fn noted_place(places: &[u32], order: &[u32], s: u32) -> Option<usize>
+    ensures { IfSome result (λ k. (k < length order.now) × (slice_index order.now k ≡ s)) }
+{
+    let k = *places.get(s as usize)? as usize;
+    if k < order.len() && order[k] == s {
+        Some(k)
+    } else {
+        None
+    }
+}
+
+/// The place of the service, from the front.
+fn first_place(order: &[u32], s: u32) -> Option<usize>
     ensures found { IfSome result (λ k. (k < length order.now) × (slice_index order.now k ≡ s)) }
     ensures none { IfNone result ((k : ℕ) → k < length order.now → slice_index order.now k ≢ s) }
 {
@@ -93,6 +120,18 @@ fn place_of(order: &[u32], s: u32) -> Option<usize>
         }
     }
     None
+}
+
+/// The place of the service. Where one is noted it is looked for there first.
+fn place_of(places: &[u32], order: &[u32], s: u32) -> Option<usize>
+    ensures found { IfSome result (λ k. (k < length order.now) × (slice_index order.now k ≡ s)) }
+    ensures none { IfNone result ((k : ℕ) → k < length order.now → slice_index order.now k ≢ s) }
+{
+    let noted = noted_place(places, order, s);
+    if noted.is_some() {
+        return noted;
+    }
+    first_place(order, s)
 }
 
 /// How many are still to be looked at.
@@ -105,14 +144,15 @@ fn left_of(found: Option<usize>) -> usize {
 
 impl Waits {
     /// Each place is open, and nothing is known to be ready.
-    pub(crate) fn new(alloc: Global, services: usize, places: usize) -> Result<Waits, NoMemory>
+    pub(crate) fn new(alloc: Global, services: usize, order: &[u32]) -> Result<Waits, NoMemory>
         requires services { services ≤ 1024 }
-        requires places { places ≤ 1024 }
+        requires places { length order.now ≤ 1024 }
         ensures count { IfOk result (λ w. length w.marks ≡ services) }
-        ensures open { IfOk result (λ w. (k : ℕ) → k < places → is_open w k ≡ true) }
+        ensures open { IfOk result (λ w. (k : ℕ) → k < length order.now → is_open w k ≡ true) }
         ensures stale { IfOk result (λ w. w.fresh ≡ false) }
     {
-        let bits = all_open(alloc, services as u32, places)?;
+        let places = places_in(alloc, services, order)?;
+        let bits = all_open(alloc, services as u32, order.len())?;
         let marks = vec![in alloc; false; services]?;
         let looked = vec![in alloc; usize::MAX; services]?;
         Ok(Waits {
@@ -123,6 +163,7 @@ impl Waits {
             complete: false,
             until: u64::MAX,
             asked: 0,
+            places,
         })
     }
 
@@ -192,7 +233,7 @@ impl Waits {
         requires { IsShortOrder order.now }
         ensures { Reopens order.now s self.old self.new }
     {
-        if let Some(k) = place_of(order, s) {
+        if let Some(k) = place_of(&self.places, order, s) {
             self.open(k);
         }
     }

@@ -1,5 +1,5 @@
 use Rattle.std.proofs.Common.{ℕ, ◌<◌, ◌≢◌, slice_index}
-use Rattle.svc_core.proofs.waits.place_of.Given as goal
+use Rattle.svc_core.proofs.waits.first_place.Given as goal
 
 abbrev pub invariant-loop-k : goal.invariant-loop-k
 invariant-loop-k l = (j : ℕ) → j < l.k → slice_index l.order j ≢ l.s
