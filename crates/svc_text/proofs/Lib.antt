@@ -1,5 +1,7 @@
 pub mod Visible
 pub mod DigitLemmas
+pub mod NumberLemmas
+pub mod RecordLineLemmas
 pub mod ListLemmas
 pub mod PieceLemmas
 pub mod TextLemmas

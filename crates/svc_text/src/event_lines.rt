@@ -4,9 +4,11 @@ ghost use Rattle.std.specs.Prelude.{◌≡◌, ◌∷◌, IfOk};
 ghost use Rattle.svc_base.specs.Words.{words};
 ghost use Rattle.svc_text.specs.EventLines.{signal_of, side_of, ok_of, bare_event, event_of_one, event_of_two, event_of_three, event_of_four, received_of, event_of, is_fault, item_of};
 
+use crate::keys::spells;
 use crate::message_words::{bytes_of, descriptors_of};
+use crate::numbers::{number, number32};
 use std::alloc::Global;
-use svc_base::{NoMemory, number, number32, split_word};
+use svc_base::{NoMemory, split_word};
 use svc_record::{Event, Item, ShutdownSignal, Side};
 use svc_socket::read_peer_word;
 
@@ -14,11 +16,11 @@ use svc_socket::read_peer_word;
 fn signal_of(word: &[u8]) -> Option<ShutdownSignal>
     ensures { result ≡ signal_of word.now }
 {
-    if word == b"fast".as_slice() {
+    if spells(word, b"fast") {
         Some(ShutdownSignal::FastShutdown)
-    } else if word == b"terminate".as_slice() {
+    } else if spells(word, b"terminate") {
         Some(ShutdownSignal::GracefulTerminate)
-    } else if word == b"upgrade".as_slice() {
+    } else if spells(word, b"upgrade") {
         Some(ShutdownSignal::GracefulUpgrade)
     } else {
         None
@@ -29,9 +31,9 @@ fn signal_of(word: &[u8]) -> Option<ShutdownSignal>
 fn side_of(word: &[u8]) -> Option<Side>
     ensures { result ≡ side_of word.now }
 {
-    if word == b"child".as_slice() {
+    if spells(word, b"child") {
         Some(Side::Child)
-    } else if word == b"parent".as_slice() {
+    } else if spells(word, b"parent") {
         Some(Side::Parent)
     } else {
         None
@@ -42,9 +44,9 @@ fn side_of(word: &[u8]) -> Option<Side>
 fn ok_of(word: &[u8]) -> Option<bool>
     ensures { result ≡ ok_of word.now }
 {
-    if word == b"ok".as_slice() {
+    if spells(word, b"ok") {
         Some(true)
-    } else if word == b"no".as_slice() {
+    } else if spells(word, b"no") {
         Some(false)
     } else {
         None
@@ -56,29 +58,29 @@ fn ok_of(word: &[u8]) -> Option<bool>
 fn bare_event(key: &[u8]) -> Option<Event>
     ensures { result ≡ bare_event key.now }
 {
-    if key == b"nosender".as_slice() {
+    if spells(key, b"nosender") {
         Some(Event::NoSenderYet)
-    } else if key == b"receivefailed".as_slice() {
+    } else if spells(key, b"receivefailed") {
         Some(Event::ReceiveFailed)
-    } else if key == b"connected".as_slice() {
+    } else if spells(key, b"connected") {
         Some(Event::Connected)
-    } else if key == b"notthere".as_slice() {
+    } else if spells(key, b"notthere") {
         Some(Event::NotThere)
-    } else if key == b"connecting".as_slice() {
+    } else if spells(key, b"connecting") {
         Some(Event::StillConnecting)
-    } else if key == b"connectfailed".as_slice() {
+    } else if spells(key, b"connectfailed") {
         Some(Event::ConnectFailed)
-    } else if key == b"sent".as_slice() {
+    } else if spells(key, b"sent") {
         Some(Event::Sent)
-    } else if key == b"sendbusy".as_slice() {
+    } else if spells(key, b"sendbusy") {
         Some(Event::SendBusy)
-    } else if key == b"sendfailed".as_slice() {
+    } else if spells(key, b"sendfailed") {
         Some(Event::SendFailed)
-    } else if key == b"childready".as_slice() {
+    } else if spells(key, b"childready") {
         Some(Event::ChildReady)
-    } else if key == b"childgone".as_slice() {
+    } else if spells(key, b"childgone") {
         Some(Event::ChildGone)
-    } else if key == b"dropfailed".as_slice() {
+    } else if spells(key, b"dropfailed") {
         Some(Event::DropFailed)
     } else {
         None
@@ -90,17 +92,17 @@ fn bare_event(key: &[u8]) -> Option<Event>
 fn event_of_one(key: &[u8], first: &[u8]) -> Option<Event>
     ensures { result ≡ event_of_one key.now first.now }
 {
-    if key == b"moment".as_slice() {
+    if spells(key, b"moment") {
         Some(Event::Moment(number(first)?))
-    } else if key == b"ready".as_slice() {
+    } else if spells(key, b"ready") {
         Some(Event::Ready(number32(first)?))
-    } else if key == b"ended".as_slice() {
+    } else if spells(key, b"ended") {
         Some(Event::Ended(number32(first)?))
-    } else if key == b"finished".as_slice() {
+    } else if spells(key, b"finished") {
         Some(Event::Finished(number(first)?))
-    } else if key == b"signal".as_slice() {
+    } else if spells(key, b"signal") {
         Some(Event::Signal(signal_of(first)?))
-    } else if key == b"side".as_slice() {
+    } else if spells(key, b"side") {
         Some(Event::Side(side_of(first)?))
     } else {
         None
@@ -112,22 +114,22 @@ fn event_of_one(key: &[u8], first: &[u8]) -> Option<Event>
 fn event_of_two(key: &[u8], first: &[u8], second: &[u8]) -> Option<Event>
     ensures { result ≡ event_of_two key.now first.now second.now }
 {
-    if key == b"inuse".as_slice() {
+    if spells(key, b"inuse") {
         let service = number32(first)?;
         Some(Event::InUse(service, number32(second)?))
-    } else if key == b"bindfailed".as_slice() {
+    } else if spells(key, b"bindfailed") {
         let service = number32(first)?;
         Some(Event::BindFailed(service, number32(second)?))
-    } else if key == b"adopted".as_slice() {
+    } else if spells(key, b"adopted") {
         let service = number32(first)?;
         Some(Event::Adopted(service, number32(second)?))
-    } else if key == b"adoptfailed".as_slice() {
+    } else if spells(key, b"adoptfailed") {
         let service = number32(first)?;
         Some(Event::AdoptFailed(service, number32(second)?))
-    } else if key == b"set".as_slice() {
+    } else if spells(key, b"set") {
         let connection = number(first)?;
         Some(Event::Set(connection, ok_of(second)?))
-    } else if key == b"shaken".as_slice() {
+    } else if spells(key, b"shaken") {
         let connection = number(first)?;
         Some(Event::Shaken(connection, ok_of(second)?))
     } else {
@@ -140,15 +142,15 @@ fn event_of_two(key: &[u8], first: &[u8], second: &[u8]) -> Option<Event>
 fn event_of_three(key: &[u8], first: &[u8], second: &[u8], third: &[u8]) -> Option<Event>
     ensures { result ≡ event_of_three key.now first.now second.now third.now }
 {
-    if key == b"bound".as_slice() {
+    if spells(key, b"bound") {
         let service = number32(first)?;
         let endpoint = number32(second)?;
         Some(Event::Bound(service, endpoint, number(third)?))
-    } else if key == b"acceptfailed".as_slice() {
+    } else if spells(key, b"acceptfailed") {
         let service = number32(first)?;
         let endpoint = number32(second)?;
         Some(Event::AcceptFailed(service, endpoint, number32(third)?))
-    } else if key == b"loopended".as_slice() {
+    } else if spells(key, b"loopended") {
         let service = number32(first)?;
         let endpoint = number32(second)?;
         Some(Event::LoopEnded(service, endpoint, number(third)?))
@@ -168,7 +170,7 @@ fn event_of_four(
 ) -> Option<Event>
     ensures { result ≡ event_of_four key.now first.now second.now third.now fourth.now }
 {
-    if key != b"arrived".as_slice() {
+    if !spells(key, b"arrived") {
         return None;
     }
     let service = number32(first)?;
@@ -214,7 +216,7 @@ fn event_of_key(alloc: Global, key: &[u8], rest: &[u8]) -> Result<Option<Event>,
         return Ok(event_of_one(key, first));
     };
     let Some((third, rest)) = split_word(rest) else {
-        if key == b"received".as_slice() {
+        if spells(key, b"received") {
             return received_of(alloc, first, second);
         }
         return Ok(event_of_two(key, first, second));
@@ -233,7 +235,7 @@ fn event_of_key(alloc: Global, key: &[u8], rest: &[u8]) -> Result<Option<Event>,
 fn is_fault(key: &[u8], rest: &[u8]) -> bool
     ensures { result ≡ is_fault (key.now ∷ words rest.now) }
 {
-    key == b"fault".as_slice() && split_word(rest).is_none()
+    spells(key, b"fault") && split_word(rest).is_none()
 }
 
 /// The item that a key says with what follows it: an event, or the fault of the host.

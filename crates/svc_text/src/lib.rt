@@ -8,13 +8,16 @@ mod event_lines;
 mod filters;
 mod fitting;
 mod front;
+mod keys;
 mod lists;
 mod message_words;
 mod parsing;
+mod numbers;
 mod part;
 mod plans;
 mod printing;
 mod reading;
+mod record_lines;
 mod refused;
 mod service;
 

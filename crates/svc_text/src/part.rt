@@ -3,6 +3,8 @@
 ghost use Rattle.std.specs.Prelude.{◌≡◌};
 ghost use Rattle.svc_text.specs.Script.{header_of, section_index};
 
+use crate::keys::spells;
+
 /// The part of a script that a line stands in.
 #[derive(Clone, Copy, Debug, PartialEq, Eq)]
 pub enum Section {
@@ -31,11 +33,11 @@ impl Section {
 pub fn header_of(line: &[u8]) -> Option<Section>
     ensures { result ≡ header_of line.now }
 {
-    if line == b"%conf".as_slice() {
+    if spells(line, b"%conf") {
         Some(Section::Conf)
-    } else if line == b"%services".as_slice() {
+    } else if spells(line, b"%services") {
         Some(Section::Services)
-    } else if line == b"%events".as_slice() {
+    } else if spells(line, b"%events") {
         Some(Section::Events)
     } else {
         None

@@ -5,8 +5,8 @@ ghost use Rattle.svc_record.specs.declared.entry.Entry.{Entry};
 ghost use Rattle.svc_record.specs.Text.{text_of, EntryFits};
 
 use crate::fitting::read_entry;
+use crate::record_lines::push_line;
 use std::alloc::Global;
-use std::fmt::Write;
 use std::marker::Model;
 use svc_base::NoMemory;
 use svc_history::History;
@@ -19,7 +19,7 @@ pub fn record_text(alloc: Global, entries: &[Entry]) -> Result<String, NoMemory>
 {
     let mut text = String::new(alloc);
     for entry in entries {
-        writeln!(text, "{entry}")?;
+        push_line(&mut text, entry)?;
         read_entry(entry);
     }
     Ok(text)
@@ -66,7 +66,7 @@ impl RecordText {
         read_entry(entry);
         self.entries.push(entry);
         if !self.is_short {
-            self.is_short = writeln!(self.text, "{entry}").is_err();
+            self.is_short = push_line(&mut self.text, entry).is_err();
         }
     }
 
