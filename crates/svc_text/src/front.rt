@@ -4,7 +4,7 @@ ghost use Rattle.std.specs.Prelude.{◌≡◌, ◌++◌, ◌∷◌, [], nat_lt, 
 ghost use Rattle.svc_text.specs.Fronts.{IsFront};
 
 use crate::conf_text::ConfText;
-use crate::reading::{LineError, Reading};
+use crate::reading::{LineError, Reading, is_text};
 use std::alloc::Global;
 use svc_base::{NoMemory, split_line};
 
@@ -45,11 +45,13 @@ pub fn parse_prefix(alloc: Global, bytes: &[u8]) -> Result<ParsedPrefix, NoMemor
         start: 0,
         end: 0,
     };
+    // Where the whole is a text, each line is one.
+    let known = is_text(bytes);
     let mut rest = bytes;
     let mut number = 0usize;
     while let Some((line, after)) = split_line(rest) {
         let was = reading.part;
-        match reading.take_line(alloc, line) {
+        match reading.take_line(alloc, line, known) {
             Ok(()) => {}
             Err(LineError::Refused) => {
                 return Ok(ParsedPrefix {

@@ -62,13 +62,22 @@ fn is_comment(word: &[u8]) -> bool
     matches!(word.first(), Some(b'#'))
 }
 
-fn is_text(line: &[u8]) -> bool
-    ensures { result ≡ is_utf8 line.now }
+/// The bytes are a text in UTF-8.
+pub(crate) fn is_text(bytes: &[u8]) -> bool
+    ensures { result ≡ is_utf8 bytes.now }
 {
-    match str::from_utf8(line) {
+    match str::from_utf8(bytes) {
         Ok(_) => true,
         Err(_) => false,
     }
+}
+
+/// The line is a text in UTF-8, which may be known already.
+fn is_text_line(line: &[u8], known: bool) -> bool
+    requires { known ≡ true → is_utf8 line.now ≡ true }
+    ensures { result ≡ is_utf8 line.now }
+{
+    known || is_text(line)
 }
 
 impl Reading {
@@ -177,11 +186,13 @@ impl Reading {
     }
 
     /// Takes one more line, where it fits those before it. Those of the configuration aren't looked at.
-    pub fn take_line(&mut self, alloc: Global, line: &[u8]) -> Result<(), LineError>
+    /// `known`: the line is known to be a text in UTF-8.
+    pub fn take_line(&mut self, alloc: Global, line: &[u8], known: bool) -> Result<(), LineError>
+        requires { known ≡ true → is_utf8 line.now ≡ true }
         ensures test { Tests (line_fits (section_index self.old.part) self.old.eager self.old.services.items line.now) result }
         ensures after { OnOk result (After self.old line.now self.new) }
     {
-        if !is_text(line) {
+        if !is_text_line(line, known) {
             return Err(LineError::Refused);
         }
         if let Some(part) = header_of(line) {

@@ -76,7 +76,14 @@ fn write_arrived(s: u32, i: u32, c: u64, ip: u32, port: u16, line: &mut [u8; 168
 }
 
 /// Appends the line of a connection that arrived from a peer with an address of 32 bits.
-fn push_arrived(text: &mut String, s: u32, i: u32, c: u64, ip: u32, port: u16) -> Result<(), NoMemory>
+fn push_arrived(
+    text: &mut String,
+    s: u32,
+    i: u32,
+    c: u64,
+    ip: u32,
+    port: u16,
+) -> Result<(), NoMemory>
     ensures { OnOk result (string_bytes text.new ≡ string_bytes text.old ++ line_of (Got (Arrived s i c (Inet (V4 ip port))))) }
 {
     let mut line = [0; 168];

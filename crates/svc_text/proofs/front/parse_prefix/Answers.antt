@@ -1,7 +1,9 @@
-use Rattle.std.proofs.Common.{ap, length, refl, ◌∙◌, arith, ◌≡◌}
+use Rattle.std.proofs.Common.{ap, length, refl, sym, ◌∙◌, arith, ◌≡◌}
+use Rattle.std.proofs.lemmas.Str.{IsUtf8-from_is_utf8}
 use Rattle.svc_text.proofs.ConfTextLemmas.{none_passed, one_line_more}
 use Rattle.svc_text.proofs.ScriptLemmas.{none_read, reads_more, lines_none, lines_more}
 use Rattle.svc_text.proofs.FrontLemmas.{front_refused, front_whole}
+use Rattle.svc_text.proofs.Utf8Lines.{cut_text}
 use Rattle.svc_text.proofs.front.parse_prefix.Goals as goal
 
 pub loop-line-init : goal.loop-line-init
@@ -10,7 +12,11 @@ loop-line-init c = (
   omega arith,
   lines_none _ _ _ (ap length c.new-reading.ensures.services) c.new-lines.ensures.items,
   none_passed c.args.bytes.now,
+  λ known. IsUtf8-from_is_utf8 c.args.bytes.now (sym c.is_text-known.ensures ∙ known),
 )
+
+pub take_line-requires : goal.take_line-requires
+take_line-requires c = λ known. (cut_text c.loop-line.rest.now c.in-Some.line.now c.in-Some.after.now (c.loop-line.invariant.4 known) c.in-Some.ensures.first c.in-Some.ensures.cut).0
 
 pub returns-in-Err-Refused : goal.returns-in-Err-Refused
 returns-in-Err-Refused c =
@@ -26,6 +32,7 @@ loop-line-preserved c =
       lines_more c.args.bytes.now c.loop-line.rest.now c.in-Some.after.now c.in-Some.line.now c.loop-line.number c.loop-line.reading c.take_line.new.self c.loop-line.lines.items _ c.loop-line.invariant.0 read
           c.in-Ok.ensures.after c.loop-line.invariant.2 (rw count at c.in_ok-note_line.ensures),
       one_line_more c.args.bytes.now c.loop-line.rest.now c.in-Some.line.now c.in-Some.after.now c.loop-line.number c.loop-line.reading c.take_line.new.self c.loop-line.conf _ c.loop-line.invariant.0 c.in-Some.ensures.first c.in-Ok.ensures.test c.in-Ok.ensures.after c.loop-line.invariant.3 c.in-Some.ensures.cut c.pass.ensures,
+      λ known. (cut_text c.loop-line.rest.now c.in-Some.line.now c.in-Some.after.now (c.loop-line.invariant.4 known) c.in-Some.ensures.first c.in-Some.ensures.cut).1,
     )
 
 pub returns : goal.returns

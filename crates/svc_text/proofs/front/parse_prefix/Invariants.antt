@@ -1,4 +1,5 @@
-use Rattle.std.proofs.Common.{◌+◌, ◌≤◌, length, take}
+use Rattle.std.proofs.Common.{◌≡◌, ◌+◌, ◌≤◌, true, length, take}
+use Rattle.std.specs.Str.{IsUtf8}
 use Rattle.std.specs.Str.Lines.{lines}
 use Rattle.svc_text.specs.Script.{AreLines}
 use Rattle.svc_text.proofs.ConfTextLemmas.{HasText}
@@ -11,6 +12,7 @@ invariant-loop-line l =
     × (l.number + length l.rest ≤ length l.bytes)
     × AreLines (lines l.bytes) (length l.reading.services.items) l.lines.items
     × HasText l.bytes l.rest (take l.number (lines l.bytes)) l.conf
+    × (l.known ≡ true → IsUtf8 l.rest)
 
 abbrev pub decreases-loop-line : goal.decreases-loop-line
 decreases-loop-line l = length l.rest

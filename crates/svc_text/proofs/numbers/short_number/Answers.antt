@@ -1,4 +1,4 @@
-use Rattle.std.proofs.Common.{◌≡◌, ◌≤◌, ◌<◌, ◌*◌, ◌^◌, Some, sym, subst, ap, ◌∙◌, arith, ℕ, ◌+◌, ◌-◌, List, take, length, get_or}
+use Rattle.std.proofs.Common.{◌≡◌, ◌*◌, Some, sym, subst, ap, ◌∙◌, arith, ℕ, ◌+◌, ◌-◌, take, length, get_or}
 use Rattle.std.specs.Str.Parse.{AllDigits, digits_value}
 use Rattle.std.proofs.Math.Seq.{take-length}
 use Rattle.svc_text.proofs.NumberLemmas.{value_small, value_more, value_is}

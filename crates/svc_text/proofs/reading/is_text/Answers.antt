@@ -2,7 +2,7 @@ use Rattle.svc_text.proofs.PlaceLemmas.{is_text, is_no_text}
 use Rattle.svc_text.proofs.reading.is_text.Goals as goal
 
 pub returns-in-Ok : goal.returns-in-Ok
-returns-in-Ok c = is_text c.args.line.now c.in-Ok.ensures.cases.1
+returns-in-Ok c = is_text c.args.bytes.now c.in-Ok.ensures.cases.1
 
 pub returns-in-Err : goal.returns-in-Err
-returns-in-Err c = is_no_text c.args.line.now c.in-Err.ensures.cases.0
+returns-in-Err c = is_no_text c.args.bytes.now c.in-Err.ensures.cases.0

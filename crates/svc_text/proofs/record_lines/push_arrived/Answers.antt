@@ -1,6 +1,5 @@
-use Rattle.std.proofs.Common.{arith, subst, sym, ap, refl, ◌∙◌, ◌≡◌, ◌++◌, ◌-◌, List, ℕ, take, drop}
+use Rattle.std.proofs.Common.{◌∙◌, ◌≡◌, ◌-◌, take, drop}
 use Rattle.std.proofs.lemmas.Str.{IsUtf8-from_ascii, IsAscii-take}
-use Rattle.std.specs.String.{string_bytes}
 use Rattle.svc_base.proofs.Pieces.{rest_whole}
 use Rattle.svc_text.proofs.RecordLineLemmas.{two_pieces}
 use Rattle.svc_text.proofs.record_lines.push_arrived.Goals as goal

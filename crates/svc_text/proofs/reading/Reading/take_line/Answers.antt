@@ -28,8 +28,8 @@ pub returns-then-is_comment-clause-after : goal.returns-then-is_comment-clause-a
 returns-then-is_comment-clause-after c =
     after_skipped c.args.self.now c.args.line.now (cc) (ap is_skipped c.in-Some-split_word.ensures.first ∙ sym (c.is_comment.ensures (words c.in-Some-split_word.rest.now)) ∙ c.if-is_comment.true)
 
-pub returns-then-not-is_text-clause-test : goal.returns-then-not-is_text-clause-test
-returns-then-not-is_text-clause-test c = fits_not_text _ _ _ c.args.line.now (cc)
+pub returns-then-not-is_text_line-clause-test : goal.returns-then-not-is_text_line-clause-test
+returns-then-not-is_text_line-clause-test c = fits_not_text _ _ _ c.args.line.now (cc)
 
 pub returns-then-number-eq1-clause-test : goal.returns-then-number-eq1-clause-test
 returns-then-number-eq1-clause-test c = fits_conf _ _ _ c.args.line.now (cc) (cc) (cc)
