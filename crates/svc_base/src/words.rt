@@ -4,6 +4,8 @@ ghost use Rattle.std.specs.Prelude.{◌≡◌, ◌<◌, ◌+◌, [], ◌∷◌, 
 ghost use Rattle.std.specs.Str.Lines.{lines, strip_carriage_return};
 ghost use Rattle.svc_base.specs.Words.{is_blank, is_feed, is_filled, words, IsCut};
 
+use memchr::memchr;
+
 /// A space or a tab.
 pub fn is_blank(b: u8) -> bool
     ensures { result ≡ is_blank b }
@@ -39,7 +41,7 @@ pub fn split_word(line: &[u8]) -> Option<(&[u8], &[u8])>
 fn feed_at(text: &[u8]) -> Option<usize>
     ensures { result ≡ position is_feed text.now }
 {
-    text.iter().position(|b| *b == b'\n')
+    memchr(b'\n', text)
 }
 
 fn without_return(line: &[u8]) -> &[u8]
