@@ -5,7 +5,7 @@ use Rattle.std.proofs.Math.Seq.{take-suc}
 use Rattle.std.proofs.lemmas.Bool.{and_parts, and_from, ltb-true, lt-ltb, leb-true, leb-false, le-leb, cases_lt, cases_Bool, eqb-true}
 use Rattle.std.specs.Vec.{vec_items}
 use Rattle.std.proofs.lemmas.List.Concat.{flat_map-append}
-use Rattle.std.proofs.lemmas.List.{append-nil, take_more, drop_more, take-append-drop, set_split, get_or_read, length-set, nil_from_length}
+use Rattle.std.proofs.lemmas.List.{append-nil, take_more, drop_more, take-append-drop, set_split, get_or_read, length-set, nil_from_length, drop_all}
 use Rattle.std.proofs.lemmas.List.Edits.{length-insert}
 use Rattle.svc_base.specs.Blocks.{joined, are_filled, later_filled, are_wide, rises_by, has_key, starts, StandsIn, put_by, IsBlockFor, before, behind, IsPlaceFor, IsPlaceOf, KeepsEntries, IsTable}
 use Rattle.svc_base.proofs.KeyLemmas.{all-both, all-mid, all-weaker, rises-left, rises-right, under, over, none-under, none-over, none-both, put-parted, rises-put, rises-cut, rises-other}
@@ -290,6 +290,47 @@ module _ {T Z : Type 0} (key : T → ℕ) (c : ℕ) where
               (subst (λ (v : Vec T Z). 0 < length v.items) (sym read) (later-at bs at b filled block.within some))
               (ap (λ (v : Vec T Z). starts key c v.items) read ∙ block.here b some) above;
         }
+
+  -- what stands from an entry above c on
+  pub above-from : (bs : List (Vec T Z)) (at place : ℕ) (b : Vec T Z) (x : T) → at < length bs → place < length b.items → b ≡ get_or bs at b → x ≡ get_or b.items place x
+      → rises_by key (joined bs) ≡ true → c < key x → list_all (λ y. nat_lt c (key y)) (behind bs at place) ≡ true
+  above-from bs at place b x lt within read found rise more =
+      let inside : place < length (get_or bs at b).items = subst (λ (v : Vec T Z). place < length v.items) read within in
+      let same : x ≡ get_or (get_or bs at b).items place x = found ∙ ap (λ (v : Vec T Z). get_or v.items place x) read in
+      let to : behind bs at place ≡ x ∷ behind bs at (suc place) = behind-at bs at place b x lt inside ∙ ap (λ (y : T). y ∷ behind bs at (suc place)) (sym same) in
+      let up = rises-right key (before bs at place) (behind bs at place) (ap (rises_by key) (sym (joined-parts bs at place)) ∙ rise) in
+      ap (list_all (λ y. nat_lt c (key y))) to ∙ over key c x (behind bs at (suc place)) (ap (rises_by key) (sym to) ∙ up) more
+
+  -- what stands behind a block, where the next one starts above c
+  pub above-next : (bs : List (Vec T Z)) (at place : ℕ) (b : Vec T Z) → at < length bs → length b.items ≤ place → b ≡ get_or bs at b
+      → later_filled bs ≡ true → rises_by key (joined bs) ≡ true → ((d : Vec T Z) → at + 1 < length bs → starts key c (get_or bs (at + 1) d).items ≡ false)
+      → list_all (λ y. nat_lt c (key y)) (behind bs at place) ≡ true
+  above-next bs at place b lt end read filled rise next =
+      let none : drop place (get_or bs at b).items ≡ [] = drop_all place (get_or bs at b).items (subst (λ (v : Vec T Z). length v.items ≤ place) read end) in
+      let back = rises-right key (joined (take at bs)) ((get_or bs at b).items ++ joined (drop (suc at) bs)) (ap (rises_by key) (sym (joined-at bs at b lt)) ∙ rise) in
+      ap (list_all (λ y. nat_lt c (key y))) (behind-is bs at place b lt ∙ ap (λ (ys : List T). ys ++ joined (drop (suc at) bs)) none)
+      ∙ later-over bs at b filled (rises-right key (get_or bs at b).items (joined (drop (suc at) bs)) back)
+      (λ more. let e : at + 1 ≡ suc at = add-one at in rw e at (next b (omega arith)))
+
+  -- behind an entry with at most c, where all that follows is above it
+  pub placed-behind : (bs : List (Vec T Z)) (at place entry : ℕ) (b : Vec T Z) (x : T) → at < length bs → place ≡ suc entry → entry < length b.items
+      → b ≡ get_or bs at b → x ≡ get_or b.items entry x → rises_by key (joined bs) ≡ true → key x ≤ c
+      → list_all (λ y. nat_lt c (key y)) (behind bs at place) ≡ true → IsPlaceFor key c bs at place
+  placed-behind bs at place entry b x lt next within read found rise most above =
+      let inside : entry < length (get_or bs at b).items = subst (λ (v : Vec T Z). entry < length v.items) read within in
+      let same : x ≡ get_or (get_or bs at b).items entry x = found ∙ ap (λ (v : Vec T Z). get_or v.items entry x) read in
+      let to : before bs at place ≡ before bs at entry ++ x ∷ [] =
+      ap (before bs at) next ∙ before-more bs at entry b x lt inside ∙ ap (λ (y : T). before bs at entry ++ y ∷ []) (sym same) in
+      let up = rises-left key (before bs at place) (behind bs at place) (ap (rises_by key) (sym (joined-parts bs at place)) ∙ rise) in
+      record {
+        within = lt;
+        inside = λ d. subst (λ (v : Vec T Z). place ≤ length v.items) (get_or_read bs at b lt read d) (omega (arith, next, within));
+        below = ap (list_all (λ y. nat_le (key y) c)) to
+            ∙ all-both (λ y. nat_le (key y) c) (before bs at entry) (x ∷ []) (under key c (before bs at entry) x [] (ap (rises_by key) (sym to) ∙ up) most)
+            (and_from (nat_le (key x) c) true (le-leb (key x) c most) refl);
+        above = above;
+        later = λ some. omega (arith, next);
+      }
 
   -- where nothing is before the place, no entry has the key
   before-none : (bs : List (Vec T Z)) (at : ℕ) → at ≡ 0 → before bs at 0 ≡ []

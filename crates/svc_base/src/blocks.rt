@@ -7,7 +7,7 @@ ghost use Rattle.svc_base.specs.Blocks.{joined, later_filled, put_by, has_key, r
 
 use crate::block_edits::{insert_at, remove_at, replace_at};
 use crate::block_memory::{SLACK, make_room};
-use crate::block_places::{find_place, place_for};
+use crate::block_places::{Place, find_place, place_near};
 use crate::keyed::Keyed;
 use crate::memory::NoMemory;
 use std::alloc::Global;
@@ -39,13 +39,15 @@ fn filled_blocks<T: Drop>(mut blocks: Vec<Vec<T>>) -> Vec<Vec<T>>
 }
 
 /// Entries in ascending key, those of equal keys in the order in which they came. They stand in blocks, so that
-/// one that comes or goes moves few others. Contracts see them and for how many more there is memory.
+/// one that comes or goes moves few others. Contracts see them and for how many more there is memory. `near` is where
+/// the entry stands that came or was replaced last, or what follows the last one that went: a search begins there.
 #[derive(Drop)]
 pub struct Blocks<T: Keyed> {
     blocks: Vec<Vec<T>>,
     count: usize,
     room: usize,
     alloc: Global,
+    near: Place,
 }
 
 impl<T: Keyed> Model for Blocks<T> {
@@ -69,6 +71,7 @@ impl<T: Keyed> Blocks<T> {
             count: 0,
             room: 0,
             alloc,
+            near: Place { block: 0, entry: 0 },
         }
     }
 
@@ -111,7 +114,7 @@ impl<T: Keyed> Blocks<T> {
         ensures found { IfSome result (λ x. StandsIn T.key_of key (list_of self.now) x.now) }
         ensures absent { IfNone result (has_key T.key_of key (list_of self.now) ≡ false) }
     {
-        match find_place(&self.blocks, key) {
+        match find_place(&self.blocks, key, self.near) {
             Some(place) => {
                 let block = &self.blocks[place.block];
                 Some(&block[place.entry])
@@ -126,7 +129,8 @@ impl<T: Keyed> Blocks<T> {
         ensures entries { list_of self.new ≡ put_by T.key_of entry (list_of self.old) }
         ensures room { spare self.old ≤ spare self.new + 1 }
     {
-        let place = place_for(&self.blocks, entry.key());
+        let place = place_near(&self.blocks, entry.key(), self.near);
+        self.near = place;
         insert_at(&mut self.blocks, place, entry);
         self.count += 1;
         self.room -= 1;
@@ -139,8 +143,9 @@ impl<T: Keyed> Blocks<T> {
         ensures absent { OnFalse result (has_key T.key_of (T.key_of entry) (list_of self.old) ≡ false) }
         ensures same { OnFalse result (self.new ≡ self.old) }
     {
-        match find_place(&self.blocks, entry.key()) {
+        match find_place(&self.blocks, entry.key(), self.near) {
             Some(place) => {
+                self.near = place;
                 replace_at(&mut self.blocks, place, entry);
                 true
             }
@@ -154,8 +159,9 @@ impl<T: Keyed> Blocks<T> {
         ensures absent { IfNone result (has_key T.key_of key (list_of self.old) ≡ false) }
         ensures same { IfNone result (self.new ≡ self.old) }
     {
-        match find_place(&self.blocks, key) {
+        match find_place(&self.blocks, key, self.near) {
             Some(place) => {
+                self.near = place;
                 self.count -= 1;
                 Some(remove_at(&mut self.blocks, place))
             }
