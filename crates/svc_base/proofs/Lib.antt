@@ -5,6 +5,7 @@ pub mod DecimalLemmas
 pub mod KeyLemmas
 pub mod LineLemmas
 pub mod Logic
+pub mod NumberLemmas
 pub mod NumberSetLemmas
 pub mod Pieces
 pub mod WordLemmas

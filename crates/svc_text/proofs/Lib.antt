@@ -1,7 +1,6 @@
 pub mod Visible
 pub mod DigitLemmas
 pub mod Utf8Lines
-pub mod NumberLemmas
 pub mod RecordLineLemmas
 pub mod ListLemmas
 pub mod PieceLemmas

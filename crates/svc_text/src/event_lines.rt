@@ -6,9 +6,8 @@ ghost use Rattle.svc_text.specs.EventLines.{signal_of, side_of, ok_of, bare_even
 
 use crate::keys::spells;
 use crate::message_words::{bytes_of, descriptors_of};
-use crate::numbers::{number, number32};
 use std::alloc::Global;
-use svc_base::{NoMemory, split_word};
+use svc_base::{NoMemory, number, number32, split_word};
 use svc_record::{Event, Item, ShutdownSignal, Side};
 use svc_socket::read_peer_word;
 

@@ -11,7 +11,6 @@ mod front;
 mod keys;
 mod lists;
 mod message_words;
-mod numbers;
 mod parsing;
 mod part;
 mod plans;

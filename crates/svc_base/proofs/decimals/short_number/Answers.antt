@@ -1,8 +1,8 @@
 use Rattle.std.proofs.Common.{◌≡◌, ◌*◌, Some, sym, subst, ap, ◌∙◌, arith, ℕ, ◌+◌, ◌-◌, take, length, get_or}
 use Rattle.std.specs.Str.Parse.{AllDigits, digits_value}
 use Rattle.std.proofs.Math.Seq.{take-length}
-use Rattle.svc_text.proofs.NumberLemmas.{value_small, value_more, value_is}
-use Rattle.svc_text.proofs.numbers.short_number.Goals as goal
+use Rattle.svc_base.proofs.NumberLemmas.{value_small, value_more, value_is}
+use Rattle.svc_base.proofs.decimals.short_number.Goals as goal
 
 pub overflow_mul-value : goal.overflow_mul-value
 overflow_mul-value c =

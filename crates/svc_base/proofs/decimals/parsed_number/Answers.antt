@@ -1,7 +1,7 @@
 use Rattle.std.proofs.Common.{ℕ, List, sym, subst, ◌∙◌}
 use Rattle.std.specs.Str.Parse.{ParsesUnsigned}
 use Rattle.svc_base.proofs.DecimalLemmas.{number_spare, number_not_text, number_parsed}
-use Rattle.svc_base.proofs.decimals.number.Goals as goal
+use Rattle.svc_base.proofs.decimals.parsed_number.Goals as goal
 
 pub returns-then-has_spare_front : goal.returns-then-has_spare_front
 returns-then-has_spare_front c = sym (number_spare c.args.word.now (sym c.if-has_spare_front.ensures))
