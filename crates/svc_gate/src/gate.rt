@@ -15,7 +15,7 @@ use std::alloc::Global;
 use std::marker::{Brand, Model};
 use std::sync::ledger::{Blank, Ledger};
 use svc_base::NoMemory;
-use svc_socket::{IpNumber, PeerAddr};
+use svc_socket::{IpNumber, PeerAddr, ip6_number};
 use svc_steps::Steps;
 use svc_streams::ConnectionFilter;
 
@@ -175,7 +175,7 @@ fn ip_of(peer: &PeerAddr) -> IpNumber
 {
     match *peer {
         PeerAddr::V4 { ip, .. } => IpNumber::V4(ip),
-        PeerAddr::V6 { ip, .. } => IpNumber::V6(ip),
+        PeerAddr::V6 { high, low, .. } => IpNumber::V6(ip6_number(high, low)),
     }
 }
 

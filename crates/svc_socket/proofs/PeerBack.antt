@@ -14,7 +14,7 @@ use Rattle.std.proofs.lemmas.List.Splits.{slice_split_at, slice_split_none}
 use Rattle.std.proofs.lemmas.Str.Parse.{digit_from_value}
 use Rattle.svc_base.specs.Words.{number_of}
 use Rattle.svc_base.proofs.DecimalLemmas.{number_of-decimal}
-use Rattle.svc_socket.specs.Peers.{four_digits, octets, groups, group_text, peer_addr_text, peer_text, PeerAddrFits, PeerFits}
+use Rattle.svc_socket.specs.Peers.{four_digits, octets, ip6_number, peer6, groups, group_text, peer_addr_text, peer_text, PeerAddrFits, PeerFits}
 use Rattle.svc_socket.specs.declared.peer.PeerAddr.{PeerAddr}
 use Rattle.svc_socket.specs.declared.peer.PeerAddr.TheVariants as addr
 use Rattle.svc_socket.specs.declared.peer.Peer.{Peer}
@@ -142,8 +142,15 @@ half_back n below = omega arith
 pub octets_back : (ip : ℕ) → ip < 2 ^ 32 → in_base (2 ^ 8) (octets ip) ≡ ip
 octets_back ip below = omega arith
 
-pub groups_back : (ip : ℕ) → ip < 2 ^ 128 → in_base (2 ^ 16) (groups ip) ≡ ip
-groups_back ip below = omega (arith, half_back (ip / 2 ^ 64) (omega arith), half_back (ip % 2 ^ 64) (omega arith))
+pub groups_back : (high low : ℕ) → high < 2 ^ 64 → low < 2 ^ 64 → in_base (2 ^ 16) (groups high low) ≡ ip6_number high low
+groups_back high low h l = omega (arith, half_back high h, half_back low l)
+
+-- the number of an address parts into its halves again
+pub peer6_back : (high low port : ℕ) → low < 2 ^ 64 → peer6 (ip6_number high low) port ≡ addr.V6 high low port
+peer6_back high low port l =
+    let upper : ip6_number high low / 2 ^ 64 ≡ high = omega arith in
+    let lower : ip6_number high low % 2 ^ 64 ≡ low = omega arith in
+    rw (upper, lower) refl
 
 -- a number is shown in digits and read back
 pub record IsShown (read : List ℕ → Option ℕ) (show : ℕ → List ℕ) (n : ℕ) : Type 0 where
@@ -176,10 +183,8 @@ octets_shown ip h = (octet_shown _ (omega arith), (octet_shown _ (omega arith), 
 group_shown : (n : ℕ) → n < 2 ^ 16 → IsShown group_of group_text n
 group_shown n h = let g = group_back n h in record { digits = g.digits; back = g.back }
 
-groups_shown : (ip : ℕ) → ip < 2 ^ 128 → AllByRecursion (IsShown group_of group_text) (groups ip)
-groups_shown ip h =
-    let high : ip / 2 ^ 64 < 2 ^ 64 = omega arith in
-    let low : ip % 2 ^ 64 < 2 ^ 64 = omega arith in
+groups_shown : (high low : ℕ) → high < 2 ^ 64 → low < 2 ^ 64 → AllByRecursion (IsShown group_of group_text) (groups high low)
+groups_shown high low h l =
     (group_shown _ (omega arith), (group_shown _ (omega arith), (group_shown _ (omega arith), (group_shown _ (omega arith), (group_shown _ (omega arith), (group_shown _ (omega arith), (group_shown _ (omega arith), (group_shown _ (omega arith), tt))))))))
 
 -- the addresses between separators are read back
@@ -187,9 +192,11 @@ ip4_back : (ip : ℕ) → ip < 2 ^ 32 → ip4_of (join_with_byte 46 (map decimal
 unfolding ip4_of
 ip4_back ip h = ap (option_map (in_base (2 ^ 8))) (all_shown (number_of (2 ^ 8)) decimal 46 refl (octets ip) (omega arith) (octets_shown ip h)) ∙ ap (λ (n : ℕ). Some n) (octets_back ip h)
 
-ip6_back : (ip : ℕ) → ip < 2 ^ 128 → ip6_of (join_with_byte 58 (map group_text (groups ip))) ≡ Some ip
+ip6_back : (high low : ℕ) → high < 2 ^ 64 → low < 2 ^ 64 → ip6_of (join_with_byte 58 (map group_text (groups high low))) ≡ Some (ip6_number high low)
 unfolding ip6_of
-ip6_back ip h = ap (option_map (in_base (2 ^ 16))) (all_shown group_of group_text 58 refl (groups ip) (omega arith) (groups_shown ip h)) ∙ ap (λ (n : ℕ). Some n) (groups_back ip h)
+ip6_back high low h l =
+    ap (option_map (in_base (2 ^ 16))) (all_shown group_of group_text 58 refl (groups high low) (omega arith) (groups_shown high low h l))
+    ∙ ap (λ (n : ℕ). Some n) (groups_back high low h l)
 
 -- a host before a separator that it doesn't hold
 cut_after : (c s : ℕ) → is_hex_digit c ≡ false → eqb s c ≡ false → (ws : List (List ℕ)) → AllByRecursion (λ w. list_all is_hex_digit w ≡ true) ws → (rest : List ℕ) → list_all (λ b. not (eqb b c)) rest ≡ true
@@ -211,10 +218,13 @@ unfolding inet4_of
 inet4_back ip port h small =
     rw (cut_after 58 46 refl refl (map decimal (octets ip)) (digits_shown _ _ (octets ip) (octets_shown ip h)) (decimal port) (port_clear 58 port small refl), ip4_back ip h, port_back port small) refl
 
-inet6_back : (ip port : ℕ) → ip < 2 ^ 128 → port < 2 ^ 16 → inet6_of (slice_split (λ b. eqb b 93) (join_with_byte 58 (map group_text (groups ip)) ++ (93 ∷ 58 ∷ decimal port))) ≡ Some (addr.V6 ip port)
+inet6_back : (high low port : ℕ) → high < 2 ^ 64 → low < 2 ^ 64 → port < 2 ^ 16
+    → inet6_of (slice_split (λ b. eqb b 93) (join_with_byte 58 (map group_text (groups high low)) ++ (93 ∷ 58 ∷ decimal port))) ≡ Some (addr.V6 high low port)
 unfolding inet6_of
-inet6_back ip port h small =
-    rw (cut_after 93 58 refl refl (map group_text (groups ip)) (digits_shown _ _ (groups ip) (groups_shown ip h)) (58 ∷ decimal port) (port_clear 93 port small refl), ip6_back ip h, port_back port small) refl
+inet6_back high low port h l small =
+    let hosts = digits_shown _ _ (groups high low) (groups_shown high low h l) in
+    rw (cut_after 93 58 refl refl (map group_text (groups high low)) hosts (58 ∷ decimal port) (port_clear 93 port small refl), ip6_back high low h l, port_back port small)
+    (ap (λ (x : PeerAddr). Some x) (peer6_back high low port l))
 
 -- a word that begins with another byte is neither `-` nor `unix`
 named_by_address : (b : ℕ) (bs : List ℕ) → eqb b 45 ≡ false → eqb b 117 ≡ false → peer_of (b ∷ bs) ≡ option_map Inet (peer_addr_of (b ∷ bs))
@@ -238,10 +248,10 @@ addr_back (addr.V4 ip port) fits =
     let rest = join_with_byte 46 (decimal (ip / 2 ^ 16 % 2 ^ 8) ∷ decimal (ip / 2 ^ 8 % 2 ^ 8) ∷ decimal (ip % 2 ^ 8) ∷ []) in
     let shown : (join_with_byte 46 (map decimal (octets ip)) ++ (58 ∷ decimal port)) ≡ decimal (ip / 2 ^ 24) ++ ((46 ∷ rest) ++ (58 ∷ decimal port)) = append_assoc (decimal (ip / 2 ^ 24)) (46 ∷ rest) (58 ∷ decimal port) in
     ap peer_of (whole ∙ shown) ∙ starts_with_digits (decimal (ip / 2 ^ 24)) _ (addr.V4 ip port) first.0 first.1 (ap (λ t. inet4_of (slice_split (λ b. eqb b 58) t)) (sym shown) ∙ inet4_back ip port fits.0 fits.1)
-addr_back (addr.V6 ip port) fits =
-    let hosts = join_with_byte 58 (map group_text (groups ip)) in
+addr_back (addr.V6 high low port) fits =
+    let hosts = join_with_byte 58 (map group_text (groups high low)) in
     let shown : ((91 ∷ []) ++ hosts) ++ (93 ∷ 58 ∷ []) ++ decimal port ≡ 91 ∷ (hosts ++ (93 ∷ 58 ∷ decimal port)) = ap (λ (t : List ℕ). 91 ∷ t) (append_assoc hosts (93 ∷ 58 ∷ []) (decimal port)) in
-    ap peer_of shown ∙ named_by_address 91 (hosts ++ (93 ∷ 58 ∷ decimal port)) refl refl ∙ ap (option_map Inet) (inet6_back ip port fits.0 fits.1)
+    ap peer_of shown ∙ named_by_address 91 (hosts ++ (93 ∷ 58 ∷ decimal port)) refl refl ∙ ap (option_map Inet) (inet6_back high low port fits.0 fits.1 fits.2)
 
 pub peer_back : (x : Peer) → PeerFits x → peer_of (peer_text x) ≡ Some x
 unfolding peer_of
@@ -259,9 +269,10 @@ address_visible (addr.V4 ip port) fits =
     let word = digits_pass (λ b. ltb 32 b) above_space (decimal port) (decimal_is_digits port (omega arith)).1 in
     let whole = append_assoc (join_with_byte 46 (map decimal (octets ip))) (58 ∷ []) (decimal port) in
     ap (list_all (λ b. ltb 32 b)) whole ∙ list_all-append (λ b. ltb 32 b) (join_with_byte 46 (map decimal (octets ip))) (58 ∷ decimal port) ∙ and_from _ _ host word
-address_visible (addr.V6 ip port) fits =
-    let hosts = join_with_byte 58 (map group_text (groups ip)) in
-    let host = joined_pass (λ b. ltb 32 b) above_space 58 refl (map group_text (groups ip)) (digits_shown _ _ (groups ip) (groups_shown ip fits.0)) in
+address_visible (addr.V6 high low port) fits =
+    let hosts = join_with_byte 58 (map group_text (groups high low)) in
+    let words = digits_shown _ _ (groups high low) (groups_shown high low fits.0 fits.1) in
+    let host = joined_pass (λ b. ltb 32 b) above_space 58 refl (map group_text (groups high low)) words in
     let word = digits_pass (λ b. ltb 32 b) above_space (decimal port) (decimal_is_digits port (omega arith)).1 in
     let shown : ((91 ∷ []) ++ hosts) ++ (93 ∷ 58 ∷ []) ++ decimal port ≡ 91 ∷ (hosts ++ (93 ∷ 58 ∷ decimal port)) = ap (λ (t : List ℕ). 91 ∷ t) (append_assoc hosts (93 ∷ 58 ∷ []) (decimal port)) in
     ap (list_all (λ b. ltb 32 b)) shown ∙ list_all-append (λ b. ltb 32 b) hosts (93 ∷ 58 ∷ decimal port) ∙ and_from _ _ host word
@@ -274,7 +285,9 @@ peer_visible (Inet x) fits = address_visible x fits
 address_nonempty : (x : PeerAddr) → 0 < length (peer_addr_text x)
 address_nonempty (addr.V4 ip port) =
     omega (arith, length-append (join_with_byte 46 (map decimal (octets ip)) ++ (58 ∷ [])) (decimal port), length-append (join_with_byte 46 (map decimal (octets ip))) (58 ∷ []))
-address_nonempty (addr.V6 ip port) = omega (arith, length-append (((91 ∷ []) ++ join_with_byte 58 (map group_text (groups ip))) ++ (93 ∷ 58 ∷ [])) (decimal port), length-append ((91 ∷ []) ++ join_with_byte 58 (map group_text (groups ip))) (93 ∷ 58 ∷ []))
+address_nonempty (addr.V6 high low port) =
+    let hosts = join_with_byte 58 (map group_text (groups high low)) in
+    omega (arith, length-append (((91 ∷ []) ++ hosts) ++ (93 ∷ 58 ∷ [])) (decimal port), length-append ((91 ∷ []) ++ hosts) (93 ∷ 58 ∷ []))
 
 pub peer_nonempty : (x : Peer) → 0 < length (peer_text x)
 peer_nonempty Unknown = omega arith

@@ -6,6 +6,7 @@ use Rattle.std.specs.Str.{bytes_eq}
 use Rattle.std.specs.Str.Parse.{digits_value}
 use Rattle.svc_base.specs.Words.{number_of}
 use Rattle.svc_base.specs.Options.{◌>>=◌}
+use Rattle.svc_socket.specs.Peers.{peer6}
 use Rattle.svc_socket.specs.declared.peer.PeerAddr.{PeerAddr}
 use Rattle.svc_socket.specs.declared.peer.PeerAddr.TheVariants as addr
 use Rattle.svc_socket.specs.declared.peer.Peer.{Peer}
@@ -96,7 +97,7 @@ inet6_of (host ∷ rest ∷ []) = do
   ip ← ip6_of host
   word ← behind 58 rest
   port ← port_of word
-  Some (addr.V6 ip port)
+  Some (peer6 ip port)
 inet6_of _ = None
 
 -- the address of a peer: one with an opening bracket has eight groups

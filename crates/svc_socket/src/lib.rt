@@ -17,7 +17,7 @@ pub use connectors::net::{Dialed, NetDialer};
 pub use memory::{MemoryOptions, SteadyOptions};
 pub use net_options::NetOptions;
 pub use options::{Family, OptionCall, Options, SockOption};
-pub use peer::{Peer, PeerAddr};
+pub use peer::{Peer, PeerAddr, ip6_number};
 pub use protocols::l4::ext::{
     OptionError, TcpSocketOptions, apply_bind_options, set_dscp, set_recv_buf, set_snd_buf,
     set_tcp_fastopen_backlog, set_tcp_fastopen_connect, set_tcp_keepalive, settings_of,

@@ -1,7 +1,7 @@
 //! Who is at the other end.
 
 ghost use Rattle.std.specs.Prelude.{◌≡◌, ◌<◌, ◌^◌, Some, [], ◌∷◌};
-ghost use Rattle.svc_socket.specs.Peers.{four_digits, octets, half_text, peer_addr_text, peer_text};
+ghost use Rattle.svc_socket.specs.Peers.{four_digits, octets, ip6_number, peer6, half_text, peer_addr_text, peer_text};
 
 use std::fmt;
 
@@ -9,7 +9,29 @@ use std::fmt;
 #[derive(Clone, Copy, PartialEq, Eq, Debug)]
 pub enum PeerAddr {
     V4 { ip: u32, port: u16 },
-    V6 { ip: u128, port: u16 },
+    /// The upper and the lower 64 bits of an address of 128. A number of 128 bits would be aligned
+    /// to 16 bytes, and all that holds an address with it.
+    V6 { high: u64, low: u64, port: u16 },
+}
+
+/// The number of an address of 128 bits: its upper 64 bits and its lower ones.
+pub fn ip6_number(high: u64, low: u64) -> u128
+    ensures { result ≡ ip6_number high low }
+{
+    high as u128 * 0x1_0000_0000_0000_0000 + low as u128
+}
+
+impl PeerAddr {
+    /// The address of 128 bits with this number, and a port.
+    pub fn from_ip6(ip: u128, port: u16) -> PeerAddr
+        ensures { result ≡ peer6 ip port }
+    {
+        PeerAddr::V6 {
+            high: (ip / 0x1_0000_0000_0000_0000) as u64,
+            low: (ip % 0x1_0000_0000_0000_0000) as u64,
+            port,
+        }
+    }
 }
 
 /// Who is at the other end of a connection.
@@ -68,9 +90,9 @@ impl fmt::Display for PeerAddr {
                 let [a, b, c, d] = octets(ip);
                 write!(f, "{a}.{b}.{c}.{d}:{port}")
             }
-            PeerAddr::V6 { ip, port } => {
-                let high = Half((ip / 0x1_0000_0000_0000_0000) as u64);
-                let low = Half((ip % 0x1_0000_0000_0000_0000) as u64);
+            PeerAddr::V6 { high, low, port } => {
+                let high = Half(high);
+                let low = Half(low);
                 write!(f, "[{high}:{low}]:{port}")
             }
         }

@@ -219,7 +219,7 @@ fn inet6(text: &[u8]) -> Option<PeerAddr>
     match rest {
         [b':', word @ ..] => {
             let port = port(word)?;
-            Some(PeerAddr::V6 { ip, port })
+            Some(PeerAddr::from_ip6(ip, port))
         }
         _ => None,
     }

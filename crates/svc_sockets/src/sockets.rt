@@ -126,10 +126,7 @@ pub fn peer_of(addr: SocketAddr) -> Peer {
             ip: addr.ip().to_bits(),
             port: addr.port(),
         },
-        SocketAddr::V6(addr) => PeerAddr::V6 {
-            ip: addr.ip().to_bits(),
-            port: addr.port(),
-        },
+        SocketAddr::V6(addr) => PeerAddr::from_ip6(addr.ip().to_bits(), addr.port()),
     })
 }
 

@@ -166,10 +166,7 @@ fn peer(addr: SocketAddr) -> PeerAddr {
             ip: addr.ip().to_bits(),
             port: addr.port(),
         },
-        SocketAddr::V6(addr) => PeerAddr::V6 {
-            ip: addr.ip().to_bits(),
-            port: addr.port(),
-        },
+        SocketAddr::V6(addr) => PeerAddr::from_ip6(addr.ip().to_bits(), addr.port()),
     }
 }
 

@@ -8,7 +8,11 @@ const LOCAL: PeerAddr = PeerAddr::V4 {
     port: 8080,
 };
 
-const WIDE: PeerAddr = PeerAddr::V6 { ip: 1, port: 65535 };
+const WIDE: PeerAddr = PeerAddr::V6 {
+    high: 0,
+    low: 1,
+    port: 65535,
+};
 
 #[test]
 fn addresses_are_read(rt: HostRuntime) {

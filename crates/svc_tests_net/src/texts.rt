@@ -14,7 +14,8 @@ const LOCAL: PeerAddr = PeerAddr::V4 {
 };
 
 const FAR: PeerAddr = PeerAddr::V6 {
-    ip: 0x2001_0db8_0000_0000_0000_0000_0000_00ff,
+    high: 0x2001_0db8_0000_0000,
+    low: 0xff,
     port: 443,
 };
 

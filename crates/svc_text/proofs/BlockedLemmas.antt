@@ -12,13 +12,12 @@ use Rattle.svc_base.specs.NumberSets.{is_in}
 use Rattle.svc_socket.specs.declared.peer.PeerAddr.{PeerAddr}
 use Rattle.svc_socket.specs.declared.reading.IpNumber.{IpNumber}
 use Rattle.svc_text.specs.Filters.{is_at}
-use Rattle.svc_text.specs.BlockedNumbers.{AreNumbersOf}
 
 -- the same numbers in another order, once all addresses are gone through
-pub reordered : (peer : ℕ → ℕ → PeerAddr) (blocked : List IpNumber) (i : ℕ) (numbers others : List ℕ) → length blocked ≤ i → IsPermutation numbers others → AreNumbersOf peer (take i blocked) numbers
-    → AreNumbersOf peer blocked others
-reordered peer blocked i numbers others past moved before n port =
-    sym (list_any-IsPermutation (λ k. k == n) numbers others moved) ∙ before n port ∙ ap (list_any (is_at (peer n port))) (take_all i blocked past)
+pub reordered : (peer : PeerAddr) (n : ℕ) (blocked : List IpNumber) (i : ℕ) (numbers others : List ℕ) → length blocked ≤ i → IsPermutation numbers others
+    → is_in n numbers ≡ list_any (is_at peer) (take i blocked) → is_in n others ≡ list_any (is_at peer) blocked
+reordered peer n blocked i numbers others past moved before =
+    sym (list_any-IsPermutation (λ k. k == n) numbers others moved) ∙ before ∙ ap (list_any (is_at peer)) (take_all i blocked past)
 
 -- a search over numbers that rise
 module _ (xs : List ℕ) (n : ℕ) (rising : IsNonDecreasing xs) where

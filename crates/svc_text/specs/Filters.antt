@@ -1,6 +1,7 @@
 -- Which peers the filters of a script's services refuse.
 use Rattle.std.specs.Prelude.{ℕ, Bool, false, not, ◌==◌, nat_lt, List, [], length, map, filter, count_by, slice_get, Option, Some, None, unwrap_or, if◌then◌else◌}
 use Rattle.std.specs.List.{list_any}
+use Rattle.svc_socket.specs.Peers.{ip6_number}
 use Rattle.svc_socket.specs.declared.peer.PeerAddr.{PeerAddr}
 use Rattle.svc_socket.specs.declared.peer.PeerAddr.TheVariants as addr
 use Rattle.svc_socket.specs.declared.reading.IpNumber.{IpNumber}
@@ -11,7 +12,7 @@ use Rattle.svc_text.specs.declared.service.ServiceLine.{ServiceLine}
 -- the peer has this address, on whatever port
 abbrev pub is_at : PeerAddr → IpNumber → Bool
 is_at (addr.V4 n port) (ip.V4 m) = n == m
-is_at (addr.V6 n port) (ip.V6 m) = n == m
+is_at (addr.V6 high low port) (ip.V6 m) = ip6_number high low == m
 is_at _ _ = false
 
 -- the peer's address is among the blocked ones; a peer of a Unix socket has none

@@ -9,7 +9,7 @@ ghost use Rattle.svc_text.specs.BlockedNumbers.{StandInOrder};
 use std::alloc::Global;
 use std::marker::Model;
 use svc_base::{Items, NoMemory, copy_items};
-use svc_socket::{IpNumber, PeerAddr};
+use svc_socket::{IpNumber, PeerAddr, ip6_number};
 
 /// Blocked addresses. Contracts see them as they were given. Beside them stand their numbers, in
 /// ascending order, in which a peer's is found by halving.
@@ -79,7 +79,7 @@ impl BlockedAddrs {
     {
         match peer {
             Some(PeerAddr::V4 { ip, .. }) => is_among(&self.v4, ip as u128),
-            Some(PeerAddr::V6 { ip, .. }) => is_among(&self.v6, ip),
+            Some(PeerAddr::V6 { high, low, .. }) => is_among(&self.v6, ip6_number(high, low)),
             None => false,
         }
     }

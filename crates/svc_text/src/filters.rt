@@ -5,7 +5,7 @@ ghost use Rattle.std.specs.List.{list_any};
 ghost use Rattle.svc_text.specs.Filters.{is_at, is_blocked, blocks, filter_number};
 
 use crate::service::ServiceLine;
-use svc_socket::{IpNumber, PeerAddr};
+use svc_socket::{IpNumber, PeerAddr, ip6_number};
 
 /// The peer has this address, on whatever port.
 fn is_at(peer: PeerAddr, blocked: IpNumber) -> bool
@@ -16,9 +16,9 @@ fn is_at(peer: PeerAddr, blocked: IpNumber) -> bool
             IpNumber::V4(other) => ip == other,
             IpNumber::V6(_) => false,
         },
-        PeerAddr::V6 { ip, .. } => match blocked {
+        PeerAddr::V6 { high, low, .. } => match blocked {
             IpNumber::V4(_) => false,
-            IpNumber::V6(other) => ip == other,
+            IpNumber::V6(other) => ip6_number(high, low) == other,
         },
     }
 }

@@ -6,7 +6,7 @@ ghost use Rattle.svc_socket.specs.Connects.{is_bound};
 ghost use Rattle.svc_socket.specs.DialerData.{IsDialed};
 
 use super::dialer::{BindTo, DialAnswer, DialFault, Dialer, OsFault, Target};
-use crate::peer::PeerAddr;
+use crate::peer::{PeerAddr, ip6_number};
 use std::io;
 use std::net::{
     Ipv4Addr, Ipv6Addr, Net, OpenStream, SocketAddr, SocketAddrV4, SocketAddrV6, TcpStream,
@@ -63,8 +63,9 @@ fn socket_addr(addr: PeerAddr) -> SocketAddr {
         PeerAddr::V4 { ip, port } => {
             SocketAddr::V4(SocketAddrV4::new(Ipv4Addr::from_bits(ip), port))
         }
-        PeerAddr::V6 { ip, port } => {
-            SocketAddr::V6(SocketAddrV6::new(Ipv6Addr::from_bits(ip), port, 0, 0))
+        PeerAddr::V6 { high, low, port } => {
+            let ip = Ipv6Addr::from_bits(ip6_number(high, low));
+            SocketAddr::V6(SocketAddrV6::new(ip, port, 0, 0))
         }
     }
 }
@@ -75,10 +76,7 @@ fn peer_addr(addr: SocketAddr) -> PeerAddr {
             ip: addr.ip().to_bits(),
             port: addr.port(),
         },
-        SocketAddr::V6(addr) => PeerAddr::V6 {
-            ip: addr.ip().to_bits(),
-            port: addr.port(),
-        },
+        SocketAddr::V6(addr) => PeerAddr::from_ip6(addr.ip().to_bits(), addr.port()),
     }
 }
 
