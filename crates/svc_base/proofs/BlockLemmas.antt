@@ -20,12 +20,14 @@ module _ {X : Type 0} (p : X → Bool) where
   all-set : (xs : List X) (k : ℕ) (y : X) → list_all p xs ≡ true → p y ≡ true → list_all p (set xs k y) ≡ true
   all-set [] k y h one = refl
   all-set (x ∷ xs) zero y h one = and_from (p y) (list_all p xs) one (and_parts (p x) (list_all p xs) h).1
-  all-set (x ∷ xs) (suc k) y h one = let parts = and_parts (p x) (list_all p xs) h in and_from (p x) (list_all p (set xs k y)) parts.0 (all-set xs k y parts.1 one)
+  all-set (x ∷ xs) (suc k) y h one =
+      let parts = and_parts (p x) (list_all p xs) h in and_from (p x) (list_all p (set xs k y)) parts.0 (all-set xs k y parts.1 one)
 
   all-insert : (xs : List X) (k : ℕ) (y : X) → list_all p xs ≡ true → p y ≡ true → list_all p (insert xs k y) ≡ true
   all-insert xs zero y h one = and_from (p y) (list_all p xs) one h
   all-insert [] (suc k) y h one = and_from (p y) true one refl
-  all-insert (x ∷ xs) (suc k) y h one = let parts = and_parts (p x) (list_all p xs) h in and_from (p x) (list_all p (insert xs k y)) parts.0 (all-insert xs k y parts.1 one)
+  all-insert (x ∷ xs) (suc k) y h one =
+      let parts = and_parts (p x) (list_all p xs) h in and_from (p x) (list_all p (insert xs k y)) parts.0 (all-insert xs k y parts.1 one)
 
   all-remove : (xs : List X) (k : ℕ) → list_all p xs ≡ true → list_all p (remove xs k) ≡ true
   all-remove [] zero h = refl
@@ -55,13 +57,15 @@ module _ {T Z : Type 0} where
   joined-at (b ∷ bs) (suc at) d lt = ap (λ (xs : List T). b.items ++ xs) (joined-at bs at d (omega arith))
       ∙ sym (append_assoc b.items (joined (take at bs)) ((get_or bs at d).items ++ joined (drop (suc at) bs)))
 
-  before-is : (bs : List (Vec T Z)) (at place : ℕ) (d : Vec T Z) → at < length bs → before bs at place ≡ joined (take at bs) ++ take place (get_or bs at d).items
+  before-is : (bs : List (Vec T Z)) (at place : ℕ) (d : Vec T Z) → at < length bs
+      → before bs at place ≡ joined (take at bs) ++ take place (get_or bs at d).items
   before-is [] at place d lt = absurd (omega arith)
   before-is (b ∷ bs) zero place d lt = refl
   before-is (b ∷ bs) (suc at) place d lt = ap (λ (xs : List T). b.items ++ xs) (before-is bs at place d (omega arith))
       ∙ sym (append_assoc b.items (joined (take at bs)) (take place (get_or bs at d).items))
 
-  behind-is : (bs : List (Vec T Z)) (at place : ℕ) (d : Vec T Z) → at < length bs → behind bs at place ≡ drop place (get_or bs at d).items ++ joined (drop (suc at) bs)
+  behind-is : (bs : List (Vec T Z)) (at place : ℕ) (d : Vec T Z) → at < length bs
+      → behind bs at place ≡ drop place (get_or bs at d).items ++ joined (drop (suc at) bs)
   behind-is [] at place d lt = absurd (omega arith)
   behind-is (b ∷ bs) zero place d lt = refl
   behind-is (b ∷ bs) (suc at) place d lt = behind-is bs at place d (omega arith)
@@ -99,7 +103,8 @@ module _ {T Z : Type 0} where
   joined-put (b ∷ bs) (suc at) place v x d lt e = ap (λ (xs : List T). b.items ++ xs) (joined-put bs at place v x d (omega arith) e)
       ∙ sym (append_assoc b.items (before bs at place) (x ∷ behind bs at place))
 
-  pub joined-other : (bs : List (Vec T Z)) (at place : ℕ) (v : Vec T Z) (x : T) (d : Vec T Z) → at < length bs → place < length (get_or bs at d).items → v.items ≡ set (get_or bs at d).items place x
+  pub joined-other : (bs : List (Vec T Z)) (at place : ℕ) (v : Vec T Z) (x : T) (d : Vec T Z) → at < length bs → place < length (get_or bs at d).items
+      → v.items ≡ set (get_or bs at d).items place x
       → joined (set bs at v) ≡ before bs at place ++ x ∷ behind bs at (suc place)
   joined-other [] at place v x d lt within e = absurd (omega arith)
   joined-other (b ∷ bs) zero place v x d lt within e = ap (λ (xs : List T). xs ++ joined bs) (e ∙ set_split b.items place x within)
@@ -115,7 +120,8 @@ module _ {T Z : Type 0} where
       ∙ sym (append_assoc b.items (before bs at place) (behind bs at (suc place)))
 
   -- a block with one entry goes
-  pub joined-remove : (bs : List (Vec T Z)) (at place : ℕ) (d : Vec T Z) → at < length bs → place < length (get_or bs at d).items → length (get_or bs at d).items ≡ 1
+  pub joined-remove : (bs : List (Vec T Z)) (at place : ℕ) (d : Vec T Z) → at < length bs → place < length (get_or bs at d).items
+      → length (get_or bs at d).items ≡ 1
       → joined (remove bs at) ≡ before bs at place ++ behind bs at (suc place)
   joined-remove [] at place d lt within one = absurd (omega arith)
   joined-remove (b ∷ bs) zero place d lt within one = let alone = single b.items place one within in rw (alone.0, alone.1) refl
@@ -128,7 +134,8 @@ module _ {T Z : Type 0} where
   joined-same (b ∷ bs) zero v d lt e = ap (λ (xs : List T). xs ++ joined bs) e
   joined-same (b ∷ bs) (suc at) v d lt e = ap (λ (xs : List T). b.items ++ xs) (joined-same bs at v d (omega arith) e)
 
-  joined-insert : (bs : List (Vec T Z)) (at : ℕ) (v u d : Vec T Z) → at < length bs → v.items ++ u.items ≡ (get_or bs at d).items → joined (insert (set bs at v) (suc at) u) ≡ joined bs
+  joined-insert : (bs : List (Vec T Z)) (at : ℕ) (v u d : Vec T Z) → at < length bs → v.items ++ u.items ≡ (get_or bs at d).items
+      → joined (insert (set bs at v) (suc at) u) ≡ joined bs
   joined-insert [] at v u d lt e = absurd (omega arith)
   joined-insert (b ∷ bs) zero v u d lt e = sym (append_assoc v.items u.items (joined bs)) ∙ ap (λ (xs : List T). xs ++ joined bs) e
   joined-insert (b ∷ bs) (suc at) v u d lt e = ap (λ (xs : List T). b.items ++ xs) (joined-insert bs at v u d (omega arith) e)
@@ -152,10 +159,12 @@ module _ {T Z : Type 0} where
   later-set (b ∷ bs) zero v some h = h
   later-set (b ∷ bs) (suc at) v some h = all-set is_filled bs at v h (lt-ltb 0 (length v.items) (some (omega arith)))
 
-  later-insert : (bs : List (Vec T Z)) (at : ℕ) (v u : Vec T Z) → at < length bs → 0 < length v.items → 0 < length u.items → later_filled bs ≡ true → later_filled (insert (set bs at v) (suc at) u) ≡ true
+  later-insert : (bs : List (Vec T Z)) (at : ℕ) (v u : Vec T Z) → at < length bs → 0 < length v.items → 0 < length u.items → later_filled bs ≡ true
+      → later_filled (insert (set bs at v) (suc at) u) ≡ true
   later-insert [] at v u lt some more h = absurd (omega arith)
   later-insert (b ∷ bs) zero v u lt some more h = and_from (nat_lt 0 (length u.items)) (are_filled bs) (lt-ltb 0 (length u.items) more) h
-  later-insert (b ∷ bs) (suc at) v u lt some more h = all-insert is_filled (set bs at v) (suc at) u (all-set is_filled bs at v h (lt-ltb 0 (length v.items) some)) (lt-ltb 0 (length u.items) more)
+  later-insert (b ∷ bs) (suc at) v u lt some more h =
+      all-insert is_filled (set bs at v) (suc at) u (all-set is_filled bs at v h (lt-ltb 0 (length v.items) some)) (lt-ltb 0 (length u.items) more)
 
   pub later-remove : (bs : List (Vec T Z)) (at : ℕ) → 0 < at → later_filled bs ≡ true → later_filled (remove bs at) ≡ true
   later-remove bs zero some h = absurd (omega arith)
@@ -163,7 +172,8 @@ module _ {T Z : Type 0} where
   later-remove (b ∷ bs) (suc at) some h = all-remove is_filled bs at h
 
   -- memory for more entries
-  wide-at : (n : ℕ) (bs : List (Vec T Z)) (at : ℕ) (d : Vec T Z) → are_wide n bs ≡ true → at < length bs → length (get_or bs at d).items + n ≤ vec_capacity (get_or bs at d)
+  wide-at : (n : ℕ) (bs : List (Vec T Z)) (at : ℕ) (d : Vec T Z) → are_wide n bs ≡ true → at < length bs
+      → length (get_or bs at d).items + n ≤ vec_capacity (get_or bs at d)
   wide-at n bs at d h lt = leb-true (length (get_or bs at d).items + n) (vec_capacity (get_or bs at d)) (all-at (is_wide n) bs at d h lt)
 
   wide-set : (n : ℕ) (bs : List (Vec T Z)) (at : ℕ) (v : Vec T Z) → are_wide n bs ≡ true → length v.items + n ≤ vec_capacity v → are_wide n (set bs at v) ≡ true
@@ -177,18 +187,22 @@ module _ {T Z : Type 0} where
   wide-remove n bs at h = all-remove (is_wide n) bs at h
 
   -- a block that keeps its size, has one entry more, or one less
-  pub sized-filled : (bs : List (Vec T Z)) (at : ℕ) (v d : Vec T Z) → at < length bs → length v.items ≡ length (get_or bs at d).items → later_filled bs ≡ true → later_filled (set bs at v) ≡ true
+  pub sized-filled : (bs : List (Vec T Z)) (at : ℕ) (v d : Vec T Z) → at < length bs → length v.items ≡ length (get_or bs at d).items → later_filled bs ≡ true
+      → later_filled (set bs at v) ≡ true
   sized-filled bs at v d lt same h = later-set bs at v (λ some. let old = later-at bs at d h lt some in omega arith) h
 
-  pub sized-wide : (n : ℕ) (bs : List (Vec T Z)) (at : ℕ) (v d : Vec T Z) → at < length bs → length v.items ≡ length (get_or bs at d).items → vec_capacity v ≡ vec_capacity (get_or bs at d)
+  pub sized-wide : (n : ℕ) (bs : List (Vec T Z)) (at : ℕ) (v d : Vec T Z) → at < length bs → length v.items ≡ length (get_or bs at d).items
+      → vec_capacity v ≡ vec_capacity (get_or bs at d)
       → are_wide n bs ≡ true → are_wide n (set bs at v) ≡ true
   sized-wide n bs at v d lt same room h = wide-set n bs at v h (let old = wide-at n bs at d h lt in omega arith)
 
-  pub put-wide : (n : ℕ) (bs : List (Vec T Z)) (at : ℕ) (v d : Vec T Z) → at < length bs → length v.items ≡ length (get_or bs at d).items + 1 → vec_capacity v ≡ vec_capacity (get_or bs at d)
+  pub put-wide : (n : ℕ) (bs : List (Vec T Z)) (at : ℕ) (v d : Vec T Z) → at < length bs → length v.items ≡ length (get_or bs at d).items + 1
+      → vec_capacity v ≡ vec_capacity (get_or bs at d)
       → are_wide (n + 1) bs ≡ true → are_wide n (set bs at v) ≡ true
   put-wide n bs at v d lt same room h = wide-set n bs at v (wide-less (n + 1) n bs (omega arith) h) (let old = wide-at (n + 1) bs at d h lt in omega arith)
 
-  pub cut-wide : (n : ℕ) (bs : List (Vec T Z)) (at : ℕ) (v d : Vec T Z) → at < length bs → length v.items + 1 ≡ length (get_or bs at d).items → vec_capacity v ≡ vec_capacity (get_or bs at d)
+  pub cut-wide : (n : ℕ) (bs : List (Vec T Z)) (at : ℕ) (v d : Vec T Z) → at < length bs → length v.items + 1 ≡ length (get_or bs at d).items
+      → vec_capacity v ≡ vec_capacity (get_or bs at d)
       → are_wide n bs ≡ true → are_wide n (set bs at v) ≡ true
   cut-wide n bs at v d lt same room h = wide-set n bs at v h (let old = wide-at n bs at d h lt in omega arith)
 
@@ -200,7 +214,8 @@ module _ {T Z : Type 0} where
     more = omega (arith, length-set bs at v);
   }
 
-  pub keeps-cut : (bs : List (Vec T Z)) (at : ℕ) (v u d : Vec T Z) → at < length bs → v.items ++ u.items ≡ (get_or bs at d).items → 0 < length v.items → 0 < length u.items → KeepsEntries bs (insert (set bs at v) (suc at) u)
+  pub keeps-cut : (bs : List (Vec T Z)) (at : ℕ) (v u d : Vec T Z) → at < length bs → v.items ++ u.items ≡ (get_or bs at d).items → 0 < length v.items
+      → 0 < length u.items → KeepsEntries bs (insert (set bs at v) (suc at) u)
   keeps-cut bs at v u d lt e some more = record {
     entries = joined-insert bs at v u d lt e;
     filled = later-insert bs at v u lt some more;
@@ -225,7 +240,8 @@ module _ {T : Type 0} (key : T → ℕ) (c : ℕ) where
   first-over (x ∷ more) rest some h rise = over key c x (more ++ rest) rise (leb-false (key x) c h)
 
   -- a block that starts there has an entry with at most the key
-  starts-some : (block : List T) (place : ℕ) → 0 < length block → starts key c block ≡ true → list_all (λ x. nat_lt c (key x)) (drop place block) ≡ true → 0 < place
+  starts-some : (block : List T) (place : ℕ) → 0 < length block → starts key c block ≡ true → list_all (λ x. nat_lt c (key x)) (drop place block) ≡ true
+      → 0 < place
   starts-some [] place some h above = absurd (omega arith)
   starts-some (x ∷ more) (suc place) some h above = omega arith
   starts-some (x ∷ more) zero some h above =
@@ -248,8 +264,10 @@ module _ {T Z : Type 0} (key : T → ℕ) (c : ℕ) where
   rest-over [] zero d filled rise next = refl
   rest-over [] (suc k) d filled rise next = refl
   rest-over (b ∷ bs) zero d filled rise next =
-      first-over key c b.items (joined bs) (ltb-true 0 (length b.items) (and_parts (nat_lt 0 (length b.items)) (are_filled bs) filled).0) (next (omega arith)) rise
-  rest-over (b ∷ bs) (suc k) d filled rise next = rest-over bs k d (and_parts (nat_lt 0 (length b.items)) (are_filled bs) filled).1 rise (λ lt. next (omega arith))
+      first-over key c b.items (joined bs) (ltb-true 0 (length b.items) (and_parts (nat_lt 0 (length b.items)) (are_filled bs) filled).0)
+      (next (omega arith)) rise
+  rest-over (b ∷ bs) (suc k) d filled rise next =
+      rest-over bs k d (and_parts (nat_lt 0 (length b.items)) (are_filled bs) filled).1 rise (λ lt. next (omega arith))
 
   later-over : (bs : List (Vec T Z)) (at : ℕ) (d : Vec T Z) → later_filled bs ≡ true → rises_by key (joined (drop (suc at) bs)) ≡ true
       → (suc at < length bs → starts key c (get_or bs (suc at) d).items ≡ false) → list_all (λ x. nat_lt c (key x)) (joined (drop (suc at) bs)) ≡ true
@@ -259,7 +277,8 @@ module _ {T Z : Type 0} (key : T → ℕ) (c : ℕ) where
   around : (bs : List (Vec T Z)) (at : ℕ) (d : Vec T Z) → IsBlockFor key c bs at → later_filled bs ≡ true → rises_by key (joined bs) ≡ true
       → Around key c (joined (take at bs)) (get_or bs at d).items (joined (drop (suc at) bs))
   around bs at d block filled rise =
-      let back = rises-right key (joined (take at bs)) ((get_or bs at d).items ++ joined (drop (suc at) bs)) (ap (rises_by key) (sym (joined-at bs at d block.within)) ∙ rise) in
+      let back = rises-right key (joined (take at bs)) ((get_or bs at d).items ++ joined (drop (suc at) bs))
+      (ap (rises_by key) (sym (joined-at bs at d block.within)) ∙ rise) in
       record {
         below = before-block bs at d block filled rise;
         rise = rises-left key (get_or bs at d).items (joined (drop (suc at) bs)) back;
@@ -267,13 +286,15 @@ module _ {T Z : Type 0} (key : T → ℕ) (c : ℕ) where
             (λ lt. let e : at + 1 ≡ suc at = add-one at in rw e at (block.next d (omega arith)));
       }
 
-  module _ (bs : List (Vec T Z)) (at : ℕ) (b : Vec T Z) (block : IsBlockFor key c bs at) (filled : later_filled bs ≡ true) (rise : rises_by key (joined bs) ≡ true) (read : b ≡ get_or bs at b) where
+  module _ (bs : List (Vec T Z)) (at : ℕ) (b : Vec T Z) (block : IsBlockFor key c bs at) (filled : later_filled bs ≡ true)
+      (rise : rises_by key (joined bs) ≡ true) (read : b ≡ get_or bs at b) where
     -- the block that was read rises
     pub block-rises : rises_by key b.items ≡ true
     block-rises = ap (λ (v : Vec T Z). rises_by key v.items) read ∙ (around bs at b block filled rise).rise
 
     -- where it is parted at c, the entry goes
-    pub placed-for : (place : ℕ) → place ≤ length b.items → list_all (λ x. nat_le (key x) c) (take place b.items) ≡ true → list_all (λ x. nat_lt c (key x)) (drop place b.items) ≡ true
+    pub placed-for : (place : ℕ) → place ≤ length b.items → list_all (λ x. nat_le (key x) c) (take place b.items) ≡ true
+        → list_all (λ x. nat_lt c (key x)) (drop place b.items) ≡ true
         → IsPlaceFor key c bs at place
     placed-for place inside below above =
         let w = around bs at b block filled rise in
@@ -300,10 +321,12 @@ module _ {T Z : Type 0} (key : T → ℕ) (c : ℕ) where
   pub absent-first : (bs : List (Vec T Z)) (at place : ℕ) → place ≡ 0 → IsPlaceFor key c bs at place → has_key key c (joined bs) ≡ false
   absent-first bs at place none p =
       let first : at ≡ 0 = elim (cases_lt 0 at) [ inl some ↦ absurd (let more = p.later some in omega arith) | inr le ↦ omega arith ] in
-      let parts : joined bs ≡ behind bs at place = joined-parts bs at place ∙ ap (λ (xs : List T). xs ++ behind bs at place) (ap (before bs at) none ∙ before-none bs at first) in
+      let parts : joined bs ≡ behind bs at place =
+      joined-parts bs at place ∙ ap (λ (xs : List T). xs ++ behind bs at place) (ap (before bs at) none ∙ before-none bs at first) in
       ap (has_key key c) parts ∙ none-over key c (behind bs at place) p.above
 
-  module _ (bs : List (Vec T Z)) (at place entry : ℕ) (b : Vec T Z) (x : T) (p : IsPlaceFor key c bs at place) (next : place ≡ suc entry) (read : b ≡ get_or bs at b) (found : x ≡ get_or b.items entry x) where
+  module _ (bs : List (Vec T Z)) (at place entry : ℕ) (b : Vec T Z) (x : T) (p : IsPlaceFor key c bs at place) (next : place ≡ suc entry)
+      (read : b ≡ get_or bs at b) (found : x ≡ get_or b.items entry x) where
     inside : entry < length (get_or bs at b).items
     inside = let most = p.inside b in omega arith
 
@@ -320,28 +343,35 @@ module _ {T Z : Type 0} (key : T → ℕ) (c : ℕ) where
         let up = rises-left key (before bs at place) (behind bs at place) (ap (rises_by key) (sym (joined-parts bs at place)) ∙ rise) in
         let under_x = under key (key x) (before bs at entry) x [] (ap (rises_by key) (sym to) ∙ up) (omega arith) in
         let all_x = ap (list_all (λ y. nat_le (key y) (key x))) to
-        ∙ all-both (λ y. nat_le (key y) (key x)) (before bs at entry) (x ∷ []) under_x (and_from (nat_le (key x) (key x)) true (le-leb (key x) (key x) (omega arith)) refl) in
+        ∙ all-both (λ y. nat_le (key y) (key x)) (before bs at entry) (x ∷ []) under_x
+        (and_from (nat_le (key x) (key x)) true (le-leb (key x) (key x) (omega arith)) refl) in
         ap (has_key key c) (joined-parts bs at place)
-        ∙ none-both key c (before bs at place) (behind bs at place) (none-under key c (key x) (before bs at place) (less most other) all_x) (none-over key c (behind bs at place) p.above)
+        ∙ none-both key c (before bs at place) (behind bs at place) (none-under key c (key x) (before bs at place) (less most other) all_x)
+        (none-over key c (behind bs at place) p.above)
       where
         less : key x ≤ c → (key x ≡ c → ⊥) → key x < c
         less le ne = omega arith
 
   -- the entry at the place of the key
-  pub stands-at : (bs : List (Vec T Z)) (at place : ℕ) (b : Vec T Z) (x : T) → IsPlaceOf key c bs at place → x ≡ get_or (get_or bs at b).items place x → StandsIn key c (joined bs) x
+  pub stands-at : (bs : List (Vec T Z)) (at place : ℕ) (b : Vec T Z) (x : T) → IsPlaceOf key c bs at place → x ≡ get_or (get_or bs at b).items place x
+      → StandsIn key c (joined bs) x
   stands-at bs at place b x p read = record {
     front = before bs at place;
     back = behind bs at (suc place);
-    is = joined-parts bs at place ∙ ap (λ (xs : List T). before bs at place ++ xs) (behind-at bs at place b x p.within (p.inside b) ∙ ap (λ (y : T). y ∷ behind bs at (suc place)) (sym read));
+    is = joined-parts bs at place
+        ∙ ap (λ (xs : List T). before bs at place ++ xs)
+        (behind-at bs at place b x p.within (p.inside b) ∙ ap (λ (y : T). y ∷ behind bs at (suc place)) (sym read));
     has = ap key read ∙ p.here b x;
   }
 
   -- the entry, as it stands at the front of what is behind
-  pub entry-at : (bs : List (Vec T Z)) (at place : ℕ) (e : T) → IsPlaceOf key c bs at place → (x : T) × (behind bs at place ≡ x ∷ behind bs at (suc place)) × (key x ≡ c)
+  pub entry-at : (bs : List (Vec T Z)) (at place : ℕ) (e : T) → IsPlaceOf key c bs at place
+      → (x : T) × (behind bs at place ≡ x ∷ behind bs at (suc place)) × (key x ≡ c)
   entry-at [] at place e p = absurd (let lt = p.within in omega arith)
   entry-at (b ∷ bs) at place e p = (get_or (get_or (b ∷ bs) at b).items place e, behind-at (b ∷ bs) at place b e p.within (p.inside b), p.here b e)
 
-  abbrev pub stands-behind : (bs : List (Vec T Z)) (at place : ℕ) (x : T) → behind bs at place ≡ x ∷ behind bs at (suc place) → key x ≡ c → StandsIn key c (joined bs) x
+  abbrev pub stands-behind : (bs : List (Vec T Z)) (at place : ℕ) (x : T) → behind bs at place ≡ x ∷ behind bs at (suc place) → key x ≡ c
+      → StandsIn key c (joined bs) x
   stands-behind bs at place x taken has = record {
     front = before bs at place;
     back = behind bs at (suc place);
@@ -380,7 +410,8 @@ module _ {T Z : Type 0} (key : T → ℕ) (bs new : List (Vec T Z)) (count room 
       }
 
   -- another entry with the key
-  pub table-other : (x y : T) → key x ≡ key y → behind bs at place ≡ x ∷ behind bs at (suc place) → joined new ≡ before bs at place ++ y ∷ behind bs at (suc place)
+  pub table-other : (x y : T) → key x ≡ key y → behind bs at place ≡ x ∷ behind bs at (suc place)
+      → joined new ≡ before bs at place ++ y ∷ behind bs at (suc place)
       → (later_filled bs ≡ true → later_filled new ≡ true) → ((n : ℕ) → are_wide n bs ≡ true → are_wide n new ≡ true) → length new ≡ length bs
       → IsTable key new count room
   table-other x y keys taken entries filled wide same =
@@ -391,7 +422,8 @@ module _ {T Z : Type 0} (key : T → ℕ) (bs new : List (Vec T Z)) (count room 
       record {
         filled = filled t.filled;
         rise = ap (rises_by key) entries ∙ rises-other key (before bs at place) x y (behind bs at (suc place)) keys (ap (rises_by key) (sym old) ∙ t.rise);
-        counts = omega (arith, length-append (before bs at place) (x ∷ behind bs at (suc place)), length-append (before bs at place) (y ∷ behind bs at (suc place)));
+        counts = omega
+            (arith, length-append (before bs at place) (x ∷ behind bs at (suc place)), length-append (before bs at place) (y ∷ behind bs at (suc place)));
         few = t.few;
         some = λ more. let begun = t.some more in omega arith;
         wide = λ more. wide room (t.wide more);
@@ -410,7 +442,8 @@ module _ {T Z : Type 0} (key : T → ℕ) (bs new : List (Vec T Z)) (count room 
       record {
         filled = filled t.filled;
         rise = ap (rises_by key) entries ∙ rises-cut key (before bs at place) x (behind bs at (suc place)) (ap (rises_by key) (sym old) ∙ t.rise);
-        counts = omega (arith, length-append (before bs at place) (x ∷ behind bs at (suc place)), length-append (before bs at place) (behind bs at (suc place)));
+        counts = omega
+            (arith, length-append (before bs at place) (x ∷ behind bs at (suc place)), length-append (before bs at place) (behind bs at (suc place)));
         few = omega arith;
         some = λ more. some;
         wide = λ more. wide room (t.wide more);

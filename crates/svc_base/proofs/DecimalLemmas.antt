@@ -47,7 +47,8 @@ plain_lead x len h e = grind (arith, nat_tests)
 no_spare : (n : ℕ) → n < 2 ^ 64 → has_spare_front (decimal n) ≡ true → ⊥
 no_spare n below h =
     elim (cases_lt n 10) [
-      | inl small ↦ let e = ap has_spare_front (decimal_digit n small) in both_ways (has_spare_front ((48 + n) ∷ [])) (one_digit (48 + n) (omega arith)) (sym e ∙ h)
+      | inl small ↦
+          let e = ap has_spare_front (decimal_digit n small) in both_ways (has_spare_front ((48 + n) ∷ [])) (one_digit (48 + n) (omega arith)) (sym e ∙ h)
       | inr large ↦ let f = first_decimal n (omega arith) below in both_ways _ (later_digit (get_or (decimal n) 0 0) (length (decimal n)) f) h
     ]
 
@@ -61,10 +62,12 @@ one_byte : (bs : List ℕ) → get_or bs 0 0 ≡ 48 → length bs ≤ 1 → leng
 one_byte [] e le = absurd (omega arith)
 one_byte (b ∷ bs) e le = omega arith
 
-parsed_is : {E : Type 0} (bs : List ℕ) (r : Result ℕ E) → (get_or bs 0 0 ≡ 48 → length bs ≡ 1) → OkIff r (AllDigits 10 bs × (0 < length bs) × (digits_value 10 bs < 2 ^ 64)) (digits_value 10 bs) → result_ok r ≡ number_of (2 ^ 64) bs
+parsed_is : {E : Type 0} (bs : List ℕ) (r : Result ℕ E) → (get_or bs 0 0 ≡ 48 → length bs ≡ 1)
+    → OkIff r (AllDigits 10 bs × (0 < length bs) × (digits_value 10 bs < 2 ^ 64)) (digits_value 10 bs) → result_ok r ≡ number_of (2 ^ 64) bs
 parsed_is bs (Ok x) lead h =
     let spelt : decimal (digits_value 10 bs) ≡ bs = decimal-digits_value own bs h.0.0 h.0.1 lead h.0.2 in
-    let known : number_of (2 ^ 64) bs ≡ Some (digits_value 10 bs) = ap (number_of (2 ^ 64)) (sym spelt) ∙ number_of-decimal (2 ^ 64) (digits_value 10 bs) (omega arith) h.0.2 in
+    let known : number_of (2 ^ 64) bs ≡ Some (digits_value 10 bs) =
+    ap (number_of (2 ^ 64)) (sym spelt) ∙ number_of-decimal (2 ^ 64) (digits_value 10 bs) (omega arith) h.0.2 in
     ap (λ (n : ℕ). Some n) h.1 ∙ sym known
 parsed_is bs (Err f) lead h =
     sym (number_missing (2 ^ 64) bs (λ n below e.

@@ -23,12 +23,14 @@ module _ {X : Type 0} (p : X → Bool) where
   pub all-take : (xs : List X) (n : ℕ) → n ≤ length xs → ((k : ℕ) (d : X) → k < n → p (get_or xs k d) ≡ true) → list_all p (take n xs) ≡ true
   all-take xs zero le h = refl
   all-take [] (suc n) le h = refl
-  all-take (x ∷ xs) (suc n) le h = and_from (p x) (list_all p (take n xs)) (h 0 x (omega arith)) (all-take xs n (omega arith) (λ k d lt. h (suc k) d (omega arith)))
+  all-take (x ∷ xs) (suc n) le h =
+      and_from (p x) (list_all p (take n xs)) (h 0 x (omega arith)) (all-take xs n (omega arith) (λ k d lt. h (suc k) d (omega arith)))
 
   pub all-drop : (xs : List X) (n : ℕ) → ((k : ℕ) (d : X) → n ≤ k → k < length xs → p (get_or xs k d) ≡ true) → list_all p (drop n xs) ≡ true
   all-drop [] zero h = refl
   all-drop [] (suc n) h = refl
-  all-drop (x ∷ xs) zero h = and_from (p x) (list_all p xs) (h 0 x (omega arith) (omega arith)) (all-drop xs 0 (λ k d le lt. h (suc k) d (omega arith) (omega arith)))
+  all-drop (x ∷ xs) zero h =
+      and_from (p x) (list_all p xs) (h 0 x (omega arith) (omega arith)) (all-drop xs 0 (λ k d le lt. h (suc k) d (omega arith) (omega arith)))
   all-drop (x ∷ xs) (suc n) h = all-drop xs n (λ k d le lt. h (suc k) d (omega arith) (omega arith))
 
 pub all-weaker : {X : Type 0} (p q : X → Bool) (xs : List X) → ((x : X) → p x ≡ true → q x ≡ true) → list_all p xs ≡ true → list_all q xs ≡ true
@@ -59,7 +61,8 @@ module _ {T : Type 0} (key : T → ℕ) where
   over c x ys h lt =
       let parts = and_parts (list_all (λ y. nat_le (key x) (key y)) ys) (rises_by key ys) h in
       and_from (nat_lt c (key x)) (list_all (λ y. nat_lt c (key y)) ys) (lt-ltb c (key x) lt)
-      (all-weaker (λ y. nat_le (key x) (key y)) (λ y. nat_lt c (key y)) ys (λ y g. let least = leb-true (key x) (key y) g in lt-ltb c (key y) (omega arith)) parts.0)
+      (all-weaker (λ y. nat_le (key x) (key y)) (λ y. nat_lt c (key y)) ys
+      (λ y g. let least = leb-true (key x) (key y) g in lt-ltb c (key y) (omega arith)) parts.0)
 
   -- the order by places, as a search asks for it
   below-all : (c : ℕ) (xs : List T) (k : ℕ) (d : T) → list_all (λ y. nat_le c (key y)) xs ≡ true → k < length xs → c ≤ key (get_or xs k d)
@@ -71,8 +74,10 @@ module _ {T : Type 0} (key : T → ℕ) where
   rises-places [] h i j d le lt = absurd (omega arith)
   rises-places (x ∷ xs) h zero zero d le lt = omega arith
   rises-places (x ∷ xs) h (suc i) zero d le lt = absurd (omega arith)
-  rises-places (x ∷ xs) h zero (suc j) d le lt = below-all (key x) xs j d (and_parts (list_all (λ y. nat_le (key x) (key y)) xs) (rises_by key xs) h).0 (omega arith)
-  rises-places (x ∷ xs) h (suc i) (suc j) d le lt = rises-places xs (and_parts (list_all (λ y. nat_le (key x) (key y)) xs) (rises_by key xs) h).1 i j d (omega arith) (omega arith)
+  rises-places (x ∷ xs) h zero (suc j) d le lt =
+      below-all (key x) xs j d (and_parts (list_all (λ y. nat_le (key x) (key y)) xs) (rises_by key xs) h).0 (omega arith)
+  rises-places (x ∷ xs) h (suc i) (suc j) d le lt =
+      rises-places xs (and_parts (list_all (λ y. nat_le (key x) (key y)) xs) (rises_by key xs) h).1 i j d (omega arith) (omega arith)
 
   -- where one more entry goes
   pub put-parted : (x : T) (xs ys : List T) → list_all (λ y. nat_le (key y) (key x)) xs ≡ true → list_all (λ y. nat_lt (key x) (key y)) ys ≡ true
@@ -98,7 +103,8 @@ module _ {T : Type 0} (key : T → ℕ) where
         | inl less ↦ rw less (let lt = ltb-true (key x) (key y) less in
             and_from (list_all (λ z. nat_le (key x) (key z)) (y ∷ xs)) (rises_by key (y ∷ xs))
             (and_from (nat_le (key x) (key y)) (list_all (λ z. nat_le (key x) (key z)) xs) (le-leb (key x) (key y) (omega arith))
-            (all-weaker (λ z. nat_le (key y) (key z)) (λ z. nat_le (key x) (key z)) xs (λ z g. let least = leb-true (key y) (key z) g in le-leb (key x) (key z) (omega arith)) parts.0)) h)
+            (all-weaker (λ z. nat_le (key y) (key z)) (λ z. nat_le (key x) (key z)) xs
+            (λ z g. let least = leb-true (key y) (key z) g in le-leb (key x) (key z) (omega arith)) parts.0)) h)
         | inr more ↦ rw more (and_from (list_all (λ z. nat_le (key y) (key z)) (put_by key x xs)) (rises_by key (put_by key x xs))
             (all-put (λ z. nat_le (key y) (key z)) x xs (up more) parts.0) (rises-put x xs parts.1))
       ]
@@ -108,17 +114,20 @@ module _ {T : Type 0} (key : T → ℕ) where
 
   all-cut : (p : T → Bool) (xs : List T) (x : T) (ys : List T) → list_all p (xs ++ x ∷ ys) ≡ true → list_all p (xs ++ ys) ≡ true
   all-cut p [] x ys h = (and_parts (p x) (list_all p ys) h).1
-  all-cut p (z ∷ xs) x ys h = let parts = and_parts (p z) (list_all p (xs ++ x ∷ ys)) h in and_from (p z) (list_all p (xs ++ ys)) parts.0 (all-cut p xs x ys parts.1)
+  all-cut p (z ∷ xs) x ys h =
+      let parts = and_parts (p z) (list_all p (xs ++ x ∷ ys)) h in and_from (p z) (list_all p (xs ++ ys)) parts.0 (all-cut p xs x ys parts.1)
 
   pub rises-cut : (xs : List T) (x : T) (ys : List T) → rises_by key (xs ++ x ∷ ys) ≡ true → rises_by key (xs ++ ys) ≡ true
   rises-cut [] x ys h = (and_parts (list_all (λ y. nat_le (key x) (key y)) ys) (rises_by key ys) h).1
   rises-cut (z ∷ xs) x ys h =
       let parts = and_parts (list_all (λ y. nat_le (key z) (key y)) (xs ++ x ∷ ys)) (rises_by key (xs ++ x ∷ ys)) h in
-      and_from (list_all (λ y. nat_le (key z) (key y)) (xs ++ ys)) (rises_by key (xs ++ ys)) (all-cut (λ y. nat_le (key z) (key y)) xs x ys parts.0) (rises-cut xs x ys parts.1)
+      and_from (list_all (λ y. nat_le (key z) (key y)) (xs ++ ys)) (rises_by key (xs ++ ys)) (all-cut (λ y. nat_le (key z) (key y)) xs x ys parts.0)
+      (rises-cut xs x ys parts.1)
 
   all-other : (p : T → Bool) (xs : List T) (x y : T) (ys : List T) → p y ≡ p x → list_all p (xs ++ x ∷ ys) ≡ true → list_all p (xs ++ y ∷ ys) ≡ true
   all-other p [] x y ys same h = let parts = and_parts (p x) (list_all p ys) h in and_from (p y) (list_all p ys) (same ∙ parts.0) parts.1
-  all-other p (z ∷ xs) x y ys same h = let parts = and_parts (p z) (list_all p (xs ++ x ∷ ys)) h in and_from (p z) (list_all p (xs ++ y ∷ ys)) parts.0 (all-other p xs x y ys same parts.1)
+  all-other p (z ∷ xs) x y ys same h =
+      let parts = and_parts (p z) (list_all p (xs ++ x ∷ ys)) h in and_from (p z) (list_all p (xs ++ y ∷ ys)) parts.0 (all-other p xs x y ys same parts.1)
 
   pub rises-other : (xs : List T) (x y : T) (ys : List T) → key x ≡ key y → rises_by key (xs ++ x ∷ ys) ≡ true → rises_by key (xs ++ y ∷ ys) ≡ true
   rises-other [] x y ys same h = ap (λ (k : ℕ). list_all (λ z. nat_le k (key z)) ys && rises_by key ys) (sym same) ∙ h
@@ -154,7 +163,8 @@ module _ {T : Type 0} (key : T → ℕ) where
       mid (y ∷ front) = or_right (key y == c) (has_key key c (front ++ x ∷ s.back)) (mid front)
 
 -- so what a search finds says whether an entry has the key
-pub found-key : {T : Type 0} (key : T → ℕ) (c : ℕ) (xs : List T) (r : Option (Bor T)) → IfSome r (λ x. StandsIn key c xs x.now) → IfNone r (has_key key c xs ≡ false) → is_some r ≡ has_key key c xs
+pub found-key : {T : Type 0} (key : T → ℕ) (c : ℕ) (xs : List T) (r : Option (Bor T)) → IfSome r (λ x. StandsIn key c xs x.now)
+    → IfNone r (has_key key c xs ≡ false) → is_some r ≡ has_key key c xs
 found-key key c xs None found absent = sym absent
 found-key key c xs (Some x) found absent = sym (stands-has key c xs x.now found)
 
@@ -170,6 +180,8 @@ module _ {T : Type 0} (key : T → ℕ) (f : T → Bool) where
   pub rises-filter : (xs : List T) → rises_by key xs ≡ true → rises_by key (filter f xs) ≡ true
   rises-filter [] h = refl
   rises-filter (x ∷ xs) h = let parts = and_parts (list_all (λ y. nat_le (key x) (key y)) xs) (rises_by key xs) h in elim (cases_Bool (f x)) [
-    | inl y ↦ rw y (and_from (list_all (λ y. nat_le (key x) (key y)) (filter f xs)) (rises_by key (filter f xs)) (all-left-over (λ y. nat_le (key x) (key y)) xs parts.0) (rises-filter xs parts.1))
+    | inl y ↦ rw y
+        (and_from (list_all (λ y. nat_le (key x) (key y)) (filter f xs)) (rises_by key (filter f xs)) (all-left-over (λ y. nat_le (key x) (key y)) xs parts.0)
+        (rises-filter xs parts.1))
     | inr n ↦ rw n (rises-filter xs parts.1)
   ]

@@ -41,7 +41,10 @@ line_cut text k line rest e hl hr =
     let cut : drop k text ≡ get_or text k 0 ∷ drop (suc k) text = drop-cons text k 0 lt in
     let whole : take k text ++ (10 ∷ drop (suc k) text) ≡ text = rw (← feed, ← cut) (take-append-drop k text) in
     let len : length (take k text) ≡ k = length-take-le k text (omega arith) in
-    let clear : All (λ b. is_feed b ≡ false) (take k text) = λ j d below. let b : j < k = omega arith in let e' : get_or (take k text) j d ≡ get_or text j 0 = get_or-take k text j d b ∙ get_or_default text j d 0 (omega arith) in ap is_feed e' ∙ p.2 j b in
+    let clear : All (λ b. is_feed b ≡ false) (take k text) =
+    λ j d below. let b : j < k = omega arith in
+    let e' : get_or (take k text) j d ≡ get_or text j 0 = get_or-take k text j d b ∙ get_or_default text j d 0 (omega arith) in ap is_feed e'
+    ∙ p.2 j b in
     let after : rest ≡ drop (suc k) text = hr ∙ rest_whole (k + 1) text ∙ rw add-one refl in
     ap lines (sym whole) ∙ lines-then (take k text) (drop (suc k) text) clear ∙ rw (hl, after) refl
 
@@ -56,7 +59,9 @@ returned : (xs : List ℕ) → IsUtf8 (strip_carriage_return xs) → IsUtf8 xs
 returned xs u =
     elim (cases_Bool (slice_index xs (length xs - 1) == 13)) [
       | inl is ↦
-          let some : length xs ≢ 0 = λ z. absurd (let e : slice_index xs (length xs - 1) ≡ 0 = get_or_past xs (length xs - 1) 0 (omega (arith, z)) in omega (arith, e, eqb-true (slice_index xs (length xs - 1)) 13 is)) in
+          let some : length xs ≢ 0 =
+          λ z. absurd (let e : slice_index xs (length xs - 1) ≡ 0 = get_or_past xs (length xs - 1) 0 (omega (arith, z)) in
+          omega (arith, e, eqb-true (slice_index xs (length xs - 1)) 13 is)) in
           let short : strip_carriage_return xs ≡ take (length xs - 1) xs = rw is refl in
           let last : get_or xs (length xs - 1) 0 ≡ 13 = eqb-true (slice_index xs (length xs - 1)) 13 is in
           let near : length xs - 1 < length xs = omega (arith, some) in
@@ -85,11 +90,16 @@ cut_line text k line rest e hl hr =
     let feed : get_or text k 0 ≡ 10 = eqb-true (get_or text k 0) 10 p.1 in
     let chunk_is : take (k + 1) text ≡ take k text ++ 10 ∷ [] = take_more text k 0 p.0 ∙ ap (λ (b : ℕ). take k text ++ b ∷ []) feed in
     let len : length (take k text) ≡ k = length-take-le k text (omega (arith, p.0)) in
-    let clear : All (λ b. is_feed b ≡ false) (take k text) = λ j d below. let b : j < k = omega (arith, below, len) in let e' : get_or (take k text) j d ≡ get_or text j 0 = get_or-take k text j d b ∙ get_or_default text j d 0 (omega (arith, b, p.0)) in ap is_feed e' ∙ p.2 j b in
+    let clear : All (λ b. is_feed b ≡ false) (take k text) =
+    λ j d below. let b : j < k = omega (arith, below, len) in
+    let e' : get_or (take k text) j d ≡ get_or text j 0 = get_or-take k text j d b ∙ get_or_default text j d 0 (omega (arith, b, p.0)) in ap is_feed e'
+    ∙ p.2 j b in
     record {
       chunk = take k text ++ 10 ∷ [];
-      whole = sym (take-append-drop (k + 1) text) ∙ ap (λ (xs : List ℕ). xs ++ drop (k + 1) text) chunk_is ∙ ap (λ (xs : List ℕ). (take k text ++ 10 ∷ []) ++ xs) (sym (hr ∙ rest_whole (k + 1) text));
+      whole = sym (take-append-drop (k + 1) text) ∙ ap (λ (xs : List ℕ). xs ++ drop (k + 1) text) chunk_is
+          ∙ ap (λ (xs : List ℕ). (take k text ++ 10 ∷ []) ++ xs) (sym (hr ∙ rest_whole (k + 1) text));
       one = lines-then (take k text) [] clear ∙ ap (λ (l : List ℕ). l ∷ []) (sym hl);
-      is_text = λ u. IsUtf8-append (take k text) (10 ∷ []) (returned (take k text) (subst IsUtf8 hl u)) (IsUtf8-from_ascii (10 ∷ []) (ascii_one 10 (omega arith)));
+      is_text = λ u. IsUtf8-append (take k text) (10 ∷ []) (returned (take k text) (subst IsUtf8 hl u))
+          (IsUtf8-from_ascii (10 ∷ []) (ascii_one 10 (omega arith)));
       ends = inl (take k text, refl);
     }

@@ -25,8 +25,10 @@ value_more bs i lt all below =
     (ap (λ (n : ℕ). digits_value 10 (take i bs) * 10 + n) digit ∙ sym (digits_value_more 10 bs i lt), digits_more 10 bs i lt all below)
 
 -- all digits
-pub value_is : (bs : List ℕ) → AllDigits 10 bs → 0 < length bs → length bs ≤ 18 → (get_or bs 0 0 ≡ 48 → length bs ≡ 1) → number_of (2 ^ 64) bs ≡ Some (digits_value 10 bs)
+pub value_is : (bs : List ℕ) → AllDigits 10 bs → 0 < length bs → length bs ≤ 18 → (get_or bs 0 0 ≡ 48 → length bs ≡ 1)
+    → number_of (2 ^ 64) bs ≡ Some (digits_value 10 bs)
 value_is bs all some few plain =
     let below : digits_value 10 bs < 10 ^ 18 = digits_value_short (numerals_by_value (AllDigits 10) tells_digits) bs 18 all few in
     let fits : digits_value 10 bs < 2 ^ 64 = omega (arith, below) in
-    ap (number_of (2 ^ 64)) (sym (decimal-digits_value (numerals_by_value (AllDigits 10) tells_digits) bs all some plain fits)) ∙ number_of-decimal (2 ^ 64) (digits_value 10 bs) (omega arith) fits
+    ap (number_of (2 ^ 64)) (sym (decimal-digits_value (numerals_by_value (AllDigits 10) tells_digits) bs all some plain fits))
+    ∙ number_of-decimal (2 ^ 64) (digits_value 10 bs) (omega arith) fits

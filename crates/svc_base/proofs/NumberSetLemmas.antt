@@ -29,7 +29,8 @@ distinct-put n (m ∷ more) none h = elim (cases_Bool (nat_lt n m)) [
       let parts = and_parts (not (is_in m more)) (distinct more) h in
       let ne : (n == m) ≡ false = ne_eqb n m (λ e. let k = eq-eqb m n (sym e) in let f = apart.0 in cc) in
       let clear : is_in m (put_number n more) ≡ false = any-put (λ x. x == m) n more ∙ (rw (ne, apart_from (is_in m more) parts.0) refl) in
-      rw above (and_from (not (is_in m (put_number n more))) (distinct (put_number n more)) (not_in (is_in m (put_number n more)) clear) (distinct-put n more apart.1 parts.1)))
+      rw above (and_from (not (is_in m (put_number n more))) (distinct (put_number n more)) (not_in (is_in m (put_number n more)) clear)
+      (distinct-put n more apart.1 parts.1)))
 ]
 
 pub distinct-ascending : (xs : List ℕ) → distinct xs ≡ true → distinct (ascending xs) ≡ true
@@ -86,7 +87,8 @@ rises-put n (m ∷ more) h =
     let parts = and_parts (list_all (λ k. not (nat_lt k m)) more) (rises more) h in
     elim (cases_Bool (nat_lt n m)) [
       | inl below ↦ rw below (and_from (list_all (λ k. not (nat_lt k n)) (m ∷ more)) (rises (m ∷ more))
-          (and_from (not (nat_lt m n)) (list_all (λ k. not (nat_lt k n)) more) (not_below n m below) (all-grows (λ k. not (nat_lt k m)) (λ k. not (nat_lt k n)) more (λ k g. not_under n m k below g) parts.0)) h)
+          (and_from (not (nat_lt m n)) (list_all (λ k. not (nat_lt k n)) more) (not_below n m below)
+          (all-grows (λ k. not (nat_lt k m)) (λ k. not (nat_lt k n)) more (λ k g. not_under n m k below g) parts.0)) h)
       | inr above ↦ rw above (and_from (list_all (λ k. not (nat_lt k m)) (put_number n more)) (rises (put_number n more))
           (all-put (λ k. not (nat_lt k m)) n more ∙ and_from (not (nat_lt n m)) (list_all (λ k. not (nat_lt k m)) more) (not_in (nat_lt n m) above) parts.0)
           (rises-put n more parts.1))
@@ -113,7 +115,10 @@ filter-put f n [] h = refl
 filter-put f n (m ∷ more) h =
     let parts = and_parts (list_all (λ k. not (nat_lt k m)) more) (rises more) h in
     elim (cases_Bool (nat_lt n m)) [
-      | inl below ↦ (let over : list_all (λ k. nat_lt n k) (m ∷ more) ≡ true = and_from (nat_lt n m) (list_all (λ k. nat_lt n k) more) below (all-grows (λ k. not (nat_lt k m)) (λ k. nat_lt n k) more (λ k g. above_all n m k below g) parts.0) in
+      | inl below ↦
+          (let over : list_all (λ k. nat_lt n k) (m ∷ more) ≡ true =
+          and_from (nat_lt n m) (list_all (λ k. nat_lt n k) more) below
+          (all-grows (λ k. not (nat_lt k m)) (λ k. nat_lt n k) more (λ k g. above_all n m k below g) parts.0) in
           let front = put-first n (filter f (m ∷ more)) (all-filter (λ k. nat_lt n k) f (m ∷ more) over) in
           rw below (elim (cases_Bool (f n)) [ inl y ↦ rw y (sym front) | inr out ↦ rw out refl ]))
       | inr above ↦ (let ih = filter-put f n more parts.1 in
@@ -128,10 +133,11 @@ filter-put f n (m ∷ more) h =
 
 pub filter-ascending : (f : ℕ → Bool) (xs : List ℕ) → filter f (ascending xs) ≡ ascending (filter f xs)
 filter-ascending f [] = refl
-filter-ascending f (n ∷ more) = filter-put f n (ascending more) (rises-ascending more) ∙ ap (λ w. if f n then put_number n w else w) (filter-ascending f more) ∙ elim (cases_Bool (f n)) [
-  | inl y ↦ rw y refl
-  | inr out ↦ rw out refl
-]
+filter-ascending f (n ∷ more) =
+    filter-put f n (ascending more) (rises-ascending more) ∙ ap (λ w. if f n then put_number n w else w) (filter-ascending f more) ∙ elim (cases_Bool (f n)) [
+      | inl y ↦ rw y refl
+      | inr out ↦ rw out refl
+    ]
 
 pub in-filter : (g : ℕ) (f : ℕ → Bool) (xs : List ℕ) → is_in g (filter f xs) ≡ true → is_in g xs ≡ true
 in-filter g f [] h = h

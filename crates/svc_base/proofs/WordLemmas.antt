@@ -23,7 +23,8 @@ words-last xs some none =
     let e : is_word xs ≡ true = lt-ltb 0 (length xs) some in
     rw (slice_split_none is_blank xs none, e) refl
 
-pub words-then : (xs : List ℕ) (y : ℕ) (ys : List ℕ) → 0 < length xs → All (λ b. is_blank b ≡ false) xs → is_blank y ≡ true → words (xs ++ y ∷ ys) ≡ xs ∷ words ys
+pub words-then : (xs : List ℕ) (y : ℕ) (ys : List ℕ) → 0 < length xs → All (λ b. is_blank b ≡ false) xs → is_blank y ≡ true
+    → words (xs ++ y ∷ ys) ≡ xs ∷ words ys
 unfolding words
 words-then xs y ys some none h =
     let e : is_word xs ≡ true = lt-ltb 0 (length xs) some in
@@ -57,8 +58,11 @@ word_ends l (Some k) some first e =
     let whole : take k l ++ (get_or l k 0 ∷ drop (suc k) l) ≡ l = rw (← cut) (take-append-drop k l) in
     let len : length (take k l) ≡ k = length-take-le k l (omega arith) in
     let more : 0 < k = starts_later k (λ z. both_ways (is_blank (get_or l 0 0)) first (ap (λ (i : ℕ). is_blank (get_or l i 0)) (sym z) ∙ p.1)) in
-    let clear : All (λ b. is_blank b ≡ false) (take k l) = λ j d below. let b : j < k = omega arith in let e' : get_or (take k l) j d ≡ get_or l j 0 = get_or-take k l j d b ∙ get_or_default l j d 0 (omega arith) in ap is_blank e' ∙ p.2 j b in
-    let step : words (take k l ++ (get_or l k 0 ∷ drop (suc k) l)) ≡ take k l ∷ words (drop (suc k) l) = words-then (take k l) (get_or l k 0) (drop (suc k) l) (omega arith) clear p.1 in
+    let clear : All (λ b. is_blank b ≡ false) (take k l) =
+    λ j d below. let b : j < k = omega arith in
+    let e' : get_or (take k l) j d ≡ get_or l j 0 = get_or-take k l j d b ∙ get_or_default l j d 0 (omega arith) in ap is_blank e' ∙ p.2 j b in
+    let step : words (take k l ++ (get_or l k 0 ∷ drop (suc k) l)) ≡ take k l ∷ words (drop (suc k) l) =
+    words-then (take k l) (get_or l k 0) (drop (suc k) l) (omega arith) clear p.1 in
     let after : words (drop k l) ≡ words (drop (suc k) l) = ap words cut ∙ words-blank (get_or l k 0) (drop (suc k) l) p.1 in
     ap words (sym whole) ∙ step ∙ ap (λ (ws : List (List ℕ)). take k l ∷ ws) (sym after)
 
@@ -74,7 +78,8 @@ first_word line s h =
 
 -- the same of `&line[s..]`, cut at e
 pub word_cut : (line : List ℕ) (s e : ℕ) (o : Option ℕ) (front back : List ℕ) → position is_filled line ≡ Some s
-    → let l : List ℕ = take (length line - s) (drop s line) in o ≡ position is_blank l → e ≡ unwrap_or o (length l) → front ≡ take e l → back ≡ drop e l → words line ≡ front ∷ words back
+    → let l : List ℕ = take (length line - s) (drop s line) in o ≡ position is_blank l → e ≡ unwrap_or o (length l) → front ≡ take e l → back ≡ drop e l
+    → words line ≡ front ∷ words back
 word_cut line s e o front back h ho he hf hb =
     let w = rest_whole s line in
     let goal : words line ≡ take e (drop s line) ∷ words (drop e (drop s line)) = rw (he, ho, w) (first_word line s h) in

@@ -20,7 +20,8 @@ record-more : (q : Record) (ps : List PostData) (p : PostData) → record_after 
 record-more q [] p = refl
 record-more q (x ∷ xs) p = record-more (tell (Got x.event ∷ q) x.actions) xs p
 
-said-more : (plan : Plan) (q : Record) (ps : List PostData) (p : PostData) → posts_as_said plan q ps ≡ true → told_as_said plan (Got p.event ∷ record_after q ps) p.said p.actions ≡ true → posts_as_said plan q (ps ++ p ∷ []) ≡ true
+said-more : (plan : Plan) (q : Record) (ps : List PostData) (p : PostData) → posts_as_said plan q ps ≡ true
+    → told_as_said plan (Got p.event ∷ record_after q ps) p.said p.actions ≡ true → posts_as_said plan q (ps ++ p ∷ []) ≡ true
 said-more plan q [] p all last = and_from (told_as_said plan (Got p.event ∷ q) p.said p.actions) true last refl
 said-more plan q (x ∷ xs) p all last =
     let first : Bool = told_as_said plan (Got x.event ∷ q) x.said x.actions in
@@ -38,16 +39,20 @@ pub record Grows (core : CoreData) (opening : List Action) (limit : ℕ) (posts 
   pub stays : Stays core opening limit posts
   pub end_is : end ≡ end_after (book core.plan opening limit posts) posts
 
-pub grows : (old new : CoreData) (opening : List Action) (limit : ℕ) (posts posts' : List PostData) (p : PostData) (after : List Action) (end : StepEnd) → Stays old opening limit posts
-    → StepKeeps old new p.event [] after end → TellsJudged (judged_at old.plan p.event p.said) [] after → new.plan ≡ old.plan → p.actions ≡ after → posts' ≡ posts ++ p ∷ [] → Grows new opening limit posts' end
+pub grows : (old new : CoreData) (opening : List Action) (limit : ℕ) (posts posts' : List PostData) (p : PostData) (after : List Action) (end : StepEnd)
+    → Stays old opening limit posts
+    → StepKeeps old new p.event [] after end → TellsJudged (judged_at old.plan p.event p.said) [] after → new.plan ≡ old.plan → p.actions ≡ after
+    → posts' ≡ posts ++ p ∷ [] → Grows new opening limit posts' end
 grows old new opening limit posts posts' p after end was keeps judges plan kept more =
     let q : Record = record_of (book old.plan opening limit posts) posts in
     let told : keeps.told ≡ p.actions = sym keeps.appended ∙ sym kept in
     let right = keeps.kept q was.legal.right was.stands in
     let now : tell (Got p.event ∷ q) keeps.told ≡ record_after (tell [] opening) posts' =
     ap (tell (Got p.event ∷ q)) told ∙ (sym (record-more (tell [] opening) posts p) ∙ ap (record_after (tell [] opening)) (sym more)) in
-    let as_said : told_as_said old.plan (Got p.event ∷ q) p.said p.actions ≡ true = judged-said old.plan q p.event p.said p.actions (ap judgements (kept ∙ judges.appended) ∙ judges.kept) in
-    let said : posts_as_said old.plan (tell [] opening) (posts ++ p ∷ []) ≡ true = said-more old.plan (tell [] opening) posts p was.legal.said as_said in record {
+    let as_said : told_as_said old.plan (Got p.event ∷ q) p.said p.actions ≡ true =
+    judged-said old.plan q p.event p.said p.actions (ap judgements (kept ∙ judges.appended) ∙ judges.kept) in
+    let said : posts_as_said old.plan (tell [] opening) (posts ++ p ∷ []) ≡ true = said-more old.plan (tell [] opening) posts p was.legal.said as_said in
+    record {
       stays = record {
         stands = subst (StandsFor new) now right.stands;
         legal = record {

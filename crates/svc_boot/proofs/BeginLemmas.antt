@@ -55,7 +55,8 @@ untold-receiving q m x = record {
 }
 
 -- the phase is told
-phase-told : (p : Plan) (f : Fork) (n : ℕ) (q : Record) (m : ℕ) → is_free p f ≡ true → BootStands p (fresh f n) q → Midway p f n false (Told (Phase Bootstrap m) ∷ q)
+phase-told : (p : Plan) (f : Fork) (n : ℕ) (q : Record) (m : ℕ) → is_free p f ≡ true → BootStands p (fresh f n) q
+    → Midway p f n false (Told (Phase Bootstrap m) ∷ q)
 phase-told p f n q m free stand = let b = stand.begin in record {
   free = free;
   begun_is = refl;
@@ -110,7 +111,8 @@ alone-not : (test upgrade : Bool) → upgrade ≡ true → (not test && not upgr
 alone-not test upgrade u h = grind arith
 
 -- what an older server sent is received
-opened-stands : (p : Plan) (f : Fork) (n : ℕ) (q : Record) (notify : Bool) (m : ℕ) → p.test ≡ false → notifies p ≡ notify → p.upgrade ≡ true → Midway p f n notify q
+opened-stands : (p : Plan) (f : Fork) (n : ℕ) (q : Record) (notify : Bool) (m : ℕ) → p.test ≡ false → notifies p ≡ notify → p.upgrade ≡ true
+    → Midway p f n notify q
     → BootStands p (begun_with false true (fresh f n)) (tell q (receive_told true m))
 opened-stands p f n q notify m goes is upgrade mid = let x = mid.receiving in record {
   kept = record {
@@ -145,7 +147,8 @@ all-through : (test upgrade : Bool) → test ≡ false → upgrade ≡ false →
 all-through test upgrade t u = grind arith
 
 -- there is nothing to receive
-alone-stands : (p : Plan) (f : Fork) (n : ℕ) (q : Record) (notify : Bool) (m : ℕ) → p.test ≡ false → notifies p ≡ notify → p.upgrade ≡ false → Midway p f n notify q
+alone-stands : (p : Plan) (f : Fork) (n : ℕ) (q : Record) (notify : Bool) (m : ℕ) → p.test ≡ false → notifies p ≡ notify → p.upgrade ≡ false
+    → Midway p f n notify q
     → BootStands p (begun_with false false (fresh f n)) (tell q (receive_told false m))
 alone-stands p f n q notify m goes is upgrade mid = let x = mid.receiving in record {
   kept = record {
@@ -183,7 +186,8 @@ unnotified : (test notify : Bool) (k : ℕ) → test ≡ true → k ≡ 0 → k 
 unnotified test notify k t is = rw t is
 
 -- the run tests, and no more is told
-tested-stands : (p : Plan) (f : Fork) (n : ℕ) (q : Record) (upgrade : Bool) → p.test ≡ true → Midway p f n false q → BootStands p (begun_with true upgrade (fresh f n)) q
+tested-stands : (p : Plan) (f : Fork) (n : ℕ) (q : Record) (upgrade : Bool) → p.test ≡ true → Midway p f n false q
+    → BootStands p (begun_with true upgrade (fresh f n)) q
 tested-stands p f n q upgrade tests mid = let x = mid.receiving in record {
   kept = record {
     tried_is = tests-only p.test p.upgrade tests;
@@ -201,7 +205,8 @@ tested-stands p f n q upgrade tests mid = let x = mid.receiving in record {
 }
 
 -- what follows the phase is told, by what the plan says
-more-told : (p : Plan) (f : Fork) (n : ℕ) (q : Record) (m : ℕ) (test notify upgrade : Bool) → p.test ≡ test → notifies p ≡ notify → p.upgrade ≡ upgrade → Midway p f n false q
+more-told : (p : Plan) (f : Fork) (n : ℕ) (q : Record) (m : ℕ) (test notify upgrade : Bool) → p.test ≡ test → notifies p ≡ notify → p.upgrade ≡ upgrade
+    → Midway p f n false q
     → BootStands p (begun_with test upgrade (fresh f n)) (tell q (begin_more test notify upgrade m))
 more-told p f n q m true notify upgrade t is u mid = tested-stands p f n q upgrade t mid
 more-told p f n q m false true true t is u mid = opened-stands p f n (Told NotifyParent ∷ q) true m t is u (notify-told p f n q true mid)
@@ -238,10 +243,12 @@ first-stands p d q m is free stand =
     (phase-told p d.fork d.patience q m free (subst (λ (x : BootData). BootStands p x q) is stand)))
 
 begin-either : (p : Plan) (d : BootData) (q : Record) (m : ℕ) (begun : Bool) → d.begun ≡ begun → is_free p d.fork ≡ true → BootStands p d q
-    → BootStands p (if begun then d else begun_with p.test p.upgrade d) (tell q (if begun then [] else Phase Bootstrap m ∷ begin_more p.test (notifies p) p.upgrade m))
+    → BootStands p (if begun then d else begun_with p.test p.upgrade d)
+    (tell q (if begun then [] else Phase Bootstrap m ∷ begin_more p.test (notifies p) p.upgrade m))
 begin-either p d q m true was free stand = stand
 begin-either p d q m false was free stand = first-stands p d q m (as-fresh p d stand.kept was) free stand
 
 -- a beginning, where the server goes on
-pub stands-begin : (p : Plan) (d : BootData) (q : Record) (m : ℕ) → is_free p d.fork ≡ true → BootStands p d q → BootStands p (begun_by p d) (tell q (begin_told p d m))
+pub stands-begin : (p : Plan) (d : BootData) (q : Record) (m : ℕ) → is_free p d.fork ≡ true → BootStands p d q
+    → BootStands p (begun_by p d) (tell q (begin_told p d m))
 stands-begin p d q m free stand = begin-either p d q m d.begun refl free stand

@@ -53,28 +53,35 @@ module _ (p : Plan) (d : BootData) (q : Record) (stand : BootStands p d q) (begi
 
   receive-right : IsBootSettled p d (now q) → receive_right p q ≡ true
   receive-right settled = let x = stand.receiving in
-      and_from (once_if (boots p q && p.upgrade) is_open_receiver q) (if boots p q && p.upgrade then (is_try_open q || try_rests (now q) q) else not (has is_try q))
+      and_from (once_if (boots p q && p.upgrade) is_open_receiver q)
+      (if boots p q && p.upgrade then (is_try_open q || try_rests (now q) q) else not (has is_try q))
       (once-given (boots p q && p.upgrade) (is_tried d.receiving) is_open_receiver q receives-is x.opened_times)
       (ap (λ b. if b then (is_try_open q || try_rests (now q) q) else not (has is_try q)) receives-is
-      ∙ receiving-right d.receiving (now q) (is_try_open q) (try_rests (now q) q) (has is_try q) x.trying_is (λ h. x.rests_is h (now q)) x.tried_is settled.goes_on settled.no_try_due)
+      ∙ receiving-right d.receiving (now q) (is_try_open q) (try_rests (now q) q) (has is_try q) x.trying_is
+      (λ h. x.rests_is h (now q)) x.tried_is settled.goes_on settled.no_try_due)
 
   through-is : (boots p q && (not p.upgrade || has is_good_message q)) ≡ is_through p d
   through-is = ap (λ b. (b && not p.test) && (not p.upgrade || has is_good_message q)) begins
       ∙ ap (λ b. (d.begun && not p.test) && (not p.upgrade || b)) stand.receiving.good_is
 
   complete-right : IsBootSettled p d (now q) → complete_right p q ≡ true
-  complete-right settled = once-given (boots p q && (not p.upgrade || has is_good_message q)) d.complete is_bootstrap_complete q (through-is ∙ sym settled.complete_is) stand.begin.complete_times
+  complete-right settled =
+      once-given (boots p q && (not p.upgrade || has is_good_message q)) d.complete is_bootstrap_complete q
+      (through-is ∙ sym settled.complete_is) stand.begin.complete_times
 
   -- each entry of the beginning stands where it is due
   entries-right : IsBootSettled p d (now q) → times is_running q ≡ (if runs p q then 1 else 0) → boot_entries_right p q ≡ true
   entries-right settled running =
-      and_from ((once_if p.daemon is_daemonize q && once_if (has_begun p q) is_bootstrap q) && (once_if (boots p q && (p.daemon && p.wait)) is_notify q && receive_right p q)) (complete_right p q && once_if (runs p q) is_running q)
-      (and_from (once_if p.daemon is_daemonize q && once_if (has_begun p q) is_bootstrap q) (once_if (boots p q && (p.daemon && p.wait)) is_notify q && receive_right p q)
+      and_from ((once_if p.daemon is_daemonize q && once_if (has_begun p q) is_bootstrap q)
+      && (once_if (boots p q && (p.daemon && p.wait)) is_notify q && receive_right p q)) (complete_right p q && once_if (runs p q) is_running q)
+      (and_from (once_if p.daemon is_daemonize q && once_if (has_begun p q) is_bootstrap q)
+      (once_if (boots p q && (p.daemon && p.wait)) is_notify q && receive_right p q)
       (and_from (once_if p.daemon is_daemonize q) (once_if (has_begun p q) is_bootstrap q)
       (once-given p.daemon (is_forked d.fork) is_daemonize q (sym settled.forked_is) stand.fork.forked_times)
       (once-given (has_begun p q) d.begun is_bootstrap q begins stand.begin.begun_times))
       (and_from (once_if (boots p q && (p.daemon && p.wait)) is_notify q) (receive_right p q)
-      (once-given (boots p q && (p.daemon && p.wait)) (has_notified p d) is_notify q (ap (λ b. (b && not p.test) && (p.daemon && p.wait)) begins) stand.notified_times)
+      (once-given (boots p q && (p.daemon && p.wait)) (has_notified p d) is_notify q
+      (ap (λ b. (b && not p.test) && (p.daemon && p.wait)) begins) stand.notified_times)
       (receive-right settled)))
       (and_from (complete_right p q) (once_if (runs p q) is_running q) (complete-right settled) (once-given (runs p q) (runs p q) is_running q refl running))
 
@@ -90,7 +97,9 @@ module _ (p : Plan) (d : BootData) (q : Record) (stand : BootStands p d q) (begi
 
 -- the end by what came is that of the state
 early-end : (f : Fork) (x : Receiving) → status_of f ≤ 1
-    → (if is_over_well f then Parent 0 else (if is_over_badly f then Parent 1 else (if is_transfer x then Ended Transfer else (if is_missing x then Ended NoSender else (if is_spoiled x then Ended BadMessage else On))))) ≡ early_end f x
+    → (if is_over_well f then Parent 0 else
+    (if is_over_badly f then Parent 1 else
+    (if is_transfer x then Ended Transfer else (if is_missing x then Ended NoSender else (if is_spoiled x then Ended BadMessage else On))))) ≡ early_end f x
 early-end (Over zero) x status = refl
 early-end (Over (suc n)) x status = let e : 1 ≡ suc n = omega arith in ap Parent e
 early-end f Unasked status = refl
@@ -101,7 +110,8 @@ early-end f (Refused Transfer) status = refl
 early-end f (Refused NoSender) status = refl
 early-end f (Refused BadMessage) status = refl
 
-early-either : (f : Fork) (x : Receiving) → (((is_over_well f || is_over_badly f) || is_transfer x) || (is_missing x || is_spoiled x)) ≡ (is_parent_over f || is_refused x)
+early-either : (f : Fork) (x : Receiving)
+    → (((is_over_well f || is_over_badly f) || is_transfer x) || (is_missing x || is_spoiled x)) ≡ (is_parent_over f || is_refused x)
 early-either (Over zero) x = refl
 early-either (Over (suc n)) x = refl
 early-either f Unasked = refl
@@ -118,7 +128,8 @@ needed wait parent ready is well = grind arith
 nobody : (wait parent : Bool) → parent ≡ false → (parent && wait) ≡ false
 nobody wait parent none = grind arith
 
-waits-by : (wait : Bool) (f : Fork) (parent ready : Bool) → is_parent_over f ≡ false → parent ≡ is_parent f → (parent && (not wait || ready)) ≡ is_over_well f → (parent && wait) ≡ is_waiting f
+waits-by : (wait : Bool) (f : Fork) (parent ready : Bool) → is_parent_over f ≡ false → parent ≡ is_parent f → (parent && (not wait || ready)) ≡ is_over_well f
+    → (parent && wait) ≡ is_waiting f
 waits-by wait Unforked parent ready on is well = nobody wait parent is
 waits-by wait Asked parent ready on is well = nobody wait parent is
 waits-by wait Child parent ready on is well = nobody wait parent is

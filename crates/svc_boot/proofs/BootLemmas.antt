@@ -88,12 +88,14 @@ not_come Came trying = cc
 not_come (Refused reason) trying = refl
 
 -- what is complete is complete whatever comes
-through-grows : (begun test upgrade come later : Bool) → ((begun && not test) && (not upgrade || come)) ≡ true → come ≡ false → ((begun && not test) && (not upgrade || later)) ≡ true
+through-grows : (begun test upgrade come later : Bool) → ((begun && not test) && (not upgrade || come)) ≡ true → come ≡ false
+    → ((begun && not test) && (not upgrade || later)) ≡ true
 through-grows begun test upgrade come later h e = grind arith
 
 -- a try that was open was answered
 kept-answered : (p : Plan) (f : Fork) (begun complete : Bool) (patience patience2 : ℕ) (x y : Receiving) → is_trying x ≡ true → is_tried y ≡ true
-    → BootKept p (record { fork = f; begun = begun; complete = complete; receiving = x; patience = patience }) → BootKept p (record { fork = f; begun = begun; complete = complete; receiving = y; patience = patience2 })
+    → BootKept p (record { fork = f; begun = begun; complete = complete; receiving = x; patience = patience })
+    → BootKept p (record { fork = f; begun = begun; complete = complete; receiving = y; patience = patience2 })
 kept-answered p f begun complete patience patience2 x y trying tried kept = record {
   tried_is = tried ∙ sym (tried-trying x trying) ∙ kept.tried_is;
   through = λ h. through-grows begun p.test p.upgrade (has_come x) (has_come y) (kept.through h) (not_come x trying);
@@ -105,12 +107,16 @@ tried-missed true moment = refl
 tried-missed false moment = refl
 
 -- an open try met no sender
-pub stands-no_sender : (p : Plan) (d : BootData) (q : Record) (moment : ℕ) → is_trying d.receiving ≡ true → moment ≡ now q → BootStands p d q → BootStands p (missed moment d) (Got NoSenderYet ∷ q)
+pub stands-no_sender : (p : Plan) (d : BootData) (q : Record) (moment : ℕ) → is_trying d.receiving ≡ true → moment ≡ now q → BootStands p d q
+    → BootStands p (missed moment d) (Got NoSenderYet ∷ q)
 stands-no_sender p d q moment trying at stand = let b = stand.begin in let last : Bool = nat_lt d.patience 1 in record {
-  kept = kept-answered p d.fork d.begun d.complete d.patience (d.patience - 1) d.receiving (if last then Refused NoSender else Missed moment) trying (tried-missed last moment) stand.kept;
+  kept = kept-answered p d.fork d.begun d.complete d.patience (d.patience - 1) d.receiving (if last then Refused NoSender else Missed moment) trying
+      (tried-missed last moment) stand.kept;
   begin = record { begun_is = b.begun_is; begun_times = b.begun_times; complete_is = b.complete_is; complete_times = b.complete_times };
   receiving = missed-stands d.receiving q moment last trying at stand.receiving;
-  missing_is = one_too_many p.limit (times is_no_sender q) d.patience (stand.missing_is ∙ not_missing d.receiving trying) stand.patience_is ∙ sym (missing-if last moment);
+  missing_is =
+      one_too_many p.limit (times is_no_sender q) d.patience (stand.missing_is ∙ not_missing d.receiving trying) stand.patience_is
+      ∙ sym (missing-if last moment);
   patience_is = let e = stand.patience_is in omega arith;
   notified_times = stand.notified_times;
   fork = fork-got p d.fork q NoSenderYet refl stand.fork;
@@ -159,10 +165,12 @@ missing-received true = refl
 missing-received false = refl
 
 -- it brought a message
-pub stands-received : (p : Plan) (d : BootData) (q : Record) (bytes fds : List ℕ) (good : Bool) → good ≡ is_read (decode bytes (length fds)) → is_trying d.receiving ≡ true
+pub stands-received : (p : Plan) (d : BootData) (q : Record) (bytes fds : List ℕ) (good : Bool) → good ≡ is_read (decode bytes (length fds))
+    → is_trying d.receiving ≡ true
     → BootStands p d q → BootStands p (received good d) (Got (Received bytes fds) ∷ q)
 stands-received p d q bytes fds good reads trying stand = let b = stand.begin in record {
-  kept = kept-answered p d.fork d.begun d.complete d.patience d.patience d.receiving (if good then Came else Refused BadMessage) trying (tried-received good) stand.kept;
+  kept = kept-answered p d.fork d.begun d.complete d.patience d.patience d.receiving (if good then Came else Refused BadMessage) trying
+      (tried-received good) stand.kept;
   begin = record { begun_is = b.begun_is; begun_times = b.begun_times; complete_is = b.complete_is; complete_times = b.complete_times };
   receiving = received-stands d.receiving q bytes fds good reads trying stand.receiving;
   missing_is = stand.missing_is ∙ not_missing d.receiving trying ∙ sym (missing-received good);
@@ -174,7 +182,8 @@ stands-received p d q bytes fds good reads trying stand = let b = stand.begin in
 }
 
 -- the same of what it is after the call
-pub after-received : (p : Plan) (d new : BootData) (q : Record) (bytes fds : List ℕ) (good : Bool) → new ≡ received good d → good ≡ is_read (decode bytes (length fds)) → is_trying d.receiving ≡ true
+pub after-received : (p : Plan) (d new : BootData) (q : Record) (bytes fds : List ℕ) (good : Bool) → new ≡ received good d
+    → good ≡ is_read (decode bytes (length fds)) → is_trying d.receiving ≡ true
     → BootStands p d q → BootStands p new (Got (Received bytes fds) ∷ q)
 after-received p d new q bytes fds good after reads trying stand =
     subst (λ (x : BootData). BootStands p x (Got (Received bytes fds) ∷ q)) (sym after) (stands-received p d q bytes fds good reads trying stand)
@@ -267,7 +276,8 @@ stands-asked p d daemon stand = let k = stand.kept in let b = stand.begin in let
 }
 
 -- an event changed the fork alone, or nothing
-stands-forked : (p : Plan) (d : BootData) (f : Fork) (q : Record) (e : Event) → is_fork_event e ≡ true → ForkStands p f (Got e ∷ q) → BootStands p d q → BootStands p (forked f d) (Got e ∷ q)
+stands-forked : (p : Plan) (d : BootData) (f : Fork) (q : Record) (e : Event) → is_fork_event e ≡ true → ForkStands p f (Got e ∷ q) → BootStands p d q
+    → BootStands p (forked f d) (Got e ∷ q)
 stands-forked p d f q (Received bytes fds) is fork stand = cc
 stands-forked p d f q NoSenderYet is fork stand = cc
 stands-forked p d f q ReceiveFailed is fork stand = cc
@@ -294,8 +304,10 @@ stands-forked p d f q e is fork stand = let k = stand.kept in let b = stand.begi
 }
 
 -- the fork came
-pub stands-side : (p : Plan) (d : BootData) (q : Record) (side : Side) (m : ℕ) → is_asked d.fork ≡ true → m ≡ now q → BootStands p d q → BootStands p (forked (side_taken p.wait side m) d) (Got (Forked side) ∷ q)
-stands-side p d q side m asked at stand = stands-forked p d (side_taken p.wait side m) q (Forked side) refl (fork-side p d.fork q side m asked at stand.fork) stand
+pub stands-side : (p : Plan) (d : BootData) (q : Record) (side : Side) (m : ℕ) → is_asked d.fork ≡ true → m ≡ now q → BootStands p d q
+    → BootStands p (forked (side_taken p.wait side m) d) (Got (Forked side) ∷ q)
+stands-side p d q side m asked at stand =
+    stands-forked p d (side_taken p.wait side m) q (Forked side) refl (fork-side p d.fork q side m asked at stand.fork) stand
 
 -- the child is ready for which the parent waits
 pub stands-ready : (p : Plan) (d : BootData) (q : Record) → is_waiting d.fork ≡ true → BootStands p d q → BootStands p (forked (Over 0) d) (Got ChildReady ∷ q)
@@ -307,9 +319,11 @@ fails-fork DropFailed fails = refl
 fails-fork e fails = cc
 
 -- it is gone, or the parent couldn't drop its rights
-pub stands-failure : (p : Plan) (d : BootData) (q : Record) (e : Event) → is_waiting d.fork ≡ true → is_parent_failure (Got e) ≡ true → BootStands p d q → BootStands p (forked (Over 1) d) (Got e ∷ q)
+pub stands-failure : (p : Plan) (d : BootData) (q : Record) (e : Event) → is_waiting d.fork ≡ true → is_parent_failure (Got e) ≡ true → BootStands p d q
+    → BootStands p (forked (Over 1) d) (Got e ∷ q)
 stands-failure p d q e waits fails stand = stands-forked p d (Over 1) q e (fails-fork e fails) (fork-failure p d.fork q e waits fails stand.fork) stand
 
 -- a moment came
-pub stands-waited : (p : Plan) (d : BootData) (q : Record) (m : ℕ) → is_parent_over d.fork ≡ false → BootStands p d q → BootStands p (forked (waited p.ready_timeout m d.fork) d) (Got (Moment m) ∷ q)
+pub stands-waited : (p : Plan) (d : BootData) (q : Record) (m : ℕ) → is_parent_over d.fork ≡ false → BootStands p d q
+    → BootStands p (forked (waited p.ready_timeout m d.fork) d) (Got (Moment m) ∷ q)
 stands-waited p d q m on stand = stands-forked p d (waited p.ready_timeout m d.fork) q (Moment m) refl (fork-waited p d.fork q m on stand.fork) stand

@@ -18,7 +18,8 @@ use Rattle.svc_boot.proofs.ForkLemmas.{fork-told, fork-got, fork-moment}
 use Rattle.svc_base.proofs.Logic.{apart_from as not_true}
 
 -- an action that doesn't belong to the beginning, where the server goes on
-pub stands-told : (p : Plan) (d : BootData) (q : Record) (a : Action) → is_boot_action a ≡ false → is_free p d.fork ≡ true → BootStands p d q → BootStands p d (Told a ∷ q)
+pub stands-told : (p : Plan) (d : BootData) (q : Record) (a : Action) → is_boot_action a ≡ false → is_free p d.fork ≡ true → BootStands p d q
+    → BootStands p d (Told a ∷ q)
 stands-told p d q (Phase Bootstrap ms) other free stand = cc
 stands-told p d q (Phase BootstrapComplete ms) other free stand = cc
 stands-told p d q (Phase Running ms) other free stand = cc
@@ -49,7 +50,8 @@ stands-told p d q a other free stand = let b = stand.begin in let x = stand.rece
 }
 
 -- the phase `Running`, where it is due and the server goes on
-pub stands-running : (p : Plan) (d : BootData) (q : Record) (ms : ℕ) → (not p.eager || d.complete) ≡ true → is_free p d.fork ≡ true → BootStands p d q → BootStands p d (Told (Phase Running ms) ∷ q)
+pub stands-running : (p : Plan) (d : BootData) (q : Record) (ms : ℕ) → (not p.eager || d.complete) ≡ true → is_free p d.fork ≡ true → BootStands p d q
+    → BootStands p d (Told (Phase Running ms) ∷ q)
 stands-running p d q ms due free stand = let b = stand.begin in let x = stand.receiving in record {
   kept = stand.kept;
   begin = record { begun_is = b.begun_is; begun_times = b.begun_times; complete_is = b.complete_is; complete_times = b.complete_times };
@@ -129,7 +131,8 @@ stands-moment p d q ms none stand = let b = stand.begin in let x = stand.receivi
 }
 
 -- a told list in which nothing belongs to the beginning, where the server goes on
-pub stands-tell : (p : Plan) (d : BootData) (q : Record) (told : List Action) → has_no_boot_action told ≡ true → is_free p d.fork ≡ true → BootStands p d q → BootStands p d (tell q told)
+pub stands-tell : (p : Plan) (d : BootData) (q : Record) (told : List Action) → has_no_boot_action told ≡ true → is_free p d.fork ≡ true → BootStands p d q
+    → BootStands p d (tell q told)
 stands-tell p d q [] other free stand = stand
 stands-tell p d q (a ∷ told) other free stand =
     let parts = and_parts (not (is_boot_action a)) (has_no_boot_action told) other in

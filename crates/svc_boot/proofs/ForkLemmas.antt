@@ -72,7 +72,8 @@ fork-asked p daemon = record {
     asks false = refl
 
 -- something else is told, where the server goes on
-pub fork-told : (p : Plan) (f : Fork) (q : Record) (a : Action) → is_daemonize (Told a) ≡ false → is_free p f ≡ true → ForkStands p f q → ForkStands p f (Told a ∷ q)
+pub fork-told : (p : Plan) (f : Fork) (q : Record) (a : Action) → is_daemonize (Told a) ≡ false → is_free p f ≡ true → ForkStands p f q
+    → ForkStands p f (Told a ∷ q)
 fork-told p f q Daemonize other free s = cc
 fork-told p f q a other free s = record {
   forked_times = s.forked_times;
@@ -192,7 +193,8 @@ parent-taken p q m false waits at s = record {
 }
 
 -- the fork came that was awaited
-pub fork-side : (p : Plan) (f : Fork) (q : Record) (side : Side) (m : ℕ) → is_asked f ≡ true → m ≡ now q → ForkStands p f q → ForkStands p (side_taken p.wait side m) (Got (Forked side) ∷ q)
+pub fork-side : (p : Plan) (f : Fork) (q : Record) (side : Side) (m : ℕ) → is_asked f ≡ true → m ≡ now q → ForkStands p f q
+    → ForkStands p (side_taken p.wait side m) (Got (Forked side) ∷ q)
 fork-side p Unforked q side m asked at s = cc
 fork-side p Child q side m asked at s = cc
 fork-side p (Waiting since) q side m asked at s = cc
@@ -230,7 +232,8 @@ badly_now : (wait parent ready : Bool) → parent ≡ true → (parent && (not w
 badly_now wait parent ready is well = grind arith
 
 -- it is gone, or the parent couldn't drop its rights
-pub fork-failure : (p : Plan) (f : Fork) (q : Record) (e : Event) → is_waiting f ≡ true → is_parent_failure (Got e) ≡ true → ForkStands p f q → ForkStands p (Over 1) (Got e ∷ q)
+pub fork-failure : (p : Plan) (f : Fork) (q : Record) (e : Event) → is_waiting f ≡ true → is_parent_failure (Got e) ≡ true → ForkStands p f q
+    → ForkStands p (Over 1) (Got e ∷ q)
 fork-failure p Unforked q e waits fails s = cc
 fork-failure p Asked q e waits fails s = cc
 fork-failure p Child q e waits fails s = cc
@@ -292,12 +295,14 @@ fork-moment p f q m none s = record {
   fork_first = (refl, s.fork_first);
 }
 
-waits-till : (wait parent failure ready late waited : Bool) → parent ≡ true → (parent && (not wait || ready)) ≡ false → ((wait && parent) && (failure || waited)) ≡ false
+waits-till : (wait parent failure ready late waited : Bool) → parent ≡ true → (parent && (not wait || ready)) ≡ false
+    → ((wait && parent) && (failure || waited)) ≡ false
     → ((wait && parent) && (failure || ((parent && late) || waited))) ≡ late
 waits-till wait parent failure ready late waited is well badly = grind arith
 
 -- it has waited long enough by what the state says exactly where it has by the record
-late-is : (p : Plan) (q : Record) (m at : ℕ) → ForkStands p (Waiting at) q → nat_le p.ready_timeout ((m - parent_moment q) / 1000) ≡ nat_le p.ready_timeout ((m - at) / 1000)
+late-is : (p : Plan) (q : Record) (m at : ℕ) → ForkStands p (Waiting at) q
+    → nat_le p.ready_timeout ((m - parent_moment q) / 1000) ≡ nat_le p.ready_timeout ((m - at) / 1000)
 late-is p q m at s = ap (λ (n : ℕ). nat_le p.ready_timeout ((m - n) / 1000)) (s.since_is refl)
 
 parent-moment : (p : Plan) (q : Record) (m at : ℕ) (late : Bool) → nat_le p.ready_timeout ((m - parent_moment q) / 1000) ≡ late → ForkStands p (Waiting at) q
@@ -309,7 +314,8 @@ parent-moment p q m at true late s = record {
   parent_is = s.parent_is;
   since_is = λ h. cc;
   well_is = s.well_is;
-  badly_is = waits-till p.wait (has is_side_parent q) (has is_parent_failure q) (has is_child_ready q) _ (parent_waited p q) s.parent_is s.well_is s.badly_is ∙ late;
+  badly_is = waits-till p.wait (has is_side_parent q) (has is_parent_failure q) (has is_child_ready q) _ (parent_waited p q) s.parent_is s.well_is s.badly_is
+      ∙ late;
   status_is = omega arith;
   unready = λ h. cc;
   unfailed = λ h. cc;
@@ -325,7 +331,8 @@ parent-moment p q m at false late s = record {
   parent_is = s.parent_is;
   since_is = s.since_is;
   well_is = s.well_is;
-  badly_is = waits-till p.wait (has is_side_parent q) (has is_parent_failure q) (has is_child_ready q) _ (parent_waited p q) s.parent_is s.well_is s.badly_is ∙ late;
+  badly_is = waits-till p.wait (has is_side_parent q) (has is_parent_failure q) (has is_child_ready q) _ (parent_waited p q) s.parent_is s.well_is s.badly_is
+      ∙ late;
   status_is = s.status_is;
   unready = s.unready;
   unfailed = s.unfailed;
@@ -336,7 +343,8 @@ parent-moment p q m at false late s = record {
 }
 
 -- a moment, where no parent has ended
-pub fork-waited : (p : Plan) (f : Fork) (q : Record) (m : ℕ) → is_parent_over f ≡ false → ForkStands p f q → ForkStands p (waited p.ready_timeout m f) (Got (Moment m) ∷ q)
+pub fork-waited : (p : Plan) (f : Fork) (q : Record) (m : ℕ) → is_parent_over f ≡ false → ForkStands p f q
+    → ForkStands p (waited p.ready_timeout m f) (Got (Moment m) ∷ q)
 fork-waited p Unforked q m on s = fork-moment p Unforked q m refl s
 fork-waited p Asked q m on s = fork-moment p Asked q m refl s
 fork-waited p Child q m on s = fork-moment p Child q m refl s

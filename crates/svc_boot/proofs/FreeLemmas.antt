@@ -29,7 +29,8 @@ use Rattle.svc_boot.proofs.BootEnds.{held-is, unbegun-is}
 use Rattle.svc_boot.proofs.BeginLemmas.{fresh, as-fresh}
 
 -- where the test passes an entry that tells something else than the fork, and passes some entry, the server goes on
-pub told-free : (p : Plan) (d : BootData) (q : Record) (test : Entry → Bool) → BootStands p d q → ((e : Entry) → test e ≡ true → is_other_told e ≡ true) → has test q ≡ true → is_free p d.fork ≡ true
+pub told-free : (p : Plan) (d : BootData) (q : Record) (test : Entry → Bool) → BootStands p d q → ((e : Entry) → test e ≡ true → is_other_told e ≡ true)
+    → has test q ≡ true → is_free p d.fork ≡ true
 told-free p d q test stand other told = elim (cases_Bool (is_free p d.fork)) [
   | inl free ↦ free
   | inr awaits ↦ absurd (let none = held-is p d q stand test other awaits in cc)
@@ -122,10 +123,13 @@ module _ (p : Plan) (d : BootData) (q : Record) (stand : BootStands p d q) where
   send-free asked = told-free p d q is_send stand send-other (open-told is_send is_send_answer q asked)
 
   serves-free : (s : ℕ) → serves p q s ≡ true → is_free p d.fork ≡ true
-  serves-free s h = started-free s (and_parts (is_started q s) (not (has_failed p q s)) (and_parts (is_at_work p q s) (list_all (is_held p q s) (endpoint_numbers p s)) h).0).0
+  serves-free s h =
+      started-free s
+      (and_parts (is_started q s) (not (has_failed p q s)) (and_parts (is_at_work p q s) (list_all (is_held p q s) (endpoint_numbers p s)) h).0).0
 
   accepts-free : (s i : ℕ) → accepts p q s i ≡ true → is_free p d.fork ≡ true
-  accepts-free s i h = serves-free s (and_parts (serves p q s) (is_endpoint p s i) (and_parts (serves p q s && is_endpoint p s i) (not (have_loops_ended p q s i)) h).0).0
+  accepts-free s i h =
+      serves-free s (and_parts (serves p q s) (is_endpoint p s i) (and_parts (serves p q s && is_endpoint p s i) (not (have_loops_ended p q s i)) h).0).0
 
   pub fit-free : (e : Event) → is_fork_event e ≡ false → fits_row p q e ≡ true → is_free p d.fork ≡ true
   fit-free (Moment ms) other fit = cc
@@ -133,14 +137,18 @@ module _ (p : Plan) (d : BootData) (q : Record) (stand : BootStands p d q) where
   fit-free ChildReady other fit = cc
   fit-free ChildGone other fit = cc
   fit-free DropFailed other fit = cc
-  fit-free (Ready s) other fit = started-free s (and_parts (has_kind p Notifying s) (is_started q s) (and_parts (has_kind p Notifying s && is_started q s) (not (has (is_ready_event s) q)) fit).0).1
-  fit-free (Ended s) other fit = started-free s (and_parts (may_end p s) (is_started q s) (and_parts (may_end p s && is_started q s) (not (has (is_ended_event s) q)) fit).0).1
+  fit-free (Ready s) other fit =
+      started-free s
+      (and_parts (has_kind p Notifying s) (is_started q s) (and_parts (has_kind p Notifying s && is_started q s) (not (has (is_ready_event s) q)) fit).0).1
+  fit-free (Ended s) other fit =
+      started-free s (and_parts (may_end p s) (is_started q s) (and_parts (may_end p s && is_started q s) (not (has (is_ended_event s) q)) fit).0).1
   fit-free (Bound s i fd) other fit = bind-free s i (and_parts (is_bind_open q s i) (is_new q fd) fit).0
   fit-free (InUse s i) other fit = bind-free s i fit
   fit-free (BindFailed s i) other fit = bind-free s i fit
   fit-free (Adopted s i) other fit = adopt-free s i fit
   fit-free (AdoptFailed s i) other fit = adopt-free s i fit
-  fit-free (Received bytes fds) other fit = try-free (and_parts (is_try_open q) (nat_le (length fds) 32) (and_parts (is_try_open q && nat_le (length fds) 32) (are_new q fds) fit).0).0
+  fit-free (Received bytes fds) other fit =
+      try-free (and_parts (is_try_open q) (nat_le (length fds) 32) (and_parts (is_try_open q && nat_le (length fds) 32) (are_new q fds) fit).0).0
   fit-free NoSenderYet other fit = try-free fit
   fit-free ReceiveFailed other fit = try-free fit
   fit-free Connected other fit = connect-free fit
@@ -171,7 +179,8 @@ fresh-settled p d t forks on = record {
 }
 
 -- while a server awaits its fork, or a parent its child, all is told that is due
-pub held-settled : (p : Plan) (d : BootData) (q : Record) → BootStands p d q → is_free p d.fork ≡ false → is_forked d.fork ≡ true → is_parent_over d.fork ≡ false → (t : ℕ) → IsBootSettled p d t
+pub held-settled : (p : Plan) (d : BootData) (q : Record) → BootStands p d q → is_free p d.fork ≡ false → is_forked d.fork ≡ true
+    → is_parent_over d.fork ≡ false → (t : ℕ) → IsBootSettled p d t
 held-settled p d q stand awaits forks on t =
     subst (λ (x : BootData). IsBootSettled p x t) (sym (as-fresh p d stand.kept (unbegun-is p d q stand awaits)))
     (fresh-settled p d t (forks ∙ sym (stand.fork.daemon_is forks)) on)

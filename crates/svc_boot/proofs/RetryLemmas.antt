@@ -5,11 +5,13 @@ use Rattle.svc_fds.specs.declared.retry.ReceiveNext.TheVariants.{Receive, Refuse
 use Rattle.svc_fds.specs.declared.errors.ReceiveError.{ReceiveError}
 use Rattle.svc_fds.specs.declared.errors.ReceiveError.TheVariants.{NoSender}
 
-pub once_too_often : (last : Bool) (next : ReceiveNext) (reason : ReceiveError) → next ≡ (if last then Refused NoSender else Receive 1000) → next ≡ Refused reason → true ≡ last
+pub once_too_often : (last : Bool) (next : ReceiveNext) (reason : ReceiveError) → next ≡ (if last then Refused NoSender else Receive 1000)
+    → next ≡ Refused reason → true ≡ last
 once_too_often true next reason is refused = refl
 once_too_often false next reason is refused = cc
 
-pub not_too_often : (last : Bool) (next : ReceiveNext) → next ≡ (if last then Refused NoSender else Receive 1000) → ((reason : ReceiveError) → next ≡ Refused reason → ⊥) → false ≡ last
+pub not_too_often : (last : Bool) (next : ReceiveNext) → next ≡ (if last then Refused NoSender else Receive 1000)
+    → ((reason : ReceiveError) → next ≡ Refused reason → ⊥) → false ≡ last
 not_too_often true next is goes_on = absurd (goes_on NoSender is)
 not_too_often false next is goes_on = refl
 

@@ -42,7 +42,8 @@ is_boot_event NoSenderYet = true
 is_boot_event ReceiveFailed = true
 is_boot_event e = is_fork_event e
 
--- all is told that is due at the moment t: the fork where the server is a daemon; neither the parent's end nor the receiving ended the run, no try is due, and bootstrapping is complete exactly where nothing is left to receive
+-- all is told that is due at the moment t: the fork where the server is a daemon; neither the parent's end nor the receiving ended the run, no try is
+-- due, and bootstrapping is complete exactly where nothing is left to receive
 pub record IsBootSettled (p : Plan) (d : BootData) (t : ℕ) : Type 0 where
   pub forked_is : is_forked d.fork ≡ p.daemon
   pub no_parent_over : is_parent_over d.fork ≡ false

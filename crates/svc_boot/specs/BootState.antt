@@ -94,7 +94,8 @@ notifies p = p.daemon && p.wait
 abbrev pub has_notified : Plan → BootData → Bool
 has_notified p d = (d.begun && not p.test) && notifies p
 
--- what the part keeps by itself: it was tried exactly where a message is received, what is complete has nothing left to receive, and what had nothing to receive is complete
+-- what the part keeps by itself: it was tried exactly where a message is received, what is complete has nothing left to receive, and what had nothing
+-- to receive is complete
 pub record BootKept (p : Plan) (d : BootData) : Type 0 where
   pub tried_is : is_tried d.receiving ≡ receives p d
   pub through : d.complete ≡ true → is_through p d ≡ true

@@ -4,7 +4,8 @@ use Rattle.svc_conf.specs.declared.server.configuration.Opt.{Opt}
 use Rattle.svc_fds.specs.FdTable.{FdTable}
 use Rattle.svc_boot.specs.BootData.{BootData}
 
--- whether the run tests, whether it takes over, the number of the parent's process where that is notified, what bootstrapping is at, and the table of the sockets
+-- whether the run tests, whether it takes over, the number of the parent's process where that is notified, what bootstrapping is at, and the table of
+-- the sockets
 pub record BootstrapData : Type 0 where
   pub test : Bool
   pub upgrade : Bool

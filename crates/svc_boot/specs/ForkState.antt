@@ -72,7 +72,8 @@ is_other_told (Told Daemonize) = false
 is_other_told (Told a) = true
 is_other_told _ = false
 
--- what was told and got of the fork: it stands first, once, and only in the run of a daemon; while the server isn't free nothing else was told; and a parent that waits does so since it became one, and ends by what the record says
+-- what was told and got of the fork: it stands first, once, and only in the run of a daemon; while the server isn't free nothing else was told; and a
+-- parent that waits does so since it became one, and ends by what the record says
 pub record ForkStands (p : Plan) (f : Fork) (q : Record) : Type 0 where
   pub forked_times : times is_daemonize q ≡ (if is_forked f then 1 else 0)
   pub asked_is : is_daemonize_open q ≡ is_asked f

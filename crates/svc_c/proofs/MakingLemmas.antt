@@ -28,10 +28,14 @@ not-zero zero e = absurd (cc)
 not-zero (suc n) e = omega arith
 
 -- the plan of a script's parts, whose configuration is accepted
-pub valid-settled : (opt : Opt) (parts : Parts) (conf : ServerConf) (services : List ServicePlan) (plan : Plan) → conf ≡ merged opt parts.conf → judged conf ≡ Ok tt → services ≡ plans_from parts.services 0 parts.services
+pub valid-settled : (opt : Opt) (parts : Parts) (conf : ServerConf) (services : List ServicePlan) (plan : Plan) → conf ≡ merged opt parts.conf
+    → judged conf ≡ Ok tt → services ≡ plans_from parts.services 0 parts.services
     → plan ≡ settled conf opt parts.eager services → AreAccepted parts.services → RefusesNone parts.services → IsValid plan
 valid-settled opt parts conf services plan is_merged is_judged are is accepted edges =
-    let tasks : 0 < conf.listener_tasks_per_fd = not-zero conf.listener_tasks_per_fd (unbroken (take 4 (rules_of conf)) (conf.listener_tasks_per_fd == 0, ListenerTasksPerFd) (drop 5 (rules_of conf)) is_judged) in
+    let tasks : 0 < conf.listener_tasks_per_fd =
+    not-zero conf.listener_tasks_per_fd
+    (unbroken (take 4 (rules_of conf)) (conf.listener_tasks_per_fd == 0, ListenerTasksPerFd) (drop 5 (rules_of conf)) is_judged) in
     let some : 0 < parts.conf.listener_tasks_per_fd = subst (λ (x : ServerConf). 0 < x.listener_tasks_per_fd) is_merged tasks in
-    let same : plan ≡ plan_of opt parts = is ∙ ap (λ (x : ServerConf). settled x opt parts.eager services) is_merged ∙ ap (settled (merged opt parts.conf) opt parts.eager) are in
+    let same : plan ≡ plan_of opt parts =
+    is ∙ ap (λ (x : ServerConf). settled x opt parts.eager services) is_merged ∙ ap (settled (merged opt parts.conf) opt parts.eager) are in
     subst IsValid (sym same) (plan_valid opt parts accepted edges some)

@@ -18,7 +18,8 @@ open-fits core = by (is_served core.end)
     by false = let same = length-map core.endpoints.table (λ (o : Open). o.fd) in omega (arith, same)
 
 -- so the closes and the event fit
-pub close-fits : (core : CoreData) (also : Option Event) (most more : ℕ) (P : Type 0) (o : Option ℕ) → most ≡ step_room core → more ≡ brought_by also → SomeIff o P (most + more) → IfSome o (λ room. close_need core also + 1 ≤ room)
+pub close-fits : (core : CoreData) (also : Option Event) (most more : ℕ) (P : Type 0) (o : Option ℕ) → most ≡ step_room core → more ≡ brought_by also
+    → SomeIff o P (most + more) → IfSome o (λ room. close_need core also + 1 ≤ room)
 close-fits core also most more P None e f sum = tt
 close-fits core None most more P (Some room) e f sum = let fits = open-fits core in omega (arith, e, f, sum.1, fits)
 close-fits core (Some event) most more P (Some room) e f sum = let fits = open-fits core in omega (arith, e, f, sum.1, fits)

@@ -70,7 +70,8 @@ joined_text (Ok (Some s)) (Ok more) p q = tt
 lines_text : (before : List Kind) (ls : List (List ℕ)) → ByText (said_from before ls)
 lines_text before [] = tt
 lines_text before (line ∷ after) =
-    joined_text _ _ (says_text (place_of before) (kind_in (skips before) line).0 (kind_in (skips before) line).1 after) (lines_text ((kind_in (skips before) line).0 ∷ before) after)
+    joined_text _ _ (says_text (place_of before) (kind_in (skips before) line).0 (kind_in (skips before) line).1 after)
+    (lines_text ((kind_in (skips before) line).0 ∷ before) after)
 
 overridden_text : (conf : ServerConf) (r : Result (List Said) ReadError) → ByText r → ByText (overridden_by conf r)
 overridden_text conf (Err e) p = p

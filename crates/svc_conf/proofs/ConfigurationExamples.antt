@@ -32,7 +32,8 @@ leading_zero : configuration (codes "threads: 03") ≡ Err (errors.Value keys.Th
 unfolding configuration kind_of value_of number_of key_of is_utf8 chars digits encode
 leading_zero = refl
 
-two_texts : configuration (text (codes "client_bind_to_ipv4:" ∷ codes "- 1.2.3.4" ∷ codes "- 5.6.7.8" ∷ [])) ≡ Ok (record defaults { client_bind_to_ipv4 = codes "1.2.3.4" ∷ codes "5.6.7.8" ∷ [] })
+two_texts : configuration (text (codes "client_bind_to_ipv4:" ∷ codes "- 1.2.3.4" ∷ codes "- 5.6.7.8" ∷ []))
+    ≡ Ok (record defaults { client_bind_to_ipv4 = codes "1.2.3.4" ∷ codes "5.6.7.8" ∷ [] })
 unfolding configuration kind_of value_of number_of key_of is_utf8 chars digits encode
 two_texts = refl
 
@@ -40,11 +41,14 @@ pub started : configuration new_text ≡ Ok (record defaults { version = 1 })
 unfolding configuration kind_of value_of number_of key_of is_utf8 chars digits encode
 started = refl
 
-hash_in_quotes : configuration (text (codes "user: 'a # b' # c" ∷ codes "group: a#b # c" ∷ [])) ≡ Ok (record defaults { user = Some (codes "a # b"); group = Some (codes "a#b") })
+hash_in_quotes : configuration (text (codes "user: 'a # b' # c" ∷ codes "group: a#b # c" ∷ []))
+    ≡ Ok (record defaults { user = Some (codes "a # b"); group = Some (codes "a#b") })
 unfolding configuration kind_of value_of number_of key_of is_utf8 chars digits encode
 hash_in_quotes = refl
 
-null_words : configuration (text (codes "user: null" ∷ codes "group: 'null'" ∷ codes "fast_timeout_to_tokio_threshold_seconds:" ∷ codes "max_blocking_threads: ~ #" ∷ [])) ≡ Ok (record defaults { group = Some (codes "null"); fast_timeout_to_tokio_threshold_seconds = None })
+null_words : configuration
+    (text (codes "user: null" ∷ codes "group: 'null'" ∷ codes "fast_timeout_to_tokio_threshold_seconds:" ∷ codes "max_blocking_threads: ~ #" ∷ []))
+    ≡ Ok (record defaults { group = Some (codes "null"); fast_timeout_to_tokio_threshold_seconds = None })
 unfolding configuration kind_of value_of number_of key_of is_utf8 chars digits encode
 null_words = refl
 
@@ -52,7 +56,8 @@ null_text : configuration (codes "pid_file: null") ≡ Err (errors.Value keys.Pi
 unfolding configuration kind_of value_of number_of key_of is_utf8 chars digits encode
 null_text = refl
 
-empty_list : configuration (text (codes "client_bind_to_ipv4: []" ∷ codes "client_bind_to_ipv6:" ∷ codes "# none" ∷ codes "threads: 3" ∷ [])) ≡ Err (errors.Value keys.ClientBindToIpv6 2)
+empty_list : configuration (text (codes "client_bind_to_ipv4: []" ∷ codes "client_bind_to_ipv6:" ∷ codes "# none" ∷ codes "threads: 3" ∷ []))
+    ≡ Err (errors.Value keys.ClientBindToIpv6 2)
 unfolding configuration kind_of value_of number_of key_of is_utf8 chars digits encode
 empty_list = refl
 
@@ -60,7 +65,8 @@ flow_list : configuration (text (codes "# a" ∷ codes "client_bind_to_ipv4: [a]
 unfolding configuration kind_of value_of number_of key_of is_utf8 chars digits encode
 flow_list = refl
 
-double_quotes : configuration (text ((codes "user: " ++ (34 ∷ []) ++ codes "a\\" ++ (34 ∷ []) ++ codes "b\\n" ++ (34 ∷ []) ++ codes "  # c") ∷ [])) ≡ Ok (record defaults { user = Some (97 ∷ 34 ∷ 98 ∷ 10 ∷ []) })
+double_quotes : configuration (text ((codes "user: " ++ (34 ∷ []) ++ codes "a\\" ++ (34 ∷ []) ++ codes "b\\n" ++ (34 ∷ []) ++ codes "  # c") ∷ []))
+    ≡ Ok (record defaults { user = Some (97 ∷ 34 ∷ 98 ∷ 10 ∷ []) })
 unfolding configuration kind_of value_of number_of key_of is_utf8 chars digits encode
 double_quotes = refl
 
@@ -72,7 +78,8 @@ start_twice : configuration (text (codes "--- # c" ∷ [] ∷ codes "---" ∷ []
 unfolding configuration kind_of value_of number_of key_of is_utf8 chars digits encode
 start_twice = refl
 
-start_in_unknown : configuration (text (codes "extra: {" ∷ codes "---" ∷ codes " daemon: x" ∷ codes "daemon: True" ∷ [])) ≡ Ok (record defaults { daemon = true })
+start_in_unknown : configuration (text (codes "extra: {" ∷ codes "---" ∷ codes " daemon: x" ∷ codes "daemon: True" ∷ []))
+    ≡ Ok (record defaults { daemon = true })
 unfolding configuration kind_of value_of number_of key_of is_utf8 chars digits encode
 start_in_unknown = refl
 

@@ -28,13 +28,15 @@ place_of-behind before Unknown = let e : length (Unknown ∷ before) ≡ length 
 place_of-behind before Item = let e : length (Item ∷ before) ≡ length before + 1 = omega arith in rw e refl
 place_of-behind before Other = let e : length (Other ∷ before) ≡ length before + 1 = omega arith in rw e refl
 
-pub sets : (r : Result (Option Said) ReadError) (more : Result (List Said) ReadError) (conf new : ServerConf) → set_by conf r ≡ Ok new → overridden_by conf (joined r more) ≡ overridden_by new more
+pub sets : (r : Result (Option Said) ReadError) (more : Result (List Said) ReadError) (conf new : ServerConf) → set_by conf r ≡ Ok new
+    → overridden_by conf (joined r more) ≡ overridden_by new more
 sets (Err e) more conf new h = absurd cc
 sets (Ok None) more conf new h = let e : conf ≡ new = cc in ap (λ (c : ServerConf). overridden_by c more) e
 sets (Ok (Some s)) (Err e) conf new h = refl
 sets (Ok (Some s)) (Ok more) conf new h = let e : set_said s conf ≡ new = cc in ap (λ (c : ServerConf). overridden_by c (Ok more)) e
 
-stops : (r : Result (Option Said) ReadError) (more : Result (List Said) ReadError) (conf : ServerConf) (e : ReadError) → set_by conf r ≡ Err e → overridden_by conf (joined r more) ≡ Err e
+stops : (r : Result (Option Said) ReadError) (more : Result (List Said) ReadError) (conf : ServerConf) (e : ReadError) → set_by conf r ≡ Err e
+    → overridden_by conf (joined r more) ≡ Err e
 stops (Err f) more conf e h = let g : f ≡ e = cc in rw g refl
 stops (Ok None) more conf e h = absurd cc
 stops (Ok (Some s)) more conf e h = absurd cc
@@ -44,11 +46,14 @@ unfolding configuration
 reads_none text = record { before = []; place_is = refl; rest_says = refl }
 
 one_line_says : (text rest line after : List ℕ) (place : Place) (conf : ServerConf) (r : IsReading text rest place conf) → lines rest ≡ line ∷ lines after
-    → overridden_by conf (joined (says place (kind_in place.skips line).0 (kind_in place.skips line).1 (lines after)) (said_from ((kind_in place.skips line).0 ∷ r.before) (lines after))) ≡ configuration text
+    → overridden_by conf
+    (joined (says place (kind_in place.skips line).0 (kind_in place.skips line).1 (lines after))
+    (said_from ((kind_in place.skips line).0 ∷ r.before) (lines after))) ≡ configuration text
 one_line_says text rest line after place conf r e =
     rw r.place_is (sym (ap (λ (ls : List (List ℕ)). overridden_by conf (said_from r.before ls)) e) ∙ r.rest_says)
 
-pub reads_more : (text rest line after : List ℕ) (place behind : Place) (conf new : ServerConf) → IsReading text rest place conf → lines rest ≡ line ∷ lines after
+pub reads_more : (text rest line after : List ℕ) (place behind : Place) (conf new : ServerConf) → IsReading text rest place conf
+    → lines rest ≡ line ∷ lines after
     → set_by conf (says place (kind_in place.skips line).0 (kind_in place.skips line).1 (lines after)) ≡ Ok new
     → behind ≡ behind_line place (kind_in place.skips line).0 → IsReading text after behind new
 reads_more text rest line after place behind conf new r e h b = record {
@@ -57,7 +62,8 @@ reads_more text rest line after place behind conf new r e h b = record {
   rest_says = sym (sets _ (said_from ((kind_in place.skips line).0 ∷ r.before) (lines after)) conf new h) ∙ one_line_says text rest line after place conf r e;
 }
 
-pub refuses : (text rest line after : List ℕ) (place : Place) (conf : ServerConf) (error : ReadError) → IsReading text rest place conf → lines rest ≡ line ∷ lines after
+pub refuses : (text rest line after : List ℕ) (place : Place) (conf : ServerConf) (error : ReadError) → IsReading text rest place conf
+    → lines rest ≡ line ∷ lines after
     → set_by conf (says place (kind_in place.skips line).0 (kind_in place.skips line).1 (lines after)) ≡ Err error → configuration text ≡ Err error
 refuses text rest line after place conf error r e h =
     sym (one_line_says text rest line after place conf r e) ∙ stops _ (said_from ((kind_in place.skips line).0 ∷ r.before) (lines after)) conf error h

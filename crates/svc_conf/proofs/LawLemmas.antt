@@ -40,7 +40,8 @@ use Rattle.svc_conf.proofs.ValueBackLemmas.{is_clean, clean_append, line_back, n
 abbrev reads : List Kind → ServerConf → List (List ℕ) → Result ServerConf ReadError
 reads before conf ls = overridden_by conf (said_from before ls)
 
-line_reads : (before : List Kind) (conf new : ServerConf) (line : List ℕ) (after : List (List ℕ)) (kind : Kind) (rest : List ℕ) → skips before ≡ false → kind_of line ≡ (kind, rest)
+line_reads : (before : List Kind) (conf new : ServerConf) (line : List ℕ) (after : List (List ℕ)) (kind : Kind) (rest : List ℕ) → skips before ≡ false
+    → kind_of line ≡ (kind, rest)
     → set_by conf (says (place_of before) kind rest after) ≡ Ok new → reads before conf (line ∷ after) ≡ reads (kind ∷ before) new after
 line_reads before conf new line after kind rest none e h =
     let k : kind_in (skips before) line ≡ (kind, rest) = rw (none, e) refl in
@@ -176,7 +177,8 @@ zero_is_allowed OptionalNumbers.UpgradeSockConnectAcceptMaxRetries conf h = and_
 zero_is_allowed OptionalNumbers.MaxBlockingThreads conf h = and_off (is_zero conf.max_blocking_threads)
 zero_is_allowed OptionalNumbers.BlockingThreadsTtlSeconds conf h = and_off (is_zero conf.blocking_threads_ttl_seconds)
 zero_is_allowed OptionalNumbers.FastTimeoutToTokioThresholdSeconds conf h = and_off (is_zero conf.fast_timeout_to_tokio_threshold_seconds)
-zero_is_allowed OptionalNumbers.RuntimeMetricsPollTimeHistogramResolutionMicros conf h = and_off (is_zero conf.runtime_metrics_poll_time_histogram_resolution_micros)
+zero_is_allowed OptionalNumbers.RuntimeMetricsPollTimeHistogramResolutionMicros conf h =
+    and_off (is_zero conf.runtime_metrics_poll_time_histogram_resolution_micros)
 zero_is_allowed OptionalNumbers.RuntimeMetricsPollTimeHistogramBuckets conf h = and_off (is_zero conf.runtime_metrics_poll_time_histogram_buckets)
 zero_is_allowed OptionalNumbers.DaemonReadyTimeoutSeconds conf h = rw h.0 refl
 zero_is_allowed OptionalNumbers.DaemonNotifyTimeoutSeconds conf h = rw h.1 refl
@@ -231,14 +233,18 @@ flag_clean false = refl
 text_said : (value : Value) (text : List ℕ) → is_unset value ≡ false → value.text ≡ text → text_value value ≡ Some text
 text_said value text e t = rw (e, t) refl
 
-optional_text_back : (text : Option (List ℕ)) → IsOptional IsText text → (value : Value) × (value_of (32 ∷ or_null text_shown text) ≡ Some value) × (optional text_value value ≡ Some text) × (list_all is_clean (or_null text_shown text) ≡ true)
+optional_text_back : (text : Option (List ℕ)) → IsOptional IsText text
+    → (value : Value) × (value_of (32 ∷ or_null text_shown text) ≡ Some value) × (optional text_value value ≡ Some text)
+    × (list_all is_clean (or_null text_shown text) ≡ true)
 optional_text_back None h = (record { quoted = false; text = codes "null" }, null_back, refl, refl)
 optional_text_back (Some t) h =
     let b = text_back t h in
     let e : is_unset b.value ≡ false = b.unset in
     (b.value, b.value_is, rw (e, b.text_is) refl, b.clean)
 
-optional_number_back : (number : Option ℕ) → IsOptional IsNumber number → (value : Value) × (value_of (32 ∷ or_null decimal number) ≡ Some value) × (optional number_value value ≡ Some number) × (list_all is_clean (or_null decimal number) ≡ true)
+optional_number_back : (number : Option ℕ) → IsOptional IsNumber number
+    → (value : Value) × (value_of (32 ∷ or_null decimal number) ≡ Some value) × (optional number_value value ≡ Some number)
+    × (list_all is_clean (or_null decimal number) ≡ true)
 optional_number_back None h = (record { quoted = false; text = codes "null" }, null_back, refl, refl)
 optional_number_back (Some n) h =
     let b = number_back n h in
@@ -247,9 +253,19 @@ optional_number_back (Some n) h =
 value_back : (field : Field) (conf : ServerConf) → ValueFits field conf → HasNoZero conf → SaysHeld field conf (value_shown field conf) (said_held field conf)
 value_back (fields.Number key) conf h z =
     let b = number_back (held_number key conf) h in
-    record { value = record { quoted = false; text = decimal (held_number key conf) }; value_is = b.value; said_is = rw b.number refl; clean = number_clean (held_number key conf) h }
+    record {
+      value = record { quoted = false; text = decimal (held_number key conf) };
+      value_is = b.value;
+      said_is = rw b.number refl;
+      clean = number_clean (held_number key conf) h;
+    }
 value_back (fields.Flag key) conf h z =
-    record { value = record { quoted = false; text = flag_shown (held_flag key conf) }; value_is = flag_back (held_flag key conf); said_is = flag_said key (held_flag key conf); clean = flag_clean (held_flag key conf) }
+    record {
+      value = record { quoted = false; text = flag_shown (held_flag key conf) };
+      value_is = flag_back (held_flag key conf);
+      said_is = flag_said key (held_flag key conf);
+      clean = flag_clean (held_flag key conf);
+    }
 value_back (fields.Text key) conf h z =
     let b = text_back (held_text key conf) h in
     let e : text_value b.value ≡ Some (held_text key conf) = text_said b.value (held_text key conf) b.unset b.text_is in
@@ -280,26 +296,31 @@ record Reads (before : List Kind) (conf new : ServerConf) (text rest : List ℕ)
   none : skips now ≡ false
   same : reads before conf (lines text) ≡ reads now new (lines rest)
 
-known_set : (before : List Kind) (conf : ServerConf) (key : Key) (field : Field) (rest : List ℕ) (after : List (List ℕ)) (value : Value) (s : Said) → has_key key (keys_in before) ≡ false → field_of key ≡ field
+known_set : (before : List Kind) (conf : ServerConf) (key : Key) (field : Field) (rest : List ℕ) (after : List (List ℕ)) (value : Value) (s : Said)
+    → has_key key (keys_in before) ≡ false → field_of key ≡ field
     → value_of rest ≡ Some value → said_of field value ≡ Some s → set_by conf (says (place_of before) (Known key) rest after) ≡ Ok (set_said s conf)
 known_set before conf key field rest after value s free f v e =
     let e' : said_of (field_of key) value ≡ Some s = ap (λ (x : Field). said_of x value) f ∙ e in
     rw (free, v, e') refl
 
 -- the line of a key with a value
-value_line_reads : (before : List Kind) (conf : ServerConf) (key : Key) (field : Field) (bytes rest : List ℕ) (value : Value) (s : Said) → has_key key (keys_in before) ≡ false → skips before ≡ false
-    → field_of key ≡ field → key_kind (Some key) (32 ∷ bytes) ≡ (Known key, 32 ∷ bytes) → value_of (32 ∷ bytes) ≡ Some value → said_of field value ≡ Some s → list_all is_clean bytes ≡ true
+value_line_reads : (before : List Kind) (conf : ServerConf) (key : Key) (field : Field) (bytes rest : List ℕ) (value : Value) (s : Said)
+    → has_key key (keys_in before) ≡ false → skips before ≡ false
+    → field_of key ≡ field → key_kind (Some key) (32 ∷ bytes) ≡ (Known key, 32 ∷ bytes) → value_of (32 ∷ bytes) ≡ Some value → said_of field value ≡ Some s
+    → list_all is_clean bytes ≡ true
     → Reads before conf (set_said s conf) (value_line key bytes ++ rest) rest (keys_in before ++ key ∷ [])
 value_line_reads before conf key field bytes rest value s free none f k v e clean =
     let line : List ℕ = key_name key ++ 58 ∷ 32 ∷ bytes in
     let joined_up : value_line key bytes ++ rest ≡ line ++ 10 ∷ rest = simp append_assoc in
-    let is_line : lines (value_line key bytes ++ rest) ≡ line ∷ lines rest = ap lines joined_up ∙ line_back line rest (clean_append (key_name key) (58 ∷ 32 ∷ bytes) (name_clean key) clean) in
+    let is_line : lines (value_line key bytes ++ rest) ≡ line ∷ lines rest =
+    ap lines joined_up ∙ line_back line rest (clean_append (key_name key) (58 ∷ 32 ∷ bytes) (name_clean key) clean) in
     record {
       now = Known key ∷ before;
       keys_are = refl;
       none = refl;
       same = ap (reads before conf) is_line
-          ∙ line_reads before conf (set_said s conf) line (lines rest) (Known key) (32 ∷ bytes) none (kind_named key (32 ∷ bytes) refl ∙ k) (known_set before conf key field (32 ∷ bytes) (lines rest) value s free f v e);
+          ∙ line_reads before conf (set_said s conf) line (lines rest) (Known key) (32 ∷ bytes) none (kind_named key (32 ∷ bytes) refl ∙ k)
+          (known_set before conf key field (32 ∷ bytes) (lines rest) value s free f v e);
     }
 
 -- ---- lists
@@ -313,11 +334,13 @@ held_again : (list : ListKey) (conf : ServerConf) → set_list list (held_list l
 held_again Lists.ClientBindToIpv4 conf = rw (append-nil conf.client_bind_to_ipv4) refl
 held_again Lists.ClientBindToIpv6 conf = rw (append-nil conf.client_bind_to_ipv6) refl
 
-set_again : (list : ListKey) (xs ys zs : List (List ℕ)) (conf : ServerConf) → xs ++ ys ≡ zs → set_list list (held_list list (set_list list xs conf) ++ ys) (set_list list xs conf) ≡ set_list list zs conf
+set_again : (list : ListKey) (xs ys zs : List (List ℕ)) (conf : ServerConf) → xs ++ ys ≡ zs
+    → set_list list (held_list list (set_list list xs conf) ++ ys) (set_list list xs conf) ≡ set_list list zs conf
 set_again Lists.ClientBindToIpv4 xs ys zs conf e = ap (λ (v : List (List ℕ)). set_list Lists.ClientBindToIpv4 v conf) e
 set_again Lists.ClientBindToIpv6 xs ys zs conf e = ap (λ (v : List (List ℕ)). set_list Lists.ClientBindToIpv6 v conf) e
 
-item_lines_are : (t : List ℕ) (ts : List (List ℕ)) (rest : List ℕ) → IsText t → lines (flat_map item_line (t ∷ ts) ++ rest) ≡ (45 ∷ 32 ∷ text_shown t) ∷ lines (flat_map item_line ts ++ rest)
+item_lines_are : (t : List ℕ) (ts : List (List ℕ)) (rest : List ℕ) → IsText t
+    → lines (flat_map item_line (t ∷ ts) ++ rest) ≡ (45 ∷ 32 ∷ text_shown t) ∷ lines (flat_map item_line ts ++ rest)
 item_lines_are t ts rest h =
     let b = text_back t h in
     let up : flat_map item_line (t ∷ ts) ++ rest ≡ (45 ∷ 32 ∷ text_shown t) ++ 10 ∷ (flat_map item_line ts ++ rest) = simp append_assoc in
@@ -336,20 +359,24 @@ first_of t ts h = h 0 t (omega arith)
 more_of : (t : List ℕ) (ts : List (List ℕ)) → All IsText (t ∷ ts) → All IsText ts
 more_of t ts h = λ k d lt. h (suc k) d (omega arith)
 
-items_read : (list : ListKey) (ts : List (List ℕ)) (before : List Kind) (conf : ServerConf) (rest : List ℕ) → All IsText ts → list_at before ≡ Some list → skips before ≡ false
+items_read : (list : ListKey) (ts : List (List ℕ)) (before : List Kind) (conf : ServerConf) (rest : List ℕ) → All IsText ts → list_at before ≡ Some list
+    → skips before ≡ false
     → Reads before conf (set_list list (held_list list conf ++ ts) conf) (flat_map item_line ts ++ rest) rest (keys_in before)
 items_read list [] before conf rest h at none =
     record { now = before; keys_are = refl; none = none; same = ap (λ (c : ServerConf). reads before c (lines rest)) (sym (held_again list conf)) }
 items_read list (t ∷ ts) before conf rest h at none =
     let one : ServerConf = set_list list (push (held_list list conf) t) conf in
-    let more : Reads (Item ∷ before) one (set_list list (held_list list one ++ ts) one) (flat_map item_line ts ++ rest) rest (keys_in before) = items_read list ts (Item ∷ before) one rest (more_of t ts h) at refl in
-    let again : set_list list (held_list list one ++ ts) one ≡ set_list list (held_list list conf ++ t ∷ ts) conf = set_again list (push (held_list list conf) t) ts (held_list list conf ++ t ∷ ts) conf (append_assoc (held_list list conf) (t ∷ []) ts) in
+    let more : Reads (Item ∷ before) one (set_list list (held_list list one ++ ts) one) (flat_map item_line ts ++ rest) rest (keys_in before) =
+    items_read list ts (Item ∷ before) one rest (more_of t ts h) at refl in
+    let again : set_list list (held_list list one ++ ts) one ≡ set_list list (held_list list conf ++ t ∷ ts) conf =
+    set_again list (push (held_list list conf) t) ts (held_list list conf ++ t ∷ ts) conf (append_assoc (held_list list conf) (t ∷ []) ts) in
     record {
       now = more.now;
       keys_are = more.keys_are;
       none = more.none;
       same = ap (reads before conf) (item_lines_are t ts rest (first_of t ts h))
-          ∙ line_reads before conf one (45 ∷ 32 ∷ text_shown t) (lines (flat_map item_line ts ++ rest)) Item (32 ∷ text_shown t) none (item_named (text_shown t)) (item_set before conf list t (lines (flat_map item_line ts ++ rest)) (first_of t ts h) at)
+          ∙ line_reads before conf one (45 ∷ 32 ∷ text_shown t) (lines (flat_map item_line ts ++ rest)) Item (32 ∷ text_shown t) none
+          (item_named (text_shown t)) (item_set before conf list t (lines (flat_map item_line ts ++ rest)) (first_of t ts h) at)
           ∙ more.same
           ∙ ap (λ (c : ServerConf). reads more.now c (lines rest)) again;
     }
@@ -361,47 +388,59 @@ abbrev copied : Field → ServerConf → ServerConf → ServerConf
 copied (fields.List list) target conf = set_list list (held_list list target) conf
 copied field target conf = set_said (said_held field target) conf
 
-plain_reads : (target : ServerConf) (before : List Kind) (conf : ServerConf) (key : Key) (field : Field) (rest : List ℕ) → field_of key ≡ field → has_key key (keys_in before) ≡ false → skips before ≡ false
+plain_reads : (target : ServerConf) (before : List Kind) (conf : ServerConf) (key : Key) (field : Field) (rest : List ℕ) → field_of key ≡ field
+    → has_key key (keys_in before) ≡ false → skips before ≡ false
     → ValueFits field target → HasNoZero target → sort_kind key (32 ∷ value_shown field target) field ≡ (Known key, 32 ∷ value_shown field target)
     → Reads before conf (set_said (said_held field target) conf) (value_line key (value_shown field target) ++ rest) rest (keys_in before ++ key ∷ [])
 plain_reads target before conf key field rest f free none h z k =
     let b = value_back field target h z in
-    value_line_reads before conf key field (value_shown field target) rest b.value (said_held field target) free none f (ap (sort_kind key (32 ∷ value_shown field target)) f ∙ k) b.value_is b.said_is b.clean
+    value_line_reads before conf key field (value_shown field target) rest b.value (said_held field target) free none f
+    (ap (sort_kind key (32 ∷ value_shown field target)) f ∙ k) b.value_is b.said_is b.clean
 
-opening_set : (before : List Kind) (conf : ServerConf) (key : Key) (list : ListKey) (t : List ℕ) (ts : List (List ℕ)) (rest : List ℕ) → IsText t → list_key list ≡ key → has_key key (keys_in before) ≡ false
+opening_set : (before : List Kind) (conf : ServerConf) (key : Key) (list : ListKey) (t : List ℕ) (ts : List (List ℕ)) (rest : List ℕ) → IsText t
+    → list_key list ≡ key → has_key key (keys_in before) ≡ false
     → set_by conf (says (place_of before) (Opens list) [] (lines (flat_map item_line (t ∷ ts) ++ rest))) ≡ Ok (set_list list [] conf)
 opening_set before conf key list t ts rest h e free =
     let free' : has_key (list_key list) (keys_in before) ≡ false = ap (λ (k : Key). has_key k (keys_in before)) e ∙ free in
     rw (free', item_lines_are t ts rest h) refl
 
-list_reads : (items : List (List ℕ)) (before : List Kind) (conf : ServerConf) (key : Key) (list : ListKey) (rest : List ℕ) → field_of key ≡ fields.List list → has_key key (keys_in before) ≡ false → skips before ≡ false
+list_reads : (items : List (List ℕ)) (before : List Kind) (conf : ServerConf) (key : Key) (list : ListKey) (rest : List ℕ) → field_of key ≡ fields.List list
+    → has_key key (keys_in before) ≡ false → skips before ≡ false
     → All IsText items → Reads before conf (set_list list items conf) (list_lines key items ++ rest) rest (keys_in before ++ key ∷ [])
 list_reads [] before conf key list rest f free none h =
-    value_line_reads before conf key (fields.List list) (codes "[]") rest (record { quoted = false; text = codes "[]" }) (said.Empty list) free none f (ap (sort_kind key (32 ∷ codes "[]")) f) empty_back refl refl
+    value_line_reads before conf key (fields.List list) (codes "[]") rest (record { quoted = false; text = codes "[]" }) (said.Empty list) free none f
+    (ap (sort_kind key (32 ∷ codes "[]")) f) empty_back refl refl
 list_reads (t ∷ ts) before conf key list rest f free none h =
     let e : list_key list ≡ key = list_key_is key list f in
     let line : List ℕ = key_name key ++ 58 ∷ [] in
-    let more : Reads (Opens list ∷ before) (set_list list [] conf) (set_list list (held_list list (set_list list [] conf) ++ (t ∷ ts)) (set_list list [] conf)) (flat_map item_line (t ∷ ts) ++ rest) rest (keys_in before ++ list_key list ∷ []) =
+    let more : Reads (Opens list ∷ before) (set_list list [] conf) (set_list list (held_list list (set_list list [] conf) ++ (t ∷ ts)) (set_list list [] conf))
+    (flat_map item_line (t ∷ ts) ++ rest) rest (keys_in before ++ list_key list ∷ []) =
     items_read list (t ∷ ts) (Opens list ∷ before) (set_list list [] conf) rest h refl refl in
     let up : list_lines key (t ∷ ts) ++ rest ≡ line ++ 10 ∷ (flat_map item_line (t ∷ ts) ++ rest) = simp append_assoc in
-    let is_line : lines (list_lines key (t ∷ ts) ++ rest) ≡ line ∷ lines (flat_map item_line (t ∷ ts) ++ rest) = ap lines up ∙ line_back line (flat_map item_line (t ∷ ts) ++ rest) (clean_append (key_name key) (58 ∷ []) (name_clean key) refl) in
+    let is_line : lines (list_lines key (t ∷ ts) ++ rest) ≡ line ∷ lines (flat_map item_line (t ∷ ts) ++ rest) =
+    ap lines up ∙ line_back line (flat_map item_line (t ∷ ts) ++ rest) (clean_append (key_name key) (58 ∷ []) (name_clean key) refl) in
     record {
       now = more.now;
       keys_are = more.keys_are ∙ ap (λ (k : Key). keys_in before ++ k ∷ []) e;
       none = more.none;
       same = ap (reads before conf) is_line
-          ∙ line_reads before conf (set_list list [] conf) line (lines (flat_map item_line (t ∷ ts) ++ rest)) (Opens list) [] none (kind_named key [] refl ∙ ap (sort_kind key []) f) (opening_set before conf key list t ts rest (first_of t ts h) e free)
+          ∙ line_reads before conf (set_list list [] conf) line (lines (flat_map item_line (t ∷ ts) ++ rest)) (Opens list) [] none
+          (kind_named key [] refl ∙ ap (sort_kind key []) f) (opening_set before conf key list t ts rest (first_of t ts h) e free)
           ∙ more.same
           ∙ ap (λ (c : ServerConf). reads more.now c (lines rest)) (set_again list [] (t ∷ ts) (t ∷ ts) conf refl);
     }
 
-field_reads : (target : ServerConf) (before : List Kind) (conf : ServerConf) (key : Key) (field : Field) (rest : List ℕ) → field_of key ≡ field → has_key key (keys_in before) ≡ false → skips before ≡ false
-    → FieldFits field target → HasNoZero target → Reads before conf (copied field target conf) (field_lines key field target ++ rest) rest (keys_in before ++ key ∷ [])
+field_reads : (target : ServerConf) (before : List Kind) (conf : ServerConf) (key : Key) (field : Field) (rest : List ℕ) → field_of key ≡ field
+    → has_key key (keys_in before) ≡ false → skips before ≡ false
+    → FieldFits field target → HasNoZero target
+    → Reads before conf (copied field target conf) (field_lines key field target ++ rest) rest (keys_in before ++ key ∷ [])
 field_reads target before conf key (fields.Number k) rest f free none h z = plain_reads target before conf key (fields.Number k) rest f free none h z refl
 field_reads target before conf key (fields.Flag k) rest f free none h z = plain_reads target before conf key (fields.Flag k) rest f free none h z refl
 field_reads target before conf key (fields.Text k) rest f free none h z = plain_reads target before conf key (fields.Text k) rest f free none h z refl
-field_reads target before conf key (fields.OptionalText k) rest f free none h z = plain_reads target before conf key (fields.OptionalText k) rest f free none h z refl
-field_reads target before conf key (fields.OptionalNumber k) rest f free none h z = plain_reads target before conf key (fields.OptionalNumber k) rest f free none h z refl
+field_reads target before conf key (fields.OptionalText k) rest f free none h z =
+    plain_reads target before conf key (fields.OptionalText k) rest f free none h z refl
+field_reads target before conf key (fields.OptionalNumber k) rest f free none h z =
+    plain_reads target before conf key (fields.OptionalNumber k) rest f free none h z refl
 field_reads target before conf key fields.Scale rest f free none h z = plain_reads target before conf key fields.Scale rest f free none h z refl
 field_reads target before conf key (fields.List k) rest f free none h z = list_reads (held_list k target) before conf key k rest f free none h
 
@@ -420,15 +459,18 @@ off_from : (x : Bool) → not x ≡ true → x ≡ false
 off_from true h = absurd cc
 off_from false h = refl
 
-keys_read : (target : ServerConf) (todo : List Key) (before : List Kind) (conf : ServerConf) → all_new todo (keys_in before) ≡ true → skips before ≡ false → All (KeyFits target) todo → HasNoZero target
+keys_read : (target : ServerConf) (todo : List Key) (before : List Kind) (conf : ServerConf) → all_new todo (keys_in before) ≡ true → skips before ≡ false
+    → All (KeyFits target) todo → HasNoZero target
     → reads before conf (lines (flat_map (key_lines target) todo)) ≡ Ok (copied_all todo target conf)
 unfolding key_lines
 keys_read target [] before conf new none h z = refl
 keys_read target (key ∷ todo) before conf new none h z =
     let p = and_parts (not (has_key key (keys_in before))) (all_new todo (keys_in before ++ key ∷ [])) new in
-    let one : Reads before conf (copied (field_of key) target conf) (field_lines key (field_of key) target ++ flat_map (key_lines target) todo) (flat_map (key_lines target) todo) (keys_in before ++ key ∷ []) =
+    let one : Reads before conf (copied (field_of key) target conf) (field_lines key (field_of key) target ++ flat_map (key_lines target) todo)
+    (flat_map (key_lines target) todo) (keys_in before ++ key ∷ []) =
     field_reads target before conf key (field_of key) (flat_map (key_lines target) todo) refl (off_from _ p.0) none (h 0 key (omega arith)) z in
-    one.same ∙ keys_read target todo one.now (copied (field_of key) target conf) (ap (all_new todo) one.keys_are ∙ p.1) one.none (λ k d lt. h (suc k) d (omega arith)) z
+    one.same ∙ keys_read target todo one.now (copied (field_of key) target conf) (ap (all_new todo) one.keys_are ∙ p.1) one.none
+    (λ k d lt. h (suc k) d (omega arith)) z
 
 copied_back : (conf : ServerConf) → copied_all all_keys conf defaults ≡ conf
 copied_back conf = refl
@@ -437,5 +479,6 @@ pub yaml_back : (conf : ServerConf) → All (KeyFits conf) all_keys → HasNoZer
 unfolding configuration yaml
 yaml_back conf h z = keys_read conf all_keys [] defaults refl refl h z ∙ ap (λ (c : ServerConf). Ok c) (copied_back conf)
 
-pub text_back_whole : (conf : ServerConf) (bytes text : List ℕ) → text ≡ bytes → bytes ≡ yaml conf → All (KeyFits conf) all_keys → HasNoZero conf → configuration text ≡ Ok conf
+pub text_back_whole : (conf : ServerConf) (bytes text : List ℕ) → text ≡ bytes → bytes ≡ yaml conf → All (KeyFits conf) all_keys → HasNoZero conf
+    → configuration text ≡ Ok conf
 text_back_whole conf bytes text e f h z = ap configuration (e ∙ f) ∙ yaml_back conf h z

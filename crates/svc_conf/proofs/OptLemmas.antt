@@ -18,7 +18,8 @@ pub opt_free : is_simple_and_free opt_app ≡ true
 unfolding clap_on_literals
 opt_free = refl
 
-pub opt_from : (f : Found) (opt : Opt) → opt.upgrade ≡ is_true (first_value f (codes "upgrade")) → opt.daemon ≡ is_true (first_value f (codes "daemon")) → opt.nocapture ≡ is_true (first_value f (codes "nocapture"))
+pub opt_from : (f : Found) (opt : Opt) → opt.upgrade ≡ is_true (first_value f (codes "upgrade")) → opt.daemon ≡ is_true (first_value f (codes "daemon"))
+    → opt.nocapture ≡ is_true (first_value f (codes "nocapture"))
     → opt.test ≡ is_true (first_value f (codes "test")) → opt.conf ≡ first_value f (codes "conf") → opt ≡ opt_of (rows_of f)
 opt_from f opt u d n t c =
     let u' : opt.upgrade ≡ is_true (first_of (codes "upgrade") (rows_of f)) = u ∙ ap is_true (first_value-rows f (codes "upgrade")) in
@@ -31,8 +32,10 @@ opt_from f opt u d n t c =
 pub words_taken : (a : App) (words : List Text) → a ≡ opt_app → (is_simple_and_free a ≡ true → fault_of a words ≡ []) → fault_of opt_app words ≡ []
 words_taken a words e h = ap (λ (b : App). fault_of b words) (sym e) ∙ h (ap is_simple_and_free e ∙ opt_free)
 
-pub words_refused : (a : App) (words : List Text) (k kind : ErrorKind) → a ≡ opt_app → k ≡ kind → (k ≡ OutOfMemory → ⊥) → (takes a words ≡ true → k ≡ OutOfMemory)
-    → (is_simple_and_free a ≡ true → (k ≡ OutOfMemory) ⊎ IsAmong k (fault_of a words)) → (takes opt_app words ≢ true) × IsAmong kind (fault_of opt_app words) × (kind ≢ OutOfMemory)
+pub words_refused : (a : App) (words : List Text) (k kind : ErrorKind) → a ≡ opt_app → k ≡ kind → (k ≡ OutOfMemory → ⊥)
+    → (takes a words ≡ true → k ≡ OutOfMemory)
+    → (is_simple_and_free a ≡ true → (k ≡ OutOfMemory) ⊎ IsAmong k (fault_of a words))
+    → (takes opt_app words ≢ true) × IsAmong kind (fault_of opt_app words) × (kind ≢ OutOfMemory)
 words_refused a words k kind e q never passes kinds = (
   (λ t. never (passes (ap (λ (b : App). takes b words) e ∙ t))),
   subst (λ (j : ErrorKind). IsAmong j (fault_of opt_app words)) q among,

@@ -172,7 +172,13 @@ digits_set : (ds : List ℕ) → AllDigits 10 ds → 0 < length ds → is_unset 
 digits_set [] h some = absurd (omega arith)
 digits_set (d ∷ ds) h some =
     let e = digit_here d ds h in
-    rw (not_at (is_in_range 48 57) d 110 e refl, not_at (is_in_range 48 57) d 78 e refl, not_at (is_in_range 48 57) d 126 e refl, ne_eqb (length (d ∷ ds)) 0 (λ z. omega arith)) refl
+    rw (
+      not_at (is_in_range 48 57) d 110 e refl,
+      not_at (is_in_range 48 57) d 78 e refl,
+      not_at (is_in_range 48 57) d 126 e refl,
+      ne_eqb (length (d ∷ ds)) 0
+          (λ z. omega arith),
+    ) refl
 
 -- a value is read back as such a number
 pub record IsNumberValue (n : ℕ) (bytes : List ℕ) : Type 0 where
@@ -185,7 +191,8 @@ number_back n below =
     let p = (decimal_is_IsNumeral n below).0 in
     let ascii : IsUtf8 (decimal n) = IsUtf8-from_ascii (decimal n) (IsAscii-decimal n below) in
     record {
-      value = plain_back (decimal n) (digits_front (decimal n) p.1 p.0) (digits_plain (decimal n) p.1) (digits_colon (decimal n) p.1) (is_utf8-from_IsUtf8 (decimal n) ascii);
+      value = plain_back (decimal n) (digits_front (decimal n) p.1 p.0) (digits_plain (decimal n) p.1) (digits_colon (decimal n) p.1)
+          (is_utf8-from_IsUtf8 (decimal n) ascii);
       unset = digits_set (decimal n) p.1 p.0;
       number = number_of-decimal (2 ^ 64) n (omega arith) below;
     }

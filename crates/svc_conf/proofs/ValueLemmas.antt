@@ -96,5 +96,6 @@ double-closed (b ∷ bs) = refl
 pub whole_end : (xs : List ℕ) (i : ℕ) → i < length xs → get_or xs i 0 ≡ 34 → behind (take i xs) (double (drop i xs)) ≡ double xs
     → double xs ≡ Some (take i xs, take (length xs - (i + 1)) (drop (i + 1) xs))
 whole_end xs i inside quote h =
-    let closed : double (drop i xs) ≡ Some ([], drop (i + 1) xs) = ap double (drop_more xs i 0 inside ∙ ap (λ (b : ℕ). b ∷ drop (i + 1) xs) quote) ∙ double-closed (drop (i + 1) xs) in
+    let closed : double (drop i xs) ≡ Some ([], drop (i + 1) xs) =
+    ap double (drop_more xs i 0 inside ∙ ap (λ (b : ℕ). b ∷ drop (i + 1) xs) quote) ∙ double-closed (drop (i + 1) xs) in
     rw (take_rest xs (i + 1)) (sym h ∙ ap (behind (take i xs)) closed ∙ ap (λ (front : List ℕ). Some (front, drop (i + 1) xs)) (append-nil (take i xs)))

@@ -69,7 +69,8 @@ abbrev pub says : Place → Kind → List ℕ → List (List ℕ) → Result (Op
 says place Skipped rest after = Ok None
 says place Start rest after = if place.begun then Err (errors.Line (place.passed + 1)) else Ok None
 says place (Known key) rest after = if has_key key place.keys then Err (errors.Line (place.passed + 1)) else known_says (place.passed + 1) key (value_of rest)
-says place (Opens list) rest after = if has_key (list_key list) place.keys then Err (errors.Line (place.passed + 1)) else opening_says (place.passed + 1) list (item_follows after)
+says place (Opens list) rest after =
+    if has_key (list_key list) place.keys then Err (errors.Line (place.passed + 1)) else opening_says (place.passed + 1) list (item_follows after)
 says place Unknown rest after = Ok None
 says place Item rest after = item_says (place.passed + 1) place.list rest
 says place Other rest after = Err (errors.Line (place.passed + 1))

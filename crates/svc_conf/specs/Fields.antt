@@ -151,7 +151,8 @@ set_optional_number OptionalNumbers.UpgradeSockConnectAcceptMaxRetries value con
 set_optional_number OptionalNumbers.MaxBlockingThreads value conf = record conf { max_blocking_threads = value }
 set_optional_number OptionalNumbers.BlockingThreadsTtlSeconds value conf = record conf { blocking_threads_ttl_seconds = value }
 set_optional_number OptionalNumbers.FastTimeoutToTokioThresholdSeconds value conf = record conf { fast_timeout_to_tokio_threshold_seconds = value }
-set_optional_number OptionalNumbers.RuntimeMetricsPollTimeHistogramResolutionMicros value conf = record conf { runtime_metrics_poll_time_histogram_resolution_micros = value }
+set_optional_number OptionalNumbers.RuntimeMetricsPollTimeHistogramResolutionMicros value conf =
+    record conf { runtime_metrics_poll_time_histogram_resolution_micros = value }
 set_optional_number OptionalNumbers.RuntimeMetricsPollTimeHistogramBuckets value conf = record conf { runtime_metrics_poll_time_histogram_buckets = value }
 set_optional_number OptionalNumbers.DaemonReadyTimeoutSeconds value conf = record conf { daemon_ready_timeout_seconds = value }
 set_optional_number OptionalNumbers.DaemonNotifyTimeoutSeconds value conf = record conf { daemon_notify_timeout_seconds = value }

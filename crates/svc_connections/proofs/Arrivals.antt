@@ -42,7 +42,9 @@ or-true false c h = ap not h
 
 same-option : (x : SettingOption) → same_setting x x ≡ true
 same-option NoDelay = refl
-same-option (KeepAlive k) = and_from _ _ (and_from _ _ (eq-eqb k.idle k.idle refl) (eq-eqb k.interval k.interval refl)) (and_from _ _ (eq-eqb k.count k.count refl) (eq-eqb k.user_timeout k.user_timeout refl))
+same-option (KeepAlive k) =
+    and_from _ _ (and_from _ _ (eq-eqb k.idle k.idle refl) (eq-eqb k.interval k.interval refl))
+    (and_from _ _ (eq-eqb k.count k.count refl) (eq-eqb k.user_timeout k.user_timeout refl))
 same-option (Dscp n) = eq-eqb n n refl
 same-option (SndBuf n) = eq-eqb n n refl
 same-option (RcvBuf n) = eq-eqb n n refl
@@ -60,7 +62,8 @@ before-none (_ ∷ q) h = before-none q h
 pub not-cut-off : (q : Record) (c : ℕ) → has is_runtimes q ≡ false → is_cut_off q c ≡ false
 not-cut-off q c h = ap (λ (r : Record). has (is_arrival c) r && goes_on r c) (before-none q h)
 
-all-apart : (f g : Arrival → Bool) (c : ℕ) (xs : List Arrival) → is_in c (map (λ (x : Arrival). x.number) xs) ≡ false → ((x : Arrival) → (c == x.number) ≡ false → f x ≡ true → g x ≡ true) → list_all f xs ≡ true → list_all g xs ≡ true
+all-apart : (f g : Arrival → Bool) (c : ℕ) (xs : List Arrival) → is_in c (map (λ (x : Arrival). x.number) xs) ≡ false
+    → ((x : Arrival) → (c == x.number) ≡ false → f x ≡ true → g x ≡ true) → list_all f xs ≡ true → list_all g xs ≡ true
 all-apart f g c [] none grow h = refl
 all-apart f g c (x ∷ xs) none grow h =
     let apart = or_parts (x.number == c) (is_in c (map (λ (y : Arrival). y.number) xs)) none in
@@ -68,14 +71,19 @@ all-apart f g c (x ∷ xs) none grow h =
     and_from (g x) (list_all g xs) (grow x (eqb-sym c x.number ∙ apart.0) both.0) (all-apart f g c xs apart.1 grow both.1)
 
 -- the part after entries on a new connection
-arrived-from : (p : Plan) (d : ConnectionsData) (q r : Record) (new : Arrival) (live : List Connection) → is_in new.number (arrived_numbers q) ≡ false → ConnectionsStand p d q → arrivals r ≡ new ∷ arrivals q
-    → numbers live ≡ ascending (live_connections r) → ((n : ℕ) → (new.number == n) ≡ false → NumberStands r n (stage_of live n)) → NumberStands r new.number (stage_of live new.number)
+arrived-from : (p : Plan) (d : ConnectionsData) (q r : Record) (new : Arrival) (live : List Connection) → is_in new.number (arrived_numbers q) ≡ false
+    → ConnectionsStand p d q → arrivals r ≡ new ∷ arrivals q
+    → numbers live ≡ ascending (live_connections r) → ((n : ℕ) → (new.number == n) ≡ false → NumberStands r n (stage_of live n))
+    → NumberStands r new.number (stage_of live new.number)
     → ((x : Arrival) → (new.number == x.number) ≡ false → connection_right p r x ≡ connection_right p q x) → connection_right p r new ≡ true
-    → rests_right r ≡ true → EachEntry (λ e before. rest_due e before ≡ true) r → EachEntry (λ e before. connection_known p e before ≡ true) r → has is_runtimes r ≡ false
+    → rests_right r ≡ true → EachEntry (λ e before. rest_due e before ≡ true) r → EachEntry (λ e before. connection_known p e before ≡ true) r
+    → has is_runtimes r ≡ false
     → ConnectionsStand p (record { live = live; came = put_number new.number d.came }) r
 arrived-from p d q r new live fresh w more live_is others here rights right rests turns known on = record {
   came_is = ap (put_number new.number) w.came_is ∙ ap (λ (xs : List Arrival). ascending (map (λ (x : Arrival). x.number) xs)) (sym more);
-  came_once = ap (λ (xs : List Arrival). distinct (map (λ (x : Arrival). x.number) xs)) more ∙ and_from (not (is_in new.number (arrived_numbers q))) (distinct (arrived_numbers q)) (not_from_false (is_in new.number (arrived_numbers q)) fresh) w.came_once;
+  came_once = ap (λ (xs : List Arrival). distinct (map (λ (x : Arrival). x.number) xs)) more
+      ∙ and_from (not (is_in new.number (arrived_numbers q))) (distinct (arrived_numbers q))
+      (not_from_false (is_in new.number (arrived_numbers q)) fresh) w.came_once;
   live_is = live_is;
   stages_are = λ n. elim (cases_Bool (new.number == n)) [
     | inl y ↦ subst (λ (m : ℕ). NumberStands r m (stage_of live m)) (eqb-true new.number n y) here
@@ -92,7 +100,8 @@ arrived-from p d q r new live fresh w more live_is others here rights right rest
 }
 
 -- the facts of a connection that arrives
-module _ (p : Plan) (d : ConnectionsData) (q : Record) (s i c : ℕ) (peer : Peer) (list : List SettingOption) (is_list : list ≡ settings_list p s i) (new : is_new d c ≡ true) (w : ConnectionsStand p d q) where
+module _ (p : Plan) (d : ConnectionsData) (q : Record) (s i c : ℕ) (peer : Peer) (list : List SettingOption) (is_list : list ≡ settings_list p s i)
+    (new : is_new d c ≡ true) (w : ConnectionsStand p d q) where
   abbrev arrival : Arrival
   arrival = record { service = s; endpoint = i; number = c; peer = peer }
 
@@ -156,7 +165,9 @@ module _ (p : Plan) (d : ConnectionsData) (q : Record) (s i c : ℕ) (peer : Pee
     filtered = or-true (has_filter p s i) (has (is_judged_as false c) q) silent.not_refused;
     refused = never (has (is_judged_as false c) q) (times (is_refuse c) q) silent.not_refused silent.refuses;
     set_up = once-more (c == c) (not (has (is_judged_as false c) q)) (times (is_settings c) q) itself (ap not silent.not_refused) silent.settings;
-    set_so = once-more ((c == c) && same_settings list (settings_list p s i)) (not (has (is_judged_as false c) q)) (times (is_settings_of (settings_list p s i) c) q) (and_from (c == c) (same_settings list (settings_list p s i)) itself same) (ap not silent.not_refused) (silent.settings_of (settings_list p s i));
+    set_so = once-more ((c == c) && same_settings list (settings_list p s i)) (not (has (is_judged_as false c) q))
+        (times (is_settings_of (settings_list p s i) c) q) (and_from (c == c) (same_settings list (settings_list p s i)) itself same)
+        (ap not silent.not_refused) (silent.settings_of (settings_list p s i));
     shakes = never (has (is_set_as true c) q) (times (is_handshake c) q) (unset-as true c q unset) silent.handshakes;
     serves = never (has (is_shaken_as true c) q) (times (is_serve c) q) (unshaken-as true c q unshaken) silent.serves;
     drops = never (has (is_set_as false c) q || has (is_shaken_as false c) q) (times (is_drop c) q) undropped silent.drops;
@@ -168,7 +179,9 @@ module _ (p : Plan) (d : ConnectionsData) (q : Record) (s i c : ℕ) (peer : Pee
     filtered = or-true (has_filter p s i) (has (is_judged_as false c) q) silent.not_refused;
     refused = never (has (is_judged_as false c) q) (times (is_refuse c) q) silent.not_refused silent.refuses;
     set_up = once-more (c == c) (not (has (is_judged_as false c) q)) (times (is_settings c) q) itself (ap not silent.not_refused) silent.settings;
-    set_so = once-more ((c == c) && same_settings list (settings_list p s i)) (not (has (is_judged_as false c) q)) (times (is_settings_of (settings_list p s i) c) q) (and_from (c == c) (same_settings list (settings_list p s i)) itself same) (ap not silent.not_refused) (silent.settings_of (settings_list p s i));
+    set_so = once-more ((c == c) && same_settings list (settings_list p s i)) (not (has (is_judged_as false c) q))
+        (times (is_settings_of (settings_list p s i) c) q) (and_from (c == c) (same_settings list (settings_list p s i)) itself same)
+        (ap not silent.not_refused) (silent.settings_of (settings_list p s i));
     shakes = never (has (is_set_as true c) q) (times (is_handshake c) q) (unset-as true c q unset) silent.handshakes;
     serves = never (has (is_shaken_as true c) q) (times (is_serve c) q) (unshaken-as true c q unshaken) silent.serves;
     drops = never (has (is_set_as false c) q || has (is_shaken_as false c) q) (times (is_drop c) q) undropped silent.drops;
@@ -178,9 +191,11 @@ module _ (p : Plan) (d : ConnectionsData) (q : Record) (s i c : ℕ) (peer : Pee
   refused-right known filters = joined p (Told (Refuse c) ∷ Told (Judged c false) ∷ base) arrival (record {
     judged = once-more (c == c) (is_known peer) (times (is_judged c) q) itself known silent.judged;
     filtered = or_left (has_filter p s i) (not ((c == c) || has (is_judged_as false c) q)) filters;
-    refused = once-more (c == c) ((c == c) || has (is_judged_as false c) q) (times (is_refuse c) q) itself (or_left (c == c) (has (is_judged_as false c) q) itself) silent.refuses;
+    refused = once-more (c == c) ((c == c) || has (is_judged_as false c) q) (times (is_refuse c) q) itself
+        (or_left (c == c) (has (is_judged_as false c) q) itself) silent.refuses;
     set_up = never (not ((c == c) || has (is_judged_as false c) q)) (times (is_settings c) q) out silent.settings;
-    set_so = never (not ((c == c) || has (is_judged_as false c) q)) (times (is_settings_of (settings_list p s i) c) q) out (silent.settings_of (settings_list p s i));
+    set_so = never (not ((c == c) || has (is_judged_as false c) q)) (times (is_settings_of (settings_list p s i) c) q) out
+        (silent.settings_of (settings_list p s i));
     shakes = never (has (is_set_as true c) q) (times (is_handshake c) q) (unset-as true c q unset) silent.handshakes;
     serves = never (has (is_shaken_as true c) q) (times (is_serve c) q) (unshaken-as true c q unshaken) silent.serves;
     drops = never (has (is_set_as false c) q || has (is_shaken_as false c) q) (times (is_drop c) q) undropped silent.drops;
@@ -229,7 +244,8 @@ module _ (p : Plan) (d : ConnectionsData) (q : Record) (s i c : ℕ) (peer : Pee
   grown = put_connection (record { number = c; stage = Setting }) d.live
 
   others-base : (live : List Connection) (n : ℕ) → stage_of live n ≡ stage_of d.live n → (c == n) ≡ false → NumberStands base n (stage_of live n)
-  others-base live n is differ = aside q n (stage_of live n) (Got (Arrived s i c peer)) differ (subst (λ (x : Option Stage). NumberStands q n x) (sym is) (w.stages_are n))
+  others-base live n is differ =
+      aside q n (stage_of live n) (Got (Arrived s i c peer)) differ (subst (λ (x : Option Stage). NumberStands q n x) (sym is) (w.stages_are n))
 
   grown-other : (n : ℕ) → (c == n) ≡ false → stage_of grown n ≡ stage_of d.live n
   grown-other n differ = put-other (record { number = c; stage = Setting }) n d.live differ
@@ -248,23 +264,32 @@ module _ (p : Plan) (d : ConnectionsData) (q : Record) (s i c : ℕ) (peer : Pee
       (λ x differ. right-aside p base x (Told (TellSettings c list)) differ refl ∙ right-aside p q x (Got (Arrived s i c peer)) differ refl)
       (unknown-right known) w.right.rests (refl, (refl, w.right.in_turn)) (has-base, (refl, w.known)) w.goes_on
 
-  after-allowed : is_known peer ≡ true → ConnectionsStand p (record { live = grown; came = put_number c d.came }) (Told (TellSettings c list) ∷ Told (Judged c true) ∷ base)
+  after-allowed : is_known peer ≡ true
+      → ConnectionsStand p (record { live = grown; came = put_number c d.came }) (Told (TellSettings c list) ∷ Told (Judged c true) ∷ base)
   after-allowed known = arrived-from p d q (Told (TellSettings c list) ∷ Told (Judged c true) ∷ base) arrival grown fresh w refl
       (rw stays live-now)
-      (λ n differ. aside (Told (Judged c true) ∷ base) n (stage_of grown n) (Told (TellSettings c list)) differ (aside base n (stage_of grown n) (Told (Judged c true)) differ (others-base grown n (grown-other n differ) differ)))
+      (λ n differ. aside (Told (Judged c true) ∷ base) n (stage_of grown n) (Told (TellSettings c list)) differ
+      (aside base n (stage_of grown n) (Told (Judged c true)) differ (others-base grown n (grown-other n differ) differ)))
       (subst (λ (x : Option Stage). NumberStands (Told (TellSettings c list) ∷ Told (Judged c true) ∷ base) c x) (sym grown-here) allowed-here)
-      (λ x differ. right-aside p (Told (Judged c true) ∷ base) x (Told (TellSettings c list)) differ refl ∙ right-aside p base x (Told (Judged c true)) differ refl ∙ right-aside p q x (Got (Arrived s i c peer)) differ refl)
+      (λ x differ. right-aside p (Told (Judged c true) ∷ base) x (Told (TellSettings c list)) differ refl
+      ∙ right-aside p base x (Told (Judged c true)) differ refl ∙ right-aside p q x (Got (Arrived s i c peer)) differ refl)
       (allowed-right known) w.right.rests (refl, (refl, (refl, w.right.in_turn))) (has-base, (has-base, (refl, w.known))) w.goes_on
 
   live-refused : live_connections (Told (Refuse c) ∷ Told (Judged c false) ∷ base) ≡ live_connections q
-  live-refused = rw itself (filter-same (λ n. goes_on q n && not (has (is_cut n) q)) (λ n. not ((((c == n) || has (is_refuse n) q) || has (is_drop n) q) || has (is_finished n) q) && not (has (is_cut n) q)) c (arrived_numbers q) fresh (λ n differ. rw differ refl))
+  live-refused =
+      rw itself (filter-same (λ n. goes_on q n && not (has (is_cut n) q))
+      (λ n. not ((((c == n) || has (is_refuse n) q) || has (is_drop n) q) || has (is_finished n) q) && not (has (is_cut n) q)) c (arrived_numbers q) fresh
+      (λ n differ. rw differ refl))
 
-  after-refused : is_known peer ≡ true → has_filter p s i ≡ true → ConnectionsStand p (record { live = d.live; came = put_number c d.came }) (Told (Refuse c) ∷ Told (Judged c false) ∷ base)
+  after-refused : is_known peer ≡ true → has_filter p s i ≡ true
+      → ConnectionsStand p (record { live = d.live; came = put_number c d.came }) (Told (Refuse c) ∷ Told (Judged c false) ∷ base)
   after-refused known filters = arrived-from p d q (Told (Refuse c) ∷ Told (Judged c false) ∷ base) arrival d.live fresh w refl
       (w.live_is ∙ ap ascending (sym live-refused))
-      (λ n differ. aside (Told (Judged c false) ∷ base) n (stage_of d.live n) (Told (Refuse c)) differ (aside base n (stage_of d.live n) (Told (Judged c false)) differ (others-base d.live n refl differ)))
+      (λ n differ. aside (Told (Judged c false) ∷ base) n (stage_of d.live n) (Told (Refuse c)) differ
+      (aside base n (stage_of d.live n) (Told (Judged c false)) differ (others-base d.live n refl differ)))
       (subst (λ (x : Option Stage). NumberStands (Told (Refuse c) ∷ Told (Judged c false) ∷ base) c x) (sym gone) refused-here)
-      (λ x differ. right-aside p (Told (Judged c false) ∷ base) x (Told (Refuse c)) differ refl ∙ right-aside p base x (Told (Judged c false)) differ refl ∙ right-aside p q x (Got (Arrived s i c peer)) differ refl)
+      (λ x differ. right-aside p (Told (Judged c false) ∷ base) x (Told (Refuse c)) differ refl ∙ right-aside p base x (Told (Judged c false)) differ refl
+      ∙ right-aside p q x (Got (Arrived s i c peer)) differ refl)
       (refused-right known filters) w.right.rests (refl, (refl, (refl, w.right.in_turn))) (has-base, (has-base, (refl, w.known))) w.goes_on
 
   arrived-by : (known said : Bool) → is_known peer ≡ known → (has_filter p s i ≡ false → said ≡ true) → ConnectionsStand p (taken_in c (known && not said) d)
@@ -277,10 +302,14 @@ module _ (p : Plan) (d : ConnectionsData) (q : Record) (s i c : ℕ) (peer : Pee
       filtered false h = let k = h refl in cc
   arrived-by false said known unfiltered = after-unknown known
 
-  pub stands-arrived : (said : Bool) → (has_filter p s i ≡ false → said ≡ true) → ConnectionsStand p (arrived c peer said d) (tell base (arrived_told c peer said list))
+  pub stands-arrived : (said : Bool) → (has_filter p s i ≡ false → said ≡ true)
+      → ConnectionsStand p (arrived c peer said d) (tell base (arrived_told c peer said list))
   stands-arrived said unfiltered = arrived-by (is_known peer) said refl unfiltered
 
 -- the same of what it is after the call
-pub after-arrived : (p : Plan) (d after : ConnectionsData) (q : Record) (s i c : ℕ) (peer : Peer) (said : Bool) (list : List SettingOption) → after ≡ arrived c peer said d → is_new d c ≡ true → list ≡ settings_list p s i → (has_filter p s i ≡ false → said ≡ true) → ConnectionsStand p d q
+pub after-arrived : (p : Plan) (d after : ConnectionsData) (q : Record) (s i c : ℕ) (peer : Peer) (said : Bool) (list : List SettingOption)
+    → after ≡ arrived c peer said d → is_new d c ≡ true → list ≡ settings_list p s i → (has_filter p s i ≡ false → said ≡ true) → ConnectionsStand p d q
     → ConnectionsStand p after (tell (Got (Arrived s i c peer) ∷ q) (arrived_told c peer said list))
-after-arrived p d after q s i c peer said list is new is_list unfiltered w = subst (λ (x : ConnectionsData). ConnectionsStand p x (tell (Got (Arrived s i c peer) ∷ q) (arrived_told c peer said list))) (sym is) (stands-arrived p d q s i c peer list is_list new w said unfiltered)
+after-arrived p d after q s i c peer said list is new is_list unfiltered w =
+    subst (λ (x : ConnectionsData). ConnectionsStand p x (tell (Got (Arrived s i c peer) ∷ q) (arrived_told c peer said list))) (sym is)
+    (stands-arrived p d q s i c peer list is_list new w said unfiltered)

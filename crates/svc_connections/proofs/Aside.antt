@@ -138,7 +138,8 @@ aside q n stage _ h w = record {
   uncut = w.uncut;
 }
 
-pub right-aside : (p : Plan) (q : Record) (x : Arrival) (e : Entry) → is_about x.number e ≡ false → is_runtimes e ≡ false → connection_right p (e ∷ q) x ≡ connection_right p q x
+pub right-aside : (p : Plan) (q : Record) (x : Arrival) (e : Entry) → is_about x.number e ≡ false → is_runtimes e ≡ false
+    → connection_right p (e ∷ q) x ≡ connection_right p q x
 right-aside p q x (Got (Set c true)) h on = rw h refl
 right-aside p q x (Got (Set c false)) h on = rw h refl
 right-aside p q x (Got (Shaken c true)) h on = rw h refl

@@ -29,10 +29,12 @@ came-more c came live all = all-grows (λ n. is_in n came) (λ n. is_in n (put_n
 pub came-put : (x : Connection) (came : List ℕ) (live : List Connection) → all_came came live ≡ true
     → all_came (put_number x.number came) (put_connection x live) ≡ true
 came-put x came live all = all-put (λ n. is_in n (put_number x.number came)) x live
-    (any-put (λ m. m == x.number) x.number came ∙ or_left (x.number == x.number) (is_in x.number came) (eq-eqb x.number x.number refl)) (came-more x.number came live all)
+    (any-put (λ m. m == x.number) x.number came ∙ or_left (x.number == x.number) (is_in x.number came) (eq-eqb x.number x.number refl))
+    (came-more x.number came live all)
 
 pub came-moved : (c : ℕ) (stage : Stage) (came : List ℕ) (live : List Connection) → all_came came live ≡ true → all_came came (at_stage c stage live) ≡ true
 came-moved c stage came live all = ap (list_all (λ n. is_in n came)) (numbers-moved c stage live) ∙ all
 
 pub came-without : (c : ℕ) (came : List ℕ) (live : List Connection) → all_came came live ≡ true → all_came came (without c live) ≡ true
-came-without c came live all = ap (list_all (λ n. is_in n came)) (numbers-without c live) ∙ all-filter (λ n. is_in n came) (λ n. not (n == c)) (numbers live) all
+came-without c came live all =
+    ap (list_all (λ n. is_in n came)) (numbers-without c live) ∙ all-filter (λ n. is_in n came) (λ n. not (n == c)) (numbers live) all

@@ -35,10 +35,74 @@ record Same (p : Plan) (q r : Record) : Type 0 where
   turns : EachEntry (λ e before. rest_due e before ≡ true) q → EachEntry (λ e before. rest_due e before ≡ true) r
 
 same-told : (p : Plan) (q : Record) (a : Action) → is_last a ≡ true → Same p q (Told a ∷ q)
-same-told p q (Phase phase ms) h = record { arrived = refl; parts_are = λ x w. record { judged = w.judged; filtered = w.filtered; refused = w.refused; set_up = w.set_up; set_so = w.set_so; shakes = w.shakes; serves = w.serves; drops = w.drops }; rests = refl; turns = λ t. (refl, t) }
-same-told p q (Cut c) h = record { arrived = refl; parts_are = λ x w. record { judged = w.judged; filtered = w.filtered; refused = w.refused; set_up = w.set_up; set_so = w.set_so; shakes = w.shakes; serves = w.serves; drops = w.drops }; rests = refl; turns = λ t. (refl, t) }
-same-told p q (Close fd) h = record { arrived = refl; parts_are = λ x w. record { judged = w.judged; filtered = w.filtered; refused = w.refused; set_up = w.set_up; set_so = w.set_so; shakes = w.shakes; serves = w.serves; drops = w.drops }; rests = refl; turns = λ t. (refl, t) }
-same-told p q (Stop n) h = record { arrived = refl; parts_are = λ x w. record { judged = w.judged; filtered = w.filtered; refused = w.refused; set_up = w.set_up; set_so = w.set_so; shakes = w.shakes; serves = w.serves; drops = w.drops }; rests = refl; turns = λ t. (refl, t) }
+same-told p q (Phase phase ms) h =
+    record {
+      arrived = refl;
+      parts_are = λ x w.
+          record {
+            judged = w.judged;
+            filtered = w.filtered;
+            refused = w.refused;
+            set_up = w.set_up;
+            set_so = w.set_so;
+            shakes = w.shakes;
+            serves = w.serves;
+            drops = w.drops;
+          };
+      rests = refl;
+      turns = λ t. (refl, t);
+    }
+same-told p q (Cut c) h =
+    record {
+      arrived = refl;
+      parts_are = λ x w.
+          record {
+            judged = w.judged;
+            filtered = w.filtered;
+            refused = w.refused;
+            set_up = w.set_up;
+            set_so = w.set_so;
+            shakes = w.shakes;
+            serves = w.serves;
+            drops = w.drops;
+          };
+      rests = refl;
+      turns = λ t. (refl, t);
+    }
+same-told p q (Close fd) h =
+    record {
+      arrived = refl;
+      parts_are = λ x w.
+          record {
+            judged = w.judged;
+            filtered = w.filtered;
+            refused = w.refused;
+            set_up = w.set_up;
+            set_so = w.set_so;
+            shakes = w.shakes;
+            serves = w.serves;
+            drops = w.drops;
+          };
+      rests = refl;
+      turns = λ t. (refl, t);
+    }
+same-told p q (Stop n) h =
+    record {
+      arrived = refl;
+      parts_are = λ x w.
+          record {
+            judged = w.judged;
+            filtered = w.filtered;
+            refused = w.refused;
+            set_up = w.set_up;
+            set_so = w.set_so;
+            shakes = w.shakes;
+            serves = w.serves;
+            drops = w.drops;
+          };
+      rests = refl;
+      turns = λ t. (refl, t);
+    }
 same-told p q _ h = cc
 
 same-tell : (p : Plan) (q : Record) (told : List Action) → list_all is_last told ≡ true → Same p q (tell q told)
@@ -47,7 +111,13 @@ same-tell p q (a ∷ told) h =
     let both = and_parts (is_last a) (list_all is_last told) h in
     let one = same-told p q a both.0 in
     let more = same-tell p (Told a ∷ q) told both.1 in
-    record { arrived = more.arrived ∙ one.arrived; parts_are = λ x w. more.parts_are x (one.parts_are x w); rests = more.rests ∙ one.rests; turns = λ t. more.turns (one.turns t) }
+    record {
+      arrived = more.arrived ∙ one.arrived;
+      parts_are = λ x w. more.parts_are x (one.parts_are x w);
+      rests = more.rests
+          ∙ one.rests;
+      turns = λ t. more.turns (one.turns t);
+    }
 
 -- what stands after the cuts
 abbrev rest : List ℕ → ℕ → ℕ → List Action
@@ -83,7 +153,8 @@ plain b h = grind arith
 tally-once : (c : ℕ) (ns : List ℕ) → distinct ns ≡ true → tally c ns ≡ one_if (is_in c ns)
 tally-once c [] h = refl
 tally-once c (n ∷ ns) h = let both = and_parts (not (is_in n ns)) (distinct ns) h in
-    one-sum (n == c) (is_in c ns) (tally c ns) (tally-once c ns both.1) (λ y. subst (λ (m : ℕ). is_in m ns ≡ false) (eqb-true n c y) (plain (is_in n ns) both.0))
+    one-sum (n == c) (is_in c ns) (tally c ns) (tally-once c ns both.1)
+    (λ y. subst (λ (m : ℕ). is_in m ns ≡ false) (eqb-true n c y) (plain (is_in n ns) both.0))
 
 kept-once : (a g : Bool) → if_kept (g && true) (one_if a) + 0 ≡ (if a && g then 1 else 0)
 kept-once true true = refl
@@ -126,7 +197,8 @@ module _ (p : Plan) (d : ConnectionsData) (q : Record) (w : ConnectionsStand p d
   counted c =
       let at = w.stages_are c in
       times-cut c cs fds (stop_seconds p q) (now q) phase
-      ∙ ap (λ (k : ℕ). k + times (is_cut c) q) (tally-ascending c (live_connections q) ∙ tally-filter c (λ n. goes_on q n && not (has (is_cut n) q)) (arrived_numbers q)
+      ∙ ap (λ (k : ℕ). k + times (is_cut c) q)
+      (tally-ascending c (live_connections q) ∙ tally-filter c (λ n. goes_on q n && not (has (is_cut n) q)) (arrived_numbers q)
       ∙ ap (if_kept (goes_on q c && not (has (is_cut c) q))) (tally-once c (arrived_numbers q) w.came_once ∙ ap one_if (sym (arrival-in c q))))
       ∙ ap (λ (k : ℕ). if_kept (goes_on q c && not (has (is_cut c) q)) (one_if (has (is_arrival c) q)) + k) (none-times (is_cut c) q at.uncut)
       ∙ ap (λ b. if_kept (goes_on q c && not b) (one_if (has (is_arrival c) q)) + 0) at.uncut
@@ -136,7 +208,8 @@ module _ (p : Plan) (d : ConnectionsData) (q : Record) (w : ConnectionsStand p d
   off-is c = ap (λ (r : Record). has (is_arrival c) r && goes_on r c) (before-last cs fds (stop_seconds p q) (now q) phase)
 
   cut-once : (x : Arrival) → cut_right end x ≡ true
-  cut-once x = eq-eqb (times (is_cut x.number) end) (if is_cut_off end x.number then 1 else 0) (counted x.number ∙ ap (λ b. if b then 1 else 0) (sym (off-is x.number)))
+  cut-once x =
+      eq-eqb (times (is_cut x.number) end) (if is_cut_off end x.number then 1 else 0) (counted x.number ∙ ap (λ b. if b then 1 else 0) (sym (off-is x.number)))
 
   same-end : Same p q end
   same-end = same-tell p q (last_actions p q) (all-last cs fds (stop_seconds p q) (now q))
@@ -144,13 +217,15 @@ module _ (p : Plan) (d : ConnectionsData) (q : Record) (w : ConnectionsStand p d
   pub cut-right : ConnRight p end
   cut-right = record {
     each = ap (list_all (connection_right p end)) same-end.arrived
-        ∙ all-grows (connection_right p q) (connection_right p end) (arrivals q) (λ x h. joined p end x (same-end.parts_are x (parts p q x h)) (cut-once x)) w.right.each;
+        ∙ all-grows (connection_right p q) (connection_right p end) (arrivals q)
+        (λ x h. joined p end x (same-end.parts_are x (parts p q x h)) (cut-once x)) w.right.each;
     rests = same-end.rests ∙ w.right.rests;
     in_turn = same-end.turns w.right.in_turn;
   }
 
   cut-of : (c : ℕ) → is_in c cs ≡ ((goes_on q c && not (has (is_cut c) q)) && is_in c (arrived_numbers q))
-  cut-of c = is_in-same c cs (live_connections q) (tally-ascending c (live_connections q)) ∙ is_in-filter c (λ n. goes_on q n && not (has (is_cut n) q)) (arrived_numbers q)
+  cut-of c = is_in-same c cs (live_connections q) (tally-ascending c (live_connections q))
+      ∙ is_in-filter c (λ n. goes_on q n && not (has (is_cut n) q)) (arrived_numbers q)
 
   off-live : (c : ℕ) → is_in c (arrived_numbers q) ≡ true → (goes_on end c && not (has (is_cut c) end)) ≡ false
   off-live c came =
@@ -172,11 +247,17 @@ module _ (p : Plan) (d : ConnectionsData) (q : Record) (w : ConnectionsStand p d
       let there = sym (cut-of c) ∙ h in
       arrival-in c q ∙ (and_parts (goes_on q c && not (has (is_cut c) q)) (is_in c (arrived_numbers q)) there).1)
 
-known-last : (p : Plan) (cs fds : List ℕ) (n t : ℕ) (r : Record) → list_all (λ c. has (is_arrival c) r) cs ≡ true → EachEntry (λ e before. connection_known p e before ≡ true) r → EachEntry (λ e before. connection_known p e before ≡ true) (tell r (map Cut cs ++ rest fds n t))
+known-last : (p : Plan) (cs fds : List ℕ) (n t : ℕ) (r : Record) → list_all (λ c. has (is_arrival c) r) cs ≡ true
+    → EachEntry (λ e before. connection_known p e before ≡ true) r
+    → EachEntry (λ e before. connection_known p e before ≡ true) (tell r (map Cut cs ++ rest fds n t))
 known-last p [] [] n t r h w = (refl, (refl, w))
 known-last p [] (fd ∷ fds) n t r h w = known-last p [] fds n t (Told (Close fd) ∷ r) refl (refl, w)
-known-last p (c ∷ cs) fds n t r h w = let both = and_parts (has (is_arrival c) r) (list_all (λ m. has (is_arrival m) r) cs) h in known-last p cs fds n t (Told (Cut c) ∷ r) both.1 (both.0, w)
+known-last p (c ∷ cs) fds n t r h w =
+    let both = and_parts (has (is_arrival c) r) (list_all (λ m. has (is_arrival m) r) cs) h in known-last p cs fds n t (Told (Cut c) ∷ r) both.1 (both.0, w)
 
 -- and each entry of the end is on a connection that arrived
-pub known-end : (p : Plan) (d : ConnectionsData) (q : Record) → ConnectionsStand p d q → EachEntry (λ e before. connection_known p e before ≡ true) (tell q (last_actions p q))
-known-end p d q w = known-last p (ascending (live_connections q)) (ascending (live_numbers p q)) (stop_seconds p q) (now q) (Told (Phase ShutdownRuntimes (now q)) ∷ q) (arrived-all p d q w) (refl, w.known)
+pub known-end : (p : Plan) (d : ConnectionsData) (q : Record) → ConnectionsStand p d q
+    → EachEntry (λ e before. connection_known p e before ≡ true) (tell q (last_actions p q))
+known-end p d q w =
+    known-last p (ascending (live_connections q)) (ascending (live_numbers p q)) (stop_seconds p q) (now q) (Told (Phase ShutdownRuntimes (now q)) ∷ q)
+    (arrived-all p d q w) (refl, w.known)

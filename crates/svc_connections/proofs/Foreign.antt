@@ -22,7 +22,8 @@ all-grows f g [] grow h = refl
 all-grows f g (x ∷ xs) grow h = let both = and_parts (f x) (list_all f xs) h in and_from (g x) (list_all g xs) (grow x both.0) (all-grows f g xs grow both.1)
 
 -- an action that is none of connections and doesn't end the run
-pub stands-told : (p : Plan) (d : ConnectionsData) (q : Record) (a : Action) → touches_connections a ≡ false → ConnectionsStand p d q → ConnectionsStand p d (Told a ∷ q)
+pub stands-told : (p : Plan) (d : ConnectionsData) (q : Record) (a : Action) → touches_connections a ≡ false → ConnectionsStand p d q
+    → ConnectionsStand p d (Told a ∷ q)
 stands-told p d q (Judged c said) other w = cc
 stands-told p d q (Refuse c) other w = cc
 stands-told p d q (TellSettings c list) other w = cc
@@ -47,7 +48,8 @@ stands-told p d q a other w = record {
 }
 
 -- an event that is none of connections
-pub stands-got : (p : Plan) (d : ConnectionsData) (q : Record) (e : Event) → is_connection_event e ≡ false → ConnectionsStand p d q → ConnectionsStand p d (Got e ∷ q)
+pub stands-got : (p : Plan) (d : ConnectionsData) (q : Record) (e : Event) → is_connection_event e ≡ false → ConnectionsStand p d q
+    → ConnectionsStand p d (Got e ∷ q)
 stands-got p d q (Arrived s i c peer) other w = cc
 stands-got p d q (AcceptFailed s i n) other w = cc
 stands-got p d q (Set c ok) other w = cc
@@ -68,7 +70,8 @@ stands-got p d q e other w = record {
 }
 
 -- a told list in which nothing is of connections or ends the run
-pub stands-tell : (p : Plan) (d : ConnectionsData) (q : Record) (told : List Action) → has_no_connection_action told ≡ true → ConnectionsStand p d q → ConnectionsStand p d (tell q told)
+pub stands-tell : (p : Plan) (d : ConnectionsData) (q : Record) (told : List Action) → has_no_connection_action told ≡ true → ConnectionsStand p d q
+    → ConnectionsStand p d (tell q told)
 stands-tell p d q [] other w = w
 stands-tell p d q (a ∷ told) other w =
     let both = and_parts (not (touches_connections a)) (has_no_connection_action told) other in

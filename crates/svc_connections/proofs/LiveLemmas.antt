@@ -47,18 +47,22 @@ none-key c (x ∷ live) h = elim (cases_Bool (x.number == c)) [
 
 none-moved : (c : ℕ) (stage : Stage) (live : List Connection) → has_key number c live ≡ false → at_stage c stage live ≡ live
 none-moved c stage [] h = refl
-none-moved c stage (x ∷ live) h = let parts = or_parts (x.number == c) (has_key number c live) h in rw parts.0 (ap (λ (xs : List Connection). x ∷ xs) (none-moved c stage live parts.1))
+none-moved c stage (x ∷ live) h =
+    let parts = or_parts (x.number == c) (has_key number c live) h in rw parts.0 (ap (λ (xs : List Connection). x ∷ xs) (none-moved c stage live parts.1))
 
 none-without : (c : ℕ) (live : List Connection) → has_key number c live ≡ false → without c live ≡ live
 none-without c [] h = refl
-none-without c (x ∷ live) h = let parts = or_parts (x.number == c) (has_key number c live) h in rw parts.0 (ap (λ (xs : List Connection). x ∷ xs) (none-without c live parts.1))
+none-without c (x ∷ live) h =
+    let parts = or_parts (x.number == c) (has_key number c live) h in rw parts.0 (ap (λ (xs : List Connection). x ∷ xs) (none-without c live parts.1))
 
 -- a new one goes where its number does
 pub new-put : (x : Connection) (live : List Connection) → has_key number x.number live ≡ false → put_by number x live ≡ put_connection x live
 new-put x [] h = refl
 new-put x (y ∷ live) h = elim (cases_Bool (nat_lt x.number y.number)) [
   | inl below ↦ rw below refl
-  | inr above ↦ (let parts = or_parts (y.number == x.number) (has_key number x.number live) h in rw (above, parts.0) (ap (λ (xs : List Connection). y ∷ xs) (new-put x live parts.1)))
+  | inr above ↦
+      (let parts = or_parts (y.number == x.number) (has_key number x.number live) h in
+      rw (above, parts.0) (ap (λ (xs : List Connection). y ∷ xs) (new-put x live parts.1)))
 ]
 
 -- of a connection that stands among the others
@@ -73,18 +77,24 @@ module _ (c : ℕ) (live : List Connection) (rise : climbs (numbers live) ≡ tr
       or_from (y.number == c) (has_key number c front) (ne_eqb y.number c (λ e. omega arith)) (front-apart front parts.1)
 
   back-apart : (front : List Connection) → climbs (numbers (front ++ x ∷ s.back)) ≡ true → has_key number c s.back ≡ false
-  back-apart [] h = behind-more c s.back (ap (λ (n : ℕ). list_all (λ m. nat_lt n m) (numbers s.back)) (sym s.has) ∙ (and_parts (list_all (λ m. nat_lt x.number m) (numbers s.back)) (climbs (numbers s.back)) h).0)
-  back-apart (y ∷ front) h = back-apart front (and_parts (list_all (λ m. nat_lt y.number m) (numbers (front ++ x ∷ s.back))) (climbs (numbers (front ++ x ∷ s.back))) h).1
+  back-apart [] h =
+      behind-more c s.back
+      (ap (λ (n : ℕ). list_all (λ m. nat_lt n m) (numbers s.back)) (sym s.has)
+      ∙ (and_parts (list_all (λ m. nat_lt x.number m) (numbers s.back)) (climbs (numbers s.back)) h).0)
+  back-apart (y ∷ front) h =
+      back-apart front (and_parts (list_all (λ m. nat_lt y.number m) (numbers (front ++ x ∷ s.back))) (climbs (numbers (front ++ x ∷ s.back))) h).1
 
   rise-is : climbs (numbers (s.front ++ x ∷ s.back)) ≡ true
   rise-is = ap (λ (xs : List Connection). climbs (numbers xs)) (sym s.is) ∙ rise
 
   pub found-stage : stage_of live c ≡ Some x.stage
-  found-stage = ap (λ (xs : List Connection). stage_of xs c) s.is ∙ none-before c s.front (x ∷ s.back) (front-apart s.front rise-is) ∙ (rw (eq-eqb x.number c s.has) refl)
+  found-stage =
+      ap (λ (xs : List Connection). stage_of xs c) s.is ∙ none-before c s.front (x ∷ s.back) (front-apart s.front rise-is) ∙ (rw (eq-eqb x.number c s.has) refl)
 
   found-moved : (stage : Stage) → at_stage c stage live ≡ s.front ++ record { number = c; stage = stage } ∷ s.back
   found-moved stage = ap (at_stage c stage) s.is ∙ map-append (moved c stage) s.front (x ∷ s.back)
-      ∙ (rw (none-moved c stage s.front (front-apart s.front rise-is), none-moved c stage s.back (back-apart s.front rise-is), eq-eqb x.number c s.has, s.has) refl)
+      ∙ (rw (none-moved c stage s.front (front-apart s.front rise-is), none-moved c stage s.back (back-apart s.front rise-is), eq-eqb x.number c s.has, s.has)
+      refl)
 
   found-without : without c live ≡ s.front ++ s.back
   found-without = ap (without c) s.is ∙ filter-append (λ (y : Connection). not (y.number == c)) s.front (x ∷ s.back)
@@ -106,7 +116,8 @@ moved-stage c stage old new true rise is replaced after = ap (λ (xs : List Conn
 moved-stage c stage old new false rise is replaced after = cc
 
 pub removed-left : (c : ℕ) (old new : List Connection × ℕ) (r : Option Connection) → climbs (numbers (list_of old)) ≡ true
-    → IfSome r (λ x. (s : StandsIn number c (list_of old) x) × (list_of new ≡ s.front ++ s.back)) → IfNone r (has_key number c (list_of old) ≡ false) → IfNone r (new ≡ old)
+    → IfSome r (λ x. (s : StandsIn number c (list_of old) x) × (list_of new ≡ s.front ++ s.back)) → IfNone r (has_key number c (list_of old) ≡ false)
+    → IfNone r (new ≡ old)
     → list_of new ≡ without c (list_of old)
 removed-left c old new (Some x) rise removed absent same = removed.1 ∙ sym (found-without c (list_of old) rise x removed.0)
 removed-left c old new None rise removed absent same = ap list_of same ∙ sym (none-without c (list_of old) absent)
@@ -129,7 +140,8 @@ numbers-without c (x ∷ live) = elim (cases_Bool (x.number == c)) [
 climbs-filter : (f : ℕ → Bool) (ns : List ℕ) → climbs ns ≡ true → climbs (filter f ns) ≡ true
 climbs-filter f [] h = refl
 climbs-filter f (n ∷ ns) h = let parts = and_parts (list_all (λ m. nat_lt n m) ns) (climbs ns) h in elim (cases_Bool (f n)) [
-  | inl y ↦ rw y (and_from (list_all (λ m. nat_lt n m) (filter f ns)) (climbs (filter f ns)) (all-filter (λ m. nat_lt n m) f ns parts.0) (climbs-filter f ns parts.1))
+  | inl y ↦ rw y
+      (and_from (list_all (λ m. nat_lt n m) (filter f ns)) (climbs (filter f ns)) (all-filter (λ m. nat_lt n m) f ns parts.0) (climbs-filter f ns parts.1))
   | inr out ↦ rw out (climbs-filter f ns parts.1)
 ]
 
@@ -139,7 +151,8 @@ climbs-without c live h = ap climbs (numbers-without c live) ∙ climbs-filter (
 pub climbs-moved : (c : ℕ) (stage : Stage) (live : List Connection) → climbs (numbers live) ≡ true → climbs (numbers (at_stage c stage live)) ≡ true
 climbs-moved c stage live h = ap climbs (numbers-moved c stage live) ∙ h
 
-pub all-put : (test : ℕ → Bool) (x : Connection) (live : List Connection) → test x.number ≡ true → list_all test (numbers live) ≡ true → list_all test (numbers (put_connection x live)) ≡ true
+pub all-put : (test : ℕ → Bool) (x : Connection) (live : List Connection) → test x.number ≡ true → list_all test (numbers live) ≡ true
+    → list_all test (numbers (put_connection x live)) ≡ true
 all-put test x [] t h = and_from (test x.number) true t refl
 all-put test x (y ∷ live) t h = let parts = and_parts (test y.number) (list_all test (numbers live)) h in elim (cases_Bool (nat_lt x.number y.number)) [
   | inl below ↦ rw below (and_from (test x.number) (list_all test (numbers (y ∷ live))) t h)
@@ -154,12 +167,16 @@ over n m a b = grind arith
 
 pub climbs-put : (x : Connection) (live : List Connection) → climbs (numbers live) ≡ true → climbs (numbers (put_connection x live)) ≡ true
 climbs-put x [] h = refl
-climbs-put x (y ∷ live) h = let parts = and_parts (list_all (λ m. nat_lt y.number m) (numbers live)) (climbs (numbers live)) h in elim (cases_Bool (nat_lt x.number y.number)) [
-  | inl below ↦ rw below (and_from (list_all (λ m. nat_lt x.number m) (numbers (y ∷ live))) (climbs (numbers (y ∷ live)))
-      (and_from (nat_lt x.number y.number) (list_all (λ m. nat_lt x.number m) (numbers live)) below (all-over x.number y.number (numbers live) below parts.0)) h)
-  | inr above ↦ elim (cases_Bool (y.number == x.number)) [
-    | inl same ↦ rw (above, same) h
-    | inr other ↦ rw (above, other) (and_from (list_all (λ m. nat_lt y.number m) (numbers (put_connection x live))) (climbs (numbers (put_connection x live)))
-        (all-put (λ m. nat_lt y.number m) x live (over x.number y.number above other) parts.0) (climbs-put x live parts.1))
-  ]
-]
+climbs-put x (y ∷ live) h =
+    let parts = and_parts (list_all (λ m. nat_lt y.number m) (numbers live)) (climbs (numbers live)) h in elim (cases_Bool (nat_lt x.number y.number)) [
+      | inl below ↦ rw below (and_from (list_all (λ m. nat_lt x.number m) (numbers (y ∷ live))) (climbs (numbers (y ∷ live)))
+          (and_from (nat_lt x.number y.number) (list_all (λ m. nat_lt x.number m) (numbers live)) below
+          (all-over x.number y.number (numbers live) below parts.0))
+          h)
+      | inr above ↦ elim (cases_Bool (y.number == x.number)) [
+        | inl same ↦ rw (above, same) h
+        | inr other ↦
+            rw (above, other) (and_from (list_all (λ m. nat_lt y.number m) (numbers (put_connection x live))) (climbs (numbers (put_connection x live)))
+            (all-put (λ m. nat_lt y.number m) x live (over x.number y.number above other) parts.0) (climbs-put x live parts.1))
+      ]
+    ]

@@ -37,4 +37,7 @@ pub cut-part : (p : Plan) (q : Record) (x : Arrival) → connection_right p q x 
 cut-part p q x h = let all = and_parts _ _ h in (and_parts _ _ all.1).1
 
 pub joined : (p : Plan) (q : Record) (x : Arrival) → Parts p q x → cut_right q x ≡ true → connection_right p q x ≡ true
-joined p q x w cut = and_from _ _ (and_from _ _ (and_from _ _ (and_from _ _ (and_from _ _ w.judged w.filtered) w.refused) (and_from _ _ w.set_up w.set_so)) (and_from _ _ w.shakes w.serves)) (and_from _ _ w.drops cut)
+joined p q x w cut =
+    and_from _ _
+    (and_from _ _ (and_from _ _ (and_from _ _ (and_from _ _ w.judged w.filtered) w.refused) (and_from _ _ w.set_up w.set_so))
+    (and_from _ _ w.shakes w.serves)) (and_from _ _ w.drops cut)

@@ -32,7 +32,8 @@ module _ (p : Plan) (d : ConnectionsData) (q : Record) (s i n : ℕ) (inside : i
     came_is = w.came_is;
     came_once = w.came_once;
     live_is = w.live_is;
-    stages_are = λ c. aside failed c (stage_of d.live c) (Told (Rest s i)) refl (aside q c (stage_of d.live c) (Got (AcceptFailed s i n)) refl (w.stages_are c));
+    stages_are =
+        λ c. aside failed c (stage_of d.live c) (Told (Rest s i)) refl (aside q c (stage_of d.live c) (Got (AcceptFailed s i n)) refl (w.stages_are c));
     right = record {
       each = all-grows (connection_right p q) (connection_right p (Told (Rest s i) ∷ failed)) (arrivals q) (λ x h. h) w.right.each;
       rests = one-more (n == 24) (times is_rest q) (times is_full q) is w.right.rests;
@@ -56,7 +57,8 @@ module _ (p : Plan) (d : ConnectionsData) (q : Record) (s i n : ℕ) (inside : i
   }
 
 -- accepting failed at an endpoint of the plan
-pub stands-failed : (p : Plan) (d : ConnectionsData) (q : Record) (s i n : ℕ) → is_endpoint p s i ≡ true → ConnectionsStand p d q → ConnectionsStand p d (tell (Got (AcceptFailed s i n) ∷ q) (rest_told s i n))
+pub stands-failed : (p : Plan) (d : ConnectionsData) (q : Record) (s i n : ℕ) → is_endpoint p s i ≡ true → ConnectionsStand p d q
+    → ConnectionsStand p d (tell (Got (AcceptFailed s i n) ∷ q) (rest_told s i n))
 stands-failed p d q s i n inside w = rested-by p d q s i n inside w (n == 24) refl
 
 -- a live connection arrived, and goes on
@@ -70,7 +72,8 @@ live-in p d q c w = let at = w.stages_are c in
     whole g u a h = grind arith
 
 -- the application is done with what was served and is live: it has just that
-pub finished-row : (p : Plan) (d : ConnectionsData) (q : Record) (c : ℕ) → ConnectionsStand p d q → (has (is_serve c) q && is_live_connection q c) ≡ is_serving (stage_of d.live c)
+pub finished-row : (p : Plan) (d : ConnectionsData) (q : Record) (c : ℕ) → ConnectionsStand p d q
+    → (has (is_serve c) q && is_live_connection q c) ≡ is_serving (stage_of d.live c)
 finished-row p d q c w = let at = w.stages_are c in
     ap (λ b. has (is_serve c) q && b) (live-in p d q c w)
     ∙ sym (served (has (is_arrival c) q) (λ none. let silent = unheard q c (untold p q c w.known none) in silent.no_serve))

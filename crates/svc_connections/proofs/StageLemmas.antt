@@ -67,7 +67,8 @@ put-here x (y ∷ live) h = elim (cases_Bool (nat_lt x.number y.number)) [
   ]
 ]
 
-pub numbers-put : (x : Connection) (live : List Connection) → stage_of live x.number ≡ None → numbers (put_connection x live) ≡ put_number x.number (numbers live)
+pub numbers-put : (x : Connection) (live : List Connection) → stage_of live x.number ≡ None
+    → numbers (put_connection x live) ≡ put_number x.number (numbers live)
 numbers-put x [] h = refl
 numbers-put x (y ∷ live) h = elim (cases_Bool (nat_lt x.number y.number)) [
   | inl below ↦ rw below refl

@@ -49,10 +49,13 @@ less-finish : (r d f u e k : Bool) → e ≡ k → (not ((r || d) || (e || f)) &
 less-finish r d f u e k h = grind arith
 
 -- the part after entries on one connection
-pub stands-from : (p : Plan) (d : ConnectionsData) (q r : Record) (c : ℕ) (live : List Connection) → ConnectionsStand p d q → arrivals r ≡ arrivals q → numbers live ≡ ascending (live_connections r)
+pub stands-from : (p : Plan) (d : ConnectionsData) (q r : Record) (c : ℕ) (live : List Connection) → ConnectionsStand p d q → arrivals r ≡ arrivals q
+    → numbers live ≡ ascending (live_connections r)
     → ((n : ℕ) → (c == n) ≡ false → NumberStands r n (stage_of live n)) → NumberStands r c (stage_of live c)
-    → ((x : Arrival) → (c == x.number) ≡ false → connection_right p r x ≡ connection_right p q x) → ((x : Arrival) → x.number ≡ c → connection_right p q x ≡ true → connection_right p r x ≡ true)
-    → rests_right r ≡ true → EachEntry (λ e before. rest_due e before ≡ true) r → EachEntry (λ e before. connection_known p e before ≡ true) r → has is_runtimes r ≡ false
+    → ((x : Arrival) → (c == x.number) ≡ false → connection_right p r x ≡ connection_right p q x)
+    → ((x : Arrival) → x.number ≡ c → connection_right p q x ≡ true → connection_right p r x ≡ true)
+    → rests_right r ≡ true → EachEntry (λ e before. rest_due e before ≡ true) r → EachEntry (λ e before. connection_known p e before ≡ true) r
+    → has is_runtimes r ≡ false
     → ConnectionsStand p (record { live = live; came = d.came }) r
 stands-from p d q r c live w same live_is others here rights right rests turns known on = record {
   came_is = w.came_is ∙ ap (λ (xs : List Arrival). ascending (map (λ (x : Arrival). x.number) xs)) (sym same);
@@ -63,10 +66,11 @@ stands-from p d q r c live w same live_is others here rights right rests turns k
     | inr differ ↦ others n differ
   ];
   right = record {
-    each = ap (list_all (connection_right p r)) same ∙ all-grows (connection_right p q) (connection_right p r) (arrivals q) (λ x h. elim (cases_Bool (c == x.number)) [
-      | inl y ↦ right x (sym (eqb-true c x.number y)) h
-      | inr differ ↦ rights x differ ∙ h
-    ]) w.right.each;
+    each = ap (list_all (connection_right p r)) same
+        ∙ all-grows (connection_right p q) (connection_right p r) (arrivals q) (λ x h. elim (cases_Bool (c == x.number)) [
+          | inl y ↦ right x (sym (eqb-true c x.number y)) h
+          | inr differ ↦ rights x differ ∙ h
+        ]) w.right.each;
     rests = rests;
     in_turn = turns;
   };
@@ -143,16 +147,19 @@ module _ (q : Record) (c : ℕ) where
 
 -- of a live connection nothing was dropped
 undropped : (q : Record) (c : ℕ) (stage : Option Stage) → is_live stage ≡ true → NumberStands q c stage → times (is_drop c) q ≡ 0
-undropped q c stage live w = none-times (is_drop c) q (none-dropped (has (is_arrival c) q) (has (is_refuse c) q) (has (is_drop c) q) (has (is_finished c) q) (w.live_is ∙ live))
+undropped q c stage live w =
+    none-times (is_drop c) q (none-dropped (has (is_arrival c) q) (has (is_refuse c) q) (has (is_drop c) q) (has (is_finished c) q) (w.live_is ∙ live))
 
 module _ (p : Plan) (q : Record) (x : Arrival) where
   same-number : (x.number == x.number) ≡ true
   same-number = eq-eqb x.number x.number refl
 
-  right-set-ok : NumberStands q x.number (Some Setting) → connection_right p q x ≡ true → connection_right p (Told (Handshake x.number) ∷ Got (Set x.number true) ∷ q) x ≡ true
+  right-set-ok : NumberStands q x.number (Some Setting) → connection_right p q x ≡ true
+      → connection_right p (Told (Handshake x.number) ∷ Got (Set x.number true) ∷ q) x ≡ true
   right-set-ok w h =
       let old = parts p q x h in
-      let none : times (is_handshake x.number) q ≡ 0 = undue (has (is_set_as true x.number) q) (is_handshake x.number) q (unset-as true x.number q (w.unset refl)) old.shakes in
+      let none : times (is_handshake x.number) q ≡ 0 =
+      undue (has (is_set_as true x.number) q) (is_handshake x.number) q (unset-as true x.number q (w.unset refl)) old.shakes in
       joined p (Told (Handshake x.number) ∷ Got (Set x.number true) ∷ q) x (record {
         judged = old.judged;
         filtered = old.filtered;
@@ -164,10 +171,12 @@ module _ (p : Plan) (q : Record) (x : Arrival) where
         drops = old.drops;
       }) (cut-part p q x h)
 
-  right-shaken-ok : NumberStands q x.number (Some Shaking) → connection_right p q x ≡ true → connection_right p (Told (Serve x.number) ∷ Got (Shaken x.number true) ∷ q) x ≡ true
+  right-shaken-ok : NumberStands q x.number (Some Shaking) → connection_right p q x ≡ true
+      → connection_right p (Told (Serve x.number) ∷ Got (Shaken x.number true) ∷ q) x ≡ true
   right-shaken-ok w h =
       let old = parts p q x h in
-      let none : times (is_serve x.number) q ≡ 0 = undue (has (is_shaken_as true x.number) q) (is_serve x.number) q (unshaken-as true x.number q (w.unshaken refl)) old.serves in
+      let none : times (is_serve x.number) q ≡ 0 =
+      undue (has (is_shaken_as true x.number) q) (is_serve x.number) q (unshaken-as true x.number q (w.unshaken refl)) old.serves in
       joined p (Told (Serve x.number) ∷ Got (Shaken x.number true) ∷ q) x (record {
         judged = old.judged;
         filtered = old.filtered;
@@ -179,7 +188,8 @@ module _ (p : Plan) (q : Record) (x : Arrival) where
         drops = old.drops;
       }) (cut-part p q x h)
 
-  right-set-no : NumberStands q x.number (Some Setting) → connection_right p q x ≡ true → connection_right p (Told (Drop x.number) ∷ Got (Set x.number false) ∷ q) x ≡ true
+  right-set-no : NumberStands q x.number (Some Setting) → connection_right p q x ≡ true
+      → connection_right p (Told (Drop x.number) ∷ Got (Set x.number false) ∷ q) x ≡ true
   right-set-no w h =
       let old = parts p q x h in
       let none : times (is_drop x.number) q ≡ 0 = undropped q x.number (Some Setting) refl w in
@@ -194,7 +204,8 @@ module _ (p : Plan) (q : Record) (x : Arrival) where
         drops = rw (same-number, none) refl;
       }) (cut-part p q x h)
 
-  right-shaken-no : NumberStands q x.number (Some Shaking) → connection_right p q x ≡ true → connection_right p (Told (Drop x.number) ∷ Got (Shaken x.number false) ∷ q) x ≡ true
+  right-shaken-no : NumberStands q x.number (Some Shaking) → connection_right p q x ≡ true
+      → connection_right p (Told (Drop x.number) ∷ Got (Shaken x.number false) ∷ q) x ≡ true
   right-shaken-no w h =
       let old = parts p q x h in
       let none : times (is_drop x.number) q ≡ 0 = undropped q x.number (Some Shaking) refl w in
@@ -214,8 +225,10 @@ module _ (p : Plan) (q : Record) (x : Arrival) where
       dropped-once false = refl
 
 -- the live connections without one
-ended-live : (d : ConnectionsData) (q r : Record) (c : ℕ) → numbers d.live ≡ ascending (live_connections q) → filter (λ n. not (n == c)) (live_connections q) ≡ live_connections r → numbers (without c d.live) ≡ ascending (live_connections r)
-ended-live d q r c is less = numbers-without c d.live ∙ ap (filter (λ n. not (n == c))) is ∙ filter-ascending (λ n. not (n == c)) (live_connections q) ∙ ap ascending less
+ended-live : (d : ConnectionsData) (q r : Record) (c : ℕ) → numbers d.live ≡ ascending (live_connections q)
+    → filter (λ n. not (n == c)) (live_connections q) ≡ live_connections r → numbers (without c d.live) ≡ ascending (live_connections r)
+ended-live d q r c is less =
+    numbers-without c d.live ∙ ap (filter (λ n. not (n == c))) is ∙ filter-ascending (λ n. not (n == c)) (live_connections q) ∙ ap ascending less
 
 -- a connection of the record that arrived
 arrived-is : (q : Record) (c : ℕ) (stage : Option Stage) → is_live stage ≡ true → NumberStands q c stage → has (is_arrival c) q ≡ true
@@ -234,50 +247,68 @@ module _ (p : Plan) (d : ConnectionsData) (q : Record) (c : ℕ) (w : Connection
   at-x : (s : Option Stage) → stage_of d.live c ≡ s → (x : Arrival) → x.number ≡ c → NumberStands q x.number s
   at-x s is x same = subst (λ (n : ℕ). NumberStands q n s) (sym same) (at-c s is)
 
-  after-set-ok : is_setting (stage_of d.live c) ≡ true → ConnectionsStand p (record { live = at_stage c Shaking d.live; came = d.came }) (Told (Handshake c) ∷ Got (Set c true) ∷ q)
+  after-set-ok : is_setting (stage_of d.live c) ≡ true
+      → ConnectionsStand p (record { live = at_stage c Shaking d.live; came = d.came }) (Told (Handshake c) ∷ Got (Set c true) ∷ q)
   after-set-ok awaited =
       let is = setting-is (stage_of d.live c) awaited in
       let here = at-c (Some Setting) is in
       stands-from p d q (Told (Handshake c) ∷ Got (Set c true) ∷ q) c (at_stage c Shaking d.live) w refl (numbers-moved c Shaking d.live ∙ w.live_is)
-      (λ n differ. aside (Got (Set c true) ∷ q) n (stage_of (at_stage c Shaking d.live) n) (Told (Handshake c)) differ (aside q n (stage_of (at_stage c Shaking d.live) n) (Got (Set c true)) differ (moves Shaking n differ)))
-      (subst (λ (x : Option Stage). NumberStands (Told (Handshake c) ∷ Got (Set c true) ∷ q) c x) (sym (moved-here c Shaking d.live (ap is_live is))) (set-ok q c here))
+      (λ n differ. aside (Got (Set c true) ∷ q) n (stage_of (at_stage c Shaking d.live) n) (Told (Handshake c)) differ
+      (aside q n (stage_of (at_stage c Shaking d.live) n) (Got (Set c true)) differ (moves Shaking n differ)))
+      (subst (λ (x : Option Stage). NumberStands (Told (Handshake c) ∷ Got (Set c true) ∷ q) c x) (sym (moved-here c Shaking d.live (ap is_live is)))
+      (set-ok q c here))
       (λ x differ. right-aside p (Got (Set c true) ∷ q) x (Told (Handshake c)) differ refl ∙ right-aside p q x (Got (Set c true)) differ refl)
-      (λ x same h. subst (λ (n : ℕ). connection_right p (Told (Handshake n) ∷ Got (Set n true) ∷ q) x ≡ true) same (right-set-ok p q x (at-x (Some Setting) is x same) h))
+      (λ x same h. subst (λ (n : ℕ). connection_right p (Told (Handshake n) ∷ Got (Set n true) ∷ q) x ≡ true) same
+      (right-set-ok p q x (at-x (Some Setting) is x same) h))
       w.right.rests (refl, (refl, w.right.in_turn)) (arrived-is q c (Some Setting) refl here, (refl, w.known)) w.goes_on
 
-  after-shaken-ok : is_shaking (stage_of d.live c) ≡ true → ConnectionsStand p (record { live = at_stage c Serving d.live; came = d.came }) (Told (Serve c) ∷ Got (Shaken c true) ∷ q)
+  after-shaken-ok : is_shaking (stage_of d.live c) ≡ true
+      → ConnectionsStand p (record { live = at_stage c Serving d.live; came = d.came }) (Told (Serve c) ∷ Got (Shaken c true) ∷ q)
   after-shaken-ok awaited =
       let is = shaking-is (stage_of d.live c) awaited in
       let here = at-c (Some Shaking) is in
       stands-from p d q (Told (Serve c) ∷ Got (Shaken c true) ∷ q) c (at_stage c Serving d.live) w refl (numbers-moved c Serving d.live ∙ w.live_is)
-      (λ n differ. aside (Got (Shaken c true) ∷ q) n (stage_of (at_stage c Serving d.live) n) (Told (Serve c)) differ (aside q n (stage_of (at_stage c Serving d.live) n) (Got (Shaken c true)) differ (moves Serving n differ)))
-      (subst (λ (x : Option Stage). NumberStands (Told (Serve c) ∷ Got (Shaken c true) ∷ q) c x) (sym (moved-here c Serving d.live (ap is_live is))) (shaken-ok q c here))
+      (λ n differ. aside (Got (Shaken c true) ∷ q) n (stage_of (at_stage c Serving d.live) n) (Told (Serve c)) differ
+      (aside q n (stage_of (at_stage c Serving d.live) n) (Got (Shaken c true)) differ (moves Serving n differ)))
+      (subst (λ (x : Option Stage). NumberStands (Told (Serve c) ∷ Got (Shaken c true) ∷ q) c x) (sym (moved-here c Serving d.live (ap is_live is)))
+      (shaken-ok q c here))
       (λ x differ. right-aside p (Got (Shaken c true) ∷ q) x (Told (Serve c)) differ refl ∙ right-aside p q x (Got (Shaken c true)) differ refl)
-      (λ x same h. subst (λ (n : ℕ). connection_right p (Told (Serve n) ∷ Got (Shaken n true) ∷ q) x ≡ true) same (right-shaken-ok p q x (at-x (Some Shaking) is x same) h))
+      (λ x same h. subst (λ (n : ℕ). connection_right p (Told (Serve n) ∷ Got (Shaken n true) ∷ q) x ≡ true) same
+      (right-shaken-ok p q x (at-x (Some Shaking) is x same) h))
       w.right.rests (refl, (refl, w.right.in_turn)) (arrived-is q c (Some Shaking) refl here, (refl, w.known)) w.goes_on
 
-  after-set-no : is_setting (stage_of d.live c) ≡ true → ConnectionsStand p (record { live = without c d.live; came = d.came }) (Told (Drop c) ∷ Got (Set c false) ∷ q)
+  after-set-no : is_setting (stage_of d.live c) ≡ true
+      → ConnectionsStand p (record { live = without c d.live; came = d.came }) (Told (Drop c) ∷ Got (Set c false) ∷ q)
   after-set-no awaited =
       let is = setting-is (stage_of d.live c) awaited in
       let here = at-c (Some Setting) is in
       stands-from p d q (Told (Drop c) ∷ Got (Set c false) ∷ q) c (without c d.live) w refl
-      (ended-live d q (Told (Drop c) ∷ Got (Set c false) ∷ q) c w.live_is (filter-less _ _ c (arrived_numbers q) (λ n. less-drop (has (is_refuse n) q) (has (is_drop n) q) (has (is_finished n) q) (has (is_cut n) q) (c == n) (n == c) (eqb-sym c n))))
-      (λ n differ. aside (Got (Set c false) ∷ q) n (stage_of (without c d.live) n) (Told (Drop c)) differ (aside q n (stage_of (without c d.live) n) (Got (Set c false)) differ (ends n differ)))
+      (ended-live d q (Told (Drop c) ∷ Got (Set c false) ∷ q) c w.live_is
+      (filter-less _ _ c (arrived_numbers q)
+      (λ n. less-drop (has (is_refuse n) q) (has (is_drop n) q) (has (is_finished n) q) (has (is_cut n) q) (c == n) (n == c) (eqb-sym c n))))
+      (λ n differ. aside (Got (Set c false) ∷ q) n (stage_of (without c d.live) n) (Told (Drop c)) differ
+      (aside q n (stage_of (without c d.live) n) (Got (Set c false)) differ (ends n differ)))
       (subst (λ (x : Option Stage). NumberStands (Told (Drop c) ∷ Got (Set c false) ∷ q) c x) (sym (without-here c d.live)) (set-no q c here))
       (λ x differ. right-aside p (Got (Set c false) ∷ q) x (Told (Drop c)) differ refl ∙ right-aside p q x (Got (Set c false)) differ refl)
-      (λ x same h. subst (λ (n : ℕ). connection_right p (Told (Drop n) ∷ Got (Set n false) ∷ q) x ≡ true) same (right-set-no p q x (at-x (Some Setting) is x same) h))
+      (λ x same h. subst (λ (n : ℕ). connection_right p (Told (Drop n) ∷ Got (Set n false) ∷ q) x ≡ true) same
+      (right-set-no p q x (at-x (Some Setting) is x same) h))
       w.right.rests (refl, (refl, w.right.in_turn)) (arrived-is q c (Some Setting) refl here, (refl, w.known)) w.goes_on
 
-  after-shaken-no : is_shaking (stage_of d.live c) ≡ true → ConnectionsStand p (record { live = without c d.live; came = d.came }) (Told (Drop c) ∷ Got (Shaken c false) ∷ q)
+  after-shaken-no : is_shaking (stage_of d.live c) ≡ true
+      → ConnectionsStand p (record { live = without c d.live; came = d.came }) (Told (Drop c) ∷ Got (Shaken c false) ∷ q)
   after-shaken-no awaited =
       let is = shaking-is (stage_of d.live c) awaited in
       let here = at-c (Some Shaking) is in
       stands-from p d q (Told (Drop c) ∷ Got (Shaken c false) ∷ q) c (without c d.live) w refl
-      (ended-live d q (Told (Drop c) ∷ Got (Shaken c false) ∷ q) c w.live_is (filter-less _ _ c (arrived_numbers q) (λ n. less-drop (has (is_refuse n) q) (has (is_drop n) q) (has (is_finished n) q) (has (is_cut n) q) (c == n) (n == c) (eqb-sym c n))))
-      (λ n differ. aside (Got (Shaken c false) ∷ q) n (stage_of (without c d.live) n) (Told (Drop c)) differ (aside q n (stage_of (without c d.live) n) (Got (Shaken c false)) differ (ends n differ)))
+      (ended-live d q (Told (Drop c) ∷ Got (Shaken c false) ∷ q) c w.live_is
+      (filter-less _ _ c (arrived_numbers q)
+      (λ n. less-drop (has (is_refuse n) q) (has (is_drop n) q) (has (is_finished n) q) (has (is_cut n) q) (c == n) (n == c) (eqb-sym c n))))
+      (λ n differ. aside (Got (Shaken c false) ∷ q) n (stage_of (without c d.live) n) (Told (Drop c)) differ
+      (aside q n (stage_of (without c d.live) n) (Got (Shaken c false)) differ (ends n differ)))
       (subst (λ (x : Option Stage). NumberStands (Told (Drop c) ∷ Got (Shaken c false) ∷ q) c x) (sym (without-here c d.live)) (shaken-no q c here))
       (λ x differ. right-aside p (Got (Shaken c false) ∷ q) x (Told (Drop c)) differ refl ∙ right-aside p q x (Got (Shaken c false)) differ refl)
-      (λ x same h. subst (λ (n : ℕ). connection_right p (Told (Drop n) ∷ Got (Shaken n false) ∷ q) x ≡ true) same (right-shaken-no p q x (at-x (Some Shaking) is x same) h))
+      (λ x same h. subst (λ (n : ℕ). connection_right p (Told (Drop n) ∷ Got (Shaken n false) ∷ q) x ≡ true) same
+      (right-shaken-no p q x (at-x (Some Shaking) is x same) h))
       w.right.rests (refl, (refl, w.right.in_turn)) (arrived-is q c (Some Shaking) refl here, (refl, w.known)) w.goes_on
 
   pub after-finished : is_serving (stage_of d.live c) ≡ true → ConnectionsStand p (finished c d) (Got (Finished c) ∷ q)
@@ -285,7 +316,9 @@ module _ (p : Plan) (d : ConnectionsData) (q : Record) (c : ℕ) (w : Connection
       let is = serving-is (stage_of d.live c) served in
       let here = at-c (Some Serving) is in
       stands-from p d q (Got (Finished c) ∷ q) c (without c d.live) w refl
-      (ended-live d q (Got (Finished c) ∷ q) c w.live_is (filter-less _ _ c (arrived_numbers q) (λ n. less-finish (has (is_refuse n) q) (has (is_drop n) q) (has (is_finished n) q) (has (is_cut n) q) (c == n) (n == c) (eqb-sym c n))))
+      (ended-live d q (Got (Finished c) ∷ q) c w.live_is
+      (filter-less _ _ c (arrived_numbers q)
+      (λ n. less-finish (has (is_refuse n) q) (has (is_drop n) q) (has (is_finished n) q) (has (is_cut n) q) (c == n) (n == c) (eqb-sym c n))))
       (λ n differ. aside q n (stage_of (without c d.live) n) (Got (Finished c)) differ (ends n differ))
       (subst (λ (x : Option Stage). NumberStands (Got (Finished c) ∷ q) c x) (sym (without-here c d.live)) (finish q c here))
       (λ x differ. right-aside p q x (Got (Finished c)) differ refl)
@@ -293,21 +326,29 @@ module _ (p : Plan) (d : ConnectionsData) (q : Record) (c : ℕ) (w : Connection
       w.right.rests (refl, w.right.in_turn) (refl, w.known) w.goes_on
 
 -- the answer to the settings
-pub stands-set : (p : Plan) (d : ConnectionsData) (q : Record) (c : ℕ) (ok : Bool) → is_setting (stage_of d.live c) ≡ true → ConnectionsStand p d q → ConnectionsStand p (gone_on c ok Shaking d) (tell (Got (Set c ok) ∷ q) (set_told c ok))
+pub stands-set : (p : Plan) (d : ConnectionsData) (q : Record) (c : ℕ) (ok : Bool) → is_setting (stage_of d.live c) ≡ true → ConnectionsStand p d q
+    → ConnectionsStand p (gone_on c ok Shaking d) (tell (Got (Set c ok) ∷ q) (set_told c ok))
 stands-set p d q c true awaited w = after-set-ok p d q c w awaited
 stands-set p d q c false awaited w = after-set-no p d q c w awaited
 
 -- the answer to the handshake
-pub stands-shaken : (p : Plan) (d : ConnectionsData) (q : Record) (c : ℕ) (ok : Bool) → is_shaking (stage_of d.live c) ≡ true → ConnectionsStand p d q → ConnectionsStand p (gone_on c ok Serving d) (tell (Got (Shaken c ok) ∷ q) (shaken_told c ok))
+pub stands-shaken : (p : Plan) (d : ConnectionsData) (q : Record) (c : ℕ) (ok : Bool) → is_shaking (stage_of d.live c) ≡ true → ConnectionsStand p d q
+    → ConnectionsStand p (gone_on c ok Serving d) (tell (Got (Shaken c ok) ∷ q) (shaken_told c ok))
 stands-shaken p d q c true awaited w = after-shaken-ok p d q c w awaited
 stands-shaken p d q c false awaited w = after-shaken-no p d q c w awaited
 
 -- the same of what it is after the calls
-pub after-set : (p : Plan) (d new : ConnectionsData) (q : Record) (c : ℕ) (ok : Bool) → new ≡ gone_on c ok Shaking d → is_setting (stage_of d.live c) ≡ true → ConnectionsStand p d q → ConnectionsStand p new (tell (Got (Set c ok) ∷ q) (set_told c ok))
-after-set p d new q c ok after awaited w = subst (λ (x : ConnectionsData). ConnectionsStand p x (tell (Got (Set c ok) ∷ q) (set_told c ok))) (sym after) (stands-set p d q c ok awaited w)
+pub after-set : (p : Plan) (d new : ConnectionsData) (q : Record) (c : ℕ) (ok : Bool) → new ≡ gone_on c ok Shaking d → is_setting (stage_of d.live c) ≡ true
+    → ConnectionsStand p d q → ConnectionsStand p new (tell (Got (Set c ok) ∷ q) (set_told c ok))
+after-set p d new q c ok after awaited w =
+    subst (λ (x : ConnectionsData). ConnectionsStand p x (tell (Got (Set c ok) ∷ q) (set_told c ok))) (sym after) (stands-set p d q c ok awaited w)
 
-pub after-shaken : (p : Plan) (d new : ConnectionsData) (q : Record) (c : ℕ) (ok : Bool) → new ≡ gone_on c ok Serving d → is_shaking (stage_of d.live c) ≡ true → ConnectionsStand p d q → ConnectionsStand p new (tell (Got (Shaken c ok) ∷ q) (shaken_told c ok))
-after-shaken p d new q c ok after awaited w = subst (λ (x : ConnectionsData). ConnectionsStand p x (tell (Got (Shaken c ok) ∷ q) (shaken_told c ok))) (sym after) (stands-shaken p d q c ok awaited w)
+pub after-shaken : (p : Plan) (d new : ConnectionsData) (q : Record) (c : ℕ) (ok : Bool) → new ≡ gone_on c ok Serving d → is_shaking (stage_of d.live c) ≡ true
+    → ConnectionsStand p d q → ConnectionsStand p new (tell (Got (Shaken c ok) ∷ q) (shaken_told c ok))
+after-shaken p d new q c ok after awaited w =
+    subst (λ (x : ConnectionsData). ConnectionsStand p x (tell (Got (Shaken c ok) ∷ q) (shaken_told c ok))) (sym after) (stands-shaken p d q c ok awaited w)
 
-pub after-finish : (p : Plan) (d new : ConnectionsData) (q : Record) (c : ℕ) → new ≡ finished c d → is_serving (stage_of d.live c) ≡ true → ConnectionsStand p d q → ConnectionsStand p new (Got (Finished c) ∷ q)
-after-finish p d new q c after served w = subst (λ (x : ConnectionsData). ConnectionsStand p x (Got (Finished c) ∷ q)) (sym after) (after-finished p d q c w served)
+pub after-finish : (p : Plan) (d new : ConnectionsData) (q : Record) (c : ℕ) → new ≡ finished c d → is_serving (stage_of d.live c) ≡ true
+    → ConnectionsStand p d q → ConnectionsStand p new (Got (Finished c) ∷ q)
+after-finish p d new q c after served w =
+    subst (λ (x : ConnectionsData). ConnectionsStand p x (Got (Finished c) ∷ q)) (sym after) (after-finished p d q c w served)

@@ -26,7 +26,8 @@ is_told_of c _ = false
 told-apart : (n c : ℕ) (q : Record) (rest : Bool) → has (is_arrival n) q ≡ true → has (is_arrival c) q ≡ false → rest ≡ false → ((n == c) || rest) ≡ false
 told-apart n c q rest there none h = or_from (n == c) rest (ne_eqb n c (λ e. let here = subst (λ (m : ℕ). has (is_arrival m) q ≡ true) e there in cc)) h
 
-pub untold : (p : Plan) (q : Record) (c : ℕ) → EachEntry (λ e before. connection_known p e before ≡ true) q → has (is_arrival c) q ≡ false → has (is_told_of c) q ≡ false
+pub untold : (p : Plan) (q : Record) (c : ℕ) → EachEntry (λ e before. connection_known p e before ≡ true) q → has (is_arrival c) q ≡ false
+    → has (is_told_of c) q ≡ false
 untold p [] c known none = refl
 untold p (Told (Judged n said) ∷ q) c known none = told-apart n c q (has (is_told_of c) q) known.0 none (untold p q c known.1 none)
 untold p (Told (Refuse n) ∷ q) c known none = told-apart n c q (has (is_told_of c) q) known.0 none (untold p q c known.1 none)

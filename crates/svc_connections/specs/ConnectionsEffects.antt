@@ -24,7 +24,9 @@ is_of_sort ReceiveBuffer = is_receive_buffer
 
 -- the settings of an endpoint's connections: no delay, and for one that isn't Unix the first option of each sort
 abbrev pub settings_for : Bool → List Setting → List Setting
-settings_for unix options = NoDelay ∷ (if unix then [] else (first_of is_keepalive options ++ (first_of is_dscp options ++ (first_of is_send_buffer options ++ first_of is_receive_buffer options))))
+settings_for unix options =
+    NoDelay ∷ (if unix then [] else
+    (first_of is_keepalive options ++ (first_of is_dscp options ++ (first_of is_send_buffer options ++ first_of is_receive_buffer options))))
 
 -- nothing has arrived
 abbrev pub nothing : ConnectionsData
@@ -53,7 +55,8 @@ is_refused peer said = is_known peer && not said
 
 -- the part after a connection arrived that is refused or set up
 abbrev pub taken_in : ℕ → Bool → ConnectionsData → ConnectionsData
-taken_in c refused d = record { live = if refused then d.live else put_connection (record { number = c; stage = stages.Setting }) d.live; came = put_number c d.came }
+taken_in c refused d =
+    record { live = if refused then d.live else put_connection (record { number = c; stage = stages.Setting }) d.live; came = put_number c d.came }
 
 -- the part after a connection arrived, of which its filter says this
 abbrev pub arrived : ℕ → Peer → Bool → ConnectionsData → ConnectionsData

@@ -102,7 +102,9 @@ module _ (core : CoreData) (q : Record) (may : MayBootstrap core q) where
   -- nothing was received yet, and bootstrapping isn't complete
   incomplete : core.boot.complete ≡ false
   incomplete = elim (cases_Bool core.boot.complete) [
-    | inl complete ↦ absurd (let through = may.boot.kept.through complete in let none = through-none core.boot.begun core.plan.test core.plan.upgrade (has_come core.boot.receiving) may.unbegun in cc)
+    | inl complete ↦
+        absurd (let through = may.boot.kept.through complete in
+        let none = through-none core.boot.begun core.plan.test core.plan.upgrade (has_come core.boot.receiving) may.unbegun in cc)
     | inr fails ↦ fails
   ]
 
@@ -139,7 +141,8 @@ module _ (core : CoreData) (q : Record) (may : MayBootstrap core q) where
   }
 
   -- it does
-  module _ (eager : core.plan.eager ≡ true) (stands : BootStands core.plan (begun_by core.plan core.boot) (tell q (begin_told core.plan core.boot core.drain.moment))) where
+  module _ (eager : core.plan.eager ≡ true)
+      (stands : BootStands core.plan (begun_by core.plan core.boot) (tell q (begin_told core.plan core.boot core.drain.moment))) where
     abbrev begun : BootData
     begun = begun_by core.plan core.boot
 
@@ -150,7 +153,9 @@ module _ (core : CoreData) (q : Record) (may : MayBootstrap core q) where
     followed = tell q (begin_told core.plan core.boot core.drain.moment)
 
     told-loose : are_loose (now q) told ≡ true
-    told-loose = subst (λ m. are_loose m (begin_told core.plan core.boot core.drain.moment) ≡ true) may.drain.moment_is (begin-loose core.plan core.boot core.drain.moment)
+    told-loose =
+        subst (λ m. are_loose m (begin_told core.plan core.boot core.drain.moment) ≡ true) may.drain.moment_is
+        (begin-loose core.plan core.boot core.drain.moment)
 
     after-end : MayEnd core.plan followed
     after-end = may-tell core.plan (now q) q told told-loose may.may_end
@@ -174,13 +179,15 @@ module _ (core : CoreData) (q : Record) (may : MayBootstrap core q) where
     -- with `test` that is all
     test-last : core.plan.test ≡ true → is_test_step (now followed) (last_step followed) ≡ true
     test-last e =
-        subst (λ told. is_test_step (now (tell q told)) (last_step (tell q told)) ≡ true) (sym (tested-told core.plan core.boot core.drain.moment may.unbegun e))
+        subst (λ told. is_test_step (now (tell q told)) (last_step (tell q told)) ≡ true)
+        (sym (tested-told core.plan core.boot core.drain.moment may.unbegun e))
         (and_from (core.drain.moment == now q) (is_quiet (last_step q)) (eq-eqb core.drain.moment (now q) may.drain.moment_is) (ap is_quiet may.silent))
 
     tested-ended : core.plan.test ≡ true → EndedSo core.plan followed
     tested-ended e = record {
       ended = record {
-        early = not_true (has_ended_early core.plan followed) _ (early-is core.plan begun followed stands ∙ or_from (is_parent_over begun.fork) (is_refused begun.receiving) after-alive ripe.goes_on);
+        early = not_true (has_ended_early core.plan followed) _
+            (early-is core.plan begun followed stands ∙ or_from (is_parent_over begun.fork) (is_refused begun.receiving) after-alive ripe.goes_on);
         tested = to_true (ends_tested core.plan followed) _ (test-last e, going.ends.closes);
       };
       tested = to_true (ends_tested core.plan followed) (TestedRight core.plan followed) (record {
@@ -213,15 +220,18 @@ module _ (core : CoreData) (q : Record) (may : MayBootstrap core q) where
     }
 
 -- a server's run begins
-pub bootstrap-plain : (core new : CoreData) (before after : List Action) (end : StepEnd) → core.plan.eager ≡ false → Follows core new None before after end → Bootstraps core new before after end
+pub bootstrap-plain : (core new : CoreData) (before after : List Action) (end : StepEnd) → core.plan.eager ≡ false → Follows core new None before after end
+    → Bootstraps core new before after end
 bootstrap-plain core new before after end late follows = record {
   told = follows.told;
   appended = follows.appended;
   kept = λ q may. follows.kept q (strike-plain core q may late);
 }
 
-bootstrap-eager : (core new : CoreData) (before mid after : List Action) (end : StepEnd) → core.plan.eager ≡ true → mid ≡ before ++ begin_told core.plan core.boot core.drain.moment
-    → ((q : Record) → is_free core.plan core.boot.fork ≡ true → BootStands core.plan core.boot q → BootStands core.plan (begun_by core.plan core.boot) (tell q (begin_told core.plan core.boot core.drain.moment)))
+bootstrap-eager : (core new : CoreData) (before mid after : List Action) (end : StepEnd) → core.plan.eager ≡ true
+    → mid ≡ before ++ begin_told core.plan core.boot core.drain.moment
+    → ((q : Record) → is_free core.plan core.boot.fork ≡ true → BootStands core.plan core.boot q
+    → BootStands core.plan (begun_by core.plan core.boot) (tell q (begin_told core.plan core.boot core.drain.moment)))
     → Follows (with_boot (begun_by core.plan core.boot) core) new None mid after end → Bootstraps core new before after end
 bootstrap-eager core new before mid after end eager told stands follows = record {
   told = begin_told core.plan core.boot core.drain.moment ++ follows.told;
@@ -233,13 +243,15 @@ bootstrap-eager core new before mid after end eager told stands follows = record
 -- the same with what the call gave
 pub bootstrap-eager-at : (core new : CoreData) (b : BootData) (before mid after : List Action) (end : StepEnd) → core.plan.eager ≡ true
     → b ≡ begun_by core.plan core.boot → mid ≡ before ++ begin_told core.plan core.boot core.drain.moment
-    → ((q : Record) → is_free core.plan core.boot.fork ≡ true → BootStands core.plan core.boot q → BootStands core.plan b (tell q (begin_told core.plan core.boot core.drain.moment)))
+    → ((q : Record) → is_free core.plan core.boot.fork ≡ true → BootStands core.plan core.boot q
+    → BootStands core.plan b (tell q (begin_told core.plan core.boot core.drain.moment)))
     → Follows (with_boot b core) new None mid after end → Bootstraps core new before after end
 bootstrap-eager-at core new b before mid after end eager boots told stands follows =
     bootstrap-eager core new before mid after end eager told (rw boots at stands) (rw boots at follows)
 
 -- the first step of a server that is no daemon
-pub begin-first : (core new : CoreData) (before after : List Action) (end : StepEnd) → HasNotBegun core → core.plan.daemon ≡ false → Bootstraps core new before after end → BeginKeeps new before after end
+pub begin-first : (core new : CoreData) (before after : List Action) (end : StepEnd) → HasNotBegun core → core.plan.daemon ≡ false
+    → Bootstraps core new before after end → BeginKeeps new before after end
 begin-first core new before after end first none bootstraps = record {
   told = bootstraps.told;
   appended = bootstraps.appended;

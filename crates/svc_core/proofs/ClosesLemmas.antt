@@ -11,11 +11,13 @@ use Rattle.svc_record.specs.Descriptors.{is_opened, is_close}
 use Rattle.svc_record.specs.Failed.{has_failed}
 use Rattle.svc_record.proofs.Tallies.{is_in, tally, one_if, is_in-tally}
 
-pub has-closes : (test : Entry → Bool) → ((f : ℕ) → test (Told (Close f)) ≡ false) → (q : Record) (fds : List ℕ) → has test (tell q (map Close fds)) ≡ has test q
+pub has-closes : (test : Entry → Bool) → ((f : ℕ) → test (Told (Close f)) ≡ false) → (q : Record) (fds : List ℕ)
+    → has test (tell q (map Close fds)) ≡ has test q
 has-closes test f q [] = refl
 has-closes test f q (fd ∷ fds) = has-closes test f (Told (Close fd) ∷ q) fds ∙ ap (λ b. b || has test q) (f fd)
 
-pub times-other : (test : Entry → Bool) → ((f : ℕ) → test (Told (Close f)) ≡ false) → (q : Record) (fds : List ℕ) → times test (tell q (map Close fds)) ≡ times test q
+pub times-other : (test : Entry → Bool) → ((f : ℕ) → test (Told (Close f)) ≡ false) → (q : Record) (fds : List ℕ)
+    → times test (tell q (map Close fds)) ≡ times test q
 times-other test f q [] = refl
 times-other test f q (fd ∷ fds) = times-other test f (Told (Close fd) ∷ q) fds ∙ ap (λ b. if b then times test q + 1 else times test q) (f fd)
 
@@ -84,6 +86,7 @@ closes-once p q (f ∷ fds) few opened lives h =
     closes-once p (Told (Close f) ∷ q) fds (λ g. few-later (f == g) (tally g fds) (few g))
     (λ g there. opened g (or_right (f == g) (is_in g fds) there))
     (λ g there. (
-    let ne : (f == g) ≡ false = ne_eqb f g (λ e. let other = apart-head f fds few in let same : is_in f fds ≡ true = subst (λ x. is_in x fds ≡ true) (sym e) there in cc) in
+    let ne : (f == g) ≡ false =
+    ne_eqb f g (λ e. let other = apart-head f fds few in let same : is_in f fds ≡ true = subst (λ x. is_in x fds ≡ true) (sym e) there in cc) in
     rw ne (lives g (or_right (f == g) (is_in g fds) there))))
     (and_from (is_opened p q f) (not (has (is_close f) q)) (opened f here) (not_from_false (has (is_close f) q) (lives f here)), h)

@@ -85,13 +85,83 @@ pub record SaysAsMuch (p : Plan) (q r : Record) : Type 0 where
   pub moments : EachEntry (λ e before. moment_right e before ≡ true) q → EachEntry (λ e before. moment_right e before ≡ true) r
 
 says-told : (p : Plan) (q : Record) (a : Action) → is_dealing a ≡ true → SaysAsMuch p q (Told a ∷ q)
-says-told p q (Judged c said) h = record { starts = λ w. record { each = w.each; in_turn = (refl, w.in_turn) }; endpoints = λ w s i a b. w s i a b; late = λ w s i a b. w s i a b; running = refl; from_the_start_is = refl; signal = refl; runs_is = refl; moments = λ w. (refl, w) }
-says-told p q (Refuse c) h = record { starts = λ w. record { each = w.each; in_turn = (refl, w.in_turn) }; endpoints = λ w s i a b. w s i a b; late = λ w s i a b. w s i a b; running = refl; from_the_start_is = refl; signal = refl; runs_is = refl; moments = λ w. (refl, w) }
-says-told p q (TellSettings c list) h = record { starts = λ w. record { each = w.each; in_turn = (refl, w.in_turn) }; endpoints = λ w s i a b. w s i a b; late = λ w s i a b. w s i a b; running = refl; from_the_start_is = refl; signal = refl; runs_is = refl; moments = λ w. (refl, w) }
-says-told p q (Handshake c) h = record { starts = λ w. record { each = w.each; in_turn = (refl, w.in_turn) }; endpoints = λ w s i a b. w s i a b; late = λ w s i a b. w s i a b; running = refl; from_the_start_is = refl; signal = refl; runs_is = refl; moments = λ w. (refl, w) }
-says-told p q (Serve c) h = record { starts = λ w. record { each = w.each; in_turn = (refl, w.in_turn) }; endpoints = λ w s i a b. w s i a b; late = λ w s i a b. w s i a b; running = refl; from_the_start_is = refl; signal = refl; runs_is = refl; moments = λ w. (refl, w) }
-says-told p q (Drop c) h = record { starts = λ w. record { each = w.each; in_turn = (refl, w.in_turn) }; endpoints = λ w s i a b. w s i a b; late = λ w s i a b. w s i a b; running = refl; from_the_start_is = refl; signal = refl; runs_is = refl; moments = λ w. (refl, w) }
-says-told p q (Rest t k) h = record { starts = λ w. record { each = w.each; in_turn = (refl, w.in_turn) }; endpoints = λ w s i a b. w s i a b; late = λ w s i a b. w s i a b; running = refl; from_the_start_is = refl; signal = refl; runs_is = refl; moments = λ w. (refl, w) }
+says-told p q (Judged c said) h =
+    record {
+      starts = λ w. record { each = w.each; in_turn = (refl, w.in_turn) };
+      endpoints = λ w s i a b. w s i a b;
+      late = λ w s i a b. w s i a b;
+      running = refl;
+      from_the_start_is = refl;
+      signal = refl;
+      runs_is = refl;
+      moments = λ w. (refl, w);
+    }
+says-told p q (Refuse c) h =
+    record {
+      starts = λ w. record { each = w.each; in_turn = (refl, w.in_turn) };
+      endpoints = λ w s i a b. w s i a b;
+      late = λ w s i a b. w s i a b;
+      running = refl;
+      from_the_start_is = refl;
+      signal = refl;
+      runs_is = refl;
+      moments = λ w. (refl, w);
+    }
+says-told p q (TellSettings c list) h =
+    record {
+      starts = λ w. record { each = w.each; in_turn = (refl, w.in_turn) };
+      endpoints = λ w s i a b. w s i a b;
+      late = λ w s i a b. w s i a b;
+      running = refl;
+      from_the_start_is = refl;
+      signal = refl;
+      runs_is = refl;
+      moments = λ w. (refl, w);
+    }
+says-told p q (Handshake c) h =
+    record {
+      starts = λ w. record { each = w.each; in_turn = (refl, w.in_turn) };
+      endpoints = λ w s i a b. w s i a b;
+      late = λ w s i a b. w s i a b;
+      running = refl;
+      from_the_start_is = refl;
+      signal = refl;
+      runs_is = refl;
+      moments = λ w. (refl, w);
+    }
+says-told p q (Serve c) h =
+    record {
+      starts = λ w. record { each = w.each; in_turn = (refl, w.in_turn) };
+      endpoints = λ w s i a b. w s i a b;
+      late = λ w s i a b. w s i a b;
+      running = refl;
+      from_the_start_is = refl;
+      signal = refl;
+      runs_is = refl;
+      moments = λ w. (refl, w);
+    }
+says-told p q (Drop c) h =
+    record {
+      starts = λ w. record { each = w.each; in_turn = (refl, w.in_turn) };
+      endpoints = λ w s i a b. w s i a b;
+      late = λ w s i a b. w s i a b;
+      running = refl;
+      from_the_start_is = refl;
+      signal = refl;
+      runs_is = refl;
+      moments = λ w. (refl, w);
+    }
+says-told p q (Rest t k) h =
+    record {
+      starts = λ w. record { each = w.each; in_turn = (refl, w.in_turn) };
+      endpoints = λ w s i a b. w s i a b;
+      late = λ w s i a b. w s i a b;
+      running = refl;
+      from_the_start_is = refl;
+      signal = refl;
+      runs_is = refl;
+      moments = λ w. (refl, w);
+    }
 says-told p q _ h = absurd (cc)
 
 -- what an event of a connection is
@@ -114,7 +184,16 @@ of-connection p q (Arrived t k c peer) h = record {
   ends = refl;
   starts = λ st w. record { started_is = w.started_is; ready_is = w.ready_is; ended_is = w.ended_is };
   begun = refl;
-  says = record { starts = λ w. record { each = w.each; in_turn = (refl, w.in_turn) }; endpoints = λ w s i a b. w s i a b; late = λ w s i a b. w s i a b; running = refl; from_the_start_is = refl; signal = refl; runs_is = refl; moments = λ w. (refl, w) };
+  says = record {
+    starts = λ w. record { each = w.each; in_turn = (refl, w.in_turn) };
+    endpoints = λ w s i a b. w s i a b;
+    late = λ w s i a b. w s i a b;
+    running = refl;
+    from_the_start_is = refl;
+    signal = refl;
+    runs_is = refl;
+    moments = λ w. (refl, w);
+  };
 }
 of-connection p q (AcceptFailed t k n) h = record {
   drain = refl;
@@ -124,7 +203,16 @@ of-connection p q (AcceptFailed t k n) h = record {
   ends = refl;
   starts = λ st w. record { started_is = w.started_is; ready_is = w.ready_is; ended_is = w.ended_is };
   begun = refl;
-  says = record { starts = λ w. record { each = w.each; in_turn = (refl, w.in_turn) }; endpoints = λ w s i a b. w s i a b; late = λ w s i a b. w s i a b; running = refl; from_the_start_is = refl; signal = refl; runs_is = refl; moments = λ w. (refl, w) };
+  says = record {
+    starts = λ w. record { each = w.each; in_turn = (refl, w.in_turn) };
+    endpoints = λ w s i a b. w s i a b;
+    late = λ w s i a b. w s i a b;
+    running = refl;
+    from_the_start_is = refl;
+    signal = refl;
+    runs_is = refl;
+    moments = λ w. (refl, w);
+  };
 }
 of-connection p q (Set c ok) h = record {
   drain = refl;
@@ -134,7 +222,16 @@ of-connection p q (Set c ok) h = record {
   ends = refl;
   starts = λ st w. record { started_is = w.started_is; ready_is = w.ready_is; ended_is = w.ended_is };
   begun = refl;
-  says = record { starts = λ w. record { each = w.each; in_turn = (refl, w.in_turn) }; endpoints = λ w s i a b. w s i a b; late = λ w s i a b. w s i a b; running = refl; from_the_start_is = refl; signal = refl; runs_is = refl; moments = λ w. (refl, w) };
+  says = record {
+    starts = λ w. record { each = w.each; in_turn = (refl, w.in_turn) };
+    endpoints = λ w s i a b. w s i a b;
+    late = λ w s i a b. w s i a b;
+    running = refl;
+    from_the_start_is = refl;
+    signal = refl;
+    runs_is = refl;
+    moments = λ w. (refl, w);
+  };
 }
 of-connection p q (Shaken c ok) h = record {
   drain = refl;
@@ -144,7 +241,16 @@ of-connection p q (Shaken c ok) h = record {
   ends = refl;
   starts = λ st w. record { started_is = w.started_is; ready_is = w.ready_is; ended_is = w.ended_is };
   begun = refl;
-  says = record { starts = λ w. record { each = w.each; in_turn = (refl, w.in_turn) }; endpoints = λ w s i a b. w s i a b; late = λ w s i a b. w s i a b; running = refl; from_the_start_is = refl; signal = refl; runs_is = refl; moments = λ w. (refl, w) };
+  says = record {
+    starts = λ w. record { each = w.each; in_turn = (refl, w.in_turn) };
+    endpoints = λ w s i a b. w s i a b;
+    late = λ w s i a b. w s i a b;
+    running = refl;
+    from_the_start_is = refl;
+    signal = refl;
+    runs_is = refl;
+    moments = λ w. (refl, w);
+  };
 }
 of-connection p q (Finished c) h = record {
   drain = refl;
@@ -154,7 +260,16 @@ of-connection p q (Finished c) h = record {
   ends = refl;
   starts = λ st w. record { started_is = w.started_is; ready_is = w.ready_is; ended_is = w.ended_is };
   begun = refl;
-  says = record { starts = λ w. record { each = w.each; in_turn = (refl, w.in_turn) }; endpoints = λ w s i a b. w s i a b; late = λ w s i a b. w s i a b; running = refl; from_the_start_is = refl; signal = refl; runs_is = refl; moments = λ w. (refl, w) };
+  says = record {
+    starts = λ w. record { each = w.each; in_turn = (refl, w.in_turn) };
+    endpoints = λ w s i a b. w s i a b;
+    late = λ w s i a b. w s i a b;
+    running = refl;
+    from_the_start_is = refl;
+    signal = refl;
+    runs_is = refl;
+    moments = λ w. (refl, w);
+  };
 }
 of-connection p q _ h = absurd (cc)
 
@@ -172,7 +287,8 @@ says-then p a b c first next = record {
 }
 
 says-tell : (p : Plan) (q : Record) (told : List Action) → list_all is_dealing told ≡ true → SaysAsMuch p q (tell q told)
-says-tell p q [] h = record { starts = λ w. w; endpoints = λ w. w; late = λ w. w; running = refl; from_the_start_is = refl; signal = refl; runs_is = refl; moments = λ w. w }
+says-tell p q [] h =
+    record { starts = λ w. w; endpoints = λ w. w; late = λ w. w; running = refl; from_the_start_is = refl; signal = refl; runs_is = refl; moments = λ w. w }
 says-tell p q (a ∷ told) h = let both = and_parts (is_dealing a) (list_all is_dealing told) h in
     says-then p q (Told a ∷ q) (tell q (a ∷ told)) (says-told p q a both.0) (says-tell p (Told a ∷ q) told both.1)
 
@@ -186,9 +302,11 @@ record IsApart (m : ℕ) (told : List Action) : Type 0 where
 
 deals-apart : (m : ℕ) (told : List Action) → list_all is_dealing told ≡ true → IsApart m told
 deals-apart m [] h = record { free = refl; drain = refl; offer = refl; boot = refl; ends = refl }
-deals-apart m (Judged c said ∷ told) h = let w = deals-apart m told h in record { free = w.free; drain = w.drain; offer = w.offer; boot = w.boot; ends = w.ends }
+deals-apart m (Judged c said ∷ told) h =
+    let w = deals-apart m told h in record { free = w.free; drain = w.drain; offer = w.offer; boot = w.boot; ends = w.ends }
 deals-apart m (Refuse c ∷ told) h = let w = deals-apart m told h in record { free = w.free; drain = w.drain; offer = w.offer; boot = w.boot; ends = w.ends }
-deals-apart m (TellSettings c list ∷ told) h = let w = deals-apart m told h in record { free = w.free; drain = w.drain; offer = w.offer; boot = w.boot; ends = w.ends }
+deals-apart m (TellSettings c list ∷ told) h =
+    let w = deals-apart m told h in record { free = w.free; drain = w.drain; offer = w.offer; boot = w.boot; ends = w.ends }
 deals-apart m (Handshake c ∷ told) h = let w = deals-apart m told h in record { free = w.free; drain = w.drain; offer = w.offer; boot = w.boot; ends = w.ends }
 deals-apart m (Serve c ∷ told) h = let w = deals-apart m told h in record { free = w.free; drain = w.drain; offer = w.offer; boot = w.boot; ends = w.ends }
 deals-apart m (Drop c ∷ told) h = let w = deals-apart m told h in record { free = w.free; drain = w.drain; offer = w.offer; boot = w.boot; ends = w.ends }
@@ -203,11 +321,24 @@ carried false true A B e f x = absurd (cc)
 
 -- the core with other connections
 abbrev pub with_connections : ConnectionsData → CoreData → CoreData
-with_connections cn core = record { plan = core.plan; order = core.order; starts = core.starts; endpoints = core.endpoints; boot = core.boot; offer = core.offer; drain = core.drain; connections = cn; end = core.end }
+with_connections cn core =
+    record {
+      plan = core.plan;
+      order = core.order;
+      starts = core.starts;
+      endpoints = core.endpoints;
+      boot = core.boot;
+      offer = core.offer;
+      drain = core.drain;
+      connections = cn;
+      end = core.end;
+    }
 
 -- an event of a connection, and what is told of it
-module _ (core : CoreData) (cn : ConnectionsData) (e : Event) (told : List Action) (on : is_on core.end ≡ true) (event : is_connection_event e ≡ true) (deals : list_all is_dealing told ≡ true)
-    (q : Record) (right : Right core.plan q) (stands : StandsFor core q) (fit : fits core.plan q e ≡ true) (connections : ConnectionsStand core.plan cn (tell (Got e ∷ q) told)) where
+module _ (core : CoreData) (cn : ConnectionsData) (e : Event) (told : List Action) (on : is_on core.end ≡ true) (event : is_connection_event e ≡ true)
+    (deals : list_all is_dealing told ≡ true)
+    (q : Record) (right : Right core.plan q) (stands : StandsFor core q) (fit : fits core.plan q e ≡ true)
+    (connections : ConnectionsStand core.plan cn (tell (Got e ∷ q) told)) where
   abbrev p : Plan
   p = core.plan
 
@@ -247,12 +378,15 @@ module _ (core : CoreData) (cn : ConnectionsData) (e : Event) (told : List Actio
   going = going-from core.plan core.starts core.endpoints core.boot core.offer core.drain cn (tell (Got e ∷ q) told)
       (record {
         base = base-tell core.plan core.starts (Got e ∷ q) told apart.free base;
-        drain = drains.stands-tell core.plan core.drain (over_since core.offer.state) (Got e ∷ q) told apart.drain (plain-drain core q e right stands on fit is.drain is.offer);
+        drain = drains.stands-tell core.plan core.drain (over_since core.offer.state) (Got e ∷ q) told apart.drain
+            (plain-drain core q e right stands on fit is.drain is.offer);
         offer = offers.stands-tell core.plan core.offer (Got e ∷ q) told apart.offer (plain-offer core q e right stands on fit is.drain is.offer);
         connections = connections;
       })
-      (stands-tell core.plan core.endpoints told (Got e ∷ q) apart.ends (stands-got core.plan core.endpoints q e is.ends (λ fd. held-back-got core.plan q e fd is.offer) (ends-of core q stands on)))
-      (foreign.stands-tell core.plan core.boot (Got e ∷ q) told apart.boot (free-of core q e stands fit is.fork) (foreign.stands-got core.plan core.boot q e is.boot stands.boot))
+      (stands-tell core.plan core.endpoints told (Got e ∷ q) apart.ends
+      (stands-got core.plan core.endpoints q e is.ends (λ fd. held-back-got core.plan q e fd is.offer) (ends-of core q stands on)))
+      (foreign.stands-tell core.plan core.boot (Got e ∷ q) told apart.boot (free-of core q e stands fit is.fork)
+      (foreign.stands-got core.plan core.boot q e is.boot stands.boot))
       (begun-frees core.plan (Got e ∷ q) (now (Got e ∷ q)) told apart.free ∙ is.begun ∙ stands.begun_is)
       stands.runs
 
@@ -272,14 +406,19 @@ module _ (core : CoreData) (cn : ConnectionsData) (e : Event) (told : List Actio
   dealt-open =
       let settled = settled-of core q stands on in
       record {
-        boot = boot-right core.plan core.boot dealt going.boot going.begun_is (subst (IsBootSettled core.plan core.boot) going.drain.moment_is settled.boot) running going.entries.after_boot;
+        boot = boot-right core.plan core.boot dealt going.boot going.begun_is
+            (subst (IsBootSettled core.plan core.boot) going.drain.moment_is settled.boot) running going.entries.after_boot;
         offer = offer-right core.plan core.offer dealt going.offer (subst (IsOfferSettled core.offer) going.drain.moment_is settled.offer);
         connections = going.connections.right;
         closes = going.ends.closes;
         one_live = going.ends.one_live;
-        starts = carried (from_the_start q) (from_the_start dealt) (StartsRight core.plan q) (StartsRight core.plan dealt) says.from_the_start_is says.starts was.starts;
-        endpoints = carried (in_service q) (in_service dealt) (EndpointsRight core.plan q) (EndpointsRight core.plan dealt) in-service says.endpoints was.endpoints;
-        endpoints_late = carried (from_the_start q) (from_the_start dealt) (EndpointsRightLate core.plan q) (EndpointsRightLate core.plan dealt) says.from_the_start_is says.late was.endpoints_late;
+        starts = carried (from_the_start q) (from_the_start dealt) (StartsRight core.plan q)
+            (StartsRight core.plan dealt) says.from_the_start_is says.starts was.starts;
+        endpoints = carried (in_service q) (in_service dealt) (EndpointsRight core.plan q)
+            (EndpointsRight core.plan dealt) in-service says.endpoints was.endpoints;
+        endpoints_late =
+            carried (from_the_start q) (from_the_start dealt) (EndpointsRightLate core.plan q)
+            (EndpointsRightLate core.plan dealt) says.from_the_start_is says.late was.endpoints_late;
         phases = marks-right core.plan core.drain (over_since core.offer.state) dealt settled.waits settled.drain going.drain;
         moments = says.moments was.moments;
         no_end = going.no_end;
@@ -291,7 +430,8 @@ module _ (core : CoreData) (cn : ConnectionsData) (e : Event) (told : List Actio
   pub dealt-right : StepRight (with_connections cn core) (tell (Got e ∷ q) told) core.end
   dealt-right =
       let settled = settled-of core q stands on in
-      let unpassed : waits_are_over core.plan dealt ≡ false = passed-is core.plan core.drain (over_since core.offer.state) dealt going.drain settled.drain ∙ settled.waits in
+      let unpassed : waits_are_over core.plan dealt ≡ false =
+      passed-is core.plan core.drain (over_since core.offer.state) dealt going.drain settled.drain ∙ settled.waits in
       let end : core.end ≡ end_of core.plan core.boot = stands.end_is ∙ end-of-boot core q stands on in
       record {
         stands = record {
@@ -313,11 +453,14 @@ module _ (core : CoreData) (cn : ConnectionsData) (e : Event) (told : List Actio
           end_is = end ∙ sym (end-same core.plan core.starts core.endpoints core.boot core.offer core.drain cn dealt going unpassed);
         };
         right = right-of core.plan core.starts core.endpoints core.boot core.offer core.drain cn dealt going unpassed
-            (one-ask core.plan core.offer dealt going.offer (subst (IsOfferSettled core.offer) going.drain.moment_is settled.offer) (forward-fits core.plan dealt going.entries.fits))
+            (one-ask core.plan core.offer dealt going.offer (subst (IsOfferSettled core.offer) going.drain.moment_is settled.offer)
+            (forward-fits core.plan dealt going.entries.fits))
             (while-open (has_ended core.plan dealt) (EndedRight core.plan dealt) (OpenRight core.plan dealt)
             (ended-same core.plan core.starts core.endpoints core.boot core.offer core.drain cn dealt going unpassed
-            ∙ or_from (is_tested core.plan core.boot) (is_early core.boot) live.0 (or_from (is_parent_over core.boot.fork) (is_refused core.boot.receiving) live.2 live.1)) dealt-open)
-            (not_true (ends_tested core.plan dealt) (TestedRight core.plan dealt) (tested-same core.plan core.starts core.endpoints core.boot core.offer core.drain cn dealt going ∙ live.0));
+            ∙ or_from (is_tested core.plan core.boot) (is_early core.boot) live.0
+            (or_from (is_parent_over core.boot.fork) (is_refused core.boot.receiving) live.2 live.1)) dealt-open)
+            (not_true (ends_tested core.plan dealt) (TestedRight core.plan dealt)
+            (tested-same core.plan core.starts core.endpoints core.boot core.offer core.drain cn dealt going ∙ live.0));
         answer = end ∙ sym (end-same core.plan core.starts core.endpoints core.boot core.offer core.drain cn dealt going unpassed);
       }
     where
@@ -326,8 +469,10 @@ module _ (core : CoreData) (cn : ConnectionsData) (e : Event) (told : List Actio
       while-open false A B x h = h
 
 -- a step of such an event
-pub deals-with : (core : CoreData) (cn : ConnectionsData) (e : Event) (before after told : List Action) → is_on core.end ≡ true → is_connection_event e ≡ true → list_all is_dealing told ≡ true → after ≡ before ++ told
-    → ((q : Record) → StandsFor core q → fits core.plan q e ≡ true) → ((q : Record) → ConnectionsStand core.plan core.connections q → ConnectionsStand core.plan cn (tell (Got e ∷ q) told))
+pub deals-with : (core : CoreData) (cn : ConnectionsData) (e : Event) (before after told : List Action) → is_on core.end ≡ true → is_connection_event e ≡ true
+    → list_all is_dealing told ≡ true → after ≡ before ++ told
+    → ((q : Record) → StandsFor core q → fits core.plan q e ≡ true)
+    → ((q : Record) → ConnectionsStand core.plan core.connections q → ConnectionsStand core.plan cn (tell (Got e ∷ q) told))
     → StepKeeps core (with_connections cn core) e before after core.end
 deals-with core cn e before after told on event deals appended fit takes = record {
   told = told;
@@ -336,34 +481,49 @@ deals-with core cn e before after told on event deals appended fit takes = recor
 }
 
 -- which connections may come, by the parts
-module _ (core : CoreData) (q : Record) (s i : ℕ) (sized : IsEndpointsSized core.plan core.endpoints) (on : is_on core.end ≡ true) (stands : StandsFor core q) where
+module _ (core : CoreData) (q : Record) (s i : ℕ) (sized : IsEndpointsSized core.plan core.endpoints) (on : is_on core.end ≡ true)
+    (stands : StandsFor core q) where
   pub accepts-same : s < service_count core.plan → accepts_by core.plan core.endpoints (is_flagged core.starts.started s) s i ≡ accepts core.plan q s i
-  accepts-same inside = accepts-is core.plan core.endpoints q sized s (is_flagged core.starts.started s) inside (stands.starts.started_is s inside) (ends-of core q stands on) i
+  accepts-same inside =
+      accepts-is core.plan core.endpoints q sized s (is_flagged core.starts.started s) inside (stands.starts.started_is s inside) (ends-of core q stands on) i
 
   accepts-row : MayAccept core s i → accepts core.plan q s i ≡ true
   accepts-row may = sym (accepts-same may.inside) ∙ may.goes_on
 
 pub arrived-is : (core : CoreData) (q : Record) (c : ℕ) → is_on core.end ≡ true → StandsFor core q → has (is_arrival c) q ≡ is_in c core.connections.came
 arrived-is core q c on stands =
-    arrival-in c q ∙ is_in-same c (arrived_numbers q) (ascending (arrived_numbers q)) (sym (tally-ascending c (arrived_numbers q))) ∙ ap (is_in c) (sym (connections-of core q stands on).came_is)
+    arrival-in c q ∙ is_in-same c (arrived_numbers q) (ascending (arrived_numbers q)) (sym (tally-ascending c (arrived_numbers q)))
+    ∙ ap (is_in c) (sym (connections-of core q stands on).came_is)
 
-pub fits-accept : (core : CoreData) (q : Record) (s i n : ℕ) → IsEndpointsSized core.plan core.endpoints → is_on core.end ≡ true → StandsFor core q → MayAccept core s i → fits core.plan q (AcceptFailed s i n) ≡ true
-fits-accept core q s i n sized on stands may = and_from (not (has_ended core.plan q)) (accepts core.plan q s i) (going-on core q stands on) (accepts-row core q s i sized on stands may)
+pub fits-accept : (core : CoreData) (q : Record) (s i n : ℕ) → IsEndpointsSized core.plan core.endpoints → is_on core.end ≡ true → StandsFor core q
+    → MayAccept core s i → fits core.plan q (AcceptFailed s i n) ≡ true
+fits-accept core q s i n sized on stands may =
+    and_from (not (has_ended core.plan q)) (accepts core.plan q s i) (going-on core q stands on) (accepts-row core q s i sized on stands may)
 
-pub fits-arrived : (core : CoreData) (q : Record) (s i c : ℕ) (peer : Peer) → IsEndpointsSized core.plan core.endpoints → is_on core.end ≡ true → StandsFor core q → ArrivedMayCome core s i c → fits core.plan q (Arrived s i c peer) ≡ true
+pub fits-arrived : (core : CoreData) (q : Record) (s i c : ℕ) (peer : Peer) → IsEndpointsSized core.plan core.endpoints → is_on core.end ≡ true
+    → StandsFor core q → ArrivedMayCome core s i c → fits core.plan q (Arrived s i c peer) ≡ true
 fits-arrived core q s i c peer sized on stands may =
     and_from (not (has_ended core.plan q)) (fits_row core.plan q (Arrived s i c peer)) (going-on core q stands on)
-    (and_from (accepts core.plan q s i) (not (has (is_arrival c) q)) (accepts-row core q s i sized on stands may.accepts) (ap not (arrived-is core q c on stands) ∙ may.fresh))
+    (and_from (accepts core.plan q s i) (not (has (is_arrival c) q)) (accepts-row core q s i sized on stands may.accepts)
+    (ap not (arrived-is core q c on stands) ∙ may.fresh))
 
-pub fits-set : (core : CoreData) (q : Record) (c : ℕ) (ok : Bool) → is_on core.end ≡ true → StandsFor core q → is_setting (stage_of core.connections.live c) ≡ true → fits core.plan q (Set c ok) ≡ true
-fits-set core q c ok on stands may = and_from (not (has_ended core.plan q)) (is_settings_open q c) (going-on core q stands on) (((connections-of core q stands on).stages_are c).setting_is ∙ may)
+pub fits-set : (core : CoreData) (q : Record) (c : ℕ) (ok : Bool) → is_on core.end ≡ true → StandsFor core q
+    → is_setting (stage_of core.connections.live c) ≡ true → fits core.plan q (Set c ok) ≡ true
+fits-set core q c ok on stands may =
+    and_from (not (has_ended core.plan q)) (is_settings_open q c) (going-on core q stands on)
+    (((connections-of core q stands on).stages_are c).setting_is ∙ may)
 
-pub fits-shaken : (core : CoreData) (q : Record) (c : ℕ) (ok : Bool) → is_on core.end ≡ true → StandsFor core q → is_shaking (stage_of core.connections.live c) ≡ true → fits core.plan q (Shaken c ok) ≡ true
-fits-shaken core q c ok on stands may = and_from (not (has_ended core.plan q)) (is_handshake_open q c) (going-on core q stands on) (((connections-of core q stands on).stages_are c).shaking_is ∙ may)
+pub fits-shaken : (core : CoreData) (q : Record) (c : ℕ) (ok : Bool) → is_on core.end ≡ true → StandsFor core q
+    → is_shaking (stage_of core.connections.live c) ≡ true → fits core.plan q (Shaken c ok) ≡ true
+fits-shaken core q c ok on stands may =
+    and_from (not (has_ended core.plan q)) (is_handshake_open q c) (going-on core q stands on)
+    (((connections-of core q stands on).stages_are c).shaking_is ∙ may)
 
-pub fits-finished : (core : CoreData) (q : Record) (c : ℕ) → is_on core.end ≡ true → StandsFor core q → is_serving (stage_of core.connections.live c) ≡ true → fits core.plan q (Finished c) ≡ true
+pub fits-finished : (core : CoreData) (q : Record) (c : ℕ) → is_on core.end ≡ true → StandsFor core q → is_serving (stage_of core.connections.live c) ≡ true
+    → fits core.plan q (Finished c) ≡ true
 fits-finished core q c on stands may =
-    and_from (not (has_ended core.plan q)) (has (is_serve c) q && is_live_connection q c) (going-on core q stands on) (finished-row core.plan core.connections q c (connections-of core q stands on) ∙ may)
+    and_from (not (has_ended core.plan q)) (has (is_serve c) q && is_live_connection q c) (going-on core q stands on)
+    (finished-row core.plan core.connections q c (connections-of core q stands on) ∙ may)
 
 pub endpoint-there : (core : CoreData) (s i : ℕ) → MayAccept core s i → is_endpoint core.plan s i ≡ true
 endpoint-there core s i may = (Decides-ltb i (length (endpoints core.plan s))).1 may.within
@@ -372,7 +532,8 @@ endpoint-there core s i may = (Decides-ltb i (length (endpoints core.plan s))).1
 pub arrived-deals : (c : ℕ) (peer : Peer) (said : Bool) (list : List Setting) → list_all is_dealing (arrived_told c peer said list) ≡ true
 arrived-deals c peer said list = by (is_known peer) said
   where
-    by : (known well : Bool) → list_all is_dealing ((if known then Judged c well ∷ [] else []) ++ (if known && not well then Refuse c ∷ [] else TellSettings c list ∷ [])) ≡ true
+    by : (known well : Bool)
+        → list_all is_dealing ((if known then Judged c well ∷ [] else []) ++ (if known && not well then Refuse c ∷ [] else TellSettings c list ∷ [])) ≡ true
     by true true = refl
     by true false = refl
     by false well = refl

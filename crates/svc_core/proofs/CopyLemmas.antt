@@ -108,7 +108,8 @@ before-copied copy [] ys h k = k
 before-copied copy (a ∷ xs) ys h k =
     let parts = and_parts (is_bare a) (are_bare xs) h in
     let here = bare-is copy a parts.0 in
-    and_from (is_copied copy a) (are_copied (left_of copy a) (xs ++ ys)) here.0 (subst (λ c. are_copied c (xs ++ ys) ≡ true) (sym here.1) (before-copied copy xs ys parts.1 k))
+    and_from (is_copied copy a) (are_copied (left_of copy a) (xs ++ ys)) here.0
+    (subst (λ c. are_copied c (xs ++ ys) ≡ true) (sym here.1) (before-copied copy xs ys parts.1 k))
 
 after-copied : (copy : SecondCopy) (xs ys : List Action) → are_copied copy xs ≡ true → are_bare ys ≡ true → are_copied copy (xs ++ ys) ≡ true
 after-copied copy [] ys h k = bare-copied copy ys k
@@ -202,12 +203,15 @@ pub end-bare : (p : Plan) (dr : DrainData) (cs fds : List ℕ) → are_bare (end
 end-bare p dr cs fds = stops-bare (stop_after p dr) dr.moment cs fds
 
 -- what follows the signal, and an ask of the offer
-pub answer-copied : (copy : Option Message) (xs ys zs : List Action) (o : OfferData) (t : ℕ) (dr : DrainData) (over : Option ℕ) → ys ≡ xs ++ row_told dr over → zs ≡ ys ++ ask_with copy o t → TellsCopied (copy_of copy) xs zs
+pub answer-copied : (copy : Option Message) (xs ys zs : List Action) (o : OfferData) (t : ℕ) (dr : DrainData) (over : Option ℕ) → ys ≡ xs ++ row_told dr over
+    → zs ≡ ys ++ ask_with copy o t → TellsCopied (copy_of copy) xs zs
 answer-copied copy xs ys zs o t dr over first next =
-    bare-first (copy_of copy) xs ys zs (bare-these xs ys (row_told dr over) first (row-bare dr over)) (record { told = ask_with copy o t; appended = next; kept = ask-copied copy o t })
+    bare-first (copy_of copy) xs ys zs (bare-these xs ys (row_told dr over) first (row-bare dr over))
+    (record { told = ask_with copy o t; appended = next; kept = ask-copied copy o t })
 
 -- what stands after a place up to which nothing was told
-pub rest-copied : (copy : SecondCopy) (before after : List Action) (from : ℕ) → TellsCopied copy before after → from ≡ length before → are_copied copy (take (length after - from) (drop from after)) ≡ true
+pub rest-copied : (copy : SecondCopy) (before after : List Action) (from : ℕ) → TellsCopied copy before after → from ≡ length before
+    → are_copied copy (take (length after - from) (drop from after)) ≡ true
 rest-copied copy before after from h e =
     let rest : drop from after ≡ h.told = ap (λ (n : ℕ). drop n after) e ∙ (ap (drop (length before)) h.appended ∙ drop-append_seam before h.told) in
     ap (are_copied copy) (take_rest after from ∙ rest) ∙ h.kept
@@ -239,12 +243,14 @@ settings-same (a ∷ xs) (b ∷ ys) h =
 settings-same _ _ h = absurd (cc)
 
 -- where settings are told, the copy is of them
-pub of-settings : (copy : SecondCopy) (a : Action) (c : ℕ) (told : List Setting) → is_copied copy a ≡ true → a ≡ TellSettings c told → (list : List Setting) × (copy ≡ OfSettings list)
+pub of-settings : (copy : SecondCopy) (a : Action) (c : ℕ) (told : List Setting) → is_copied copy a ≡ true → a ≡ TellSettings c told
+    → (list : List Setting) × (copy ≡ OfSettings list)
 of-settings (OfSettings list) a c told h is = (list, refl)
 of-settings (OfMessage w) a c told h is = absurd (let same = rw is at h in cc)
 of-settings Nothing a c told h is = absurd (let same = rw is at h in cc)
 
-pub settings-told : (copy : SecondCopy) (a : Action) (c : ℕ) (told list : List Setting) → is_copied copy a ≡ true → a ≡ TellSettings c told → copy ≡ OfSettings list → TellSettings c list ≡ a
+pub settings-told : (copy : SecondCopy) (a : Action) (c : ℕ) (told list : List Setting) → is_copied copy a ≡ true → a ≡ TellSettings c told
+    → copy ≡ OfSettings list → TellSettings c list ≡ a
 settings-told copy a c told list h is of =
     let same = rw (is, of) at h in ap (λ (l : List Setting). TellSettings c l) (sym (settings-same told list same)) ∙ sym is
 
@@ -252,7 +258,8 @@ settings-told copy a c told list h is of =
 pub arrived-copied : (c : ℕ) (peer : Peer) (said : Bool) (list : List Setting) → are_copied (OfSettings list) (arrived_told c peer said list) ≡ true
 arrived-copied c peer said list = by (is_known peer) (is_refused peer said)
   where
-    by : (known refused : Bool) → are_copied (OfSettings list) ((if known then Judged c said ∷ [] else []) ++ (if refused then Refuse c ∷ [] else TellSettings c list ∷ [])) ≡ true
+    by : (known refused : Bool)
+        → are_copied (OfSettings list) ((if known then Judged c said ∷ [] else []) ++ (if refused then Refuse c ∷ [] else TellSettings c list ∷ [])) ≡ true
     by true true = refl
     by true false = and_from (same_settings list list) true (same-list list) refl
     by false true = refl

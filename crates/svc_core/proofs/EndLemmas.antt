@@ -154,7 +154,8 @@ module _ (core : CoreData) (q : Record) (in_order : IsInOrder core.plan core.ord
   cut_at = tell (Told (Phase ShutdownRuntimes core.drain.moment) ∷ q) (map Cut (ascending (live_connections q)))
 
   abbrev closed_at : Record
-  closed_at = tell (tell (Told (Phase ShutdownRuntimes core.drain.moment) ∷ q) (map Cut (ascending (live_connections q)))) (map Close (ascending (live_numbers core.plan q)))
+  closed_at = tell (tell (Told (Phase ShutdownRuntimes core.drain.moment) ∷ q) (map Cut (ascending (live_connections q))))
+      (map Close (ascending (live_numbers core.plan q)))
 
   abbrev ended_at : Record
   ended_at = tell q (end_told core.plan core.drain (ascending (live_connections q)) (ascending (live_numbers core.plan q)))
@@ -167,14 +168,17 @@ module _ (core : CoreData) (q : Record) (in_order : IsInOrder core.plan core.ord
   time = at.going.drain.moment_is
 
   -- what a test that neither cuts, closes, phases nor `Stop` pass still sees
-  has-end : (test : Entry → Bool) → ((f : ℕ) → test (Told (Close f)) ≡ false) → ((n : ℕ) → test (Told (Cut n)) ≡ false) → test (Told (Phase Terminated core.drain.moment)) ≡ false → test (Told (Stop (stop_after core.plan core.drain))) ≡ false
+  has-end : (test : Entry → Bool) → ((f : ℕ) → test (Told (Close f)) ≡ false) → ((n : ℕ) → test (Told (Cut n)) ≡ false)
+      → test (Told (Phase Terminated core.drain.moment)) ≡ false → test (Told (Stop (stop_after core.plan core.drain))) ≡ false
       → test (Told (Phase ShutdownRuntimes core.drain.moment)) ≡ false → has test ended_at ≡ has test q
   has-end test f k a b c = ap (has test) split ∙ rw (a, b) (has-closes test f cut_at fds ∙ has-cuts test k runtimes_at cs ∙ ap (λ x. x || has test q) c)
 
   -- a test that cuts and closes pass holds of each entry where it holds of the others
   each-end : (test : Entry → Record → Bool) → ((f : ℕ) (b : Record) → test (Told (Close f)) b ≡ true) → ((n : ℕ) (b : Record) → test (Told (Cut n)) b ≡ true)
-      → test (Told (Phase Terminated core.drain.moment)) (Told (Stop (stop_after core.plan core.drain)) ∷ closed_at) ≡ true → test (Told (Stop (stop_after core.plan core.drain))) closed_at ≡ true
-      → test (Told (Phase ShutdownRuntimes core.drain.moment)) q ≡ true → EachEntry (λ e before. test e before ≡ true) q → EachEntry (λ e before. test e before ≡ true) ended_at
+      → test (Told (Phase Terminated core.drain.moment)) (Told (Stop (stop_after core.plan core.drain)) ∷ closed_at) ≡ true
+      → test (Told (Stop (stop_after core.plan core.drain))) closed_at ≡ true
+      → test (Told (Phase ShutdownRuntimes core.drain.moment)) q ≡ true → EachEntry (λ e before. test e before ≡ true) q
+      → EachEntry (λ e before. test e before ≡ true) ended_at
   each-end test c k a b f h =
       subst (EachEntry (λ e before. test e before ≡ true)) (sym split)
       (a, (b, each-closes test c cut_at fds (each-cuts test k runtimes_at cs (f, h))))
@@ -260,8 +264,10 @@ module _ (core : CoreData) (q : Record) (in_order : IsInOrder core.plan core.ord
           refl,
           closes-once p cut_at fds
               (λ g. kept_at_most (not (has (is_close g) runtimes_at)) (is_in g (numbers_in runtimes_at)) (tally g fds) (tally_live p runtimes_at g got-fits))
-              (λ g there. is_opened-in p cut_at g ∙ ap (is_in g) (numbers-tell runtimes_at (map Cut cs)) ∙ and_second (has (is_close g) q) (is_in g (numbers_in q)) (sym (in_live p q g) ∙ there))
-              (λ g there. has-cuts (is_close g) (λ n. refl) runtimes_at cs ∙ and_first (has (is_close g) q) (is_in g (numbers_in q)) (sym (in_live p q g) ∙ there))
+              (λ g there. is_opened-in p cut_at g ∙ ap (is_in g) (numbers-tell runtimes_at (map Cut cs))
+              ∙ and_second (has (is_close g) q) (is_in g (numbers_in q)) (sym (in_live p q g) ∙ there))
+              (λ g there. has-cuts (is_close g) (λ n. refl) runtimes_at cs
+              ∙ and_first (has (is_close g) q) (is_in g (numbers_in q)) (sym (in_live p q g) ∙ there))
               cut-closes,
         ),
       )
@@ -282,7 +288,9 @@ module _ (core : CoreData) (q : Record) (in_order : IsInOrder core.plan core.ord
   end-known = subst (EachEntry (λ e before. connection_known p e before ≡ true)) (sym end-actions) (known-end p core.connections q at.going.connections)
 
   end-moments : EachEntry (λ e before. every_moment_right e before ≡ true) ended_at
-  end-moments = each-end every_moment_right (λ f b. refl) (λ n b. refl) (eq-eqb core.drain.moment (now closed_at) (time ∙ sym closed-now)) refl (eq-eqb core.drain.moment (now q) time) at.going.entries.moments
+  end-moments =
+      each-end every_moment_right (λ f b. refl) (λ n b. refl) (eq-eqb core.drain.moment (now closed_at) (time ∙ sym closed-now)) refl
+      (eq-eqb core.drain.moment (now q) time) at.going.entries.moments
 
   end-fits : EachEntry (λ e before. event_fits p e before ≡ true) ended_at
   end-fits = each-end (event_fits p) (λ f b. refl) (λ n b. refl) refl refl refl at.going.entries.fits
@@ -308,18 +316,21 @@ module _ (core : CoreData) (q : Record) (in_order : IsInOrder core.plan core.ord
   }
 
   -- what is told at the end belongs to no bootstrapping and to no offer
-  ends-other : (m n : ℕ) (cuts closes : List ℕ) → has_no_boot_action (Phase ShutdownRuntimes m ∷ (map Cut cuts ++ (map Close closes ++ Stop n ∷ Phase Terminated m ∷ []))) ≡ true
+  ends-other : (m n : ℕ) (cuts closes : List ℕ)
+      → has_no_boot_action (Phase ShutdownRuntimes m ∷ (map Cut cuts ++ (map Close closes ++ Stop n ∷ Phase Terminated m ∷ []))) ≡ true
   ends-other m n [] [] = refl
   ends-other m n [] (fd ∷ closes) = ends-other m n [] closes
   ends-other m n (c ∷ cuts) closes = ends-other m n cuts closes
 
-  ends-unasked : (m n : ℕ) (cuts closes : List ℕ) → has_no_offer_action (Phase ShutdownRuntimes m ∷ (map Cut cuts ++ (map Close closes ++ Stop n ∷ Phase Terminated m ∷ []))) ≡ true
+  ends-unasked : (m n : ℕ) (cuts closes : List ℕ)
+      → has_no_offer_action (Phase ShutdownRuntimes m ∷ (map Cut cuts ++ (map Close closes ++ Stop n ∷ Phase Terminated m ∷ []))) ≡ true
   ends-unasked m n [] [] = refl
   ends-unasked m n [] (fd ∷ closes) = ends-unasked m n [] closes
   ends-unasked m n (c ∷ cuts) closes = ends-unasked m n cuts closes
 
   end-boot-stands : BootStands p core.boot ended_at
-  end-boot-stands = foreign.stands-tell p core.boot q last (ends-other core.drain.moment (stop_after core.plan core.drain) cs fds) (may-free p core.boot may) at.going.boot
+  end-boot-stands =
+      foreign.stands-tell p core.boot q last (ends-other core.drain.moment (stop_after core.plan core.drain) cs fds) (may-free p core.boot may) at.going.boot
 
   end-offer-stands : OfferStands p core.offer ended_at
   end-offer-stands = offers.stands-tell p core.offer q last (ends-unasked core.drain.moment (stop_after core.plan core.drain) cs fds) at.going.offer
@@ -335,10 +346,12 @@ module _ (core : CoreData) (q : Record) (in_order : IsInOrder core.plan core.ord
 
   end-begun : has_begun p ended_at ≡ core.boot.begun
   end-begun =
-      ap (λ w. (p.eager && w) || list_any (λ s. has_kind p BootstrapKind s && is_started ended_at s) (services p)) (may_begin-is p core.boot ended_at end-boot-stands ∙ sym (may_begin-is p core.boot q at.going.boot))
+      ap (λ w. (p.eager && w) || list_any (λ s. has_kind p BootstrapKind s && is_started ended_at s) (services p))
+      (may_begin-is p core.boot ended_at end-boot-stands ∙ sym (may_begin-is p core.boot q at.going.boot))
       ∙ ap (λ w. (p.eager && may_begin p q) || w) (any-same (services p)) ∙ at.going.begun_is
     where
-      any-same : (xs : List ℕ) → list_any (λ s. has_kind p BootstrapKind s && is_started ended_at s) xs ≡ list_any (λ s. has_kind p BootstrapKind s && is_started q s) xs
+      any-same : (xs : List ℕ)
+          → list_any (λ s. has_kind p BootstrapKind s && is_started ended_at s) xs ≡ list_any (λ s. has_kind p BootstrapKind s && is_started q s) xs
       any-same [] = refl
       any-same (x ∷ xs) = rw (end-started x, any-same xs) refl
 
@@ -418,7 +431,11 @@ module _ (core : CoreData) (q : Record) (in_order : IsInOrder core.plan core.ord
   end-right = record {
     fits = end-fits;
     starts = each-end (start_due p) (λ f b. refl) (λ n b. refl) refl refl refl at.going.entries.starts;
-    settled = (ended-case (has_ended p ended_at) (EndedRight p ended_at) (OpenRight p ended_at) has-ended end-ended, EachEarlier-tell (SettledRight p) q last at.going.earlier);
+    settled = (
+      ended-case (has_ended p ended_at) (EndedRight p ended_at) (OpenRight p ended_at) has-ended end-ended,
+      EachEarlier-tell
+          (SettledRight p) q last at.going.earlier,
+    );
     asks = record {
       in_turn = each-end (ask_due p) (λ f b. refl) (λ n b. refl) refl refl refl at.going.ends.asks_due;
       fails = (end-fails, EachEarlier-tell (FailsRight p) q last at.going.fails);
@@ -461,7 +478,10 @@ module _ (core : CoreData) (q : Record) (in_order : IsInOrder core.plan core.ord
   }
 
   -- the run has served
-  pub step-served : StepRight (with_end ServedEnd core) (tell q (end_told core.plan core.drain (numbers core.connections.live) (open_numbers core.endpoints))) ServedEnd
+  pub step-served : StepRight (with_end ServedEnd core)
+      (tell q (end_told core.plan core.drain (numbers core.connections.live) (open_numbers core.endpoints))) ServedEnd
   step-served =
-      subst (λ closes. StepRight (with_end ServedEnd core) (tell q (end_told core.plan core.drain (numbers core.connections.live) closes)) ServedEnd) (sym at.going.ends.open_are)
-      (subst (λ cuts. StepRight (with_end ServedEnd core) (tell q (end_told core.plan core.drain cuts (ascending (live_numbers core.plan q)))) ServedEnd) (sym at.going.connections.live_is) step-whole)
+      subst (λ closes. StepRight (with_end ServedEnd core) (tell q (end_told core.plan core.drain (numbers core.connections.live) closes)) ServedEnd)
+      (sym at.going.ends.open_are)
+      (subst (λ cuts. StepRight (with_end ServedEnd core) (tell q (end_told core.plan core.drain cuts (ascending (live_numbers core.plan q)))) ServedEnd)
+      (sym at.going.connections.live_is) step-whole)

@@ -127,17 +127,24 @@ module _ (core : CoreData) (q : Record) (on : is_on core.end ≡ true) (stands :
     )
 
     -- an answer to a bind, and to an adoption
-    pub bind-fits : (BindMayBeAnswered core s i → (not (has_ended core.plan q) && is_bind_open q s i) ≡ true) × ((not (has_ended core.plan q) && is_bind_open q s i) ≡ true → BindMayBeAnswered core s i)
+    pub bind-fits : (BindMayBeAnswered core s i → (not (has_ended core.plan q) && is_bind_open q s i) ≡ true)
+        × ((not (has_ended core.plan q) && is_bind_open q s i) ≡ true → BindMayBeAnswered core s i)
     bind-fits = ((λ may. fits-bind core q s i on may stands), (λ fit. bind-means (and_parts (not (has_ended core.plan q)) (is_bind_open q s i) fit).1))
 
-    pub adopt-fits : (AdoptMayBeAnswered core s i → (not (has_ended core.plan q) && is_adopt_open q s i) ≡ true) × ((not (has_ended core.plan q) && is_adopt_open q s i) ≡ true → AdoptMayBeAnswered core s i)
+    pub adopt-fits : (AdoptMayBeAnswered core s i → (not (has_ended core.plan q) && is_adopt_open q s i) ≡ true)
+        × ((not (has_ended core.plan q) && is_adopt_open q s i) ≡ true → AdoptMayBeAnswered core s i)
     adopt-fits = ((λ may. fits-adopt core q s i on may stands), (λ fit. adopt-means (and_parts (not (has_ended core.plan q)) (is_adopt_open q s i) fit).1))
 
   -- an answer to a try
-  pub try-fits : (is_trying core.boot.receiving ≡ true → (not (has_ended core.plan q) && is_try_open q) ≡ true) × ((not (has_ended core.plan q) && is_try_open q) ≡ true → is_trying core.boot.receiving ≡ true)
-  try-fits = ((λ may. fits-try core q on may stands), (λ fit. sym stands.boot.receiving.trying_is ∙ (and_parts (not (has_ended core.plan q)) (is_try_open q) fit).1))
+  pub try-fits : (is_trying core.boot.receiving ≡ true → (not (has_ended core.plan q) && is_try_open q) ≡ true)
+      × ((not (has_ended core.plan q) && is_try_open q) ≡ true → is_trying core.boot.receiving ≡ true)
+  try-fits = (
+    (λ may. fits-try core q on may stands),
+    (λ fit. sym stands.boot.receiving.trying_is ∙ (and_parts (not (has_ended core.plan q)) (is_try_open q) fit).1),
+  )
 
-  pub received-fits : (bytes fds : List ℕ) → (ReceivedMayCome core fds → Fits core.plan q (Received bytes fds)) × (Fits core.plan q (Received bytes fds) → ReceivedMayCome core fds)
+  pub received-fits : (bytes fds : List ℕ)
+      → (ReceivedMayCome core fds → Fits core.plan q (Received bytes fds)) × (Fits core.plan q (Received bytes fds) → ReceivedMayCome core fds)
   received-fits bytes fds = (
     λ may. fits-received core q bytes fds on may stands,
     λ fit. (
@@ -154,22 +161,26 @@ module _ (core : CoreData) (q : Record) (on : is_on core.end ≡ true) (stands :
   pub moment-fits : (ms : ℕ) → (core.drain.moment ≤ ms → Fits core.plan q (Moment ms)) × (Fits core.plan q (Moment ms) → core.drain.moment ≤ ms)
   moment-fits ms = (
     λ may. fits-moment core q ms on may stands,
-    λ fit. subst (λ m. m ≤ ms) (sym (drain-of core q stands on).moment_is) (leb-true (now q) ms (and_parts (not (has_ended core.plan q)) (nat_le (now q) ms) fit).1),
+    λ fit. subst (λ m. m ≤ ms) (sym (drain-of core q stands on).moment_is)
+        (leb-true (now q) ms (and_parts (not (has_ended core.plan q)) (nat_le (now q) ms) fit).1),
   )
 
-  pub kind-fits : (kind : ShutdownSignal) → (core.drain.running ≡ true → Fits core.plan q (Signal kind)) × (Fits core.plan q (Signal kind) → core.drain.running ≡ true)
+  pub kind-fits : (kind : ShutdownSignal)
+      → (core.drain.running ≡ true → Fits core.plan q (Signal kind)) × (Fits core.plan q (Signal kind) → core.drain.running ≡ true)
   kind-fits kind = (
     λ may. and_from (not (has_ended core.plan q)) (from_the_start q) (going-on core q stands on) (running-is core q stands on ∙ may),
     λ fit. sym (running-is core q stands on) ∙ (and_parts (not (has_ended core.plan q)) (from_the_start q) fit).1,
   )
 
   -- the end of a loop
-  pub loop-fits : IsEndpointsSized core.plan core.endpoints → (s i j : ℕ) → (LoopMayEnd core s i j → Fits core.plan q (LoopEnded s i j)) × (Fits core.plan q (LoopEnded s i j) → LoopMayEnd core s i j)
+  pub loop-fits : IsEndpointsSized core.plan core.endpoints → (s i j : ℕ)
+      → (LoopMayEnd core s i j → Fits core.plan q (LoopEnded s i j)) × (Fits core.plan q (LoopEnded s i j) → LoopMayEnd core s i j)
   loop-fits sized s i j = (
     λ may. fits-loop core q s i j sized on stands may,
     λ fit. (
         let row = (and_parts (not (has_ended core.plan q)) (fits_row core.plan q (LoopEnded s i j)) fit).1 in
-        let both = and_parts ((has is_broadcast q && serves core.plan q s) && is_endpoint core.plan s i) (nat_lt j core.plan.tasks && not (has (is_loop_end s i j) q)) row in
+        let both = and_parts ((has is_broadcast q && serves core.plan q s) && is_endpoint core.plan s i)
+        (nat_lt j core.plan.tasks && not (has (is_loop_end s i j) q)) row in
         let first = and_parts (has is_broadcast q && serves core.plan q s) (is_endpoint core.plan s i) both.0 in
         let lead = and_parts (has is_broadcast q) (serves core.plan q s) first.0 in
         let inside = endpoint-inside core.plan s i first.1 in
@@ -177,16 +188,26 @@ module _ (core : CoreData) (q : Record) (on : is_on core.end ≡ true) (stands :
           told = sym (broadcast-told core q s i j sized on stands) ∙ lead.0;
           inside = inside;
           goes_on = loop-same core q s i j sized on stands inside
-              ∙ and_from (serves core.plan q s && is_endpoint core.plan s i) (nat_lt j core.plan.tasks && not (has (is_loop_end s i j) q)) (and_from (serves core.plan q s) (is_endpoint core.plan s i) lead.1 first.1) both.1;
+              ∙ and_from (serves core.plan q s && is_endpoint core.plan s i) (nat_lt j core.plan.tasks && not (has (is_loop_end s i j) q))
+              (and_from (serves core.plan q s) (is_endpoint core.plan s i) lead.1 first.1) both.1;
         }),
   )
 
   -- an answer to a connect, and to a send
-  pub connect-fits : (is_connecting core.offer.state ≡ true → (not (has_ended core.plan q) && is_connect_open q) ≡ true) × ((not (has_ended core.plan q) && is_connect_open q) ≡ true → is_connecting core.offer.state ≡ true)
-  connect-fits = ((λ may. fits-connect core q on may stands), (λ fit. sym ((offer-of core q stands on).connecting_is (uncut-of core q stands on)) ∙ (and_parts (not (has_ended core.plan q)) (is_connect_open q) fit).1))
+  pub connect-fits : (is_connecting core.offer.state ≡ true → (not (has_ended core.plan q) && is_connect_open q) ≡ true)
+      × ((not (has_ended core.plan q) && is_connect_open q) ≡ true → is_connecting core.offer.state ≡ true)
+  connect-fits = (
+    (λ may. fits-connect core q on may stands),
+    (λ fit. sym ((offer-of core q stands on).connecting_is (uncut-of core q stands on))
+        ∙ (and_parts (not (has_ended core.plan q)) (is_connect_open q) fit).1),
+  )
 
-  pub send-fits : (is_sending core.offer.state ≡ true → (not (has_ended core.plan q) && is_send_open q) ≡ true) × ((not (has_ended core.plan q) && is_send_open q) ≡ true → is_sending core.offer.state ≡ true)
-  send-fits = ((λ may. fits-send core q on may stands), (λ fit. sym ((offer-of core q stands on).sending_is (uncut-of core q stands on)) ∙ (and_parts (not (has_ended core.plan q)) (is_send_open q) fit).1))
+  pub send-fits : (is_sending core.offer.state ≡ true → (not (has_ended core.plan q) && is_send_open q) ≡ true)
+      × ((not (has_ended core.plan q) && is_send_open q) ≡ true → is_sending core.offer.state ≡ true)
+  send-fits = (
+    (λ may. fits-send core q on may stands),
+    (λ fit. sym ((offer-of core q stands on).sending_is (uncut-of core q stands on)) ∙ (and_parts (not (has_ended core.plan q)) (is_send_open q) fit).1),
+  )
 
   pub ready-fits : (s : ℕ) → (ReadyMayCome core s → Fits core.plan q (Ready s)) × (Fits core.plan q (Ready s) → ReadyMayCome core s)
   ready-fits s = (
@@ -211,7 +232,8 @@ module _ (core : CoreData) (q : Record) (on : is_on core.end ≡ true) (stands :
         let row = (and_parts (not (has_ended core.plan q)) (fits_row core.plan q (Ended s)) fit).1 in
         let both = and_parts (may_end core.plan s && is_started q s) (not (has (is_ended_event s) q)) row in
         let first = and_parts (may_end core.plan s) (is_started q s) both.0 in
-        let inside = kind-inside core.plan s (either (has_kind core.plan Plain s) (has_kind core.plan Notifying s) (length (endpoints core.plan s) == 0) first.0) in
+        let inside =
+        kind-inside core.plan s (either (has_kind core.plan Plain s) (has_kind core.plan Notifying s) (length (endpoints core.plan s) == 0) first.0) in
         record {
           inside = inside;
           ends = first.0;
@@ -230,7 +252,12 @@ module _ (core : CoreData) (q : Record) (on : is_on core.end ≡ true) (stands :
       let both = and_parts (serves core.plan q s && is_endpoint core.plan s i) (not (have_loops_ended core.plan q s i)) h in
       let known = (and_parts (serves core.plan q s) (is_endpoint core.plan s i) both.0).1 in
       let inside = endpoint-inside core.plan s i known in
-      record { inside = inside; within = (Decides-ltb i (length (endpoints core.plan s))).0 known; goes_on = accepts-same core q s i sized on stands inside ∙ h }
+      record {
+        inside = inside;
+        within = (Decides-ltb i (length (endpoints core.plan s))).0 known;
+        goes_on = accepts-same core q s i sized on stands inside
+            ∙ h;
+      }
 
   pub accept-fits : (s i n : ℕ) → (MayAccept core s i → Fits core.plan q (AcceptFailed s i n)) × (Fits core.plan q (AcceptFailed s i n) → MayAccept core s i)
   accept-fits s i n = (
@@ -238,7 +265,8 @@ module _ (core : CoreData) (q : Record) (on : is_on core.end ≡ true) (stands :
     λ fit. accept-means s i (and_parts (not (has_ended core.plan q)) (accepts core.plan q s i) fit).1,
   )
 
-  pub arrived-fits : (s i c : ℕ) (peer : Peer) → (ArrivedMayCome core s i c → Fits core.plan q (Arrived s i c peer)) × (Fits core.plan q (Arrived s i c peer) → ArrivedMayCome core s i c)
+  pub arrived-fits : (s i c : ℕ) (peer : Peer)
+      → (ArrivedMayCome core s i c → Fits core.plan q (Arrived s i c peer)) × (Fits core.plan q (Arrived s i c peer) → ArrivedMayCome core s i c)
   arrived-fits s i c peer = (
     λ may. fits-arrived core q s i c peer sized on stands may,
     λ fit. (
@@ -249,30 +277,41 @@ module _ (core : CoreData) (q : Record) (on : is_on core.end ≡ true) (stands :
 
 -- an answer to the settings, and to the handshake, and the end of a connection
 module _ (core : CoreData) (q : Record) (on : is_on core.end ≡ true) (stands : StandsFor core q) (c : ℕ) where
-  pub set-fits : (ok : Bool) → (is_setting (stage_of core.connections.live c) ≡ true → Fits core.plan q (Set c ok)) × (Fits core.plan q (Set c ok) → is_setting (stage_of core.connections.live c) ≡ true)
+  pub set-fits : (ok : Bool)
+      → (is_setting (stage_of core.connections.live c) ≡ true → Fits core.plan q (Set c ok))
+      × (Fits core.plan q (Set c ok) → is_setting (stage_of core.connections.live c) ≡ true)
   set-fits ok = (
     λ may. fits-set core q c ok on stands may,
     λ fit. sym ((connections-of core q stands on).stages_are c).setting_is ∙ (and_parts (not (has_ended core.plan q)) (is_settings_open q c) fit).1,
   )
 
-  pub shaken-fits : (ok : Bool) → (is_shaking (stage_of core.connections.live c) ≡ true → Fits core.plan q (Shaken c ok)) × (Fits core.plan q (Shaken c ok) → is_shaking (stage_of core.connections.live c) ≡ true)
+  pub shaken-fits : (ok : Bool)
+      → (is_shaking (stage_of core.connections.live c) ≡ true → Fits core.plan q (Shaken c ok))
+      × (Fits core.plan q (Shaken c ok) → is_shaking (stage_of core.connections.live c) ≡ true)
   shaken-fits ok = (
     λ may. fits-shaken core q c ok on stands may,
     λ fit. sym ((connections-of core q stands on).stages_are c).shaking_is ∙ (and_parts (not (has_ended core.plan q)) (is_handshake_open q c) fit).1,
   )
 
-  pub finished-fits : (is_serving (stage_of core.connections.live c) ≡ true → Fits core.plan q (Finished c)) × (Fits core.plan q (Finished c) → is_serving (stage_of core.connections.live c) ≡ true)
+  pub finished-fits : (is_serving (stage_of core.connections.live c) ≡ true → Fits core.plan q (Finished c))
+      × (Fits core.plan q (Finished c) → is_serving (stage_of core.connections.live c) ≡ true)
   finished-fits = (
     λ may. fits-finished core q c on stands may,
-    λ fit. sym (finished-row core.plan core.connections q c (connections-of core q stands on)) ∙ (and_parts (not (has_ended core.plan q)) (has (is_serve c) q && is_live_connection q c) fit).1,
+    λ fit. sym (finished-row core.plan core.connections q c (connections-of core q stands on))
+        ∙ (and_parts (not (has_ended core.plan q)) (has (is_serve c) q && is_live_connection q c) fit).1,
   )
 
 -- the fork that is awaited, and what comes to a parent that waits
 module _ (core : CoreData) (q : Record) (on : is_on core.end ≡ true) (stands : StandsFor core q) where
-  pub side-fits : (side : Side) → (is_asked core.boot.fork ≡ true → Fits core.plan q (SideCame side)) × (Fits core.plan q (SideCame side) → is_asked core.boot.fork ≡ true)
-  side-fits side = ((λ may. fits-side core q side on may stands), (λ fit. sym stands.boot.fork.asked_is ∙ (and_parts (not (has_ended core.plan q)) (is_daemonize_open q) fit).1))
+  pub side-fits : (side : Side)
+      → (is_asked core.boot.fork ≡ true → Fits core.plan q (SideCame side)) × (Fits core.plan q (SideCame side) → is_asked core.boot.fork ≡ true)
+  side-fits side = (
+    (λ may. fits-side core q side on may stands),
+    (λ fit. sym stands.boot.fork.asked_is ∙ (and_parts (not (has_ended core.plan q)) (is_daemonize_open q) fit).1),
+  )
 
-  pub parent-fits : (e : Event) → fits_row core.plan q e ≡ parent_waits core.plan q → (is_waiting core.boot.fork ≡ true → Fits core.plan q e) × (Fits core.plan q e → is_waiting core.boot.fork ≡ true)
+  pub parent-fits : (e : Event) → fits_row core.plan q e ≡ parent_waits core.plan q
+      → (is_waiting core.boot.fork ≡ true → Fits core.plan q e) × (Fits core.plan q e → is_waiting core.boot.fork ≡ true)
   parent-fits e row = (
     λ may. fits-parent core q e row on may stands,
     λ fit. sym (parent-same core q on stands) ∙ sym row ∙ (and_parts (not (has_ended core.plan q)) (fits_row core.plan q e) fit).1,
@@ -280,13 +319,20 @@ module _ (core : CoreData) (q : Record) (on : is_on core.end ≡ true) (stands :
 
 -- nothing fits once the run has ended
 pub ended-none : (core : CoreData) (q : Record) (e : Event) → is_on core.end ≡ false → StandsFor core q → fits core.plan q e ≡ true → ⊥
-ended-none core q e off stands fit = ended (has_ended core.plan q) (step_end core.plan q) (sym (ap is_on stands.end_is) ∙ off) (goes_on core.plan q) (and_parts (not (has_ended core.plan q)) (fits_row core.plan q e) fit).0
+ended-none core q e off stands fit =
+    ended (has_ended core.plan q) (step_end core.plan q) (sym (ap is_on stands.end_is) ∙ off) (goes_on core.plan q)
+    (and_parts (not (has_ended core.plan q)) (fits_row core.plan q e) fit).0
   where
     goes_on : (p : Plan) (r : Record) → has_ended p r ≡ false → is_on (step_end p r) ≡ true
-    goes_on p r h = by (waits_are_over p r) (ends_tested p r) (ends_parent_well p r) (ends_parent_badly p r) (ends_transfer r) (ends_no_sender p r) (ends_bad_message r) h
+    goes_on p r h =
+        by (waits_are_over p r) (ends_tested p r) (ends_parent_well p r) (ends_parent_badly p r) (ends_transfer r) (ends_no_sender p r) (ends_bad_message r) h
       where
         by : (a b c d f g i : Bool) → ((a || b) || (((c || d) || f) || (g || i))) ≡ false
-            → is_on (if a then Served else (if b then Tested else (if c then Parent 0 else (if d then Parent 1 else (if f then EndedBy Transfer else (if g then EndedBy NoSender else (if i then EndedBy BadMessage else On))))))) ≡ true
+            → is_on (if a then Served else
+            (if b then Tested else
+            (if c then Parent 0 else
+            (if d then Parent 1 else (if f then EndedBy Transfer else (if g then EndedBy NoSender else (if i then EndedBy BadMessage else On)))))))
+            ≡ true
         by false false false false false false false k = refl
         by true b c d f g i k = absurd (cc)
         by false true c d f g i k = absurd (cc)

@@ -54,7 +54,8 @@ pub record Loose (p : Plan) (st : StartsData) (o : OfferData) (dr : DrainData) (
   pub offer : OfferStands p o q
   pub connections : ConnectionsStand p cn q
 
-pub base-of : (p : Plan) (st : StartsData) (d : EndpointsData) (b : BootData) (o : OfferData) (dr : DrainData) (cn : ConnectionsData) (q : Record) → Going p st d b o dr cn q → Base p st q
+pub base-of : (p : Plan) (st : StartsData) (d : EndpointsData) (b : BootData) (o : OfferData) (dr : DrainData) (cn : ConnectionsData) (q : Record)
+    → Going p st d b o dr cn q → Base p st q
 base-of p st d b o dr cn q h = record {
   starts = h.starts;
   entries = h.entries;
@@ -65,10 +66,12 @@ base-of p st d b o dr cn q h = record {
   asks = h.asks;
 }
 
-pub loose-of : (p : Plan) (st : StartsData) (d : EndpointsData) (b : BootData) (o : OfferData) (dr : DrainData) (cn : ConnectionsData) (q : Record) → Going p st d b o dr cn q → Loose p st o dr cn q
+pub loose-of : (p : Plan) (st : StartsData) (d : EndpointsData) (b : BootData) (o : OfferData) (dr : DrainData) (cn : ConnectionsData) (q : Record)
+    → Going p st d b o dr cn q → Loose p st o dr cn q
 loose-of p st d b o dr cn q h = record { base = base-of p st d b o dr cn q h; drain = h.drain; offer = h.offer; connections = h.connections }
 
-pub going-from : (p : Plan) (st : StartsData) (d : EndpointsData) (b : BootData) (o : OfferData) (dr : DrainData) (cn : ConnectionsData) (q : Record) → Loose p st o dr cn q → EndpointsStand p d q → BootStands p b q
+pub going-from : (p : Plan) (st : StartsData) (d : EndpointsData) (b : BootData) (o : OfferData) (dr : DrainData) (cn : ConnectionsData) (q : Record)
+    → Loose p st o dr cn q → EndpointsStand p d q → BootStands p b q
     → has_begun p q ≡ b.begun → (dr.running ≡ true → may_start p b ≡ true) → Going p st d b o dr cn q
 going-from p st d b o dr cn q h ends boot begun runs = record {
   drain = h.drain;
@@ -186,16 +189,22 @@ pub record IsLoose (p : Plan) (m : ℕ) (q : Record) (a : Action) : Type 0 where
 pub loose-is : (p : Plan) (m : ℕ) (q : Record) (a : Action) → is_loose m a ≡ true → IsLoose p m q a
 loose-is p m q (Fail s) k = record { free = refl; drain = refl; offer = refl; connections = refl; may = λ h. record { unpassed = h.unpassed; asks = h.asks } }
 loose-is p m q (Bind s i) k = record { free = refl; drain = refl; offer = refl; connections = refl; may = λ h. record { unpassed = h.unpassed; asks = h.asks } }
-loose-is p m q (Adopt s i fd) k = record { free = refl; drain = refl; offer = refl; connections = refl; may = λ h. record { unpassed = h.unpassed; asks = h.asks } }
+loose-is p m q (Adopt s i fd) k =
+    record { free = refl; drain = refl; offer = refl; connections = refl; may = λ h. record { unpassed = h.unpassed; asks = h.asks } }
 loose-is p m q (Close fd) k = record { free = refl; drain = refl; offer = refl; connections = refl; may = λ h. record { unpassed = h.unpassed; asks = h.asks } }
-loose-is p m q OpenReceiver k = record { free = refl; drain = refl; offer = refl; connections = refl; may = λ h. record { unpassed = h.unpassed; asks = h.asks } }
+loose-is p m q OpenReceiver k =
+    record { free = refl; drain = refl; offer = refl; connections = refl; may = λ h. record { unpassed = h.unpassed; asks = h.asks } }
 loose-is p m q TryReceive k = record { free = refl; drain = refl; offer = refl; connections = refl; may = λ h. record { unpassed = h.unpassed; asks = h.asks } }
-loose-is p m q NotifyParent k = record { free = refl; drain = refl; offer = refl; connections = refl; may = λ h. record { unpassed = h.unpassed; asks = h.asks } }
-loose-is p m q (Phase Bootstrap ms) k = record { free = k; drain = refl; offer = refl; connections = refl; may = λ h. record { unpassed = h.unpassed; asks = h.asks } }
-loose-is p m q (Phase BootstrapComplete ms) k = record { free = k; drain = refl; offer = refl; connections = refl; may = λ h. record { unpassed = h.unpassed; asks = h.asks } }
+loose-is p m q NotifyParent k =
+    record { free = refl; drain = refl; offer = refl; connections = refl; may = λ h. record { unpassed = h.unpassed; asks = h.asks } }
+loose-is p m q (Phase Bootstrap ms) k =
+    record { free = k; drain = refl; offer = refl; connections = refl; may = λ h. record { unpassed = h.unpassed; asks = h.asks } }
+loose-is p m q (Phase BootstrapComplete ms) k =
+    record { free = k; drain = refl; offer = refl; connections = refl; may = λ h. record { unpassed = h.unpassed; asks = h.asks } }
 loose-is p m q _ k = absurd (cc)
 
-pub loose-told : (p : Plan) (st : StartsData) (o : OfferData) (dr : DrainData) (cn : ConnectionsData) (q : Record) (a : Action) → is_loose (now q) a ≡ true → Loose p st o dr cn q → Loose p st o dr cn (Told a ∷ q)
+pub loose-told : (p : Plan) (st : StartsData) (o : OfferData) (dr : DrainData) (cn : ConnectionsData) (q : Record) (a : Action) → is_loose (now q) a ≡ true
+    → Loose p st o dr cn q → Loose p st o dr cn (Told a ∷ q)
 loose-told p st o dr cn q a k h = let is = loose-is p (now q) q a k in record {
   base = base-told p st q a is.free h.base;
   drain = drains.stands-told p dr (over_since o.state) q a is.drain h.drain;
@@ -208,7 +217,8 @@ abbrev pub are_loose : ℕ → List Action → Bool
 are_loose m [] = true
 are_loose m (a ∷ told) = is_loose m a && are_loose m told
 
-pub loose-tell : (p : Plan) (st : StartsData) (o : OfferData) (dr : DrainData) (cn : ConnectionsData) (q : Record) (told : List Action) → are_loose (now q) told ≡ true → Loose p st o dr cn q → Loose p st o dr cn (tell q told)
+pub loose-tell : (p : Plan) (st : StartsData) (o : OfferData) (dr : DrainData) (cn : ConnectionsData) (q : Record) (told : List Action)
+    → are_loose (now q) told ≡ true → Loose p st o dr cn q → Loose p st o dr cn (tell q told)
 loose-tell p st o dr cn q [] k h = h
 loose-tell p st o dr cn q (a ∷ told) k h =
     let parts = and_parts (is_loose (now q) a) (are_loose (now q) told) k in
@@ -254,7 +264,8 @@ pub begun-other : (p : Plan) (q : Record) (s : ℕ) → has_kind p BootstrapKind
 begun-other p q s h =
     ap (λ b. (p.eager && (not p.daemon || has is_side_child q)) || b)
     (list_any-same (λ t. has_kind p BootstrapKind t && ((s == t) || is_started q t)) (λ t. has_kind p BootstrapKind t && is_started q t)
-    (λ t. started_other (has_kind p BootstrapKind t) (s == t) (is_started q t) (λ e. subst (λ u. has_kind p BootstrapKind u ≡ false) (eqb-true s t e) h)) (services p))
+    (λ t. started_other (has_kind p BootstrapKind t) (s == t) (is_started q t) (λ e. subst (λ u. has_kind p BootstrapKind u ≡ false) (eqb-true s t e) h))
+    (services p))
 
 or_and_grows : (k here was : Bool) → (k && was) ≡ true → (k && (here || was)) ≡ true
 or_and_grows k here was h = grind arith
@@ -299,7 +310,8 @@ begun-free p q m _ k = absurd (cc)
 
 pub begun-frees : (p : Plan) (q : Record) (m : ℕ) (told : List Action) → are_free m told ≡ true → has_begun p (tell q told) ≡ has_begun p q
 begun-frees p q m [] k = refl
-begun-frees p q m (a ∷ told) k = let parts = and_parts (is_free m a) (are_free m told) k in begun-frees p (Told a ∷ q) m told parts.1 ∙ begun-free p q m a parts.0
+begun-frees p q m (a ∷ told) k =
+    let parts = and_parts (is_free m a) (are_free m told) k in begun-frees p (Told a ∷ q) m told parts.1 ∙ begun-free p q m a parts.0
 
 pub begun-tell : (p : Plan) (q : Record) (m : ℕ) (told : List Action) → are_loose m told ≡ true → has_begun p (tell q told) ≡ has_begun p q
 begun-tell p q m [] k = refl

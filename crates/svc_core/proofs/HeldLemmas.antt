@@ -191,7 +191,8 @@ module _ (core : CoreData) (q : Record) (in_order : IsInOrder core.plan core.ord
   ]
 
 -- the first step of a daemon: the fork is asked for
-module _ (core : CoreData) (first : HasNotBegun core) (daemon : core.plan.daemon ≡ true) (stands : BootStands core.plan (forked Asked core.boot) (Told Daemonize ∷ [])) where
+module _ (core : CoreData) (first : HasNotBegun core) (daemon : core.plan.daemon ≡ true)
+    (stands : BootStands core.plan (forked Asked core.boot) (Told Daemonize ∷ [])) where
   asked-loose : Loose core.plan core.starts core.offer core.drain core.connections (Told Daemonize ∷ [])
   asked-loose = record {
     base = base-told core.plan core.starts [] Daemonize refl (record {
@@ -203,7 +204,8 @@ module _ (core : CoreData) (first : HasNotBegun core) (daemon : core.plan.daemon
       fails = tt;
       asks = tt;
     });
-    drain = drains.stands-told core.plan core.drain (over_since core.offer.state) [] Daemonize refl (subst (λ over. DrainStands core.plan core.drain over []) (sym first.unoffered) first.drain);
+    drain = drains.stands-told core.plan core.drain (over_since core.offer.state) [] Daemonize refl
+        (subst (λ over. DrainStands core.plan core.drain over []) (sym first.unoffered) first.drain);
     offer = offers.stands-told core.plan core.offer [] Daemonize refl first.offer;
     connections = sockets.stands-told core.plan core.connections [] Daemonize refl first.connections;
   }
@@ -217,20 +219,23 @@ module _ (core : CoreData) (first : HasNotBegun core) (daemon : core.plan.daemon
   asked-held : Held (with_boot (forked Asked core.boot) core) (Told Daemonize ∷ [])
   asked-held = record {
     going = going-from core.plan core.starts core.endpoints (forked Asked core.boot) core.offer core.drain core.connections (Told Daemonize ∷ []) asked-loose
-        (stands-told core.plan core.endpoints [] Daemonize refl first.ends) stands (asked-begun ∙ sym first.unbegun) (λ r. absurd (let idle = first.idle in cc));
+        (stands-told core.plan core.endpoints [] Daemonize refl first.ends) stands (asked-begun ∙ sym first.unbegun)
+        (λ r. absurd (let idle = first.idle in cc));
     awaits = awaits-by core.plan.daemon false daemon refl;
     forks = refl;
     idle = first.idle;
     silent = λ over. absurd (cc);
   }
 
-pub begin-daemon : (core : CoreData) (b : BootData) (before after : List Action) → IsInOrder core.plan core.order → HasNotBegun core → core.plan.daemon ≡ true → b ≡ forked Asked core.boot → after ≡ before ++ Daemonize ∷ []
+pub begin-daemon : (core : CoreData) (b : BootData) (before after : List Action) → IsInOrder core.plan core.order → HasNotBegun core → core.plan.daemon ≡ true
+    → b ≡ forked Asked core.boot → after ≡ before ++ Daemonize ∷ []
     → ((p : Plan) → p.daemon ≡ true → BootStands p core.boot [] → BootStands p b (Told Daemonize ∷ []))
     → BeginKeeps (with_end (end_of core.plan b) (with_boot b core)) before after (end_of core.plan b)
 begin-daemon core b before after in_order first daemon boots told stands = record {
   told = Daemonize ∷ [];
   appended = told;
-  kept = held-right (with_boot b core) (Told Daemonize ∷ []) in_order (rw boots (asked-held core first daemon (rw boots at (stands core.plan daemon first.boot))));
+  kept = held-right (with_boot b core) (Told Daemonize ∷ []) in_order
+      (rw boots (asked-held core first daemon (rw boots at (stands core.plan daemon first.boot))));
 }
 
 -- what an event of the fork is
@@ -242,22 +247,59 @@ record IsForkEvent (p : Plan) (q : Record) (e : Event) : Type 0 where
   silent : last_step (Got e ∷ q) ≡ []
 
 of-fork : (p : Plan) (q : Record) (e : Event) → is_fork_event e ≡ true → IsForkEvent p q e
-of-fork p q (Moment ms) h = record { apart = refl; offer = refl; ends = refl; starts = λ st w. record { started_is = w.started_is; ready_is = w.ready_is; ended_is = w.ended_is }; silent = refl }
-of-fork p q (Forked side) h = record { apart = refl; offer = refl; ends = refl; starts = λ st w. record { started_is = w.started_is; ready_is = w.ready_is; ended_is = w.ended_is }; silent = refl }
-of-fork p q ChildReady h = record { apart = refl; offer = refl; ends = refl; starts = λ st w. record { started_is = w.started_is; ready_is = w.ready_is; ended_is = w.ended_is }; silent = refl }
-of-fork p q ChildGone h = record { apart = refl; offer = refl; ends = refl; starts = λ st w. record { started_is = w.started_is; ready_is = w.ready_is; ended_is = w.ended_is }; silent = refl }
-of-fork p q DropFailed h = record { apart = refl; offer = refl; ends = refl; starts = λ st w. record { started_is = w.started_is; ready_is = w.ready_is; ended_is = w.ended_is }; silent = refl }
+of-fork p q (Moment ms) h =
+    record {
+      apart = refl;
+      offer = refl;
+      ends = refl;
+      starts = λ st w. record { started_is = w.started_is; ready_is = w.ready_is; ended_is = w.ended_is };
+      silent = refl;
+    }
+of-fork p q (Forked side) h =
+    record {
+      apart = refl;
+      offer = refl;
+      ends = refl;
+      starts = λ st w. record { started_is = w.started_is; ready_is = w.ready_is; ended_is = w.ended_is };
+      silent = refl;
+    }
+of-fork p q ChildReady h =
+    record {
+      apart = refl;
+      offer = refl;
+      ends = refl;
+      starts = λ st w. record { started_is = w.started_is; ready_is = w.ready_is; ended_is = w.ended_is };
+      silent = refl;
+    }
+of-fork p q ChildGone h =
+    record {
+      apart = refl;
+      offer = refl;
+      ends = refl;
+      starts = λ st w. record { started_is = w.started_is; ready_is = w.ready_is; ended_is = w.ended_is };
+      silent = refl;
+    }
+of-fork p q DropFailed h =
+    record {
+      apart = refl;
+      offer = refl;
+      ends = refl;
+      starts = λ st w. record { started_is = w.started_is; ready_is = w.ready_is; ended_is = w.ended_is };
+      silent = refl;
+    }
 of-fork p q _ h = absurd (cc)
 
 -- a core that is held doesn't run
 held-idle : (core : CoreData) (q : Record) → StandsFor core q → is_free core.plan core.boot.fork ≡ false → core.drain.running ≡ false
 held-idle core q stands awaits = elim (cases_Bool core.drain.running) [
-  | inl runs ↦ absurd (let may = stands.runs runs in let off = first_none (is_free core.plan core.boot.fork) (not core.plan.eager || core.boot.complete) awaits in cc)
+  | inl runs ↦
+      absurd (let may = stands.runs runs in let off = first_none (is_free core.plan core.boot.fork) (not core.plan.eager || core.boot.complete) awaits in cc)
   | inr idle ↦ idle
 ]
 
 -- an event of the fork, after which nothing is told
-module _ (core : CoreData) (q : Record) (e : Event) (b : BootData) (dr : DrainData) (right : Right core.plan q) (stands : StandsFor core q) (on : is_on core.end ≡ true) (fit : fits core.plan q e ≡ true)
+module _ (core : CoreData) (q : Record) (e : Event) (b : BootData) (dr : DrainData) (right : Right core.plan q) (stands : StandsFor core q)
+    (on : is_on core.end ≡ true) (fit : fits core.plan q e ≡ true)
     (event : is_fork_event e ≡ true) (other : is_side_child (Got e) ≡ false) (was_held : is_free core.plan core.boot.fork ≡ false)
     (drain : DrainStands core.plan dr (over_since core.offer.state) (Got e ∷ q)) (running : dr.running ≡ core.drain.running)
     (boot : BootStands core.plan b (Got e ∷ q)) (begun : b.begun ≡ core.boot.begun) (forks : is_forked b.fork ≡ true) (none : is_child b.fork ≡ false) where
@@ -270,7 +312,8 @@ module _ (core : CoreData) (q : Record) (e : Event) (b : BootData) (dr : DrainDa
   event-held : Held (struck core core.starts core.endpoints b core.offer dr) (Got e ∷ q)
   event-held = record {
     going = going-from core.plan core.starts core.endpoints b core.offer dr core.connections (Got e ∷ q)
-        (got-loose core q e core.starts core.offer dr right stands on fit is.apart drain (offers.stands-got core.plan core.offer q e is.offer (offer-of core q stands on)) (is.starts core.starts stands.starts))
+        (got-loose core q e core.starts core.offer dr right stands on fit is.apart drain
+        (offers.stands-got core.plan core.offer q e is.offer (offer-of core q stands on)) (is.starts core.starts stands.starts))
         (stands-got core.plan core.endpoints q e is.ends (λ fd. held-back-got core.plan q e fd is.offer) (ends-of core q stands on)) boot
         (begun-got core.plan q e other ∙ stands.begun_is ∙ sym begun) (λ r. absurd (let off = still in cc));
     awaits = awaits-is core.plan b.fork (Got e ∷ q) boot.fork forks none;
@@ -279,7 +322,8 @@ module _ (core : CoreData) (q : Record) (e : Event) (b : BootData) (dr : DrainDa
     silent = λ over. is.silent;
   }
 
-pub held-keeps : (core mid : CoreData) (e : Event) (before : List Action) → IsInOrder mid.plan mid.order → ((q : Record) → Right core.plan q → StandsFor core q → Held mid (Got e ∷ q))
+pub held-keeps : (core mid : CoreData) (e : Event) (before : List Action) → IsInOrder mid.plan mid.order
+    → ((q : Record) → Right core.plan q → StandsFor core q → Held mid (Got e ∷ q))
     → StepKeeps core (with_end (end_of mid.plan mid.boot) mid) e before before (end_of mid.plan mid.boot)
 held-keeps core mid e before in_order held = record {
   told = [];
@@ -336,19 +380,24 @@ waited-none limit m (Waiting at) h = either (nat_le limit ((m - at) / 1000))
 waited-none limit m (Over status) h = refl
 
 -- what the core tests, fits
-pub fits-side : (core : CoreData) (q : Record) (side : Side) → is_on core.end ≡ true → is_asked core.boot.fork ≡ true → StandsFor core q → fits core.plan q (Forked side) ≡ true
+pub fits-side : (core : CoreData) (q : Record) (side : Side) → is_on core.end ≡ true → is_asked core.boot.fork ≡ true → StandsFor core q
+    → fits core.plan q (Forked side) ≡ true
 fits-side core q side on may stands = and_from (not (has_ended core.plan q)) (is_daemonize_open q) (going-on core q stands on) (stands.boot.fork.asked_is ∙ may)
 
 pub parent-same : (core : CoreData) (q : Record) → is_on core.end ≡ true → StandsFor core q → parent_waits core.plan q ≡ is_waiting core.boot.fork
 parent-same core q on stands = waits-is core.plan core.boot q stands.boot (settled-of core q stands on).boot.no_parent_over
 
-pub fits-parent : (core : CoreData) (q : Record) (e : Event) → fits_row core.plan q e ≡ parent_waits core.plan q → is_on core.end ≡ true → is_waiting core.boot.fork ≡ true → StandsFor core q → fits core.plan q e ≡ true
-fits-parent core q e row on may stands = and_from (not (has_ended core.plan q)) (fits_row core.plan q e) (going-on core q stands on) (row ∙ parent-same core q on stands ∙ may)
+pub fits-parent : (core : CoreData) (q : Record) (e : Event) → fits_row core.plan q e ≡ parent_waits core.plan q → is_on core.end ≡ true
+    → is_waiting core.boot.fork ≡ true → StandsFor core q → fits core.plan q e ≡ true
+fits-parent core q e row on may stands =
+    and_from (not (has_ended core.plan q)) (fits_row core.plan q e) (going-on core q stands on) (row ∙ parent-same core q on stands ∙ may)
 
 -- the process is the parent
-pub parent-held : (core : CoreData) (b : BootData) → is_on core.end ≡ true → is_asked core.boot.fork ≡ true → b ≡ forked (side_taken core.plan.wait sides.Parent core.drain.moment) core.boot
+pub parent-held : (core : CoreData) (b : BootData) → is_on core.end ≡ true → is_asked core.boot.fork ≡ true
+    → b ≡ forked (side_taken core.plan.wait sides.Parent core.drain.moment) core.boot
     → ((q : Record) → core.drain.moment ≡ now q → BootStands core.plan core.boot q → BootStands core.plan b (Got (Forked sides.Parent) ∷ q))
-    → (q : Record) → Right core.plan q → StandsFor core q → Held (struck core core.starts core.endpoints b core.offer core.drain) (Got (Forked sides.Parent) ∷ q)
+    → (q : Record) → Right core.plan q → StandsFor core q
+    → Held (struck core core.starts core.endpoints b core.offer core.drain) (Got (Forked sides.Parent) ∷ q)
 parent-held core b on may after boots q right stands =
     let fit = fits-side core q sides.Parent on may stands in
     event-held core q (Forked sides.Parent) b core.drain right stands on fit refl refl
@@ -359,8 +408,10 @@ parent-held core b on may after boots q right stands =
     (ap (λ (x : BootData). is_child x.fork) after ∙ parent-none core.plan.wait core.drain.moment)
 
 -- what comes to a parent that waits, and ends it
-pub ends-held : (core : CoreData) (e : Event) (b : BootData) (status : ℕ) → is_fork_event e ≡ true → is_side_child (Got e) ≡ false → is_drain_event e ≡ false → ((q : Record) → fits_row core.plan q e ≡ parent_waits core.plan q)
-    → is_on core.end ≡ true → is_waiting core.boot.fork ≡ true → b ≡ forked (Over status) core.boot → ((q : Record) → BootStands core.plan core.boot q → BootStands core.plan b (Got e ∷ q))
+pub ends-held : (core : CoreData) (e : Event) (b : BootData) (status : ℕ) → is_fork_event e ≡ true → is_side_child (Got e) ≡ false → is_drain_event e ≡ false
+    → ((q : Record) → fits_row core.plan q e ≡ parent_waits core.plan q)
+    → is_on core.end ≡ true → is_waiting core.boot.fork ≡ true → b ≡ forked (Over status) core.boot
+    → ((q : Record) → BootStands core.plan core.boot q → BootStands core.plan b (Got e ∷ q))
     → (q : Record) → Right core.plan q → StandsFor core q → Held (struck core core.starts core.endpoints b core.offer core.drain) (Got e ∷ q)
 ends-held core e b status event other plain row on may after boots q right stands =
     let fit = fits-parent core q e (row q) on may stands in
@@ -383,8 +434,10 @@ failure-is p DropFailed h = record { event = refl; other = refl; plain = refl; r
 failure-is p _ h = absurd (cc)
 
 -- a moment that nothing follows
-pub waiting-held : (core : CoreData) (ms : ℕ) (b : BootData) (dr : DrainData) → is_on core.end ≡ true → is_free core.plan core.boot.fork ≡ false → core.drain.moment ≤ ms → dr ≡ at_moment ms core.drain
-    → ((p : Plan) (over : Option ℕ) (q : Record) → IsDrainSettled core.drain over → DrainStands p core.drain over q → DrainStands p dr over (Got (Moment ms) ∷ q))
+pub waiting-held : (core : CoreData) (ms : ℕ) (b : BootData) (dr : DrainData) → is_on core.end ≡ true → is_free core.plan core.boot.fork ≡ false
+    → core.drain.moment ≤ ms → dr ≡ at_moment ms core.drain
+    → ((p : Plan) (over : Option ℕ) (q : Record) → IsDrainSettled core.drain over → DrainStands p core.drain over q
+    → DrainStands p dr over (Got (Moment ms) ∷ q))
     → b ≡ forked (waited core.plan.ready_timeout ms core.boot.fork) core.boot
     → ((q : Record) → is_parent_over core.boot.fork ≡ false → BootStands core.plan core.boot q → BootStands core.plan b (Got (Moment ms) ∷ q))
     → (q : Record) → Right core.plan q → StandsFor core q → Held (struck core core.starts core.endpoints b core.offer dr) (Got (Moment ms) ∷ q)
@@ -393,8 +446,10 @@ waiting-held core ms b dr on awaits may moved drain after boots q right stands =
     event-held core q (Moment ms) b dr right stands on (fits-moment core q ms on may stands) refl refl awaits
     (drain core.plan (over_since core.offer.state) q (settled-of core q stands on).drain (drain-of core q stands on)) (ap (λ (x : DrainData). x.running) moved)
     (boots q settled.no_parent_over stands.boot) (ap (λ (x : BootData). x.begun) after)
-    (ap (λ (x : BootData). is_forked x.fork) after ∙ forked-waited core.plan.ready_timeout ms core.boot.fork ∙ settled.forked_is ∙ daemon-by core.plan.daemon (is_child core.boot.fork) awaits)
-    (ap (λ (x : BootData). is_child x.fork) after ∙ waited-none core.plan.ready_timeout ms core.boot.fork (child-by core.plan.daemon (is_child core.boot.fork) awaits))
+    (ap (λ (x : BootData). is_forked x.fork) after ∙ forked-waited core.plan.ready_timeout ms core.boot.fork ∙ settled.forked_is
+    ∙ daemon-by core.plan.daemon (is_child core.boot.fork) awaits)
+    (ap (λ (x : BootData). is_child x.fork) after
+    ∙ waited-none core.plan.ready_timeout ms core.boot.fork (child-by core.plan.daemon (is_child core.boot.fork) awaits))
   where
     child-by : (daemon child : Bool) → (not daemon || child) ≡ false → child ≡ false
     child-by daemon child h = grind arith
@@ -402,20 +457,23 @@ waiting-held core ms b dr on awaits may moved drain after boots q right stands =
 -- the process is the child, and a server's run may begin
 pub child-may : (core : CoreData) (b : BootData) → is_on core.end ≡ true → is_asked core.boot.fork ≡ true → b ≡ forked Child core.boot
     → ((q : Record) → core.drain.moment ≡ now q → BootStands core.plan core.boot q → BootStands core.plan b (Got (Forked sides.Child) ∷ q))
-    → (q : Record) → Right core.plan q → StandsFor core q → MayBootstrap (struck core core.starts core.endpoints b core.offer core.drain) (Got (Forked sides.Child) ∷ q)
+    → (q : Record) → Right core.plan q → StandsFor core q
+    → MayBootstrap (struck core core.starts core.endpoints b core.offer core.drain) (Got (Forked sides.Child) ∷ q)
 child-may core b on may after boots q right stands =
     let fit = fits-side core q sides.Child on may stands in
     let awaits = awaits-is core.plan core.boot.fork q stands.boot.fork (asked-forked core.boot.fork may) (asked-none core.boot.fork may) in
     let unbegun = unbegun-is core.plan core.boot q stands.boot awaits in
     let is = of-fork core.plan q (Forked sides.Child) refl in
-    let loose = got-loose core q (Forked sides.Child) core.starts core.offer core.drain right stands on fit is.apart (plain-drain core q (Forked sides.Child) right stands on fit refl refl)
+    let loose = got-loose core q (Forked sides.Child) core.starts core.offer core.drain right stands on fit is.apart
+    (plain-drain core q (Forked sides.Child) right stands on fit refl refl)
     (plain-offer core q (Forked sides.Child) right stands on fit refl refl) (is.starts core.starts stands.starts) in
     record {
       drain = loose.drain;
       offer = loose.offer;
       connections = loose.connections;
       starts = loose.base.starts;
-      ends = stands-got core.plan core.endpoints q (Forked sides.Child) refl (λ fd. held-back-got core.plan q (Forked sides.Child) fd refl) (ends-of core q stands on);
+      ends = stands-got core.plan core.endpoints q (Forked sides.Child) refl (λ fd. held-back-got core.plan q (Forked sides.Child) fd refl)
+          (ends-of core q stands on);
       boot = boots q (drain-of core q stands on).moment_is stands.boot;
       entries = loose.base.entries;
       started_due = loose.base.started_due;
@@ -435,7 +493,8 @@ child-may core b on may after boots q right stands =
     begins_by : (eager begun : Bool) → begun ≡ false → (eager || begun) ≡ eager
     begins_by eager begun h = grind arith
 
-pub child-keeps : (core mid new : CoreData) (before after : List Action) (end : StepEnd) → ((q : Record) → Right core.plan q → StandsFor core q → MayBootstrap mid (Got (Forked sides.Child) ∷ q))
+pub child-keeps : (core mid new : CoreData) (before after : List Action) (end : StepEnd)
+    → ((q : Record) → Right core.plan q → StandsFor core q → MayBootstrap mid (Got (Forked sides.Child) ∷ q))
     → Bootstraps mid new before after end → StepKeeps core new (Forked sides.Child) before after end
 child-keeps core mid new before after end may bootstraps = record {
   told = bootstraps.told;

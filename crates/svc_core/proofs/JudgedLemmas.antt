@@ -31,7 +31,8 @@ pub unjudged-bare : (xs ys : List Action) → TellsBare xs ys → TellsJudged []
 unjudged-bare xs ys h = record { told = h.told; appended = h.appended; kept = bare-unjudged h.told h.kept }
 
 -- neither do actions beside which no settings are copied
-copied-one : (copy : SecondCopy) (a : Action) (more : List Action) → is_of_settings copy ≡ false → is_copied copy a ≡ true → judgements (a ∷ more) ≡ judgements more
+copied-one : (copy : SecondCopy) (a : Action) (more : List Action) → is_of_settings copy ≡ false → is_copied copy a ≡ true
+    → judgements (a ∷ more) ≡ judgements more
 copied-one copy (Judged c said) more none h = absurd (cc)
 copied-one copy _ more none h = refl
 
@@ -51,7 +52,8 @@ of-no-settings (Some w) = refl
 of-no-settings None = refl
 
 pub unjudged-copied : (message : Option Message) (xs ys : List Action) → TellsCopied (copy_of message) xs ys → TellsJudged [] xs ys
-unjudged-copied message xs ys h = record { told = h.told; appended = h.appended; kept = copied-unjudged (copy_of message) h.told (of-no-settings message) h.kept }
+unjudged-copied message xs ys h =
+    record { told = h.told; appended = h.appended; kept = copied-unjudged (copy_of message) h.told (of-no-settings message) h.kept }
 
 -- what is judged as it was said by the event's step is as was said
 abbrev is_as_said : Plan → Record → Bool → ℕ × Bool → Bool
@@ -70,7 +72,8 @@ or-yes : (said : Bool) → (said || true) ≡ true
 or-yes true = refl
 or-yes false = refl
 
-arrival-said : (p : Plan) (q : Record) (s i c : ℕ) (peer : Peer) (said : Bool) (filter : Option ℕ) → filter_of p s i ≡ filter → is_as_said p (Got (Arrived s i c peer) ∷ q) said (c, said || not (has_filter p s i)) ≡ true
+arrival-said : (p : Plan) (q : Record) (s i c : ℕ) (peer : Peer) (said : Bool) (filter : Option ℕ) → filter_of p s i ≡ filter
+    → is_as_said p (Got (Arrived s i c peer) ∷ q) said (c, said || not (has_filter p s i)) ≡ true
 arrival-said p q s i c peer said (Some f) e = rw (eq-eqb c c refl, e) (answer-same said)
 arrival-said p q s i c peer said None e = rw (eq-eqb c c refl, e) (or-yes said)
 
@@ -78,9 +81,11 @@ event-said : (p : Plan) (q : Record) (e : Event) (said : Bool) → list_all (is_
 event-said p q (Arrived s i c peer) said = by (is_known peer)
   where
     by : (known : Bool) → list_all (is_as_said p (Got (Arrived s i c peer) ∷ q) said) (if known then (c, said || not (has_filter p s i)) ∷ [] else []) ≡ true
-    by true = and_from (is_as_said p (Got (Arrived s i c peer) ∷ q) said (c, said || not (has_filter p s i))) true (arrival-said p q s i c peer said (filter_of p s i) refl) refl
+    by true = and_from (is_as_said p (Got (Arrived s i c peer) ∷ q) said (c, said || not (has_filter p s i))) true
+        (arrival-said p q s i c peer said (filter_of p s i) refl) refl
     by false = refl
 event-said p q _ said = refl
 
-pub judged-said : (p : Plan) (q : Record) (e : Event) (said : Bool) (told : List Action) → judgements told ≡ judged_at p e said → told_as_said p (Got e ∷ q) said told ≡ true
+pub judged-said : (p : Plan) (q : Record) (e : Event) (said : Bool) (told : List Action) → judgements told ≡ judged_at p e said
+    → told_as_said p (Got e ∷ q) said told ≡ true
 judged-said p q e said told h = said-by p (Got e ∷ q) said told ∙ (ap (list_all (is_as_said p (Got e ∷ q) said)) h ∙ event-said p q e said)

@@ -57,14 +57,105 @@ pub record IsLate (p : Plan) (order : List ℕ) (k m : ℕ) (q : Record) (a : Ac
   pub visited : VisitedUpTo p order k q → VisitedUpTo p order k (Told a ∷ q)
 
 pub late-is : (p : Plan) (order : List ℕ) (k m : ℕ) (q : Record) (a : Action) → is_late m a ≡ true → IsLate p order k m q a
-late-is p order k m q Connect h = record { free = refl; boot = refl; ends = refl; connections = refl; visited = λ v. record { due_started = λ j lt due. v.due_started j lt due; right = λ none j lt i within. v.right none j lt i within; late = λ j lt i within. v.late j lt i within } }
-late-is p order k m q (Send bytes fds) h = record { free = refl; boot = refl; ends = refl; connections = refl; visited = λ v. record { due_started = λ j lt due. v.due_started j lt due; right = λ none j lt i within. v.right none j lt i within; late = λ j lt i within. v.late j lt i within } }
-late-is p order k m q Broadcast h = record { free = refl; boot = refl; ends = refl; connections = refl; visited = λ v. record { due_started = λ j lt due. v.due_started j lt due; right = λ none. absurd (cc); late = λ j lt i within. v.late j lt i within } }
-late-is p order k m q (Phase GracefulUpgradeTransferringFds ms) h = record { free = h; boot = refl; ends = refl; connections = refl; visited = λ v. record { due_started = λ j lt due. v.due_started j lt due; right = λ none j lt i within. v.right none j lt i within; late = λ j lt i within. v.late j lt i within } }
-late-is p order k m q (Phase GracefulUpgradeCloseTimeout ms) h = record { free = h; boot = refl; ends = refl; connections = refl; visited = λ v. record { due_started = λ j lt due. v.due_started j lt due; right = λ none j lt i within. v.right none j lt i within; late = λ j lt i within. v.late j lt i within } }
-late-is p order k m q (Phase GracefulTerminate ms) h = record { free = h; boot = refl; ends = refl; connections = refl; visited = λ v. record { due_started = λ j lt due. v.due_started j lt due; right = λ none j lt i within. v.right none j lt i within; late = λ j lt i within. v.late j lt i within } }
-late-is p order k m q (Phase ShutdownStarted ms) h = record { free = h; boot = refl; ends = refl; connections = refl; visited = λ v. record { due_started = λ j lt due. v.due_started j lt due; right = λ none j lt i within. v.right none j lt i within; late = λ j lt i within. v.late j lt i within } }
-late-is p order k m q (Phase ShutdownGracePeriod ms) h = record { free = h; boot = refl; ends = refl; connections = refl; visited = λ v. record { due_started = λ j lt due. v.due_started j lt due; right = λ none j lt i within. v.right none j lt i within; late = λ j lt i within. v.late j lt i within } }
+late-is p order k m q Connect h =
+    record {
+      free = refl;
+      boot = refl;
+      ends = refl;
+      connections = refl;
+      visited = λ v.
+          record {
+            due_started = λ j lt due. v.due_started j lt due;
+            right = λ none j lt i within. v.right none j lt i within;
+            late = λ j lt i within. v.late j lt i within;
+          };
+    }
+late-is p order k m q (Send bytes fds) h =
+    record {
+      free = refl;
+      boot = refl;
+      ends = refl;
+      connections = refl;
+      visited = λ v.
+          record {
+            due_started = λ j lt due. v.due_started j lt due;
+            right = λ none j lt i within. v.right none j lt i within;
+            late = λ j lt i within. v.late j lt i within;
+          };
+    }
+late-is p order k m q Broadcast h =
+    record {
+      free = refl;
+      boot = refl;
+      ends = refl;
+      connections = refl;
+      visited = λ v. record { due_started = λ j lt due. v.due_started j lt due; right = λ none. absurd (cc); late = λ j lt i within. v.late j lt i within };
+    }
+late-is p order k m q (Phase GracefulUpgradeTransferringFds ms) h =
+    record {
+      free = h;
+      boot = refl;
+      ends = refl;
+      connections = refl;
+      visited = λ v.
+          record {
+            due_started = λ j lt due. v.due_started j lt due;
+            right = λ none j lt i within. v.right none j lt i within;
+            late = λ j lt i within. v.late j lt i within;
+          };
+    }
+late-is p order k m q (Phase GracefulUpgradeCloseTimeout ms) h =
+    record {
+      free = h;
+      boot = refl;
+      ends = refl;
+      connections = refl;
+      visited = λ v.
+          record {
+            due_started = λ j lt due. v.due_started j lt due;
+            right = λ none j lt i within. v.right none j lt i within;
+            late = λ j lt i within. v.late j lt i within;
+          };
+    }
+late-is p order k m q (Phase GracefulTerminate ms) h =
+    record {
+      free = h;
+      boot = refl;
+      ends = refl;
+      connections = refl;
+      visited = λ v.
+          record {
+            due_started = λ j lt due. v.due_started j lt due;
+            right = λ none j lt i within. v.right none j lt i within;
+            late = λ j lt i within. v.late j lt i within;
+          };
+    }
+late-is p order k m q (Phase ShutdownStarted ms) h =
+    record {
+      free = h;
+      boot = refl;
+      ends = refl;
+      connections = refl;
+      visited = λ v.
+          record {
+            due_started = λ j lt due. v.due_started j lt due;
+            right = λ none j lt i within. v.right none j lt i within;
+            late = λ j lt i within. v.late j lt i within;
+          };
+    }
+late-is p order k m q (Phase ShutdownGracePeriod ms) h =
+    record {
+      free = h;
+      boot = refl;
+      ends = refl;
+      connections = refl;
+      visited = λ v.
+          record {
+            due_started = λ j lt due. v.due_started j lt due;
+            right = λ none j lt i within. v.right none j lt i within;
+            late = λ j lt i within. v.late j lt i within;
+          };
+    }
 late-is p order k m q _ h = absurd (cc)
 
 -- such actions, one after the other
@@ -83,7 +174,8 @@ pub record Keeps (p : Plan) (order : List ℕ) (k m : ℕ) (d : EndpointsData) (
 both-free : (a b : Bool) → a ≡ true → b ≡ true → (a && b) ≡ true
 both-free a b h k = grind arith
 
-pub late-keeps : (p : Plan) (order : List ℕ) (k m : ℕ) (d : EndpointsData) (b : BootData) (q : Record) (told : List Action) → are_late m told ≡ true → Keeps p order k m d b q told
+pub late-keeps : (p : Plan) (order : List ℕ) (k m : ℕ) (d : EndpointsData) (b : BootData) (q : Record) (told : List Action) → are_late m told ≡ true
+    → Keeps p order k m d b q told
 late-keeps p order k m d b q [] h = record { free = refl; apart = refl; ends = λ e. e; boot = λ free e. e; visited = λ v. v }
 late-keeps p order k m d b q (a ∷ told) h =
     let parts = and_parts (is_late m a) (are_late m told) h in
@@ -191,7 +283,8 @@ rested-other over t = by (is_some (rest_from over t))
     by true = refl
     by false = refl
 
-stage-other : (x : Stage) (signal : Option ShutdownSignal) (offers : Bool) (over : Option ℕ) (t : ℕ) → has_no_offer_action (stage_told x signal offers over t) ≡ true
+stage-other : (x : Stage) (signal : Option ShutdownSignal) (offers : Bool) (over : Option ℕ) (t : ℕ)
+    → has_no_offer_action (stage_told x signal offers over t) ≡ true
 stage-other Running None offers over t = refl
 stage-other Running (Some FastShutdown) offers over t = refl
 stage-other Running (Some TerminateSignal) offers over t = refl

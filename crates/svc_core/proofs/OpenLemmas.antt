@@ -111,7 +111,8 @@ module _ (p : Plan) (order : List ℕ) (in_order : IsInOrder p order) (q : Recor
       subst (λ t. i < length (endpoints p t) → endpoint_right_late p q t i ≡ true) at.2 (visited.late at.0 at.1 i)
 
 -- what holds of a record by its parts
-module _ (p : Plan) (st : StartsData) (d : EndpointsData) (b : BootData) (o : OfferData) (dr : DrainData) (cn : ConnectionsData) (q : Record) (going : Going p st d b o dr cn q) where
+module _ (p : Plan) (st : StartsData) (d : EndpointsData) (b : BootData) (o : OfferData) (dr : DrainData) (cn : ConnectionsData) (q : Record)
+    (going : Going p st d b o dr cn q) where
   pub running-is : has is_running q ≡ dr.running
   running-is = has-count is_running q dr.running going.drain.running_is
 
@@ -119,7 +120,8 @@ module _ (p : Plan) (st : StartsData) (d : EndpointsData) (b : BootData) (o : Of
   tested-same = tested-is p b q going.boot
 
   pub runs-same : runs p q ≡ may_start p b
-  runs-same = ap (λ c. c && (not p.eager || has is_bootstrap_complete q)) (may_begin-is p b q going.boot) ∙ ap (λ c. is_free p b.fork && (not p.eager || c)) going.boot.begin.complete_is
+  runs-same = ap (λ c. c && (not p.eager || has is_bootstrap_complete q)) (may_begin-is p b q going.boot)
+      ∙ ap (λ c. is_free p b.fork && (not p.eager || c)) going.boot.begin.complete_is
 
   pub running-right : dr.running ≡ may_start p b → times is_running q ≡ (if runs p q then 1 else 0)
   running-right runs_now = going.drain.running_is ∙ ap (λ c. if c then 1 else 0) (runs_now ∙ sym runs-same)
@@ -156,20 +158,24 @@ module _ (p : Plan) (st : StartsData) (d : EndpointsData) (b : BootData) (o : Of
     }
 
   -- where the server runs and services may start, they were visited
-  pub open-right : (order : List ℕ) → IsInOrder p order → IsBootSettled p b dr.moment → IsDrainSettled dr (over_since o.state) → IsOfferSettled o dr.moment → passes p dr ≡ false
+  pub open-right : (order : List ℕ) → IsInOrder p order → IsBootSettled p b dr.moment → IsDrainSettled dr (over_since o.state) → IsOfferSettled o dr.moment
+      → passes p dr ≡ false
       → OnTrue (may_start p b) (VisitedUpTo p order (length order) q) → dr.running ≡ may_start p b → OpenRight p q
   open-right order in_order settled told asked waits visited runs_now = record {
-    boot = boot-right p b q going.boot going.begun_is (subst (IsBootSettled p b) going.drain.moment_is settled) (running-right runs_now) going.entries.after_boot;
+    boot = boot-right p b q going.boot going.begun_is (subst (IsBootSettled p b) going.drain.moment_is settled)
+        (running-right runs_now) going.entries.after_boot;
     offer = offer-right p o q going.offer (subst (IsOfferSettled o) going.drain.moment_is asked);
     connections = going.connections.right;
     closes = going.ends.closes;
     one_live = going.ends.one_live;
     starts = when (from_the_start q) (StartsRight p q) (λ e. starts-right p order in_order q going.entries going.started_due (at e));
     endpoints = when (in_service q) (EndpointsRight p q) (λ e. (let parts = and_parts (from_the_start q) (not (has is_signal q)) e in
-        endpoints-right p order in_order q going.entries going.started_due (at parts.0) (unsignalled-silent p dr (over_since o.state) q (going.drain.signal_is ∙ signal-none q (not_not (has is_signal q) parts.1)) going.drain)));
+        endpoints-right p order in_order q going.entries going.started_due (at parts.0)
+        (unsignalled-silent p dr (over_since o.state) q (going.drain.signal_is ∙ signal-none q (not_not (has is_signal q) parts.1)) going.drain)));
     endpoints_late = when (from_the_start q) (EndpointsRightLate p q) (λ e. endpoints-late p order in_order q going.entries going.started_due (at e));
     phases = marks-right p dr (over_since o.state) q waits told going.drain;
-    moments = EachEntry-weaker (λ e before. every_moment_right e before ≡ true) (λ e before. moment_right e before ≡ true) moment-weaker q going.entries.moments;
+    moments = EachEntry-weaker (λ e before. every_moment_right e before ≡ true)
+        (λ e before. moment_right e before ≡ true) moment-weaker q going.entries.moments;
     no_end = going.no_end;
   }
     where
@@ -203,7 +209,8 @@ served-not p b end e = ap is_served e ∙ by (p.test && b.begun) b.fork b.receiv
 pub ended-end : (p : Plan) (b : BootData) → is_on (end_of p b) ≡ false → (is_tested p b || is_early b) ≡ true
 ended-end p b off = elim (cases_Bool (p.test && b.begun)) [
   | inl tested ↦ rw tested refl
-  | inr live ↦ ap (λ c. c || is_early b) live ∙ early b.fork b.receiving (subst (λ c. is_on (if c then Tested else early_end b.fork b.receiving) ≡ false) live off)
+  | inr live ↦
+      ap (λ c. c || is_early b) live ∙ early b.fork b.receiving (subst (λ c. is_on (if c then Tested else early_end b.fork b.receiving) ≡ false) live off)
 ]
   where
     refused : (x : Receiving) → is_on (refusal_of x) ≡ false → is_refused x ≡ true
@@ -221,7 +228,8 @@ ended-end p b off = elim (cases_Bool (p.test && b.begun)) [
     early (Waiting at) x h = refused x h
 
 -- the run goes on
-pub step-on : (core : CoreData) (q : Record) → IsInOrder core.plan core.order → Answered core q → passes core.plan core.drain ≡ false → StepRight core q core.end
+pub step-on : (core : CoreData) (q : Record) → IsInOrder core.plan core.order → Answered core q → passes core.plan core.drain ≡ false
+    → StepRight core q core.end
 step-on core q in_order at waits =
     let going = at.going in
     let unpassed : waits_are_over core.plan q ≡ false = passed-is core.plan core.drain (over_since core.offer.state) q going.drain at.drain ∙ waits in
@@ -245,12 +253,15 @@ step-on core q in_order at waits =
         end_is = at.end_is ∙ sym (end-same core.plan core.starts core.endpoints core.boot core.offer core.drain core.connections q going unpassed);
       };
       right = right-of core.plan core.starts core.endpoints core.boot core.offer core.drain core.connections q going unpassed
-          (one-ask core.plan core.offer q going.offer (subst (IsOfferSettled core.offer) going.drain.moment_is at.offer) (forward-fits core.plan q going.entries.fits))
+          (one-ask core.plan core.offer q going.offer (subst (IsOfferSettled core.offer) going.drain.moment_is at.offer)
+          (forward-fits core.plan q going.entries.fits))
           (opened (has_ended core.plan q) (EndedRight core.plan q) (OpenRight core.plan q)
           (ended-same core.plan core.starts core.endpoints core.boot core.offer core.drain core.connections q going unpassed
           ∙ or_from (is_tested core.plan core.boot) (is_early core.boot) at.untested (settled-on core.plan core.boot core.drain.moment at.settled))
-          (open-right core.plan core.starts core.endpoints core.boot core.offer core.drain core.connections q going core.order in_order at.settled at.drain at.offer waits at.visited at.runs_now))
-          (not_true (ends_tested core.plan q) (TestedRight core.plan q) (tested-same core.plan core.starts core.endpoints core.boot core.offer core.drain core.connections q going ∙ at.untested));
+          (open-right core.plan core.starts core.endpoints core.boot core.offer core.drain core.connections q going core.order in_order at.settled at.drain
+          at.offer waits at.visited at.runs_now))
+          (not_true (ends_tested core.plan q) (TestedRight core.plan q)
+          (tested-same core.plan core.starts core.endpoints core.boot core.offer core.drain core.connections q going ∙ at.untested));
       answer = at.end_is ∙ sym (end-same core.plan core.starts core.endpoints core.boot core.offer core.drain core.connections q going unpassed);
     }
   where
@@ -259,7 +270,8 @@ step-on core q in_order at waits =
     opened false A B e h = h
 
 -- the run has ended
-pub step-ended : (core : CoreData) (q : Record) → Going core.plan core.starts core.endpoints core.boot core.offer core.drain core.connections q → is_on core.end ≡ false → core.end ≡ end_of core.plan core.boot → EndedSo core.plan q → StepRight core q core.end
+pub step-ended : (core : CoreData) (q : Record) → Going core.plan core.starts core.endpoints core.boot core.offer core.drain core.connections q
+    → is_on core.end ≡ false → core.end ≡ end_of core.plan core.boot → EndedSo core.plan q → StepRight core q core.end
 step-ended core q going off end so = record {
   stands = record {
     drain = λ e. going.drain;
@@ -281,7 +293,8 @@ step-ended core q going off end so = record {
   };
   right = right-of core.plan core.starts core.endpoints core.boot core.offer core.drain core.connections q going so.may_end.unpassed so.may_end.asks
       (ended (has_ended core.plan q) (EndedRight core.plan q) (OpenRight core.plan q)
-      (ended-same core.plan core.starts core.endpoints core.boot core.offer core.drain core.connections q going so.may_end.unpassed ∙ ended-end core.plan core.boot (sym (ap is_on end) ∙ off)) so.ended) so.tested;
+      (ended-same core.plan core.starts core.endpoints core.boot core.offer core.drain core.connections q going so.may_end.unpassed
+      ∙ ended-end core.plan core.boot (sym (ap is_on end) ∙ off)) so.ended) so.tested;
   answer = end ∙ sym (end-same core.plan core.starts core.endpoints core.boot core.offer core.drain core.connections q going so.may_end.unpassed);
 }
   where

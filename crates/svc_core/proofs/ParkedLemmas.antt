@@ -38,27 +38,40 @@ pub asking-busy : (d : EndpointsData) (moment t k : ℕ) → is_asking (last_at 
 asking-busy d moment t k asks = rw asks refl
 
 -- a busy endpoint whose state and flag stay
-stays_moved : (d d' : EndpointsData) (from : ℕ) (w : WaitsData) (e t k : ℕ) → last_at d' t k ≡ last_at d t k → failed_at d' t ≡ failed_at d t → StaysBusy d from w e t k → StaysBusy d' from w e t k
+stays_moved : (d d' : EndpointsData) (from : ℕ) (w : WaitsData) (e t k : ℕ) → last_at d' t k ≡ last_at d t k → failed_at d' t ≡ failed_at d t
+    → StaysBusy d from w e t k → StaysBusy d' from w e t k
 stays_moved d d' from w e t k last failed (inl asks) = inl (ap is_asking last ∙ asks)
 stays_moved d d' from w e t k last failed (inr (inl next)) = inr (inl next)
 stays_moved d d' from w e t k last failed (inr (inr rest)) =
-    inr (inr (rest.0, λ m le. ap (λ (x : EndpointStatus). busy_of (failed_at d' t) m x) last ∙ ap (λ (f : Bool). busy_of f m (last_at d t k)) failed ∙ rest.1 m le))
+    inr (inr (
+      rest.0,
+      λ m le. ap (λ (x : EndpointStatus). busy_of (failed_at d' t) m x) last ∙ ap (λ (f : Bool). busy_of f m (last_at d t k)) failed
+          ∙ rest.1 m le,
+    ))
 
 -- more bits set
-stays_grown : (d : EndpointsData) (from : ℕ) (u v : WaitsData) (e t k : ℕ) → length v.marks ≡ length u.marks → ((a b : ℕ) → is_set u.bits a b ≡ true → is_set v.bits a b ≡ true) → v.until ≡ u.until → StaysBusy d from u e t k → StaysBusy d from v e t k
+stays_grown : (d : EndpointsData) (from : ℕ) (u v : WaitsData) (e t k : ℕ) → length v.marks ≡ length u.marks
+    → ((a b : ℕ) → is_set u.bits a b ≡ true → is_set v.bits a b ≡ true) → v.until ≡ u.until → StaysBusy d from u e t k → StaysBusy d from v e t k
 stays_grown d from u v e t k count kept until (inl asks) = inl asks
-stays_grown d from u v e t k count kept until (inr (inl next)) = inr (inl (subst (λ n. is_set v.bits n e ≡ true) (sym count) (kept (length u.marks) e next.0), next.1))
+stays_grown d from u v e t k count kept until (inr (inl next)) =
+    inr (inl (subst (λ n. is_set v.bits n e ≡ true) (sym count) (kept (length u.marks) e next.0), next.1))
 stays_grown d from u v e t k count kept until (inr (inr rest)) =
-    inr (inr (subst (λ n. is_set v.bits (2 * n + 2) e ≡ true) (sym count) (kept (2 * length u.marks + 2) e rest.0), subst (λ m. IsBusyUntil d t k m) (sym until) rest.1))
+    inr (inr (
+      subst (λ n. is_set v.bits (2 * n + 2) e ≡ true) (sym count) (kept (2 * length u.marks + 2) e rest.0),
+      subst (λ m. IsBusyUntil d t k m)
+          (sym until) rest.1,
+    ))
 
 -- a pass that has gone on, but not over the place
-pub stays-on : (d : EndpointsData) (from next : ℕ) (w : WaitsData) (e t k : ℕ) → (from ≤ e → is_open w e ≡ true → next ≤ e) → StaysBusy d from w e t k → StaysBusy d next w e t k
+pub stays-on : (d : EndpointsData) (from next : ℕ) (w : WaitsData) (e t k : ℕ) → (from ≤ e → is_open w e ≡ true → next ≤ e) → StaysBusy d from w e t k
+    → StaysBusy d next w e t k
 stays-on d from next w e t k far (inl asks) = inl asks
 stays-on d from next w e t k far (inr (inl opened)) = inr (inl (opened.0, far opened.1 opened.0))
 stays-on d from next w e t k far (inr (inr rest)) = inr (inr rest)
 
 module _ (p : Plan) (order : List ℕ) (on : List Bool) where
-  pub parked-grown : (d : EndpointsData) (from : ℕ) (u v : WaitsData) (s c : ℕ) → length v.marks ≡ length u.marks → ((a b : ℕ) → is_set u.bits a b ≡ true → is_set v.bits a b ≡ true) → v.until ≡ u.until
+  pub parked-grown : (d : EndpointsData) (from : ℕ) (u v : WaitsData) (s c : ℕ) → length v.marks ≡ length u.marks
+      → ((a b : ℕ) → is_set u.bits a b ≡ true → is_set v.bits a b ≡ true) → v.until ≡ u.until
       → IsParked p order on d from u s c → IsParked p order on d from v s c
   parked-grown d from u v s c count kept until x = record {
     by = x.by;
@@ -70,7 +83,8 @@ module _ (p : Plan) (order : List ℕ) (on : List Bool) where
     parked = subst (λ n. is_set v.bits (2 * n + 1) c ≡ true) (sym count) (kept (2 * length u.marks + 1) c x.parked);
   }
 
-  pub parked-on : (d : EndpointsData) (from next : ℕ) (w : WaitsData) (s c : ℕ) (x : IsParked p order on d from w s c) → (from ≤ x.by → is_open w x.by ≡ true → next ≤ x.by) → IsParked p order on d next w s c
+  pub parked-on : (d : EndpointsData) (from next : ℕ) (w : WaitsData) (s c : ℕ) (x : IsParked p order on d from w s c)
+      → (from ≤ x.by → is_open w x.by ≡ true → next ≤ x.by) → IsParked p order on d next w s c
   parked-on d from next w s c x far = record {
     by = x.by;
     earlier = x.earlier;
@@ -81,7 +95,8 @@ module _ (p : Plan) (order : List ℕ) (on : List Bool) where
     parked = x.parked;
   }
 
-  pub parked-started : (next : List Bool) (d : EndpointsData) (from : ℕ) (w : WaitsData) (s c : ℕ) → ((t : ℕ) → is_flagged on t ≡ true → is_flagged next t ≡ true) → IsParked p order on d from w s c → IsParked p order next d from w s c
+  pub parked-started : (next : List Bool) (d : EndpointsData) (from : ℕ) (w : WaitsData) (s c : ℕ)
+      → ((t : ℕ) → is_flagged on t ≡ true → is_flagged next t ≡ true) → IsParked p order on d from w s c → IsParked p order next d from w s c
   parked-started next d from w s c more x = record {
     by = x.by;
     earlier = x.earlier;
@@ -93,8 +108,10 @@ module _ (p : Plan) (order : List ℕ) (on : List Bool) where
   }
 
   -- states of the service x changed, the place of which is still to be visited, but nothing is held by that
-  pub parked-kept : (d d' : EndpointsData) (from : ℕ) (w : WaitsData) (x s c : ℕ) → StaysHeld d d' → StaysUnheld d d' → GainsNone d d' → OthersStay x d d' → ((t : ℕ) → t ≢ x → failed_at d' t ≡ failed_at d t)
-      → ((j : ℕ) → j < length order → slice_index order j ≡ x → (is_open w j ≡ true) × (from ≤ j)) → c < length order → IsParked p order on d from w s c → IsParked p order on d' from w s c
+  pub parked-kept : (d d' : EndpointsData) (from : ℕ) (w : WaitsData) (x s c : ℕ) → StaysHeld d d' → StaysUnheld d d' → GainsNone d d' → OthersStay x d d'
+      → ((t : ℕ) → t ≢ x → failed_at d' t ≡ failed_at d t)
+      → ((j : ℕ) → j < length order → slice_index order j ≡ x → (is_open w j ≡ true) × (from ≤ j)) → c < length order → IsParked p order on d from w s c
+      → IsParked p order on d' from w s c
   parked-kept d d' from w x s c held unheld gains others failed opened lt y = record {
     by = y.by;
     earlier = y.earlier;
@@ -109,14 +126,16 @@ module _ (p : Plan) (order : List ℕ) (on : List Bool) where
     };
     busy = elim (cases_eq (slice_index order y.by) x) [
       | inl same ↦ inr (inl (opened y.by (let le = y.earlier in omega arith) same))
-      | inr ne ↦ stays_moved d d' from w y.by (slice_index order y.by) y.shares.other (others (slice_index order y.by) y.shares.other ne) (failed (slice_index order y.by) ne) y.busy
+      | inr ne ↦ stays_moved d d' from w y.by (slice_index order y.by) y.shares.other (others (slice_index order y.by) y.shares.other ne)
+          (failed (slice_index order y.by) ne) y.busy
     ];
     behind = y.behind;
     parked = y.parked;
   }
 
   -- states of a service changed, behind which it doesn't wait
-  pub parked-others : (d d' : EndpointsData) (from : ℕ) (w : WaitsData) (x s c : ℕ) → GainsNone d d' → OthersStay x d d' → d'.failed ≡ d.failed → s ≢ x → (y : IsParked p order on d from w s c) → slice_index order y.by ≢ x → IsParked p order on d' from w s c
+  pub parked-others : (d d' : EndpointsData) (from : ℕ) (w : WaitsData) (x s c : ℕ) → GainsNone d d' → OthersStay x d d' → d'.failed ≡ d.failed → s ≢ x
+      → (y : IsParked p order on d from w s c) → slice_index order y.by ≢ x → IsParked p order on d' from w s c
   parked-others d d' from w x s c gains others failed own y ne = record {
     by = y.by;
     earlier = y.earlier;
@@ -129,13 +148,15 @@ module _ (p : Plan) (order : List ℕ) (on : List Bool) where
       other_first = first_others p d d' x (slice_index order y.by) y.shares.other others ne y.shares.other_first;
       same = y.shares.same;
     };
-    busy = stays_moved d d' from w y.by (slice_index order y.by) y.shares.other (others (slice_index order y.by) y.shares.other ne) (ap (λ flags. is_flagged flags (slice_index order y.by)) failed) y.busy;
+    busy = stays_moved d d' from w y.by (slice_index order y.by) y.shares.other (others (slice_index order y.by) y.shares.other ne)
+        (ap (λ flags. is_flagged flags (slice_index order y.by)) failed) y.busy;
     behind = y.behind;
     parked = y.parked;
   }
 
   -- no state changed
-  pub parked-rows : (d d' : EndpointsData) (from : ℕ) (w : WaitsData) (s c : ℕ) → d'.rows ≡ d.rows → d'.failed ≡ d.failed → GainsNone d d' → IsParked p order on d from w s c → IsParked p order on d' from w s c
+  pub parked-rows : (d d' : EndpointsData) (from : ℕ) (w : WaitsData) (s c : ℕ) → d'.rows ≡ d.rows → d'.failed ≡ d.failed → GainsNone d d'
+      → IsParked p order on d from w s c → IsParked p order on d' from w s c
   parked-rows d d' from w s c rows failed gains y = record {
     by = y.by;
     earlier = y.earlier;
@@ -148,7 +169,8 @@ module _ (p : Plan) (order : List ℕ) (on : List Bool) where
       other_first = first_kept p d d' (slice_index order y.by) y.shares.other held unheld y.shares.other_first;
       same = y.shares.same;
     };
-    busy = stays_moved d d' from w y.by (slice_index order y.by) y.shares.other (same (slice_index order y.by) y.shares.other) (ap (λ flags. is_flagged flags (slice_index order y.by)) failed) y.busy;
+    busy = stays_moved d d' from w y.by (slice_index order y.by) y.shares.other (same (slice_index order y.by) y.shares.other)
+        (ap (λ flags. is_flagged flags (slice_index order y.by)) failed) y.busy;
     behind = y.behind;
     parked = y.parked;
   }

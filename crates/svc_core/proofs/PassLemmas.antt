@@ -57,7 +57,8 @@ pub are-failed : (p : Plan) (d : EndpointsData) (q : Record) → EndpointsStand 
 are-failed p d q h s inside = h.states.failed_is s inside
 
 -- a pass that wasn't ended went to its place
-pub visited-of : (p : Plan) (order : List ℕ) (k : ℕ) (b : BootData) (q : Record) → is_tested p b ≡ false → MatchBool (is_tested p b) ((j : ℕ) × TestedAt p order j q) (VisitedUpTo p order k q) → VisitedUpTo p order k q
+pub visited-of : (p : Plan) (order : List ℕ) (k : ℕ) (b : BootData) (q : Record) → is_tested p b ≡ false
+    → MatchBool (is_tested p b) ((j : ℕ) × TestedAt p order j q) (VisitedUpTo p order k q) → VisitedUpTo p order k q
 visited-of p order k b q e h = pick (is_tested p b) ((j : ℕ) × TestedAt p order j q) (VisitedUpTo p order k q) e h
   where
     pick : (c : Bool) (A B : Type 0) → c ≡ false → MatchBool c A B → B
@@ -87,8 +88,10 @@ begin-loose p b m = elim (cases_Bool b.begun) [
     more false false false = rw (eq-eqb m m refl) refl
 
 -- telling it, by what is told
-begin-keeps : (P : Record → Type 0) → ((q : Record) (m : ℕ) → P q → P (Told (Phase Bootstrap m) ∷ q)) → ((q : Record) (m : ℕ) → P q → P (Told (Phase BootstrapComplete m) ∷ q))
-    → ((q : Record) → P q → P (Told OpenReceiver ∷ q)) → ((q : Record) → P q → P (Told TryReceive ∷ q)) → ((q : Record) → P q → P (Told NotifyParent ∷ q)) → (p : Plan) (b : BootData) (m : ℕ) (q : Record) → P q → P (tell q (begin_told p b m))
+begin-keeps : (P : Record → Type 0) → ((q : Record) (m : ℕ) → P q → P (Told (Phase Bootstrap m) ∷ q))
+    → ((q : Record) (m : ℕ) → P q → P (Told (Phase BootstrapComplete m) ∷ q))
+    → ((q : Record) → P q → P (Told OpenReceiver ∷ q)) → ((q : Record) → P q → P (Told TryReceive ∷ q)) → ((q : Record) → P q → P (Told NotifyParent ∷ q))
+    → (p : Plan) (b : BootData) (m : ℕ) (q : Record) → P q → P (tell q (begin_told p b m))
 begin-keeps P f g h k n p b m q was = elim (cases_Bool b.begun) [
   | inl begun ↦ rw begun was
   | inr not_begun ↦ rw not_begun (more p.test (notifies p) p.upgrade (f q m was))
@@ -112,7 +115,8 @@ begin-right : (p : Plan) (b : BootData) (m : ℕ) (q : Record) (s i : ℕ) → e
 begin-right p b m q s i h =
     begin-keeps (λ r. endpoint_right p r s i ≡ true) (λ r n k. k) (λ r n k. k) (λ r k. k) (λ r k. k) (λ r k. k) p b m q h
 
-begin-late : (p : Plan) (b : BootData) (m : ℕ) (q : Record) (s i : ℕ) → endpoint_right_late p q s i ≡ true → endpoint_right_late p (tell q (begin_told p b m)) s i ≡ true
+begin-late : (p : Plan) (b : BootData) (m : ℕ) (q : Record) (s i : ℕ) → endpoint_right_late p q s i ≡ true
+    → endpoint_right_late p (tell q (begin_told p b m)) s i ≡ true
 begin-late p b m q s i h =
     begin-keeps (λ r. endpoint_right_late p r s i ≡ true) (λ r n k. k) (λ r n k. k) (λ r k. k) (λ r k. k) (λ r k. k) p b m q h
 
@@ -133,12 +137,16 @@ ready_split : (e f on plain boots complete : Bool) → (boots && on) ≡ false �
 ready_split e f on plain boots complete h = grind arith
 
 ready-apart : (p : Plan) (q : Record) (s : ℕ) → is_boot_service p q s ≡ false → is_ready p q s ≡ ready_apart p q s
-ready-apart p q s h = ready_split (has (is_ready_event s) q || has (is_ended_event s) q) (has_failed p q s) (is_started q s) (has_kind p Plain s) (has_kind p BootstrapKind s) (has is_bootstrap_complete q) h
+ready-apart p q s h =
+    ready_split (has (is_ready_event s) q || has (is_ended_event s) q) (has_failed p q s) (is_started q s) (has_kind p Plain s) (has_kind p BootstrapKind s)
+    (has is_bootstrap_complete q) h
 
-all-ready : (p : Plan) (q r : Record) (xs : List ℕ) → ((x : ℕ) → list_any (λ y. y == x) xs ≡ true → is_ready p r x ≡ is_ready p q x) → list_all (is_ready p r) xs ≡ list_all (is_ready p q) xs
+all-ready : (p : Plan) (q r : Record) (xs : List ℕ) → ((x : ℕ) → list_any (λ y. y == x) xs ≡ true → is_ready p r x ≡ is_ready p q x)
+    → list_all (is_ready p r) xs ≡ list_all (is_ready p q) xs
 all-ready p q r [] f = refl
 all-ready p q r (x ∷ xs) f =
-    rw (f x (or_left (x == x) (list_any (λ y. y == x) xs) (eq-eqb x x refl)), all-ready p q r xs (λ y h. f y (or_right (x == y) (list_any (λ z. z == y) xs) h))) refl
+    rw (f x (or_left (x == x) (list_any (λ y. y == x) xs) (eq-eqb x x refl)), all-ready p q r xs (λ y h. f y (or_right (x == y) (list_any (λ z. z == y) xs) h)))
+    refl
 
 -- an ask is told that starts nothing
 ask-loose : (s m : ℕ) (told : List Action) → IsAskOf s told → are_loose m told ≡ true
@@ -171,13 +179,15 @@ ask-due p q s t (Bind u i ∷ []) a = refl
 ask-due p q s t (Adopt u i fd ∷ []) a = refl
 ask-due p q s t (_ ∷ _) a = absurd a
 
-ask-right : (p : Plan) (q : Record) (s t i : ℕ) (told : List Action) → IsAskOf s told → endpoint_right p q t i ≡ true → endpoint_right p (tell q told) t i ≡ true
+ask-right : (p : Plan) (q : Record) (s t i : ℕ) (told : List Action) → IsAskOf s told → endpoint_right p q t i ≡ true
+    → endpoint_right p (tell q told) t i ≡ true
 ask-right p q s t i [] a h = h
 ask-right p q s t i (Bind u k ∷ []) a h = right-bind p q u k t i h
 ask-right p q s t i (Adopt u k fd ∷ []) a h = right-adopt p q u k fd t i h
 ask-right p q s t i (_ ∷ _) a h = absurd a
 
-ask-late : (p : Plan) (q : Record) (s t i : ℕ) (told : List Action) → IsAskOf s told → endpoint_right_late p q t i ≡ true → endpoint_right_late p (tell q told) t i ≡ true
+ask-late : (p : Plan) (q : Record) (s t i : ℕ) (told : List Action) → IsAskOf s told → endpoint_right_late p q t i ≡ true
+    → endpoint_right_late p (tell q told) t i ≡ true
 ask-late p q s t i [] a h = h
 ask-late p q s t i (Bind u k ∷ []) a h = late-bind p q u k t i h
 ask-late p q s t i (Adopt u k fd ∷ []) a h = late-adopt p q u k fd t i h
@@ -213,7 +223,12 @@ may-grows : (p : Plan) (b : BootData) → may_start p b ≡ true → may_start p
 may-grows p b h =
     ap (λ f. is_free p f && (not p.eager || (begun_by p b).complete)) (fork-begin p b)
     ∙ or_grown (is_free p b.fork) p.eager b.complete (begun_by p b).complete
-    (λ e. (elim (cases_Bool b.begun) [ inl begun ↦ rw begun e | inr not_begun ↦ rw not_begun (by p.test p.upgrade (record { fork = b.fork; begun = false; complete = b.complete; receiving = b.receiving; patience = b.patience }) e) ])) h
+    (λ e. (elim (cases_Bool b.begun) [
+      | inl begun ↦ rw begun e
+      | inr not_begun ↦
+          rw not_begun
+          (by p.test p.upgrade (record { fork = b.fork; begun = false; complete = b.complete; receiving = b.receiving; patience = b.patience }) e)
+    ])) h
   where
     by : (test upgrade : Bool) (x : BootData) → x.complete ≡ true → (begun_with test upgrade x).complete ≡ true
     by true upgrade x e = e
@@ -250,7 +265,8 @@ no_and : (k b : Bool) → (k && not b) ≡ false → k ≡ true → b ≡ true
 no_and k b h e = grind arith
 
 module _ (p : Plan) (valid : IsValid p) (order : List ℕ) (dr : DrainData) (k : ℕ) (place : k < length order) (in_order : IsInOrder p order)
-    (st : StartsData) (d : EndpointsData) (b : BootData) (o : OfferData) (cn : ConnectionsData) (q : Record) (sized : IsStartsSized p st) (untested : is_tested p b ≡ false) (was : PassedUpTo p order k st d b o dr cn q) where
+    (st : StartsData) (d : EndpointsData) (b : BootData) (o : OfferData) (cn : ConnectionsData) (q : Record) (sized : IsStartsSized p st)
+    (untested : is_tested p b ≡ false) (was : PassedUpTo p order k st d b o dr cn q) where
   abbrev here : ℕ
   here = slice_index order k
 
@@ -338,9 +354,11 @@ module _ (p : Plan) (valid : IsValid p) (order : List ℕ) (dr : DrainData) (k :
     -- a start by which nothing begins
     plain-half : (has_kind p BootstrapKind here && not b.begun) ≡ false → Half p order k (start_if true here st) d b o dr cn (Told (Start here) ∷ q)
     plain-half none = record {
-      going = going-from p (start_if true here st) d b o dr cn (Told (Start here) ∷ q) start-loose start-ends (foreign.stands-told p b q (Start here) refl (may-free p b was.may) was.going.boot)
+      going = going-from p (start_if true here st) d b o dr cn (Told (Start here) ∷ q) start-loose start-ends
+          (foreign.stands-told p b q (Start here) refl (may-free p b was.may) was.going.boot)
           (elim (cases_Bool (has_kind p BootstrapKind here)) [
-            | inl boots ↦ (let begun = no_and (has_kind p BootstrapKind here) b.begun none boots in begun-start-grows p q here (was.going.begun_is ∙ begun) ∙ sym begun)
+            | inl boots ↦
+                (let begun = no_and (has_kind p BootstrapKind here) b.begun none boots in begun-start-grows p q here (was.going.begun_is ∙ begun) ∙ sym begun)
             | inr other ↦ begun-other p q here other ∙ was.going.begun_is
           ])
           was.going.runs;
@@ -351,7 +369,8 @@ module _ (p : Plan) (valid : IsValid p) (order : List ℕ) (dr : DrainData) (k :
           elim (below_suc j k lt) [
             | inl below ↦ or_right (here == slice_index order j) (is_started q (slice_index order j))
                 (visited.due_started j below (sym (is_due-start p q here (slice_index order j) (in_order.after j k (omega arith) place)) ∙ due_now))
-            | inr e ↦ or_left (here == slice_index order j) (is_started q (slice_index order j)) (eq-eqb here (slice_index order j) (ap (slice_index order) (sym e)))
+            | inr e ↦ or_left (here == slice_index order j) (is_started q (slice_index order j))
+                (eq-eqb here (slice_index order j) (ap (slice_index order) (sym e)))
           ];
       right = λ silent j lt ne i within. right-start p q here (slice_index order j) i (apart j lt) (visited.right silent j lt i within);
       late = λ j lt ne i within. late-start p q here (slice_index order j) i (apart j lt) (visited.late j lt i within);
@@ -391,14 +410,19 @@ module _ (p : Plan) (valid : IsValid p) (order : List ℕ) (dr : DrainData) (k :
       on-earlier j lt due_now =
           on-after (slice_index order j)
           ∙ or_right (here == slice_index order j) (is_started q (slice_index order j))
-          (visited.due_started j lt (sym (due-other (slice_index order j) (in_order.inside j (omega arith)) (in_order.after j k (omega arith) place)) ∙ due_now))
+          (visited.due_started j lt
+          (sym (due-other (slice_index order j) (in_order.inside j (omega arith)) (in_order.after j k (omega arith) place)) ∙ due_now))
 
-      right-earlier : has is_broadcast after ≡ false → (j : ℕ) → j < k → (i : ℕ) → i < length (endpoints p (slice_index order j)) → endpoint_right p after (slice_index order j) i ≡ true
+      right-earlier : has is_broadcast after ≡ false → (j : ℕ) → j < k → (i : ℕ) → i < length (endpoints p (slice_index order j))
+          → endpoint_right p after (slice_index order j) i ≡ true
       right-earlier silent j lt i within = begin-right p b dr.moment (Told (Start here) ∷ q) (slice_index order j) i
-          (right-start p q here (slice_index order j) i (apart j lt) (visited.right (sym (begin-silent p b dr.moment (Told (Start here) ∷ q)) ∙ silent) j lt i within))
+          (right-start p q here (slice_index order j) i (apart j lt)
+          (visited.right (sym (begin-silent p b dr.moment (Told (Start here) ∷ q)) ∙ silent) j lt i within))
 
       late-earlier : (j : ℕ) → j < k → (i : ℕ) → i < length (endpoints p (slice_index order j)) → endpoint_right_late p after (slice_index order j) i ≡ true
-      late-earlier j lt i within = begin-late p b dr.moment (Told (Start here) ∷ q) (slice_index order j) i (late-start p q here (slice_index order j) i (apart j lt) (visited.late j lt i within))
+      late-earlier j lt i within =
+          begin-late p b dr.moment (Told (Start here) ∷ q) (slice_index order j) i
+          (late-start p q here (slice_index order j) i (apart j lt) (visited.late j lt i within))
 
       here-on : is_started after here ≡ true
       here-on = on-after here ∙ or_left (here == here) (is_started q here) (eq-eqb here here refl)
@@ -424,7 +448,8 @@ module _ (p : Plan) (valid : IsValid p) (order : List ℕ) (dr : DrainData) (k :
             (loose-tell p (start_if true here st) o dr cn (Told (Start here) ∷ q) (begin_told p b dr.moment)
             (subst (λ m. are_loose m (begin_told p b dr.moment) ≡ true) was.going.drain.moment_is (begin-loose p b dr.moment)) start-loose)
             (begin-ends p d b dr.moment (Told (Start here) ∷ q) start-ends) stand
-            (begun-tell p (Told (Start here) ∷ q) dr.moment (begin_told p b dr.moment) (begin-loose p b dr.moment) ∙ begun-boots p q here inside boots ∙ sym (begun-now p b unbegun))
+            (begun-tell p (Told (Start here) ∷ q) dr.moment (begin_told p b dr.moment) (begin-loose p b dr.moment) ∙ begun-boots p q here inside boots
+            ∙ sym (begun-now p b unbegun))
             (λ e. may-grows p b was.may);
         may = may-grows p b was.may;
         ripe = ripe-begun p b unbegun was.ripe;
@@ -445,7 +470,8 @@ module _ (p : Plan) (valid : IsValid p) (order : List ℕ) (dr : DrainData) (k :
           when false A f = tt
 
 -- the first half of a visit, by what it told
-pub starting-none : (p : Plan) → IsValid p → (order : List ℕ) (dr : DrainData) (k : ℕ) → k < length order → IsInOrder p order → (st : StartsData) (d : EndpointsData) (b : BootData) (before after : List Action)
+pub starting-none : (p : Plan) → IsValid p → (order : List ℕ) (dr : DrainData) (k : ℕ) → k < length order → IsInOrder p order
+    → (st : StartsData) (d : EndpointsData) (b : BootData) (before after : List Action)
     → IsStartsSized p st → is_tested p b ≡ false → false ≡ starts_now p st d.failed b.complete (slice_index order k) → after ≡ before ++ []
     → Starting p order dr k st st d b b before after
 starting-none p valid order dr k place in_order st d b before after sized untested e told = record {
@@ -454,8 +480,10 @@ starting-none p valid order dr k place in_order st d b before after sized untest
   kept = λ o cn q was. wait-half p valid order dr k place in_order st d b o cn q sized untested was (sym e);
 }
 
-pub starting-plain : (p : Plan) → IsValid p → (order : List ℕ) (dr : DrainData) (k : ℕ) → k < length order → IsInOrder p order → (st : StartsData) (d : EndpointsData) (b : BootData) (before after : List Action)
-    → IsStartsSized p st → is_tested p b ≡ false → true ≡ starts_now p st d.failed b.complete (slice_index order k) → (has_kind p BootstrapKind (slice_index order k) && not b.begun) ≡ false
+pub starting-plain : (p : Plan) → IsValid p → (order : List ℕ) (dr : DrainData) (k : ℕ) → k < length order → IsInOrder p order
+    → (st : StartsData) (d : EndpointsData) (b : BootData) (before after : List Action)
+    → IsStartsSized p st → is_tested p b ≡ false → true ≡ starts_now p st d.failed b.complete (slice_index order k)
+    → (has_kind p BootstrapKind (slice_index order k) && not b.begun) ≡ false
     → after ≡ before ++ Start (slice_index order k) ∷ []
     → Starting p order dr k st (start_if true (slice_index order k) st) d b b before after
 starting-plain p valid order dr k place in_order st d b before after sized untested e none told = record {
@@ -464,8 +492,10 @@ starting-plain p valid order dr k place in_order st d b before after sized untes
   kept = λ o cn q was. plain-half p valid order dr k place in_order st d b o cn q sized untested was (sym e) none;
 }
 
-pub starting-boot : (p : Plan) → IsValid p → (order : List ℕ) (dr : DrainData) (k : ℕ) → k < length order → IsInOrder p order → (st : StartsData) (d : EndpointsData) (b : BootData) (before mid after : List Action)
-    → IsStartsSized p st → is_tested p b ≡ false → true ≡ starts_now p st d.failed b.complete (slice_index order k) → has_kind p BootstrapKind (slice_index order k) ≡ true → b.begun ≡ false
+pub starting-boot : (p : Plan) → IsValid p → (order : List ℕ) (dr : DrainData) (k : ℕ) → k < length order → IsInOrder p order
+    → (st : StartsData) (d : EndpointsData) (b : BootData) (before mid after : List Action)
+    → IsStartsSized p st → is_tested p b ≡ false → true ≡ starts_now p st d.failed b.complete (slice_index order k)
+    → has_kind p BootstrapKind (slice_index order k) ≡ true → b.begun ≡ false
     → mid ≡ before ++ Start (slice_index order k) ∷ [] → after ≡ mid ++ begin_told p b dr.moment
     → ((q : Record) → is_free p b.fork ≡ true → BootStands p b q → BootStands p (begun_by p b) (tell q (begin_told p b dr.moment)))
     → Starting p order dr k st (start_if true (slice_index order k) st) d b (begun_by p b) before after
@@ -473,12 +503,15 @@ starting-boot p valid order dr k place in_order st d b before mid after sized un
   told = Start (slice_index order k) ∷ begin_told p b dr.moment;
   appended = next ∙ ap (λ w. w ++ begin_told p b dr.moment) first ∙ append_assoc before (Start (slice_index order k) ∷ []) (begin_told p b dr.moment);
   kept = λ o cn q was. boot-half p valid order dr k place in_order st d b o cn q sized untested was (sym e) boots unbegun
-      (stands (Told (Start (slice_index order k)) ∷ q) (may-free p b was.may) (foreign.stands-told p b q (Start (slice_index order k)) refl (may-free p b was.may) was.going.boot));
+      (stands (Told (Start (slice_index order k)) ∷ q) (may-free p b was.may)
+      (foreign.stands-told p b q (Start (slice_index order k)) refl (may-free p b was.may) was.going.boot));
 }
 
 -- by whether the service started, where nothing begins
-pub none-begins : (p : Plan) → IsValid p → (order : List ℕ) (dr : DrainData) (k : ℕ) → k < length order → IsInOrder p order → (st st' : StartsData) (d : EndpointsData) (b : BootData) (started : Bool) (before after : List Action)
-    → IsStartsSized p st → is_tested p b ≡ false → started ≡ starts_now p st d.failed b.complete (slice_index order k) → st' ≡ start_if started (slice_index order k) st
+pub none-begins : (p : Plan) → IsValid p → (order : List ℕ) (dr : DrainData) (k : ℕ) → k < length order → IsInOrder p order
+    → (st st' : StartsData) (d : EndpointsData) (b : BootData) (started : Bool) (before after : List Action)
+    → IsStartsSized p st → is_tested p b ≡ false → started ≡ starts_now p st d.failed b.complete (slice_index order k)
+    → st' ≡ start_if started (slice_index order k) st
     → (started ≡ true → (has_kind p BootstrapKind (slice_index order k) && not b.begun) ≡ false)
     → after ≡ before ++ start_told started (slice_index order k)
     → Starting p order dr k st st' d b b before after
@@ -488,8 +521,10 @@ none-begins p valid order dr k place in_order st st' d b false before after size
     rw same (starting-none p valid order dr k place in_order st d b before after sized untested due told)
 
 -- the second half: an ask if there is one to make
-pub ask-whole : (p : Plan) (order : List ℕ) (k : ℕ) (st : StartsData) (d d' : EndpointsData) (b : BootData) (o : OfferData) (dr : DrainData) (cn : ConnectionsData) (q : Record) (told : List Action) → is_tested p b ≡ false
-    → IsAskOf (slice_index order k) told → Visited p d' (slice_index order k) q told → Half p order k st d b o dr cn q → PassedUpTo p order (k + 1) st d' b o dr cn (tell q told)
+pub ask-whole : (p : Plan) (order : List ℕ) (k : ℕ) (st : StartsData) (d d' : EndpointsData) (b : BootData) (o : OfferData) (dr : DrainData)
+    (cn : ConnectionsData) (q : Record) (told : List Action) → is_tested p b ≡ false
+    → IsAskOf (slice_index order k) told → Visited p d' (slice_index order k) q told → Half p order k st d b o dr cn q
+    → PassedUpTo p order (k + 1) st d' b o dr cn (tell q told)
 ask-whole p order k st d d' b o dr cn q told untested ask visited half = record {
   going = going-from p st d' b o dr cn (tell q told)
       (loose-tell p st o dr cn q told (ask-loose (slice_index order k) (now q) told ask) (loose-of p st d b o dr cn q half.going))
@@ -500,11 +535,14 @@ ask-whole p order k st d d' b o dr cn q told untested ask visited half = record 
   may = half.may;
   ripe = half.ripe;
   visited = as-visited (is_tested p b) ((j : ℕ) × TestedAt p order j (tell q told)) (VisitedUpTo p order (k + 1) (tell q told)) untested (record {
-    due_started = λ j lt due. ask-started q (slice_index order k) (slice_index order j) told ask ∙ half.due_started j lt (sym (ask-due p q (slice_index order k) (slice_index order j) told ask) ∙ due);
+    due_started =
+        λ j lt due. ask-started q (slice_index order k) (slice_index order j) told ask
+        ∙ half.due_started j lt (sym (ask-due p q (slice_index order k) (slice_index order j) told ask) ∙ due);
     right = λ silent j lt.
         elim (cases_eq (slice_index order j) (slice_index order k)) [
           | inl same ↦ subst (λ u. (i : ℕ) → i < length (endpoints p u) → endpoint_right p (tell q told) u i ≡ true) (sym same) (visited.right (before silent))
-          | inr ne ↦ (λ i within. ask-right p q (slice_index order k) (slice_index order j) i told ask (half.right (before silent) j (less j lt ne) ne i within))
+          | inr ne ↦ (λ i within. ask-right p q (slice_index order k) (slice_index order j) i told ask
+              (half.right (before silent) j (less j lt ne) ne i within))
         ];
     late = λ j lt.
         elim (cases_eq (slice_index order j) (slice_index order k)) [
@@ -526,9 +564,12 @@ ask-whole p order k st d d' b o dr cn q told untested ask visited half = record 
     less j lt ne = elim (below_suc j k lt) [ inl below ↦ below | inr e ↦ absurd (ne (ap (slice_index order) e)) ]
 
 -- one visit: both halves
-pub visit-passes : (p : Plan) (order : List ℕ) (dr : DrainData) (k : ℕ) → k < length order → IsInOrder p order → (st st' : StartsData) (d d' : EndpointsData) (b b' : BootData) (before mid after : List Action)
+pub visit-passes : (p : Plan) (order : List ℕ) (dr : DrainData) (k : ℕ) → k < length order → IsInOrder p order
+    → (st st' : StartsData) (d d' : EndpointsData) (b b' : BootData) (before mid after : List Action)
     → is_tested p b' ≡ false → Starting p order dr k st st' d b b' before mid
-    → Tells mid after (λ told. IsAskOf (slice_index order k) told × ((q : Record) → dr.moment ≡ now q → is_flagged st'.started (slice_index order k) ≡ is_started q (slice_index order k)
+    → Tells mid after
+    (λ told. IsAskOf (slice_index order k) told
+    × ((q : Record) → dr.moment ≡ now q → is_flagged st'.started (slice_index order k) ≡ is_started q (slice_index order k)
     → EndpointsStand p d q → Visited p d' (slice_index order k) q told))
     → Passes p order dr k (k + 1) st st' d d' b b' before after
 visit-passes p order dr k place in_order st st' d d' b b' before mid after untested first next = record {
@@ -564,11 +605,13 @@ visit-tests p order dr k st st' d b b' before after tested first = record {
     on false A e h = absurd (cc)
 
 -- no visit
-pub passes-none : (p : Plan) (order : List ℕ) (dr : DrainData) (k : ℕ) (st : StartsData) (d : EndpointsData) (b : BootData) (before : List Action) → before ≡ before ++ [] → Passes p order dr k k st st d d b b before before
+pub passes-none : (p : Plan) (order : List ℕ) (dr : DrainData) (k : ℕ) (st : StartsData) (d : EndpointsData) (b : BootData) (before : List Action)
+    → before ≡ before ++ [] → Passes p order dr k k st st d d b b before before
 passes-none p order dr k st d b before e = record { told = []; appended = e; kept = λ o cn q was. was }
 
 -- a pass that has ended stays where it is
-pub passes-ended : (p : Plan) (order : List ℕ) (dr : DrainData) (i k : ℕ) (st st' : StartsData) (d d' : EndpointsData) (b b' : BootData) (before after : List Action)
+pub passes-ended : (p : Plan) (order : List ℕ) (dr : DrainData) (i k : ℕ) (st st' : StartsData) (d d' : EndpointsData) (b b' : BootData)
+    (before after : List Action)
     → is_tested p b' ≡ true → Passes p order dr i k st st' d d' b b' before after → Passes p order dr i (k + 1) st st' d d' b b' before after
 passes-ended p order dr i k st st' d d' b b' before after tested done = record {
   told = done.told;
@@ -577,7 +620,8 @@ passes-ended p order dr i k st st' d d' b b' before after tested done = record {
     going = up.going;
     may = up.may;
     ripe = up.ripe;
-    visited = stay (is_tested p b') ((j : ℕ) × TestedAt p order j (tell q done.told)) (VisitedUpTo p order k (tell q done.told)) (VisitedUpTo p order (k + 1) (tell q done.told)) tested up.visited;
+    visited = stay (is_tested p b') ((j : ℕ) × TestedAt p order j (tell q done.told)) (VisitedUpTo p order k (tell q done.told))
+        (VisitedUpTo p order (k + 1) (tell q done.told)) tested up.visited;
     quiet = up.quiet;
     calm = up.calm;
   });
@@ -588,14 +632,18 @@ passes-ended p order dr i k st st' d d' b b' before after tested done = record {
     stay false A B C e h = absurd (cc)
 
 -- nothing more is visited once the run was tested
-pub passes-stay : (p : Plan) (order : List ℕ) (dr : DrainData) (k : ℕ) (st : StartsData) (d : EndpointsData) (b : BootData) (before : List Action) → is_tested p b ≡ true → Passes p order dr k (k + 1) st st d d b b before before
-passes-stay p order dr k st d b before tested = passes-ended p order dr k k st st d d b b before before tested (passes-none p order dr k st d b before (sym (append-nil before)))
+pub passes-stay : (p : Plan) (order : List ℕ) (dr : DrainData) (k : ℕ) (st : StartsData) (d : EndpointsData) (b : BootData) (before : List Action)
+    → is_tested p b ≡ true → Passes p order dr k (k + 1) st st d d b b before before
+passes-stay p order dr k st d b before tested =
+    passes-ended p order dr k k st st d d b b before before tested (passes-none p order dr k st d b before (sym (append-nil before)))
 
 -- visits, and then more of them
-pub passes-then : (p : Plan) (order : List ℕ) (dr : DrainData) (i j k : ℕ) (st0 st1 st2 : StartsData) (d0 d1 d2 : EndpointsData) (b0 b1 b2 : BootData) (a b c : List Action)
+pub passes-then : (p : Plan) (order : List ℕ) (dr : DrainData) (i j k : ℕ) (st0 st1 st2 : StartsData) (d0 d1 d2 : EndpointsData) (b0 b1 b2 : BootData)
+    (a b c : List Action)
     → Passes p order dr i j st0 st1 d0 d1 b0 b1 a b → Passes p order dr j k st1 st2 d1 d2 b1 b2 b c → Passes p order dr i k st0 st2 d0 d2 b0 b2 a c
 passes-then p order dr i j k st0 st1 st2 d0 d1 d2 b0 b1 b2 a b c first next = record {
   told = first.told ++ next.told;
   appended = next.appended ∙ ap (λ w. w ++ next.told) first.appended ∙ append_assoc a first.told next.told;
-  kept = λ o cn q was. subst (λ r. PassedUpTo p order k st2 d2 b2 o dr cn r) (sym (tell-append q first.told next.told)) (next.kept o cn (tell q first.told) (first.kept o cn q was));
+  kept = λ o cn q was. subst (λ r. PassedUpTo p order k st2 d2 b2 o dr cn r) (sym (tell-append q first.told next.told))
+      (next.kept o cn (tell q first.told) (first.kept o cn q was));
 }

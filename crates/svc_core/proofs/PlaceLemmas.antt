@@ -19,39 +19,45 @@ use Rattle.svc_core.proofs.ParkedLemmas.{first-one, parked-on}
 use Rattle.svc_core.proofs.WaitsLemmas.{and_clash, opens-idle, idle-start, idle-unheld, open-of, opens-joined, none-behind, others-start, keeps-same}
 
 -- a change at one place leaves the others idle, where what waits behind its service still has reason to
-idle_moved : (p : Plan) (order : List ℕ) (st : StartsData) (d : EndpointsData) (from next k : ℕ) (bits : ℕ → ℕ → Bool) (until : ℕ) (w v : WaitsData) → HasBits bits until w v → ((a b : ℕ) → (b == k) ≡ false → bits a b ≡ is_set w.bits a b)
+idle_moved : (p : Plan) (order : List ℕ) (st : StartsData) (d : EndpointsData) (from next k : ℕ) (bits : ℕ → ℕ → Bool) (until : ℕ) (w v : WaitsData)
+    → HasBits bits until w v → ((a b : ℕ) → (b == k) ≡ false → bits a b ≡ is_set w.bits a b)
     → until ≤ w.until → ((e : ℕ) → from ≤ e → e ≢ k → next ≤ e) → (k < length order → is_open v k ≡ false → IsIdle p order st d next v (slice_index order k) k)
-    → ((j : ℕ) (x : IsParked p order st.started d from w (slice_index order j) j) → is_open w j ≡ false → x.by ≡ k → StaysBusy d next v x.by (slice_index order x.by) x.shares.other)
+    → ((j : ℕ) (x : IsParked p order st.started d from w (slice_index order j) j) → is_open w j ≡ false → x.by ≡ k
+    → StaysBusy d next v x.by (slice_index order x.by) x.shares.other)
     → AreIdle p order st d from w → AreIdle p order st d next v
 idle_moved p order st d from next k bits until w v has others less far here behind idle = λ j lt off.
     elim (cases_eq j k) [
-      | inl same ↦ subst (λ i. IsIdle p order st d next v (slice_index order i) i) (sym same) (here (subst (λ i. i < length order) same lt) (subst (λ i. is_open v i ≡ false) same off))
-      | inr ne ↦ (let was : is_open w j ≡ false = sym (bit j ne (length w.marks)) ∙ ap (λ marks. is_set v.bits (length marks) j) (sym has.marks) ∙ off in elim (idle j lt was) [
-        | inl done ↦ inl done
-        | inr (inl waits) ↦ inr (inl (
-          waits.0,
-          record {
-            at = waits.1.at;
-            lacks = subst (λ marks. IsUnmarked p marks (slice_index order j) waits.1.at) (sym has.marks) waits.1.lacks;
-            waits = bit j ne (slice_index (depends p (slice_index order j)) waits.1.at) ∙ waits.1.waits;
-          },
-        ))
-        | inr (inr parked) ↦ inr (inr (
-          parked.0,
-          record {
-            by = parked.1.by;
-            earlier = parked.1.earlier;
-            started = parked.1.started;
-            shares = parked.1.shares;
-            busy = elim (cases_eq parked.1.by k) [
-              | inl there ↦ behind j parked.1 was there
-              | inr other ↦ moved parked.1.by (slice_index order parked.1.by) parked.1.shares.other other parked.1.busy
-            ];
-            behind = ap (λ marks. is_set v.bits (length marks + 1 + slice_index order parked.1.by) j) has.marks ∙ bit j ne (length w.marks + 1 + slice_index order parked.1.by) ∙ parked.1.behind;
-            parked = ap (λ marks. is_set v.bits (2 * length marks + 1) j) has.marks ∙ bit j ne (2 * length w.marks + 1) ∙ parked.1.parked;
-          },
-        ))
-      ])
+      | inl same ↦
+          subst (λ i. IsIdle p order st d next v (slice_index order i) i) (sym same)
+          (here (subst (λ i. i < length order) same lt) (subst (λ i. is_open v i ≡ false) same off))
+      | inr ne ↦ (let was : is_open w j ≡ false = sym (bit j ne (length w.marks)) ∙ ap (λ marks. is_set v.bits (length marks) j) (sym has.marks) ∙ off in
+          elim (idle j lt was) [
+            | inl done ↦ inl done
+            | inr (inl waits) ↦ inr (inl (
+              waits.0,
+              record {
+                at = waits.1.at;
+                lacks = subst (λ marks. IsUnmarked p marks (slice_index order j) waits.1.at) (sym has.marks) waits.1.lacks;
+                waits = bit j ne (slice_index (depends p (slice_index order j)) waits.1.at) ∙ waits.1.waits;
+              },
+            ))
+            | inr (inr parked) ↦ inr (inr (
+              parked.0,
+              record {
+                by = parked.1.by;
+                earlier = parked.1.earlier;
+                started = parked.1.started;
+                shares = parked.1.shares;
+                busy = elim (cases_eq parked.1.by k) [
+                  | inl there ↦ behind j parked.1 was there
+                  | inr other ↦ moved parked.1.by (slice_index order parked.1.by) parked.1.shares.other other parked.1.busy
+                ];
+                behind = ap (λ marks. is_set v.bits (length marks + 1 + slice_index order parked.1.by) j) has.marks
+                    ∙ bit j ne (length w.marks + 1 + slice_index order parked.1.by) ∙ parked.1.behind;
+                parked = ap (λ marks. is_set v.bits (2 * length marks + 1) j) has.marks ∙ bit j ne (2 * length w.marks + 1) ∙ parked.1.parked;
+              },
+            ))
+          ])
     ]
   where
     bit : (j : ℕ) → j ≢ k → (a : ℕ) → is_set v.bits a j ≡ is_set w.bits a j
@@ -59,9 +65,14 @@ idle_moved p order st d from next k bits until w v has others less far here behi
 
     moved : (e t i : ℕ) → e ≢ k → StaysBusy d from w e t i → StaysBusy d next v e t i
     moved e t i ne (inl asks) = inl asks
-    moved e t i ne (inr (inl opened)) = inr (inl (ap (λ marks. is_set v.bits (length marks) e) has.marks ∙ bit e ne (length w.marks) ∙ opened.0, far e opened.1 ne))
+    moved e t i ne (inr (inl opened)) =
+        inr (inl (ap (λ marks. is_set v.bits (length marks) e) has.marks ∙ bit e ne (length w.marks) ∙ opened.0, far e opened.1 ne))
     moved e t i ne (inr (inr rest)) =
-        inr (inr (ap (λ marks. is_set v.bits (2 * length marks + 2) e) has.marks ∙ bit e ne (2 * length w.marks + 2) ∙ rest.0, λ m le. rest.1 m (let same = has.until_is in omega arith)))
+        inr (inr (
+          ap (λ marks. is_set v.bits (2 * length marks + 2) e) has.marks ∙ bit e ne (2 * length w.marks + 2)
+              ∙ rest.0,
+          λ m le. rest.1 m (let same = has.until_is in omega arith),
+        ))
 
 cleared_other : (set row here : Bool) → here ≡ false → (set && not (row && here)) ≡ set
 cleared_other set row here off = grind arith
@@ -85,17 +96,20 @@ behind_other : (set x y row here : Bool) → here ≡ false → (((set || (x && 
 behind_other set x y row here off = grind arith
 
 -- what is set there, or was, is set then
-behind_on : (set x y row here : Bool) → here ≡ true → row ≡ false → ((set || x) || y) ≡ true → (((set || (x && here)) || (y && here)) && not (row && here)) ≡ true
+behind_on : (set x y row here : Bool) → here ≡ true → row ≡ false → ((set || x) || y) ≡ true
+    → (((set || (x && here)) || (y && here)) && not (row && here)) ≡ true
 behind_on set x y row here there off on = grind arith
 
 resting_other : (set x y z row here : Bool) → here ≡ false → ((((set || (x && here)) || (y && here)) || (z && here)) && not (row && here)) ≡ set
 resting_other set x y z row here off = grind arith
 
-resting_on : (set x y z row here : Bool) → here ≡ true → row ≡ false → (((set || x) || y) || z) ≡ true → ((((set || (x && here)) || (y && here)) || (z && here)) && not (row && here)) ≡ true
+resting_on : (set x y z row here : Bool) → here ≡ true → row ≡ false → (((set || x) || y) || z) ≡ true
+    → ((((set || (x && here)) || (y && here)) || (z && here)) && not (row && here)) ≡ true
 resting_on set x y z row here there off on = grind arith
 
 -- the same marks know the same
-known_bits : (p : Plan) (order : List ℕ) (st : StartsData) (d : EndpointsData) (complete : Bool) (moment from next : ℕ) (bits : ℕ → ℕ → Bool) (until : ℕ) (w v : WaitsData) → HasBits bits until w v → moment ≤ until → AreIdle p order st d next v
+known_bits : (p : Plan) (order : List ℕ) (st : StartsData) (d : EndpointsData) (complete : Bool) (moment from next : ℕ) (bits : ℕ → ℕ → Bool) (until : ℕ)
+    (w v : WaitsData) → HasBits bits until w v → moment ≤ until → AreIdle p order st d next v
     → IsKnown p order st d complete moment from w → IsKnown p order st d complete moment next v
 known_bits p order st d complete moment from next bits until w v has soon idle known = record {
   count = ap (λ marks. length marks) has.marks ∙ known.count;
@@ -107,10 +121,13 @@ known_bits p order st d complete moment from next bits until w v has soon idle k
 
 module _ (p : Plan) (order : List ℕ) (st : StartsData) (d : EndpointsData) (complete : Bool) (moment k : ℕ) (w : WaitsData) where
   -- nothing waits behind a service that isn't started
-  unstarted : (A : Type 0) → is_flagged st.started (slice_index order k) ≡ false → (j : ℕ) (x : IsParked p order st.started d k w (slice_index order j) j) → x.by ≡ k → A
-  unstarted A off j x same = and_clash (is_flagged st.started (slice_index order k)) (subst (λ e. is_flagged st.started (slice_index order e) ≡ true) same x.started) off A
+  unstarted : (A : Type 0) → is_flagged st.started (slice_index order k) ≡ false → (j : ℕ) (x : IsParked p order st.started d k w (slice_index order j) j)
+      → x.by ≡ k → A
+  unstarted A off j x same =
+      and_clash (is_flagged st.started (slice_index order k)) (subst (λ e. is_flagged st.started (slice_index order e) ≡ true) same x.started) off A
 
-  pub known-unstarted : is_flagged st.started (slice_index order k) ≡ false → is_open w k ≡ true → IsKnown p order st d complete moment k w → IsKnown p order st d complete moment (k + 1) w
+  pub known-unstarted : is_flagged st.started (slice_index order k) ≡ false → is_open w k ≡ true → IsKnown p order st d complete moment k w
+      → IsKnown p order st d complete moment (k + 1) w
   known-unstarted off opened known =
       known_bits p order st d complete moment k (k + 1) (λ a b. is_set w.bits a b) w.until w w same known.soon
       (idle_moved p order st d k (k + 1) k (λ a b. is_set w.bits a b) w.until w w same (λ a b e. refl) (omega arith) (λ e le ne. omega arith)
@@ -126,14 +143,18 @@ module _ (p : Plan) (order : List ℕ) (st : StartsData) (d : EndpointsData) (co
       let r : ℕ = slice_index (depends p s) at in record {
         at = at;
         lacks = subst (λ marks. IsUnmarked p marks s at) (sym parks.marks) lacks;
-        waits = parks.bits r k ∙ parked_here (is_set w.bits r k) (r == r) (r == length w.marks) (k == k) (eq-eqb r r refl) (eq-eqb k k refl) (ne_eqb r (length w.marks) (λ e. (let lt = lacks.inside in omega arith)));
+        waits = parks.bits r k
+            ∙ parked_here (is_set w.bits r k) (r == r) (r == length w.marks) (k == k) (eq-eqb r r refl) (eq-eqb k k refl)
+            (ne_eqb r (length w.marks) (λ e. (let lt = lacks.inside in omega arith)));
       }
 
-  pub known-parked : (at : ℕ) (v : WaitsData) → is_flagged st.started (slice_index order k) ≡ false → IsUnmarked p w.marks (slice_index order k) at → Parks k (slice_index (depends p (slice_index order k)) at) w v
+  pub known-parked : (at : ℕ) (v : WaitsData) → is_flagged st.started (slice_index order k) ≡ false → IsUnmarked p w.marks (slice_index order k) at
+      → Parks k (slice_index (depends p (slice_index order k)) at) w v
       → IsKnown p order st d complete moment k w → IsKnown p order st d complete moment (k + 1) v
   known-parked at v off lacks parks known =
       let r : ℕ = slice_index (depends p (slice_index order k)) at in
-      known_bits p order st d complete moment k (k + 1) (λ a b. (is_set w.bits a b || (a == r && b == k)) && not (a == length w.marks && b == k)) w.until w v parks known.soon
+      known_bits p order st d complete moment k (k + 1)
+      (λ a b. (is_set w.bits a b || (a == r && b == k)) && not (a == length w.marks && b == k)) w.until w v parks known.soon
       (idle_moved p order st d k (k + 1) k (λ a b. (is_set w.bits a b || (a == r && b == k)) && not (a == length w.marks && b == k)) w.until w v parks
       (λ a b ne. parked_other (is_set w.bits a b) (a == r) (a == length w.marks) (b == k) ne) (omega arith) (λ e le ne. omega arith)
       (λ lt closed. inr (inl (off, parked-waits (slice_index order k) at v lacks parks)))
@@ -146,16 +167,20 @@ module _ (p : Plan) (order : List ℕ) (st : StartsData) (d : EndpointsData) (co
       ∙ left_open (is_set w.bits (length w.marks) k) (length w.marks == 2 * length w.marks + 1) (length w.marks == 2 * length w.marks + 2) (k == k) opened
       (ne_eqb (length w.marks) (2 * length w.marks + 1) (λ e. omega arith)) (ne_eqb (length w.marks) (2 * length w.marks + 2) (λ e. omega arith))
 
-  pub known-left : (v : WaitsData) → LeavesPlace k w v → is_open w k ≡ true → IsKnown p order st d complete moment k w → IsKnown p order st d complete moment k v
+  pub known-left : (v : WaitsData) → LeavesPlace k w v → is_open w k ≡ true → IsKnown p order st d complete moment k w
+      → IsKnown p order st d complete moment k v
   known-left v left opened known =
-      known_bits p order st d complete moment k k (λ a b. (is_set w.bits a b && not (a == 2 * length w.marks + 1 && b == k)) && not (a == 2 * length w.marks + 2 && b == k)) w.until w v left known.soon
-      (idle_moved p order st d k k k (λ a b. (is_set w.bits a b && not (a == 2 * length w.marks + 1 && b == k)) && not (a == 2 * length w.marks + 2 && b == k)) w.until w v left
+      known_bits p order st d complete moment k k
+      (λ a b. (is_set w.bits a b && not (a == 2 * length w.marks + 1 && b == k)) && not (a == 2 * length w.marks + 2 && b == k)) w.until w v left known.soon
+      (idle_moved p order st d k k k
+      (λ a b. (is_set w.bits a b && not (a == 2 * length w.marks + 1 && b == k)) && not (a == 2 * length w.marks + 2 && b == k)) w.until w v left
       (λ a b ne. left_other (is_set w.bits a b) (a == 2 * length w.marks + 1) (a == 2 * length w.marks + 2) (b == k) ne) (omega arith) (λ e le ne. le)
       (λ lt closed. and_clash (is_open v k) (left-open v left opened) closed (IsIdle p order st d k v (slice_index order k) k))
       (λ j x closed there. inr (inl (subst (λ e. is_open v e ≡ true) (sym there) (left-open v left opened), omega arith))) known.idle) known
 
   -- an ask of the service is open
-  pub known-asking : (v : WaitsData) → is_flagged st.started (slice_index order k) ≡ true → AsksFirst p d (slice_index order k) → ClosesPlace k w v → IsKnown p order st d complete moment k w → IsKnown p order st d complete moment (k + 1) v
+  pub known-asking : (v : WaitsData) → is_flagged st.started (slice_index order k) ≡ true → AsksFirst p d (slice_index order k) → ClosesPlace k w v
+      → IsKnown p order st d complete moment k w → IsKnown p order st d complete moment (k + 1) v
   known-asking v on ask closes known =
       known_bits p order st d complete moment k (k + 1) (λ a b. is_set w.bits a b && not (a == length w.marks && b == k)) w.until w v closes known.soon
       (idle_moved p order st d k (k + 1) k (λ a b. is_set w.bits a b && not (a == length w.marks && b == k)) w.until w v closes
@@ -168,13 +193,18 @@ module _ (p : Plan) (order : List ℕ) (st : StartsData) (d : EndpointsData) (co
           (λ f. subst (λ n. is_asking (last_at d (slice_index order k) n) ≡ true) (first-one p d (slice_index order k) ask.at i ask.first f) ask.asks) first
 
   -- it rests
-  pub known-resting : (end : ℕ) (v : WaitsData) → is_flagged st.started (slice_index order k) ≡ true → RestsUntil p d (slice_index order k) moment end → ParksResting k (slice_index order k) end w v
+  pub known-resting : (end : ℕ) (v : WaitsData) → is_flagged st.started (slice_index order k) ≡ true → RestsUntil p d (slice_index order k) moment end
+      → ParksResting k (slice_index order k) end w v
       → IsKnown p order st d complete moment k w → IsKnown p order st d complete moment (k + 1) v
   known-resting end v on rests parks known =
-      let to : ℕ → ℕ → Bool = λ a b. (((is_set w.bits a b || (a == length w.marks + 1 + slice_index order k && b == k)) || (a == 2 * length w.marks + 1 && b == k)) || (a == 2 * length w.marks + 2 && b == k)) && not (a == length w.marks && b == k) in
+      let to : ℕ → ℕ
+      → Bool = λ a b.
+      (((is_set w.bits a b || (a == length w.marks + 1 + slice_index order k && b == k)) || (a == 2 * length w.marks + 1 && b == k))
+      || (a == 2 * length w.marks + 2 && b == k)) && not (a == length w.marks && b == k) in
       known_bits p order st d complete moment k (k + 1) to (min w.until end) w v parks (let a = known.soon in let b = rests.lasts in omega arith)
       (idle_moved p order st d k (k + 1) k to (min w.until end) w v parks
-      (λ a b ne. resting_other (is_set w.bits a b) (a == length w.marks + 1 + slice_index order k) (a == 2 * length w.marks + 1) (a == 2 * length w.marks + 2) (a == length w.marks) (b == k) ne) (omega arith) (λ e le ne. omega arith)
+      (λ a b ne. resting_other (is_set w.bits a b) (a == length w.marks + 1 + slice_index order k) (a == 2 * length w.marks + 1) (a == 2 * length w.marks + 2)
+      (a == length w.marks) (b == k) ne) (omega arith) (λ e le ne. omega arith)
       (λ lt closed. inr (inr (
         on,
         record {
@@ -183,36 +213,48 @@ module _ (p : Plan) (order : List ℕ) (st : StartsData) (d : EndpointsData) (co
           started = on;
           shares = rests.shares;
           busy = inr (inr (rests_now, busy));
-          behind = ap (λ marks. is_set v.bits (length marks + 1 + slice_index order k) k) parks.marks ∙ set (length w.marks + 1 + slice_index order k) (λ e. omega arith) (first_on (length w.marks + 1 + slice_index order k));
-          parked = ap (λ marks. is_set v.bits (2 * length marks + 1) k) parks.marks ∙ set (2 * length w.marks + 1) (λ e. omega arith) (second_on (2 * length w.marks + 1));
+          behind = ap (λ marks. is_set v.bits (length marks + 1 + slice_index order k) k) parks.marks
+              ∙ set (length w.marks + 1 + slice_index order k) (λ e. omega arith) (first_on (length w.marks + 1 + slice_index order k));
+          parked = ap (λ marks. is_set v.bits (2 * length marks + 1) k) parks.marks
+              ∙ set (2 * length w.marks + 1) (λ e. omega arith) (second_on (2 * length w.marks + 1));
         },
       )))
-      (λ j x closed there. inr (inr (subst (λ e. is_resting v e ≡ true) (sym there) rests_now, busy_there x.by x.shares.other there x.shares.other_first))) known.idle) known
+      (λ j x closed there. inr (inr (subst (λ e. is_resting v e ≡ true) (sym there) rests_now, busy_there x.by x.shares.other there x.shares.other_first)))
+      known.idle) known
     where
-      set : (a : ℕ) → a ≢ length w.marks → (((is_set w.bits a k || (a == length w.marks + 1 + slice_index order k)) || (a == 2 * length w.marks + 1)) || (a == 2 * length w.marks + 2)) ≡ true → is_set v.bits a k ≡ true
-      set a ne one = parks.bits a k ∙ resting_on (is_set w.bits a k) (a == length w.marks + 1 + slice_index order k) (a == 2 * length w.marks + 1) (a == 2 * length w.marks + 2) (a == length w.marks) (k == k) (eq-eqb k k refl) (ne_eqb a (length w.marks) ne) one
+      set : (a : ℕ) → a ≢ length w.marks
+          → (((is_set w.bits a k || (a == length w.marks + 1 + slice_index order k)) || (a == 2 * length w.marks + 1)) || (a == 2 * length w.marks + 2)) ≡ true
+          → is_set v.bits a k ≡ true
+      set a ne one =
+          parks.bits a k
+          ∙ resting_on (is_set w.bits a k) (a == length w.marks + 1 + slice_index order k) (a == 2 * length w.marks + 1) (a == 2 * length w.marks + 2)
+          (a == length w.marks) (k == k) (eq-eqb k k refl) (ne_eqb a (length w.marks) ne) one
 
       first_on : (a : ℕ) → (((is_set w.bits a k || (a == a)) || (a == 2 * length w.marks + 1)) || (a == 2 * length w.marks + 2)) ≡ true
       first_on a = or_left _ (a == 2 * length w.marks + 2) (or_left _ (a == 2 * length w.marks + 1) (or_right (is_set w.bits a k) (a == a) (eq-eqb a a refl)))
 
       second_on : (a : ℕ) → (((is_set w.bits a k || (a == length w.marks + 1 + slice_index order k)) || (a == a)) || (a == 2 * length w.marks + 2)) ≡ true
-      second_on a = or_left _ (a == 2 * length w.marks + 2) (or_right (is_set w.bits a k || (a == length w.marks + 1 + slice_index order k)) (a == a) (eq-eqb a a refl))
+      second_on a =
+          or_left _ (a == 2 * length w.marks + 2) (or_right (is_set w.bits a k || (a == length w.marks + 1 + slice_index order k)) (a == a) (eq-eqb a a refl))
 
       third_on : (a : ℕ) → (((is_set w.bits a k || (a == length w.marks + 1 + slice_index order k)) || (a == 2 * length w.marks + 1)) || (a == a)) ≡ true
       third_on a = or_right ((is_set w.bits a k || (a == length w.marks + 1 + slice_index order k)) || (a == 2 * length w.marks + 1)) (a == a) (eq-eqb a a refl)
 
       rests_now : is_resting v k ≡ true
-      rests_now = ap (λ marks. is_set v.bits (2 * length marks + 2) k) parks.marks ∙ set (2 * length w.marks + 2) (λ e. omega arith) (third_on (2 * length w.marks + 2))
+      rests_now = ap (λ marks. is_set v.bits (2 * length marks + 2) k) parks.marks
+          ∙ set (2 * length w.marks + 2) (λ e. omega arith) (third_on (2 * length w.marks + 2))
 
       busy : IsBusyUntil d (slice_index order k) rests.shares.other v.until
       busy m le = rests.busy m (let same = parks.until_is in omega arith)
 
       busy_there : (e i : ℕ) → e ≡ k → IsFirst p d (slice_index order e) i → IsBusyUntil d (slice_index order e) i v.until
       busy_there e i same first = subst (λ n. IsFirst p d (slice_index order n) i → IsBusyUntil d (slice_index order n) i v.until) (sym same)
-          (λ f. subst (λ n. IsBusyUntil d (slice_index order k) n v.until) (first-one p d (slice_index order k) rests.shares.other i rests.shares.other_first f) busy) first
+          (λ f. subst (λ n. IsBusyUntil d (slice_index order k) n v.until)
+          (first-one p d (slice_index order k) rests.shares.other i rests.shares.other_first f) busy) first
 
   -- what waited behind the service is open, so the pass may go on
-  pub known-freed : (v : WaitsData) → Frees (slice_index order k) w v → IsKnown p order st d complete moment k w → IsKnown p order st d complete moment (k + 1) v
+  pub known-freed : (v : WaitsData) → Frees (slice_index order k) w v → IsKnown p order st d complete moment k w
+      → IsKnown p order st d complete moment (k + 1) v
   known-freed v freed known = known_bits p order st d complete moment k (k + 1) _ w.until w v freed known.soon
       (λ j lt off. elim (opens-idle p order st d k w v (opens-joined (length w.marks + 1 + slice_index order k) w v freed) known.idle j lt off) [
         | inl done ↦ inl done
@@ -221,22 +263,33 @@ module _ (p : Plan) (order : List ℕ) (st : StartsData) (d : EndpointsData) (co
           x.0,
           parked-on p order st.started d k (k + 1) v (slice_index order j) j x.1
               (λ le on. elim (cases_eq x.1.by k) [
-                | inl there ↦ and_clash (is_open v j) (none-behind (slice_index order k) w v j freed (subst (λ e. is_behind v (slice_index order e) j ≡ true) there x.1.behind)) off (k + 1 ≤ x.1.by)
+                | inl there ↦
+                    and_clash (is_open v j)
+                    (none-behind (slice_index order k) w v j freed (subst (λ e. is_behind v (slice_index order e) j ≡ true) there x.1.behind)) off
+                    (k + 1 ≤ x.1.by)
                 | inr ne ↦ omega arith
               ]),
         ))
       ]) known
 
   pub freed-open : (v : WaitsData) → Frees (slice_index order k) w v → is_open w k ≡ true → is_open v k ≡ true
-  freed-open v freed opened = ap (λ marks. is_set v.bits (length marks) k) freed.marks ∙ freed.bits (length w.marks) k ∙ or_left (is_set w.bits (length w.marks) k) _ opened
+  freed-open v freed opened =
+      ap (λ marks. is_set v.bits (length marks) k) freed.marks ∙ freed.bits (length w.marks) k ∙ or_left (is_set w.bits (length w.marks) k) _ opened
 
   -- then the place may be closed
-  late : (v : WaitsData) (t i : ℕ) → (is_resting w k ≡ true → is_resting v k ≡ true) → v.until ≡ w.until → (e : ℕ) → e ≡ k → StaysBusy d (k + 1) w e t i → StaysBusy d (k + 1) v e t i
+  late : (v : WaitsData) (t i : ℕ) → (is_resting w k ≡ true → is_resting v k ≡ true) → v.until ≡ w.until → (e : ℕ) → e ≡ k → StaysBusy d (k + 1) w e t i
+      → StaysBusy d (k + 1) v e t i
   late v t i same until e there (inl asks) = inl asks
   late v t i same until e there (inr (inl next)) = absurd (let le = next.1 in omega arith)
-  late v t i same until e there (inr (inr rest)) = inr (inr (subst (λ n. is_resting v n ≡ true) (sym there) (same (subst (λ n. is_resting w n ≡ true) there rest.0)), subst (λ m. IsBusyUntil d t i m) (sym until) rest.1))
+  late v t i same until e there (inr (inr rest)) =
+      inr (inr (
+        subst (λ n. is_resting v n ≡ true) (sym there) (same (subst (λ n. is_resting w n ≡ true) there rest.0)),
+        subst (λ m. IsBusyUntil d t i m)
+            (sym until) rest.1,
+      ))
 
-  pub known-closed : (v : WaitsData) → is_flagged st.started (slice_index order k) ≡ true → HasAll p d (slice_index order k) → ClosesPlace k w v → IsKnown p order st d complete moment (k + 1) w → IsKnown p order st d complete moment (k + 1) v
+  pub known-closed : (v : WaitsData) → is_flagged st.started (slice_index order k) ≡ true → HasAll p d (slice_index order k) → ClosesPlace k w v
+      → IsKnown p order st d complete moment (k + 1) w → IsKnown p order st d complete moment (k + 1) v
   known-closed v on all closes known =
       known_bits p order st d complete moment (k + 1) (k + 1) (λ a b. is_set w.bits a b && not (a == length w.marks && b == k)) w.until w v closes known.soon
       (idle_moved p order st d (k + 1) (k + 1) k (λ a b. is_set w.bits a b && not (a == length w.marks && b == k)) w.until w v closes
@@ -246,16 +299,21 @@ module _ (p : Plan) (order : List ℕ) (st : StartsData) (d : EndpointsData) (co
     where
       same : is_resting w k ≡ true → is_resting v k ≡ true
       same rests = ap (λ marks. is_set v.bits (2 * length marks + 2) k) closes.marks ∙ closes.bits (2 * length w.marks + 2) k
-          ∙ kept_there (is_set w.bits (2 * length w.marks + 2) k) (2 * length w.marks + 2 == length w.marks) (k == k) rests (ne_eqb (2 * length w.marks + 2) (length w.marks) (λ e. omega arith))
+          ∙ kept_there (is_set w.bits (2 * length w.marks + 2) k) (2 * length w.marks + 2 == length w.marks) (k == k) rests
+          (ne_eqb (2 * length w.marks + 2) (length w.marks) (λ e. omega arith))
 
   -- or wait behind another one
-  pub known-behind : (e : ℕ) (v : WaitsData) → e ≤ k → is_flagged st.started (slice_index order k) ≡ true → is_flagged st.started (slice_index order e) ≡ true → WaitsBehind p d (slice_index order k) (slice_index order e)
+  pub known-behind : (e : ℕ) (v : WaitsData) → e ≤ k → is_flagged st.started (slice_index order k) ≡ true → is_flagged st.started (slice_index order e) ≡ true
+      → WaitsBehind p d (slice_index order k) (slice_index order e)
       → ParksBehind k (slice_index order e) w v → IsKnown p order st d complete moment (k + 1) w → IsKnown p order st d complete moment (k + 1) v
   known-behind e v le on started waits parks known =
-      let to : ℕ → ℕ → Bool = λ a b. ((is_set w.bits a b || (a == length w.marks + 1 + slice_index order e && b == k)) || (a == 2 * length w.marks + 1 && b == k)) && not (a == length w.marks && b == k) in
+      let to : ℕ → ℕ
+      → Bool = λ a b. ((is_set w.bits a b || (a == length w.marks + 1 + slice_index order e && b == k)) || (a == 2 * length w.marks + 1 && b == k))
+      && not (a == length w.marks && b == k) in
       known_bits p order st d complete moment (k + 1) (k + 1) to w.until w v parks known.soon
       (idle_moved p order st d (k + 1) (k + 1) k to w.until w v parks
-      (λ a b ne. behind_other (is_set w.bits a b) (a == length w.marks + 1 + slice_index order e) (a == 2 * length w.marks + 1) (a == length w.marks) (b == k) ne) (omega arith) (λ i low ne. low)
+      (λ a b ne. behind_other (is_set w.bits a b) (a == length w.marks + 1 + slice_index order e) (a == 2 * length w.marks + 1) (a == length w.marks)
+      (b == k) ne) (omega arith) (λ i low ne. low)
       (λ lt closed. inr (inr (
         on,
         record {
@@ -264,14 +322,20 @@ module _ (p : Plan) (order : List ℕ) (st : StartsData) (d : EndpointsData) (co
           started = started;
           shares = waits.shares;
           busy = inl waits.asks;
-          behind = ap (λ marks. is_set v.bits (length marks + 1 + slice_index order e) k) parks.marks ∙ set (length w.marks + 1 + slice_index order e) (λ i. omega arith) (first_on (length w.marks + 1 + slice_index order e));
-          parked = ap (λ marks. is_set v.bits (2 * length marks + 1) k) parks.marks ∙ set (2 * length w.marks + 1) (λ i. omega arith) (second_on (2 * length w.marks + 1));
+          behind = ap (λ marks. is_set v.bits (length marks + 1 + slice_index order e) k) parks.marks
+              ∙ set (length w.marks + 1 + slice_index order e) (λ i. omega arith) (first_on (length w.marks + 1 + slice_index order e));
+          parked = ap (λ marks. is_set v.bits (2 * length marks + 1) k) parks.marks
+              ∙ set (2 * length w.marks + 1) (λ i. omega arith) (second_on (2 * length w.marks + 1));
         },
       )))
       (λ j x closed there. late v (slice_index order x.by) x.shares.other same parks.until_is x.by there x.busy) known.idle) known
     where
-      set : (a : ℕ) → a ≢ length w.marks → ((is_set w.bits a k || (a == length w.marks + 1 + slice_index order e)) || (a == 2 * length w.marks + 1)) ≡ true → is_set v.bits a k ≡ true
-      set a ne one = parks.bits a k ∙ behind_on (is_set w.bits a k) (a == length w.marks + 1 + slice_index order e) (a == 2 * length w.marks + 1) (a == length w.marks) (k == k) (eq-eqb k k refl) (ne_eqb a (length w.marks) ne) one
+      set : (a : ℕ) → a ≢ length w.marks → ((is_set w.bits a k || (a == length w.marks + 1 + slice_index order e)) || (a == 2 * length w.marks + 1)) ≡ true
+          → is_set v.bits a k ≡ true
+      set a ne one =
+          parks.bits a k
+          ∙ behind_on (is_set w.bits a k) (a == length w.marks + 1 + slice_index order e) (a == 2 * length w.marks + 1) (a == length w.marks) (k == k)
+          (eq-eqb k k refl) (ne_eqb a (length w.marks) ne) one
 
       first_on : (a : ℕ) → ((is_set w.bits a k || (a == a)) || (a == 2 * length w.marks + 1)) ≡ true
       first_on a = or_left (is_set w.bits a k || (a == a)) (a == 2 * length w.marks + 1) (or_right (is_set w.bits a k) (a == a) (eq-eqb a a refl))
@@ -281,18 +345,24 @@ module _ (p : Plan) (order : List ℕ) (st : StartsData) (d : EndpointsData) (co
 
       same : is_resting w k ≡ true → is_resting v k ≡ true
       same rests = ap (λ marks. is_set v.bits (2 * length marks + 2) k) parks.marks ∙ set (2 * length w.marks + 2) (λ i. omega arith)
-          (or_left (is_set w.bits (2 * length w.marks + 2) k || (2 * length w.marks + 2 == length w.marks + 1 + slice_index order e)) (2 * length w.marks + 2 == 2 * length w.marks + 1)
+          (or_left (is_set w.bits (2 * length w.marks + 2) k || (2 * length w.marks + 2 == length w.marks + 1 + slice_index order e))
+          (2 * length w.marks + 2 == 2 * length w.marks + 1)
           (or_left (is_set w.bits (2 * length w.marks + 2) k) (2 * length w.marks + 2 == length w.marks + 1 + slice_index order e) rests))
 
 -- after a visit: the service may have been started, what is held stays held and nothing else is, and what is ready was marked
-pub attended : (p : Plan) (order : List ℕ) (st st' : StartsData) (d d' : EndpointsData) (complete complete' : Bool) (moment : ℕ) (w v : WaitsData) (k : ℕ) → IsStartsSized p st → slice_index order k < service_count p → AreApart order → k < length order
-    → IsKnown p order st d complete moment k w → StartsOnly p d.failed complete (slice_index order k) st st' → StaysHeld d d' → StaysUnheld d d' → OthersStay (slice_index order k) d d' → d'.failed ≡ d.failed → d'.table ≡ d.table → is_open w k ≡ true
+pub attended : (p : Plan) (order : List ℕ) (st st' : StartsData) (d d' : EndpointsData) (complete complete' : Bool) (moment : ℕ) (w v : WaitsData) (k : ℕ)
+    → IsStartsSized p st → slice_index order k < service_count p → AreApart order → k < length order
+    → IsKnown p order st d complete moment k w → StartsOnly p d.failed complete (slice_index order k) st st' → StaysHeld d d' → StaysUnheld d d'
+    → OthersStay (slice_index order k) d d' → d'.failed ≡ d.failed → d'.table ≡ d.table → is_open w k ≡ true
     → Opens w v → v.complete ≡ complete' → KnowsReady p st' d'.failed complete' v → IsKnown p order st' d' complete' moment k v
 attended p order st st' d d' complete complete' moment w v k sized inside apart lt known only held unheld others failed table opened grown complete_is knows =
-    let started : AreIdle p order st' d k w = idle-start p order st st' d d.failed complete k w (slice_index order k) (let n = sized.started in omega arith) known.count known.ready only known.idle in
+    let started : AreIdle p order st' d k w =
+    idle-start p order st st' d d.failed complete k w (slice_index order k)
+    (let n = sized.started in omega arith) known.count known.ready only known.idle in
     record {
       count = grown.count ∙ known.count;
-      idle = opens-idle p order st' d' k w v grown (idle-unheld p order st' d d' k (slice_index order k) w (keeps-same (slice_index order k) d d' held others failed) unheld
+      idle = opens-idle p order st' d' k w v grown
+          (idle-unheld p order st' d d' k (slice_index order k) w (keeps-same (slice_index order k) d d' held others failed) unheld
           (λ a none. ap (λ t. has_open t a) table ∙ none) (λ t ne. ap (λ flags. is_flagged flags t) failed)
           (λ j within same. (open-of order k w apart lt opened j within same, at_place j within same)) started);
       complete_is = complete_is;
@@ -304,11 +374,13 @@ attended p order st st' d d' complete complete' moment w v k sized inside apart 
     at_place j within same = elim (cases_lt j k) [ inl lower ↦ absurd (apart j k lower lt same) | inr ge ↦ ge ]
 
 -- what is known of the others then
-pub attended-others : (p : Plan) (order : List ℕ) (st st' : StartsData) (d : EndpointsData) (failed' : List Bool) (complete : Bool) (moment from : ℕ) (w : WaitsData) (s : ℕ) → IsStartsSized p st → s < service_count p → failed' ≡ d.failed
+pub attended-others : (p : Plan) (order : List ℕ) (st st' : StartsData) (d : EndpointsData) (failed' : List Bool) (complete : Bool) (moment from : ℕ)
+    (w : WaitsData) (s : ℕ) → IsStartsSized p st → s < service_count p → failed' ≡ d.failed
     → IsKnown p order st d complete moment from w → StartsOnly p d.failed complete s st st' → KnowsOthers p st' failed' w.complete s w
 attended-others p order st st' d failed' complete moment from w s sized inside same known only =
     subst (λ f. KnowsOthers p st' f w.complete s w) (sym same)
-    (subst (λ c. KnowsOthers p st' d.failed c s w) (sym known.complete_is) (others-start p st st' d.failed complete w s (let n = sized.started in omega arith) known.ready only))
+    (subst (λ c. KnowsOthers p st' d.failed c s w) (sym known.complete_is)
+    (others-start p st st' d.failed complete w s (let n = sized.started in omega arith) known.ready only))
 
 -- what holds while nothing has to be looked at anew
 pub on-fresh : {A : Type 0} (b : Bool) → b ≡ true → OnTrue b A → A
@@ -319,7 +391,8 @@ on-fresh false e h = absurd (cc)
 yes_due : (here due n : Bool) → n ≡ (not here && due) → n ≡ true → due ≡ true
 yes_due here due n e h = grind arith
 
-pub starts-only : (p : Plan) (st st' : StartsData) (failed : List Bool) (complete : Bool) (s : ℕ) (starts : Bool) → starts ≡ starts_now p st failed complete s → st' ≡ start_if starts s st → StartsOnly p failed complete s st st'
+pub starts-only : (p : Plan) (st st' : StartsData) (failed : List Bool) (complete : Bool) (s : ℕ) (starts : Bool) → starts ≡ starts_now p st failed complete s
+    → st' ≡ start_if starts s st → StartsOnly p failed complete s st st'
 starts-only p st st' failed complete s starts is after =
     record { starts = starts; due = λ on. yes_due (is_flagged st.started s) (due_now p st failed complete s) starts is on; after = after }
 

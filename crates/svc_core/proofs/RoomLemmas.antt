@@ -32,7 +32,8 @@ put-length : (x : Connection) (live : List Connection) → length (put_connectio
 put-length x [] = omega arith
 put-length x (y ∷ more) = by (nat_lt x.number y.number) (y.number == x.number) (put-length x more)
   where
-    by : (a b : Bool) → length (put_connection x more) ≤ length more + 1 → length (if a then x ∷ y ∷ more else (if b then y ∷ more else y ∷ put_connection x more)) ≤ length (y ∷ more) + 1
+    by : (a b : Bool) → length (put_connection x more) ≤ length more + 1
+        → length (if a then x ∷ y ∷ more else (if b then y ∷ more else y ∷ put_connection x more)) ≤ length (y ∷ more) + 1
     by true b h = omega arith
     by false true h = omega arith
     by false false h = omega (arith, h)
@@ -60,7 +61,8 @@ pub finished-length : (c : ℕ) (d new : ConnectionsData) → new ≡ finished c
 finished-length c d new after = rw after (let less = without-length c d.live in omega (arith, less))
 
 -- a step that deals with a connection leaves room for a close of all
-pub dealt-room : (core : CoreData) (cn : ConnectionsData) → length cn.live ≤ length core.connections.live + 1 → close_room (with_connections cn core) + 2 ≤ tell_room core
+pub dealt-room : (core : CoreData) (cn : ConnectionsData) → length cn.live ≤ length core.connections.live + 1
+    → close_room (with_connections cn core) + 2 ≤ tell_room core
 dealt-room core cn few =
     let table = few_open (is_served core.end) core.endpoints.table in
     let live = few_live (is_served core.end) cn.live in

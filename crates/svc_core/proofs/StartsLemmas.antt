@@ -28,7 +28,8 @@ list_all-weaker P Q f (x ∷ xs) h =
     and_from (Q x) (list_all Q xs) (f x parts.0) (list_all-weaker P Q f xs parts.1)
 
 -- two tests that agree on the list's numbers
-list_all-same : (P Q : ℕ → Bool) (xs : List ℕ) → ((k d : ℕ) → k < length xs → P (slice_index_or xs k d) ≡ Q (slice_index_or xs k d)) → list_all P xs ≡ list_all Q xs
+list_all-same : (P Q : ℕ → Bool) (xs : List ℕ) → ((k d : ℕ) → k < length xs → P (slice_index_or xs k d) ≡ Q (slice_index_or xs k d))
+    → list_all P xs ≡ list_all Q xs
 list_all-same P Q [] f = refl
 list_all-same P Q (x ∷ xs) f = rw (f 0 0 (omega arith), list_all-same P Q xs (λ k d lt. f (suc k) d (omega arith))) refl
 
@@ -39,7 +40,8 @@ or_grows a b x y i d m k c z f g h e = grind (arith, e)
 
 ready-grows : (p : Plan) (q : Record) (e : Entry) (s : ℕ) → is_ready p q s ≡ true → is_ready p (e ∷ q) s ≡ true
 ready-grows p q e s h =
-    or_grows (is_ready_event s e) (has (is_ready_event s) q) (is_ended_event s e) (has (is_ended_event s) q) (has_kind p Plain s) (is_started q s) (is_start s e)
+    or_grows (is_ready_event s e) (has (is_ready_event s) q) (is_ended_event s e) (has (is_ended_event s) q) (has_kind p Plain s) (is_started q s)
+    (is_start s e)
     (has_kind p Bootstrap s) (has is_bootstrap_complete q) (is_bootstrap_complete e)
     (has_failed p q s) (has_failed p (e ∷ q) s) h (failed-grows p q e s)
 
@@ -71,7 +73,9 @@ not_started b d h = grind arith
 -- each service is started at most once
 count_step : (p : Plan) (q : Record) (s : ℕ) (a : Action) → times (is_start s) q ≡ (if is_started q s then 1 else 0)
     → start_due p (Told a) q ≡ true → times (is_start s) (Told a ∷ q) ≡ (if is_started (Told a ∷ q) s then 1 else 0)
-count_step p q s (Start t) n due = one_more (t == s) (is_started q s) (times (is_start s) q) n (λ e. subst (λ k. is_started q k ≡ false) (eqb-true t s e) (not_started (is_started q t) (is_due p q t) due))
+count_step p q s (Start t) n due =
+    one_more (t == s) (is_started q s) (times (is_start s) q) n
+    (λ e. subst (λ k. is_started q k ≡ false) (eqb-true t s e) (not_started (is_started q t) (is_due p q t) due))
 count_step p q s _ n due = n
 
 pub count-start : (p : Plan) (q : Record) (s : ℕ) → EachEntry (λ e before. start_due p e before ≡ true) q
@@ -113,17 +117,20 @@ stands-end p st q s sized inside h = record {
 }
 
 -- the part's own tests are the record's
-pub ready-is : (p : Plan) (st : StartsData) (failed : List Bool) (complete : Bool) (q : Record) (s : ℕ) → s < service_count p → StartsStand p st q → AreFailed p failed q → complete ≡ has is_bootstrap_complete q
+pub ready-is : (p : Plan) (st : StartsData) (failed : List Bool) (complete : Bool) (q : Record) (s : ℕ) → s < service_count p → StartsStand p st q
+    → AreFailed p failed q → complete ≡ has is_bootstrap_complete q
     → ready_now p st failed complete s ≡ is_ready p q s
 ready-is p st failed complete q s inside h f c = rw (h.ready_is s inside, h.ended_is s inside, h.started_is s inside, f s inside, c) refl
 
-pub due-is : (p : Plan) (st : StartsData) (failed : List Bool) (complete : Bool) (q : Record) (s : ℕ) → IsValid p → s < service_count p → StartsStand p st q → AreFailed p failed q → complete ≡ has is_bootstrap_complete q
+pub due-is : (p : Plan) (st : StartsData) (failed : List Bool) (complete : Bool) (q : Record) (s : ℕ) → IsValid p → s < service_count p → StartsStand p st q
+    → AreFailed p failed q → complete ≡ has is_bootstrap_complete q
     → due_now p st failed complete s ≡ is_due p q s
 due-is p st failed complete q s valid inside h f c =
     list_all-same (ready_now p st failed complete) (is_ready p q) (depends p s)
     (λ k d lt. ready-is p st failed complete q (slice_index_or (depends p s) k d) (valid.inside s inside k d lt) h f c)
 
-pub starts-is : (p : Plan) (st : StartsData) (failed : List Bool) (complete : Bool) (q : Record) (s : ℕ) → IsValid p → s < service_count p → StartsStand p st q → AreFailed p failed q → complete ≡ has is_bootstrap_complete q
+pub starts-is : (p : Plan) (st : StartsData) (failed : List Bool) (complete : Bool) (q : Record) (s : ℕ) → IsValid p → s < service_count p → StartsStand p st q
+    → AreFailed p failed q → complete ≡ has is_bootstrap_complete q
     → starts_now p st failed complete s ≡ (not (is_started q s) && is_due p q s)
 starts-is p st failed complete q s valid inside h f c = rw (h.started_is s inside, due-is p st failed complete q s valid inside h f c) refl
 

@@ -41,11 +41,13 @@ use Rattle.svc_core.proofs.SignalLemmas.{later-keeps}
 use Rattle.svc_core.proofs.RoomLemmas.{dealt-room, few-open}
 
 -- a step is of the core's value, and its parts are of the fields
-pub opened : {old now new : CoreData} {e : Event} {before after : Actions} {end : StepEnd} → old ≡ now → MayStep now e before → (MayStep old e before → Steps old new e before after end) → Steps now new e before after end
+pub opened : {old now new : CoreData} {e : Event} {before after : Actions} {end : StepEnd} → old ≡ now → MayStep now e before
+    → (MayStep old e before → Steps old new e before after end) → Steps now new e before after end
 opened {new = new} {e = e} {before = before} {after = after} {end = end} is may step =
     subst (λ (core : CoreData). Steps core new e before after end) is (step (subst (λ (core : CoreData). MayStep core e before) (sym is) may))
 
-pub opened-same : {old now : CoreData} {e : Event} {before after : Actions} {end : StepEnd} → old ≡ now → MayStep now e before → (MayStep old e before → Steps old old e before after end) → Steps now now e before after end
+pub opened-same : {old now : CoreData} {e : Event} {before after : Actions} {end : StepEnd} → old ≡ now → MayStep now e before
+    → (MayStep old e before → Steps old old e before after end) → Steps now now e before after end
 opened-same {e = e} {before = before} {after = after} {end = end} is may step =
     subst (λ (core : CoreData). Steps core core e before after end) is (step (subst (λ (core : CoreData). MayStep core e before) (sym is) may))
 
@@ -57,7 +59,8 @@ begin-few b = by b.begun
     by false = omega arith
 
 -- what the event tells and what follows are within the room of a step
-within : (core mid new : CoreData) (before between after : Actions) → mid.order ≡ core.order → Spends (most_open core + 33) (most_open mid) before between → Spends (finish_room mid) (open_count new) between after
+within : (core mid new : CoreData) (before between after : Actions) → mid.order ≡ core.order → Spends (most_open core + 33) (most_open mid) before between
+    → Spends (finish_room mid) (open_count new) between after
     → Spends (tell_room core) (close_room new) before after
 within core mid new before between after order first next =
     let begins = begin-few mid.boot in
@@ -65,52 +68,66 @@ within core mid new before between after order first next =
     record { few = omega (arith, begins, same); room = omega (arith, begins, same) }
 
 -- an event, and what follows
-after-event : {core mid new : CoreData} {e : Event} {copy : Option Message} {before between after : Actions} {end : StepEnd} → Goes (Struck mid copy) (finish_room mid) mid new copy between after end
-    → mid.plan ≡ core.plan → mid.order ≡ core.order → Spends (most_open core + 33) (most_open mid) before between → TellsCopied (copy_at core e) (list_of before) (list_of after)
+after-event : {core mid new : CoreData} {e : Event} {copy : Option Message} {before between after : Actions} {end : StepEnd}
+    → Goes (Struck mid copy) (finish_room mid) mid new copy between after end
+    → mid.plan ≡ core.plan → mid.order ≡ core.order → Spends (most_open core + 33) (most_open mid) before between
+    → TellsCopied (copy_at core e) (list_of before) (list_of after)
     → Tells (list_of before) (list_of between) (λ gave. (q : Record) → Right core.plan q → StandsFor core q → Struck mid copy (tell (Got e ∷ q) gave))
     → Steps core new e before after end
-after-event {core = core} {mid = mid} {new = new} {e = e} {copy = copy} {before = before} {between = between} {after = after} {end = end} next plan order spends copied struck = record {
-  plan = next.plan ∙ plan;
-  kept = step-by core mid new e copy (list_of before) (list_of between) (list_of after) end struck next.kept;
-  copied = copied;
-  spends = within core mid new before between after order spends next.spends;
-}
+after-event {core = core} {mid = mid} {new = new} {e = e} {copy = copy} {before = before} {between = between} {after = after} {end = end} next plan order spends
+    copied struck = record {
+      plan = next.plan ∙ plan;
+      kept = step-by core mid new e copy (list_of before) (list_of between) (list_of after) end struck next.kept;
+      copied = copied;
+      spends = within core mid new before between after order spends next.spends;
+    }
 
 -- an event by which services are given up
-pub gives-up : {core mid new : CoreData} {e : Event} {before between after : Actions} {end : StepEnd} → Goes (Struck mid None) (finish_room mid) mid new None between after end
+pub gives-up : {core mid new : CoreData} {e : Event} {before between after : Actions} {end : StepEnd}
+    → Goes (Struck mid None) (finish_room mid) mid new None between after end
     → mid.plan ≡ core.plan → mid.order ≡ core.order → Spends (most_open core + 33) (most_open mid) before between
-    → Tells (list_of before) (list_of between) (λ gave. IsGivingUp gave × ((q : Record) → Right core.plan q → StandsFor core q → Struck mid None (tell (Got e ∷ q) gave)))
+    → Tells (list_of before) (list_of between)
+    (λ gave. IsGivingUp gave × ((q : Record) → Right core.plan q → StandsFor core q → Struck mid None (tell (Got e ∷ q) gave)))
     → Steps core new e before after end
 gives-up {core = core} {e = e} {before = before} {between = between} {after = after} next plan order spends struck =
     after-event next plan order spends
     (copied-bare (copy_at core e) (list_of before) (list_of after)
-    (bare-answer (list_of before) (list_of between) (list_of after) struck.told struck.appended struck.kept.0 (bare-all (list_of between) (list_of after) next.copied)))
+    (bare-answer (list_of before) (list_of between) (list_of after) struck.told struck.appended struck.kept.0
+    (bare-all (list_of between) (list_of after) next.copied)))
     (record { told = struck.told; appended = struck.appended; kept = struck.kept.1 })
 
 -- an event that tells nothing
-silent-event : {core mid new : CoreData} {e : Event} {copy : Option Message} {before after : Actions} {end : StepEnd} → Goes (Struck mid copy) (finish_room mid) mid new copy before after end
+silent-event : {core mid new : CoreData} {e : Event} {copy : Option Message} {before after : Actions} {end : StepEnd}
+    → Goes (Struck mid copy) (finish_room mid) mid new copy before after end
     → mid.plan ≡ core.plan → mid.order ≡ core.order → most_open mid ≤ most_open core + 33 → TellsCopied (copy_at core e) (list_of before) (list_of after)
     → ((q : Record) → Right core.plan q → StandsFor core q → Struck mid copy (Got e ∷ q)) → Steps core new e before after end
 silent-event {before = before} next plan order fits_in copied struck =
-    after-event next plan order (record { few = omega (arith, fits_in); room = omega (arith, fits_in) }) copied (record { told = []; appended = sym (append-nil (list_of before)); kept = struck })
+    after-event next plan order (record { few = omega (arith, fits_in); room = omega (arith, fits_in) }) copied
+    (record { told = []; appended = sym (append-nil (list_of before)); kept = struck })
 
-pub silently-taken : {core mid new : CoreData} {e : Event} {before after : Actions} {end : StepEnd} → Goes (Struck mid None) (finish_room mid) mid new None before after end
+pub silently-taken : {core mid new : CoreData} {e : Event} {before after : Actions} {end : StepEnd}
+    → Goes (Struck mid None) (finish_room mid) mid new None before after end
     → mid.plan ≡ core.plan → mid.order ≡ core.order → most_open mid ≤ most_open core + 33
     → ((q : Record) → Right core.plan q → StandsFor core q → Struck mid None (Got e ∷ q)) → Steps core new e before after end
 silently-taken {core = core} {e = e} {before = before} {after = after} next plan order fits_in struck =
-    silent-event next plan order fits_in (copied-bare (copy_at core e) (list_of before) (list_of after) (bare-all (list_of before) (list_of after) next.copied)) struck
+    silent-event next plan order fits_in
+    (copied-bare (copy_at core e) (list_of before) (list_of after) (bare-all (list_of before) (list_of after) next.copied)) struck
 
 -- one by which the copy may be sent
-pub copy-taken : {core mid new : CoreData} {e : Event} {copy : Option Message} {before after : Actions} {end : StepEnd} → Goes (Struck mid copy) (finish_room mid) mid new copy before after end
+pub copy-taken : {core mid new : CoreData} {e : Event} {copy : Option Message} {before after : Actions} {end : StepEnd}
+    → Goes (Struck mid copy) (finish_room mid) mid new copy before after end
     → mid.plan ≡ core.plan → mid.order ≡ core.order → most_open mid ≤ most_open core + 33 → copy_of copy ≡ copy_at core e
     → ((q : Record) → Right core.plan q → StandsFor core q → Struck mid copy (Got e ∷ q)) → Steps core new e before after end
 copy-taken {before = before} {after = after} next plan order fits_in copies struck =
     silent-event next plan order fits_in (subst (λ copy. TellsCopied copy (list_of before) (list_of after)) copies next.copied) struck
 
 -- an event of a connection
-pub dealt : {core : CoreData} {e : Event} {before after : Actions} (cn : ConnectionsData) (told : List Action) → is_on core.end ≡ true → is_connection_event e ≡ true → list_all is_dealing told ≡ true
-    → are_copied (copy_at core e) told ≡ true → list_of after ≡ list_of before ++ told → length cn.live ≤ length core.connections.live + 1 → Spends 2 0 before after
-    → ((q : Record) → StandsFor core q → fits core.plan q e ≡ true) → ((q : Record) → ConnectionsStand core.plan core.connections q → ConnectionsStand core.plan cn (tell (Got e ∷ q) told))
+pub dealt : {core : CoreData} {e : Event} {before after : Actions} (cn : ConnectionsData) (told : List Action) → is_on core.end ≡ true
+    → is_connection_event e ≡ true → list_all is_dealing told ≡ true
+    → are_copied (copy_at core e) told ≡ true → list_of after ≡ list_of before ++ told → length cn.live ≤ length core.connections.live + 1
+    → Spends 2 0 before after
+    → ((q : Record) → StandsFor core q → fits core.plan q e ≡ true)
+    → ((q : Record) → ConnectionsStand core.plan core.connections q → ConnectionsStand core.plan cn (tell (Got e ∷ q) told))
     → Steps core (with_connections cn core) e before after core.end
 dealt {core = core} {e = e} {before = before} {after = after} cn told on event deals copied appended few spends fit takes =
     let room = dealt-room core cn few in
@@ -123,7 +140,8 @@ dealt {core = core} {e = e} {before = before} {after = after} cn told on event d
 
 -- an event while the fork is awaited, or to a parent
 pub held : {core mid new : CoreData} {e : Event} {before : Actions} {end : StepEnd} → new ≡ with_end (end_of mid.plan mid.boot) mid → end ≡ new.end
-    → mid.plan ≡ core.plan → mid.order ≡ core.order → most_open mid ≡ most_open core → IsInOrder mid.plan mid.order → ((q : Record) → Right core.plan q → StandsFor core q → Held mid (Got e ∷ q))
+    → mid.plan ≡ core.plan → mid.order ≡ core.order → most_open mid ≡ most_open core → IsInOrder mid.plan mid.order
+    → ((q : Record) → Right core.plan q → StandsFor core q → Held mid (Got e ∷ q))
     → Steps core new e before before end
 held {core = core} {mid = mid} {new = new} {e = e} {before = before} {end = end} after ends plan order as_many in_order stays =
     let few = few-open (with_end (end_of mid.plan mid.boot) mid) in
@@ -136,8 +154,10 @@ held {core = core} {mid = mid} {new = new} {e = e} {before = before} {end = end}
     })
 
 -- the process is the child, and begins its run
-pub child-begins : {core mid new : CoreData} {before after : Actions} {end : StepEnd} → Goes (MayBootstrap mid) (bootstrap_room mid) mid new None before after end
-    → mid.plan ≡ core.plan → mid.order ≡ core.order → most_open mid ≡ most_open core → ((q : Record) → Right core.plan q → StandsFor core q → MayBootstrap mid (Got (Side Child) ∷ q))
+pub child-begins : {core mid new : CoreData} {before after : Actions} {end : StepEnd}
+    → Goes (MayBootstrap mid) (bootstrap_room mid) mid new None before after end
+    → mid.plan ≡ core.plan → mid.order ≡ core.order → most_open mid ≡ most_open core
+    → ((q : Record) → Right core.plan q → StandsFor core q → MayBootstrap mid (Got (Side Child) ∷ q))
     → Steps core new (Side Child) before after end
 child-begins {core = core} {mid = mid} {new = new} {before = before} {after = after} {end = end} next plan order as_many may =
     let same = ap length order in
@@ -149,14 +169,18 @@ child-begins {core = core} {mid = mid} {new = new} {before = before} {after = af
     }
 
 -- a daemon has asked for its fork
-pub forks : {core new : CoreData} {before after : Actions} {end : StepEnd} (b : BootData) → new ≡ with_end (end_of core.plan b) (with_boot b core) → end ≡ new.end
-    → BeginKeeps (with_end (end_of core.plan b) (with_boot b core)) (list_of before) (list_of after) (end_of core.plan b) → TellsBare (list_of before) (list_of after) → Spends 1 0 before after → Begins core new before after end
+pub forks : {core new : CoreData} {before after : Actions} {end : StepEnd} (b : BootData) → new ≡ with_end (end_of core.plan b) (with_boot b core)
+    → end ≡ new.end
+    → BeginKeeps (with_end (end_of core.plan b) (with_boot b core)) (list_of before) (list_of after) (end_of core.plan b)
+    → TellsBare (list_of before) (list_of after) → Spends 1 0 before after → Begins core new before after end
 forks {core = core} {new = new} {end = end} b after ends begins bare spends =
     let few = few-open (with_end (end_of core.plan b) (with_boot b core)) in
-    rw (ends, after) (record { plan = refl; kept = begins; bare = bare; spends = record { few = omega (arith, few, spends.few); room = omega (arith, few, spends.room) } })
+    rw (ends, after)
+    (record { plan = refl; kept = begins; bare = bare; spends = record { few = omega (arith, few, spends.few); room = omega (arith, few, spends.room) } })
 
 -- a signal after the first that is no cut
-pub later-taken : {core : CoreData} {actions : Actions} (kind : ShutdownSignal) → is_on core.end ≡ true → core.drain.running ≡ true → is_some core.drain.signal ≡ true → cuts core.drain.signal kind ≡ false → Steps core core (Signal kind) actions actions core.end
+pub later-taken : {core : CoreData} {actions : Actions} (kind : ShutdownSignal) → is_on core.end ≡ true → core.drain.running ≡ true
+    → is_some core.drain.signal ≡ true → cuts core.drain.signal kind ≡ false → Steps core core (Signal kind) actions actions core.end
 later-taken {core = core} {actions = actions} kind on runs came calm =
     let few = few-open core in
     record {
@@ -167,11 +191,13 @@ later-taken {core = core} {actions = actions} kind on runs came calm =
     }
 
 -- only a connection that arrived is judged
-pub judged-so : (core : CoreData) (e : Event) (said : Bool) (before after : Actions) → TellsCopied (copy_at core e) (list_of before) (list_of after) → Judges core e said before after → TellsJudged (judged_at core.plan e said) (list_of before) (list_of after)
+pub judged-so : (core : CoreData) (e : Event) (said : Bool) (before after : Actions) → TellsCopied (copy_at core e) (list_of before) (list_of after)
+    → Judges core e said before after → TellsJudged (judged_at core.plan e said) (list_of before) (list_of after)
 judged-so core (Arrived s i c peer) said before after copied judges = judges
 judged-so core e said before after copied judges = unjudged-copied (message_at core e) (list_of before) (list_of after) copied
 
-pub judged-of : (core new : CoreData) (e : Event) (said : Bool) (before after : Actions) (result : Result StepEnd NoMemory) → StepsOr core new e before after result → OnOk result (Judges core e said before after)
+pub judged-of : (core new : CoreData) (e : Event) (said : Bool) (before after : Actions) (result : Result StepEnd NoMemory)
+    → StepsOr core new e before after result → OnOk result (Judges core e said before after)
     → OnOk result (TellsJudged (judged_at core.plan e said) (list_of before) (list_of after))
 judged-of core new e said before after (Ok end) steps judges = judged-so core e said before after steps.copied judges
 judged-of core new e said before after (Err none) steps judges = tt
@@ -183,7 +209,8 @@ is_plain (Signal kind) = false
 is_plain _ = true
 
 -- of such an event its step is all
-pub taken : {old new : CoreData} {said : Bool} {before after : Actions} {result : Result StepEnd NoMemory} (e : Event) → is_plain e ≡ true → StepsOr old new e before after result → Takes old new e said before after result
+pub taken : {old new : CoreData} {said : Bool} {before after : Actions} {result : Result StepEnd NoMemory} (e : Event) → is_plain e ≡ true
+    → StepsOr old new e before after result → Takes old new e said before after result
 taken {old = old} {new = new} {said = said} {before = before} {after = after} {result = result} e plain steps =
     record { steps = steps; later = later e plain; judged = judged result e plain }
   where
@@ -197,24 +224,28 @@ taken {old = old} {new = new} {said = said} {before = before} {after = after} {r
     judged (Err none) x h = tt
 
 -- what a step says of the list that it was handed, which was given room first
-pub kept-of : (core new : CoreData) (e : Event) (before given after : Actions) (result : Result StepEnd NoMemory) → list_of given ≡ list_of before → StepsOr core new e given after result
+pub kept-of : (core new : CoreData) (e : Event) (before given after : Actions) (result : Result StepEnd NoMemory) → list_of given ≡ list_of before
+    → StepsOr core new e given after result
     → IfOk result (λ end. StepKeeps core new e (list_of before) (list_of after) end)
 kept-of core new e before given after (Ok end) same steps = subst (λ (list : List Action). StepKeeps core new e list (list_of after) end) same steps.kept
 kept-of core new e before given after (Err none) same steps = tt
 
-pub few-of : (core new : CoreData) (e : Event) (before given after : Actions) (result : Result StepEnd NoMemory) → list_of given ≡ list_of before → StepsOr core new e given after result
+pub few-of : (core new : CoreData) (e : Event) (before given after : Actions) (result : Result StepEnd NoMemory) → list_of given ≡ list_of before
+    → StepsOr core new e given after result
     → OnOk result (TellsWithin core new before after)
 few-of core new e before given after (Ok end) same steps = let few = steps.spends.few in let as_long = ap length same in omega (arith, few, as_long)
 few-of core new e before given after (Err none) same steps = tt
 
-pub room-of : (core new : CoreData) (e : Event) (before given after : Actions) (result : Result StepEnd NoMemory) → tell_room core ≤ spare given → StepsOr core new e given after result → KeepsRoom core new before after
+pub room-of : (core new : CoreData) (e : Event) (before given after : Actions) (result : Result StepEnd NoMemory) → tell_room core ≤ spare given
+    → StepsOr core new e given after result → KeepsRoom core new before after
 room-of core new e before given after (Ok end) enough steps = λ _. (let room = steps.spends.room in omega (arith, room, enough))
 room-of core new e before given after (Err none) enough steps = λ _. (
     let few = few-open core in
     let left : close_room core ≤ spare given = omega (arith, few, enough) in
     rw (steps.same, steps.untold) left)
 
-pub later-of : (core new : CoreData) (e : Event) (before given after : Actions) (result : Result StepEnd NoMemory) → list_of given ≡ list_of before → Ignores core new e given after
+pub later-of : (core new : CoreData) (e : Event) (before given after : Actions) (result : Result StepEnd NoMemory) → list_of given ≡ list_of before
+    → Ignores core new e given after
     → IgnoresLater core new e (list_of before) (list_of after) result
 later-of core new e before given after result same ignores kind is came calm =
     let undone = (subst (λ (x : Event). Ignores core new x given after) is ignores) came calm in

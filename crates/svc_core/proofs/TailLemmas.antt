@@ -24,7 +24,8 @@ open-live core q stands true e = rw e (sym (ap ascending (stands.closed e)))
 open-live core q stands false e = rw e (stands.endpoints e).open_are
 
 -- the numbers that came
-left-kept : (core : CoreData) (q : Record) → StandsFor core q → (fds : List ℕ) → filter (λ n. not (list_any (λ m. m == n) core.endpoints.came)) fds ≡ filter (λ n. not (has (brings n) q)) fds
+left-kept : (core : CoreData) (q : Record) → StandsFor core q → (fds : List ℕ)
+    → filter (λ n. not (list_any (λ m. m == n) core.endpoints.came)) fds ≡ filter (λ n. not (has (brings n) q)) fds
 left-kept core q stands [] = refl
 left-kept core q stands (fd ∷ fds) = rw (fresh core q fd stands, left-kept core q stands fds) refl
 
@@ -32,38 +33,47 @@ left-new : (core : CoreData) (q : Record) (e : Event) → StandsFor core q → l
 left-new core q e stands = ap each_once (left-kept core q stands (numbers_of (Got e)))
 
 -- the connections that are live
-cut-live : (core : CoreData) (q : Record) → StandsFor core q → (b : Bool) → is_served core.end ≡ b → numbers (open_connections core) ≡ ascending (live_connections q)
+cut-live : (core : CoreData) (q : Record) → StandsFor core q → (b : Bool) → is_served core.end ≡ b
+    → numbers (open_connections core) ≡ ascending (live_connections q)
 cut-live core q stands true e = rw e (sym (ap ascending (stands.uncut e)))
 cut-live core q stands false e = rw e (stands.connections e).live_is
 
 -- where no event was left unfinished
-pub closes-open : (core : CoreData) (q : Record) (before after : List Action) → after ≡ before ++ (cuts (open_connections core) ++ map (λ (fd : ℕ). Close fd) (open_numbers core))
+pub closes-open : (core : CoreData) (q : Record) (before after : List Action)
+    → after ≡ before ++ (cuts (open_connections core) ++ map (λ (fd : ℕ). Close fd) (open_numbers core))
     → StandsFor core q → ClosesAll core.plan q None before after
 closes-open core q before after told stands = record {
   told = record {
     told = cuts (open_connections core) ++ map (λ (fd : ℕ). Close fd) (open_numbers core);
     appended = told;
     kept = ap (λ cs. map (λ (c : ℕ). Cut c) cs ++ map (λ (fd : ℕ). Close fd) (open_numbers core)) (cut-live core q stands (is_served core.end) refl)
-        ∙ ap (λ fds. map (λ (c : ℕ). Cut c) (ascending (live_connections q)) ++ map (λ (fd : ℕ). Close fd) fds) (open-live core q stands (is_served core.end) refl)
-        ∙ ap (λ told. map (λ (c : ℕ). Cut c) (ascending (live_connections q)) ++ told) (sym (append-nil (map (λ (fd : ℕ). Close fd) (ascending (live_numbers core.plan q)))));
+        ∙ ap (λ fds. map (λ (c : ℕ). Cut c) (ascending (live_connections q)) ++ map (λ (fd : ℕ). Close fd) fds)
+        (open-live core q stands (is_served core.end) refl)
+        ∙ ap (λ told. map (λ (c : ℕ). Cut c) (ascending (live_connections q)) ++ told)
+        (sym (append-nil (map (λ (fd : ℕ). Close fd) (ascending (live_numbers core.plan q)))));
   };
   closed = λ right. right_closes core.plan q None right;
 }
 
 -- where one was
 pub closes-brought : (core : CoreData) (q : Record) (e : Event) (before mid after : List Action)
-    → mid ≡ before ++ (cuts (open_connections core) ++ map (λ (fd : ℕ). Close fd) (open_numbers core)) → after ≡ mid ++ map (λ (fd : ℕ). Close fd) (left_numbers core e)
+    → mid ≡ before ++ (cuts (open_connections core) ++ map (λ (fd : ℕ). Close fd) (open_numbers core))
+    → after ≡ mid ++ map (λ (fd : ℕ). Close fd) (left_numbers core e)
     → StandsFor core q → ClosesAll core.plan q (Some e) before after
 closes-brought core q e before mid after first next stands = record {
   told = record {
     told = (cuts (open_connections core) ++ map (λ (fd : ℕ). Close fd) (open_numbers core)) ++ map (λ (fd : ℕ). Close fd) (left_numbers core e);
     appended = next
         ∙ ap (λ w. w ++ map (λ (fd : ℕ). Close fd) (left_numbers core e)) first
-        ∙ append_assoc before (cuts (open_connections core) ++ map (λ (fd : ℕ). Close fd) (open_numbers core)) (map (λ (fd : ℕ). Close fd) (left_numbers core e));
+        ∙ append_assoc before (cuts (open_connections core) ++ map (λ (fd : ℕ). Close fd) (open_numbers core))
+        (map (λ (fd : ℕ). Close fd) (left_numbers core e));
     kept = append_assoc (cuts (open_connections core)) (map (λ (fd : ℕ). Close fd) (open_numbers core)) (map (λ (fd : ℕ). Close fd) (left_numbers core e))
-        ∙ ap (λ cs. map (λ (c : ℕ). Cut c) cs ++ (map (λ (fd : ℕ). Close fd) (open_numbers core) ++ map (λ (fd : ℕ). Close fd) (left_numbers core e))) (cut-live core q stands (is_served core.end) refl)
-        ∙ ap (λ fds. map (λ (c : ℕ). Cut c) (ascending (live_connections q)) ++ (map (λ (fd : ℕ). Close fd) fds ++ map (λ (fd : ℕ). Close fd) (left_numbers core e))) (open-live core q stands (is_served core.end) refl)
-        ∙ ap (λ fds. map (λ (c : ℕ). Cut c) (ascending (live_connections q)) ++ (map (λ (fd : ℕ). Close fd) (ascending (live_numbers core.plan q)) ++ map (λ (fd : ℕ). Close fd) fds)) (left-new core q e stands);
+        ∙ ap (λ cs. map (λ (c : ℕ). Cut c) cs ++ (map (λ (fd : ℕ). Close fd) (open_numbers core) ++ map (λ (fd : ℕ). Close fd) (left_numbers core e)))
+        (cut-live core q stands (is_served core.end) refl)
+        ∙ ap (λ fds. map (λ (c : ℕ). Cut c) (ascending (live_connections q))
+        ++ (map (λ (fd : ℕ). Close fd) fds ++ map (λ (fd : ℕ). Close fd) (left_numbers core e))) (open-live core q stands (is_served core.end) refl)
+        ∙ ap (λ fds. map (λ (c : ℕ). Cut c) (ascending (live_connections q))
+        ++ (map (λ (fd : ℕ). Close fd) (ascending (live_numbers core.plan q)) ++ map (λ (fd : ℕ). Close fd) fds)) (left-new core q e stands);
   };
   closed = λ right. right_closes core.plan q (Some e) right;
 }

@@ -54,7 +54,8 @@ before-here p q x xs s off e = record { place = 0; within = omega arith; here = 
     only zero le = off
     only (suc i) le = absurd (omega arith)
 
-before-cons : (p : Plan) (q : Record) (x : ℕ) (xs : List ℕ) (s : ℕ) (c : Bool) → is_boot_service p q x ≡ c → (list_any (λ n. n == s) (before_boot p q xs) ≡ true → IsBefore p q xs s)
+before-cons : (p : Plan) (q : Record) (x : ℕ) (xs : List ℕ) (s : ℕ) (c : Bool) → is_boot_service p q x ≡ c
+    → (list_any (λ n. n == s) (before_boot p q xs) ≡ true → IsBefore p q xs s)
     → list_any (λ n. n == s) (if c then [] else x ∷ before_boot p q xs) ≡ true → IsBefore p q (x ∷ xs) s
 before-cons p q x xs s true e rest k = absurd (cc)
 before-cons p q x xs s false e rest k = elim (or_cases (x == s) (list_any (λ n. n == s) (before_boot p q xs)) k) [
@@ -66,18 +67,22 @@ is-before : (p : Plan) (q : Record) (xs : List ℕ) (s : ℕ) → list_any (λ n
 is-before p q [] s h = absurd (cc)
 is-before p q (x ∷ xs) s h = before-cons p q x xs s (is_boot_service p q x) refl (is-before p q xs s) h
 
-module _ (p : Plan) (order : List ℕ) (least : IsStartupOrder p order) (in_order : IsInOrder p order) (st : StartsData) (d : EndpointsData) (b : BootData) (o : OfferData) (dr : DrainData) (cn : ConnectionsData) (q : Record)
+module _ (p : Plan) (order : List ℕ) (least : IsStartupOrder p order) (in_order : IsInOrder p order) (st : StartsData) (d : EndpointsData) (b : BootData)
+    (o : OfferData) (dr : DrainData) (cn : ConnectionsData) (q : Record)
     (going : Going p st d b o dr cn q) (k : ℕ) (at : TestedAt p order k q) where
   -- a service that was visited stands before that place
   visited-place : (s : ℕ) → is_visited p q s ≡ true → (j : ℕ) × (j < k) × (slice_index order j ≡ s)
   visited-place s h =
-      let before = is-before p q (take (service_count p) order) s (subst (λ xs. list_any (λ n. n == s) (before_boot p q xs) ≡ true) (startup-is p order least) h) in
-      let here : slice_index order before.place ≡ s = sym (get_or-take (service_count p) order before.place 0 (take-within (service_count p) order before.place before.within)) ∙ before.here in
+      let before =
+      is-before p q (take (service_count p) order) s (subst (λ xs. list_any (λ n. n == s) (before_boot p q xs) ≡ true) (startup-is p order least) h) in
+      let here : slice_index order before.place ≡ s =
+      sym (get_or-take (service_count p) order before.place 0 (take-within (service_count p) order before.place before.within)) ∙ before.here in
       elim (cases_lt before.place k) [
         | inl below ↦ (before.place, below, here)
         | inr past ↦ absurd (
             let inside : k < length (take (service_count p) order) = (let w = before.within in omega arith) in
-            let fails = sym (ap (is_boot_service p q) (get_or-take (service_count p) order k 0 (take-within (service_count p) order k inside))) ∙ before.none k past in
+            let fails = sym (ap (is_boot_service p q) (get_or-take (service_count p) order k 0 (take-within (service_count p) order k inside)))
+            ∙ before.none k past in
             let holds = at.boots in
             cc)
       ]
@@ -85,7 +90,8 @@ module _ (p : Plan) (order : List ℕ) (least : IsStartupOrder p order) (in_orde
   counted : (s : ℕ) → is_visited p q s ≡ true → times (is_start s) q ≡ (if is_due p q s then 1 else 0)
   counted s h =
       let found = visited-place s h in
-      let inside : s < service_count p = subst (λ n. n < service_count p) found.2 (in_order.inside found.0 (let lt = at.place in let less = found.1 in omega arith)) in
+      let inside : s < service_count p =
+      subst (λ n. n < service_count p) found.2 (in_order.inside found.0 (let lt = at.place in let less = found.1 in omega arith)) in
       count-start p q s going.entries.starts
       ∙ ap (λ c. if c then 1 else 0) (same (is_started q s) (is_due p q s) (going.started_due s inside)
       (λ due. subst (λ n. is_started q n ≡ true) found.2 (at.visited.due_started found.0 found.1 (subst (λ n. is_due p q n ≡ true) (sym found.2) due))))
@@ -111,7 +117,8 @@ module _ (p : Plan) (order : List ℕ) (least : IsStartupOrder p order) (in_orde
   pub tested-so : is_free p b.fork ≡ true → is_tested p b ≡ true → is_refused b.receiving ≡ false → EndedSo p q
   tested-so free tested goes = record {
     ended = record {
-      early = not_true (has_ended_early p q) _ (early-is p b q going.boot ∙ or_from (is_parent_over b.fork) (is_refused b.receiving) (free-on p b q going.boot free) goes);
+      early = not_true (has_ended_early p q) _
+          (early-is p b q going.boot ∙ or_from (is_parent_over b.fork) (is_refused b.receiving) (free-on p b q going.boot free) goes);
       tested = on_true (ends_tested p q) _ (at.last, going.ends.closes);
     };
     tested = on_true (ends_tested p q) (TestedRight p q) (record {

@@ -32,7 +32,14 @@ all_at P xs at lt all = elim (cases_Bool (P (slice_index xs at))) [
 ]
 
 pub opens-none : (w : WaitsData) → Opens w w
-opens-none w = record { count = refl; kept = λ d on. on; waits = λ a b e. e; opened = λ d k off on waits. and_clash (is_flagged w.marks d) on off (is_open w k ≡ true); until = refl }
+opens-none w =
+    record {
+      count = refl;
+      kept = λ d on. on;
+      waits = λ a b e. e;
+      opened = λ d k off on waits. and_clash (is_flagged w.marks d) on off (is_open w k ≡ true);
+      until = refl;
+    }
 
 pub opens-then : (u v w : WaitsData) → Opens u v → Opens v w → Opens u w
 opens-then u v w first next = record {
@@ -75,7 +82,9 @@ opens-marked s w v lt m = record {
         | inr ne ↦ and_clash (s == d) same (ne_eqb s d ne) (is_set w.bits s k ≡ true)
       ] in
       subst (λ n. is_set v.bits n k ≡ true) (sym (marked-count s w v m))
-      (m.bits (length w.marks) k ∙ joined_on (is_set w.bits (length w.marks) k) (length w.marks == length w.marks) (is_set w.bits s k) (eq-eqb (length w.marks) (length w.marks) refl) here));
+      (m.bits (length w.marks) k
+      ∙ joined_on (is_set w.bits (length w.marks) k) (length w.marks == length w.marks) (is_set w.bits s k)
+      (eq-eqb (length w.marks) (length w.marks) refl) here));
   until = m.until;
 }
 
@@ -86,7 +95,8 @@ still_off u v k grown off = elim (cases_Bool (is_open u k)) [
   | inr was ↦ was
 ]
 
-pub opens-idle : (p : Plan) (order : List ℕ) (st : StartsData) (d : EndpointsData) (from : ℕ) (u v : WaitsData) → Opens u v → AreIdle p order st d from u → AreIdle p order st d from v
+pub opens-idle : (p : Plan) (order : List ℕ) (st : StartsData) (d : EndpointsData) (from : ℕ) (u v : WaitsData) → Opens u v → AreIdle p order st d from u
+    → AreIdle p order st d from v
 opens-idle p order st d from u v grown idle = λ k lt off.
     elim (idle k lt (still_off u v k grown off)) [
       | inl done ↦ inl done
@@ -112,17 +122,20 @@ opens-idle p order st d from u v grown idle = λ k lt off.
     }
 
 -- a dependency that isn't marked isn't ready
-pub not-due : (p : Plan) (st : StartsData) (failed : List Bool) (complete : Bool) (w : WaitsData) (s at : ℕ) → length w.marks ≡ service_count p → KnowsReady p st failed complete w → IsUnmarked p w.marks s at
+pub not-due : (p : Plan) (st : StartsData) (failed : List Bool) (complete : Bool) (w : WaitsData) (s at : ℕ) → length w.marks ≡ service_count p
+    → KnowsReady p st failed complete w → IsUnmarked p w.marks s at
     → due_now p st failed complete s ≡ false
 not-due p st failed complete w s at count knows lacks = elim (cases_Bool (due_now p st failed complete s)) [
   | inl due ↦ and_clash (is_flagged w.marks (slice_index (depends p s) at))
-      (knows (slice_index (depends p s) at) (let lt = lacks.inside in omega arith) (all_at (ready_now p st failed complete) (depends p s) at lacks.within due)) lacks.unmarked
+      (knows (slice_index (depends p s) at) (let lt = lacks.inside in omega arith) (all_at (ready_now p st failed complete) (depends p s) at lacks.within due))
+      lacks.unmarked
       (due_now p st failed complete s ≡ false)
   | inr off ↦ off
 ]
 
 -- a start of a service that was due leaves the others waiting
-idle_start : (p : Plan) (order : List ℕ) (st : StartsData) (d : EndpointsData) (failed : List Bool) (complete : Bool) (from : ℕ) (w : WaitsData) (s : ℕ) (starts : Bool) → s < length st.started → length w.marks ≡ service_count p → KnowsReady p st failed complete w
+idle_start : (p : Plan) (order : List ℕ) (st : StartsData) (d : EndpointsData) (failed : List Bool) (complete : Bool) (from : ℕ) (w : WaitsData) (s : ℕ)
+    (starts : Bool) → s < length st.started → length w.marks ≡ service_count p → KnowsReady p st failed complete w
     → (starts ≡ true → due_now p st failed complete s ≡ true) → AreIdle p order st d from w → AreIdle p order (start_if starts s st) d from w
 idle_start p order st d failed complete from w s false lt count knows due idle = idle
 idle_start p order st d failed complete from w s true lt count knows due idle = λ k inside off.
@@ -130,17 +143,29 @@ idle_start p order st d failed complete from w s true lt count knows due idle = 
       | inl done ↦ inl (more (slice_index order k) done.0, done.1)
       | inr (inl waits) ↦ elim (cases_eq s (slice_index order k)) [
         | inl same ↦ and_clash (due_now p st failed complete s) (due refl)
-            (subst (λ t. due_now p st failed complete t ≡ false) (sym same) (not-due p st failed complete w (slice_index order k) waits.1.at count knows waits.1.lacks))
+            (subst (λ t. due_now p st failed complete t ≡ false) (sym same)
+            (not-due p st failed complete w (slice_index order k) waits.1.at count knows waits.1.lacks))
             (IsIdle p order (start_if true s st) d from w (slice_index order k) k)
-        | inr ne ↦ inr (inl (flag-set st.started s (slice_index order k) lt ∙ ap (λ b. b || is_flagged st.started (slice_index order k)) (ne_eqb s (slice_index order k) ne) ∙ waits.0, waits.1))
+        | inr ne ↦ inr
+            (inl (
+              flag-set st.started s (slice_index order k) lt
+                  ∙ ap (λ b. b || is_flagged st.started (slice_index order k)) (ne_eqb s (slice_index order k) ne) ∙ waits.0,
+              waits.1,
+            ))
       ]
-      | inr (inr parked) ↦ inr (inr (more (slice_index order k) parked.0, parked-started p order st.started (start_if true s st).started d from w (slice_index order k) k more parked.1))
+      | inr (inr parked) ↦
+          inr (inr (
+            more (slice_index order k) parked.0,
+            parked-started p order st.started (start_if true s st).started d from w
+                (slice_index order k) k more parked.1,
+          ))
     ]
   where
     more : (t : ℕ) → is_flagged st.started t ≡ true → is_flagged (start_if true s st).started t ≡ true
     more t on = flag-set st.started s t lt ∙ or_right (s == t) (is_flagged st.started t) on
 
-pub idle-start : (p : Plan) (order : List ℕ) (st st' : StartsData) (d : EndpointsData) (failed : List Bool) (complete : Bool) (from : ℕ) (w : WaitsData) (s : ℕ) → s < length st.started → length w.marks ≡ service_count p → KnowsReady p st failed complete w
+pub idle-start : (p : Plan) (order : List ℕ) (st st' : StartsData) (d : EndpointsData) (failed : List Bool) (complete : Bool) (from : ℕ) (w : WaitsData) (s : ℕ)
+    → s < length st.started → length w.marks ≡ service_count p → KnowsReady p st failed complete w
     → StartsOnly p failed complete s st st' → AreIdle p order st d from w → AreIdle p order st' d from w
 idle-start p order st st' d failed complete from w s lt count knows only idle =
     subst (λ x. AreIdle p order x d from w) (sym only.after) (idle_start p order st d failed complete from w s only.starts lt count knows only.due idle)
@@ -157,7 +182,8 @@ nothing_kept p d d' s t keeps ne (inl (inr all)) = inl (inr (λ i within. keeps.
 nothing_kept p d d' s t keeps ne (inr ask) = inr (record { at = ask.at; within = ask.within; asks = ap is_asking (keeps.others t ask.at ne) ∙ ask.asks })
 
 pub idle-kept : (p : Plan) (order : List ℕ) (st : StartsData) (d d' : EndpointsData) (from s : ℕ) (w : WaitsData) → KeepsHeld s d d' → IsOpenOf order s w
-    → ((k : ℕ) → k < length order → is_open w k ≡ false → slice_index order k ≢ s → IsParked p order st.started d from w (slice_index order k) k → IsParked p order st.started d' from w (slice_index order k) k)
+    → ((k : ℕ) → k < length order → is_open w k ≡ false → slice_index order k ≢ s → IsParked p order st.started d from w (slice_index order k) k
+    → IsParked p order st.started d' from w (slice_index order k) k)
     → AreIdle p order st d from w → AreIdle p order st d' from w
 idle-kept p order st d d' from s w keeps opened moves idle = λ k lt off.
     elim (cases_eq (slice_index order k) s) [
@@ -170,7 +196,8 @@ idle-kept p order st d d' from s w keeps opened moves idle = λ k lt off.
     ]
 
 -- where nothing is held by it, and the service's place is still to be visited
-pub idle-unheld : (p : Plan) (order : List ℕ) (st : StartsData) (d d' : EndpointsData) (from s : ℕ) (w : WaitsData) → KeepsHeld s d d' → StaysUnheld d d' → GainsNone d d' → ((t : ℕ) → t ≢ s → failed_at d' t ≡ failed_at d t)
+pub idle-unheld : (p : Plan) (order : List ℕ) (st : StartsData) (d d' : EndpointsData) (from s : ℕ) (w : WaitsData) → KeepsHeld s d d' → StaysUnheld d d'
+    → GainsNone d d' → ((t : ℕ) → t ≢ s → failed_at d' t ≡ failed_at d t)
     → ((k : ℕ) → k < length order → slice_index order k ≡ s → (is_open w k ≡ true) × (from ≤ k)) → AreIdle p order st d from w → AreIdle p order st d' from w
 idle-unheld p order st d d' from s w keeps unheld gains failed opened =
     idle-kept p order st d d' from s w keeps (λ k lt same. (opened k lt same).0)
@@ -180,7 +207,8 @@ idle-unheld p order st d d' from s w keeps unheld gains failed opened =
 nothing_rows : (p : Plan) (d d' : EndpointsData) (t : ℕ) → d'.rows ≡ d.rows → d'.failed ≡ d.failed → AsksNothing p d t → AsksNothing p d' t
 nothing_rows p d d' t rows failed (inl (inl bad)) = inl (inl (ap (λ flags. is_flagged flags t) failed ∙ bad))
 nothing_rows p d d' t rows failed (inl (inr all)) = inl (inr (λ i within. ap (λ r. is_holding (last_at (record d { rows = r }) t i)) rows ∙ all i within))
-nothing_rows p d d' t rows failed (inr ask) = inr (record { at = ask.at; within = ask.within; asks = ap (λ r. is_asking (last_at (record d { rows = r }) t ask.at)) rows ∙ ask.asks })
+nothing_rows p d d' t rows failed (inr ask) =
+    inr (record { at = ask.at; within = ask.within; asks = ap (λ r. is_asking (last_at (record d { rows = r }) t ask.at)) rows ∙ ask.asks })
 
 idle_rows : (p : Plan) (order : List ℕ) (st : StartsData) (d d' : EndpointsData) (w : WaitsData) → d'.rows ≡ d.rows → d'.failed ≡ d.failed
     → ((k : ℕ) → is_open w k ≡ false → IsParked p order st.started d 0 w (slice_index order k) k → IsParked p order st.started d' 0 w (slice_index order k) k)
@@ -197,8 +225,11 @@ listed_at : (order : List ℕ) (k j : ℕ) → j < k → k ≤ length order → 
 listed_at order zero j lt le = absurd (omega arith)
 listed_at order (suc k) j lt le = subst (λ n. is_listed (take n order) (slice_index order j) ≡ true) (one_more k)
     (list_any_more (λ x. x == slice_index order j) order k 0 (omega arith) ∙ elim (cases_eq j k) [
-      | inl same ↦ or_right (is_listed (take k order) (slice_index order j)) (slice_index order k == slice_index order j) (eq-eqb (slice_index order k) (slice_index order j) (ap (slice_index order) (sym same)))
-      | inr ne ↦ or_left (is_listed (take k order) (slice_index order j)) (slice_index order k == slice_index order j) (listed_at order k j (omega arith) (omega arith))
+      | inl same ↦
+          or_right (is_listed (take k order) (slice_index order j)) (slice_index order k == slice_index order j)
+          (eq-eqb (slice_index order k) (slice_index order j) (ap (slice_index order) (sym same)))
+      | inr ne ↦ or_left (is_listed (take k order) (slice_index order j)) (slice_index order k == slice_index order j)
+          (listed_at order k j (omega arith) (omega arith))
     ])
   where
     one_more : (n : ℕ) → n + 1 ≡ suc n
@@ -206,7 +237,8 @@ listed_at order (suc k) j lt le = subst (λ n. is_listed (take n order) (slice_i
 
 pub order-apart : (p : Plan) (order : List ℕ) → IsStartupOrder p order → AreApart order
 order-apart p order least j k lt inside same =
-    and_clash (is_listed (take k order) (slice_index order k)) (subst (λ s. is_listed (take k order) s ≡ true) same (listed_at order k j lt (omega arith))) (least.next k inside).fresh ⊥
+    and_clash (is_listed (take k order) (slice_index order k)) (subst (λ s. is_listed (take k order) s ≡ true) same (listed_at order k j lt (omega arith)))
+    (least.next k inside).fresh ⊥
 
 -- so the order of a core is one over which a place can be opened again
 pub short-order : {p : Plan} {order : List ℕ} {st : StartsData} {d : EndpointsData} → IsFormed p order st d → IsShortOrder order
@@ -257,25 +289,33 @@ opens-joined row u v j = record {
 -- what waited behind the service is open, and so is what waited behind any
 pub none-behind : (t : ℕ) (u v : WaitsData) (k : ℕ) → Frees t u v → is_behind v t k ≡ true → is_open v k ≡ true
 none-behind t u v k j on = joined_is (length u.marks + 1 + t) u.until u v k j
-    (sym (joined_same (length u.marks + 1 + t) u.until u v (length u.marks + 1 + t) k j (λ e. omega arith)) ∙ sym (ap (λ marks. is_set v.bits (length marks + 1 + t) k) j.marks) ∙ on)
+    (sym (joined_same (length u.marks + 1 + t) u.until u v (length u.marks + 1 + t) k j (λ e. omega arith))
+    ∙ sym (ap (λ marks. is_set v.bits (length marks + 1 + t) k) j.marks) ∙ on)
 
 pub none-parked : (u v : WaitsData) (k : ℕ) → FreesAll u v → is_parked v k ≡ true → is_open v k ≡ true
 none-parked u v k j on = joined_is (2 * length u.marks + 1) u.until u v k j
-    (sym (joined_same (2 * length u.marks + 1) u.until u v (2 * length u.marks + 1) k j (λ e. omega arith)) ∙ sym (ap (λ marks. is_set v.bits (2 * length marks + 1) k) j.marks) ∙ on)
+    (sym (joined_same (2 * length u.marks + 1) u.until u v (2 * length u.marks + 1) k j (λ e. omega arith))
+    ∙ sym (ap (λ marks. is_set v.bits (2 * length marks + 1) k) j.marks) ∙ on)
 
-others_start : (p : Plan) (st : StartsData) (failed : List Bool) (complete : Bool) (w : WaitsData) (s : ℕ) (starts : Bool) → s < length st.started → KnowsReady p st failed complete w → KnowsOthers p (start_if starts s st) failed complete s w
+others_start : (p : Plan) (st : StartsData) (failed : List Bool) (complete : Bool) (w : WaitsData) (s : ℕ) (starts : Bool) → s < length st.started
+    → KnowsReady p st failed complete w → KnowsOthers p (start_if starts s st) failed complete s w
 others_start p st failed complete w s false lt knows = λ t inside ne on. knows t inside on
 others_start p st failed complete w s true lt knows = λ t inside ne on.
-    knows t inside (subst (λ b. (((is_flagged st.ready t || is_flagged st.ended t) || is_flagged failed t) || (b && (has_kind p Plain t || (has_kind p Bootstrap t && complete)))) ≡ true)
+    knows t inside
+    (subst (λ b.
+    (((is_flagged st.ready t || is_flagged st.ended t) || is_flagged failed t) || (b && (has_kind p Plain t || (has_kind p Bootstrap t && complete))))
+    ≡ true)
     (flag-set st.started s t lt ∙ ap (λ b. b || is_flagged st.started t) ne) on)
 
-pub others-start : (p : Plan) (st st' : StartsData) (failed : List Bool) (complete : Bool) (w : WaitsData) (s : ℕ) → s < length st.started → KnowsReady p st failed complete w
+pub others-start : (p : Plan) (st st' : StartsData) (failed : List Bool) (complete : Bool) (w : WaitsData) (s : ℕ) → s < length st.started
+    → KnowsReady p st failed complete w
     → StartsOnly p failed complete s st st' → KnowsOthers p st' failed complete s w
 others-start p st st' failed complete w s lt knows only =
     subst (λ x. KnowsOthers p x failed complete s w) (sym only.after) (others_start p st failed complete w s only.starts lt knows)
 
 -- once the service itself is marked, or isn't ready, all are known
-pub all-marked : (p : Plan) (st : StartsData) (failed : List Bool) (complete : Bool) (s : ℕ) (w v : WaitsData) → s < length w.marks → KnowsOthers p st failed complete s w → IsMarked s w v → KnowsReady p st failed complete v
+pub all-marked : (p : Plan) (st : StartsData) (failed : List Bool) (complete : Bool) (s : ℕ) (w v : WaitsData) → s < length w.marks
+    → KnowsOthers p st failed complete s w → IsMarked s w v → KnowsReady p st failed complete v
 all-marked p st failed complete s w v lt others m = λ t inside on.
     elim (cases_eq s t) [
       | inl same ↦ subst (λ u. is_flagged v.marks u ≡ true) same (marked-here s w v lt m)
@@ -283,62 +323,86 @@ all-marked p st failed complete s w v lt others m = λ t inside on.
     ]
 
 -- a service's word, or the end of its work, leaves the others as they were
-others-word : (p : Plan) (st : StartsData) (failed : List Bool) (complete : Bool) (w : WaitsData) (s : ℕ) → s < length st.ready → KnowsReady p st failed complete w → KnowsOthers p (word_taken s st) failed complete s w
+others-word : (p : Plan) (st : StartsData) (failed : List Bool) (complete : Bool) (w : WaitsData) (s : ℕ) → s < length st.ready
+    → KnowsReady p st failed complete w → KnowsOthers p (word_taken s st) failed complete s w
 others-word p st failed complete w s lt knows = λ t inside ne on.
-    knows t inside (subst (λ b. (((b || is_flagged st.ended t) || is_flagged failed t) || (is_flagged st.started t && (has_kind p Plain t || (has_kind p Bootstrap t && complete)))) ≡ true)
+    knows t inside
+    (subst (λ b.
+    (((b || is_flagged st.ended t) || is_flagged failed t) || (is_flagged st.started t && (has_kind p Plain t || (has_kind p Bootstrap t && complete))))
+    ≡ true)
     (flag-set st.ready s t lt ∙ ap (λ b. b || is_flagged st.ready t) ne) on)
 
-others-end : (p : Plan) (st : StartsData) (failed : List Bool) (complete : Bool) (w : WaitsData) (s : ℕ) → s < length st.ended → KnowsReady p st failed complete w → KnowsOthers p (end_taken s st) failed complete s w
+others-end : (p : Plan) (st : StartsData) (failed : List Bool) (complete : Bool) (w : WaitsData) (s : ℕ) → s < length st.ended
+    → KnowsReady p st failed complete w → KnowsOthers p (end_taken s st) failed complete s w
 others-end p st failed complete w s lt knows = λ t inside ne on.
-    knows t inside (subst (λ b. (((is_flagged st.ready t || b) || is_flagged failed t) || (is_flagged st.started t && (has_kind p Plain t || (has_kind p Bootstrap t && complete)))) ≡ true)
+    knows t inside
+    (subst (λ b.
+    (((is_flagged st.ready t || b) || is_flagged failed t) || (is_flagged st.started t && (has_kind p Plain t || (has_kind p Bootstrap t && complete))))
+    ≡ true)
     (flag-set st.ended s t lt ∙ ap (λ b. b || is_flagged st.ended t) ne) on)
 
 when_fresh : (b c : Bool) (A B : Type 0) → c ≡ b → (A → B) → OnTrue b A → OnTrue c B
 when_fresh true c A B e f h = subst (λ x. OnTrue x B) (sym e) (f h)
 when_fresh false c A B e f h = subst (λ x. OnTrue x B) (sym e) tt
 
-watched_marked : (p : Plan) (order : List ℕ) (st st' : StartsData) (d d' : EndpointsData) (s : ℕ) (w v : WaitsData) → s < length w.marks → AreIdle p order st' d' 0 w
-    → ((complete : Bool) → KnowsReady p st d.failed complete w → KnowsOthers p st' d'.failed complete s w) → IsMarked s w v → IsWatched p order st d w → IsWatched p order st' d' v
+watched_marked : (p : Plan) (order : List ℕ) (st st' : StartsData) (d d' : EndpointsData) (s : ℕ) (w v : WaitsData) → s < length w.marks
+    → AreIdle p order st' d' 0 w
+    → ((complete : Bool) → KnowsReady p st d.failed complete w → KnowsOthers p st' d'.failed complete s w) → IsMarked s w v → IsWatched p order st d w
+    → IsWatched p order st' d' v
 watched_marked p order st st' d d' s w v lt idle others m was = record {
   count = marked-count s w v m ∙ was.count;
   idle = opens-idle p order st' d' 0 w v (opens-marked s w v lt m) idle;
   ready = when_fresh w.fresh v.fresh (KnowsReady p st d.failed w.complete w) (KnowsReady p st' d'.failed v.complete v) m.fresh
-      (λ knows. subst (λ complete. KnowsReady p st' d'.failed complete v) (sym m.complete) (all-marked p st' d'.failed w.complete s w v lt (others w.complete knows) m)) was.ready;
+      (λ knows. subst (λ complete. KnowsReady p st' d'.failed complete v) (sym m.complete)
+      (all-marked p st' d'.failed w.complete s w v lt (others w.complete knows) m)) was.ready;
 }
 
 -- the event of a service's word, and of the end of its work
-pub watched-word : (p : Plan) (order : List ℕ) (st : StartsData) (d : EndpointsData) (s : ℕ) (w v : WaitsData) → s < service_count p → IsStartsSized p st → IsMarked s w v → IsWatched p order st d w → IsWatched p order (word_taken s st) d v
+pub watched-word : (p : Plan) (order : List ℕ) (st : StartsData) (d : EndpointsData) (s : ℕ) (w v : WaitsData) → s < service_count p → IsStartsSized p st
+    → IsMarked s w v → IsWatched p order st d w → IsWatched p order (word_taken s st) d v
 watched-word p order st d s w v inside sized m was =
     watched_marked p order st (word_taken s st) d d s w v (let n = was.count in omega arith) was.idle
     (λ complete. others-word p st d.failed complete w s (let n = sized.ready in omega arith)) m was
 
-pub watched-end : (p : Plan) (order : List ℕ) (st : StartsData) (d : EndpointsData) (s : ℕ) (w v : WaitsData) → s < service_count p → IsStartsSized p st → IsMarked s w v → IsWatched p order st d w → IsWatched p order (end_taken s st) d v
+pub watched-end : (p : Plan) (order : List ℕ) (st : StartsData) (d : EndpointsData) (s : ℕ) (w v : WaitsData) → s < service_count p → IsStartsSized p st
+    → IsMarked s w v → IsWatched p order st d w → IsWatched p order (end_taken s st) d v
 watched-end p order st d s w v inside sized m was =
     watched_marked p order st (end_taken s st) d d s w v (let n = was.count in omega arith) was.idle
     (λ complete. others-end p st d.failed complete w s (let n = sized.ended in omega arith)) m was
 
 -- an answer to an ask changes at most whether this service has failed
-pub others-failed : (p : Plan) (st : StartsData) (failed failed' : List Bool) (complete : Bool) (w : WaitsData) (s : ℕ) → ((t : ℕ) → (s == t) ≡ false → is_flagged failed' t ≡ is_flagged failed t) → KnowsReady p st failed complete w
+pub others-failed : (p : Plan) (st : StartsData) (failed failed' : List Bool) (complete : Bool) (w : WaitsData) (s : ℕ)
+    → ((t : ℕ) → (s == t) ≡ false → is_flagged failed' t ≡ is_flagged failed t) → KnowsReady p st failed complete w
     → KnowsOthers p st failed' complete s w
 others-failed p st failed failed' complete w s same knows = λ t inside ne on.
-    knows t inside (subst (λ b. (((is_flagged st.ready t || is_flagged st.ended t) || b) || (is_flagged st.started t && (has_kind p Plain t || (has_kind p Bootstrap t && complete)))) ≡ true) (same t ne) on)
+    knows t inside
+    (subst (λ b.
+    (((is_flagged st.ready t || is_flagged st.ended t) || b)
+    || (is_flagged st.started t && (has_kind p Plain t || (has_kind p Bootstrap t && complete)))) ≡ true) (same t ne) on)
 
 -- a service that hasn't failed is as ready as it was
 less_ready : (a b c : Bool) → ((a || false) || b) ≡ true → ((a || c) || b) ≡ true
 less_ready a b c h = grind arith
 
-knows_failed : (p : Plan) (st : StartsData) (failed failed' : List Bool) (complete : Bool) (w : WaitsData) (s : ℕ) → ((t : ℕ) → (s == t) ≡ false → is_flagged failed' t ≡ is_flagged failed t) → is_flagged failed' s ≡ false
+knows_failed : (p : Plan) (st : StartsData) (failed failed' : List Bool) (complete : Bool) (w : WaitsData) (s : ℕ)
+    → ((t : ℕ) → (s == t) ≡ false → is_flagged failed' t ≡ is_flagged failed t) → is_flagged failed' s ≡ false
     → KnowsReady p st failed complete w → KnowsReady p st failed' complete w
 knows_failed p st failed failed' complete w s same off knows = λ t inside on.
     elim (cases_eq s t) [
-      | inl here ↦ knows t inside (less_ready (is_flagged st.ready t || is_flagged st.ended t) (is_flagged st.started t && (has_kind p Plain t || (has_kind p Bootstrap t && complete))) (is_flagged failed t)
-          (subst (λ b. (((is_flagged st.ready t || is_flagged st.ended t) || b) || (is_flagged st.started t && (has_kind p Plain t || (has_kind p Bootstrap t && complete)))) ≡ true)
+      | inl here ↦
+          knows t inside
+          (less_ready (is_flagged st.ready t || is_flagged st.ended t)
+          (is_flagged st.started t && (has_kind p Plain t || (has_kind p Bootstrap t && complete))) (is_flagged failed t)
+          (subst (λ b.
+          (((is_flagged st.ready t || is_flagged st.ended t) || b)
+          || (is_flagged st.started t && (has_kind p Plain t || (has_kind p Bootstrap t && complete)))) ≡ true)
           (subst (λ u. is_flagged failed' u ≡ false) here off) on))
       | inr ne ↦ others-failed p st failed failed' complete w s same knows t inside (ne_eqb s t ne) on
     ]
 
 -- more places are open
-watched_opened : (p : Plan) (order : List ℕ) (st : StartsData) (d : EndpointsData) (u w : WaitsData) → Opens u w → w.marks ≡ u.marks → w.fresh ≡ u.fresh → w.complete ≡ u.complete → IsWatched p order st d u → IsWatched p order st d w
+watched_opened : (p : Plan) (order : List ℕ) (st : StartsData) (d : EndpointsData) (u w : WaitsData) → Opens u w → w.marks ≡ u.marks → w.fresh ≡ u.fresh
+    → w.complete ≡ u.complete → IsWatched p order st d u → IsWatched p order st d w
 watched_opened p order st d u w grown marks fresh complete was = record {
   count = grown.count ∙ was.count;
   idle = opens-idle p order st d 0 u w grown was.idle;
@@ -347,21 +411,25 @@ watched_opened p order st d u w grown marks fresh complete was = record {
 }
 
 -- the service's place is open again
-watched_reopened : (p : Plan) (order : List ℕ) (st : StartsData) (d : EndpointsData) (s : ℕ) (u w : WaitsData) → Reopens order s u w → IsWatched p order st d u → IsWatched p order st d w
+watched_reopened : (p : Plan) (order : List ℕ) (st : StartsData) (d : EndpointsData) (s : ℕ) (u w : WaitsData) → Reopens order s u w → IsWatched p order st d u
+    → IsWatched p order st d w
 watched_reopened p order st d s u w r was = watched_opened p order st d u w (opens_reopened order s u w r) r.marks r.fresh r.complete was
 
 -- a row of places is open again
-watched_joined : (p : Plan) (order : List ℕ) (st : StartsData) (d : EndpointsData) (row : ℕ) (u w : WaitsData) → JoinsRow row u.until u w → IsWatched p order st d u → IsWatched p order st d w
+watched_joined : (p : Plan) (order : List ℕ) (st : StartsData) (d : EndpointsData) (row : ℕ) (u w : WaitsData) → JoinsRow row u.until u w
+    → IsWatched p order st d u → IsWatched p order st d w
 watched_joined p order st d row u w j was = watched_opened p order st d u w (opens-joined row u w j) j.marks j.fresh j.complete was
 
-watched_if : (p : Plan) (order : List ℕ) (st : StartsData) (d d' : EndpointsData) (s : ℕ) (w v : WaitsData) (b : Bool) → b ≡ failed_at d' s → s < length w.marks → AreIdle p order st d' 0 w → ((t : ℕ) → (s == t) ≡ false → failed_at d' t ≡ failed_at d t)
+watched_if : (p : Plan) (order : List ℕ) (st : StartsData) (d d' : EndpointsData) (s : ℕ) (w v : WaitsData) (b : Bool) → b ≡ failed_at d' s → s < length w.marks
+    → AreIdle p order st d' 0 w → ((t : ℕ) → (s == t) ≡ false → failed_at d' t ≡ failed_at d t)
     → MarksIf b s w v → IsWatched p order st d w → IsWatched p order st d' v
 watched_if p order st d d' s w v true e lt idle same m was =
     watched_marked p order st st d d' s w v lt idle (λ complete. others-failed p st d.failed d'.failed complete w s same) m was
 watched_if p order st d d' s w v false e lt idle same m was = subst (λ x. IsWatched p order st d' x) (sym m) (record {
   count = was.count;
   idle = idle;
-  ready = when_fresh w.fresh w.fresh (KnowsReady p st d.failed w.complete w) (KnowsReady p st d'.failed w.complete w) refl (knows_failed p st d.failed d'.failed w.complete w s same (sym e)) was.ready;
+  ready = when_fresh w.fresh w.fresh (KnowsReady p st d.failed w.complete w) (KnowsReady p st d'.failed w.complete w) refl
+      (knows_failed p st d.failed d'.failed w.complete w s same (sym e)) was.ready;
 })
 
 -- the flags of failed services after such an answer
@@ -373,7 +441,8 @@ flag_stays : (s : ℕ) (flags next : List Bool) → s < length flags → FailsOn
 flag_stays s flags next lt (inl same) t on = ap (λ f. is_flagged f t) same ∙ on
 flag_stays s flags next lt (inr set) t on = ap (λ f. is_flagged f t) set ∙ flag-set flags s t lt ∙ or_right (s == t) (is_flagged flags t) on
 
-pub watched-answer : (p : Plan) (order : List ℕ) (st : StartsData) (d d' : EndpointsData) (s : ℕ) (u w v : WaitsData) → s < service_count p → IsEndpointsSized p d → FailsOnly s d.failed d'.failed → StaysHeld d d' → StaysUnheld d d' → GainsNone d d' → OthersStay s d d'
+pub watched-answer : (p : Plan) (order : List ℕ) (st : StartsData) (d d' : EndpointsData) (s : ℕ) (u w v : WaitsData) → s < service_count p
+    → IsEndpointsSized p d → FailsOnly s d.failed d'.failed → StaysHeld d d' → StaysUnheld d d' → GainsNone d d' → OthersStay s d d'
     → Reopens order s u w → MarksIf (failed_at d' s) s w v → IsWatched p order st d u → IsWatched p order st d' v
 watched-answer p order st d d' s u w v inside sized fails held unheld gains others r m was =
     let lt : s < length d.failed = (let n = sized.failed in omega arith) in
@@ -396,26 +465,32 @@ pub keeps-same : (s : ℕ) (d d' : EndpointsData) → StaysHeld d d' → OthersS
 keeps-same s d d' held others same = record { held = held; failed = λ t on. ap (λ flags. is_flagged flags t) same ∙ on; others = others }
 
 -- what waits behind it was opened
-pub watched-adopted : (p : Plan) (order : List ℕ) (st : StartsData) (d d' : EndpointsData) (s : ℕ) (u w v : WaitsData) → StaysHeld d d' → OthersStay s d d' → d'.failed ≡ d.failed → GainsNone d d' → Reopens order s u w → Frees s w v
+pub watched-adopted : (p : Plan) (order : List ℕ) (st : StartsData) (d d' : EndpointsData) (s : ℕ) (u w v : WaitsData) → StaysHeld d d' → OthersStay s d d'
+    → d'.failed ≡ d.failed → GainsNone d d' → Reopens order s u w → Frees s w v
     → IsWatched p order st d u → IsWatched p order st d' v
 watched-adopted p order st d d' s u w v held others same gains r j was =
     let freed = watched_joined p order st d (length w.marks + 1 + s) w v j (watched_reopened p order st d s u w r was) in record {
       count = freed.count;
-      idle = idle-kept p order st d d' 0 s v (keeps-same s d d' held others same) (opened_then order s w v (opens-joined (length w.marks + 1 + s) w v j) r.opened)
+      idle = idle-kept p order st d d' 0 s v (keeps-same s d d' held others same)
+          (opened_then order s w v (opens-joined (length w.marks + 1 + s) w v j) r.opened)
           (λ k lt off ne x. elim (cases_eq (slice_index order x.by) s) [
-            | inl here ↦ and_clash (is_open v k) (none-behind s w v k j (subst (λ t. is_behind v t k ≡ true) here x.behind)) off (IsParked p order st.started d' 0 v (slice_index order k) k)
+            | inl here ↦
+                and_clash (is_open v k) (none-behind s w v k j (subst (λ t. is_behind v t k ≡ true) here x.behind)) off
+                (IsParked p order st.started d' 0 v (slice_index order k) k)
             | inr other ↦ parked-others p order st.started d d' 0 v s (slice_index order k) k gains others same ne x other
           ]) freed.idle;
       ready = subst (λ failed. OnTrue v.fresh (KnowsReady p st failed v.complete v)) (sym same) freed.ready;
     }
 
 -- and where an address may have gained a live descriptor, all that waits behind a service
-pub watched-bound : (p : Plan) (order : List ℕ) (st : StartsData) (d d' : EndpointsData) (s : ℕ) (u w v : WaitsData) → StaysHeld d d' → OthersStay s d d' → d'.failed ≡ d.failed → Reopens order s u w → FreesAll w v
+pub watched-bound : (p : Plan) (order : List ℕ) (st : StartsData) (d d' : EndpointsData) (s : ℕ) (u w v : WaitsData) → StaysHeld d d' → OthersStay s d d'
+    → d'.failed ≡ d.failed → Reopens order s u w → FreesAll w v
     → IsWatched p order st d u → IsWatched p order st d' v
 watched-bound p order st d d' s u w v held others same r j was =
     let freed = watched_joined p order st d (2 * length w.marks + 1) w v j (watched_reopened p order st d s u w r was) in record {
       count = freed.count;
-      idle = idle-kept p order st d d' 0 s v (keeps-same s d d' held others same) (opened_then order s w v (opens-joined (2 * length w.marks + 1) w v j) r.opened)
+      idle = idle-kept p order st d d' 0 s v (keeps-same s d d' held others same)
+          (opened_then order s w v (opens-joined (2 * length w.marks + 1) w v j) r.opened)
           (λ k lt off ne x. and_clash (is_open v k) (none-parked w v k j x.parked) off (IsParked p order st.started d' 0 v (slice_index order k) k)) freed.idle;
       ready = subst (λ failed. OnTrue v.fresh (KnowsReady p st failed v.complete v)) (sym same) freed.ready;
     }
@@ -430,19 +505,23 @@ watched_rows p order st d d' w rows same moves was = record {
   ready = subst (λ failed. OnTrue w.fresh (KnowsReady p st failed w.complete w)) (sym same) was.ready;
 }
 
-pub watched-same : (p : Plan) (order : List ℕ) (st : StartsData) (d d' : EndpointsData) (w : WaitsData) → d'.rows ≡ d.rows → d'.failed ≡ d.failed → GainsNone d d'
+pub watched-same : (p : Plan) (order : List ℕ) (st : StartsData) (d d' : EndpointsData) (w : WaitsData) → d'.rows ≡ d.rows → d'.failed ≡ d.failed
+    → GainsNone d d'
     → IsWatched p order st d w → IsWatched p order st d' w
 watched-same p order st d d' w rows same gains =
     watched_rows p order st d d' w rows same (λ k off x. parked-rows p order st.started d d' 0 w (slice_index order k) k rows same gains x)
 
-pub watched-received : (p : Plan) (order : List ℕ) (st : StartsData) (d d' : EndpointsData) (w v : WaitsData) → d'.rows ≡ d.rows → d'.failed ≡ d.failed → FreesAll w v
+pub watched-received : (p : Plan) (order : List ℕ) (st : StartsData) (d d' : EndpointsData) (w v : WaitsData) → d'.rows ≡ d.rows → d'.failed ≡ d.failed
+    → FreesAll w v
     → IsWatched p order st d w → IsWatched p order st d' v
 watched-received p order st d d' w v rows same j was =
-    watched_rows p order st d d' v rows same (λ k off x. and_clash (is_open v k) (none-parked w v k j x.parked) off (IsParked p order st.started d' 0 v (slice_index order k) k))
+    watched_rows p order st d d' v rows same
+    (λ k off x. and_clash (is_open v k) (none-parked w v k j x.parked) off (IsParked p order st.started d' 0 v (slice_index order k) k))
     (watched_joined p order st d (2 * length w.marks + 1) w v j was)
 
 -- once a rest may be over, all that rest are open
-idle_woken : (p : Plan) (order : List ℕ) (st : StartsData) (d : EndpointsData) (w v : WaitsData) → JoinsRow (2 * length w.marks + 2) v.until w v → AreIdle p order st d 0 w → AreIdle p order st d 0 v
+idle_woken : (p : Plan) (order : List ℕ) (st : StartsData) (d : EndpointsData) (w v : WaitsData) → JoinsRow (2 * length w.marks + 2) v.until w v
+    → AreIdle p order st d 0 w → AreIdle p order st d 0 v
 idle_woken p order st d w v j idle = λ k lt off.
     elim (idle k lt (was_off k off)) [
       | inl done ↦ inl done
@@ -462,7 +541,8 @@ idle_woken p order st d w v j idle = λ k lt off.
           started = parked.1.started;
           shares = parked.1.shares;
           busy = woken parked.1.by (slice_index order parked.1.by) parked.1.shares.other parked.1.busy;
-          behind = ap (λ marks. is_set v.bits (length marks + 1 + slice_index order parked.1.by) k) j.marks ∙ grown (length w.marks + 1 + slice_index order parked.1.by) k parked.1.behind;
+          behind = ap (λ marks. is_set v.bits (length marks + 1 + slice_index order parked.1.by) k) j.marks
+              ∙ grown (length w.marks + 1 + slice_index order parked.1.by) k parked.1.behind;
           parked = ap (λ marks. is_set v.bits (2 * length marks + 1) k) j.marks ∙ grown (2 * length w.marks + 1) k parked.1.parked;
         },
       ))
@@ -485,7 +565,8 @@ idle_woken p order st d w v j idle = λ k lt off.
     woken e t i (inr (inl next)) = inr (inl (stays_open e next.0, next.1))
     woken e t i (inr (inr rest)) = inr (inl (joined_is (2 * length w.marks + 2) v.until w v e j rest.0, omega arith))
 
-pub watched-woken : (p : Plan) (order : List ℕ) (st : StartsData) (d : EndpointsData) (w v : WaitsData) → Wakes w v → IsWatched p order st d w → IsWatched p order st d v
+pub watched-woken : (p : Plan) (order : List ℕ) (st : StartsData) (d : EndpointsData) (w v : WaitsData) → Wakes w v → IsWatched p order st d w
+    → IsWatched p order st d v
 watched-woken p order st d w v (inl same) was = subst (λ x. IsWatched p order st d x) (sym same) was
 watched-woken p order st d w v (inr j) was = record {
   count = ap (λ marks. length marks) j.marks ∙ was.count;
@@ -495,13 +576,23 @@ watched-woken p order st d w v (inr j) was = record {
 }
 
 -- before a pass, and after it
-pub known-caught : (p : Plan) (order : List ℕ) (st : StartsData) (d : EndpointsData) (complete : Bool) (moment : ℕ) (w v : WaitsData) → IsWatched p order st d w → Opens w v → v.complete ≡ complete → KnowsReady p st d.failed complete v
+pub known-caught : (p : Plan) (order : List ℕ) (st : StartsData) (d : EndpointsData) (complete : Bool) (moment : ℕ) (w v : WaitsData) → IsWatched p order st d w
+    → Opens w v → v.complete ≡ complete → KnowsReady p st d.failed complete v
     → moment ≤ w.until → IsKnown p order st d complete moment 0 v
 known-caught p order st d complete moment w v was grown complete_is knows soon =
-    record { count = grown.count ∙ was.count; idle = opens-idle p order st d 0 w v grown was.idle; complete_is = complete_is; ready = knows; soon = (let same = grown.until in omega arith) }
+    record {
+      count = grown.count
+          ∙ was.count;
+      idle = opens-idle p order st d 0 w v grown was.idle;
+      complete_is = complete_is;
+      ready = knows;
+      soon =
+          (let same = grown.until in omega arith);
+    }
 
 -- a pass that has gone on over places that aren't open
-pub idle-on : (p : Plan) (order : List ℕ) (st : StartsData) (d : EndpointsData) (from next : ℕ) (w : WaitsData) → ((e : ℕ) → from ≤ e → is_open w e ≡ true → next ≤ e) → AreIdle p order st d from w → AreIdle p order st d next w
+pub idle-on : (p : Plan) (order : List ℕ) (st : StartsData) (d : EndpointsData) (from next : ℕ) (w : WaitsData)
+    → ((e : ℕ) → from ≤ e → is_open w e ≡ true → next ≤ e) → AreIdle p order st d from w → AreIdle p order st d next w
 idle-on p order st d from next w far idle = λ k lt off.
     elim (idle k lt off) [
       | inl done ↦ inl done
@@ -509,7 +600,8 @@ idle-on p order st d from next w far idle = λ k lt off.
       | inr (inr parked) ↦ inr (inr (parked.0, parked-on p order st.started d from next w (slice_index order k) k parked.1 (far parked.1.by)))
     ]
 
-pub watched-known : (p : Plan) (order : List ℕ) (st : StartsData) (d : EndpointsData) (complete : Bool) (moment from : ℕ) (w : WaitsData) → IsKnown p order st d complete moment from w → IsWatched p order st d w
+pub watched-known : (p : Plan) (order : List ℕ) (st : StartsData) (d : EndpointsData) (complete : Bool) (moment from : ℕ) (w : WaitsData)
+    → IsKnown p order st d complete moment from w → IsWatched p order st d w
 watched-known p order st d complete moment from w known = record {
   count = known.count;
   idle = idle-on p order st d from 0 w (λ e le on. omega arith) known.idle;
@@ -521,7 +613,8 @@ watched-known p order st d complete moment from w known = record {
     anyhow false A h = tt
 
 -- at the beginning each place is open
-pub watched-open : (p : Plan) (order : List ℕ) (st : StartsData) (d : EndpointsData) (w : WaitsData) → length w.marks ≡ service_count p → ((k : ℕ) → k < length order → is_open w k ≡ true) → w.fresh ≡ false → IsWatched p order st d w
+pub watched-open : (p : Plan) (order : List ℕ) (st : StartsData) (d : EndpointsData) (w : WaitsData) → length w.marks ≡ service_count p
+    → ((k : ℕ) → k < length order → is_open w k ≡ true) → w.fresh ≡ false → IsWatched p order st d w
 watched-open p order st d w count opened off = record {
   count = count;
   idle = λ k lt closed. and_clash (is_open w k) (opened k lt) closed (IsIdle p order st d 0 w (slice_index order k) k);

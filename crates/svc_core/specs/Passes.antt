@@ -52,8 +52,10 @@ pub record IsBootRipe (p : Plan) (b : BootData) : Type 0 where
   pub goes_on : is_refused b.receiving ≡ false
   pub complete_is : b.complete ≡ is_through p b
 
--- what holds of the parts all through a step: they stand for q; each entry is right; what is started is due; bootstrapping has begun where it was to; the run hasn't told its end; and what stands before each event is right
-pub record Going (p : Plan) (st : StartsData) (d : EndpointsData) (b : BootData) (o : OfferData) (dr : DrainData) (cn : ConnectionsData) (q : Record) : Type 0 where
+-- what holds of the parts all through a step: they stand for q; each entry is right; what is started is due; bootstrapping has begun where it was to;
+-- the run hasn't told its end; and what stands before each event is right
+pub record Going (p : Plan) (st : StartsData) (d : EndpointsData) (b : BootData) (o : OfferData) (dr : DrainData) (cn : ConnectionsData)
+    (q : Record) : Type 0 where
   pub drain : DrainStands p dr (over_since o.state) q
   pub offer : OfferStands p o q
   pub connections : ConnectionsStand p cn q
@@ -78,10 +80,12 @@ pub record MayEnd (p : Plan) (q : Record) : Type 0 where
   pub unpassed : waits_are_over p q ≡ false
   pub asks : one_ask p q ≡ true
 
--- each of the first k services of the order is started where it is due, and each of its endpoints is held or waits; what is held is live where the broadcast wasn't told
+-- each of the first k services of the order is started where it is due, and each of its endpoints is held or waits; what is held is live where the
+-- broadcast wasn't told
 pub record VisitedUpTo (p : Plan) (order : List ℕ) (k : ℕ) (q : Record) : Type 0 where
   pub due_started : (j : ℕ) → j < k → is_due p q (slice_index order j) ≡ true → is_started q (slice_index order j) ≡ true
-  pub right : has is_broadcast q ≡ false → (j : ℕ) → j < k → (i : ℕ) → i < length (endpoints p (slice_index order j)) → endpoint_right p q (slice_index order j) i ≡ true
+  pub right : has is_broadcast q ≡ false → (j : ℕ) → j < k → (i : ℕ) → i < length (endpoints p (slice_index order j))
+      → endpoint_right p q (slice_index order j) i ≡ true
   pub late : (j : ℕ) → j < k → (i : ℕ) → i < length (endpoints p (slice_index order j)) → endpoint_right_late p q (slice_index order j) i ≡ true
 
 -- the service bootstraps, and is started
@@ -97,8 +101,10 @@ pub record TestedAt (p : Plan) (order : List ℕ) (k : ℕ) (q : Record) : Type 
   pub last : is_test_step (now q) (last_step q) ≡ true
   pub may_end : MayEnd p q
 
--- a pass is at the place k of the order, or ended before it; as long as bootstrapping hasn't begun, this step told only starts, asks, failures and closes; and where something is still to be started, the run may end in its bootstrapping
-pub record PassedUpTo (p : Plan) (order : List ℕ) (k : ℕ) (st : StartsData) (d : EndpointsData) (b : BootData) (o : OfferData) (dr : DrainData) (cn : ConnectionsData) (q : Record) : Type 0 where
+-- a pass is at the place k of the order, or ended before it; as long as bootstrapping hasn't begun, this step told only starts, asks, failures and
+-- closes; and where something is still to be started, the run may end in its bootstrapping
+pub record PassedUpTo (p : Plan) (order : List ℕ) (k : ℕ) (st : StartsData) (d : EndpointsData) (b : BootData) (o : OfferData) (dr : DrainData)
+    (cn : ConnectionsData) (q : Record) : Type 0 where
   pub going : Going p st d b o dr cn q
   pub may : may_start p b ≡ true
   pub ripe : IsBootRipe p b
@@ -107,30 +113,37 @@ pub record PassedUpTo (p : Plan) (order : List ℕ) (k : ℕ) (st : StartsData) 
   pub calm : AreStarted p q ⊎ MayEnd p q
 
 -- between the two halves of a visit of the service at the place k: it is started where it is due, and where that tested the run, the pass ends
-pub record Half (p : Plan) (order : List ℕ) (k : ℕ) (st : StartsData) (d : EndpointsData) (b : BootData) (o : OfferData) (dr : DrainData) (cn : ConnectionsData) (q : Record) : Type 0 where
+pub record Half (p : Plan) (order : List ℕ) (k : ℕ) (st : StartsData) (d : EndpointsData) (b : BootData) (o : OfferData) (dr : DrainData) (cn : ConnectionsData)
+    (q : Record) : Type 0 where
   pub going : Going p st d b o dr cn q
   pub may : may_start p b ≡ true
   pub ripe : IsBootRipe p b
   pub tested : OnTrue (is_tested p b) (TestedAt p order k q)
   pub due_started : (j : ℕ) → j < k + 1 → is_due p q (slice_index order j) ≡ true → is_started q (slice_index order j) ≡ true
-  pub right : has is_broadcast q ≡ false → (j : ℕ) → j < k → slice_index order j ≢ slice_index order k → (i : ℕ) → i < length (endpoints p (slice_index order j)) → endpoint_right p q (slice_index order j) i ≡ true
-  pub late : (j : ℕ) → j < k → slice_index order j ≢ slice_index order k → (i : ℕ) → i < length (endpoints p (slice_index order j)) → endpoint_right_late p q (slice_index order j) i ≡ true
+  pub right : has is_broadcast q ≡ false → (j : ℕ) → j < k → slice_index order j ≢ slice_index order k → (i : ℕ)
+      → i < length (endpoints p (slice_index order j)) → endpoint_right p q (slice_index order j) i ≡ true
+  pub late : (j : ℕ) → j < k → slice_index order j ≢ slice_index order k → (i : ℕ) → i < length (endpoints p (slice_index order j))
+      → endpoint_right_late p q (slice_index order j) i ≡ true
   pub quiet : b.begun ≡ false → is_quiet (last_step q) ≡ true
   pub calm : AreStarted p q ⊎ MayEnd p q
 
 -- the first half of a visit of the service at the place k
 abbrev pub Starting : Plan → List ℕ → DrainData → ℕ → StartsData → StartsData → EndpointsData → BootData → BootData → List Action → List Action → Type 0
 Starting p order dr k st st' d b b' before after =
-    Tells before after (λ told. (o : OfferData) (cn : ConnectionsData) (q : Record) → PassedUpTo p order k st d b o dr cn q → Half p order k st' d b' o dr cn (tell q told))
+    Tells before after
+    (λ told. (o : OfferData) (cn : ConnectionsData) (q : Record) → PassedUpTo p order k st d b o dr cn q → Half p order k st' d b' o dr cn (tell q told))
 
 -- how many actions the beginning of bootstrapping may still tell
 abbrev pub begin_room : BootData → ℕ
 begin_room b = if b.begun then 0 else 4
 
 -- visits went from the place j of the order to the place k
-abbrev pub Passes : Plan → List ℕ → DrainData → ℕ → ℕ → StartsData → StartsData → EndpointsData → EndpointsData → BootData → BootData → List Action → List Action → Type 0
+abbrev pub Passes : Plan → List ℕ → DrainData → ℕ → ℕ → StartsData → StartsData → EndpointsData → EndpointsData → BootData → BootData → List Action
+    → List Action → Type 0
 Passes p order dr j k st st' d d' b b' before after =
-    Tells before after (λ told. (o : OfferData) (cn : ConnectionsData) (q : Record) → PassedUpTo p order j st d b o dr cn q → PassedUpTo p order k st' d' b' o dr cn (tell q told))
+    Tells before after
+    (λ told. (o : OfferData) (cn : ConnectionsData) (q : Record) → PassedUpTo p order j st d b o dr cn q
+    → PassedUpTo p order k st' d' b' o dr cn (tell q told))
 
 -- a call's part of it: the first half of a visit, a visit, and the visits of all
 abbrev pub StartsAt : Plan → List ℕ → DrainData → ℕ → StartsData → StartsData → EndpointsRoom → BootData → BootData → List Action × ℕ → List Action × ℕ → Type 0

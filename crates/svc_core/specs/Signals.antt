@@ -31,4 +31,5 @@ is_reached _ = false
 -- a signal after the first that doesn't cut its waits short changes nothing, in the core and of what was told
 abbrev pub IgnoresLater : CoreData → CoreData → Event → List Action → List Action → Result StepEnd NoMemory → Type 0
 IgnoresLater old new e before after result =
-    (kind : ShutdownSignal) → e ≡ Signal kind → is_some old.drain.signal ≡ true → cuts old.drain.signal kind ≡ false → OnOk result (new ≡ old) × OnOk result (after ≡ before)
+    (kind : ShutdownSignal) → e ≡ Signal kind → is_some old.drain.signal ≡ true → cuts old.drain.signal kind ≡ false
+    → OnOk result (new ≡ old) × OnOk result (after ≡ before)

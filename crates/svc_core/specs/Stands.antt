@@ -45,7 +45,8 @@ pub record IsSettled (core : CoreData) : Type 0 where
   pub offer : IsOfferSettled core.offer core.drain.moment
   pub waits : passes core.plan core.drain ≡ false
 
--- one clause for each part; once the run has served, which services failed and what came is all that is left of endpoints, and nothing is live, offered or waited for
+-- one clause for each part; once the run has served, which services failed and what came is all that is left of endpoints, and nothing is live,
+-- offered or waited for
 pub record StandsFor (core : CoreData) (q : Record) : Type 0 where
   pub drain : is_served core.end ≡ false → DrainStands core.plan core.drain (over_since core.offer.state) q
   pub offer : is_served core.end ≡ false → OfferStands core.plan core.offer q
@@ -87,7 +88,8 @@ pub record EndedSo (p : Plan) (q : Record) : Type 0 where
 abbrev pub HasCopy : CoreData → Option Message → Type 0
 HasCopy core copy = is_send_due core.offer.state core.drain.moment ≡ true → copy ≡ core.offer.message
 
--- nothing was told yet in this step, and a server's run may begin, at once with `eager`: the parts stand for q, no fork is awaited, each entry and what stands before each event is right, and the run may end by what begins
+-- nothing was told yet in this step, and a server's run may begin, at once with `eager`: the parts stand for q, no fork is awaited, each entry and
+-- what stands before each event is right, and the run may end by what begins
 pub record MayBootstrap (core : CoreData) (q : Record) : Type 0 where
   pub drain : DrainStands core.plan core.drain (over_since core.offer.state) q
   pub offer : OfferStands core.plan core.offer q
@@ -109,7 +111,9 @@ pub record MayBootstrap (core : CoreData) (q : Record) : Type 0 where
   pub may_end : MayEnd core.plan q
   pub unasked : is_send_due core.offer.state core.drain.moment ≡ false
 
--- an event was taken, or nothing yet, and what follows from it may be told: the parts stand for q; no fork is awaited; as long as bootstrapping hasn't begun, this step told only failures and closes; where no older server is asked, it was told that bootstrapping is complete; where the event ended the run, it ended as is right; and where it may let services start, the run may end by that
+-- an event was taken, or nothing yet, and what follows from it may be told: the parts stand for q; no fork is awaited; as long as bootstrapping
+-- hasn't begun, this step told only failures and closes; where no older server is asked, it was told that bootstrapping is complete; where the event
+-- ended the run, it ended as is right; and where it may let services start, the run may end by that
 pub record Struck (core : CoreData) (copy : Option Message) (q : Record) : Type 0 where
   pub going : Going core.plan core.starts core.endpoints core.boot core.offer core.drain core.connections q
   pub free : is_free core.plan core.boot.fork ≡ true
@@ -134,7 +138,8 @@ pub record Visited (core : CoreData) (copy : Option Message) (q : Record) : Type
   pub going : Going core.plan core.starts core.endpoints core.boot core.offer core.drain core.connections q
   pub free : is_free core.plan core.boot.fork ≡ true
   pub ripe : IsBootRipe core.plan core.boot
-  pub passed : OnTrue (may_start core.plan core.boot) (MatchBool (is_tested core.plan core.boot) ((k : ℕ) × TestedAt core.plan core.order k q) (VisitedUpTo core.plan core.order (length core.order) q))
+  pub passed : OnTrue (may_start core.plan core.boot)
+      (MatchBool (is_tested core.plan core.boot) ((k : ℕ) × TestedAt core.plan core.order k q) (VisitedUpTo core.plan core.order (length core.order) q))
   pub waits : may_start core.plan core.boot ≡ false → is_tested core.plan core.boot ≡ false
   pub copied : HasCopy core copy
 
@@ -223,7 +228,9 @@ pub record AdoptMayBeAnswered (core : CoreData) (s i : ℕ) : Type 0 where
 
 -- the service serves, by the parts, and loop j is one of its endpoint i and hasn't ended yet
 abbrev pub is_loop_on : CoreData → ℕ → ℕ → ℕ → Bool
-is_loop_on core s i j = serves_by core.plan core.endpoints (is_flagged core.starts.started s) s && (is_endpoint core.plan s i && (nat_lt j core.plan.tasks && not (has_loop core.endpoints.loops s i j)))
+is_loop_on core s i j =
+    serves_by core.plan core.endpoints (is_flagged core.starts.started s) s
+    && (is_endpoint core.plan s i && (nat_lt j core.plan.tasks && not (has_loop core.endpoints.loops s i j)))
 
 -- the broadcast was told, and s serves, with an endpoint i whose loop j goes on
 pub record LoopMayEnd (core : CoreData) (s i j : ℕ) : Type 0 where

@@ -37,7 +37,8 @@ pub record StartsStand (p : Plan) (st : StartsData) (q : Record) : Type 0 where
 abbrev pub AreFailed : Plan → List Bool → Record → Type 0
 AreFailed p failed q = (s : ℕ) → s < service_count p → is_flagged failed s ≡ has_failed p q s
 
--- the service is ready: its word came, or its work is done, or it has failed, or it is started and plain, or it is started, bootstraps, and bootstrapping is complete
+-- the service is ready: its word came, or its work is done, or it has failed, or it is started and plain, or it is started, bootstraps, and
+-- bootstrapping is complete
 abbrev pub ready_now : Plan → StartsData → List Bool → Bool → ℕ → Bool
 ready_now p st failed complete s = ((is_flagged st.ready s || is_flagged st.ended s) || is_flagged failed s)
     || (is_flagged st.started s && (has_kind p Plain s || (has_kind p Bootstrap s && complete)))

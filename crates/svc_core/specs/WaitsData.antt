@@ -2,7 +2,9 @@
 use Rattle.std.specs.Prelude.{ℕ, Bool, List, ◌≡◌, ◌≤◌, ◌+◌, ◌*◌, length}
 use Rattle.svc_graph.specs.Bits.{HasRows}
 
--- a row of bits for each service, with the places that wait for it to be ready, and one of the places that are open; a row for each service, with the places that wait behind it, one of all that wait so, and one of those that rest; which services are marked as ready; whether all were looked at, and with bootstrapping complete or not; and up to which moment all that rest do
+-- a row of bits for each service, with the places that wait for it to be ready, and one of the places that are open; a row for each service, with the
+-- places that wait behind it, one of all that wait so, and one of those that rest; which services are marked as ready; whether all were looked at,
+-- and with bootstrapping complete or not; and up to which moment all that rest do
 pub record WaitsData : Type 0 where
   pub bits : List ℕ
   pub marks : List Bool

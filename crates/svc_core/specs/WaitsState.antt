@@ -54,7 +54,8 @@ AsksNothing p d s = HasAll p d s ⊎ HasAsk p d s
 abbrev pub StaysBusy : EndpointsData → ℕ → WaitsData → ℕ → ℕ → ℕ → Type 0
 StaysBusy d from w e t k = (is_asking (last_at d t k) ≡ true) ⊎ (((is_open w e ≡ true) × (from ≤ e)) ⊎ ((is_resting w e ≡ true) × IsBusyUntil d t k w.until))
 
--- the place waits behind a started service that has no later place, and an endpoint of which keeps the service's address busy; where the service rests, behind itself
+-- the place waits behind a started service that has no later place, and an endpoint of which keeps the service's address busy; where the service
+-- rests, behind itself
 pub record IsParked (p : Plan) (order : List ℕ) (on : List Bool) (d : EndpointsData) (from : ℕ) (w : WaitsData) (s k : ℕ) : Type 0 where
   pub by : ℕ
   pub earlier : by ≤ k
@@ -183,12 +184,15 @@ LeavesPlace k old new =
 -- the place isn't open any more, and waits behind the service
 abbrev pub ParksBehind : ℕ → ℕ → WaitsData → WaitsData → Type 0
 ParksBehind k t old new =
-    HasBits (λ a b. ((is_set old.bits a b || (a == length old.marks + 1 + t && b == k)) || (a == 2 * length old.marks + 1 && b == k)) && not (a == length old.marks && b == k)) old.until old new
+    HasBits (λ a b. ((is_set old.bits a b || (a == length old.marks + 1 + t && b == k)) || (a == 2 * length old.marks + 1 && b == k))
+    && not (a == length old.marks && b == k)) old.until old new
 
 -- the same, and its service rests up to the end
 abbrev pub ParksResting : ℕ → ℕ → ℕ → WaitsData → WaitsData → Type 0
 ParksResting k t end old new =
-    HasBits (λ a b. (((is_set old.bits a b || (a == length old.marks + 1 + t && b == k)) || (a == 2 * length old.marks + 1 && b == k)) || (a == 2 * length old.marks + 2 && b == k))
+    HasBits (λ a b.
+    (((is_set old.bits a b || (a == length old.marks + 1 + t && b == k)) || (a == 2 * length old.marks + 1 && b == k))
+    || (a == 2 * length old.marks + 2 && b == k))
     && not (a == length old.marks && b == k)) (min old.until end) old new
 
 -- the service may have been started, where all that it depends on was ready
@@ -199,7 +203,8 @@ pub record StartsOnly (p : Plan) (failed : List Bool) (complete : Bool) (s : ℕ
 
 -- a service that isn't started waits at its place, or nothing has changed
 abbrev pub WaitsStill : Plan → StartsData → ℕ → ℕ → WaitsData → WaitsData → Bool → Type 0
-WaitsStill p st s k old new true = (is_flagged st.started s ≡ false) × ((at : ℕ) × (IsUnmarked p old.marks s at × Parks k (slice_index (depends p s) at) old new))
+WaitsStill p st s k old new true = (is_flagged st.started s ≡ false)
+    × ((at : ℕ) × (IsUnmarked p old.marks s at × Parks k (slice_index (depends p s) at) old new))
 WaitsStill p st s k old new false = new ≡ old
 
 -- what a core keeps: its parts fit the plan, and what its pass leaves out needn't be visited

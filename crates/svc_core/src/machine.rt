@@ -63,7 +63,17 @@ impl Model for Core {
 
     ghost Value = { CoreData };
 
-    ghost view = { λ c. record { plan = c.plan; order = c.order.items; starts = c.starts; endpoints = c.endpoints.parts; boot = c.boot; offer = c.offer; drain = c.drain; connections = c.connections.parts; end = c.end } };
+    ghost view = { λ c. record {
+      plan = c.plan;
+      order = c.order.items;
+      starts = c.starts;
+      endpoints = c.endpoints.parts;
+      boot = c.boot;
+      offer = c.offer;
+      drain = c.drain;
+      connections = c.connections.parts;
+      end = c.end;
+    } };
 
     ghost invariant = { λ c. IsKept c.plan c.order.items c.starts c.endpoints.parts c.waits };
 }

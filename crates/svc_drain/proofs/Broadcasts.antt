@@ -38,7 +38,8 @@ run-unmarked true = refl
 run-unmarked false = refl
 
 -- by the stage
-stage-marked : (g : Stage) (s : Option ShutdownSignal) (o r : Bool) (row : List Mark) → is_cut g ≡ false → list_any is_the_broadcast (stage_marks g s o row ++ marks_if r (phase RunningPhase ∷ [])) ≡ is_grace g
+stage-marked : (g : Stage) (s : Option ShutdownSignal) (o r : Bool) (row : List Mark) → is_cut g ≡ false
+    → list_any is_the_broadcast (stage_marks g s o row ++ marks_if r (phase RunningPhase ∷ [])) ≡ is_grace g
 stage-marked Running s o r row h = run-unmarked r
 stage-marked Offering s o r row h = run-unmarked r
 stage-marked CloseTimeout s o r row h = run-unmarked r
@@ -51,8 +52,10 @@ stage-marked Terminating s o r row h = run-unmarked r
 stage-marked (CutShort started) s o r row h = absurd (cc)
 
 -- until a cut the part says whether the broadcast was told
-pub broadcast-is : (p : Plan) (d : DrainData) (over : Option ℕ) (q : Record) → is_cut d.stage ≡ false → DrainStands p d over q → has is_broadcast q ≡ is_broadcast_told d
-broadcast-is p d over q uncut stand = marked-is q ∙ ap (list_any is_the_broadcast) stand.marks_are ∙ stage-marked d.stage d.signal d.offers d.running (cut_row p q) uncut
+pub broadcast-is : (p : Plan) (d : DrainData) (over : Option ℕ) (q : Record) → is_cut d.stage ≡ false → DrainStands p d over q
+    → has is_broadcast q ≡ is_broadcast_told d
+broadcast-is p d over q uncut stand =
+    marked-is q ∙ ap (list_any is_the_broadcast) stand.marks_are ∙ stage-marked d.stage d.signal d.offers d.running (cut_row p q) uncut
 
 -- it isn't before a signal
 unsignalled-stage : (g : Stage) (o : Bool) (over : Option ℕ) → stage_fits g None o over ≡ true → is_grace g ≡ false
@@ -64,4 +67,6 @@ unsignalled-stage Terminating o over h = refl
 unsignalled-stage (CutShort started) o over h = refl
 
 pub unsignalled-silent : (p : Plan) (d : DrainData) (over : Option ℕ) (q : Record) → d.signal ≡ None → DrainStands p d over q → has is_broadcast q ≡ false
-unsignalled-silent p d over q none stand = broadcast-is p d over q (stand.cut_is ∙ unsignalled-uncut q (sym stand.signal_is ∙ none)) stand ∙ unsignalled-stage d.stage d.offers over (rw none at stand.fits)
+unsignalled-silent p d over q none stand =
+    broadcast-is p d over q (stand.cut_is ∙ unsignalled-uncut q (sym stand.signal_is ∙ none)) stand
+    ∙ unsignalled-stage d.stage d.offers over (rw none at stand.fits)

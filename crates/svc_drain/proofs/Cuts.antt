@@ -20,7 +20,8 @@ use Rattle.svc_drain.proofs.Signalled.{with_signal}
 use Rattle.svc_drain.proofs.Passing.{row-is}
 
 -- the waits are cut short at the stage
-stage-cut : (g : Stage) (s : Option ShutdownSignal) (o : Bool) (over : Option ℕ) → is_graceful s ≡ true → stage_fits g s o over ≡ true → is_cut (cut_stage g) ≡ true
+stage-cut : (g : Stage) (s : Option ShutdownSignal) (o : Bool) (over : Option ℕ) → is_graceful s ≡ true → stage_fits g s o over ≡ true
+    → is_cut (cut_stage g) ≡ true
 stage-cut Running s o over graceful fits = refl
 stage-cut Offering s o over graceful fits = refl
 stage-cut CloseTimeout s o over graceful fits = refl
@@ -57,18 +58,21 @@ grace-started at (Some FastShutdown) o row = refl
 grace-started at None o row = refl
 
 -- what was told before the cut is what was due before it
-cut-marks : (g : Stage) (s : Option ShutdownSignal) (o : Bool) (over : Option ℕ) (t : ℕ) (row before : List Mark) → is_graceful s ≡ true → is_cut g ≡ false → is_told_far g s over t ≡ true → stage_fits g s o over ≡ true
+cut-marks : (g : Stage) (s : Option ShutdownSignal) (o : Bool) (over : Option ℕ) (t : ℕ) (row before : List Mark) → is_graceful s ≡ true → is_cut g ≡ false
+    → is_told_far g s over t ≡ true → stage_fits g s o over ≡ true
     → row ≡ stage_marks g s o before → row ≡ stage_marks (cut_stage g) s o row
 cut-marks Running (Some kind) o over t row before graceful uncut far fits is = absurd (cc)
 cut-marks Running None o over t row before graceful uncut far fits is = absurd (cc)
 cut-marks Offering s o over t row before graceful uncut far fits is = refl
 cut-marks CloseTimeout s o over t row before graceful uncut far fits is = refl
-cut-marks (Grace at) s o over t row before graceful uncut far fits is = sym (ap (λ b. if b then row else phase ShutdownStarted ∷ row) (ap has_start is ∙ grace-started at s o before))
+cut-marks (Grace at) s o over t row before graceful uncut far fits is =
+    sym (ap (λ b. if b then row else phase ShutdownStarted ∷ row) (ap has_start is ∙ grace-started at s o before))
 cut-marks (CutShort started) s o over t row before graceful uncut far fits is = absurd (cc)
 cut-marks Terminating s o over t row before graceful uncut far fits is = let e = stage-cut Terminating s o over graceful fits in absurd (cc)
 
 -- and has the start of the shutdown in the grace period alone
-unstarted-row : (g : Stage) (s : Option ShutdownSignal) (o : Bool) (row before : List Mark) → is_cut g ≡ false → row ≡ stage_marks g s o before → is_unstarted (cut_stage g) ≡ true → has_start row ≡ false
+unstarted-row : (g : Stage) (s : Option ShutdownSignal) (o : Bool) (row before : List Mark) → is_cut g ≡ false → row ≡ stage_marks g s o before
+    → is_unstarted (cut_stage g) ≡ true → has_start row ≡ false
 unstarted-row Running s o row before uncut is h = ap has_start is
 unstarted-row Offering s o row before uncut is h = ap has_start is
 unstarted-row CloseTimeout s o row before uncut is h = ap has_start is
@@ -77,7 +81,8 @@ unstarted-row (CutShort started) s o row before uncut is h = absurd (cc)
 unstarted-row Terminating s o row before uncut is h = absurd (cc)
 
 -- a fast signal after a graceful one
-module _ (p : Plan) (d : DrainData) (over over2 : Option ℕ) (q : Record) (graceful : is_graceful d.signal ≡ true) (uncut : is_cut d.stage ≡ false) (settled : IsDrainSettled d over)
+module _ (p : Plan) (d : DrainData) (over over2 : Option ℕ) (q : Record) (graceful : is_graceful d.signal ≡ true) (uncut : is_cut d.stage ≡ false)
+    (settled : IsDrainSettled d over)
     (overs : OverIs p (Got (Signal FastShutdown) ∷ q) over2) (stand : DrainStands p d over q) where
   graceful-first : is_graceful (signal_of q) ≡ true
   graceful-first = ap is_graceful (sym stand.signal_is) ∙ graceful
@@ -118,7 +123,9 @@ module _ (p : Plan) (d : DrainData) (over over2 : Option ℕ) (q : Record) (grac
     rest_is = λ n w. let e : true ≡ false = sym short ∙ n in absurd (cc);
     grace_is = λ at e w. let h : true ≡ false = sym short ∙ ap is_cut e in absurd (cc);
     marks_are = stand.marks_are
-        ∙ ap (λ marks. marks ++ marks_if d.running (phase RunningPhase ∷ [])) (sym row ∙ cut-marks d.stage d.signal d.offers over d.moment (cut_row p (Got (Signal FastShutdown) ∷ q)) (cut_row p q) graceful uncut settled stand.fits row);
+        ∙ ap (λ marks. marks ++ marks_if d.running (phase RunningPhase ∷ []))
+        (sym row ∙ cut-marks d.stage d.signal d.offers over d.moment (cut_row p (Got (Signal FastShutdown) ∷ q))
+        (cut_row p q) graceful uncut settled stand.fits row);
     unstarted = λ h. unstarted-row d.stage d.signal d.offers (cut_row p (Got (Signal FastShutdown) ∷ q)) (cut_row p q) uncut row h;
     unsignalled = stand.unsignalled;
     unrested = λ h. let e : true ≡ false = sym h ∙ (cut-late (cut_stage d.stage) short).0 in absurd (cc);
@@ -129,21 +136,25 @@ module _ (p : Plan) (d : DrainData) (over over2 : Option ℕ) (q : Record) (grac
 signalled-cut : (kind : ShutdownSignal) (offers : Bool) (d : DrainData) → cuts d.signal kind ≡ true → signalled kind offers d ≡ at_stage (cut_stage d.stage) d
 signalled-cut kind offers d h = by d.signal kind h
   where
-    by : (s : Option ShutdownSignal) (k : ShutdownSignal) → cuts s k ≡ true → signalled k offers (with_signal d s d.stage) ≡ at_stage (cut_stage d.stage) (with_signal d s d.stage)
+    by : (s : Option ShutdownSignal) (k : ShutdownSignal) → cuts s k ≡ true
+        → signalled k offers (with_signal d s d.stage) ≡ at_stage (cut_stage d.stage) (with_signal d s d.stage)
     by (Some earlier) k e = rw e refl
     by None FastShutdown e = absurd (cc)
     by None TerminateSignal e = absurd (cc)
     by None GracefulUpgrade e = absurd (cc)
 
-pub stands-cut : (p : Plan) (d : DrainData) (kind : ShutdownSignal) (offers : Bool) (over over2 : Option ℕ) (q : Record) → cuts d.signal kind ≡ true → is_cut d.stage ≡ false → IsDrainSettled d over
+pub stands-cut : (p : Plan) (d : DrainData) (kind : ShutdownSignal) (offers : Bool) (over over2 : Option ℕ) (q : Record) → cuts d.signal kind ≡ true
+    → is_cut d.stage ≡ false → IsDrainSettled d over
     → OverIs p (Got (Signal kind) ∷ q) over2 → DrainStands p d over q → DrainStands p (signalled kind offers d) over2 (Got (Signal kind) ∷ q)
 stands-cut p d FastShutdown offers over over2 q cut uncut settled overs stand =
-    subst (λ (x : DrainData). DrainStands p x over2 (Got (Signal FastShutdown) ∷ q)) (sym (signalled-cut FastShutdown offers d cut)) (cut-record p d over over2 q cut uncut settled overs stand)
+    subst (λ (x : DrainData). DrainStands p x over2 (Got (Signal FastShutdown) ∷ q)) (sym (signalled-cut FastShutdown offers d cut))
+    (cut-record p d over over2 q cut uncut settled overs stand)
 stands-cut p d TerminateSignal offers over over2 q cut uncut settled overs stand = absurd (cc)
 stands-cut p d GracefulUpgrade offers over over2 q cut uncut settled overs stand = absurd (cc)
 
 -- the same of what the part is after the call
-pub after-cut : (p : Plan) (d new : DrainData) (kind : ShutdownSignal) (offers : Bool) (over over2 : Option ℕ) (q : Record) → new ≡ signalled kind offers d → cuts d.signal kind ≡ true → is_cut d.stage ≡ false
+pub after-cut : (p : Plan) (d new : DrainData) (kind : ShutdownSignal) (offers : Bool) (over over2 : Option ℕ) (q : Record) → new ≡ signalled kind offers d
+    → cuts d.signal kind ≡ true → is_cut d.stage ≡ false
     → IsDrainSettled d over → OverIs p (Got (Signal kind) ∷ q) over2 → DrainStands p d over q → DrainStands p new over2 (Got (Signal kind) ∷ q)
 after-cut p d new kind offers over over2 q after cut uncut settled overs stand =
     subst (λ (x : DrainData). DrainStands p x over2 (Got (Signal kind) ∷ q)) (sym after) (stands-cut p d kind offers over over2 q cut uncut settled overs stand)

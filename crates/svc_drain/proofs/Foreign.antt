@@ -21,7 +21,8 @@ use Rattle.svc_drain.proofs.Records.{rest-new}
 use Rattle.svc_base.proofs.Logic.{apart_from as not_true}
 
 -- a told action that says nothing of `Running` and of the marks
-kept-told : (p : Plan) (d : DrainData) (over : Option ℕ) (q : Record) (a : Action) → times is_running (Told a ∷ q) ≡ times is_running q → told_marks (Told a ∷ q) ≡ told_marks q
+kept-told : (p : Plan) (d : DrainData) (over : Option ℕ) (q : Record) (a : Action) → times is_running (Told a ∷ q) ≡ times is_running q
+    → told_marks (Told a ∷ q) ≡ told_marks q
     → DrainStands p d over q → DrainStands p d over (Told a ∷ q)
 kept-told p d over q a running marks stand = record {
   running_is = running ∙ stand.running_is;
@@ -42,7 +43,8 @@ kept-told p d over q a running marks stand = record {
 }
 
 -- an action that isn't the part's
-pub stands-told : (p : Plan) (d : DrainData) (over : Option ℕ) (q : Record) (a : Action) → is_drain_action a ≡ false → DrainStands p d over q → DrainStands p d over (Told a ∷ q)
+pub stands-told : (p : Plan) (d : DrainData) (over : Option ℕ) (q : Record) (a : Action) → is_drain_action a ≡ false → DrainStands p d over q
+    → DrainStands p d over (Told a ∷ q)
 stands-told p d over q (Phase Bootstrap ms) other stand = kept-told p d over q (Phase Bootstrap ms) refl refl stand
 stands-told p d over q (Phase BootstrapComplete ms) other stand = kept-told p d over q (Phase BootstrapComplete ms) refl refl stand
 stands-told p d over q (Phase x ms) other stand = absurd (cc)
@@ -50,7 +52,8 @@ stands-told p d over q Broadcast other stand = absurd (cc)
 stands-told p d over q a other stand = kept-told p d over q a refl refl stand
 
 -- a told list in which nothing is the part's
-pub stands-tell : (p : Plan) (d : DrainData) (over : Option ℕ) (q : Record) (told : List Action) → has_no_drain_action told ≡ true → DrainStands p d over q → DrainStands p d over (tell q told)
+pub stands-tell : (p : Plan) (d : DrainData) (over : Option ℕ) (q : Record) (told : List Action) → has_no_drain_action told ≡ true → DrainStands p d over q
+    → DrainStands p d over (tell q told)
 stands-tell p d over q [] other stand = stand
 stands-tell p d over q (a ∷ told) other stand =
     let parts = and_parts (not (is_drain_action a)) (has_no_drain_action told) other in
@@ -61,7 +64,8 @@ fits-terms t u o true over2 h f = let e = f refl in grind arith
 fits-terms t u o false over2 h f = grind arith
 
 -- an offer stays over
-fits-later : (g : Stage) (s : Option ShutdownSignal) (o : Bool) (over over2 : Option ℕ) → stage_fits g s o over ≡ true → (is_some over ≡ true → over2 ≡ over) → stage_fits g s o over2 ≡ true
+fits-later : (g : Stage) (s : Option ShutdownSignal) (o : Bool) (over over2 : Option ℕ) → stage_fits g s o over ≡ true → (is_some over ≡ true → over2 ≡ over)
+    → stage_fits g s o over2 ≡ true
 fits-later Running s o over over2 h f = refl
 fits-later Offering s o over over2 h f = h
 fits-later CloseTimeout s o over over2 h f =
@@ -72,7 +76,8 @@ fits-later Terminating s o over over2 h f = h
 fits-later (CutShort started) s o over over2 h f = h
 
 -- as the offer gets over no rest is over
-rest-later : (over over2 : Option ℕ) (t : ℕ) → (is_some over ≡ true → over2 ≡ over) → (is_some over ≡ false → rest_from over2 t ≡ None) → rest_from over2 t ≡ rest_from over t
+rest-later : (over over2 : Option ℕ) (t : ℕ) → (is_some over ≡ true → over2 ≡ over) → (is_some over ≡ false → rest_from over2 t ≡ None)
+    → rest_from over2 t ≡ rest_from over t
 rest-later None over2 t f new = new refl
 rest-later (Some at) over2 t f new = ap (λ x. rest_from x t) (f refl)
 
@@ -85,12 +90,16 @@ rest-at-later Terminating over over2 t e = sym e
 rest-at-later (CutShort started) over over2 t e = sym e
 
 -- an event by which the offer gets over does so at its moment
-new-rest : (p : Plan) (d : DrainData) (over over2 : Option ℕ) (q : Record) (e : Event) → now (Got e ∷ q) ≡ now q → OverIs p (Got e ∷ q) over2 → DrainStands p d over q → is_some over ≡ false → rest_from over2 d.moment ≡ None
+new-rest : (p : Plan) (d : DrainData) (over over2 : Option ℕ) (q : Record) (e : Event) → now (Got e ∷ q) ≡ now q → OverIs p (Got e ∷ q) over2
+    → DrainStands p d over q → is_some over ≡ false → rest_from over2 d.moment ≡ None
 new-rest p d over over2 q e same overs stand not_over =
-    rest-new over2 d.moment (λ at is. sym (overs.moment at is) ∙ ap (λ b. if b then over_moment p q else now (Got e ∷ q)) (stand.over_is.is ∙ not_over) ∙ same ∙ sym stand.moment_is)
+    rest-new over2 d.moment
+    (λ at is. sym (overs.moment at is) ∙ ap (λ b. if b then over_moment p q else now (Got e ∷ q)) (stand.over_is.is ∙ not_over) ∙ same
+    ∙ sym stand.moment_is)
 
 -- an event that isn't the part's, be it an answer by which the offer gets over
-pub stands-got : (p : Plan) (d : DrainData) (over over2 : Option ℕ) (q : Record) (e : Event) → is_drain_event e ≡ false → IsDrainSettled d over → OverIs p (Got e ∷ q) over2 → (is_some over ≡ true → over2 ≡ over)
+pub stands-got : (p : Plan) (d : DrainData) (over over2 : Option ℕ) (q : Record) (e : Event) → is_drain_event e ≡ false → IsDrainSettled d over
+    → OverIs p (Got e ∷ q) over2 → (is_some over ≡ true → over2 ≡ over)
     → DrainStands p d over q → DrainStands p d over2 (Got e ∷ q)
 stands-got p d over over2 q (Moment ms) other settled overs stays stand = absurd (cc)
 stands-got p d over over2 q (Signal kind) other settled overs stays stand = absurd (cc)

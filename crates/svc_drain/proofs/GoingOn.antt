@@ -63,7 +63,9 @@ from-signal m since at e same = cc
 answered-fast : (p : Plan) (r : Bool) (m c : ℕ) (o : Bool) (over : Option ℕ) (q : Record) → DrainStands p (part r m (Some FastShutdown) c o Running) over q
     → DrainStands p (part r m (Some FastShutdown) c o Terminating) over (tell q (Phase ShutdownStarted m ∷ []))
 answered-fast p r m c o over q stand = restage p (part r m (Some FastShutdown) c o Running) over q Terminating (Phase ShutdownStarted m ∷ []) refl refl refl
-    (λ n w. let f = fast-offers (Some FastShutdown) o (not (is_empty_table (table p q))) refl (offers-by p (part r m (Some FastShutdown) c o Running) over q stand) in absurd (cc))
+    (λ n w. let f =
+    fast-offers (Some FastShutdown) o (not (is_empty_table (table p q))) refl (offers-by p (part r m (Some FastShutdown) c o Running) over q stand) in
+    absurd (cc))
     (λ at e w. cc)
     (ap (λ marks. phase ShutdownStarted ∷ marks) stand.marks_are)
     (λ h. cc)
@@ -71,9 +73,11 @@ answered-fast p r m c o over q stand = restage p (part r m (Some FastShutdown) c
     (λ h. cc)
     stand
 
-answered-terminate : (p : Plan) (r : Bool) (m c : ℕ) (o : Bool) (over : Option ℕ) (q : Record) → DrainStands p (part r m (Some TerminateSignal) c o Running) over q
+answered-terminate : (p : Plan) (r : Bool) (m c : ℕ) (o : Bool) (over : Option ℕ) (q : Record)
+    → DrainStands p (part r m (Some TerminateSignal) c o Running) over q
     → DrainStands p (part r m (Some TerminateSignal) c o (Grace m)) over (tell q (Broadcast ∷ Phase GracefulTerminate m ∷ grace_told m))
-answered-terminate p r m c o over q stand = restage p (part r m (Some TerminateSignal) c o Running) over q (Grace m) (Broadcast ∷ Phase GracefulTerminate m ∷ grace_told m) refl refl refl
+answered-terminate p r m c o over q stand =
+    restage p (part r m (Some TerminateSignal) c o Running) over q (Grace m) (Broadcast ∷ Phase GracefulTerminate m ∷ grace_told m) refl refl refl
     (λ n w. let f = offers-by p (part r m (Some TerminateSignal) c o Running) over q stand in absurd (cc))
     (λ at e w. from-signal m c at (stand.at_once refl) e)
     (ap (λ marks. phase ShutdownGracePeriod ∷ phase ShutdownStarted ∷ phase GracefulTerminate ∷ broadcast ∷ marks) stand.marks_are)
@@ -84,7 +88,9 @@ answered-terminate p r m c o over q stand = restage p (part r m (Some TerminateS
 
 answered-plain : (p : Plan) (r : Bool) (m c : ℕ) (over : Option ℕ) (q : Record) → DrainStands p (part r m (Some GracefulUpgrade) c false Running) over q
     → DrainStands p (part r m (Some GracefulUpgrade) c false (Grace m)) over (tell q (Phase GracefulUpgradeTransferringFds m ∷ Broadcast ∷ grace_told m))
-answered-plain p r m c over q stand = restage p (part r m (Some GracefulUpgrade) c false Running) over q (Grace m) (Phase GracefulUpgradeTransferringFds m ∷ Broadcast ∷ grace_told m) refl refl refl
+answered-plain p r m c over q stand =
+    restage p (part r m (Some GracefulUpgrade) c false Running) over q (Grace m)
+    (Phase GracefulUpgradeTransferringFds m ∷ Broadcast ∷ grace_told m) refl refl refl
     (λ n w. absurd (cc))
     (λ at e w. from-signal m c at (stand.at_once refl) e)
     (ap (λ marks. phase ShutdownGracePeriod ∷ phase ShutdownStarted ∷ broadcast ∷ phase GracefulUpgradeTransferringFds ∷ marks) stand.marks_are)
@@ -94,8 +100,10 @@ answered-plain p r m c over q stand = restage p (part r m (Some GracefulUpgrade)
     stand
 
 answered-offer : (p : Plan) (r : Bool) (m c : ℕ) (over : Option ℕ) (q : Record) → DrainStands p (part r m (Some GracefulUpgrade) c true Running) over q
-    → DrainStands p (gone_on (part r m (Some GracefulUpgrade) c true Running) over) over (tell q (row_told (part r m (Some GracefulUpgrade) c true Running) over))
-answered-offer p r m c None q stand = restage p (part r m (Some GracefulUpgrade) c true Running) None q Offering (Phase GracefulUpgradeTransferringFds m ∷ []) refl refl refl
+    → DrainStands p (gone_on (part r m (Some GracefulUpgrade) c true Running) over) over
+    (tell q (row_told (part r m (Some GracefulUpgrade) c true Running) over))
+answered-offer p r m c None q stand =
+    restage p (part r m (Some GracefulUpgrade) c true Running) None q Offering (Phase GracefulUpgradeTransferringFds m ∷ []) refl refl refl
     (λ n w. refl)
     (λ at e w. cc)
     (ap (λ marks. phase GracefulUpgradeTransferringFds ∷ marks) stand.marks_are)
@@ -103,7 +111,9 @@ answered-offer p r m c None q stand = restage p (part r m (Some GracefulUpgrade)
     (λ h. refl)
     (λ h. cc)
     stand
-answered-offer p r m c (Some at) q stand = restage p (part r m (Some GracefulUpgrade) c true Running) (Some at) q CloseTimeout (Phase GracefulUpgradeTransferringFds m ∷ Phase GracefulUpgradeCloseTimeout m ∷ []) refl refl refl
+answered-offer p r m c (Some at) q stand =
+    restage p (part r m (Some GracefulUpgrade) c true Running) (Some at) q CloseTimeout
+    (Phase GracefulUpgradeTransferringFds m ∷ Phase GracefulUpgradeCloseTimeout m ∷ []) refl refl refl
     (λ n w. refl)
     (λ at e w. cc)
     (ap (λ marks. phase GracefulUpgradeCloseTimeout ∷ phase GracefulUpgradeTransferringFds ∷ marks) stand.marks_are)
@@ -113,10 +123,13 @@ answered-offer p r m c (Some at) q stand = restage p (part r m (Some GracefulUpg
     stand
 
 -- the offer is over
-offered : (p : Plan) (r : Bool) (m : ℕ) (s : Option ShutdownSignal) (c : ℕ) (o : Bool) (over : Option ℕ) (q : Record) → DrainStands p (part r m s c o Offering) over q
+offered : (p : Plan) (r : Bool) (m : ℕ) (s : Option ShutdownSignal) (c : ℕ) (o : Bool) (over : Option ℕ) (q : Record)
+    → DrainStands p (part r m s c o Offering) over q
     → DrainStands p (gone_on (part r m s c o Offering) over) over (tell q (row_told (part r m s c o Offering) over))
 offered p r m s c o None q stand = stand
-offered p r m s c o (Some at) q stand = restage p (part r m s c o Offering) (Some at) q CloseTimeout (Phase GracefulUpgradeCloseTimeout m ∷ []) refl (and_from (is_upgrade s && o) true stand.fits refl) refl
+offered p r m s c o (Some at) q stand =
+    restage p (part r m s c o Offering) (Some at) q CloseTimeout (Phase GracefulUpgradeCloseTimeout m ∷ []) refl
+    (and_from (is_upgrade s && o) true stand.fits refl) refl
     (λ n w. refl)
     (λ at e w. cc)
     (ap (λ marks. phase GracefulUpgradeCloseTimeout ∷ marks) stand.marks_are)
@@ -126,10 +139,12 @@ offered p r m s c o (Some at) q stand = restage p (part r m s c o Offering) (Som
     stand
 
 -- the rest is over
-rested : (p : Plan) (r : Bool) (m : ℕ) (s : Option ShutdownSignal) (c : ℕ) (o : Bool) (over x : Option ℕ) (q : Record) → rest_from over m ≡ x → (is_some x ≡ true → x ≡ Some m) → DrainStands p (part r m s c o CloseTimeout) over q
+rested : (p : Plan) (r : Bool) (m : ℕ) (s : Option ShutdownSignal) (c : ℕ) (o : Bool) (over x : Option ℕ) (q : Record) → rest_from over m ≡ x
+    → (is_some x ≡ true → x ≡ Some m) → DrainStands p (part r m s c o CloseTimeout) over q
     → DrainStands p (part r m s c o (if is_some x then Grace m else CloseTimeout)) over (tell q (if is_some x then Broadcast ∷ grace_told m else []))
 rested p r m s c o over None q is ends stand = stand
-rested p r m (Some GracefulUpgrade) c true over (Some k) q is ends stand = restage p (part r m (Some GracefulUpgrade) c true CloseTimeout) over q (Grace m) (Broadcast ∷ grace_told m) refl stand.fits refl
+rested p r m (Some GracefulUpgrade) c true over (Some k) q is ends stand =
+    restage p (part r m (Some GracefulUpgrade) c true CloseTimeout) over q (Grace m) (Broadcast ∷ grace_told m) refl stand.fits refl
     (λ n w. is ∙ ends refl)
     (λ at e w. cc)
     (ap (λ marks. phase ShutdownGracePeriod ∷ phase ShutdownStarted ∷ broadcast ∷ marks) stand.marks_are)
@@ -143,7 +158,8 @@ rested p r m (Some FastShutdown) c o over (Some k) q is ends stand = let e = sta
 rested p r m None c o over (Some k) q is ends stand = let e = stand.fits in absurd (cc)
 
 -- the waits were cut short
-shortened : (p : Plan) (r : Bool) (m : ℕ) (s : Option ShutdownSignal) (c : ℕ) (o : Bool) (over : Option ℕ) (q : Record) → DrainStands p (part r m s c o (CutShort false)) over q
+shortened : (p : Plan) (r : Bool) (m : ℕ) (s : Option ShutdownSignal) (c : ℕ) (o : Bool) (over : Option ℕ) (q : Record)
+    → DrainStands p (part r m s c o (CutShort false)) over q
     → DrainStands p (part r m s c o (CutShort true)) over (tell q (Phase ShutdownStarted m ∷ []))
 shortened p r m s c o over q stand = restage p (part r m s c o (CutShort false)) over q (CutShort true) (Phase ShutdownStarted m ∷ []) refl stand.fits refl
     (λ n w. refl)
@@ -155,7 +171,8 @@ shortened p r m s c o over q stand = restage p (part r m s c o (CutShort false))
     (λ h. cc)
     stand
 
-gone : (p : Plan) (r : Bool) (m : ℕ) (s : Option ShutdownSignal) (c : ℕ) (o : Bool) (g : Stage) (over : Option ℕ) (q : Record) → DrainStands p (part r m s c o g) over q
+gone : (p : Plan) (r : Bool) (m : ℕ) (s : Option ShutdownSignal) (c : ℕ) (o : Bool) (g : Stage) (over : Option ℕ) (q : Record)
+    → DrainStands p (part r m s c o g) over q
     → DrainStands p (gone_on (part r m s c o g) over) over (tell q (row_told (part r m s c o g) over))
 gone p r m None c o Running over q stand = stand
 gone p r m (Some FastShutdown) c o Running over q stand = answered-fast p r m c o over q stand
@@ -170,9 +187,12 @@ gone p r m s c o (CutShort false) over q stand = shortened p r m s c o over q st
 gone p r m s c o (CutShort true) over q stand = stand
 
 -- what is due of the shutdown was told
-pub stands-gone_on : (p : Plan) (d : DrainData) (over : Option ℕ) (q : Record) → DrainStands p d over q → DrainStands p (gone_on d over) over (tell q (row_told d over))
+pub stands-gone_on : (p : Plan) (d : DrainData) (over : Option ℕ) (q : Record) → DrainStands p d over q
+    → DrainStands p (gone_on d over) over (tell q (row_told d over))
 stands-gone_on p d over q stand = gone p d.running d.moment d.signal d.since d.offers d.stage over q stand
 
 -- the same of what the part is after the call
-pub after-gone_on : (p : Plan) (d new : DrainData) (over : Option ℕ) (q : Record) → new ≡ gone_on d over → DrainStands p d over q → DrainStands p new over (tell q (row_told d over))
-after-gone_on p d new over q after stand = subst (λ (x : DrainData). DrainStands p x over (tell q (row_told d over))) (sym after) (stands-gone_on p d over q stand)
+pub after-gone_on : (p : Plan) (d new : DrainData) (over : Option ℕ) (q : Record) → new ≡ gone_on d over → DrainStands p d over q
+    → DrainStands p new over (tell q (row_told d over))
+after-gone_on p d new over q after stand =
+    subst (λ (x : DrainData). DrainStands p x over (tell q (row_told d over))) (sym after) (stands-gone_on p d over q stand)

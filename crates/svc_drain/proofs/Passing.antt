@@ -32,7 +32,8 @@ waits_over p (Some FastShutdown) offers t since rest = true
 waits_over p (Some TerminateSignal) offers t since rest = grace_over p t since
 waits_over p (Some GracefulUpgrade) offers t since rest = if offers then grace_after p t rest else grace_over p t since
 
-passed-by : (p : Plan) (q : Record) (s : Option ShutdownSignal) → has_passed_by p q s ≡ waits_over p s (has_offer p q) (now q) (now (before_signal q)) (rest_end p q)
+passed-by : (p : Plan) (q : Record) (s : Option ShutdownSignal)
+    → has_passed_by p q s ≡ waits_over p s (has_offer p q) (now q) (now (before_signal q)) (rest_end p q)
 passed-by p q None = refl
 passed-by p q (Some FastShutdown) = refl
 passed-by p q (Some TerminateSignal) = refl
@@ -47,7 +48,8 @@ row_over (Some GracefulUpgrade) true over rest = marks_if (is_some_moment rest) 
     ++ (marks_if over (phase GracefulUpgradeCloseTimeout ∷ []) ++ (phase GracefulUpgradeTransferringFds ∷ []))
 row_over (Some GracefulUpgrade) false over rest = phase ShutdownGracePeriod ∷ phase ShutdownStarted ∷ broadcast ∷ phase GracefulUpgradeTransferringFds ∷ []
 
-upgrade-row : (p : Plan) (q : Record) (o : Bool) → has_offer p q ≡ o → row_by p q (Some GracefulUpgrade) ≡ row_over (Some GracefulUpgrade) o (is_over p q) (rest_end p q)
+upgrade-row : (p : Plan) (q : Record) (o : Bool) → has_offer p q ≡ o
+    → row_by p q (Some GracefulUpgrade) ≡ row_over (Some GracefulUpgrade) o (is_over p q) (rest_end p q)
 upgrade-row p q true e = rw e refl
 upgrade-row p q false e = rw e refl
 
@@ -58,14 +60,18 @@ row-by p q (Some TerminateSignal) = refl
 row-by p q (Some GracefulUpgrade) = upgrade-row p q (has_offer p q) refl
 
 -- the waits by the stage, where all is told that is due
-waits-stage : (p : Plan) (g : Stage) (s : Option ShutdownSignal) (o : Bool) (over rest : Option ℕ) (t since : ℕ) → stage_fits g s o over ≡ true → is_told_far g s over t ≡ true → (is_cut g ≡ false → o ≡ true → rest ≡ rest_at g over t)
-    → ((at : ℕ) → g ≡ Grace at → o ≡ false → at ≡ since) → (is_terminate_signal s ≡ true → o ≡ false) → (is_cut g || waits_over p s o t since rest) ≡ passes_at p g t
+waits-stage : (p : Plan) (g : Stage) (s : Option ShutdownSignal) (o : Bool) (over rest : Option ℕ) (t since : ℕ) → stage_fits g s o over ≡ true
+    → is_told_far g s over t ≡ true → (is_cut g ≡ false → o ≡ true → rest ≡ rest_at g over t)
+    → ((at : ℕ) → g ≡ Grace at → o ≡ false → at ≡ since) → (is_terminate_signal s ≡ true → o ≡ false)
+    → (is_cut g || waits_over p s o t since rest) ≡ passes_at p g t
 waits-stage p Running None o over rest t since fits far is grace plain = refl
 waits-stage p Running (Some kind) o over rest t since fits far is grace plain = absurd (cc)
-waits-stage p Offering (Some GracefulUpgrade) true over rest t since fits far is grace plain = ap (grace_after p t) (is refl refl ∙ ap (λ x. rest_from x t) (no_moment over far))
+waits-stage p Offering (Some GracefulUpgrade) true over rest t since fits far is grace plain =
+    ap (grace_after p t) (is refl refl ∙ ap (λ x. rest_from x t) (no_moment over far))
 waits-stage p Offering (Some GracefulUpgrade) false over rest t since fits far is grace plain = absurd (cc)
 waits-stage p Offering _ o over rest t since fits far is grace plain = absurd (cc)
-waits-stage p CloseTimeout (Some GracefulUpgrade) true over rest t since fits far is grace plain = ap (grace_after p t) (is refl refl ∙ no_moment (rest_from over t) far)
+waits-stage p CloseTimeout (Some GracefulUpgrade) true over rest t since fits far is grace plain =
+    ap (grace_after p t) (is refl refl ∙ no_moment (rest_from over t) far)
 waits-stage p CloseTimeout (Some GracefulUpgrade) false over rest t since fits far is grace plain = absurd (cc)
 waits-stage p CloseTimeout _ o over rest t since fits far is grace plain = absurd (cc)
 waits-stage p (Grace at) (Some TerminateSignal) o over rest t since fits far is grace plain = ap (grace_over p t) (sym (grace at refl (plain refl)))
@@ -77,7 +83,8 @@ waits-stage p Terminating _ o over rest t since fits far is grace plain = absurd
 waits-stage p (CutShort started) s o over rest t since fits far is grace plain = refl
 
 -- the row by the stage
-row-stage : (g : Stage) (s : Option ShutdownSignal) (o : Bool) (over rest : Option ℕ) (t : ℕ) (before : List Mark) → stage_fits g s o over ≡ true → is_told_far g s over t ≡ true → (is_cut g ≡ false → o ≡ true → rest ≡ rest_at g over t)
+row-stage : (g : Stage) (s : Option ShutdownSignal) (o : Bool) (over rest : Option ℕ) (t : ℕ) (before : List Mark) → stage_fits g s o over ≡ true
+    → is_told_far g s over t ≡ true → (is_cut g ≡ false → o ≡ true → rest ≡ rest_at g over t)
     → (if is_cut g then with_start before else row_over s o (is_some over) rest) ≡ stage_marks g s o before
 row-stage Running None o over rest t before fits far is = refl
 row-stage Running (Some kind) o over rest t before fits far is = absurd (cc)
@@ -114,7 +121,8 @@ module _ (p : Plan) (d : DrainData) (over : Option ℕ) (q : Record) (stand : Dr
       ∙ ap (λ t. waits_over p d.signal d.offers t (now (before_signal q)) (rest_end p q)) (sym stand.moment_is)
       ∙ ap (λ t. waits_over p d.signal d.offers d.moment t (rest_end p q)) (sym stand.since_is)
       )
-      ∙ waits-stage p d.stage d.signal d.offers over (rest_end p q) d.moment d.since stand.fits settled stand.rest_is stand.grace_is (terminate-offers d.signal d.offers _ (offers-by p d over q stand))
+      ∙ waits-stage p d.stage d.signal d.offers over (rest_end p q) d.moment d.since stand.fits settled stand.rest_is stand.grace_is
+      (terminate-offers d.signal d.offers _ (offers-by p d over q stand))
 
   -- what is due after the signal is what was told
   pub row-is : wait_row p q ≡ stage_marks d.stage d.signal d.offers (cut_row p q)
@@ -144,12 +152,14 @@ pub running-is : (p : Plan) (d : DrainData) (over : Option ℕ) (q : Record) →
 running-is p d over q stand = has-once is_running q d.running stand.running_is
 
 -- until the waits have passed, what was told is what is due
-pub marks-right : (p : Plan) (d : DrainData) (over : Option ℕ) (q : Record) → passes p d ≡ false → IsDrainSettled d over → DrainStands p d over q → PhasesRight p q
+pub marks-right : (p : Plan) (d : DrainData) (over : Option ℕ) (q : Record) → passes p d ≡ false → IsDrainSettled d over → DrainStands p d over q
+    → PhasesRight p q
 marks-right p d over q unpassed settled stand =
     stand.marks_are
     ∙ ap (λ b. stage_marks d.stage d.signal d.offers (cut_row p q) ++ marks_if b (phase RunningPhase ∷ [])) (sym (running-is p d over q stand))
     ∙ ap (λ marks. marks ++ marks_if (has is_running q) (phase RunningPhase ∷ [])) (sym (row-is p d over q stand settled))
-    ∙ ap (λ b. (marks_if b (phase Terminated ∷ phase ShutdownRuntimes ∷ []) ++ wait_row p q) ++ marks_if (has is_running q) (phase RunningPhase ∷ [])) (sym (passed-is p d over q stand settled ∙ unpassed))
+    ∙ ap (λ b. (marks_if b (phase Terminated ∷ phase ShutdownRuntimes ∷ []) ++ wait_row p q) ++ marks_if (has is_running q) (phase RunningPhase ∷ []))
+    (sym (passed-is p d over q stand settled ∙ unpassed))
 
 -- what is told changes nothing of that
 pub passed-told : (p : Plan) (q : Record) (a : Action) → waits_are_over p (Told a ∷ q) ≡ waits_are_over p q
@@ -173,7 +183,8 @@ passed-other p q (Signal kind) other = absurd (cc)
 passed-other p q e other = refl
 
 -- nor does an event that isn't the part's
-pub passed-got : (p : Plan) (d : DrainData) (over over2 : Option ℕ) (q : Record) (e : Event) → is_drain_event e ≡ false → DrainStands p d over q → IsDrainSettled d over → OverIs p (Got e ∷ q) over2
+pub passed-got : (p : Plan) (d : DrainData) (over over2 : Option ℕ) (q : Record) (e : Event) → is_drain_event e ≡ false → DrainStands p d over q
+    → IsDrainSettled d over → OverIs p (Got e ∷ q) over2
     → (is_some over ≡ true → over2 ≡ over) → passes p d ≡ false → waits_are_over p (Got e ∷ q) ≡ false
 passed-got p d over over2 q e other stand settled overs stays unpassed = passed-other p q e other ∙ passed-is p d over q stand settled ∙ unpassed
 

@@ -29,7 +29,8 @@ pub record Unmoved (p : Plan) (q r : Record) : Type 0 where
   pub row_is : cut_row p r ≡ cut_row p q
 
 pub unmoved-tell : (p : Plan) (q : Record) (told : List Action) → Unmoved p q (tell q told)
-unmoved-tell p q [] = record { now_is = refl; signal_is = refl; before_is = refl; over_is = refl; moment_is = refl; rest_is = refl; cut_is = refl; row_is = refl }
+unmoved-tell p q [] =
+    record { now_is = refl; signal_is = refl; before_is = refl; over_is = refl; moment_is = refl; rest_is = refl; cut_is = refl; row_is = refl }
 unmoved-tell p q (a ∷ told) = let u = unmoved-tell p (Told a ∷ q) told in record {
   now_is = u.now_is;
   signal_is = u.signal_is;
@@ -88,7 +89,8 @@ signal-graceful q h = signal-kind q ∙ graceful-kind (signal_of q) h
 
 -- before a signal no offer is over
 pub unsignalled-over : (p : Plan) (q : Record) → signal_of q ≡ None → is_over p q ≡ false
-unsignalled-over p q h = ap (λ s. is_upgrade s && ((not (is_empty_table (table p q)) && (not (is_written (encode (table p q))) || has_cut q)) || is_answered p q)) h
+unsignalled-over p q h =
+    ap (λ s. is_upgrade s && ((not (is_empty_table (table p q)) && (not (is_written (encode (table p q))) || has_cut q)) || is_answered p q)) h
 
 -- the first if there is one, else the other
 abbrev pub or_rest : Option ℕ → Option ℕ → Option ℕ
@@ -113,7 +115,9 @@ first-none q kind h = sym (first-kind (signal_of q) kind) ∙ ap is_kind h
 -- nor does it rest
 pub unsignalled-rest : (p : Plan) (q : Record) → signal_of q ≡ None → rest_end p q ≡ None
 unsignalled-rest p [] h = refl
-unsignalled-rest p (Got (Moment ms) ∷ q) h = rest-step p q ms ∙ ap (λ x. or_rest x (rest_now p q ms)) (unsignalled-rest p q h) ∙ ap (λ b. if b && nat_le 5000 (ms - over_moment p q) then Some ms else None) (unsignalled-over p q h)
+unsignalled-rest p (Got (Moment ms) ∷ q) h =
+    rest-step p q ms ∙ ap (λ x. or_rest x (rest_now p q ms)) (unsignalled-rest p q h)
+    ∙ ap (λ b. if b && nat_le 5000 (ms - over_moment p q) then Some ms else None) (unsignalled-over p q h)
 unsignalled-rest p (Got (Signal kind) ∷ q) h = let e = first-none q kind h in absurd (cc)
 unsignalled-rest p (Got e ∷ q) h = unsignalled-rest p q h
 unsignalled-rest p (Told a ∷ q) h = unsignalled-rest p q h
@@ -171,7 +175,8 @@ pub row-later : (p : Plan) (q : Record) (kind : ShutdownSignal) → has_cut q �
 row-later p q kind h = ap (λ (x : Record). row_by p x (signal_of x)) (before-later q kind h)
 
 -- only at a cut the row before it counts
-pub same-row : (g : Stage) (s : Option ShutdownSignal) (o : Bool) (row other : List Mark) → (is_cut g ≡ true → row ≡ other) → stage_marks g s o row ≡ stage_marks g s o other
+pub same-row : (g : Stage) (s : Option ShutdownSignal) (o : Bool) (row other : List Mark) → (is_cut g ≡ true → row ≡ other)
+    → stage_marks g s o row ≡ stage_marks g s o other
 same-row Running s o row other h = refl
 same-row Offering s o row other h = refl
 same-row CloseTimeout s o row other h = refl

@@ -16,7 +16,8 @@ use Rattle.svc_drain.proofs.Passing.{passed-is, row-is, running-is, passed-tell,
 
 -- the seconds that `Stop` carries
 pub stop-is : (p : Plan) (d : DrainData) (over : Option ℕ) (q : Record) → DrainStands p d over q → stop_after p d ≡ stop_seconds p q
-stop-is p d over q stand = ap (λ s. if is_fast s || is_cut d.stage then 0 else p.stop) stand.signal_is ∙ ap (λ b. if is_fast (signal_of q) || b then 0 else p.stop) stand.cut_is
+stop-is p d over q stand =
+    ap (λ s. if is_fast s || is_cut d.stage then 0 else p.stop) stand.signal_is ∙ ap (λ b. if is_fast (signal_of q) || b then 0 else p.stop) stand.cut_is
 
 -- what the end tells is what is due, where the cuts are of the live connections
 pub ending-is : (p : Plan) (d : DrainData) (over : Option ℕ) (q : Record) (cuts : List ℕ) → DrainStands p d over q → cuts ≡ ascending (live_connections q)
@@ -45,7 +46,8 @@ cut-marks q [] = refl
 cut-marks q (c ∷ cs) = cut-marks (Told (Cut c) ∷ q) cs
 
 -- the two marks of the end
-end-marks : (p : Plan) (d : DrainData) (q : Record) (cuts closes : List ℕ) → told_marks (tell q (end_told p d cuts closes)) ≡ phase Terminated ∷ phase ShutdownRuntimes ∷ told_marks q
+end-marks : (p : Plan) (d : DrainData) (q : Record) (cuts closes : List ℕ)
+    → told_marks (tell q (end_told p d cuts closes)) ≡ phase Terminated ∷ phase ShutdownRuntimes ∷ told_marks q
 end-marks p d q cuts closes =
     let begun : Record = Told (Phase ShutdownRuntimes d.moment) ∷ q in
     marks-cuts begun cuts (map Close closes ++ stop_told p d)
@@ -62,14 +64,18 @@ end-running p d q cuts closes = by (Told (Phase ShutdownRuntimes d.moment) ∷ q
     by r (c ∷ cs) fds = by (Told (Cut c) ∷ r) cs fds
 
 -- after the end, what was told is what is due
-pub marks-at-end : (p : Plan) (d : DrainData) (over : Option ℕ) (q : Record) (cuts closes : List ℕ) → DrainStands p d over q → IsDrainSettled d over → passes p d ≡ true
+pub marks-at-end : (p : Plan) (d : DrainData) (over : Option ℕ) (q : Record) (cuts closes : List ℕ) → DrainStands p d over q → IsDrainSettled d over
+    → passes p d ≡ true
     → told_marks (tell q (end_told p d cuts closes)) ≡ due_marks p (tell q (end_told p d cuts closes))
 marks-at-end p d over q cuts closes stand settled passed =
     let r : Record = tell q (end_told p d cuts closes) in
     end-marks p d q cuts closes
     ∙ ap (λ marks. phase Terminated ∷ phase ShutdownRuntimes ∷ marks) (
     stand.marks_are
-    ∙ ap (λ b. stage_marks d.stage d.signal d.offers (cut_row p q) ++ marks_if b (phase RunningPhase ∷ [])) (sym (end-running p d q cuts closes ∙ running-is p d over q stand))
-    ∙ ap (λ marks. marks ++ marks_if (has is_running r) (phase RunningPhase ∷ [])) (sym (row-tell p q (end_told p d cuts closes) ∙ row-is p d over q stand settled))
+    ∙ ap (λ b. stage_marks d.stage d.signal d.offers (cut_row p q) ++ marks_if b (phase RunningPhase ∷ []))
+    (sym (end-running p d q cuts closes ∙ running-is p d over q stand))
+    ∙ ap (λ marks. marks ++ marks_if (has is_running r) (phase RunningPhase ∷ []))
+    (sym (row-tell p q (end_told p d cuts closes) ∙ row-is p d over q stand settled))
     )
-    ∙ ap (λ b. (marks_if b (phase Terminated ∷ phase ShutdownRuntimes ∷ []) ++ wait_row p r) ++ marks_if (has is_running r) (phase RunningPhase ∷ [])) (sym (passed-tell p q (end_told p d cuts closes) ∙ passed-is p d over q stand settled ∙ passed))
+    ∙ ap (λ b. (marks_if b (phase Terminated ∷ phase ShutdownRuntimes ∷ []) ++ wait_row p r) ++ marks_if (has is_running r) (phase RunningPhase ∷ []))
+    (sym (passed-tell p q (end_told p d cuts closes) ∙ passed-is p d over q stand settled ∙ passed))

@@ -48,7 +48,15 @@ signalled kind offers d = by d.signal
   where
     by : Option ShutdownSignal → DrainData
     by (Some earlier) = further kind d
-    by None = record { running = d.running; moment = d.moment; signal = Some kind; since = d.moment; offers = is_upgrade (Some kind) && offers; stage = d.stage }
+    by None = record {
+      running = d.running;
+      moment = d.moment;
+      signal = Some kind;
+      since = d.moment;
+      offers = is_upgrade (Some kind)
+          && offers;
+      stage = d.stage;
+    }
 
 -- the server runs
 abbrev pub run : DrainData → DrainData

@@ -54,8 +54,10 @@ abbrev pub stage_marks : Stage → Option ShutdownSignal → Bool → List Mark 
 stage_marks Running signal offers row = []
 stage_marks Offering signal offers row = phase GracefulUpgradeTransferringFds ∷ []
 stage_marks CloseTimeout signal offers row = phase GracefulUpgradeCloseTimeout ∷ phase GracefulUpgradeTransferringFds ∷ []
-stage_marks (Grace at) (Some GracefulUpgrade) true row = phase ShutdownGracePeriod ∷ phase ShutdownStarted ∷ broadcast ∷ phase GracefulUpgradeCloseTimeout ∷ phase GracefulUpgradeTransferringFds ∷ []
-stage_marks (Grace at) (Some GracefulUpgrade) false row = phase ShutdownGracePeriod ∷ phase ShutdownStarted ∷ broadcast ∷ phase GracefulUpgradeTransferringFds ∷ []
+stage_marks (Grace at) (Some GracefulUpgrade) true row =
+    phase ShutdownGracePeriod ∷ phase ShutdownStarted ∷ broadcast ∷ phase GracefulUpgradeCloseTimeout ∷ phase GracefulUpgradeTransferringFds ∷ []
+stage_marks (Grace at) (Some GracefulUpgrade) false row =
+    phase ShutdownGracePeriod ∷ phase ShutdownStarted ∷ broadcast ∷ phase GracefulUpgradeTransferringFds ∷ []
 stage_marks (Grace at) _ offers row = phase ShutdownGracePeriod ∷ phase ShutdownStarted ∷ phase GracefulTerminate ∷ broadcast ∷ []
 stage_marks Terminating signal offers row = phase ShutdownStarted ∷ []
 stage_marks (CutShort false) signal offers row = row

@@ -133,7 +133,8 @@ impl Drain {
             → DrainStands p self.old None q → DrainStands p self.new over (Got (Signal kind) ∷ q) }
         ensures later { (p : Plan) (over : Option ℕ) (q : Record) → has is_signal q ≡ true → cuts self.old.signal kind ≡ false → DrainStands p self.old over q
             → DrainStands p self.new over (Got (Signal kind) ∷ q) }
-        ensures cut { (p : Plan) (over over2 : Option ℕ) (q : Record) → cuts self.old.signal kind ≡ true → is_cut self.old.stage ≡ false → IsDrainSettled self.old over
+        ensures cut { (p : Plan) (over over2 : Option ℕ) (q : Record) → cuts self.old.signal kind ≡ true → is_cut self.old.stage ≡ false
+            → IsDrainSettled self.old over
             → OverIs p (Got (Signal kind) ∷ q) over2 → DrainStands p self.old over q → DrainStands p self.new over2 (Got (Signal kind) ∷ q) }
     {
         if self.signal.is_some() {

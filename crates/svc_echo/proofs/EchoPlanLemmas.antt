@@ -28,13 +28,17 @@ endpoints_after address control zero h = refl
 endpoints_after address control (suc s) h = absurd (omega (arith, h))
 
 address_fits : (address : List ℕ) → is_address address ≡ true → IsAddress (endpoint_at address)
-address_fits address e = let parts = both (nat_le 1 (length address)) (nat_le (length address) 4096) e in (leb-true 1 (length address) parts.0, leb-true (length address) 4096 parts.1)
+address_fits address e =
+    let parts = both (nat_le 1 (length address)) (nat_le (length address) 4096) e in
+    (leb-true 1 (length address) parts.0, leb-true (length address) 4096 parts.1)
 
 pub valid_plan : (address control : List ℕ) → is_address address ≡ true → is_address control ≡ true → IsValid (echo_plan address control)
 valid_plan address control a c = record {
   few = omega arith;
   few_endpoints = λ s h. rw (endpoints_after address control s h) (omega arith);
-  addresses = λ s h. rw (endpoints_after address control s h) (All-cons IsAddress (endpoint_at address) (endpoint_at control ∷ []) (address_fits address a) (All-cons IsAddress (endpoint_at control) [] (address_fits control c) (All-nil IsAddress)));
+  addresses = λ s h. rw (endpoints_after address control s h)
+      (All-cons IsAddress (endpoint_at address) (endpoint_at control ∷ []) (address_fits address a)
+      (All-cons IsAddress (endpoint_at control) [] (address_fits control c) (All-nil IsAddress)));
   inside = λ s h. rw (no_depends address control s) (All-nil (λ d. d < service_count (echo_plan address control)));
   acyclic = λ s path. no_chain (depends_on (echo_plan address control)) (alone address control) s s path.0 path.1;
   tasks = omega arith;

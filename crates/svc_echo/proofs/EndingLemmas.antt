@@ -24,7 +24,9 @@ use Rattle.svc_echo.specs.Endings.{is_stop, is_terminated, stops_last, ends_with
 -- what was told since the last event, where more is told
 pub last_step-tell : (q : Record) (told : List Action) → last_step (tell q told) ≡ reverse told ++ last_step q
 last_step-tell q [] = refl
-last_step-tell q (a ∷ more) = last_step-tell (Told a ∷ q) more ∙ sym (ap (λ (w : List Action). w ++ last_step q) (reverse-append (a ∷ []) more) ∙ append_assoc (reverse more) (a ∷ []) (last_step q))
+last_step-tell q (a ∷ more) =
+    last_step-tell (Told a ∷ q) more
+    ∙ sym (ap (λ (w : List Action). w ++ last_step q) (reverse-append (a ∷ []) more) ∙ append_assoc (reverse more) (a ∷ []) (last_step q))
 
 stop_ends : (a : Action) → is_stop a ≡ true → is_ending (Told a) ≡ true
 stop_ends (Stop n) h = refl
@@ -73,7 +75,8 @@ served_if_stopped p (Told a ∷ Told b ∷ q) right h = by (waits_are_over p r) 
     while_open open_right = let t : has is_ending r ≡ true = or_second (is_ending (Told a)) (is_ending (Told b)) (has is_ending q) (stop_ends b parts.0) in
         let f : has is_ending r ≡ false = open_right.no_end in cc
 
-    by_ends : (tested early : Bool) → ends_tested p r ≡ tested → has_ended_early p r ≡ early → waits_are_over p r ≡ false → has_ended p r ≡ true → EndedRight p r → ⊥
+    by_ends : (tested early : Bool) → ends_tested p r ≡ tested → has_ended_early p r ≡ early → waits_are_over p r ≡ false → has_ended p r ≡ true
+        → EndedRight p r → ⊥
     by_ends tested true et ee never e right_end = let silent : a ∷ b ∷ last_step q ≡ [] = rw ee at right_end.early in cc
     by_ends true false et ee never e right_end = let step = rw et at right_end.tested in
         let t : is_test_step (now r) (last_step r) ≡ true = step.0 in
@@ -106,7 +109,10 @@ stopped_if_served p r right e =
     ap (λ (q : Record). stops_last (last_step q)) passed.served.drain.ends
     ∙ last_told at (ascending (live_connections at)) (ascending (live_numbers p at)) (stop_seconds p at) (now at) (now at)
 
-other_end : (x y z u v w : Bool) → (if x then Tested else (if y then Parent 0 else (if z then Parent 1 else (if u then Ended Transfer else (if v then Ended NoSender else (if w then Ended BadMessage else On)))))) ≡ ServedEnd → ⊥
+other_end : (x y z u v w : Bool)
+    → (if x then Tested else
+    (if y then Parent 0 else (if z then Parent 1 else (if u then Ended Transfer else (if v then Ended NoSender else (if w then Ended BadMessage else On))))))
+    ≡ ServedEnd → ⊥
 other_end true y z u v w h = cc
 other_end false true z u v w h = cc
 other_end false false true u v w h = cc
@@ -123,7 +129,9 @@ passed_if_end p r h = by (waits_are_over p r) refl
   where
     by : (b : Bool) → waits_are_over p r ≡ b → waits_are_over p r ≡ true
     by true e = e
-    by false e = absurd (other_end (ends_tested p r) (ends_parent_well p r) (ends_parent_badly p r) (ends_transfer r) (ends_no_sender p r) (ends_bad_message r) (rw e at h))
+    by false e =
+        absurd (other_end (ends_tested p r) (ends_parent_well p r) (ends_parent_badly p r) (ends_transfer r) (ends_no_sender p r) (ends_bad_message r)
+        (rw e at h))
 
 -- the last post's actions are the last step of the journal's record
 ends-journal : (q : Record) (x : PostData) (posts : List PostData) → ends_with_stop (x ∷ posts) ≡ stops_last (last_step (record_after q (x ∷ posts)))
@@ -137,7 +145,11 @@ opening_open p opening = unsignalled-unpassed p (tell [] opening) (signal_of-tel
 -- the last post's end is `Served` exactly where its actions stop the server
 pub journal_served : (p : Plan) (opening : List Action) (posts : List PostData) → Legal p opening posts
     → (ends_with_stop posts ≡ true) ↔ (step_end p (journal_record opening posts) ≡ ServedEnd)
-journal_served p opening [] legal = (λ h. cc, λ h. let t : waits_are_over p (tell [] opening) ≡ true = passed_if_end p (tell [] opening) h in let f : waits_are_over p (tell [] opening) ≡ false = opening_open p opening in cc)
+journal_served p opening [] legal = (
+  λ h. cc,
+  λ h. let t : waits_are_over p (tell [] opening) ≡ true = passed_if_end p (tell [] opening) h in
+      let f : waits_are_over p (tell [] opening) ≡ false = opening_open p opening in cc,
+)
 journal_served p opening (x ∷ posts) legal =
     let r : Record = journal_record opening (x ∷ posts) in
     let same : ends_with_stop (x ∷ posts) ≡ stops_last (last_step r) = ends-journal (tell [] opening) x posts in

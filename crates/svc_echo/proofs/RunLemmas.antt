@@ -28,7 +28,8 @@ ends_so : (origin : BookData) (journal : List PostData) (is_served : Bool) → I
 ends_so origin journal is_served legal e =
     let both = journal_served origin.plan origin.opening journal legal in (λ h. both.0 (e ∙ h), λ h. sym e ∙ both.1 h)
 
-pub wrote_from : (plan : Plan) (turns : ℕ) (l r l' r' : DeskData) (one two : DeskEnd) (journal journal' : List PostData) (is_served : Bool) (before now : Option (List ℕ))
+pub wrote_from : (plan : Plan) (turns : ℕ) (l r l' r' : DeskData) (one two : DeskEnd) (journal journal' : List PostData) (is_served : Bool)
+    (before now : Option (List ℕ))
     → one.desk ≡ l' → two.desk ≡ r' → journal' ≡ journal → IsServed plan 1000000 turns l r one two journal → Says journal one.end two.end is_served before now
     → Wrote plan turns l r l' r' journal' is_served before now
 wrote_from plan turns l r l' r' one two journal journal' is_served before now left_is right_is same served says =
@@ -69,10 +70,12 @@ wrote_front plan turns l r l' r' one two journal journal' before now left_is rig
       wrote = says.wrote;
     })
 
-pub complete_from : (status : ℕ) (journal : List PostData) (origin : BookData) → IsRunStatus status → (status ≡ 4 → ends_with_stop journal ≡ false) → (status ≡ 6 → ⊥)
+pub complete_from : (status : ℕ) (journal : List PostData) (origin : BookData) → IsRunStatus status → (status ≡ 4 → ends_with_stop journal ≡ false)
+    → (status ≡ 6 → ⊥)
     → IsLegal origin journal → end_after origin journal ≡ Served → (status ≡ 0) ⊎ (status ≡ 7)
 complete_from status journal origin (inl zero_is) four six legal ends = inl zero_is
 complete_from status journal origin (inr (inl four_is)) four six legal ends =
-    let t : ends_with_stop journal ≡ true = (journal_served origin.plan origin.opening journal legal).1 ends in let f : ends_with_stop journal ≡ false = four four_is in cc
+    let t : ends_with_stop journal ≡ true = (journal_served origin.plan origin.opening journal legal).1 ends in
+    let f : ends_with_stop journal ≡ false = four four_is in cc
 complete_from status journal origin (inr (inr (inl six_is))) four six legal ends = absurd (six six_is)
 complete_from status journal origin (inr (inr (inr seven_is))) four six legal ends = inr seven_is

@@ -30,7 +30,8 @@ pub record Reports (plan : Plan) (turns : ℕ) (left right left' right' : DeskDa
   pub text : out ≡ report_text (length journal) is_served one.end two.end
 
 -- the sink took such a report
-pub record Wrote (plan : Plan) (turns : ℕ) (left right left' right' : DeskData) (journal : List PostData) (is_served : Bool) (before now : Option (List ℕ)) : Type 0 where
+pub record Wrote (plan : Plan) (turns : ℕ) (left right left' right' : DeskData) (journal : List PostData) (is_served : Bool)
+    (before now : Option (List ℕ)) : Type 0 where
   pub out : List ℕ
   pub reports : Reports plan turns left right left' right' journal is_served out
   pub wrote : Appends before now out
@@ -45,7 +46,8 @@ pub record WroteFront (plan : Plan) (turns : ℕ) (left right left' right' : Des
   pub wrote : Appends before now (take count out)
 
 -- the words were refused: the desks were asked for nothing and there is no journal; a status line was written, or a front of it where the sink failed
-pub record RefusedWords (words : List (List ℕ)) (left right left' right' : DeskData) (journal : List PostData) (faults faults' : ℕ) (before now : Option (List ℕ)) : Type 0 where
+pub record RefusedWords (words : List (List ℕ)) (left right left' right' : DeskData) (journal : List PostData) (faults faults' : ℕ)
+    (before now : Option (List ℕ)) : Type 0 where
   pub refused : turns_of words ≡ None
   pub left_is : left' ≡ left
   pub right_is : right' ≡ right

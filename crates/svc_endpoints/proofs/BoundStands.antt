@@ -47,7 +47,8 @@ pub giving-close : (b : Bool) (fd : ℕ) → IsGivingUp (close_told b fd)
 giving-close true fd = tt
 giving-close false fd = tt
 
-module _ (p : Plan) (d : EndpointsData) (q : Record) (s i fd : ℕ) (text : List ℕ) (sized : IsEndpointsSized p d) (inside : s < service_count p) (within : i < length (endpoints p s))
+module _ (p : Plan) (d : EndpointsData) (q : Record) (s i fd : ℕ) (text : List ℕ) (sized : IsEndpointsSized p d) (inside : s < service_count p)
+    (within : i < length (endpoints p s))
     (binds : is_binding (last_at d s i) ≡ true) (is : Some text ≡ address p s i) (fresh : is_in fd d.came ≡ false) (stand : EndpointsStand p d q) where
   free : failed_at d s ≡ false
   free = asks_free_binding p d s i sized inside within stand.kept binds
@@ -72,7 +73,9 @@ module _ (p : Plan) (d : EndpointsData) (q : Record) (s i fd : ℕ) (text : List
   not_doubled = not_true_false (is_doubled p q fd) (λ h. clash (is_opened p q fd) (doubled-opened p q fd h) not_opened)
 
   not_in_table : (a : Option (List ℕ)) → is_in fd (numbers_with d.table a) ≡ false
-  not_in_table a = not_true_false (is_in fd (numbers_with d.table a)) (λ h. clash (is_opened p q fd) (live-opened p q fd a (ap (is_in fd) (sym (stand.states.with_is a)) ∙ h)) not_opened)
+  not_in_table a =
+      not_true_false (is_in fd (numbers_with d.table a))
+      (λ h. clash (is_opened p q fd) (live-opened p q fd a (ap (is_in fd) (sym (stand.states.with_is a)) ∙ h)) not_opened)
 
   not_received : is_received p q fd ≡ false
   not_received = not_true_false (is_received p q fd) (λ h. clash (is_opened p q fd) (received-opened p q fd h) not_opened)
@@ -91,13 +94,20 @@ module _ (p : Plan) (d : EndpointsData) (q : Record) (s i fd : ℕ) (text : List
 
   -- a new descriptor that is alone with its address isn't gone
   new_now : has_live p q (address p s i) ≡ false → is_gone_now p (Got (Bound s i fd) ∷ q) fd ≡ false
-  new_now alone = rw (eq-eqb fd fd refl, alone, not_doubled, not_received) (and_left (is_address_abandoned p (Got (Bound s i fd) ∷ q) (address p s i)) (not (is_held_back p q fd)) (address-same p q (Got (Bound s i fd) ∷ q) (λ t. refl) (address p s i) ∙ needed))
+  new_now alone =
+      rw (eq-eqb fd fd refl, alone, not_doubled, not_received)
+      (and_left (is_address_abandoned p (Got (Bound s i fd) ∷ q) (address p s i)) (not (is_held_back p q fd))
+      (address-same p q (Got (Bound s i fd) ∷ q) (λ t. refl) (address p s i) ∙ needed))
 
   new_stays : has_live p q (address p s i) ≡ false → is_drained p (Got (Bound s i fd) ∷ q) fd ≡ false → is_gone p (Got (Bound s i fd) ∷ q) fd ≡ false
   new_stays alone drained = ap (λ b. b || is_drained p (Got (Bound s i fd) ∷ q) fd) (new_now alone) ∙ drained
 
   new_goes : has_live p q (address p s i) ≡ true → is_gone p (Got (Bound s i fd) ∷ q) fd ≡ true
-  new_goes taken = or_left (is_gone_now p (Got (Bound s i fd) ∷ q) fd) (is_drained p (Got (Bound s i fd) ∷ q) fd) (or_left (is_turned p (Got (Bound s i fd) ∷ q) fd) _ (or_right (is_received p (Got (Bound s i fd) ∷ q) fd && is_address_unclaimed p (address_of p (Got (Bound s i fd) ∷ q) fd)) (is_doubled p (Got (Bound s i fd) ∷ q) fd) (rw (eq-eqb fd fd refl, taken) refl)))
+  new_goes taken =
+      or_left (is_gone_now p (Got (Bound s i fd) ∷ q) fd) (is_drained p (Got (Bound s i fd) ∷ q) fd)
+      (or_left (is_turned p (Got (Bound s i fd) ∷ q) fd) _
+      (or_right (is_received p (Got (Bound s i fd) ∷ q) fd && is_address_unclaimed p (address_of p (Got (Bound s i fd) ∷ q) fd))
+      (is_doubled p (Got (Bound s i fd) ∷ q) fd) (rw (eq-eqb fd fd refl, taken) refl)))
 
   in_rows : s < length d.rows
   in_rows = omega (arith, sized.services)
@@ -107,18 +117,27 @@ module _ (p : Plan) (d : EndpointsData) (q : Record) (s i fd : ℕ) (text : List
 
   -- only this endpoint changes
   only_at : (m : EndpointsData) (x : EndpointStatus) → m.rows ≡ d.rows → m.failed ≡ d.failed → Changed p m (put_last m s i x) s i
-  only_at m x rows flags = changed-put p m s i false (record { last = x; times_in_use = times_in_use_at m s i }) (omega (arith, ap length rows, in_rows)) (omega (arith, ap (λ r. length (slice_index_or r s [])) rows, in_row))
-      (omega (arith, ap length flags, sized.failed)) within (ap (λ r. is_holding (slice_index_or (slice_index_or r s []) i idle).last) rows ∙ asking_not_holding (last_at d s i) (binding_asks (last_at d s i) binds))
+  only_at m x rows flags =
+      changed-put p m s i false (record { last = x; times_in_use = times_in_use_at m s i }) (omega (arith, ap length rows, in_rows))
+      (omega (arith, ap (λ r. length (slice_index_or r s [])) rows, in_row))
+      (omega (arith, ap length flags, sized.failed)) within
+      (ap (λ r. is_holding (slice_index_or (slice_index_or r s []) i idle).last) rows
+      ∙ asking_not_holding (last_at d s i) (binding_asks (last_at d s i) binds))
 
   only_bound : (text : List ℕ) → Changed p d (bound d s i fd text) s i
-  only_bound text = let h = only_at (with_open fd text d) (Holding fd) refl refl in record { loops = h.loops; last = h.last; failed = h.failed; within = h.within; idle = h.idle }
+  only_bound text =
+      let h = only_at (with_open fd text d) (Holding fd) refl refl in
+      record { loops = h.loops; last = h.last; failed = h.failed; within = h.within; idle = h.idle }
 
   only_again : Changed p d (bound_again d s i fd) s i
-  only_again = let h = only_at (with_number fd d) Idle refl refl in record { loops = h.loops; last = h.last; failed = h.failed; within = h.within; idle = h.idle }
+  only_again =
+      let h = only_at (with_number fd d) Idle refl refl in record { loops = h.loops; last = h.last; failed = h.failed; within = h.within; idle = h.idle }
 
   bound_drained : (text : List ℕ) (g : ℕ) → (fd == g) ≡ false → is_drained_by p (bound d s i fd text) g ≡ is_drained_by p d g
   bound_drained text g off = drained-same p d (bound d s i fd text) s i (only_bound text) q stand.loops g refl
-      (ap (uses g (failed_at d s) (is_done p d s i)) (put-here p (with_open fd text d) s i false (record { last = Holding fd; times_in_use = times_in_use_at d s i }) in_rows in_row) ∙ other (not (failed_at d s) && not (is_done p d s i)) (fd == g) off
+      (ap (uses g (failed_at d s) (is_done p d s i))
+      (put-here p (with_open fd text d) s i false (record { last = Holding fd; times_in_use = times_in_use_at d s i }) in_rows in_row)
+      ∙ other (not (failed_at d s) && not (is_done p d s i)) (fd == g) off
       ∙ sym (binding-unused g (failed_at d s) (is_done p d s i) (last_at d s i) binds))
     where
       other : (a b : Bool) → b ≡ false → (a && b) ≡ false
@@ -126,13 +145,15 @@ module _ (p : Plan) (d : EndpointsData) (q : Record) (s i fd : ℕ) (text : List
 
   again_drained : (g : ℕ) → is_drained_by p (bound_again d s i fd) g ≡ is_drained_by p d g
   again_drained g = drained-same p d (bound_again d s i fd) s i only_again q stand.loops g refl
-      (ap (uses g (failed_at d s) (is_done p d s i)) (put-here p (with_number fd d) s i false (record { last = Idle; times_in_use = times_in_use_at d s i }) in_rows in_row)
+      (ap (uses g (failed_at d s) (is_done p d s i))
+      (put-here p (with_number fd d) s i false (record { last = Idle; times_in_use = times_in_use_at d s i }) in_rows in_row)
       ∙ sym (binding-unused g (failed_at d s) (is_done p d s i) (last_at d s i) binds))
 
   -- what holds it now isn't drained
   held_undrained : is_drained_by p (bound d s i fd text) fd ≡ false
   held_undrained = used-not_drained p (bound d s i fd text) fd s i inside within
-      (ap (uses fd (failed_at d s) (is_done p d s i)) (put-here p (with_open fd text d) s i false (record { last = Holding fd; times_in_use = times_in_use_at d s i }) in_rows in_row)
+      (ap (uses fd (failed_at d s) (is_done p d s i))
+      (put-here p (with_open fd text d) s i false (record { last = Holding fd; times_in_use = times_in_use_at d s i }) in_rows in_row)
       ∙ (rw (free, changed-not_done p d (bound d s i fd text) s i (only_bound text) q stand.loops fd i, eq-eqb fd fd refl) refl))
 
   pub after-bound : has_open d.table (address p s i) ≡ false → EndpointsStand p (bound d s i fd text) (Got (Bound s i fd) ∷ q)
@@ -150,9 +171,12 @@ module _ (p : Plan) (d : EndpointsData) (q : Record) (s i fd : ℕ) (text : List
         closes_once = (refl, stand.closes_once);
         fails = stand.fails;
         closes = λ g came. elim (cases_eq fd g) [
-          | inl e ↦ subst (λ n. times (is_close n) q ≡ (if is_gone p (Got (Bound s i fd) ∷ q) n then 1 else 0)) e (no_close ∙ ap (λ b. if b then 1 else 0) (sym (new_stays alone (drained-is p (bound d s i fd text) (Got (Bound s i fd) ∷ q) states loops fd ∙ held_undrained))))
+          | inl e ↦ subst (λ n. times (is_close n) q ≡ (if is_gone p (Got (Bound s i fd) ∷ q) n then 1 else 0)) e
+              (no_close ∙ ap (λ b. if b then 1 else 0)
+              (sym (new_stays alone (drained-is p (bound d s i fd text) (Got (Bound s i fd) ∷ q) states loops fd ∙ held_undrained))))
           | inr ne ↦ (let off = ne_eqb fd g ne in stand.closes g (opened_before g off came) ∙ ap (λ b. if b then 1 else 0) (sym (other_gone g off
-              (drained-is p (bound d s i fd text) (Got (Bound s i fd) ∷ q) states loops g ∙ bound_drained text g off ∙ sym (drained-is p d q stand.states stand.loops g)))))
+              (drained-is p (bound d s i fd text) (Got (Bound s i fd) ∷ q) states loops g ∙ bound_drained text g off
+              ∙ sym (drained-is p d q stand.states stand.loops g)))))
         ];
         one_live = one_live-is p (bound d s i fd text) (Got (Bound s i fd) ∷ q) kept states;
         open_are = numbers_of-put (record { fd = fd; address = Some text }) d.table ∙ ap (put_number fd) stand.open_are
@@ -166,19 +190,27 @@ module _ (p : Plan) (d : EndpointsData) (q : Record) (s i fd : ℕ) (text : List
       let states = stands-again p d s i fd sized inside within binds free q new some stand.states in
       let kept = kept-again p d s i fd sized inside within binds free stand.kept in
       let taken : has_live p q (address p s i) ≡ true = sym (has_open-is p d q stand.states (address p s i)) ∙ some in
-      let loops = loops-told p (bound_again d s i fd) (Got (Bound s i fd) ∷ q) (Close fd) (loops-got p (bound_again d s i fd) q (Bound s i fd) refl (loops-changed p d (bound_again d s i fd) s i only_again q stand.loops)) in
+      let loops = loops-told p (bound_again d s i fd) (Got (Bound s i fd) ∷ q) (Close fd)
+      (loops-got p (bound_again d s i fd) q (Bound s i fd) refl (loops-changed p d (bound_again d s i fd) s i only_again q stand.loops)) in
       record {
         states = states;
         loops = loops;
         kept = kept;
         asks_due = (refl, (refl, stand.asks_due));
         asks_known = (refl, (refl, stand.asks_known));
-        closes_once = (and_from (is_opened p (Got (Bound s i fd) ∷ q) fd) (not (has (is_close fd) q)) (or_left (fd == fd) (is_opened p q fd) (eq-eqb fd fd refl)) (not_in (has (is_close fd) q) not_closed), (refl, stand.closes_once));
+        closes_once = (
+          and_from (is_opened p (Got (Bound s i fd) ∷ q) fd) (not (has (is_close fd) q)) (or_left (fd == fd) (is_opened p q fd) (eq-eqb fd fd refl))
+              (not_in (has (is_close fd) q) not_closed),
+          (refl, stand.closes_once),
+        );
         fails = stand.fails;
         closes = λ g came. elim (cases_eq fd g) [
-          | inl e ↦ subst (λ n. times (is_close n) (Told (Close fd) ∷ Got (Bound s i fd) ∷ q) ≡ (if is_gone p (Got (Bound s i fd) ∷ q) n then 1 else 0)) e (closed_up ∙ ap (λ b. if b then 1 else 0) (sym (new_goes taken)))
-          | inr ne ↦ (let off = ne_eqb fd g ne in not_counted g off ∙ stand.closes g (opened_before g off came) ∙ ap (λ b. if b then 1 else 0) (sym (other_gone g off
-              (drained-is p (bound_again d s i fd) (Told (Close fd) ∷ Got (Bound s i fd) ∷ q) states loops g ∙ again_drained g ∙ sym (drained-is p d q stand.states stand.loops g)))))
+          | inl e ↦ subst (λ n. times (is_close n) (Told (Close fd) ∷ Got (Bound s i fd) ∷ q) ≡ (if is_gone p (Got (Bound s i fd) ∷ q) n then 1 else 0)) e
+              (closed_up ∙ ap (λ b. if b then 1 else 0) (sym (new_goes taken)))
+          | inr ne ↦ (let off = ne_eqb fd g ne in not_counted g off ∙ stand.closes g (opened_before g off came)
+              ∙ ap (λ b. if b then 1 else 0) (sym (other_gone g off
+              (drained-is p (bound_again d s i fd) (Told (Close fd) ∷ Got (Bound s i fd) ∷ q) states loops g ∙ again_drained g
+              ∙ sym (drained-is p d q stand.states stand.loops g)))))
         ];
         one_live = one_live-is p (bound_again d s i fd) (Told (Close fd) ∷ Got (Bound s i fd) ∷ q) kept states;
         open_are = stand.open_are ∙ ap (λ w. ascending (map (λ (x : Descriptor). x.number) w)) (sym (live-doubled p q s i fd new));
@@ -192,12 +224,14 @@ module _ (p : Plan) (d : EndpointsData) (q : Record) (s i fd : ℕ) (text : List
       not_counted : (g : ℕ) → (fd == g) ≡ false → times (is_close g) (Told (Close fd) ∷ Got (Bound s i fd) ∷ q) ≡ times (is_close g) q
       not_counted g off = rw off refl
 
-  pub after-answer : (b : Bool) → has_open d.table (Some text) ≡ b → EndpointsStand p (bound_or_again b d s i fd text) (tell (Got (Bound s i fd) ∷ q) (close_told b fd))
+  pub after-answer : (b : Bool) → has_open d.table (Some text) ≡ b
+      → EndpointsStand p (bound_or_again b d s i fd text) (tell (Got (Bound s i fd) ∷ q) (close_told b fd))
   after-answer true e = after-again (subst (λ a. has_open d.table a ≡ true) is e)
   after-answer false e = after-bound (subst (λ a. has_open d.table a ≡ false) is e)
 
 -- what is told, and how much
-pub tells-bound : (p : Plan) (d made_now : EndpointsData) (s i fd : ℕ) (text : List ℕ) (before after : List Action) → IsEndpointsSized p d → s < service_count p → i < length (endpoints p s)
+pub tells-bound : (p : Plan) (d made_now : EndpointsData) (s i fd : ℕ) (text : List ℕ) (before after : List Action) → IsEndpointsSized p d → s < service_count p
+    → i < length (endpoints p s)
     → is_binding (last_at d s i) ≡ true → Some text ≡ address p s i → is_in fd d.came ≡ false
     → made_now ≡ bound_or_again (has_open d.table (Some text)) d s i fd text → after ≡ before ++ close_told (has_open d.table (Some text)) fd
     → Tells before after (λ told. IsGivingUp told × ((q : Record) → EndpointsStand p d q → EndpointsStand p made_now (tell (Got (Bound s i fd) ∷ q) told)))
@@ -218,6 +252,7 @@ longer o (x ∷ more) = let h = longer o more in elim (cases_Bool (nat_lt o.fd x
   | inr above ↦ rw above (omega (arith, h))
 ]
 
-pub bound-few : (b : Bool) (d : EndpointsData) (s i fd : ℕ) (text : List ℕ) → length (close_told b fd) + length (bound_or_again b d s i fd text).table ≤ length d.table + 1
+pub bound-few : (b : Bool) (d : EndpointsData) (s i fd : ℕ) (text : List ℕ)
+    → length (close_told b fd) + length (bound_or_again b d s i fd text).table ≤ length d.table + 1
 bound-few true d s i fd text = omega arith
 bound-few false d s i fd text = let h = longer (record { fd = fd; address = Some text }) d.table in omega (arith, h)

@@ -9,7 +9,8 @@ use Rattle.svc_endpoints.specs.EndpointsState.{is_holding}
 use Rattle.svc_endpoints.specs.Visits.{busy_of}
 use Rattle.svc_endpoints.proofs.RangeLemmas.{at0}
 
-pub one-with : (p : Plan) (a : Option (List ℕ)) (test : ℕ → ℕ → Bool) (s i : ℕ) → s < service_count p → i < length (endpoints p s) → (same_address (address p s i) a && test s i) ≡ true → any_with p a test ≡ true
+pub one-with : (p : Plan) (a : Option (List ℕ)) (test : ℕ → ℕ → Bool) (s i : ℕ) → s < service_count p → i < length (endpoints p s)
+    → (same_address (address p s i) a && test s i) ≡ true → any_with p a test ≡ true
 one-with p a test s i inside within h = at0 (λ t. list_any (λ k. same_address (address p t k) a && test t k) (endpoint_numbers p t)) (service_count p) s inside
     (at0 (λ k. same_address (address p s k) a && test s k) (length (endpoints p s)) i within h)
 

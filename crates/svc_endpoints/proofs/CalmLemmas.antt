@@ -31,12 +31,14 @@ clear-other was t s ne = rw (ne_eqb t s ne) (plain was)
     plain : (b : Bool) → (b && true) ≡ b
     plain b = grind arith
 
-module _ (rows : List (List EndpointState)) (failed : List Bool) (busy next : List ℕ) (s : ℕ) (known : AreBusyKnown rows failed busy) (same : length next ≡ length busy) (others : (t : ℕ) → t ≢ s → is_set next 0 t ≡ is_set busy 0 t) where
+module _ (rows : List (List EndpointState)) (failed : List Bool) (busy next : List ℕ) (s : ℕ) (known : AreBusyKnown rows failed busy)
+    (same : length next ≡ length busy) (others : (t : ℕ) → t ≢ s → is_set next 0 t ≡ is_set busy 0 t) where
   bits_next : HasRows next 1
   bits_next = let old = known.bits in omega (arith, old, same)
 
   -- the service fails
-  pub known-failed : s < length failed → (is_set next 0 s ≡ false → IsRowCalm true (slice_index_or rows s [])) → AreBusyKnown rows (slice_set failed s true) next
+  pub known-failed : s < length failed → (is_set next 0 s ≡ false → IsRowCalm true (slice_index_or rows s []))
+      → AreBusyKnown rows (slice_set failed s true) next
   known-failed inside here = record {
     few = known.few;
     flags = length-set failed s true ∙ known.flags;

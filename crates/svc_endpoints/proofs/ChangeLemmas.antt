@@ -79,7 +79,9 @@ module _ (p : Plan) (d d2 : EndpointsData) (s i : ℕ) (is : Changed p d d2 s i)
     not_here t k h e = not_serving k (subst (λ u. ServesIn p d u k) e (done-serves p d q was t k h))
 
     holder_same : (t k : ℕ) → ((t ≡ s) → ⊥) → is_holder_by d2 fd t k ≡ is_holder_by d fd t k
-    holder_same t k ne = ap (λ b. not b && has_held fd (last_at d2 t k)) (is.failed t ne) ∙ ap (λ (x : EndpointStatus). not (failed_at d t) && has_held fd x) (is.last t k (λ e f. ne e))
+    holder_same t k ne =
+        ap (λ b. not b && has_held fd (last_at d2 t k)) (is.failed t ne)
+        ∙ ap (λ (x : EndpointStatus). not (failed_at d t) && has_held fd x) (is.last t k (λ e f. ne e))
 
     user_same : (t k : ℕ) → ((t ≡ s) → ⊥) → is_user p d2 fd t k ≡ is_user p d fd t k
     user_same t k ne = ap (λ b. uses fd b (is_done p d2 t k) (last_at d2 t k)) (is.failed t ne)
@@ -91,14 +93,19 @@ module _ (p : Plan) (d d2 : EndpointsData) (s i : ℕ) (is : Changed p d d2 s i)
     drained-fails failed none = drained-grows p d d2 fd
         (λ t k holds done. holder_same t k (not_here t k done) ∙ holds)
         (λ t k inside within u. elim (cases_eq t s) [
-          | inl e ↦ absurd (clash (is_user p d2 fd s k) (subst (λ v. is_user p d2 fd v k ≡ true) e u) (quiet fd (failed_at d2 s) (is_done p d2 s k) (last_at d2 s k) failed (none k)))
+          | inl e ↦ absurd
+              (clash (is_user p d2 fd s k) (subst (λ v. is_user p d2 fd v k ≡ true) e u)
+              (quiet fd (failed_at d2 s) (is_done p d2 s k) (last_at d2 s k) failed (none k)))
           | inr ne ↦ sym (user_same t k ne) ∙ u
         ])
 
     -- where it uses what it used, the same is drained
-    pub drained-same : failed_at d2 s ≡ failed_at d s → uses fd (failed_at d s) (is_done p d s i) (last_at d2 s i) ≡ uses fd (failed_at d s) (is_done p d s i) (last_at d s i) → is_drained_by p d2 fd ≡ is_drained_by p d fd
+    pub drained-same : failed_at d2 s ≡ failed_at d s
+        → uses fd (failed_at d s) (is_done p d s i) (last_at d2 s i) ≡ uses fd (failed_at d s) (is_done p d s i) (last_at d s i)
+        → is_drained_by p d2 fd ≡ is_drained_by p d fd
     drained-same failed here = bool_same (is_drained_by p d2 fd) (is_drained_by p d fd)
-        (drained-grows p d2 d fd (λ t k holds done. sym (holder_same t k (not_here t k (sym (done_same t k) ∙ done))) ∙ holds) (λ t k inside within u. each t k ∙ u))
+        (drained-grows p d2 d fd (λ t k holds done. sym (holder_same t k (not_here t k (sym (done_same t k) ∙ done))) ∙ holds)
+        (λ t k inside within u. each t k ∙ u))
         (drained-grows p d d2 fd (λ t k holds done. holder_same t k (not_here t k done) ∙ holds) (λ t k inside within u. sym (each t k) ∙ u))
       where
         each : (t k : ℕ) → is_user p d2 fd t k ≡ is_user p d fd t k
@@ -108,17 +115,20 @@ module _ (p : Plan) (d d2 : EndpointsData) (s i : ℕ) (is : Changed p d d2 s i)
         ]
           where
             at_s : (k : ℕ) → is_user p d2 fd s k ≡ is_user p d fd s k
-            at_s k = ap (λ b. uses fd b (is_done p d2 s k) (last_at d2 s k)) failed ∙ ap (λ b. uses fd (failed_at d s) b (last_at d2 s k)) (done_same s k) ∙ elim (cases_eq k i) [
-              | inl e ↦ subst (λ j. uses fd (failed_at d s) (is_done p d s j) (last_at d2 s j) ≡ uses fd (failed_at d s) (is_done p d s j) (last_at d s j)) (sym e) here
-              | inr ne ↦ ap (λ (x : EndpointStatus). uses fd (failed_at d s) (is_done p d s k) x) (is.last s k (λ e f. ne f))
-            ]
+            at_s k = ap (λ b. uses fd b (is_done p d2 s k) (last_at d2 s k)) failed ∙ ap (λ b. uses fd (failed_at d s) b (last_at d2 s k)) (done_same s k)
+                ∙ elim (cases_eq k i) [
+                  | inl e ↦ subst (λ j. uses fd (failed_at d s) (is_done p d s j) (last_at d2 s j) ≡ uses fd (failed_at d s) (is_done p d s j) (last_at d s j))
+                      (sym e) here
+                  | inr ne ↦ ap (λ (x : EndpointStatus). uses fd (failed_at d s) (is_done p d s k) x) (is.last s k (λ e f. ne f))
+                ]
 
     -- no loop of the service ended
     pub changed-not_done : (k : ℕ) → is_done p d s k ≡ false
     changed-not_done k = false_where (is_done p d s k) (λ y. not_serving k (done-serves p d q was s k y))
 
 -- a put, after which the service has failed where b says so
-pub changed-put : (p : Plan) (d : EndpointsData) (s i : ℕ) (b : Bool) (x : EndpointState) → s < length d.rows → i < length (slice_index_or d.rows s []) → s < length d.failed → i < length (endpoints p s) → is_holding (last_at d s i) ≡ false → Changed p d (fail_if b s (put d s i x)) s i
+pub changed-put : (p : Plan) (d : EndpointsData) (s i : ℕ) (b : Bool) (x : EndpointState) → s < length d.rows → i < length (slice_index_or d.rows s [])
+    → s < length d.failed → i < length (endpoints p s) → is_holding (last_at d s i) ≡ false → Changed p d (fail_if b s (put d s i x)) s i
 changed-put p d s i b x in_rows in_row in_failed within idle = record {
   loops = same_loops b;
   last = λ t k ne. last_at-fail b s (put d s i x) t k ∙ last_at-put d s i x in_rows in_row t k ∙ elim (cases_eq s t) [
@@ -138,18 +148,23 @@ changed-put p d s i b x in_rows in_row in_failed within idle = record {
     or_none b = grind arith
 
 -- the state that it has then
-pub put-here : (p : Plan) (d : EndpointsData) (s i : ℕ) (b : Bool) (x : EndpointState) → s < length d.rows → i < length (slice_index_or d.rows s []) → last_at (fail_if b s (put d s i x)) s i ≡ x.last
+pub put-here : (p : Plan) (d : EndpointsData) (s i : ℕ) (b : Bool) (x : EndpointState) → s < length d.rows → i < length (slice_index_or d.rows s [])
+    → last_at (fail_if b s (put d s i x)) s i ≡ x.last
 put-here p d s i b x in_rows in_row = last_at-fail b s (put d s i x) s i ∙ last_at-put d s i x in_rows in_row s i ∙ (rw (eq-eqb s s refl, eq-eqb i i refl) refl)
 
 -- the same states make the same go
-module _ (p : Plan) (keep : List ℕ) (rows : List (List EndpointState)) (flags : List Bool) (loops : List LoopEnd) (d : EndpointsData) (same_rows : rows ≡ d.rows) (same_flags : flags ≡ d.failed) (same_loops : loops ≡ d.loops) where
+module _ (p : Plan) (keep : List ℕ) (rows : List (List EndpointState)) (flags : List Bool) (loops : List LoopEnd) (d : EndpointsData)
+    (same_rows : rows ≡ d.rows) (same_flags : flags ≡ d.failed) (same_loops : loops ≡ d.loops) where
   same_states : {A : Type 0} (f : EndpointsData → A) → f (states_of rows flags loops) ≡ f (states_of d.rows d.failed d.loops)
-  same_states f = ap (λ (r : List (List EndpointState)). f (states_of r flags loops)) same_rows ∙ ap (λ (g : List Bool). f (states_of d.rows g loops)) same_flags ∙ ap (λ (l : List LoopEnd). f (states_of d.rows d.failed l)) same_loops
+  same_states f =
+      ap (λ (r : List (List EndpointState)). f (states_of r flags loops)) same_rows ∙ ap (λ (g : List Bool). f (states_of d.rows g loops)) same_flags
+      ∙ ap (λ (l : List LoopEnd). f (states_of d.rows d.failed l)) same_loops
 
   pub cleared-is : (table : List Open) → table ≡ without_gone p keep (states_of rows flags loops) d.table → record d { table = table } ≡ cleared p keep d
   cleared-is table is = ap (λ (t : List Open). record d { table = t }) (is ∙ same_states (λ (m : EndpointsData). without_gone p keep m d.table))
 
-  pub told-is : (before after : List Action) → after ≡ before ++ map Close (gone_numbers p keep (states_of rows flags loops) d.table) → after ≡ before ++ map Close (gone_numbers p keep d d.table)
+  pub told-is : (before after : List Action) → after ≡ before ++ map Close (gone_numbers p keep (states_of rows flags loops) d.table)
+      → after ≡ before ++ map Close (gone_numbers p keep d d.table)
   told-is before after is = is ∙ same_states (λ (m : EndpointsData). before ++ map Close (gone_numbers p keep m d.table))
 
   pub drained-by_states : (fd : ℕ) → is_drained_by p (states_of rows flags loops) fd ≡ is_drained_by p d fd

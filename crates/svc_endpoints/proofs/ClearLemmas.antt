@@ -54,7 +54,8 @@ live_of q xs = filter (λ (x : Descriptor). not (has (is_close x.number) q)) xs
 abbrev numbers_of : Option (List ℕ) → List Descriptor → List ℕ
 numbers_of a xs = map (λ (x : Descriptor). x.number) (filter (λ (x : Descriptor). same_address x.address a) xs)
 
-one_more : (fd : ℕ) (q : Record) (a : Option (List ℕ)) (x : Descriptor) (xs : List Descriptor) → is_in fd (numbers_of a (live_of q xs)) ≡ true → is_in fd (numbers_of a (live_of q (x ∷ xs))) ≡ true
+one_more : (fd : ℕ) (q : Record) (a : Option (List ℕ)) (x : Descriptor) (xs : List Descriptor) → is_in fd (numbers_of a (live_of q xs)) ≡ true
+    → is_in fd (numbers_of a (live_of q (x ∷ xs))) ≡ true
 one_more fd q a x xs h = elim (cases_Bool (has (is_close x.number) q)) [
   | inl c ↦ rw c h
   | inr o ↦ elim (cases_Bool (same_address x.address a)) [
@@ -63,7 +64,8 @@ one_more fd q a x xs h = elim (cases_Bool (has (is_close x.number) q)) [
   ]
 ]
 
-still_live : (fd : ℕ) (q : Record) (a : List ℕ) (xs : List Descriptor) → list_any (has_number fd) xs ≡ true → first_address fd xs ≡ Some a → has (is_close fd) q ≡ false → is_in fd (numbers_of (Some a) (live_of q xs)) ≡ true
+still_live : (fd : ℕ) (q : Record) (a : List ℕ) (xs : List Descriptor) → list_any (has_number fd) xs ≡ true → first_address fd xs ≡ Some a
+    → has (is_close fd) q ≡ false → is_in fd (numbers_of (Some a) (live_of q xs)) ≡ true
 still_live fd q a [] h e c = absurd (cc)
 still_live fd q a (x ∷ xs) h e c = elim (cases_Bool (x.number == fd)) [
   | inl y ↦ (let here : x.address ≡ Some a = rw y at e in
@@ -118,7 +120,8 @@ module _ (p : Plan) (keep : List ℕ) (d : EndpointsData) (q : Record) (offer : 
   -- each of them is live
   pub goes-live : (g : ℕ) → is_in g ns ≡ true → (is_opened p q g ≡ true) × (has (is_close g) q ≡ false)
   goes-live g h =
-      let lives : is_in g (live_numbers p q) ≡ true = sym (any-ascending (λ n. n == g) (live_numbers p q)) ∙ ap (is_in g) (sym mid.open_are) ∙ part_in done g d.table h in
+      let lives : is_in g (live_numbers p q) ≡ true =
+      sym (any-ascending (λ n. n == g) (live_numbers p q)) ∙ ap (is_in g) (sym mid.open_are) ∙ part_in done g d.table h in
       let parts = and_parts (is_opened p q g) (not (has (is_close g) q)) (sym (live-is p q g) ∙ lives) in
       (parts.0, apart_from (has (is_close g) q) parts.1)
 
@@ -128,20 +131,26 @@ module _ (p : Plan) (keep : List ℕ) (d : EndpointsData) (q : Record) (offer : 
       let at = picked-from done d.table g h in
       let o : Open = at.0 in
       elim (or_cases (is_done_for p d.failed keep o) (is_drained_by p d o.fd) at.1) [
-        | inr drained ↦ or_right (is_gone_now p q g) (is_drained p q g) (drained-is p d q mid.states mid.loops g ∙ subst (λ n. is_drained_by p d n ≡ true) (eqb-true o.fd g at.2) drained)
+        | inr drained ↦
+            or_right (is_gone_now p q g) (is_drained p q g)
+            (drained-is p d q mid.states mid.loops g ∙ subst (λ n. is_drained_by p d n ≡ true) (eqb-true o.fd g at.2) drained)
         | inl left ↦ (let parts = and_parts (passes gone o.address) (not (is_in o.fd keep)) left in
             let some = some-passes gone o.address parts.0 in
             let lives : is_in g (live_numbers_with p q (Some some.0)) ≡ true = ap (is_in g) (sym (mid.states.with_is (Some some.0))) ∙ at.3 some.0 some.1 in
             or_left (is_gone_now p q g) (is_drained p q g) (or_right (is_turned p q g) (is_address_abandoned p q (address_of p q g) && not (is_held_back p q g))
             (and_from (is_address_abandoned p q (address_of p q g)) (not (is_held_back p q g))
-            (subst (λ a. is_address_abandoned p q a ≡ true) (sym (live-address p q g (Some some.0) mid.came_apart lives)) (sym (abandoned-is p d q mid.states some.0) ∙ some.2))
+            (subst (λ a. is_address_abandoned p q a ≡ true) (sym (live-address p q g (Some some.0) mid.came_apart lives))
+            (sym (abandoned-is p d q mid.states some.0) ∙ some.2))
             (not_in (is_held_back p q g) (sym (offer g) ∙ subst (λ n. is_in n keep ≡ false) (eqb-true o.fd g at.2) (apart_from (is_in o.fd keep) parts.1))))))
       ]
 
   states-cleared : StatesStand p (cleared p keep d) r
   states-cleared = record {
-    each = along-closes (λ x. (s i : ℕ) → s < service_count p → i < length (endpoints p s) → StandsAt p (last_at d s i) x s i) (λ x n h. h) q ns mid.states.each;
-    counts = along-closes (λ x. (s i : ℕ) → s < service_count p → i < length (endpoints p s) → failed_at d s ≡ false → times_in_use_at d s i ≡ in_use_count p x s i) (λ x n h. h) q ns mid.states.counts;
+    each = along-closes (λ x. (s i : ℕ) → s < service_count p → i < length (endpoints p s) → StandsAt p (last_at d s i) x s i)
+        (λ x n h. h) q ns mid.states.each;
+    counts = along-closes
+        (λ x. (s i : ℕ) → s < service_count p → i < length (endpoints p s) → failed_at d s ≡ false → times_in_use_at d s i ≡ in_use_count p x s i)
+        (λ x n h. h) q ns mid.states.counts;
     failed_is = along-closes (λ x. (s : ℕ) → s < service_count p → failed_at d s ≡ has_failed p x s) (λ x n h. h) q ns mid.states.failed_is;
     with_is = with_is;
     lost = mid.states.lost;
@@ -173,10 +182,15 @@ module _ (p : Plan) (keep : List ℕ) (d : EndpointsData) (q : Record) (offer : 
       short : (xs : List ℕ) → length xs ≤ 1 → length (left_out ns xs) ≤ 1
       short xs h = let k = less (λ n. not (is_in n ns)) xs in omega (arith, k)
 
-      same_there : d.loops ≡ [] → (s i : ℕ) → failed_at d s ≡ false → numbers_with (cleared p keep d).table (address p s i) ≡ numbers_with d.table (address p s i)
+      same_there : d.loops ≡ [] → (s i : ℕ) → failed_at d s ≡ false
+          → numbers_with (cleared p keep d).table (address p s i) ≡ numbers_with d.table (address p s i)
       same_there early s i free = elim (cases_address (address p s i)) [
         | inl none ↦ rw none (with-None (cleared p keep d).table ∙ sym (with-None d.table))
-        | inr some ↦ rw some.1 (picked-stays done (Some some.0) (λ o same. neither (is_done_for p d.failed keep o) (is_drained_by p d o.fd) (and_left (passes gone o.address) (not (is_in o.fd keep)) (passes-at gone o.address some.0 false same (needed s i free some.0 some.1))) (early-none p d o.fd mid.loops.some_tasks early)) d.table)
+        | inr some ↦
+            rw some.1 (picked-stays done (Some some.0)
+            (λ o same. neither (is_done_for p d.failed keep o) (is_drained_by p d o.fd)
+            (and_left (passes gone o.address) (not (is_in o.fd keep)) (passes-at gone o.address some.0 false same (needed s i free some.0 some.1)))
+            (early-none p d o.fd mid.loops.some_tasks early)) d.table)
       ]
         where
           needed : (s i : ℕ) → failed_at d s ≡ false → (w : List ℕ) → address p s i ≡ Some w → gone w ≡ false
@@ -186,7 +200,9 @@ module _ (p : Plan) (keep : List ℕ) (d : EndpointsData) (q : Record) (offer : 
           ]
 
   numbers_open : open_numbers (cleared p keep d) ≡ ascending (live_numbers p r)
-  numbers_open = picked-numbers done d.table table_apart ∙ ap (left_out ns) mid.open_are ∙ filter-ascending (λ n. not (is_in n ns)) (live_numbers p q) ∙ ap ascending (sym (numbers-tell p q ns))
+  numbers_open =
+      picked-numbers done d.table table_apart ∙ ap (left_out ns) mid.open_are ∙ filter-ascending (λ n. not (is_in n ns)) (live_numbers p q)
+      ∙ ap ascending (sym (numbers-tell p q ns))
 
   -- what is gone after the closes was gone before
   gone_stays : (fd : ℕ) → is_gone p r fd ≡ is_gone p q fd
@@ -199,16 +215,21 @@ module _ (p : Plan) (keep : List ℕ) (d : EndpointsData) (q : Record) (offer : 
   ]
 
   -- where it is gone by its address, and still open, it would have gone
-  abandoned_then : (fd : ℕ) → is_opened p q fd ≡ true → (is_address_abandoned p q (address_of p q fd) && not (is_held_back p q fd)) ≡ true → has (is_close fd) r ≡ false → ⊥
+  abandoned_then : (fd : ℕ) → is_opened p q fd ≡ true → (is_address_abandoned p q (address_of p q fd) && not (is_held_back p q fd)) ≡ true
+      → has (is_close fd) r ≡ false → ⊥
   abandoned_then fd came abandoned n =
       let parts = and_parts (is_address_abandoned p q (address_of p q fd)) (not (is_held_back p q fd)) abandoned in
       let at = some_address p q (address_of p q fd) parts.0 in
       let free : is_in fd keep ≡ false = offer fd ∙ apart_from (is_held_back p q fd) parts.1 in
       let place : address_of p r fd ≡ Some at.0 = ap (first_address fd) (opened-tell p q ns) ∙ at.1 in
-      let lives : is_in fd (live_numbers_with p r (Some at.0)) ≡ true = still_live fd r at.0 (opened_descriptors p r) (ap (list_any (has_number fd)) (opened-tell p q ns) ∙ came) place n in
+      let lives : is_in fd (live_numbers_with p r (Some at.0)) ≡ true =
+      still_live fd r at.0 (opened_descriptors p r) (ap (list_any (has_number fd)) (opened-tell p q ns) ∙ came) place n in
       let there : is_in fd (numbers_with (cleared p keep d).table (Some at.0)) ≡ true = ap (is_in fd) (with_is (Some at.0)) ∙ lives in
       let left : gone at.0 ≡ true = abandoned-is p d q mid.states at.0 ∙ at.2 in
-      let some = picks-some done fd at.0 (λ o e f. or_left (is_done_for p d.failed keep o) (is_drained_by p d o.fd) (and_from (passes gone o.address) (not (is_in o.fd keep)) (ap (passes gone) e ∙ left) (not_in (is_in o.fd keep) (subst (λ n. is_in n keep ≡ false) (sym f) free))))
+      let some = picks-some done fd at.0
+      (λ o e f. or_left (is_done_for p d.failed keep o) (is_drained_by p d o.fd)
+      (and_from (passes gone o.address) (not (is_in o.fd keep)) (ap (passes gone) e ∙ left)
+      (not_in (is_in o.fd keep) (subst (λ n. is_in n keep ≡ false) (sym f) free))))
       (cleared p keep d).table there in
       clash (list_any done (cleared p keep d).table) some (none-picked done d.table)
 
@@ -216,10 +237,13 @@ module _ (p : Plan) (keep : List ℕ) (d : EndpointsData) (q : Record) (offer : 
   drained_then : (fd : ℕ) → is_opened p q fd ≡ true → is_drained p q fd ≡ true → has (is_close fd) r ≡ false → ⊥
   drained_then fd came drained n =
       let opened : is_opened p r fd ≡ true = ap (list_any (has_number fd)) (opened-tell p q ns) ∙ came in
-      let lives : is_in fd (live_numbers p r) ≡ true = live-is p r fd ∙ and_from (is_opened p r fd) (not (has (is_close fd) r)) opened (not_in (has (is_close fd) r) n) in
+      let lives : is_in fd (live_numbers p r) ≡ true =
+      live-is p r fd ∙ and_from (is_opened p r fd) (not (has (is_close fd) r)) opened (not_in (has (is_close fd) r) n) in
       let there : is_in fd (open_numbers (cleared p keep d)) ≡ true = ap (is_in fd) numbers_open ∙ any-ascending (λ n. n == fd) (live_numbers p r) ∙ lives in
       let by : is_drained_by p d fd ≡ true = sym (drained-is p d q mid.states mid.loops fd) ∙ drained in
-      let some = some_number done fd (λ o e. or_right (is_done_for p d.failed keep o) (is_drained_by p d o.fd) (subst (λ n. is_drained_by p d n ≡ true) (sym e) by)) (cleared p keep d).table there in
+      let some = some_number done fd
+      (λ o e. or_right (is_done_for p d.failed keep o) (is_drained_by p d o.fd) (subst (λ n. is_drained_by p d n ≡ true) (sym e) by))
+      (cleared p keep d).table there in
       clash (list_any done (cleared p keep d).table) some (none-picked done d.table)
 
   closed_where : (fd : ℕ) → (has (is_close fd) r ≡ false → ⊥) → has (is_close fd) r ≡ true
@@ -250,7 +274,9 @@ module _ (p : Plan) (keep : List ℕ) (d : EndpointsData) (q : Record) (offer : 
     closes_once = once;
     fails = along-closes (FailsRight p) (λ x n h. h) q ns mid.fails;
     closes = λ fd came. (let before : is_opened p q fd ≡ true = ap (list_any (has_number fd)) (sym (opened-tell p q ns)) ∙ came in
-        closed_once p r fd once ∙ ap (λ b. if b then 1 else 0) (bool_same (has (is_close fd) r) (is_gone p q fd) (closed_then fd before) (gone_then fd before) ∙ sym (gone_stays fd)));
+        closed_once p r fd once
+        ∙ ap (λ b. if b then 1 else 0)
+        (bool_same (has (is_close fd) r) (is_gone p q fd) (closed_then fd before) (gone_then fd before) ∙ sym (gone_stays fd)));
     one_live = one_live-is p (cleared p keep d) r kept-cleared states-cleared;
     open_are = numbers_open;
     came_are = mid.came_are ∙ ap ascending (sym (along-closes (λ x. numbers_in x ≡ numbers_in q) (λ x n h. h) q ns refl));

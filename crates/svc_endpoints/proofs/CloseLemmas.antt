@@ -45,9 +45,11 @@ filter_two f g h e (x ∷ xs) = elim (cases_Bool (f x)) [
   ]
 ]
 
-pub live-tell : (p : Plan) (q : Record) (ns : List ℕ) → live_descriptors p (tell q (map Close ns)) ≡ filter (λ (x : Descriptor). not (is_in x.number ns)) (live_descriptors p q)
+pub live-tell : (p : Plan) (q : Record) (ns : List ℕ)
+    → live_descriptors p (tell q (map Close ns)) ≡ filter (λ (x : Descriptor). not (is_in x.number ns)) (live_descriptors p q)
 live-tell p q ns = ap (filter (λ (x : Descriptor). not (has (is_close x.number) (tell q (map Close ns))))) (opened-tell p q ns)
-    ∙ filter_two (λ (x : Descriptor). has (is_close x.number) q) (λ (x : Descriptor). is_in x.number ns) (λ (x : Descriptor). has (is_close x.number) (tell q (map Close ns))) (λ x. closed-tell q ns x.number) (opened_descriptors p q)
+    ∙ filter_two (λ (x : Descriptor). has (is_close x.number) q) (λ (x : Descriptor). is_in x.number ns)
+    (λ (x : Descriptor). has (is_close x.number) (tell q (map Close ns))) (λ x. closed-tell q ns x.number) (opened_descriptors p q)
 
 numbers-out : (ns : List ℕ) (a : Option (List ℕ)) (xs : List Descriptor)
     → map (λ (x : Descriptor). x.number) (filter (λ (x : Descriptor). same_address x.address a) (filter (λ (x : Descriptor). not (is_in x.number ns)) xs))
@@ -64,10 +66,14 @@ numbers-out ns a (x ∷ xs) = elim (cases_Bool (is_in x.number ns)) [
   ]
 ]
 
-pub with-tell : (p : Plan) (q : Record) (ns : List ℕ) (a : Option (List ℕ)) → live_numbers_with p (tell q (map Close ns)) a ≡ left_out ns (live_numbers_with p q a)
-with-tell p q ns a = ap (λ w. map (λ (x : Descriptor). x.number) (filter (λ (x : Descriptor). same_address x.address a) w)) (live-tell p q ns) ∙ numbers-out ns a (live_descriptors p q)
+pub with-tell : (p : Plan) (q : Record) (ns : List ℕ) (a : Option (List ℕ))
+    → live_numbers_with p (tell q (map Close ns)) a ≡ left_out ns (live_numbers_with p q a)
+with-tell p q ns a =
+    ap (λ w. map (λ (x : Descriptor). x.number) (filter (λ (x : Descriptor). same_address x.address a) w)) (live-tell p q ns)
+    ∙ numbers-out ns a (live_descriptors p q)
 
-all-out : (ns : List ℕ) (xs : List Descriptor) → map (λ (x : Descriptor). x.number) (filter (λ (x : Descriptor). not (is_in x.number ns)) xs) ≡ left_out ns (map (λ (x : Descriptor). x.number) xs)
+all-out : (ns : List ℕ) (xs : List Descriptor)
+    → map (λ (x : Descriptor). x.number) (filter (λ (x : Descriptor). not (is_in x.number ns)) xs) ≡ left_out ns (map (λ (x : Descriptor). x.number) xs)
 all-out ns [] = refl
 all-out ns (x ∷ xs) = elim (cases_Bool (is_in x.number ns)) [
   | inl y ↦ rw y (all-out ns xs)
@@ -78,7 +84,8 @@ pub numbers-tell : (p : Plan) (q : Record) (ns : List ℕ) → live_numbers p (t
 numbers-tell p q ns = ap (map (λ (x : Descriptor). x.number)) (live-tell p q ns) ∙ all-out ns (live_descriptors p q)
 
 -- each of them is closed once
-pub once-tell : (p : Plan) (ns : List ℕ) (q : Record) → distinct ns ≡ true → ((g : ℕ) → is_in g ns ≡ true → (is_opened p q g ≡ true) × (has (is_close g) q ≡ false))
+pub once-tell : (p : Plan) (ns : List ℕ) (q : Record) → distinct ns ≡ true
+    → ((g : ℕ) → is_in g ns ≡ true → (is_opened p q g ≡ true) × (has (is_close g) q ≡ false))
     → EachEntry (λ e before. close_once p e before ≡ true) q → EachEntry (λ e before. close_once p e before ≡ true) (tell q (map Close ns))
 once-tell p [] q apart live h = h
 once-tell p (n ∷ ns) q apart live h =

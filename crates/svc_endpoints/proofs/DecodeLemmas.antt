@@ -38,7 +38,8 @@ decode-refused bytes n NoMemory other fit = absurd (other refl)
 pub read-apart : (bytes : List ℕ) (n : ℕ) → has_repeat (words_or_none (decode bytes n)) ≡ false
 read-apart bytes n = by_tests (is_utf8 bytes && is_well_formed bytes) (length (words bytes) == n) (cases_Bool (has_repeat (words bytes)))
   where
-    by_tests : (u l : Bool) → ((has_repeat (words bytes) ≡ true) ⊎ (has_repeat (words bytes) ≡ false)) → has_repeat (words_or_none (if (u && l) && not (has_repeat (words bytes)) then Some (words bytes) else None)) ≡ false
+    by_tests : (u l : Bool) → ((has_repeat (words bytes) ≡ true) ⊎ (has_repeat (words bytes) ≡ false))
+        → has_repeat (words_or_none (if (u && l) && not (has_repeat (words bytes)) then Some (words bytes) else None)) ≡ false
     by_tests true true (inl y) = rw y refl
     by_tests true true (inr m) = rw m m
     by_tests true false r = refl

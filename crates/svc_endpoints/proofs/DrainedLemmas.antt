@@ -35,10 +35,12 @@ module _ (p : Plan) (s i : ℕ) (d : EndpointsData) where
   none-numbers none = sym (ap numbers_of_table (filter_none (λ (o : Open). drains_at p d s i o.fd) d.table (λ o. sym (none o.fd))))
 
   pub none-out : ((fd : ℕ) → false ≡ drains_at p d s i fd) → d ≡ drained_out p s i d
-  none-out none = ap (λ (t : List Open). record d { table = t }) (sym (filter_all (λ (o : Open). not (drains_at p d s i o.fd)) d.table (λ o. ap not (sym (none o.fd)))))
+  none-out none =
+      ap (λ (t : List Open). record d { table = t }) (sym (filter_all (λ (o : Open). not (drains_at p d s i o.fd)) d.table (λ o. ap not (sym (none o.fd)))))
 
   pub one-numbers : (n : ℕ) → ((fd : ℕ) → is_in fd (option_to_list (Some n)) ≡ drains_at p d s i fd) → numbers_like n d.table ≡ drained_numbers p s i d
-  one-numbers n one = ap numbers_of_table (filter_by (λ (o : Open). o.fd == n) (λ (o : Open). drains_at p d s i o.fd) d.table (λ o. sym (same_number o.fd n) ∙ one o.fd))
+  one-numbers n one =
+      ap numbers_of_table (filter_by (λ (o : Open). o.fd == n) (λ (o : Open). drains_at p d s i o.fd) d.table (λ o. sym (same_number o.fd n) ∙ one o.fd))
 
   pub one-out : (n : ℕ) → ((fd : ℕ) → is_in fd (option_to_list (Some n)) ≡ drains_at p d s i fd) → without_number n d ≡ drained_out p s i d
   one-out n one = ap (λ (t : List Open). record d { table = t })

@@ -83,12 +83,14 @@ used_still fd f a b (AddressInUse at) e g h = h
 used_still fd f a b AdoptionFailed e g h = h
 
 -- tests that agree on each of the table pick the same
-same_picks : (f g : Open → Bool) (t : List Open) → ((n : ℕ) → is_in n (numbers_of_table (filter f t)) ≡ false) → (h : Open → Bool) → ((o : Open) → f o ≡ false → g o ≡ h o)
+same_picks : (f g : Open → Bool) (t : List Open) → ((n : ℕ) → is_in n (numbers_of_table (filter f t)) ≡ false) → (h : Open → Bool)
+    → ((o : Open) → f o ≡ false → g o ≡ h o)
     → (filter g t ≡ filter h t) × (filter (λ o. not (g o)) t ≡ filter (λ o. not (h o)) t)
 same_picks f g [] none h same = (refl, refl)
 same_picks f g (o ∷ t) none h same = elim (cases_Bool (f o)) [
   | inl y ↦ absurd (first o.fd (numbers_of_table (filter f t)) (rw y at (none o.fd)))
-  | inr n ↦ (let more = same_picks f g t (rw n at none) h same in let here = same o n in (both g h o t t here more.0, both (λ o. not (g o)) (λ o. not (h o)) o t t (ap not here) more.1))
+  | inr n ↦ (let more = same_picks f g t (rw n at none) h same in let here = same o n in
+      (both g h o t t here more.0, both (λ o. not (g o)) (λ o. not (h o)) o t t (ap not here) more.1))
 ]
   where
     first : (n : ℕ) (xs : List ℕ) → is_in n (n ∷ xs) ≡ false → ⊥
@@ -101,7 +103,8 @@ same_picks f g (o ∷ t) none h same = elim (cases_Bool (f o)) [
         by_test true o e = ap (λ w. o ∷ w) e
         by_test false o e = e
 
-module _ (p : Plan) (d : EndpointsData) (q : Record) (sized : IsEndpointsSized p d) (s i j : ℕ) (fit : fits_row p q (LoopEnded s i j) ≡ true) (stand : EndpointsStand p d q) where
+module _ (p : Plan) (d : EndpointsData) (q : Record) (sized : IsEndpointsSized p d) (s i j : ℕ) (fit : fits_row p q (LoopEnded s i j) ≡ true)
+    (stand : EndpointsStand p d q) where
   abbrev d2 : EndpointsData
   d2 = loop_ended d s i j
 
@@ -152,7 +155,8 @@ module _ (p : Plan) (d : EndpointsData) (q : Record) (sized : IsEndpointsSized p
   loops = record {
     some_tasks = stand.loops.some_tasks;
     ends_are = λ t k n. has_loop-more d.loops x t k n ∙ ap (λ b. is_loop t k n x || b) (stand.loops.ends_are t k n);
-    counts = λ t k. loop_count-more d.loops x t k ∙ counted (s == t && i == k) (nat_lt j p.tasks) (has (is_loop_end t k j) q) (loop_count d.loops t k) (ended_loops p q t k) last.0
+    counts = λ t k. loop_count-more d.loops x t k
+        ∙ counted (s == t && i == k) (nat_lt j p.tasks) (has (is_loop_end t k j) q) (loop_count d.loops t k) (ended_loops p q t k) last.0
         (λ e. at_here (λ t k. has (is_loop_end t k j) q ≡ false) s t i k new e) (stand.loops.counts t k);
     told = λ t k n h. lead.0;
     serve = λ t k n h. again t k (elim (or_cases (is_loop t k n x) (has_loop d.loops t k n) (sym (has_loop-more d.loops x t k n) ∙ h)) [
@@ -162,10 +166,18 @@ module _ (p : Plan) (d : EndpointsData) (q : Record) (sized : IsEndpointsSized p
   }
 
   states : StatesStand p d2 r
-  states = let was = stand.states in record { each = was.each; counts = was.counts; failed_is = was.failed_is; with_is = was.with_is; lost = was.lost; closed_came = was.closed_came }
+  states = let was = stand.states in
+      record { each = was.each; counts = was.counts; failed_is = was.failed_is; with_is = was.with_is; lost = was.lost; closed_came = was.closed_came }
 
   kept : StatesKept p d2
-  kept = let was = stand.kept in record { asking_free = was.asking_free; turn = was.turn; live = λ early t k f h. absurd (not_empty d.loops x early); one = was.one; distinct = was.distinct }
+  kept = let was = stand.kept in
+      record {
+        asking_free = was.asking_free;
+        turn = was.turn;
+        live = λ early t k f h. absurd (not_empty d.loops x early);
+        one = was.one;
+        distinct = was.distinct;
+      }
 
   done_still : (t k : ℕ) → is_done p d t k ≡ true → is_done p d2 t k ≡ true
   done_still t k h = elim (cases_Bool (s == t && i == k)) [
@@ -191,8 +203,12 @@ module _ (p : Plan) (d : EndpointsData) (q : Record) (sized : IsEndpointsSized p
     asks_known = (refl, stand.asks_known);
     closes_once = (refl, stand.closes_once);
     fails = fails-same p q (LoopEnded s i j) (λ t. refl) stand.fails;
-    closed_gone = λ fd came closed. gone-grows p q r (λ t h. h) fd (turned-event p q (LoopEnded s i j) refl fd) (place-event p q (LoopEnded s i j) refl fd) (λ held. held) (drained fd) (sym (closed_now fd came) ∙ closed);
-    turned_closed = λ fd came turned. closed_now fd came ∙ or_left (is_gone_now p q fd) (is_drained p q fd) (or_left (is_turned p q fd) _ (sym (turned-event p q (LoopEnded s i j) refl fd) ∙ turned));
+    closed_gone =
+        λ fd came closed. gone-grows p q r (λ t h. h) fd (turned-event p q (LoopEnded s i j) refl fd) (place-event p q (LoopEnded s i j) refl fd) (λ held. held)
+        (drained fd) (sym (closed_now fd came) ∙ closed);
+    turned_closed =
+        λ fd came turned. closed_now fd came
+        ∙ or_left (is_gone_now p q fd) (is_drained p q fd) (or_left (is_turned p q fd) _ (sym (turned-event p q (LoopEnded s i j) refl fd) ∙ turned));
     open_are = stand.open_are ∙ ap ascending (sym (numbers-event p q (LoopEnded s i j) refl));
     came_are = stand.came_are;
     came_apart = stand.came_apart;
@@ -237,7 +253,8 @@ module _ (p : Plan) (d : EndpointsData) (q : Record) (sized : IsEndpointsSized p
 
       used : (t k : ℕ) → (is_in fd (held_of (last_at d s i)) && is_done p d2 s i) ≡ false → is_user p d fd t k ≡ true → is_user p d2 fd t k ≡ true
       used t k n u = elim (cases_Bool (s == t && i == k)) [
-        | inl y ↦ at_here (λ t k. is_user p d fd t k ≡ true → is_user p d2 fd t k ≡ true) s t i k (used_still fd (failed_at d s) (is_done p d s i) (is_done p d2 s i) (last_at d s i) not_done n) y u
+        | inl y ↦ at_here (λ t k. is_user p d fd t k ≡ true → is_user p d2 fd t k ≡ true) s t i k
+            (used_still fd (failed_at d s) (is_done p d s i) (is_done p d2 s i) (last_at d s i) not_done n) y u
         | inr m ↦ (let same : loop_count d2.loops t k ≡ loop_count d.loops t k = loop_count-more d.loops x t k ∙ (rw m refl) in
             subst (λ (c : ℕ). uses fd (failed_at d t) (c == p.tasks) (last_at d t k) ≡ true) (sym same) u)
       ]
@@ -263,7 +280,8 @@ module _ (p : Plan) (d : EndpointsData) (q : Record) (sized : IsEndpointsSized p
   stands-ended keep offer = stands-cleared p keep d2 r offer answered
 
 -- what is told, and how much
-module _ (p : Plan) (d mid new : EndpointsData) (s i j : ℕ) (keep : List ℕ) (before after : List Action) (is : mid ≡ loop_ended d s i j) (left : new ≡ drained_out p s i mid) (appended : after ≡ before ++ map Close (drained_numbers p s i mid)) where
+module _ (p : Plan) (d mid new : EndpointsData) (s i j : ℕ) (keep : List ℕ) (before after : List Action) (is : mid ≡ loop_ended d s i j)
+    (left : new ≡ drained_out p s i mid) (appended : after ≡ before ++ map Close (drained_numbers p s i mid)) where
   abbrev made : EndpointsData
   made = loop_ended d s i j
 
@@ -274,14 +292,18 @@ module _ (p : Plan) (d mid new : EndpointsData) (s i j : ℕ) (keep : List ℕ) 
   told_is = appended ∙ ap (λ (m : EndpointsData). before ++ map Close (drained_numbers p s i m)) is
 
   pub tells-ended : IsEndpointsSized p d
-      → Tells before after (λ told. IsGivingUp told × ((q : Record) → fits_row p q (LoopEnded s i j) ≡ true → AreOnOffer p keep q → EndpointsStand p d q → EndpointsStand p new (tell (Got (LoopEnded s i j) ∷ q) told)))
+      → Tells before after
+      (λ told. IsGivingUp told
+      × ((q : Record) → fits_row p q (LoopEnded s i j) ≡ true → AreOnOffer p keep q → EndpointsStand p d q
+      → EndpointsStand p new (tell (Got (LoopEnded s i j) ∷ q) told)))
   tells-ended sized = record {
     told = map Close (drained_numbers p s i made);
     appended = told_is;
     kept = (giving-closes (drained_numbers p s i made), λ q fit offer stand. stands q fit offer stand);
   }
     where
-      stands : (q : Record) → fits_row p q (LoopEnded s i j) ≡ true → AreOnOffer p keep q → EndpointsStand p d q → EndpointsStand p new (tell (Got (LoopEnded s i j) ∷ q) (map Close (drained_numbers p s i made)))
+      stands : (q : Record) → fits_row p q (LoopEnded s i j) ≡ true → AreOnOffer p keep q → EndpointsStand p d q
+          → EndpointsStand p new (tell (Got (LoopEnded s i j) ∷ q) (map Close (drained_numbers p s i made)))
       stands q fit offer stand =
           let same = same-goes p d q sized s i j fit stand keep offer in
           let table : cleared p keep made ≡ new = ap (λ (t : List Open). record made { table = t }) same.1 ∙ sym new_is in
@@ -299,7 +321,8 @@ module _ (p : Plan) (d mid new : EndpointsData) (s i j : ℕ) (keep : List ℕ) 
       omega (arith, few, told, closes, rest)
 
 -- which services serve, and which of their endpoints accept, by the states
-module _ (p : Plan) (d : EndpointsData) (q : Record) (sized : IsEndpointsSized p d) (s : ℕ) (on : Bool) (inside : s < service_count p) (begun : on ≡ is_started q s) (stand : EndpointsStand p d q) where
+module _ (p : Plan) (d : EndpointsData) (q : Record) (sized : IsEndpointsSized p d) (s : ℕ) (on : Bool) (inside : s < service_count p)
+    (begun : on ≡ is_started q s) (stand : EndpointsStand p d q) where
   serves_same : serves_by p d on s ≡ serves p q s
   serves_same = ap (λ b. (b && not (failed_at d s)) && list_all (λ k. is_holding (last_at d s k)) (endpoint_numbers p s)) begun
       ∙ ap (λ b. (is_started q s && not b) && list_all (λ k. is_holding (last_at d s k)) (endpoint_numbers p s)) (stand.states.failed_is s inside)
@@ -310,13 +333,16 @@ module _ (p : Plan) (d : EndpointsData) (q : Record) (sized : IsEndpointsSized p
   accepts-is i = ap (λ b. (b && is_endpoint p s i) && not (is_done p d s i)) serves_same
       ∙ ap (λ (n : ℕ). (serves p q s && is_endpoint p s i) && not (n == p.tasks)) (stand.loops.counts s i)
 
-  pub accept-fits : (i : ℕ) (a b : Bool) → a ≡ serves_by p d on s → (a ≡ true → b ≡ (is_endpoint p s i && not (is_done p d s i))) → (a ≡ false → b ≡ false) → b ≡ accepts p q s i
+  pub accept-fits : (i : ℕ) (a b : Bool) → a ≡ serves_by p d on s → (a ≡ true → b ≡ (is_endpoint p s i && not (is_done p d s i))) → (a ≡ false → b ≡ false)
+      → b ≡ accepts p q s i
   accept-fits i true b e f g = f refl ∙ ap (λ c. (c && is_endpoint p s i) && not (is_done p d s i)) e ∙ accepts-is i
   accept-fits i false b e f g = g refl ∙ ap (λ c. (c && is_endpoint p s i) && not (is_done p d s i)) e ∙ accepts-is i
 
 -- which loops may end, by the states
-module _ (p : Plan) (d : EndpointsData) (q : Record) (sized : IsEndpointsSized p d) (s i j : ℕ) (on : Bool) (inside : s < service_count p) (begun : on ≡ is_started q s) (stand : EndpointsStand p d q) where
-  whole : (serves_by p d on s && (is_endpoint p s i && (nat_lt j p.tasks && not (has_loop d.loops s i j)))) ≡ ((serves p q s && is_endpoint p s i) && (nat_lt j p.tasks && not (has (is_loop_end s i j) q)))
+module _ (p : Plan) (d : EndpointsData) (q : Record) (sized : IsEndpointsSized p d) (s i j : ℕ) (on : Bool) (inside : s < service_count p)
+    (begun : on ≡ is_started q s) (stand : EndpointsStand p d q) where
+  whole : (serves_by p d on s && (is_endpoint p s i && (nat_lt j p.tasks && not (has_loop d.loops s i j))))
+      ≡ ((serves p q s && is_endpoint p s i) && (nat_lt j p.tasks && not (has (is_loop_end s i j) q)))
   whole = ap (λ b. b && (is_endpoint p s i && (nat_lt j p.tasks && not (has_loop d.loops s i j)))) (serves_same p d q sized s on inside begun stand)
       ∙ ap (λ b. serves p q s && (is_endpoint p s i && (nat_lt j p.tasks && not b))) (stand.loops.ends_are s i j)
       ∙ apart (serves p q s) (is_endpoint p s i) (nat_lt j p.tasks && not (has (is_loop_end s i j) q))
@@ -324,17 +350,20 @@ module _ (p : Plan) (d : EndpointsData) (q : Record) (sized : IsEndpointsSized p
       apart : (a b c : Bool) → (a && (b && c)) ≡ ((a && b) && c)
       apart a b c = grind arith
 
-  pub loop-fits : (a b : Bool) → a ≡ serves_by p d on s → (a ≡ true → b ≡ (is_endpoint p s i && (nat_lt j p.tasks && not (has_loop d.loops s i j)))) → (a ≡ false → b ≡ false)
+  pub loop-fits : (a b : Bool) → a ≡ serves_by p d on s → (a ≡ true → b ≡ (is_endpoint p s i && (nat_lt j p.tasks && not (has_loop d.loops s i j))))
+      → (a ≡ false → b ≡ false)
       → b ≡ ((serves p q s && is_endpoint p s i) && (nat_lt j p.tasks && not (has (is_loop_end s i j) q)))
   loop-fits true b e f g = f refl ∙ ap (λ b. b && (is_endpoint p s i && (nat_lt j p.tasks && not (has_loop d.loops s i j)))) e ∙ whole
   loop-fits false b e f g = g refl ∙ ap (λ b. b && (is_endpoint p s i && (nat_lt j p.tasks && not (has_loop d.loops s i j)))) e ∙ whole
 
 -- the service serves where no endpoint of it is missing
-pub serves-first : (p : Plan) (d : EndpointsData) (s : ℕ) (on : Bool) (j n : ℕ) → on ≡ true → failed_at d s ≡ false → n ≡ length (endpoints p s) → (j < length (endpoints p s) → is_holding (last_at d s j) ≡ false) → ((k : ℕ) → k < j → is_holding (last_at d s k) ≡ true)
+pub serves-first : (p : Plan) (d : EndpointsData) (s : ℕ) (on : Bool) (j n : ℕ) → on ≡ true → failed_at d s ≡ false → n ≡ length (endpoints p s)
+    → (j < length (endpoints p s) → is_holding (last_at d s j) ≡ false) → ((k : ℕ) → k < j → is_holding (last_at d s k) ≡ true)
     → nat_le n j ≡ serves_by p d on s
 serves-first p d s on j n begun free e missing earlier = elim (cases_lt j (length (endpoints p s))) [
   | inl lt ↦ le_false n j (omega (arith, e, lt)) ∙ sym (rw (begun, free) (fails0 (λ k. is_holding (last_at d s k)) (length (endpoints p s)) j lt (missing lt)))
-  | inr ge ↦ le_true n j (omega (arith, e, ge)) ∙ sym (rw (begun, free) (all0 (λ k. is_holding (last_at d s k)) (length (endpoints p s)) (λ k lt. earlier k (omega (arith, lt, ge)))))
+  | inr ge ↦ le_true n j (omega (arith, e, ge))
+      ∙ sym (rw (begun, free) (all0 (λ k. is_holding (last_at d s k)) (length (endpoints p s)) (λ k lt. earlier k (omega (arith, lt, ge)))))
 ]
   where
     le_false : (a b : ℕ) → b < a → nat_le a b ≡ false

@@ -52,13 +52,17 @@ module _ (p : Plan) (q : Record) (e : Event) (opens : descriptors_of p (Got e) �
   pub turned-event : (fd : ℕ) → is_turned p (Got e ∷ q) fd ≡ is_turned p q fd
   turned-event fd = turned-same p q (Got e ∷ q) fd opened-event (doubled-event fd)
 
-  pub closes-event : ((t : ℕ) → has_failed p (Got e ∷ q) t ≡ has_failed p q t) → ((fd : ℕ) → is_held_back p (Got e ∷ q) fd ≡ is_held_back p q fd) → ((fd : ℕ) → is_drained p (Got e ∷ q) fd ≡ is_drained p q fd) → ClosesRight p q → ClosesRight p (Got e ∷ q)
+  pub closes-event : ((t : ℕ) → has_failed p (Got e ∷ q) t ≡ has_failed p q t) → ((fd : ℕ) → is_held_back p (Got e ∷ q) fd ≡ is_held_back p q fd)
+      → ((fd : ℕ) → is_drained p (Got e ∷ q) fd ≡ is_drained p q fd) → ClosesRight p q → ClosesRight p (Got e ∷ q)
   closes-event same held drained was fd came = was fd (sym (opened_is-event fd) ∙ came)
       ∙ ap (λ b. if b then 1 else 0) (sym (gone-same p q (Got e ∷ q) same fd (turned-event fd) (place-event fd) (held fd) (drained fd)))
 
 -- one by which no service fails and no loop ends, and that leaves what is on offer and what is drained
-pub stand-event : (p : Plan) (d d2 : EndpointsData) (q : Record) (e : Event) → is_any_loop_end e ≡ false → descriptors_of p (Got e) ≡ [] → numbers_of (Got e) ≡ [] → ((t : ℕ) → has_failed p (Got e ∷ q) t ≡ has_failed p q t)
-    → ((fd : ℕ) → is_held_back p (Got e ∷ q) fd ≡ is_held_back p q fd) → ((fd : ℕ) → is_drained_by p d2 fd ≡ is_drained_by p d fd) → StatesStand p d2 (Got e ∷ q) → LoopsStand p d2 q → StatesKept p d2 → d2.table ≡ d.table → d2.came ≡ d.came → EndpointsStand p d q → EndpointsStand p d2 (Got e ∷ q)
+pub stand-event : (p : Plan) (d d2 : EndpointsData) (q : Record) (e : Event) → is_any_loop_end e ≡ false → descriptors_of p (Got e) ≡ []
+    → numbers_of (Got e) ≡ [] → ((t : ℕ) → has_failed p (Got e ∷ q) t ≡ has_failed p q t)
+    → ((fd : ℕ) → is_held_back p (Got e ∷ q) fd ≡ is_held_back p q fd) → ((fd : ℕ) → is_drained_by p d2 fd ≡ is_drained_by p d fd)
+    → StatesStand p d2 (Got e ∷ q) → LoopsStand p d2 q → StatesKept p d2 → d2.table ≡ d.table → d2.came ≡ d.came → EndpointsStand p d q
+    → EndpointsStand p d2 (Got e ∷ q)
 stand-event p d d2 q e going opens brings same held drained states ends kept table came stand = let loops = loops-got p d2 q e going ends in record {
   states = states;
   loops = loops;
@@ -67,7 +71,8 @@ stand-event p d d2 q e going opens brings same held drained states ends kept tab
   asks_known = (refl, stand.asks_known);
   closes_once = (refl, stand.closes_once);
   fails = fails-same p q e same stand.fails;
-  closes = closes-event p q e opens same held (λ fd. drained-is p d2 (Got e ∷ q) states loops fd ∙ drained fd ∙ sym (drained-is p d q stand.states stand.loops fd)) stand.closes;
+  closes = closes-event p q e opens same held
+      (λ fd. drained-is p d2 (Got e ∷ q) states loops fd ∙ drained fd ∙ sym (drained-is p d q stand.states stand.loops fd)) stand.closes;
   one_live = one_live-is p d2 (Got e ∷ q) kept states;
   open_are = ap numbers_of_table table ∙ stand.open_are ∙ ap ascending (sym (numbers-event p q e opens));
   came_are = came ∙ stand.came_are ∙ ap (λ w. ascending (w ++ numbers_in q)) (sym brings);
@@ -95,12 +100,16 @@ foreign p d q e other = record {
   opens = refl;
   brings = refl;
   same = λ t. refl;
-  states = λ was. record { each = was.each; counts = was.counts; failed_is = was.failed_is; with_is = was.with_is; lost = was.lost; closed_came = was.closed_came };
+  states = λ was.
+      record { each = was.each; counts = was.counts; failed_is = was.failed_is; with_is = was.with_is; lost = was.lost; closed_came = was.closed_came };
 }
 
 -- an event that is none of this part's leaves the endpoints as they are, where the same is on offer
-pub stands-got : (p : Plan) (d : EndpointsData) (q : Record) (e : Event) → is_endpoints_event e ≡ false → ((fd : ℕ) → is_held_back p (Got e ∷ q) fd ≡ is_held_back p q fd) → EndpointsStand p d q → EndpointsStand p d (Got e ∷ q)
-stands-got p d q e other held stand = let is = foreign p d q e other in stand-event p d d q e is.going is.opens is.brings is.same held (λ fd. refl) (is.states stand.states) stand.loops stand.kept refl refl stand
+pub stands-got : (p : Plan) (d : EndpointsData) (q : Record) (e : Event) → is_endpoints_event e ≡ false
+    → ((fd : ℕ) → is_held_back p (Got e ∷ q) fd ≡ is_held_back p q fd) → EndpointsStand p d q → EndpointsStand p d (Got e ∷ q)
+stands-got p d q e other held stand =
+    let is = foreign p d q e other in
+    stand-event p d d q e is.going is.opens is.brings is.same held (λ fd. refl) (is.states stand.states) stand.loops stand.kept refl refl stand
 
 -- what a signal puts on offer isn't gone; one that is no cut takes nothing off it
 module _ (p : Plan) (q : Record) (kind : ShutdownSignal) (uncut : has_cut (Got (Signal kind) ∷ q) ≡ has_cut q) where
@@ -108,7 +117,10 @@ module _ (p : Plan) (q : Record) (kind : ShutdownSignal) (uncut : has_cut (Got (
   gone_signal fd closed = elim (cases_Bool (has is_signal q)) [
     | inl later ↦ gone-same p q (Got (Signal kind) ∷ q) (λ t. refl) fd refl refl (held-later p q kind fd later uncut) refl
     | inr first ↦ elim (cases_Bool (is_held_back p (Got (Signal kind) ∷ q) fd)) [
-      | inl held ↦ ap (λ b. b || is_drained p q fd) (kept_open (is_turned p q fd) (is_address_abandoned p q (address_of p q fd)) (is_held_back p (Got (Signal kind) ∷ q) fd) (is_held_back p q fd) held
+      | inl held ↦
+          ap (λ b. b || is_drained p q fd)
+          (kept_open (is_turned p q fd) (is_address_abandoned p q (address_of p q fd)) (is_held_back p (Got (Signal kind) ∷ q) fd)
+          (is_held_back p q fd) held
           (or_first (is_gone_now p q fd) (is_drained p q fd) (sym closed ∙ held-first p q kind fd first held)))
       | inr free ↦ gone-same p q (Got (Signal kind) ∷ q) (λ t. refl) fd refl refl (free ∙ sym (held-before p q fd first)) refl
     ]
@@ -128,7 +140,8 @@ module _ (p : Plan) (q : Record) (kind : ShutdownSignal) (uncut : has_cut (Got (
   closes-signal once was fd came = was fd came ∙ ap (λ b. if b then 1 else 0) (sym (gone_signal fd (closed-is p q fd once (was fd came))))
 
 -- a signal that is no cut leaves the endpoints as they are
-pub stands-signal : (p : Plan) (d : EndpointsData) (q : Record) (kind : ShutdownSignal) → has_cut (Got (Signal kind) ∷ q) ≡ has_cut q → EndpointsStand p d q → EndpointsStand p d (Got (Signal kind) ∷ q)
+pub stands-signal : (p : Plan) (d : EndpointsData) (q : Record) (kind : ShutdownSignal) → has_cut (Got (Signal kind) ∷ q) ≡ has_cut q → EndpointsStand p d q
+    → EndpointsStand p d (Got (Signal kind) ∷ q)
 stands-signal p d q kind uncut stand = let was = stand.states in record {
   loops = loops-got p d q (Signal kind) refl stand.loops;
   states = record { each = was.each; counts = was.counts; failed_is = was.failed_is; with_is = was.with_is; lost = was.lost; closed_came = was.closed_came };
@@ -145,10 +158,12 @@ stands-signal p d q kind uncut stand = let was = stand.states in record {
 }
 
 -- what is closed as an action is told that closes nothing, and that leaves what is drained
-pub closes-told : (p : Plan) (d d2 : EndpointsData) (q : Record) (a : Action) → ((fd : ℕ) → is_close fd (Told a) ≡ false) → StatesStand p d2 (Told a ∷ q) → LoopsStand p d2 (Told a ∷ q) → ((fd : ℕ) → is_opened p q fd ≡ true → is_drained_by p d2 fd ≡ is_drained_by p d fd)
+pub closes-told : (p : Plan) (d d2 : EndpointsData) (q : Record) (a : Action) → ((fd : ℕ) → is_close fd (Told a) ≡ false) → StatesStand p d2 (Told a ∷ q)
+    → LoopsStand p d2 (Told a ∷ q) → ((fd : ℕ) → is_opened p q fd ≡ true → is_drained_by p d2 fd ≡ is_drained_by p d fd)
     → EndpointsStand p d q → ClosesRight p (Told a ∷ q)
 closes-told p d d2 q a none states loops drained stand fd came = rw (none fd) (stand.closes fd came
-    ∙ ap (λ b. if is_gone_now p q fd || b then 1 else 0) (drained-is p d q stand.states stand.loops fd ∙ sym (drained fd came) ∙ sym (drained-is p d2 (Told a ∷ q) states loops fd)))
+    ∙ ap (λ b. if is_gone_now p q fd || b then 1 else 0)
+    (drained-is p d q stand.states stand.loops fd ∙ sym (drained fd came) ∙ sym (drained-is p d2 (Told a ∷ q) states loops fd)))
 
 -- the start of a service leaves the endpoints as they are
 pub stands-start : (p : Plan) (d : EndpointsData) (q : Record) (s : ℕ) → EndpointsStand p d q → EndpointsStand p d (Told (Start s) ∷ q)
@@ -178,7 +193,15 @@ stands-start p d q s stand = record {
 
     states : StatesStand p d (Told (Start s) ∷ q)
     states = record {
-      each = λ t k lt kl. let x = was.each t k lt kl in record { binding_is = x.binding_is; adopting_is = x.adopting_is; held_is = x.held_is; adopts_is = x.adopts_is; within_is = x.within_is; on_is = λ e. or_right_true (s == t) (x.on_is e) };
+      each = λ t k lt kl. let x = was.each t k lt kl in
+          record {
+            binding_is = x.binding_is;
+            adopting_is = x.adopting_is;
+            held_is = x.held_is;
+            adopts_is = x.adopts_is;
+            within_is = x.within_is;
+            on_is = λ e. or_right_true (s == t) (x.on_is e);
+          };
       counts = was.counts;
       failed_is = was.failed_is;
       with_is = was.with_is;
@@ -187,14 +210,16 @@ stands-start p d q s stand = record {
     }
 
 -- an action that is none of this part's leaves the endpoints as they are
-pub stands-told : (p : Plan) (d : EndpointsData) (q : Record) (a : Action) → is_endpoints_action a ≡ false → EndpointsStand p d q → EndpointsStand p d (Told a ∷ q)
+pub stands-told : (p : Plan) (d : EndpointsData) (q : Record) (a : Action) → is_endpoints_action a ≡ false → EndpointsStand p d q
+    → EndpointsStand p d (Told a ∷ q)
 stands-told p d q (Start s) other stand = absurd (cc)
 stands-told p d q (Fail s) other stand = absurd (cc)
 stands-told p d q (Bind s i) other stand = absurd (cc)
 stands-told p d q (Adopt s i fd) other stand = absurd (cc)
 stands-told p d q (Close fd) other stand = absurd (cc)
 stands-told p d q a other stand = let was = stand.states in
-    let states : StatesStand p d (Told a ∷ q) = record { each = was.each; counts = was.counts; failed_is = was.failed_is; with_is = was.with_is; lost = was.lost; closed_came = was.closed_came } in
+    let states : StatesStand p d (Told a ∷ q) =
+    record { each = was.each; counts = was.counts; failed_is = was.failed_is; with_is = was.with_is; lost = was.lost; closed_came = was.closed_came } in
     let loops = loops-told p d q a stand.loops in record {
       states = states;
       loops = loops;
@@ -211,7 +236,8 @@ stands-told p d q a other stand = let was = stand.states in
     }
 
 -- and so do several
-pub stands-tell : (p : Plan) (d : EndpointsData) (told : List Action) (q : Record) → list_any is_endpoints_action told ≡ false → EndpointsStand p d q → EndpointsStand p d (tell q told)
+pub stands-tell : (p : Plan) (d : EndpointsData) (told : List Action) (q : Record) → list_any is_endpoints_action told ≡ false → EndpointsStand p d q
+    → EndpointsStand p d (tell q told)
 stands-tell p d [] q other stand = stand
 stands-tell p d (a ∷ told) q other stand = let apart = or_parts (is_endpoints_action a) (list_any is_endpoints_action told) other in
     stands-tell p d told (Told a ∷ q) apart.1 (stands-told p d q a apart.0 stand)

@@ -15,7 +15,8 @@ one_up here f n e h = grind (arith, h)
 -- after an answer by which the service fails, and no other
 pub fails-up : (p : Plan) (q : Record) (e : Event) (s : ℕ) → ((t : ℕ) → has_failed p (Got e ∷ q) t ≡ (has_failed p q t || (s == t))) → has_failed p q s ≡ false
     → FailsRight p q → FailsRight p (Told (Fail s) ∷ Got e ∷ q)
-fails-up p q e s step free was t lt = one_up (s == t) (has_failed p q t) (times (is_fail t) q) (was t lt) (λ h. subst (λ u. has_failed p q u ≡ false) (eqb-true s t h) free)
+fails-up p q e s step free was t lt =
+    one_up (s == t) (has_failed p q t) (times (is_fail t) q) (was t lt) (λ h. subst (λ u. has_failed p q u ≡ false) (eqb-true s t h) free)
     ∙ ap (λ b. if b then 1 else 0) (sym (step t))
 
 -- after one by which none fails

@@ -48,9 +48,13 @@ module _ (p : Plan) (q : Record) (s i : ℕ) (within : i < length (endpoints p s
   abbrev pub fails_at : Bool
   fails_at = not (has_live p q (address p s i)) && nat_le (in_use_limit p s i) (in_use_count p q s i + 1)
 
-  own_test : (k : ℕ) → (has (is_failure s k) q || nat_le (in_use_limit p s k) (in_use_count p (Got (InUse s i) ∷ q) s k)) ≡ ((has (is_failure s k) q || nat_le (in_use_limit p s k) (in_use_count p q s k)) || ((i == k) && fails_at))
+  own_test : (k : ℕ)
+      → (has (is_failure s k) q || nat_le (in_use_limit p s k) (in_use_count p (Got (InUse s i) ∷ q) s k))
+      ≡ ((has (is_failure s k) q || nat_le (in_use_limit p s k) (in_use_count p q s k)) || ((i == k) && fails_at))
   own_test k = elim (cases_eq i k) [
-    | inl e ↦ subst (λ j. (has (is_failure s j) q || nat_le (in_use_limit p s j) (in_use_count p (Got (InUse s i) ∷ q) s j)) ≡ ((has (is_failure s j) q || nat_le (in_use_limit p s j) (in_use_count p q s j)) || ((i == j) && fails_at))) e
+    | inl e ↦ subst
+        (λ j. (has (is_failure s j) q || nat_le (in_use_limit p s j) (in_use_count p (Got (InUse s i) ∷ q) s j))
+        ≡ ((has (is_failure s j) q || nat_le (in_use_limit p s j) (in_use_count p q s j)) || ((i == j) && fails_at))) e
         (rw (eq-eqb s s refl, eq-eqb i i refl) (counted (has_live p q (address p s i)) (has (is_failure s i) q) (in_use_limit p s i) (in_use_count p q s i)))
     | inr ne ↦ rw (eq-eqb s s refl, ne_eqb i k ne) (or_none (has (is_failure s k) q || nat_le (in_use_limit p s k) (in_use_count p q s k)))
   ]

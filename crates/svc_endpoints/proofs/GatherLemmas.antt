@@ -74,7 +74,8 @@ new_put came n [] none h = refl
 new_put came n (fd ∷ fds) none h =
     let parts = and_parts (not (is_in fd came) && not (is_in fd fds)) (all_new came fds) h in
     let here = and_parts (not (is_in fd came)) (not (is_in fd fds)) parts.0 in
-    rw (any-put (λ x. x == fd) n came, other fd n fds none, apart_from (is_in fd came) here.0, apart_from (is_in fd fds) here.1) (new_put came n fds (later fd n fds none) parts.1)
+    rw (any-put (λ x. x == fd) n came, other fd n fds none, apart_from (is_in fd came) here.0, apart_from (is_in fd fds) here.1)
+    (new_put came n fds (later fd n fds none) parts.1)
   where
     other : (fd n : ℕ) (fds : List ℕ) → is_in n (fd ∷ fds) ≡ false → (n == fd) ≡ false
     other fd n fds e = elim (cases_Bool (n == fd)) [
@@ -110,28 +111,34 @@ nil_both n [] [] h = (refl, refl)
 nil_both n [] (y ∷ ys) h = absurd (omega arith)
 nil_both n (x ∷ xs) ys h = absurd (omega arith)
 
-none_at : (o : Open) (more table : List Open) → ((a : Option (List ℕ)) → length (numbers_with (o ∷ more) a ++ numbers_with table a) ≤ 1) → (a : Option (List ℕ)) → same_address o.address a ≡ true → (numbers_with more a ≡ []) × (numbers_with table a ≡ [])
+none_at : (o : Open) (more table : List Open) → ((a : Option (List ℕ)) → length (numbers_with (o ∷ more) a ++ numbers_with table a) ≤ 1) → (a : Option (List ℕ))
+    → same_address o.address a ≡ true → (numbers_with more a ≡ []) × (numbers_with table a ≡ [])
 none_at o more table one a same = nil_both o.fd (numbers_with more a) (numbers_with table a) (rw same at (one a))
 
-none_own : (o : Open) (more table : List Open) → ((a : Option (List ℕ)) → length (numbers_with (o ∷ more) a ++ numbers_with table a) ≤ 1) → numbers_with table o.address ≡ []
+none_own : (o : Open) (more table : List Open) → ((a : Option (List ℕ)) → length (numbers_with (o ∷ more) a ++ numbers_with table a) ≤ 1)
+    → numbers_with table o.address ≡ []
 none_own o more table one = by_address o.address refl
   where
     by_address : (b : Option (List ℕ)) → o.address ≡ b → numbers_with table o.address ≡ []
     by_address None e = ap (numbers_with table) e ∙ with-None table
-    by_address (Some w) e = ap (numbers_with table) e ∙ (none_at o more table one (Some w) (subst (λ v. same_address v (Some w) ≡ true) (sym e) (same_self w))).1
+    by_address (Some w) e =
+        ap (numbers_with table) e ∙ (none_at o more table one (Some w) (subst (λ v. same_address v (Some w) ≡ true) (sym e) (same_self w))).1
 
-pub with-puts : (opens table : List Open) → ((a : Option (List ℕ)) → length (numbers_with opens a ++ numbers_with table a) ≤ 1) → (a : Option (List ℕ)) → numbers_with (put_opens opens table) a ≡ numbers_with opens a ++ numbers_with table a
+pub with-puts : (opens table : List Open) → ((a : Option (List ℕ)) → length (numbers_with opens a ++ numbers_with table a) ≤ 1) → (a : Option (List ℕ))
+    → numbers_with (put_opens opens table) a ≡ numbers_with opens a ++ numbers_with table a
 with-puts [] table one a = refl
 with-puts (o ∷ more) table one a =
     let put = numbers_with-put o table (none_own o more table one) in
-    with-puts more (put_open o table) (λ b. subst (λ (w : List ℕ). length (numbers_with more b ++ w) ≤ 1) (sym (put b)) (fewer b (cases_Bool (same_address o.address b)))) a
+    with-puts more (put_open o table)
+    (λ b. subst (λ (w : List ℕ). length (numbers_with more b ++ w) ≤ 1) (sym (put b)) (fewer b (cases_Bool (same_address o.address b)))) a
     ∙ ap (λ w. numbers_with more a ++ w) (put a)
     ∙ elim (cases_Bool (same_address o.address a)) [
       | inl y ↦ (let none = none_at o more table one a y in rw (y, none.0, none.1) refl)
       | inr n ↦ rw n refl
     ]
   where
-    fewer : (b : Option (List ℕ)) → ((same_address o.address b ≡ true) ⊎ (same_address o.address b ≡ false)) → length (numbers_with more b ++ (if same_address o.address b then o.fd ∷ [] else numbers_with table b)) ≤ 1
+    fewer : (b : Option (List ℕ)) → ((same_address o.address b ≡ true) ⊎ (same_address o.address b ≡ false))
+        → length (numbers_with more b ++ (if same_address o.address b then o.fd ∷ [] else numbers_with table b)) ≤ 1
     fewer b (inl y) = let none = none_at o more table one b y in rw (y, none.0) (omega arith)
     fewer b (inr n) = rw n (rw n at (one b))
 
@@ -141,23 +148,29 @@ numbers-opens [] words = refl
 numbers-opens (fd ∷ fds) [] = ap (λ w. fd ∷ w) (numbers-opens fds [])
 numbers-opens (fd ∷ fds) (w ∷ words) = ap (λ v. fd ∷ v) (numbers-opens fds words)
 
-words_at : (fd : ℕ) (fds : List ℕ) (words : List (List ℕ)) (k : ℕ) → opens_of (fd ∷ fds) (drop k words) ≡ record { fd = fd; address = slice_get words k } ∷ opens_of fds (drop (suc k) words)
+words_at : (fd : ℕ) (fds : List ℕ) (words : List (List ℕ)) (k : ℕ)
+    → opens_of (fd ∷ fds) (drop k words) ≡ record { fd = fd; address = slice_get words k } ∷ opens_of fds (drop (suc k) words)
 words_at fd fds [] zero = refl
 words_at fd fds [] (suc k) = refl
 words_at fd fds (w ∷ words) zero = refl
 words_at fd fds (w ∷ words) (suc k) = words_at fd fds words k
 
 pub out-next : (gone : List ℕ → Bool) (fds out : List ℕ) (words : List (List ℕ)) (k : ℕ) → k < length fds
-    → put_numbers (numbers_out gone (opens_of (drop (k + 1) fds) (drop (k + 1) words))) (if passes gone (slice_get words k) then put_number (get_or fds k 0) out else out) ≡ put_numbers (numbers_out gone (opens_of (drop k fds) (drop k words))) out
+    → put_numbers (numbers_out gone (opens_of (drop (k + 1) fds) (drop (k + 1) words)))
+    (if passes gone (slice_get words k) then put_number (get_or fds k 0) out else out)
+    ≡ put_numbers (numbers_out gone (opens_of (drop k fds) (drop k words))) out
 out-next gone fds out words k lt =
     step (passes gone (slice_get words k)) refl
-    ∙ ap (λ w. put_numbers (numbers_out gone w) out) (sym (ap (λ w. opens_of w (drop k words)) (drop_more fds k 0 lt) ∙ words_at (get_or fds k 0) (drop (k + 1) fds) words k
+    ∙ ap (λ w. put_numbers (numbers_out gone w) out)
+    (sym (ap (λ w. opens_of w (drop k words)) (drop_more fds k 0 lt) ∙ words_at (get_or fds k 0) (drop (k + 1) fds) words k
     ∙ ap (λ n. record { fd = get_or fds k 0; address = slice_get words k } ∷ opens_of (drop (k + 1) fds) (drop n words)) one))
   where
     one : suc k ≡ k + 1
     one = omega arith
 
-    step : (b : Bool) → passes gone (slice_get words k) ≡ b → put_numbers (numbers_out gone (opens_of (drop (k + 1) fds) (drop (k + 1) words))) (if passes gone (slice_get words k) then put_number (get_or fds k 0) out else out)
+    step : (b : Bool) → passes gone (slice_get words k) ≡ b
+        → put_numbers (numbers_out gone (opens_of (drop (k + 1) fds) (drop (k + 1) words)))
+        (if passes gone (slice_get words k) then put_number (get_or fds k 0) out else out)
         ≡ put_numbers (numbers_out gone (record { fd = get_or fds k 0; address = slice_get words k } ∷ opens_of (drop (k + 1) fds) (drop (k + 1) words))) out
     step true y = rw y refl
     step false n = rw n refl
@@ -183,10 +196,16 @@ once_more (m ∷ xs) n = ap (λ w. m ∷ filter (λ k. not (k == m)) w) (once_mo
     ]
 
 pub once-next : (test : ℕ → Bool) (fds : List ℕ) (k : ℕ) → k < length fds
-    → each_once (filter test (take (k + 1) fds)) ≡ (if test (get_or fds k 0) && not (is_in (get_or fds k 0) (take k fds)) then each_once (filter test (take k fds)) ++ get_or fds k 0 ∷ [] else each_once (filter test (take k fds)))
-once-next test fds k lt = ap (λ w. each_once (filter test w)) (take_more fds k 0 lt) ∙ ap each_once (filter-append test (take k fds) (get_or fds k 0 ∷ [])) ∙ by_test (take k fds) (get_or fds k 0)
+    → each_once (filter test (take (k + 1) fds))
+    ≡ (if test (get_or fds k 0)
+    && not (is_in (get_or fds k 0) (take k fds)) then each_once (filter test (take k fds)) ++ get_or fds k 0 ∷ [] else each_once (filter test (take k fds)))
+once-next test fds k lt =
+    ap (λ w. each_once (filter test w)) (take_more fds k 0 lt) ∙ ap each_once (filter-append test (take k fds) (get_or fds k 0 ∷ []))
+    ∙ by_test (take k fds) (get_or fds k 0)
   where
-    by_test : (xs : List ℕ) (n : ℕ) → each_once (filter test xs ++ filter test (n ∷ [])) ≡ (if test n && not (is_in n xs) then each_once (filter test xs) ++ n ∷ [] else each_once (filter test xs))
+    by_test : (xs : List ℕ) (n : ℕ)
+        → each_once (filter test xs ++ filter test (n ∷ []))
+        ≡ (if test n && not (is_in n xs) then each_once (filter test xs) ++ n ∷ [] else each_once (filter test xs))
     by_test xs n = elim (cases_Bool (test n)) [
       | inr off ↦ rw off (ap each_once (append-nil (filter test xs)))
       | inl on ↦ (let inside : is_in n (filter test xs) ≡ is_in n xs = is_in-filter n test xs ∙ ap (λ b. b && is_in n xs) on in
@@ -196,16 +215,22 @@ once-next test fds k lt = ap (λ w. each_once (filter test w)) (take_more fds k 
           ]))
     ]
 
-module _ (came fds : List ℕ) (start here : List Action) (k : ℕ) (lt : k < length fds) (was : here ≡ start ++ map Close (each_once (filter (λ n. not (is_in n came)) (take k fds)))) where
+module _ (came fds : List ℕ) (start here : List Action) (k : ℕ) (lt : k < length fds)
+    (was : here ≡ start ++ map Close (each_once (filter (λ n. not (is_in n came)) (take k fds)))) where
   abbrev closed : ℕ → List ℕ
   closed m = each_once (filter (λ n. not (is_in n came)) (take m fds))
 
-  pub closes-new : (not (is_in (get_or fds k 0) came) && not (is_in (get_or fds k 0) (take k fds))) ≡ true → here ++ Close (get_or fds k 0) ∷ [] ≡ start ++ map Close (closed (k + 1))
+  pub closes-new : (not (is_in (get_or fds k 0) came) && not (is_in (get_or fds k 0) (take k fds))) ≡ true
+      → here ++ Close (get_or fds k 0) ∷ [] ≡ start ++ map Close (closed (k + 1))
   closes-new h = ap (λ w. w ++ Close (get_or fds k 0) ∷ []) was ∙ append_assoc start (map Close (closed k)) (Close (get_or fds k 0) ∷ [])
-      ∙ ap (λ w. start ++ w) (sym (ap (map Close) (once-next (λ n. not (is_in n came)) fds k lt ∙ ap (λ b. if b then closed k ++ get_or fds k 0 ∷ [] else closed k) h) ∙ map-append Close (closed k) (get_or fds k 0 ∷ [])))
+      ∙ ap (λ w. start ++ w)
+      (sym (ap (map Close) (once-next (λ n. not (is_in n came)) fds k lt ∙ ap (λ b. if b then closed k ++ get_or fds k 0 ∷ [] else closed k) h)
+      ∙ map-append Close (closed k) (get_or fds k 0 ∷ [])))
 
   pub closes-old : (not (is_in (get_or fds k 0) came) && not (is_in (get_or fds k 0) (take k fds))) ≡ false → here ≡ start ++ map Close (closed (k + 1))
-  closes-old h = was ∙ ap (λ w. start ++ map Close w) (sym (once-next (λ n. not (is_in n came)) fds k lt ∙ ap (λ b. if b then closed k ++ get_or fds k 0 ∷ [] else closed k) h))
+  closes-old h =
+      was ∙ ap (λ w. start ++ map Close w)
+      (sym (once-next (λ n. not (is_in n came)) fds k lt ∙ ap (λ b. if b then closed k ++ get_or fds k 0 ∷ [] else closed k) h))
 
 -- what is new beside some is new beside none
 pub all-fresh : (came fds : List ℕ) → all_new came fds ≡ true → all_new [] fds ≡ true
@@ -225,7 +250,9 @@ length-opens (fd ∷ fds) (w ∷ words) = let h = length-opens fds words in omeg
 
 -- no more are turned away than came
 pub away-few : (gone : List ℕ → Bool) (fds : List ℕ) (words : List (List ℕ)) → length (ascending (numbers_out gone (opens_of fds words))) ≤ length fds
-away-few gone fds words = let h = rest-out-length gone (opens_of fds words) in let g = length-opens fds words in let a = length-ascending (numbers_out gone (opens_of fds words)) in omega (arith, h, g, a)
+away-few gone fds words =
+    let h = rest-out-length gone (opens_of fds words) in let g = length-opens fds words in let a = length-ascending (numbers_out gone (opens_of fds words)) in
+    omega (arith, h, g, a)
 
 pub puts-none : (xs : List ℕ) → put_numbers xs [] ≡ ascending xs
 puts-none xs = puts-ascending xs [] ∙ ap ascending (append-nil xs)

@@ -48,7 +48,8 @@ loops-got p d q (LoopEnded s i j) other was = absurd (cc)
 loops-got p d q e other was = record { some_tasks = was.some_tasks; ends_are = was.ends_are; counts = was.counts; told = was.told; serve = was.serve }
 
 -- and so do other descriptors
-pub loops-table : (p : Plan) (d : EndpointsData) (q : Record) (table : List Open) (came : List ℕ) → LoopsStand p d q → LoopsStand p (record d { table = table; came = came }) q
+pub loops-table : (p : Plan) (d : EndpointsData) (q : Record) (table : List Open) (came : List ℕ) → LoopsStand p d q
+    → LoopsStand p (record d { table = table; came = came }) q
 loops-table p d q table came was = record {
   some_tasks = was.some_tasks;
   ends_are = was.ends_are;
@@ -75,17 +76,20 @@ one_zero false true e = absurd (omega arith)
 one_zero false false e = refl
 
 -- exactly what is gone is closed
-pub closed-is : (p : Plan) (q : Record) (fd : ℕ) → EachEntry (λ e before. close_once p e before ≡ true) q → times (is_close fd) q ≡ (if is_gone p q fd then 1 else 0) → has (is_close fd) q ≡ is_gone p q fd
+pub closed-is : (p : Plan) (q : Record) (fd : ℕ) → EachEntry (λ e before. close_once p e before ≡ true) q
+    → times (is_close fd) q ≡ (if is_gone p q fd then 1 else 0) → has (is_close fd) q ≡ is_gone p q fd
 closed-is p q fd once h = one_zero (has (is_close fd) q) (is_gone p q fd) (sym (closed_once p q fd once) ∙ h)
 
 -- where the same was opened and doubled, the same is turned away
-pub turned-same : (p : Plan) (q r : Record) (fd : ℕ) → opened_descriptors p r ≡ opened_descriptors p q → is_doubled p r fd ≡ is_doubled p q fd → is_turned p r fd ≡ is_turned p q fd
+pub turned-same : (p : Plan) (q r : Record) (fd : ℕ) → opened_descriptors p r ≡ opened_descriptors p q → is_doubled p r fd ≡ is_doubled p q fd
+    → is_turned p r fd ≡ is_turned p q fd
 turned-same p q r fd opened doubled =
     ap (λ ds. (list_any (λ (d : Descriptor). d.number == fd && d.received) ds && is_address_unclaimed p (first_address fd ds)) || is_doubled p r fd) opened
     ∙ ap (λ b. (is_received p q fd && is_address_unclaimed p (address_of p q fd)) || b) doubled
 
 -- what was offered was opened
-adopt_opened : (p : Plan) (q : Record) (s i fd : ℕ) → EachEntry (λ e before. ask_due p e before ≡ true) q → is_in fd (last_adopt q s i) ≡ true → is_opened p q fd ≡ true
+adopt_opened : (p : Plan) (q : Record) (s i fd : ℕ) → EachEntry (λ e before. ask_due p e before ≡ true) q → is_in fd (last_adopt q s i) ≡ true
+    → is_opened p q fd ≡ true
 adopt_opened p [] s i fd due h = absurd (cc)
 adopt_opened p (Told (Adopt t k n) ∷ q) s i fd due h = elim (cases_Bool (t == s && k == i)) [
   | inl y ↦ (let here : (n == fd) ≡ true = only (n == fd) (rw y at h) in
@@ -99,12 +103,15 @@ adopt_opened p (Told (Adopt t k n) ∷ q) s i fd due h = elim (cases_Bool (t == 
 adopt_opened p (e ∷ q) s i fd due h = opens-later fd (descriptors_of p e) (opened_descriptors p q) (adopt_opened p q s i fd due.1 h)
 
 -- what holds an endpoint was opened
-pub held-opened : (p : Plan) (q : Record) (s i fd : ℕ) → EachEntry (λ e before. ask_due p e before ≡ true) q → is_in fd (held_numbers p q s i) ≡ true → is_opened p q fd ≡ true
+pub held-opened : (p : Plan) (q : Record) (s i fd : ℕ) → EachEntry (λ e before. ask_due p e before ≡ true) q → is_in fd (held_numbers p q s i) ≡ true
+    → is_opened p q fd ≡ true
 held-opened p [] s i fd due h = absurd (cc)
-held-opened p (e ∷ q) s i fd due h = elim (or_cases (is_in fd (held_numbers_of p s i e q)) (is_in fd (held_numbers p q s i)) (sym (list_any-append (λ n. n == fd) (held_numbers_of p s i e q) (held_numbers p q s i)) ∙ h)) [
-  | inl now ↦ held_now p e q s i fd due now
-  | inr earlier ↦ opens-later fd (descriptors_of p e) (opened_descriptors p q) (held-opened p q s i fd due.1 earlier)
-]
+held-opened p (e ∷ q) s i fd due h =
+    elim (or_cases (is_in fd (held_numbers_of p s i e q)) (is_in fd (held_numbers p q s i))
+    (sym (list_any-append (λ n. n == fd) (held_numbers_of p s i e q) (held_numbers p q s i)) ∙ h)) [
+      | inl now ↦ held_now p e q s i fd due now
+      | inr earlier ↦ opens-later fd (descriptors_of p e) (opened_descriptors p q) (held-opened p q s i fd due.1 earlier)
+    ]
   where
     brought : (b : Bool) (n fd : ℕ) → is_in fd (if b then n ∷ [] else []) ≡ true → (n == fd) ≡ true
     brought true n fd h = only (n == fd) h
@@ -117,15 +124,19 @@ held-opened p (e ∷ q) s i fd due h = elim (or_cases (is_in fd (held_numbers_of
     taken true fd xs h = h
     taken false fd xs h = absurd (cc)
 
-    held_now : (p : Plan) (e : Entry) (q : Record) (s i fd : ℕ) → EachEntry (λ e before. ask_due p e before ≡ true) (e ∷ q) → is_in fd (held_numbers_of p s i e q) ≡ true → is_opened p (e ∷ q) fd ≡ true
-    held_now p (Got (Bound t k n)) q s i fd due h = or_left (n == fd) (is_opened p q fd) (brought ((t == s && k == i) && not (has_live p q (address p t k))) n fd h)
+    held_now : (p : Plan) (e : Entry) (q : Record) (s i fd : ℕ) → EachEntry (λ e before. ask_due p e before ≡ true) (e ∷ q)
+        → is_in fd (held_numbers_of p s i e q) ≡ true → is_opened p (e ∷ q) fd ≡ true
+    held_now p (Got (Bound t k n)) q s i fd due h =
+        or_left (n == fd) (is_opened p q fd) (brought ((t == s && k == i) && not (has_live p q (address p t k))) n fd h)
     held_now p (Got (Adopted t k)) q s i fd due h = adopt_opened p q s i fd due.1 (taken (t == s && k == i) fd (last_adopt q s i) h)
     held_now p e q s i fd due h = absurd (cc)
 
 -- what is drained was opened
 pub drained-opened : (p : Plan) (q : Record) (fd : ℕ) → EachEntry (λ e before. ask_due p e before ≡ true) q → is_drained p q fd ≡ true → is_opened p q fd ≡ true
 drained-opened p q fd due h =
-    let outer = and_parts ((has is_broadcast q && not (is_adopt_of_open p q fd)) && list_any (λ s. list_any (is_holder p q fd s) (endpoint_numbers p s)) (services p)) _ h in
-    let inner = and_parts (has is_broadcast q && not (is_adopt_of_open p q fd)) (list_any (λ s. list_any (is_holder p q fd s) (endpoint_numbers p s)) (services p)) outer.0 in
+    let outer = and_parts
+    ((has is_broadcast q && not (is_adopt_of_open p q fd)) && list_any (λ s. list_any (is_holder p q fd s) (endpoint_numbers p s)) (services p)) _ h in
+    let inner = and_parts (has is_broadcast q && not (is_adopt_of_open p q fd))
+    (list_any (λ s. list_any (is_holder p q fd s) (endpoint_numbers p s)) (services p)) outer.0 in
     let some = get-endpoint p (is_holder p q fd) inner.1 in
     held-opened p q some.0 some.1 fd due (and_parts (not (has_failed p q some.0)) (is_in fd (held_numbers p q some.0 some.1)) some.4).1

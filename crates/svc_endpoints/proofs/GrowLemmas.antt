@@ -21,7 +21,8 @@ failed_more x h false l c e = grind arith
 -- a service that has failed has failed for good
 pub failed-grows : (p : Plan) (q : Record) (e : Entry) (s : ℕ) → has_failed p q s ≡ true → has_failed p (e ∷ q) s ≡ true
 failed-grows p q e s h = any-grows (λ i. has (is_failure s i) q || nat_le (in_use_limit p s i) (in_use_count p q s i)) _ (endpoint_numbers p s)
-    (λ i. failed_more (is_failure s i e) (has (is_failure s i) q) (is_in_use s i e && not (has_live p q (address p s i))) (in_use_limit p s i) (in_use_count p q s i)) h
+    (λ i. failed_more (is_failure s i e) (has (is_failure s i) q) (is_in_use s i e && not (has_live p q (address p s i))) (in_use_limit p s i)
+    (in_use_count p q s i)) h
 
 module _ (p : Plan) (q r : Record) (grows : (s : ℕ) → has_failed p q s ≡ true → has_failed p r s ≡ true) where
   abandoned-grows : (a : List ℕ) → is_abandoned p q a ≡ true → is_abandoned p r a ≡ true
@@ -38,7 +39,8 @@ module _ (p : Plan) (q r : Record) (grows : (s : ℕ) → has_failed p q s ≡ t
   address_grows (Some a) h = abandoned-grows a h
   address_grows None h = h
 
-  gone_now_grows : (fd : ℕ) → is_turned p r fd ≡ is_turned p q fd → address_of p r fd ≡ address_of p q fd → (is_held_back p r fd ≡ true → is_held_back p q fd ≡ true) → is_gone_now p q fd ≡ true → is_gone_now p r fd ≡ true
+  gone_now_grows : (fd : ℕ) → is_turned p r fd ≡ is_turned p q fd → address_of p r fd ≡ address_of p q fd
+      → (is_held_back p r fd ≡ true → is_held_back p q fd ≡ true) → is_gone_now p q fd ≡ true → is_gone_now p r fd ≡ true
   gone_now_grows fd turned place held h = elim (or_cases (is_turned p q fd) (is_address_abandoned p q (address_of p q fd) && not (is_held_back p q fd)) h) [
     | inl d ↦ or_left (is_turned p r fd) (is_address_abandoned p r (address_of p r fd) && not (is_held_back p r fd)) (turned ∙ d)
     | inr a ↦ (let parts = and_parts (is_address_abandoned p q (address_of p q fd)) (not (is_held_back p q fd)) a in
@@ -53,7 +55,9 @@ module _ (p : Plan) (q r : Record) (grows : (s : ℕ) → has_failed p q s ≡ t
       still_not a false f h = refl
 
   -- what is gone stays gone, where its opening stays as it was, nothing comes on offer, and what is drained stays so
-  pub gone-grows : (fd : ℕ) → is_turned p r fd ≡ is_turned p q fd → address_of p r fd ≡ address_of p q fd → (is_held_back p r fd ≡ true → is_held_back p q fd ≡ true) → (is_drained p q fd ≡ true → is_drained p r fd ≡ true) → is_gone p q fd ≡ true → is_gone p r fd ≡ true
+  pub gone-grows : (fd : ℕ) → is_turned p r fd ≡ is_turned p q fd → address_of p r fd ≡ address_of p q fd
+      → (is_held_back p r fd ≡ true → is_held_back p q fd ≡ true) → (is_drained p q fd ≡ true → is_drained p r fd ≡ true) → is_gone p q fd ≡ true
+      → is_gone p r fd ≡ true
   gone-grows fd turned place held drained h = elim (or_cases (is_gone_now p q fd) (is_drained p q fd) h) [
     | inl g ↦ or_left (is_gone_now p r fd) (is_drained p r fd) (gone_now_grows fd turned place held g)
     | inr g ↦ or_right (is_gone_now p r fd) (is_drained p r fd) (drained g)
@@ -66,14 +70,17 @@ all-same f g (x ∷ xs) h = rw (h x) (ap (λ b. g x && b) (all-same f g xs h))
 module _ (p : Plan) (q r : Record) (same : (s : ℕ) → has_failed p r s ≡ has_failed p q s) where
   pub address-same : (a : Option (List ℕ)) → is_address_abandoned p r a ≡ is_address_abandoned p q a
   address-same (Some a) = ap (λ b. list_any (λ s. names p s a) (services p) && b)
-      (all-same (λ s. not (names p s a) || has_failed p r s) (λ s. not (names p s a) || has_failed p q s) (services p) (λ s. ap (λ b. not (names p s a) || b) (same s)))
+      (all-same (λ s. not (names p s a) || has_failed p r s) (λ s. not (names p s a) || has_failed p q s) (services p)
+      (λ s. ap (λ b. not (names p s a) || b) (same s)))
   address-same None = refl
 
-  gone_now_same : (fd : ℕ) → is_turned p r fd ≡ is_turned p q fd → address_of p r fd ≡ address_of p q fd → is_held_back p r fd ≡ is_held_back p q fd → is_gone_now p r fd ≡ is_gone_now p q fd
+  gone_now_same : (fd : ℕ) → is_turned p r fd ≡ is_turned p q fd → address_of p r fd ≡ address_of p q fd → is_held_back p r fd ≡ is_held_back p q fd
+      → is_gone_now p r fd ≡ is_gone_now p q fd
   gone_now_same fd turned place held = ap (λ b. b || (is_address_abandoned p r (address_of p r fd) && not (is_held_back p r fd))) turned
       ∙ ap (λ b. is_turned p q fd || (b && not (is_held_back p r fd))) (ap (is_address_abandoned p r) place ∙ address-same (address_of p q fd))
       ∙ ap (λ b. is_turned p q fd || (is_address_abandoned p q (address_of p q fd) && not b)) held
 
   -- what is gone is the same, where no service fails, and the same is on offer and drained
-  pub gone-same : (fd : ℕ) → is_turned p r fd ≡ is_turned p q fd → address_of p r fd ≡ address_of p q fd → is_held_back p r fd ≡ is_held_back p q fd → is_drained p r fd ≡ is_drained p q fd → is_gone p r fd ≡ is_gone p q fd
+  pub gone-same : (fd : ℕ) → is_turned p r fd ≡ is_turned p q fd → address_of p r fd ≡ address_of p q fd → is_held_back p r fd ≡ is_held_back p q fd
+      → is_drained p r fd ≡ is_drained p q fd → is_gone p r fd ≡ is_gone p q fd
   gone-same fd turned place held drained = ap (λ b. b || is_drained p r fd) (gone_now_same fd turned place held) ∙ ap (λ b. is_gone_now p q fd || b) drained

@@ -40,7 +40,8 @@ only_ask p d kept s i k asks ne = elim (cases_lt k i) [
   ]
 ]
 
-module _ (p : Plan) (d : EndpointsData) (s i : ℕ) (inside : s < length d.rows) (within : i < length (slice_index_or d.rows s [])) (was : StatesKept p d) (x : EndpointState) where
+module _ (p : Plan) (d : EndpointsData) (s i : ℕ) (inside : s < length d.rows) (within : i < length (slice_index_or d.rows s [])) (was : StatesKept p d)
+    (x : EndpointState) where
   at_same : last_at (put d s i x) s i ≡ x.last
   at_same = last_at-put d s i x inside within s i ∙ (rw (eq-eqb s s refl, eq-eqb i i refl) refl)
 
@@ -71,15 +72,20 @@ module _ (p : Plan) (d : EndpointsData) (s i : ℕ) (inside : s < length d.rows)
     turn = λ t k j h lt. elim (place t j) [
       | inl e ↦ elim (place t k) [
         | inl f ↦ absurd (let a = e.1 in let b = f.1 in omega arith)
-        | inr nf ↦ absurd (let held : is_holding (last_at d s i) ≡ true = subst (λ (m : ℕ). is_holding (last_at d s m) ≡ true) e.1 (subst (λ (u : ℕ). is_holding (last_at d u j) ≡ true) e.0 (was.turn t k j (sym (ap is_asking (at_other t k nf)) ∙ h) lt)) in cc)
+        | inr nf ↦ absurd
+            (let held : is_holding (last_at d s i) ≡ true =
+            subst (λ (m : ℕ). is_holding (last_at d s m) ≡ true) e.1
+            (subst (λ (u : ℕ). is_holding (last_at d u j) ≡ true) e.0 (was.turn t k j (sym (ap is_asking (at_other t k nf)) ∙ h) lt)) in cc)
       ]
       | inr ne ↦ ap is_holding (at_other t j ne) ∙ elim (place t k) [
-        | inl f ↦ subst (λ (u : ℕ). is_holding (last_at d u j) ≡ true) (sym f.0) ((asks (sym (ap is_asking (at_same_of t k f)) ∙ h)).1 j (let b = f.1 in omega arith))
+        | inl f ↦ subst (λ (u : ℕ). is_holding (last_at d u j) ≡ true) (sym f.0)
+            ((asks (sym (ap is_asking (at_same_of t k f)) ∙ h)).1 j (let b = f.1 in omega arith))
         | inr nf ↦ was.turn t k j (sym (ap is_asking (at_other t k nf)) ∙ h) lt
       ]
     ];
     live = λ early t k free h. elim (place t k) [
-      | inl e ↦ subst (λ (u : ℕ). numbers_with d.table (address p u k) ≡ fd_of (last_at (put d s i x) t k)) (sym e.0) (subst (λ (j : ℕ). numbers_with d.table (address p s j) ≡ fd_of (last_at (put d s i x) t k)) (sym e.1)
+      | inl e ↦ subst (λ (u : ℕ). numbers_with d.table (address p u k) ≡ fd_of (last_at (put d s i x) t k)) (sym e.0)
+          (subst (λ (j : ℕ). numbers_with d.table (address p s j) ≡ fd_of (last_at (put d s i x) t k)) (sym e.1)
           (has early (subst (λ (u : ℕ). failed_at d u ≡ false) e.0 free) (sym (ap has_fd (at_same_of t k e)) ∙ h) ∙ sym (ap fd_of (at_same_of t k e))))
       | inr ne ↦ was.live early t k free (sym (ap has_fd (at_other t k ne)) ∙ h) ∙ sym (ap fd_of (at_other t k ne))
     ];
@@ -94,7 +100,8 @@ module _ (p : Plan) (d : EndpointsData) (s i : ℕ) (inside : s < length d.rows)
     | inr ne ↦ ap is_asking (at_other s k (λ a b. ne b)) ∙ only_ask p d was s i k asks ne
   ]
 
-pub kept-fail : (p : Plan) (d : EndpointsData) (b : Bool) (s : ℕ) → s < length d.failed → StatesKept p d → ((k : ℕ) → is_asking (last_at d s k) ≡ false) → StatesKept p (fail_if b s d)
+pub kept-fail : (p : Plan) (d : EndpointsData) (b : Bool) (s : ℕ) → s < length d.failed → StatesKept p d → ((k : ℕ) → is_asking (last_at d s k) ≡ false)
+    → StatesKept p (fail_if b s d)
 kept-fail p d false s lt was none = was
 kept-fail p d true s lt was none = record {
   asking_free = λ t k h. failed_at-fail p d s true lt t ∙ elim (cases_eq s t) [
@@ -137,7 +144,8 @@ held_now_fd (AddressInUse at) = refl
 held_now_fd (Holding fd) = refl
 held_now_fd AdoptionFailed = refl
 
-module _ (p : Plan) (d : EndpointsData) (s i : ℕ) (sized : IsEndpointsSized p d) (inside : s < service_count p) (within : i < length (endpoints p s)) (was : StatesKept p d) where
+module _ (p : Plan) (d : EndpointsData) (s i : ℕ) (sized : IsEndpointsSized p d) (inside : s < service_count p) (within : i < length (endpoints p s))
+    (was : StatesKept p d) where
   in_rows : s < length d.rows
   in_rows = omega (arith, sized.services)
 
@@ -148,7 +156,8 @@ module _ (p : Plan) (d : EndpointsData) (s i : ℕ) (sized : IsEndpointsSized p 
   in_failed = omega (arith, sized.failed)
 
   -- the ask of the endpoint ends with no descriptor
-  kept-end : (b : Bool) (x : EndpointState) → is_asking (last_at d s i) ≡ true → is_asking x.last ≡ false → has_fd x.last ≡ false → StatesKept p (fail_if b s (put d s i x))
+  kept-end : (b : Bool) (x : EndpointState) → is_asking (last_at d s i) ≡ true → is_asking x.last ≡ false → has_fd x.last ≡ false
+      → StatesKept p (fail_if b s (put d s i x))
   kept-end b x asks done none = kept-fail p (put d s i x) b s in_failed
       (kept-put p d s i in_rows in_row was x (asking_not_holding (last_at d s i) asks) (λ e. absurd (cc)) (λ early free e. absurd (cc)))
       (none_asks p d s i in_rows in_row was x asks done)
@@ -163,15 +172,22 @@ module _ (p : Plan) (d : EndpointsData) (s i : ℕ) (sized : IsEndpointsSized p 
   kept-adopt_failed a = kept-end true (record { last = AdoptionFailed; times_in_use = times_in_use_at d s i }) (adopting_asks (last_at d s i) a) refl refl
 
   pub kept-adopted : is_adopting (last_at d s i) ≡ true → StatesKept p (adopted d s i)
-  kept-adopted a = kept-put p d s i in_rows in_row was (record { last = held_now (last_at d s i); times_in_use = times_in_use_at d s i }) (asking_not_holding (last_at d s i) (adopting_asks (last_at d s i) a))
+  kept-adopted a =
+      kept-put p d s i in_rows in_row was (record { last = held_now (last_at d s i); times_in_use = times_in_use_at d s i })
+      (asking_not_holding (last_at d s i) (adopting_asks (last_at d s i) a))
       (λ e. let no = held_now_asks (last_at d s i) a in absurd (cc))
       (λ early free e. was.live early s i free (rw a refl) ∙ sym (held_now_fd (last_at d s i)))
 
-  pub kept-asked : failed_at d s ≡ false → is_holding (last_at d s i) ≡ false → ((k : ℕ) → k < i → is_holding (last_at d s k) ≡ true) → StatesKept p (asked d s i)
-  kept-asked free none before = kept-put p d s i in_rows in_row was (record { last = Binding; times_in_use = times_in_use_at d s i }) none (λ e. (free, before)) (λ early f e. absurd (cc))
+  pub kept-asked : failed_at d s ≡ false → is_holding (last_at d s i) ≡ false → ((k : ℕ) → k < i → is_holding (last_at d s k) ≡ true)
+      → StatesKept p (asked d s i)
+  kept-asked free none before =
+      kept-put p d s i in_rows in_row was (record { last = Binding; times_in_use = times_in_use_at d s i }) none (λ e. (free, before))
+      (λ early f e. absurd (cc))
 
-  pub kept-offered : (fd : ℕ) → failed_at d s ≡ false → is_holding (last_at d s i) ≡ false → ((k : ℕ) → k < i → is_holding (last_at d s k) ≡ true) → numbers_with d.table (address p s i) ≡ fd ∷ [] → StatesKept p (offered d s i fd)
-  kept-offered fd free none before has = kept-put p d s i in_rows in_row was (record { last = Adopting fd; times_in_use = times_in_use_at d s i }) none (λ e. (free, before)) (λ early f e. has)
+  pub kept-offered : (fd : ℕ) → failed_at d s ≡ false → is_holding (last_at d s i) ≡ false → ((k : ℕ) → k < i → is_holding (last_at d s k) ≡ true)
+      → numbers_with d.table (address p s i) ≡ fd ∷ [] → StatesKept p (offered d s i fd)
+  kept-offered fd free none before has =
+      kept-put p d s i in_rows in_row was (record { last = Adopting fd; times_in_use = times_in_use_at d s i }) none (λ e. (free, before)) (λ early f e. has)
 
   pub asks_free_binding : is_binding (last_at d s i) ≡ true → failed_at d s ≡ false
   asks_free_binding b = was.asking_free s i (binding_asks (last_at d s i) b)

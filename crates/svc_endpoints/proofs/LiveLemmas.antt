@@ -28,7 +28,8 @@ pub same_self : (a : List ℕ) → same_address (Some a) (Some a) ≡ true
 same_self a = (bytes_eq-Decides a a).1 refl
 
 -- a table with one more descriptor, of an address that it had none of
-none_later : (x : Open) (more : List Open) (a : Option (List ℕ)) → numbers_with (x ∷ more) a ≡ [] → (same_address x.address a ≡ false) × (numbers_with more a ≡ [])
+none_later : (x : Open) (more : List Open) (a : Option (List ℕ)) → numbers_with (x ∷ more) a ≡ []
+    → (same_address x.address a ≡ false) × (numbers_with more a ≡ [])
 none_later x more a h = elim (cases_Bool (same_address x.address a)) [
   | inl y ↦ absurd (let k = rw y at h in cc)
   | inr n ↦ (n, rw n at h)
@@ -62,7 +63,9 @@ descriptors_of-new p fd (Got _) h = refl
 
 pub opened-new : (p : Plan) (fd : ℕ) (q : Record) → has (brings fd) q ≡ false → list_any (has_number fd) (opened_descriptors p q) ≡ false
 opened-new p fd [] h = refl
-opened-new p fd (e ∷ q) h = list_any-append (has_number fd) (descriptors_of p e) (opened_descriptors p q) ∙ both (brings fd e) (has (brings fd) q) _ _ h (descriptors_of-new p fd e) (opened-new p fd q)
+opened-new p fd (e ∷ q) h =
+    list_any-append (has_number fd) (descriptors_of p e) (opened_descriptors p q)
+    ∙ both (brings fd e) (has (brings fd) q) _ _ h (descriptors_of-new p fd e) (opened-new p fd q)
   where
     both : (a b c d : Bool) → (a || b) ≡ false → (a ≡ false → c ≡ false) → (b ≡ false → d ≡ false) → (c || d) ≡ false
     both true b c d h f g = absurd (cc)
@@ -95,10 +98,12 @@ module _ (p : Plan) (q : Record) (s i fd : ℕ) (new : is_new q fd ≡ true) whe
   pub live-doubled : live_descriptors p (Told (Close fd) ∷ Got (Bound s i fd) ∷ q) ≡ live_descriptors p q
   live-doubled = rw (eq-eqb fd fd refl) (filter-new fd q (opened_descriptors p q) (opened-new p fd q (new_brings (has (brings fd) q) new)))
 
-  pub live-bound : has (is_close fd) q ≡ false → live_descriptors p (Got (Bound s i fd) ∷ q) ≡ record { number = fd; address = address p s i; received = false } ∷ live_descriptors p q
+  pub live-bound : has (is_close fd) q ≡ false
+      → live_descriptors p (Got (Bound s i fd) ∷ q) ≡ record { number = fd; address = address p s i; received = false } ∷ live_descriptors p q
   live-bound stays = rw stays refl
 
-  pub live_with-bound : has (is_close fd) q ≡ false → live_numbers_with p q (address p s i) ≡ [] → (a : Option (List ℕ)) → live_numbers_with p (Got (Bound s i fd) ∷ q) a ≡ (if same_address (address p s i) a then fd ∷ [] else live_numbers_with p q a)
+  pub live_with-bound : has (is_close fd) q ≡ false → live_numbers_with p q (address p s i) ≡ [] → (a : Option (List ℕ))
+      → live_numbers_with p (Got (Bound s i fd) ∷ q) a ≡ (if same_address (address p s i) a then fd ∷ [] else live_numbers_with p q a)
   live_with-bound stays none a = ap (λ w. map (λ (d : Descriptor). d.number) (filter (λ (d : Descriptor). same_address d.address a) w)) (live-bound stays)
       ∙ elim (cases_Bool (same_address (address p s i) a)) [
         | inl y ↦ rw y (ap (λ w. fd ∷ w) (subst (λ b. live_numbers_with p q b ≡ []) (same_eq (address p s i) a y) none))

@@ -29,14 +29,16 @@ none_below true h a = refl
 none_below false h a = refl
 
 at_one : (m h : Bool) (a b : ℕ) → b ≡ (if h then a + 1 else a)
-    → (if (m && true) && not h then b + 1 else b) ≡ (if (m && true) || h then (if (m && false) && not h then a + 1 else a) + 1 else (if (m && false) && not h then a + 1 else a))
+    → (if (m && true) && not h then b + 1 else b)
+    ≡ (if (m && true) || h then (if (m && false) && not h then a + 1 else a) + 1 else (if (m && false) && not h then a + 1 else a))
 at_one true true a b e = e
 at_one true false a b e = ap (λ n. n + 1) e
 at_one false true a b e = e
 at_one false false a b e = e
 
 at_other : (m l g h : Bool) (a b : ℕ) → b ≡ (if h then a + 1 else a)
-    → (if (m && l) && not g then b + 1 else b) ≡ (if (m && false) || h then (if (m && l) && not g then a + 1 else a) + 1 else (if (m && l) && not g then a + 1 else a))
+    → (if (m && l) && not g then b + 1 else b)
+    ≡ (if (m && false) || h then (if (m && l) && not g then a + 1 else a) + 1 else (if (m && l) && not g then a + 1 else a))
 at_other true true true true a b e = e
 at_other true true true false a b e = e
 at_other true true false true a b e = ap (λ n. n + 1) e
@@ -60,9 +62,11 @@ module _ (p : Plan) (s i : ℕ) where
   below_next [] n = refl
   below_next (Got (LoopEnded t k j) ∷ q) n = elim (cases_eq j n) [
     | inl e ↦ (let same : has (is_loop_end s i j) q ≡ has (is_loop_end s i n) q = ap (λ m. has (is_loop_end s i m) q) e in
-        rw (eq-eqb j n e, lt_here j n e, not_lt j n e, same) (at_one (t == s && k == i) (has (is_loop_end s i n) q) (below q n) (below q (n + 1)) (below_next q n)))
+        rw (eq-eqb j n e, lt_here j n e, not_lt j n e, same)
+        (at_one (t == s && k == i) (has (is_loop_end s i n) q) (below q n) (below q (n + 1)) (below_next q n)))
     | inr ne ↦ (let off = ne_eqb j n ne in
-        rw (off, lt_same j n off) (at_other (t == s && k == i) (nat_lt j n) (has (is_loop_end s i j) q) (has (is_loop_end s i n) q) (below q n) (below q (n + 1)) (below_next q n)))
+        rw (off, lt_same j n off)
+        (at_other (t == s && k == i) (nat_lt j n) (has (is_loop_end s i j) q) (has (is_loop_end s i n) q) (below q n) (below q (n + 1)) (below_next q n)))
   ]
   below_next (e ∷ q) n = below_next q n
 
@@ -103,8 +107,11 @@ has_loop-more loops x s i j = list_any-append (is_loop s i j) loops (x ∷ []) �
     swap : (a b : Bool) → (a || (b || false)) ≡ (b || a)
     swap a b = grind arith
 
-pub loop_count-more : (loops : List LoopEnd) (x : LoopEnd) (s i : ℕ) → loop_count (loops ++ (x ∷ [])) s i ≡ (if is_loop_of s i x then loop_count loops s i + 1 else loop_count loops s i)
-loop_count-more loops x s i = ap length (filter-append (is_loop_of s i) loops (x ∷ [])) ∙ length-append (filter (is_loop_of s i) loops) (filter (is_loop_of s i) (x ∷ [])) ∙ last_one (is_loop_of s i x)
+pub loop_count-more : (loops : List LoopEnd) (x : LoopEnd) (s i : ℕ)
+    → loop_count (loops ++ (x ∷ [])) s i ≡ (if is_loop_of s i x then loop_count loops s i + 1 else loop_count loops s i)
+loop_count-more loops x s i =
+    ap length (filter-append (is_loop_of s i) loops (x ∷ [])) ∙ length-append (filter (is_loop_of s i) loops) (filter (is_loop_of s i) (x ∷ []))
+    ∙ last_one (is_loop_of s i x)
   where
     last_one : (b : Bool) → loop_count loops s i + length (if b then x ∷ [] else []) ≡ (if b then loop_count loops s i + 1 else loop_count loops s i)
     last_one true = refl
@@ -114,7 +121,11 @@ loop_count-more loops x s i = ap length (filter-append (is_loop_of s i) loops (x
 pub some_loop : (loops : List LoopEnd) (s i : ℕ) → 0 < loop_count loops s i → (j : ℕ) × (has_loop loops s i j ≡ true)
 some_loop [] s i h = absurd (omega arith)
 some_loop (x ∷ loops) s i h = elim (cases_Bool (is_loop_of s i x)) [
-  | inl y ↦ (x.number, or_left (is_loop s i x.number x) (has_loop loops s i x.number) (and_from (is_loop_of s i x) (x.number == x.number) y (eq-eqb x.number x.number refl)))
+  | inl y ↦ (
+    x.number,
+    or_left (is_loop s i x.number x) (has_loop loops s i x.number)
+        (and_from (is_loop_of s i x) (x.number == x.number) y (eq-eqb x.number x.number refl)),
+  )
   | inr n ↦ (let rest : 0 < loop_count loops s i = (let k = rw n at h in omega (arith, k)) in
       let some = some_loop loops s i rest in (some.0, or_right (is_loop s i some.0 x) (has_loop loops s i some.0) some.1))
 ]

@@ -51,7 +51,8 @@ lookup-rest x n m xs ys above over h a = elim (cases_Bool (bytes_eq x a)) [
 
 same_by : (x y : TableEntry) (xs ys : List TableEntry) (o : Ordering) → slice_cmp nat_cmp x.0 y.0 ≡ o → IsAscending (x ∷ xs) → IsAscending (y ∷ ys)
     → ((a : List ℕ) → lookup a (x ∷ xs) ≡ lookup a (y ∷ ys)) → (((a : List ℕ) → lookup a xs ≡ lookup a ys) → xs ≡ ys) → x ∷ xs ≡ y ∷ ys
-same_by x y xs ys Less o up rise h rest = some_none (lookup x.0 (x ∷ xs)) x.1 (lookup-first x xs) (h x.0 ∙ lookup-before x.0 (y ∷ ys) (o, precedes-trans x.0 y.0 ys o rise.0))
+same_by x y xs ys Less o up rise h rest =
+    some_none (lookup x.0 (x ∷ xs)) x.1 (lookup-first x xs) (h x.0 ∙ lookup-before x.0 (y ∷ ys) (o, precedes-trans x.0 y.0 ys o rise.0))
 same_by x y xs ys Greater o up rise h rest =
     let less = lesser x.0 y.0 o in
     some_none (lookup y.0 (y ∷ ys)) y.1 (lookup-first y ys) (sym (h y.0) ∙ lookup-before y.0 (x ∷ xs) (less, precedes-trans y.0 x.0 xs less up.0))
@@ -83,10 +84,11 @@ last_of (n ∷ more) before = last_of more (Some n)
 -- a table has the last number that was set at an address
 pub lookup-put_all : (a : List ℕ) (pairs es : List TableEntry) → lookup a (put_all pairs es) ≡ last_of (numbers_at a pairs) (lookup a es)
 lookup-put_all a [] es = refl
-lookup-put_all a (e ∷ pairs) es = lookup-put_all a pairs (put e.0 e.1 es) ∙ ap (λ o. last_of (numbers_at a pairs) o) (lookup-put e.0 e.1 es a) ∙ elim (cases_Bool (bytes_eq e.0 a)) [
-  | inl y ↦ rw y refl
-  | inr n ↦ rw n refl
-]
+lookup-put_all a (e ∷ pairs) es =
+    lookup-put_all a pairs (put e.0 e.1 es) ∙ ap (λ o. last_of (numbers_at a pairs) o) (lookup-put e.0 e.1 es a) ∙ elim (cases_Bool (bytes_eq e.0 a)) [
+      | inl y ↦ rw y refl
+      | inr n ↦ rw n refl
+    ]
 
 -- pairs with the same numbers at each address make the same table
 pub tables-same : (xs ys : List TableEntry) → ((a : List ℕ) → numbers_at a xs ≡ numbers_at a ys) → put_all xs [] ≡ put_all ys []
@@ -110,7 +112,8 @@ abbrev live_at : List ℕ → List Descriptor → List ℕ
 live_at a ds = map (λ (d : Descriptor). d.number) (filter (λ (d : Descriptor). same_address d.address (Some a)) ds)
 
 live_one : (a : List ℕ) (n : ℕ) (b : Option (List ℕ)) (came : Bool) (more : List Descriptor) → numbers_at a (filter_map as_entry more) ≡ live_at a more
-    → numbers_at a (filter_map as_entry (record { number = n; address = b; received = came } ∷ more)) ≡ live_at a (record { number = n; address = b; received = came } ∷ more)
+    → numbers_at a (filter_map as_entry (record { number = n; address = b; received = came } ∷ more))
+    ≡ live_at a (record { number = n; address = b; received = came } ∷ more)
 live_one a n (Some b) came more rest = elim (cases_Bool (bytes_eq b a)) [
   | inl y ↦ rw y (ap (λ w. n ∷ w) rest)
   | inr off ↦ rw off rest
@@ -126,7 +129,8 @@ pub offer-is : (p : Plan) (d : EndpointsData) (q : Record) → EndpointsStand p 
 offer-is p d q h = tables-same (filter_map open_entry d.table) (filter_map as_entry (live_descriptors p q))
     (λ a. open_numbers-at a d.table ∙ h.states.with_is (Some a) ∙ sym (live_numbers-at a (live_descriptors p q)))
 
-empty_by : (a : List ℕ) (n : ℕ) (e : TableEntry) (es others : List TableEntry) (o : Ordering) → is_empty_table (match_ordering o (e ∷ others) ((a, n) ∷ es) ((a, n) ∷ e ∷ es)) ≡ false
+empty_by : (a : List ℕ) (n : ℕ) (e : TableEntry) (es others : List TableEntry) (o : Ordering)
+    → is_empty_table (match_ordering o (e ∷ others) ((a, n) ∷ es) ((a, n) ∷ e ∷ es)) ≡ false
 empty_by a n e es others Less = refl
 empty_by a n e es others Equal = refl
 empty_by a n e es others Greater = refl
@@ -169,7 +173,8 @@ put_all-next table k o es inside read =
 
 -- the descriptors of one block more
 pub put_all-block : {Z : Type 0} (bs : List (Vec Open Z)) (k : ℕ) (b : Vec Open Z) (es : List TableEntry) → k < length bs → b ≡ get_or bs k b
-    → put_all (filter_map open_entry b.items) (put_all (filter_map open_entry (joined (take k bs))) es) ≡ put_all (filter_map open_entry (joined (take (k + 1) bs))) es
+    → put_all (filter_map open_entry b.items) (put_all (filter_map open_entry (joined (take k bs))) es)
+    ≡ put_all (filter_map open_entry (joined (take (k + 1) bs))) es
 put_all-block bs k b es lt read =
     sym (put_all-more (filter_map open_entry (joined (take k bs))) (filter_map open_entry b.items) es)
     ∙ ap (λ xs. put_all xs es) (sym (ap (filter_map open_entry) (joined-front bs k b lt read) ∙ filter_map-append open_entry (joined (take k bs)) b.items))

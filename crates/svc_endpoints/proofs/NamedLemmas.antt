@@ -24,9 +24,12 @@ abbrev address_at : Option EndpointPlan → Option (List ℕ)
 address_at (Some x) = Some x.address
 address_at None = None
 
-named_by : (xs : List EndpointPlan) (i : ℕ) (a : List ℕ) → address_at (slice_get xs i) ≡ Some a → list_any (λ (x : EndpointPlan). bytes_eq x.address a) xs ≡ true
+named_by : (xs : List EndpointPlan) (i : ℕ) (a : List ℕ) → address_at (slice_get xs i) ≡ Some a
+    → list_any (λ (x : EndpointPlan). bytes_eq x.address a) xs ≡ true
 named_by [] i a e = absurd (cc)
-named_by (x ∷ xs) zero a e = or_left (bytes_eq x.address a) (list_any (λ (y : EndpointPlan). bytes_eq y.address a) xs) (subst (λ w. bytes_eq w a ≡ true) (sym (some_same x.address a e)) (same_self a))
+named_by (x ∷ xs) zero a e =
+    or_left (bytes_eq x.address a) (list_any (λ (y : EndpointPlan). bytes_eq y.address a) xs)
+    (subst (λ w. bytes_eq w a ≡ true) (sym (some_same x.address a e)) (same_self a))
   where
     some_same : (x y : List ℕ) → Some x ≡ Some y → x ≡ y
     some_same x y e = cc
@@ -47,12 +50,14 @@ named-inside p s i a e = elim (cases_of (slice_get p.services s)) [
   | inr some ↦ get_inside p.services s some.0 some.1
 ]
 
-pub unneeded : (p : Plan) (failed : List Bool) (d : EndpointsData) → d.failed ≡ failed → (a : List ℕ) → is_abandoned_by p failed a ≡ true → (s i : ℕ) → s < service_count p → failed_at d s ≡ false → address p s i ≡ Some a → ⊥
+pub unneeded : (p : Plan) (failed : List Bool) (d : EndpointsData) → d.failed ≡ failed → (a : List ℕ) → is_abandoned_by p failed a ≡ true → (s i : ℕ)
+    → s < service_count p → failed_at d s ≡ false → address p s i ≡ Some a → ⊥
 unneeded p failed d same a h s i lt free e =
     let here : is_abandoned_by p d.failed a ≡ true = subst (λ w. is_abandoned_by p w a ≡ true) (sym same) h in
     let parts = and_parts (list_any (λ u. names p u a) (services p)) (list_all (λ u. not (names p u a) || failed_at d u) (services p)) here in
     let each : (not (names p s a) || failed_at d s) ≡ true = all_get (λ u. not (names p u a) || failed_at d u) (service_count p) s lt parts.1 in
-    let named : names p s a ≡ true = or_right (declares p s a) (list_any (λ (x : EndpointPlan). bytes_eq x.address a) (endpoints p s)) (named_by (endpoints p s) i a e) in
+    let named : names p s a ≡ true =
+    or_right (declares p s a) (list_any (λ (x : EndpointPlan). bytes_eq x.address a) (endpoints p s)) (named_by (endpoints p s) i a e) in
     clash (names p s a) (failed_at d s) named free each
   where
     clash : (n f : Bool) → n ≡ true → f ≡ false → (not n || f) ≡ true → ⊥

@@ -14,7 +14,8 @@ none_limit : (u : Bool) → nat_le (if u then 1 else 30) 0 ≡ false
 none_limit true = refl
 none_limit false = refl
 
-module _ (p : Plan) (d : EndpointsData) (blank : (s i : ℕ) → state_at d s i ≡ idle) (free : (s : ℕ) → failed_at d s ≡ false) (no_end : d.loops ≡ []) (empty : d.table ≡ []) (nothing : d.came ≡ []) (some_tasks : 0 < p.tasks) where
+module _ (p : Plan) (d : EndpointsData) (blank : (s i : ℕ) → state_at d s i ≡ idle) (free : (s : ℕ) → failed_at d s ≡ false) (no_end : d.loops ≡ [])
+    (empty : d.table ≡ []) (nothing : d.came ≡ []) (some_tasks : 0 < p.tasks) where
   last_is : (s i : ℕ) → last_at d s i ≡ Idle
   last_is s i = ap (λ (x : EndpointState). x.last) (blank s i)
 
@@ -44,7 +45,13 @@ module _ (p : Plan) (d : EndpointsData) (blank : (s i : ℕ) → state_at d s i 
   pub stands-new : EndpointsStand p d []
   stands-new = record {
     states = states-new;
-    loops = record { some_tasks = some_tasks; ends_are = λ s i j. rw no_end refl; counts = λ s i. rw no_end refl; told = λ s i j h. absurd (let none = rw no_end at h in cc); serve = λ s i j h. absurd (let none = rw no_end at h in cc) };
+    loops = record {
+      some_tasks = some_tasks;
+      ends_are = λ s i j. rw no_end refl;
+      counts = λ s i. rw no_end refl;
+      told = λ s i j h. absurd (let none = rw no_end at h in cc);
+      serve = λ s i j h. absurd (let none = rw no_end at h in cc);
+    };
     kept = kept-new;
     asks_due = tt;
     asks_known = tt;

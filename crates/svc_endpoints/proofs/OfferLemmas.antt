@@ -61,19 +61,26 @@ listed fd (x ∷ xs) h = elim (cases_address x.address) [
   ]
 ]
 
-live_in : (fd : ℕ) (q : Record) (xs : List Descriptor) → list_any (has_number fd) (filter (λ (d : Descriptor). not (has (is_close d.number) q)) xs) ≡ true → (list_any (has_number fd) xs ≡ true) × (has (is_close fd) q ≡ false)
+live_in : (fd : ℕ) (q : Record) (xs : List Descriptor) → list_any (has_number fd) (filter (λ (d : Descriptor). not (has (is_close d.number) q)) xs) ≡ true
+    → (list_any (has_number fd) xs ≡ true) × (has (is_close fd) q ≡ false)
 live_in fd q [] h = absurd (cc)
 live_in fd q (x ∷ xs) h = elim (cases_Bool (has (is_close x.number) q)) [
   | inl closed ↦ (let r = live_in fd q xs (rw closed at h) in (or_right (x.number == fd) (list_any (has_number fd) xs) r.0, r.1))
-  | inr open_still ↦ elim (or_cases (x.number == fd) (list_any (has_number fd) (filter (λ (d : Descriptor). not (has (is_close d.number) q)) xs)) (rw open_still at h)) [
-    | inl here ↦ (or_left (x.number == fd) (list_any (has_number fd) xs) here, subst (λ n. has (is_close n) q ≡ false) (eqb-true x.number fd here) open_still)
-    | inr later ↦ (let r = live_in fd q xs later in (or_right (x.number == fd) (list_any (has_number fd) xs) r.0, r.1))
-  ]
+  | inr open_still ↦
+      elim (or_cases (x.number == fd) (list_any (has_number fd) (filter (λ (d : Descriptor). not (has (is_close d.number) q)) xs)) (rw open_still at h)) [
+        | inl here ↦
+            (or_left (x.number == fd) (list_any (has_number fd) xs) here, subst (λ n. has (is_close n) q ≡ false) (eqb-true x.number fd here) open_still)
+        | inr later ↦ (let r = live_in fd q xs later in (or_right (x.number == fd) (list_any (has_number fd) xs) r.0, r.1))
+      ]
 ]
 
 -- what stands in the table of the live descriptors is live
-pub table-live : (p : Plan) (q : Record) (fd : ℕ) → list_any (λ (x : TableEntry). x.1 == fd) (live_table p q) ≡ true → (is_opened p q fd ≡ true) × (has (is_close fd) q ≡ false)
-table-live p q fd h = live_in fd q (opened_descriptors p q) (listed fd (live_descriptors p q) (or_none (in_table fd (filter_map as_entry (live_descriptors p q))) (puts_in fd (filter_map as_entry (live_descriptors p q)) [] h)))
+pub table-live : (p : Plan) (q : Record) (fd : ℕ) → list_any (λ (x : TableEntry). x.1 == fd) (live_table p q) ≡ true
+    → (is_opened p q fd ≡ true) × (has (is_close fd) q ≡ false)
+table-live p q fd h =
+    live_in fd q (opened_descriptors p q)
+    (listed fd (live_descriptors p q)
+    (or_none (in_table fd (filter_map as_entry (live_descriptors p q))) (puts_in fd (filter_map as_entry (live_descriptors p q)) [] h)))
   where
     or_none : (a : Bool) → (a || false) ≡ true → a ≡ true
     or_none a h = grind arith
@@ -129,7 +136,8 @@ pub held-before : (p : Plan) (q : Record) (fd : ℕ) → has is_signal q ≡ fal
 held-before p q fd h = ap (λ x. held_by p q fd x (before_signal q) (has_cut q)) (signal-none q h)
 
 -- what the first puts on offer is live
-pub held-first : (p : Plan) (q : Record) (kind : ShutdownSignal) (fd : ℕ) → has is_signal q ≡ false → is_held_back p (Got (Signal kind) ∷ q) fd ≡ true → has (is_close fd) q ≡ false
+pub held-first : (p : Plan) (q : Record) (kind : ShutdownSignal) (fd : ℕ) → has is_signal q ≡ false → is_held_back p (Got (Signal kind) ∷ q) fd ≡ true
+    → has (is_close fd) q ≡ false
 held-first p q kind fd h held =
     let now : held_by p q fd (first_or (signal_of q) kind) q (has_cut (Got (Signal kind) ∷ q)) ≡ true =
     ap (λ b. held_by p q fd (first_or (signal_of q) kind) (if b then before_signal q else q) (has_cut (Got (Signal kind) ∷ q))) (sym h) ∙ held in

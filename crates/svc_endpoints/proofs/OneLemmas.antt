@@ -101,7 +101,8 @@ module _ (x : EndpointStatus) (b a : Bool) (h ad : List ℕ) (w : ℕ → Bool) 
   one-bind_failed false f = was
 
   pub one-bound : (here doubled : Bool) (fd : ℕ) → (here ≡ true → is_binding x ≡ true)
-      → OneStands (if here then (if doubled then Idle else Holding fd) else x) (if here then false else b) a ((if here && not doubled then fd ∷ [] else []) ++ h) ad (λ t. if here then false else w t) on
+      → OneStands (if here then (if doubled then Idle else Holding fd) else x) (if here then false else b) a
+      ((if here && not doubled then fd ∷ [] else []) ++ h) ad (λ t. if here then false else w t) on
   one-bound true true fd f = record {
     binding_is = refl;
     adopting_is = sym (binding_not_adopting x (f refl)) ∙ was.adopting_is;

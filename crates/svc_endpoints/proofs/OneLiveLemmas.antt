@@ -29,7 +29,8 @@ self_same (Some x) b h = same_self x
 self_same None (Some y) h = absurd (cc)
 self_same None None h = absurd (cc)
 
-first_alone : (d : Descriptor) (more : List Descriptor) → length (numbers (d ∷ more) d.address) ≤ 1 → list_any (λ (x : Descriptor). same_address x.address d.address) more ≡ true → ⊥
+first_alone : (d : Descriptor) (more : List Descriptor) → length (numbers (d ∷ more) d.address) ≤ 1
+    → list_any (λ (x : Descriptor). same_address x.address d.address) more ≡ true → ⊥
 first_alone d more h e =
     let some = any_found (λ (x : Descriptor). same_address x.address d.address) more e in
     let self = self_same d.address some.0.address some.1 in

@@ -20,7 +20,8 @@ use Rattle.svc_endpoints.proofs.LiveLemmas.{same_eq}
 use Rattle.svc_base.proofs.Logic.{apart_from, clash}
 
 -- what an entry opens are its numbers
-opened-numbers_of : (p : Plan) (e : Entry) (more : List Descriptor) → map (λ (d : Descriptor). d.number) (descriptors_of p e ++ more) ≡ numbers_of e ++ map (λ (d : Descriptor). d.number) more
+opened-numbers_of : (p : Plan) (e : Entry) (more : List Descriptor)
+    → map (λ (d : Descriptor). d.number) (descriptors_of p e ++ more) ≡ numbers_of e ++ map (λ (d : Descriptor). d.number) more
 opened-numbers_of p (Got (Bound s i fd)) more = refl
 opened-numbers_of p (Got (Received bytes fds)) more = numbers-words fds (words_or_none (decode bytes (length fds))) more
 opened-numbers_of p (Got _) more = refl
@@ -42,7 +43,8 @@ brings-in [] fd = refl
 brings-in (e ∷ q) fd = ap (λ b. brings fd e || b) (brings-in q fd) ∙ sym (list_any-append (λ n. n == fd) (numbers_of e) (numbers_in q))
 
 -- what is doubled was opened
-opens_here : (fd : ℕ) (f : Descriptor → Bool) (xs more : List Descriptor) → list_any (λ (d : Descriptor). d.number == fd && f d) xs ≡ true → list_any (has_number fd) (xs ++ more) ≡ true
+opens_here : (fd : ℕ) (f : Descriptor → Bool) (xs more : List Descriptor) → list_any (λ (d : Descriptor). d.number == fd && f d) xs ≡ true
+    → list_any (has_number fd) (xs ++ more) ≡ true
 opens_here fd f [] more h = absurd (cc)
 opens_here fd f (x ∷ xs) more h = elim (or_cases (x.number == fd && f x) (list_any (λ (d : Descriptor). d.number == fd && f d) xs) h) [
   | inl here ↦ or_left (x.number == fd) (list_any (has_number fd) (xs ++ more)) (and_parts (x.number == fd) (f x) here).0
@@ -55,10 +57,11 @@ opens-later fd (x ∷ xs) more h = or_right (x.number == fd) (list_any (has_numb
 
 pub doubled-opened : (p : Plan) (q : Record) (fd : ℕ) → is_doubled p q fd ≡ true → is_opened p q fd ≡ true
 doubled-opened p [] fd h = h
-doubled-opened p (e ∷ q) fd h = elim (or_cases (list_any (λ (d : Descriptor). d.number == fd && has_live p q d.address) (descriptors_of p e)) (is_doubled p q fd) h) [
-  | inl now ↦ opens_here fd (λ (d : Descriptor). has_live p q d.address) (descriptors_of p e) (opened_descriptors p q) now
-  | inr earlier ↦ opens-later fd (descriptors_of p e) (opened_descriptors p q) (doubled-opened p q fd earlier)
-]
+doubled-opened p (e ∷ q) fd h =
+    elim (or_cases (list_any (λ (d : Descriptor). d.number == fd && has_live p q d.address) (descriptors_of p e)) (is_doubled p q fd) h) [
+      | inl now ↦ opens_here fd (λ (d : Descriptor). has_live p q d.address) (descriptors_of p e) (opened_descriptors p q) now
+      | inr earlier ↦ opens-later fd (descriptors_of p e) (opened_descriptors p q) (doubled-opened p q fd earlier)
+    ]
 
 -- what was received was opened
 pub received-opened : (p : Plan) (q : Record) (fd : ℕ) → is_received p q fd ≡ true → is_opened p q fd ≡ true
@@ -88,56 +91,71 @@ pair_in fd a (x ∷ xs) h = elim (or_cases (x.number == fd && same_address x.add
 ]
 
 -- where no number stands twice, a number has one address
-pub first-is : (fd : ℕ) (a : Option (List ℕ)) (xs : List Descriptor) → distinct (map (λ (d : Descriptor). d.number) xs) ≡ true → has_pair fd a xs ≡ true → first_address fd xs ≡ a
+pub first-is : (fd : ℕ) (a : Option (List ℕ)) (xs : List Descriptor) → distinct (map (λ (d : Descriptor). d.number) xs) ≡ true → has_pair fd a xs ≡ true
+    → first_address fd xs ≡ a
 first-is fd a [] apart h = absurd (cc)
 first-is fd a (x ∷ xs) apart h =
     let parts = and_parts (not (is_in x.number (map (λ (d : Descriptor). d.number) xs))) (distinct (map (λ (d : Descriptor). d.number) xs)) apart in
     elim (or_cases (x.number == fd && same_address x.address a) (has_pair fd a xs) h) [
       | inl here ↦ (let both = and_parts (x.number == fd) (same_address x.address a) here in rw both.0 (same_eq x.address a both.1))
       | inr later ↦ elim (cases_Bool (x.number == fd)) [
-        | inl y ↦ absurd (let there = subst (λ n. is_in n (map (λ (d : Descriptor). d.number) xs) ≡ true) (sym (eqb-true x.number fd y)) (pair_in fd a xs later) in
-            let none = apart_from (is_in x.number (map (λ (d : Descriptor). d.number) xs)) parts.0 in clash (is_in x.number (map (λ (d : Descriptor). d.number) xs)) there none)
+        | inl y ↦ absurd
+            (let there = subst (λ n. is_in n (map (λ (d : Descriptor). d.number) xs) ≡ true) (sym (eqb-true x.number fd y)) (pair_in fd a xs later) in
+            let none = apart_from (is_in x.number (map (λ (d : Descriptor). d.number) xs)) parts.0 in
+            clash (is_in x.number (map (λ (d : Descriptor). d.number) xs)) there none)
         | inr n ↦ rw n (first-is fd a xs parts.1 later)
       ]
     ]
 
 -- what is live with an address was opened with it, and isn't closed
 live_pair : (fd : ℕ) (q : Record) (a : Option (List ℕ)) (xs : List Descriptor)
-    → is_in fd (map (λ (x : Descriptor). x.number) (filter (λ (x : Descriptor). same_address x.address a) (filter (λ (x : Descriptor). not (has (is_close x.number) q)) xs))) ≡ true
+    → is_in fd (map (λ (x : Descriptor). x.number)
+    (filter (λ (x : Descriptor). same_address x.address a) (filter (λ (x : Descriptor). not (has (is_close x.number) q)) xs))) ≡ true
     → (has_pair fd a xs ≡ true) × (has (is_close fd) q ≡ false)
 live_pair fd q a [] h = absurd (cc)
 live_pair fd q a (x ∷ xs) h = elim (cases_Bool (has (is_close x.number) q)) [
   | inl c ↦ (let r = live_pair fd q a xs (rw c at h) in (or_right (x.number == fd && same_address x.address a) (has_pair fd a xs) r.0, r.1))
   | inr o ↦ elim (cases_Bool (same_address x.address a)) [
     | inr n ↦ (let r = live_pair fd q a xs (rw (o, n) at h) in (or_right (x.number == fd && same_address x.address a) (has_pair fd a xs) r.0, r.1))
-    | inl s ↦ elim (or_cases (x.number == fd) (is_in fd (map (λ (x : Descriptor). x.number) (filter (λ (x : Descriptor). same_address x.address a) (filter (λ (x : Descriptor). not (has (is_close x.number) q)) xs)))) (rw (o, s) at h)) [
-      | inl here ↦ (or_left (x.number == fd && same_address x.address a) (has_pair fd a xs) (and_from (x.number == fd) (same_address x.address a) here s), subst (λ n. has (is_close n) q ≡ false) (eqb-true x.number fd here) o)
-      | inr later ↦ (let r = live_pair fd q a xs later in (or_right (x.number == fd && same_address x.address a) (has_pair fd a xs) r.0, r.1))
-    ]
+    | inl s ↦ elim (or_cases (x.number == fd)
+        (is_in fd (map (λ (x : Descriptor). x.number)
+        (filter (λ (x : Descriptor). same_address x.address a) (filter (λ (x : Descriptor). not (has (is_close x.number) q)) xs)))) (rw (o, s) at h)) [
+          | inl here ↦ (
+            or_left (x.number == fd && same_address x.address a) (has_pair fd a xs) (and_from (x.number == fd) (same_address x.address a) here s),
+            subst
+                (λ n. has (is_close n) q ≡ false) (eqb-true x.number fd here) o,
+          )
+          | inr later ↦ (let r = live_pair fd q a xs later in (or_right (x.number == fd && same_address x.address a) (has_pair fd a xs) r.0, r.1))
+        ]
   ]
 ]
 
-pub live-pair : (p : Plan) (q : Record) (fd : ℕ) (a : Option (List ℕ)) → is_in fd (live_numbers_with p q a) ≡ true → (has_pair fd a (opened_descriptors p q) ≡ true) × (has (is_close fd) q ≡ false)
+pub live-pair : (p : Plan) (q : Record) (fd : ℕ) (a : Option (List ℕ)) → is_in fd (live_numbers_with p q a) ≡ true
+    → (has_pair fd a (opened_descriptors p q) ≡ true) × (has (is_close fd) q ≡ false)
 live-pair p q fd a h = live_pair fd q a (opened_descriptors p q) h
 
 pub live-opened : (p : Plan) (q : Record) (fd : ℕ) (a : Option (List ℕ)) → is_in fd (live_numbers_with p q a) ≡ true → is_opened p q fd ≡ true
 live-opened p q fd a h = any-numbers fd (opened_descriptors p q) ∙ pair_in fd a (opened_descriptors p q) (live-pair p q fd a h).0
 
-pub live-address : (p : Plan) (q : Record) (fd : ℕ) (a : Option (List ℕ)) → distinct (numbers_in q) ≡ true → is_in fd (live_numbers_with p q a) ≡ true → address_of p q fd ≡ a
+pub live-address : (p : Plan) (q : Record) (fd : ℕ) (a : Option (List ℕ)) → distinct (numbers_in q) ≡ true → is_in fd (live_numbers_with p q a) ≡ true
+    → address_of p q fd ≡ a
 live-address p q fd a apart h = first-is fd a (opened_descriptors p q) (ap distinct (opened-numbers p q) ∙ apart) (live-pair p q fd a h).0
 
 -- no live number stands twice
-live_distinct : (f : Descriptor → Bool) (xs : List Descriptor) → distinct (map (λ (d : Descriptor). d.number) xs) ≡ true → distinct (map (λ (d : Descriptor). d.number) (filter f xs)) ≡ true
+live_distinct : (f : Descriptor → Bool) (xs : List Descriptor) → distinct (map (λ (d : Descriptor). d.number) xs) ≡ true
+    → distinct (map (λ (d : Descriptor). d.number) (filter f xs)) ≡ true
 live_distinct f [] h = refl
 live_distinct f (x ∷ xs) h =
     let parts = and_parts (not (is_in x.number (map (λ (d : Descriptor). d.number) xs))) (distinct (map (λ (d : Descriptor). d.number) xs)) h in
     elim (cases_Bool (f x)) [
       | inr n ↦ rw n (live_distinct f xs parts.1)
-      | inl y ↦ rw y (and_from (not (is_in x.number (map (λ (d : Descriptor). d.number) (filter f xs)))) (distinct (map (λ (d : Descriptor). d.number) (filter f xs)))
+      | inl y ↦ rw y
+          (and_from (not (is_in x.number (map (λ (d : Descriptor). d.number) (filter f xs)))) (distinct (map (λ (d : Descriptor). d.number) (filter f xs)))
           (fewer x.number xs (is_in x.number (map (λ (d : Descriptor). d.number) (filter f xs))) refl parts.0) (live_distinct f xs parts.1))
     ]
   where
-    in_more : (n : ℕ) (xs : List Descriptor) → is_in n (map (λ (d : Descriptor). d.number) (filter f xs)) ≡ true → is_in n (map (λ (d : Descriptor). d.number) xs) ≡ true
+    in_more : (n : ℕ) (xs : List Descriptor) → is_in n (map (λ (d : Descriptor). d.number) (filter f xs)) ≡ true
+        → is_in n (map (λ (d : Descriptor). d.number) xs) ≡ true
     in_more n [] h = h
     in_more n (x ∷ xs) h = elim (cases_Bool (f x)) [
       | inr m ↦ or_right (x.number == n) (is_in n (map (λ (d : Descriptor). d.number) xs)) (in_more n xs (rw m at h))
@@ -150,18 +168,25 @@ live_distinct f (x ∷ xs) h =
     not_both : (b : Bool) → b ≡ true → not b ≡ true → ⊥
     not_both b x y = grind arith
 
-    fewer : (n : ℕ) (xs : List Descriptor) (b : Bool) → is_in n (map (λ (d : Descriptor). d.number) (filter f xs)) ≡ b → not (is_in n (map (λ (d : Descriptor). d.number) xs)) ≡ true → not b ≡ true
+    fewer : (n : ℕ) (xs : List Descriptor) (b : Bool) → is_in n (map (λ (d : Descriptor). d.number) (filter f xs)) ≡ b
+        → not (is_in n (map (λ (d : Descriptor). d.number) xs)) ≡ true → not b ≡ true
     fewer n xs true e h = absurd (not_both (is_in n (map (λ (d : Descriptor). d.number) xs)) (in_more n xs e) h)
     fewer n xs false e h = refl
 
 pub live-distinct : (p : Plan) (q : Record) → distinct (numbers_in q) ≡ true → distinct (live_numbers p q) ≡ true
 live-distinct p q h = live_distinct (λ (d : Descriptor). not (has (is_close d.number) q)) (opened_descriptors p q) (ap distinct (opened-numbers p q) ∙ h)
 
-live_listed : (q : Record) (fd : ℕ) (xs : List Descriptor) → is_in fd (map (λ (d : Descriptor). d.number) (filter (λ (d : Descriptor). not (has (is_close d.number) q)) xs)) ≡ (list_any (has_number fd) xs && not (has (is_close fd) q))
+live_listed : (q : Record) (fd : ℕ) (xs : List Descriptor)
+    → is_in fd (map (λ (d : Descriptor). d.number) (filter (λ (d : Descriptor). not (has (is_close d.number) q)) xs))
+    ≡ (list_any (has_number fd) xs && not (has (is_close fd) q))
 live_listed q fd [] = refl
 live_listed q fd (x ∷ xs) = elim (cases_Bool (has (is_close x.number) q)) [
-  | inl c ↦ rw c (live_listed q fd xs ∙ skip (x.number == fd) (list_any (has_number fd) xs) (has (is_close fd) q) (λ e. subst (λ n. has (is_close n) q ≡ true) (eqb-true x.number fd e) c))
-  | inr o ↦ rw o (ap (λ b. (x.number == fd) || b) (live_listed q fd xs) ∙ here (x.number == fd) (list_any (has_number fd) xs) (has (is_close fd) q) (λ e. subst (λ n. has (is_close n) q ≡ false) (eqb-true x.number fd e) o))
+  | inl c ↦ rw c
+      (live_listed q fd xs
+      ∙ skip (x.number == fd) (list_any (has_number fd) xs) (has (is_close fd) q) (λ e. subst (λ n. has (is_close n) q ≡ true) (eqb-true x.number fd e) c))
+  | inr o ↦ rw o
+      (ap (λ b. (x.number == fd) || b) (live_listed q fd xs)
+      ∙ here (x.number == fd) (list_any (has_number fd) xs) (has (is_close fd) q) (λ e. subst (λ n. has (is_close n) q ≡ false) (eqb-true x.number fd e) o))
 ]
   where
     skip : (a b c : Bool) → (a ≡ true → c ≡ true) → (b && not c) ≡ ((a || b) && not c)

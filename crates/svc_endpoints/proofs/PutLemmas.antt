@@ -19,7 +19,8 @@ module _ (d : EndpointsData) (s i : ℕ) (x : EndpointState) (inside : s < lengt
       | inr nf ↦ rw (eq-eqb s t e, ne_eqb i k nf) (subst (λ (u : ℕ). state_at (put d s i x) u k ≡ state_at d u k) e
           (ap (λ r. slice_index_or r k idle) same_row ∙ get_or-set_other (slice_index_or d.rows s []) i k x idle (λ w. nf (sym w))))
     ]
-    | inr ne ↦ rw (ne_eqb s t ne) (ap (λ r. slice_index_or r k idle) (get_or-set_other d.rows s t (slice_set (slice_index_or d.rows s []) i x) [] (λ w. ne (sym w))))
+    | inr ne ↦ rw (ne_eqb s t ne)
+        (ap (λ r. slice_index_or r k idle) (get_or-set_other d.rows s t (slice_set (slice_index_or d.rows s []) i x) [] (λ w. ne (sym w))))
   ]
 
 last_if : (c : Bool) (x y : EndpointState) → (if c then x else y).last ≡ (if c then x.last else y.last)
@@ -35,4 +36,5 @@ module _ (d : EndpointsData) (s i : ℕ) (x : EndpointState) (inside : s < lengt
   last_at-put t k = ap (λ (z : EndpointState). z.last) (state_at-put d s i x inside within t k) ∙ last_if (s == t && i == k) x (state_at d t k)
 
   pub times_in_use_at-put : (t k : ℕ) → times_in_use_at (put d s i x) t k ≡ (if s == t && i == k then x.times_in_use else times_in_use_at d t k)
-  times_in_use_at-put t k = ap (λ (z : EndpointState). z.times_in_use) (state_at-put d s i x inside within t k) ∙ times_in_use_if (s == t && i == k) x (state_at d t k)
+  times_in_use_at-put t k =
+      ap (λ (z : EndpointState). z.times_in_use) (state_at-put d s i x inside within t k) ∙ times_in_use_if (s == t && i == k) x (state_at d t k)

@@ -39,7 +39,8 @@ any-same f g a zero h = refl
 any-same f g a (suc n) h = rw (h a (omega arith) (omega arith), any-same f g (a + 1) n (λ k low high. h k (omega arith) (omega arith))) refl
 
 -- the test changes at one place alone
-pub any-one : (f g : ℕ → Bool) (c : Bool) (a n i : ℕ) → a ≤ i → i < a + n → ((k : ℕ) → a ≤ k → k < a + n → g k ≡ (f k || ((i == k) && c))) → list_any g (range_with_len a n) ≡ (list_any f (range_with_len a n) || c)
+pub any-one : (f g : ℕ → Bool) (c : Bool) (a n i : ℕ) → a ≤ i → i < a + n → ((k : ℕ) → a ≤ k → k < a + n → g k ≡ (f k || ((i == k) && c)))
+    → list_any g (range_with_len a n) ≡ (list_any f (range_with_len a n) || c)
 any-one f g c a zero i low high h = absurd (omega arith)
 any-one f g c a (suc n) i low high h = elim (cases_eq i a) [
   | inl e ↦ or_one (f a) (g a) c (list_any f (range_with_len (a + 1) n)) (list_any g (range_with_len (a + 1) n))
@@ -66,7 +67,8 @@ none0 f n h = any-none f 0 n (λ k low high. h k (omega arith))
 pub same0 : (f g : ℕ → Bool) (n : ℕ) → ((k : ℕ) → k < n → g k ≡ f k) → list_any g (range_with_len 0 n) ≡ list_any f (range_with_len 0 n)
 same0 f g n h = any-same f g 0 n (λ k low high. h k (omega arith))
 
-pub one0 : (f g : ℕ → Bool) (c : Bool) (n i : ℕ) → i < n → ((k : ℕ) → g k ≡ (f k || ((i == k) && c))) → list_any g (range_with_len 0 n) ≡ (list_any f (range_with_len 0 n) || c)
+pub one0 : (f g : ℕ → Bool) (c : Bool) (n i : ℕ) → i < n → ((k : ℕ) → g k ≡ (f k || ((i == k) && c)))
+    → list_any g (range_with_len 0 n) ≡ (list_any f (range_with_len 0 n) || c)
 one0 f g c n i lt h = any-one f g c 0 n i (omega arith) (omega arith) (λ k low high. h k)
 
 pub more_false : (f : ℕ → Bool) (n : ℕ) → ((j : ℕ) → j < n → f j ≡ false) → f n ≡ false → (j : ℕ) → j < n + 1 → f j ≡ false
@@ -96,7 +98,9 @@ more_true f n h here j lt = elim (cases_eq j n) [
 
 all_range : (f : ℕ → Bool) (a n : ℕ) → ((k : ℕ) → a ≤ k → k < a + n → f k ≡ true) → list_all f (range_with_len a n) ≡ true
 all_range f a zero h = refl
-all_range f a (suc n) h = and_from (f a) (list_all f (range_with_len (a + 1) n)) (h a (omega arith) (omega arith)) (all_range f (a + 1) n (λ k low high. h k (omega arith) (omega arith)))
+all_range f a (suc n) h =
+    and_from (f a) (list_all f (range_with_len (a + 1) n)) (h a (omega arith) (omega arith))
+    (all_range f (a + 1) n (λ k low high. h k (omega arith) (omega arith)))
 
 pub all0 : (f : ℕ → Bool) (n : ℕ) → ((k : ℕ) → k < n → f k ≡ true) → list_all f (range_with_len 0 n) ≡ true
 all0 f n h = all_range f 0 n (λ k low high. h k (omega arith))

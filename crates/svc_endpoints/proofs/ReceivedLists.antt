@@ -27,7 +27,8 @@ pub numbers-received : (opens : List Open) → map (λ (d : Descriptor). d.numbe
 numbers-received [] = refl
 numbers-received (o ∷ more) = ap (λ w. o.fd ∷ w) (numbers-received more)
 
-pub with-received : (opens : List Open) (a : Option (List ℕ)) → map (λ (d : Descriptor). d.number) (filter (λ (d : Descriptor). same_address d.address a) (map as_received opens)) ≡ numbers_with opens a
+pub with-received : (opens : List Open) (a : Option (List ℕ))
+    → map (λ (d : Descriptor). d.number) (filter (λ (d : Descriptor). same_address d.address a) (map as_received opens)) ≡ numbers_with opens a
 with-received [] a = refl
 with-received (o ∷ more) a = elim (cases_Bool (same_address o.address a)) [
   | inl y ↦ rw y (ap (λ w. o.fd ∷ w) (with-received more a))
@@ -35,7 +36,8 @@ with-received (o ∷ more) a = elim (cases_Bool (same_address o.address a)) [
 ]
 
 -- none of them is closed
-pub open-received : (q : Record) (opens : List Open) → ((g : ℕ) → is_in g (numbers_of_table opens) ≡ true → has (is_close g) q ≡ false) → filter (λ (d : Descriptor). not (has (is_close d.number) q)) (map as_received opens) ≡ map as_received opens
+pub open-received : (q : Record) (opens : List Open) → ((g : ℕ) → is_in g (numbers_of_table opens) ≡ true → has (is_close g) q ≡ false)
+    → filter (λ (d : Descriptor). not (has (is_close d.number) q)) (map as_received opens) ≡ map as_received opens
 open-received q [] h = refl
 open-received q (o ∷ more) h = rw (h o.fd (or_left (o.fd == o.fd) (is_in o.fd (numbers_of_table more)) (eq-eqb o.fd o.fd refl)))
     (ap (λ w. as_received o ∷ w) (open-received q more (λ g there. h g (or_right (o.fd == g) (is_in g (numbers_of_table more)) there))))
@@ -44,18 +46,22 @@ open-received q (o ∷ more) h = rw (h o.fd (or_left (o.fd == o.fd) (is_in o.fd 
 pub none-received : (f : Descriptor → Bool) (fd : ℕ) (opens : List Open) (more : List Descriptor) → is_in fd (numbers_of_table opens) ≡ false
     → list_any (λ (d : Descriptor). d.number == fd && f d) (map as_received opens ++ more) ≡ list_any (λ (d : Descriptor). d.number == fd && f d) more
 none-received f fd [] more h = refl
-none-received f fd (o ∷ opens) more h = let parts = or_parts (o.fd == fd) (is_in fd (numbers_of_table opens)) h in rw parts.0 (none-received f fd opens more parts.1)
+none-received f fd (o ∷ opens) more h =
+    let parts = or_parts (o.fd == fd) (is_in fd (numbers_of_table opens)) h in rw parts.0 (none-received f fd opens more parts.1)
 
-pub none-listed : (f : Descriptor → Bool) (fd : ℕ) (opens : List Open) → is_in fd (numbers_of_table opens) ≡ false → list_any (λ (d : Descriptor). d.number == fd && f d) (map as_received opens) ≡ false
+pub none-listed : (f : Descriptor → Bool) (fd : ℕ) (opens : List Open) → is_in fd (numbers_of_table opens) ≡ false
+    → list_any (λ (d : Descriptor). d.number == fd && f d) (map as_received opens) ≡ false
 none-listed f fd [] h = refl
 none-listed f fd (o ∷ opens) h = let parts = or_parts (o.fd == fd) (is_in fd (numbers_of_table opens)) h in rw parts.0 (none-listed f fd opens parts.1)
 
-pub first-later : (fd : ℕ) (opens : List Open) (more : List Descriptor) → is_in fd (numbers_of_table opens) ≡ false → first_address fd (map as_received opens ++ more) ≡ first_address fd more
+pub first-later : (fd : ℕ) (opens : List Open) (more : List Descriptor) → is_in fd (numbers_of_table opens) ≡ false
+    → first_address fd (map as_received opens ++ more) ≡ first_address fd more
 first-later fd [] more h = refl
 first-later fd (o ∷ opens) more h = let parts = or_parts (o.fd == fd) (is_in fd (numbers_of_table opens)) h in rw parts.0 (first-later fd opens more parts.1)
 
 -- a number that one of them has
-pub some-received : (fd : ℕ) (opens : List Open) (more : List Descriptor) → is_in fd (numbers_of_table opens) ≡ true → list_any (λ (d : Descriptor). d.number == fd && d.received) (map as_received opens ++ more) ≡ true
+pub some-received : (fd : ℕ) (opens : List Open) (more : List Descriptor) → is_in fd (numbers_of_table opens) ≡ true
+    → list_any (λ (d : Descriptor). d.number == fd && d.received) (map as_received opens ++ more) ≡ true
 some-received fd [] more h = absurd (cc)
 some-received fd (o ∷ opens) more h = elim (cases_Bool (o.fd == fd)) [
   | inl y ↦ rw y refl
@@ -66,22 +72,28 @@ or_none : (a b : Bool) → b ≡ false → (a || b) ≡ a
 or_none a b h = rw h (grind arith)
 
 -- and its address passes the test, where no number stands twice
-pub one-received : (test : Option (List ℕ) → Bool) (fd : ℕ) (opens : List Open) (more : List Descriptor) → distinct (numbers_of_table opens) ≡ true → is_in fd (numbers_of_table opens) ≡ true
+pub one-received : (test : Option (List ℕ) → Bool) (fd : ℕ) (opens : List Open) (more : List Descriptor) → distinct (numbers_of_table opens) ≡ true
+    → is_in fd (numbers_of_table opens) ≡ true
     → list_any (λ (d : Descriptor). d.number == fd && test d.address) (map as_received opens) ≡ test (first_address fd (map as_received opens ++ more))
 one-received test fd [] more apart h = absurd (cc)
 one-received test fd (o ∷ opens) more apart h =
     let parts = and_parts (not (is_in o.fd (numbers_of_table opens))) (distinct (numbers_of_table opens)) apart in
     elim (cases_Bool (o.fd == fd)) [
       | inl y ↦ rw y (or_none (test o.address) (list_any (λ (d : Descriptor). d.number == fd && test d.address) (map as_received opens))
-          (none-listed (λ (d : Descriptor). test d.address) fd opens (subst (λ n. is_in n (numbers_of_table opens) ≡ false) (eqb-true o.fd fd y) (apart_from (is_in o.fd (numbers_of_table opens)) parts.0))))
+          (none-listed (λ (d : Descriptor). test d.address) fd opens
+          (subst (λ n. is_in n (numbers_of_table opens) ≡ false) (eqb-true o.fd fd y) (apart_from (is_in o.fd (numbers_of_table opens)) parts.0))))
       | inr n ↦ rw n (one-received test fd opens more parts.1 (rw n at h))
     ]
 
-pub out-received : (gone : List ℕ → Bool) (fd : ℕ) (opens : List Open) → is_in fd (numbers_out gone opens) ≡ list_any (λ (d : Descriptor). d.number == fd && passes gone d.address) (map as_received opens)
+pub out-received : (gone : List ℕ → Bool) (fd : ℕ) (opens : List Open)
+    → is_in fd (numbers_out gone opens) ≡ list_any (λ (d : Descriptor). d.number == fd && passes gone d.address) (map as_received opens)
 out-received gone fd [] = refl
 out-received gone fd (o ∷ opens) = elim (cases_Bool (passes gone o.address)) [
-  | inl y ↦ rw y (same_or (o.fd == fd) (out-received gone fd opens) ∙ ap (λ b. b || list_any (λ (d : Descriptor). d.number == fd && passes gone d.address) (map as_received opens)) (and_yes (o.fd == fd)))
-  | inr n ↦ rw n (out-received gone fd opens ∙ and_no (o.fd == fd) (list_any (λ (d : Descriptor). d.number == fd && passes gone d.address) (map as_received opens)))
+  | inl y ↦ rw y
+      (same_or (o.fd == fd) (out-received gone fd opens)
+      ∙ ap (λ b. b || list_any (λ (d : Descriptor). d.number == fd && passes gone d.address) (map as_received opens)) (and_yes (o.fd == fd)))
+  | inr n ↦ rw n
+      (out-received gone fd opens ∙ and_no (o.fd == fd) (list_any (λ (d : Descriptor). d.number == fd && passes gone d.address) (map as_received opens)))
 ]
   where
     and_yes : (a : Bool) → a ≡ (a && true)
@@ -123,7 +135,8 @@ new-in came [] g h there = absurd (cc)
 new-in came (fd ∷ fds) g h there =
     let parts = and_parts (not (is_in fd came) && not (is_in fd fds)) (all_new came fds) h in
     elim (cases_Bool (fd == g)) [
-      | inl y ↦ subst (λ n. is_in n came ≡ false) (eqb-true fd g y) (apart_from (is_in fd came) (and_parts (not (is_in fd came)) (not (is_in fd fds)) parts.0).0)
+      | inl y ↦ subst (λ n. is_in n came ≡ false) (eqb-true fd g y)
+          (apart_from (is_in fd came) (and_parts (not (is_in fd came)) (not (is_in fd fds)) parts.0).0)
       | inr n ↦ new-in came fds g parts.1 (rw n at there)
     ]
 

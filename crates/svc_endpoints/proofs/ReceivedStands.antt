@@ -137,7 +137,8 @@ module _ (p : Plan) (d : EndpointsData) (q : Record) (bytes fds : List ℕ) (fre
   with1 : (a : Option (List ℕ)) → live_numbers_with p q1 a ≡ numbers_with os a ++ live_numbers_with p q a
   with1 a = ap (λ w. map (λ (x : Descriptor). x.number) (filter (λ (x : Descriptor). same_address x.address a) w)) live1
       ∙ ap (map (λ (x : Descriptor). x.number)) (filter-append (λ (x : Descriptor). same_address x.address a) (map as_received os) (live_descriptors p q))
-      ∙ map-append (λ (x : Descriptor). x.number) (filter (λ (x : Descriptor). same_address x.address a) (map as_received os)) (filter (λ (x : Descriptor). same_address x.address a) (live_descriptors p q))
+      ∙ map-append (λ (x : Descriptor). x.number) (filter (λ (x : Descriptor). same_address x.address a) (map as_received os))
+      (filter (λ (x : Descriptor). same_address x.address a) (live_descriptors p q))
       ∙ ap (λ w. w ++ live_numbers_with p q a) (with-received os a)
 
   numbers1 : live_numbers p q1 ≡ fds ++ live_numbers p q
@@ -157,7 +158,9 @@ module _ (p : Plan) (d : EndpointsData) (q : Record) (bytes fds : List ℕ) (fre
 
   -- no address has two
   open_gone : (w : List ℕ) (x : ℕ) (more : List ℕ) → numbers_with d.table (Some w) ≡ x ∷ more → gone w ≡ true
-  open_gone w x more h = or_left (has_open d.table (Some w) || is_unclaimed p w) (is_abandoned_by p d.failed w) (or_left (has_open d.table (Some w)) (is_unclaimed p w) (ap not_empty h))
+  open_gone w x more h =
+      or_left (has_open d.table (Some w) || is_unclaimed p w) (is_abandoned_by p d.failed w)
+      (or_left (has_open d.table (Some w)) (is_unclaimed p w) (ap not_empty h))
 
   one_of : (w : List ℕ) (xs : List ℕ) → numbers_with d.table (Some w) ≡ xs → length (numbers_with (rest gone os) (Some w) ++ numbers_with d.table (Some w)) ≤ 1
   one_of w (x ∷ more) h = let none = rest-gone gone w (open_gone w x more h) os in let few = stand.kept.one (Some w) in
@@ -170,14 +173,17 @@ module _ (p : Plan) (d : EndpointsData) (q : Record) (bytes fds : List ℕ) (fre
       few_of (inr n) = subst (λ (v : List ℕ). length v ≤ 1) (sym (rest-stays gone w n os)) (words-one fds ws w (read-apart bytes (length fds)))
 
   one_kept : (a : Option (List ℕ)) → length (numbers_with kept a ++ numbers_with d.table a) ≤ 1
-  one_kept (Some w) = subst (λ (t : List Open). length (numbers_with t (Some w) ++ numbers_with d.table (Some w)) ≤ 1) (sym kept_is) (one_of w (numbers_with d.table (Some w)) refl)
+  one_kept (Some w) =
+      subst (λ (t : List Open). length (numbers_with t (Some w) ++ numbers_with d.table (Some w)) ≤ 1) (sym kept_is)
+      (one_of w (numbers_with d.table (Some w)) refl)
   one_kept None = rw (with-None kept, with-None d.table) (omega arith)
 
   table_with : (a : Option (List ℕ)) → numbers_with e.table a ≡ numbers_with kept a ++ numbers_with d.table a
   table_with a = with-puts kept d.table one_kept a
 
   with_is : (a : Option (List ℕ)) → numbers_with e.table a ≡ live_numbers_with p r a
-  with_is a = table_with a ∙ ap (λ w. w ++ numbers_with d.table a) (with-without ns os a) ∙ ap (λ w. left_out ns (numbers_with os a) ++ w) (stand.states.with_is a) ∙ sym (with_then a)
+  with_is a = table_with a ∙ ap (λ w. w ++ numbers_with d.table a) (with-without ns os a)
+      ∙ ap (λ w. left_out ns (numbers_with os a) ++ w) (stand.states.with_is a) ∙ sym (with_then a)
 
   new_parts : (g : ℕ) → is_new r g ≡ true → (is_in g fds ≡ false) × (is_new q g ≡ true)
   new_parts g h =
@@ -187,12 +193,17 @@ module _ (p : Plan) (d : EndpointsData) (q : Record) (bytes fds : List ℕ) (fre
 
   states : StatesStand p e r
   states = record {
-    each = along-closes (λ x. (s i : ℕ) → s < service_count p → i < length (endpoints p s) → StandsAt p (last_at d s i) x s i) (λ x n h. h) q1 ns stand.states.each;
-    counts = along-closes (λ x. (s i : ℕ) → s < service_count p → i < length (endpoints p s) → failed_at d s ≡ false → times_in_use_at d s i ≡ in_use_count p x s i) (λ x n h. h) q1 ns stand.states.counts;
+    each = along-closes (λ x. (s i : ℕ) → s < service_count p → i < length (endpoints p s) → StandsAt p (last_at d s i) x s i)
+        (λ x n h. h) q1 ns stand.states.each;
+    counts = along-closes
+        (λ x. (s i : ℕ) → s < service_count p → i < length (endpoints p s) → failed_at d s ≡ false → times_in_use_at d s i ≡ in_use_count p x s i)
+        (λ x n h. h) q1 ns stand.states.counts;
     failed_is = along-closes (λ x. (s : ℕ) → s < service_count p → failed_at d s ≡ has_failed p x s) (λ x n h. h) q1 ns stand.states.failed_is;
     with_is = with_is;
     lost = stand.states.lost;
-    closed_came = λ g new. (let parts = new_parts g new in closed-tell q1 ns g ∙ neither (has (is_close g) q) (is_in g ns) (stand.states.closed_came g parts.1) (ns_old g parts.0));
+    closed_came =
+        λ g new. (let parts = new_parts g new in closed-tell q1 ns g
+        ∙ neither (has (is_close g) q) (is_in g ns) (stand.states.closed_came g parts.1) (ns_old g parts.0));
   }
 
   came_then : numbers_in r ≡ fds ++ numbers_in q
@@ -209,7 +220,8 @@ module _ (p : Plan) (d : EndpointsData) (q : Record) (bytes fds : List ℕ) (fre
         let none = none_before (numbers_with kept a) (numbers_with d.table a) (one_kept a) (ap length was ∙ fd_one (last_at d s i) h) in
         table_with a ∙ ap (λ w. w ++ numbers_with d.table a) none ∙ was);
     one = λ a. subst (λ (w : List ℕ). length w ≤ 1) (sym (table_with a)) (one_kept a);
-    distinct = λ a b fd h k. sym (live-address p r fd a apart_then (ap (is_in fd) (sym (with_is a)) ∙ h)) ∙ live-address p r fd b apart_then (ap (is_in fd) (sym (with_is b)) ∙ k);
+    distinct = λ a b fd h k. sym (live-address p r fd a apart_then (ap (is_in fd) (sym (with_is a)) ∙ h))
+        ∙ live-address p r fd b apart_then (ap (is_in fd) (sym (with_is b)) ∙ k);
   }
 
   -- what is gone of the new
@@ -240,8 +252,11 @@ module _ (p : Plan) (d : EndpointsData) (q : Record) (bytes fds : List ℕ) (fre
       let here = in_os fd true h in
       let rec : is_received p q1 fd ≡ true = received1 fd ∙ some-received fd os (opened_descriptors p q) here in
       let old : is_doubled p q fd ≡ false = false_where (is_doubled p q fd) (λ y. clash (is_opened p q fd) (doubled-opened p q fd y) (not_opened fd h)) in
-      let dou : is_doubled p q1 fd ≡ has_live p q a = doubled1 fd ∙ or_first (list_any (λ (x : Descriptor). x.number == fd && has_live p q x.address) (map as_received os)) old ∙ one-received (has_live p q) fd os (opened_descriptors p q) apart_os here in
-      let aba : is_address_abandoned p q1 (address_of p q1 fd) ≡ is_address_abandoned p q a = ap (is_address_abandoned p q1) (place1 fd) ∙ address-same p q q1 (λ t. refl) a in
+      let dou : is_doubled p q1 fd ≡ has_live p q a =
+      doubled1 fd ∙ or_first (list_any (λ (x : Descriptor). x.number == fd && has_live p q x.address) (map as_received os)) old
+      ∙ one-received (has_live p q) fd os (opened_descriptors p q) apart_os here in
+      let aba : is_address_abandoned p q1 (address_of p q1 fd) ≡ is_address_abandoned p q a =
+      ap (is_address_abandoned p q1) (place1 fd) ∙ address-same p q q1 (λ t. refl) a in
       let free : is_held_back p q1 fd ≡ false = false_where (is_held_back p q fd) (λ y. clash (is_opened p q fd) (held-opened p q fd y) (not_opened fd h)) in
       unheld (is_turned p q1 fd) (is_address_abandoned p q1 (address_of p q1 fd)) (is_held_back p q1 fd) free
       ∙ ap (λ b. ((b && is_address_unclaimed p (address_of p q1 fd)) || is_doubled p q1 fd) || is_address_abandoned p q1 (address_of p q1 fd)) rec
@@ -261,7 +276,9 @@ module _ (p : Plan) (d : EndpointsData) (q : Record) (bytes fds : List ℕ) (fre
           plain x = grind arith
 
   new_gone : (fd : ℕ) → is_in fd fds ≡ true → is_gone p q1 fd ≡ is_in fd ns
-  new_gone fd h = ap (λ b. is_gone_now p q1 fd || b) (false_where (is_drained p q fd) (λ y. clash (is_opened p q fd) (drained-opened p q fd stand.asks_due y) (not_opened fd h)))
+  new_gone fd h =
+      ap (λ b. is_gone_now p q1 fd || b)
+      (false_where (is_drained p q fd) (λ y. clash (is_opened p q fd) (drained-opened p q fd stand.asks_due y) (not_opened fd h)))
       ∙ or_none (is_gone_now p q1 fd) ∙ new_gone_now fd h
     where
       or_none : (b : Bool) → (b || false) ≡ b
@@ -273,7 +290,8 @@ module _ (p : Plan) (d : EndpointsData) (q : Record) (bytes fds : List ℕ) (fre
       let none = in_os fd false h in
       let place : address_of p q1 fd ≡ address_of p q fd = place1 fd ∙ first-later fd os (opened_descriptors p q) none in
       let rec : is_received p q1 fd ≡ is_received p q fd = received1 fd ∙ none-received (λ (x : Descriptor). x.received) fd os (opened_descriptors p q) none in
-      let dou : is_doubled p q1 fd ≡ is_doubled p q fd = doubled1 fd ∙ ap (λ b. b || is_doubled p q fd) (none-listed (λ (x : Descriptor). has_live p q x.address) fd os none) in
+      let dou : is_doubled p q1 fd ≡ is_doubled p q fd =
+      doubled1 fd ∙ ap (λ b. b || is_doubled p q fd) (none-listed (λ (x : Descriptor). has_live p q x.address) fd os none) in
       gone-same p q q1 (λ t. refl) fd
       (ap (λ b. (b && is_address_unclaimed p (address_of p q1 fd)) || is_doubled p q1 fd) rec
       ∙ ap (λ b. (is_received p q fd && is_address_unclaimed p b) || is_doubled p q1 fd) place
@@ -282,7 +300,11 @@ module _ (p : Plan) (d : EndpointsData) (q : Record) (bytes fds : List ℕ) (fre
 
   once : EachEntry (λ x before. close_once p x before ≡ true) r
   once = once-tell p ns q1 (distinct-ascending (numbers_out gone os) (distinct-part (λ (o : Open). passes gone o.address) os apart_os))
-      (λ g there. (opened-in p q1 g ∙ list_any-append (λ n. n == g) fds (numbers_in q) ∙ or_left (is_in g fds) (is_in g (numbers_in q)) (ns_came g there), not_closed g (ns_came g there)))
+      (λ g there. (
+        opened-in p q1 g ∙ list_any-append (λ n. n == g) fds (numbers_in q)
+            ∙ or_left (is_in g fds) (is_in g (numbers_in q)) (ns_came g there),
+        not_closed g (ns_came g there),
+      ))
       (refl, stand.closes_once)
 
   closed_gone : (fd : ℕ) → is_opened p q1 fd ≡ true → has (is_close fd) r ≡ is_gone p q1 fd
@@ -296,7 +318,9 @@ module _ (p : Plan) (d : EndpointsData) (q : Record) (bytes fds : List ℕ) (fre
       or_none b = grind arith
 
       old_opened : is_in fd fds ≡ false → is_opened p q fd ≡ true
-      old_opened n = opened-in p q fd ∙ second (is_in fd fds) (is_in fd (numbers_in q)) (sym (list_any-append (λ m. m == fd) fds (numbers_in q)) ∙ sym (opened-in p q1 fd) ∙ came) n
+      old_opened n =
+          opened-in p q fd
+          ∙ second (is_in fd fds) (is_in fd (numbers_in q)) (sym (list_any-append (λ m. m == fd) fds (numbers_in q)) ∙ sym (opened-in p q1 fd) ∙ came) n
         where
           second : (a b : Bool) → (a || b) ≡ true → a ≡ false → b ≡ true
           second a b h g = grind (arith, h)
@@ -311,16 +335,21 @@ module _ (p : Plan) (d : EndpointsData) (q : Record) (bytes fds : List ℕ) (fre
       ∙ ap (λ w. left_out ns fds ++ w) (left-none ns (live_numbers p q) (λ g there. live_old g there))))
     where
       live_old : (g : ℕ) → is_in g (live_numbers p q) ≡ true → is_in g ns ≡ false
-      live_old g h = ns_old g (false_where (is_in g fds) (λ y. clash (is_in g (numbers_in q)) (ap (is_in g) (sym (opened-numbers p q)) ∙ live_in (opened_descriptors p q) h) (not_came g y)))
+      live_old g h =
+          ns_old g (false_where (is_in g fds)
+          (λ y. clash (is_in g (numbers_in q)) (ap (is_in g) (sym (opened-numbers p q)) ∙ live_in (opened_descriptors p q) h) (not_came g y)))
         where
-          live_in : (xs : List Descriptor) → is_in g (map (λ (x : Descriptor). x.number) (filter (λ (x : Descriptor). not (has (is_close x.number) q)) xs)) ≡ true → is_in g (map (λ (x : Descriptor). x.number) xs) ≡ true
+          live_in : (xs : List Descriptor)
+              → is_in g (map (λ (x : Descriptor). x.number) (filter (λ (x : Descriptor). not (has (is_close x.number) q)) xs)) ≡ true
+              → is_in g (map (λ (x : Descriptor). x.number) xs) ≡ true
           live_in [] k = k
           live_in (x ∷ xs) k = elim (cases_Bool (has (is_close x.number) q)) [
             | inl c ↦ or_later (x.number == g) (live_in xs (rw c at k))
-            | inr o ↦ elim (or_cases (x.number == g) (is_in g (map (λ (y : Descriptor). y.number) (filter (λ (y : Descriptor). not (has (is_close y.number) q)) xs))) (rw o at k)) [
-              | inl now ↦ or_left (x.number == g) (is_in g (map (λ (y : Descriptor). y.number) xs)) now
-              | inr later ↦ or_later (x.number == g) (live_in xs later)
-            ]
+            | inr o ↦ elim (or_cases (x.number == g)
+                (is_in g (map (λ (y : Descriptor). y.number) (filter (λ (y : Descriptor). not (has (is_close y.number) q)) xs))) (rw o at k)) [
+                  | inl now ↦ or_left (x.number == g) (is_in g (map (λ (y : Descriptor). y.number) xs)) now
+                  | inr later ↦ or_later (x.number == g) (live_in xs later)
+                ]
           ]
             where
               or_later : (a : Bool) {b : Bool} → b ≡ true → (a || b) ≡ true
@@ -339,7 +368,8 @@ module _ (p : Plan) (d : EndpointsData) (q : Record) (bytes fds : List ℕ) (fre
     closes_once = once;
     fails = along-closes (FailsRight p) (λ x n h. h) q1 ns stand.fails;
     closes = λ fd came. (let before : is_opened p q1 fd ≡ true = ap (list_any (has_number fd)) (sym (opened-tell p q1 ns)) ∙ came in
-        closed_once p r fd once ∙ ap (λ b. if b then 1 else 0) (closed_gone fd before ∙ sym (along-closes (λ x. is_gone p x fd ≡ is_gone p q1 fd) (λ x n h. h) q1 ns refl)));
+        closed_once p r fd once
+        ∙ ap (λ b. if b then 1 else 0) (closed_gone fd before ∙ sym (along-closes (λ x. is_gone p x fd ≡ is_gone p q1 fd) (λ x n h. h) q1 ns refl)));
     one_live = one_live-is p e r states_kept states;
     open_are = numbers_open;
     came_are = ap (put_numbers fds) stand.came_are ∙ puts-ascending fds (numbers_in q) ∙ ap ascending (sym came_then);

@@ -23,8 +23,11 @@ use Rattle.svc_endpoints.proofs.ReceivedLists.{new-apart, without-same}
 use Rattle.svc_endpoints.proofs.ReceivedStands.{stands-received}
 
 -- the numbers that were gathered
-pub away-is : (gone : List ℕ → Bool) (fds : List ℕ) (read words : List (List ℕ)) (start out : List ℕ) → read ≡ words → start ≡ [] → out ≡ put_numbers (numbers_out gone (opens_of fds read)) start → out ≡ ascending (numbers_out gone (opens_of fds words))
-away-is gone fds read words start out same none is = is ∙ ap (λ w. put_numbers (numbers_out gone (opens_of fds w)) start) same ∙ ap (put_numbers (numbers_out gone (opens_of fds words))) none ∙ puts-none (numbers_out gone (opens_of fds words))
+pub away-is : (gone : List ℕ → Bool) (fds : List ℕ) (read words : List (List ℕ)) (start out : List ℕ) → read ≡ words → start ≡ []
+    → out ≡ put_numbers (numbers_out gone (opens_of fds read)) start → out ≡ ascending (numbers_out gone (opens_of fds words))
+away-is gone fds read words start out same none is =
+    is ∙ ap (λ w. put_numbers (numbers_out gone (opens_of fds w)) start) same ∙ ap (put_numbers (numbers_out gone (opens_of fds words))) none
+    ∙ puts-none (numbers_out gone (opens_of fds words))
 
 -- without words none is turned away
 none_away : (gone : List ℕ → Bool) (fds : List ℕ) → numbers_out gone (opens_of fds []) ≡ []
@@ -35,22 +38,29 @@ unread_none : (found : Option (List (List ℕ))) → is_read found ≡ false →
 unread_none (Some words) h = absurd (cc)
 unread_none None h = refl
 
-pub received-tells : (p : Plan) (d new : EndpointsData) (bytes fds : List ℕ) (words : List (List ℕ)) (good : Bool) (before after : List Action) → all_new d.came fds ≡ true
-    → words ≡ words_or_none (decode bytes (length fds)) → good ≡ is_read (decode bytes (length fds)) → new ≡ received p d words fds → after ≡ before ++ map Close (turned_away p d words fds)
-    → Tells before after (λ told. IsGivingUp told × (good ≡ false → told ≡ []) × ((q : Record) → EndpointsStand p d q → EndpointsStand p new (tell (Got (Received bytes fds) ∷ q) told)))
+pub received-tells : (p : Plan) (d new : EndpointsData) (bytes fds : List ℕ) (words : List (List ℕ)) (good : Bool) (before after : List Action)
+    → all_new d.came fds ≡ true
+    → words ≡ words_or_none (decode bytes (length fds)) → good ≡ is_read (decode bytes (length fds)) → new ≡ received p d words fds
+    → after ≡ before ++ map Close (turned_away p d words fds)
+    → Tells before after
+    (λ told. IsGivingUp told × (good ≡ false → told ≡ [])
+    × ((q : Record) → EndpointsStand p d q → EndpointsStand p new (tell (Got (Received bytes fds) ∷ q) told)))
 received-tells p d new bytes fds words good before after fresh read is left appended = record {
   told = map Close (turned_away p d words fds);
   appended = appended;
   kept = (
     giving-closes (turned_away p d words fds),
-    λ bad. ap (λ w. map Close (turned_away p d w fds)) (read ∙ unread_none (decode bytes (length fds)) (sym is ∙ bad)) ∙ ap (λ w. map Close (ascending w)) (none_away (turns_away p d) fds),
+    λ bad. ap (λ w. map Close (turned_away p d w fds)) (read ∙ unread_none (decode bytes (length fds)) (sym is ∙ bad))
+        ∙ ap (λ w. map Close (ascending w)) (none_away (turns_away p d) fds),
     λ q stand. subst (λ (m : EndpointsData). EndpointsStand p m (tell (Got (Received bytes fds) ∷ q) (map Close (turned_away p d words fds)))) (sym left)
-        (subst (λ (w : List (List ℕ)). EndpointsStand p (received p d w fds) (tell (Got (Received bytes fds) ∷ q) (map Close (turned_away p d w fds)))) (sym read) (stands-received p d q bytes fds fresh stand)),
+        (subst (λ (w : List (List ℕ)). EndpointsStand p (received p d w fds) (tell (Got (Received bytes fds) ∷ q) (map Close (turned_away p d w fds))))
+        (sym read) (stands-received p d q bytes fds fresh stand)),
   );
 }
 
 -- each is told closed, or in the table
-pub received-few : (p : Plan) (d : EndpointsData) (fds : List ℕ) (words : List (List ℕ)) → all_new d.came fds ≡ true → length (turned_away p d words fds) + length (received p d words fds).table ≡ length d.table + length fds
+pub received-few : (p : Plan) (d : EndpointsData) (fds : List ℕ) (words : List (List ℕ)) → all_new d.came fds ≡ true
+    → length (turned_away p d words fds) + length (received p d words fds).table ≡ length d.table + length fds
 received-few p d fds words fresh =
     let os = opens_of fds words in
     let gone = turns_away p d in

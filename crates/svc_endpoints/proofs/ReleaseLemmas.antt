@@ -26,7 +26,8 @@ use Rattle.svc_endpoints.proofs.ClearLemmas.{Answered, stands-cleared}
 use Rattle.svc_endpoints.proofs.AnswerLemmas.{giving-closes, cleared-few}
 use Rattle.svc_base.proofs.Logic.{clash}
 
-module _ (p : Plan) (d : EndpointsData) (q : Record) (e : Event) (is : IsForeign p d q e) (none : (fd : ℕ) → is_held_back p (Got e ∷ q) fd ≡ false) (stand : EndpointsStand p d q) where
+module _ (p : Plan) (d : EndpointsData) (q : Record) (e : Event) (is : IsForeign p d q e) (none : (fd : ℕ) → is_held_back p (Got e ∷ q) fd ≡ false)
+    (stand : EndpointsStand p d q) where
   closed_now : (fd : ℕ) → is_opened p (Got e ∷ q) fd ≡ true → has (is_close fd) q ≡ is_gone p q fd
   closed_now fd came = closed-is p q fd stand.closes_once (stand.closes fd (sym (opened_is-event p q e is.opens fd) ∙ came))
 
@@ -45,8 +46,12 @@ module _ (p : Plan) (d : EndpointsData) (q : Record) (e : Event) (is : IsForeign
     asks_known = (refl, stand.asks_known);
     closes_once = (refl, stand.closes_once);
     fails = fails-same p q e is.same stand.fails;
-    closed_gone = λ fd came closed. gone-grows p q (Got e ∷ q) (λ t h. is.same t ∙ h) fd (turned-event p q e is.opens fd) (place-event p q e is.opens fd) (λ held. absurd (clash (is_held_back p (Got e ∷ q) fd) held (none fd))) (λ h. drained fd ∙ h) (sym (closed_now fd came) ∙ closed);
-    turned_closed = λ fd came turned. closed_now fd came ∙ or_left (is_gone_now p q fd) (is_drained p q fd) (or_left (is_turned p q fd) _ (sym (turned-event p q e is.opens fd) ∙ turned));
+    closed_gone =
+        λ fd came closed. gone-grows p q (Got e ∷ q) (λ t h. is.same t ∙ h) fd (turned-event p q e is.opens fd) (place-event p q e is.opens fd)
+        (λ held. absurd (clash (is_held_back p (Got e ∷ q) fd) held (none fd))) (λ h. drained fd ∙ h) (sym (closed_now fd came) ∙ closed);
+    turned_closed =
+        λ fd came turned. closed_now fd came
+        ∙ or_left (is_gone_now p q fd) (is_drained p q fd) (or_left (is_turned p q fd) _ (sym (turned-event p q e is.opens fd) ∙ turned));
     open_are = stand.open_are ∙ ap ascending (sym (numbers-event p q e is.opens));
     came_are = stand.came_are ∙ ap (λ w. ascending (w ++ numbers_in q)) (sym is.brings);
     came_apart = ap (λ w. distinct (w ++ numbers_in q)) is.brings ∙ stand.came_apart;
@@ -56,8 +61,12 @@ module _ (p : Plan) (d : EndpointsData) (q : Record) (e : Event) (is : IsForeign
   stands-released = stands-cleared p [] d (Got e ∷ q) (λ fd. sym (none fd)) answered
 
 -- what is told, and how much
-module _ (p : Plan) (d new : EndpointsData) (before after : List Action) (left : new ≡ cleared p [] d) (appended : after ≡ before ++ map Close (gone_numbers p [] d d.table)) where
-  pub tells-release : Tells before after (λ told. IsGivingUp told × ((q : Record) (e : Event) → is_endpoints_event e ≡ false → ((fd : ℕ) → is_held_back p (Got e ∷ q) fd ≡ false) → EndpointsStand p d q → EndpointsStand p new (tell (Got e ∷ q) told)))
+module _ (p : Plan) (d new : EndpointsData) (before after : List Action) (left : new ≡ cleared p [] d)
+    (appended : after ≡ before ++ map Close (gone_numbers p [] d d.table)) where
+  pub tells-release : Tells before after
+      (λ told. IsGivingUp told
+      × ((q : Record) (e : Event) → is_endpoints_event e ≡ false → ((fd : ℕ) → is_held_back p (Got e ∷ q) fd ≡ false) → EndpointsStand p d q
+      → EndpointsStand p new (tell (Got e ∷ q) told)))
   tells-release = record {
     told = map Close (gone_numbers p [] d d.table);
     appended = appended;

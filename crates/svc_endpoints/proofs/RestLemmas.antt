@@ -13,7 +13,8 @@ use Rattle.svc_base.proofs.Logic.{apart_from, not_in, clash}
 
 pub left-none : (ns xs : List ℕ) → ((g : ℕ) → is_in g xs ≡ true → is_in g ns ≡ false) → left_out ns xs ≡ xs
 left-none ns [] h = refl
-left-none ns (x ∷ xs) h = rw (h x (or_left (x == x) (is_in x xs) (eq-eqb x x refl))) (ap (λ w. x ∷ w) (left-none ns xs (λ g there. h g (or_right (x == g) (is_in g xs) there))))
+left-none ns (x ∷ xs) h =
+    rw (h x (or_left (x == x) (is_in x xs) (eq-eqb x x refl))) (ap (λ w. x ∷ w) (left-none ns xs (λ g there. h g (or_right (x == g) (is_in g xs) there))))
 
 none_same : (a : Option (List ℕ)) → same_address a None ≡ false
 none_same (Some x) = refl
@@ -46,7 +47,8 @@ distinct-part f (o ∷ more) h =
     let parts = and_parts (not (is_in o.fd (numbers_of_table more))) (distinct (numbers_of_table more)) h in
     elim (cases_Bool (f o)) [
       | inl y ↦ rw y (and_from (not (is_in o.fd (numbers_of_table (filter f more)))) (distinct (numbers_of_table (filter f more)))
-          (not_in (is_in o.fd (numbers_of_table (filter f more))) (not_part f o.fd more (apart_from (is_in o.fd (numbers_of_table more)) parts.0))) (distinct-part f more parts.1))
+          (not_in (is_in o.fd (numbers_of_table (filter f more))) (not_part f o.fd more (apart_from (is_in o.fd (numbers_of_table more)) parts.0)))
+          (distinct-part f more parts.1))
       | inr n ↦ rw n (distinct-part f more parts.1)
     ]
 
@@ -62,14 +64,16 @@ skip_number n ns (o ∷ more) h =
     ]
 
 -- where no number stands twice, what is left is told by the numbers of the others
-pub part-by-number : (f : Open → Bool) (t : List Open) → distinct (numbers_of_table t) ≡ true → without_numbers (numbers_of_table (filter f t)) t ≡ filter (λ (o : Open). not (f o)) t
+pub part-by-number : (f : Open → Bool) (t : List Open) → distinct (numbers_of_table t) ≡ true
+    → without_numbers (numbers_of_table (filter f t)) t ≡ filter (λ (o : Open). not (f o)) t
 part-by-number f [] h = refl
 part-by-number f (o ∷ more) h =
     let parts = and_parts (not (is_in o.fd (numbers_of_table more))) (distinct (numbers_of_table more)) h in
     let alone = apart_from (is_in o.fd (numbers_of_table more)) parts.0 in
     let ih = part-by-number f more parts.1 in
     elim (cases_Bool (f o)) [
-      | inl y ↦ ap (λ w. without_numbers (numbers_of_table w) (o ∷ more)) (filter_here y) ∙ (rw (y, eq-eqb o.fd o.fd refl) (skip_number o.fd (numbers_of_table (filter f more)) more alone ∙ ih))
+      | inl y ↦ ap (λ w. without_numbers (numbers_of_table w) (o ∷ more)) (filter_here y)
+          ∙ (rw (y, eq-eqb o.fd o.fd refl) (skip_number o.fd (numbers_of_table (filter f more)) more alone ∙ ih))
       | inr n ↦ ap (λ w. without_numbers (numbers_of_table w) (o ∷ more)) (filter_past n) ∙ (rw (n, not_part f o.fd more alone) (ap (λ w. o ∷ w) ih))
     ]
   where
@@ -119,11 +123,13 @@ module _ (f : Open → Bool) where
   pub picked-numbers : (t : List Open) → distinct (numbers_of_table t) ≡ true → numbers_of_table (unpicked f t) ≡ left_out (picked f t) (numbers_of_table t)
   picked-numbers t apart = ap numbers_of_table (sym (part-by-number f t apart)) ∙ numbers-without (picked f t) t
 
-  pub picked-with : (t : List Open) → distinct (numbers_of_table t) ≡ true → (a : Option (List ℕ)) → numbers_with (unpicked f t) a ≡ left_out (picked f t) (numbers_with t a)
+  pub picked-with : (t : List Open) → distinct (numbers_of_table t) ≡ true → (a : Option (List ℕ))
+      → numbers_with (unpicked f t) a ≡ left_out (picked f t) (numbers_with t a)
   picked-with t apart a = ap (λ w. numbers_with w a) (sym (part-by-number f t apart)) ∙ with-without (picked f t) t a
 
   -- where none with this address passes
-  pub picked-stays : (a : Option (List ℕ)) → ((o : Open) → same_address o.address a ≡ true → f o ≡ false) → (t : List Open) → numbers_with (unpicked f t) a ≡ numbers_with t a
+  pub picked-stays : (a : Option (List ℕ)) → ((o : Open) → same_address o.address a ≡ true → f o ≡ false) → (t : List Open)
+      → numbers_with (unpicked f t) a ≡ numbers_with t a
   picked-stays a none [] = refl
   picked-stays a none (o ∷ more) = elim (cases_Bool (same_address o.address a)) [
     | inl s ↦ rw (none o s, s) (ap (λ v. o.fd ∷ v) (picked-stays a none more))
@@ -145,7 +151,8 @@ module _ (f : Open → Bool) where
       rw same (or_left (o.fd == g) (is_in g (numbers_with more (Some w))) first)
 
   -- a number of one that passes, and where it stands
-  pub picked-from : (t : List Open) (g : ℕ) → is_in g (picked f t) ≡ true → (o : Open) × (f o ≡ true) × ((o.fd == g) ≡ true) × ((w : List ℕ) → o.address ≡ Some w → is_in g (numbers_with t (Some w)) ≡ true)
+  pub picked-from : (t : List Open) (g : ℕ) → is_in g (picked f t) ≡ true
+      → (o : Open) × (f o ≡ true) × ((o.fd == g) ≡ true) × ((w : List ℕ) → o.address ≡ Some w → is_in g (numbers_with t (Some w)) ≡ true)
   picked-from [] g e = absurd (cc)
   picked-from (o ∷ more) g e = elim (cases_Bool (f o)) [
     | inl y ↦ elim (or_cases (o.fd == g) (is_in g (picked f more)) (rw y at e)) [
@@ -163,7 +170,8 @@ module _ (f : Open → Bool) where
   ]
 
   -- a number of the address, where each with both passes
-  pub picks-some : (g : ℕ) (w : List ℕ) → ((o : Open) → o.address ≡ Some w → o.fd ≡ g → f o ≡ true) → (t : List Open) → is_in g (numbers_with t (Some w)) ≡ true → list_any f t ≡ true
+  pub picks-some : (g : ℕ) (w : List ℕ) → ((o : Open) → o.address ≡ Some w → o.fd ≡ g → f o ≡ true) → (t : List Open) → is_in g (numbers_with t (Some w)) ≡ true
+      → list_any f t ≡ true
   picks-some g w each [] h = absurd (cc)
   picks-some g w each (o ∷ more) h = elim (cases_Bool (same_address o.address (Some w))) [
     | inl s ↦ elim (or_cases (o.fd == g) (is_in g (numbers_with more (Some w))) (rw s at h)) [

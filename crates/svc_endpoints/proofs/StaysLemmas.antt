@@ -1,4 +1,5 @@
--- What an answer or a visit leaves of the flags of failed services, of what is held, of the states of the other services, and of addresses without a live descriptor.
+-- What an answer or a visit leaves of the flags of failed services, of what is held, of the states of the other services, and of addresses without a
+-- live descriptor.
 use Rattle.std.proofs.Common.{ℕ, Bool, true, false, not, ◌&&◌, ◌==◌, inl, inr, List, [], ◌∷◌, filter, ◌≡◌, refl, ap, sym, ◌∙◌, subst, arith, ◌<◌, length, Option, Some, None, slice_set, slice_index_or, if◌then◌else◌}
 use Rattle.std.proofs.lemmas.Bool.{cases_Bool, ne_eqb}
 use Rattle.svc_record.specs.declared.plan.Plan.{Plan}
@@ -25,7 +26,9 @@ use Rattle.svc_base.proofs.Logic.{clash}
 -- where a state changed, it is one of an endpoint that wasn't held
 held-changed : (p : Plan) (d e : EndpointsData) (s i : ℕ) → Changed p d e s i → StaysHeld d e
 held-changed p d e s i h t k held =
-    ap is_holding (h.last t k (λ a b. clash (is_holding (last_at d s i)) (subst (λ u. is_holding (last_at d u i) ≡ true) a (subst (λ j. is_holding (last_at d t j) ≡ true) b held)) h.idle)) ∙ held
+    ap is_holding
+    (h.last t k (λ a b. clash (is_holding (last_at d s i))
+    (subst (λ u. is_holding (last_at d u i) ≡ true) a (subst (λ j. is_holding (last_at d t j) ≡ true) b held)) h.idle)) ∙ held
 
 -- where the rows stay, all that is held does
 pub held-same : (d e : EndpointsData) → e.rows ≡ d.rows → StaysHeld d e
@@ -47,7 +50,8 @@ failed_cleared false p keep d = refl
 -- what an answer leaves, after which what goes is closed
 module _ (p : Plan) (d mid made new : EndpointsData) (b : Bool) (keep : List ℕ) (is : made ≡ mid) (left : new ≡ cleared_if b p keep made) where
   pub fails-answer : (s : ℕ) → FailsOnly s d.failed mid.failed → FailsOnly s d.failed new.failed
-  fails-answer s h = subst (FailsOnly s d.failed) (sym (ap (λ (m : EndpointsData). m.failed) left ∙ failed_cleared b p keep made ∙ ap (λ (m : EndpointsData). m.failed) is)) h
+  fails-answer s h =
+      subst (FailsOnly s d.failed) (sym (ap (λ (m : EndpointsData). m.failed) left ∙ failed_cleared b p keep made ∙ ap (λ (m : EndpointsData). m.failed) is)) h
 
   pub held-answer : StaysHeld d mid → StaysHeld d new
   held-answer h = subst (λ (m : EndpointsData). StaysHeld d m) (sym (left ∙ ap (cleared_if b p keep) is)) (held_cleared b p keep d mid h)
@@ -99,11 +103,14 @@ module _ (p : Plan) (d : EndpointsData) (s i : ℕ) (sized : IsEndpointsSized p 
 -- what is held after a visit
 module _ (p : Plan) (d : EndpointsData) (s : ℕ) (sized : IsEndpointsSized p d) (inside : s < service_count p) where
   held_asked : (j : ℕ) → IsFirst p d s j → (kept_busy : Bool) (found : Option ℕ) → StaysHeld d (after d s (adopt_or_bind kept_busy j found))
-  held_asked j first kept_busy (Some fd) = held-put p d s j sized inside first.within false (record { last = Adopting fd; times_in_use = times_in_use_at d s j }) first.missing
+  held_asked j first kept_busy (Some fd) =
+      held-put p d s j sized inside first.within false (record { last = Adopting fd; times_in_use = times_in_use_at d s j }) first.missing
   held_asked j first true None = λ t k held. held
-  held_asked j first false None = held-put p d s j sized inside first.within false (record { last = Binding; times_in_use = times_in_use_at d s j }) first.missing
+  held_asked j first false None =
+      held-put p d s j sized inside first.within false (record { last = Binding; times_in_use = times_in_use_at d s j }) first.missing
 
-  held_first : (j : ℕ) → IsFirst p d s j → (asking kept_busy : Bool) (found : Option ℕ) → StaysHeld d (after d s (if asking then Nothing else adopt_or_bind kept_busy j found))
+  held_first : (j : ℕ) → IsFirst p d s j → (asking kept_busy : Bool) (found : Option ℕ)
+      → StaysHeld d (after d s (if asking then Nothing else adopt_or_bind kept_busy j found))
   held_first j first true kept_busy found = λ t k held. held
   held_first j first false kept_busy found = held_asked j first kept_busy found
 
@@ -116,7 +123,8 @@ module _ (p : Plan) (d : EndpointsData) (s : ℕ) (sized : IsEndpointsSized p d)
     | inr free ↦ elim (find_first p d s (length (endpoints p s)) (omega arith)) [
       | inl all ↦ held_where v Nothing (decided.held refl free all) (λ t k held. held)
       | inr some ↦ held_where v (decide_at p d s moment some.0) (decided.first refl free some.0 some.1)
-          (held_first some.0 some.1 (is_asking (last_at d s some.0)) (any_with p (address p s some.0) (busy_in d moment)) (first_of (numbers_with d.table (address p s some.0))))
+          (held_first some.0 some.1 (is_asking (last_at d s some.0)) (any_with p (address p s some.0) (busy_in d moment))
+          (first_of (numbers_with d.table (address p s some.0))))
     ]
   ]
 
@@ -132,7 +140,8 @@ rows_cleared : (b : Bool) (p : Plan) (keep : List ℕ) (d : EndpointsData) → (
 rows_cleared true p keep d = refl
 rows_cleared false p keep d = refl
 
-pub others-answer : (p : Plan) (d mid made new : EndpointsData) (b : Bool) (keep : List ℕ) (s : ℕ) → made ≡ mid → new ≡ cleared_if b p keep made → OthersStay s d mid → OthersStay s d new
+pub others-answer : (p : Plan) (d mid made new : EndpointsData) (b : Bool) (keep : List ℕ) (s : ℕ) → made ≡ mid → new ≡ cleared_if b p keep made
+    → OthersStay s d mid → OthersStay s d new
 others-answer p d mid made new b keep s is left h =
     others-then s d mid new h (ap (λ (m : EndpointsData). m.rows) left ∙ rows_cleared b p keep made ∙ ap (λ (m : EndpointsData). m.rows) is)
 
@@ -158,10 +167,13 @@ module _ (p : Plan) (d : EndpointsData) (s i : ℕ) (sized : IsEndpointsSized p 
   others-bound true fd text = others-put false (record { last = Idle; times_in_use = times_in_use_at d s i })
   others-bound false fd text = others-put false (record { last = Holding fd; times_in_use = times_in_use_at d s i })
 
-pub others-visit : (p : Plan) (d : EndpointsData) (s : ℕ) → IsEndpointsSized p d → s < service_count p → (v : Visit) → IsWithin p s v → OthersStay s d (after d s v)
+pub others-visit : (p : Plan) (d : EndpointsData) (s : ℕ) → IsEndpointsSized p d → s < service_count p → (v : Visit) → IsWithin p s v
+    → OthersStay s d (after d s v)
 others-visit p d s sized inside Nothing within = λ t k ne. refl
-others-visit p d s sized inside (Binds i) within = others-put p d s i sized inside within false (record { last = Binding; times_in_use = times_in_use_at d s i })
-others-visit p d s sized inside (Adopts i fd) within = others-put p d s i sized inside within false (record { last = Adopting fd; times_in_use = times_in_use_at d s i })
+others-visit p d s sized inside (Binds i) within =
+    others-put p d s i sized inside within false (record { last = Binding; times_in_use = times_in_use_at d s i })
+others-visit p d s sized inside (Adopts i fd) within =
+    others-put p d s i sized inside within false (record { last = Adopting fd; times_in_use = times_in_use_at d s i })
 
 -- what isn't held by them
 unheld_if : (c : Bool) (x y : EndpointStatus) → is_holding x ≡ false → is_holding y ≡ false → is_holding (if c then x else y) ≡ false
@@ -171,7 +183,8 @@ unheld_if false x y h g = g
 unheld-then : (d e f : EndpointsData) → StaysUnheld d e → f.rows ≡ e.rows → StaysUnheld d f
 unheld-then d e f h same t k off = ap (λ (r : List (List EndpointState)). is_holding (last_at (record d { rows = r }) t k)) same ∙ h t k off
 
-pub unheld-answer : (p : Plan) (d mid made new : EndpointsData) (b : Bool) (keep : List ℕ) → made ≡ mid → new ≡ cleared_if b p keep made → StaysUnheld d mid → StaysUnheld d new
+pub unheld-answer : (p : Plan) (d mid made new : EndpointsData) (b : Bool) (keep : List ℕ) → made ≡ mid → new ≡ cleared_if b p keep made → StaysUnheld d mid
+    → StaysUnheld d new
 unheld-answer p d mid made new b keep is left h =
     unheld-then d mid new h (ap (λ (m : EndpointsData). m.rows) left ∙ rows_cleared b p keep made ∙ ap (λ (m : EndpointsData). m.rows) is)
 
@@ -190,10 +203,13 @@ module _ (p : Plan) (d : EndpointsData) (s i : ℕ) (sized : IsEndpointsSized p 
   pub unheld-adopt_failed : StaysUnheld d (adopt_failed d s i)
   unheld-adopt_failed = unheld-put true (record { last = AdoptionFailed; times_in_use = times_in_use_at d s i }) refl
 
-pub unheld-visit : (p : Plan) (d : EndpointsData) (s : ℕ) → IsEndpointsSized p d → s < service_count p → (v : Visit) → IsWithin p s v → StaysUnheld d (after d s v)
+pub unheld-visit : (p : Plan) (d : EndpointsData) (s : ℕ) → IsEndpointsSized p d → s < service_count p → (v : Visit) → IsWithin p s v
+    → StaysUnheld d (after d s v)
 unheld-visit p d s sized inside Nothing within = λ t k off. off
-unheld-visit p d s sized inside (Binds i) within = unheld-put p d s i sized inside within false (record { last = Binding; times_in_use = times_in_use_at d s i }) refl
-unheld-visit p d s sized inside (Adopts i fd) within = unheld-put p d s i sized inside within false (record { last = Adopting fd; times_in_use = times_in_use_at d s i }) refl
+unheld-visit p d s sized inside (Binds i) within =
+    unheld-put p d s i sized inside within false (record { last = Binding; times_in_use = times_in_use_at d s i }) refl
+unheld-visit p d s sized inside (Adopts i fd) within =
+    unheld-put p d s i sized inside within false (record { last = Adopting fd; times_in_use = times_in_use_at d s i }) refl
 
 -- a part of the table has no address that the table hasn't
 open_left : (f : Open → Bool) (table : List Open) (a : Option (List ℕ)) → has_open table a ≡ false → has_open (filter f table) a ≡ false
@@ -213,7 +229,8 @@ gains_cleared : (b : Bool) (p : Plan) (keep : List ℕ) (d : EndpointsData) → 
 gains_cleared true p keep d a none = open_left (λ (o : Open). not (goes p keep d o)) d.table a none
 gains_cleared false p keep d a none = none
 
-pub gains-answer : (p : Plan) (d mid made new : EndpointsData) (b : Bool) (keep : List ℕ) → made ≡ mid → new ≡ cleared_if b p keep made → mid.table ≡ d.table → GainsNone d new
+pub gains-answer : (p : Plan) (d mid made new : EndpointsData) (b : Bool) (keep : List ℕ) → made ≡ mid → new ≡ cleared_if b p keep made → mid.table ≡ d.table
+    → GainsNone d new
 gains-answer p d mid made new b keep is left same a none =
     ap (λ (m : EndpointsData). has_open m.table a) left
     ∙ gains_cleared b p keep made a (ap (λ (m : EndpointsData). has_open m.table a) is ∙ ap (λ table. has_open table a) same ∙ none)

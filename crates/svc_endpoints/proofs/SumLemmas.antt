@@ -41,7 +41,8 @@ module _ (p : Plan) where
       nothing t k (inr h) = let none = h.1 in omega arith
 
   -- one endpoint more
-  pub noted-next : (s i n : ℕ) (b seen shared seen2 shared2 : List ℕ) → n ≡ sum_of b → Some b ≡ address p s i → is_in n seen2 ≡ true → (is_in n seen ≡ true → is_in n shared2 ≡ true)
+  pub noted-next : (s i n : ℕ) (b seen shared seen2 shared2 : List ℕ) → n ≡ sum_of b → Some b ≡ address p s i → is_in n seen2 ≡ true
+      → (is_in n seen ≡ true → is_in n shared2 ≡ true)
       → Grows seen seen2 → Grows shared shared2 → AreNoted p s i seen shared → AreNoted p s (i + 1) seen2 shared2
   noted-next s i n b seen shared seen2 shared2 sum named here twice more others was = record {
     each = λ t k a before h. elim (before_next t k s i before) [
@@ -51,7 +52,8 @@ module _ (p : Plan) where
     twice = λ t k u j a before last h g. elim (before_next u j s i last) [
       | inl earlier ↦ others (sum_of a) (was.twice t k u j a before earlier h g)
       | inr at ↦ subst (λ m. is_in m shared2 ≡ true) (own u j a at g)
-          (twice (subst (λ m. is_in m seen ≡ true) (sym (own u j a at g)) (was.each t k a (subst (λ x. IsBefore t k x i) at.0 (subst (λ x. IsBefore t k u x) at.1 before)) h)))
+          (twice (subst (λ m. is_in m seen ≡ true) (sym (own u j a at g))
+          (was.each t k a (subst (λ x. IsBefore t k x i) at.0 (subst (λ x. IsBefore t k u x) at.1 before)) h)))
     ];
   }
     where
@@ -85,14 +87,17 @@ module _ (p : Plan) where
   ]
 
   -- where an endpoint's sum isn't among them, no other one has its address
-  module _ (shared : List ℕ) (are : AreShared p shared) (s i : ℕ) (a : List ℕ) (one : HasAddress p s i a) (alone : is_in (sum_of a) shared ≡ false) (test : ℕ → ℕ → Bool) (off : test s i ≡ false) where
+  module _ (shared : List ℕ) (are : AreShared p shared) (s i : ℕ) (a : List ℕ) (one : HasAddress p s i a) (alone : is_in (sum_of a) shared ≡ false)
+      (test : ℕ → ℕ → Bool) (off : test s i ≡ false) where
     other : (t k : ℕ) → test t k ≡ true → t ≡ s → k ≡ i → ⊥
     other t k on service endpoint = clash (test s i) (subst (λ x. test x i ≡ true) service (subst (λ x. test t x ≡ true) endpoint on)) off
 
     none_at : (t k : ℕ) → t < service_count p → k < length (endpoints p t) → (same_address (address p t k) (Some a) && test t k) ≡ false
     none_at t k inside within = elim (cases_Bool (same_address (address p t k) (Some a))) [
       | inl same ↦ elim (cases_Bool (test t k)) [
-        | inl on ↦ absurd (clash (is_in (sum_of a) shared) (are t k s i a (other t k on) (record { inside = inside; within = within; named = same_eq (address p t k) (Some a) same }) one) alone)
+        | inl on ↦ absurd
+            (clash (is_in (sum_of a) shared)
+            (are t k s i a (other t k on) (record { inside = inside; within = within; named = same_eq (address p t k) (Some a) same }) one) alone)
         | inr n ↦ rw (same, n) refl
       ]
       | inr n ↦ rw n refl

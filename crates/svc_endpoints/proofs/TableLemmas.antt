@@ -21,12 +21,15 @@ use Rattle.svc_endpoints.specs.Effects.{first_of, put_open, numbers_like}
 use Rattle.svc_endpoints.proofs.RestLemmas.{picked, unpicked, picked-length}
 
 front : (table : List Open) (k : ℕ) (x : Open) → k < length table → x ≡ get_or table k x → drop k table ≡ x ∷ drop (k + 1) table
-front table k x lt e = let one : suc k ≡ k + 1 = omega arith in drop-cons table k x lt ∙ ap (λ y. y ∷ drop (suc k) table) (sym e) ∙ ap (λ n. x ∷ drop n table) one
+front table k x lt e =
+    let one : suc k ≡ k + 1 = omega arith in drop-cons table k x lt ∙ ap (λ y. y ∷ drop (suc k) table) (sym e) ∙ ap (λ n. x ∷ drop n table) one
 
-pub numbers-at : (table : List Open) (k : ℕ) (x : Open) (a : List ℕ) → k < length table → x ≡ get_or table k x → same_address x.address (Some a) ≡ true → numbers_with (drop k table) (Some a) ≡ x.fd ∷ numbers_with (drop (k + 1) table) (Some a)
+pub numbers-at : (table : List Open) (k : ℕ) (x : Open) (a : List ℕ) → k < length table → x ≡ get_or table k x → same_address x.address (Some a) ≡ true
+    → numbers_with (drop k table) (Some a) ≡ x.fd ∷ numbers_with (drop (k + 1) table) (Some a)
 numbers-at table k x a lt e same = ap (λ w. numbers_with w (Some a)) (front table k x lt e) ∙ (rw same refl)
 
-pub numbers-past : (table : List Open) (k : ℕ) (x : Open) (a : List ℕ) → k < length table → x ≡ get_or table k x → same_address x.address (Some a) ≡ false → numbers_with (drop k table) (Some a) ≡ numbers_with (drop (k + 1) table) (Some a)
+pub numbers-past : (table : List Open) (k : ℕ) (x : Open) (a : List ℕ) → k < length table → x ≡ get_or table k x → same_address x.address (Some a) ≡ false
+    → numbers_with (drop k table) (Some a) ≡ numbers_with (drop (k + 1) table) (Some a)
 numbers-past table k x a lt e same = ap (λ w. numbers_with w (Some a)) (front table k x lt e) ∙ (rw same refl)
 
 -- the numbers of a table with one more descriptor
@@ -64,7 +67,8 @@ pub record ClosedUpTo (done : Open → Bool) (table : List Open) (start here : L
   pub room : spare start ≤ spare here + length (picked done (take k table))
   pub told : list_of here ≡ list_of start ++ map Close (picked done (take k table))
 
-module _ (done : Open → Bool) (table : List Open) (k : ℕ) (x : Open) (lt : k < length table) (is : x ≡ get_or table k x) (start here : List Action × ℕ) (was : ClosedUpTo done table start here k) where
+module _ (done : Open → Bool) (table : List Open) (k : ℕ) (x : Open) (lt : k < length table) (is : x ≡ get_or table k x) (start here : List Action × ℕ)
+    (was : ClosedUpTo done table start here k) where
   pub closes-past : done x ≡ false → ClosedUpTo done table start here (k + 1)
   closes-past h = let same = picked-past done table k x lt is h in record {
     few = rw same (let few = was.few in omega arith);
@@ -72,10 +76,12 @@ module _ (done : Open → Bool) (table : List Open) (k : ℕ) (x : Open) (lt : k
     told = rw same was.told;
   }
 
-  pub closes-here : (next : List Action × ℕ) → done x ≡ true → list_of next ≡ list_of here ++ Close x.fd ∷ [] → spare here ≤ spare next + 1 → ClosedUpTo done table start next (k + 1)
+  pub closes-here : (next : List Action × ℕ) → done x ≡ true → list_of next ≡ list_of here ++ Close x.fd ∷ [] → spare here ≤ spare next + 1
+      → ClosedUpTo done table start next (k + 1)
   closes-here next h told room =
       let more = picked-here done table k x lt is h in
-      let longer : length (picked done (take (k + 1) table)) ≡ length (picked done (take k table)) + 1 = ap length more ∙ length-append (picked done (take k table)) (x.fd ∷ []) in
+      let longer : length (picked done (take (k + 1) table)) ≡ length (picked done (take k table)) + 1 =
+      ap length more ∙ length-append (picked done (take k table)) (x.fd ∷ []) in
       record {
         few = let few = was.few in omega (arith, longer);
         room = let before = was.room in omega (arith, longer);
@@ -88,7 +94,8 @@ pub record ClearedUpTo (done : Open → Bool) (table here_table : List Open) (st
   pub closes : ClosedUpTo done table start here k
   pub keeps : FiltersInPlace (λ (o : Open). not (done o)) table here_table left k
 
-module _ (done : Open → Bool) (table here_table : List Open) (left k : ℕ) (x : Open) (lt : k < length here_table) (is : x ≡ get_or here_table k x) (start here : List Action × ℕ)
+module _ (done : Open → Bool) (table here_table : List Open) (left k : ℕ) (x : Open) (lt : k < length here_table) (is : x ≡ get_or here_table k x)
+    (start here : List Action × ℕ)
     (was : ClearedUpTo done table here_table start here left k) where
   at_first : x ≡ get_or table k x
   at_first =
@@ -98,13 +105,15 @@ module _ (done : Open → Bool) (table here_table : List Open) (left k : ℕ) (x
   inside : k < length table
   inside = let long = was.keeps.long in omega arith
 
-  pub clears-here : (next : List Action × ℕ) → done x ≡ true → list_of next ≡ list_of here ++ Close x.fd ∷ [] → spare here ≤ spare next + 1 → ClearedUpTo done table here_table start next left (k + 1)
+  pub clears-here : (next : List Action × ℕ) → done x ≡ true → list_of next ≡ list_of here ++ Close x.fd ∷ [] → spare here ≤ spare next + 1
+      → ClearedUpTo done table here_table start next left (k + 1)
   clears-here next h told room = record {
     closes = closes-here done table k x inside at_first start here was.closes next h told room;
     keeps = FiltersInPlace-more_no was.keeps lt (ap not h) is;
   }
 
-  pub clears-past : (next_table : List Open) → done x ≡ false → SwappedAt here_table next_table left k → ClearedUpTo done table next_table start here (left + 1) (k + 1)
+  pub clears-past : (next_table : List Open) → done x ≡ false → SwappedAt here_table next_table left k
+      → ClearedUpTo done table next_table start here (left + 1) (k + 1)
   clears-past next_table h swapped = record {
     closes = closes-past done table k x inside at_first start here was.closes h;
     keeps = FiltersInPlace-more_swap was.keeps lt (ap not h) is swapped;
@@ -122,11 +131,13 @@ pub record ClearedBlocks {Z : Type 0} (done : Open → Bool) (bs here_bs : List 
   pub room : spare start ≤ spare here + length (picked done (joined (take k bs)))
   pub told : list_of here ≡ list_of start ++ map Close (picked done (joined (take k bs)))
 
-module _ {Z : Type 0} (done : Open → Bool) (bs here_bs : List (Vec Open Z)) (start here : List Action × ℕ) (k : ℕ) (b : Vec Open Z) (lt : k < length here_bs) (is : b ≡ get_or here_bs k b)
+module _ {Z : Type 0} (done : Open → Bool) (bs here_bs : List (Vec Open Z)) (start here : List Action × ℕ) (k : ℕ) (b : Vec Open Z) (lt : k < length here_bs)
+    (is : b ≡ get_or here_bs k b)
     (was : ClearedBlocks done bs here_bs start here k) where
   first_block : b ≡ get_or bs k b
   first_block =
-      let at : (vs : List (Vec Open Z)) → get_or vs k b ≡ get_or (drop k vs) 0 b = λ vs. ap (λ n. get_or vs n b) (sym (add-zero k)) ∙ sym (get_or-drop k vs 0 b) in
+      let at : (vs : List (Vec Open Z))
+      → get_or vs k b ≡ get_or (drop k vs) 0 b = λ vs. ap (λ n. get_or vs n b) (sym (add-zero k)) ∙ sym (get_or-drop k vs 0 b) in
       is ∙ at here_bs ∙ ap (λ vs. get_or vs 0 b) was.rest ∙ sym (at bs)
 
   inside_block : k < length bs
@@ -141,20 +152,24 @@ module _ {Z : Type 0} (done : Open → Bool) (bs here_bs : List (Vec Open Z)) (s
       let size = ap (λ (v : Vec Open Z). length v.items) first_block in
       omega arith
 
-  pub block-cleared : (v : Vec Open Z) (next : List Action × ℕ) → v.items ≡ unpicked done b.items → list_of next ≡ list_of here ++ map Close (picked done b.items) → spare here ≤ spare next + length (picked done b.items)
+  pub block-cleared : (v : Vec Open Z) (next : List Action × ℕ) → v.items ≡ unpicked done b.items
+      → list_of next ≡ list_of here ++ map Close (picked done b.items) → spare here ≤ spare next + length (picked done b.items)
       → ClearedBlocks done bs (set here_bs k v) start next (k + 1)
   block-cleared v next items told room =
       let one : suc k ≡ k + 1 = omega arith in
       let more = joined-front bs k b inside_block first_block in
-      let gone : picked done (joined (take (k + 1) bs)) ≡ picked done (joined (take k bs)) ++ picked done b.items = ap (picked done) more ∙ picked-append done (joined (take k bs)) b.items in
+      let gone : picked done (joined (take (k + 1) bs)) ≡ picked done (joined (take k bs)) ++ picked done b.items =
+      ap (picked done) more ∙ picked-append done (joined (take k bs)) b.items in
       record {
-        left = ap joined (take_more_set here_bs k v lt) ∙ flat_map-append vec_items (take k here_bs) (v ∷ []) ∙ ap (λ (xs : List Open). joined (take k here_bs) ++ xs) (append-nil v.items)
+        left = ap joined (take_more_set here_bs k v lt) ∙ flat_map-append vec_items (take k here_bs) (v ∷ [])
+            ∙ ap (λ (xs : List Open). joined (take k here_bs) ++ xs) (append-nil v.items)
             ∙ ap (λ (xs : List Open). xs ++ v.items) was.left ∙ ap (λ (xs : List Open). unpicked done (joined (take k bs)) ++ xs) items
             ∙ sym (ap (unpicked done) more ∙ filter-append (λ (o : Open). not (done o)) (joined (take k bs)) b.items);
         rest = drop-set-lt (k + 1) here_bs k v (omega arith) ∙ next_rest one;
         same = length-set here_bs k v ∙ was.same;
         room = (let before = was.room in omega (arith, ap length gone, length-append (picked done (joined (take k bs))) (picked done b.items)));
-        told = told ∙ ap (λ w. w ++ map Close (picked done b.items)) was.told ∙ append_assoc (list_of start) (map Close (picked done (joined (take k bs)))) (map Close (picked done b.items))
+        told = told ∙ ap (λ w. w ++ map Close (picked done b.items)) was.told
+            ∙ append_assoc (list_of start) (map Close (picked done (joined (take k bs)))) (map Close (picked done b.items))
             ∙ ap (λ w. list_of start ++ w) (sym (ap (map Close) gone ∙ map-append Close (picked done (joined (take k bs))) (picked done b.items)));
       }
     where
@@ -162,7 +177,8 @@ module _ {Z : Type 0} (done : Open → Bool) (bs here_bs : List (Vec Open Z)) (s
       next_rest one = sym (drop-drop 1 k here_bs) ∙ ap (λ (vs : List (Vec Open Z)). drop 1 vs) was.rest ∙ drop-drop 1 k bs
 
 -- after the last block
-module _ {Z : Type 0} (done : Open → Bool) (bs here_bs : List (Vec Open Z)) (start here : List Action × ℕ) (k : ℕ) (was : ClearedBlocks done bs here_bs start here k) (end : length bs ≤ k) where
+module _ {Z : Type 0} (done : Open → Bool) (bs here_bs : List (Vec Open Z)) (start here : List Action × ℕ) (k : ℕ)
+    (was : ClearedBlocks done bs here_bs start here k) (end : length bs ≤ k) where
   whole : joined (take k bs) ≡ joined bs
   whole = ap joined (take_all k bs end)
 
@@ -217,7 +233,8 @@ like-next fd (y ∷ front) x back same = elim (cases_Bool (y.fd == fd)) [
   | inr other ↦ rw other (like-next fd front x back same)
 ]
 
-unlike-next : (fd : ℕ) (front : List Open) (x : Open) (back : List Open) → x.fd ≡ fd → filter (λ (o : Open). not (o.fd == fd)) (front ++ back) ≡ filter (λ (o : Open). not (o.fd == fd)) (front ++ x ∷ back)
+unlike-next : (fd : ℕ) (front : List Open) (x : Open) (back : List Open) → x.fd ≡ fd
+    → filter (λ (o : Open). not (o.fd == fd)) (front ++ back) ≡ filter (λ (o : Open). not (o.fd == fd)) (front ++ x ∷ back)
 unlike-next fd [] x back same = rw (eq-eqb x.fd fd same) refl
 unlike-next fd (y ∷ front) x back same = elim (cases_Bool (y.fd == fd)) [
   | inl here ↦ rw here (unlike-next fd front x back same)
@@ -230,21 +247,26 @@ like-none fd (x ∷ table) h = let parts = or_parts (x.fd == fd) (has_key (λ (o
 
 pub unlike-none : (fd : ℕ) (table : List Open) → has_key (λ (o : Open). o.fd) fd table ≡ false → table ≡ filter (λ (o : Open). not (o.fd == fd)) table
 unlike-none fd [] h = refl
-unlike-none fd (x ∷ table) h = let parts = or_parts (x.fd == fd) (has_key (λ (o : Open). o.fd) fd table) h in rw parts.0 (ap (λ (w : List Open). x ∷ w) (unlike-none fd table parts.1))
+unlike-none fd (x ∷ table) h =
+    let parts = or_parts (x.fd == fd) (has_key (λ (o : Open). o.fd) fd table) h in rw parts.0 (ap (λ (w : List Open). x ∷ w) (unlike-none fd table parts.1))
 
-pub shorter : (fd : ℕ) (table new : List Open) (x : Open) (s : StandsIn (λ (o : Open). o.fd) fd table x) → new ≡ s.front ++ s.back → length new + 1 ≡ length table
+pub shorter : (fd : ℕ) (table new : List Open) (x : Open) (s : StandsIn (λ (o : Open). o.fd) fd table x) → new ≡ s.front ++ s.back
+    → length new + 1 ≡ length table
 shorter fd table new x s after =
     let old = ap length s.is in
     let now = ap length after in
     omega (arith, length-append s.front (x ∷ s.back), length-append s.front s.back)
 
-pub closing-next : (fd : ℕ) (first table new : List Open) (start here next : List Action × ℕ) (x : Open) (s : StandsIn (λ (o : Open). o.fd) fd table x) → new ≡ s.front ++ s.back
+pub closing-next : (fd : ℕ) (first table new : List Open) (start here next : List Action × ℕ) (x : Open) (s : StandsIn (λ (o : Open). o.fd) fd table x)
+    → new ≡ s.front ++ s.back
     → list_of next ≡ list_of here ++ Close fd ∷ [] → spare here ≤ spare next + 1 → ClosingLike fd first table start here → ClosingLike fd first new start next
 closing-next fd first table new start here next x s after told room was =
-    let like : numbers_like fd table ≡ fd ∷ numbers_like fd new = ap (numbers_like fd) s.is ∙ like-next fd s.front x s.back s.has ∙ ap (λ (w : List Open). fd ∷ numbers_like fd w) (sym after) in
+    let like : numbers_like fd table ≡ fd ∷ numbers_like fd new =
+    ap (numbers_like fd) s.is ∙ like-next fd s.front x s.back s.has ∙ ap (λ (w : List Open). fd ∷ numbers_like fd w) (sym after) in
     let size = ap length like in
     record {
-      left = ap (filter (λ (o : Open). not (o.fd == fd))) after ∙ unlike-next fd s.front x s.back s.has ∙ ap (filter (λ (o : Open). not (o.fd == fd))) (sym s.is) ∙ was.left;
+      left = ap (filter (λ (o : Open). not (o.fd == fd))) after ∙ unlike-next fd s.front x s.back s.has
+          ∙ ap (filter (λ (o : Open). not (o.fd == fd))) (sym s.is) ∙ was.left;
       told = ap (λ (w : List Action). w ++ map Close (numbers_like fd new)) told ∙ append_assoc (list_of here) (Close fd ∷ []) (map Close (numbers_like fd new))
           ∙ ap (λ w. list_of here ++ map Close w) (sym like) ∙ was.told;
       room = (let before = was.room in omega arith);

@@ -28,7 +28,8 @@ or_none b = grind arith
 pub any-at_endpoint : (p : Plan) (f : ℕ → ℕ → Bool) (s i : ℕ) → s < service_count p → i < length (endpoints p s) → f s i ≡ true → any_endpoint p f ≡ true
 any-at_endpoint p f s i inside within h = at0 (any_of p f) (service_count p) s inside (at0 (f s) (length (endpoints p s)) i within h)
 
-pub get-endpoint : (p : Plan) (f : ℕ → ℕ → Bool) → any_endpoint p f ≡ true → (s : ℕ) × (i : ℕ) × (s < service_count p) × (i < length (endpoints p s)) × (f s i ≡ true)
+pub get-endpoint : (p : Plan) (f : ℕ → ℕ → Bool) → any_endpoint p f ≡ true
+    → (s : ℕ) × (i : ℕ) × (s < service_count p) × (i < length (endpoints p s)) × (f s i ≡ true)
 get-endpoint p f h =
     let some = get0 (any_of p f) (service_count p) h in
     let one = get0 (f some.0) (length (endpoints p some.0)) some.2 in
@@ -41,7 +42,8 @@ all_get f n s lt h = elim (cases_Bool (f s)) [
 ]
 
 -- one endpoint, from its state
-offer_is : (fd : ℕ) (x : EndpointStatus) (adopting : Bool) (adopts : List ℕ) → is_adopting x ≡ adopting → (is_adopting x ≡ true → fd_of x ≡ adopts) → (adopting && is_in fd adopts) ≡ has_offer fd x
+offer_is : (fd : ℕ) (x : EndpointStatus) (adopting : Bool) (adopts : List ℕ) → is_adopting x ≡ adopting → (is_adopting x ≡ true → fd_of x ≡ adopts)
+    → (adopting && is_in fd adopts) ≡ has_offer fd x
 offer_is fd (Adopting n) adopting adopts e f = rw (← e, ← (f refl)) (sym (or_none (n == fd)))
 offer_is fd Idle adopting adopts e f = rw (← e) refl
 offer_is fd Binding adopting adopts e f = rw (← e) refl
@@ -116,7 +118,8 @@ module _ (p : Plan) (d : EndpointsData) (q : Record) (each : (s i : ℕ) → s <
       (and_from (is_started q s) (not (has_failed p q s))
       ((each s i h.inside h.within).on_is (holding_touched (last_at d s i) (h.held i h.within)))
       (subst (λ b. not b ≡ true) (sym h.free ∙ failed_is s h.inside) refl))
-      (all0 (is_held p q s) (length (endpoints p s)) (λ k lt. subst (λ (l : List ℕ). nat_lt 0 (length l) ≡ true) ((each s k h.inside lt).held_is) (holding_some (last_at d s k) (h.held k lt))))
+      (all0 (is_held p q s) (length (endpoints p s))
+      (λ k lt. subst (λ (l : List ℕ). nat_lt 0 (length l) ≡ true) ((each s k h.inside lt).held_is) (holding_some (last_at d s k) (h.held k lt))))
 
   module _ (loops : LoopsStand p d q) (fd : ℕ) where
     holder_is : (s i : ℕ) → s < service_count p → i < length (endpoints p s) → is_holder p q fd s i ≡ is_holder_by d fd s i
@@ -124,8 +127,10 @@ module _ (p : Plan) (d : EndpointsData) (q : Record) (each : (s i : ℕ) → s <
         ∙ ap (λ (l : List ℕ). not (failed_at d s) && is_in fd l) (sym ((each s i inside within).held_is))
         ∙ ap (λ b. not (failed_at d s) && b) (held_is fd (last_at d s i))
 
-    offered_is : (s i : ℕ) → s < service_count p → i < length (endpoints p s) → (is_adopt_open q s i && is_in fd (last_adopt q s i)) ≡ has_offer fd (last_at d s i)
-    offered_is s i inside within = let x = each s i inside within in offer_is fd (last_at d s i) (is_adopt_open q s i) (last_adopt q s i) x.adopting_is x.adopts_is
+    offered_is : (s i : ℕ) → s < service_count p → i < length (endpoints p s)
+        → (is_adopt_open q s i && is_in fd (last_adopt q s i)) ≡ has_offer fd (last_at d s i)
+    offered_is s i inside within =
+        let x = each s i inside within in offer_is fd (last_at d s i) (is_adopt_open q s i) (last_adopt q s i) x.adopting_is x.adopts_is
 
     done_is : (s i : ℕ) → have_loops_ended p q s i ≡ is_done p d s i
     done_is s i = ap (λ n. n == p.tasks) (sym (loops.counts s i))
@@ -133,7 +138,8 @@ module _ (p : Plan) (d : EndpointsData) (q : Record) (each : (s i : ℕ) → s <
     -- by the record, so by the states
     drained_to : is_drained p q fd ≡ true → is_drained_by p d fd ≡ true
     drained_to h =
-        let outer = and_parts ((has is_broadcast q && not (is_adopt_of_open p q fd)) && any_endpoint p (is_holder p q fd)) (each_endpoint p (λ s i. not (is_holder p q fd s i) || (serves p q s && have_loops_ended p q s i))) h in
+        let outer = and_parts ((has is_broadcast q && not (is_adopt_of_open p q fd)) && any_endpoint p (is_holder p q fd))
+        (each_endpoint p (λ s i. not (is_holder p q fd s i) || (serves p q s && have_loops_ended p q s i))) h in
         let inner = and_parts (has is_broadcast q && not (is_adopt_of_open p q fd)) (any_endpoint p (is_holder p q fd)) outer.0 in
         let calm = (and_parts (has is_broadcast q) (not (is_adopt_of_open p q fd)) inner.0).1 in
         let some = get-endpoint p (is_holder p q fd) inner.1 in
@@ -144,15 +150,21 @@ module _ (p : Plan) (d : EndpointsData) (q : Record) (each : (s i : ℕ) → s <
         not_true : (b : Bool) → (b ≡ true → ⊥) → not b ≡ true
         not_true b f = rw (false_where b f) refl
 
-        none_uses : not (is_adopt_of_open p q fd) ≡ true → each_endpoint p (λ s i. not (is_holder p q fd s i) || (serves p q s && have_loops_ended p q s i)) ≡ true
+        none_uses : not (is_adopt_of_open p q fd) ≡ true
+            → each_endpoint p (λ s i. not (is_holder p q fd s i) || (serves p q s && have_loops_ended p q s i)) ≡ true
             → (s : ℕ) × (i : ℕ) × (s < service_count p) × (i < length (endpoints p s)) × (is_user p d fd s i ≡ true) → ⊥
-        none_uses calm done (s, i, inside, within, u) = elim (or_cases (has_offer fd (last_at d s i)) (is_holder_by d fd s i && not (is_done p d s i)) (uses_cases fd (failed_at d s) (is_done p d s i) (last_at d s i) u)) [
-          | inl o ↦ both (is_adopt_of_open p q fd) (any-at_endpoint p (λ s i. is_adopt_open q s i && is_in fd (last_adopt q s i)) s i inside within (offered_is s i inside within ∙ o)) calm
-          | inr k ↦ (let parts = and_parts (is_holder_by d fd s i) (not (is_done p d s i)) k in
-              let here = all_get (λ i. not (is_holder p q fd s i) || (serves p q s && have_loops_ended p q s i)) (length (endpoints p s)) i within
-              (all_get (λ s. list_all (λ i. not (is_holder p q fd s i) || (serves p q s && have_loops_ended p q s i)) (endpoint_numbers p s)) (service_count p) s inside done) in
-              ends (is_holder p q fd s i) (serves p q s) (have_loops_ended p q s i) here (holder_is s i inside within ∙ parts.0) (subst (λ b. not b ≡ true) (sym (done_is s i)) parts.1))
-        ]
+        none_uses calm done (s, i, inside, within, u) =
+            elim (or_cases (has_offer fd (last_at d s i)) (is_holder_by d fd s i && not (is_done p d s i))
+            (uses_cases fd (failed_at d s) (is_done p d s i) (last_at d s i) u)) [
+              | inl o ↦ both (is_adopt_of_open p q fd)
+                  (any-at_endpoint p (λ s i. is_adopt_open q s i && is_in fd (last_adopt q s i)) s i inside within (offered_is s i inside within ∙ o)) calm
+              | inr k ↦ (let parts = and_parts (is_holder_by d fd s i) (not (is_done p d s i)) k in
+                  let here = all_get (λ i. not (is_holder p q fd s i) || (serves p q s && have_loops_ended p q s i)) (length (endpoints p s)) i within
+                  (all_get (λ s. list_all (λ i. not (is_holder p q fd s i) || (serves p q s && have_loops_ended p q s i)) (endpoint_numbers p s))
+                  (service_count p) s inside done) in
+                  ends (is_holder p q fd s i) (serves p q s) (have_loops_ended p q s i) here (holder_is s i inside within ∙ parts.0)
+                  (subst (λ b. not b ≡ true) (sym (done_is s i)) parts.1))
+            ]
           where
             both : (b : Bool) → b ≡ true → not b ≡ true → ⊥
             both b h g = grind arith
@@ -166,13 +178,16 @@ module _ (p : Plan) (d : EndpointsData) (q : Record) (each : (s i : ℕ) → s <
         let parts = and_parts (any_endpoint p (is_holder_by d fd)) (not (any_endpoint p (is_user p d fd))) h in
         let some = get-endpoint p (is_holder_by d fd) parts.0 in
         let one = done-some p d some.0 some.1 loops.some_tasks (done parts.1 some.0 some.1 some.2 some.3 some.4) in
-        and_from ((has is_broadcast q && not (is_adopt_of_open p q fd)) && any_endpoint p (is_holder p q fd)) (each_endpoint p (λ s i. not (is_holder p q fd s i) || (serves p q s && have_loops_ended p q s i)))
+        and_from ((has is_broadcast q && not (is_adopt_of_open p q fd)) && any_endpoint p (is_holder p q fd))
+        (each_endpoint p (λ s i. not (is_holder p q fd s i) || (serves p q s && have_loops_ended p q s i)))
         (and_from (has is_broadcast q && not (is_adopt_of_open p q fd)) (any_endpoint p (is_holder p q fd))
         (and_from (has is_broadcast q) (not (is_adopt_of_open p q fd)) (loops.told some.0 some.1 one.0 one.1)
         (not_true (is_adopt_of_open p q fd) (λ y. none_offered parts.1 (get-endpoint p (λ s i. is_adopt_open q s i && is_in fd (last_adopt q s i)) y))))
         (any-at_endpoint p (is_holder p q fd) some.0 some.1 some.2 some.3 (holder_is some.0 some.1 some.2 some.3 ∙ some.4)))
-        (all0 (λ s. list_all (λ i. not (is_holder p q fd s i) || (serves p q s && have_loops_ended p q s i)) (endpoint_numbers p s)) (service_count p) (λ s inside.
-        all0 (λ i. not (is_holder p q fd s i) || (serves p q s && have_loops_ended p q s i)) (length (endpoints p s)) (λ i within. elim (cases_Bool (is_holder p q fd s i)) [
+        (all0 (λ s. list_all (λ i. not (is_holder p q fd s i) || (serves p q s && have_loops_ended p q s i)) (endpoint_numbers p s)) (service_count p)
+        (λ s inside.
+        all0 (λ i. not (is_holder p q fd s i) || (serves p q s && have_loops_ended p q s i)) (length (endpoints p s))
+        (λ i within. elim (cases_Bool (is_holder p q fd s i)) [
           | inr n ↦ rw n refl
           | inl y ↦ (let ended : is_done p d s i ≡ true = done parts.1 s i inside within (sym (holder_is s i inside within) ∙ y) in
               rw (y, serves-is s i (done-serves p d q loops s i ended), done_is s i) ended)
@@ -184,15 +199,20 @@ module _ (p : Plan) (d : EndpointsData) (q : Record) (each : (s i : ℕ) → s <
         both : (b : Bool) → b ≡ true → not b ≡ true → ⊥
         both b h g = grind arith
 
-        none_offered : not (any_endpoint p (is_user p d fd)) ≡ true → (s : ℕ) × (i : ℕ) × (s < service_count p) × (i < length (endpoints p s)) × ((is_adopt_open q s i && is_in fd (last_adopt q s i)) ≡ true) → ⊥
+        none_offered : not (any_endpoint p (is_user p d fd)) ≡ true
+            → (s : ℕ) × (i : ℕ) × (s < service_count p) × (i < length (endpoints p s)) × ((is_adopt_open q s i && is_in fd (last_adopt q s i)) ≡ true) → ⊥
         none_offered none (s, i, inside, within, o) = both (any_endpoint p (is_user p d fd))
-            (any-at_endpoint p (is_user p d fd) s i inside within (offered_uses fd (failed_at d s) (is_done p d s i) (last_at d s i) (sym (offered_is s i inside within) ∙ o))) none
+            (any-at_endpoint p (is_user p d fd) s i inside within
+            (offered_uses fd (failed_at d s) (is_done p d s i) (last_at d s i) (sym (offered_is s i inside within) ∙ o))) none
 
-        done : not (any_endpoint p (is_user p d fd)) ≡ true → (s i : ℕ) → s < service_count p → i < length (endpoints p s) → is_holder_by d fd s i ≡ true → is_done p d s i ≡ true
+        done : not (any_endpoint p (is_user p d fd)) ≡ true → (s i : ℕ) → s < service_count p → i < length (endpoints p s) → is_holder_by d fd s i ≡ true
+            → is_done p d s i ≡ true
         done none s i inside within h = elim (cases_Bool (is_done p d s i)) [
           | inl y ↦ y
           | inr n ↦ absurd (let parts = and_parts (not (failed_at d s)) (has_held fd (last_at d s i)) h in
-              both (any_endpoint p (is_user p d fd)) (any-at_endpoint p (is_user p d fd) s i inside within (held_uses fd (failed_at d s) (is_done p d s i) (last_at d s i) (free (failed_at d s) parts.0) parts.1 n)) none)
+              both (any_endpoint p (is_user p d fd))
+              (any-at_endpoint p (is_user p d fd) s i inside within
+              (held_uses fd (failed_at d s) (is_done p d s i) (last_at d s i) (free (failed_at d s) parts.0) parts.1 n)) none)
         ]
           where
             free : (b : Bool) → not b ≡ true → b ≡ false
@@ -217,24 +237,30 @@ both : (b : Bool) → b ≡ true → not b ≡ true → ⊥
 both b h g = grind arith
 
 -- each holder of what isn't used is done with it
-pub unused-done : (p : Plan) (a : EndpointsData) (fd : ℕ) → not (any_endpoint p (is_user p a fd)) ≡ true → (s i : ℕ) → s < service_count p → i < length (endpoints p s) → is_holder_by a fd s i ≡ true → is_done p a s i ≡ true
+pub unused-done : (p : Plan) (a : EndpointsData) (fd : ℕ) → not (any_endpoint p (is_user p a fd)) ≡ true → (s i : ℕ) → s < service_count p
+    → i < length (endpoints p s) → is_holder_by a fd s i ≡ true → is_done p a s i ≡ true
 unused-done p a fd none s i inside within h = elim (cases_Bool (is_done p a s i)) [
   | inl y ↦ y
   | inr n ↦ absurd (let parts = and_parts (not (failed_at a s)) (has_held fd (last_at a s i)) h in
-      both (any_endpoint p (is_user p a fd)) (any-at_endpoint p (is_user p a fd) s i inside within (held_uses fd (failed_at a s) (is_done p a s i) (last_at a s i) (free (failed_at a s) parts.0) parts.1 n)) none)
+      both (any_endpoint p (is_user p a fd))
+      (any-at_endpoint p (is_user p a fd) s i inside within
+      (held_uses fd (failed_at a s) (is_done p a s i) (last_at a s i) (free (failed_at a s) parts.0) parts.1 n)) none)
 ]
   where
     free : (b : Bool) → not b ≡ true → b ≡ false
     free b h = grind arith
 
 -- what is drained stays so, where a holder that is done stays a holder, and no user comes
-pub drained-grows : (p : Plan) (a b : EndpointsData) (fd : ℕ) → ((s i : ℕ) → is_holder_by a fd s i ≡ true → is_done p a s i ≡ true → is_holder_by b fd s i ≡ true)
-    → ((s i : ℕ) → s < service_count p → i < length (endpoints p s) → is_user p b fd s i ≡ true → is_user p a fd s i ≡ true) → is_drained_by p a fd ≡ true → is_drained_by p b fd ≡ true
+pub drained-grows : (p : Plan) (a b : EndpointsData) (fd : ℕ)
+    → ((s i : ℕ) → is_holder_by a fd s i ≡ true → is_done p a s i ≡ true → is_holder_by b fd s i ≡ true)
+    → ((s i : ℕ) → s < service_count p → i < length (endpoints p s) → is_user p b fd s i ≡ true → is_user p a fd s i ≡ true) → is_drained_by p a fd ≡ true
+    → is_drained_by p b fd ≡ true
 drained-grows p a b fd stays none h =
     let parts = and_parts (any_endpoint p (is_holder_by a fd)) (not (any_endpoint p (is_user p a fd))) h in
     let some = get-endpoint p (is_holder_by a fd) parts.0 in
     and_from (any_endpoint p (is_holder_by b fd)) (not (any_endpoint p (is_user p b fd)))
-    (any-at_endpoint p (is_holder_by b fd) some.0 some.1 some.2 some.3 (stays some.0 some.1 some.4 (unused-done p a fd parts.1 some.0 some.1 some.2 some.3 some.4)))
+    (any-at_endpoint p (is_holder_by b fd) some.0 some.1 some.2 some.3
+    (stays some.0 some.1 some.4 (unused-done p a fd parts.1 some.0 some.1 some.2 some.3 some.4)))
     (not_true (any_endpoint p (is_user p b fd)) (λ y. let u = get-endpoint p (is_user p b fd) y in
     both (any_endpoint p (is_user p a fd)) (any-at_endpoint p (is_user p a fd) u.0 u.1 u.2 u.3 (none u.0 u.1 u.2 u.3 u.4)) parts.1))
 
@@ -248,8 +274,10 @@ early-none p d fd some early = false_where (is_drained_by p d fd) (λ y.
     clash (has_loop d.loops one.0 one.1 ended.0) ended.1 none)
 
 -- what an endpoint uses isn't drained
-pub used-not_drained : (p : Plan) (d : EndpointsData) (fd s i : ℕ) → s < service_count p → i < length (endpoints p s) → is_user p d fd s i ≡ true → is_drained_by p d fd ≡ false
-used-not_drained p d fd s i inside within u = false_where (is_drained_by p d fd) (λ y. let parts = and_parts (any_endpoint p (is_holder_by d fd)) (not (any_endpoint p (is_user p d fd))) y in
+pub used-not_drained : (p : Plan) (d : EndpointsData) (fd s i : ℕ) → s < service_count p → i < length (endpoints p s) → is_user p d fd s i ≡ true
+    → is_drained_by p d fd ≡ false
+used-not_drained p d fd s i inside within u =
+    false_where (is_drained_by p d fd) (λ y. let parts = and_parts (any_endpoint p (is_holder_by d fd)) (not (any_endpoint p (is_user p d fd))) y in
     both (any_endpoint p (is_user p d fd)) (any-at_endpoint p (is_user p d fd) s i inside within u) parts.1)
   where
     both : (b : Bool) → b ≡ true → not b ≡ true → ⊥

@@ -25,7 +25,8 @@ first_same p d s j k a b = elim (cases_lt j k) [
   ]
 ]
 
-pub decided-at : (p : Plan) (d : EndpointsData) (s : ℕ) (on : Bool) (moment j : ℕ) (v : Visit) → on ≡ true → failed_at d s ≡ false → IsFirst p d s j → v ≡ decide_at p d s moment j → IsDecided p d s on moment v
+pub decided-at : (p : Plan) (d : EndpointsData) (s : ℕ) (on : Bool) (moment j : ℕ) (v : Visit) → on ≡ true → failed_at d s ≡ false → IsFirst p d s j
+    → v ≡ decide_at p d s moment j → IsDecided p d s on moment v
 decided-at p d s on moment j v begun free first e = record {
   off = λ f. absurd (cc);
   failed = λ f. absurd (cc);
@@ -59,7 +60,8 @@ holding_fd (Adopting fd) e = absurd (cc)
 holding_fd AdoptionFailed e = absurd (cc)
 
 -- whether it is busy, from the state: where no live descriptor has the address
-busy_one : (x : EndpointStatus) (failed held w live : Bool) (t : ℕ) → held ≡ is_holding x → live ≡ false → (tells_rest x ≡ true → rests_in x t ≡ w) → (is_adoption_failed x ≡ true → failed ≡ true)
+busy_one : (x : EndpointStatus) (failed held w live : Bool) (t : ℕ) → held ≡ is_holding x → live ≡ false → (tells_rest x ≡ true → rests_in x t ≡ w)
+    → (is_adoption_failed x ≡ true → failed ≡ true)
     → ((is_binding x || is_adopting x) || (((not failed && not held) && w) && not live)) ≡ busy_of failed t x
 busy_one Idle failed held w live t h l r g = rw (h, l, ← (r refl)) (grind arith)
 busy_one Binding failed held w live t h l r g = refl
@@ -98,8 +100,11 @@ module _ (p : Plan) (d : EndpointsData) (q : Record) (sized : IsEndpointsSized p
   pub ask_open-is : (s i : ℕ) → s < service_count p → i < length (endpoints p s) → is_ask_open q s i ≡ is_asking (last_at d s i)
   ask_open-is s i inside within = rw (← ((was.each s i inside within).binding_is), ← ((was.each s i inside within).adopting_is)) refl
 
-  pub holds-is : d.loops ≡ [] → (s i : ℕ) → s < service_count p → i < length (endpoints p s) → failed_at d s ≡ false → is_holding (last_at d s i) ≡ true → holds p q s i ≡ true
-  holds-is early s i inside within free h = rw (← (was.with_is (address p s i)), kept.live early s i free (holding_fd (last_at d s i) h), ← ((was.each s i inside within).held_is)) (holds_one (last_at d s i) h)
+  pub holds-is : d.loops ≡ [] → (s i : ℕ) → s < service_count p → i < length (endpoints p s) → failed_at d s ≡ false → is_holding (last_at d s i) ≡ true
+      → holds p q s i ≡ true
+  holds-is early s i inside within free h =
+      rw (← (was.with_is (address p s i)), kept.live early s i free (holding_fd (last_at d s i) h), ← ((was.each s i inside within).held_is))
+      (holds_one (last_at d s i) h)
 
   pub busy-is : (s i : ℕ) → s < service_count p → i < length (endpoints p s) → has_live p q (address p s i) ≡ false → is_busy p q s i ≡ busy_in d (now q) s i
   busy-is s i inside within none = rw (← ((was.each s i inside within).binding_is), ← ((was.each s i inside within).adopting_is), ← (was.failed_is s inside))
@@ -108,12 +113,14 @@ module _ (p : Plan) (d : EndpointsData) (q : Record) (sized : IsEndpointsSized p
 
   -- the test of the code is the record's
   pub any_busy-is : (a : Option (List ℕ)) → has_live p q a ≡ false → any_with p a (is_busy p q) ≡ any_with p a (busy_in d (now q))
-  any_busy-is a none = same0 _ _ (service_count p) (λ s inside. same0 _ _ (length (endpoints p s)) (λ i within. elim (cases_Bool (same_address (address p s i) a)) [
-    | inl y ↦ rw y (busy-is s i inside within (subst (λ b. has_live p q b ≡ false) (sym (same_eq (address p s i) a y)) none))
-    | inr n ↦ rw n refl
-  ]))
+  any_busy-is a none =
+      same0 _ _ (service_count p) (λ s inside. same0 _ _ (length (endpoints p s)) (λ i within. elim (cases_Bool (same_address (address p s i) a)) [
+        | inl y ↦ rw y (busy-is s i inside within (subst (λ b. has_live p q b ≡ false) (sym (same_eq (address p s i) a y)) none))
+        | inr n ↦ rw n refl
+      ]))
 
-  pub busy_counts : (s i : ℕ) → s < service_count p → i < length (endpoints p s) → has_live p q (address p s i) ≡ false → is_busy p q s i ≡ true → is_at_work p q s ≡ true
+  pub busy_counts : (s i : ℕ) → s < service_count p → i < length (endpoints p s) → has_live p q (address p s i) ≡ false → is_busy p q s i ≡ true
+      → is_at_work p q s ≡ true
   busy_counts s i inside within none h =
       elim (or_cases (is_asking (last_at d s i)) (not (failed_at d s) && rests_in (last_at d s i) (now q)) (sym (busy-is s i inside within none) ∙ h)) [
         | inl asks ↦ rw ((was.each s i inside within).on_is (touched_asking (last_at d s i) asks), ← (was.failed_is s inside), kept.asking_free s i asks) refl

@@ -43,7 +43,8 @@ use Rattle.svc_endpoints.proofs.SharedLemmas.{right-bind, right-adopt, late-bind
 use Rattle.svc_endpoints.proofs.LiveLemmas.{same_eq}
 use Rattle.svc_endpoints.proofs.VisitLemmas.{held-is, ask_open-is, holds-is, any_busy-is, busy_counts}
 
-missing_range : (p : Plan) (q : Record) (s a n j : ℕ) → a ≤ j → j < a + n → ((k : ℕ) → a ≤ k → k < j → is_held p q s k ≡ true) → is_held p q s j ≡ false → first_missing p q s (range_with_len a n) ≡ Some j
+missing_range : (p : Plan) (q : Record) (s a n j : ℕ) → a ≤ j → j < a + n → ((k : ℕ) → a ≤ k → k < j → is_held p q s k ≡ true) → is_held p q s j ≡ false
+    → first_missing p q s (range_with_len a n) ≡ Some j
 missing_range p q s a zero j low high h m = absurd (omega arith)
 missing_range p q s a (suc n) j low high h m = elim (cases_eq a j) [
   | inl e ↦ (let here : is_held p q s a ≡ false = subst (λ i. is_held p q s i ≡ false) (sym e) m in rw here (ap Some e))
@@ -54,11 +55,13 @@ le_true : (j i : ℕ) → j ≤ i → nat_le j i ≡ true
 le_true j i h = grind arith
 
 -- an endpoint from the first missing one on is right, where that one waits
-right_by_wait : (p : Plan) (q : Record) (s j i : ℕ) → first_missing p q s (endpoint_numbers p s) ≡ Some j → j ≤ i → waits_at p q s j ≡ true → endpoint_right p q s i ≡ true
+right_by_wait : (p : Plan) (q : Record) (s j i : ℕ) → first_missing p q s (endpoint_numbers p s) ≡ Some j → j ≤ i → waits_at p q s j ≡ true
+    → endpoint_right p q s i ≡ true
 right_by_wait p q s j i e le w = or_right (not (is_at_work p q s)) (holds p q s i || waits p q s i) (or_right (holds p q s i) (waits p q s i)
     (rw e (and_from (nat_le j i) (waits_at p q s j) (le_true j i le) w)))
 
-late_by_wait : (p : Plan) (q : Record) (s j i : ℕ) → first_missing p q s (endpoint_numbers p s) ≡ Some j → j ≤ i → waits_at p q s j ≡ true → endpoint_right_late p q s i ≡ true
+late_by_wait : (p : Plan) (q : Record) (s j i : ℕ) → first_missing p q s (endpoint_numbers p s) ≡ Some j → j ≤ i → waits_at p q s j ≡ true
+    → endpoint_right_late p q s i ≡ true
 late_by_wait p q s j i e le w = or_right (not (is_at_work p q s)) (is_held p q s i || waits p q s i) (or_right (is_held p q s i) (waits p q s i)
     (rw e (and_from (nat_le j i) (waits_at p q s j) (le_true j i le) w)))
 
@@ -105,7 +108,8 @@ unused fd f d (AddressInUse at) a h = refl
 unused fd f d AdoptionFailed a h = refl
 
 -- the first endpoint that isn't is_held, if there is one
-pub find_first : (p : Plan) (d : EndpointsData) (s n : ℕ) → n ≤ length (endpoints p s) → ((i : ℕ) → i < n → is_holding (last_at d s i) ≡ true) ⊎ ((j : ℕ) × IsFirst p d s j)
+pub find_first : (p : Plan) (d : EndpointsData) (s n : ℕ) → n ≤ length (endpoints p s)
+    → ((i : ℕ) → i < n → is_holding (last_at d s i) ≡ true) ⊎ ((j : ℕ) × IsFirst p d s j)
 find_first p d s zero le = inl (λ i lt. absurd (omega arith))
 find_first p d s (suc n) le = elim (find_first p d s n (omega arith)) [
   | inr found ↦ inr found
@@ -116,7 +120,9 @@ find_first p d s (suc n) le = elim (find_first p d s n (omega arith)) [
 ]
 
 -- an ask that was due, of an endpoint of the plan
-pub stand-bind : (p : Plan) (d e : EndpointsData) (q : Record) (s i : ℕ) → EndpointsStand p d q → StatesStand p e (Told (Bind s i) ∷ q) → LoopsStand p e q → ((fd : ℕ) → is_opened p q fd ≡ true → is_drained_by p e fd ≡ is_drained_by p d fd) → StatesKept p e → ask_due p (Told (Bind s i)) q ≡ true → is_endpoint p s i ≡ true
+pub stand-bind : (p : Plan) (d e : EndpointsData) (q : Record) (s i : ℕ) → EndpointsStand p d q → StatesStand p e (Told (Bind s i) ∷ q) → LoopsStand p e q
+    → ((fd : ℕ) → is_opened p q fd ≡ true → is_drained_by p e fd ≡ is_drained_by p d fd) → StatesKept p e → ask_due p (Told (Bind s i)) q ≡ true
+    → is_endpoint p s i ≡ true
     → e.table ≡ d.table → e.came ≡ d.came → EndpointsStand p e (Told (Bind s i) ∷ q)
 stand-bind p d e q s i stand states ends drained kept due known table came = let loops = loops-told p e q (Bind s i) ends in record {
   states = states;
@@ -133,7 +139,9 @@ stand-bind p d e q s i stand states ends drained kept due known table came = let
   came_apart = stand.came_apart;
 }
 
-pub stand-adopt : (p : Plan) (d e : EndpointsData) (q : Record) (s i fd : ℕ) → EndpointsStand p d q → StatesStand p e (Told (Adopt s i fd) ∷ q) → LoopsStand p e q → ((n : ℕ) → is_opened p q n ≡ true → is_drained_by p e n ≡ is_drained_by p d n) → StatesKept p e → ask_due p (Told (Adopt s i fd)) q ≡ true → is_endpoint p s i ≡ true
+pub stand-adopt : (p : Plan) (d e : EndpointsData) (q : Record) (s i fd : ℕ) → EndpointsStand p d q → StatesStand p e (Told (Adopt s i fd) ∷ q)
+    → LoopsStand p e q → ((n : ℕ) → is_opened p q n ≡ true → is_drained_by p e n ≡ is_drained_by p d n) → StatesKept p e
+    → ask_due p (Told (Adopt s i fd)) q ≡ true → is_endpoint p s i ≡ true
     → e.table ≡ d.table → e.came ≡ d.came → EndpointsStand p e (Told (Adopt s i fd) ∷ q)
 stand-adopt p d e q s i fd stand states ends drained kept due known table came = let loops = loops-told p e q (Adopt s i fd) ends in record {
   states = states;
@@ -150,7 +158,8 @@ stand-adopt p d e q s i fd stand states ends drained kept due known table came =
   came_apart = stand.came_apart;
 }
 
-module _ (p : Plan) (d : EndpointsData) (s : ℕ) (q : Record) (sized : IsEndpointsSized p d) (stand : EndpointsStand p d q) (inside : s < service_count p) (on : is_started q s ≡ true) where
+module _ (p : Plan) (d : EndpointsData) (s : ℕ) (q : Record) (sized : IsEndpointsSized p d) (stand : EndpointsStand p d q) (inside : s < service_count p)
+    (on : is_started q s ≡ true) where
   kept : StatesKept p d
   kept = stand.kept
 
@@ -176,11 +185,16 @@ module _ (p : Plan) (d : EndpointsData) (s : ℕ) (q : Record) (sized : IsEndpoi
       none_there t k e = subst (λ b. has_live p q b ≡ false) (sym (same_eq (address p t k) a e)) none
 
   -- what the states say of an endpoint that is held
-  right_held : has is_broadcast q ≡ false → (i : ℕ) → i < length (endpoints p s) → failed_at d s ≡ false → is_holding (last_at d s i) ≡ true → endpoint_right p q s i ≡ true
-  right_held calm i within free h = or_right (not (is_at_work p q s)) (holds p q s i || waits p q s i) (or_left (holds p q s i) (waits p q s i) (holds-is p d q sized kept was (early calm) s i inside within free h))
+  right_held : has is_broadcast q ≡ false → (i : ℕ) → i < length (endpoints p s) → failed_at d s ≡ false → is_holding (last_at d s i) ≡ true
+      → endpoint_right p q s i ≡ true
+  right_held calm i within free h =
+      or_right (not (is_at_work p q s)) (holds p q s i || waits p q s i)
+      (or_left (holds p q s i) (waits p q s i) (holds-is p d q sized kept was (early calm) s i inside within free h))
 
   late_held : (i : ℕ) → i < length (endpoints p s) → is_holding (last_at d s i) ≡ true → endpoint_right_late p q s i ≡ true
-  late_held i within h = or_right (not (is_at_work p q s)) (is_held p q s i || waits p q s i) (or_left (is_held p q s i) (waits p q s i) (held-is p d q sized kept was s i inside within ∙ h))
+  late_held i within h =
+      or_right (not (is_at_work p q s)) (is_held p q s i || waits p q s i)
+      (or_left (is_held p q s i) (waits p q s i) (held-is p d q sized kept was s i inside within ∙ h))
 
   late_failed : (i : ℕ) → failed_at d s ≡ true → endpoint_right_late p q s i ≡ true
   late_failed i bad = rw (← (was.failed_is s inside), bad, on) refl
@@ -192,7 +206,12 @@ module _ (p : Plan) (d : EndpointsData) (s : ℕ) (q : Record) (sized : IsEndpoi
   visited-failed bad = record { stands = stand; right = λ calm i within. right_failed i bad; right_late = λ i within. late_failed i bad }
 
   pub visited-held : failed_at d s ≡ false → ((i : ℕ) → i < length (endpoints p s) → is_holding (last_at d s i) ≡ true) → Visited p d s q []
-  visited-held free all = record { stands = stand; right = λ calm i within. right_held calm i within free (all i within); right_late = λ i within. late_held i within (all i within) }
+  visited-held free all =
+      record {
+        stands = stand;
+        right = λ calm i within. right_held calm i within free (all i within);
+        right_late = λ i within. late_held i within (all i within);
+      }
 
   module _ (free : failed_at d s ≡ false) (j : ℕ) (first : IsFirst p d s j) where
     missing-is : first_missing p q s (endpoint_numbers p s) ≡ Some j
@@ -226,9 +245,11 @@ module _ (p : Plan) (d : EndpointsData) (s : ℕ) (q : Record) (sized : IsEndpoi
         (rw (none_live e) (elsewhere (address p s j) (none_live e) h)))
 
     turn : is_asking (last_at d s j) ≡ false → has_turn p q s j ≡ true
-    turn idle = and_from ((is_endpoint p s j && (is_started q s && not (has_failed p q s))) && list_all (is_held p q s) (range_with_len 0 j)) (not (is_held p q s j) && not (is_ask_open q s j))
+    turn idle = and_from ((is_endpoint p s j && (is_started q s && not (has_failed p q s))) && list_all (is_held p q s) (range_with_len 0 j))
+        (not (is_held p q s j) && not (is_ask_open q s j))
         (and_from (is_endpoint p s j && (is_started q s && not (has_failed p q s))) (list_all (is_held p q s) (range_with_len 0 j))
-        (and_from (is_endpoint p s j) (is_started q s && not (has_failed p q s)) (lt_true j (length (endpoints p s)) first.within) (rw (on, ← (was.failed_is s inside), free) refl))
+        (and_from (is_endpoint p s j) (is_started q s && not (has_failed p q s)) (lt_true j (length (endpoints p s)) first.within)
+        (rw (on, ← (was.failed_is s inside), free) refl))
         (all0 (is_held p q s) j (λ k lt. held-is p d q sized kept was s k inside (let w = first.within in omega arith) ∙ first.earlier k lt)))
         (rw (held-is p d q sized kept was s j inside first.within, first.missing, ask_open-is p d q sized kept was s j inside first.within, idle) refl)
 
@@ -240,19 +261,23 @@ module _ (p : Plan) (d : EndpointsData) (s : ℕ) (q : Record) (sized : IsEndpoi
 
     -- only this endpoint changes
     only : (x : EndpointStatus) → Changed p d (put_last d s j x) s j
-    only x = changed-put p d s j false (record { last = x; times_in_use = times_in_use_at d s j }) in_rows in_row (omega (arith, sized.failed)) first.within first.missing
+    only x = changed-put p d s j false (record { last = x; times_in_use = times_in_use_at d s j }) in_rows in_row
+        (omega (arith, sized.failed)) first.within first.missing
 
     -- what it doesn't use now, and didn't before, is drained as it was
-    same : (x : EndpointStatus) (n : ℕ) → is_adopting (last_at d s j) ≡ false → uses n (failed_at d s) (is_done p d s j) x ≡ false → is_drained_by p (put_last d s j x) n ≡ is_drained_by p d n
+    same : (x : EndpointStatus) (n : ℕ) → is_adopting (last_at d s j) ≡ false → uses n (failed_at d s) (is_done p d s j) x ≡ false
+        → is_drained_by p (put_last d s j x) n ≡ is_drained_by p d n
     same x n idle off = drained-same p d (put_last d s j x) s j (only x) q stand.loops n refl
         (ap (uses n (failed_at d s) (is_done p d s j)) (put-here p d s j false (record { last = x; times_in_use = times_in_use_at d s j }) in_rows in_row) ∙ off
         ∙ sym (unused n (failed_at d s) (is_done p d s j) (last_at d s j) idle first.missing))
 
-    visited-asks : is_asking (last_at d s j) ≡ false → first_of (numbers_with d.table (address p s j)) ≡ None → any_with p (address p s j) (busy_in d (now q)) ≡ false
+    visited-asks : is_asking (last_at d s j) ≡ false → first_of (numbers_with d.table (address p s j)) ≡ None
+        → any_with p (address p s j) (busy_in d (now q)) ≡ false
         → Visited p (asked d s j) s q (Bind s j ∷ [])
     visited-asks idle e quiet = record {
       stands = stand-bind p d (asked d s j) q s j stand
-          (stands-asked p d q s j sized inside first.within was free (not_asking_binding (last_at d s j) idle).1 (not_holding_none (last_at d s j) first.missing) on)
+          (stands-asked p d q s j sized inside first.within was free (not_asking_binding (last_at d s j) idle).1
+          (not_holding_none (last_at d s j) first.missing) on)
           (loops-changed p d (asked d s j) s j (only Binding) q stand.loops)
           (λ fd came. same Binding fd (not_asking_binding (last_at d s j) idle).1 refl)
           (kept-asked p d s j sized inside first.within kept free first.missing first.earlier)
@@ -269,26 +294,33 @@ module _ (p : Plan) (d : EndpointsData) (s : ℕ) (q : Record) (sized : IsEndpoi
     }
       where
         asks : waits_at p (Told (Bind s j) ∷ q) s j ≡ true
-        asks = or_left (is_busy p (Told (Bind s j) ∷ q) s j) _ (or_left (is_ask_open (Told (Bind s j) ∷ q) s j) _ (or_left (is_bind_open (Told (Bind s j) ∷ q) s j) _ (rw (eq-eqb s s refl, eq-eqb j j refl) refl)))
+        asks = or_left (is_busy p (Told (Bind s j) ∷ q) s j) _
+            (or_left (is_ask_open (Told (Bind s j) ∷ q) s j) _
+            (or_left (is_bind_open (Told (Bind s j) ∷ q) s j) _ (rw (eq-eqb s s refl, eq-eqb j j refl) refl)))
 
     the_one : (fd : ℕ) → first_of (numbers_with d.table (address p s j)) ≡ Some fd → numbers_with d.table (address p s j) ≡ fd ∷ []
     the_one fd e = one_first (numbers_with d.table (address p s j)) fd e (kept.one (address p s j))
 
     -- what is offered is live, so it wasn't drained, and isn't now
-    same_offered : (fd : ℕ) → is_asking (last_at d s j) ≡ false → first_of (numbers_with d.table (address p s j)) ≡ Some fd → (n : ℕ) → is_opened p q n ≡ true → is_drained_by p (offered d s j fd) n ≡ is_drained_by p d n
+    same_offered : (fd : ℕ) → is_asking (last_at d s j) ≡ false → first_of (numbers_with d.table (address p s j)) ≡ Some fd → (n : ℕ) → is_opened p q n ≡ true
+        → is_drained_by p (offered d s j fd) n ≡ is_drained_by p d n
     same_offered fd idle e n came = elim (cases_eq fd n) [
       | inr ne ↦ same (Adopting fd) n (not_asking_binding (last_at d s j) idle).1 (ne_eqb fd n ne)
       | inl f ↦ used-not_drained p (offered d s j fd) n s j inside first.within
-          (ap (uses n (failed_at d s) (is_done p d s j)) (put-here p d s j false (record { last = Adopting fd; times_in_use = times_in_use_at d s j }) in_rows in_row) ∙ eq-eqb fd n f)
+          (ap (uses n (failed_at d s) (is_done p d s j))
+          (put-here p d s j false (record { last = Adopting fd; times_in_use = times_in_use_at d s j }) in_rows in_row) ∙ eq-eqb fd n f)
           ∙ sym (false_where (is_drained_by p d n) (λ y. clash (has (is_close n) q)
           (closed-is p q n stand.closes_once (stand.closes n came) ∙ or_right (is_gone_now p q n) (is_drained p q n) (drained-is p d q was stand.loops n ∙ y))
-          (live-pair p q n (address p s j) (ap (is_in n) (sym (was.with_is (address p s j))) ∙ ap (is_in n) (the_one fd e) ∙ or_left (fd == n) false (eq-eqb fd n f))).1))
+          (live-pair p q n (address p s j)
+          (ap (is_in n) (sym (was.with_is (address p s j))) ∙ ap (is_in n) (the_one fd e) ∙ or_left (fd == n) false (eq-eqb fd n f))).1))
     ]
 
-    visited-offers : (fd : ℕ) → is_asking (last_at d s j) ≡ false → first_of (numbers_with d.table (address p s j)) ≡ Some fd → Visited p (offered d s j fd) s q (Adopt s j fd ∷ [])
+    visited-offers : (fd : ℕ) → is_asking (last_at d s j) ≡ false → first_of (numbers_with d.table (address p s j)) ≡ Some fd
+        → Visited p (offered d s j fd) s q (Adopt s j fd ∷ [])
     visited-offers fd idle e = record {
       stands = stand-adopt p d (offered d s j fd) q s j fd stand
-          (stands-offered p d q s j sized inside first.within was fd free (not_asking_binding (last_at d s j) idle).0 (not_holding_none (last_at d s j) first.missing) on)
+          (stands-offered p d q s j sized inside first.within was fd free (not_asking_binding (last_at d s j) idle).0
+          (not_holding_none (last_at d s j) first.missing) on)
           (loops-changed p d (offered d s j fd) s j (only (Adopting fd)) q stand.loops)
           (λ n came. same_offered fd idle e n came)
           (kept-offered p d s j sized inside first.within kept fd free first.missing first.earlier (the_one fd e))
@@ -306,7 +338,9 @@ module _ (p : Plan) (d : EndpointsData) (s : ℕ) (q : Record) (sized : IsEndpoi
     }
       where
         asks : waits_at p (Told (Adopt s j fd) ∷ q) s j ≡ true
-        asks = or_left (is_busy p (Told (Adopt s j fd) ∷ q) s j) _ (or_left (is_ask_open (Told (Adopt s j fd) ∷ q) s j) _ (or_right (is_bind_open (Told (Adopt s j fd) ∷ q) s j) _ (rw (eq-eqb s s refl, eq-eqb j j refl) refl)))
+        asks = or_left (is_busy p (Told (Adopt s j fd) ∷ q) s j) _
+            (or_left (is_ask_open (Told (Adopt s j fd) ∷ q) s j) _
+            (or_right (is_bind_open (Told (Adopt s j fd) ∷ q) s j) _ (rw (eq-eqb s s refl, eq-eqb j j refl) refl)))
 
     pub visited-first : Visited p (after d s (decide_at p d s (now q) j)) s q (told_by s (decide_at p d s (now q) j))
     visited-first = elim (cases_Bool (is_asking (last_at d s j))) [
@@ -322,14 +356,17 @@ module _ (p : Plan) (d : EndpointsData) (s : ℕ) (q : Record) (sized : IsEndpoi
 
   -- an ask of the service is open, so its visit tells nothing
   pub visited-asked : (j : ℕ) → j < length (endpoints p s) → is_asking (last_at d s j) ≡ true → Visited p d s q []
-  visited-asked j within asks = visited-open (kept.asking_free s j asks) j (record { within = within; missing = asking_not_holding (last_at d s j) asks; earlier = λ k lt. kept.turn s j k asks lt }) asks
+  visited-asked j within asks =
+      visited-open (kept.asking_free s j asks) j
+      (record { within = within; missing = asking_not_holding (last_at d s j) asks; earlier = λ k lt. kept.turn s j k asks lt }) asks
 
   -- its first endpoint that isn't held has an address that is kept busy, so its visit tells nothing
   pub visited-shared : (t : ℕ) → t < service_count p → (x : SharesWith p d s t) → busy_in d (now q) t x.other ≡ true → Visited p d s q []
   visited-shared t within x busy = elim (cases_Bool (failed_at d s)) [
     | inl bad ↦ visited-failed bad
     | inr free ↦ visited-busy free x.at x.first (first_none (numbers_with d.table (address p s x.at)) x.none)
-        (one-with p (address p s x.at) (busy_in d (now q)) t x.other within x.other_first.within (and_from (same_address (address p t x.other) (address p s x.at)) (busy_in d (now q) t x.other) x.same busy))
+        (one-with p (address p s x.at) (busy_in d (now q)) t x.other within x.other_first.within
+        (and_from (same_address (address p t x.other) (address p s x.at)) (busy_in d (now q) t x.other) x.same busy))
   ]
 
   pub leaves-on : (v : Visit) → IsDecided p d s true (now q) v → Visited p (after d s v) s q (told_by s v)
@@ -337,12 +374,14 @@ module _ (p : Plan) (d : EndpointsData) (s : ℕ) (q : Record) (sized : IsEndpoi
     | inl bad ↦ subst (λ (w : Visit). Visited p (after d s w) s q (told_by s w)) (sym (decided.failed bad)) (visited-failed bad)
     | inr free ↦ elim (find_first p d s (length (endpoints p s)) (omega arith)) [
       | inl all ↦ subst (λ (w : Visit). Visited p (after d s w) s q (told_by s w)) (sym (decided.held refl free all)) (visited-held free all)
-      | inr some ↦ subst (λ (w : Visit). Visited p (after d s w) s q (told_by s w)) (sym (decided.first refl free some.0 some.1)) (visited-first free some.0 some.1)
+      | inr some ↦
+          subst (λ (w : Visit). Visited p (after d s w) s q (told_by s w)) (sym (decided.first refl free some.0 some.1)) (visited-first free some.0 some.1)
     ]
   ]
 
 -- what was decided leaves the service right
-pub visit-leaves : (p : Plan) (d : EndpointsData) (s : ℕ) (on : Bool) (q : Record) → IsEndpointsSized p d → s < service_count p → (v : Visit) → IsDecided p d s on (now q) v → on ≡ is_started q s → EndpointsStand p d q
+pub visit-leaves : (p : Plan) (d : EndpointsData) (s : ℕ) (on : Bool) (q : Record) → IsEndpointsSized p d → s < service_count p → (v : Visit)
+    → IsDecided p d s on (now q) v → on ≡ is_started q s → EndpointsStand p d q
     → Visited p (after d s v) s q (told_by s v)
 visit-leaves p d s true q sized inside v decided on stand = leaves-on p d s q sized stand inside (sym on) v decided
 visit-leaves p d s false q sized inside v decided on stand =
@@ -355,7 +394,8 @@ asks_of s (Binds i) = refl
 asks_of s (Adopts i fd) = refl
 
 -- what a visit told, and what it left
-pub tells-visit : (p : Plan) (d new : EndpointsData) (s : ℕ) (on : Bool) (moment : ℕ) (v : Visit) (before after_it : List Action) → IsEndpointsSized p d → s < service_count p → IsDecided p d s on moment v
+pub tells-visit : (p : Plan) (d new : EndpointsData) (s : ℕ) (on : Bool) (moment : ℕ) (v : Visit) (before after_it : List Action) → IsEndpointsSized p d
+    → s < service_count p → IsDecided p d s on moment v
     → new ≡ after d s v → after_it ≡ before ++ told_by s v
     → Tells before after_it (λ told. IsAskOf s told × ((q : Record) → moment ≡ now q → on ≡ is_started q s → EndpointsStand p d q → Visited p new s q told))
 tells-visit p d new s on moment v before after_it sized inside decided made appended = record {

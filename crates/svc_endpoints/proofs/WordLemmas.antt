@@ -4,7 +4,8 @@ use Rattle.std.specs.List.{list_any}
 use Rattle.svc_record.specs.Descriptors.{Descriptor, with_words, has_number}
 use Rattle.svc_base.specs.NumberSets.{is_in}
 
-pub numbers-words : (fds : List ℕ) (words : List (List ℕ)) (more : List Descriptor) → map (λ (d : Descriptor). d.number) (with_words fds words ++ more) ≡ fds ++ map (λ (d : Descriptor). d.number) more
+pub numbers-words : (fds : List ℕ) (words : List (List ℕ)) (more : List Descriptor)
+    → map (λ (d : Descriptor). d.number) (with_words fds words ++ more) ≡ fds ++ map (λ (d : Descriptor). d.number) more
 numbers-words [] words more = refl
 numbers-words (fd ∷ fds) [] more = ap (λ ns. fd ∷ ns) (numbers-words fds [] more)
 numbers-words (fd ∷ fds) (w ∷ words) more = ap (λ ns. fd ∷ ns) (numbers-words fds words more)

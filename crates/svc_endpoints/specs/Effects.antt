@@ -49,7 +49,12 @@ is_last_refusal p d s i = not (has_open d.table (address p s i)) && nat_le (in_u
 abbrev pub refused : Plan → EndpointsData → ℕ → ℕ → ℕ → EndpointsData
 refused p d s i moment =
     fail_if (is_last_refusal p d s i) s
-    (put d s i (record { last = AddressInUse moment; times_in_use = if is_last_refusal p d s i then times_in_use_at d s i else (if not (has_open d.table (address p s i)) then times_in_use_at d s i + 1 else times_in_use_at d s i) }))
+    (put d s i (record {
+      last = AddressInUse moment;
+      times_in_use =
+          if is_last_refusal p d s i then times_in_use_at d s i else
+          (if not (has_open d.table (address p s i)) then times_in_use_at d s i + 1 else times_in_use_at d s i);
+    }))
 
 -- the endpoint couldn't be bound
 abbrev pub bind_failed : EndpointsData → ℕ → ℕ → EndpointsData
@@ -184,7 +189,8 @@ turned_away p d words fds = ascending (numbers_out (turns_away p d) (opens_of fd
 
 -- the numbers came with these words, and the descriptors that don't close at once are live
 abbrev pub received : Plan → EndpointsData → List (List ℕ) → List ℕ → EndpointsData
-received p d words fds = record d { table = put_opens (without_numbers (turned_away p d words fds) (opens_of fds words)) d.table; came = put_numbers fds d.came }
+received p d words fds =
+    record d { table = put_opens (without_numbers (turned_away p d words fds) (opens_of fds words)) d.table; came = put_numbers fds d.came }
 
 -- the numbers of the table's descriptors with this number
 abbrev pub numbers_like : ℕ → List Open → List ℕ

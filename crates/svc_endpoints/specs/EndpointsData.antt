@@ -4,7 +4,8 @@ use Rattle.svc_endpoints.specs.declared.states.EndpointState.{EndpointState}
 use Rattle.svc_endpoints.specs.declared.loops.LoopEnd.{LoopEnd}
 use Rattle.svc_endpoints.specs.declared.table.Open.{Open}
 
--- for each service the state of each of its endpoints, and whether it has failed; the loops that ended; the live descriptors with their addresses, and the numbers of all that came, both in ascending order; the sums of the addresses that several endpoints may have
+-- for each service the state of each of its endpoints, and whether it has failed; the loops that ended; the live descriptors with their addresses,
+-- and the numbers of all that came, both in ascending order; the sums of the addresses that several endpoints may have
 pub record EndpointsData : Type 0 where
   pub rows : List (List EndpointState)
   pub failed : List Bool

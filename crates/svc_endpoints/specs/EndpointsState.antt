@@ -125,7 +125,8 @@ pub record IsEndpointsSized (p : Plan) (d : EndpointsData) : Type 0 where
   pub few : (s : ℕ) → s < service_count p → length (endpoints p s) ≤ 64
   pub shared : AreShared p d.shared
 
--- what the states keep among themselves: an ask is of a service that hasn't failed, whose earlier endpoints are held; while no loop ended, what is held or offered is the one live descriptor of its address; no address has two, and no descriptor two addresses
+-- what the states keep among themselves: an ask is of a service that hasn't failed, whose earlier endpoints are held; while no loop ended, what is
+-- held or offered is the one live descriptor of its address; no address has two, and no descriptor two addresses
 pub record StatesKept (p : Plan) (d : EndpointsData) : Type 0 where
   pub asking_free : (s i : ℕ) → is_asking (last_at d s i) ≡ true → failed_at d s ≡ false
   pub turn : (s i k : ℕ) → is_asking (last_at d s i) ≡ true → k < i → is_holding (last_at d s k) ≡ true
@@ -144,7 +145,8 @@ pub record OneStands (x : EndpointStatus) (binding adopting : Bool) (held adopts
 
 -- the same for endpoint i of s
 abbrev pub StandsAt : Plan → EndpointStatus → Record → ℕ → ℕ → Type 0
-StandsAt p x q s i = OneStands x (is_bind_open q s i) (is_adopt_open q s i) (held_numbers p q s i) (last_adopt q s i) (λ t. in_use_within t q s i) (is_started q s)
+StandsAt p x q s i =
+    OneStands x (is_bind_open q s i) (is_adopt_open q s i) (held_numbers p q s i) (last_adopt q s i) (λ t. in_use_within t q s i) (is_started q s)
 
 -- the states, the counts, the failed services and the table say what the record says
 pub record StatesStand (p : Plan) (d : EndpointsData) (q : Record) : Type 0 where
@@ -178,7 +180,8 @@ pub record LoopsStand (p : Plan) (d : EndpointsData) (q : Record) : Type 0 where
 abbrev pub AreOnOffer : Plan → List ℕ → Record → Type 0
 AreOnOffer p kept q = (fd : ℕ) → is_in fd kept ≡ is_held_back p q fd
 
--- while the run goes on: the parts say what the record says; each ask was due and of an endpoint of the plan, and each close of a descriptor that was open; exactly what has failed is given up, and exactly what is gone is closed; no address has two live descriptors, and no number came twice
+-- while the run goes on: the parts say what the record says; each ask was due and of an endpoint of the plan, and each close of a descriptor that was
+-- open; exactly what has failed is given up, and exactly what is gone is closed; no address has two live descriptors, and no number came twice
 pub record EndpointsStand (p : Plan) (d : EndpointsData) (q : Record) : Type 0 where
   pub states : StatesStand p d q
   pub loops : LoopsStand p d q

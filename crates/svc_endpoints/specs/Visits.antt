@@ -76,7 +76,8 @@ IsAskOf s (Bind t i ∷ []) = t ≡ s
 IsAskOf s (Adopt t i fd ∷ []) = t ≡ s
 IsAskOf s _ = ⊥
 
--- after a visit the parts stand for the longer record, and each endpoint of the service is held or waits, where the service is at work; before the broadcast what is held is live
+-- after a visit the parts stand for the longer record, and each endpoint of the service is held or waits, where the service is at work; before the
+-- broadcast what is held is live
 pub record Visited (p : Plan) (d : EndpointsData) (s : ℕ) (q : Record) (told : List Action) : Type 0 where
   pub stands : EndpointsStand p d (tell q told)
   pub right : has is_broadcast q ≡ false → (i : ℕ) → i < length (endpoints p s) → endpoint_right p (tell q told) s i ≡ true

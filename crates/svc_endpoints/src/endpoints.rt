@@ -56,7 +56,18 @@ impl Model for Endpoints {
 
     ghost Value = { EndpointsRoom };
 
-    ghost view = { λ e. record { parts = record { rows = e.rows.items; failed = e.failed.items; loops = list_of e.loops; table = list_of e.table; came = list_of e.came; shared = list_of e.shared }; room = min (spare e.table) (spare e.came); loop_room = spare e.loops } };
+    ghost view = { λ e. record {
+      parts = record {
+        rows = e.rows.items;
+        failed = e.failed.items;
+        loops = list_of e.loops;
+        table = list_of e.table;
+        came = list_of e.came;
+        shared = list_of e.shared;
+      };
+      room = min (spare e.table) (spare e.came);
+      loop_room = spare e.loops;
+    } };
 
     ghost invariant = { λ e. AreBusyKnown e.rows.items e.failed.items e.busy };
 }

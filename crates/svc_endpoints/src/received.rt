@@ -87,7 +87,8 @@ impl Endpoints {
             → EndpointsStand plan.now self.new.parts (tell (Got (Received bytes.now fds.now) ∷ q) told)))) }
         ensures told { IfOk result (λ good. list_of actions.new ≡ list_of actions.old
             ++ map Close (turned_away plan.now self.old.parts (words_or_none (decode bytes.now (length fds.now))) fds.now)) }
-        ensures room { IfOk result (λ good. spare actions.old + length self.new.parts.table ≤ spare actions.new + length self.old.parts.table + length fds.now) }
+        ensures room { IfOk result (λ good. spare actions.old + length self.new.parts.table
+            ≤ spare actions.new + length self.old.parts.table + length fds.now) }
         ensures few { IfOk result (λ good. length (list_of actions.new) + length self.new.parts.table ≤ length
             (list_of actions.old) + length self.old.parts.table + length fds.now) }
         ensures failed { self.new.parts.failed ≡ self.old.parts.failed }

@@ -42,7 +42,8 @@ passing-put_by p a n e es Greater o up rest =
     ap (λ xs. cond (p a) xs (passing p (e ∷ es)))
     (sym (put-above a n (passing p (e ∷ es)) (precedes-filter (λ x. p x.0) a (e ∷ es) (lesser e.0 a o, precedes-trans a e.0 es (lesser e.0 a o) up.0))))
 
-passing-put : (p : List ℕ → Bool) (a : List ℕ) (n : ℕ) (es : List Entry) → IsAscending es → passing p (put a n es) ≡ cond (p a) (put a n (passing p es)) (passing p es)
+passing-put : (p : List ℕ → Bool) (a : List ℕ) (n : ℕ) (es : List Entry) → IsAscending es
+    → passing p (put a n es) ≡ cond (p a) (put a n (passing p es)) (passing p es)
 passing-put p a n [] up = refl
 passing-put p a n (e ∷ es) up = passing-put_by p a n e es (slice_cmp nat_cmp e.0 a) refl up (passing-put p a n es up.1)
 
@@ -59,7 +60,8 @@ passing-put_all p (q ∷ pairs) es up =
     ∙ set_or_not (p q.0) q (passing p pairs) (passing p es)
 
 -- an address that isn't among the texts is looked up as before
-pub lookup-other : (texts : List (List ℕ)) (fds : List ℕ) (es : List Entry) (b : List ℕ) → is_among b texts ≡ false → lookup b (put_all (zip texts fds) es) ≡ lookup b es
+pub lookup-other : (texts : List (List ℕ)) (fds : List ℕ) (es : List Entry) (b : List ℕ) → is_among b texts ≡ false
+    → lookup b (put_all (zip texts fds) es) ≡ lookup b es
 lookup-other [] fds es b apart = refl
 lookup-other (a ∷ texts) [] es b apart = refl
 lookup-other (a ∷ texts) (n ∷ fds) es b apart =
@@ -67,7 +69,8 @@ lookup-other (a ∷ texts) (n ∷ fds) es b apart =
     lookup-other texts fds (put a n es) b parts.1 ∙ lookup-put a n es b ∙ ap (λ c. cond c (Some n) (lookup b es)) parts.0
 
 -- the k-th text has the k-th number
-pub lookup-paired : (texts : List (List ℕ)) (fds : List ℕ) (es : List Entry) (k : ℕ) (word : List ℕ) (fd : ℕ) → has_repeat texts ≡ false → slice_get texts k ≡ Some word → slice_get fds k ≡ Some fd
+pub lookup-paired : (texts : List (List ℕ)) (fds : List ℕ) (es : List Entry) (k : ℕ) (word : List ℕ) (fd : ℕ) → has_repeat texts ≡ false
+    → slice_get texts k ≡ Some word → slice_get fds k ≡ Some fd
     → lookup word (put_all (zip texts fds) es) ≡ Some fd
 lookup-paired [] fds es k word fd once here there = absurd (cc)
 lookup-paired (a ∷ texts) [] es k word fd once here there = absurd (cc)

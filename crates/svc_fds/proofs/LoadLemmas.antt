@@ -32,15 +32,18 @@ copies-kept a n t (e ∷ es) all =
     ap (λ o. cond (is_some o) (e ∷ copies es (put a n t)) (copies es (put a n t))) (found-kept a n t e.0 all.0)
     ∙ ap (λ rest. cond (is_some (lookup e.0 t)) (e ∷ rest) rest) (copies-kept a n t es all.1)
 
-taken_by : (held : Bool) (a : List ℕ) (n : ℕ) (rest t now : List Entry) → PrecedesAll a rest → now ≡ cond held t (put a n t) → put_all (fresh rest now) now ≡ put_all (cond (not held) ((a, n) ∷ fresh rest t) (fresh rest t)) t
+taken_by : (held : Bool) (a : List ℕ) (n : ℕ) (rest t now : List Entry) → PrecedesAll a rest → now ≡ cond held t (put a n t)
+    → put_all (fresh rest now) now ≡ put_all (cond (not held) ((a, n) ∷ fresh rest t) (fresh rest t)) t
 taken_by true a n rest t now all is = ap (λ x. put_all (fresh rest x) x) is
 taken_by false a n rest t now all is = ap (λ x. put_all (fresh rest x) x) is ∙ ap (λ pairs. put_all pairs (put a n t)) (fresh-kept a n t rest all)
 
 -- one entry more is taken
-pub taken-added : (a : List ℕ) (n : ℕ) (es rest t now : List Entry) → es ≡ (a, n) ∷ rest → PrecedesAll a rest → now ≡ cond (is_some (lookup a t)) t (put a n t) → put_all (fresh rest now) now ≡ put_all (fresh es t) t
+pub taken-added : (a : List ℕ) (n : ℕ) (es rest t now : List Entry) → es ≡ (a, n) ∷ rest → PrecedesAll a rest → now ≡ cond (is_some (lookup a t)) t (put a n t)
+    → put_all (fresh rest now) now ≡ put_all (fresh es t) t
 taken-added a n es rest t now first all is = taken_by (is_some (lookup a t)) a n rest t now all is ∙ ap (λ xs. put_all (fresh xs t) t) (sym first)
 
-closed_by : (held : Bool) (a : List ℕ) (n : ℕ) (rest t now : List Entry) (x y z : Option (List ChannelCall)) (done : List ℕ) → PrecedesAll a rest → now ≡ cond held t (put a n t) → Adds x y (closes done) → Adds y z (cond held (Close n ∷ []) [])
+closed_by : (held : Bool) (a : List ℕ) (n : ℕ) (rest t now : List Entry) (x y z : Option (List ChannelCall)) (done : List ℕ) → PrecedesAll a rest
+    → now ≡ cond held t (put a n t) → Adds x y (closes done) → Adds y z (cond held (Close n ∷ []) [])
     → (more : List ℕ) × Adds x z (closes more) × (more ++ numbers (copies rest now) ≡ done ++ numbers (cond held ((a, n) ∷ copies rest t) (copies rest t)))
 closed_by true a n rest t now x y z done all is told closed = (
   done ++ n ∷ [],
@@ -53,14 +56,16 @@ closed_by false a n rest t now x y z done all is told closed = (
   ap (λ s. done ++ numbers (copies rest s)) is ∙ ap (λ cs. done ++ numbers cs) (copies-kept a n t rest all),
 )
 
-pub taken-closed : (a : List ℕ) (n : ℕ) (es rest t now : List Entry) (x y z : Option (List ChannelCall)) (done ends : List ℕ) → es ≡ (a, n) ∷ rest → PrecedesAll a rest → now ≡ cond (is_some (lookup a t)) t (put a n t)
+pub taken-closed : (a : List ℕ) (n : ℕ) (es rest t now : List Entry) (x y z : Option (List ChannelCall)) (done ends : List ℕ) → es ≡ (a, n) ∷ rest
+    → PrecedesAll a rest → now ≡ cond (is_some (lookup a t)) t (put a n t)
     → Adds x y (closes done) → done ++ numbers (copies es t) ≡ ends → Adds y z (cond (is_some (lookup a t)) (Close n ∷ []) [])
     → (more : List ℕ) × Adds x z (closes more) × (more ++ numbers (copies rest now) ≡ ends)
 taken-closed a n es rest t now x y z done ends first all is told left closed =
     let next = closed_by (is_some (lookup a t)) a n rest t now x y z done all is told closed in
     (next.0, next.1, next.2 ∙ ap (λ xs. done ++ numbers (copies xs t)) (sym first) ∙ left)
 
-length-put_by : (o : Ordering) (a : List ℕ) (n : ℕ) (e : Entry) (es : List Entry) → length (put a n es) ≤ length es + 1 → length (match_ordering o (e ∷ put a n es) ((a, n) ∷ es) ((a, n) ∷ e ∷ es)) ≤ length (e ∷ es) + 1
+length-put_by : (o : Ordering) (a : List ℕ) (n : ℕ) (e : Entry) (es : List Entry) → length (put a n es) ≤ length es + 1
+    → length (match_ordering o (e ∷ put a n es) ((a, n) ∷ es) ((a, n) ∷ e ∷ es)) ≤ length (e ∷ es) + 1
 length-put_by Less a n e es rest = omega arith
 length-put_by Equal a n e es rest = omega arith
 length-put_by Greater a n e es rest = omega arith

@@ -84,11 +84,14 @@ addresses-table : (es : List Entry) (ws : List (List ℕ)) → IsAscending es �
 addresses-table es ws up same = ap (λ x. put_all (zip x (numbers es)) []) same ∙ ap (λ ps. put_all ps []) (zip-parts es) ∙ put_all-ascending es [] up
 
 -- a message whose words are the addresses of a table is read as the table
-pub read-addresses : (es : List Entry) (bytes : List ℕ) → IsAscending es → IsUtf8 bytes → is_well_formed bytes ≡ true → words bytes ≡ addresses es → IsMessage bytes (length (numbers es)) × (table_of bytes (numbers es) ≡ es)
-read-addresses es bytes up text form same = (record { text = text; form = form; pairs = addresses-pairs es (words bytes) up same }, addresses-table es (words bytes) up same)
+pub read-addresses : (es : List Entry) (bytes : List ℕ) → IsAscending es → IsUtf8 bytes → is_well_formed bytes ≡ true → words bytes ≡ addresses es
+    → IsMessage bytes (length (numbers es)) × (table_of bytes (numbers es) ≡ es)
+read-addresses es bytes up text form same =
+    (record { text = text; form = form; pairs = addresses-pairs es (words bytes) up same }, addresses-table es (words bytes) up same)
 
 -- also by a reader of version 1, where they are joined
-pub read-joined : (es : List Entry) → IsAscending es → has_unjoinable es ≡ false → IsUtf8 (joined es) → IsOldMessage (joined es) (length (numbers es)) × (old_table_of (joined es) (numbers es) ≡ es)
+pub read-joined : (es : List Entry) → IsAscending es → has_unjoinable es ≡ false → IsUtf8 (joined es)
+    → IsOldMessage (joined es) (length (numbers es)) × (old_table_of (joined es) (numbers es) ≡ es)
 read-joined es up fine text =
     let same = joined_words-joined es fine in
     (record { text = text; pairs = addresses-pairs es (joined_words (joined es)) up same }, addresses-table es (joined_words (joined es)) up same)
@@ -98,13 +101,15 @@ join-more : (x : List ℕ) (xs : List (List ℕ)) (y : List ℕ) → join_with_b
 join-more x [] y = refl
 join-more x (z ∷ xs) y = ap (λ rest. x ++ (32 ∷ rest)) (join-more z xs y) ∙ sym (append_assoc x (32 ∷ join_with_byte 32 (z ∷ xs)) (32 ∷ y))
 
-join-push : (xs : List (List ℕ)) (n : ℕ) (y : List ℕ) → length xs ≡ n → (join_with_byte 32 xs ++ cond (eqb n 0) [] (32 ∷ [])) ++ y ≡ join_with_byte 32 (xs ++ y ∷ [])
+join-push : (xs : List (List ℕ)) (n : ℕ) (y : List ℕ) → length xs ≡ n
+    → (join_with_byte 32 xs ++ cond (eqb n 0) [] (32 ∷ [])) ++ y ≡ join_with_byte 32 (xs ++ y ∷ [])
 join-push [] n y size = subst (λ m. ([] ++ cond (eqb m 0) [] (32 ∷ [])) ++ y ≡ y) size refl
 join-push (x ∷ xs) n y size =
     ap (λ b. (join_with_byte 32 (x ∷ xs) ++ cond b [] (32 ∷ [])) ++ y) (ne_eqb n 0 (λ e. absurd (omega arith)))
     ∙ append_assoc (join_with_byte 32 (x ∷ xs)) (32 ∷ []) y ∙ sym (join-more x xs y)
 
-pub joined-more : (es : List Entry) (at : ℕ) (e : Entry) → at < length es → e ≡ get_or es at e → (joined (take at es) ++ cond (eqb at 0) [] (32 ∷ [])) ++ e.0 ≡ joined (take (at + 1) es)
+pub joined-more : (es : List Entry) (at : ℕ) (e : Entry) → at < length es → e ≡ get_or es at e
+    → (joined (take at es) ++ cond (eqb at 0) [] (32 ∷ [])) ++ e.0 ≡ joined (take (at + 1) es)
 joined-more es at e inside read =
     join-push (addresses (take at es)) at e.0 (length-map (take at es) (λ x. x.0) ∙ length-take-le at es (omega arith))
     ∙ ap (λ xs. join_with_byte 32 xs) (sym (map-append (λ (x : Entry). x.0) (take at es) (e ∷ [])))
@@ -123,13 +128,17 @@ texts-push (x ∷ es) e texts text = (texts.0, texts-push es e texts.1 text)
 
 -- one text more
 pub texts-more : (es : List Entry) (at : ℕ) (e : Entry) → at < length es → e ≡ get_or es at e → AreTexts (take at es) → IsUtf8 e.0 → AreTexts (take (at + 1) es)
-texts-more es at e inside read texts text = subst AreTexts (ap (λ (x : Entry). take at es ++ x ∷ []) read ∙ sym (take_more es at e inside)) (texts-push (take at es) e texts text)
+texts-more es at e inside read texts text =
+    subst AreTexts (ap (λ (x : Entry). take at es ++ x ∷ []) read ∙ sym (take_more es at e inside)) (texts-push (take at es) e texts text)
 
 differ : (a x : List ℕ) → bytes_eq x a ≡ false → bytes_eq a x ≡ false
-differ a x apart = false_from_ne_true (bytes_eq a x) (λ e. let agree : bytes_eq x a ≡ true = (bytes_eq-Decides x a).1 (sym ((bytes_eq-Decides a x).0 e)) in both_ways (bytes_eq x a) apart agree)
+differ a x apart =
+    false_from_ne_true (bytes_eq a x)
+    (λ e. let agree : bytes_eq x a ≡ true = (bytes_eq-Decides x a).1 (sym ((bytes_eq-Decides a x).0 e)) in both_ways (bytes_eq x a) apart agree)
 
 -- texts that aren't among others are looked up as before
-lookups-kept : (a : List ℕ) (n : ℕ) (t : List Entry) (texts : List (List ℕ)) → is_among a texts ≡ false → filter_map (λ x. lookup x (put a n t)) texts ≡ filter_map (λ x. lookup x t) texts
+lookups-kept : (a : List ℕ) (n : ℕ) (t : List Entry) (texts : List (List ℕ)) → is_among a texts ≡ false
+    → filter_map (λ x. lookup x (put a n t)) texts ≡ filter_map (λ x. lookup x t) texts
 lookups-kept a n t [] apart = refl
 lookups-kept a n t (x ∷ texts) apart =
     let parts = or_parts (bytes_eq x a) (is_among a texts) apart in
@@ -142,7 +151,8 @@ option-cons None xs = refl
 option-cons (Some x) xs = refl
 
 -- what texts replace that stand once each is what was there at first
-pub replaced-lookups : (texts : List (List ℕ)) (fds : List ℕ) (t : List Entry) → length texts ≡ length fds → has_repeat texts ≡ false → replaced_by (zip texts fds) t ≡ filter_map (λ x. lookup x t) texts
+pub replaced-lookups : (texts : List (List ℕ)) (fds : List ℕ) (t : List Entry) → length texts ≡ length fds → has_repeat texts ≡ false
+    → replaced_by (zip texts fds) t ≡ filter_map (λ x. lookup x t) texts
 replaced-lookups [] [] t size once = refl
 replaced-lookups [] (n ∷ fds) t size once = absurd (omega arith)
 replaced-lookups (a ∷ texts) [] t size once = absurd (omega arith)

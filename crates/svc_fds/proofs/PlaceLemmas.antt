@@ -19,7 +19,8 @@ precedes_at x (e ∷ es) zero d all lt = all.0
 precedes_at x (e ∷ es) (suc k) d all lt = precedes_at x es k d all.1 (omega arith)
 
 -- where an entry stands before a, so do those before it
-pub all_precede-to : (a : List ℕ) (es : List Entry) (k : ℕ) (d : Entry) → IsAscending es → k < length es → Precedes (get_or es k d).0 a → AllPrecede a (take (suc k) es)
+pub all_precede-to : (a : List ℕ) (es : List Entry) (k : ℕ) (d : Entry) → IsAscending es → k < length es → Precedes (get_or es k d).0 a
+    → AllPrecede a (take (suc k) es)
 all_precede-to a [] k d up lt less = absurd (omega arith)
 all_precede-to a (e ∷ es) zero d up lt less = (less, tt)
 all_precede-to a (e ∷ es) (suc k) d up lt less =
@@ -33,7 +34,8 @@ all_precede-below a (e ∷ es) (suc k) d up lt same =
     (subst (λ x. Precedes e.0 x) same (precedes_at e.0 es k d up.0 (omega arith)), all_precede-below a es k d up.1 (omega arith) same)
 
 -- where an entry stands behind a, so do those behind it
-pub precedes_all-from : (a : List ℕ) (es : List Entry) (k : ℕ) (d : Entry) → IsAscending es → k < length es → slice_cmp nat_cmp (get_or es k d).0 a ≡ Greater → PrecedesAll a (drop k es)
+pub precedes_all-from : (a : List ℕ) (es : List Entry) (k : ℕ) (d : Entry) → IsAscending es → k < length es → slice_cmp nat_cmp (get_or es k d).0 a ≡ Greater
+    → PrecedesAll a (drop k es)
 precedes_all-from a [] k d up lt more = absurd (omega arith)
 precedes_all-from a (e ∷ es) zero d up lt more = (lesser e.0 a more, precedes-trans a e.0 es (lesser e.0 a more) up.0)
 precedes_all-from a (e ∷ es) (suc k) d up lt more = precedes_all-from a es k d up.1 (omega arith) more
@@ -46,7 +48,8 @@ ascending-drop (suc n) (e ∷ es) up = ascending-drop n es up.1
 read_drop : (es : List Entry) (at : ℕ) (e : Entry) → at < length es → e ≡ get_or es at e → drop at es ≡ e ∷ drop (at + 1) es
 read_drop es at e inside read = drop_more es at e inside ∙ ap (λ (x : Entry). x ∷ drop (at + 1) es) (sym read)
 
-pub held-found : (a : List ℕ) (es : List Entry) (at : ℕ) (e : Entry) → IsAscending es → at < length es → e ≡ get_or es at e → slice_cmp nat_cmp e.0 a ≡ Equal → IsHeldAt a es at
+pub held-found : (a : List ℕ) (es : List Entry) (at : ℕ) (e : Entry) → IsAscending es → at < length es → e ≡ get_or es at e → slice_cmp nat_cmp e.0 a ≡ Equal
+    → IsHeldAt a es at
 held-found a es at e up inside read tied = record {
   inside = inside;
   before = all_precede-below a es at e up inside (ap (λ (x : Entry). x.0) (sym read) ∙ exact_bytes e.0 a tied);
@@ -55,7 +58,8 @@ held-found a es at e up inside read tied = record {
 }
 
 -- where the search ends, all before stand before a, and all others behind it
-pub free-found : (a : List ℕ) (es : List Entry) (low high : ℕ) → low ≤ high → high ≤ low → high ≤ length es → AllPrecede a (take low es) → PrecedesAll a (drop high es) → IsFreeAt a es low
+pub free-found : (a : List ℕ) (es : List Entry) (low high : ℕ) → low ≤ high → high ≤ low → high ≤ length es → AllPrecede a (take low es)
+    → PrecedesAll a (drop high es) → IsFreeAt a es low
 free-found a es low high ordered met within before after =
     let same : high ≡ low = omega arith in
     record {
@@ -131,11 +135,13 @@ held-put a n es at held =
     ∙ ap (λ rest. take at es ++ (a, n) ∷ rest) (one_more es at) ∙ sym (set_split es at (a, n) held.inside)
 
 pub free-put : (a : List ℕ) (n : ℕ) (es : List Entry) (at : ℕ) → IsFreeAt a es at → put a n es ≡ insert es at (a, n)
-free-put a n es at free = subst (λ xs. put a n xs ≡ take at es ++ (a, n) ∷ drop at es) (take-append-drop at es) (put-free a n (take at es) (drop at es) free.before free.after)
+free-put a n es at free =
+    subst (λ xs. put a n xs ≡ take at es ++ (a, n) ∷ drop at es) (take-append-drop at es) (put-free a n (take at es) (drop at es) free.before free.after)
 
 pub held-without : (a : List ℕ) (es : List Entry) (at : ℕ) (held : IsHeldAt a es at) → IsAscending es → without a es ≡ remove es at
 held-without a es at held up =
-    subst (λ xs. without a xs ≡ take at es ++ drop (at + 1) es) (around a es at held) (without-held a held.fd (take at es) (drop (at + 1) es) held.before (above a es at held up))
+    subst (λ xs. without a xs ≡ take at es ++ drop (at + 1) es) (around a es at held)
+    (without-held a held.fd (take at es) (drop (at + 1) es) held.before (above a es at held up))
     ∙ ap (λ rest. take at es ++ rest) (one_more es at)
 
 pub free-without : (a : List ℕ) (es : List Entry) (at : ℕ) → IsFreeAt a es at → without a es ≡ es
@@ -146,7 +152,8 @@ whole : (len : ℕ) (es ys : List Entry) → len ≡ length ys → take len (ys 
 whole len es ys same = subst (λ m. take m (ys ++ drop (length ys) es) ≡ ys) (sym same) (take-append_seam ys (drop (length ys) es))
 
 -- the table after a descriptor was replaced
-pub put-replaced : (len : ℕ) (es ys : List Entry) (a : List ℕ) (n at : ℕ) (held : IsHeldAt a es at) → len ≡ length ys → ys ≡ set es at (a, n) → take len (ys ++ drop (length ys) es) ≡ put a n es
+pub put-replaced : (len : ℕ) (es ys : List Entry) (a : List ℕ) (n at : ℕ) (held : IsHeldAt a es at) → len ≡ length ys → ys ≡ set es at (a, n)
+    → take len (ys ++ drop (length ys) es) ≡ put a n es
 put-replaced len es ys a n at held same now = whole len es ys same ∙ now ∙ sym (held-put a n es at held)
 
 -- what was read at a held address

@@ -24,7 +24,8 @@ pub record Receiving (limit : ℕ) (before now : Option (List ChannelCall)) (fau
   pub after : IsAfterReceives limit (map kind_of earlier) state
   pub faults : faults_now ≡ faults_before
 
-pub receiving-start : (limit : ℕ) (before now : Option (List ChannelCall)) (faults_before faults_now : ℕ) (state : ℕ) (opened : Bool) → opened ≡ true → Adds before now (Listen opened ∷ []) → faults_now ≡ faults_before → IsAfterReceives limit [] state
+pub receiving-start : (limit : ℕ) (before now : Option (List ChannelCall)) (faults_before faults_now : ℕ) (state : ℕ) (opened : Bool) → opened ≡ true
+    → Adds before now (Listen opened ∷ []) → faults_now ≡ faults_before → IsAfterReceives limit [] state
     → Receiving limit before now faults_before faults_now 0 state
 receiving-start limit before now faults_before faults_now state opened is_open told same after = record {
   earlier = [];
@@ -36,18 +37,23 @@ receiving-start limit before now faults_before faults_now state opened is_open t
 }
 
 -- what is told after a rest and a receipt
-told-more : (limit : ℕ) (before now resting then_now : Option (List ChannelCall)) (faults_before faults_now ms state : ℕ) (receipt : Receipt) (receiving : Receiving limit before now faults_before faults_now ms state)
+told-more : (limit : ℕ) (before now resting then_now : Option (List ChannelCall)) (faults_before faults_now ms state : ℕ) (receipt : Receipt)
+    (receiving : Receiving limit before now faults_before faults_now ms state)
     → Adds now resting (rested ms) → Adds resting then_now (Receive receipt ∷ []) → Adds before then_now (receives_asked limit (receipt ∷ receiving.earlier))
 told-more limit before now resting then_now faults_before faults_now ms state receipt receiving slept got =
-    Adds-then before now then_now (receives_asked limit receiving.earlier) (receive_calls (after_receives limit (map kind_of receiving.earlier)) receipt) receiving.told
-    (subst (λ next. Adds now then_now (receive_calls next receipt)) (sym receiving.is_next) (Adds-then now resting then_now (rested ms) (Receive receipt ∷ []) slept got))
+    Adds-then before now then_now (receives_asked limit receiving.earlier)
+    (receive_calls (after_receives limit (map kind_of receiving.earlier)) receipt) receiving.told
+    (subst (λ next. Adds now then_now (receive_calls next receipt)) (sym receiving.is_next)
+    (Adds-then now resting then_now (rested ms) (Receive receipt ∷ []) slept got))
 
-thousand : (b : Bool) (ms : ℕ) → cond b (receives.Refused receive_errors.NoSender) (receives.Receive 1000) ≡ receives.Receive ms → cond b (receives.Refused receive_errors.NoSender) (receives.Receive 1000) ≡ receives.Receive 1000
+thousand : (b : Bool) (ms : ℕ) → cond b (receives.Refused receive_errors.NoSender) (receives.Receive 1000) ≡ receives.Receive ms
+    → cond b (receives.Refused receive_errors.NoSender) (receives.Receive 1000) ≡ receives.Receive 1000
 thousand true ms again = absurd (cc)
 thousand false ms again = refl
 
 -- nobody sent yet, and one try more
-pub receiving-more : (limit : ℕ) (before now resting then_now : Option (List ChannelCall)) (faults_before faults_now faults_then ms then_ms state then_state : ℕ) → Receiving limit before now faults_before faults_now ms state
+pub receiving-more : (limit : ℕ) (before now resting then_now : Option (List ChannelCall))
+    (faults_before faults_now faults_then ms then_ms state then_state : ℕ) → Receiving limit before now faults_before faults_now ms state
     → Adds now resting (rested ms) → Adds resting then_now (Receive receipts.NotYet ∷ []) → faults_then ≡ faults_now
     → ((limit : ℕ) (earlier : List ReceiveKind) → IsAfterReceives limit earlier state → receive_next limit earlier kinds.NotYet ≡ receives.Receive then_ms)
     → ((limit : ℕ) (earlier : List ReceiveKind) → IsAfterReceives limit earlier state → IsAfterReceives limit (kinds.NotYet ∷ earlier) then_state)
@@ -64,23 +70,29 @@ receiving-more limit before now resting then_now faults_before faults_now faults
       faults = same ∙ receiving.faults;
     }
 
-pub receiving-refused : (limit : ℕ) (before now resting then_now : Option (List ChannelCall)) (faults_before faults_now ms state : ℕ) (error : ReceiveError) → Receiving limit before now faults_before faults_now ms state
+pub receiving-refused : (limit : ℕ) (before now resting then_now : Option (List ChannelCall)) (faults_before faults_now ms state : ℕ) (error : ReceiveError)
+    → Receiving limit before now faults_before faults_now ms state
     → Adds now resting (rested ms) → Adds resting then_now (Receive receipts.NotYet ∷ [])
     → ((limit : ℕ) (earlier : List ReceiveKind) → IsAfterReceives limit earlier state → receive_next limit earlier kinds.NotYet ≡ receives.Refused error)
     → ReceivesNot limit before then_now error
 receiving-refused limit before now resting then_now faults_before faults_now ms state error receiving slept got ends =
-    given_up receipts.NotYet receiving.earlier error receiving.wait (told-more limit before now resting then_now faults_before faults_now ms state receipts.NotYet receiving slept got)
+    given_up receipts.NotYet receiving.earlier error receiving.wait
+    (told-more limit before now resting then_now faults_before faults_now ms state receipts.NotYet receiving slept got)
     (ends limit (map kind_of receiving.earlier) receiving.after)
 
-pub receiving-failed : (limit : ℕ) (before now resting then_now : Option (List ChannelCall)) (faults_before faults_now ms state : ℕ) → Receiving limit before now faults_before faults_now ms state
+pub receiving-failed : (limit : ℕ) (before now resting then_now : Option (List ChannelCall)) (faults_before faults_now ms state : ℕ)
+    → Receiving limit before now faults_before faults_now ms state
     → Adds now resting (rested ms) → Adds resting then_now (Receive receipts.Failed ∷ []) → ReceivesNot limit before then_now receive_errors.Transfer
 receiving-failed limit before now resting then_now faults_before faults_now ms state receiving slept got =
-    given_up receipts.Failed receiving.earlier receive_errors.Transfer receiving.wait (told-more limit before now resting then_now faults_before faults_now ms state receipts.Failed receiving slept got) refl
+    given_up receipts.Failed receiving.earlier receive_errors.Transfer receiving.wait
+    (told-more limit before now resting then_now faults_before faults_now ms state receipts.Failed receiving slept got) refl
 
-pub receiving-unread : (limit : ℕ) (before now resting then_now : Option (List ChannelCall)) (faults_before faults_now ms state : ℕ) → Receiving limit before now faults_before faults_now ms state
+pub receiving-unread : (limit : ℕ) (before now resting then_now : Option (List ChannelCall)) (faults_before faults_now ms state : ℕ)
+    → Receiving limit before now faults_before faults_now ms state
     → Adds now resting (rested ms) → Adds resting then_now (Receive receipts.NoMemory ∷ []) → ReceivesNot limit before then_now receive_errors.NoMemory
 receiving-unread limit before now resting then_now faults_before faults_now ms state receiving slept got =
-    unread receiving.earlier receiving.wait (told-more limit before now resting then_now faults_before faults_now ms state receipts.NoMemory receiving slept got)
+    unread receiving.earlier receiving.wait
+    (told-more limit before now resting then_now faults_before faults_now ms state receipts.NoMemory receiving slept got)
 
 -- a receiver that waits isn't done
 pub done-never : (b : Bool) → receives.Done ≡ cond b (receives.Refused receive_errors.NoSender) (receives.Receive 1000) → ⊥
@@ -88,7 +100,8 @@ done-never true is = cc
 done-never false is = cc
 
 -- a wait takes one of the tries
-wait-falls_by : (b : Bool) (state then_state ms : ℕ) → ltb state 1 ≡ b → receives.Receive ms ≡ cond b (receives.Refused receive_errors.NoSender) (receives.Receive 1000) → then_state ≡ state - 1 → then_state < state
+wait-falls_by : (b : Bool) (state then_state ms : ℕ) → ltb state 1 ≡ b
+    → receives.Receive ms ≡ cond b (receives.Refused receive_errors.NoSender) (receives.Receive 1000) → then_state ≡ state - 1 → then_state < state
 wait-falls_by true state then_state ms test is now = absurd (cc)
 wait-falls_by false state then_state ms test is now = (let some = ltb-false state 1 test in omega arith)
 

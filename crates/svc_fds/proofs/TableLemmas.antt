@@ -58,7 +58,8 @@ lookup-put_by a n e es b Less o rest =
     ap (λ found. cond (bytes_eq e.0 b) (Some e.1) found) rest
     ∙ cond_swapped (bytes_eq e.0 b) (bytes_eq a b) (Some e.1) (Some n) (lookup b es) (apart e.0 a b (differs e.0 a o))
 lookup-put_by a n e es b Equal o rest =
-    subst (λ x. cond (bytes_eq a b) (Some n) (lookup b es) ≡ cond (bytes_eq a b) (Some n) (cond (bytes_eq x b) (Some e.1) (lookup b es))) (sym (exact_bytes e.0 a o))
+    subst (λ x. cond (bytes_eq a b) (Some n) (lookup b es) ≡ cond (bytes_eq a b) (Some n) (cond (bytes_eq x b) (Some e.1) (lookup b es)))
+    (sym (exact_bytes e.0 a o))
     (cond_twice (bytes_eq a b) (Some n) (Some e.1) (lookup b es))
 lookup-put_by a n e es b Greater o rest = refl
 
@@ -97,7 +98,8 @@ precedes-put : (x a : List ℕ) (n : ℕ) (es : List Entry) → Precedes x a →
 precedes-put x a n [] less all = (less, tt)
 precedes-put x a n (e ∷ es) less all = precedes-put_by x a n e es (slice_cmp nat_cmp e.0 a) less all (precedes-put x a n es less all.1)
 
-ascending-put_by : (a : List ℕ) (n : ℕ) (e : Entry) (es : List Entry) (o : Ordering) → slice_cmp nat_cmp e.0 a ≡ o → IsAscending (e ∷ es) → IsAscending (put a n es)
+ascending-put_by : (a : List ℕ) (n : ℕ) (e : Entry) (es : List Entry) (o : Ordering) → slice_cmp nat_cmp e.0 a ≡ o → IsAscending (e ∷ es)
+    → IsAscending (put a n es)
     → IsAscending (match_ordering o (e ∷ put a n es) ((a, n) ∷ es) ((a, n) ∷ e ∷ es))
 ascending-put_by a n e es Less o up rest = (precedes-put e.0 a n es o up.0, rest)
 ascending-put_by a n e es Equal o up rest = (subst (λ x. PrecedesAll x es) (exact_bytes e.0 a o) up.0, up.1)
@@ -131,4 +133,5 @@ ascending-without a es up = ascending-filter (λ e. not (bytes_eq e.0 a)) es up
 -- a set of texts has an address where one of them is the same bytes
 pub kept-tested : (a : List ℕ) (keep : List (List ℕ)) → list_any (λ k. is_eq (slice_cmp nat_cmp a k)) keep ≡ is_kept keep a
 kept-tested a [] = refl
-kept-tested a (k ∷ keep) = ap (λ b. b || list_any (λ x. is_eq (slice_cmp nat_cmp a x)) keep) (is_eq-slice_cmp a k) ∙ ap (λ b. bytes_eq a k || b) (kept-tested a keep)
+kept-tested a (k ∷ keep) =
+    ap (λ b. b || list_any (λ x. is_eq (slice_cmp nat_cmp a x)) keep) (is_eq-slice_cmp a k) ∙ ap (λ b. bytes_eq a k || b) (kept-tested a keep)

@@ -18,7 +18,8 @@ use Rattle.svc_fds.proofs.FrameLemmas.{frames-read}
 unframed : (a rest : List ℕ) → is_unjoinable a ≡ false → is_framed (a ++ rest) ≡ false
 unframed [] rest fine = absurd (cc)
 unframed (b ∷ a) rest fine =
-    let blank = (or_parts (is_ascii_whitespace b) (list_any is_ascii_whitespace a) (or_parts (eqb (length (b ∷ a)) 0) (list_any is_ascii_whitespace (b ∷ a)) fine).1).0 in
+    let blank = (or_parts (is_ascii_whitespace b) (list_any is_ascii_whitespace a)
+    (or_parts (eqb (length (b ∷ a)) 0) (list_any is_ascii_whitespace (b ∷ a)) fine).1).0 in
     elim (cases_Bool (eqb 32 b)) [
       | inl space ↦ absurd (both_ways (is_ascii_whitespace b) blank (ap is_ascii_whitespace (sym (eqb-true 32 b space))))
       | inr other ↦ rw other refl
@@ -37,7 +38,8 @@ blank = (32 ∷ [], (refl, refl))
 joined-text : (es : List Entry) → AreTexts es → IsUtf8 (joined es)
 joined-text [] texts = IsUtf8-nil
 joined-text (e ∷ []) texts = texts.0
-joined-text (e ∷ f ∷ es) texts = IsUtf8-append e.0 (32 ∷ joined (f ∷ es)) texts.0 (IsUtf8-append (32 ∷ []) (joined (f ∷ es)) blank (joined-text (f ∷ es) texts.1))
+joined-text (e ∷ f ∷ es) texts =
+    IsUtf8-append e.0 (32 ∷ joined (f ∷ es)) texts.0 (IsUtf8-append (32 ∷ []) (joined (f ∷ es)) blank (joined-text (f ∷ es) texts.1))
 
 -- and framed they are one
 beginning : IsUtf8 version_2
@@ -50,7 +52,8 @@ colon = (58 ∷ [], (refl, refl))
 
 frame-text : (word : List ℕ) → length word < 2 ^ 64 → IsUtf8 word → IsUtf8 (frame word)
 frame-text word small text =
-    IsUtf8-append (decimal (length word)) (58 ∷ word) (IsUtf8-from_ascii (decimal (length word)) (IsAscii-decimal (length word) small)) (IsUtf8-append (58 ∷ []) word colon text)
+    IsUtf8-append (decimal (length word)) (58 ∷ word) (IsUtf8-from_ascii (decimal (length word)) (IsAscii-decimal (length word) small))
+    (IsUtf8-append (58 ∷ []) word colon text)
 
 frames-text : (es : List Entry) → length (flat_map frame (addresses es)) < 2 ^ 64 → AreTexts es → IsUtf8 (flat_map frame (addresses es))
 frames-text [] small texts = IsUtf8-nil
@@ -85,7 +88,8 @@ text-addresses (e ∷ es) texts = All-cons (λ (w : List ℕ). IsUtf8 w) e.0 (ad
 frames-addresses : (es : List Entry) → is_frameable es ≡ true → AreTexts es → framed_words (drop 4 (framed es)) ≡ Some (addresses es)
 frames-addresses es fits texts =
     let some = not-true (has_empty_address es) (and_parts (not (has_empty_address es)) (leb (length (framed es)) 65536) fits).0 in
-    frames-read (addresses es) (flat_map frame (addresses es)) (frames-small es fits) (record { are = refl; some = some-addresses es some; texts = text-addresses es texts })
+    frames-read (addresses es) (flat_map frame (addresses es)) (frames-small es fits)
+    (record { are = refl; some = some-addresses es some; texts = text-addresses es texts })
 
 joinable-fine : (es : List Entry) → is_joinable es ≡ true → has_unjoinable es ≡ false
 joinable-fine es fits = not-true (has_unjoinable es) (and_parts (not (has_unjoinable es)) (leb (length (joined es)) 2048) fits).0
@@ -128,7 +132,8 @@ empty-unsayable es h = rw (empty-unjoinable es h, h) refl
 pub long-unsayable : (es : List Entry) → is_joinable es ≡ false → 65536 < length (framed es) → is_sayable es ≡ false
 unfolding is_sayable
 long-unsayable es off long = elim (cases_Bool (is_frameable es)) [
-  | inl fits ↦ absurd (let short = leb-true (length (framed es)) 65536 (and_parts (not (has_empty_address es)) (leb (length (framed es)) 65536) fits).1 in omega arith)
+  | inl fits ↦
+      absurd (let short = leb-true (length (framed es)) 65536 (and_parts (not (has_empty_address es)) (leb (length (framed es)) 65536) fits).1 in omega arith)
   | inr none ↦ rw (off, none) refl
 ]
 
@@ -140,7 +145,8 @@ written-short es said = elim (cases_Bool (is_joinable es)) [
       let same = ap length (written-joined es fits) in
       omega arith
   | inr off ↦
-      let short = leb-true (length (framed es)) 65536 (and_parts (not (has_empty_address es)) (leb (length (framed es)) 65536) (frameable-else es said off)).1 in
+      let short = leb-true (length (framed es)) 65536
+      (and_parts (not (has_empty_address es)) (leb (length (framed es)) 65536) (frameable-else es said off)).1 in
       let same = ap length (written-framed es off) in
       omega arith
 ]
@@ -154,7 +160,8 @@ framed-written es = elim (cases_Bool (is_joinable es)) [
 ]
 
 -- the words of what is written are the addresses
-pub words-written : (es : List Entry) → is_sayable es ≡ true → (is_joinable es ≡ false → AreTexts es) → (is_well_formed (message_bytes es) ≡ true) × (words (message_bytes es) ≡ addresses es)
+pub words-written : (es : List Entry) → is_sayable es ≡ true → (is_joinable es ≡ false → AreTexts es)
+    → (is_well_formed (message_bytes es) ≡ true) × (words (message_bytes es) ≡ addresses es)
 unfolding message_bytes is_well_formed words
 words-written es said texts = elim (cases_Bool (is_joinable es)) [
   | inl fits ↦
@@ -180,6 +187,7 @@ pub read-written : (es : List Entry) → IsAscending es → is_sayable es ≡ tr
 read-written es up said text texts = let read = words-written es said texts in read-addresses es (message_bytes es) up text read.0 read.1
 
 -- and by a reader of version 1 too, where version 1 says the table
-pub read-old : (es : List Entry) → IsAscending es → AreTexts es → is_joinable es ≡ true → IsOldMessage (message_bytes es) (length (numbers es)) × (old_table_of (message_bytes es) (numbers es) ≡ es)
+pub read-old : (es : List Entry) → IsAscending es → AreTexts es → is_joinable es ≡ true
+    → IsOldMessage (message_bytes es) (length (numbers es)) × (old_table_of (message_bytes es) (numbers es) ≡ es)
 unfolding message_bytes
 read-old es up texts fits = rw fits (read-joined es up (joinable-fine es fits) (joined-text es texts))

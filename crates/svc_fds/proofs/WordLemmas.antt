@@ -20,7 +20,8 @@ word_kept x some = ap not (ne_eqb (length x) 0 (λ e. absurd (omega arith)))
 joined_words-gap : (gap rest : List ℕ) → AllPass is_ascii_whitespace gap → joined_words (gap ++ rest) ≡ joined_words rest
 joined_words-gap [] rest blank = refl
 joined_words-gap (b ∷ gap) rest blank =
-    ap (λ parts. filter (λ word. not (eqb (length word) 0)) parts) (slice_split-cons_yes is_ascii_whitespace b (gap ++ rest) (All-head (λ c. is_ascii_whitespace c ≡ true) b gap blank))
+    ap (λ parts. filter (λ word. not (eqb (length word) 0)) parts)
+    (slice_split-cons_yes is_ascii_whitespace b (gap ++ rest) (All-head (λ c. is_ascii_whitespace c ≡ true) b gap blank))
     ∙ joined_words-gap gap rest (All-tail (λ c. is_ascii_whitespace c ≡ true) b gap blank)
 
 -- blanks alone have no word
@@ -34,12 +35,14 @@ joined_words-last x some plain =
     ∙ ap (λ b. cond b (x ∷ []) []) (word_kept x some)
 
 -- a word, a blank, and the rest
-pub joined_words-next : (x : List ℕ) (y : ℕ) (rest : List ℕ) → 0 < length x → All (λ c. is_ascii_whitespace c ≡ false) x → is_ascii_whitespace y ≡ true → joined_words (x ++ y ∷ rest) ≡ x ∷ joined_words rest
+pub joined_words-next : (x : List ℕ) (y : ℕ) (rest : List ℕ) → 0 < length x → All (λ c. is_ascii_whitespace c ≡ false) x → is_ascii_whitespace y ≡ true
+    → joined_words (x ++ y ∷ rest) ≡ x ∷ joined_words rest
 joined_words-next x y rest some plain blank =
     ap (λ parts. filter (λ word. not (eqb (length word) 0)) parts) (slice_split_at is_ascii_whitespace x y rest plain blank)
     ∙ ap (λ b. cond b (x ∷ joined_words rest) (joined_words rest)) (word_kept x some)
 
-joined_words-word : (x sep rest : List ℕ) → 0 < length x → All (λ c. is_ascii_whitespace c ≡ false) x → IsAsciiSeparator sep rest → joined_words (x ++ (sep ++ rest)) ≡ x ∷ joined_words rest
+joined_words-word : (x sep rest : List ℕ) → 0 < length x → All (λ c. is_ascii_whitespace c ≡ false) x → IsAsciiSeparator sep rest
+    → joined_words (x ++ (sep ++ rest)) ≡ x ∷ joined_words rest
 joined_words-word x [] rest some plain apart =
     let none : rest ≡ [] = nil_from_length rest (apart.2 refl) in
     ap (λ r. joined_words (x ++ r)) none ∙ ap joined_words (append-nil x) ∙ joined_words-last x some plain ∙ ap (λ r. x ∷ joined_words r) (sym none)
@@ -53,7 +56,8 @@ high b above =
     rw (lt-leb b 10 (omega arith), lt-leb b 13 (omega arith), lt-leb b 32 (omega arith)) (grind arith)
 
 -- a text without blank characters has no blank byte
-bytes-plain : (cs : List ℕ) → NonePass is_ascii_whitespace cs → (k : ℕ) → k < length (encode_utf8_all cs) → is_ascii_whitespace (get_or (encode_utf8_all cs) k 0) ≡ false
+bytes-plain : (cs : List ℕ) → NonePass is_ascii_whitespace cs → (k : ℕ) → k < length (encode_utf8_all cs)
+    → is_ascii_whitespace (get_or (encode_utf8_all cs) k 0) ≡ false
 bytes-plain [] none k inside = absurd (omega arith)
 bytes-plain (c ∷ cs) none k inside =
     elim (cases_lt k (length (encode_utf8 c))) [
@@ -61,17 +65,21 @@ bytes-plain (c ∷ cs) none k inside =
         | inl low ↦ subst (λ b. is_ascii_whitespace b ≡ false) (inside_one c (encode_utf8_all cs) (encode_utf8 c ++ encode_utf8_all cs) k refl here low) none.0
         | inr above ↦ high (get_or (encode_utf8 c ++ encode_utf8_all cs) k 0) above
       ]
-      | inr there ↦ subst (λ b. is_ascii_whitespace b ≡ false) (sym (get_or-append_right (encode_utf8 c) (encode_utf8_all cs) (length (encode_utf8 c)) k 0 refl there))
+      | inr there ↦
+          subst (λ b. is_ascii_whitespace b ≡ false) (sym (get_or-append_right (encode_utf8 c) (encode_utf8_all cs) (length (encode_utf8 c)) k 0 refl there))
           (bytes-plain cs none.1 (k - length (encode_utf8 c)) (let n = length-append (encode_utf8 c) (encode_utf8_all cs) in omega arith))
     ]
 
 plain : (x : List ℕ) → NoCharPasses is_ascii_whitespace x → All (λ c. is_ascii_whitespace c ≡ false) x
 plain x none = λ k d inside.
     subst (λ b. is_ascii_whitespace b ≡ false) (get_or_default x k 0 d inside)
-    (subst (λ bytes. is_ascii_whitespace (get_or bytes k 0) ≡ false) none.1 (bytes-plain none.0 none.2 k (subst (λ bytes. k < length bytes) (sym none.1) inside)))
+    (subst (λ bytes. is_ascii_whitespace (get_or bytes k 0) ≡ false) none.1
+    (bytes-plain none.0 none.2 k (subst (λ bytes. k < length bytes) (sym none.1) inside)))
 
 -- one word more is cut off
-pub joined_words-cut : (bytes rest : List ℕ) (x : Bor (List ℕ)) → CutsAsciiWord bytes (Some x) rest (λ gap word sep. gap ++ (word ++ (sep ++ rest))) → joined_words bytes ≡ x.now ∷ joined_words rest
+pub joined_words-cut : (bytes rest : List ℕ) (x : Bor (List ℕ)) → CutsAsciiWord bytes (Some x) rest (λ gap word sep. gap ++ (word ++ (sep ++ rest)))
+    → joined_words bytes ≡ x.now ∷ joined_words rest
 joined_words-cut bytes rest x cut =
     let parts = cut.3 in
-    ap joined_words parts.2 ∙ joined_words-gap parts.0 (x.now ++ (parts.1 ++ rest)) parts.3 ∙ joined_words-word x.now parts.1 rest cut.0 (plain x.now cut.1) parts.4
+    ap joined_words parts.2 ∙ joined_words-gap parts.0 (x.now ++ (parts.1 ++ rest)) parts.3
+    ∙ joined_words-word x.now parts.1 rest cut.0 (plain x.now cut.1) parts.4

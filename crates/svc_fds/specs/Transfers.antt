@@ -107,9 +107,11 @@ pub record Receives (limit : ℕ) (before now : Option (List ChannelCall)) (byte
 -- nothing came: the socket wasn't opened, the last receipt ended the tries, or there was no memory for it
 pub data ReceivesNot (limit : ℕ) (before now : Option (List ChannelCall)) : ReceiveError → Type 0 where
   not_opened : Adds before now (Listen false ∷ []) → ReceivesNot limit before now receive_errors.Transfer
-  given_up : (receipt : Receipt) (earlier : List Receipt) (error : ReceiveError) → IsWait limit earlier → Adds before now (receives_asked limit (receipt ∷ earlier))
+  given_up : (receipt : Receipt) (earlier : List Receipt) (error : ReceiveError) → IsWait limit earlier
+      → Adds before now (receives_asked limit (receipt ∷ earlier))
       → receive_next limit (map kind_of earlier) (kind_of receipt) ≡ receives.Refused error → ReceivesNot limit before now error
-  unread : (earlier : List Receipt) → IsWait limit earlier → Adds before now (receives_asked limit (receipts.NoMemory ∷ earlier)) → ReceivesNot limit before now receive_errors.NoMemory
+  unread : (earlier : List Receipt) → IsWait limit earlier → Adds before now (receives_asked limit (receipts.NoMemory ∷ earlier))
+      → ReceivesNot limit before now receive_errors.NoMemory
 
 -- the entries that came whose addresses are held already, and the others
 abbrev pub copies : List Entry → List Entry → List Entry
@@ -143,7 +145,8 @@ pub record Loads (limit : ℕ) (before now : Option (List ChannelCall)) (old new
 -- nothing came, or what came was refused and is closed
 pub data LoadsNot (limit : ℕ) (before now : Option (List ChannelCall)) : ReceiveError → Type 0 where
   nothing_came : (error : ReceiveError) → ReceivesNot limit before now error → LoadsNot limit before now error
-  turned_away : (bytes fds : List ℕ) (middle : Option (List ChannelCall)) (error : DecodeError) → Receives limit before middle bytes fds → DecodeRefusalFits bytes (length fds) error
+  turned_away : (bytes fds : List ℕ) (middle : Option (List ChannelCall)) (error : DecodeError) → Receives limit before middle bytes fds
+      → DecodeRefusalFits bytes (length fds) error
       → Adds middle now (closes fds) → LoadsNot limit before now (receive_error error)
 
 -- the refusal of a table, as a sender answers it
@@ -156,4 +159,5 @@ send_error encode_errors.NoMemory = send_errors.NoMemory
 -- a table that has no message is refused before any call of the channel, and else its message is sent
 pub data SendsTable {X : Type 0} (calls : X → Option (List ChannelCall)) (limit : ℕ) (es : List Entry) (before now : X) : Result ℕ SendError → Type 0 where
   unsent : (error : EncodeError) → EncodeRefusalFits es error → now ≡ before → SendsTable calls limit es before now (Err (send_error error))
-  tried : (result : Result ℕ SendError) → IsEncodable es → SendsBy limit (message_bytes es) (numbers es) (calls before) (calls now) result → SendsTable calls limit es before now result
+  tried : (result : Result ℕ SendError) → IsEncodable es → SendsBy limit (message_bytes es) (numbers es) (calls before) (calls now) result
+      → SendsTable calls limit es before now result

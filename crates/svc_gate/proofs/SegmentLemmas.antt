@@ -20,7 +20,8 @@ Ascends-to_lower low [] high other le h = omega arith
 Ascends-to_lower low (s ∷ segments) high other le h = (h.0, Ascends-to_lower (s.from + 1) segments high other le h.1)
 
 -- one segment more, behind the others
-pub Ascends-push : (low : ℕ) (segments : List Segment) (high : ℕ) (s : Segment) → high ≤ s.from → Ascends low segments high → Ascends low (segments ++ s ∷ []) (s.from + 1)
+pub Ascends-push : (low : ℕ) (segments : List Segment) (high : ℕ) (s : Segment) → high ≤ s.from → Ascends low segments high
+    → Ascends low (segments ++ s ∷ []) (s.from + 1)
 Ascends-push low [] high s le h = (omega arith, omega arith)
 Ascends-push low (t ∷ segments) high s le h = (h.0, Ascends-push (t.from + 1) segments high s le h.1)
 
@@ -52,18 +53,30 @@ pub record IsNext (low from : ℕ) (upper lower : List Segment) : Type 0 where
   pub upper_from : Ascends from upper (2 ^ 128)
   pub lower_from : Ascends from lower (2 ^ 128)
 
-next_of_both : (low from : ℕ) (a b : Segment) (more rest : List Segment) (first : Bool) → leb a.from b.from ≡ first → (if first then Some a.from else Some b.from) ≡ Some from
+next_of_both : (low from : ℕ) (a b : Segment) (more rest : List Segment) (first : Bool) → leb a.from b.from ≡ first
+    → (if first then Some a.from else Some b.from) ≡ Some from
     → Ascends low (a ∷ more) (2 ^ 128) → Ascends low (b ∷ rest) (2 ^ 128) → IsNext low from (a ∷ more) (b ∷ rest)
 next_of_both low from a b more rest true e is h k =
     let at : a.from ≡ from = cc in
     let fits = Ascends-low (a.from + 1) more (2 ^ 128) h.1 in
-    record { behind = omega (arith, h.0, at); fits = omega (arith, fits, at); upper_from = (omega (arith, at), h.1); lower_from = (grind (arith, nat_tests), k.1) }
+    record {
+      behind = omega (arith, h.0, at);
+      fits = omega (arith, fits, at);
+      upper_from = (omega (arith, at), h.1);
+      lower_from = (grind (arith, nat_tests), k.1);
+    }
 next_of_both low from a b more rest false e is h k =
     let at : b.from ≡ from = cc in
     let fits = Ascends-low (b.from + 1) rest (2 ^ 128) k.1 in
-    record { behind = omega (arith, k.0, at); fits = omega (arith, fits, at); upper_from = (grind (arith, nat_tests), h.1); lower_from = (omega (arith, at), k.1) }
+    record {
+      behind = omega (arith, k.0, at);
+      fits = omega (arith, fits, at);
+      upper_from = (grind (arith, nat_tests), h.1);
+      lower_from = (omega (arith, at), k.1);
+    }
 
-pub next_is : (low from : ℕ) (upper lower : List Segment) → Ascends low upper (2 ^ 128) → Ascends low lower (2 ^ 128) → next_begin upper lower ≡ Some from → IsNext low from upper lower
+pub next_is : (low from : ℕ) (upper lower : List Segment) → Ascends low upper (2 ^ 128) → Ascends low lower (2 ^ 128) → next_begin upper lower ≡ Some from
+    → IsNext low from upper lower
 next_is low from [] [] h k is = absurd (cc)
 next_is low from (a ∷ more) [] h k is =
     let at : a.from ≡ from = cc in
@@ -76,7 +89,8 @@ next_is low from [] (b ∷ rest) h k is =
 next_is low from (a ∷ more) (b ∷ rest) h k is = next_of_both low from a b more rest (leb a.from b.from) refl is h k
 
 -- behind a number before which no later segment begins
-pass_step : (s : Segment) (rest : List Segment) (a : Option Bool) (from : ℕ) (here : Bool) → (s.from == from) ≡ here → from < 2 ^ 128 → Ascends from (s ∷ rest) (2 ^ 128)
+pass_step : (s : Segment) (rest : List Segment) (a : Option Bool) (from : ℕ) (here : Bool) → (s.from == from) ≡ here → from < 2 ^ 128
+    → Ascends from (s ∷ rest) (2 ^ 128)
     → Ascends (from + 1) (if here then rest else s ∷ rest) (2 ^ 128)
     × ((x : ℕ) → from ≤ x → found_from (if here then s.allow else a) (if here then rest else s ∷ rest) x ≡ found_from a (s ∷ rest) x)
 pass_step s rest a from true e fits h =
@@ -91,21 +105,24 @@ passed : (a : Option Bool) (rest : List Segment) (from : ℕ) → from < 2 ^ 128
 passed a [] from fits h = (omega arith, λ x le. refl)
 passed a (s ∷ rest) from fits h = pass_step s rest a from (s.from == from) refl fits h
 
-pub follows_pass : (all : List Segment) (low : ℕ) (a : Option Bool) (rest : List Segment) (from : ℕ) → Follows all low a rest → low ≤ from → from < 2 ^ 128 → Ascends from rest (2 ^ 128)
+pub follows_pass : (all : List Segment) (low : ℕ) (a : Option Bool) (rest : List Segment) (from : ℕ) → Follows all low a rest → low ≤ from → from < 2 ^ 128
+    → Ascends from rest (2 ^ 128)
     → Follows all (from + 1) (word_at a rest from) (rest_at rest from)
 follows_pass all low a rest from f le fits h =
     let p = passed a rest from fits h in
     record { ascend = p.0; same = λ x more. p.1 x (omega arith) ∙ f.same x (omega arith) }
 
 -- what is said at the number itself
-pub word_at-found : (all : List Segment) (low : ℕ) (a : Option Bool) (rest : List Segment) (from : ℕ) → Follows all low a rest → low ≤ from → from < 2 ^ 128 → Ascends from rest (2 ^ 128)
+pub word_at-found : (all : List Segment) (low : ℕ) (a : Option Bool) (rest : List Segment) (from : ℕ) → Follows all low a rest → low ≤ from → from < 2 ^ 128
+    → Ascends from rest (2 ^ 128)
     → word_at a rest from ≡ found_in all from
 word_at-found all low a rest from f le fits h =
     let p = passed a rest from fits h in
     sym (found_from-before (word_at a rest from) (from + 1) (rest_at rest from) (2 ^ 128) from p.0 (omega arith)) ∙ p.1 from (omega arith) ∙ f.same from le
 
 -- what was said last holds up to the next segment
-pub word_before : (all : List Segment) (low : ℕ) (a : Option Bool) (rest : List Segment) (from x : ℕ) → Follows all low a rest → Ascends from rest (2 ^ 128) → low ≤ x → x < from → a ≡ found_in all x
+pub word_before : (all : List Segment) (low : ℕ) (a : Option Bool) (rest : List Segment) (from x : ℕ) → Follows all low a rest → Ascends from rest (2 ^ 128)
+    → low ≤ x → x < from → a ≡ found_in all x
 word_before all low a rest from x f h le lt = sym (found_from-before a from rest (2 ^ 128) x h lt) ∙ f.same x le
 
 pub length-rest_at : (rest : List Segment) (from : ℕ) → length (rest_at rest from) ≤ length rest
@@ -113,7 +130,8 @@ length-rest_at [] from = omega arith
 length-rest_at (s ∷ rest) from = grind arith
 
 -- the segments of the upper list over those of the lower one, up to a number
-pub record Overlays (first second : List Segment) (low : ℕ) (a : Option Bool) (upper : List Segment) (b : Option Bool) (lower : List Segment) (made : List Segment) : Type 0 where
+pub record Overlays (first second : List Segment) (low : ℕ) (a : Option Bool) (upper : List Segment) (b : Option Bool) (lower : List Segment)
+    (made : List Segment) : Type 0 where
   pub upper_follows : Follows first low a upper
   pub lower_follows : Follows second low b lower
   pub fits : low ≤ 2 ^ 128
@@ -123,12 +141,14 @@ pub record Overlays (first second : List Segment) (low : ℕ) (a : Option Bool) 
   pub few : length made + (length upper + length lower) ≤ length first + length second
 
 -- a step passes a segment of one list at least
-shorter_both : (a b : Segment) (more rest : List Segment) (from : ℕ) (first : Bool) → leb a.from b.from ≡ first → (if first then Some a.from else Some b.from) ≡ Some from
+shorter_both : (a b : Segment) (more rest : List Segment) (from : ℕ) (first : Bool) → leb a.from b.from ≡ first
+    → (if first then Some a.from else Some b.from) ≡ Some from
     → length (rest_at (a ∷ more) from) + length (rest_at (b ∷ rest) from) < length (a ∷ more) + length (b ∷ rest)
 shorter_both a b more rest from true e is = let at : a.from ≡ from = cc in grind (arith, nat_tests)
 shorter_both a b more rest from false e is = let at : b.from ≡ from = cc in grind (arith, nat_tests)
 
-pub shorter : (upper lower : List Segment) (from : ℕ) → next_begin upper lower ≡ Some from → length (rest_at upper from) + length (rest_at lower from) < length upper + length lower
+pub shorter : (upper lower : List Segment) (from : ℕ) → next_begin upper lower ≡ Some from
+    → length (rest_at upper from) + length (rest_at lower from) < length upper + length lower
 shorter [] [] from is = absurd (cc)
 shorter (a ∷ more) [] from is = let at : a.from ≡ from = cc in grind (arith, nat_tests)
 shorter [] (b ∷ rest) from is = let at : b.from ≡ from = cc in grind (arith, nat_tests)
@@ -161,7 +181,8 @@ step_before first second low a upper b lower made from x o n lt =
 
 pub overlays_step : (first second : List Segment) (low : ℕ) (a : Option Bool) (upper : List Segment) (b : Option Bool) (lower made : List Segment) (from : ℕ)
     → Overlays first second low a upper b lower made → next_begin upper lower ≡ Some from
-    → Overlays first second (from + 1) (word_at a upper from) (rest_at upper from) (word_at b lower from) (rest_at lower from) (made ++ made_at a upper b lower from ∷ [])
+    → Overlays first second (from + 1) (word_at a upper from) (rest_at upper from) (word_at b lower from) (rest_at lower from)
+    (made ++ made_at a upper b lower from ∷ [])
 overlays_step first second low a upper b lower made from o is =
     let n = next_is low from upper lower o.upper_follows.ascend o.lower_follows.ascend is in
     let less = shorter upper lower from is in
@@ -205,11 +226,13 @@ pub overlaid_ascends : (first second : List Segment) (low : ℕ) (a : Option Boo
 overlaid_ascends first second low a upper b lower made o = Ascends-to_lower 0 made low (2 ^ 128) o.fits o.ascend
 
 -- the first rule of two lists, one behind the other
-one_more : (held : Bool) (allow : Bool) (more a b : Option Bool) → more ≡ option_or a b → (if held then Some allow else more) ≡ option_or (if held then Some allow else a) b
+one_more : (held : Bool) (allow : Bool) (more a b : Option Bool) → more ≡ option_or a b
+    → (if held then Some allow else more) ≡ option_or (if held then Some allow else a) b
 one_more true allow more a b e = refl
 one_more false allow more a b e = e
 
-pub first_allow-append : (v6 : Bool) (x : ℕ) (front back : List GateRule) → first_allow v6 x (front ++ back) ≡ option_or (first_allow v6 x front) (first_allow v6 x back)
+pub first_allow-append : (v6 : Bool) (x : ℕ) (front back : List GateRule)
+    → first_allow v6 x (front ++ back) ≡ option_or (first_allow v6 x front) (first_allow v6 x back)
 first_allow-append v6 x [] back = refl
 first_allow-append v6 x (rule ∷ front) back = one_more (is_held v6 x rule) rule.allow _ _ _ (first_allow-append v6 x front back)
 
@@ -220,7 +243,9 @@ only_rule (rule ∷ []) d some few = refl
 only_rule (rule ∷ more ∷ rules) d some few = absurd (omega arith)
 
 -- the rules of both halves
-pub halves_found : (v6 : Bool) (rules front back : List GateRule) (k : ℕ) (upper lower upper_now lower_now made : List Segment) → front ≡ take k rules → back ≡ drop k rules
-    → FindsFirst v6 front upper → FindsFirst v6 back lower → upper_now ≡ upper → lower_now ≡ lower → FindsEither upper_now lower_now made → FindsFirst v6 rules made
+pub halves_found : (v6 : Bool) (rules front back : List GateRule) (k : ℕ) (upper lower upper_now lower_now made : List Segment) → front ≡ take k rules
+    → back ≡ drop k rules
+    → FindsFirst v6 front upper → FindsFirst v6 back lower → upper_now ≡ upper → lower_now ≡ lower → FindsEither upper_now lower_now made
+    → FindsFirst v6 rules made
 halves_found v6 rules front back k upper lower upper_now lower_now made ef eb u l eu el e = λ x fits.
     e x ∙ rw (eu, el, u x fits, l x fits) (sym (first_allow-append v6 x front back) ∙ ap (first_allow v6 x) (rw (ef, eb) (take-append-drop k rules)))

@@ -29,7 +29,8 @@ quiet_line : (line : List ℕ) → is_line line ≡ true → is_daemon line ≡ 
 quiet_line line h off = let parts = and_parts (is_utf8 line) (none_of is_feed line) h in rw (parts.0, parts.1, off) refl
 
 -- a line goes to the first part, and to no other one
-part_first : (line : List ℕ) (parts : List (List (List ℕ))) (k : ℕ) → (k ≡ 0 → is_quiet line ≡ true) → list_all is_quiet (slice_index_or parts k []) ≡ true → list_all is_quiet (slice_index_or (onto_first line parts) k []) ≡ true
+part_first : (line : List ℕ) (parts : List (List (List ℕ))) (k : ℕ) → (k ≡ 0 → is_quiet line ≡ true) → list_all is_quiet (slice_index_or parts k []) ≡ true
+    → list_all is_quiet (slice_index_or (onto_first line parts) k []) ≡ true
 part_first line [] zero here rest = rw (here refl) refl
 part_first line [] (suc k) here rest = rest
 part_first line (part ∷ parts) zero here rest = rw (here refl) rest
@@ -38,35 +39,43 @@ part_first line (part ∷ parts) (suc k) here rest = rest
 no_daemon : (part : ℕ) (line : List ℕ) → part ≡ 1 → makes_daemon part line ≡ false → is_daemon line ≡ false
 no_daemon part line one off = subst (λ (n : ℕ). makes_daemon n line ≡ false) one off
 
-conf_more : (part k passed : ℕ) (line : List ℕ) (ls : List (List ℕ)) (last : List ℕ) (h m : Bool) → is_header line ≡ h → makes_daemon part line ≡ m → is_line line ≡ true → part + k ≡ 1 → daemon_from part passed (line ∷ ls) ≡ None
+conf_more : (part k passed : ℕ) (line : List ℕ) (ls : List (List ℕ)) (last : List ℕ) (h m : Bool) → is_header line ≡ h → makes_daemon part line ≡ m
+    → is_line line ≡ true → part + k ≡ 1 → daemon_from part passed (line ∷ ls) ≡ None
     → ((q j n : ℕ) → q + j ≡ 1 → daemon_from q n ls ≡ None → list_all is_quiet (slice_index_or (slice_split is_header (ls ++ last ∷ [])) j []) ≡ true)
     → list_all is_quiet (slice_index_or (slice_split is_header (line ∷ (ls ++ last ∷ []))) k []) ≡ true
 conf_more part k passed line ls last h true eh em text sum off later =
-    absurd (let some : Some (passed + 1) ≡ None = sym (if_on (makes_daemon part line) (Some (passed + 1)) (daemon_from (part_with part line) (passed + 1) ls) em) ∙ off in cc)
+    absurd (let some : Some (passed + 1) ≡ None =
+    sym (if_on (makes_daemon part line) (Some (passed + 1)) (daemon_from (part_with part line) (passed + 1) ls) em) ∙ off in cc)
 conf_more part zero passed line ls last true false eh em text sum off later = rw eh refl
 conf_more part (suc k) passed line ls last true false eh em text sum off later =
     let more : part_with part line ≡ part + 1 = ap (λ (b : Bool). part + (if b then 1 else 0)) eh in
-    rw eh (later (part_with part line) k (passed + 1) (omega (arith, more)) (sym (if_off (makes_daemon part line) (Some (passed + 1)) (daemon_from (part_with part line) (passed + 1) ls) em) ∙ off))
+    rw eh (later (part_with part line) k (passed + 1) (omega (arith, more))
+    (sym (if_off (makes_daemon part line) (Some (passed + 1)) (daemon_from (part_with part line) (passed + 1) ls) em) ∙ off))
 conf_more part k passed line ls last false false eh em text sum off later =
     let same : part_with part line ≡ part + 0 = ap (λ (b : Bool). part + (if b then 1 else 0)) eh in
     rw eh (part_first line (slice_split is_header (ls ++ last ∷ [])) k (λ none. quiet_line line text (no_daemon part line (omega (arith, none)) em))
-    (later (part_with part line) k (passed + 1) (omega (arith, same)) (sym (if_off (makes_daemon part line) (Some (passed + 1)) (daemon_from (part_with part line) (passed + 1) ls) em) ∙ off)))
+    (later (part_with part line) k (passed + 1) (omega (arith, same))
+    (sym (if_off (makes_daemon part line) (Some (passed + 1)) (daemon_from (part_with part line) (passed + 1) ls) em) ∙ off)))
 
-conf_none : (part k : ℕ) (last : List ℕ) → is_header last ≡ true → part + k ≡ 1 → list_all is_quiet (slice_index_or (slice_split is_header (last ∷ [])) k []) ≡ true
+conf_none : (part k : ℕ) (last : List ℕ) → is_header last ≡ true → part + k ≡ 1
+    → list_all is_quiet (slice_index_or (slice_split is_header (last ∷ [])) k []) ≡ true
 conf_none part zero last head sum = rw head refl
 conf_none part (suc zero) last head sum = rw head refl
 conf_none part (suc (suc k)) last head sum = absurd (omega arith)
 
 -- the lines of the second part, where so many have begun
-conf_lines : (part k passed : ℕ) (ls : List (List ℕ)) (last : List ℕ) → is_header last ≡ true → list_all is_line ls ≡ true → part + k ≡ 1 → daemon_from part passed ls ≡ None → list_all is_quiet (slice_index_or (slice_split is_header (ls ++ last ∷ [])) k []) ≡ true
+conf_lines : (part k passed : ℕ) (ls : List (List ℕ)) (last : List ℕ) → is_header last ≡ true → list_all is_line ls ≡ true → part + k ≡ 1
+    → daemon_from part passed ls ≡ None → list_all is_quiet (slice_index_or (slice_split is_header (ls ++ last ∷ [])) k []) ≡ true
 conf_lines part k passed [] last head text sum off = conf_none part k last head sum
 conf_lines part k passed (line ∷ ls) last head text sum off =
     let parts = and_parts (is_line line) (list_all is_line ls) text in
-    conf_more part k passed line ls last (is_header line) (makes_daemon part line) refl refl parts.0 sum off (λ q j n s o. conf_lines q j n ls last head parts.1 s o)
+    conf_more part k passed line ls last (is_header line) (makes_daemon part line) refl refl parts.0 sum off
+    (λ q j n s o. conf_lines q j n ls last head parts.1 s o)
 
 -- ---- each line of a script is text
 
-find_step : (p : ℕ → Bool) (a n k : ℕ) (b : Bool) → p a ≡ b → find p (range_with_len a (suc n)) ≡ None → (a < k) ⊎ (k ≤ a) → a ≤ k → (find p (range_with_len (a + 1) n) ≡ None → a + 1 ≤ k → p k ≡ false) → p k ≡ false
+find_step : (p : ℕ → Bool) (a n k : ℕ) (b : Bool) → p a ≡ b → find p (range_with_len a (suc n)) ≡ None → (a < k) ⊎ (k ≤ a) → a ≤ k
+    → (find p (range_with_len (a + 1) n) ≡ None → a + 1 ≤ k → p k ≡ false) → p k ≡ false
 find_step p a n k true is none place le later = absurd (let some : Some a ≡ None = rw is at none in cc)
 find_step p a n k false is none (inl more) le later = later (rw is at none) (omega arith)
 find_step p a n k false is none (inr less) le later = (let same : k ≡ a = omega arith in ap p same ∙ is)
@@ -113,10 +122,15 @@ taken : (b : Bool) (x parts : Parts) (n : ℕ) → (if b then Ok x else Err n) �
 taken true x parts n e = cc
 taken false x parts n e = absurd (cc)
 
-judged_conf : (all : Bool) (r : Result ServerConf ReadError) (ls : List (List ℕ)) (parts : Parts) → judged all r ls ≡ Ok parts → (all ≡ true) × (r ≡ Ok parts.conf)
+judged_conf : (all : Bool) (r : Result ServerConf ReadError) (ls : List (List ℕ)) (parts : Parts) → judged all r ls ≡ Ok parts
+    → (all ≡ true) × (r ≡ Ok parts.conf)
 unfolding judged
 judged_conf all (Err e) ls parts h = absurd (cc)
-judged_conf true (Ok conf) ls parts h = (refl, ap (λ (p : Parts). Ok p.conf) (taken (begun ls == 3) (record { conf = conf; services = services_in ls; eager = eager_in ls; items = items_in ls }) parts (length ls + 1) h))
+judged_conf true (Ok conf) ls parts h = (
+  refl,
+  ap (λ (p : Parts). Ok p.conf)
+      (taken (begun ls == 3) (record { conf = conf; services = services_in ls; eager = eager_in ls; items = items_in ls }) parts (length ls + 1) h),
+)
 judged_conf false (Ok conf) ls parts h = absurd (cc)
 
 none_if : (o : Option ℕ) → is_none o ≡ true → o ≡ None
@@ -137,12 +151,15 @@ events_head = refl
 
 -- ---- the block
 
-script_quiet : (ls : List (List ℕ)) (parts : Parts) → list_all (none_of is_feed) ls ≡ true → daemon_from 0 0 ls ≡ None → script_of (script_lines ls) ≡ Ok parts → parts.conf.daemon ≡ false
+script_quiet : (ls : List (List ℕ)) (parts : Parts) → list_all (none_of is_feed) ls ≡ true → daemon_from 0 0 ls ≡ None → script_of (script_lines ls) ≡ Ok parts
+    → parts.conf.daemon ≡ false
 unfolding conf_in part_of
 script_quiet ls parts clear off said =
     let says = script_conf (script_lines ls) parts said in
-    let text = and_parts (list_all is_utf8 ls) (list_all is_utf8 (codes "%events" ∷ [])) (sym (list_all-append is_utf8 ls (codes "%events" ∷ [])) ∙ all_text (script_lines ls) says.0) in
-    quiet_conf (part_of 1 (script_lines ls)) parts.conf (conf_lines 0 1 0 ls (codes "%events") events_head (all_both is_utf8 (none_of is_feed) ls text.0 clear) (omega arith) off) says.1
+    let text = and_parts (list_all is_utf8 ls) (list_all is_utf8 (codes "%events" ∷ []))
+    (sym (list_all-append is_utf8 ls (codes "%events" ∷ [])) ∙ all_text (script_lines ls) says.0) in
+    quiet_conf (part_of 1 (script_lines ls)) parts.conf
+    (conf_lines 0 1 0 ls (codes "%events") events_head (all_both is_utf8 (none_of is_feed) ls text.0 clear) (omega arith) off) says.1
 
 refused_none : (daemon : Option ℕ) (read : Result Parts ℕ) (parts : Parts) → refused_at daemon read ≡ Ok parts → (daemon ≡ None) × (read ≡ Ok parts)
 refused_none None read parts e = (refl, e)

@@ -26,11 +26,14 @@ abbrev pub daemon_then : Option ℕ → ℕ → ℕ → List (List ℕ) → Opti
 daemon_then (Some n) part passed ls = Some n
 daemon_then None part passed ls = daemon_from part passed ls
 
-daemon_more : (o : Option ℕ) (part passed : ℕ) (line : List ℕ) (ls : List (List ℕ)) → daemon_then (daemon_with o part passed line) (part_with part line) (passed + 1) ls ≡ daemon_then o part passed (line ∷ ls)
+daemon_more : (o : Option ℕ) (part passed : ℕ) (line : List ℕ) (ls : List (List ℕ))
+    → daemon_then (daemon_with o part passed line) (part_with part line) (passed + 1) ls ≡ daemon_then o part passed (line ∷ ls)
 daemon_more (Some n) part passed line ls = refl
 daemon_more None part passed line ls = by (makes_daemon part line)
   where
-    by : (b : Bool) → daemon_then (if b then Some (passed + 1) else None) (part_with part line) (passed + 1) ls ≡ (if b then Some (passed + 1) else daemon_from (part_with part line) (passed + 1) ls)
+    by : (b : Bool)
+        → daemon_then (if b then Some (passed + 1) else None) (part_with part line) (passed + 1) ls
+        ≡ (if b then Some (passed + 1) else daemon_from (part_with part line) (passed + 1) ls)
     by true = refl
     by false = refl
 
@@ -55,13 +58,15 @@ block_none all b text count part daemon = record {
   parts = omega (arith, count, part);
 }
 
-pub block_more : (all rest line after : List ℕ) (b c : BlockText) → HasBlock all rest b → lines rest ≡ line ∷ lines after → is_mark line ≡ false → length after < length rest → c.text.items ≡ b.text.items ++ (line ++ 13 ∷ 10 ∷ []) → c.count ≡ b.count + 1
+pub block_more : (all rest line after : List ℕ) (b c : BlockText) → HasBlock all rest b → lines rest ≡ line ∷ lines after → is_mark line ≡ false
+    → length after < length rest → c.text.items ≡ b.text.items ++ (line ++ 13 ∷ 10 ∷ []) → c.count ≡ b.count + 1
     → c.part ≡ part_with b.part line → c.daemon ≡ daemon_with b.daemon b.part b.count line → HasBlock all after c
 block_more all rest line after b c h first clear shorter written count part daemon =
     let each = rw first at (lines_none rest) in
     let none = (and_parts (none_of is_feed line) (list_all (none_of is_feed) (lines after)) each).0 in
     let w : Writes b.text.items line c.text.items = line_written b.text.items line c.text.items h.whole none written in
-    let inner : block_lines (lines rest) ≡ line ∷ block_lines (lines after) = ap block_lines first ∙ if_off (is_mark line) [] (line ∷ block_lines (lines after)) clear in
+    let inner : block_lines (lines rest) ≡ line ∷ block_lines (lines after) =
+    ap block_lines first ∙ if_off (is_mark line) [] (line ∷ block_lines (lines after)) clear in
     let few : (if is_header line then 1 else 0) ≤ 1 = one_at_most (is_header line) in
     record {
       whole = w.whole;
@@ -103,11 +108,13 @@ daemon_here : (o : Option ℕ) (part passed : ℕ) → daemon_then o part passed
 daemon_here (Some n) part passed = refl
 daemon_here None part passed = refl
 
-pub block_all : (all rest new : List ℕ) (b : BlockText) → HasBlock all rest b → ends_block (lines rest) ≡ true → new ≡ b.text.items ++ (codes "%events" ++ 13 ∷ 10 ∷ []) → ReadsAll all rest new b
+pub block_all : (all rest new : List ℕ) (b : BlockText) → HasBlock all rest b → ends_block (lines rest) ≡ true
+    → new ≡ b.text.items ++ (codes "%events" ++ 13 ∷ 10 ∷ []) → ReadsAll all rest new b
 block_all all rest new b h ends written =
     let none : block_lines (lines rest) ≡ [] = block_ends (lines rest) ends in
     let w : Writes b.text.items (codes "%events") new = line_written b.text.items (codes "%events") new h.whole refl written in
-    let own : lines b.text.items ≡ block_lines (lines all) = sym (append-nil (lines b.text.items)) ∙ ap (λ (ls : List (List ℕ)). lines b.text.items ++ ls) (sym none) ∙ h.said in
+    let own : lines b.text.items ≡ block_lines (lines all) =
+    sym (append-nil (lines b.text.items)) ∙ ap (λ (ls : List (List ℕ)). lines b.text.items ++ ls) (sym none) ∙ h.said in
     record {
       lines_are = w.lines_are ∙ ap script_lines own;
       count = omega (arith, h.counted, ap length none);

@@ -68,21 +68,25 @@ no_flag_opening n list true v e = cc
 no_flag_opening n list false v e = cc
 
 -- a line that says the flag says it alone too
-flag_alone : (place : Place) (kind : Kind) (rest : List ℕ) (after : List (List ℕ)) (v : Bool) → says place kind rest after ≡ Ok (Some (flag_said v)) → says (place_of []) kind rest [] ≡ Ok (Some (flag_said v))
+flag_alone : (place : Place) (kind : Kind) (rest : List ℕ) (after : List (List ℕ)) (v : Bool) → says place kind rest after ≡ Ok (Some (flag_said v))
+    → says (place_of []) kind rest [] ≡ Ok (Some (flag_said v))
 flag_alone place Skipped rest after v e = absurd (cc)
 flag_alone place Start rest after v e = by place.begun e
   where
-    by : (b : Bool) → (if b then Err (errors.Line (place.passed + 1)) else Ok None) ≡ Ok (Some (flag_said v)) → says (place_of []) Start rest [] ≡ Ok (Some (flag_said v))
+    by : (b : Bool) → (if b then Err (errors.Line (place.passed + 1)) else Ok None) ≡ Ok (Some (flag_said v))
+        → says (place_of []) Start rest [] ≡ Ok (Some (flag_said v))
     by true h = absurd (cc)
     by false h = absurd (cc)
 flag_alone place (Known key) rest after v e = by (has_key key place.keys) e
   where
-    by : (b : Bool) → (if b then Err (errors.Line (place.passed + 1)) else known_says (place.passed + 1) key (value_of rest)) ≡ Ok (Some (flag_said v)) → known_says 1 key (value_of rest) ≡ Ok (Some (flag_said v))
+    by : (b : Bool) → (if b then Err (errors.Line (place.passed + 1)) else known_says (place.passed + 1) key (value_of rest)) ≡ Ok (Some (flag_said v))
+        → known_says 1 key (value_of rest) ≡ Ok (Some (flag_said v))
     by true h = absurd (cc)
     by false h = known_alone (place.passed + 1) key (value_of rest) v h
 flag_alone place (Opens list) rest after v e = absurd (by (has_key (list_key list) place.keys) e)
   where
-    by : (b : Bool) → (if b then Err (errors.Line (place.passed + 1)) else opening_says (place.passed + 1) list (item_follows after)) ≡ Ok (Some (flag_said v)) → ⊥
+    by : (b : Bool) → (if b then Err (errors.Line (place.passed + 1)) else opening_says (place.passed + 1) list (item_follows after)) ≡ Ok (Some (flag_said v))
+        → ⊥
     by true h = cc
     by false h = no_flag_opening (place.passed + 1) list (item_follows after) v h
 flag_alone place Unknown rest after v e = absurd (cc)
@@ -96,19 +100,26 @@ kind_alone s line = by (s && is_inner line)
     by true = inl refl
     by false = inr refl
 
-line_alone : (before : List Kind) (line : List ℕ) (after : List (List ℕ)) (v : Bool) → says (place_of before) (kind_in (skips before) line).0 (kind_in (skips before) line).1 after ≡ Ok (Some (flag_said v))
+line_alone : (before : List Kind) (line : List ℕ) (after : List (List ℕ)) (v : Bool)
+    → says (place_of before) (kind_in (skips before) line).0 (kind_in (skips before) line).1 after ≡ Ok (Some (flag_said v))
     → says (place_of []) (kind_in false line).0 (kind_in false line).1 [] ≡ Ok (Some (flag_said v))
 line_alone before line after v e = elim (kind_alone (skips before) line) [
-  | inl skipped ↦ absurd (let none : Ok None ≡ Ok (Some (flag_said v)) = subst (λ (k : Kind). says (place_of before) k (kind_in (skips before) line).1 after ≡ Ok (Some (flag_said v))) skipped e in cc)
-  | inr same ↦ flag_alone (place_of before) (kind_in false line).0 (kind_in false line).1 after v (subst (λ (k : Kind × List ℕ). says (place_of before) k.0 k.1 after ≡ Ok (Some (flag_said v))) same e)
+  | inl skipped ↦
+      absurd (let none : Ok None ≡ Ok (Some (flag_said v)) =
+      subst (λ (k : Kind). says (place_of before) k (kind_in (skips before) line).1 after ≡ Ok (Some (flag_said v))) skipped e in cc)
+  | inr same ↦
+      flag_alone (place_of before) (kind_in false line).0 (kind_in false line).1 after v
+      (subst (λ (k : Kind × List ℕ). says (place_of before) k.0 k.1 after ≡ Ok (Some (flag_said v))) same e)
 ]
 
-one_alone : (line : List ℕ) (v : Bool) → none_of is_feed line ≡ true → says (place_of []) (kind_in false line).0 (kind_in false line).1 [] ≡ Ok (Some (flag_said v)) → lines line ≡ line ∷ []
+one_alone : (line : List ℕ) (v : Bool) → none_of is_feed line ≡ true
+    → says (place_of []) (kind_in false line).0 (kind_in false line).1 [] ≡ Ok (Some (flag_said v)) → lines line ≡ line ∷ []
 unfolding kind_of
 one_alone [] v none e = absurd (cc)
 one_alone (b ∷ bs) v none e = lines-last (b ∷ bs) (omega arith) (none_each is_feed (b ∷ bs) none)
 
-conf_alone : (line : List ℕ) (v : Bool) → lines line ≡ line ∷ [] → says (place_of []) (kind_in false line).0 (kind_in false line).1 [] ≡ Ok (Some (flag_said v)) → configuration line ≡ Ok (set_flag Flags.Daemon v defaults)
+conf_alone : (line : List ℕ) (v : Bool) → lines line ≡ line ∷ [] → says (place_of []) (kind_in false line).0 (kind_in false line).1 [] ≡ Ok (Some (flag_said v))
+    → configuration line ≡ Ok (set_flag Flags.Daemon v defaults)
 unfolding configuration
 conf_alone line v one e =
     ap (λ (ls : List (List ℕ)). overridden_by defaults (said_from [] ls)) one
@@ -126,7 +137,8 @@ flag_is : (line : List ℕ) (v : Bool) → is_utf8 line ≡ true → is_daemon l
 unfolding is_daemon
 flag_is line v text off e = sym (ap has_daemon e) ∙ (rw text at off)
 
-flag_off : (before : List Kind) (line : List ℕ) (after : List (List ℕ)) (v : Bool) → is_quiet line ≡ true → says (place_of before) (kind_in (skips before) line).0 (kind_in (skips before) line).1 after ≡ Ok (Some (flag_said v)) → v ≡ false
+flag_off : (before : List Kind) (line : List ℕ) (after : List (List ℕ)) (v : Bool) → is_quiet line ≡ true
+    → says (place_of before) (kind_in (skips before) line).0 (kind_in (skips before) line).1 after ≡ Ok (Some (flag_said v)) → v ≡ false
 flag_off before line after v quiet e =
     let parts = and_parts (is_utf8 line) (none_of is_feed line && not (is_daemon line)) quiet in
     let more = and_parts (none_of is_feed line) (not (is_daemon line)) parts.1 in
@@ -139,7 +151,8 @@ number_keeps : (key : NumberKey) (x : ℕ) (conf : ServerConf) → (set_number k
 number_keeps Numbers.Version x conf = refl
 number_keeps _ x conf = refl
 
-flag_keeps : (key : FlagKey) (x : Bool) (conf : ServerConf) → ((v : Bool) → said.Flag key x ≡ flag_said v → v ≡ false) → conf.daemon ≡ false → (set_flag key x conf).daemon ≡ false
+flag_keeps : (key : FlagKey) (x : Bool) (conf : ServerConf) → ((v : Bool) → said.Flag key x ≡ flag_said v → v ≡ false) → conf.daemon ≡ false
+    → (set_flag key x conf).daemon ≡ false
 flag_keeps Flags.Daemon x conf says off = says x refl
 flag_keeps _ x conf says off = off
 
@@ -172,8 +185,10 @@ said_keeps (said.Item key x) conf says off = list_keeps key _ conf ∙ off
 -- ---- all lines
 
 -- what one line says, and then the others
-line_then : (r : Result (Option Said) ReadError) (m : Result (List Said) ReadError) (saids : List Said) (conf : ServerConf) → ((s : Said) (v : Bool) → r ≡ Ok (Some s) → s ≡ flag_said v → v ≡ false)
-    → ((more : List Said) (c : ServerConf) → m ≡ Ok more → c.daemon ≡ false → (overridden c more).daemon ≡ false) → joined r m ≡ Ok saids → conf.daemon ≡ false → (overridden conf saids).daemon ≡ false
+line_then : (r : Result (Option Said) ReadError) (m : Result (List Said) ReadError) (saids : List Said) (conf : ServerConf)
+    → ((s : Said) (v : Bool) → r ≡ Ok (Some s) → s ≡ flag_said v → v ≡ false)
+    → ((more : List Said) (c : ServerConf) → m ≡ Ok more → c.daemon ≡ false → (overridden c more).daemon ≡ false) → joined r m ≡ Ok saids → conf.daemon ≡ false
+    → (overridden conf saids).daemon ≡ false
 line_then (Err x) m saids conf here later e off = absurd (cc)
 line_then (Ok None) m saids conf here later e off = later saids conf e off
 line_then (Ok (Some s)) (Err x) saids conf here later e off = absurd (cc)
@@ -181,22 +196,26 @@ line_then (Ok (Some s)) (Ok more) saids conf here later e off =
     let all : s ∷ more ≡ saids = cc in
     subst (λ (xs : List Said). (overridden conf xs).daemon ≡ false) all (later more (set_said s conf) refl (said_keeps s conf (λ v is. here s v refl is) off))
 
-quiet_lines : (before : List Kind) (ls : List (List ℕ)) (saids : List Said) (conf : ServerConf) → list_all is_quiet ls ≡ true → said_from before ls ≡ Ok saids → conf.daemon ≡ false → (overridden conf saids).daemon ≡ false
+quiet_lines : (before : List Kind) (ls : List (List ℕ)) (saids : List Said) (conf : ServerConf) → list_all is_quiet ls ≡ true → said_from before ls ≡ Ok saids
+    → conf.daemon ≡ false → (overridden conf saids).daemon ≡ false
 quiet_lines before [] saids conf quiet e off =
     let none : [] ≡ saids = cc in
     subst (λ (xs : List Said). (overridden conf xs).daemon ≡ false) none off
 quiet_lines before (line ∷ after) saids conf quiet e off =
     let rest = and_parts (is_quiet line) (list_all is_quiet after) quiet in
     let kind : Kind × List ℕ = kind_in (skips before) line in
-    line_then (says (place_of before) kind.0 kind.1 after) (said_from (kind.0 ∷ before) after) saids conf (λ s v said is. flag_off before line after v rest.0 (said ∙ ap (λ (x : Said). Ok (Some x)) is))
+    line_then (says (place_of before) kind.0 kind.1 after) (said_from (kind.0 ∷ before) after) saids conf
+    (λ s v said is. flag_off before line after v rest.0 (said ∙ ap (λ (x : Said). Ok (Some x)) is))
     (λ more c next no. quiet_lines (kind.0 ∷ before) after more c rest.1 next no) e off
 
-conf_of : (r : Result (List Said) ReadError) (conf : ServerConf) → ((saids : List Said) → r ≡ Ok saids → (overridden defaults saids).daemon ≡ false) → overridden_by defaults r ≡ Ok conf → conf.daemon ≡ false
+conf_of : (r : Result (List Said) ReadError) (conf : ServerConf) → ((saids : List Said) → r ≡ Ok saids → (overridden defaults saids).daemon ≡ false)
+    → overridden_by defaults r ≡ Ok conf → conf.daemon ≡ false
 conf_of (Err x) conf each e = absurd (cc)
 conf_of (Ok saids) conf each e =
     let is : overridden defaults saids ≡ conf = cc in
     subst (λ (c : ServerConf). c.daemon ≡ false) is (each saids refl)
 
 -- a configuration of such lines
-pub quiet_conf : (ls : List (List ℕ)) (conf : ServerConf) → list_all is_quiet ls ≡ true → overridden_by defaults (said_from [] ls) ≡ Ok conf → conf.daemon ≡ false
+pub quiet_conf : (ls : List (List ℕ)) (conf : ServerConf) → list_all is_quiet ls ≡ true → overridden_by defaults (said_from [] ls) ≡ Ok conf
+    → conf.daemon ≡ false
 quiet_conf ls conf quiet e = conf_of (said_from [] ls) conf (λ saids is. quiet_lines [] ls saids defaults quiet is refl) e

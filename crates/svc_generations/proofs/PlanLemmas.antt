@@ -43,7 +43,8 @@ later_more plans p = by (length (plans ++ p ∷ []) == 0) refl
 -- ---- a generation can be run by each
 
 -- by the plan of a block whose configuration is accepted
-pub plan_may : (later : Bool) (b : Block) (p : PlannedScript) → IsBlock b → p.plan ≡ plan_of (flags_of later) (parts_of b.script) → (p.refused ≡ None → IsValid p.plan) → p.refused ≡ None → MayBegin later p.plan
+pub plan_may : (later : Bool) (b : Block) (p : PlannedScript) → IsBlock b → p.plan ≡ plan_of (flags_of later) (parts_of b.script)
+    → (p.refused ≡ None → IsValid p.plan) → p.refused ≡ None → MayBegin later p.plan
 plan_may later b p is same valid none = record {
   valid = valid none;
   untested = ap (λ (q : Plan). q.test) same;
@@ -100,7 +101,8 @@ plans_begin all p plans services refused = record {
   may = λ none. subst (MayBeginEach false) (sym plans) tt;
 }
 
-key_more : (o r : Option Key) (b : BlockParts) (todo all : List BlockParts) → KeyThen o (b ∷ todo) all → IsRefused r (judged b.parts.conf) → KeyThen (option_or o r) todo all
+key_more : (o r : Option Key) (b : BlockParts) (todo all : List BlockParts) → KeyThen o (b ∷ todo) all → IsRefused r (judged b.parts.conf)
+    → KeyThen (option_or o r) todo all
 key_more (Some key) r b todo all h j = h
 key_more None (Some key) b todo all h j = h (Some key) (inl j)
 key_more None None b todo all h j = λ o. by o
@@ -109,8 +111,10 @@ key_more None None b todo all h j = λ o. by o
     by None k = h None (j, k)
     by (Some key) k = h (Some key) (inr (j, k))
 
-pub plans_more : (b : BlockParts) (rest todo all : List BlockParts) (p q : Plans) (planned : PlannedScript) → PlansThen todo all p → todo ≡ b ∷ rest → HasPlan (is_later p.plans) b planned → RefusesNone b.parts.services
-    → (planned.refused ≡ None → MayBegin (is_later p.plans) planned.plan) → q.plans ≡ p.plans ++ planned.plan ∷ [] → q.services ≡ p.services ++ planned.services ∷ [] → q.refused ≡ option_or p.refused planned.refused → PlansThen rest all q
+pub plans_more : (b : BlockParts) (rest todo all : List BlockParts) (p q : Plans) (planned : PlannedScript) → PlansThen todo all p → todo ≡ b ∷ rest
+    → HasPlan (is_later p.plans) b planned → RefusesNone b.parts.services
+    → (planned.refused ≡ None → MayBegin (is_later p.plans) planned.plan) → q.plans ≡ p.plans ++ planned.plan ∷ []
+    → q.services ≡ p.services ++ planned.services ∷ [] → q.refused ≡ option_or p.refused planned.refused → PlansThen rest all q
 plans_more b rest todo all p q planned h first has sound may plans services refused =
     let was : PlansThen (b ∷ rest) all p = subst (λ (bs : List BlockParts). PlansThen bs all p) first h in
     record {
@@ -122,14 +126,16 @@ plans_more b rest todo all p q planned h first has sound may plans services refu
           ∙ was.plans;
       services =
           ap (λ (vs : List (Vec ServiceLine Global)). lines_in vs ++ services_of rest) services
-          ∙ ap (λ (ls : List (List ServiceLine)). ls ++ services_of rest) (map-append (λ (v : Vec ServiceLine Global). v.items) p.services (planned.services ∷ []))
+          ∙ ap (λ (ls : List (List ServiceLine)). ls ++ services_of rest)
+          (map-append (λ (v : Vec ServiceLine Global). v.items) p.services (planned.services ∷ []))
           ∙ append_assoc (lines_in p.services) (planned.services.items ∷ []) (services_of rest)
           ∙ ap (λ (x : List ServiceLine). lines_in p.services ++ x ∷ services_of rest) has.services
           ∙ was.services;
       refused = subst (λ (o : Option Key). KeyThen o rest all) (sym refused) (key_more p.refused planned.refused b rest all was.refused has.judged);
       sound = λ more. was.sound (sound, more);
       edge = λ n more. was.edge n (inr (sound, more));
-      may = λ none. let both = or_none p.refused planned.refused (sym refused ∙ none) in subst (MayBeginEach false) (sym plans) (begin_more p.plans planned.plan (h.may both.0) (may both.1));
+      may = λ none. let both = or_none p.refused planned.refused (sym refused ∙ none) in
+          subst (MayBeginEach false) (sym plans) (begin_more p.plans planned.plan (h.may both.0) (may both.1));
     }
 
 key_all : (o : Option Key) (all : List BlockParts) → KeyThen o [] all → IsFirstKey o all
@@ -146,7 +152,8 @@ plans_all todo all p h none =
     }
 
 -- a chain can be run by them
-pub may_all : (todo all : List BlockParts) (p : Plans) → PlansThen todo all p → todo ≡ [] → 0 < length all → length all ≤ 64 → p.refused ≡ None → MayServe p.plans
+pub may_all : (todo all : List BlockParts) (p : Plans) → PlansThen todo all p → todo ≡ [] → 0 < length all → length all ≤ 64 → p.refused ≡ None
+    → MayServe p.plans
 may_all todo all p h none some few accepted =
     let count : length p.plans ≡ length all = ap (λ (ps : List Plan). length ps) (plans_all todo all p h none).plans ∙ plans_count false all in
     record { some = omega arith; few = omega arith; each = h.may accepted }
@@ -155,10 +162,20 @@ pub sound_all : (todo all : List BlockParts) (p : Plans) → PlansThen todo all 
 sound_all todo all p h none = h.sound (subst AllSound (sym none) tt)
 
 -- the refused line of a service, in its block and in the input
-pub edge_place : (b : Block) (n : ℕ) (error : ScriptError) → IsBlock b → (k : ℕ) × (RefusesAt b.script.services.items k × (n ≡ slice_index b.script.lines.items k)) → IsBehind b.before n error → RefusesIn (block_parts_of b) error
-edge_place b n (Line m) is r at = record { service = r.0; line = n; refused = r.1.0; place = subst (IsLineOf (lines b.text.items) r.0) (sym r.1.1) (is.numbers.each r.0 r.1.0.here); number = at }
+pub edge_place : (b : Block) (n : ℕ) (error : ScriptError) → IsBlock b
+    → (k : ℕ) × (RefusesAt b.script.services.items k × (n ≡ slice_index b.script.lines.items k)) → IsBehind b.before n error
+    → RefusesIn (block_parts_of b) error
+edge_place b n (Line m) is r at =
+    record {
+      service = r.0;
+      line = n;
+      refused = r.1.0;
+      place = subst (IsLineOf (lines b.text.items) r.0) (sym r.1.1) (is.numbers.each r.0 r.1.0.here);
+      number = at;
+    }
 edge_place b n NoMemory is r at = tt
 
-pub edge_here : (b : BlockParts) (rest todo all : List BlockParts) (p : Plans) (error : ScriptError) → PlansThen todo all p → todo ≡ b ∷ rest → RefusesIn b error → RefusesLine all error
+pub edge_here : (b : BlockParts) (rest todo all : List BlockParts) (p : Plans) (error : ScriptError) → PlansThen todo all p → todo ≡ b ∷ rest
+    → RefusesIn b error → RefusesLine all error
 edge_here b rest todo all p (Line n) h first refused = h.edge n (subst (λ (bs : List BlockParts). RefusesEdge bs n) (sym first) (inl refused))
 edge_here b rest todo all p NoMemory h first refused = tt

@@ -37,7 +37,8 @@ push_cases {X} (z ∷ xs) x y (suc j) h = by (push_cases xs x y j h)
     by (inr old) = inr old
 
 -- an element of a list with another one at a place
-set_cases : {X : Type 0} (xs : List X) (k : ℕ) (x y : X) (j : ℕ) → slice_get (set xs k x) j ≡ Some y → ((j ≡ k) × (y ≡ x)) ⊎ ((j ≡ k → ⊥) × (slice_get xs j ≡ Some y))
+set_cases : {X : Type 0} (xs : List X) (k : ℕ) (x y : X) (j : ℕ) → slice_get (set xs k x) j ≡ Some y
+    → ((j ≡ k) × (y ≡ x)) ⊎ ((j ≡ k → ⊥) × (slice_get xs j ≡ Some y))
 set_cases [] k x y j h = absurd (cc)
 set_cases (z ∷ xs) zero x y zero h = inl (refl, cc)
 set_cases (z ∷ xs) zero x y (suc j) h = inr ((λ e. omega (arith, e)), h)
@@ -75,7 +76,8 @@ events_same k xs s none = events_last k xs s ∙ ap (λ (es : List Event). event
 
 -- ---- what is judged
 
-judges_tell : (said : Event → Bool) (p : Plan) (since : List (ℕ × Bool)) (q : Record) (told : List Action) → JudgesEach said p (judgements told ++ since) q → JudgesEach said p since (tell q told)
+judges_tell : (said : Event → Bool) (p : Plan) (since : List (ℕ × Bool)) (q : Record) (told : List Action) → JudgesEach said p (judgements told ++ since) q
+    → JudgesEach said p since (tell q told)
 judges_tell said p since q [] h = h
 judges_tell said p since q (Judged c b ∷ more) h = judges_tell said p since (Told (Judged c b) ∷ q) more h
 judges_tell said p since q (a ∷ more) h = judges_tell said p since (Told a ∷ q) more h
@@ -83,9 +85,11 @@ judges_tell said p since q (a ∷ more) h = judges_tell said p since (Told a ∷
 judges_begun : (said : Event → Bool) (p : Plan) (g : GenerationData) → Begun p g → JudgesEach said p [] g.history
 judges_begun said p g b = subst (JudgesEach said p []) (sym b.history) (judges_tell said p [] [] b.told tt)
 
-judges_took : (said : Event → Bool) (was after : GenerationData) (e : Event) (end : StepEnd) → Took was after e (said e) end → JudgesEach said was.plan [] was.history → JudgesEach said was.plan [] after.history
+judges_took : (said : Event → Bool) (was after : GenerationData) (e : Event) (end : StepEnd) → Took was after e (said e) end
+    → JudgesEach said was.plan [] was.history → JudgesEach said was.plan [] after.history
 judges_took said was after e end t h =
-    subst (JudgesEach said was.plan []) (sym t.history) (judges_tell said was.plan [] (Got e ∷ was.history) t.told (append-nil (judgements t.told) ∙ t.judged, h))
+    subst (JudgesEach said was.plan []) (sym t.history)
+    (judges_tell said was.plan [] (Got e ∷ was.history) t.told (append-nil (judgements t.told) ∙ t.judged, h))
 
 -- ---- a chain
 
@@ -96,7 +100,8 @@ record Tells (blocks : List BlockParts) (taken : List Step) (gs : List Generatio
   pub fresh : (k : ℕ) → length gs ≤ k → events_to k taken ≡ []
 
 -- a generation that has just begun
-tells_begun : (blocks : List BlockParts) (taken : List Step) (k : ℕ) (p : Plan) (g : GenerationData) → slice_get (plans_of blocks) k ≡ Some p → Begun p g → events_to k taken ≡ [] → TellsGeneration blocks taken k g
+tells_begun : (blocks : List BlockParts) (taken : List Step) (k : ℕ) (p : Plan) (g : GenerationData) → slice_get (plans_of blocks) k ≡ Some p → Begun p g
+    → events_to k taken ≡ [] → TellsGeneration blocks taken k g
 tells_begun blocks taken k p g here b none = record {
   plan = here ∙ ap (λ (x : Plan). Some x) (sym b.plan);
   events = ap events_of b.history ∙ events-tell [] b.told ∙ sym none;
@@ -104,11 +109,13 @@ tells_begun blocks taken k p g here b none = record {
 }
 
 -- a generation that took nothing
-tells_same : (blocks : List BlockParts) (taken : List Step) (s : Step) (k : ℕ) (g : GenerationData) → event_to k s ≡ [] → TellsGeneration blocks taken k g → TellsGeneration blocks (taken ++ s ∷ []) k g
+tells_same : (blocks : List BlockParts) (taken : List Step) (s : Step) (k : ℕ) (g : GenerationData) → event_to k s ≡ [] → TellsGeneration blocks taken k g
+    → TellsGeneration blocks (taken ++ s ∷ []) k g
 tells_same blocks taken s k g none t = record { plan = t.plan; events = t.events ∙ sym (events_same k taken s none); judges = t.judges }
 
 -- a generation that took an event
-tells_took : (blocks : List BlockParts) (taken : List Step) (k : ℕ) (e : Event) (end : StepEnd) (was after : GenerationData) → Took was after e (said_to blocks k e) end → TellsGeneration blocks taken k was → TellsGeneration blocks (taken ++ steps.Event k e ∷ []) k after
+tells_took : (blocks : List BlockParts) (taken : List Step) (k : ℕ) (e : Event) (end : StepEnd) (was after : GenerationData)
+    → Took was after e (said_to blocks k e) end → TellsGeneration blocks taken k was → TellsGeneration blocks (taken ++ steps.Event k e ∷ []) k after
 tells_took blocks taken k e end was after took t = record {
   plan = t.plan ∙ ap (λ (x : Plan). Some x) (sym took.plan);
   events =
@@ -117,7 +124,8 @@ tells_took blocks taken k e end was after took t = record {
       ∙ ap (λ (es : List Event). es ++ e ∷ []) t.events
       ∙ ap (λ (es : List Event). events_to k taken ++ es) (sym (event_here k e))
       ∙ sym (events_last k taken (steps.Event k e));
-  judges = subst (λ (x : Plan). JudgesEach (said_to blocks k) x [] after.history) (sym took.plan) (judges_took (said_to blocks k) was after e end took t.judges);
+  judges = subst (λ (x : Plan). JudgesEach (said_to blocks k) x [] after.history) (sym took.plan)
+      (judges_took (said_to blocks k) was after e end took t.judges);
 }
 
 tells_first : (blocks : List BlockParts) (gs : List GenerationData) → BeginsFirst blocks gs → Tells blocks [] gs
@@ -135,7 +143,8 @@ tells_first blocks gs b =
         (subst (λ (n : ℕ). TellsGeneration blocks [] n b.begins.first) (sym new.0) (tells_begun blocks [] 0 b.plan b.begins.first b.first b.begins.begun refl))
     by k g (inr old) = absurd (cc)
 
-tells_launch : (blocks : List BlockParts) (taken : List Step) (old gs : List GenerationData) → Tells blocks taken old → LaunchesNext blocks old gs → Tells blocks (taken ++ steps.Launch ∷ []) gs
+tells_launch : (blocks : List BlockParts) (taken : List Step) (old gs : List GenerationData) → Tells blocks taken old → LaunchesNext blocks old gs
+    → Tells blocks (taken ++ steps.Launch ∷ []) gs
 tells_launch blocks taken old gs t l =
     let more : length gs ≡ length old + 1 = ap (λ (xs : List GenerationData). length xs) l.launches.others ∙ length-append old (l.launches.newest ∷ []) in
     let count = t.count in
@@ -145,7 +154,8 @@ tells_launch blocks taken old gs t l =
       fresh = λ k far. events_same k taken steps.Launch refl ∙ t.fresh k (omega arith);
     }
   where
-    by : (k : ℕ) (g : GenerationData) → ((k ≡ length old) × (g ≡ l.launches.newest)) ⊎ (slice_get old k ≡ Some g) → TellsGeneration blocks (taken ++ steps.Launch ∷ []) k g
+    by : (k : ℕ) (g : GenerationData) → ((k ≡ length old) × (g ≡ l.launches.newest)) ⊎ (slice_get old k ≡ Some g)
+        → TellsGeneration blocks (taken ++ steps.Launch ∷ []) k g
     by k g (inl new) =
         subst (λ (x : GenerationData). TellsGeneration blocks (taken ++ steps.Launch ∷ []) k x) (sym new.1)
         (subst (λ (n : ℕ). TellsGeneration blocks (taken ++ steps.Launch ∷ []) n l.launches.newest) (sym new.0)
@@ -153,7 +163,8 @@ tells_launch blocks taken old gs t l =
         (tells_begun blocks taken (length old) l.plan l.launches.newest l.next l.launches.begun (t.fresh (length old) (omega arith)))))
     by k g (inr was) = tells_same blocks taken steps.Launch k g refl (t.each k g was)
 
-tells_event : (blocks : List BlockParts) (taken : List Step) (n : ℕ) (e : Event) (old gs : List GenerationData) → Tells blocks taken old → StepsTo blocks old gs n e → Tells blocks (taken ++ steps.Event n e ∷ []) gs
+tells_event : (blocks : List BlockParts) (taken : List Step) (n : ℕ) (e : Event) (old gs : List GenerationData) → Tells blocks taken old
+    → StepsTo blocks old gs n e → Tells blocks (taken ++ steps.Event n e ∷ []) gs
 tells_event blocks taken n e old gs t s =
     let same : length gs ≡ length old = ap (λ (xs : List GenerationData). length xs) s.steps.others ∙ length-set old n s.steps.after in
     let count = t.count in
@@ -164,21 +175,24 @@ tells_event blocks taken n e old gs t s =
       fresh = λ k far. events_same k taken (steps.Event n e) (event_other k n e (λ q. omega (arith, q))) ∙ t.fresh k (omega arith);
     }
   where
-    by : (k : ℕ) (g : GenerationData) → ((k ≡ n) × (g ≡ s.steps.after)) ⊎ ((k ≡ n → ⊥) × (slice_get old k ≡ Some g)) → TellsGeneration blocks (taken ++ steps.Event n e ∷ []) k g
+    by : (k : ℕ) (g : GenerationData) → ((k ≡ n) × (g ≡ s.steps.after)) ⊎ ((k ≡ n → ⊥) × (slice_get old k ≡ Some g))
+        → TellsGeneration blocks (taken ++ steps.Event n e ∷ []) k g
     by k g (inl new) =
         subst (λ (x : GenerationData). TellsGeneration blocks (taken ++ steps.Event n e ∷ []) k x) (sym new.1)
         (subst (λ (m : ℕ). TellsGeneration blocks (taken ++ steps.Event n e ∷ []) m s.steps.after) (sym new.0)
         (tells_took blocks taken n e s.end s.steps.was s.steps.after s.steps.took (t.each n s.steps.was s.steps.here)))
     by k g (inr was) = tells_same blocks taken (steps.Event n e) k g (event_other k n e was.0) (t.each k g was.1)
 
-tells_step : (blocks : List BlockParts) (taken : List Step) (s : Step) (old gs : List GenerationData) → Tells blocks taken old → TakesStep blocks old gs s → Tells blocks (taken ++ s ∷ []) gs
+tells_step : (blocks : List BlockParts) (taken : List Step) (s : Step) (old gs : List GenerationData) → Tells blocks taken old → TakesStep blocks old gs s
+    → Tells blocks (taken ++ s ∷ []) gs
 tells_step blocks taken steps.Launch old gs t l = tells_launch blocks taken old gs t l
 tells_step blocks taken (steps.Event n e) old gs t s = tells_event blocks taken n e old gs t s
 
 tells_left : (blocks : List BlockParts) (before : List Step) (gs : List GenerationData) → LeftBy blocks before gs → Tells blocks (reverse before) gs
 tells_left blocks [] gs l = tells_first blocks gs l.0
 tells_left blocks (s ∷ before) gs l =
-    subst (λ (xs : List Step). Tells blocks xs gs) (sym (reverse-append (s ∷ []) before)) (tells_step blocks (reverse before) s l.0 gs (tells_left blocks before l.0 l.1) l.2)
+    subst (λ (xs : List Step). Tells blocks xs gs) (sym (reverse-append (s ∷ []) before))
+    (tells_step blocks (reverse before) s l.0 gs (tells_left blocks before l.0 l.1) l.2)
 
 kept_left : (blocks : List BlockParts) (before : List Step) (gs : List GenerationData) → LeftBy blocks before gs → ChainKept gs
 kept_left blocks [] gs l = l.1

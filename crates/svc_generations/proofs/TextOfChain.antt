@@ -20,11 +20,15 @@ split_at zero (g ∷ gs) h = (g, refl, refl)
 split_at (suc n) [] h = absurd (omega arith)
 split_at (suc n) (g ∷ gs) h = split_at n gs (omega arith)
 
-pub text_more : (text new : List ℕ) (n : ℕ) (gs : List GenerationData) (entries : List Entry) → n < length gs → IfSome (slice_get gs n) (λ g. g.history ≡ reverse entries) → new ≡ text ++ (number_line n ++ text_of entries) → TextThen text n gs → TextThen new (n + 1) gs
+pub text_more : (text new : List ℕ) (n : ℕ) (gs : List GenerationData) (entries : List Entry) → n < length gs
+    → IfSome (slice_get gs n) (λ g. g.history ≡ reverse entries) → new ≡ text ++ (number_line n ++ text_of entries) → TextThen text n gs
+    → TextThen new (n + 1) gs
 text_more text new n gs entries inside record_is written h =
     let at = split_at n gs inside in
     let g : GenerationData = at.0 in
-    let entries_are : reverse g.history ≡ entries = ap (λ (r : List Entry). reverse r) (same_here (slice_get gs n) (λ (x : GenerationData). x.history ≡ reverse entries) g at.1 record_is) ∙ reverse-reverse entries in
+    let entries_are : reverse g.history ≡ entries =
+    ap (λ (r : List Entry). reverse r) (same_here (slice_get gs n) (λ (x : GenerationData). x.history ≡ reverse entries) g at.1 record_is)
+    ∙ reverse-reverse entries in
     let next : drop (n + 1) gs ≡ drop (suc n) gs = (let at : n + 1 ≡ suc n = omega arith in ap (λ (k : ℕ). drop k gs) at) in
     ap (λ (t : List ℕ). t ++ chain_text (n + 1) (drop (n + 1) gs)) written
     ∙ ap (λ (xs : List GenerationData). (text ++ (number_line n ++ text_of entries)) ++ chain_text (n + 1) xs) next

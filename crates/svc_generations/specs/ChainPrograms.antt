@@ -99,7 +99,8 @@ abbrev pub IsAnswer : List (List ℕ) → Option (List ℕ) → ChainLine → Li
 IsAnswer words left (Unbegun Words) out = (words ≢ []) × (out ≡ status_line (Unbegun Words))
 IsAnswer words left (Unbegun (Line n)) out = (words ≡ []) × (out ≡ status_line (Unbegun (Line n))) × Refuses left n
 IsAnswer words left (Unbegun ReadFault) out = (words ≡ []) × (out ≡ status_line (Unbegun ReadFault))
-IsAnswer words left (Unbegun (Run (Config key))) out = (words ≡ []) × (out ≡ status_line (Unbegun (Run (Config key)))) × IfSome left (λ bytes. RefusesConf bytes key)
+IsAnswer words left (Unbegun (Run (Config key))) out = (words ≡ []) × (out ≡ status_line (Unbegun (Run (Config key))))
+    × IfSome left (λ bytes. RefusesConf bytes key)
 IsAnswer words left (Unbegun (Run end)) out = ⊥
 IsAnswer words left line out = (words ≡ []) × ChainText left line out
 
@@ -129,7 +130,8 @@ pub record Answers (status : ℕ) (words : List (List ℕ)) (left now_left befor
   pub read : IsAtEnd now_left
   pub written : Appends before now out
 
--- the sink took a front of an answer that had its cause: of a read fault only where the source's count rose, and of all but refused words and a text that is too long only where the source was read to its end
+-- the sink took a front of an answer that had its cause: of a read fault only where the source's count rose, and of all but refused words and a text
+-- that is too long only where the source was read to its end
 abbrev pub WritesFront : List (List ℕ) → Option (List ℕ) → Option (List ℕ) → ℕ → ℕ → Option (List ℕ) → Option (List ℕ) → Type 0
 WritesFront words left now_left faults now_faults before now =
     (line : ChainLine) × (out : List ℕ) × IsAnswer words left line out × Ends line now_left × Faults line faults now_faults
@@ -137,9 +139,11 @@ WritesFront words left now_left faults now_faults before now =
 
 -- no step is refused by the chain that those before it leave
 abbrev pub RunsThrough : InputParts → Type 0
-RunsThrough input = (before : ℕ) (step : StepOf) (gs : List GenerationData) (refusal : StepRefusal) → slice_get input.steps before ≡ Some step → Leaves input.blocks (take before input.steps) gs → RefusesStep input.blocks gs step refusal → ⊥
+RunsThrough input = (before : ℕ) (step : StepOf) (gs : List GenerationData) (refusal : StepRefusal) → slice_get input.steps before ≡ Some step
+    → Leaves input.blocks (take before input.steps) gs → RefusesStep input.blocks gs step refusal → ⊥
 
--- there are no words, the source tells bytes within the limit that say an input, whose dependencies and configurations are accepted, and of whose steps none is refused
+-- there are no words, the source tells bytes within the limit that say an input, whose dependencies and configurations are accepted, and of whose
+-- steps none is refused
 pub record IsWholeText (words : List (List ℕ)) (bytes : List ℕ) (input : InputParts) : Type 0 where
   pub none : words ≡ []
   pub short : length bytes ≤ 16777216

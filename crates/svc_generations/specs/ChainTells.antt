@@ -38,7 +38,8 @@ JudgesEach said p since (Got e ∷ before) = (since ≡ judged_at p e (said e)) 
 JudgesEach said p since (Told (Judged c b) ∷ before) = JudgesEach said p ((c, b) ∷ since) before
 JudgesEach said p since (_ ∷ before) = JudgesEach said p since before
 
--- the generation with this number is run by its block's plan; its record's events are those that the steps gave to it, in order; and at each it judged as the services' lines say
+-- the generation with this number is run by its block's plan; its record's events are those that the steps gave to it, in order; and at each it
+-- judged as the services' lines say
 pub record TellsGeneration (blocks : List BlockParts) (taken : List Step) (k : ℕ) (g : GenerationData) : Type 0 where
   pub plan : slice_get (plans_of blocks) k ≡ Some g.plan
   pub events : events_of g.history ≡ events_to k taken

@@ -97,7 +97,8 @@ blocks_from zero passed ls = with_steps (steps_behind passed ls)
 blocks_from (suc n) passed [] = Err (passed + 1)
 blocks_from (suc n) passed (line ∷ more) =
     if is_generation line
-    then block_before (passed + 1) (script_lines (block_lines more)) (block_of (block_lines more)) (blocks_from n ((passed + 1) + length (block_lines more)) (behind_block more))
+    then block_before (passed + 1) (script_lines (block_lines more)) (block_of (block_lines more))
+    (blocks_from n ((passed + 1) + length (block_lines more)) (behind_block more))
     else with_steps (steps_behind passed (line ∷ more))
 
 -- there has to be a block

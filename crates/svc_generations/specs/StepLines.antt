@@ -18,7 +18,8 @@ launch_of (word ∷ more) = None
 -- the step that the words of a line say: a launch, or the number of a generation and an event
 unfoldable pub step_of : List (List ℕ) → Option Step
 step_of [] = None
-step_of (word ∷ more) = if bytes_eq word (codes "launch") then launch_of more else number_of (2 ^ 64) word >>= λ g. event_of more >>= λ e. Some (steps.Event g e)
+step_of (word ∷ more) =
+    if bytes_eq word (codes "launch") then launch_of more else number_of (2 ^ 64) word >>= λ g. event_of more >>= λ e. Some (steps.Event g e)
 
 -- what a line that isn't skipped says, or its number where it says no step
 abbrev pub step_or_line : ℕ → Option Step → Result (Option Step) ℕ

@@ -44,7 +44,8 @@ kept-graph g needed reach kept = record {
 -- the same for a graph that is seen as one
 pub view-graph : (names rows : List (List ℕ)) (needed reach : List ℕ) (g : GraphData) → record { names = names; depends = rows } ≡ g
     → IsKept (length names) rows needed reach → IsGraph g
-view-graph names rows needed reach g same kept = subst (λ (h : GraphData). IsGraph h) same (kept-graph (record { names = names; depends = rows }) needed reach kept)
+view-graph names rows needed reach g same kept =
+    subst (λ (h : GraphData). IsGraph h) same (kept-graph (record { names = names; depends = rows }) needed reach kept)
 
 -- more room for bits
 pub kept-grown : (count : ℕ) (rows : List (List ℕ)) (needed reach needed_now reach_now : List ℕ)
@@ -109,13 +110,16 @@ row_other : (rows : List (List ℕ)) (s d a : ℕ) → a ≢ s → row_of (pushe
 row_other rows s d a ne = get_or-set_other rows s a (row_of rows s ++ d ∷ []) [] ne
 
 -- an edge of the longer rows is the new one or an old one
-edge_cases : (rows : List (List ℕ)) (s d : ℕ) → s < length rows → (a b : ℕ) → is_in_row (pushed rows s d) a b ≡ true → (is_in_row rows a b ≡ true) ⊎ ((a ≡ s) × (b ≡ d))
+edge_cases : (rows : List (List ℕ)) (s d : ℕ) → s < length rows → (a b : ℕ) → is_in_row (pushed rows s d) a b ≡ true
+    → (is_in_row rows a b ≡ true) ⊎ ((a ≡ s) × (b ≡ d))
 edge_cases rows s d lt a b e =
     elim (cases_eq a s) [
-      | inl same ↦ elim (listed_push (row_of rows s) d b (subst (λ row. is_listed row b ≡ true) (row_pushed rows s d lt) (subst (λ x. is_in_row (pushed rows s d) x b ≡ true) same e))) [
-        | inl old ↦ inl (subst (λ x. is_in_row rows x b ≡ true) (sym same) old)
-        | inr new ↦ inr (same, new)
-      ]
+      | inl same ↦
+          elim (listed_push (row_of rows s) d b
+          (subst (λ row. is_listed row b ≡ true) (row_pushed rows s d lt) (subst (λ x. is_in_row (pushed rows s d) x b ≡ true) same e))) [
+            | inl old ↦ inl (subst (λ x. is_in_row rows x b ≡ true) (sym same) old)
+            | inr new ↦ inr (same, new)
+          ]
       | inr ne ↦ inl (subst (λ row. is_listed row b ≡ true) (row_other rows s d a ne) e)
     ]
 
@@ -132,7 +136,8 @@ edge_pushed : (rows : List (List ℕ)) (s d : ℕ) → s < length rows → (a b 
 edge_pushed rows s d lt a b =
     elim (cases_eq a s) [
       | inl same ↦ subst (λ x. is_in_row (pushed rows s d) x b ≡ (is_in_row rows x b || (b == d && x == s))) (sym same)
-          (ap (λ row. is_listed row b) (row_pushed rows s d lt) ∙ list_any-append (λ x. x == b) (row_of rows s) (d ∷ []) ∙ ap (λ w. is_in_row rows s b || w) last)
+          (ap (λ row. is_listed row b) (row_pushed rows s d lt) ∙ list_any-append (λ x. x == b) (row_of rows s) (d ∷ [])
+          ∙ ap (λ w. is_in_row rows s b || w) last)
       | inr ne ↦ ap (λ row. is_listed row b) (row_other rows s d a ne) ∙ none (is_in_row rows a b) (b == d) (a == s) (ne_eqb a s ne)
     ]
   where
@@ -172,7 +177,8 @@ unique_pushed rows s d lt d_in fresh unique a =
     none u v w e = grind arith
 
 -- an edge to a node that doesn't lead back
-pub kept-edge : (count : ℕ) (rows : List (List ℕ)) (needed reach needed_now reach_now : List ℕ) (s d : ℕ) → IsKept count rows needed reach → s < count → d < count
+pub kept-edge : (count : ℕ) (rows : List (List ℕ)) (needed reach needed_now reach_now : List ℕ) (s d : ℕ) → IsKept count rows needed reach → s < count
+    → d < count
     → is_in_row rows s d ≡ false → is_set reach d s ≡ false
     → length needed_now ≡ length needed → ((a b : ℕ) → is_set needed_now a b ≡ (is_set needed a b || (a == d && b == s)))
     → length reach_now ≡ length reach → ((a b : ℕ) → is_set reach_now a b ≡ (is_set reach a b || (is_set reach a s && is_set reach d b)))
@@ -200,7 +206,8 @@ kept-edge count rows needed reach needed_now reach_now s d kept s_in d_in fresh 
     }
 
 -- no way leads back from the end of an edge that is there
-pub edge-no_return : (count : ℕ) (rows : List (List ℕ)) (needed reach : List ℕ) (s d : ℕ) → IsKept count rows needed reach → is_in_row rows s d ≡ true → (s ≡ d) ⊎ Path (is_in_row rows) d s → ⊥
+pub edge-no_return : (count : ℕ) (rows : List (List ℕ)) (needed reach : List ℕ) (s d : ℕ) → IsKept count rows needed reach → is_in_row rows s d ≡ true
+    → (s ≡ d) ⊎ Path (is_in_row rows) d s → ⊥
 edge-no_return count rows needed reach s d kept e (inl same) =
     let h = kept.ranked s d e in
     let there : kept.rank d ≡ kept.rank s = ap kept.rank (sym same) in omega arith
@@ -209,7 +216,8 @@ edge-no_return count rows needed reach s d kept e (inr path) =
     let back = path-falls (is_in_row rows) kept.rank kept.ranked d s path in omega arith
 
 -- the nodes whose row has the bit of s are those that s depends on
-pub kept-row : (count : ℕ) (rows : List (List ℕ)) (needed reach : List ℕ) → IsKept count rows needed reach → (s a : ℕ) → (nat_lt a count && is_set needed a s) ≡ is_in_row rows s a
+pub kept-row : (count : ℕ) (rows : List (List ℕ)) (needed reach : List ℕ) → IsKept count rows needed reach → (s a : ℕ)
+    → (nat_lt a count && is_set needed a s) ≡ is_in_row rows s a
 kept-row count rows needed reach kept s a =
     elim (cases_lt a count) [
       | inl lt ↦ ap (λ w. w && is_set needed a s) (lt-ltb a count lt) ∙ kept.direct.edges s a

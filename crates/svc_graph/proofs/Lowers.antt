@@ -18,7 +18,8 @@ module _ (words counts : List ℕ) (k : ℕ) (was : (a : ℕ) → is_set words 0
   due-skip some a =
       was a ∙ elim (cases_eq a k) [
         | inl e ↦ and_left (nat_lt a k) (slice_index_or counts a 0 == 0) (le-ltb a k (omega arith))
-            ∙ sym (and_right (nat_lt a (k + 1)) (slice_index_or counts a 0 == 0) (ne_eqb (slice_index_or counts a 0) 0 (λ z. some (ap (λ i. slice_index_or counts i 0) (sym e) ∙ z))))
+            ∙ sym (and_right (nat_lt a (k + 1)) (slice_index_or counts a 0 == 0)
+            (ne_eqb (slice_index_or counts a 0) 0 (λ z. some (ap (λ i. slice_index_or counts i 0) (sym e) ∙ z))))
         | inr ne ↦ ap (λ w. w && (slice_index_or counts a 0 == 0)) (next_lt a k ne)
       ]
 
@@ -27,7 +28,8 @@ module _ (words counts : List ℕ) (k : ℕ) (was : (a : ℕ) → is_set words 0
   due-take words_now none bits a =
       bits 0 a ∙ elim (cases_eq a k) [
         | inl e ↦ or_right (is_set words 0 a) (0 == 0 && a == k) (bit_here a k e)
-            ∙ sym (and_from (nat_lt a (k + 1)) (slice_index_or counts a 0 == 0) (lt-ltb a (k + 1) (omega arith)) (eq-eqb (slice_index_or counts a 0) 0 (ap (λ i. slice_index_or counts i 0) e ∙ none)))
+            ∙ sym (and_from (nat_lt a (k + 1)) (slice_index_or counts a 0 == 0) (lt-ltb a (k + 1) (omega arith))
+            (eq-eqb (slice_index_or counts a 0) 0 (ap (λ i. slice_index_or counts i 0) e ∙ none)))
         | inr ne ↦ or_false (is_set words 0 a) (0 == 0 && a == k) (bit_other a k ne) ∙ was a ∙ ap (λ w. w && (slice_index_or counts a 0 == 0)) (next_lt a k ne)
       ]
 
@@ -51,10 +53,13 @@ module _ (needs : ℕ → Bool) (from p : ℕ) (le : from ≤ p) (here : needs p
 
   module _ (old counts : List ℕ) (room : p < length counts) (some : 0 < slice_index_or old p 0)
       (was : (a : ℕ) → slice_index_or counts a 0 + cond (nat_lt a from && needs a) 1 0 ≡ slice_index_or old a 0) where
-    pub lowered-counts : (a : ℕ) → slice_index_or (slice_set counts p (slice_index_or counts p 0 - 1)) a 0 + cond (nat_lt a (p + 1) && needs a) 1 0 ≡ slice_index_or old a 0
+    pub lowered-counts : (a : ℕ)
+        → slice_index_or (slice_set counts p (slice_index_or counts p 0 - 1)) a 0 + cond (nat_lt a (p + 1) && needs a) 1 0 ≡ slice_index_or old a 0
     lowered-counts a =
         elim (cases_eq a p) [
-          | inl e ↦ subst (λ x. slice_index_or (slice_set counts p (slice_index_or counts p 0 - 1)) x 0 + cond (nat_lt x (p + 1) && needs x) 1 0 ≡ slice_index_or old x 0) (sym e)
+          | inl e ↦ subst
+              (λ x. slice_index_or (slice_set counts p (slice_index_or counts p 0 - 1)) x 0 + cond (nat_lt x (p + 1) && needs x) 1 0 ≡ slice_index_or old x 0)
+              (sym e)
               (let there = get_or-set_same counts p (slice_index_or counts p 0 - 1) 0 room in
               let before = was p in
               let zero_then = none_at (nat_lt p from && needs p) none_yet in
@@ -64,31 +69,47 @@ module _ (needs : ℕ → Bool) (from p : ℕ) (le : from ≤ p) (here : needs p
               let before = was a in omega arith)
         ]
 
-    module _ (ready_old ready : List ℕ) (kept : (a : ℕ) → is_set ready 0 a ≡ (is_set ready_old 0 a || ((nat_lt a from && needs a) && (slice_index_or counts a 0 == 0)))) where
-      other : (a : ℕ) → a ≢ p → is_set ready 0 a ≡ (is_set ready_old 0 a || ((nat_lt a (p + 1) && needs a) && (slice_index_or (slice_set counts p (slice_index_or counts p 0 - 1)) a 0 == 0)))
+    module _ (ready_old ready : List ℕ)
+        (kept : (a : ℕ) → is_set ready 0 a ≡ (is_set ready_old 0 a || ((nat_lt a from && needs a) && (slice_index_or counts a 0 == 0)))) where
+      other : (a : ℕ) → a ≢ p
+          → is_set ready 0 a
+          ≡ (is_set ready_old 0 a || ((nat_lt a (p + 1) && needs a) && (slice_index_or (slice_set counts p (slice_index_or counts p 0 - 1)) a 0 == 0)))
       other a ne =
           kept a ∙ ap (λ w. is_set ready_old 0 a || (w && (slice_index_or counts a 0 == 0))) (past a ne)
-          ∙ ap (λ m. is_set ready_old 0 a || ((nat_lt a (p + 1) && needs a) && (m == 0))) (sym (get_or-set_other counts p a (slice_index_or counts p 0 - 1) 0 ne))
+          ∙ ap (λ m. is_set ready_old 0 a || ((nat_lt a (p + 1) && needs a) && (m == 0)))
+          (sym (get_or-set_other counts p a (slice_index_or counts p 0 - 1) 0 ne))
 
       pub lowered-waits : slice_index_or (slice_set counts p (slice_index_or counts p 0 - 1)) p 0 ≢ 0
-          → (a : ℕ) → is_set ready 0 a ≡ (is_set ready_old 0 a || ((nat_lt a (p + 1) && needs a) && (slice_index_or (slice_set counts p (slice_index_or counts p 0 - 1)) a 0 == 0)))
+          → (a : ℕ) → is_set ready 0 a
+          ≡ (is_set ready_old 0 a || ((nat_lt a (p + 1) && needs a) && (slice_index_or (slice_set counts p (slice_index_or counts p 0 - 1)) a 0 == 0)))
       lowered-waits more a =
           elim (cases_eq a p) [
-            | inl e ↦ subst (λ x. is_set ready 0 x ≡ (is_set ready_old 0 x || ((nat_lt x (p + 1) && needs x) && (slice_index_or (slice_set counts p (slice_index_or counts p 0 - 1)) x 0 == 0)))) (sym e)
-                (kept p ∙ or_false (is_set ready_old 0 p) ((nat_lt p from && needs p) && (slice_index_or counts p 0 == 0)) (and_left (nat_lt p from && needs p) (slice_index_or counts p 0 == 0) none_yet)
-                ∙ sym (or_false (is_set ready_old 0 p) ((nat_lt p (p + 1) && needs p) && (slice_index_or (slice_set counts p (slice_index_or counts p 0 - 1)) p 0 == 0))
-                (and_right (nat_lt p (p + 1) && needs p) (slice_index_or (slice_set counts p (slice_index_or counts p 0 - 1)) p 0 == 0) (ne_eqb (slice_index_or (slice_set counts p (slice_index_or counts p 0 - 1)) p 0) 0 more))))
+            | inl e ↦ subst
+                (λ x. is_set ready 0 x
+                ≡ (is_set ready_old 0 x
+                || ((nat_lt x (p + 1) && needs x) && (slice_index_or (slice_set counts p (slice_index_or counts p 0 - 1)) x 0 == 0)))) (sym e)
+                (kept p ∙ or_false (is_set ready_old 0 p) ((nat_lt p from && needs p) && (slice_index_or counts p 0 == 0))
+                (and_left (nat_lt p from && needs p) (slice_index_or counts p 0 == 0) none_yet)
+                ∙ sym (or_false (is_set ready_old 0 p)
+                ((nat_lt p (p + 1) && needs p) && (slice_index_or (slice_set counts p (slice_index_or counts p 0 - 1)) p 0 == 0))
+                (and_right (nat_lt p (p + 1) && needs p) (slice_index_or (slice_set counts p (slice_index_or counts p 0 - 1)) p 0 == 0)
+                (ne_eqb (slice_index_or (slice_set counts p (slice_index_or counts p 0 - 1)) p 0) 0 more))))
             | inr ne ↦ other a ne
           ]
 
       pub lowered-ready : (ready_now : List ℕ) → slice_index_or (slice_set counts p (slice_index_or counts p 0 - 1)) p 0 ≡ 0
           → ((a b : ℕ) → is_set ready_now a b ≡ (is_set ready a b || (a == 0 && b == p)))
-          → (a : ℕ) → is_set ready_now 0 a ≡ (is_set ready_old 0 a || ((nat_lt a (p + 1) && needs a) && (slice_index_or (slice_set counts p (slice_index_or counts p 0 - 1)) a 0 == 0)))
+          → (a : ℕ) → is_set ready_now 0 a
+          ≡ (is_set ready_old 0 a || ((nat_lt a (p + 1) && needs a) && (slice_index_or (slice_set counts p (slice_index_or counts p 0 - 1)) a 0 == 0)))
       lowered-ready ready_now none bits a =
           bits 0 a ∙ elim (cases_eq a p) [
             | inl e ↦ or_right (is_set ready 0 a) (0 == 0 && a == p) (bit_here a p e)
-                ∙ sym (subst (λ x. (is_set ready_old 0 x || ((nat_lt x (p + 1) && needs x) && (slice_index_or (slice_set counts p (slice_index_or counts p 0 - 1)) x 0 == 0))) ≡ true) (sym e)
-                (or_right (is_set ready_old 0 p) ((nat_lt p (p + 1) && needs p) && (slice_index_or (slice_set counts p (slice_index_or counts p 0 - 1)) p 0 == 0))
-                (and_from (nat_lt p (p + 1) && needs p) (slice_index_or (slice_set counts p (slice_index_or counts p 0 - 1)) p 0 == 0) now (eq-eqb (slice_index_or (slice_set counts p (slice_index_or counts p 0 - 1)) p 0) 0 none))))
+                ∙ sym (subst
+                (λ x. (is_set ready_old 0 x
+                || ((nat_lt x (p + 1) && needs x) && (slice_index_or (slice_set counts p (slice_index_or counts p 0 - 1)) x 0 == 0))) ≡ true) (sym e)
+                (or_right (is_set ready_old 0 p)
+                ((nat_lt p (p + 1) && needs p) && (slice_index_or (slice_set counts p (slice_index_or counts p 0 - 1)) p 0 == 0))
+                (and_from (nat_lt p (p + 1) && needs p) (slice_index_or (slice_set counts p (slice_index_or counts p 0 - 1)) p 0 == 0) now
+                (eq-eqb (slice_index_or (slice_set counts p (slice_index_or counts p 0 - 1)) p 0) 0 none))))
             | inr ne ↦ or_false (is_set ready 0 a) (0 == 0 && a == p) (bit_other a p ne) ∙ other a ne
           ]

@@ -20,12 +20,16 @@ next_lt a x ne =
     ]
 
 pub spread-none : (old : List ℕ) (s d : ℕ) → Spread old old s d 0
-spread-none old s d a b = sym (or_false (is_set old a b) (nat_lt a 0 && (is_set old a s && is_set old d b)) (and_left (nat_lt a 0) (is_set old a s && is_set old d b) (le-ltb a 0 (omega arith))))
+spread-none old s d a b =
+    sym (or_false (is_set old a b) (nat_lt a 0 && (is_set old a s && is_set old d b))
+    (and_left (nat_lt a 0) (is_set old a s && is_set old d b) (le-ltb a 0 (omega arith))))
 
 module _ (old words : List ℕ) (s d x : ℕ) (was : Spread old words s d x) where
   -- the next row is as it was
   pub spread-same : (b : ℕ) → is_set words x b ≡ is_set old x b
-  spread-same b = was x b ∙ or_false (is_set old x b) (nat_lt x x && (is_set old x s && is_set old d b)) (and_left (nat_lt x x) (is_set old x s && is_set old d b) (le-ltb x x (omega arith)))
+  spread-same b =
+      was x b ∙ or_false (is_set old x b) (nat_lt x x && (is_set old x s && is_set old d b))
+      (and_left (nat_lt x x) (is_set old x s && is_set old d b) (le-ltb x x (omega arith)))
 
   -- and has nothing to take over
   pub spread-skip : is_set words x s ≡ false → Spread old words s d (x + 1)
@@ -44,7 +48,8 @@ module _ (old words : List ℕ) (s d x : ℕ) (was : Spread old words s d x) whe
       joined a b ∙ elim (cases_eq a x) [
         | inl e ↦ (let there : is_set old a s ≡ true = ap (λ y. is_set old y s) e ∙ sym (spread-same s) ∙ has in
             let same : is_set words a b ≡ is_set old a b = ap (λ y. is_set words y b) e ∙ spread-same b ∙ ap (λ y. is_set old y b) (sym e) in
-            taken (is_set words a b) (is_set old a b) (a == x) (is_set words d b) (is_set old d b) (nat_lt a (x + 1)) (is_set old a s) same (eq-eqb a x e) kept (lt-ltb a (x + 1) (omega arith)) there)
+            taken (is_set words a b) (is_set old a b) (a == x) (is_set words d b) (is_set old d b) (nat_lt a (x + 1)) (is_set old a s) same (eq-eqb a x e) kept
+            (lt-ltb a (x + 1) (omega arith)) there)
         | inr ne ↦ or_false (is_set words a b) (a == x && is_set words d b) (and_left (a == x) (is_set words d b) (ne_eqb a x ne))
             ∙ was a b ∙ ap (λ w. is_set old a b || (w && (is_set old a s && is_set old d b))) (next_lt a x ne)
       ]

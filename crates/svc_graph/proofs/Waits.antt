@@ -30,7 +30,8 @@ listed_those p (suc n) b =
     ∙ ap (λ w. w || is_listed (cond (p n) (n ∷ []) []) b) (listed_those p n b)
     ∙ ap (λ w. (nat_lt b n && p b) || w) (one_listed (p n) n b)
     ∙ elim (cases_eq b n) [
-      | inl e ↦ here (nat_lt b n) (nat_lt b (suc n)) (p b) (p n) (n == b) (le-ltb b n (omega arith)) (lt-ltb b (suc n) (omega arith)) (eq-eqb n b (sym e)) (ap p e)
+      | inl e ↦ here (nat_lt b n) (nat_lt b (suc n)) (p b) (p n) (n == b) (le-ltb b n (omega arith)) (lt-ltb b (suc n) (omega arith)) (eq-eqb n b (sym e))
+          (ap p e)
       | inr ne ↦ elsewhere (nat_lt b n) (nat_lt b (suc n)) (p b) (p n) (n == b) (same ne) (ne_eqb n b (λ e. ne (sym e)))
     ]
   where
@@ -48,7 +49,8 @@ listed_those p (suc n) b =
 
 rows_len : (words : List ℕ) (n k : ℕ) → length (rows_of_bits words n k) ≡ k
 rows_len words n zero = refl
-rows_len words n (suc k) = let rest = rows_len words n k in let size = length-append (rows_of_bits words n k) (those_below (λ b. is_set words b k) n ∷ []) in omega arith
+rows_len words n (suc k) =
+    let rest = rows_len words n k in let size = length-append (rows_of_bits words n k) (those_below (λ b. is_set words b k) n ∷ []) in omega arith
 
 row_at : (words : List ℕ) (n k a : ℕ) → a < k → row_of (rows_of_bits words n k) a ≡ those_below (λ b. is_set words b a) n
 row_at words n zero a lt = absurd (omega arith)
@@ -62,20 +64,24 @@ row_at words n (suc k) a lt =
     ]
 
 -- the bits and the rows that contracts see tell the same edges
-pub bits_edges : (words : List ℕ) (n : ℕ) → ((a b : ℕ) → is_set words b a ≡ true → (a < n) × (b < n)) → (a b : ℕ) → is_in_row (rows_of_bits words n n) a b ≡ is_set words b a
+pub bits_edges : (words : List ℕ) (n : ℕ) → ((a b : ℕ) → is_set words b a ≡ true → (a < n) × (b < n)) → (a b : ℕ)
+    → is_in_row (rows_of_bits words n n) a b ≡ is_set words b a
 bits_edges words n inside a b =
     elim (cases_lt a n) [
       | inl lt ↦ ap (λ row. is_listed row b) (row_at words n n a lt) ∙ listed_those (λ x. is_set words x a) n b ∙ elim (cases_lt b n) [
         | inl below ↦ ap (λ w. w && is_set words b a) (lt-ltb b n below)
-        | inr le ↦ and_left (nat_lt b n) (is_set words b a) (le-ltb b n le) ∙ sym (false_from_ne_true (is_set words b a) (λ e. let h = inside a b e in omega arith))
+        | inr le ↦ and_left (nat_lt b n) (is_set words b a) (le-ltb b n le)
+            ∙ sym (false_from_ne_true (is_set words b a) (λ e. let h = inside a b e in omega arith))
       ]
       | inr le ↦ ap (λ row. is_listed row b) (get_or_past (rows_of_bits words n n) a [] (let size = rows_len words n n in omega arith))
           ∙ sym (false_from_ne_true (is_set words b a) (λ e. let h = inside a b e in omega arith))
     ]
 
 -- with no node marked, each node waits for as many as its row has
-pub counted-none : (rows : List (List ℕ)) (counts edges : List ℕ) (marks : List Bool) (n : ℕ) → n ≤ 1024 → length rows ≡ n → length marks ≡ n → length counts ≡ n
-    → ((a : ℕ) → slice_index_or counts a 0 ≡ length (row_of rows a)) → IsNeeded n (is_in_row rows) edges → RowsBelow n rows → AreSized rows → ((a : ℕ) → is_marked marks a ≡ false)
+pub counted-none : (rows : List (List ℕ)) (counts edges : List ℕ) (marks : List Bool) (n : ℕ) → n ≤ 1024 → length rows ≡ n → length marks ≡ n
+    → length counts ≡ n
+    → ((a : ℕ) → slice_index_or counts a 0 ≡ length (row_of rows a)) → IsNeeded n (is_in_row rows) edges → RowsBelow n rows → AreSized rows
+    → ((a : ℕ) → is_marked marks a ≡ false)
     → IsCounted counts edges marks
 counted-none rows counts edges marks n few sized marks_len counts_len read needed below unique free = record {
   few = omega arith;
@@ -94,7 +100,8 @@ counted-none rows counts edges marks n few sized marks_len counts_len read neede
     unmarked : (u w : Bool) → w ≡ false → u ≡ (u && not w)
     unmarked u w e = grind arith
 
-module _ (counts edges : List ℕ) (marks : List Bool) (s : ℕ) (was : IsCounted counts edges marks) (lt : s < length marks) (free : is_marked marks s ≡ false) where
+module _ (counts edges : List ℕ) (marks : List Bool) (s : ℕ) (was : IsCounted counts edges marks) (lt : s < length marks)
+    (free : is_marked marks s ≡ false) where
   -- something is missing of each node that waits for one without a mark
   pub counted-some : (a : ℕ) → is_set edges s a ≡ true → (a < length counts) × (0 < slice_index_or counts a 0)
   counted-some a e =
@@ -102,7 +109,8 @@ module _ (counts edges : List ℕ) (marks : List Bool) (s : ℕ) (was : IsCounte
       let size = was.sized in (
         omega arith,
         elim (cases_eq (slice_index_or counts a 0) 0) [
-          | inl none ↦ absurd (let clear = count-zero (λ b. is_set edges b a && not (is_marked marks b)) (length marks) (sym (was.counted a below) ∙ none) s lt in
+          | inl none ↦
+              absurd (let clear = count-zero (λ b. is_set edges b a && not (is_marked marks b)) (length marks) (sym (was.counted a below) ∙ none) s lt in
               let there = and_from (is_set edges s a) (not (is_marked marks s)) e (not_from_false (is_marked marks s) free) in cc)
           | inr some ↦ omega arith
         ],
@@ -110,7 +118,8 @@ module _ (counts edges : List ℕ) (marks : List Bool) (s : ℕ) (was : IsCounte
 
   -- one mark more
   pub counted-mark : (counts_now : List ℕ) → length counts_now ≡ length counts
-      → ((a : ℕ) → slice_index_or counts_now a 0 + cond (is_set edges s a) 1 0 ≡ slice_index_or counts a 0) → IsCounted counts_now edges (slice_set marks s true)
+      → ((a : ℕ) → slice_index_or counts_now a 0 + cond (is_set edges s a) 1 0 ≡ slice_index_or counts a 0)
+      → IsCounted counts_now edges (slice_set marks s true)
   counted-mark counts_now same_len lowered =
       let size = length-set marks s true in
       record {
@@ -121,9 +130,11 @@ module _ (counts edges : List ℕ) (marks : List Bool) (s : ℕ) (was : IsCounte
         counted = λ a below. (
             let before = was.counted a (omega arith) in
             let one = lowered a in
-            let less = missing-less (λ b. is_set edges b a) (is_marked marks) (is_marked (slice_set marks s true)) s (length marks) lt free (get_or-set_same marks s true false lt)
+            let less = missing-less (λ b. is_set edges b a) (is_marked marks) (is_marked (slice_set marks s true)) s (length marks) lt free
+            (get_or-set_same marks s true false lt)
             (λ b ne. get_or-set_other marks s b true false ne) in
-            let here : slice_index_or counts_now a 0 ≡ count_below (λ b. is_set edges b a && not (is_marked (slice_set marks s true) b)) (length marks) = omega arith in
+            let here : slice_index_or counts_now a 0 ≡ count_below (λ b. is_set edges b a && not (is_marked (slice_set marks s true) b)) (length marks) =
+            omega arith in
             here ∙ ap (λ m. count_below (λ b. is_set edges b a && not (is_marked (slice_set marks s true) b)) m) (sym size));
       }
 
@@ -131,7 +142,9 @@ module _ (counts edges : List ℕ) (marks : List Bool) (s : ℕ) (was : IsCounte
 pub missing-seen : (counts edges : List ℕ) (marks : List Bool) → IsCounted counts edges marks → (a : ℕ) → a < length marks
     → slice_index_or counts a 0 ≡ count_below (λ b. is_in_row (rows_of_bits edges (length marks) (length marks)) a b && not (is_marked marks b)) (length marks)
 missing-seen counts edges marks was a lt =
-    was.counted a lt ∙ count-same (λ b. is_set edges b a && not (is_marked marks b)) (λ b. is_in_row (rows_of_bits edges (length marks) (length marks)) a b && not (is_marked marks b))
+    was.counted a lt
+    ∙ count-same (λ b. is_set edges b a && not (is_marked marks b))
+    (λ b. is_in_row (rows_of_bits edges (length marks) (length marks)) a b && not (is_marked marks b))
     (length marks) (λ b _. ap (λ w. w && not (is_marked marks b)) (sym (bits_edges edges (length marks) was.inside a b)))
 
 pub dependents-seen : (counts edges : List ℕ) (marks : List Bool) → IsCounted counts edges marks → (s : ℕ)

@@ -19,7 +19,9 @@ has-texts p all s i = by (slice_get p.services s) refl
   where
     within : (x : ServicePlan) → slice_get p.services s ≡ Some x → (o : Option EndpointPlan) → slice_get x.endpoints i ≡ o → IsTextOr (address p s i)
     within x e None f = rw (e, f) tt
-    within x e (Some y) f = rw (e, f) (at-place (λ (z : EndpointPlan). IsUtf8 z.address) x.endpoints i y (at-place (λ (z : ServicePlan). AreTextual z.endpoints) p.services s x all e) f)
+    within x e (Some y) f =
+        rw (e, f) (at-place (λ (z : EndpointPlan). IsUtf8 z.address) x.endpoints i y
+        (at-place (λ (z : ServicePlan). AreTextual z.endpoints) p.services s x all e) f)
 
     by : (o : Option ServicePlan) → slice_get p.services s ≡ o → IsTextOr (address p s i)
     by None e = rw e tt

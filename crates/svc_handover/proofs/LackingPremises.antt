@@ -23,7 +23,8 @@ use Rattle.svc_handover.specs.Operator.{was_held, is_named_by_both, is_upgrade_o
 
 -- the premises, each as a test
 abbrev pub premises : Plan → Plan → World → List ℕ → List Bool
-premises p n w a = was_held p w.old a ∷ is_named_by_both p n a ∷ is_upgrade_or_none (signal_of w.old) ∷ ends_sent p w.old ∷ is_sound_for p w.old a ∷ is_sound_for n w.new a
+premises p n w a =
+    was_held p w.old a ∷ is_named_by_both p n a ∷ is_upgrade_or_none (signal_of w.old) ∷ ends_sent p w.old ∷ is_sound_for p w.old a ∷ is_sound_for n w.new a
     ∷ not (is_down p w.old) ∷ not (is_down n w.new) ∷ not (has is_signal w.new) ∷ []
 
 -- all of them but the one at this place
@@ -53,7 +54,20 @@ web es = record { name = codes "web"; kind = Plain; depends = []; declared = Som
 
 -- an old server, and a new one that takes over its sockets
 abbrev pub plain : List EndpointPlan → Plan
-plain es = record { services = web es ∷ []; grace = 0; stop = 5; tasks = 1; limit = 1; upgrade = false; test = false; eager = false; daemon = false; wait = false; ready_timeout = 600 }
+plain es = record {
+  services = web es
+      ∷ [];
+  grace = 0;
+  stop = 5;
+  tasks = 1;
+  limit = 1;
+  upgrade = false;
+  test = false;
+  eager = false;
+  daemon = false;
+  wait = false;
+  ready_timeout = 600;
+}
 
 abbrev pub inheriting : List EndpointPlan → Plan
 inheriting es = record (plain es) { upgrade = true; eager = true }
@@ -83,7 +97,9 @@ sent = Told (Phase GracefulUpgradeCloseTimeout 0) ∷ Got Sent ∷ Told (Send x 
 
 -- five seconds later it ends, with no grace period
 abbrev pub drained : ℕ → Record → Record
-drained ms before = Told (Phase Terminated ms) ∷ Told (Stop 5) ∷ Told (Close 7) ∷ Told (Phase ShutdownRuntimes ms) ∷ Told (Phase ShutdownGracePeriod ms) ∷ Told (Phase ShutdownStarted ms) ∷ Told Broadcast ∷ Got (Moment ms) ∷ before
+drained ms before =
+    Told (Phase Terminated ms) ∷ Told (Stop 5) ∷ Told (Close 7) ∷ Told (Phase ShutdownRuntimes ms) ∷ Told (Phase ShutdownGracePeriod ms)
+    ∷ Told (Phase ShutdownStarted ms) ∷ Told Broadcast ∷ Got (Moment ms) ∷ before
 
 -- a new server asks for it
 abbrev pub asks : Record
@@ -95,8 +111,12 @@ taken = Told (Phase Running 0) ∷ Told (Adopt 0 0 3) ∷ Told (Start 0) ∷ Tol
 
 -- the address was held only after the signal: another one was in the table
 held-late : IsLost 0 (plain (tcp y ∷ tcp x ∷ [])) (inheriting (tcp y ∷ tcp x ∷ []))
-    (Told (Phase Terminated 6000) ∷ Told (Stop 5) ∷ Told (Close 7) ∷ Told (Close 5) ∷ Told (Phase ShutdownRuntimes 6000) ∷ Told (Phase ShutdownGracePeriod 6000) ∷ Told (Phase ShutdownStarted 6000) ∷ Told Broadcast ∷ Got (Moment 6000) ∷ Told (Phase GracefulUpgradeCloseTimeout 1000) ∷ Got Sent ∷ Told (Send y (5 ∷ [])) ∷ Got Connected ∷ Got (Bound 0 1 7) ∷ Told (Bind 0 1) ∷ Got (Moment 1000) ∷ Told Connect ∷ Told (Phase GracefulUpgradeTransferringFds 0) ∷ Got (Signal GracefulUpgrade) ∷ Got (InUse 0 1) ∷ Told (Bind 0 1) ∷ Got (Bound 0 0 5) ∷ begun)
-    (Told (Bind 0 1) ∷ Got (Adopted 0 0) ∷ Told (Phase Running 0) ∷ Told (Adopt 0 0 3) ∷ Told (Start 0) ∷ Told (Phase BootstrapComplete 0) ∷ Got (Received y (3 ∷ [])) ∷ asks) Taken
+    (Told (Phase Terminated 6000) ∷ Told (Stop 5) ∷ Told (Close 7) ∷ Told (Close 5) ∷ Told (Phase ShutdownRuntimes 6000) ∷ Told (Phase ShutdownGracePeriod 6000)
+    ∷ Told (Phase ShutdownStarted 6000) ∷ Told Broadcast ∷ Got (Moment 6000) ∷ Told (Phase GracefulUpgradeCloseTimeout 1000) ∷ Got Sent
+    ∷ Told (Send y (5 ∷ [])) ∷ Got Connected ∷ Got (Bound 0 1 7) ∷ Told (Bind 0 1) ∷ Got (Moment 1000) ∷ Told Connect
+    ∷ Told (Phase GracefulUpgradeTransferringFds 0) ∷ Got (Signal GracefulUpgrade) ∷ Got (InUse 0 1) ∷ Told (Bind 0 1) ∷ Got (Bound 0 0 5) ∷ begun)
+    (Told (Bind 0 1) ∷ Got (Adopted 0 0) ∷ Told (Phase Running 0) ∷ Told (Adopt 0 0 3) ∷ Told (Start 0) ∷ Told (Phase BootstrapComplete 0)
+    ∷ Got (Received y (3 ∷ [])) ∷ asks) Taken
 unfolding is_utf8 chars encode is_well_formed words is_sayable message_bytes
 held-late = record { lacking = refl; closed = refl; kept = refl; old_right = refl; new_right = refl }
 
@@ -109,14 +129,16 @@ unnamed = record { lacking = refl; closed = refl; kept = refl; old_right = refl;
 
 -- the first signal was to end
 terminated : IsLost 2 (plain (tcp x ∷ [])) (inheriting (tcp x ∷ []))
-    (Told (Phase Terminated 0) ∷ Told (Stop 5) ∷ Told (Close 7) ∷ Told (Phase ShutdownRuntimes 0) ∷ Told (Phase ShutdownGracePeriod 0) ∷ Told (Phase ShutdownStarted 0) ∷ Told (Phase GracefulTerminate 0) ∷ Told Broadcast ∷ Got (Signal GracefulTerminate) ∷ held)
+    (Told (Phase Terminated 0) ∷ Told (Stop 5) ∷ Told (Close 7) ∷ Told (Phase ShutdownRuntimes 0) ∷ Told (Phase ShutdownGracePeriod 0)
+    ∷ Told (Phase ShutdownStarted 0) ∷ Told (Phase GracefulTerminate 0) ∷ Told Broadcast ∷ Got (Signal GracefulTerminate) ∷ held)
     asks Listening
 unfolding is_utf8 chars encode is_well_formed words is_sayable message_bytes
 terminated = record { lacking = refl; closed = refl; kept = refl; old_right = refl; new_right = refl }
 
 -- and to end at once
 stopped : IsLost 2 (plain (tcp x ∷ [])) (inheriting (tcp x ∷ []))
-    (Told (Phase Terminated 0) ∷ Told (Stop 0) ∷ Told (Close 7) ∷ Told (Phase ShutdownRuntimes 0) ∷ Told (Phase ShutdownStarted 0) ∷ Got (Signal FastShutdown) ∷ held)
+    (Told (Phase Terminated 0) ∷ Told (Stop 0) ∷ Told (Close 7) ∷ Told (Phase ShutdownRuntimes 0) ∷ Told (Phase ShutdownStarted 0) ∷ Got (Signal FastShutdown)
+    ∷ held)
     asks Listening
 unfolding is_utf8 chars encode is_well_formed words is_sayable message_bytes
 stopped = record { lacking = refl; closed = refl; kept = refl; old_right = refl; new_right = refl }
@@ -158,7 +180,8 @@ new-failed = record { lacking = refl; closed = refl; kept = refl; old_right = re
 
 -- the old server itself waited for an older one, and gave up
 old-gave-up : IsLost 6 second (inheriting (tcp x ∷ []))
-    (Got NoSenderYet ∷ Told TryReceive ∷ Got (Moment 1000) ∷ Got NoSenderYet ∷ Got (Bound 0 0 7) ∷ Told (Phase Running 0) ∷ Told TryReceive ∷ Told OpenReceiver ∷ Told (Phase Bootstrap 0) ∷ Told (Start 1) ∷ Told (Bind 0 0) ∷ Told (Start 0) ∷ [])
+    (Got NoSenderYet ∷ Told TryReceive ∷ Got (Moment 1000) ∷ Got NoSenderYet ∷ Got (Bound 0 0 7) ∷ Told (Phase Running 0) ∷ Told TryReceive ∷ Told OpenReceiver
+    ∷ Told (Phase Bootstrap 0) ∷ Told (Start 1) ∷ Told (Bind 0 0) ∷ Told (Start 0) ∷ [])
     asks Listening
 unfolding is_utf8 chars encode is_well_formed words is_sayable message_bytes
 old-gave-up = record { lacking = refl; closed = refl; kept = refl; old_right = refl; new_right = refl }
@@ -180,6 +203,7 @@ unreceived = record { lacking = refl; closed = refl; kept = refl; old_right = re
 -- it was told to end
 new-stopped : IsLost 8 (plain (tcp x ∷ [])) (inheriting (tcp x ∷ []))
     (drained 5000 sent)
-    (Told (Phase Terminated 0) ∷ Told (Stop 0) ∷ Told (Close 3) ∷ Told (Phase ShutdownRuntimes 0) ∷ Told (Phase ShutdownStarted 0) ∷ Got (Signal FastShutdown) ∷ Got (Adopted 0 0) ∷ taken) Taken
+    (Told (Phase Terminated 0) ∷ Told (Stop 0) ∷ Told (Close 3) ∷ Told (Phase ShutdownRuntimes 0) ∷ Told (Phase ShutdownStarted 0) ∷ Got (Signal FastShutdown)
+    ∷ Got (Adopted 0 0) ∷ taken) Taken
 unfolding is_utf8 chars encode is_well_formed words is_sayable message_bytes
 new-stopped = record { lacking = refl; closed = refl; kept = refl; old_right = refl; new_right = refl }

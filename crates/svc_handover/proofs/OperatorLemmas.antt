@@ -37,16 +37,27 @@ record GivenUp (n : Plan) (q : Record) (a : List ℕ) (r : Record) : Type 0 wher
   pub single : is_doubled n q fd ≡ false
 
 more-closed : (n : Plan) (q : Record) (a : List ℕ) (r : Record) (fd : ℕ) → GivenUp n q a r → GivenUp n q a (Told (Close fd) ∷ r)
-more-closed n q a r fd g = record { fd = g.fd; closed = or_right (is_close g.fd (Told (Close fd))) (has (is_close g.fd) r) g.closed; address = g.address; single = g.single }
+more-closed n q a r fd g =
+    record { fd = g.fd; closed = or_right (is_close g.fd (Told (Close fd))) (has (is_close g.fd) r) g.closed; address = g.address; single = g.single }
 
 given-up : (n : Plan) (q : Record) (a : List ℕ) (r : Record) → gives_up n q a r ≡ true → GivenUp n q a r
 given-up n q a [] h = absurd (cc)
-given-up n q a (Told (Close fd) ∷ r) h = elim (or_cases (has is_receipt r && (same_address (address_of n q fd) (Some a) && not (is_doubled n q fd))) (gives_up n q a r) h) [
-  | inl now ↦ (let parts = and_parts (same_address (address_of n q fd) (Some a)) (not (is_doubled n q fd)) (and_parts (has is_receipt r) (same_address (address_of n q fd) (Some a) && not (is_doubled n q fd)) now).1 in
-      record { fd = fd; closed = or_left (fd == fd) (has (is_close fd) r) (eq-eqb fd fd refl); address = same_eq (address_of n q fd) (Some a) parts.0; single = not-true (is_doubled n q fd) parts.1 })
-  | inr before ↦ more-closed n q a r fd (given-up n q a r before)
-]
-given-up n q a (e ∷ r) h = let g = given-up n q a r h in record { fd = g.fd; closed = or_right (is_close g.fd e) (has (is_close g.fd) r) g.closed; address = g.address; single = g.single }
+given-up n q a (Told (Close fd) ∷ r) h =
+    elim (or_cases (has is_receipt r && (same_address (address_of n q fd) (Some a) && not (is_doubled n q fd))) (gives_up n q a r) h) [
+      | inl now ↦ (let parts =
+          and_parts (same_address (address_of n q fd) (Some a)) (not (is_doubled n q fd))
+          (and_parts (has is_receipt r) (same_address (address_of n q fd) (Some a) && not (is_doubled n q fd)) now).1 in
+          record {
+            fd = fd;
+            closed = or_left (fd == fd) (has (is_close fd) r) (eq-eqb fd fd refl);
+            address = same_eq (address_of n q fd) (Some a) parts.0;
+            single = not-true (is_doubled n q fd) parts.1;
+          })
+      | inr before ↦ more-closed n q a r fd (given-up n q a r before)
+    ]
+given-up n q a (e ∷ r) h =
+    let g = given-up n q a r h in
+    record { fd = g.fd; closed = or_right (is_close g.fd e) (has (is_close g.fd) r) g.closed; address = g.address; single = g.single }
 
 -- a named address isn't unclaimed, nor abandoned where no service that names it fails
 named-claimed : (f g : ℕ → Bool) (ss : List ℕ) → list_any f ss ≡ true → list_all (λ s. g s && not (f s)) ss ≡ false
@@ -62,7 +73,8 @@ named-claimed f g (s ∷ ss) h = elim (or_cases (f s) (list_any f ss) h) [
     rest-off : (a b : Bool) → b ≡ false → (a && b) ≡ false
     rest-off a b k = grind arith
 
-pub sound-kept : (f g : ℕ → Bool) (ss : List ℕ) → list_any f ss ≡ true → list_all (λ s. not (f s) || not (g s)) ss ≡ true → list_all (λ s. not (f s) || g s) ss ≡ false
+pub sound-kept : (f g : ℕ → Bool) (ss : List ℕ) → list_any f ss ≡ true → list_all (λ s. not (f s) || not (g s)) ss ≡ true
+    → list_all (λ s. not (f s) || g s) ss ≡ false
 sound-kept f g [] h k = absurd (cc)
 sound-kept f g (s ∷ ss) h k =
     let parts = and_parts (not (f s) || not (g s)) (list_all (λ x. not (f x) || not (g x)) ss) k in
@@ -83,19 +95,29 @@ gone-off r u d h b o dr x y z w = rw (x, y, z, w) (none r)
     none : (r : Bool) → ((((r && false) || false) || false) || false) ≡ false
     none r = grind arith
 
-pub never-given-up : (core : CoreData) (q : Record) (a : List ℕ) → StandsFor core q → Right core.plan q → has is_signal q ≡ false → is_named core.plan a ≡ true → is_sound_for core.plan q a ≡ true → has_given_up core.plan q a ≡ false
+pub never-given-up : (core : CoreData) (q : Record) (a : List ℕ) → StandsFor core q → Right core.plan q → has is_signal q ≡ false → is_named core.plan a ≡ true
+    → is_sound_for core.plan q a ≡ true → has_given_up core.plan q a ≡ false
 never-given-up core q a stand right silent named sound = false_from_ne_true (has_given_up core.plan q a) (λ hit.
     let g = given-up core.plan q a q hit in
     let unpassed : waits_are_over core.plan q ≡ false = unsignalled-unpassed core.plan q (no-kind q silent) in
-    let unserved : is_served core.end ≡ false = false_from_ne_true (is_served core.end) (λ s. clash (waits_are_over core.plan q) (served-passed core.plan q (subst (λ x. is_served x ≡ true) stand.end_is s)) unpassed) in
+    let unserved : is_served core.end ≡ false =
+    false_from_ne_true (is_served core.end)
+    (λ s. clash (waits_are_over core.plan q) (served-passed core.plan q (subst (λ x. is_served x ≡ true) stand.end_is s)) unpassed) in
     let dr = stand.drain unserved in
     let quiet : has is_broadcast q ≡ false = unsignalled-silent core.plan core.drain (over_since core.offer.state) q (dr.signal_is ∙ no-kind q silent) dr in
     let opened : is_opened core.plan q g.fd ≡ true = closed_was_opened core.plan q g.fd right.stronger.closes g.closed in
-    let claimed : is_address_unclaimed core.plan (address_of core.plan q g.fd) ≡ false = ap (is_address_unclaimed core.plan) g.address ∙ named-claimed (λ s. names core.plan s a) (declares_list core.plan) (services core.plan) named in
+    let claimed : is_address_unclaimed core.plan (address_of core.plan q g.fd) ≡ false =
+    ap (is_address_unclaimed core.plan) g.address ∙ named-claimed (λ s. names core.plan s a) (declares_list core.plan) (services core.plan) named in
     let kept : is_address_abandoned core.plan q (address_of core.plan q g.fd) ≡ false = ap (is_address_abandoned core.plan q) g.address
-    ∙ and-second (list_any (λ s. names core.plan s a) (services core.plan)) (list_all (λ s. not (names core.plan s a) || has_failed core.plan q s) (services core.plan)) (sound-kept (λ s. names core.plan s a) (has_failed core.plan q) (services core.plan) named sound) in
-    let gone : is_gone core.plan q g.fd ≡ false = gone-off (is_received core.plan q g.fd) (is_address_unclaimed core.plan (address_of core.plan q g.fd)) (is_doubled core.plan q g.fd) false (is_address_abandoned core.plan q (address_of core.plan q g.fd)) (is_held_back core.plan q g.fd) (is_drained core.plan q g.fd)
-    claimed g.single kept (ap (λ b. ((b && not (is_adopt_of_open core.plan q g.fd)) && list_any (λ s. list_any (is_holder core.plan q g.fd s) (endpoint_numbers core.plan s)) (services core.plan))
+    ∙ and-second (list_any (λ s. names core.plan s a) (services core.plan))
+    (list_all (λ s. not (names core.plan s a) || has_failed core.plan q s) (services core.plan))
+    (sound-kept (λ s. names core.plan s a) (has_failed core.plan q) (services core.plan) named sound) in
+    let gone : is_gone core.plan q g.fd ≡ false =
+    gone-off (is_received core.plan q g.fd) (is_address_unclaimed core.plan (address_of core.plan q g.fd)) (is_doubled core.plan q g.fd) false
+    (is_address_abandoned core.plan q (address_of core.plan q g.fd)) (is_held_back core.plan q g.fd) (is_drained core.plan q g.fd)
+    claimed g.single kept
+    (ap (λ b. ((b && not (is_adopt_of_open core.plan q g.fd))
+    && list_any (λ s. list_any (is_holder core.plan q g.fd s) (endpoint_numbers core.plan s)) (services core.plan))
     && each_endpoint core.plan (λ s i. not (is_holder core.plan q g.fd s i) || (serves core.plan q s && have_loops_ended core.plan q s i))) quiet) in
     clash (has (is_close g.fd) q) g.closed (closed-is core.plan q g.fd right.stronger.closes ((stand.endpoints unserved).closes g.fd opened) ∙ gone))
   where

@@ -48,10 +48,13 @@ laws-at p n old new w old_plan new_plan s = subst (λ (x : Plan). Laws x n w) ol
     (law-holds old new w s, keeps-reachable old new w s))
 
 -- both servers have begun
-pub runs-first : (p n : Plan) (servers : Servers) (told_old told_new : List Action) → Begins p servers.predecessor told_old → Begins n servers.successor told_new → servers.channel ≡ after_told told_new Missing → HasTexts p → Runs p n [] servers
+pub runs-first : (p n : Plan) (servers : Servers) (told_old told_new : List Action) → Begins p servers.predecessor told_old
+    → Begins n servers.successor told_new → servers.channel ≡ after_told told_new Missing → HasTexts p → Runs p n [] servers
 runs-first p n servers told_old told_new by_old by_new channel texts =
     let w : World = first_world by_old.begun.told by_new.begun.told in
-    let stands : PairStands servers.predecessor.core servers.successor.core w = stands-first servers.predecessor.core servers.predecessor.core servers.successor.core servers.successor.core [] told_old [] told_new by_old.end by_new.end by_old.begun by_new.begun
+    let stands : PairStands servers.predecessor.core servers.successor.core w =
+    stands-first servers.predecessor.core servers.predecessor.core servers.successor.core servers.successor.core [] told_old [] told_new by_old.end
+    by_new.end by_old.begun by_new.begun
     (subst HasTexts (sym by_old.plan_is) texts) in
     let laws = laws-at p n servers.predecessor.core servers.successor.core w by_old.plan_is by_new.plan_is stands in
     record {
@@ -85,11 +88,17 @@ decided false true h = h.1 refl
 decided false false h = refl
 
 -- a server's test of an event is that of its record
-pub fits-old : (p n : Plan) (before : List PairStep) (servers : Servers) (runs : Runs p n before servers) (e : Event) (b : Bool) → ((q : Record) → StandsFor servers.predecessor.core q → (b ≡ true) ↔ Fits servers.predecessor.core.plan q e) → b ≡ fits p runs.world.old e
-fits-old p n before servers runs e b means = decided b (fits servers.predecessor.core.plan runs.world.old e) (means runs.world.old runs.stands.old_stands) ∙ ap (λ x. fits x runs.world.old e) runs.old_plan
+pub fits-old : (p n : Plan) (before : List PairStep) (servers : Servers) (runs : Runs p n before servers) (e : Event) (b : Bool)
+    → ((q : Record) → StandsFor servers.predecessor.core q → (b ≡ true) ↔ Fits servers.predecessor.core.plan q e) → b ≡ fits p runs.world.old e
+fits-old p n before servers runs e b means =
+    decided b (fits servers.predecessor.core.plan runs.world.old e) (means runs.world.old runs.stands.old_stands)
+    ∙ ap (λ x. fits x runs.world.old e) runs.old_plan
 
-pub fits-new : (p n : Plan) (before : List PairStep) (servers : Servers) (runs : Runs p n before servers) (e : Event) (b : Bool) → ((q : Record) → StandsFor servers.successor.core q → (b ≡ true) ↔ Fits servers.successor.core.plan q e) → b ≡ fits n runs.world.new e
-fits-new p n before servers runs e b means = decided b (fits servers.successor.core.plan runs.world.new e) (means runs.world.new runs.stands.new_stands) ∙ ap (λ x. fits x runs.world.new e) runs.new_plan
+pub fits-new : (p n : Plan) (before : List PairStep) (servers : Servers) (runs : Runs p n before servers) (e : Event) (b : Bool)
+    → ((q : Record) → StandsFor servers.successor.core q → (b ≡ true) ↔ Fits servers.successor.core.plan q e) → b ≡ fits n runs.world.new e
+fits-new p n before servers runs e b means =
+    decided b (fits servers.successor.core.plan runs.world.new e) (means runs.world.new runs.stands.new_stands)
+    ∙ ap (λ x. fits x runs.world.new e) runs.new_plan
 
 -- where the event doesn't fit, the step isn't allowed
 pub unfit : (b f m : Bool) → b ≡ false → b ≡ f → b ≡ (f && m)
@@ -100,9 +109,11 @@ pub fit : (b f m k : Bool) → b ≡ true → b ≡ f → m ≡ k → m ≡ (f &
 fit b f m k x y z = grind arith
 
 -- one move more: what is kept of the world that it makes is the run of a longer schedule
-grows-by : (p n : Plan) (before : List PairStep) (old new : Servers) (runs : Runs p n before old) (m : PairMove) → is_allowed p n runs.world m.step ≡ true → IsAsSaid p n m
+grows-by : (p n : Plan) (before : List PairStep) (old new : Servers) (runs : Runs p n before old) (m : PairMove) → is_allowed p n runs.world m.step ≡ true
+    → IsAsSaid p n m
     → PairStands new.predecessor.core new.successor.core (pair_step runs.world m.step m.told) → new.predecessor.core.plan ≡ p → new.successor.core.plan ≡ n
-    → reverse (list_of new.predecessor.entries) ≡ (pair_step runs.world m.step m.told).old → reverse (list_of new.successor.entries) ≡ (pair_step runs.world m.step m.told).new → new.channel ≡ (pair_step runs.world m.step m.told).channel
+    → reverse (list_of new.predecessor.entries) ≡ (pair_step runs.world m.step m.told).old
+    → reverse (list_of new.successor.entries) ≡ (pair_step runs.world m.step m.told).new → new.channel ≡ (pair_step runs.world m.step m.told).channel
     → Runs p n (before ++ m.step ∷ []) new
 grows-by p n before old new runs m allowed said stands old_plan new_plan old_is new_is channel =
     let l = runs.over.leaves in
@@ -136,7 +147,8 @@ grows-by p n before old new runs m allowed said stands old_plan new_plan old_is 
     }
 
 -- the record of a server that took a step
-pub taken-entries : (old new : Recorded) (step : PairStep) (told : List Action) (q : Record) (t : Takes old new step told) → reverse (list_of old.entries) ≡ q → reverse (list_of new.entries) ≡ tell (Got step.event ∷ q) t.keeps.told
+pub taken-entries : (old new : Recorded) (step : PairStep) (told : List Action) (q : Record) (t : Takes old new step told) → reverse (list_of old.entries) ≡ q
+    → reverse (list_of new.entries) ≡ tell (Got step.event ∷ q) t.keeps.told
 taken-entries old new step told q t same =
     ap (λ (xs : List Entry). reverse xs) t.entries
     ∙ turned-told (list_of old.entries ++ Got step.event ∷ []) told
@@ -144,37 +156,53 @@ taken-entries old new step told q t same =
     ∙ ap (tell (Got step.event ∷ q)) t.keeps.appended
 
 -- a step of the old server
-pub grows-old : (old new : Servers) (step : PairStep) (told : List Action) → step.old ≡ true → Takes old.predecessor new.predecessor step told → new.successor ≡ old.successor → new.channel ≡ after_old step.event old.channel → Grows old new step
+pub grows-old : (old new : Servers) (step : PairStep) (told : List Action) → step.old ≡ true → Takes old.predecessor new.predecessor step told
+    → new.successor ≡ old.successor → new.channel ≡ after_old step.event old.channel → Grows old new step
 grows-old old new step told side t same channel p n before runs allowed =
     let w : World = runs.world in
-    let moved : pair_step w step t.keeps.told ≡ old_step w step t.keeps.told = ap (λ b. if b then old_step w step t.keeps.told else new_step w step t.keeps.told) side in
-    let may : is_allowed old.predecessor.core.plan old.successor.core.plan w step ≡ true = ap (λ x. is_allowed x old.successor.core.plan w step) runs.old_plan ∙ ap (λ y. is_allowed p y w step) runs.new_plan ∙ allowed in
-    let stood : PairStands new.predecessor.core old.successor.core (old_step w step t.keeps.told) = stands-old old.predecessor.core new.predecessor.core old.successor.core w step [] told t.end side t.plan_is runs.stands may t.keeps in
-    let stands : PairStands new.predecessor.core new.successor.core (pair_step w step t.keeps.told) = subst (λ v. PairStands new.predecessor.core new.successor.core v) (sym moved) (subst (λ (r : Recorded). PairStands new.predecessor.core r.core (old_step w step t.keeps.told)) (sym same) stood) in
+    let moved : pair_step w step t.keeps.told ≡ old_step w step t.keeps.told =
+    ap (λ b. if b then old_step w step t.keeps.told else new_step w step t.keeps.told) side in
+    let may : is_allowed old.predecessor.core.plan old.successor.core.plan w step ≡ true =
+    ap (λ x. is_allowed x old.successor.core.plan w step) runs.old_plan ∙ ap (λ y. is_allowed p y w step) runs.new_plan ∙ allowed in
+    let stood : PairStands new.predecessor.core old.successor.core (old_step w step t.keeps.told) =
+    stands-old old.predecessor.core new.predecessor.core old.successor.core w step [] told t.end side t.plan_is runs.stands may t.keeps in
+    let stands : PairStands new.predecessor.core new.successor.core (pair_step w step t.keeps.told) =
+    subst (λ v. PairStands new.predecessor.core new.successor.core v) (sym moved)
+    (subst (λ (r : Recorded). PairStands new.predecessor.core r.core (old_step w step t.keeps.told)) (sym same) stood) in
     let said : judgements t.keeps.told ≡ judged_at (if step.old then p else n) step.event step.said =
     ap judgements (sym t.keeps.appended) ∙ t.judged ∙ ap (λ x. judged_at x step.event step.said) (runs.old_plan ∙ sym (ap (λ b. if b then p else n) side)) in
-    grows-by p n before old new runs (record { step = step; told = t.keeps.told }) allowed said stands (t.plan_is ∙ runs.old_plan) (ap (λ (r : Recorded). r.core.plan) same ∙ runs.new_plan)
+    grows-by p n before old new runs (record { step = step; told = t.keeps.told }) allowed said stands (t.plan_is ∙ runs.old_plan)
+    (ap (λ (r : Recorded). r.core.plan) same ∙ runs.new_plan)
     (taken-entries old.predecessor new.predecessor step told w.old t runs.old_is ∙ ap (λ (v : World). v.old) (sym moved))
     (ap (λ (r : Recorded). reverse (list_of r.entries)) same ∙ runs.new_is ∙ ap (λ (v : World). v.new) (sym moved))
     (channel ∙ ap (after_old step.event) runs.channel_is ∙ ap (λ (v : World). v.channel) (sym moved))
 
 -- a step of the new server
-pub grows-new : (old new : Servers) (step : PairStep) (told : List Action) → step.old ≡ false → Takes old.successor new.successor step told → new.predecessor ≡ old.predecessor → new.channel ≡ after_told told (after_new step.event old.channel) → Grows old new step
+pub grows-new : (old new : Servers) (step : PairStep) (told : List Action) → step.old ≡ false → Takes old.successor new.successor step told
+    → new.predecessor ≡ old.predecessor → new.channel ≡ after_told told (after_new step.event old.channel) → Grows old new step
 grows-new old new step told side t same channel p n before runs allowed =
     let w : World = runs.world in
-    let moved : pair_step w step t.keeps.told ≡ new_step w step t.keeps.told = ap (λ b. if b then old_step w step t.keeps.told else new_step w step t.keeps.told) side in
-    let may : is_allowed old.predecessor.core.plan old.successor.core.plan w step ≡ true = ap (λ x. is_allowed x old.successor.core.plan w step) runs.old_plan ∙ ap (λ y. is_allowed p y w step) runs.new_plan ∙ allowed in
-    let stood : PairStands old.predecessor.core new.successor.core (new_step w step t.keeps.told) = stands-new old.predecessor.core old.successor.core new.successor.core w step [] told t.end side runs.stands may t.keeps in
-    let stands : PairStands new.predecessor.core new.successor.core (pair_step w step t.keeps.told) = subst (λ v. PairStands new.predecessor.core new.successor.core v) (sym moved) (subst (λ (r : Recorded). PairStands r.core new.successor.core (new_step w step t.keeps.told)) (sym same) stood) in
+    let moved : pair_step w step t.keeps.told ≡ new_step w step t.keeps.told =
+    ap (λ b. if b then old_step w step t.keeps.told else new_step w step t.keeps.told) side in
+    let may : is_allowed old.predecessor.core.plan old.successor.core.plan w step ≡ true =
+    ap (λ x. is_allowed x old.successor.core.plan w step) runs.old_plan ∙ ap (λ y. is_allowed p y w step) runs.new_plan ∙ allowed in
+    let stood : PairStands old.predecessor.core new.successor.core (new_step w step t.keeps.told) =
+    stands-new old.predecessor.core old.successor.core new.successor.core w step [] told t.end side runs.stands may t.keeps in
+    let stands : PairStands new.predecessor.core new.successor.core (pair_step w step t.keeps.told) =
+    subst (λ v. PairStands new.predecessor.core new.successor.core v) (sym moved)
+    (subst (λ (r : Recorded). PairStands r.core new.successor.core (new_step w step t.keeps.told)) (sym same) stood) in
     let said : judgements t.keeps.told ≡ judged_at (if step.old then p else n) step.event step.said =
     ap judgements (sym t.keeps.appended) ∙ t.judged ∙ ap (λ x. judged_at x step.event step.said) (runs.new_plan ∙ sym (ap (λ b. if b then p else n) side)) in
-    grows-by p n before old new runs (record { step = step; told = t.keeps.told }) allowed said stands (ap (λ (r : Recorded). r.core.plan) same ∙ runs.old_plan) (t.plan_is ∙ runs.new_plan)
+    grows-by p n before old new runs (record { step = step; told = t.keeps.told }) allowed said stands (ap (λ (r : Recorded). r.core.plan) same ∙ runs.old_plan)
+    (t.plan_is ∙ runs.new_plan)
     (ap (λ (r : Recorded). reverse (list_of r.entries)) same ∙ runs.old_is ∙ ap (λ (v : World). v.old) (sym moved))
     (taken-entries old.successor new.successor step told w.new t runs.new_is ∙ ap (λ (v : World). v.new) (sym moved))
-    (channel ∙ ap (after_told told) (ap (after_new step.event) runs.channel_is) ∙ ap (λ t. after_told t (after_new step.event w.channel)) t.keeps.appended ∙ ap (λ (v : World). v.channel) (sym moved))
+    (channel ∙ ap (after_told told) (ap (after_new step.event) runs.channel_is) ∙ ap (λ t. after_told t (after_new step.event w.channel)) t.keeps.appended
+    ∙ ap (λ (v : World). v.channel) (sym moved))
 
 -- the first step that isn't allowed
-pub refuses : (p n : Plan) (schedule : List PairStep) (servers : Servers) (index : ℕ) (step : PairStep) → index < length schedule → step ≡ get_or schedule index step → (runs : Runs p n (take index schedule) servers)
+pub refuses : (p n : Plan) (schedule : List PairStep) (servers : Servers) (index : ℕ) (step : PairStep) → index < length schedule
+    → step ≡ get_or schedule index step → (runs : Runs p n (take index schedule) servers)
     → is_allowed p n runs.world step ≡ false → (k : ℕ) → k ≡ index + 1 → RefusesAt p n schedule k
 refuses p n schedule servers index step inside here runs refused k place = record {
   earlier = index;
@@ -182,13 +210,15 @@ refuses p n schedule servers index step inside here runs refused k place = recor
   before = take index schedule;
   step = step;
   rest = drop (suc index) schedule;
-  parts = sym (take-append-drop index schedule) ∙ ap (λ xs. take index schedule ++ xs) (drop-cons schedule index step inside ∙ ap (λ x. x ∷ drop (suc index) schedule) (sym here));
+  parts = sym (take-append-drop index schedule)
+      ∙ ap (λ xs. take index schedule ++ xs) (drop-cons schedule index step inside ∙ ap (λ x. x ∷ drop (suc index) schedule) (sym here));
   count = length-take-le index schedule (omega arith);
   stray = record { world = runs.world; leaves = runs.over.leaves; refused = refused };
 }
 
 -- what the whole schedule leaves
-pub gives : (p n : Plan) (schedule : List PairStep) (servers : Servers) (old new : List Entry) (channel : ChannelState) → Runs p n schedule servers → old ≡ list_of servers.predecessor.entries → new ≡ list_of servers.successor.entries → channel ≡ servers.channel
+pub gives : (p n : Plan) (schedule : List PairStep) (servers : Servers) (old new : List Entry) (channel : ChannelState) → Runs p n schedule servers
+    → old ≡ list_of servers.predecessor.entries → new ≡ list_of servers.successor.entries → channel ≡ servers.channel
     → Gives p n schedule old new channel
 gives p n schedule servers old new channel runs old_is new_is channel_is = record {
   world = runs.world;

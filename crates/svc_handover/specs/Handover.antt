@@ -24,7 +24,8 @@ is_covered p n w a = (has_live p w.old (Some a) || has_live n w.new (Some a)) ||
 -- the entry closes a descriptor of the address that isn't doubled, after the receipt; the descriptors are those of the whole record q
 abbrev pub gives_up : Plan → Record → List ℕ → Record → Bool
 gives_up n q a [] = false
-gives_up n q a (Told (Close fd) ∷ before) = (has is_receipt before && (same_address (address_of n q fd) (Some a) && not (is_doubled n q fd))) || gives_up n q a before
+gives_up n q a (Told (Close fd) ∷ before) =
+    (has is_receipt before && (same_address (address_of n q fd) (Some a) && not (is_doubled n q fd))) || gives_up n q a before
 gives_up n q a (e ∷ before) = gives_up n q a before
 
 -- since the receipt the new side has closed a descriptor of the address that isn't doubled
@@ -61,7 +62,8 @@ binds_right p q = list_all (λ s. list_all (λ i. nat_le (times (is_bind s i) q)
 
 -- how often a side may try
 abbrev pub tries_right : Plan → Record → Bool
-tries_right p q = ((nat_le (times is_not_there q) (p.limit + 1) && nat_le (times is_busy_answer q) 20) && nat_le (times is_no_sender q) (p.limit + 1)) && binds_right p q
+tries_right p q =
+    ((nat_le (times is_not_there q) (p.limit + 1) && nat_le (times is_busy_answer q) 20) && nat_le (times is_no_sender q) (p.limit + 1)) && binds_right p q
 
 -- what holds of each side's record
 pub record SideKept (p : Plan) (q : Record) : Type 0 where
@@ -81,4 +83,7 @@ pub record IsKept (p n : Plan) (w : World) : Type 0 where
 
 -- the same as a test
 abbrev pub is_kept : Plan → Plan → World → Bool
-is_kept p n w = (coverage_right p n w && not (has is_bad_message w.new)) && ((receipts_right p w.old && receipts_right n w.new) && ((tries_right p w.old && tries_right n w.new) && (gives_up_rightly p w.old && gives_up_rightly n w.new)))
+is_kept p n w =
+    (coverage_right p n w && not (has is_bad_message w.new))
+    && ((receipts_right p w.old && receipts_right n w.new)
+    && ((tries_right p w.old && tries_right n w.new) && (gives_up_rightly p w.old && gives_up_rightly n w.new)))

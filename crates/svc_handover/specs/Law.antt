@@ -17,7 +17,8 @@ use Rattle.svc_handover.specs.Pair.{World, Leaves, IsStray, first_world, EachWor
 use Rattle.svc_handover.specs.Handover.{IsKept}
 use Rattle.svc_handover.specs.Operator.{KeepsReachable}
 
--- a run: the schedule leaves this world, of which both records are right; and at the start and after each step the law of a handover holds, and that of its operator
+-- a run: the schedule leaves this world, of which both records are right; and at the start and after each step the law of a handover holds, and that
+-- of its operator
 pub record HandsOver (p n : Plan) (schedule : List PairStep) (w : World) : Type 0 where
   pub leaves : Leaves p n schedule w
   pub kept : EachWorld (IsKept p n) (first_world leaves.begun_old leaves.begun_new) leaves.moves
@@ -55,7 +56,8 @@ AreTextual es = All (λ (e : EndpointPlan). IsUtf8 e.address) es
 abbrev pub HasTexts : Plan → Type 0
 HasTexts p = (s i : ℕ) → IsTextOr (address p s i)
 
--- what is kept of the pair: both cores stand for their records, which are right; the channel is the one read off them; what was received is what was sent, and can be read; and the old plan's addresses are texts
+-- what is kept of the pair: both cores stand for their records, which are right; the channel is the one read off them; what was received is what was
+-- sent, and can be read; and the old plan's addresses are texts
 pub record PairStands (old new : CoreData) (w : World) : Type 0 where
   pub old_stands : StandsFor old w.old
   pub new_stands : StandsFor new w.new

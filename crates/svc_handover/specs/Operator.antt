@@ -24,7 +24,8 @@ is_up_with p q a = not (is_down p q) && has_live p q (Some a)
 
 -- a connection to the address finds an open listener: one of the two sides has it, or it is on its way to a new side that goes on
 abbrev pub is_reachable : Plan → Plan → World → List ℕ → Bool
-is_reachable p n w a = (is_up_with p w.old a || is_up_with n w.new a) || ((is_in_flight w.channel && names_address a (sent_message w.old)) && not (has_ended n w.new))
+is_reachable p n w a =
+    (is_up_with p w.old a || is_up_with n w.new a) || ((is_in_flight w.channel && names_address a (sent_message w.old)) && not (has_ended n w.new))
 
 -- what stands before the first signal; the whole where none came
 abbrev pub unsignalled : Record → Record

@@ -50,4 +50,5 @@ MayTake servers step = MatchBool step.old (MayCome servers.predecessor.core step
 
 -- whatever schedule was run, if the step may come now, the schedule with it is run
 abbrev pub Grows : Servers → Servers → PairStep → Type 0
-Grows old new step = (p n : Plan) (before : List PairStep) → (runs : Runs p n before old) → is_allowed p n runs.world step ≡ true → Runs p n (before ++ step ∷ []) new
+Grows old new step = (p n : Plan) (before : List PairStep) → (runs : Runs p n before old) → is_allowed p n runs.world step ≡ true
+    → Runs p n (before ++ step ∷ []) new

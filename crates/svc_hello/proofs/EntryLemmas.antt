@@ -16,7 +16,8 @@ get-end (y ∷ ys) x = get-end ys x
 -- the event that was put last
 pub last-put : (old now slice : List Entry) (e : Event) → slice ≡ old → now ≡ old ++ Got e ∷ [] → last_event now (Some (length slice)) ≡ Some e
 last-put old now slice e same put =
-    ap (λ (n : ℕ). last_event now (Some n)) (ap (λ (xs : List Entry). length xs) same) ∙ ap (λ (xs : List Entry). last_event xs (Some (length old))) put ∙ ap got_event (get-end old (Got e))
+    ap (λ (n : ℕ). last_event now (Some n)) (ap (λ (xs : List Entry). length xs) same) ∙ ap (λ (xs : List Entry). last_event xs (Some (length old))) put
+    ∙ ap got_event (get-end old (Got e))
 
 -- the account with it
 pub told-put : (old now : List Entry) (e : Event) (handed : List Handed) → now ≡ old ++ Got e ∷ []

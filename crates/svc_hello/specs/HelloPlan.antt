@@ -11,7 +11,14 @@ cache_plan = record { name = codes "cache"; kind = Notifying; depends = []; decl
 
 -- the web service waits for the cache, and listens on one address
 abbrev pub web_plan : ServicePlan
-web_plan = record { name = codes "web"; kind = Plain; depends = 0 ∷ []; declared = Some (codes "127.0.0.1:8080" ∷ []); endpoints = endpoint_at (codes "127.0.0.1:8080") ∷ [] }
+web_plan = record {
+  name = codes "web";
+  kind = Plain;
+  depends = 0
+      ∷ [];
+  declared = Some (codes "127.0.0.1:8080" ∷ []);
+  endpoints = endpoint_at (codes "127.0.0.1:8080") ∷ [];
+}
 
 -- the two services, one second of grace, and the defaults
 abbrev pub hello_plan : Plan

@@ -77,7 +77,8 @@ none-owes periods q never = by (owing periods q) refl
     by (s ∷ more) e = (let here = filter-head (owes periods q) (length periods) 0 s more e in absurd (never s (let below = here.1 in omega arith) here.0))
 
 -- a test that passes no entry of a run of jobs
-pub only-lacks : (test : Entry → Bool) → ((m : ℕ) → test (Got (Moment m)) ≡ false) → ((kind : ShutdownSignal) → test (Got (Signal kind)) ≡ false) → ((s : ℕ) → test (Got (Ready s)) ≡ false) → ((a : Action) → test (Told a) ≡ false)
+pub only-lacks : (test : Entry → Bool) → ((m : ℕ) → test (Got (Moment m)) ≡ false) → ((kind : ShutdownSignal) → test (Got (Signal kind)) ≡ false)
+    → ((s : ℕ) → test (Got (Ready s)) ≡ false) → ((a : Action) → test (Told a) ≡ false)
     → (q : Record) → each_entry (λ e before. is_job_entry e) q ≡ true → has test q ≡ false
 only-lacks test m k r t [] only = refl
 only-lacks test m k r t (Got (Moment ms) ∷ q) only = rw (m ms) (only-lacks test m k r t q only)
@@ -119,7 +120,9 @@ calm p q end only is =
     let well : ends_parent_well p q ≡ false = rw child refl in
     let badly : ends_parent_badly p q ≡ false = and_off p.wait (has is_side_parent q) _ child in
     let transfer : ends_transfer q ≡ false = only-lacks is_receive_failure (λ m. refl) (λ k. refl) (λ s. refl) (λ a. refl) q only in
-    let sender : ends_no_sender p q ≡ false = ap (λ n. nat_lt p.limit n) (none-times is_no_sender q (only-lacks is_no_sender (λ m. refl) (λ k. refl) (λ s. refl) (λ a. refl) q only)) ∙ above p.limit in
+    let sender : ends_no_sender p q ≡ false =
+    ap (λ n. nat_lt p.limit n) (none-times is_no_sender q (only-lacks is_no_sender (λ m. refl) (λ k. refl) (λ s. refl) (λ a. refl) q only))
+    ∙ above p.limit in
     let message : ends_bad_message q ≡ false = only-lacks is_bad_message (λ m. refl) (λ k. refl) (λ s. refl) (λ a. refl) q only in
     calm-by (waits_are_over p q) (ends_tested p q) end
     (is ∙ ap (λ x. end_by (waits_are_over p q) (ends_tested p q) x (ends_parent_badly p q) (ends_transfer q) (ends_no_sender p q) (ends_bad_message q)) well
@@ -173,7 +176,8 @@ left-only false b h e = absurd (cc)
 started-known : (p : Plan) (q : Record) (s : ℕ) → EachEntry (λ e before. start_known p e before ≡ true) q → is_started q s ≡ true → s < service_count p
 started-known p [] s known started = absurd (cc)
 started-known p (Told (Start t) ∷ q) s known started = elim (or_cases (t == s) (is_started q s) started) [
-  | inl same ↦ (let e : t ≡ s = eqb-true t s same in let below : t < service_count p = ltb-true t (service_count p) known.0 in subst (λ n. n < service_count p) e below)
+  | inl same ↦
+      (let e : t ≡ s = eqb-true t s same in let below : t < service_count p = ltb-true t (service_count p) known.0 in subst (λ n. n < service_count p) e below)
   | inr before ↦ started-known p q s known.1 before
 ]
 started-known p (Told a ∷ q) s known started = started-known p q s known.1 started
@@ -186,16 +190,20 @@ served-none p periods q keeps served = none-owes periods q (λ s lt owed.
     let passes = served.served.drain.passes in let silent = unsignalled-unpassed p q none in cc)
 
 -- tested
-tested-none : (p : Plan) (periods : List ℕ) (q : Record) → AllNotify p → each_entry (head_due periods) q ≡ true → Right p q → ends.Tested ≡ step_end p q → owing periods q ≡ []
+tested-none : (p : Plan) (periods : List ℕ) (q : Record) → AllNotify p → each_entry (head_due periods) q ≡ true → Right p q → ends.Tested ≡ step_end p q
+    → owing periods q ≡ []
 tested-none p periods q notify heads right end = none-owes periods q (λ s lt owed.
-    let tests : ends_tested p q ≡ true = tested-by (waits_are_over p q) (ends_tested p q) (ends_parent_well p q) (ends_parent_badly p q) (ends_transfer q) (ends_no_sender p q) (ends_bad_message q) end in
+    let tests : ends_tested p q ≡ true =
+    tested-by (waits_are_over p q) (ends_tested p q) (ends_parent_well p q) (ends_parent_badly p q) (ends_transfer q) (ends_no_sender p q)
+    (ends_bad_message q) end in
     let test = (and_parts p.test (has is_bootstrap q) tests).0 in
     let tested : TestedRight p q = subst (λ b. OnTrue b (TestedRight p q)) tests right.stronger.tested in
     let eager = (and_parts p.eager (may_begin p q) (left-only (p.eager && may_begin p q) _ tested.begun (none-boots p q (services p) notify))).0 in
     tested-owes-none p periods q s test eager tested.in_turn heads right.fits right.settled.1 lt owed)
 
 -- a job's word fits
-pub ready-fits : (p : Plan) (periods : List ℕ) (q : Record) (s : ℕ) → AllNotify p → each_entry (head_due periods) (Got (Ready s) ∷ q) ≡ true → Right p q → has_ended p q ≡ false → Fits p q (Ready s)
+pub ready-fits : (p : Plan) (periods : List ℕ) (q : Record) (s : ℕ) → AllNotify p → each_entry (head_due periods) (Got (Ready s) ∷ q) ≡ true → Right p q
+    → has_ended p q ≡ false → Fits p q (Ready s)
 ready-fits p periods q s notify heads right on =
     let parts = and_parts (bytes_eq (take 1 (owing periods q)) (s ∷ [])) (each_entry (head_due periods) q) heads in
     let owed = word-owed periods q s parts.0 in
@@ -205,7 +213,8 @@ ready-fits p periods q s notify heads right on =
     rw (on, known, started, unready) refl
 
 -- an event that doesn't fit
-stray-none : (p : Plan) (periods : List ℕ) (q : Record) (e : Event) → AllNotify p → each_entry (head_due periods) (Got e ∷ q) ≡ true → Right p q → has_ended p q ≡ false → (Fits p q e → ⊥) → owing periods (Got e ∷ q) ≡ []
+stray-none : (p : Plan) (periods : List ℕ) (q : Record) (e : Event) → AllNotify p → each_entry (head_due periods) (Got e ∷ q) ≡ true → Right p q
+    → has_ended p q ≡ false → (Fits p q e → ⊥) → owing periods (Got e ∷ q) ≡ []
 stray-none p periods q (Moment m) notify heads right on misfit =
     let parts = and_parts (is_none (owing periods q)) (each_entry (head_due periods) q) heads in
     elim (cases_Bool (nat_le (now q) m)) [
@@ -224,23 +233,31 @@ stray-none p periods q (Moment m) notify heads right on misfit =
     off true y n h = refl
     off false y n h = rw h refl
 stray-none p periods q (Ready s) notify heads right on misfit = absurd (misfit (ready-fits p periods q s notify heads right on))
-stray-none p periods q e notify heads right on misfit = none-is (owing periods q) (and_parts (is_none (owing periods q)) (each_entry (head_due periods) q) heads).0
+stray-none p periods q e notify heads right on misfit =
+    none-is (owing periods q) (and_parts (is_none (owing periods q)) (each_entry (head_due periods) q) heads).0
 
 -- where none owes its word, each has said it
 told-all : (periods : List ℕ) (q : Record) → KeepsWords periods q → owing periods q ≡ [] → are_told periods q ≡ true
-told-all periods q keeps none = same_bytes (readies_since q) (first_runs periods q) (sym (keeps.words ∙ ap (λ xs. readies_since q ++ xs) none ∙ append-nil (readies_since q)))
+told-all periods q keeps none =
+    same_bytes (readies_since q) (first_runs periods q) (sym (keeps.words ∙ ap (λ xs. readies_since q ++ xs) none ∙ append-nil (readies_since q)))
 
-pub ends_told : (p : Plan) (turns : ℕ) (answer : Result Outcome RunError) (periods : List ℕ) (q : Record) → AllNotify p → KeepsWords periods q → RunEnds p turns answer q
+pub ends_told : (p : Plan) (turns : ℕ) (answer : Result Outcome RunError) (periods : List ℕ) (q : Record) → AllNotify p → KeepsWords periods q
+    → RunEnds p turns answer q
     → (answer ≡ Err HostFault → owing periods q ≡ []) → (answer ≡ Err OutOfEvents → owing periods q ≡ []) → EndsTold answer periods q
 ends_told p turns (Ok Served) periods q notify keeps end fault idle = told-all periods q keeps (served-none p periods q keeps end)
 ends_told p turns (Ok TestPassed) periods q notify keeps (finished, end) fault idle =
-    let heads = sym (untold-heads periods finished (closing_actions p finished None)) ∙ subst (λ r. each_entry (head_due periods) r ≡ true) end.closed keeps.heads in
-    told-all periods q keeps (ap (owing periods) end.closed ∙ untold-owing periods finished (closing_actions p finished None) ∙ tested-none p periods finished notify heads end.right end.ended)
+    let heads = sym (untold-heads periods finished (closing_actions p finished None))
+    ∙ subst (λ r. each_entry (head_due periods) r ≡ true) end.closed keeps.heads in
+    told-all periods q keeps
+    (ap (owing periods) end.closed ∙ untold-owing periods finished (closing_actions p finished None)
+    ∙ tested-none p periods finished notify heads end.right end.ended)
 ends_told p turns (Ok (Parent n)) periods q notify keeps (finished, end) fault idle =
-    let only = sym (untold-only finished (closing_actions p finished None)) ∙ subst (λ r. each_entry (λ e before. is_job_entry e) r ≡ true) end.closed keeps.only_jobs in
+    let only = sym (untold-only finished (closing_actions p finished None))
+    ∙ subst (λ r. each_entry (λ e before. is_job_entry e) r ≡ true) end.closed keeps.only_jobs in
     absurd (calm p finished (ends.Parent n) only end.ended)
 ends_told p turns (Err (Bootstrap error)) periods q notify keeps (finished, end) fault idle =
-    let only = sym (untold-only finished (closing_actions p finished None)) ∙ subst (λ r. each_entry (λ e before. is_job_entry e) r ≡ true) end.closed keeps.only_jobs in
+    let only = sym (untold-only finished (closing_actions p finished None))
+    ∙ subst (λ r. each_entry (λ e before. is_job_entry e) r ≡ true) end.closed keeps.only_jobs in
     absurd (calm p finished (ends.Ended error) only end.ended)
 ends_told p turns (Err (Config key)) periods q notify keeps end fault idle = rw end refl
 ends_told p turns (Err HostFault) periods q notify keeps end fault idle = told-all periods q keeps (fault refl)
@@ -255,13 +272,21 @@ ends_told p turns (Err TurnsSpent) periods q notify keeps end fault idle = tt
 ends_told p turns (Err NoMemory) periods q notify keeps end fault idle = tt
 
 -- the services of jobs all do
-pub all_notify : {B : Type 0} (means : Ghosts B) (conf : ServerConf) (options : Option Opt) (eager : Bool) (g : GraphData) (xs : List B) → ((b : B) → means.of_kind b ≡ Notifying)
+pub all_notify : {B : Type 0} (means : Ghosts B) (conf : ServerConf) (options : Option Opt) (eager : Bool) (g : GraphData) (xs : List B)
+    → ((b : B) → means.of_kind b ≡ Notifying)
     → AllNotify (plan_of conf options eager g (answers_of means xs))
 all_notify {B} means conf options eager g xs notify s x at = by 0 xs s at
   where
     by : (k : ℕ) (xs : List B) (s : ℕ) → slice_get (with_depends g k (answers_of means xs)) s ≡ Some x → x.kind ≡ Notifying
     by k [] s at = absurd (cc)
-    by k (b ∷ xs) zero at = (let same : record { name = means.named b; kind = means.of_kind b; depends = depends_of g k; declared = means.declares b; endpoints = means.configures b } ≡ x = cc in ap (λ (y : ServicePlan). y.kind) (sym same) ∙ notify b)
+    by k (b ∷ xs) zero at =
+        (let same : record {
+          name = means.named b;
+          kind = means.of_kind b;
+          depends = depends_of g k;
+          declared = means.declares b;
+          endpoints = means.configures b;
+        } ≡ x = cc in ap (λ (y : ServicePlan). y.kind) (sym same) ∙ notify b)
     by k (b ∷ xs) (suc s) at = by (k + 1) xs s at
 
 -- a count that rose isn't 0

@@ -16,11 +16,14 @@ use Rattle.svc_job_host.specs.JobHosts.{dues_of, AreHeard}
 use Rattle.svc_job_host.specs.Rows.{told_after}
 
 -- where the job at the place ran
-pub heard : {J : Type 0} (told : J → Option (List ℕ)) (jobs : List J) (s due : ℕ) (new d : J) (o : Option (List ℕ)) → slice_get (map told jobs) s ≡ Some o → (due ≡ 0 → ⊥)
+pub heard : {J : Type 0} (told : J → Option (List ℕ)) (jobs : List J) (s due : ℕ) (new d : J) (o : Option (List ℕ)) → slice_get (map told jobs) s ≡ Some o
+    → (due ≡ 0 → ⊥)
     → told new ≡ option_map (λ numbers. numbers ++ due ∷ []) (told (get_or jobs s d)) → map told (set jobs s new) ≡ set (map told jobs) s (told_after o due)
 heard {J} told jobs s due new d o at some says =
-    let within : s < length jobs = (let short : s < length (map told jobs) = slice_get_within (map told jobs) s o at in subst (λ n. s < n) (length-map jobs told) short) in
-    let there : slice_get (map told jobs) s ≡ Some (told (get_or jobs s d)) = slice_get-map told jobs s ∙ ap (option_map told) (slice_get-get_or jobs s d within) in
+    let within : s < length jobs =
+    (let short : s < length (map told jobs) = slice_get_within (map told jobs) s o at in subst (λ n. s < n) (length-map jobs told) short) in
+    let there : slice_get (map told jobs) s ≡ Some (told (get_or jobs s d)) =
+    slice_get-map told jobs s ∙ ap (option_map told) (slice_get-get_or jobs s d within) in
     let same : told (get_or jobs s d) ≡ o = (let both : Some (told (get_or jobs s d)) ≡ Some o = sym there ∙ at in cc) in
     map-set told jobs s new ∙ ap (λ x. set (map told jobs) s x)
     (says ∙ ap (option_map (λ numbers. numbers ++ due ∷ [])) same ∙ (let ran : (due == 0) ≡ false = ne_eqb due 0 some in rw ran refl))
@@ -36,13 +39,20 @@ abbrev due_list : ℕ → List ℕ
 due_list due = if due == 0 then [] else due ∷ []
 
 dues-append : (s : ℕ) (xs ys : List JobRun) → dues_of s (xs ++ ys) ≡ dues_of s xs ++ dues_of s ys
-dues-append s xs ys = rw (filter-append (λ (run : JobRun). run.job == s) xs ys) (map-append (λ (run : JobRun). run.due) (filter (λ (run : JobRun). run.job == s) xs) (filter (λ (run : JobRun). run.job == s) ys))
+dues-append s xs ys =
+    rw (filter-append (λ (run : JobRun). run.job == s) xs ys)
+    (map-append (λ (run : JobRun). run.due) (filter (λ (run : JobRun). run.job == s) xs) (filter (λ (run : JobRun). run.job == s) ys))
 
 dues-own : (s due m : ℕ) → dues_of s (run_of s due m) ≡ due_list due
-dues-own s due m = elim (due == 0) as (λ b. dues_of s (if b then [] else record { job = s; due = due; moment = m } ∷ []) ≡ (if b then [] else due ∷ [])) [ true ↦ refl | false ↦ rw (eq-eqb s s refl) refl ]
+dues-own s due m =
+    elim (due == 0) as
+    (λ b. dues_of s (if b then [] else record { job = s; due = due; moment = m } ∷ []) ≡ (if b then [] else due ∷ []))
+    [ true ↦ refl | false ↦ rw (eq-eqb s s refl) refl ]
 
 dues-other : (s k due m : ℕ) → (k ≡ s → ⊥) → dues_of s (run_of k due m) ≡ []
-dues-other s k due m ne = elim (due == 0) as (λ b. dues_of s (if b then [] else record { job = k; due = due; moment = m } ∷ []) ≡ []) [ true ↦ refl | false ↦ rw (ne_eqb k s ne) refl ]
+dues-other s k due m ne =
+    elim (due == 0) as
+    (λ b. dues_of s (if b then [] else record { job = k; due = due; moment = m } ∷ []) ≡ []) [ true ↦ refl | false ↦ rw (ne_eqb k s ne) refl ]
 
 dues-before : (f : ℕ → ℕ) (m s n a : ℕ) → s < a → dues_of s (flat_map (λ k. run_of k (f k) m) (range_with_len a n)) ≡ []
 dues-before f m s zero a low = refl
@@ -64,7 +74,8 @@ dues-at f m s (suc n) a low high =
     ]
 
 -- one more number, at the end of both
-tail-more : (before dues : List ℕ) (due : ℕ) → drop (length before - length dues) before ≡ dues → drop (length (before ++ due ∷ []) - length (dues ++ due ∷ [])) (before ++ due ∷ []) ≡ dues ++ due ∷ []
+tail-more : (before dues : List ℕ) (due : ℕ) → drop (length before - length dues) before ≡ dues
+    → drop (length (before ++ due ∷ []) - length (dues ++ due ∷ [])) (before ++ due ∷ []) ≡ dues ++ due ∷ []
 tail-more before dues due h =
     let longer : length (before ++ due ∷ []) - length (dues ++ due ∷ []) ≡ length before - length dues = simp length-append (omega arith) in
     rw longer (drop-short (length before - length dues) before (due ∷ []) (omega arith) ∙ ap (λ xs. xs ++ due ∷ []) h)
@@ -74,14 +85,19 @@ tail-more before dues due h =
     drop-short (suc k) [] ys le = absurd (omega arith)
     drop-short (suc k) (x ∷ xs) ys le = drop-short k xs ys (omega arith)
 
-told-tail : (o : Option (List ℕ)) (due : ℕ) (numbers dues : List ℕ) → ((before : List ℕ) → o ≡ Some before → drop (length before - length dues) before ≡ dues) → told_after o due ≡ Some numbers
+told-tail : (o : Option (List ℕ)) (due : ℕ) (numbers dues : List ℕ) → ((before : List ℕ) → o ≡ Some before → drop (length before - length dues) before ≡ dues)
+    → told_after o due ≡ Some numbers
     → drop (length numbers - length (dues ++ due_list due)) numbers ≡ dues ++ due_list due
-told-tail o due numbers dues h = elim (due == 0) as (λ b. (if b then o else option_map (λ xs. xs ++ due ∷ []) o) ≡ Some numbers → drop (length numbers - length (dues ++ (if b then [] else due ∷ []))) numbers ≡ dues ++ (if b then [] else due ∷ [])) [
-  | true ↦ (λ told. rw (append-nil dues) (h numbers told))
-  | false ↦ more o h
-]
+told-tail o due numbers dues h =
+    elim (due == 0) as
+    (λ b. (if b then o else option_map (λ xs. xs ++ due ∷ []) o) ≡ Some numbers
+    → drop (length numbers - length (dues ++ (if b then [] else due ∷ []))) numbers ≡ dues ++ (if b then [] else due ∷ [])) [
+      | true ↦ (λ told. rw (append-nil dues) (h numbers told))
+      | false ↦ more o h
+    ]
   where
-    more : (o : Option (List ℕ)) → ((before : List ℕ) → o ≡ Some before → drop (length before - length dues) before ≡ dues) → option_map (λ xs. xs ++ due ∷ []) o ≡ Some numbers
+    more : (o : Option (List ℕ)) → ((before : List ℕ) → o ≡ Some before → drop (length before - length dues) before ≡ dues)
+        → option_map (λ xs. xs ++ due ∷ []) o ≡ Some numbers
         → drop (length numbers - length (dues ++ due ∷ [])) numbers ≡ dues ++ due ∷ []
     more None h told = absurd (cc)
     more (Some before) h told =
@@ -89,15 +105,19 @@ told-tail o due numbers dues h = elim (due == 0) as (λ b. (if b then o else opt
         subst (λ xs. drop (length xs - length (dues ++ due ∷ [])) xs ≡ dues ++ due ∷ []) same (tail-more before dues due (h before refl))
 
 -- after a moment
-pub heard_moment : (periods : List ℕ) (q : Record) (m : ℕ) (first told : List (Option (List ℕ))) (old new : List JobRun) → AreHeard first old → old ≡ due_runs periods q → new ≡ due_runs periods (Got (Moment m) ∷ q)
-    → length first ≡ length periods → length told ≡ length first → ((s : ℕ) (o : Option (List ℕ)) → slice_get first s ≡ Some o → slice_get told s ≡ Some (told_after o (due_at periods q m s))) → AreHeard told new
+pub heard_moment : (periods : List ℕ) (q : Record) (m : ℕ) (first told : List (Option (List ℕ))) (old new : List JobRun) → AreHeard first old
+    → old ≡ due_runs periods q → new ≡ due_runs periods (Got (Moment m) ∷ q)
+    → length first ≡ length periods → length told ≡ length first
+    → ((s : ℕ) (o : Option (List ℕ)) → slice_get first s ≡ Some o → slice_get told s ≡ Some (told_after o (due_at periods q m s))) → AreHeard told new
 heard_moment periods q m first told old new heard old_is new_is sized same_size says s numbers at =
     let within : s < length first = (let short : s < length told = slice_get_within told s (Some numbers) at in omega arith) in
     let o : Option (List ℕ) = get_or first s None in
     let there : slice_get first s ≡ Some o = slice_get-get_or first s None within in
-    let now_told : told_after o (due_at periods q m s) ≡ Some numbers = (let both : Some (told_after o (due_at periods q m s)) ≡ Some (Some numbers) = sym (says s o there) ∙ at in cc) in
+    let now_told : told_after o (due_at periods q m s) ≡ Some numbers =
+    (let both : Some (told_after o (due_at periods q m s)) ≡ Some (Some numbers) = sym (says s o there) ∙ at in cc) in
     let dues : dues_of s new ≡ dues_of s old ++ due_list (due_at periods q m s) =
-    ap (dues_of s) new_is ∙ dues-append s (due_runs periods q) (runs_at periods q m) ∙ ap (λ xs. xs ++ dues_of s (runs_at periods q m)) (ap (dues_of s) (sym old_is))
+    ap (dues_of s) new_is ∙ dues-append s (due_runs periods q) (runs_at periods q m)
+    ∙ ap (λ xs. xs ++ dues_of s (runs_at periods q m)) (ap (dues_of s) (sym old_is))
     ∙ ap (λ xs. dues_of s old ++ xs) (dues-at (due_at periods q m) m s (length periods) 0 (omega arith) (omega arith)) in
     rw dues (told-tail o (due_at periods q m s) numbers (dues_of s old) (λ before is. heard s before (there ∙ ap (λ x. Some x) is)) now_told)
 

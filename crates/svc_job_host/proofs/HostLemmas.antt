@@ -42,17 +42,23 @@ filter-nil f (suc n) a k none low high = elim (cases_Bool (f a)) [
 
 -- where none owes its word, those that run first at a moment do then
 owing-moment : (periods : List ℕ) (q : Record) (m : ℕ) → owing periods q ≡ [] → firsts_at periods q m ≡ owing periods (Got (Moment m) ∷ q)
-owing-moment periods q m none = filter-same (runs_first periods q m) (owes periods (Got (Moment m) ∷ q)) (length periods) 0 (λ k low high. rw (filter-nil (owes periods q) (length periods) 0 k none low high) refl)
+owing-moment periods q m none =
+    filter-same (runs_first periods q m) (owes periods (Got (Moment m) ∷ q)) (length periods) 0
+    (λ k low high. rw (filter-nil (owes periods q) (length periods) 0 k none low high) refl)
 
 -- the items, with one more
-given-more : (all : List Item) (at : ℕ) (q : Record) (e : Event) → map items.Event (items_of q) ≡ take at all → slice_get all at ≡ Some (items.Event e) → map items.Event (items_of q ++ e ∷ []) ≡ take (at + 1) all
+given-more : (all : List Item) (at : ℕ) (q : Record) (e : Event) → map items.Event (items_of q) ≡ take at all → slice_get all at ≡ Some (items.Event e)
+    → map items.Event (items_of q ++ e ∷ []) ≡ take (at + 1) all
 given-more all at q e given next =
     map-append items.Event (items_of q) (e ∷ []) ∙ ap (λ xs. xs ++ items.Event e ∷ []) given
-    ∙ ap (λ x. take at all ++ x ∷ []) (sym (get_or_from_slice_get all at (items.Event e) items.Fault next)) ∙ sym (take_more all at items.Fault (slice_get_within all at (items.Event e) next))
+    ∙ ap (λ x. take at all ++ x ∷ []) (sym (get_or_from_slice_get all at (items.Event e) items.Fault next))
+    ∙ sym (take_more all at items.Fault (slice_get_within all at (items.Event e) next))
 
 -- a moment comes
-pub keeps_moment : (periods : List ℕ) (t new : TimetableData) (all : List Item) (at : ℕ) (q : Record) (faults idles m : ℕ) → KeepsJobs periods t all at q faults idles → owing periods q ≡ []
-    → slice_get all at ≡ Some (items.Event (Moment m)) → IsTimetableOf periods new (Got (Moment m) ∷ q) → KeepsJobs periods new all (at + 1) (Got (Moment m) ∷ q) faults idles
+pub keeps_moment : (periods : List ℕ) (t new : TimetableData) (all : List Item) (at : ℕ) (q : Record) (faults idles m : ℕ)
+    → KeepsJobs periods t all at q faults idles → owing periods q ≡ []
+    → slice_get all at ≡ Some (items.Event (Moment m)) → IsTimetableOf periods new (Got (Moment m) ∷ q)
+    → KeepsJobs periods new all (at + 1) (Got (Moment m) ∷ q) faults idles
 keeps_moment periods t new all at q faults idles m keeps none next table = record {
   table = table;
   words = owing-moment periods q m none;
@@ -67,11 +73,13 @@ keeps_moment periods t new all at q faults idles m keeps none next table = recor
   finished_last = λ h. absurd (let end = keeps.finished h in let short = slice_get_within all at (items.Event (Moment m)) next in omega arith);
 }
   where
-    told : (periods : List ℕ) (q : Record) → owing periods q ≡ [] → first_runs periods q ≡ readies_since q ++ owing periods q → readies_since q ≡ first_runs periods q
+    told : (periods : List ℕ) (q : Record) → owing periods q ≡ [] → first_runs periods q ≡ readies_since q ++ owing periods q
+        → readies_since q ≡ first_runs periods q
     told periods q none words = sym (words ∙ ap (λ xs. readies_since q ++ xs) none ∙ append-nil (readies_since q))
 
 -- a signal comes
-pub keeps_signal : (periods : List ℕ) (t : TimetableData) (all : List Item) (at : ℕ) (q : Record) (faults idles : ℕ) (kind : ShutdownSignal) → KeepsJobs periods t all at q faults idles → owing periods q ≡ []
+pub keeps_signal : (periods : List ℕ) (t : TimetableData) (all : List Item) (at : ℕ) (q : Record) (faults idles : ℕ) (kind : ShutdownSignal)
+    → KeepsJobs periods t all at q faults idles → owing periods q ≡ []
     → slice_get all at ≡ Some (items.Event (Signal kind)) → KeepsJobs periods t all (at + 1) (Got (Signal kind) ∷ q) faults idles
 keeps_signal periods t all at q faults idles kind keeps none next = record {
   table = table_signal periods t q kind keeps.table;
@@ -87,11 +95,13 @@ keeps_signal periods t all at q faults idles kind keeps none next = record {
   finished_last = λ h. absurd (let end = keeps.finished h in let short = slice_get_within all at (items.Event (Signal kind)) next in omega arith);
 }
   where
-    told : (periods : List ℕ) (q : Record) → owing periods q ≡ [] → first_runs periods q ≡ readies_since q ++ owing periods q → readies_since q ≡ first_runs periods q
+    told : (periods : List ℕ) (q : Record) → owing periods q ≡ [] → first_runs periods q ≡ readies_since q ++ owing periods q
+        → readies_since q ≡ first_runs periods q
     told periods q none words = sym (words ∙ ap (λ xs. readies_since q ++ xs) none ∙ append-nil (readies_since q))
 
 -- a job says that it is ready
-pub keeps_ready : (periods : List ℕ) (t : TimetableData) (all : List Item) (at : ℕ) (q : Record) (faults idles s : ℕ) → KeepsJobs periods t all at q faults idles
+pub keeps_ready : (periods : List ℕ) (t : TimetableData) (all : List Item) (at : ℕ) (q : Record) (faults idles s : ℕ)
+    → KeepsJobs periods t all at q faults idles
     → owing periods q ≡ s ∷ owing periods (Got (Ready s) ∷ q) → KeepsJobs periods (readied t s) all at (Got (Ready s) ∷ q) faults idles
 keeps_ready periods t all at q faults idles s keeps first =
     let words : first_runs periods q ≡ (readies_since q ++ s ∷ []) ++ owing periods (Got (Ready s) ∷ q) =
@@ -99,7 +109,10 @@ keeps_ready periods t all at q faults idles s keeps first =
     record {
       table = table_ready periods t q s keeps.table;
       words = words;
-      in_turn = and_from _ _ (same_bytes _ _ (ap (λ xs. take (length (readies_since q ++ s ∷ [])) xs) words ∙ refilled (length (readies_since q ++ s ∷ [])) (readies_since q ++ s ∷ []) (owing periods (Got (Ready s) ∷ q)) refl)) keeps.in_turn;
+      in_turn = and_from _ _
+          (same_bytes _ _
+          (ap (λ xs. take (length (readies_since q ++ s ∷ [])) xs) words
+          ∙ refilled (length (readies_since q ++ s ∷ [])) (readies_since q ++ s ∷ []) (owing periods (Got (Ready s) ∷ q)) refl)) keeps.in_turn;
       heads = and_from _ _ (same_bytes _ _ (ap (λ xs. take 1 xs) first)) keeps.heads;
       only_jobs = keeps.only_jobs;
       given = keeps.given;
@@ -111,7 +124,8 @@ keeps_ready periods t all at q faults idles s keeps first =
     }
 
 -- an action is told
-pub keeps_told : (periods : List ℕ) (t : TimetableData) (all : List Item) (at : ℕ) (q : Record) (faults idles : ℕ) (a : Action) → KeepsJobs periods t all at q faults idles
+pub keeps_told : (periods : List ℕ) (t : TimetableData) (all : List Item) (at : ℕ) (q : Record) (faults idles : ℕ) (a : Action)
+    → KeepsJobs periods t all at q faults idles
     → KeepsJobs periods (noted t a) all at (Told a ∷ q) faults idles
 keeps_told periods t all at q faults idles a keeps = record {
   table = table_told periods t q a keeps.table;
@@ -128,7 +142,8 @@ keeps_told periods t all at q faults idles a keeps = record {
 }
 
 -- nothing is left
-pub keeps_end : (periods : List ℕ) (t : TimetableData) (all : List Item) (at : ℕ) (q : Record) (faults idles now_idles : ℕ) → KeepsJobs periods t all at q faults idles → owing periods q ≡ []
+pub keeps_end : (periods : List ℕ) (t : TimetableData) (all : List Item) (at : ℕ) (q : Record) (faults idles now_idles : ℕ)
+    → KeepsJobs periods t all at q faults idles → owing periods q ≡ []
     → length all ≤ at → KeepsJobs periods t all at q faults now_idles
 keeps_end periods t all at q faults idles now_idles keeps none past = record {
   table = keeps.table;

@@ -71,26 +71,34 @@ not-started (Got e ∷ q) s h = not-started q s h
 
 -- a job that wasn't started has no due moments
 due-started : (periods : List ℕ) (b : Record) (m s : ℕ) → is_started b s ≡ false → due_at periods b m s ≡ 0
-due-started periods b m s unstarted = rw (not-started b s unstarted) (elim (has is_shutdown b || nat_lt m (now b)) as (λ (c : Bool). ◌≡◌ {A = ℕ} (if c then 0 else 0) 0) [ true ↦ refl | false ↦ refl ])
+due-started periods b m s unstarted =
+    rw (not-started b s unstarted)
+    (elim (has is_shutdown b || nat_lt m (now b)) as (λ (c : Bool). ◌≡◌ {A = ℕ} (if c then 0 else 0) 0) [ true ↦ refl | false ↦ refl ])
 
 -- one that runs at a moment was started, has not run before, and the shutdown hasn't begun
 runs-started : (periods : List ℕ) (b : Record) (m s : ℕ) → runs_first periods b m s ≡ true → is_started b s ≡ true
 runs-started periods b m s first = elim (cases_Bool (is_started b s)) [
   | inl yes_started ↦ yes_started
-  | inr unstarted ↦ absurd (let none = due-started periods b m s unstarted in let parts = first-parts (due_at periods b m s == 0) (has_run periods b s) first in let zero_due : (due_at periods b m s == 0) ≡ true = eq-eqb (due_at periods b m s) 0 none in let other = parts.0 in cc)
+  | inr unstarted ↦
+      absurd (let none = due-started periods b m s unstarted in let parts = first-parts (due_at periods b m s == 0) (has_run periods b s) first in
+      let zero_due : (due_at periods b m s == 0) ≡ true = eq-eqb (due_at periods b m s) 0 none in let other = parts.0 in cc)
 ]
 
 runs-on : (periods : List ℕ) (b : Record) (m s : ℕ) → runs_first periods b m s ≡ true → has is_shutdown b ≡ false
 runs-on periods b m s first = elim (cases_Bool (has is_shutdown b)) [
-  | inl off ↦ absurd (let none : due_at periods b m s ≡ 0 = rw off refl in let parts = first-parts (due_at periods b m s == 0) (has_run periods b s) first in let zero_due : (due_at periods b m s == 0) ≡ true = eq-eqb (due_at periods b m s) 0 none in let other = parts.0 in cc)
+  | inl off ↦ absurd
+      (let none : due_at periods b m s ≡ 0 = rw off refl in let parts = first-parts (due_at periods b m s == 0) (has_run periods b s) first in
+      let zero_due : (due_at periods b m s == 0) ≡ true = eq-eqb (due_at periods b m s) 0 none in let other = parts.0 in cc)
   | inr on ↦ on
 ]
 
 -- at a moment only those that run first owe it
-moment-owed : (periods : List ℕ) (b : Record) (m s : ℕ) → s < length periods → is_none (owing periods b) ≡ true → owes periods (Got (Moment m) ∷ b) s ≡ true → runs_first periods b m s ≡ true
+moment-owed : (periods : List ℕ) (b : Record) (m s : ℕ) → s < length periods → is_none (owing periods b) ≡ true → owes periods (Got (Moment m) ∷ b) s ≡ true
+    → runs_first periods b m s ≡ true
 moment-owed periods b m s lt none owed = rw (owes-none periods b s lt none) at owed
 
-pub owes-started : (periods : List ℕ) (q : Record) (s : ℕ) → each_entry (head_due periods) q ≡ true → s < length periods → owes periods q s ≡ true → is_started q s ≡ true
+pub owes-started : (periods : List ℕ) (q : Record) (s : ℕ) → each_entry (head_due periods) q ≡ true → s < length periods → owes periods q s ≡ true
+    → is_started q s ≡ true
 owes-started periods [] s heads lt owed = absurd (cc)
 owes-started periods (Got (Moment m) ∷ b) s heads lt owed =
     let parts = and_parts (is_none (owing periods b)) (each_entry (head_due periods) b) heads in
@@ -106,7 +114,9 @@ pub owes-ran : (periods : List ℕ) (q : Record) (s : ℕ) → owes periods q s 
 owes-ran periods [] s owed = absurd (cc)
 owes-ran periods (Got (Moment m) ∷ b) s owed = elim (or_cases (owes periods b s) (runs_first periods b m s) owed) [
   | inl before ↦ or_left (has_run periods b s) (not (due_at periods b m s == 0)) (owes-ran periods b s before)
-  | inr first ↦ or_right (has_run periods b s) (not (due_at periods b m s == 0)) (let parts = first-parts (due_at periods b m s == 0) (has_run periods b s) first in rw (parts.0) refl)
+  | inr first ↦
+      or_right (has_run periods b s) (not (due_at periods b m s == 0))
+      (let parts = first-parts (due_at periods b m s == 0) (has_run periods b s) first in rw (parts.0) refl)
 ]
 owes-ran periods (Got (Ready k) ∷ b) s owed = owes-ran periods b s (and_parts (owes periods b s) (not (k == s)) owed).0
 owes-ran periods (Got e ∷ b) s owed = owes-ran periods b s owed
@@ -129,13 +139,15 @@ ready-ran periods (Got e ∷ b) s heads told =
 ready-ran periods (Told a ∷ b) s heads told = ready-ran periods b s heads told
 
 -- one that owes its word hasn't said it
-pub owes-unready : (periods : List ℕ) (q : Record) (s : ℕ) → each_entry (head_due periods) q ≡ true → s < length periods → owes periods q s ≡ true → has (is_ready_event s) q ≡ false
+pub owes-unready : (periods : List ℕ) (q : Record) (s : ℕ) → each_entry (head_due periods) q ≡ true → s < length periods → owes periods q s ≡ true
+    → has (is_ready_event s) q ≡ false
 owes-unready periods [] s heads lt owed = absurd (cc)
 owes-unready periods (Got (Moment m) ∷ b) s heads lt owed =
     let parts = and_parts (is_none (owing periods b)) (each_entry (head_due periods) b) heads in
     let first = moment-owed periods b m s lt parts.0 owed in
     elim (cases_Bool (has (is_ready_event s) b)) [
-      | inl told ↦ absurd (let ran = ready-ran periods b s parts.1 told in let unrun = (first-parts (due_at periods b m s == 0) (has_run periods b s) first).1 in cc)
+      | inl told ↦
+          absurd (let ran = ready-ran periods b s parts.1 told in let unrun = (first-parts (due_at periods b m s == 0) (has_run periods b s) first).1 in cc)
       | inr none ↦ none
     ]
 owes-unready periods (Got (Ready k) ∷ b) s heads lt owed =
@@ -162,8 +174,10 @@ open-before p b row fits settled =
     off false h = refl
 
 -- while a job owes its word, no signal has come
-pub owed-unsignalled : (p : Plan) (periods : List ℕ) (q : Record) (s : ℕ) → each_entry (head_due periods) q ≡ true → each_entry (λ e before. is_job_entry e) q ≡ true
-    → EachEntry (λ e before. event_fits p e before ≡ true) q → EachEarlier (SettledRight p) q → s < length periods → owes periods q s ≡ true → signal_of q ≡ None
+pub owed-unsignalled : (p : Plan) (periods : List ℕ) (q : Record) (s : ℕ) → each_entry (head_due periods) q ≡ true
+    → each_entry (λ e before. is_job_entry e) q ≡ true
+    → EachEntry (λ e before. event_fits p e before ≡ true) q → EachEarlier (SettledRight p) q → s < length periods → owes periods q s ≡ true
+    → signal_of q ≡ None
 owed-unsignalled p periods [] s heads only fits settled lt owed = absurd (cc)
 owed-unsignalled p periods (Got (Moment m) ∷ b) s heads only fits settled lt owed =
     let parts = and_parts (is_none (owing periods b)) (each_entry (head_due periods) b) heads in
@@ -179,11 +193,13 @@ owed-unsignalled p periods (Got e ∷ b) s heads only fits settled lt owed =
 owed-unsignalled p periods (Told a ∷ b) s heads only fits settled lt owed = owed-unsignalled p periods b s heads only fits.1 settled lt owed
 
 -- with bootstrapping before the services, a start comes after it is complete
-boot-complete : (p : Plan) (q : Record) (s : ℕ) → p.eager ≡ true → EachEntry (λ e before. start_after_boot p e before ≡ true) q → is_started q s ≡ true → has is_bootstrap_complete q ≡ true
+boot-complete : (p : Plan) (q : Record) (s : ℕ) → p.eager ≡ true → EachEntry (λ e before. start_after_boot p e before ≡ true) q → is_started q s ≡ true
+    → has is_bootstrap_complete q ≡ true
 boot-complete p [] s eager after started = absurd (cc)
 boot-complete p (Told (Start t) ∷ q) s eager after started =
     let here = after.0 in rw eager at here
-boot-complete p (Told a ∷ q) s eager after started = or_right (is_bootstrap_complete (Told a)) (has is_bootstrap_complete q) (boot-complete p q s eager after.1 started)
+boot-complete p (Told a ∷ q) s eager after started =
+    or_right (is_bootstrap_complete (Told a)) (has is_bootstrap_complete q) (boot-complete p q s eager after.1 started)
 boot-complete p (Got e ∷ q) s eager after started = boot-complete p q s eager after.1 started
 
 none-once : (test : Entry → Bool) (q : Record) → once_if false test q ≡ true → has test q ≡ false
@@ -198,7 +214,8 @@ never true t x h = rw h refl
 never false t x h = refl
 
 -- a server that only tests that it can start, bootstrapping first, starts no job: none owes its word
-pub tested-owes-none : (p : Plan) (periods : List ℕ) (q : Record) (s : ℕ) → p.test ≡ true → p.eager ≡ true → EachEntry (λ e before. start_after_boot p e before ≡ true) q → each_entry (head_due periods) q ≡ true
+pub tested-owes-none : (p : Plan) (periods : List ℕ) (q : Record) (s : ℕ) → p.test ≡ true → p.eager ≡ true
+    → EachEntry (λ e before. start_after_boot p e before ≡ true) q → each_entry (head_due periods) q ≡ true
     → EachEntry (λ e before. event_fits p e before ≡ true) q → EachEarlier (SettledRight p) q → s < length periods → owes periods q s ≡ true → ⊥
 tested-owes-none p periods [] s test eager after heads fits settled lt owed = cc
 tested-owes-none p periods (Got (Moment m) ∷ b) s test eager after heads fits settled lt owed =
@@ -206,7 +223,10 @@ tested-owes-none p periods (Got (Moment m) ∷ b) s test eager after heads fits 
     let started = runs-started periods b m s (moment-owed periods b m s lt parts.0 owed) in
     let open_b = open-before p b _ fits.0 settled.0 in
     let complete = boot-complete p b s eager after.1 started in
-    let entries = and_parts ((once_if p.daemon is_daemonize b && once_if (has_begun p b) is_bootstrap b) && (once_if (boots p b && (p.daemon && p.wait)) is_notify b && receive_right p b)) (complete_right p b && once_if (runs p b) is_running b) open_b.1.boot.entries in
+    let entries =
+    and_parts ((once_if p.daemon is_daemonize b && once_if (has_begun p b) is_bootstrap b)
+    && (once_if (boots p b && (p.daemon && p.wait)) is_notify b && receive_right p b))
+    (complete_right p b && once_if (runs p b) is_running b) open_b.1.boot.entries in
     let completes = (and_parts (complete_right p b) (once_if (runs p b) is_running b) entries.1).0 in
     let off = never (has_begun p b) p.test (not p.upgrade || has is_good_message b) test in
     let none = none-once is_bootstrap_complete b (subst (λ c. once_if c is_bootstrap_complete b ≡ true) off completes) in
@@ -216,4 +236,5 @@ tested-owes-none p periods (Got (Ready k) ∷ b) s test eager after heads fits s
     tested-owes-none p periods b s test eager after.1 parts.1 fits.1 settled.1 lt (and_parts (owes periods b s) (not (k == s)) owed).0
 tested-owes-none p periods (Got e ∷ b) s test eager after heads fits settled lt owed =
     let parts = and_parts (is_none (owing periods b)) (each_entry (head_due periods) b) heads in (let none = owes-none periods b s lt parts.0 in cc)
-tested-owes-none p periods (Told a ∷ b) s test eager after heads fits settled lt owed = tested-owes-none p periods b s test eager after.1 heads fits.1 settled lt owed
+tested-owes-none p periods (Told a ∷ b) s test eager after heads fits settled lt owed =
+    tested-owes-none p periods b s test eager after.1 heads fits.1 settled lt owed

@@ -21,7 +21,8 @@ pub flat_map-next : {X : Type 0} (f : ℕ → List X) (n : ℕ) → flat_map f (
 flat_map-next f n = flat_map-more f n 0 ∙ ap (λ k. flat_map f (range_with_len 0 n) ++ f k) (zero-add n)
 
 -- two functions that agree on the numbers
-pub flat_map-same : {X : Type 0} (f g : ℕ → List X) (n a : ℕ) → ((k : ℕ) → a ≤ k → k < a + n → f k ≡ g k) → flat_map f (range_with_len a n) ≡ flat_map g (range_with_len a n)
+pub flat_map-same : {X : Type 0} (f g : ℕ → List X) (n a : ℕ) → ((k : ℕ) → a ≤ k → k < a + n → f k ≡ g k)
+    → flat_map f (range_with_len a n) ≡ flat_map g (range_with_len a n)
 flat_map-same f g zero a h = refl
 flat_map-same f g (suc n) a h = rw (h a (omega arith) (omega arith), flat_map-same f g n (a + 1) (λ k low high. h k (omega arith) (omega arith))) refl
 
@@ -39,19 +40,22 @@ filter-none f zero a h = refl
 filter-none f (suc n) a h = rw (h a (omega arith) (omega arith)) (filter-none f n (a + 1) (λ k low high. h k (omega arith) (omega arith)))
 
 -- the first number that passes comes first; behind it stand those that pass a test that refuses it alone
-pub filter-first : (f g : ℕ → Bool) (n a i : ℕ) → a ≤ i → i < a + n → ((k : ℕ) → a ≤ k → k < i → f k ≡ false) → f i ≡ true → g i ≡ false → ((k : ℕ) → (k ≡ i → ⊥) → g k ≡ f k)
+pub filter-first : (f g : ℕ → Bool) (n a i : ℕ) → a ≤ i → i < a + n → ((k : ℕ) → a ≤ k → k < i → f k ≡ false) → f i ≡ true → g i ≡ false
+    → ((k : ℕ) → (k ≡ i → ⊥) → g k ≡ f k)
     → filter f (range_with_len a n) ≡ i ∷ filter g (range_with_len a n)
 filter-first f g zero a i low high before here gone others = absurd (omega arith)
 filter-first f g (suc n) a i low high before here gone others = elim (cases_eq a i) [
   | inl e ↦ (
       let fa : f a ≡ true = ap f e ∙ here in
       let ga : g a ≡ false = ap g e ∙ gone in
-      let rest : filter f (range_with_len (a + 1) n) ≡ filter g (range_with_len (a + 1) n) = filter-same f g n (a + 1) (λ k klow khigh. sym (others k (λ same. omega arith))) in
+      let rest : filter f (range_with_len (a + 1) n) ≡ filter g (range_with_len (a + 1) n) =
+      filter-same f g n (a + 1) (λ k klow khigh. sym (others k (λ same. omega arith))) in
       rw (fa, ga, rest, e) refl)
   | inr ne ↦ (
       let fa : f a ≡ false = before a (omega arith) (let apart : a ≡ i → ⊥ = ne in omega arith) in
       let ga : g a ≡ false = others a ne ∙ fa in
-      rw (fa, ga) (filter-first f g n (a + 1) i (let apart : a ≡ i → ⊥ = ne in omega arith) (omega arith) (λ k klow khigh. before k (omega arith) khigh) here gone others))
+      rw (fa, ga) (filter-first f g n (a + 1) i (let apart : a ≡ i → ⊥ = ne in omega arith) (omega arith)
+      (λ k klow khigh. before k (omega arith) khigh) here gone others))
 ]
 
 pub get-set_here : {X : Type 0} (xs : List X) (i : ℕ) (x : X) → i < length xs → slice_get (set xs i x) i ≡ Some x

@@ -12,7 +12,8 @@ use Rattle.svc_job_host.specs.Rows.{ArePaced, row_due, ran_row, due_in, runs_in,
 use Rattle.svc_job_host.proofs.RangeLemmas.{flat_map-next, get-set_here, get-set_other}
 
 -- a job without due moments doesn't run
-pub no_run : (rows : List JobRow) (s : ℕ) (row d : JobRow) (last m due : ℕ) (runs : List JobRun) → slice_get rows s ≡ Some row → due ≡ row_due (get_or rows s d) last m → due ≡ 0
+pub no_run : (rows : List JobRow) (s : ℕ) (row d : JobRow) (last m due : ℕ) (runs : List JobRun) → slice_get rows s ≡ Some row
+    → due ≡ row_due (get_or rows s d) last m → due ≡ 0
     → runs ≡ runs ++ run_of s (row_due row last m) m
 no_run rows s row d last m due runs at is none =
     let same : get_or rows s d ≡ row = get_or_from_slice_get rows s row d at in
@@ -33,13 +34,16 @@ pub record RanUpTo (init rows : List JobRow) (first told : List (Option (List �
 
 -- a run doesn't change the period
 every-ran : (row : JobRow) (due : ℕ) → (ran_row row due).every ≡ row.every
-every-ran row due = elim (due == 0) as (λ b. (if b then row else record row { ran = true; owes = row.owes || not row.ran }).every ≡ row.every) [ true ↦ refl | false ↦ refl ]
+every-ran row due =
+    elim (due == 0) as (λ b. (if b then row else record row { ran = true; owes = row.owes || not row.ran }).every ≡ row.every) [ true ↦ refl | false ↦ refl ]
 
-pub ran_more : (init rows new : List JobRow) (first told spoken : List (Option (List ℕ))) (before now later : List JobRun × ℕ) (last m s : ℕ) → RanUpTo init rows first told before now last m s → s < length init
+pub ran_more : (init rows new : List JobRow) (first told spoken : List (Option (List ℕ))) (before now later : List JobRun × ℕ) (last m s : ℕ)
+    → RanUpTo init rows first told before now last m s → s < length init
     → s < length first
     → ((row : JobRow) → slice_get rows s ≡ Some row → new ≡ slice_set rows s (ran_row row (row_due row last m)))
     → ((row : JobRow) → slice_get rows s ≡ Some row → list_of later ≡ list_of now ++ run_of s (row_due row last m) m)
-    → ((row : JobRow) (o : Option (List ℕ)) → slice_get rows s ≡ Some row → slice_get told s ≡ Some o → spoken ≡ slice_set told s (told_after o (row_due row last m)))
+    → ((row : JobRow) (o : Option (List ℕ)) → slice_get rows s ≡ Some row → slice_get told s ≡ Some o
+    → spoken ≡ slice_set told s (told_after o (row_due row last m)))
     → spare now ≤ spare later + 1 → RanUpTo init new first spoken before later last m (s + 1)
 ran_more init rows new first told spoken before now later last m s up lt heard set_row run say more_room =
     let d : JobRow = record { every = 0; started = None; ran = false; owes = false } in
@@ -56,14 +60,17 @@ ran_more init rows new first told spoken before now later last m s up lt heard s
     let due_here : due_in (slice_get init s) last m ≡ row_due row last m = ap (λ (x : Option JobRow). due_in x last m) there in
     let now_said : slice_get told s ≡ Some o = up.untold s (omega arith) ∙ said in
     let spoke : spoken ≡ set told s (told_after o (row_due row last m)) = say row o here now_said in
-    let silent = λ (k : ℕ) (ne : k ≡ s → ⊥). ap (λ (xs : List (Option (List ℕ))). slice_get xs k) spoke ∙ get-set_other told s k (told_after o (row_due row last m)) ne in
+    let silent =
+    λ (k : ℕ) (ne : k ≡ s → ⊥). ap (λ (xs : List (Option (List ℕ))). slice_get xs k) spoke
+    ∙ get-set_other told s k (told_after o (row_due row last m)) ne in
     record {
       passed = λ k r below at. elim (cases_eq k s) [
         | inl e ↦ (
             let at' : slice_get rows s ≡ Some r = up.others s (omega arith) ∙ subst (λ n. slice_get init n ≡ Some r) e at in
             let changed' : new ≡ set rows s (ran_row r (row_due r last m)) = set_row r at' in
             subst (λ n. slice_get new n ≡ Some (ran_row r (row_due r last m))) (sym e)
-            (subst (λ (xs : List JobRow). slice_get xs s ≡ Some (ran_row r (row_due r last m))) (sym changed') (get-set_here rows s (ran_row r (row_due r last m)) within)))
+            (subst (λ (xs : List JobRow). slice_get xs s ≡ Some (ran_row r (row_due r last m))) (sym changed')
+            (get-set_here rows s (ran_row r (row_due r last m)) within)))
         | inr ne ↦ elsewhere k ne ∙ up.passed k r (let apart : k ≡ s → ⊥ = ne in omega arith) at
       ];
       others = λ k above. elsewhere k (λ same. omega arith) ∙ up.others k (omega arith);
@@ -79,13 +86,15 @@ ran_more init rows new first told spoken before now later last m s up lt heard s
       ran = (
           run row here ∙ ap (λ (xs : List JobRun). xs ++ run_of s (row_due row last m) m) up.ran
           ∙ append_assoc (list_of before) (runs_in init last m s) (run_of s (row_due row last m) m)
-          ∙ ap (λ (xs : List JobRun). list_of before ++ xs) (ap (λ n. runs_in init last m s ++ run_of s n m) (sym due_here) ∙ sym (flat_map-next (λ k. run_of k (due_in (slice_get init k) last m) m) s)));
+          ∙ ap (λ (xs : List JobRun). list_of before ++ xs)
+          (ap (λ n. runs_in init last m s ++ run_of s n m) (sym due_here) ∙ sym (flat_map-next (λ k. run_of k (due_in (slice_get init k) last m) m) s)));
       tells = λ k x below at. elim (cases_eq k s) [
         | inl e ↦ (
             let at' : slice_get told s ≡ Some x = up.untold s (omega arith) ∙ subst (λ n. slice_get first n ≡ Some x) e at in
             let spoke' : spoken ≡ set told s (told_after x (row_due row last m)) = say row x here at' in
             subst (λ n. slice_get spoken n ≡ Some (told_after x (due_in (slice_get init n) last m))) (sym e)
-            (ap (λ (xs : List (Option (List ℕ))). slice_get xs s) spoke' ∙ get-set_here told s (told_after x (row_due row last m)) (let there : length told ≡ length first = up.heard in omega arith)
+            (ap (λ (xs : List (Option (List ℕ))). slice_get xs s) spoke'
+            ∙ get-set_here told s (told_after x (row_due row last m)) (let there : length told ≡ length first = up.heard in omega arith)
             ∙ ap (λ n. Some (told_after x n)) (sym due_here)))
         | inr ne ↦ silent k ne ∙ up.tells k x (let apart : k ≡ s → ⊥ = ne in omega arith) at
       ];
@@ -95,7 +104,8 @@ ran_more init rows new first told spoken before now later last m s up lt heard s
     }
 
 -- nothing ran yet
-pub ran_none : (rows : List JobRow) (told : List (Option (List ℕ))) (runs : List JobRun × ℕ) (last m : ℕ) → ArePaced rows → RanUpTo rows rows told told runs runs last m 0
+pub ran_none : (rows : List JobRow) (told : List (Option (List ℕ))) (runs : List JobRun × ℕ) (last m : ℕ) → ArePaced rows
+    → RanUpTo rows rows told told runs runs last m 0
 ran_none rows told runs last m paced = record {
   passed = λ k row below at. absurd (omega arith);
   others = λ k above. refl;

@@ -31,7 +31,9 @@ jobs-before : (q : Record) → each_entry (λ e before. is_job_entry e) q ≡ tr
 jobs-before [] only = refl
 jobs-before (Got (Moment m) ∷ q) only = jobs-before q only
 jobs-before (Got (Ready s) ∷ q) only = jobs-before q only
-jobs-before (Got (Signal kind) ∷ q) only = elim (has is_signal q) as (λ b. each_entry (λ e before. is_job_entry e) (if b then before_signal q else q) ≡ true) [ true ↦ jobs-before q only | false ↦ only ]
+jobs-before (Got (Signal kind) ∷ q) only =
+    elim (has is_signal q) as
+    (λ b. each_entry (λ e before. is_job_entry e) (if b then before_signal q else q) ≡ true) [ true ↦ jobs-before q only | false ↦ only ]
 jobs-before (Got e ∷ q) only = absurd (cc)
 jobs-before (Told a ∷ q) only = jobs-before q only
 
@@ -51,14 +53,21 @@ by-kind p b more rest TerminateSignal none passed = refl
 by-kind p b more rest GracefulUpgrade none passed = rw none refl
 
 -- the broadcast was told
-broadcast-told : (p : Plan) (b : Record) (kind : ShutdownSignal) → each_entry (λ e before. is_job_entry e) b ≡ true → PhasesRight p b → waits_are_over p b ≡ false → signal_of b ≡ Some kind → has is_broadcast b ≡ true
+broadcast-told : (p : Plan) (b : Record) (kind : ShutdownSignal) → each_entry (λ e before. is_job_entry e) b ≡ true → PhasesRight p b
+    → waits_are_over p b ≡ false → signal_of b ≡ Some kind → has is_broadcast b ≡ true
 broadcast-told p b kind only phases passed signal =
     let unpassed = or_parts (has_cut b) (has_passed_by p b (signal_of b)) passed in
     marked-is b ∙ ap (list_any is_the_broadcast) phases
-    ∙ ap (λ x. list_any is_the_broadcast ((marks_if x (phase Terminated ∷ phase ShutdownRuntimes ∷ []) ++ wait_row p b) ++ marks_if (has is_running b) (phase Running ∷ []))) passed
-    ∙ ap (λ x. list_any is_the_broadcast ((marks_if false (phase Terminated ∷ phase ShutdownRuntimes ∷ []) ++ (if x then with_start (row_by p (before_cut b) (signal_of (before_cut b))) else row_by p b (signal_of b))) ++ marks_if (has is_running b) (phase Running ∷ []))) unpassed.0
-    ∙ ap (λ (s : Option ShutdownSignal). list_any is_the_broadcast ((marks_if false (phase Terminated ∷ phase ShutdownRuntimes ∷ []) ++ row_by p b s) ++ marks_if (has is_running b) (phase Running ∷ []))) signal
-    ∙ by-kind p b (phase Terminated ∷ phase ShutdownRuntimes ∷ []) (marks_if (has is_running b) (phase Running ∷ [])) kind (no-offer p b only) (subst (λ (s : Option ShutdownSignal). has_passed_by p b s ≡ false) signal unpassed.1)
+    ∙ ap (λ x. list_any is_the_broadcast
+    ((marks_if x (phase Terminated ∷ phase ShutdownRuntimes ∷ []) ++ wait_row p b) ++ marks_if (has is_running b) (phase Running ∷ []))) passed
+    ∙ ap (λ x. list_any is_the_broadcast
+    ((marks_if false (phase Terminated ∷ phase ShutdownRuntimes ∷ [])
+    ++ (if x then with_start (row_by p (before_cut b) (signal_of (before_cut b))) else row_by p b (signal_of b)))
+    ++ marks_if (has is_running b) (phase Running ∷ []))) unpassed.0
+    ∙ ap (λ (s : Option ShutdownSignal). list_any is_the_broadcast
+    ((marks_if false (phase Terminated ∷ phase ShutdownRuntimes ∷ []) ++ row_by p b s) ++ marks_if (has is_running b) (phase Running ∷ []))) signal
+    ∙ by-kind p b (phase Terminated ∷ phase ShutdownRuntimes ∷ []) (marks_if (has is_running b) (phase Running ∷ [])) kind (no-offer p b only)
+    (subst (λ (s : Option ShutdownSignal). has_passed_by p b s ≡ false) signal unpassed.1)
 
 shut-by : (q : Record) → has is_broadcast q ≡ true → has is_shutdown q ≡ true
 shut-by [] h = h
@@ -68,7 +77,8 @@ shut-by (e ∷ q) h = elim (cases_Bool (is_broadcast e)) [
 ]
 
 -- so before the shutdown no signal came
-pub unsignalled : (p : Plan) (b : Record) → each_entry (λ e before. is_job_entry e) b ≡ true → PhasesRight p b → waits_are_over p b ≡ false → has is_shutdown b ≡ false → signal_of b ≡ None
+pub unsignalled : (p : Plan) (b : Record) → each_entry (λ e before. is_job_entry e) b ≡ true → PhasesRight p b → waits_are_over p b ≡ false
+    → has is_shutdown b ≡ false → signal_of b ≡ None
 unsignalled p b only phases passed on = by (signal_of b) refl
   where
     by : (o : Option ShutdownSignal) → signal_of b ≡ o → signal_of b ≡ None

@@ -36,7 +36,8 @@ abbrev pub due_since : ℕ → Option ℕ → ℕ → ℕ → ℕ
 due_since every None last m = 0
 due_since every (Some t) last m = due_between every t last m
 
--- how many due moments of job s are counted at the moment m, which comes after q: those since the last moment; none from the shutdown on, and none where time goes back
+-- how many due moments of job s are counted at the moment m, which comes after q: those since the last moment; none from the shutdown on, and none
+-- where time goes back
 abbrev pub due_at : List ℕ → Record → ℕ → ℕ → ℕ
 due_at periods q m s = if has is_shutdown q || nat_lt m (now q) then 0 else due_since (period periods s) (start_moment q s) (now q) m
 

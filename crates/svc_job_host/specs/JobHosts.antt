@@ -48,7 +48,8 @@ head_due periods (Got (Ready s)) before = bytes_eq (take 1 (owing periods before
 head_due periods (Got e) before = is_none (owing periods before)
 head_due periods (Told a) before = true
 
--- of these items so many were given, and the record with its table is of these and of the jobs' words; where the host failed, a fault comes next; where nothing came, no item is left
+-- of these items so many were given, and the record with its table is of these and of the jobs' words; where the host failed, a fault comes next;
+-- where nothing came, no item is left
 pub record KeepsJobs (periods : List ℕ) (t : TimetableData) (all : List Item) (at : ℕ) (q : Record) (faults idles : ℕ) : Type 0 where
   pub table : IsTimetableOf periods t q
   pub words : first_runs periods q ≡ readies_since q ++ owing periods q
@@ -68,4 +69,5 @@ dues_of s runs = map (λ (run : JobRun). run.due) (filter (λ (run : JobRun). ru
 
 -- each job that tells what it was told was told the due numbers of its runs last, in order
 abbrev pub AreHeard : List (Option (List ℕ)) → List JobRun → Type 0
-AreHeard told runs = (s : ℕ) (numbers : List ℕ) → slice_get told s ≡ Some (Some numbers) → drop (length numbers - length (dues_of s runs)) numbers ≡ dues_of s runs
+AreHeard told runs = (s : ℕ) (numbers : List ℕ) → slice_get told s ≡ Some (Some numbers)
+    → drop (length numbers - length (dues_of s runs)) numbers ≡ dues_of s runs

@@ -18,7 +18,8 @@ use Rattle.svc_job_host.specs.JobHostData.{JobHostData}
 use Rattle.svc_job_host.specs.JobHosts.{is_job_entry, head_due, AreHeard}
 use Rattle.svc_job_host.specs.Timetables.{periods_of}
 
--- what a host of jobs tells at any time: its runs are those that are due by its record; its jobs said that they are ready in turn; its items are given in order, and hold no fault so far; and the jobs were told the due numbers of their runs
+-- what a host of jobs tells at any time: its runs are those that are due by its record; its jobs said that they are ready in turn; its items are
+-- given in order, and hold no fault so far; and the jobs were told the due numbers of their runs
 pub record TellsJobs {J : Type 0} (told : J → Option (List ℕ)) (host : JobHostData J) : Type 0 where
   pub runs : host.runs ≡ due_runs (periods_of host.plans) host.entries
   pub in_turn : readies_right (periods_of host.plans) host.entries ≡ true

@@ -20,7 +20,8 @@ known None read P e h = tt
 known (Some bytes) read P e h = subst P e h
 
 -- the answer to jobs is the program's answer
-pub jobs_answer : (words : List (List ℕ)) (left : Option (List ℕ)) (read numbers : List ℕ) (parts : JobParts) (line : StatusLine) (out : List ℕ) → words ≡ [] → IfSome left (λ bytes. read ≡ bytes) → jobs_in read ≡ Ok parts
+pub jobs_answer : (words : List (List ℕ)) (left : Option (List ℕ)) (read numbers : List ℕ) (parts : JobParts) (line : StatusLine) (out : List ℕ) → words ≡ []
+    → IfSome left (λ bytes. read ≡ bytes) → jobs_in read ≡ Ok parts
     → AreLines (script_lines read) (length parts.script.services) numbers → AnswersJobs parts numbers line out → IsAnswer words left line out
 jobs_answer words left read numbers parts (Run end) out none same says places (edges, ran) =
     (none, (parts, (ran, known left read (λ bytes. IsJobText bytes parts) same (record { says = says; edges = edges }))))
@@ -32,7 +33,8 @@ jobs_answer words left read numbers parts Words out none same says places h = ab
 jobs_answer words left read numbers parts ReadFault out none same says places h = absurd h
 
 -- where the status isn't that of another line, it is that of a run
-pub ran_from : (status : ℕ) → (status ≡ 2 → ⊥) → (status ≡ 3 → ⊥) → (status ≡ 5 → ⊥) → (words : List (List ℕ)) (left now_left before now : Option (List ℕ)) (line : StatusLine) (out : List ℕ)
+pub ran_from : (status : ℕ) → (status ≡ 2 → ⊥) → (status ≡ 3 → ⊥) → (status ≡ 5 → ⊥)
+    → (words : List (List ℕ)) (left now_left before now : Option (List ℕ)) (line : StatusLine) (out : List ℕ)
     → IsAnswer words left line out → Ends line now_left → Appends before now out → status_of line ≡ status → Ran status words left now_left before now
 ran_from status two three five words left now_left before now Words out a d p e = absurd (two (sym e))
 ran_from status two three five words left now_left before now (Line n) out a d p e = absurd (three (sym e))
@@ -40,7 +42,8 @@ ran_from status two three five words left now_left before now ReadFault out a d 
 ran_from status two three five words left now_left before now (Run end) out a d p e = (end, e, a.0, d, (out, a.1, p))
 
 -- words are refused as such
-pub refused_words : (words : List (List ℕ)) (left : Option (List ℕ)) (line : StatusLine) (out : List ℕ) → (words ≡ [] → ⊥) → IsAnswer words left line out → status_of line ≡ 2
+pub refused_words : (words : List (List ℕ)) (left : Option (List ℕ)) (line : StatusLine) (out : List ℕ) → (words ≡ [] → ⊥) → IsAnswer words left line out
+    → status_of line ≡ 2
 refused_words words left Words out refused a = refl
 refused_words words left (Line n) out refused a = absurd (refused a.0)
 refused_words words left ReadFault out refused a = absurd (refused a.0)
@@ -48,7 +51,8 @@ refused_words words left (Run end) out refused a = absurd (refused a.0)
 
 -- the runs of jobs whose dependencies are sound answer them
 pub ran_jobs : {E : Type 0} (parts : JobParts) (numbers : List ℕ) (end : RunEnd) (runs : List JobRun) (r : Record) (result : Result Answer E)
-    → IfOk result (λ (a : Answer). (a.line ≡ Run end) × (string_bytes a.text ≡ runs_text runs ++ status_line (Run end))) → runs ≡ due_runs parts.periods r → IsJobRun parts end r → RefusesNone parts.script.services
+    → IfOk result (λ (a : Answer). (a.line ≡ Run end) × (string_bytes a.text ≡ runs_text runs ++ status_line (Run end))) → runs ≡ due_runs parts.periods r
+    → IsJobRun parts end r → RefusesNone parts.script.services
     → IfOk result (λ (a : Answer). AnswersJobs parts numbers a.line (string_bytes a.text))
 ran_jobs parts numbers end runs r (Ok a) said due run edges =
     subst (λ (l : StatusLine). AnswersJobs parts numbers l (string_bytes a.text)) (sym said.0)

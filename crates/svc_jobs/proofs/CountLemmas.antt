@@ -35,7 +35,8 @@ passes_le f g (x ∷ xs) h =
       ]
     ]
 
-passes_lt : (f g : ℕ → Bool) (a n k : ℕ) → ((s : ℕ) → f s ≡ true → g s ≡ true) → a ≤ k → k < a + n → f k ≡ false → g k ≡ true → length (filter f (range_with_len a n)) + 1 ≤ length (filter g (range_with_len a n))
+passes_lt : (f g : ℕ → Bool) (a n k : ℕ) → ((s : ℕ) → f s ≡ true → g s ≡ true) → a ≤ k → k < a + n → f k ≡ false → g k ≡ true
+    → length (filter f (range_with_len a n)) + 1 ≤ length (filter g (range_with_len a n))
 passes_lt f g a zero k h le lt off on = absurd (omega arith)
 passes_lt f g a (suc n) k h le lt off on = elim (cases_lt a k) [
   | inr here ↦ (
@@ -96,7 +97,8 @@ unfolding readies
 readies_few periods [] heads = omega arith
 readies_few periods (Got (Moment m) ∷ q) heads =
     let parts = and_parts (is_none (owing periods q)) (each_entry (head_due periods) q) heads in
-    let less = passes_le (has_said periods q) (has_said periods (Got (Moment m) ∷ q)) (jobs_of periods) (λ s h. moment_keeps (has_run periods q s) (owes periods q s) (not (due_at periods q m s == 0)) h) in
+    let less = passes_le (has_said periods q) (has_said periods (Got (Moment m) ∷ q)) (jobs_of periods)
+    (λ s h. moment_keeps (has_run periods q s) (owes periods q s) (not (due_at periods q m s == 0)) h) in
     omega (arith, less, readies_few periods q parts.1)
 readies_few periods (Got (Ready k) ∷ q) heads =
     let parts = and_parts (bytes_eq (take 1 (owing periods q)) (k ∷ [])) (each_entry (head_due periods) q) heads in
@@ -104,7 +106,8 @@ readies_few periods (Got (Ready k) ∷ q) heads =
     let off = unsaid (has_run periods q k) (owes periods q k) owed.0 in
     let same : (k == k) ≡ true = eq-eqb k k refl in
     let on : has_said periods (Got (Ready k) ∷ q) k ≡ true = rw (owes-ran periods q k owed.0, owed.0, same) refl in
-    let less = passes_lt (has_said periods q) (has_said periods (Got (Ready k) ∷ q)) 0 (length periods) k (λ s h. word_keeps (has_run periods q s) (owes periods q s) (k == s) h) (omega arith) (omega (arith, owed.1)) off on in
+    let less = passes_lt (has_said periods q) (has_said periods (Got (Ready k) ∷ q)) 0 (length periods) k
+    (λ s h. word_keeps (has_run periods q s) (owes periods q s) (k == s) h) (omega arith) (omega (arith, owed.1)) off on in
     omega (arith, less, readies_few periods q parts.1)
 readies_few periods (Got e ∷ q) heads = readies_few periods q (and_parts (is_none (owing periods q)) (each_entry (head_due periods) q) heads).1
 readies_few periods (Told a ∷ q) heads = readies_few periods q heads
@@ -123,10 +126,23 @@ items-tell q [] = refl
 items-tell q (a ∷ more) = items-tell (Told a ∷ q) more
 
 -- with a turn more than items and jobs, the turns aren't spent
-pub not_spent : (p : Plan) (turns given : ℕ) (periods : List ℕ) (all : List Item) (r finished : Record) → KeepsWords periods r → map items.Event (items_of r) ≡ take given all → turns ≡ (length all + length periods) + 1
+pub not_spent : (p : Plan) (turns given : ℕ) (periods : List ℕ) (all : List Item) (r finished : Record) → KeepsWords periods r
+    → map items.Event (items_of r) ≡ take given all → turns ≡ (length all + length periods) + 1
     → IsSpent p turns r finished → ⊥
 not_spent p turns given periods all r finished keeps taken enough spent =
     let told = closing_actions p finished None in
     let heads = sym (untold-heads periods finished told) ∙ subst (λ (q : Record). each_entry (head_due periods) q ≡ true) spent.closed.closed keeps.heads in
     let same : length (items_of r) ≡ length (items_of finished) = ap length (ap items_of spent.closed.closed ∙ items-tell finished told) in
-    omega (arith, events_count finished, readies_few periods finished heads, passes_few (has_said periods finished) 0 (length periods), same, ap length taken, length-map (items_of r) items.Event, length-take given all, spent.count, enough)
+    omega (
+      arith,
+      events_count finished,
+      readies_few periods finished heads,
+      passes_few (has_said periods finished) 0
+          (length periods),
+      same,
+      ap length taken,
+      length-map (items_of r) items.Event,
+      length-take given all,
+      spent.count,
+      enough,
+    )

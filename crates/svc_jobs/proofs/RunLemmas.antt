@@ -45,18 +45,27 @@ use Rattle.svc_jobs.proofs.ServerLemmas.{same_plan}
 -- ---- what a run of jobs may answer
 
 -- it bootstraps nothing and has no parent, so it doesn't end so
-never_ends : (p : Plan) (periods : List ℕ) (r finished : Record) → KeepsWords periods r → r ≡ tell finished (closing_actions p finished None) → each_entry (λ e before. is_job_entry e) finished ≡ true
-never_ends p periods r finished keeps closed = sym (untold-only finished (closing_actions p finished None)) ∙ subst (λ (q : Record). each_entry (λ e before. is_job_entry e) q ≡ true) closed keeps.only_jobs
+never_ends : (p : Plan) (periods : List ℕ) (r finished : Record) → KeepsWords periods r → r ≡ tell finished (closing_actions p finished None)
+    → each_entry (λ e before. is_job_entry e) finished ≡ true
+never_ends p periods r finished keeps closed =
+    sym (untold-only finished (closing_actions p finished None))
+    ∙ subst (λ (q : Record). each_entry (λ e before. is_job_entry e) q ≡ true) closed keeps.only_jobs
 
-pub may_end : (p : Plan) (turns given : ℕ) (answer : Result Outcome RunError) (periods : List ℕ) (all : List Item) (r : Record) → p.test ≡ false → KeepsWords periods r → map items.Event (items_of r) ≡ take given all
+pub may_end : (p : Plan) (turns given : ℕ) (answer : Result Outcome RunError) (periods : List ℕ) (all : List Item) (r : Record) → p.test ≡ false
+    → KeepsWords periods r → map items.Event (items_of r) ≡ take given all
     → turns ≡ (length all + length periods) + 1 → RunEnds p turns answer r → MayEnd answer
 may_end p turns given (Ok outcomes.Served) periods all r test keeps taken enough end = tt
 may_end p turns given (Ok outcomes.TestPassed) periods all r test keeps taken enough (finished, end) =
-    (let tests : ends_tested p finished ≡ true = tested-by (waits_are_over p finished) (ends_tested p finished) (ends_parent_well p finished) (ends_parent_badly p finished) (ends_transfer finished) (ends_no_sender p finished) (ends_bad_message finished) end.ended in
+    (let tests : ends_tested p finished ≡ true =
+    tested-by (waits_are_over p finished) (ends_tested p finished) (ends_parent_well p finished) (ends_parent_badly p finished) (ends_transfer finished)
+    (ends_no_sender p finished) (ends_bad_message finished) end.ended in
     let never = rw test at tests in cc)
-may_end p turns given (Ok (outcomes.Parent n)) periods all r test keeps taken enough (finished, end) = calm p finished (ends.Parent n) (never_ends p periods r finished keeps end.closed) end.ended
-may_end p turns given (Err (errors.Bootstrap error)) periods all r test keeps taken enough (finished, end) = calm p finished (ends.Ended error) (never_ends p periods r finished keeps end.closed) end.ended
-may_end p turns given (Err errors.TurnsSpent) periods all r test keeps taken enough (finished, end) = not_spent p turns given periods all r finished keeps taken enough end
+may_end p turns given (Ok (outcomes.Parent n)) periods all r test keeps taken enough (finished, end) =
+    calm p finished (ends.Parent n) (never_ends p periods r finished keeps end.closed) end.ended
+may_end p turns given (Err (errors.Bootstrap error)) periods all r test keeps taken enough (finished, end) =
+    calm p finished (ends.Ended error) (never_ends p periods r finished keeps end.closed) end.ended
+may_end p turns given (Err errors.TurnsSpent) periods all r test keeps taken enough (finished, end) =
+    not_spent p turns given periods all r finished keeps taken enough end
 may_end p turns given (Err (errors.Config key)) periods all r test keeps taken enough end = tt
 may_end p turns given (Err errors.HostFault) periods all r test keeps taken enough end = tt
 may_end p turns given (Err (errors.Stray k)) periods all r test keeps taken enough end = tt
@@ -106,11 +115,14 @@ pub since-tell : (q : Record) (told : List Action) → readies_since (tell q tol
 since-tell q [] = refl
 since-tell q (a ∷ more) = since-tell (Told a ∷ q) more
 
-misfit_item : (p : Plan) (periods : List ℕ) (k : ℕ) (r finished : Record) (e : Event) → AllNotify p → each_entry (head_due periods) (Got e ∷ finished) ≡ true → IsStray p k r finished e → readies_since (Got e ∷ finished) ≡ []
-misfit_item p periods k r finished (Ready s) notify heads stray = absurd (stray.misfit (ready-fits p periods finished s notify heads stray.closed.right stray.closed.goes_on))
+misfit_item : (p : Plan) (periods : List ℕ) (k : ℕ) (r finished : Record) (e : Event) → AllNotify p → each_entry (head_due periods) (Got e ∷ finished) ≡ true
+    → IsStray p k r finished e → readies_since (Got e ∷ finished) ≡ []
+misfit_item p periods k r finished (Ready s) notify heads stray =
+    absurd (stray.misfit (ready-fits p periods finished s notify heads stray.closed.right stray.closed.goes_on))
 misfit_item p periods k r finished e notify heads stray = refl
 
-last_item : (p : Plan) (turns : ℕ) (end : RunEnd) (periods : List ℕ) (r : Record) → AllNotify p → KeepsWords periods r → RunEnds p turns (answer_of end) r → LastIsItem end r
+last_item : (p : Plan) (turns : ℕ) (end : RunEnd) (periods : List ℕ) (r : Record) → AllNotify p → KeepsWords periods r → RunEnds p turns (answer_of end) r
+    → LastIsItem end r
 last_item p turns Served periods r notify keeps h = tt
 last_item p turns Tested periods r notify keeps h = tt
 last_item p turns (Parent n) periods r notify keeps h = tt
@@ -119,14 +131,16 @@ last_item p turns HostFault periods r notify keeps h = tt
 last_item p turns (Bootstrap error) periods r notify keeps h = tt
 last_item p turns (Stray k) periods r notify keeps (finished, (e, stray)) =
     let told = closing_actions p finished (Some e) in
-    let heads = sym (untold-heads periods (Got e ∷ finished) told) ∙ subst (λ (q : Record). each_entry (head_due periods) q ≡ true) stray.closed.closed keeps.heads in
+    let heads = sym (untold-heads periods (Got e ∷ finished) told)
+    ∙ subst (λ (q : Record). each_entry (head_due periods) q ≡ true) stray.closed.closed keeps.heads in
     ap readies_since stray.closed.closed ∙ since-tell (Got e ∷ finished) told ∙ misfit_item p periods k r finished e notify heads stray
 last_item p turns OutOfEvents periods r notify keeps h = tt
 
 -- ---- all of it
 
 -- what the run of a server over a host of jobs ensures, and what the host keeps
-pub record LeavesJobs {J : Type 0} (told : J → Option (List ℕ)) (p : Plan) (turns : ℕ) (answer : Result Outcome RunError) (conf : ServerConf) (host : JobHostData J) : Type 0 where
+pub record LeavesJobs {J : Type 0} (told : J → Option (List ℕ)) (p : Plan) (turns : ℕ) (answer : Result Outcome RunError) (conf : ServerConf)
+    (host : JobHostData J) : Type 0 where
   pub jobs : TellsJobs told host
   pub words : EndsTold answer (periods_of host.plans) host.entries
   pub next : ComesNext answer host
@@ -135,18 +149,23 @@ pub record LeavesJobs {J : Type 0} (told : J → Option (List ℕ)) (p : Plan) (
   pub config : (key : Key) → answer ≡ Err (errors.Config key) → judged conf ≡ Err key
   pub keeps : KeepsWords (periods_of host.plans) host.entries
 
-pub may_answer : {J : Type 0} (told : J → Option (List ℕ)) (p : Plan) (turns : ℕ) (answer : Result Outcome RunError) (conf : ServerConf) (host : JobHostData J) (periods : List ℕ) (all : List Item) → p.test ≡ false
+pub may_answer : {J : Type 0} (told : J → Option (List ℕ)) (p : Plan) (turns : ℕ) (answer : Result Outcome RunError) (conf : ServerConf) (host : JobHostData J)
+    (periods : List ℕ) (all : List Item) → p.test ≡ false
     → periods_of host.plans ≡ periods → host.items ≡ all → turns ≡ (length all + length periods) + 1 → LeavesJobs told p turns answer conf host → MayEnd answer
 may_answer told p turns answer conf host periods all test paced given enough h =
-    may_end p turns host.given answer periods all host.entries test (subst (λ (ps : List ℕ). KeepsWords ps host.entries) paced h.keeps) (h.jobs.given ∙ ap (take host.given) given) enough h.ends
+    may_end p turns host.given answer periods all host.entries test (subst (λ (ps : List ℕ). KeepsWords ps host.entries) paced h.keeps)
+    (h.jobs.given ∙ ap (take host.given) given) enough h.ends
 
-pub job_run : {J : Type 0} (told : J → Option (List ℕ)) (parts : JobParts) (end : RunEnd) (turns : ℕ) (answer : Result Outcome RunError) (conf : ServerConf) (options : Option Opt) (eager : Bool) (g : GraphData) (filters : ℕ) (answers : List ServicePlan)
-    (host : JobHostData J) → IsJobServer parts.script conf options eager g filters answers → AllNotify (plan_of conf options eager g answers) → answer ≡ answer_of end → periods_of host.plans ≡ parts.periods → host.items ≡ parts.script.items
+pub job_run : {J : Type 0} (told : J → Option (List ℕ)) (parts : JobParts) (end : RunEnd) (turns : ℕ) (answer : Result Outcome RunError) (conf : ServerConf)
+    (options : Option Opt) (eager : Bool) (g : GraphData) (filters : ℕ) (answers : List ServicePlan)
+    (host : JobHostData J) → IsJobServer parts.script conf options eager g filters answers → AllNotify (plan_of conf options eager g answers)
+    → answer ≡ answer_of end → periods_of host.plans ≡ parts.periods → host.items ≡ parts.script.items
     → turns ≡ turns_of parts → LeavesJobs told (plan_of conf options eager g answers) turns answer conf host → IsJobRun parts end host.entries
 job_run told parts end turns answer conf options eager g filters answers host server notify is paced given enough h =
     let plan : plan_of conf options eager g answers ≡ plan_of_jobs parts.script = same_plan parts.script conf options eager g filters answers server in
     let r : Record = host.entries in
-    let may = may_answer told (plan_of conf options eager g answers) turns answer conf host parts.periods parts.script.items (ap is_test server.flags) paced given enough h in
+    let may = may_answer told (plan_of conf options eager g answers) turns answer conf host parts.periods parts.script.items
+    (ap is_test server.flags) paced given enough h in
     let ends_so = subst (λ (a : Result Outcome RunError). RunEnds (plan_of conf options eager g answers) turns a r) is h.ends in
     let keeps = subst (λ (ps : List ℕ). KeepsWords ps r) paced h.keeps in
     let given_is : map items.Event (items_of r) ≡ take host.given parts.script.items = h.jobs.given ∙ ap (take host.given) given in
@@ -154,12 +173,16 @@ job_run told parts end turns answer conf options eager g filters answers host se
     record {
       may = subst MayEnd is may;
       judged = subst (Judges end) server.configuration (judges_of end conf (λ key e. h.config key (is ∙ e)));
-      ends = subst (λ (n : ℕ). RunEnds (plan_of_jobs parts.script) n (answer_of end) r) enough (subst (λ (p : Plan). RunEnds p turns (answer_of end) r) plan ends_so);
+      ends = subst (λ (n : ℕ). RunEnds (plan_of_jobs parts.script) n (answer_of end) r) enough
+          (subst (λ (p : Plan). RunEnds p turns (answer_of end) r) plan ends_so);
       in_turn = subst (λ (ps : List ℕ). readies_right ps r ≡ true) paced h.jobs.in_turn;
-      told = told_of end parts.periods r (subst (λ (ps : List ℕ). EndsTold (answer_of end) ps r) paced (subst (λ (a : Result Outcome RunError). EndsTold a (periods_of host.plans) r) is h.words));
+      told = told_of end parts.periods r
+          (subst (λ (ps : List ℕ). EndsTold (answer_of end) ps r) paced
+          (subst (λ (a : Result Outcome RunError). EndsTold a (periods_of host.plans) r) is h.words));
       order = subst (λ (p : Plan). EachEntry (λ e before. start_after_runs p parts.periods e before ≡ true) r) plan order;
       last = last_item (plan_of conf options eager g answers) turns end parts.periods r notify keeps ends_so;
       left = drop host.given parts.script.items;
       given = sym (take-append-drop host.given parts.script.items) ∙ ap (λ (xs : List Item). xs ++ drop host.given parts.script.items) (sym given_is);
-      leaves = subst (λ (xs : List Item). Leaves end (drop host.given xs)) given (leaves_of end host (subst (λ (a : Result Outcome RunError). ComesNext a host) is h.next));
+      leaves = subst (λ (xs : List Item). Leaves end (drop host.given xs)) given
+          (leaves_of end host (subst (λ (a : Result Outcome RunError). ComesNext a host) is h.next));
     }

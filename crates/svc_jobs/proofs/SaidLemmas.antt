@@ -58,7 +58,8 @@ record SaysJob (ws : List (List ℕ)) (job : JobLine) : Type 0 where
   more : List (List ℕ)
   first : ws ≡ job.name ∷ more
 
-job_by : (name key ms : List ℕ) (more : List (List ℕ)) (b : Bool) (o : Option ℕ) (a : Option (Option (List ℕ))) → bytes_eq key (codes "every") ≡ b → period_of ms ≡ o → after_of more ≡ a
+job_by : (name key ms : List ℕ) (more : List (List ℕ)) (b : Bool) (o : Option ℕ) (a : Option (Option (List ℕ))) → bytes_eq key (codes "every") ≡ b
+    → period_of ms ≡ o → after_of more ≡ a
     → (job_of (name ∷ key ∷ ms ∷ more) ≡ None) ⊎ ((job : JobLine) × SaysJob (name ∷ key ∷ ms ∷ more) job)
 unfolding job_of
 job_by name key ms more false o a e f g = inl (rw e refl)
@@ -76,7 +77,8 @@ job_cases (name ∷ key ∷ []) = inl refl
 job_cases (name ∷ key ∷ ms ∷ more) = job_by name key ms more (bytes_eq key (codes "every")) (period_of ms) (after_of more) refl refl refl
 
 -- the words of the service's line
-service_words : (name : List ℕ) (after : Option (List ℕ)) → IsFirst name → (more : List (List ℕ)) × (words (name ++ (codes " notify" ++ after_text after)) ≡ name ∷ codes "notify" ∷ more)
+service_words : (name : List ℕ) (after : Option (List ℕ)) → IsFirst name
+    → (more : List (List ℕ)) × (words (name ++ (codes " notify" ++ after_text after)) ≡ name ∷ codes "notify" ∷ more)
 service_words name None first = (
   [],
   words-then name 32 (codes "notify" ++ []) first.some (none_each is_blank name first.filled) refl
@@ -85,11 +87,13 @@ service_words name None first = (
 service_words name (Some value) first = (
   words (codes "after " ++ value),
   words-then name 32 (codes "notify" ++ (codes " after " ++ value)) first.some (none_each is_blank name first.filled) refl
-      ∙ ap (λ (ws : List (List ℕ)). name ∷ ws) (words-then (codes "notify") 32 (codes "after " ++ value) (omega arith) (none_each is_blank (codes "notify") refl) refl),
+      ∙ ap (λ (ws : List (List ℕ)). name ∷ ws)
+      (words-then (codes "notify") 32 (codes "after " ++ value) (omega arith) (none_each is_blank (codes "notify") refl) refl),
 )
 
 -- a line of two words begins no part
-one_word : (header line name second : List ℕ) (more : List (List ℕ)) → words header ≡ header ∷ [] → bytes_eq line header ≡ true → words line ≡ name ∷ second ∷ more → ⊥
+one_word : (header line name second : List ℕ) (more : List (List ℕ)) → words header ≡ header ∷ [] → bytes_eq line header ≡ true
+    → words line ≡ name ∷ second ∷ more → ⊥
 one_word header line name second more one same e =
     let equal : line ≡ header = grind (arith, bytes_eq-Decides line header, same) in
     let both : header ∷ [] ≡ name ∷ second ∷ more = sym one ∙ ap words (sym equal) ∙ e in
@@ -125,7 +129,8 @@ services_header : is_header (codes "%services") ≡ true
 unfolding header_of
 services_header = refl
 
-script_cases : (part : ℕ) (line : List ℕ) → (is_header (script_line part line) ≡ true) ⊎ ((script_line part line ≡ 255 ∷ []) ⊎ (script_line part line ≡ inner_line part line))
+script_cases : (part : ℕ) (line : List ℕ)
+    → (is_header (script_line part line) ≡ true) ⊎ ((script_line part line ≡ 255 ∷ []) ⊎ (script_line part line ≡ inner_line part line))
 unfolding script_line
 script_cases part line = elim (cases_Bool (bytes_eq line (codes "%jobs"))) [
   | inl jobs ↦ rw jobs (inl services_header)
@@ -138,7 +143,9 @@ script_cases part line = elim (cases_Bool (bytes_eq line (codes "%jobs"))) [
   ])
 ]
 
-inner_jobs : (part : ℕ) (line : List ℕ) → (part == 2) ≡ true → ((is_skipped (words line) ≡ true) × (inner_line part line ≡ line)) ⊎ ((is_skipped (words line) ≡ false) × (inner_line part line ≡ service_line (job_of (words line))))
+inner_jobs : (part : ℕ) (line : List ℕ) → (part == 2) ≡ true
+    → ((is_skipped (words line) ≡ true) × (inner_line part line ≡ line))
+    ⊎ ((is_skipped (words line) ≡ false) × (inner_line part line ≡ service_line (job_of (words line))))
 unfolding inner_line
 inner_jobs part line two =
     let other : (part == 1) ≡ false = ap (λ (n : ℕ). n == 1) (eqb-true part 2 two) in
@@ -148,7 +155,8 @@ inner_jobs part line two =
     ]
 
 inner_events : (part : ℕ) (line : List ℕ) → (part == 3) ≡ true
-    → ((is_skipped (words line) ≡ true) × (inner_line part line ≡ line)) ⊎ ((is_skipped (words line) ≡ false) × (inner_line part line ≡ (if is_job_event (item_of (words line)) then line else 255 ∷ [])))
+    → ((is_skipped (words line) ≡ true) × (inner_line part line ≡ line))
+    ⊎ ((is_skipped (words line) ≡ false) × (inner_line part line ≡ (if is_job_event (item_of (words line)) then line else 255 ∷ [])))
 unfolding inner_line
 inner_events part line three =
     let one : (part == 1) ≡ false = ap (λ (n : ℕ). n == 1) (eqb-true part 3 three) in
@@ -159,7 +167,8 @@ inner_events part line three =
     ]
 
 -- a job's line fits only where its service can be read
-job_fits : (part : ℕ) (eager : Bool) (services : List ServiceLine) (line name second : List ℕ) (more : List (List ℕ)) → (part == 2) ≡ true → words line ≡ name ∷ second ∷ more → is_skipped (name ∷ second ∷ more) ≡ false
+job_fits : (part : ℕ) (eager : Bool) (services : List ServiceLine) (line name second : List ℕ) (more : List (List ℕ)) → (part == 2) ≡ true
+    → words line ≡ name ∷ second ∷ more → is_skipped (name ∷ second ∷ more) ≡ false
     → line_fits part eager services line ≡ true → is_some (service_of (words line)) ≡ true
 unfolding line_fits place_fits says_item says_service is_eager
 job_fits part eager services line name second more two e said fits =
@@ -173,7 +182,8 @@ one_if_some : {X : Type 0} (o : Option X) → is_some o ≡ true → length (opt
 one_if_some None h = absurd (cc)
 one_if_some (Some x) h = refl
 
-job_said : (part : ℕ) (eager : Bool) (services : List ServiceLine) (line script : List ℕ) → (part == 2) ≡ true → is_header script ≡ false → is_skipped (words line) ≡ false → script ≡ service_line (job_of (words line))
+job_said : (part : ℕ) (eager : Bool) (services : List ServiceLine) (line script : List ℕ) → (part == 2) ≡ true → is_header script ≡ false
+    → is_skipped (words line) ≡ false → script ≡ service_line (job_of (words line))
     → line_fits part eager services script ≡ true → length (said_services part script) ≡ length (said_period part false line)
 unfolding said_services said_period is_skipped
 job_said part eager services line script two inner said is fits = elim (job_cases (words line)) [
@@ -201,9 +211,12 @@ one_said part line eager services fits = elim (cases_Bool (part == 2)) [
       | inr (inr same) ↦ elim (inner_jobs part line two) [
         | inl skipped ↦ (
             let is : script_line part line ≡ line = same ∙ skipped.1 in
-            let unsaid : service_of (words (script_line part line)) ≡ None = ap (λ (l : List ℕ). service_of (words l)) is ∙ skipped_service (words line) skipped.0 in
+            let unsaid : service_of (words (script_line part line)) ≡ None =
+            ap (λ (l : List ℕ). service_of (words l)) is ∙ skipped_service (words line) skipped.0 in
             rw (two, inner, skipped.0, unsaid) refl)
-        | inr said ↦ job_said part eager services line (script_line part line) two inner said.0 (same ∙ said.1) fits ∙ ap (λ (b : Bool). length (said_period part b line)) (sym inner)
+        | inr said ↦
+            job_said part eager services line (script_line part line) two inner said.0 (same ∙ said.1) fits
+            ∙ ap (λ (b : Bool). length (said_period part b line)) (sym inner)
       ]
     ]
   ]
@@ -224,13 +237,15 @@ unsaid_item : (line : List ℕ) → is_skipped (words line) ≡ true → item_of
 unfolding item_of
 unsaid_item line h = rw (skipped_is_no_fault (words line) h, skipped_event (words line) h) refl
 
-item_cases : (part : ℕ) (line script : List ℕ) → (part == 3) ≡ true → script ≡ inner_line part line → list_all is_job_item (option_to_list (item_of (words script))) ≡ true
+item_cases : (part : ℕ) (line script : List ℕ) → (part == 3) ≡ true → script ≡ inner_line part line
+    → list_all is_job_item (option_to_list (item_of (words script))) ≡ true
 item_cases part line script three same = elim (inner_events part line three) [
   | inl skipped ↦ none_listed (item_of (words script)) (ap (λ (l : List ℕ). item_of (words l)) (same ∙ skipped.1) ∙ unsaid_item line skipped.0)
   | inr said ↦ elim (cases_Bool (is_job_event (item_of (words line)))) [
     | inl may ↦ (
         let is : script ≡ line = same ∙ said.1 ∙ rw may refl in
-        subst (λ (o : Option Item). list_all is_job_item (option_to_list o) ≡ true) (sym (ap (λ (l : List ℕ). item_of (words l)) is)) (all_listed (item_of (words line)) may))
+        subst (λ (o : Option Item). list_all is_job_item (option_to_list o) ≡ true) (sym (ap (λ (l : List ℕ). item_of (words l)) is))
+        (all_listed (item_of (words line)) may))
     | inr other ↦ none_listed (item_of (words script)) (no_item script (same ∙ said.1 ∙ rw other refl))
   ]
 ]
@@ -275,41 +290,55 @@ all_fit ls h = λ k lt. in_not (fits_at ls k) (find_none_at (λ j. not (fits_at 
     in_not true h = refl
     in_not false h = absurd (cc)
 
-fits_here : (before : List (List ℕ)) (line : List ℕ) (more : List (List ℕ)) → AllFit (before ++ line ∷ more) → line_fits (begun before) (eager_in before) (services_in before) line ≡ true
+fits_here : (before : List (List ℕ)) (line : List ℕ) (more : List (List ℕ)) → AllFit (before ++ line ∷ more)
+    → line_fits (begun before) (eager_in before) (services_in before) line ≡ true
 unfolding fits_at AllFit
 fits_here before line more all =
     let within : length before < length (before ++ line ∷ more) = omega (arith, length-append before (line ∷ more)) in
     let here = all (length before) within in
     rw (take-append_seam before (line ∷ more), get_or-append_seam before line more []) at here
 
-sized_from : (ls before : List (List ℕ)) (part : ℕ) → begun before ≡ part → AllFit (before ++ script_lines_from part ls) → length (services_in (before ++ script_lines_from part ls)) ≡ length (services_in before) + length (periods_from part ls)
+sized_from : (ls before : List (List ℕ)) (part : ℕ) → begun before ≡ part → AllFit (before ++ script_lines_from part ls)
+    → length (services_in (before ++ script_lines_from part ls)) ≡ length (services_in before) + length (periods_from part ls)
 sized_from [] before part at fit = ap (λ (all : List (List ℕ)). length (services_in all)) (append-nil before) ∙ omega arith
 sized_from (l ∷ ls) before part at fit =
     let t : List ℕ = script_line part l in
     let next : List (List ℕ) = before ++ t ∷ [] in
     let stepped : begun next ≡ part_with part t = begun-push before t ∙ ap (λ (n : ℕ). part_with n t) at in
-    let whole : before ++ (t ∷ script_lines_from (part_with part t) ls) ≡ next ++ script_lines_from (part_with part t) ls = sym (append_assoc before (t ∷ []) (script_lines_from (part_with part t) ls)) in
+    let whole : before ++ (t ∷ script_lines_from (part_with part t) ls) ≡ next ++ script_lines_from (part_with part t) ls =
+    sym (append_assoc before (t ∷ []) (script_lines_from (part_with part t) ls)) in
     let here = fits_here before t (script_lines_from (part_with part t) ls) fit in
     let one = one_said part l (eager_in before) (services_in before) (rw at at here) in
     let rest = sized_from ls next (part_with part t) stepped (subst AllFit whole fit) in
-    let pushed : length (services_in next) ≡ length (services_in before ++ said_services part t) = ap length (services-push before t) ∙ ap (λ (n : ℕ). length (services_in before ++ said_services n t)) at in
+    let pushed : length (services_in next) ≡ length (services_in before ++ said_services part t) =
+    ap length (services-push before t) ∙ ap (λ (n : ℕ). length (services_in before ++ said_services n t)) at in
     ap (λ (all : List (List ℕ)). length (services_in all)) whole
     ∙ rest
-    ∙ omega (arith, pushed, length-append (services_in before) (said_services part t), one, length-append (said_period part (is_header t) l) (periods_from (part_with part t) ls))
+    ∙ omega (
+      arith,
+      pushed,
+      length-append (services_in before) (said_services part t),
+      one,
+      length-append (said_period part (is_header t) l)
+          (periods_from (part_with part t) ls),
+    )
 
-items_from : (ls before : List (List ℕ)) (part : ℕ) → begun before ≡ part → list_all is_job_item (items_in before) ≡ true → list_all is_job_item (items_in (before ++ script_lines_from part ls)) ≡ true
+items_from : (ls before : List (List ℕ)) (part : ℕ) → begun before ≡ part → list_all is_job_item (items_in before) ≡ true
+    → list_all is_job_item (items_in (before ++ script_lines_from part ls)) ≡ true
 items_from [] before part at all = ap (λ (ls : List (List ℕ)). list_all is_job_item (items_in ls)) (append-nil before) ∙ all
 items_from (l ∷ ls) before part at all =
     let t : List ℕ = script_line part l in
     let next : List (List ℕ) = before ++ t ∷ [] in
     let stepped : begun next ≡ part_with part t = begun-push before t ∙ ap (λ (n : ℕ). part_with n t) at in
     let pushed : items_in next ≡ items_in before ++ said_items part t = items-push before t ∙ ap (λ (n : ℕ). items_in before ++ said_items n t) at in
-    let more : list_all is_job_item (items_in next) ≡ true = ap (list_all is_job_item) pushed ∙ list_all-append is_job_item (items_in before) (said_items part t) ∙ rw (all, item_said part l) refl in
+    let more : list_all is_job_item (items_in next) ≡ true =
+    ap (list_all is_job_item) pushed ∙ list_all-append is_job_item (items_in before) (said_items part t) ∙ rw (all, item_said part l) refl in
     ap (λ (ls : List (List ℕ)). list_all is_job_item (items_in ls)) (sym (append_assoc before (t ∷ []) (script_lines_from (part_with part t) ls)))
     ∙ items_from ls next (part_with part t) stepped more
 
 -- what is said where the lines are a script
-judged_ok : (all : Bool) (conf : Result ServerConf ReadError) (ls : List (List ℕ)) (parts : Parts) → judged all conf ls ≡ Ok parts → (all ≡ true) × (parts.services ≡ services_in ls) × (parts.items ≡ items_in ls)
+judged_ok : (all : Bool) (conf : Result ServerConf ReadError) (ls : List (List ℕ)) (parts : Parts) → judged all conf ls ≡ Ok parts
+    → (all ≡ true) × (parts.services ≡ services_in ls) × (parts.items ≡ items_in ls)
 unfolding judged
 judged_ok all (Err e) ls parts h = absurd (cc)
 judged_ok all (Ok conf) ls parts h = elim (cases_Bool (all && (begun ls == 3))) [

@@ -24,7 +24,9 @@ either_all p q (x ∷ xs) h =
 
 pub words_none : (line : List ℕ) → none_of is_feed line ≡ true → list_all (none_of is_feed) (words line) ≡ true
 unfolding words
-words_none line none = filter_keeps (none_of is_feed) is_word (slice_split is_blank line) (pieces_all is_blank (λ b. not (is_feed b)) line (either_all is_blank (λ b. not (is_feed b)) line none))
+words_none line none =
+    filter_keeps (none_of is_feed) is_word (slice_split is_blank line)
+    (pieces_all is_blank (λ b. not (is_feed b)) line (either_all is_blank (λ b. not (is_feed b)) line none))
 
 -- the word behind `after` has none
 abbrev AfterNone : Option (Option (List ℕ)) → Type 0
@@ -50,7 +52,9 @@ said_none : (name : List ℕ) (o : Option ℕ) (a : Option (Option (List ℕ))) 
 said_none name None a n h = refl
 said_none name (Some every) None n h = refl
 said_none name (Some every) (Some None) n h = none_both is_feed name (codes " notify" ++ []) n refl
-said_none name (Some every) (Some (Some value)) n h = none_both is_feed name (codes " notify" ++ (codes " after " ++ value)) n (none_both is_feed (codes " notify") (codes " after " ++ value) refl (none_both is_feed (codes " after ") value refl h))
+said_none name (Some every) (Some (Some value)) n h =
+    none_both is_feed name (codes " notify" ++ (codes " after " ++ value)) n
+    (none_both is_feed (codes " notify") (codes " after " ++ value) refl (none_both is_feed (codes " after ") value refl h))
 
 job_none : (ws : List (List ℕ)) → list_all (none_of is_feed) ws ≡ true → none_of is_feed (service_line (job_of ws)) ≡ true
 unfolding job_of
@@ -108,8 +112,10 @@ pub record HasScript (all rest text : List ℕ) (part : ℕ) (periods : List ℕ
   pub paced : periods_from 0 (lines all) ≡ periods ++ periods_from part (lines rest)
   pub room : part + length rest ≤ length all
 
-pub reads_more : (all rest line after text new : List ℕ) (part now : ℕ) (periods more : List ℕ) → HasScript all rest text part periods → lines rest ≡ line ∷ lines after → length after < length rest
-    → new ≡ text ++ (script_line part line ++ 13 ∷ 10 ∷ []) → now ≡ part_with part (script_line part line) → more ≡ periods ++ said_period part (is_header (script_line part line)) line → HasScript all after new now more
+pub reads_more : (all rest line after text new : List ℕ) (part now : ℕ) (periods more : List ℕ) → HasScript all rest text part periods
+    → lines rest ≡ line ∷ lines after → length after < length rest
+    → new ≡ text ++ (script_line part line ++ 13 ∷ 10 ∷ []) → now ≡ part_with part (script_line part line)
+    → more ≡ periods ++ said_period part (is_header (script_line part line)) line → HasScript all after new now more
 reads_more all rest line after text new part now periods more h first shorter written begun said =
     let t : List ℕ = script_line part line in
     let each = rw first at (lines_none rest) in

@@ -21,19 +21,22 @@ use Rattle.svc_jobs.specs.JobServices.{answered, job_service, services_from, pla
 -- ---- the plan
 
 -- a job depends on what the lines say
-same_depends : (jobs : List ServiceLine) (g : GraphData) (s : ℕ) → HasEdges g (length jobs) (edges_up_to jobs (length jobs)) → depends_of g s ≡ script.depends_of jobs s
+same_depends : (jobs : List ServiceLine) (g : GraphData) (s : ℕ) → HasEdges g (length jobs) (edges_up_to jobs (length jobs))
+    → depends_of g s ≡ script.depends_of jobs s
 same_depends jobs g s h =
     ap (λ (n : ℕ). filter (is_edge g s) (range_with_len 0 n)) h.count
     ∙ filter_agree (is_edge g s) (edges_up_to jobs (length jobs) s) (h.same s) (range_with_len 0 (length jobs))
 
-same_services : (jobs : List ServiceLine) (g : GraphData) (s : ℕ) (xs : List ServiceLine) → HasEdges g (length jobs) (edges_up_to jobs (length jobs)) → with_depends g s (map answered xs) ≡ services_from jobs s xs
+same_services : (jobs : List ServiceLine) (g : GraphData) (s : ℕ) (xs : List ServiceLine) → HasEdges g (length jobs) (edges_up_to jobs (length jobs))
+    → with_depends g s (map answered xs) ≡ services_from jobs s xs
 same_services jobs g s [] h = refl
 same_services jobs g s (x ∷ xs) h =
     ap (λ (ds : List ℕ). record (answered x) { depends = ds } ∷ with_depends g (s + 1) (map answered xs)) (same_depends jobs g s h)
     ∙ ap (λ (more : List ServicePlan). job_service jobs s x ∷ more) (same_services jobs g (s + 1) xs h)
 
 -- the server of a text's jobs is run by the plan of the jobs
-pub same_plan : (parts : Parts) (conf : ServerConf) (options : Option Opt) (eager : Bool) (g : GraphData) (filters : ℕ) (answers : List ServicePlan) → IsJobServer parts conf options eager g filters answers
+pub same_plan : (parts : Parts) (conf : ServerConf) (options : Option Opt) (eager : Bool) (g : GraphData) (filters : ℕ) (answers : List ServicePlan)
+    → IsJobServer parts conf options eager g filters answers
     → plan_of conf options eager g answers ≡ plan_of_jobs parts
 same_plan parts conf options eager g filters answers h =
     ap (λ (x : ServerConf). plan_of x options eager g answers) h.configuration
@@ -50,8 +53,10 @@ pub record HasFirst (lines : List ServiceLine) (k : ℕ) (g : GraphData) (filter
   pub nodes : HasNodes g k
   pub sound : IsSound g filters answers
 
-pub first_more : {S : Type 0} (answer : S → ServicePlan) (lines : List ServiceLine) (k : ℕ) (line : ServiceLine) (g h : GraphData) (name : List ℕ) (filters others : ℕ) (services more : List S) (service : S) → HasFirst lines k g filters (map answer services)
-    → k < length lines → line ≡ get_or lines k line → answer service ≡ answered line → h ≡ with_node g name → more ≡ services ++ service ∷ [] → IsSound h others (map answer more) → HasFirst lines (k + 1) h others (map answer more)
+pub first_more : {S : Type 0} (answer : S → ServicePlan) (lines : List ServiceLine) (k : ℕ) (line : ServiceLine) (g h : GraphData) (name : List ℕ)
+    (filters others : ℕ) (services more : List S) (service : S) → HasFirst lines k g filters (map answer services)
+    → k < length lines → line ≡ get_or lines k line → answer service ≡ answered line → h ≡ with_node g name → more ≡ services ++ service ∷ []
+    → IsSound h others (map answer more) → HasFirst lines (k + 1) h others (map answer more)
 first_more answer lines k line g h name filters others services more service old below read says made pushed sound = record {
   answers_are =
       ap (map answer) pushed
@@ -64,7 +69,8 @@ first_more answer lines k line g h name filters others services more service old
   sound = sound;
 }
 
-pub first_all : (lines : List ServiceLine) (k : ℕ) (g : GraphData) (filters : ℕ) (answers : List ServicePlan) → HasFirst lines k g filters answers → k ≡ length lines → HasJobs lines 0 g filters answers
+pub first_all : (lines : List ServiceLine) (k : ℕ) (g : GraphData) (filters : ℕ) (answers : List ServicePlan) → HasFirst lines k g filters answers
+    → k ≡ length lines → HasJobs lines 0 g filters answers
 first_all lines k g filters answers h all = record {
   answers_are = h.answers_are ∙ ap (map answered) (take_all k lines (omega arith));
   edges = nodes_start g lines k all h.nodes;

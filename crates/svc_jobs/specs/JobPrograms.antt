@@ -53,7 +53,8 @@ abbrev pub LastIsItem : RunEnd → Record → Type 0
 LastIsItem (Stray k) r = readies_since r ≡ []
 LastIsItem end r = Unit {0}
 
--- the run of the server of these jobs, over their items, leaves this record and ends so: its items are the first of them; each job whose first run was at an item says that it is ready before the next, and starts after the first run of each that it depends on
+-- the run of the server of these jobs, over their items, leaves this record and ends so: its items are the first of them; each job whose first run
+-- was at an item says that it is ready before the next, and starts after the first run of each that it depends on
 pub record IsJobRun (parts : JobParts) (end : RunEnd) (r : Record) : Type 0 where
   pub may : MayEnd (answer_of end)
   pub judged : Judges end parts.script.conf
@@ -125,15 +126,18 @@ Ends ReadFault left = Unit {0}
 abbrev pub Ran : ℕ → List (List ℕ) → Option (List ℕ) → Option (List ℕ) → Option (List ℕ) → Option (List ℕ) → Type 0
 Ran status words left now_left before now = (end : RunEnd) × (end_status end ≡ status) × (words ≡ []) × IsAtEnd now_left × Writes before now (RanText left end)
 
--- the sink took a front of an answer that had its cause: of a read fault only where the source's count rose, and of a run or a refused line only where the source was read to its end
+-- the sink took a front of an answer that had its cause: of a read fault only where the source's count rose, and of a run or a refused line only
+-- where the source was read to its end
 abbrev pub WritesFront : List (List ℕ) → Option (List ℕ) → Option (List ℕ) → ℕ → ℕ → Option (List ℕ) → Option (List ℕ) → Type 0
 WritesFront words left now_left faults now_faults before now =
     (line : StatusLine) × (out : List ℕ) × IsAnswer words left line out × Ends line now_left × Faults line faults now_faults
     × (n : ℕ) × (n ≤ length out) × Appends before now (take n out)
 
--- in whatever right record the first of the items came, with the jobs' words: while the run goes on the next item is an event that fits; and with all of them it has passed
+-- in whatever right record the first of the items came, with the jobs' words: while the run goes on the next item is an event that fits; and with all
+-- of them it has passed
 pub record RunsThrough (p : Plan) (all : List Item) : Type 0 where
-  pub fits : (q : Record) (e : Event) (more : List Item) → Right p q → has_ended p q ≡ false → all ≡ map items.Event (items_of q) ++ items.Event e ∷ more → Fits p q e
+  pub fits : (q : Record) (e : Event) (more : List Item) → Right p q → has_ended p q ≡ false → all ≡ map items.Event (items_of q) ++ items.Event e ∷ more
+      → Fits p q e
   pub faultless : (q : Record) (more : List Item) → Right p q → has_ended p q ≡ false → all ≡ map items.Event (items_of q) ++ items.Fault ∷ more → ⊥
   pub passes : (q : Record) → Right p q → all ≡ map items.Event (items_of q) → waits_are_over p q ≡ true
 

@@ -38,7 +38,8 @@ pub record HasJobs (lines : List ServiceLine) (n : ℕ) (graph : GraphData) (fil
   pub sound : IsSound graph filters answers
 
 -- the server is that of a text's jobs: it has the text's configuration and no flags, and its services with their dependencies
-pub record IsJobServer (parts : Parts) (conf : ServerConf) (options : Option Opt) (eager : Bool) (graph : GraphData) (filters : ℕ) (answers : List ServicePlan) : Type 0 where
+pub record IsJobServer (parts : Parts) (conf : ServerConf) (options : Option Opt) (eager : Bool) (graph : GraphData) (filters : ℕ)
+    (answers : List ServicePlan) : Type 0 where
   pub configuration : conf ≡ parts.conf
   pub flags : options ≡ None
   pub begins_at_once : eager ≡ false

@@ -43,7 +43,8 @@ after_of _ = None
 -- what the words of a line say of a job: `NAME every MS`, and perhaps `after N,N`
 unfoldable pub job_of : List (List ℕ) → Option JobLine
 job_of (name ∷ key ∷ ms ∷ more) =
-    if bytes_eq key (codes "every") then (period_of ms >>= λ every. after_of more >>= λ after. Some (record { name = name; every = every; after = after })) else None
+    if bytes_eq key (codes "every") then
+    (period_of ms >>= λ every. after_of more >>= λ after. Some (record { name = name; every = every; after = after })) else None
 job_of _ = None
 
 -- the words of a service's line behind its kind
@@ -87,7 +88,8 @@ script_lines_from part (line ∷ more) = script_line part line ∷ script_lines_
 
 -- the period that one more line says, behind so many beginnings of parts, which begins one itself or not
 unfoldable pub said_period : ℕ → Bool → List ℕ → List ℕ
-said_period part begins line = if (part == 2) && not (begins || is_skipped (words line)) then option_to_list (option_map (λ (job : JobLine). job.every) (job_of (words line))) else []
+said_period part begins line =
+    if (part == 2) && not (begins || is_skipped (words line)) then option_to_list (option_map (λ (job : JobLine). job.every) (job_of (words line))) else []
 
 -- the periods that these lines say
 abbrev pub periods_from : ℕ → List (List ℕ) → List ℕ

@@ -44,7 +44,8 @@ impl ScriptText {
         requires { self.old.part + 1 < 2 ^ 64 }
         ensures text { OnOk result (self.new.text.items ≡ self.old.text.items ++ (script_line self.old.part line.now ++ 13 ∷ 10 ∷ [])) }
         ensures part { OnOk result (self.new.part ≡ part_with self.old.part (script_line self.old.part line.now)) }
-        ensures periods { OnOk result (self.new.periods.items ≡ self.old.periods.items ++ said_period self.old.part (is_header (script_line self.old.part line.now)) line.now) }
+        ensures periods { OnOk result (self.new.periods.items
+            ≡ self.old.periods.items ++ said_period self.old.part (is_header (script_line self.old.part line.now)) line.now) }
     {
         let script = script_line(alloc, self.part, line)?;
         let begins = is_header(&script);

@@ -103,8 +103,10 @@ single p front before (Told _) each asks tries offers first known = refl
 single p front before (Got g) each asks tries offers first known = refl
 
 singles : (p : Plan) (front q : Record) → list_all (connection_right p (front ++ q)) (arrivals (front ++ q)) ≡ true
-    → EachEntry (λ e before. ask_due p e before ≡ true) q → EachEntry (λ e before. try_due e before ≡ true) q → EachEntry (λ e before. offer_due p e before ≡ true) q
-    → EachEntry (λ e before. stands_first e before ≡ true) q → EachEntry (λ e before. connection_known p e before ≡ true) q → EachEntry (λ e before. is_single e before ≡ true) q
+    → EachEntry (λ e before. ask_due p e before ≡ true) q → EachEntry (λ e before. try_due e before ≡ true) q
+    → EachEntry (λ e before. offer_due p e before ≡ true) q
+    → EachEntry (λ e before. stands_first e before ≡ true) q → EachEntry (λ e before. connection_known p e before ≡ true) q
+    → EachEntry (λ e before. is_single e before ≡ true) q
 singles p front [] each a t o f k = tt
 singles p front (e ∷ before) each a t o f k = (
   single p front before e each a.0 t.0 o.0 f.0 k.0,

@@ -106,7 +106,8 @@ pub started-same : (p : Plan) (b : Record) → StartsRight p b → (told : List 
     → ((d : ℕ) → has_failed p q d ≡ has_failed p b d) → ((d : ℕ) → is_started q d ≡ is_started b d)
     → EachEntry (λ e before. start_due p e before ≡ true) (tell q told) → EachEntry (λ e before. start_known p e before ≡ true) (tell q told)
     → (s : ℕ) → is_started (tell q told) s ≡ is_started b s
-started-same p b starts told q complete ready ended failed started = started_walk p b starts told q complete record { ready = ready; ended = ended; failed = failed; started = started }
+started-same p b starts told q complete ready ended failed started =
+    started_walk p b starts told q complete record { ready = ready; ended = ended; failed = failed; started = started }
 
 -- `has_begun` by what it looks at
 begun_by : Plan → Bool → Bool → Bool

@@ -26,15 +26,19 @@ all-append : (P : EndpointData → Type 0) (es : List EndpointData) (e : Endpoin
 all-append P [] e h p = (p, tt)
 all-append P (x ∷ es) e h p = (h.0, all-append P es e h.1 p)
 
-filter_stays : (filter : ℕ) (listeners : ListenersData) (later : List ConfigData) → listeners.filter ≡ Some filter → AreFiltered filter listeners → AreFiltered filter (all_added listeners later)
+filter_stays : (filter : ℕ) (listeners : ListenersData) (later : List ConfigData) → listeners.filter ≡ Some filter → AreFiltered filter listeners
+    → AreFiltered filter (all_added listeners later)
 filter_stays filter listeners [] is h = h
 filter_stays filter listeners (config ∷ later) is h =
-    filter_stays filter (added listeners config) later is (all-append (λ e. e.filter ≡ Some filter) listeners.endpoints (endpoint_of config listeners.filter listeners.callback) h is)
+    filter_stays filter (added listeners config) later is
+    (all-append (λ e. e.filter ≡ Some filter) listeners.endpoints (endpoint_of config listeners.filter listeners.callback) h is)
 
-callback_stays : (callback : ℕ) (listeners : ListenersData) (later : List ConfigData) → listeners.callback ≡ Some callback → AreCalledBack callback listeners → AreCalledBack callback (all_added listeners later)
+callback_stays : (callback : ℕ) (listeners : ListenersData) (later : List ConfigData) → listeners.callback ≡ Some callback → AreCalledBack callback listeners
+    → AreCalledBack callback (all_added listeners later)
 callback_stays callback listeners [] is h = h
 callback_stays callback listeners (config ∷ later) is h =
-    callback_stays callback (added listeners config) later is (all-append (λ e. e.callback ≡ Some callback) listeners.endpoints (endpoint_of config listeners.filter listeners.callback) h is)
+    callback_stays callback (added listeners config) later is
+    (all-append (λ e. e.callback ≡ Some callback) listeners.endpoints (endpoint_of config listeners.filter listeners.callback) h is)
 
 filtered_now : (filter : ℕ) (es : List EndpointData) → AllByRecursion (λ e. e.filter ≡ Some filter) (map (filtered filter) es)
 filtered_now filter [] = tt
@@ -47,5 +51,6 @@ called_back_now callback (e ∷ es) = (refl, called_back_now callback es)
 pub filter_reaches : (listeners : ListenersData) (filter : ℕ) (later : List ConfigData) → AreFiltered filter (all_added (with_filter filter listeners) later)
 filter_reaches listeners filter later = filter_stays filter (with_filter filter listeners) later refl (filtered_now filter listeners.endpoints)
 
-pub callback_reaches : (listeners : ListenersData) (callback : ℕ) (later : List ConfigData) → AreCalledBack callback (all_added (with_callback callback listeners) later)
+pub callback_reaches : (listeners : ListenersData) (callback : ℕ) (later : List ConfigData)
+    → AreCalledBack callback (all_added (with_callback callback listeners) later)
 callback_reaches listeners callback later = callback_stays callback (with_callback callback listeners) later refl (called_back_now callback listeners.endpoints)

@@ -96,14 +96,19 @@ fresh c peer with = record {
 
 -- one arrival was taken. The connection is refused where the filter was asked and said no, and where a
 -- setting couldn't be set
-pub data Accepts {A F : Type 0} (seen : A → AcceptingData) (verdict : Verdict F) (address : ServerAddress) (filter : Option ℕ) (with : Given) (before now : A) (old new : List F) : AcceptAnswer → Type 0 where
+pub data Accepts {A F : Type 0} (seen : A → AcceptingData) (verdict : Verdict F) (address : ServerAddress) (filter : Option ℕ) (with : Given) (before now : A)
+    (old new : List F) : AcceptAnswer → Type 0 where
   none_yet : IsAccepted (seen before) (seen now) arrivals.NotYet → new ≡ old → Accepts seen verdict address filter with before now old new NotYet
-  failed : (n : ℕ) → IsAccepted (seen before) (seen now) (arrivals.Failed n) → new ≡ old → Accepts seen verdict address filter with before now old new (AcceptFailed n)
-  refused : (c : ℕ) (peer : Peer) (came : A) → IsAccepted (seen before) (seen came) (arrivals.Came c peer) → Judges verdict filter peer old new false → IsRefused (seen came) (seen now) c
+  failed : (n : ℕ) → IsAccepted (seen before) (seen now) (arrivals.Failed n) → new ≡ old
+      → Accepts seen verdict address filter with before now old new (AcceptFailed n)
+  refused : (c : ℕ) (peer : Peer) (came : A) → IsAccepted (seen before) (seen came) (arrivals.Came c peer) → Judges verdict filter peer old new false
+      → IsRefused (seen came) (seen now) c
       → Accepts seen verdict address filter with before now old new (Refused c)
-  unset : (c : ℕ) (peer : Peer) (came tried : A) → IsAccepted (seen before) (seen came) (arrivals.Came c peer) → Judges verdict filter peer old new true → SetFails c (settings_of (options_of address)) (seen came) (seen tried)
+  unset : (c : ℕ) (peer : Peer) (came tried : A) → IsAccepted (seen before) (seen came) (arrivals.Came c peer) → Judges verdict filter peer old new true
+      → SetFails c (settings_of (options_of address)) (seen came) (seen tried)
       → IsRefused (seen tried) (seen now) c → Accepts seen verdict address filter with before now old new (SettingsFailed c)
-  taken : (c : ℕ) (peer : Peer) (came : A) → IsAccepted (seen before) (seen came) (arrivals.Came c peer) → Judges verdict filter peer old new true → AllSet c (settings_of (options_of address)) (seen came) (seen now)
+  taken : (c : ℕ) (peer : Peer) (came : A) → IsAccepted (seen before) (seen came) (arrivals.Came c peer) → Judges verdict filter peer old new true
+      → AllSet c (settings_of (options_of address)) (seen came) (seen now)
       → Accepts seen verdict address filter with before now old new (Stream (fresh c peer with))
 
 -- which count tells why there is no connection: that of the faults, or that of the waits

@@ -65,9 +65,14 @@ recorded address fd table = option_map (put (text_of address) fd) table
 
 -- a held address is adopted and not bound; another is bound, and the table has its descriptor from then
 -- on. Where that isn't so the table is as before, and where memory was refused nothing was asked
-pub data Reaches {S : Type 0} (seen : S → BinderData) (address : ServerAddress) (table : Option (List Entry)) (before now : S) : Option (List Entry) → Result ℕ ListenError → Type 0 where
+pub data Reaches {S : Type 0} (seen : S → BinderData) (address : ServerAddress) (table : Option (List Entry)) (before now : S) : Option (List Entry)
+    → Result ℕ ListenError → Type 0 where
   adopted : (fd : ℕ) → held address table ≡ Some fd → IsAdopted (seen before) (seen now) address fd true → Reaches seen address table before now table (Ok fd)
-  not_adopted : (fd : ℕ) → held address table ≡ Some fd → IsAdopted (seen before) (seen now) address fd false → Reaches seen address table before now table (Err (BindError AdoptFailed))
-  bound : (fd : ℕ) → held address table ≡ None → Tried (seen before) (seen now) address (Ok fd) → Reaches seen address table before now (recorded address fd table) (Ok fd)
-  not_bound : (kind : BindErrorKind) → held address table ≡ None → Tried (seen before) (seen now) address (Err kind) → Reaches seen address table before now table (Err (BindError kind))
-  no_memory : (entries : List Entry) → table ≡ Some entries → held address table ≡ None → now ≡ before → Reaches seen address table before now table (Err NoMemory)
+  not_adopted : (fd : ℕ) → held address table ≡ Some fd → IsAdopted (seen before) (seen now) address fd false
+      → Reaches seen address table before now table (Err (BindError AdoptFailed))
+  bound : (fd : ℕ) → held address table ≡ None → Tried (seen before) (seen now) address (Ok fd)
+      → Reaches seen address table before now (recorded address fd table) (Ok fd)
+  not_bound : (kind : BindErrorKind) → held address table ≡ None → Tried (seen before) (seen now) address (Err kind)
+      → Reaches seen address table before now table (Err (BindError kind))
+  no_memory : (entries : List Entry) → table ≡ Some entries → held address table ≡ None → now ≡ before
+      → Reaches seen address table before now table (Err NoMemory)

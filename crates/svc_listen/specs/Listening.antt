@@ -25,9 +25,11 @@ listening builder address table (Err reason) = Err reason
 
 -- an endpoint that listens is made, or the reason is given why not: exactly without an address that is that
 -- none was given, and then nothing was asked and the table is as before
-pub data Listens {S : Type 0} (seen : S → BinderData) (builder : BuilderData) (table : Option (List Entry)) (before now : S) : Option (List Entry) → Result ListeningData ListenError → Type 0 where
+pub data Listens {S : Type 0} (seen : S → BinderData) (builder : BuilderData) (table : Option (List Entry)) (before now : S) : Option (List Entry)
+    → Result ListeningData ListenError → Type 0 where
   no_address : builder.address ≡ None → now ≡ before → Listens seen builder table before now table (Err NoAddress)
-  reaches : (address : ServerAddress) (after : Option (List Entry)) (reached : Result ℕ ListenError) → builder.address ≡ Some address → Reaches seen address table before now after reached
+  reaches : (address : ServerAddress) (after : Option (List Entry)) (reached : Result ℕ ListenError) → builder.address ≡ Some address
+      → Reaches seen address table before now after reached
       → Listens seen builder table before now after (listening builder address table reached)
 
 -- what was answered: the endpoint or the reason

@@ -35,7 +35,8 @@ abbrev pub taken_in_run : {A : Type 0} → Option A → Option A → Option A
 taken_in_run (Some app) serving = None
 taken_in_run None serving = serving
 
--- at the shutdown the application that serves is cleaned up, by one call, and rests as the call left it; at every other poll nothing is called, and what rests stays
+-- at the shutdown the application that serves is cleaned up, by one call, and rests as the call left it; at every other poll nothing is called, and
+-- what rests stays
 abbrev pub CleansUp : {A : Type 0} → {S : Type 0} → (A → List (AppCall S) → Type 0) → Option A → Bool → Option A → Option A → Type 0
 CleansUp {A} may (Some app) true old new = (left : A) × (new ≡ Some left) × IsCalled may app left CleanedUp
 CleansUp may (Some app) false old new = new ≡ old

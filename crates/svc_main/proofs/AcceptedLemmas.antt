@@ -32,21 +32,25 @@ good_address number e h =
     rw (ne_eqb (length e.address) 0 (omega arith), le-ltb 4096 (length e.address) few) refl
 
 -- where no line's endpoint passes a test, none is found
-past_all : (p : EndpointPlan → Bool) (number : Option ℕ) (lines : List EndpointLine) → All (λ e. p (endpoint_of number e) ≡ false) lines → position_or_len p (map (endpoint_of number) lines) ≡ length lines
+past_all : (p : EndpointPlan → Bool) (number : Option ℕ) (lines : List EndpointLine) → All (λ e. p (endpoint_of number e) ≡ false) lines
+    → position_or_len p (map (endpoint_of number) lines) ≡ length lines
 past_all p number [] none = refl
 past_all p number (e ∷ lines) none =
     let first : p (endpoint_of number e) ≡ false = none 0 e (omega arith) in
     let later = past_all p number lines (λ k d lt. none (suc k) d (omega arith)) in
     rw first (omega (arith, later))
 
-found_none : (p : EndpointPlan → Bool) (number : Option ℕ) (lines : List EndpointLine) → All (λ e. p (endpoint_of number e) ≡ false) lines → position p (map (endpoint_of number) lines) ≡ None
+found_none : (p : EndpointPlan → Bool) (number : Option ℕ) (lines : List EndpointLine) → All (λ e. p (endpoint_of number e) ≡ false) lines
+    → position p (map (endpoint_of number) lines) ≡ None
 found_none p number lines none =
-    let past : length (map (endpoint_of number) lines) ≤ position_or_len p (map (endpoint_of number) lines) = omega (arith, past_all p number lines none, length-map lines (endpoint_of number)) in
+    let past : length (map (endpoint_of number) lines) ≤ position_or_len p (map (endpoint_of number) lines) =
+    omega (arith, past_all p number lines none, length-map lines (endpoint_of number)) in
     rw (le-ltb (position_or_len p (map (endpoint_of number) lines)) (length (map (endpoint_of number) lines)) past) refl
 
 -- ---- the number of a filter is one of the filters
 
-count_before : (lines : List ServiceLine) (k : ℕ) (line : ServiceLine) → k < length lines → line ≡ get_or lines k line → blocks line ≡ true → count_by blocks (take k lines) < length (blocked_lists lines)
+count_before : (lines : List ServiceLine) (k : ℕ) (line : ServiceLine) → k < length lines → line ≡ get_or lines k line → blocks line ≡ true
+    → count_by blocks (take k lines) < length (blocked_lists lines)
 count_before [] k line lt read h = absurd (omega arith)
 count_before (x ∷ lines) zero line lt read h =
     let here : blocks x ≡ true = ap blocks (sym read) ∙ h in
@@ -55,16 +59,19 @@ count_before (x ∷ lines) zero line lt read h =
 count_before (x ∷ lines) (suc k) line lt read h =
     by (blocks x) refl (count_before lines k line (omega arith) read h)
   where
-    by : (b : Bool) → blocks x ≡ b → count_by blocks (take k lines) < length (blocked_lists lines) → count_by blocks (take (suc k) (x ∷ lines)) < length (blocked_lists (x ∷ lines))
+    by : (b : Bool) → blocks x ≡ b → count_by blocks (take k lines) < length (blocked_lists lines)
+        → count_by blocks (take (suc k) (x ∷ lines)) < length (blocked_lists (x ∷ lines))
     by b e rest =
-        let front : count_by blocks (x ∷ take k lines) ≡ count_by blocks (x ∷ []) + count_by blocks (take k lines) = count-append blocks (x ∷ []) (take k lines) in
+        let front : count_by blocks (x ∷ take k lines) ≡ count_by blocks (x ∷ []) + count_by blocks (take k lines) =
+        count-append blocks (x ∷ []) (take k lines) in
         omega (arith, front, one b e, rest)
       where
         one : (c : Bool) → blocks x ≡ c → length (blocked_lists (x ∷ lines)) ≡ count_by blocks (x ∷ []) + length (blocked_lists lines)
         one true is = rw is (omega arith)
         one false is = rw is (omega arith)
 
-known_filter : (lines : List ServiceLine) (k : ℕ) (line : ServiceLine) (filters : List ScriptFilter) (e : EndpointLine) → k < length lines → line ≡ get_or lines k line → map blocked_by filters ≡ blocked_lists lines
+known_filter : (lines : List ServiceLine) (k : ℕ) (line : ServiceLine) (filters : List ScriptFilter) (e : EndpointLine) → k < length lines
+    → line ≡ get_or lines k line → map blocked_by filters ≡ blocked_lists lines
     → is_unknown_filter (length filters) (endpoint_of (filter_number (take k lines) line) e) ≡ false
 known_filter lines k line filters e lt read are = by (blocks line) refl
   where
@@ -83,25 +90,29 @@ none_stands : (full many : Bool) (bad filtered : Option ℕ) → full ≡ false 
 none_stands full many bad filtered ef em eb ei = rw (ef, em, eb, ei) refl
 
 -- no cause stands against the next service
-no_cause : (lines : List ServiceLine) (k : ℕ) (line : ServiceLine) (g : GraphData) (filters : List ScriptFilter) (answers : List ServicePlan) → AreAccepted lines → HasFirst lines k g filters answers → k < length lines → line ≡ get_or lines k line
+no_cause : (lines : List ServiceLine) (k : ℕ) (line : ServiceLine) (g : GraphData) (filters : List ScriptFilter) (answers : List ServicePlan)
+    → AreAccepted lines → HasFirst lines k g filters answers → k < length lines → line ≡ get_or lines k line
     → fault_of g (length filters) (answered (filter_number (take k lines) line) line) ≡ None
 no_cause lines k line g filters answers ok first lt read =
     let good : IsAccepted line = rw read (ok.each k line lt) in
     let number : Option ℕ = filter_number (take k lines) line in
     let few : length (map (endpoint_of number) line.endpoints) ≤ 64 = omega (arith, good.few_endpoints, length-map line.endpoints (endpoint_of number)) in
     none_stands (nat_le 1024 (node_count g)) (nat_lt 64 (length (map (endpoint_of number) line.endpoints)))
-    (position is_bad_address (map (endpoint_of number) line.endpoints)) (position (is_unknown_filter (length filters)) (map (endpoint_of number) line.endpoints))
+    (position is_bad_address (map (endpoint_of number) line.endpoints))
+    (position (is_unknown_filter (length filters)) (map (endpoint_of number) line.endpoints))
     (lt-leb 1024 (node_count g) (omega (arith, first.nodes.count, ok.few)))
     (le-ltb 64 (length (map (endpoint_of number) line.endpoints)) few)
     (found_none is_bad_address number line.endpoints (λ i d below. good_address number (get_or line.endpoints i d) (good.addresses i d below)))
-    (found_none (is_unknown_filter (length filters)) number line.endpoints (λ i d below. known_filter lines k line filters (get_or line.endpoints i d) lt read first.filters_are))
+    (found_none (is_unknown_filter (length filters)) number line.endpoints
+    (λ i d below. known_filter lines k line filters (get_or line.endpoints i d) lt read first.filters_are))
 
 reason_is : (fault : Option AddError) (reason : AddError) → fault ≡ None → IsReason fault reason → reason ≡ NoMemory
 reason_is fault reason none (inl memory) = memory
 reason_is fault reason none (inr stands) = absurd (cc)
 
 -- a service of the script is refused for want of memory alone
-pub only_memory : (lines : List ServiceLine) (k : ℕ) (line : ServiceLine) (g : GraphData) (filters : List ScriptFilter) (answers : List ServicePlan) (plan : ServicePlan) (reason : AddError) → AreAccepted lines → HasFirst lines k g filters answers → k < length lines → line ≡ get_or lines k line
+pub only_memory : (lines : List ServiceLine) (k : ℕ) (line : ServiceLine) (g : GraphData) (filters : List ScriptFilter) (answers : List ServicePlan)
+    (plan : ServicePlan) (reason : AddError) → AreAccepted lines → HasFirst lines k g filters answers → k < length lines → line ≡ get_or lines k line
     → plan ≡ answered (filter_number (take k lines) line) line → IsReason (fault_of g (length filters) plan) reason → reason ≡ NoMemory
 only_memory lines k line g filters answers plan reason ok first lt read says r =
     reason_is (fault_of g (length filters) plan) reason (ap (fault_of g (length filters)) says ∙ no_cause lines k line g filters answers ok first lt read) r

@@ -20,8 +20,10 @@ use Rattle.svc_main.specs.Program.{IsAnswer, Ends, Ran, Made}
 use Rattle.svc_main.proofs.WordsLemmas.{run_asks}
 
 -- an answer by its status, which isn't one of another line: of a run, or of the generator, which is served
-ran_or_made : (status : ℕ) → (status ≡ 2 → ⊥) → (status ≡ 3 → ⊥) → (status ≡ 5 → ⊥) → (words : List (List ℕ)) (left now_left before now : Option (List ℕ)) (line : StatusLine) (out : List ℕ)
-    → IsAnswer words left line out → Ends words line now_left → Appends before now out → status_of line ≡ status → Ran status words left now_left before now ⊎ ((status ≡ 0) × Made words before now)
+ran_or_made : (status : ℕ) → (status ≡ 2 → ⊥) → (status ≡ 3 → ⊥) → (status ≡ 5 → ⊥)
+    → (words : List (List ℕ)) (left now_left before now : Option (List ℕ)) (line : StatusLine) (out : List ℕ)
+    → IsAnswer words left line out → Ends words line now_left → Appends before now out → status_of line ≡ status
+    → Ran status words left now_left before now ⊎ ((status ≡ 0) × Made words before now)
 ran_or_made status two three five words left now_left before now Words out a d p e = absurd (two (sym e))
 ran_or_made status two three five words left now_left before now (Line n) out a d p e = absurd (three (sym e))
 ran_or_made status two three five words left now_left before now ReadFault out a d p e = absurd (five (sym e))
@@ -32,14 +34,16 @@ ran_or_made status two three five words left now_left before now (Run end) out a
     by (inr made) = inr (sym e ∙ ap end_status made.0, (out, made.1, p))
 
 pub served_from : (words : List (List ℕ)) (left now_left before now : Option (List ℕ)) (line : StatusLine) (out : List ℕ)
-    → IsAnswer words left line out → Ends words line now_left → Appends before now out → status_of line ≡ 0 → Ran 0 words left now_left before now ⊎ Made words before now
+    → IsAnswer words left line out → Ends words line now_left → Appends before now out → status_of line ≡ 0
+    → Ran 0 words left now_left before now ⊎ Made words before now
 served_from words left now_left before now line out a d p e =
     elim (ran_or_made 0 (λ q. omega (arith, q)) (λ q. omega (arith, q)) (λ q. omega (arith, q)) words left now_left before now line out a d p e) [
       | inl ran ↦ inl ran
       | inr made ↦ inr made.1
     ]
 
-pub ran_from : (status : ℕ) → (status ≡ 0 → ⊥) → (status ≡ 2 → ⊥) → (status ≡ 3 → ⊥) → (status ≡ 5 → ⊥) → (words : List (List ℕ)) (left now_left before now : Option (List ℕ)) (line : StatusLine) (out : List ℕ)
+pub ran_from : (status : ℕ) → (status ≡ 0 → ⊥) → (status ≡ 2 → ⊥) → (status ≡ 3 → ⊥) → (status ≡ 5 → ⊥)
+    → (words : List (List ℕ)) (left now_left before now : Option (List ℕ)) (line : StatusLine) (out : List ℕ)
     → IsAnswer words left line out → Ends words line now_left → Appends before now out → status_of line ≡ status → Ran status words left now_left before now
 ran_from status zero two three five words left now_left before now line out a d p e =
     elim (ran_or_made status two three five words left now_left before now line out a d p e) [

@@ -41,7 +41,8 @@ pub services_more : (k : ℕ) → made_services (k + 1) ≡ made_services k ++ m
 services_more k = map-range_with_len_more made_service 0 k k (zero-add k)
 
 -- a list with one more service
-pub services_push : (k : ℕ) (xs ys : List ServiceLine) (x : ServiceLine) → xs ≡ made_services k → x ≡ made_service k → ys ≡ xs ++ x ∷ [] → ys ≡ made_services (k + 1)
+pub services_push : (k : ℕ) (xs ys : List ServiceLine) (x : ServiceLine) → xs ≡ made_services k → x ≡ made_service k → ys ≡ xs ++ x ∷ []
+    → ys ≡ made_services (k + 1)
 services_push k xs ys x before is pushed =
     pushed ∙ ap (λ (zs : List ServiceLine). zs ++ x ∷ []) before ∙ ap (λ (y : ServiceLine). made_services k ++ y ∷ []) is ∙ sym (services_more k)
 
@@ -52,22 +53,27 @@ events_more k =
     ∙ ap (λ (es : List Event). made_events_to k ++ es) (append-nil (made_events_of k))
 
 -- a list with the events of one more service
-pub events_push : (k : ℕ) (xs ys : List Item) → xs ≡ map items.Event (made_events_to k) → ys ≡ xs ++ map items.Event (made_events_of k) → ys ≡ map items.Event (made_events_to (k + 1))
+pub events_push : (k : ℕ) (xs ys : List Item) → xs ≡ map items.Event (made_events_to k) → ys ≡ xs ++ map items.Event (made_events_of k)
+    → ys ≡ map items.Event (made_events_to (k + 1))
 events_push k xs ys before pushed =
-    pushed ∙ ap (λ (zs : List Item). zs ++ map items.Event (made_events_of k)) before ∙ sym (map-append items.Event (made_events_to k) (made_events_of k)) ∙ ap (map items.Event) (sym (events_more k))
+    pushed ∙ ap (λ (zs : List Item). zs ++ map items.Event (made_events_of k)) before ∙ sym (map-append items.Event (made_events_to k) (made_events_of k))
+    ∙ ap (map items.Event) (sym (events_more k))
 
 -- and with the signal
-pub events_end : (n k : ℕ) (xs ys : List Item) → k ≡ n → xs ≡ map items.Event (made_events_to k) → ys ≡ xs ++ items.Event (events.Signal FastShutdown) ∷ [] → ys ≡ map items.Event (made_events n)
+pub events_end : (n k : ℕ) (xs ys : List Item) → k ≡ n → xs ≡ map items.Event (made_events_to k) → ys ≡ xs ++ items.Event (events.Signal FastShutdown) ∷ []
+    → ys ≡ map items.Event (made_events n)
 events_end n k xs ys all first pushed =
     let before : xs ≡ map items.Event (made_events_to n) = first ∙ ap (λ (m : ℕ). map items.Event (made_events_to m)) all in
-    pushed ∙ ap (λ (zs : List Item). zs ++ items.Event (events.Signal FastShutdown) ∷ []) before ∙ sym (map-append items.Event (made_events_to n) (events.Signal FastShutdown ∷ []))
+    pushed ∙ ap (λ (zs : List Item). zs ++ items.Event (events.Signal FastShutdown) ∷ []) before
+    ∙ sym (map-append items.Event (made_events_to n) (events.Signal FastShutdown ∷ []))
 
 -- two pieces behind each other, and four
 pub push_two : {X A E : Type 0} (xs ys zs p q : List X) (r : Result A E) → ys ≡ xs ++ p → OnOk r (zs ≡ ys ++ q) → OnOk r (zs ≡ xs ++ (p ++ q))
 push_two xs ys zs p q (Err e) h k = tt
 push_two xs ys zs p q (Ok a) h k = k ∙ ap (λ ws. ws ++ q) h ∙ append_assoc xs p q
 
-pub push_four : {X A E : Type 0} (xs a b c d p q s t : List X) (r : Result A E) → a ≡ xs ++ p → b ≡ a ++ q → c ≡ b ++ s → OnOk r (d ≡ c ++ t) → OnOk r (d ≡ xs ++ (p ++ (q ++ (s ++ t))))
+pub push_four : {X A E : Type 0} (xs a b c d p q s t : List X) (r : Result A E) → a ≡ xs ++ p → b ≡ a ++ q → c ≡ b ++ s → OnOk r (d ≡ c ++ t)
+    → OnOk r (d ≡ xs ++ (p ++ (q ++ (s ++ t))))
 push_four xs a b c d p q s t r h i j k = push_two xs a d p (q ++ (s ++ t)) r h (push_two a b d q (s ++ t) r i (push_two b c d s t r j k))
 
 -- ---- no event brings many descriptors
@@ -87,7 +93,8 @@ small_more e es h more = record { each = all }
 
 small_append : (xs ys : List Event) → AreSmall xs → AreSmall ys → AreSmall (xs ++ ys)
 small_append [] ys h k = k
-small_append (x ∷ xs) ys h k = small_more x (xs ++ ys) (h.each 0 (items.Event x) (omega arith)) (small_append xs ys (record { each = λ i d lt. h.each (suc i) d (omega arith) }) k)
+small_append (x ∷ xs) ys h k =
+    small_more x (xs ++ ys) (h.each 0 (items.Event x) (omega arith)) (small_append xs ys (record { each = λ i d lt. h.each (suc i) d (omega arith) }) k)
 
 small_connection : (k c : ℕ) → AreSmall (made_connection k c)
 small_connection k c = small_more _ _ (omega arith) (small_more _ _ (omega arith) (small_more _ _ (omega arith) (small_more _ _ (omega arith) small_none)))
@@ -97,7 +104,9 @@ small_word true k ms = omega arith
 small_word false k ms = omega arith
 
 small_start : (k : ℕ) → AreSmall (made_start k)
-small_start k = small_more _ _ (omega arith) (small_more _ _ (omega arith) (small_more _ _ (omega arith) (small_more (made_word k) [] (small_word (is_even k) k _) small_none)))
+small_start k =
+    small_more _ _ (omega arith)
+    (small_more _ _ (omega arith) (small_more _ _ (omega arith) (small_more (made_word k) [] (small_word (is_even k) k _) small_none)))
 
 small_of : (k : ℕ) → AreSmall (made_events_of k)
 small_of k =
@@ -109,7 +118,8 @@ small_flat [] = small_none
 small_flat (k ∷ ks) = small_append (made_events_of k) (flat_map made_events_of ks) (small_of k) (small_flat ks)
 
 pub events_few : (n : ℕ) → All BringsFew (map items.Event (made_events n))
-events_few n = (small_append (made_events_to n) (events.Signal FastShutdown ∷ []) (small_flat (range_with_len 0 n)) (small_more _ _ (omega arith) small_none)).each
+events_few n =
+    (small_append (made_events_to n) (events.Signal FastShutdown ∷ []) (small_flat (range_with_len 0 n)) (small_more _ _ (omega arith) small_none)).each
 
 -- ---- the services are accepted
 
@@ -153,7 +163,8 @@ services_accepted n few = record {
 
 after_is : (n a : ℕ) → a < n → after_at (made_services n) a ≡ unwrap_or (made_after a) []
 after_is n a lt =
-    ap (λ (o : Option ServiceLine). unwrap_or (option_and_then (λ (s : ServiceLine). s.after) o) []) (slice_get-get_or (made_services n) a (made_service a) (omega (arith, services_length n)) ∙ ap Some (services_at n a (made_service a) lt))
+    ap (λ (o : Option ServiceLine). unwrap_or (option_and_then (λ (s : ServiceLine). s.after) o) [])
+    (slice_get-get_or (made_services n) a (made_service a) (omega (arith, services_length n)) ∙ ap Some (services_at n a (made_service a) lt))
 
 made_after_none : (a : ℕ) → a ≤ 0 → made_after a ≡ None
 made_after_none a le = rw (eq-eqb a 0 (omega arith)) refl
@@ -166,7 +177,8 @@ after_before : (a b : ℕ) → list_any (λ x. x == b) (unwrap_or (made_after a)
 after_before a b h =
     elim (cases_lt 0 a) [
       | inl some ↦
-          let listed : ((a - 1 == b) || false) ≡ true = ap (λ (o : Option (List ℕ)). list_any (λ x. x == b) (unwrap_or o [])) (sym (made_after_some a some)) ∙ h in
+          let listed : ((a - 1 == b) || false) ≡ true =
+          ap (λ (o : Option (List ℕ)). list_any (λ x. x == b) (unwrap_or o [])) (sym (made_after_some a some)) ∙ h in
           elim (or_cases (a - 1 == b) false listed) [
             | inl same ↦ let e : a - 1 ≡ b = eqb-true (a - 1) b same in omega arith
             | inr never ↦ absurd (both_ways false refl never)
@@ -196,7 +208,8 @@ edge_before_one n m a b count h =
 
 chain_before : (n m a : ℕ) (via : List ℕ) (b : ℕ) → m ≡ n → IsChain (edges_up_to (made_services n) m) a via b → b < a
 chain_before n m a [] b count c = let one : b + 1 ≡ a = edge_before_one n m a b count c in omega arith
-chain_before n m a (x ∷ via) b count c = let first : x + 1 ≡ a = edge_before_one n m a x count c.0 in let rest : b < x = chain_before n m x via b count c.1 in omega arith
+chain_before n m a (x ∷ via) b count c =
+    let first : x + 1 ≡ a = edge_before_one n m a x count c.0 in let rest : b < x = chain_before n m x via b count c.1 in omega arith
 
 pub services_sound : (n : ℕ) → RefusesNone (made_services n)
 services_sound n = record {

@@ -54,15 +54,20 @@ times-step : (t : Entry → Bool) (e : Entry) (q : Record) (b : Bool) → t e �
 times-step t e q true h = rw h refl
 times-step t e q false h = let same : times t (e ∷ q) ≡ times t q = rw h refl in omega (arith, same)
 
-none-step : (one : ℕ → Entry → Bool) (m : ℕ) (e : Entry) (q : Record) → ((i : ℕ) → i < m → one i e ≡ false) → sumto (λ i. times (one i) (e ∷ q)) m ≡ sumto (λ i. times (one i) q) m
+none-step : (one : ℕ → Entry → Bool) (m : ℕ) (e : Entry) (q : Record) → ((i : ℕ) → i < m → one i e ≡ false)
+    → sumto (λ i. times (one i) (e ∷ q)) m ≡ sumto (λ i. times (one i) q) m
 none-step one zero e q h = refl
-none-step one (suc m) e q h = let here = times-step (one m) e q false (h m (omega arith)) in let before = none-step one m e q (λ i lt. h i (omega arith)) in omega (arith, here, before)
+none-step one (suc m) e q h =
+    let here = times-step (one m) e q false (h m (omega arith)) in let before = none-step one m e q (λ i lt. h i (omega arith)) in omega (arith, here, before)
 
-one-step : (one : ℕ → Entry → Bool) (m k : ℕ) (e : Entry) (q : Record) → k < m → one k e ≡ true → ((i : ℕ) → (i ≡ k → ⊥) → one i e ≡ false) → sumto (λ i. times (one i) (e ∷ q)) m ≡ sumto (λ i. times (one i) q) m + 1
+one-step : (one : ℕ → Entry → Bool) (m k : ℕ) (e : Entry) (q : Record) → k < m → one k e ≡ true → ((i : ℕ) → (i ≡ k → ⊥) → one i e ≡ false)
+    → sumto (λ i. times (one i) (e ∷ q)) m ≡ sumto (λ i. times (one i) q) m + 1
 one-step one zero k e q lt yes-one only = absurd (omega arith)
 one-step one (suc m) k e q lt yes-one only = by (cases_eq k m) (one-step one m k e q)
   where
-    by : (k ≡ m) ⊎ (k ≡ m → ⊥) → (k < m → one k e ≡ true → ((i : ℕ) → (i ≡ k → ⊥) → one i e ≡ false) → sumto (λ i. times (one i) (e ∷ q)) m ≡ sumto (λ i. times (one i) q) m + 1) → sumto (λ i. times (one i) (e ∷ q)) (suc m) ≡ sumto (λ i. times (one i) q) (suc m) + 1
+    by : (k ≡ m) ⊎ (k ≡ m → ⊥)
+        → (k < m → one k e ≡ true → ((i : ℕ) → (i ≡ k → ⊥) → one i e ≡ false) → sumto (λ i. times (one i) (e ∷ q)) m ≡ sumto (λ i. times (one i) q) m + 1)
+        → sumto (λ i. times (one i) (e ∷ q)) (suc m) ≡ sumto (λ i. times (one i) q) (suc m) + 1
     by (inl same) later =
         let here = times-step (one m) e q true (ap (λ (i : ℕ). one i e) (sym same) ∙ yes-one) in
         let before = none-step one m e q (λ i below. only i (λ is. omega arith)) in
@@ -76,7 +81,8 @@ one-step one (suc m) k e q lt yes-one only = by (cases_eq k m) (one-step one m k
         by-order (inl below) = below
         by-order (inr above) = absurd (other (omega arith))
 
-count-split : (any : Entry → Bool) (one : ℕ → Entry → Bool) (m : ℕ) (r : Record) → EachEntry (λ e before. OneOf any one m e) r → times any r ≡ sumto (λ i. times (one i) r) m
+count-split : (any : Entry → Bool) (one : ℕ → Entry → Bool) (m : ℕ) (r : Record) → EachEntry (λ e before. OneOf any one m e) r
+    → times any r ≡ sumto (λ i. times (one i) r) m
 count-split any one m [] h = sym (none-of m)
   where
     none-of : (k : ℕ) → sumto (λ i. 0) k ≡ 0
@@ -86,14 +92,16 @@ count-split any one m (e ∷ q) h = by h.0 (count-split any one m q h.1)
   where
     by : OneOf any one m e → times any q ≡ sumto (λ i. times (one i) q) m → times any (e ∷ q) ≡ sumto (λ i. times (one i) (e ∷ q)) m
     by (inl none) later = let all = times-step any e q false none.0 in let each = none-step one m e q none.1 in omega (arith, all, each, later)
-    by (inr found) later = let all = times-step any e q true found.2 in let each = one-step one m found.0 e q found.1 found.3 found.4 in omega (arith, all, each, later)
+    by (inr found) later =
+        let all = times-step any e q true found.2 in let each = one-step one m found.0 e q found.1 found.3 found.4 in omega (arith, all, each, later)
 
 each-map : (P Q : Entry → Record → Type 0) (r : Record) → ((e : Entry) (before : Record) → P e before → Q e before) → EachEntry P r → EachEntry Q r
 each-map P Q [] f h = tt
 each-map P Q (e ∷ r) f h = (f e r h.0, each-map P Q r f h.1)
 
 -- what came nowhere in the record came nowhere before
-each-within : (P : Entry → Record → Type 0) (r q : Record) → ((t : Event → Bool) → came r t ≡ false → came q t ≡ false) → EachEntry P q → EachEntry (λ e before. P e before × ((t : Event → Bool) → came r t ≡ false → came before t ≡ false)) q
+each-within : (P : Entry → Record → Type 0) (r q : Record) → ((t : Event → Bool) → came r t ≡ false → came q t ≡ false) → EachEntry P q
+    → EachEntry (λ e before. P e before × ((t : Event → Bool) → came r t ≡ false → came before t ≡ false)) q
 each-within P r [] f h = tt
 each-within P r (e ∷ q) f h = ((h.0, later e f), each-within P r q (later e f) h.1)
   where
@@ -121,7 +129,8 @@ last-starts : (p : Plan) (s : ℕ) (q : Record) → list_any (λ a. is_start s (
 last-starts p s q =
     list_any-append (λ a. is_start s (Told a)) (map actions.Cut (ascending (live_connections q))) _
     ∙ or_from _ _ (map-none (is_start s) actions.Cut (ascending (live_connections q)) (λ x. refl))
-    (list_any-append (λ a. is_start s (Told a)) (map actions.Close (ascending (live_numbers p q))) _ ∙ or_from _ _ (map-none (is_start s) actions.Close (ascending (live_numbers p q)) (λ x. refl)) refl)
+    (list_any-append (λ a. is_start s (Told a)) (map actions.Close (ascending (live_numbers p q))) _
+    ∙ or_from _ _ (map-none (is_start s) actions.Close (ascending (live_numbers p q)) (λ x. refl)) refl)
 
 -- ---- the record of a run that served
 
@@ -155,8 +164,10 @@ start-one n s r d lt =
     let q : Record = before_runtimes r in
     let last : LastStepRight (made_plan n) q = OnTrue_at d.served.drain.passes d.served.stronger.last_step in
     let same : events_of q ≡ made_events n = sym (events-told q (last_actions (made_plan n) q)) ∙ ap events_of (sym d.served.drain.ends) ∙ d.events in
-    let once : times (is_start s) q ≡ 1 = started-once n s q lt last.starts (λ j below odd. has-came (is_ready_event j) (λ a. refl) q ∙ ap (list_any (λ e. is_ready_event j (Got e))) same
-    ∙ list_any-append (λ e. is_ready_event j (Got e)) (made_events_to n) (events.Signal FastShutdown ∷ []) ∙ or_left _ _ (some-to (λ e. is_ready_event j (Got e)) n j (omega arith) (ready-of j odd))) in
+    let once : times (is_start s) q ≡ 1 =
+    started-once n s q lt last.starts (λ j below odd. has-came (is_ready_event j) (λ a. refl) q ∙ ap (list_any (λ e. is_ready_event j (Got e))) same
+    ∙ list_any-append (λ e. is_ready_event j (Got e)) (made_events_to n) (events.Signal FastShutdown ∷ [])
+    ∙ or_left _ _ (some-to (λ e. is_ready_event j (Got e)) n j (omega arith) (ready-of j odd))) in
     ap (times (is_start s)) d.served.drain.ends ∙ times-told (is_start s) q (last_actions (made_plan n) q) (last-starts (made_plan n) s q) ∙ once
 
 start-known-one : (n : ℕ) (e : Entry) (before : Record) → start_known (made_plan n) e before ≡ true → OneOf is_any_start is_start n e
@@ -168,7 +179,8 @@ start-known-one n e before h = inl (refl, λ i lt. refl)
 
 pub count-starts : (n : ℕ) (r : Record) → Done n r → times is_any_start r ≡ n
 count-starts n r d =
-    count-split is_any_start is_start n r (each-map _ _ r (start-known-one n) d.right.stronger.known_starts) ∙ sumto-all (λ i. times (is_start i) r) 1 n (λ i lt. start-one n i r d lt) ∙ omega arith
+    count-split is_any_start is_start n r (each-map _ _ r (start-known-one n) d.right.stronger.known_starts)
+    ∙ sumto-all (λ i. times (is_start i) r) 1 n (λ i lt. start-one n i r d lt) ∙ omega arith
 
 -- ---- binds
 
@@ -180,8 +192,12 @@ times-came t none (Got e ∷ q) =
     let all = count-append (λ x. t (Got x)) (events_of q) (e ∷ []) in
     let before = times-came t none q in
     elim (cases_Bool (t (Got e))) [
-      | inl found ↦ let one = times-step t (Got e) q true found in let last : count_by (λ x. t (Got x)) (e ∷ []) ≡ 1 + 0 = rw found refl in omega (arith, all, before, one, last)
-      | inr missing ↦ let one = times-step t (Got e) q false missing in let last : count_by (λ x. t (Got x)) (e ∷ []) ≡ 0 + 0 = rw missing refl in omega (arith, all, before, one, last)
+      | inl found ↦
+          let one = times-step t (Got e) q true found in let last : count_by (λ x. t (Got x)) (e ∷ []) ≡ 1 + 0 = rw found refl in
+          omega (arith, all, before, one, last)
+      | inr missing ↦
+          let one = times-step t (Got e) q false missing in let last : count_by (λ x. t (Got x)) (e ∷ []) ≡ 0 + 0 = rw missing refl in
+          omega (arith, all, before, one, last)
     ]
 
 -- each bind was answered, but one that is open
@@ -194,12 +210,17 @@ answer-open n s (events.Bound t j fd) q h f = let same = and_parts (t == s) (j =
   where
     at : (t j : ℕ) → ((t == s) ≡ true) × ((j == 0) ≡ true) → is_bind_open q t j ≡ true → is_bind_open q s 0 ≡ true
     at t j same o = ap (λ (i : ℕ). is_bind_open q i 0) (sym (eqb-true t s same.0)) ∙ ap (is_bind_open q t) (sym (eqb-true j 0 same.1)) ∙ o
-answer-open n s (events.InUse t j) q h f = let same = and_parts (t == s) (j == 0) h in ap (λ (i : ℕ). is_bind_open q i 0) (sym (eqb-true t s same.0)) ∙ ap (is_bind_open q t) (sym (eqb-true j 0 same.1)) ∙ (and_parts _ _ f).1
-answer-open n s (events.BindFailed t j) q h f = let same = and_parts (t == s) (j == 0) h in ap (λ (i : ℕ). is_bind_open q i 0) (sym (eqb-true t s same.0)) ∙ ap (is_bind_open q t) (sym (eqb-true j 0 same.1)) ∙ (and_parts _ _ f).1
+answer-open n s (events.InUse t j) q h f =
+    let same = and_parts (t == s) (j == 0) h in ap (λ (i : ℕ). is_bind_open q i 0) (sym (eqb-true t s same.0))
+    ∙ ap (is_bind_open q t) (sym (eqb-true j 0 same.1)) ∙ (and_parts _ _ f).1
+answer-open n s (events.BindFailed t j) q h f =
+    let same = and_parts (t == s) (j == 0) h in ap (λ (i : ℕ). is_bind_open q i 0) (sym (eqb-true t s same.0))
+    ∙ ap (is_bind_open q t) (sym (eqb-true j 0 same.1)) ∙ (and_parts _ _ f).1
 answer-open n s e q h f = absurd cc
 
 -- a bind is told while none is open, and while the endpoint isn't held
-bind-closed : (n s : ℕ) (a : Action) (q : Record) → is_bind s 0 (Told a) ≡ true → ask_due (made_plan n) (Told a) q ≡ true → (is_bind_open q s 0 ≡ false) × (is_held (made_plan n) q s 0 ≡ false)
+bind-closed : (n s : ℕ) (a : Action) (q : Record) → is_bind s 0 (Told a) ≡ true → ask_due (made_plan n) (Told a) q ≡ true
+    → (is_bind_open q s 0 ≡ false) × (is_held (made_plan n) q s 0 ≡ false)
 bind-closed n s (actions.Bind t j) q h due =
     let same = and_parts (t == s) (j == 0) h in
     let turn : has_turn (made_plan n) q t j ≡ true = (and_parts (has_turn (made_plan n) q t j) _ (and_parts _ _ due).0).0 in
@@ -212,7 +233,8 @@ bind-closed n s (actions.Bind t j) q h due =
     )
 bind-closed n s a q h due = absurd cc
 
-balanced : (n s : ℕ) (q : Record) → EachEntry (λ e before. event_fits (made_plan n) e before ≡ true) q → EachEntry (λ e before. ask_due (made_plan n) e before ≡ true) q → Balanced s q
+balanced : (n s : ℕ) (q : Record) → EachEntry (λ e before. event_fits (made_plan n) e before ≡ true) q
+    → EachEntry (λ e before. ask_due (made_plan n) e before ≡ true) q → Balanced s q
 balanced n s [] f a = refl
 balanced n s (Told x ∷ q) f a = by (is_bind s 0 (Told x)) refl (balanced n s q f.1 a.1)
   where
@@ -247,14 +269,17 @@ bound-answers : (s : ℕ) (e : Event) → is_bound_at s e ≡ true → is_bind_a
 bound-answers s (events.Bound t j fd) h = h
 bound-answers s e h = absurd cc
 
-bound-closed : (n s : ℕ) (q : Record) → n ≤ 1024 → s < n → came q is_odd ≡ false → EachEntry (λ e before. ask_due (made_plan n) e before ≡ true) q → came q (is_bound_at s) ≡ true → is_bind_open q s 0 ≡ false
+bound-closed : (n s : ℕ) (q : Record) → n ≤ 1024 → s < n → came q is_odd ≡ false → EachEntry (λ e before. ask_due (made_plan n) e before ≡ true) q
+    → came q (is_bound_at s) ≡ true → is_bind_open q s 0 ≡ false
 bound-closed n s [] few lt odd a h = refl
 bound-closed n s (Told x ∷ q) few lt odd a h = by (is_bind s 0 (Told x)) refl (bound-closed n s q few lt odd a.1 h)
   where
     by : (b : Bool) → is_bind s 0 (Told x) ≡ b → is_bind_open q s 0 ≡ false → is_bind_open (Told x ∷ q) s 0 ≡ false
     by true is before = absurd (both_ways _ (bind-closed n s x q is a.0).1 (lt-ltb 0 _ (held-some n s q few lt odd h)))
     by false is before = rw is before
-bound-closed n s (Got x ∷ q) few lt odd a h = by (is_bind_answer s 0 (Got x)) refl (bound-closed n s q few lt (or_parts (came q is_odd) _ (sym (list_any-append is_odd (events_of q) (x ∷ [])) ∙ odd)).0 a.1)
+bound-closed n s (Got x ∷ q) few lt odd a h =
+    by (is_bind_answer s 0 (Got x)) refl
+    (bound-closed n s q few lt (or_parts (came q is_odd) _ (sym (list_any-append is_odd (events_of q) (x ∷ [])) ∙ odd)).0 a.1)
   where
     earlier : is_bind_answer s 0 (Got x) ≡ false → came q (is_bound_at s) ≡ true
     earlier is =
@@ -279,22 +304,27 @@ answers-to : (s k : ℕ) → count_by (λ e. is_bind_answer s 0 (Got e)) (made_e
 answers-to s zero = ap (λ (b : Bool). cond {A = ℕ} b 2 0) (sym (le-ltb s 0 (omega arith)))
 answers-to s (suc k) = by (cases_order s k) (answers-to s k)
   where
-    all : count_by (λ e. is_bind_answer s 0 (Got e)) (made_events_to (suc k)) ≡ count_by (λ e. is_bind_answer s 0 (Got e)) (made_events_to k) + count_by (λ e. is_bind_answer s 0 (Got e)) (made_events_of k)
+    all : count_by (λ e. is_bind_answer s 0 (Got e)) (made_events_to (suc k))
+        ≡ count_by (λ e. is_bind_answer s 0 (Got e)) (made_events_to k) + count_by (λ e. is_bind_answer s 0 (Got e)) (made_events_of k)
     all = ap (count_by (λ e. is_bind_answer s 0 (Got e))) (to-more k) ∙ count-append (λ e. is_bind_answer s 0 (Got e)) (made_events_to k) (made_events_of k)
 
-    by : (s ≡ k) ⊎ ((s < k) ⊎ (k < s)) → count_by (λ e. is_bind_answer s 0 (Got e)) (made_events_to k) ≡ cond {A = ℕ} (ltb s k) 2 0 → count_by (λ e. is_bind_answer s 0 (Got e)) (made_events_to (suc k)) ≡ cond {A = ℕ} (ltb s (suc k)) 2 0
+    by : (s ≡ k) ⊎ ((s < k) ⊎ (k < s)) → count_by (λ e. is_bind_answer s 0 (Got e)) (made_events_to k) ≡ cond {A = ℕ} (ltb s k) 2 0
+        → count_by (λ e. is_bind_answer s 0 (Got e)) (made_events_to (suc k)) ≡ cond {A = ℕ} (ltb s (suc k)) 2 0
     by (inl same) h =
-        let here : count_by (λ e. is_bind_answer s 0 (Got e)) (made_events_of k) ≡ 2 = answers-of s k ∙ ap (λ (b : Bool). cond {A = ℕ} b 2 0) (eq-eqb k s (sym same)) in
+        let here : count_by (λ e. is_bind_answer s 0 (Got e)) (made_events_of k) ≡ 2 =
+        answers-of s k ∙ ap (λ (b : Bool). cond {A = ℕ} b 2 0) (eq-eqb k s (sym same)) in
         let before : cond {A = ℕ} (ltb s k) 2 0 ≡ 0 = ap (λ (b : Bool). cond {A = ℕ} b 2 0) (le-ltb s k (omega arith)) in
         let after : cond {A = ℕ} (ltb s (suc k)) 2 0 ≡ 2 = ap (λ (b : Bool). cond {A = ℕ} b 2 0) (lt-ltb s (suc k) (omega arith)) in
         omega (arith, all, here, before, after, h)
     by (inr (inl below)) h =
-        let here : count_by (λ e. is_bind_answer s 0 (Got e)) (made_events_of k) ≡ 0 = answers-of s k ∙ ap (λ (b : Bool). cond {A = ℕ} b 2 0) (ne_eqb k s (λ is. omega (arith, is, below))) in
+        let here : count_by (λ e. is_bind_answer s 0 (Got e)) (made_events_of k) ≡ 0 =
+        answers-of s k ∙ ap (λ (b : Bool). cond {A = ℕ} b 2 0) (ne_eqb k s (λ is. omega (arith, is, below))) in
         let before : cond {A = ℕ} (ltb s k) 2 0 ≡ 2 = ap (λ (b : Bool). cond {A = ℕ} b 2 0) (lt-ltb s k below) in
         let after : cond {A = ℕ} (ltb s (suc k)) 2 0 ≡ 2 = ap (λ (b : Bool). cond {A = ℕ} b 2 0) (lt-ltb s (suc k) (omega arith)) in
         omega (arith, all, here, before, after, h)
     by (inr (inr above)) h =
-        let here : count_by (λ e. is_bind_answer s 0 (Got e)) (made_events_of k) ≡ 0 = answers-of s k ∙ ap (λ (b : Bool). cond {A = ℕ} b 2 0) (ne_eqb k s (λ is. omega (arith, is, above))) in
+        let here : count_by (λ e. is_bind_answer s 0 (Got e)) (made_events_of k) ≡ 0 =
+        answers-of s k ∙ ap (λ (b : Bool). cond {A = ℕ} b 2 0) (ne_eqb k s (λ is. omega (arith, is, above))) in
         let before : cond {A = ℕ} (ltb s k) 2 0 ≡ 0 = ap (λ (b : Bool). cond {A = ℕ} b 2 0) (le-ltb s k (omega arith)) in
         let after : cond {A = ℕ} (ltb s (suc k)) 2 0 ≡ 0 = ap (λ (b : Bool). cond {A = ℕ} b 2 0) (le-ltb s (suc k) (omega arith)) in
         omega (arith, all, here, before, after, h)
@@ -305,10 +335,13 @@ bound-of s = rw (eq-eqb s s refl) refl
 bind-two : (n s : ℕ) (r : Record) → Done n r → s < n → times (is_bind s 0) r ≡ 2
 bind-two n s r d lt =
     let bound : came r (is_bound_at s) ≡ true = done-came (is_bound_at s) n r d ∙ or_left _ _ (some-to (is_bound_at s) n s lt (bound-of s)) in
-    let closed : cond {A = ℕ} (is_bind_open r s 0) 1 0 ≡ 0 = ap (λ (b : Bool). cond {A = ℕ} b 1 0) (bound-closed n s r d.few lt (done-odd n r d) d.right.asks.in_turn bound) in
+    let closed : cond {A = ℕ} (is_bind_open r s 0) 1 0 ≡ 0 =
+    ap (λ (b : Bool). cond {A = ℕ} b 1 0) (bound-closed n s r d.few lt (done-odd n r d) d.right.asks.in_turn bound) in
     let answers : times (is_bind_answer s 0) r ≡ 2 =
-    times-came (is_bind_answer s 0) (λ a. refl) r ∙ ap (count_by (λ e. is_bind_answer s 0 (Got e))) d.events ∙ count-append (λ e. is_bind_answer s 0 (Got e)) (made_events_to n) (events.Signal FastShutdown ∷ [])
-    ∙ (let front : count_by (λ e. is_bind_answer s 0 (Got e)) (made_events_to n) ≡ 2 = answers-to s n ∙ ap (λ (b : Bool). cond {A = ℕ} b 2 0) (lt-ltb s n lt) in omega (arith, front)) in
+    times-came (is_bind_answer s 0) (λ a. refl) r ∙ ap (count_by (λ e. is_bind_answer s 0 (Got e))) d.events
+    ∙ count-append (λ e. is_bind_answer s 0 (Got e)) (made_events_to n) (events.Signal FastShutdown ∷ [])
+    ∙ (let front : count_by (λ e. is_bind_answer s 0 (Got e)) (made_events_to n) ≡ 2 = answers-to s n ∙ ap (λ (b : Bool). cond {A = ℕ} b 2 0) (lt-ltb s n lt) in
+    omega (arith, front)) in
     let even = balanced n s r d.right.fits d.right.asks.in_turn in
     omega (arith, even, closed, answers)
 
@@ -329,7 +362,8 @@ bind-known-one n e before h = inl (refl, λ i lt. refl)
 
 pub count-binds : (n : ℕ) (r : Record) → Done n r → times is_any_bind r ≡ 2 * n
 count-binds n r d =
-    count-split is_any_bind (λ s. is_bind s 0) n r (each-map _ _ r (bind-known-one n) d.right.stronger.known_asks) ∙ sumto-all (λ i. times (is_bind i 0) r) 2 n (λ i lt. bind-two n i r d lt)
+    count-split is_any_bind (λ s. is_bind s 0) n r (each-map _ _ r (bind-known-one n) d.right.stronger.known_asks)
+    ∙ sumto-all (λ i. times (is_bind i 0) r) 2 n (λ i lt. bind-two n i r d lt)
 
 -- ---- closes
 
@@ -360,16 +394,21 @@ opens-other n fd j ne = rw (word-test (opens n fd) (is_even j) false j (made_mom
 
 close-one : (n i : ℕ) (r : Record) → Done n r → i < n → times (is_close (i + 1)) r ≡ 1
 close-one n i r d lt =
-    d.served.closed_once (i + 1) (any-opened (made_plan n) (has_number (i + 1)) r ∙ done-came (opens n (i + 1)) n r d ∙ or_left _ _ (some-to (opens n (i + 1)) n i lt (opens-of n i)))
+    d.served.closed_once (i + 1)
+    (any-opened (made_plan n) (has_number (i + 1)) r ∙ done-came (opens n (i + 1)) n r d ∙ or_left _ _ (some-to (opens n (i + 1)) n i lt (opens-of n i)))
 
-close-known-one : (n : ℕ) (r : Record) → Done n r → (e : Entry) (before : Record) → (close_once (made_plan n) e before ≡ true) × ((t : Event → Bool) → came r t ≡ false → came before t ≡ false) → OneOf is_any_close (λ i. is_close (i + 1)) n e
+close-known-one : (n : ℕ) (r : Record) → Done n r → (e : Entry) (before : Record)
+    → (close_once (made_plan n) e before ≡ true) × ((t : Event → Bool) → came r t ≡ false → came before t ≡ false)
+    → OneOf is_any_close (λ i. is_close (i + 1)) n e
 close-known-one n r d (Told (actions.Close m)) before h = by (cases_lt 0 m) (cases_lt n m)
   where
     opened : came before (opens n m) ≡ true
     opened = sym (any-opened (made_plan n) (has_number m) before) ∙ (and_parts (is_opened (made_plan n) before m) _ h.0).0
 
     outside : ((j : ℕ) → j < n → j + 1 ≡ m → ⊥) → ⊥
-    outside ne = both_ways _ (h.1 (opens n m) (done-came (opens n m) n r d ∙ or_from _ _ (none-to (opens n m) n (λ j lt. opens-other n m j (ne j lt))) (last n m))) opened
+    outside ne =
+        both_ways _ (h.1 (opens n m) (done-came (opens n m) n r d ∙ or_from _ _ (none-to (opens n m) n (λ j lt. opens-other n m j (ne j lt))) (last n m)))
+        opened
       where
         last : (n m : ℕ) → list_any (opens n m) (events.Signal FastShutdown ∷ []) ≡ false
         last n m = refl
@@ -382,5 +421,7 @@ close-known-one n r d e before h = inl (refl, λ i lt. refl)
 
 pub count-closes : (n : ℕ) (r : Record) → Done n r → times is_any_close r ≡ n
 count-closes n r d =
-    count-split is_any_close (λ i. is_close (i + 1)) n r (each-map _ _ r (close-known-one n r d) (each-within (λ e before. close_once (made_plan n) e before ≡ true) r r (λ t none. none) d.right.stronger.closes))
+    count-split is_any_close (λ i. is_close (i + 1)) n r
+    (each-map _ _ r (close-known-one n r d)
+    (each-within (λ e before. close_once (made_plan n) e before ≡ true) r r (λ t none. none) d.right.stronger.closes))
     ∙ sumto-all (λ i. times (is_close (i + 1)) r) 1 n (λ i lt. close-one n i r d lt) ∙ omega arith

@@ -79,17 +79,20 @@ in_use-le p s i (Got e ∷ q) = by e (in_use-le p s i q)
     all : (x : Event) → count_by (is_in_use_of s) (events_of q ++ x ∷ []) ≡ count_by (is_in_use_of s) (events_of q) + count_by (is_in_use_of s) (x ∷ [])
     all x = count-append (is_in_use_of s) (events_of q) (x ∷ [])
 
-    step : (b : Bool) → in_use_count p q s i ≤ count_by (is_in_use_of s) (events_of q) → cond b (in_use_count p q s i + 1) (in_use_count p q s i) ≤ count_by (is_in_use_of s) (events_of q) + cond b 1 0
+    step : (b : Bool) → in_use_count p q s i ≤ count_by (is_in_use_of s) (events_of q)
+        → cond b (in_use_count p q s i + 1) (in_use_count p q s i) ≤ count_by (is_in_use_of s) (events_of q) + cond b 1 0
     step true h = omega (arith, h)
     step false h = omega (arith, h)
 
-    wider : (a b c : Bool) → in_use_count p q s i ≤ count_by (is_in_use_of s) (events_of q) → cond ((a && b) && c) (in_use_count p q s i + 1) (in_use_count p q s i) ≤ count_by (is_in_use_of s) (events_of q) + cond a 1 0
+    wider : (a b c : Bool) → in_use_count p q s i ≤ count_by (is_in_use_of s) (events_of q)
+        → cond ((a && b) && c) (in_use_count p q s i + 1) (in_use_count p q s i) ≤ count_by (is_in_use_of s) (events_of q) + cond a 1 0
     wider true true true h = omega (arith, h)
     wider true true false h = omega (arith, h)
     wider true false c h = omega (arith, h)
     wider false b c h = omega (arith, h)
 
-    by : (x : Event) → in_use_count p q s i ≤ count_by (is_in_use_of s) (events_of q) → in_use_count p (Got x ∷ q) s i ≤ count_by (is_in_use_of s) (events_of (Got x ∷ q))
+    by : (x : Event) → in_use_count p q s i ≤ count_by (is_in_use_of s) (events_of q)
+        → in_use_count p (Got x ∷ q) s i ≤ count_by (is_in_use_of s) (events_of (Got x ∷ q))
     by (events.InUse t j) h = let w = wider (t == s) (j == i) (not (has_live p q (address p s i))) h in omega (arith, all (events.InUse t j), w)
     by x h = omega (arith, all x, h)
 
@@ -117,15 +120,18 @@ ready-now n t q lt started says = by (is_even t) refl
     by true even = or_right _ _ (and_from (is_started q t) _ started (or_left _ _ (kind-even n t lt even)))
     by false odd = or_left _ _ (or_left _ _ (or_left _ _ (says odd)))
 
-pub started-once : (n s : ℕ) (q : Record) → s < n → StartsRight (made_plan n) q → ((j : ℕ) → j < s → is_even j ≡ false → has (is_ready_event j) q ≡ true) → times (is_start s) q ≡ 1
+pub started-once : (n s : ℕ) (q : Record) → s < n → StartsRight (made_plan n) q → ((j : ℕ) → j < s → is_even j ≡ false → has (is_ready_event j) q ≡ true)
+    → times (is_start s) q ≡ 1
 started-once n zero q lt going says = starts-due n zero q lt going (depends-pass n zero (is_ready (made_plan n) q) lt (λ t e. absurd (omega arith)))
 started-once n (suc s) q lt going says =
     let once : times (is_start s) q ≡ 1 = started-once n s q (omega arith) going (λ j below odd. says j (omega arith) odd) in
     let before : is_started q s ≡ true = times-some (is_start s) q (omega arith) in
     let this : is_ready (made_plan n) q s ≡ true = ready-now n s q (omega arith) before (says s (omega arith)) in
-    starts-due n (suc s) q lt going (depends-pass n (suc s) (is_ready (made_plan n) q) lt (λ t e. let same : s ≡ t = omega arith in ap (is_ready (made_plan n) q) (sym same) ∙ this))
+    starts-due n (suc s) q lt going
+    (depends-pass n (suc s) (is_ready (made_plan n) q) lt (λ t e. let same : s ≡ t = omega arith in ap (is_ready (made_plan n) q) (sym same) ∙ this))
 
-pub started-now : (n s : ℕ) (q : Record) → s < n → StartsRight (made_plan n) q → ((j : ℕ) → j < s → is_even j ≡ false → has (is_ready_event j) q ≡ true) → is_started q s ≡ true
+pub started-now : (n s : ℕ) (q : Record) → s < n → StartsRight (made_plan n) q → ((j : ℕ) → j < s → is_even j ≡ false → has (is_ready_event j) q ≡ true)
+    → is_started q s ≡ true
 started-now n s q lt starts says = times-some (is_start s) q (let once = started-once n s q lt starts says in omega arith)
 
 -- ---- descriptors
@@ -139,28 +145,35 @@ any-filter-none f g (x ∷ xs) h = let p = or_parts (f x) (list_any f xs) h in b
     by false here more = more
 
 -- nothing with the service's address was opened, where it wasn't bound
-opened-none : (n s : ℕ) (q : Record) → n ≤ 1024 → s < n → came q is_odd ≡ false → came q (is_bound_at s) ≡ false → list_any (λ (d : Descriptor). same_address d.address (address (made_plan n) s 0)) (opened_descriptors (made_plan n) q) ≡ false
+opened-none : (n s : ℕ) (q : Record) → n ≤ 1024 → s < n → came q is_odd ≡ false → came q (is_bound_at s) ≡ false
+    → list_any (λ (d : Descriptor). same_address d.address (address (made_plan n) s 0)) (opened_descriptors (made_plan n) q) ≡ false
 opened-none n s [] few lt odd none = refl
 opened-none n s (Told a ∷ q) few lt odd none = opened-none n s q few lt odd none
 opened-none n s (Got e ∷ q) few lt odd none =
     list_any-append f (descriptors_of (made_plan n) (Got e)) (opened_descriptors (made_plan n) q)
-    ∙ or_from _ _ (one e (came-before is_odd q e odd).1 (came-before (is_bound_at s) q e none).1) (opened-none n s q few lt (came-before is_odd q e odd).0 (came-before (is_bound_at s) q e none).0)
+    ∙ or_from _ _ (one e (came-before is_odd q e odd).1 (came-before (is_bound_at s) q e none).1)
+    (opened-none n s q few lt (came-before is_odd q e odd).0 (came-before (is_bound_at s) q e none).0)
   where
     f : Descriptor → Bool
     f d = same_address d.address (address (made_plan n) s 0)
 
     one : (x : Event) → is_odd x ≡ false → is_bound_at s x ≡ false → list_any f (descriptors_of (made_plan n) (Got x)) ≡ false
     one (events.Bound t j fd) o b =
-        or_from _ false (false_from_ne_true _ (λ same. let own = own-address n s t j few lt same in both_ways (t == s && j == 0) b (and_from _ _ (eq-eqb t s own.0) (eq-eqb j 0 own.1)))) refl
+        or_from _ false
+        (false_from_ne_true _
+        (λ same. let own = own-address n s t j few lt same in both_ways (t == s && j == 0) b (and_from _ _ (eq-eqb t s own.0) (eq-eqb j 0 own.1)))) refl
     one (events.Received bytes fds) o b = absurd cc
     one x o b = refl
 
-pub not-live : (n s : ℕ) (q : Record) → n ≤ 1024 → s < n → came q is_odd ≡ false → came q (is_bound_at s) ≡ false → has_live (made_plan n) q (address (made_plan n) s 0) ≡ false
-not-live n s q few lt odd none = any-filter-none _ (λ (d : Descriptor). not (has (is_close d.number) q)) (opened_descriptors (made_plan n) q) (opened-none n s q few lt odd none)
+pub not-live : (n s : ℕ) (q : Record) → n ≤ 1024 → s < n → came q is_odd ≡ false → came q (is_bound_at s) ≡ false
+    → has_live (made_plan n) q (address (made_plan n) s 0) ≡ false
+not-live n s q few lt odd none =
+    any-filter-none _ (λ (d : Descriptor). not (has (is_close d.number) q)) (opened_descriptors (made_plan n) q) (opened-none n s q few lt odd none)
 
 -- ---- nothing is adopted
 
-found-kept : (f : Descriptor → Bool) (h : ℕ → Bool) (ds : List Descriptor) → list_any h (map (λ (d : Descriptor). d.number) (filter f ds)) ≡ true → list_any f ds ≡ true
+found-kept : (f : Descriptor → Bool) (h : ℕ → Bool) (ds : List Descriptor) → list_any h (map (λ (d : Descriptor). d.number) (filter f ds)) ≡ true
+    → list_any f ds ≡ true
 found-kept f h [] e = absurd (both_ways false refl e)
 found-kept f h (d ∷ ds) e = by (f d) refl (found-kept f h ds)
   where
@@ -168,17 +181,23 @@ found-kept f h (d ∷ ds) e = by (f d) refl (found-kept f h ds)
     by true is later = or_left _ _ is
     by false is later = or_right _ _ (later (rw is at e))
 
-pub not-adopted : (n s : ℕ) (q : Record) → n ≤ 1024 → s < n → came q is_odd ≡ false → came q (is_bound_at s) ≡ false → EachEntry (λ e before. ask_due (made_plan n) e before ≡ true) q → has (is_adopt s 0) q ≡ false
+pub not-adopted : (n s : ℕ) (q : Record) → n ≤ 1024 → s < n → came q is_odd ≡ false → came q (is_bound_at s) ≡ false
+    → EachEntry (λ e before. ask_due (made_plan n) e before ≡ true) q → has (is_adopt s 0) q ≡ false
 not-adopted n s q few lt odd none each =
     false_from_ne_true (has (is_adopt s 0) q) (λ found. let f = find-entry (is_adopt s 0) (λ e before. ask_due (made_plan n) e before ≡ true) q each found in
     never f.entry f.before f.passes f.meets (f.came_then is_odd odd) (f.came_then (is_bound_at s) none))
   where
-    never : (e : Entry) (before : Record) → is_adopt s 0 e ≡ true → ask_due (made_plan n) e before ≡ true → came before is_odd ≡ false → came before (is_bound_at s) ≡ false → ⊥
+    never : (e : Entry) (before : Record) → is_adopt s 0 e ≡ true → ask_due (made_plan n) e before ≡ true → came before is_odd ≡ false
+        → came before (is_bound_at s) ≡ false → ⊥
     never (Told (Adopt t j fd)) before is due o b =
         let same = and_parts (t == s) (j == 0) is in
         let listed = and_parts _ _ due in
-        let live : has_live (made_plan n) before (address (made_plan n) t j) ≡ true = found-kept (λ (d : Descriptor). same_address d.address (address (made_plan n) t j)) (λ m. m == fd) (live_descriptors (made_plan n) before) listed.1 in
-        both_ways _ (not-live n s before few lt o b) (ap (λ (i : ℕ). has_live (made_plan n) before (address (made_plan n) s i)) (sym (eqb-true j 0 same.1)) ∙ ap (λ (i : ℕ). has_live (made_plan n) before (address (made_plan n) i j)) (sym (eqb-true t s same.0)) ∙ live)
+        let live : has_live (made_plan n) before (address (made_plan n) t j) ≡ true =
+        found-kept (λ (d : Descriptor). same_address d.address (address (made_plan n) t j)) (λ m. m == fd)
+        (live_descriptors (made_plan n) before) listed.1 in
+        both_ways _ (not-live n s before few lt o b)
+        (ap (λ (i : ℕ). has_live (made_plan n) before (address (made_plan n) s i)) (sym (eqb-true j 0 same.1))
+        ∙ ap (λ (i : ℕ). has_live (made_plan n) before (address (made_plan n) i j)) (sym (eqb-true t s same.0)) ∙ live)
     never (Got e) before is due o b = absurd cc
     never e before is due o b = absurd cc
 
@@ -187,7 +206,9 @@ not-adopted n s q few lt odd none each =
 held-none : (n s : ℕ) (q : Record) → came q is_odd ≡ false → came q (is_bound_at s) ≡ false → held_numbers (made_plan n) q s 0 ≡ []
 held-none n s [] odd none = refl
 held-none n s (Told a ∷ q) odd none = held-none n s q odd none
-held-none n s (Got e ∷ q) odd none = one e (came-before is_odd q e odd).1 (came-before (is_bound_at s) q e none).1 (held-none n s q (came-before is_odd q e odd).0 (came-before (is_bound_at s) q e none).0)
+held-none n s (Got e ∷ q) odd none =
+    one e (came-before is_odd q e odd).1 (came-before (is_bound_at s) q e none).1
+    (held-none n s q (came-before is_odd q e odd).0 (came-before (is_bound_at s) q e none).0)
   where
     one : (x : Event) → is_odd x ≡ false → is_bound_at s x ≡ false → held_numbers (made_plan n) q s 0 ≡ [] → held_numbers (made_plan n) (Got x ∷ q) s 0 ≡ []
     one (events.Bound t j fd) o b more = rw b more
@@ -222,15 +243,18 @@ own-busy n s q few lt h =
 
 waits-first : (n s : ℕ) (q : Record) → s < n → is_held (made_plan n) q s 0 ≡ false → waits (made_plan n) q s 0 ≡ true → waits_at (made_plan n) q s 0 ≡ true
 waits-first n s q lt free h =
-    let first : first_missing (made_plan n) q s (endpoint_numbers (made_plan n) s) ≡ Some 0 = ap (first_missing (made_plan n) q s) (numbers-at n s lt) ∙ rw free refl in
+    let first : first_missing (made_plan n) q s (endpoint_numbers (made_plan n) s) ≡ Some 0 =
+    ap (first_missing (made_plan n) q s) (numbers-at n s lt) ∙ rw free refl in
     ap (waits_from (made_plan n) q s 0) (sym first) ∙ h
 
 -- what a service at work whose endpoint isn't held waits for: the answer to a bind, unless it rests
-pub bind-open : (n s : ℕ) (q : Record) → n ≤ 1024 → s < n → OpenRight (made_plan n) q → EachEntry (λ e before. ask_due (made_plan n) e before ≡ true) q → came q is_odd ≡ false → has is_signal q ≡ false → is_at_work (made_plan n) q s ≡ true → came q (is_bound_at s) ≡ false
+pub bind-open : (n s : ℕ) (q : Record) → n ≤ 1024 → s < n → OpenRight (made_plan n) q → EachEntry (λ e before. ask_due (made_plan n) e before ≡ true) q
+    → came q is_odd ≡ false → has is_signal q ≡ false → is_at_work (made_plan n) q s ≡ true → came q (is_bound_at s) ≡ false
     → in_use_within (now q) q s 0 ≡ false → is_bind_open q s 0 ≡ true
 bind-open n s q few lt going asks odd unsigned work none rested =
     let serving : in_service q ≡ true = and_from _ _ (runs-now n q going) (not_from_false _ unsigned) in
-    let due = (OnTrue_at serving going.endpoints) s 0 (let count = plan-count n in omega arith) (let one = endpoints-at n s lt in omega (arith, ap length one)) in
+    let due = (OnTrue_at serving going.endpoints) s 0 (let count = plan-count n in omega arith)
+    (let one = endpoints-at n s lt in omega (arith, ap length one)) in
     let live : List ℕ = live_numbers_with (made_plan n) q (address (made_plan n) s 0) in
     let waiting : (holds (made_plan n) q s 0 || waits (made_plan n) q s 0) ≡ true = rw work at due in
     elim (or_cases _ _ waiting) [
@@ -260,7 +284,8 @@ pub plain-true : (b : Bool) → (b || false) ≡ true → b ≡ true
 plain-true true h = refl
 plain-true false h = absurd (both_ways false refl h)
 
-pub held-some : (n s : ℕ) (q : Record) → n ≤ 1024 → s < n → came q is_odd ≡ false → came q (is_bound_at s) ≡ true → 0 < length (held_numbers (made_plan n) q s 0)
+pub held-some : (n s : ℕ) (q : Record) → n ≤ 1024 → s < n → came q is_odd ≡ false → came q (is_bound_at s) ≡ true
+    → 0 < length (held_numbers (made_plan n) q s 0)
 held-some n s [] few lt odd h = absurd (both_ways false refl h)
 held-some n s (Told a ∷ q) few lt odd h = held-some n s q few lt odd h
 held-some n s (Got e ∷ q) few lt odd h = one e (came-before is_odd q e odd) h (held-some n s q few lt (came-before is_odd q e odd).0)
@@ -272,18 +297,26 @@ held-some n s (Got e ∷ q) few lt odd h = one e (came-before is_odd q e odd) h 
           | inr here ↦ absurd (both_ways _ none (plain-true _ here))
         ]
 
-    one : (x : Event) → (came q is_odd ≡ false) × (is_odd x ≡ false) → came (Got x ∷ q) (is_bound_at s) ≡ true → (came q (is_bound_at s) ≡ true → 0 < length (held_numbers (made_plan n) q s 0)) → 0 < length (held_numbers (made_plan n) (Got x ∷ q) s 0)
+    one : (x : Event) → (came q is_odd ≡ false) × (is_odd x ≡ false) → came (Got x ∷ q) (is_bound_at s) ≡ true
+        → (came q (is_bound_at s) ≡ true → 0 < length (held_numbers (made_plan n) q s 0)) → 0 < length (held_numbers (made_plan n) (Got x ∷ q) s 0)
     one (events.Bound t j fd) o found later =
         elim (cases_Bool (came q (is_bound_at s))) [
           | inl before ↦
               let more = later before in
-              omega (arith, length-append (cond ((t == s && j == 0) && not (has_live (made_plan n) q (address (made_plan n) t j))) (fd ∷ []) []) (held_numbers (made_plan n) q s 0), more)
+              omega (
+                arith,
+                length-append (cond ((t == s && j == 0) && not (has_live (made_plan n) q (address (made_plan n) t j))) (fd ∷ []) [])
+                    (held_numbers (made_plan n) q s 0),
+                more,
+              )
           | inr none ↦
-              let now-true : ((t == s && j == 0) || false) ≡ true = after-false _ _ none (sym (list_any-append (is_bound_at s) (events_of q) (events.Bound t j fd ∷ [])) ∙ found) in
+              let now-true : ((t == s && j == 0) || false) ≡ true =
+              after-false _ _ none (sym (list_any-append (is_bound_at s) (events_of q) (events.Bound t j fd ∷ [])) ∙ found) in
               let here : (t == s && j == 0) ≡ true = plain-true _ now-true in
               let same = and_parts (t == s) (j == 0) here in
               let free : has_live (made_plan n) q (address (made_plan n) t j) ≡ false =
-              ap (λ (i : ℕ). has_live (made_plan n) q (address (made_plan n) i j)) (eqb-true t s same.0) ∙ ap (λ (i : ℕ). has_live (made_plan n) q (address (made_plan n) s i)) (eqb-true j 0 same.1) ∙ not-live n s q few lt o.0 none in
+              ap (λ (i : ℕ). has_live (made_plan n) q (address (made_plan n) i j)) (eqb-true t s same.0)
+              ∙ ap (λ (i : ℕ). has_live (made_plan n) q (address (made_plan n) s i)) (eqb-true j 0 same.1) ∙ not-live n s q few lt o.0 none in
               let first : held_numbers (made_plan n) (Got (events.Bound t j fd) ∷ q) s 0 ≡ fd ∷ held_numbers (made_plan n) q s 0 = rw (here, free) refl in
               omega (arith, ap length first)
         ]

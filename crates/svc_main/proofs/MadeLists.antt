@@ -18,7 +18,8 @@ use Rattle.svc_main.proofs.MadeRecords.{now_in, now_in-append, is_signal_event}
 -- ---- cuts
 
 -- an element stands in the first list, or behind it in the second
-pub split : {A : Type 0} (ps zs xs : List A) (e : A) (more : List A) → xs ++ e ∷ more ≡ ps ++ zs → ((back : List A) × (ps ≡ xs ++ e ∷ back)) ⊎ ((rest : List A) × (xs ≡ ps ++ rest) × (rest ++ e ∷ more ≡ zs))
+pub split : {A : Type 0} (ps zs xs : List A) (e : A) (more : List A) → xs ++ e ∷ more ≡ ps ++ zs
+    → ((back : List A) × (ps ≡ xs ++ e ∷ back)) ⊎ ((rest : List A) × (xs ≡ ps ++ rest) × (rest ++ e ∷ more ≡ zs))
 split [] zs xs e more h = inr (xs, refl, h)
 split (p ∷ ps) zs [] e more h = let same : p ≡ e = cc in inl (ps, ap (λ x. x ∷ ps) same)
 split (p ∷ ps) zs (x ∷ xs) e more h =
@@ -126,7 +127,14 @@ on-other k j ne = rw (word-test (is_on k) (is_even j) false j (made_moment j) re
 
 pub of-other : (c j : ℕ) → 4 * j + 5 ≤ c → list_any (is_of c) (made_events_of j) ≡ false
 of-other c j lt =
-    rw (word-test (is_of c) (is_even j) false j (made_moment j) refl refl, ne_eqb (4 * j + 1) c (omega arith), ne_eqb ((4 * j + 1) + 1) c (omega arith), ne_eqb ((4 * j + 1) + 2) c (omega arith), ne_eqb ((4 * j + 1) + 3) c (omega arith)) refl
+    rw (
+      word-test (is_of c) (is_even j) false j (made_moment j) refl refl,
+      ne_eqb (4 * j + 1) c (omega arith),
+      ne_eqb ((4 * j + 1) + 1) c (omega arith),
+      ne_eqb
+          ((4 * j + 1) + 2) c (omega arith),
+      ne_eqb ((4 * j + 1) + 3) c (omega arith),
+    ) refl
 
 pub in-use-one : (k j : ℕ) → count_by (is_in_use_of k) (made_events_of j) ≡ cond (j == k) 1 0
 in-use-one k j = rw (word-test (is_in_use_of k) (is_even j) false j (made_moment j) refl refl) (omega arith)
@@ -144,7 +152,8 @@ usual-to (suc k) = ap (list_all is_usual) (to-more k) ∙ list_all-append is_usu
 pub none-to : (t : Event → Bool) (k : ℕ) → ((j : ℕ) → j < k → list_any t (made_events_of j) ≡ false) → list_any t (made_events_to k) ≡ false
 none-to t zero h = refl
 none-to t (suc k) h =
-    ap (list_any t) (to-more k) ∙ list_any-append t (made_events_to k) (made_events_of k) ∙ or_from _ _ (none-to t k (λ j lt. h j (omega arith))) (h k (omega arith))
+    ap (list_any t) (to-more k) ∙ list_any-append t (made_events_to k) (made_events_of k)
+    ∙ or_from _ _ (none-to t k (λ j lt. h j (omega arith))) (h k (omega arith))
 
 -- what one of them has
 pub some-to : (t : Event → Bool) (k j : ℕ) → j < k → list_any t (made_events_of j) ≡ true → list_any t (made_events_to k) ≡ true
@@ -152,7 +161,8 @@ some-to t zero j lt h = absurd (omega arith)
 some-to t (suc k) j lt h =
     ap (list_any t) (to-more k) ∙ list_any-append t (made_events_to k) (made_events_of k) ∙ by (cases_lt j k) (some-to t k j)
   where
-    by : (j < k) ⊎ (k ≤ j) → (j < k → list_any t (made_events_of j) ≡ true → list_any t (made_events_to k) ≡ true) → (list_any t (made_events_to k) || list_any t (made_events_of k)) ≡ true
+    by : (j < k) ⊎ (k ≤ j) → (j < k → list_any t (made_events_of j) ≡ true → list_any t (made_events_to k) ≡ true)
+        → (list_any t (made_events_to k) || list_any t (made_events_of k)) ≡ true
     by (inl before) later = or_left _ _ (later before h)
     by (inr here) later = or_right _ _ (let same : k ≡ j = omega arith in ap (λ (i : ℕ). list_any t (made_events_of i)) same ∙ h)
 
@@ -164,7 +174,14 @@ in-use-before s zero le = refl
 in-use-before s (suc k) le =
     let none : (k == s) ≡ false = ne_eqb k s (omega arith) in
     let here : count_by (is_in_use_of s) (made_events_of k) ≡ 0 = in-use-one s k ∙ ap (λ (b : Bool). cond b 1 0) none in
-    omega (arith, ap (count_by (is_in_use_of s)) (to-more k), count-append (is_in_use_of s) (made_events_to k) (made_events_of k), here, in-use-before s k (omega arith))
+    omega (
+      arith,
+      ap (count_by (is_in_use_of s)) (to-more k),
+      count-append (is_in_use_of s) (made_events_to k) (made_events_of k),
+      here,
+      in-use-before s k
+          (omega arith),
+    )
 
 at_most : (b : Bool) → cond b 1 0 ≤ 1
 at_most true = omega arith
@@ -180,7 +197,9 @@ in-use-to s (suc k) = by (cases_eq k s) (in-use-to s k)
 
     by : (k ≡ s) ⊎ (k ≡ s → ⊥) → count_by (is_in_use_of s) (made_events_to k) ≤ 1 → count_by (is_in_use_of s) (made_events_to (suc k)) ≤ 1
     by (inl same) h = omega (arith, all, in-use-before s k (omega arith), in-use-one s k, at_most (k == s))
-    by (inr other) h = let here : count_by (is_in_use_of s) (made_events_of k) ≡ 0 = in-use-one s k ∙ ap (λ (b : Bool). cond b 1 0) (ne_eqb k s other) in omega (arith, all, here, h)
+    by (inr other) h =
+        let here : count_by (is_in_use_of s) (made_events_of k) ≡ 0 = in-use-one s k ∙ ap (λ (b : Bool). cond b 1 0) (ne_eqb k s other) in
+        omega (arith, all, here, h)
 
 -- each that says so was ready
 pub ready-of : (j : ℕ) → is_even j ≡ false → list_any (λ e. is_ready_event j (Got e)) (made_events_of j) ≡ true
@@ -219,7 +238,8 @@ pub record InConnection (n : ℕ) (xs : List Event) (e : Event) : Type 0 where
   pub cut : xs ≡ made_events_to service ++ (made_start service ++ (earlier ++ front))
   pub place : Four (Arrived service 0 number Unknown) (Set number true) (Shaken number true) (Finished number) front e
 
-in_connection : (n k c : ℕ) (e : Event) (xs earlier front back : List Event) → k < n → 4 * k + 1 ≤ c → list_any (is_of c) earlier ≡ false → xs ≡ made_events_to k ++ (made_start k ++ (earlier ++ front)) → made_connection k c ≡ front ++ e ∷ back
+in_connection : (n k c : ℕ) (e : Event) (xs earlier front back : List Event) → k < n → 4 * k + 1 ≤ c → list_any (is_of c) earlier ≡ false
+    → xs ≡ made_events_to k ++ (made_start k ++ (earlier ++ front)) → made_connection k c ≡ front ++ e ∷ back
     → InConnection n xs e
 in_connection n k c e xs earlier front back lt late fresh cut h = record {
   service = k;
@@ -234,7 +254,8 @@ in_connection n k c e xs earlier front back lt late fresh cut h = record {
 }
 
 -- one of the connections, or one of those that follow
-next : (n k c : ℕ) (e : Event) (xs earlier rest back zs : List Event) → k < n → 4 * k + 1 ≤ c → list_any (is_of c) earlier ≡ false → xs ≡ made_events_to k ++ (made_start k ++ (earlier ++ rest)) → rest ++ e ∷ back ≡ made_connection k c ++ zs
+next : (n k c : ℕ) (e : Event) (xs earlier rest back zs : List Event) → k < n → 4 * k + 1 ≤ c → list_any (is_of c) earlier ≡ false
+    → xs ≡ made_events_to k ++ (made_start k ++ (earlier ++ rest)) → rest ++ e ∷ back ≡ made_connection k c ++ zs
     → InConnection n xs e ⊎ ((r : List Event) × (rest ≡ made_connection k c ++ r) × (r ++ e ∷ back ≡ zs))
 next n k c e xs earlier rest back zs lt late fresh cut h =
     elim (split (made_connection k c) zs rest e back h) [
@@ -242,31 +263,46 @@ next n k c e xs earlier rest back zs lt late fresh cut h =
       | inr later ↦ inr later
     ]
 
-in_connections : (n k c : ℕ) (e : Event) (xs rest back : List Event) → k < n → c ≡ 4 * k + 1 → xs ≡ made_events_to k ++ (made_start k ++ rest) → rest ++ e ∷ back ≡ made_connections k c → InConnection n xs e
+in_connections : (n k c : ℕ) (e : Event) (xs rest back : List Event) → k < n → c ≡ 4 * k + 1 → xs ≡ made_events_to k ++ (made_start k ++ rest)
+    → rest ++ e ∷ back ≡ made_connections k c → InConnection n xs e
 in_connections n k c e xs rest back lt is cut h =
     elim (next n k c e xs [] rest back (made_connection k (c + 1) ++ (made_connection k (c + 2) ++ made_connection k (c + 3))) lt (omega arith) refl cut h) [
       | inl found ↦ found
       | inr a ↦
-          let cut1 : xs ≡ made_events_to k ++ (made_start k ++ (made_connection k c ++ a.0)) = cut ∙ ap (λ (ys : List Event). made_events_to k ++ (made_start k ++ ys)) a.1 in
-          elim (next n k (c + 1) e xs (made_connection k c) a.0 back (made_connection k (c + 2) ++ made_connection k (c + 3)) lt (omega arith) (rw (ne_eqb c (c + 1) (omega arith)) refl) cut1 a.2) [
+          let cut1 : xs ≡ made_events_to k ++ (made_start k ++ (made_connection k c ++ a.0)) =
+          cut ∙ ap (λ (ys : List Event). made_events_to k ++ (made_start k ++ ys)) a.1 in
+          elim (next n k (c + 1) e xs (made_connection k c) a.0 back (made_connection k (c + 2) ++ made_connection k (c + 3)) lt (omega arith)
+          (rw (ne_eqb c (c + 1) (omega arith)) refl) cut1 a.2) [
             | inl found ↦ found
             | inr b ↦
                 let two : List Event = made_connection k c ++ made_connection k (c + 1) in
-                let cut2 : xs ≡ made_events_to k ++ (made_start k ++ (two ++ b.0)) = cut1 ∙ ap (λ (ys : List Event). made_events_to k ++ (made_start k ++ (made_connection k c ++ ys))) b.1 in
-                elim (next n k (c + 2) e xs two b.0 back (made_connection k (c + 3)) lt (omega arith) (rw (ne_eqb c (c + 2) (omega arith), ne_eqb (c + 1) (c + 2) (omega arith)) refl) cut2 b.2) [
+                let cut2 : xs ≡ made_events_to k ++ (made_start k ++ (two ++ b.0)) =
+                cut1 ∙ ap (λ (ys : List Event). made_events_to k ++ (made_start k ++ (made_connection k c ++ ys))) b.1 in
+                elim (next n k (c + 2) e xs two b.0 back (made_connection k (c + 3)) lt (omega arith)
+                (rw (ne_eqb c (c + 2) (omega arith), ne_eqb (c + 1) (c + 2) (omega arith)) refl) cut2 b.2) [
                   | inl found ↦ found
                   | inr d ↦
                       let three : List Event = made_connection k c ++ (made_connection k (c + 1) ++ made_connection k (c + 2)) in
-                      let cut3 : xs ≡ made_events_to k ++ (made_start k ++ (three ++ d.0)) = cut2 ∙ ap (λ (ys : List Event). made_events_to k ++ (made_start k ++ (two ++ ys))) d.1 in
-                      in_connection n k (c + 3) e xs three d.0 back lt (omega arith) (rw (ne_eqb c (c + 3) (omega arith), ne_eqb (c + 1) (c + 3) (omega arith), ne_eqb (c + 2) (c + 3) (omega arith)) refl) cut3 (sym d.2)
+                      let cut3 : xs ≡ made_events_to k ++ (made_start k ++ (three ++ d.0)) =
+                      cut2 ∙ ap (λ (ys : List Event). made_events_to k ++ (made_start k ++ (two ++ ys))) d.1 in
+                      in_connection n k (c + 3) e xs three d.0 back lt (omega arith)
+                      (rw (ne_eqb c (c + 3) (omega arith), ne_eqb (c + 1) (c + 3) (omega arith), ne_eqb (c + 2) (c + 3) (omega arith)) refl) cut3 (sym d.2)
                 ]
           ]
     ]
 
-in_service : (n k : ℕ) (e : Event) (xs front back : List Event) → k < n → xs ≡ made_events_to k ++ front → made_events_of k ≡ front ++ e ∷ back → InStart n xs e ⊎ InConnection n xs e
+in_service : (n k : ℕ) (e : Event) (xs front back : List Event) → k < n → xs ≡ made_events_to k ++ front → made_events_of k ≡ front ++ e ∷ back
+    → InStart n xs e ⊎ InConnection n xs e
 in_service n k e xs front back lt cut h =
     elim (split (made_start k) (made_connections k (4 * k + 1)) front e back (sym h)) [
-      | inl found ↦ inl (record { service = k; below = lt; front = front; cut = cut; place = four (InUse k 0) (Moment (made_moment k)) (Bound k 0 (k + 1)) (made_word k) e front found.0 found.1 })
+      | inl found ↦
+          inl (record {
+            service = k;
+            below = lt;
+            front = front;
+            cut = cut;
+            place = four (InUse k 0) (Moment (made_moment k)) (Bound k 0 (k + 1)) (made_word k) e front found.0 found.1;
+          })
       | inr later ↦ inr (in_connections n k (4 * k + 1) e xs later.0 back lt refl (cut ∙ ap (λ (ys : List Event). made_events_to k ++ ys) later.1) later.2)
     ]
 
@@ -280,7 +316,8 @@ last_one [] e f more h = (refl, cc)
 last_one (x ∷ xs) e f more h = absurd (none_more xs e more (let tail : [] ≡ xs ++ e ∷ more = cc in tail))
 
 -- each event stands in one of these places
-pub place-of : (n : ℕ) (xs : List Event) (e : Event) (more : List Event) → xs ++ e ∷ more ≡ made_events n → InStart n xs e ⊎ (InConnection n xs e ⊎ InEnd n xs e)
+pub place-of : (n : ℕ) (xs : List Event) (e : Event) (more : List Event) → xs ++ e ∷ more ≡ made_events n
+    → InStart n xs e ⊎ (InConnection n xs e ⊎ InEnd n xs e)
 place-of n xs e more h =
     elim (split_flat made_events_of 0 n (Signal FastShutdown ∷ []) xs e more h) [
       | inl b ↦
@@ -294,7 +331,8 @@ place-of n xs e more h =
     ]
 
 -- what stands before an event is a front of the events before the signal
-pub front-of : (n : ℕ) (xs : List Event) (e : Event) (more : List Event) → xs ++ e ∷ more ≡ made_events n → (back : List Event) × (made_events_to n ≡ xs ++ back)
+pub front-of : (n : ℕ) (xs : List Event) (e : Event) (more : List Event) → xs ++ e ∷ more ≡ made_events n
+    → (back : List Event) × (made_events_to n ≡ xs ++ back)
 front-of n xs e more h =
     elim (split (made_events_to n) (Signal FastShutdown ∷ []) xs e more h) [
       | inl found ↦ (e ∷ found.0, found.1)
@@ -310,7 +348,8 @@ signal-none j = rw (word-test is_signal_event (is_even j) false j (made_moment j
 
 pub front-unsigned : (n : ℕ) (xs back : List Event) → made_events_to n ≡ xs ++ back → list_any is_signal_event xs ≡ false
 front-unsigned n xs back h =
-    (or_parts (list_any is_signal_event xs) (list_any is_signal_event back) (sym (list_any-append is_signal_event xs back) ∙ ap (list_any is_signal_event) (sym h) ∙ none-to is_signal_event n (λ j lt. signal-none j))).0
+    (or_parts (list_any is_signal_event xs) (list_any is_signal_event back)
+    (sym (list_any-append is_signal_event xs back) ∙ ap (list_any is_signal_event) (sym h) ∙ none-to is_signal_event n (λ j lt. signal-none j))).0
 
 -- a front of all events is one of those before the signal, or all
 pub front-or-all : (n : ℕ) (xs more : List Event) → made_events n ≡ xs ++ more → ((back : List Event) × (made_events_to n ≡ xs ++ back)) ⊎ (xs ≡ made_events n)
@@ -324,7 +363,8 @@ all-usual n xs more h =
 
 -- its events are usual, and each address was in use at most once
 pub front-usual : (n : ℕ) (xs back : List Event) → made_events_to n ≡ xs ++ back → list_all is_usual xs ≡ true
-front-usual n xs back h = (and_parts (list_all is_usual xs) (list_all is_usual back) (sym (list_all-append is_usual xs back) ∙ ap (list_all is_usual) (sym h) ∙ usual-to n)).0
+front-usual n xs back h =
+    (and_parts (list_all is_usual xs) (list_all is_usual back) (sym (list_all-append is_usual xs back) ∙ ap (list_all is_usual) (sym h) ∙ usual-to n)).0
 
 pub front-in-use : (n s : ℕ) (xs back : List Event) → made_events_to n ≡ xs ++ back → count_by (is_in_use_of s) xs ≤ 1
 front-in-use n s xs back h = omega (arith, in-use-to s n, ap (count_by (is_in_use_of s)) h, count-append (is_in_use_of s) xs back)

@@ -21,7 +21,8 @@ use Rattle.svc_text.proofs.PlanLemmas.{plans-length}
 
 -- ---- the services
 
-plans-at : (services : List ServiceLine) (s k : ℕ) (xs : List ServiceLine) (d : ServiceLine) → k < length xs → slice_get (plans_from services s xs) k ≡ Some (service_plan services (s + k) (get_or xs k d))
+plans-at : (services : List ServiceLine) (s k : ℕ) (xs : List ServiceLine) (d : ServiceLine) → k < length xs
+    → slice_get (plans_from services s xs) k ≡ Some (service_plan services (s + k) (get_or xs k d))
 plans-at services s k [] d lt = absurd (omega arith)
 plans-at services s zero (x ∷ xs) d lt = ap (λ (n : ℕ). Some (service_plan services n x)) (sym (add-zero s))
 plans-at services s (suc k) (x ∷ xs) d lt =
@@ -92,16 +93,19 @@ pub own-address : (n s t i : ℕ) → n ≤ 1024 → s < n → same_address (add
 own-address n s t i few lt h = by-service (cases_lt t n)
   where
     by-service : (t < n) ⊎ (n ≤ t) → (t ≡ s) × (i ≡ 0)
-    by-service (inr past) = absurd (both_ways false refl (ap (λ (a : Option (List ℕ)). same_address a (address (made_plan n) s 0)) (sym (address-past n t past i)) ∙ h))
+    by-service (inr past) =
+        absurd (both_ways false refl (ap (λ (a : Option (List ℕ)). same_address a (address (made_plan n) s 0)) (sym (address-past n t past i)) ∙ h))
     by-service (inl inside) = by-endpoint (cases_lt 0 i)
       where
         by-endpoint : (0 < i) ⊎ (i ≤ 0) → (t ≡ s) × (i ≡ 0)
-        by-endpoint (inl late) = absurd (both_ways false refl (ap (λ (a : Option (List ℕ)). same_address a (address (made_plan n) s 0)) (sym (address-late n t i inside late)) ∙ h))
+        by-endpoint (inl late) =
+            absurd (both_ways false refl (ap (λ (a : Option (List ℕ)). same_address a (address (made_plan n) s 0)) (sym (address-late n t i inside late)) ∙ h))
         by-endpoint (inr first) =
             let zero-is : i ≡ 0 = omega arith in
             let at : address (made_plan n) t i ≡ Some (made_text t) = ap (address (made_plan n) t) zero-is ∙ address-at n t inside in
             let texts : bytes_eq (made_text t) (made_text s) ≡ true =
-            ap (λ (a : Option (List ℕ)). same_address a (Some (made_text s))) (sym at) ∙ ap (same_address (address (made_plan n) t i)) (sym (address-at n s lt)) ∙ h in
+            ap (λ (a : Option (List ℕ)). same_address a (Some (made_text s))) (sym at) ∙ ap (same_address (address (made_plan n) t i)) (sym (address-at n s lt))
+            ∙ h in
             (same-text t s (omega arith) (omega arith) ((bytes_eq-Decides (made_text t) (made_text s)).0 texts), zero-is)
 
 -- ---- its kind and its dependencies
@@ -126,4 +130,6 @@ all-filter p f (x ∷ xs) h = by (f x) refl (all-filter p f xs h)
 pub depends-pass : (n s : ℕ) (p : ℕ → Bool) → s < n → ((t : ℕ) → t + 1 ≡ s → p t ≡ true) → list_all p (depends (made_plan n) s) ≡ true
 unfolding made
 depends-pass n s p lt h =
-    rw (plan-at n s lt) (all-filter p (edges_up_to (made_services n) (length (made_services n)) s) (range_with_len 0 (length (made_services n))) (λ t edge. h t (edge_before_one n (length (made_services n)) s t (services_length n) edge)))
+    rw (plan-at n s lt)
+    (all-filter p (edges_up_to (made_services n) (length (made_services n)) s) (range_with_len 0 (length (made_services n)))
+    (λ t edge. h t (edge_before_one n (length (made_services n)) s t (services_length n) edge)))

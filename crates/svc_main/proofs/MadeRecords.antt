@@ -66,7 +66,8 @@ pub open-from : (ask answer : Entry → Bool) (q : Record) → has ask q ≡ tru
 open-from ask answer [] h n = absurd (both_ways false refl h)
 open-from ask answer (e ∷ q) h n = by (ask e) refl (or_parts (answer e) (has answer q) n) (open-from ask answer q)
   where
-    by : (b : Bool) → ask e ≡ b → (answer e ≡ false) × (has answer q ≡ false) → (has ask q ≡ true → has answer q ≡ false → is_open ask answer q ≡ true) → is_open ask answer (e ∷ q) ≡ true
+    by : (b : Bool) → ask e ≡ b → (answer e ≡ false) × (has answer q ≡ false) → (has ask q ≡ true → has answer q ≡ false → is_open ask answer q ≡ true)
+        → is_open ask answer (e ∷ q) ≡ true
     by true is p later = rw is refl
     by false is p later = rw (is, p.0) (later (rw is at h) p.1)
 
@@ -132,7 +133,13 @@ pub last-event : (q : Record) (es : List Event) (e : Event) → events_of q ≡ 
 last-event [] es e h = absurd (none_last es e h)
 last-event (Told a ∷ q) es e h =
     let l = last-event q es e h in
-    record { told = l.told ++ a ∷ []; before = l.before; cut = ap (λ (r : Record). Told a ∷ r) l.cut ∙ tell-more (Got e ∷ l.before) a l.told; events = l.events }
+    record {
+      told = l.told ++ a ∷ [];
+      before = l.before;
+      cut = ap (λ (r : Record). Told a ∷ r) l.cut
+          ∙ tell-more (Got e ∷ l.before) a l.told;
+      events = l.events;
+    }
 last-event (Got x ∷ q) es e h =
     let p = last_of (events_of q) x e es h in
     record { told = []; before = q; cut = ap (λ (y : Event). Got y ∷ q) p.1; events = p.0 }
@@ -150,7 +157,9 @@ is_signal_event _ = false
 pub no-signal : (q : Record) → came q is_signal_event ≡ false → signal_of q ≡ None
 no-signal [] h = refl
 no-signal (Told a ∷ q) h = no-signal q h
-no-signal (Got e ∷ q) h = one e ((or_parts (came q is_signal_event) _ (sym (list_any-append is_signal_event (events_of q) (e ∷ [])) ∙ h)).1) ∙ no-signal q (or_parts (came q is_signal_event) _ (sym (list_any-append is_signal_event (events_of q) (e ∷ [])) ∙ h)).0
+no-signal (Got e ∷ q) h =
+    one e ((or_parts (came q is_signal_event) _ (sym (list_any-append is_signal_event (events_of q) (e ∷ [])) ∙ h)).1)
+    ∙ no-signal q (or_parts (came q is_signal_event) _ (sym (list_any-append is_signal_event (events_of q) (e ∷ [])) ∙ h)).0
   where
     one : (x : Event) → (is_signal_event x || false) ≡ false → signal_of (Got x ∷ q) ≡ signal_of q
     one (Signal kind) n = absurd (both_ways true n refl)

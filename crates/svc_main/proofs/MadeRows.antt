@@ -48,14 +48,18 @@ came-behind : (t : Event → Bool) (k : ℕ) (front : List Event) (q : Record) �
 came-behind t k front q cut = ap (list_any t) cut ∙ list_any-append t (made_events_to k) front
 
 -- a test of the service's own events
-on-behind : (t : Event → Bool) (k : ℕ) (front : List Event) (q : Record) → Behind k front q → ((e : Event) → t e ≡ true → is_on k e ≡ true) → list_any t front ≡ false → came q t ≡ false
+on-behind : (t : Event → Bool) (k : ℕ) (front : List Event) (q : Record) → Behind k front q → ((e : Event) → t e ≡ true → is_on k e ≡ true)
+    → list_any t front ≡ false → came q t ≡ false
 on-behind t k front q cut f h =
-    came-behind t k front q cut ∙ or_from _ _ (none-to t k (λ j lt. any-implied t (is_on k) f (made_events_of j) (on-other k j (λ same. omega (arith, same, lt))))) h
+    came-behind t k front q cut
+    ∙ or_from _ _ (none-to t k (λ j lt. any-implied t (is_on k) f (made_events_of j) (on-other k j (λ same. omega (arith, same, lt))))) h
 
 -- the service is started and at work
 started-behind : (n k : ℕ) (front : List Event) (q : Record) → Here n q → k < n → Behind k front q → is_started q k ≡ true
 started-behind n k front q here lt cut =
-    started-now n k q lt (OnTrue_at (runs-now n q here.going) here.going.starts) (λ j below odd-one. has-came (is_ready_event j) (λ a. refl) q ∙ came-behind (λ e. is_ready_event j (Got e)) k front q cut ∙ or_left _ _ (some-to (λ e. is_ready_event j (Got e)) k j below (ready-of j odd-one)))
+    started-now n k q lt (OnTrue_at (runs-now n q here.going) here.going.starts)
+    (λ j below odd-one. has-came (is_ready_event j) (λ a. refl) q ∙ came-behind (λ e. is_ready_event j (Got e)) k front q cut
+    ∙ or_left _ _ (some-to (λ e. is_ready_event j (Got e)) k j below (ready-of j odd-one)))
 
 work-behind : (n k : ℕ) (front : List Event) (q : Record) → Here n q → k < n → Behind k front q → is_at_work (made_plan n) q k ≡ true
 work-behind n k front q here lt cut = and_from _ _ (started-behind n k front q here lt cut) (not_from_false _ (not-failed n k q lt here.odd (here.once k)))
@@ -73,7 +77,9 @@ in-use-none t s (Told a ∷ q) h = one a (in-use-none t s q h)
     one : (x : Action) → in_use_within t q s 0 ≡ false → in_use_within t (Told x ∷ q) s 0 ≡ false
     one (actions.Bind a b) m = choice (a == s && b == 0) m
     one x m = m
-in-use-none t s (Got e ∷ q) h = one e (or_parts (came q (is_in_use_of s)) _ (sym (list_any-append (is_in_use_of s) (events_of q) (e ∷ [])) ∙ h)).1 (in-use-none t s q (or_parts (came q (is_in_use_of s)) _ (sym (list_any-append (is_in_use_of s) (events_of q) (e ∷ [])) ∙ h)).0)
+in-use-none t s (Got e ∷ q) h =
+    one e (or_parts (came q (is_in_use_of s)) _ (sym (list_any-append (is_in_use_of s) (events_of q) (e ∷ [])) ∙ h)).1
+    (in-use-none t s q (or_parts (came q (is_in_use_of s)) _ (sym (list_any-append (is_in_use_of s) (events_of q) (e ∷ [])) ∙ h)).0)
   where
     choice : (b : Bool) → in_use_within t q s 0 ≡ false → cond b false (in_use_within t q s 0) ≡ false
     choice true m = refl
@@ -103,12 +109,14 @@ now-behind k front q cut = now-events q ∙ ap (now_in 0) cut ∙ now_in-append 
 -- a second later it may be bound again
 in-use-rested : (k t : ℕ) (q : Record) → Behind k (events.InUse k 0 ∷ events.Moment (made_moment k) ∷ []) q → t ≡ made_moment k → in_use_within t q k 0 ≡ false
 in-use-rested k t q cut is =
-    let last = last-event q (made_events_to k ++ events.InUse k 0 ∷ []) (events.Moment (made_moment k)) (cut ∙ sym (append_assoc (made_events_to k) (events.InUse k 0 ∷ []) (events.Moment (made_moment k) ∷ []))) in
+    let last = last-event q (made_events_to k ++ events.InUse k 0 ∷ []) (events.Moment (made_moment k))
+    (cut ∙ sym (append_assoc (made_events_to k) (events.InUse k 0 ∷ []) (events.Moment (made_moment k) ∷ []))) in
     let first = last-event last.before (made_events_to k) (events.InUse k 0) last.events in
     let began : now first.before ≡ 1000 * k = now-events first.before ∙ ap (now_in 0) first.events ∙ now-to k in
     let old : ltb (t - now first.before) 1000 ≡ false = le-ltb (t - now first.before) 1000 (omega arith) in
     let at : in_use_within t (Got (events.InUse k 0) ∷ first.before) k 0 ≡ false = rw (eq-eqb k k refl) old in
-    let before : in_use_within t last.before k 0 ≡ false = ap (λ (r : Record). in_use_within t r k 0) first.cut ∙ in-use-tell t k (Got (events.InUse k 0) ∷ first.before) first.told at in
+    let before : in_use_within t last.before k 0 ≡ false =
+    ap (λ (r : Record). in_use_within t r k 0) first.cut ∙ in-use-tell t k (Got (events.InUse k 0) ∷ first.before) first.told at in
     ap (λ (r : Record). in_use_within t r k 0) last.cut ∙ in-use-tell t k (Got (events.Moment (made_moment k)) ∷ last.before) last.told before
 
 -- ---- the first events of a service
@@ -127,24 +135,31 @@ ready-on k e h = absurd cc
 
 in-use-row : (n k : ℕ) (q : Record) → Here n q → k < n → Behind k [] q → fits_row (made_plan n) q (events.InUse k 0) ≡ true
 in-use-row n k q here lt cut =
-    bind-open n k q here.few lt here.going here.asks here.odd here.unsigned (work-behind n k [] q here lt cut) (on-behind (is_bound_at k) k [] q cut (bound-on k) refl)
+    bind-open n k q here.few lt here.going here.asks here.odd here.unsigned (work-behind n k [] q here lt cut)
+    (on-behind (is_bound_at k) k [] q cut (bound-on k) refl)
     (in-use-none (now q) k q (on-behind (is_in_use_of k) k [] q cut (in-use-on k) refl))
 
 moment-row : (n k : ℕ) (q : Record) → Behind k (events.InUse k 0 ∷ []) q → fits_row (made_plan n) q (events.Moment (made_moment k)) ≡ true
 moment-row n k q cut = let at : now q ≡ 1000 * k = now-behind k (events.InUse k 0 ∷ []) q cut in le-leb (now q) (made_moment k) (omega arith)
 
 brings-other : (k j : ℕ) → (j ≡ k → ⊥) → list_any (λ e. brings (k + 1) (Got e)) (made_events_of j) ≡ false
-brings-other k j ne = rw (word-test (λ e. brings (k + 1) (Got e)) (is_even j) false j (made_moment j) refl refl, ne_eqb (j + 1) (k + 1) (λ same. ne (omega arith))) refl
+brings-other k j ne =
+    rw (word-test (λ e. brings (k + 1) (Got e)) (is_even j) false j (made_moment j) refl refl, ne_eqb (j + 1) (k + 1) (λ same. ne (omega arith))) refl
 
-bound-row : (n k : ℕ) (q : Record) → Here n q → k < n → Behind k (events.InUse k 0 ∷ events.Moment (made_moment k) ∷ []) q → fits_row (made_plan n) q (events.Bound k 0 (k + 1)) ≡ true
+bound-row : (n k : ℕ) (q : Record) → Here n q → k < n → Behind k (events.InUse k 0 ∷ events.Moment (made_moment k) ∷ []) q
+    → fits_row (made_plan n) q (events.Bound k 0 (k + 1)) ≡ true
 bound-row n k q here lt cut =
     let front : List Event = events.InUse k 0 ∷ events.Moment (made_moment k) ∷ [] in
     let free : came q (is_bound_at k) ≡ false = on-behind (is_bound_at k) k front q cut (bound-on k) refl in
     let new : has (brings (k + 1)) q ≡ false =
-    has-came (brings (k + 1)) (λ a. refl) q ∙ came-behind (λ e. brings (k + 1) (Got e)) k front q cut ∙ or_from _ _ (none-to (λ e. brings (k + 1) (Got e)) k (λ j below. brings-other k j (λ same. omega (arith, same, below)))) refl in
-    and_from _ _ (bind-open n k q here.few lt here.going here.asks here.odd here.unsigned (work-behind n k front q here lt cut) free (in-use-rested k (now q) q cut (now-behind k front q cut))) (not_from_false _ new)
+    has-came (brings (k + 1)) (λ a. refl) q ∙ came-behind (λ e. brings (k + 1) (Got e)) k front q cut
+    ∙ or_from _ _ (none-to (λ e. brings (k + 1) (Got e)) k (λ j below. brings-other k j (λ same. omega (arith, same, below)))) refl in
+    and_from _ _
+    (bind-open n k q here.few lt here.going here.asks here.odd here.unsigned (work-behind n k front q here lt cut) free
+    (in-use-rested k (now q) q cut (now-behind k front q cut))) (not_from_false _ new)
 
-word-row : (n k : ℕ) (q : Record) → Here n q → k < n → Behind k (events.InUse k 0 ∷ events.Moment (made_moment k) ∷ events.Bound k 0 (k + 1) ∷ []) q → fits_row (made_plan n) q (made_word k) ≡ true
+word-row : (n k : ℕ) (q : Record) → Here n q → k < n → Behind k (events.InUse k 0 ∷ events.Moment (made_moment k) ∷ events.Bound k 0 (k + 1) ∷ []) q
+    → fits_row (made_plan n) q (made_word k) ≡ true
 word-row n k q here lt cut = by (is_even k) refl
   where
     front : List Event
@@ -153,7 +168,8 @@ word-row n k q here lt cut = by (is_even k) refl
     by : (b : Bool) → is_even k ≡ b → fits_row (made_plan n) q (cond b (events.Moment (made_moment k)) (events.Ready k)) ≡ true
     by true even = let at : now q ≡ made_moment k = now-behind k front q cut in le-leb (now q) (made_moment k) (omega arith)
     by false odd =
-        let unsaid : has (is_ready_event k) q ≡ false = has-came (is_ready_event k) (λ a. refl) q ∙ on-behind (λ e. is_ready_event k (Got e)) k front q cut (ready-on k) refl in
+        let unsaid : has (is_ready_event k) q ≡ false =
+        has-came (is_ready_event k) (λ a. refl) q ∙ on-behind (λ e. is_ready_event k (Got e)) k front q cut (ready-on k) refl in
         and_from _ _ (and_from _ _ (kind-odd n k lt odd) (started-behind n k front q here lt cut)) (not_from_false _ unsaid)
 
 pub start-row : (n : ℕ) (q : Record) (e : Event) → Here n q → InStart n (events_of q) e → fits_row (made_plan n) q e ≡ true
@@ -185,20 +201,25 @@ met c (Got e ∷ q) h = one e (or_cases (came q (is_met c)) _ (sym (list_any-app
     test : Arrival → Bool
     test x = x.number == c && not (is_known x.peer)
 
-    either : (x : Event) → list_any test (arrivals (Got x ∷ q)) ≡ list_any test (arrivals q) → is_met c x ≡ false → (came q (is_met c) ≡ true) ⊎ ((is_met c x || false) ≡ true) → (came q (is_met c) ≡ true → list_any test (arrivals q) ≡ true) → list_any test (arrivals (Got x ∷ q)) ≡ true
+    either : (x : Event) → list_any test (arrivals (Got x ∷ q)) ≡ list_any test (arrivals q) → is_met c x ≡ false
+        → (came q (is_met c) ≡ true) ⊎ ((is_met c x || false) ≡ true) → (came q (is_met c) ≡ true → list_any test (arrivals q) ≡ true)
+        → list_any test (arrivals (Got x ∷ q)) ≡ true
     either x same none (inl before) later = same ∙ later before
     either x same none (inr here) later = absurd (both_ways _ none (plain-true _ here))
 
-    one : (x : Event) → (came q (is_met c) ≡ true) ⊎ ((is_met c x || false) ≡ true) → (came q (is_met c) ≡ true → list_any test (arrivals q) ≡ true) → list_any test (arrivals (Got x ∷ q)) ≡ true
+    one : (x : Event) → (came q (is_met c) ≡ true) ⊎ ((is_met c x || false) ≡ true) → (came q (is_met c) ≡ true → list_any test (arrivals q) ≡ true)
+        → list_any test (arrivals (Got x ∷ q)) ≡ true
     one (events.Arrived s i m peer) (inl before) later = or_right _ _ (later before)
     one (events.Arrived s i m peer) (inr here) later = or_left _ _ (plain-true _ here)
     one x found later = either x refl refl found later
 
-number-in : (c : ℕ) (xs : List Arrival) → list_any (λ (x : Arrival). x.number == c && not (is_known x.peer)) xs ≡ true → list_any (λ m. m == c) (map (λ (x : Arrival). x.number) xs) ≡ true
+number-in : (c : ℕ) (xs : List Arrival) → list_any (λ (x : Arrival). x.number == c && not (is_known x.peer)) xs ≡ true
+    → list_any (λ m. m == c) (map (λ (x : Arrival). x.number) xs) ≡ true
 number-in c [] h = absurd (both_ways false refl h)
 number-in c (x ∷ xs) h =
     elim (or_cases (x.number == c && not (is_known x.peer)) (list_any (λ (y : Arrival). y.number == c && not (is_known y.peer)) xs) h) [
-      | inl here ↦ or_left (x.number == c) (list_any (λ m. m == c) (map (λ (y : Arrival). y.number) xs)) (and_parts (x.number == c) (not (is_known x.peer)) here).0
+      | inl here ↦
+          or_left (x.number == c) (list_any (λ m. m == c) (map (λ (y : Arrival). y.number) xs)) (and_parts (x.number == c) (not (is_known x.peer)) here).0
       | inr later ↦ or_right (x.number == c) (list_any (λ m. m == c) (map (λ (y : Arrival). y.number) xs)) (number-in c xs later)
     ]
 
@@ -206,7 +227,9 @@ kept-in : (c : ℕ) (g : ℕ → Bool) (xs : List ℕ) → g c ≡ true → list
 kept-in c g [] good h = absurd (both_ways false refl h)
 kept-in c g (x ∷ xs) good h = by (g x) refl (or_cases (x == c) (list_any (λ m. m == c) xs) h) (kept-in c g xs good)
   where
-    by : (b : Bool) → g x ≡ b → ((x == c) ≡ true) ⊎ (list_any (λ m. m == c) xs ≡ true) → (list_any (λ m. m == c) xs ≡ true → list_any (λ m. m == c) (filter g xs) ≡ true) → list_any (λ m. m == c) (cond b (x ∷ filter g xs) (filter g xs)) ≡ true
+    by : (b : Bool) → g x ≡ b → ((x == c) ≡ true) ⊎ (list_any (λ m. m == c) xs ≡ true)
+        → (list_any (λ m. m == c) xs ≡ true → list_any (λ m. m == c) (filter g xs) ≡ true)
+        → list_any (λ m. m == c) (cond b (x ∷ filter g xs) (filter g xs)) ≡ true
     by true is (inl here) later = or_left _ _ here
     by true is (inr more) later = or_right _ _ (later more)
     by false is (inl here) later = absurd (both_ways (g x) is (ap g (eqb-true x c here) ∙ good))
@@ -256,7 +279,8 @@ told-of p q x right unknown =
 
 told-met : (n c : ℕ) (q : Record) → Here n q → came q (is_met c) ≡ true → Told-of (made_plan n) q c
 told-met n c q here h =
-    let x = both-any (connection_right (made_plan n) q) (λ (x : Arrival). x.number == c && not (is_known x.peer)) (arrivals q) here.going.connections.each (met c q h) in
+    let x = both-any (connection_right (made_plan n) q) (λ (x : Arrival). x.number == c && not (is_known x.peer)) (arrivals q) here.going.connections.each
+    (met c q h) in
     let parts = and_parts (x.0.number == c) _ x.2 in
     subst (Told-of (made_plan n) q) (eqb-true x.0.number c parts.0) (told-of (made_plan n) q x.0 x.1 (by (is_known x.0.peer) parts.1))
   where
@@ -277,10 +301,12 @@ of-start : (c k : ℕ) → list_any (is_of c) (made_start k) ≡ false
 of-start c k = rw (word-test (is_of c) (is_even k) false k (made_moment k) refl refl) refl
 
 -- a test of the connection's own events
-of-met : (t : Event → Bool) (n k c : ℕ) (earlier front : List Event) (q : Record) → Met n k c earlier front q → ((e : Event) → t e ≡ true → is_of c e ≡ true) → came q t ≡ list_any t front
+of-met : (t : Event → Bool) (n k c : ℕ) (earlier front : List Event) (q : Record) → Met n k c earlier front q → ((e : Event) → t e ≡ true → is_of c e ≡ true)
+    → came q t ≡ list_any t front
 of-met t n k c earlier front q m f =
     came-behind t k (made_start k ++ (earlier ++ front)) q m.cut
-    ∙ ap (λ (b : Bool). b || list_any t (made_start k ++ (earlier ++ front))) (none-to t k (λ j lt. any-implied t (is_of c) f (made_events_of j) (of-other c j (let late = m.late in omega arith))))
+    ∙ ap (λ (b : Bool). b || list_any t (made_start k ++ (earlier ++ front)))
+    (none-to t k (λ j lt. any-implied t (is_of c) f (made_events_of j) (of-other c j (let late = m.late in omega arith))))
     ∙ list_any-append t (made_start k) (earlier ++ front)
     ∙ ap (λ (b : Bool). b || list_any t (earlier ++ front)) (any-implied t (is_of c) f (made_start k) (of-start c k))
     ∙ list_any-append t earlier front
@@ -319,16 +345,23 @@ shaken-as-of c e h = absurd cc
 loops-none : (p : Plan) (s i : ℕ) (q : Record) → came q is_odd ≡ false → ended_loops p q s i ≡ 0
 loops-none p s i [] h = refl
 loops-none p s i (Told a ∷ q) h = loops-none p s i q h
-loops-none p s i (Got e ∷ q) h = one e (or_parts (came q is_odd) _ (sym (list_any-append is_odd (events_of q) (e ∷ [])) ∙ h)).1 (loops-none p s i q (or_parts (came q is_odd) _ (sym (list_any-append is_odd (events_of q) (e ∷ [])) ∙ h)).0)
+loops-none p s i (Got e ∷ q) h =
+    one e (or_parts (came q is_odd) _ (sym (list_any-append is_odd (events_of q) (e ∷ [])) ∙ h)).1
+    (loops-none p s i q (or_parts (came q is_odd) _ (sym (list_any-append is_odd (events_of q) (e ∷ [])) ∙ h)).0)
   where
     one : (x : Event) → (is_odd x || false) ≡ false → ended_loops p q s i ≡ 0 → ended_loops p (Got x ∷ q) s i ≡ 0
     one (events.LoopEnded t k j) o m = absurd cc
     one x o m = m
 
-arrived-row : (n k c : ℕ) (earlier : List Event) (q : Record) → Here n q → Met n k c earlier [] q → fits_row (made_plan n) q (events.Arrived k 0 c peers.Unknown) ≡ true
+arrived-row : (n k c : ℕ) (earlier : List Event) (q : Record) → Here n q → Met n k c earlier [] q
+    → fits_row (made_plan n) q (events.Arrived k 0 c peers.Unknown) ≡ true
 arrived-row n k c earlier q here m =
     let rest : List Event = made_start k ++ (earlier ++ []) in
-    let bound : came q (is_bound_at k) ≡ true = came-behind (is_bound_at k) k rest q m.cut ∙ or_right (list_any (is_bound_at k) (made_events_to k)) (list_any (is_bound_at k) rest) (list_any-append (is_bound_at k) (made_start k) (earlier ++ []) ∙ or_left (list_any (is_bound_at k) (made_start k)) (list_any (is_bound_at k) (earlier ++ [])) (bound-start k)) in
+    let bound : came q (is_bound_at k) ≡ true =
+    came-behind (is_bound_at k) k rest q m.cut
+    ∙ or_right (list_any (is_bound_at k) (made_events_to k)) (list_any (is_bound_at k) rest)
+    (list_any-append (is_bound_at k) (made_start k) (earlier ++ [])
+    ∙ or_left (list_any (is_bound_at k) (made_start k)) (list_any (is_bound_at k) (earlier ++ [])) (bound-start k)) in
     let held : is_held (made_plan n) q k 0 ≡ true = lt-ltb 0 _ (held-some n k q here.few m.below here.odd bound) in
     let serving : serves (made_plan n) q k ≡ true = and_from _ _ (work-behind n k rest q here m.below m.cut) (rw (numbers-at n k m.below, held) refl) in
     let endpoint : is_endpoint (made_plan n) k 0 ≡ true = rw (endpoints-at n k m.below) refl in
@@ -344,15 +377,18 @@ came-met n k c earlier front q m =
     let here : (c == c && true) ≡ true = rw (eq-eqb c c refl) refl in
     of-met (is_met c) n k c earlier (events.Arrived k 0 c peers.Unknown ∷ front) q m (met-of c) ∙ or_left (c == c && true) (list_any (is_met c) front) here
 
-set-row : (n k c : ℕ) (earlier : List Event) (q : Record) → Here n q → Met n k c earlier (events.Arrived k 0 c peers.Unknown ∷ []) q → fits_row (made_plan n) q (events.Set c true) ≡ true
+set-row : (n k c : ℕ) (earlier : List Event) (q : Record) → Here n q → Met n k c earlier (events.Arrived k 0 c peers.Unknown ∷ []) q
+    → fits_row (made_plan n) q (events.Set c true) ≡ true
 set-row n k c earlier q here m =
     open-from (is_settings c) (is_set c) q (told-met n c q here (came-met n k c earlier [] q m)).settings
     (has-came (is_set c) (λ a. refl) q ∙ of-met (λ e. is_set c (Got e)) n k c earlier (events.Arrived k 0 c peers.Unknown ∷ []) q m (set-of c))
 
-shaken-row : (n k c : ℕ) (earlier : List Event) (q : Record) → Here n q → Met n k c earlier (events.Arrived k 0 c peers.Unknown ∷ events.Set c true ∷ []) q → fits_row (made_plan n) q (events.Shaken c true) ≡ true
+shaken-row : (n k c : ℕ) (earlier : List Event) (q : Record) → Here n q → Met n k c earlier (events.Arrived k 0 c peers.Unknown ∷ events.Set c true ∷ []) q
+    → fits_row (made_plan n) q (events.Shaken c true) ≡ true
 shaken-row n k c earlier q here m =
     let front : List Event = events.Arrived k 0 c peers.Unknown ∷ events.Set c true ∷ [] in
-    let set : has (is_set_as true c) q ≡ true = has-came (is_set_as true c) (λ a. refl) q ∙ of-met (λ e. is_set_as true c (Got e)) n k c earlier front q m (set-as-of c) ∙ rw (eq-eqb c c refl) refl in
+    let set : has (is_set_as true c) q ≡ true =
+    has-came (is_set_as true c) (λ a. refl) q ∙ of-met (λ e. is_set_as true c (Got e)) n k c earlier front q m (set-as-of c) ∙ rw (eq-eqb c c refl) refl in
     open-from (is_handshake c) (is_shaken c) q ((told-met n c q here (came-met n k c earlier (events.Set c true ∷ []) q m)).handshake set)
     (has-came (is_shaken c) (λ a. refl) q ∙ of-met (λ e. is_shaken c (Got e)) n k c earlier front q m (shaken-of c))
 
@@ -360,19 +396,26 @@ cut-ending : (c : ℕ) (e : Entry) → is_cut c e ≡ true → is_ending e ≡ t
 cut-ending c (Told (actions.Cut m)) h = refl
 cut-ending c e h = absurd cc
 
-finished-row : (n k c : ℕ) (earlier : List Event) (q : Record) → Here n q → Met n k c earlier (events.Arrived k 0 c peers.Unknown ∷ events.Set c true ∷ events.Shaken c true ∷ []) q → fits_row (made_plan n) q (events.Finished c) ≡ true
+finished-row : (n k c : ℕ) (earlier : List Event) (q : Record) → Here n q
+    → Met n k c earlier (events.Arrived k 0 c peers.Unknown ∷ events.Set c true ∷ events.Shaken c true ∷ []) q
+    → fits_row (made_plan n) q (events.Finished c) ≡ true
 finished-row n k c earlier q here m =
     let front : List Event = events.Arrived k 0 c peers.Unknown ∷ events.Set c true ∷ events.Shaken c true ∷ [] in
     let arrived : came q (is_met c) ≡ true = came-met n k c earlier (events.Set c true ∷ events.Shaken c true ∷ []) q m in
     let told = told-met n c q here arrived in
-    let shaken : has (is_shaken_as true c) q ≡ true = has-came (is_shaken_as true c) (λ a. refl) q ∙ of-met (λ e. is_shaken_as true c (Got e)) n k c earlier front q m (shaken-as-of c) ∙ rw (eq-eqb c c refl) refl in
+    let shaken : has (is_shaken_as true c) q ≡ true =
+    has-came (is_shaken_as true c) (λ a. refl) q ∙ of-met (λ e. is_shaken_as true c (Got e)) n k c earlier front q m (shaken-as-of c)
+    ∙ rw (eq-eqb c c refl) refl in
     let unset : has (is_set_as false c) q ≡ false = has-came (is_set_as false c) (λ a. refl) q ∙ came-none (λ e. is_set_as false c (Got e)) q f here.odd in
-    let unshaken : has (is_shaken_as false c) q ≡ false = has-came (is_shaken_as false c) (λ a. refl) q ∙ came-none (λ e. is_shaken_as false c (Got e)) q g here.odd in
+    let unshaken : has (is_shaken_as false c) q ≡ false =
+    has-came (is_shaken_as false c) (λ a. refl) q ∙ came-none (λ e. is_shaken_as false c (Got e)) q g here.odd in
     let dropped : has (is_drop c) q ≡ false = told.kept (or_from _ _ unset unshaken) in
-    let unfinished : has (is_finished c) q ≡ false = has-came (is_finished c) (λ a. refl) q ∙ of-met (λ e. is_finished c (Got e)) n k c earlier front q m (finished-of c) in
+    let unfinished : has (is_finished c) q ≡ false =
+    has-came (is_finished c) (λ a. refl) q ∙ of-met (λ e. is_finished c (Got e)) n k c earlier front q m (finished-of c) in
     let uncut : has (is_cut c) q ≡ false = has-implied (is_cut c) is_ending (cut-ending c) q here.going.no_end in
     let on : (goes_on q c && not (has (is_cut c) q)) ≡ true = rw (told.unrefused, dropped, unfinished, uncut) refl in
-    and_from _ _ (told.served shaken) (kept-in c (λ d. goes_on q d && not (has (is_cut d) q)) (arrived_numbers q) on (number-in c (arrivals q) (met c q arrived)))
+    and_from _ _ (told.served shaken)
+    (kept-in c (λ d. goes_on q d && not (has (is_cut d) q)) (arrived_numbers q) on (number-in c (arrivals q) (met c q arrived)))
   where
     f : (e : Event) → is_usual e ≡ true → is_set_as false c (Got e) ≡ false
     f (events.Set x true) u = refl
@@ -393,8 +436,10 @@ connection-row n q e here at =
       | inr b ↦ elim b [
         | inl d ↦ ap (fits_row (made_plan n) q) d.1 ∙ set-row n k c at.earlier q here (is (events.Arrived k 0 c peers.Unknown ∷ []) d.0)
         | inr f ↦ elim f [
-          | inl g ↦ ap (fits_row (made_plan n) q) g.1 ∙ shaken-row n k c at.earlier q here (is (events.Arrived k 0 c peers.Unknown ∷ events.Set c true ∷ []) g.0)
-          | inr h ↦ ap (fits_row (made_plan n) q) h.1 ∙ finished-row n k c at.earlier q here (is (events.Arrived k 0 c peers.Unknown ∷ events.Set c true ∷ events.Shaken c true ∷ []) h.0)
+          | inl g ↦ ap (fits_row (made_plan n) q) g.1
+              ∙ shaken-row n k c at.earlier q here (is (events.Arrived k 0 c peers.Unknown ∷ events.Set c true ∷ []) g.0)
+          | inr h ↦ ap (fits_row (made_plan n) q) h.1
+              ∙ finished-row n k c at.earlier q here (is (events.Arrived k 0 c peers.Unknown ∷ events.Set c true ∷ events.Shaken c true ∷ []) h.0)
         ]
       ]
     ]

@@ -40,7 +40,8 @@ done n r few run =
     let front = front_of (made_events n) (events_of r) run.left run.takes.taken in
     record { few = few; served = served.served; right = served.right; events = all-events n r front.0 served.served front.1 }
 
-prints : (n : ℕ) (out : List ℕ) (r : Record) → n ≤ 1024 → IsRunOf no_flags (made_parts n) Served r → out ≡ summary r ++ status_line (Run Served) → PrintsCounts n out r
+prints : (n : ℕ) (out : List ℕ) (r : Record) → n ≤ 1024 → IsRunOf no_flags (made_parts n) Served r → out ≡ summary r ++ status_line (Run Served)
+    → PrintsCounts n out r
 prints n out r few run printed =
     let d = done n r few run in
     let starts = count-starts n r d in

@@ -25,7 +25,8 @@ signal-event (events.Signal kind) h = refl
 signal-event e h = absurd cc
 
 -- before each event
-here-of : (n : ℕ) (q : Record) (e : Event) (more : List Event) → n ≤ 1024 → Right (made_plan n) q → has_ended (made_plan n) q ≡ false → made_events n ≡ events_of q ++ e ∷ more → Here n q
+here-of : (n : ℕ) (q : Record) (e : Event) (more : List Event) → n ≤ 1024 → Right (made_plan n) q → has_ended (made_plan n) q ≡ false
+    → made_events n ≡ events_of q ++ e ∷ more → Here n q
 here-of n q e more few right goes h =
     let front = front-of n (events_of q) e more (sym h) in
     record {
@@ -33,11 +34,13 @@ here-of n q e more few right goes h =
       going = MatchBool-at_false (EndedRight (made_plan n) q) (OpenRight (made_plan n) q) goes right.settled.0;
       asks = right.asks.in_turn;
       odd = usual-came (events_of q) (front-usual n (events_of q) front.0 front.1);
-      unsigned = has-came is_signal (λ a. refl) q ∙ came-implied (λ x. is_signal (Got x)) is_signal_event q signal-event (front-unsigned n (events_of q) front.0 front.1);
+      unsigned = has-came is_signal (λ a. refl) q
+          ∙ came-implied (λ x. is_signal (Got x)) is_signal_event q signal-event (front-unsigned n (events_of q) front.0 front.1);
       once = λ s. front-in-use n s (events_of q) front.0 front.1;
     }
 
-pub made-fits : (n : ℕ) (q : Record) (e : Event) (more : List Event) → n ≤ 1024 → Right (made_plan n) q → has_ended (made_plan n) q ≡ false → made_events n ≡ events_of q ++ e ∷ more → Fits (made_plan n) q e
+pub made-fits : (n : ℕ) (q : Record) (e : Event) (more : List Event) → n ≤ 1024 → Right (made_plan n) q → has_ended (made_plan n) q ≡ false
+    → made_events n ≡ events_of q ++ e ∷ more → Fits (made_plan n) q e
 made-fits n q e more few right goes h =
     let here = here-of n q e more few right goes h in
     and_from _ _ (not_from_false _ goes) (elim (place-of n (events_of q) e more (sym h)) [
@@ -49,7 +52,8 @@ made-fits n q e more few right goes h =
     ])
 
 -- the run ends by its shutdown alone
-pub made-goes : (n : ℕ) (q : Record) (more : List Event) → made_events n ≡ events_of q ++ more → step_end (made_plan n) q ≡ cond (waits_are_over (made_plan n) q) Served On
+pub made-goes : (n : ℕ) (q : Record) (more : List Event) → made_events n ≡ events_of q ++ more
+    → step_end (made_plan n) q ≡ cond (waits_are_over (made_plan n) q) Served On
 made-goes n q more h =
     let odd : came q is_odd ≡ false = usual-came (events_of q) (all-usual n (events_of q) more h) in
     let parent : has is_side_parent q ≡ false = has-came is_side_parent (λ a. refl) q ∙ came-none (λ e. is_side_parent (Got e)) q f odd in
@@ -78,8 +82,10 @@ made-goes n q more h =
 pub made-passes : (n : ℕ) (q : Record) → made_events n ≡ events_of q → waits_are_over (made_plan n) q ≡ true
 made-passes n q h =
     let last = last-event q (made_events_to n) (events.Signal FastShutdown) (sym h) in
-    let none : signal_of last.before ≡ None = no-signal last.before (ap (λ xs. came-in xs) last.events ∙ front-unsigned n (made_events_to n) [] (sym (append-nil (made_events_to n)))) in
-    let kind : signal_of q ≡ Some FastShutdown = ap signal_of last.cut ∙ signal-tell (Got (events.Signal FastShutdown) ∷ last.before) last.told ∙ ap (λ o. first_or o FastShutdown) none in
+    let none : signal_of last.before ≡ None =
+    no-signal last.before (ap (λ xs. came-in xs) last.events ∙ front-unsigned n (made_events_to n) [] (sym (append-nil (made_events_to n)))) in
+    let kind : signal_of q ≡ Some FastShutdown =
+    ap signal_of last.cut ∙ signal-tell (Got (events.Signal FastShutdown) ∷ last.before) last.told ∙ ap (λ o. first_or o FastShutdown) none in
     or_right (has_cut q) (has_passed_by (made_plan n) q (signal_of q)) (ap (has_passed_by (made_plan n) q) kind)
   where
     came-in : List Event → Bool

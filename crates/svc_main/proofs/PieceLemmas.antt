@@ -12,9 +12,11 @@ use Rattle.svc_base.specs.Words.{is_feed}
 abbrev pub none_of : {X : Type 0} → (X → Bool) → List X → Bool
 none_of p xs = list_all (λ x. not (p x)) xs
 
-none_or : {X : Type 0} (p q : X → Bool) (x : X) (parts : List (List X)) → p x ≡ false → (p x || q x) ≡ true → list_all (list_all q) parts ≡ true → list_all (list_all q) (onto_first x parts) ≡ true
+none_or : {X : Type 0} (p q : X → Bool) (x : X) (parts : List (List X)) → p x ≡ false → (p x || q x) ≡ true → list_all (list_all q) parts ≡ true
+    → list_all (list_all q) (onto_first x parts) ≡ true
 none_or p q x [] off one h = (let here = rw off at one in rw here refl)
-none_or p q x (part ∷ parts) off one h = (let here = rw off at one in let rest = and_parts (list_all q part) (list_all (list_all q) parts) h in rw (here, rest.0) rest.1)
+none_or p q x (part ∷ parts) off one h =
+    (let here = rw off at one in let rest = and_parts (list_all q part) (list_all (list_all q) parts) h in rw (here, rest.0) rest.1)
 
 -- what is so of each element that isn't cut at is so of all elements of the pieces
 pub pieces_all : {X : Type 0} (p q : X → Bool) (xs : List X) → list_all (λ x. p x || q x) xs ≡ true → list_all (list_all q) (slice_split p xs) ≡ true
@@ -67,7 +69,8 @@ lines_keep q (x ∷ []) h = elim (cases_Bool (length x == 0)) [
 ]
 lines_keep q (x ∷ y ∷ more) h =
     let rest = and_parts (list_all q x) (list_all (list_all q) (y ∷ more)) h in
-    and_from (list_all q (strip_carriage_return x)) (list_all (list_all q) (lines_of_parts (y ∷ more))) (strip_keeps q x rest.0) (lines_keep q (y ∷ more) rest.1)
+    and_from (list_all q (strip_carriage_return x)) (list_all (list_all q) (lines_of_parts (y ∷ more))) (strip_keeps q x rest.0)
+    (lines_keep q (y ∷ more) rest.1)
 
 -- no line has one
 pub lines_none : (bytes : List ℕ) → list_all (none_of is_feed) (lines bytes) ≡ true

@@ -40,20 +40,25 @@ ends_by p turns given answer r same h = subst (λ (x : Result Outcome RunError).
 
 -- the filters of a script answer what its lines say
 pub one_verdict : (blocked : List (List IpNumber)) (filters : List ScriptFilter) (number : ℕ) (x : Option PeerAddr) → map blocked_by filters ≡ blocked
-    → unwrap_or (option_map (λ (f : ScriptFilter). not (is_blocked f.blocked x)) (slice_get filters number)) true ≡ not (is_blocked (unwrap_or (slice_get blocked number) []) x)
-one_verdict blocked filters number x are = at filters number ∙ ap (λ (lists : List (List IpNumber)). not (is_blocked (unwrap_or (slice_get lists number) []) x)) are
+    → unwrap_or (option_map (λ (f : ScriptFilter). not (is_blocked f.blocked x)) (slice_get filters number)) true
+    ≡ not (is_blocked (unwrap_or (slice_get blocked number) []) x)
+one_verdict blocked filters number x are =
+    at filters number ∙ ap (λ (lists : List (List IpNumber)). not (is_blocked (unwrap_or (slice_get lists number) []) x)) are
   where
     bare : (y : Option PeerAddr) → true ≡ not (is_blocked [] y)
     bare None = refl
     bare (Some peer) = refl
 
-    at : (fs : List ScriptFilter) (n : ℕ) → unwrap_or (option_map (λ (f : ScriptFilter). not (is_blocked f.blocked x)) (slice_get fs n)) true ≡ not (is_blocked (unwrap_or (slice_get (map blocked_by fs) n) []) x)
+    at : (fs : List ScriptFilter) (n : ℕ)
+        → unwrap_or (option_map (λ (f : ScriptFilter). not (is_blocked f.blocked x)) (slice_get fs n)) true
+        ≡ not (is_blocked (unwrap_or (slice_get (map blocked_by fs) n) []) x)
     at [] n = bare x
     at (f ∷ fs) zero = refl
     at (f ∷ fs) (suc n) = at fs n
 
 -- what stands of a run of the script's plan
-pub tells_by : (opt : Opt) (parts : Parts) (p : Plan) (filters : List ScriptFilter) (verdict : Verdict) (turns : ℕ) (given answer : Result Outcome RunError) (a : Account) → given ≡ answer → p ≡ plan_of opt parts
+pub tells_by : (opt : Opt) (parts : Parts) (p : Plan) (filters : List ScriptFilter) (verdict : Verdict) (turns : ℕ) (given answer : Result Outcome RunError)
+    (a : Account) → given ≡ answer → p ≡ plan_of opt parts
     → ((number : ℕ) (asked : List (Option PeerAddr)) (x : Option PeerAddr) → verdict number asked x ≡ script_verdict parts.services number asked x)
     → RunTells verdict p turns given a → TellsRun parts.services (plan_of opt parts) turns answer a.entries
 tells_by opt parts p filters verdict turns given answer a same plan answers h =
@@ -63,20 +68,25 @@ tells_by opt parts p filters verdict turns given answer a same plan answers h =
       said = subst (λ (v : Verdict). EachEntry (λ e before. said_right v p e before ≡ true) a.entries) by_words h.said;
     })
 
-pub takes_by : (given answer : Result Outcome RunError) (r : Record) (before now : List Item) → given ≡ answer → RunTakes given r before now → RunTakes answer r before now
+pub takes_by : (given answer : Result Outcome RunError) (r : Record) (before now : List Item) → given ≡ answer → RunTakes given r before now
+    → RunTakes answer r before now
 takes_by given answer r before now same h = subst (λ (x : Result Outcome RunError). RunTakes x r before now) same h
 
 -- with fewer items than turns, the turns aren't spent
-pub turns_left : (p : Plan) (turns : ℕ) (r : Record) (before now : List Item) → RunEnds p turns (Err TurnsSpent) r → RunTakes (Err TurnsSpent) r before now → length before < turns → ⊥
+pub turns_left : (p : Plan) (turns : ℕ) (r : Record) (before now : List Item) → RunEnds p turns (Err TurnsSpent) r → RunTakes (Err TurnsSpent) r before now
+    → length before < turns → ⊥
 turns_left p turns r before now spent takes few =
-    let events : length (events_of r) ≡ length (events_of spent.0) = ap length (ap events_of spent.1.closed.closed ∙ events-tell spent.0 (closing_actions p spent.0 None)) in
+    let events : length (events_of r) ≡ length (events_of spent.0) =
+    ap length (ap events_of spent.1.closed.closed ∙ events-tell spent.0 (closing_actions p spent.0 None)) in
     let count : length (events_of spent.0) ≡ turns = spent.1.count in
     let all : length before ≡ length (map items.Event (events_of r) ++ now) = ap length takes.taken in
     omega (arith, events, count, all, length-append (map items.Event (events_of r)) now, length-map (events_of r) items.Event, few)
 
 -- the run of a script, by other names of its configuration, turns and items
-pub run_is : (opt : Opt) (parts : Parts) (end : RunEnd) (r : Record) (conf : ServerConf) (turns : ℕ) (before left : List Item) → conf ≡ merged opt parts.conf → Judges end conf → turns ≡ turns_of parts
-    → TellsRun parts.services (plan_of opt parts) turns (answer_of end) r → before ≡ parts.items → RunTakes (answer_of end) r before left → IsRunOf opt parts end r
+pub run_is : (opt : Opt) (parts : Parts) (end : RunEnd) (r : Record) (conf : ServerConf) (turns : ℕ) (before left : List Item) → conf ≡ merged opt parts.conf
+    → Judges end conf → turns ≡ turns_of parts
+    → TellsRun parts.services (plan_of opt parts) turns (answer_of end) r → before ≡ parts.items → RunTakes (answer_of end) r before left
+    → IsRunOf opt parts end r
 run_is opt parts end r conf turns before left configured judged counted tells ahead takes = record {
   judged = subst (Judges end) configured judged;
   tells = subst (λ (n : ℕ). TellsRun parts.services (plan_of opt parts) n (answer_of end) r) counted tells;
@@ -86,7 +96,8 @@ run_is opt parts end r conf turns before left configured judged counted tells ah
 
 -- where memory was found for the text of the record of a run
 pub ran_run : {E : Type 0} (opt : Opt) (parts : Parts) (end : RunEnd) (shown : List Entry) (r : Record) (result : Result Answer E)
-    → IfOk result (λ (a : Answer). (a.line ≡ Run end) × (string_bytes a.text ≡ text_of shown ++ status_line (Run end))) → OnOk result (All EntryFits shown × StatusFits (Run end))
+    → IfOk result (λ (a : Answer). (a.line ≡ Run end) × (string_bytes a.text ≡ text_of shown ++ status_line (Run end)))
+    → OnOk result (All EntryFits shown × StatusFits (Run end))
     → shown ≡ reverse r → IsRunOf opt parts end r → IfOk result (λ (a : Answer). (x : RunEnd) × (a.line ≡ Run x) × RanText opt parts x (string_bytes a.text))
 ran_run opt parts end shown r (Ok a) said numbers reversed run = (
   end,

@@ -18,10 +18,21 @@ of_left None read P e h = tt
 of_left (Some bytes) read P e h = subst P e h
 
 pub script_answer : (words : List (List ℕ)) (left : Option (List ℕ)) (read numbers : List ℕ) (opt : Opt) (parts : Parts) (line : StatusLine) (out : List ℕ)
-    → TakesWords words → opt ≡ flags_of words → IfSome left (λ bytes. read ≡ bytes) → length read ≤ 16777216 → script read ≡ Ok parts → AreLines (lines read) (length parts.services) numbers
+    → TakesWords words → opt ≡ flags_of words → IfSome left (λ bytes. read ≡ bytes) → length read ≤ 16777216 → script read ≡ Ok parts
+    → AreLines (lines read) (length parts.services) numbers
     → AnswersScript opt parts numbers line out → IsAnswer words left line out
 script_answer words left read numbers opt parts (Run end) out takes flags same short says places (edges, ran) =
-    inl (takes, (parts, (subst (λ (o : Opt). RanText o parts end out) flags ran, of_left left read (λ bytes. IsScript bytes parts) same (record { short = short; says = says; edges = edges }))))
+    inl (
+      takes,
+      (
+        parts,
+        (
+          subst (λ (o : Opt). RanText o parts end out) flags ran,
+          of_left left read (λ bytes. IsScript bytes parts) same
+              (record { short = short; says = says; edges = edges }),
+        ),
+      ),
+    )
 script_answer words left read numbers opt parts (Line n) out takes flags same short says places (printed, refusal) =
     let k : ℕ = refusal.0 in
     let place : IsLineOf (lines read) k n = subst (IsLineOf (lines read) k) (sym refusal.1.1) (places.each k refusal.1.0.here) in
@@ -34,15 +45,19 @@ if_ok P Q (Ok x) p f = f x p
 if_ok P Q (Err e) p f = tt
 
 -- the run of a script whose dependencies are sound answers it
-pub ran_answer : (opt : Opt) (parts : Parts) (numbers : List ℕ) (line : StatusLine) (out : List ℕ) → RefusesNone parts.services → (end : RunEnd) × (line ≡ Run end) × RanText opt parts end out → AnswersScript opt parts numbers line out
+pub ran_answer : (opt : Opt) (parts : Parts) (numbers : List ℕ) (line : StatusLine) (out : List ℕ) → RefusesNone parts.services
+    → (end : RunEnd) × (line ≡ Run end) × RanText opt parts end out → AnswersScript opt parts numbers line out
 ran_answer opt parts numbers line out edges (end, is, ran) = subst (λ (l : StatusLine). AnswersScript opt parts numbers l out) (sym is) (edges, ran)
 
 -- the run of the generator answers words that ask for it
-pub made_answer : (words : List (List ℕ)) (left : Option (List ℕ)) (n : ℕ) (line : StatusLine) (out : List ℕ) → made_size words ≡ Some n → (line ≡ Run Served) × CountsText n out → IsAnswer words left line out
+pub made_answer : (words : List (List ℕ)) (left : Option (List ℕ)) (n : ℕ) (line : StatusLine) (out : List ℕ) → made_size words ≡ Some n
+    → (line ≡ Run Served) × CountsText n out → IsAnswer words left line out
 made_answer words left n line out size (is, counts) = subst (λ (l : StatusLine). IsAnswer words left l out) (sym is) (inr (refl, (n, size, counts)))
 
-pub made_ends : (words : List (List ℕ)) (left : Option (List ℕ)) (n : ℕ) (line : StatusLine) → made_size words ≡ Some n → line ≡ Run Served → Ends words line left
-made_ends words left n line size is = subst (λ (l : StatusLine). Ends words l left) (sym is) (λ none. absurd (let never : ◌≡◌ {A = Option ℕ} (Some n) None = sym size ∙ none in cc))
+pub made_ends : (words : List (List ℕ)) (left : Option (List ℕ)) (n : ℕ) (line : StatusLine) → made_size words ≡ Some n → line ≡ Run Served
+    → Ends words line left
+made_ends words left n line size is =
+    subst (λ (l : StatusLine). Ends words l left) (sym is) (λ none. absurd (let never : ◌≡◌ {A = Option ℕ} (Some n) None = sym size ∙ none in cc))
 
 pub made_faults : (line : StatusLine) (before now : ℕ) → line ≡ Run Served → Faults line before now
 made_faults line before now is = subst (λ (l : StatusLine). Faults l before now) (sym is) tt
@@ -57,7 +72,8 @@ pub none_made : (words : List (List ℕ)) (n : ℕ) (P : Type 0) → made_size w
 none_made words n P none size = absurd (let never : ◌≡◌ {A = Option ℕ} (Some n) None = sym size ∙ none in cc)
 
 -- words that are refused get no other answer than that
-pub refused_words : (words : List (List ℕ)) (left : Option (List ℕ)) (line : StatusLine) (out : List ℕ) → RefusesWords words → IsAnswer words left line out → line ≡ Words
+pub refused_words : (words : List (List ℕ)) (left : Option (List ℕ)) (line : StatusLine) (out : List ℕ) → RefusesWords words → IsAnswer words left line out
+    → line ≡ Words
 refused_words words left Words out r a = refl
 refused_words words left (Line n) out r a = absurd (not_taken words r a.0)
 refused_words words left ReadFault out r a = absurd (not_taken words r a.0)
@@ -67,4 +83,5 @@ refused_words words left (Run end) out r (inr made) = none_made words made.1.0 (
 -- a list without elements has no words
 pub no_words : {X : Type 0} (f : X → List ℕ) (xs : List X) (empty : Bool) → empty ≡ (length xs == 0) → empty ≡ true → map f xs ≡ []
 no_words f [] empty is h = refl
-no_words f (x ∷ xs) empty is h = absurd (let long : (length (x ∷ xs) == 0) ≡ true = sym is ∙ h in let none : length (x ∷ xs) ≡ 0 = eqb-true (length (x ∷ xs)) 0 long in omega arith)
+no_words f (x ∷ xs) empty is h =
+    absurd (let long : (length (x ∷ xs) == 0) ≡ true = sym is ∙ h in let none : length (x ∷ xs) ≡ 0 = eqb-true (length (x ∷ xs)) 0 long in omega arith)

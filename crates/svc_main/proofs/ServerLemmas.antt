@@ -27,20 +27,24 @@ use Rattle.svc_main.specs.Generator.{made_services, made_parts, no_flags}
 -- ---- the plan
 
 -- a service depends on what the lines say
-same_depends : (services : List ServiceLine) (g : GraphData) (s : ℕ) → HasEdges g (length services) (edges_up_to services (length services)) → depends_of g s ≡ script.depends_of services s
+same_depends : (services : List ServiceLine) (g : GraphData) (s : ℕ) → HasEdges g (length services) (edges_up_to services (length services))
+    → depends_of g s ≡ script.depends_of services s
 same_depends services g s h =
     ap (λ (n : ℕ). filter (is_edge g s) (range_with_len 0 n)) h.count
     ∙ filter_agree (is_edge g s) (edges_up_to services (length services) s) (h.same s) (range_with_len 0 (length services))
 
-same_services : (services : List ServiceLine) (g : GraphData) (s : ℕ) (xs : List ServiceLine) → HasEdges g (length services) (edges_up_to services (length services))
+same_services : (services : List ServiceLine) (g : GraphData) (s : ℕ) (xs : List ServiceLine)
+    → HasEdges g (length services) (edges_up_to services (length services))
     → with_depends g s (answers_from services s xs) ≡ script.plans_from services s xs
 same_services services g s [] h = refl
 same_services services g s (x ∷ xs) h =
-    ap (λ (ds : List ℕ). record (answered (filter_number (take s services) x) x) { depends = ds } ∷ with_depends g (s + 1) (answers_from services (s + 1) xs)) (same_depends services g s h)
+    ap (λ (ds : List ℕ). record (answered (filter_number (take s services) x) x) { depends = ds } ∷ with_depends g (s + 1) (answers_from services (s + 1) xs))
+    (same_depends services g s h)
     ∙ ap (λ (more : List ServicePlan). script.service_plan services s x ∷ more) (same_services services g (s + 1) xs h)
 
 -- the server of a script is run by the plan of the script's parts with the flags
-pub same_plan : (opt : Opt) (parts : Parts) (conf : ServerConf) (options : Option Opt) (eager : Bool) (g : GraphData) (filters : List ScriptFilter) (answers : List ServicePlan) → IsServerOf opt parts conf options eager g filters answers
+pub same_plan : (opt : Opt) (parts : Parts) (conf : ServerConf) (options : Option Opt) (eager : Bool) (g : GraphData) (filters : List ScriptFilter)
+    (answers : List ServicePlan) → IsServerOf opt parts conf options eager g filters answers
     → plan_of conf options eager g answers ≡ script.plan_of opt parts
 same_plan opt parts conf options eager g filters answers h =
     ap (λ (x : ServerConf). plan_of x options eager g answers) h.configuration
@@ -50,20 +54,24 @@ same_plan opt parts conf options eager g filters answers h =
     ∙ ap (λ (x : List ServicePlan). record (script.plan_of opt parts) { services = x }) (same_services parts.services g 0 parts.services h.lines.edges)
 
 -- a server with the script's services that was configured is the script's
-pub server_is : (opt : Opt) (parts : Parts) (conf : ServerConf) (options : Option Opt) (before eager : Bool) (g h : GraphData) (filters others : List ScriptFilter) (answers more : List ServicePlan) → conf ≡ merged opt parts.conf → options ≡ Some opt
-    → before ≡ false → eager ≡ (before || parts.eager) → h ≡ g → others ≡ filters → more ≡ answers → HasLines parts.services (length parts.services) g filters answers → IsServerOf opt parts conf options eager h others more
+pub server_is : (opt : Opt) (parts : Parts) (conf : ServerConf) (options : Option Opt) (before eager : Bool) (g h : GraphData)
+    (filters others : List ScriptFilter) (answers more : List ServicePlan) → conf ≡ merged opt parts.conf → options ≡ Some opt
+    → before ≡ false → eager ≡ (before || parts.eager) → h ≡ g → others ≡ filters → more ≡ answers
+    → HasLines parts.services (length parts.services) g filters answers → IsServerOf opt parts conf options eager h others more
 server_is opt parts conf options before eager g h filters others answers more c o b e same_graph same_filters same_answers lines = record {
   configuration = c;
   flags = o;
   boots_first = e ∙ ap (λ (x : Bool). x || parts.eager) b;
   lines = subst (λ (x : GraphData). HasLines parts.services (length parts.services) x others more) (sym same_graph)
-      (subst (λ (fs : List ScriptFilter). HasLines parts.services (length parts.services) g fs more) (sym same_filters) (subst (HasLines parts.services (length parts.services) g filters) (sym same_answers) lines));
+      (subst (λ (fs : List ScriptFilter). HasLines parts.services (length parts.services) g fs more) (sym same_filters)
+      (subst (HasLines parts.services (length parts.services) g filters) (sym same_answers) lines));
 }
 
 -- ---- the graph and the services
 
 -- only edges were added
-pub with_edges : (lines : List ServiceLine) (g h : GraphData) (filters : List ScriptFilter) (answers : List ServicePlan) → HasLines lines 0 g filters answers → HasEdges h (length lines) (edges_up_to lines (length lines)) → h.names ≡ g.names
+pub with_edges : (lines : List ServiceLine) (g h : GraphData) (filters : List ScriptFilter) (answers : List ServicePlan) → HasLines lines 0 g filters answers
+    → HasEdges h (length lines) (edges_up_to lines (length lines)) → h.names ≡ g.names
     → HasLines lines (length lines) h filters answers
 with_edges lines g h filters answers old edges names = record {
   answers_are = old.answers_are;
@@ -82,7 +90,8 @@ pub record HasFirst (lines : List ServiceLine) (k : ℕ) (g : GraphData) (filter
   pub sound : IsSound g (length filters) answers
 
 -- one more line behind these
-answers_push : (lines : List ServiceLine) (s : ℕ) (xs : List ServiceLine) (x : ServiceLine) → answers_from lines s (xs ++ x ∷ []) ≡ answers_from lines s xs ++ answered (filter_number (take (s + length xs) lines) x) x ∷ []
+answers_push : (lines : List ServiceLine) (s : ℕ) (xs : List ServiceLine) (x : ServiceLine)
+    → answers_from lines s (xs ++ x ∷ []) ≡ answers_from lines s xs ++ answered (filter_number (take (s + length xs) lines) x) x ∷ []
 answers_push lines s [] x = ap (λ (n : ℕ). answered (filter_number (take n lines) x) x ∷ []) (sym (add-zero s))
 answers_push lines s (y ∷ ys) x =
     let e : (s + 1) + length ys ≡ s + length (y ∷ ys) = omega arith in
@@ -94,10 +103,13 @@ answers_more : (lines : List ServiceLine) (k : ℕ) (line : ServiceLine) → k <
 answers_more lines k line lt read =
     let cut : take (k + 1) lines ≡ take k lines ++ line ∷ [] = take_more lines k line lt ∙ ap (λ (x : ServiceLine). take k lines ++ x ∷ []) (sym read) in
     let count : 0 + length (take k lines) ≡ k = zero-add (length (take k lines)) ∙ length-take-le k lines (omega arith) in
-    ap (answers_from lines 0) cut ∙ answers_push lines 0 (take k lines) line ∙ ap (λ (n : ℕ). answers_from lines 0 (take k lines) ++ answered (filter_number (take n lines) line) line ∷ []) count
+    ap (answers_from lines 0) cut ∙ answers_push lines 0 (take k lines) line
+    ∙ ap (λ (n : ℕ). answers_from lines 0 (take k lines) ++ answered (filter_number (take n lines) line) line ∷ []) count
 
-pub first_none : {S : Type 0} (answer : S → ServicePlan) (lines : List ServiceLine) (g : GraphData) (old filters : List ScriptFilter) (services : List S) → g ≡ record { names = []; depends = [] } → services ≡ []
-    → old ≡ [] → map blocked_by filters ≡ map blocked_by old ++ blocked_lists lines → IsSound g (length old) (map answer services) → HasFirst lines 0 g filters (map answer services)
+pub first_none : {S : Type 0} (answer : S → ServicePlan) (lines : List ServiceLine) (g : GraphData) (old filters : List ScriptFilter) (services : List S)
+    → g ≡ record { names = []; depends = [] } → services ≡ []
+    → old ≡ [] → map blocked_by filters ≡ map blocked_by old ++ blocked_lists lines → IsSound g (length old) (map answer services)
+    → HasFirst lines 0 g filters (map answer services)
 first_none answer lines g old filters services empty none bare added sound = record {
   answers_are = ap (map answer) none;
   filters_are = added ∙ ap (λ (fs : List ScriptFilter). map blocked_by fs ++ blocked_lists lines) bare;
@@ -105,8 +117,10 @@ first_none answer lines g old filters services empty none bare added sound = rec
   sound = sound-filters g (length old) (length filters) (map answer services) (omega (arith, ap length bare)) sound;
 }
 
-pub first_more : {S : Type 0} (answer : S → ServicePlan) (lines : List ServiceLine) (k : ℕ) (line : ServiceLine) (g h : GraphData) (name : List ℕ) (filters others : List ScriptFilter) (services more : List S) (service : S)
-    → HasFirst lines k g filters (map answer services) → k < length lines → line ≡ get_or lines k line → answer service ≡ answered (filter_number (take k lines) line) line → h ≡ with_node g name → more ≡ services ++ service ∷ []
+pub first_more : {S : Type 0} (answer : S → ServicePlan) (lines : List ServiceLine) (k : ℕ) (line : ServiceLine) (g h : GraphData) (name : List ℕ)
+    (filters others : List ScriptFilter) (services more : List S) (service : S)
+    → HasFirst lines k g filters (map answer services) → k < length lines → line ≡ get_or lines k line
+    → answer service ≡ answered (filter_number (take k lines) line) line → h ≡ with_node g name → more ≡ services ++ service ∷ []
     → others ≡ filters → IsSound h (length others) (map answer more) → HasFirst lines (k + 1) h others (map answer more)
 first_more answer lines k line g h name filters others services more service old below read says made pushed same sound = record {
   answers_are =
@@ -120,7 +134,8 @@ first_more answer lines k line g h name filters others services more service old
   sound = sound;
 }
 
-pub first_all : (lines : List ServiceLine) (k : ℕ) (g : GraphData) (filters : List ScriptFilter) (answers : List ServicePlan) → HasFirst lines k g filters answers → k ≡ length lines → HasLines lines 0 g filters answers
+pub first_all : (lines : List ServiceLine) (k : ℕ) (g : GraphData) (filters : List ScriptFilter) (answers : List ServicePlan)
+    → HasFirst lines k g filters answers → k ≡ length lines → HasLines lines 0 g filters answers
 first_all lines k g filters answers h all = record {
   answers_are = h.answers_are ∙ ap (answers_from lines 0) (take_all k lines (omega arith));
   filters_are = h.filters_are;
@@ -130,16 +145,20 @@ first_all lines k g filters answers h all = record {
 
 -- ---- the generator's server
 
-pub made_lines : (n : ℕ) (lines : List ServiceLine) (g h : GraphData) (filters others : List ScriptFilter) (answers more : List ServicePlan) → lines ≡ made_services n → h ≡ g → others ≡ filters → more ≡ answers
+pub made_lines : (n : ℕ) (lines : List ServiceLine) (g h : GraphData) (filters others : List ScriptFilter) (answers more : List ServicePlan)
+    → lines ≡ made_services n → h ≡ g → others ≡ filters → more ≡ answers
     → HasLines lines (length lines) g filters answers → (services : List ServiceLine) × HasLines services (length services) h others more
 made_lines n lines g h filters others answers more is same_graph same_filters same_answers old = (
   lines,
   subst (λ (x : GraphData). HasLines lines (length lines) x others more) (sym same_graph)
-      (subst (λ (fs : List ScriptFilter). HasLines lines (length lines) g fs more) (sym same_filters) (subst (HasLines lines (length lines) g filters) (sym same_answers) old)),
+      (subst (λ (fs : List ScriptFilter). HasLines lines (length lines) g fs more) (sym same_filters)
+      (subst (HasLines lines (length lines) g filters) (sym same_answers) old)),
 )
 
-pub made_server : (n : ℕ) (lines : List ServiceLine) (flags : Opt) (bare conf : ServerConf) (options : Option Opt) (before eager : Bool) (g h : GraphData) (filters others : List ScriptFilter) (answers more : List ServicePlan)
-    → lines ≡ made_services n → flags ≡ no_flags → bare ≡ defaults → conf ≡ merged flags bare → options ≡ Some flags → before ≡ false → eager ≡ (before || false) → h ≡ g → others ≡ filters → more ≡ answers
+pub made_server : (n : ℕ) (lines : List ServiceLine) (flags : Opt) (bare conf : ServerConf) (options : Option Opt) (before eager : Bool) (g h : GraphData)
+    (filters others : List ScriptFilter) (answers more : List ServicePlan)
+    → lines ≡ made_services n → flags ≡ no_flags → bare ≡ defaults → conf ≡ merged flags bare → options ≡ Some flags → before ≡ false
+    → eager ≡ (before || false) → h ≡ g → others ≡ filters → more ≡ answers
     → HasLines lines (length lines) g filters answers → IsServerOf no_flags (made_parts n) conf options eager h others more
 made_server n lines flags bare conf options before eager g h filters others answers more is f b c o e t same_graph same_filters same_answers old =
     server_is no_flags (made_parts n) conf options before eager g h filters others answers more

@@ -16,7 +16,8 @@ none_both p xs ys h k = list_all-append (λ x. not (p x)) xs ys ∙ rw (h, k) re
 -- a line that is written
 line_first : (line more : List ℕ) → none_of is_feed line ≡ true → lines ((line ++ 13 ∷ 10 ∷ []) ++ more) ≡ line ∷ lines more
 line_first line more none =
-    let cut : (line ++ 13 ∷ 10 ∷ []) ++ more ≡ (line ++ 13 ∷ []) ++ 10 ∷ more = append_assoc line (13 ∷ 10 ∷ []) more ∙ sym (append_assoc line (13 ∷ []) (10 ∷ more)) in
+    let cut : (line ++ 13 ∷ 10 ∷ []) ++ more ≡ (line ++ 13 ∷ []) ++ 10 ∷ more =
+    append_assoc line (13 ∷ 10 ∷ []) more ∙ sym (append_assoc line (13 ∷ []) (10 ∷ more)) in
     ap lines cut
     ∙ lines-then (line ++ 13 ∷ []) more (none_each is_feed (line ++ 13 ∷ []) (none_both is_feed line (13 ∷ []) none refl))
     ∙ ap (λ (l : List ℕ). l ∷ lines more) (strip-return line)
@@ -32,7 +33,8 @@ line_written text line new whole none e = record {
 }
   where
     alone : lines new ≡ lines text ++ line ∷ []
-    alone = ap lines e ∙ whole.splits (line ++ 13 ∷ 10 ∷ []) ∙ ap (λ (ls : List (List ℕ)). lines text ++ ls) (ap lines (sym (append-nil (line ++ 13 ∷ 10 ∷ []))) ∙ line_first line [] none)
+    alone = ap lines e ∙ whole.splits (line ++ 13 ∷ 10 ∷ [])
+        ∙ ap (λ (ls : List (List ℕ)). lines text ++ ls) (ap lines (sym (append-nil (line ++ 13 ∷ 10 ∷ []))) ∙ line_first line [] none)
 
     both : (more : List ℕ) → lines ((text ++ (line ++ 13 ∷ 10 ∷ [])) ++ more) ≡ (lines text ++ line ∷ []) ++ lines more
     both more =

@@ -7,7 +7,8 @@ use Rattle.std.specs.declared.rc.RcStr.{RcStr}
 use Rattle.std.proofs.lemmas.Slice.Eq.{bytes_eq-Decides}
 use Rattle.svc_main.specs.CommandWords.{BeginsWithRun, size_after, made_size}
 
-pub first_is_run : (words : List (RcStr Global)) (w : RcStr Global) (b : Bool) → 0 < length words → w ≡ get_or words 0 w → b ≡ bytes_eq (rc_str_bytes w) (codes "run") → Decides b (BeginsWithRun (map rc_str_bytes words))
+pub first_is_run : (words : List (RcStr Global)) (w : RcStr Global) (b : Bool) → 0 < length words → w ≡ get_or words 0 w
+    → b ≡ bytes_eq (rc_str_bytes w) (codes "run") → Decides b (BeginsWithRun (map rc_str_bytes words))
 first_is_run [] w b n e h = absurd (omega arith)
 first_is_run (x ∷ more) w b n e h =
     let d = bytes_eq-Decides (rc_str_bytes w) (codes "run") in
@@ -17,11 +18,14 @@ first_is_run (x ∷ more) w b n e h =
     )
 
 -- two words, and any other number of words
-pub two_words : (words : List (RcStr Global)) (a b : RcStr Global) → length words ≡ 2 → a ≡ get_or words 0 a → b ≡ get_or words 1 b → made_size (map rc_str_bytes words) ≡ size_after (rc_str_bytes a) (rc_str_bytes b)
+pub two_words : (words : List (RcStr Global)) (a b : RcStr Global) → length words ≡ 2 → a ≡ get_or words 0 a → b ≡ get_or words 1 b
+    → made_size (map rc_str_bytes words) ≡ size_after (rc_str_bytes a) (rc_str_bytes b)
 unfolding made_size
 two_words [] a b n e f = absurd (omega arith)
 two_words (x ∷ []) a b n e f = absurd (omega arith)
-two_words (x ∷ y ∷ []) a b n e f = ap (λ (w : RcStr Global). size_after (rc_str_bytes w) (rc_str_bytes y)) (sym e) ∙ ap (λ (w : RcStr Global). size_after (rc_str_bytes a) (rc_str_bytes w)) (sym f)
+two_words (x ∷ y ∷ []) a b n e f =
+    ap (λ (w : RcStr Global). size_after (rc_str_bytes w) (rc_str_bytes y)) (sym e)
+    ∙ ap (λ (w : RcStr Global). size_after (rc_str_bytes a) (rc_str_bytes w)) (sym f)
 two_words (x ∷ y ∷ z ∷ more) a b n e f = absurd (omega arith)
 
 pub other_words : (words : List (RcStr Global)) → (length words ≡ 2 → ⊥) → made_size (map rc_str_bytes words) ≡ None

@@ -166,7 +166,8 @@ Ran status words left now_left before now =
 abbrev pub Made : List (List ℕ) → Option (List ℕ) → Option (List ℕ) → Type 0
 Made words before now = Writes before now (MadeText words)
 
--- the sink took a front of an answer that had its cause: of a read fault only where the source's count rose, and of a run or a refused line only where the source was read to its end
+-- the sink took a front of an answer that had its cause: of a read fault only where the source's count rose, and of a run or a refused line only
+-- where the source was read to its end
 abbrev pub WritesFront : List (List ℕ) → Option (List ℕ) → Option (List ℕ) → ℕ → ℕ → Option (List ℕ) → Option (List ℕ) → Type 0
 WritesFront words left now_left faults now_faults before now =
     (line : StatusLine) × (out : List ℕ) × IsAnswer words left line out × Ends words line now_left × Faults line faults now_faults
@@ -178,7 +179,8 @@ EndsServed ends.On = Unit {0}
 EndsServed ends.Served = Unit {0}
 EndsServed end = ⊥
 
--- the items are events alone; in whatever right record the first of the events were got, the run doesn't end otherwise than by its shutdown, and while it goes on the next one fits; with all of them it has passed
+-- the items are events alone; in whatever right record the first of the events were got, the run doesn't end otherwise than by its shutdown, and
+-- while it goes on the next one fits; with all of them it has passed
 pub record RunsThrough (p : Plan) (script_items : List Item) : Type 0 where
   pub events : List Event
   pub only_events : script_items ≡ map items.Event events

@@ -37,8 +37,10 @@ pub record HasLines (lines : List ServiceLine) (n : ℕ) (graph : GraphData) (fi
   pub edges : HasEdges graph (length lines) (edges_up_to lines n)
   pub sound : IsSound graph (length filters) answers
 
--- the server is that of a script's parts with these flags: it has the script's configuration with the flags, its services with their dependencies and filters, and bootstraps first where the script says so
-pub record IsServerOf (opt : Opt) (parts : Parts) (conf : ServerConf) (options : Option Opt) (eager : Bool) (graph : GraphData) (filters : List ScriptFilter) (answers : List ServicePlan) : Type 0 where
+-- the server is that of a script's parts with these flags: it has the script's configuration with the flags, its services with their dependencies and
+-- filters, and bootstraps first where the script says so
+pub record IsServerOf (opt : Opt) (parts : Parts) (conf : ServerConf) (options : Option Opt) (eager : Bool) (graph : GraphData) (filters : List ScriptFilter)
+    (answers : List ServicePlan) : Type 0 where
   pub configuration : conf ≡ merged opt parts.conf
   pub flags : options ≡ Some opt
   pub boots_first : eager ≡ parts.eager

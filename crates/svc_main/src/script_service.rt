@@ -110,7 +110,14 @@ fn copy_of(alloc: Global, lines: &[EndpointLine]) -> Result<Items<EndpointLine>,
 impl ScriptService {
     /// The service that a line says, whose endpoints have this filter.
     pub fn new(alloc: Global, line: &ServiceLine, filter: Option<u32>) -> Result<Self, NoMemory>
-        ensures { IfOk result (λ service. service ≡ record { name = line.now.name; kind = line.now.kind; undeclared = line.now.undeclared; claims = line.now.claims; endpoints = line.now.endpoints; filter = filter }) }
+        ensures { IfOk result (λ service. service ≡ record {
+          name = line.now.name;
+          kind = line.now.kind;
+          undeclared = line.now.undeclared;
+          claims = line.now.claims;
+          endpoints = line.now.endpoints;
+          filter = filter;
+        }) }
     {
         Ok(ScriptService {
             name: line.name.copy(alloc)?,

@@ -20,7 +20,8 @@ share_more a b left right x y s e = record {
 }
 
 -- the same, where the letters are told by index
-pub share_one : (a b left right : List ℕ) → 0 < length left → 0 < length right → get_or left 0 0 ≡ get_or right 0 0 → Share a b left right → Share a b (take (length left - 1) (drop 1 left)) (take (length right - 1) (drop 1 right))
+pub share_one : (a b left right : List ℕ) → 0 < length left → 0 < length right → get_or left 0 0 ≡ get_or right 0 0 → Share a b left right
+    → Share a b (take (length left - 1) (drop 1 left)) (take (length right - 1) (drop 1 right))
 share_one a b [] right h k e s = absurd (omega arith)
 share_one a b (x ∷ left) [] h k e s = absurd (omega arith)
 share_one a b (x ∷ left) (y ∷ right) h k e s = rw (take_rest (x ∷ left) 1, take_rest (y ∷ right) 1) (share_more a b left right x y s e)
@@ -47,8 +48,10 @@ one_step x a b (inr (inr (inr h))) = inr (inr (inr (swapped_step x h.one h.other
 one_back : (x : ℕ) (a b : List ℕ) → IsOneOff a b → IsOneOff (x ∷ a) (x ∷ b)
 one_back x a b (inl h) = inl (record { front = x ∷ h.front; back = h.back; extra = h.extra; short = cc h.short; long = cc h.long })
 one_back x a b (inr (inl h)) = inr (inl (record { front = x ∷ h.front; back = h.back; extra = h.extra; short = cc h.short; long = cc h.long }))
-one_back x a b (inr (inr (inl h))) = inr (inr (inl (record { front = x ∷ h.front; back = h.back; one = h.one; other = h.other; differ = h.differ; first = cc h.first; second = cc h.second })))
-one_back x a b (inr (inr (inr h))) = inr (inr (inr (record { front = x ∷ h.front; back = h.back; one = h.one; other = h.other; differ = h.differ; first = cc h.first; second = cc h.second })))
+one_back x a b (inr (inr (inl h))) =
+    inr (inr (inl (record { front = x ∷ h.front; back = h.back; one = h.one; other = h.other; differ = h.differ; first = cc h.first; second = cc h.second })))
+one_back x a b (inr (inr (inr h))) =
+    inr (inr (inr (record { front = x ∷ h.front; back = h.back; one = h.one; other = h.other; differ = h.differ; first = cc h.first; second = cc h.second })))
 
 -- what both begin with doesn't matter
 steps : (front left right : List ℕ) → IsOneOff (front ++ left) (front ++ right) → IsOneOff left right
@@ -112,12 +115,15 @@ left_ends a b left right s e =
       λ h. empty_left right (subst P (is_empty left e) (tails a b left right s h)),
     )
 
-changed : (left right : List ℕ) → 0 < length left → 0 < length right → (BeginAlike left right → ⊥) → behind_first left ≡ behind_first right → IsOneOff left right
+changed : (left right : List ℕ) → 0 < length left → 0 < length right → (BeginAlike left right → ⊥) → behind_first left ≡ behind_first right
+    → IsOneOff left right
 changed [] right h k d e = absurd (omega arith)
 changed (x ∷ left) [] h k d e = absurd (omega arith)
-changed (x ∷ left) (y ∷ right) h k d e = inr (inr (inl (record { front = []; back = left; one = x; other = y; differ = d; first = refl; second = cc (rest_of x left, rest_of y right, e) })))
+changed (x ∷ left) (y ∷ right) h k d e =
+    inr (inr (inl (record { front = []; back = left; one = x; other = y; differ = d; first = refl; second = cc (rest_of x left, rest_of y right, e) })))
 
-pub other_letter : (a b left right : List ℕ) → BehindShared a b left right → 0 < length left → 0 < length right → behind_first left ≡ behind_first right → IsOneOff a b
+pub other_letter : (a b left right : List ℕ) → BehindShared a b left right → 0 < length left → 0 < length right → behind_first left ≡ behind_first right
+    → IsOneOff a b
 other_letter a b left right s h k e = wholes a b left right s (changed left right h k s.differ e)
 
 longer : (left right : List ℕ) → 0 < length left → behind_first left ≡ right → HasOneMore right left
@@ -134,7 +140,16 @@ swapped : (left right : List ℕ) → (BeginAlike left right → ⊥) → SwapsF
 swapped left right d h =
     let P : List ℕ → Type 0 = λ x. BeginAlike x right → ⊥ in
     let Q : List ℕ → Type 0 = λ y. BeginAlike (h.one ∷ h.other ∷ h.back) y → ⊥ in
-    inr (inr (inr (record { front = []; back = h.back; one = h.one; other = h.other; differ = subst Q h.second (subst P h.first d); first = h.first; second = h.second })))
+    inr (inr (inr
+    (record {
+      front = [];
+      back = h.back;
+      one = h.one;
+      other = h.other;
+      differ = subst Q h.second (subst P h.first d);
+      first = h.first;
+      second = h.second;
+    })))
 
 -- two words that begin with different letters and differ by one letter
 abbrev Differ : List ℕ → List ℕ → Type 0
@@ -148,7 +163,8 @@ changed_ways : (x y u v : ℕ) (left right front back : List ℕ) → (x ≡ y �
 changed_ways x y u v left right [] back d p q = cc
 changed_ways x y u v left right (w ∷ front) back d p q = absurd (d cc)
 
-swapped_ways : (x y u v : ℕ) (left right front back : List ℕ) → (x ≡ y → ⊥) → x ∷ left ≡ front ++ u ∷ v ∷ back → y ∷ right ≡ front ++ v ∷ u ∷ back → SwapsFront (x ∷ left) (y ∷ right)
+swapped_ways : (x y u v : ℕ) (left right front back : List ℕ) → (x ≡ y → ⊥) → x ∷ left ≡ front ++ u ∷ v ∷ back → y ∷ right ≡ front ++ v ∷ u ∷ back
+    → SwapsFront (x ∷ left) (y ∷ right)
 swapped_ways x y u v left right [] back d p q = record { back = back; one = u; other = v; first = p; second = q }
 swapped_ways x y u v left right (w ∷ front) back d p q = absurd (d cc)
 
@@ -156,11 +172,14 @@ ways : (left right : List ℕ) → 0 < length left → 0 < length right → (Beg
 ways [] right h k d w = absurd (omega arith)
 ways (x ∷ left) [] h k d w = absurd (omega arith)
 ways (x ∷ left) (y ∷ right) h k d (inl w) = inr (inr (inl (cc (rest_of y right, more_ways x y w.extra left right w.front w.back d w.short w.long))))
-ways (x ∷ left) (y ∷ right) h k d (inr (inl w)) = inr (inl (cc (rest_of x left, more_ways y x w.extra right left w.front w.back (λ e. d (sym e)) w.short w.long)))
-ways (x ∷ left) (y ∷ right) h k d (inr (inr (inl w))) = inl (cc (rest_of x left, rest_of y right, changed_ways x y w.one w.other left right w.front w.back d w.first w.second))
+ways (x ∷ left) (y ∷ right) h k d (inr (inl w)) =
+    inr (inl (cc (rest_of x left, more_ways y x w.extra right left w.front w.back (λ e. d (sym e)) w.short w.long)))
+ways (x ∷ left) (y ∷ right) h k d (inr (inr (inl w))) =
+    inl (cc (rest_of x left, rest_of y right, changed_ways x y w.one w.other left right w.front w.back d w.first w.second))
 ways (x ∷ left) (y ∷ right) h k d (inr (inr (inr w))) = inr (inr (inr (swapped_ways x y w.one w.other left right w.front w.back d w.first w.second)))
 
-only_swapped : (left right : List ℕ) → Differ left right → (behind_first left ≡ behind_first right → ⊥) → (behind_first left ≡ right → ⊥) → (left ≡ behind_first right → ⊥) → SwapsFront left right
+only_swapped : (left right : List ℕ) → Differ left right → (behind_first left ≡ behind_first right → ⊥) → (behind_first left ≡ right → ⊥)
+    → (left ≡ behind_first right → ⊥) → SwapsFront left right
 only_swapped left right (inl w) p q r = absurd (p w)
 only_swapped left right (inr (inl w)) p q r = absurd (q w)
 only_swapped left right (inr (inr (inl w))) p q r = absurd (r w)
@@ -198,7 +217,8 @@ swaps r (x ∷ y ∷ a) (z ∷ w ∷ b) h k p q e =
       λ s. same.1 (cc (s.first, s.second)),
     )
 
-pub none_more : (word name : List ℕ) (known : List (Bor (List ℕ))) (i : ℕ) (d : Bor (List ℕ)) → i < length known → All (λ meant. IsOneOff word meant.now → ⊥) (take i known)
+pub none_more : (word name : List ℕ) (known : List (Bor (List ℕ))) (i : ℕ) (d : Bor (List ℕ)) → i < length known
+    → All (λ meant. IsOneOff word meant.now → ⊥) (take i known)
     → name ≡ (get_or known i d).now → (IsOneOff word name → false ≡ true) → All (λ meant. IsOneOff word meant.now → ⊥) (take (i + 1) known)
 none_more word name known i d h none e one =
     let P : List (Bor (List ℕ)) → Type 0 = λ xs. All (λ meant. IsOneOff word meant.now → ⊥) xs in

@@ -31,7 +31,8 @@ pub record Goes (p : Plan) (q : Record) : Type 0 where
   pub absences_few : nat_lt p.limit (times is_not_there q) ≡ false
   pub delays_few : nat_le 20 (times is_busy_answer q) ≡ false
 
-over-parts : (up un last absent delayed : Bool) → up ≡ true → (up && (un || ((last || absent) || delayed))) ≡ false → (un ≡ false) × (last ≡ false) × (absent ≡ false) × (delayed ≡ false)
+over-parts : (up un last absent delayed : Bool) → up ≡ true → (up && (un || ((last || absent) || delayed))) ≡ false
+    → (un ≡ false) × (last ≡ false) × (absent ≡ false) × (delayed ≡ false)
 over-parts false un last absent delayed u h = cc
 over-parts true true last absent delayed u h = cc
 over-parts true false true absent delayed u h = cc
@@ -42,7 +43,8 @@ over-parts true false false false false u h = (refl, refl, refl, refl)
 pub goes : (p : Plan) (q : Record) → has_offer p q ≡ true → is_over p q ≡ false → Goes p q
 goes p q offers not_over =
     let up = and_parts (is_upgrade (signal_of q)) (not (is_empty_table (table p q))) offers in
-    let parts = over-parts (is_upgrade (signal_of q)) (not (is_empty_table (table p q)) && (not (is_written (encode (table p q))) || has_cut q)) (has is_last_answer q) (nat_lt p.limit (times is_not_there q)) (nat_le 20 (times is_busy_answer q)) up.0 not_over in
+    let parts = over-parts (is_upgrade (signal_of q)) (not (is_empty_table (table p q)) && (not (is_written (encode (table p q))) || has_cut q))
+    (has is_last_answer q) (nat_lt p.limit (times is_not_there q)) (nat_le 20 (times is_busy_answer q)) up.0 not_over in
     record { upgrade = up.0; not_over = not_over; written = parts.0; no_last = parts.1; absences_few = parts.2; delays_few = parts.3 }
 
 fewer : (n : ℕ) → nat_le 20 n ≡ false → nat_lt n 20 ≡ true
@@ -103,10 +105,12 @@ delay-last n left few is = grind (arith, nat_tests)
 by-last : (up un absent delayed : Bool) → up ≡ true → (up && (un || ((true || absent) || delayed))) ≡ true
 by-last up un absent delayed u = grind arith
 
-by-absent : (up un last absent delayed b : Bool) → up ≡ true → un ≡ false → last ≡ false → delayed ≡ false → absent ≡ b → (up && (un || ((last || absent) || delayed))) ≡ b
+by-absent : (up un last absent delayed b : Bool) → up ≡ true → un ≡ false → last ≡ false → delayed ≡ false → absent ≡ b
+    → (up && (un || ((last || absent) || delayed))) ≡ b
 by-absent up un last absent delayed b u w l d e = grind arith
 
-by-delay : (up un last absent delayed b : Bool) → up ≡ true → un ≡ false → last ≡ false → absent ≡ false → delayed ≡ b → (up && (un || ((last || absent) || delayed))) ≡ b
+by-delay : (up un last absent delayed b : Bool) → up ≡ true → un ≡ false → last ≡ false → absent ≡ false → delayed ≡ b
+    → (up && (un || ((last || absent) || delayed))) ≡ b
 by-delay up un last absent delayed b u w l a e = grind arith
 
 -- the state after an answer, by whether the offer ends by it
@@ -129,11 +133,13 @@ left-moment : (last : Bool) (x : Offering) (moment at : ℕ) → is_some (over_s
 left-moment true x moment at h e = cc
 left-moment false x moment at h e = let k : is_some (over_since x) ≡ true = ap is_some e in cc
 
-left-rests : (last : Bool) (x : Offering) (moment t : ℕ) (rests : Bool) → rests ≡ rests_in x t → is_going (left last x moment) ≡ true → rests ≡ rests_in (left last x moment) t
+left-rests : (last : Bool) (x : Offering) (moment t : ℕ) (rests : Bool) → rests ≡ rests_in x t → is_going (left last x moment) ≡ true
+    → rests ≡ rests_in (left last x moment) t
 left-rests true x moment t rests h g = cc
 left-rests false x moment t rests h g = h
 
-left-next : (last : Bool) (x : Offering) (moment : ℕ) (next : Bool) → next ≡ sends_in x → is_going (left last x moment) ≡ true → next ≡ sends_in (left last x moment)
+left-next : (last : Bool) (x : Offering) (moment : ℕ) (next : Bool) → next ≡ sends_in x → is_going (left last x moment) ≡ true
+    → next ≡ sends_in (left last x moment)
 left-next true x moment next h g = cc
 left-next false x moment next h g = h
 
@@ -145,7 +151,10 @@ module _ (p : Plan) (d : OfferData) (q : Record) (moment : ℕ) (at : moment ≡
   g : Goes p q
   g = goes p q (s.offers_is ∙ going-offers d.state going) (s.over_is ∙ going-on d.state going)
 
-  after-connected : is_send_open q ≡ false → OfferStands p (record { state = answered_state d.patience answers.Connected moment; message = d.message; patience = patience_after d.patience answers.Connected }) (Got Connected ∷ q)
+  after-connected : is_send_open q ≡ false
+      → OfferStands p
+      (record { state = answered_state d.patience answers.Connected moment; message = d.message; patience = patience_after d.patience answers.Connected })
+      (Got Connected ∷ q)
   after-connected other = leaves-stands p d q Connected steps.Connected (patience_after d.patience answers.Connected) moment going s (record {
     offering = refl;
     quiet = refl;
@@ -162,47 +171,78 @@ module _ (p : Plan) (d : OfferData) (q : Record) (moment : ℕ) (at : moment ≡
     delays = s.delays_are;
   })
 
-  after-not_there : is_send_open q ≡ false → OfferStands p (record { state = answered_state d.patience answers.NotThere moment; message = d.message; patience = patience_after d.patience answers.NotThere }) (Got NotThere ∷ q)
-  after-not_there other = leaves-stands p d q NotThere (left (nat_lt d.patience.absences 1) (steps.Absent moment) moment) (patience_after d.patience answers.NotThere) moment going s (record {
-    offering = left-offers (nat_lt d.patience.absences 1) (steps.Absent moment) moment refl;
-    quiet = left-quiet (nat_lt d.patience.absences 1) (steps.Absent moment) moment refl;
-    offers = refl;
-    same_table = refl;
-    over = by-absent (is_upgrade (signal_of q)) (not (is_empty_table (table p q)) && (not (is_written (encode (table p q))) || has_cut q)) (has is_last_answer q) (nat_lt p.limit (times is_not_there q + 1)) (nat_le 20 (times is_busy_answer q)) (nat_lt d.patience.absences 1) g.upgrade g.written g.no_last g.delays_few (absent-last p.limit (times is_not_there q) d.patience.absences g.absences_few s.absences_are) ∙ left-over (nat_lt d.patience.absences 1) (steps.Absent moment) moment refl;
-    moment_is = λ n h. left-moment (nat_lt d.patience.absences 1) (steps.Absent moment) moment n refl h;
-    now_is = sym at;
-    connect_answered = refl;
-    send_answered = other;
-    rests = λ h t. left-rests (nat_lt d.patience.absences 1) (steps.Absent moment) moment t (nat_lt (t - now q) 1000) (ap (λ (n : ℕ). nat_lt (t - n) 1000) (sym at)) h;
-    next = λ h. left-next (nat_lt d.patience.absences 1) (steps.Absent moment) moment false refl h;
-    absences = let e = s.absences_are in omega arith;
-    delays = s.delays_are;
-  })
+  after-not_there : is_send_open q ≡ false
+      → OfferStands p
+      (record { state = answered_state d.patience answers.NotThere moment; message = d.message; patience = patience_after d.patience answers.NotThere })
+      (Got NotThere ∷ q)
+  after-not_there other =
+      leaves-stands p d q NotThere (left (nat_lt d.patience.absences 1) (steps.Absent moment) moment)
+      (patience_after d.patience answers.NotThere) moment going s (record {
+        offering = left-offers (nat_lt d.patience.absences 1) (steps.Absent moment) moment refl;
+        quiet = left-quiet (nat_lt d.patience.absences 1) (steps.Absent moment) moment refl;
+        offers = refl;
+        same_table = refl;
+        over = by-absent (is_upgrade (signal_of q)) (not (is_empty_table (table p q)) && (not (is_written (encode (table p q))) || has_cut q))
+            (has is_last_answer q) (nat_lt p.limit (times is_not_there q + 1)) (nat_le 20 (times is_busy_answer q))
+            (nat_lt d.patience.absences 1) g.upgrade g.written g.no_last g.delays_few
+            (absent-last p.limit (times is_not_there q) d.patience.absences g.absences_few s.absences_are)
+            ∙ left-over (nat_lt d.patience.absences 1) (steps.Absent moment) moment refl;
+        moment_is = λ n h. left-moment (nat_lt d.patience.absences 1) (steps.Absent moment) moment n refl h;
+        now_is = sym at;
+        connect_answered = refl;
+        send_answered = other;
+        rests = λ h t. left-rests (nat_lt d.patience.absences 1) (steps.Absent moment) moment t (nat_lt (t - now q) 1000)
+            (ap (λ (n : ℕ). nat_lt (t - n) 1000) (sym at)) h;
+        next = λ h. left-next (nat_lt d.patience.absences 1) (steps.Absent moment) moment false refl h;
+        absences = let e = s.absences_are in omega arith;
+        delays = s.delays_are;
+      })
 
-  after-still_connecting : is_send_open q ≡ false → OfferStands p (record { state = answered_state d.patience answers.StillConnecting moment; message = d.message; patience = patience_after d.patience answers.StillConnecting }) (Got StillConnecting ∷ q)
-  after-still_connecting other = leaves-stands p d q StillConnecting (left (nat_lt d.patience.delays 1) (steps.Delayed moment) moment) (patience_after d.patience answers.StillConnecting) moment going s (record {
-    offering = left-offers (nat_lt d.patience.delays 1) (steps.Delayed moment) moment refl;
-    quiet = left-quiet (nat_lt d.patience.delays 1) (steps.Delayed moment) moment refl;
-    offers = refl;
-    same_table = refl;
-    over = by-delay (is_upgrade (signal_of q)) (not (is_empty_table (table p q)) && (not (is_written (encode (table p q))) || has_cut q)) (has is_last_answer q) (nat_lt p.limit (times is_not_there q)) (nat_le 20 (times is_busy_answer q + 1)) (nat_lt d.patience.delays 1) g.upgrade g.written g.no_last g.absences_few (delay-last (times is_busy_answer q) d.patience.delays g.delays_few s.delays_are) ∙ left-over (nat_lt d.patience.delays 1) (steps.Delayed moment) moment refl;
-    moment_is = λ n h. left-moment (nat_lt d.patience.delays 1) (steps.Delayed moment) moment n refl h;
-    now_is = sym at;
-    connect_answered = refl;
-    send_answered = other;
-    rests = λ h t. left-rests (nat_lt d.patience.delays 1) (steps.Delayed moment) moment t (nat_lt (t - now q) 500) (ap (λ (n : ℕ). nat_lt (t - n) 500) (sym at)) h;
-    next = λ h. left-next (nat_lt d.patience.delays 1) (steps.Delayed moment) moment false refl h;
-    absences = s.absences_are;
-    delays = let e = s.delays_are in omega arith;
-  })
+  after-still_connecting : is_send_open q ≡ false
+      → OfferStands p
+      (record {
+        state = answered_state d.patience answers.StillConnecting moment;
+        message = d.message;
+        patience = patience_after d.patience answers.StillConnecting;
+      }) (Got StillConnecting ∷ q)
+  after-still_connecting other =
+      leaves-stands p d q StillConnecting (left (nat_lt d.patience.delays 1) (steps.Delayed moment) moment)
+      (patience_after d.patience answers.StillConnecting) moment going s (record {
+        offering = left-offers (nat_lt d.patience.delays 1) (steps.Delayed moment) moment refl;
+        quiet = left-quiet (nat_lt d.patience.delays 1) (steps.Delayed moment) moment refl;
+        offers = refl;
+        same_table = refl;
+        over = by-delay (is_upgrade (signal_of q)) (not (is_empty_table (table p q)) && (not (is_written (encode (table p q))) || has_cut q))
+            (has is_last_answer q)
+            (nat_lt p.limit (times is_not_there q)) (nat_le 20 (times is_busy_answer q + 1))
+            (nat_lt d.patience.delays 1) g.upgrade g.written g.no_last g.absences_few
+            (delay-last (times is_busy_answer q) d.patience.delays g.delays_few s.delays_are)
+            ∙ left-over (nat_lt d.patience.delays 1) (steps.Delayed moment) moment refl;
+        moment_is = λ n h. left-moment (nat_lt d.patience.delays 1) (steps.Delayed moment) moment n refl h;
+        now_is = sym at;
+        connect_answered = refl;
+        send_answered = other;
+        rests = λ h t. left-rests (nat_lt d.patience.delays 1) (steps.Delayed moment) moment t (nat_lt (t - now q) 500)
+            (ap (λ (n : ℕ). nat_lt (t - n) 500) (sym at)) h;
+        next = λ h. left-next (nat_lt d.patience.delays 1) (steps.Delayed moment) moment false refl h;
+        absences = s.absences_are;
+        delays = let e = s.delays_are in omega arith;
+      })
 
-  after-connect_failed : is_send_open q ≡ false → OfferStands p (record { state = answered_state d.patience answers.ConnectFailed moment; message = d.message; patience = patience_after d.patience answers.ConnectFailed }) (Got ConnectFailed ∷ q)
+  after-connect_failed : is_send_open q ≡ false
+      → OfferStands p
+      (record {
+        state = answered_state d.patience answers.ConnectFailed moment;
+        message = d.message;
+        patience = patience_after d.patience answers.ConnectFailed;
+      }) (Got ConnectFailed ∷ q)
   after-connect_failed other = leaves-stands p d q ConnectFailed (steps.Over moment) (patience_after d.patience answers.ConnectFailed) moment going s (record {
     offering = refl;
     quiet = refl;
     offers = refl;
     same_table = refl;
-    over = by-last (is_upgrade (signal_of q)) (not (is_empty_table (table p q)) && (not (is_written (encode (table p q))) || has_cut q)) (nat_lt p.limit (times is_not_there q)) (nat_le 20 (times is_busy_answer q)) g.upgrade;
+    over = by-last (is_upgrade (signal_of q)) (not (is_empty_table (table p q)) && (not (is_written (encode (table p q))) || has_cut q))
+        (nat_lt p.limit (times is_not_there q)) (nat_le 20 (times is_busy_answer q)) g.upgrade;
     moment_is = λ n h. cc;
     now_is = sym at;
     connect_answered = refl;
@@ -213,13 +253,16 @@ module _ (p : Plan) (d : OfferData) (q : Record) (moment : ℕ) (at : moment ≡
     delays = s.delays_are;
   })
 
-  after-sent : is_connect_open q ≡ false → OfferStands p (record { state = answered_state d.patience answers.Sent moment; message = d.message; patience = patience_after d.patience answers.Sent }) (Got Sent ∷ q)
+  after-sent : is_connect_open q ≡ false
+      → OfferStands p (record { state = answered_state d.patience answers.Sent moment; message = d.message; patience = patience_after d.patience answers.Sent })
+      (Got Sent ∷ q)
   after-sent other = leaves-stands p d q Sent (steps.Over moment) (patience_after d.patience answers.Sent) moment going s (record {
     offering = refl;
     quiet = refl;
     offers = refl;
     same_table = refl;
-    over = by-last (is_upgrade (signal_of q)) (not (is_empty_table (table p q)) && (not (is_written (encode (table p q))) || has_cut q)) (nat_lt p.limit (times is_not_there q)) (nat_le 20 (times is_busy_answer q)) g.upgrade;
+    over = by-last (is_upgrade (signal_of q)) (not (is_empty_table (table p q)) && (not (is_written (encode (table p q))) || has_cut q))
+        (nat_lt p.limit (times is_not_there q)) (nat_le 20 (times is_busy_answer q)) g.upgrade;
     moment_is = λ n h. cc;
     now_is = sym at;
     connect_answered = other;
@@ -230,30 +273,45 @@ module _ (p : Plan) (d : OfferData) (q : Record) (moment : ℕ) (at : moment ≡
     delays = s.delays_are;
   })
 
-  after-send_busy : is_connect_open q ≡ false → OfferStands p (record { state = answered_state d.patience answers.SendBusy moment; message = d.message; patience = patience_after d.patience answers.SendBusy }) (Got SendBusy ∷ q)
-  after-send_busy other = leaves-stands p d q SendBusy (left (nat_lt d.patience.delays 1) (steps.Stalled moment) moment) (patience_after d.patience answers.SendBusy) moment going s (record {
-    offering = left-offers (nat_lt d.patience.delays 1) (steps.Stalled moment) moment refl;
-    quiet = left-quiet (nat_lt d.patience.delays 1) (steps.Stalled moment) moment refl;
-    offers = refl;
-    same_table = refl;
-    over = by-delay (is_upgrade (signal_of q)) (not (is_empty_table (table p q)) && (not (is_written (encode (table p q))) || has_cut q)) (has is_last_answer q) (nat_lt p.limit (times is_not_there q)) (nat_le 20 (times is_busy_answer q + 1)) (nat_lt d.patience.delays 1) g.upgrade g.written g.no_last g.absences_few (delay-last (times is_busy_answer q) d.patience.delays g.delays_few s.delays_are) ∙ left-over (nat_lt d.patience.delays 1) (steps.Stalled moment) moment refl;
-    moment_is = λ n h. left-moment (nat_lt d.patience.delays 1) (steps.Stalled moment) moment n refl h;
-    now_is = sym at;
-    connect_answered = other;
-    send_answered = refl;
-    rests = λ h t. left-rests (nat_lt d.patience.delays 1) (steps.Stalled moment) moment t (nat_lt (t - now q) 500) (ap (λ (n : ℕ). nat_lt (t - n) 500) (sym at)) h;
-    next = λ h. left-next (nat_lt d.patience.delays 1) (steps.Stalled moment) moment true refl h;
-    absences = s.absences_are;
-    delays = let e = s.delays_are in omega arith;
-  })
+  after-send_busy : is_connect_open q ≡ false
+      → OfferStands p
+      (record { state = answered_state d.patience answers.SendBusy moment; message = d.message; patience = patience_after d.patience answers.SendBusy })
+      (Got SendBusy ∷ q)
+  after-send_busy other =
+      leaves-stands p d q SendBusy (left (nat_lt d.patience.delays 1) (steps.Stalled moment) moment) (patience_after d.patience answers.SendBusy) moment going s
+      (record {
+        offering = left-offers (nat_lt d.patience.delays 1) (steps.Stalled moment) moment refl;
+        quiet = left-quiet (nat_lt d.patience.delays 1) (steps.Stalled moment) moment refl;
+        offers = refl;
+        same_table = refl;
+        over = by-delay (is_upgrade (signal_of q)) (not (is_empty_table (table p q)) && (not (is_written (encode (table p q))) || has_cut q))
+            (has is_last_answer q)
+            (nat_lt p.limit (times is_not_there q)) (nat_le 20 (times is_busy_answer q + 1))
+            (nat_lt d.patience.delays 1) g.upgrade g.written g.no_last g.absences_few
+            (delay-last (times is_busy_answer q) d.patience.delays g.delays_few s.delays_are)
+            ∙ left-over (nat_lt d.patience.delays 1) (steps.Stalled moment) moment refl;
+        moment_is = λ n h. left-moment (nat_lt d.patience.delays 1) (steps.Stalled moment) moment n refl h;
+        now_is = sym at;
+        connect_answered = other;
+        send_answered = refl;
+        rests = λ h t. left-rests (nat_lt d.patience.delays 1) (steps.Stalled moment) moment t (nat_lt (t - now q) 500)
+            (ap (λ (n : ℕ). nat_lt (t - n) 500) (sym at)) h;
+        next = λ h. left-next (nat_lt d.patience.delays 1) (steps.Stalled moment) moment true refl h;
+        absences = s.absences_are;
+        delays = let e = s.delays_are in omega arith;
+      })
 
-  after-send_failed : is_connect_open q ≡ false → OfferStands p (record { state = answered_state d.patience answers.SendFailed moment; message = d.message; patience = patience_after d.patience answers.SendFailed }) (Got SendFailed ∷ q)
+  after-send_failed : is_connect_open q ≡ false
+      → OfferStands p
+      (record { state = answered_state d.patience answers.SendFailed moment; message = d.message; patience = patience_after d.patience answers.SendFailed })
+      (Got SendFailed ∷ q)
   after-send_failed other = leaves-stands p d q SendFailed (steps.Over moment) (patience_after d.patience answers.SendFailed) moment going s (record {
     offering = refl;
     quiet = refl;
     offers = refl;
     same_table = refl;
-    over = by-last (is_upgrade (signal_of q)) (not (is_empty_table (table p q)) && (not (is_written (encode (table p q))) || has_cut q)) (nat_lt p.limit (times is_not_there q)) (nat_le 20 (times is_busy_answer q)) g.upgrade;
+    over = by-last (is_upgrade (signal_of q)) (not (is_empty_table (table p q)) && (not (is_written (encode (table p q))) || has_cut q))
+        (nat_lt p.limit (times is_not_there q)) (nat_le 20 (times is_busy_answer q)) g.upgrade;
     moment_is = λ n h. cc;
     now_is = sym at;
     connect_answered = other;
@@ -274,16 +332,24 @@ module _ (p : Plan) (d : OfferData) (q : Record) (moment : ℕ) (at : moment ≡
 -- the open ask was answered
 pub stands-answered : (p : Plan) (d : OfferData) (q : Record) (answer : SendAnswer) (moment : ℕ) → is_awaited d.state answer ≡ true → moment ≡ now q
     → OfferStands p d q → OfferStands p (answered answer moment d) (Got (event_of answer) ∷ q)
-stands-answered p d q answers.Connected moment h at s = after-connected p d q moment at s (connecting-asks d.state h).0 (by-connect p d q moment at s (connecting-asks d.state h).0 h)
-stands-answered p d q answers.NotThere moment h at s = after-not_there p d q moment at s (connecting-asks d.state h).0 (by-connect p d q moment at s (connecting-asks d.state h).0 h)
-stands-answered p d q answers.StillConnecting moment h at s = after-still_connecting p d q moment at s (connecting-asks d.state h).0 (by-connect p d q moment at s (connecting-asks d.state h).0 h)
-stands-answered p d q answers.ConnectFailed moment h at s = after-connect_failed p d q moment at s (connecting-asks d.state h).0 (by-connect p d q moment at s (connecting-asks d.state h).0 h)
-stands-answered p d q answers.Sent moment h at s = after-sent p d q moment at s (sending-asks d.state h).0 (by-send p d q moment at s (sending-asks d.state h).0 h)
-stands-answered p d q answers.SendBusy moment h at s = after-send_busy p d q moment at s (sending-asks d.state h).0 (by-send p d q moment at s (sending-asks d.state h).0 h)
-stands-answered p d q answers.SendFailed moment h at s = after-send_failed p d q moment at s (sending-asks d.state h).0 (by-send p d q moment at s (sending-asks d.state h).0 h)
+stands-answered p d q answers.Connected moment h at s =
+    after-connected p d q moment at s (connecting-asks d.state h).0 (by-connect p d q moment at s (connecting-asks d.state h).0 h)
+stands-answered p d q answers.NotThere moment h at s =
+    after-not_there p d q moment at s (connecting-asks d.state h).0 (by-connect p d q moment at s (connecting-asks d.state h).0 h)
+stands-answered p d q answers.StillConnecting moment h at s =
+    after-still_connecting p d q moment at s (connecting-asks d.state h).0 (by-connect p d q moment at s (connecting-asks d.state h).0 h)
+stands-answered p d q answers.ConnectFailed moment h at s =
+    after-connect_failed p d q moment at s (connecting-asks d.state h).0 (by-connect p d q moment at s (connecting-asks d.state h).0 h)
+stands-answered p d q answers.Sent moment h at s =
+    after-sent p d q moment at s (sending-asks d.state h).0 (by-send p d q moment at s (sending-asks d.state h).0 h)
+stands-answered p d q answers.SendBusy moment h at s =
+    after-send_busy p d q moment at s (sending-asks d.state h).0 (by-send p d q moment at s (sending-asks d.state h).0 h)
+stands-answered p d q answers.SendFailed moment h at s =
+    after-send_failed p d q moment at s (sending-asks d.state h).0 (by-send p d q moment at s (sending-asks d.state h).0 h)
 
 -- the same of what it is after the call
-pub after-answered : (p : Plan) (d new : OfferData) (q : Record) (answer : SendAnswer) (moment : ℕ) → new ≡ answered answer moment d → is_awaited d.state answer ≡ true → moment ≡ now q
+pub after-answered : (p : Plan) (d new : OfferData) (q : Record) (answer : SendAnswer) (moment : ℕ) → new ≡ answered answer moment d
+    → is_awaited d.state answer ≡ true → moment ≡ now q
     → OfferStands p d q → OfferStands p new (Got (event_of answer) ∷ q)
 after-answered p d new q answer moment after awaited at s =
     subst (λ (x : OfferData). OfferStands p x (Got (event_of answer) ∷ q)) (sym after) (stands-answered p d q answer moment awaited at s)

@@ -48,7 +48,8 @@ is_written-some None h = absurd (h refl)
 same-time : (t : ℕ) → nat_le t t ≡ true
 same-time t = grind (arith, nat_tests)
 
-goes-by : (offers written over offering since : Bool) → offers ≡ offering → over ≡ since → ((offering && not since) ≡ true → written ≡ true) → ((offers && written) && not over) ≡ (offering && not since)
+goes-by : (offers written over offering since : Bool) → offers ≡ offering → over ≡ since → ((offering && not since) ≡ true → written ≡ true)
+    → ((offers && written) && not over) ≡ (offering && not since)
 goes-by true true over offering since o s w = grind arith
 goes-by false written over offering since o s w = grind arith
 goes-by true false true offering since o s w = grind arith
@@ -56,7 +57,8 @@ goes-by true false false offering since o s w = let k : (offering && not since) 
 
 -- the state says whether the offer goes on
 pub goes_on-is : (p : Plan) (d : OfferData) (q : Record) → OfferStands p d q → goes_on p q ≡ is_going d.state
-goes_on-is p d q s = goes-by (has_offer p q) (is_written (encode (table p q))) (is_over p q) (is_offering d.state) (is_some (over_since d.state)) s.offers_is s.over_is
+goes_on-is p d q s =
+    goes-by (has_offer p q) (is_written (encode (table p q))) (is_over p q) (is_offering d.state) (is_some (over_since d.state)) s.offers_is s.over_is
     (λ h. ap is_written (sym (s.message_is h)) ∙ is_written-some d.message (s.written h))
 
 due-all : (goes busy sends : Bool) → goes ≡ true → busy ≡ false → sends ≡ false → ((goes && not busy) && not sends) ≡ true
@@ -69,7 +71,8 @@ no-rest : (rests : Bool) → rests ≡ false → not rests ≡ true
 no-rest rests h = ap not h
 
 -- the facts of an ask that is due
-module _ (p : Plan) (d : OfferData) (q : Record) (moment : ℕ) (sends : Bool) (at : moment ≡ now q) (s : OfferStands p d q) (x : IsNext d.state sends moment) where
+module _ (p : Plan) (d : OfferData) (q : Record) (moment : ℕ) (sends : Bool) (at : moment ≡ now q) (s : OfferStands p d q)
+    (x : IsNext d.state sends moment) where
   going : is_going d.state ≡ true
   going = next-going d.state x.tells
 
@@ -115,7 +118,8 @@ module _ (p : Plan) (d : OfferData) (q : Record) (moment : ℕ) (sends : Bool) (
     retries_due = (retry, s.retries_due);
   }
 
-  send-stands : sends ≡ true → (m : Option Message) → m ≡ d.message → OfferStands p (record { state = Sending; message = d.message; patience = d.patience }) (tell q (send_told m))
+  send-stands : sends ≡ true → (m : Option Message) → m ≡ d.message
+      → OfferStands p (record { state = Sending; message = d.message; patience = d.patience }) (tell q (send_told m))
   send-stands second None is = absurd (s.written going (sym is))
   send-stands second (Some w) is = record {
     offers_is = s.offers_is ∙ going-offers d.state going;
@@ -133,7 +137,11 @@ module _ (p : Plan) (d : OfferData) (q : Record) (moment : ℕ) (sends : Bool) (
     delays_are = s.delays_are;
     delays_few = λ h. s.delays_few going;
     unasked = λ h. cc;
-    asks_due = (due-send (goes_on p q) (is_connect_open q || is_send_open q) (sends_next q) (is_message w.bytes w.fds (encode (table p q))) goes none-open (next-is ∙ second) same, s.asks_due);
+    asks_due = (
+      due-send (goes_on p q) (is_connect_open q || is_send_open q) (sends_next q) (is_message w.bytes w.fds (encode (table p q))) goes none-open
+          (next-is ∙ second) same,
+      s.asks_due,
+    );
     retries_due = (retry, s.retries_due);
   }
     where
@@ -143,17 +151,22 @@ module _ (p : Plan) (d : OfferData) (q : Record) (moment : ℕ) (sends : Bool) (
       same : is_message w.bytes w.fds (encode (table p q)) ≡ true
       same = ap (is_message w.bytes w.fds) (sym (is ∙ s.message_is going)) ∙ itself
 
-asked-by : (p : Plan) (d : OfferData) (q : Record) (moment : ℕ) (copy : Option Message) (connects sends : Bool) → is_connect_due d.state moment ≡ connects → is_send_due d.state moment ≡ sends → moment ≡ now q → (sends ≡ true → copy ≡ d.message)
-    → OfferStands p d q → OfferStands p (record { state = if connects then Connecting else (if sends then Sending else d.state); message = d.message; patience = d.patience })
+asked-by : (p : Plan) (d : OfferData) (q : Record) (moment : ℕ) (copy : Option Message) (connects sends : Bool) → is_connect_due d.state moment ≡ connects
+    → is_send_due d.state moment ≡ sends → moment ≡ now q → (sends ≡ true → copy ≡ d.message)
+    → OfferStands p d q
+    → OfferStands p (record { state = if connects then Connecting else (if sends then Sending else d.state); message = d.message; patience = d.patience })
     (tell q (if connects then Connect ∷ [] else (if sends then send_told copy else [])))
 asked-by p d q moment copy true sends c n at same s = connect-stands p d q moment false at s (connect-next d.state moment c) refl
 asked-by p d q moment copy false true c n at same s = send-stands p d q moment true at s (send-next d.state moment n) refl copy (same refl)
 asked-by p d q moment copy false false c n at same s = s
 
 -- what is due was asked
-pub stands-asked : (p : Plan) (d : OfferData) (q : Record) (moment : ℕ) (copy : Option Message) → moment ≡ now q → (is_send_due d.state moment ≡ true → copy ≡ d.message) → OfferStands p d q → OfferStands p (asked d moment) (tell q (ask_with copy d moment))
+pub stands-asked : (p : Plan) (d : OfferData) (q : Record) (moment : ℕ) (copy : Option Message) → moment ≡ now q
+    → (is_send_due d.state moment ≡ true → copy ≡ d.message) → OfferStands p d q → OfferStands p (asked d moment) (tell q (ask_with copy d moment))
 stands-asked p d q moment copy at same s = asked-by p d q moment copy (is_connect_due d.state moment) (is_send_due d.state moment) refl refl at same s
 
 -- the same of what it is after the call
-pub after-asked : (p : Plan) (d new : OfferData) (q : Record) (moment : ℕ) (copy : Option Message) → new ≡ asked d moment → moment ≡ now q → (is_send_due d.state moment ≡ true → copy ≡ d.message) → OfferStands p d q → OfferStands p new (tell q (ask_with copy d moment))
-after-asked p d new q moment copy after at same s = subst (λ (x : OfferData). OfferStands p x (tell q (ask_with copy d moment))) (sym after) (stands-asked p d q moment copy at same s)
+pub after-asked : (p : Plan) (d new : OfferData) (q : Record) (moment : ℕ) (copy : Option Message) → new ≡ asked d moment → moment ≡ now q
+    → (is_send_due d.state moment ≡ true → copy ≡ d.message) → OfferStands p d q → OfferStands p new (tell q (ask_with copy d moment))
+after-asked p d new q moment copy after at same s =
+    subst (λ (x : OfferData). OfferStands p x (tell q (ask_with copy d moment))) (sym after) (stands-asked p d q moment copy at same s)

@@ -26,7 +26,8 @@ no-cut true false true true answered h k = cc
 no-cut true false false true answered h k = cc
 
 pub going-uncut : (p : Plan) (q : Record) → has_offer p q ≡ true → is_over p q ≡ false → has_cut q ≡ false
-going-uncut p q offers going = no-cut (is_upgrade (signal_of q)) (is_empty_table (table p q)) (is_written (encode (table p q))) (has_cut q) (is_answered p q) offers going
+going-uncut p q offers going =
+    no-cut (is_upgrade (signal_of q)) (is_empty_table (table p q)) (is_written (encode (table p q))) (has_cut q) (is_answered p q) offers going
 
 pub uncut : (p : Plan) (d : OfferData) (q : Record) → OfferStands p d q → is_going d.state ≡ true → has_cut q ≡ false
 uncut p d q s going = going-uncut p q (s.offers_is ∙ going-offers d.state going) (s.over_is ∙ going-on d.state going)
@@ -55,7 +56,8 @@ module _ (p : Plan) (q : Record) (graceful : is_graceful (signal_of q) ≡ true)
       ∙ ap (λ c. is_over_by p (signal_of q) (before_signal q) c q) cuts
       ∙ either (is_upgrade (signal_of q)) (is_empty_table (table p q)) (is_written (encode (table p q))) (has_cut q) (is_answered p q)
     where
-      either : (up empty written cut answered : Bool) → (up && ((not empty && (not written || true)) || answered)) ≡ ((up && ((not empty && (not written || cut)) || answered)) || (up && not empty))
+      either : (up empty written cut answered : Bool)
+          → (up && ((not empty && (not written || true)) || answered)) ≡ ((up && ((not empty && (not written || cut)) || answered)) || (up && not empty))
       either up empty written cut answered = grind arith
 
 -- the state after a cut
@@ -96,10 +98,12 @@ still-not : (x : Offering) (moment : ℕ) → is_going (cut_state x moment) ≡ 
 still-not x moment h = let off = cut-still x moment in cc
 
 -- a cut
-pub stands-cut : (p : Plan) (d : OfferData) (q : Record) (moment : ℕ) → moment ≡ now q → is_graceful (signal_of q) ≡ true → OfferStands p d q → OfferStands p (cut_off moment d) (Got (Signal FastShutdown) ∷ q)
+pub stands-cut : (p : Plan) (d : OfferData) (q : Record) (moment : ℕ) → moment ≡ now q → is_graceful (signal_of q) ≡ true → OfferStands p d q
+    → OfferStands p (cut_off moment d) (Got (Signal FastShutdown) ∷ q)
 stands-cut p d q moment now_is graceful s = record {
   offers_is = offers-cut p q graceful ∙ s.offers_is ∙ sym (cut-offers d.state moment);
-  over_is = over-cut p q graceful ∙ ap (λ b. b || has_offer p q) s.over_is ∙ ap (λ b. is_some (over_since d.state) || b) s.offers_is ∙ sym (cut-over d.state moment);
+  over_is = over-cut p q graceful ∙ ap (λ b. b || has_offer p q) s.over_is ∙ ap (λ b. is_some (over_since d.state) || b) s.offers_is
+      ∙ sym (cut-over d.state moment);
   since_is = λ at h. elim (cut-since d.state moment at h) [
     | inl here ↦ since-here (is_over p q) (over_moment p q) (now q) at (s.over_is ∙ going-on d.state here.0) (sym now_is ∙ here.1)
     | inr earlier ↦ since-kept (is_over p q) (over_moment p q) (now q) at (s.over_is ∙ ap is_some earlier) (s.since_is at earlier)
@@ -121,8 +125,10 @@ stands-cut p d q moment now_is graceful s = record {
 }
 
 -- the same of what it is after the call
-pub after-cut : (p : Plan) (d new : OfferData) (q : Record) (moment : ℕ) → new ≡ cut_off moment d → moment ≡ now q → is_graceful (signal_of q) ≡ true → OfferStands p d q → OfferStands p new (Got (Signal FastShutdown) ∷ q)
-after-cut p d new q moment after now_is graceful s = subst (λ (x : OfferData). OfferStands p x (Got (Signal FastShutdown) ∷ q)) (sym after) (stands-cut p d q moment now_is graceful s)
+pub after-cut : (p : Plan) (d new : OfferData) (q : Record) (moment : ℕ) → new ≡ cut_off moment d → moment ≡ now q → is_graceful (signal_of q) ≡ true
+    → OfferStands p d q → OfferStands p new (Got (Signal FastShutdown) ∷ q)
+after-cut p d new q moment after now_is graceful s =
+    subst (λ (x : OfferData). OfferStands p x (Got (Signal FastShutdown) ∷ q)) (sym after) (stands-cut p d q moment now_is graceful s)
 
 -- and nothing is asked after it
 pub settled-cut : (d new : OfferData) (moment t : ℕ) → new ≡ cut_off moment d → IsOfferSettled new t

@@ -62,7 +62,8 @@ stands-got p d q (Moment ms) other s = record {
   connecting_is = s.connecting_is;
   sending_is = s.sending_is;
   rests_is = s.rests_is;
-  rested = λ asks forward t later. let parts = and_parts (nat_le (now q) ms) (goes_forward q) forward in s.rested asks parts.1 t (no-later (now q) ms t parts.0 later);
+  rested = λ asks forward t later. let parts = and_parts (nat_le (now q) ms) (goes_forward q) forward in
+      s.rested asks parts.1 t (no-later (now q) ms t parts.0 later);
   next_is = s.next_is;
   message_is = s.message_is;
   written = s.written;
@@ -95,7 +96,8 @@ stands-got p d q e other s = record {
 }
 
 -- a told list in which nothing asks the successor
-pub stands-tell : (p : Plan) (d : OfferData) (q : Record) (told : List Action) → has_no_offer_action told ≡ true → OfferStands p d q → OfferStands p d (tell q told)
+pub stands-tell : (p : Plan) (d : OfferData) (q : Record) (told : List Action) → has_no_offer_action told ≡ true → OfferStands p d q
+    → OfferStands p d (tell q told)
 stands-tell p d q [] other stand = stand
 stands-tell p d q (a ∷ told) other stand =
     let parts = and_parts (not (is_offer_action a)) (has_no_offer_action told) other in

@@ -56,7 +56,8 @@ holds-third true b c x y z = cc
 holds-third false true c x y z = cc
 
 -- exactly one holds of what the state says
-one-of : (x : Offering) (t : ℕ) (connects sends rest : Bool) → is_connect_due x t ≡ false → is_send_due x t ≡ false → (is_going x ≡ true → connects ≡ is_connecting x) → (is_going x ≡ true → sends ≡ is_sending x)
+one-of : (x : Offering) (t : ℕ) (connects sends rest : Bool) → is_connect_due x t ≡ false → is_send_due x t ≡ false
+    → (is_going x ≡ true → connects ≡ is_connecting x) → (is_going x ≡ true → sends ≡ is_sending x)
     → (tells_next x ≡ true → rest ≡ rests_in x t) → (is_asking x ≡ true → rest ≡ false) → (not (is_going x) || one_holds connects sends rest) ≡ true
 one-of Nothing t connects sends rest c n a b r o = refl
 one-of Unasked t connects sends rest c n a b r o = cc
@@ -69,7 +70,8 @@ one-of (Stalled at) t connects sends rest c n a b r o = holds-third connects sen
 one-of (Over at) t connects sends rest c n a b r o = refl
 
 -- at least one does
-some-of : (x : Offering) (t : ℕ) (connects sends rest : Bool) → is_connect_due x t ≡ false → is_send_due x t ≡ false → (is_going x ≡ true → connects ≡ is_connecting x) → (is_going x ≡ true → sends ≡ is_sending x)
+some-of : (x : Offering) (t : ℕ) (connects sends rest : Bool) → is_connect_due x t ≡ false → is_send_due x t ≡ false
+    → (is_going x ≡ true → connects ≡ is_connecting x) → (is_going x ≡ true → sends ≡ is_sending x)
     → (tells_next x ≡ true → rest ≡ rests_in x t) → (not (is_going x) || ((connects || sends) || rest)) ≡ true
 some-of Nothing t connects sends rest c n a b r = refl
 some-of Unasked t connects sends rest c n a b r = cc
@@ -88,7 +90,8 @@ some-of (Over at) t connects sends rest c n a b r = refl
 pub offer-right : (p : Plan) (d : OfferData) (q : Record) → OfferStands p d q → IsOfferSettled d (now q) → OfferRight p q
 offer-right p d q s settled = record {
   goes = ap (λ b. not b || ((is_connect_open q || is_send_open q) || answer_rests (now q) q)) (goes_on-is p d q s)
-      ∙ some-of d.state (now q) (is_connect_open q) (is_send_open q) (answer_rests (now q) q) settled.no_connect settled.no_send (λ going. s.connecting_is (uncut p d q s going)) (λ going. s.sending_is (uncut p d q s going))
+      ∙ some-of d.state (now q) (is_connect_open q) (is_send_open q) (answer_rests (now q) q) settled.no_connect settled.no_send
+      (λ going. s.connecting_is (uncut p d q s going)) (λ going. s.sending_is (uncut p d q s going))
       (λ h. s.rests_is h (now q));
   in_turn = s.asks_due;
 }
@@ -97,7 +100,8 @@ offer-right p d q s settled = record {
 pub one-ask : (p : Plan) (d : OfferData) (q : Record) → OfferStands p d q → IsOfferSettled d (now q) → goes_forward q ≡ true → one_ask p q ≡ true
 one-ask p d q s settled forward =
     ap (λ b. not b || one_holds (is_connect_open q) (is_send_open q) (answer_rests (now q) q)) (goes_on-is p d q s)
-    ∙ one-of d.state (now q) (is_connect_open q) (is_send_open q) (answer_rests (now q) q) settled.no_connect settled.no_send (λ going. s.connecting_is (uncut p d q s going)) (λ going. s.sending_is (uncut p d q s going))
+    ∙ one-of d.state (now q) (is_connect_open q) (is_send_open q) (answer_rests (now q) q) settled.no_connect settled.no_send
+    (λ going. s.connecting_is (uncut p d q s going)) (λ going. s.sending_is (uncut p d q s going))
     (λ h. s.rests_is h (now q))
     (λ h. s.rested h forward (now q) (rests-all (now q)))
 
@@ -141,7 +145,8 @@ released p d q s over fd = held-over (is_upgrade (signal_of q)) (list_any (λ (x
 
 -- nor where nothing was offered
 unoffered : (p : Plan) (d : OfferData) (q : Record) → OfferStands p d q → is_offering d.state ≡ false → (fd : ℕ) → is_held_back p q fd ≡ false
-unoffered p d q s none fd = held-none (is_upgrade (signal_of q)) (is_empty_table (table p q)) (list_any (λ (x : TableEntry). x.1 == fd) (table p q)) (is_over p q)
+unoffered p d q s none fd =
+    held-none (is_upgrade (signal_of q)) (is_empty_table (table p q)) (list_any (λ (x : TableEntry). x.1 == fd) (table p q)) (is_over p q)
     (none-in (table p q) fd) (s.offers_is ∙ none)
 
 offered-by : (p : Plan) (d : OfferData) (q : Record) → OfferStands p d q → (x : Offering) → x ≡ d.state → (fd : ℕ)
@@ -180,7 +185,9 @@ offered-answer p q answers.SendBusy fd = refl
 offered-answer p q answers.SendFailed fd = refl
 
 -- and an answer after which the offer is as far as before
-pub held-back-answer : (p : Plan) (d d2 : OfferData) (q : Record) (answer : SendAnswer) (fd : ℕ) → OfferStands p d q → OfferStands p d2 (Got (event_of answer) ∷ q)
+pub held-back-answer : (p : Plan) (d d2 : OfferData) (q : Record) (answer : SendAnswer) (fd : ℕ) → OfferStands p d q
+    → OfferStands p d2 (Got (event_of answer) ∷ q)
     → is_some (over_since d.state) ≡ is_some (over_since d2.state) → is_held_back p (Got (event_of answer) ∷ q) fd ≡ is_held_back p q fd
 held-back-answer p d d2 q answer fd s s2 same =
-    ap (λ b. b && not (is_over p (Got (event_of answer) ∷ q))) (offered-answer p q answer fd) ∙ ap (λ b. is_offered p q fd && not b) (s2.over_is ∙ sym same ∙ sym s.over_is)
+    ap (λ b. b && not (is_over p (Got (event_of answer) ∷ q))) (offered-answer p q answer fd)
+    ∙ ap (λ b. is_offered p q fd && not b) (s2.over_is ∙ sym same ∙ sym s.over_is)

@@ -25,7 +25,8 @@ unanswered (Got ConnectFailed ∷ q) h = cc
 unanswered (Got Sent ∷ q) h = cc
 unanswered (Got SendBusy ∷ q) h = cc
 unanswered (Got SendFailed ∷ q) h = cc
-unanswered (_ ∷ q) h = let u = unanswered q h in record { no_last = u.no_last; no_absence = u.no_absence; no_delay = u.no_delay; no_rest = u.no_rest; no_next = u.no_next }
+unanswered (_ ∷ q) h =
+    let u = unanswered q h in record { no_last = u.no_last; no_absence = u.no_absence; no_delay = u.no_delay; no_rest = u.no_rest; no_next = u.no_next }
 
 -- no signal, no kind of one
 pub no-kind : (q : Record) → has is_signal q ≡ false → signal_of q ≡ None
@@ -62,7 +63,9 @@ pub uncut-none : (q : Record) → has is_signal q ≡ false → has_cut q ≡ fa
 uncut-none q h = unsignalled-uncut q (no-kind q h)
 
 pub first-uncut : (q : Record) (kind : ShutdownSignal) → has is_signal q ≡ false → has_cut (Got (Signal kind) ∷ q) ≡ false
-first-uncut q kind h = ap (λ s. (is_fast_signal (Got (Signal kind)) && is_graceful s) || has_cut q) (no-kind q h) ∙ none (is_fast_signal (Got (Signal kind))) (has_cut q) (uncut-none q h)
+first-uncut q kind h =
+    ap (λ s. (is_fast_signal (Got (Signal kind)) && is_graceful s) || has_cut q) (no-kind q h)
+    ∙ none (is_fast_signal (Got (Signal kind))) (has_cut q) (uncut-none q h)
   where
     none : (f c : Bool) → c ≡ false → ((f && false) || c) ≡ false
     none f c k = grind arith

@@ -40,7 +40,8 @@ end-if : (b : Bool) (reason : SendError) (rest : ℕ) → is_end (if b then Refu
 end-if true reason rest = refl
 end-if false reason rest = refl
 
-end-unless : (b last : Bool) (reason : SendError) (next : SendNext) → is_end next ≡ false → (b ≡ true → last ≡ false) → (b ≡ false → last ≡ true) → is_end (if b then next else Refused reason) ≡ last
+end-unless : (b last : Bool) (reason : SendError) (next : SendNext) → is_end next ≡ false → (b ≡ true → last ≡ false) → (b ≡ false → last ≡ true)
+    → is_end (if b then next else Refused reason) ≡ last
 end-unless true last reason next goes here there = goes ∙ sym (here refl)
 end-unless false last reason next goes here there = sym (there refl)
 
@@ -56,11 +57,19 @@ delay-last n left few e h = grind (arith, nat_tests)
 -- the offer ends where nothing comes next
 pub ends-is : (n : Patience) (answer : SendAnswer) → n.delays ≤ 19 → is_end (send_next n.absences (waits (19 - n.delays)) answer) ≡ ends_by n answer
 ends-is n Connected few = refl
-ends-is n NotThere few = end-if (nat_lt n.absences (absences (waits (19 - n.delays)) + 1)) NoReceiver 1000 ∙ absent-last n.absences (absences (waits (19 - n.delays))) (absences-waits (19 - n.delays))
-ends-is n StillConnecting few = let e = delays-waits (19 - n.delays) in end-unless (nat_lt (delays (waits (19 - n.delays)) + 1) 20) (nat_lt n.delays 1) StillBusy (Connect 500) refl (delay-goes (delays (waits (19 - n.delays))) n.delays few e) (delay-last (delays (waits (19 - n.delays))) n.delays few e)
+ends-is n NotThere few =
+    end-if (nat_lt n.absences (absences (waits (19 - n.delays)) + 1)) NoReceiver 1000
+    ∙ absent-last n.absences (absences (waits (19 - n.delays))) (absences-waits (19 - n.delays))
+ends-is n StillConnecting few =
+    let e = delays-waits (19 - n.delays) in
+    end-unless (nat_lt (delays (waits (19 - n.delays)) + 1) 20) (nat_lt n.delays 1) StillBusy (Connect 500) refl
+    (delay-goes (delays (waits (19 - n.delays))) n.delays few e) (delay-last (delays (waits (19 - n.delays))) n.delays few e)
 ends-is n ConnectFailed few = refl
 ends-is n Sent few = refl
-ends-is n SendBusy few = let e = delays-waits (19 - n.delays) in end-unless (nat_lt (delays (waits (19 - n.delays)) + 1) 20) (nat_lt n.delays 1) StillBusy (Send 500) refl (delay-goes (delays (waits (19 - n.delays))) n.delays few e) (delay-last (delays (waits (19 - n.delays))) n.delays few e)
+ends-is n SendBusy few =
+    let e = delays-waits (19 - n.delays) in
+    end-unless (nat_lt (delays (waits (19 - n.delays)) + 1) 20) (nat_lt n.delays 1) StillBusy (Send 500) refl
+    (delay-goes (delays (waits (19 - n.delays))) n.delays few e) (delay-last (delays (waits (19 - n.delays))) n.delays few e)
 ends-is n SendFailed few = refl
 
 abbrev patience-of : ℕ → ℕ → Patience
@@ -70,17 +79,33 @@ pub same-patience : (x y : Patience) → x.absences ≡ y.absences → x.delays 
 same-patience x y a b = ap (λ (k : ℕ). patience-of k x.delays) a ∙ ap (λ (k : ℕ). patience-of y.absences k) b
 
 -- and so much is borne after it
-pub patience-is : (n x : Patience) (answer : SendAnswer) → n.delays ≤ 19 → IsAfterSends n.absences (answer ∷ waits (19 - n.delays)) x → x ≡ patience_after n answer
-patience-is n x Connected few after = same-patience x n (let a = after.absences in let e = absences-waits (19 - n.delays) in omega arith) (let b = after.delays in let e = delays-waits (19 - n.delays) in omega arith)
-patience-is n x NotThere few after = same-patience x (patience_after n NotThere) (let a = after.absences in let e = absences-waits (19 - n.delays) in omega arith) (let b = after.delays in let e = delays-waits (19 - n.delays) in omega arith)
-patience-is n x StillConnecting few after = same-patience x (patience_after n StillConnecting) (let a = after.absences in let e = absences-waits (19 - n.delays) in omega arith) (let b = after.delays in let e = delays-waits (19 - n.delays) in omega arith)
-patience-is n x ConnectFailed few after = same-patience x n (let a = after.absences in let e = absences-waits (19 - n.delays) in omega arith) (let b = after.delays in let e = delays-waits (19 - n.delays) in omega arith)
-patience-is n x Sent few after = same-patience x n (let a = after.absences in let e = absences-waits (19 - n.delays) in omega arith) (let b = after.delays in let e = delays-waits (19 - n.delays) in omega arith)
-patience-is n x SendBusy few after = same-patience x (patience_after n SendBusy) (let a = after.absences in let e = absences-waits (19 - n.delays) in omega arith) (let b = after.delays in let e = delays-waits (19 - n.delays) in omega arith)
-patience-is n x SendFailed few after = same-patience x n (let a = after.absences in let e = absences-waits (19 - n.delays) in omega arith) (let b = after.delays in let e = delays-waits (19 - n.delays) in omega arith)
+pub patience-is : (n x : Patience) (answer : SendAnswer) → n.delays ≤ 19 → IsAfterSends n.absences (answer ∷ waits (19 - n.delays)) x
+    → x ≡ patience_after n answer
+patience-is n x Connected few after =
+    same-patience x n (let a = after.absences in let e = absences-waits (19 - n.delays) in omega arith)
+    (let b = after.delays in let e = delays-waits (19 - n.delays) in omega arith)
+patience-is n x NotThere few after =
+    same-patience x (patience_after n NotThere) (let a = after.absences in let e = absences-waits (19 - n.delays) in omega arith)
+    (let b = after.delays in let e = delays-waits (19 - n.delays) in omega arith)
+patience-is n x StillConnecting few after =
+    same-patience x (patience_after n StillConnecting) (let a = after.absences in let e = absences-waits (19 - n.delays) in omega arith)
+    (let b = after.delays in let e = delays-waits (19 - n.delays) in omega arith)
+patience-is n x ConnectFailed few after =
+    same-patience x n (let a = after.absences in let e = absences-waits (19 - n.delays) in omega arith)
+    (let b = after.delays in let e = delays-waits (19 - n.delays) in omega arith)
+patience-is n x Sent few after =
+    same-patience x n (let a = after.absences in let e = absences-waits (19 - n.delays) in omega arith)
+    (let b = after.delays in let e = delays-waits (19 - n.delays) in omega arith)
+patience-is n x SendBusy few after =
+    same-patience x (patience_after n SendBusy) (let a = after.absences in let e = absences-waits (19 - n.delays) in omega arith)
+    (let b = after.delays in let e = delays-waits (19 - n.delays) in omega arith)
+patience-is n x SendFailed few after =
+    same-patience x n (let a = after.absences in let e = absences-waits (19 - n.delays) in omega arith)
+    (let b = after.delays in let e = delays-waits (19 - n.delays) in omega arith)
 
 -- whether the offer ends, by what the retry answered
-pub ended : (n : Patience) (answer : SendAnswer) (next : SendNext) → n.delays ≤ 19 → next ≡ send_next n.absences (waits (19 - n.delays)) answer → is_end next ≡ ends_by n answer
+pub ended : (n : Patience) (answer : SendAnswer) (next : SendNext) → n.delays ≤ 19 → next ≡ send_next n.absences (waits (19 - n.delays)) answer
+    → is_end next ≡ ends_by n answer
 ended n answer next few is = ap is_end is ∙ ends-is n answer few
 
 pub goes-on : (next : SendNext) → (next ≡ Done → ⊥) → ((reason : SendError) → next ≡ Refused reason → ⊥) → is_end next ≡ false

@@ -30,11 +30,14 @@ is_over_by p s b cut q = is_upgrade s && ((not (is_empty_table (live_table p b))
 
 -- a later signal that is no cut leaves all as it was
 pub offer-later : (p : Plan) (q : Record) (kind : ShutdownSignal) → has is_signal q ≡ true → has_offer p (Got (Signal kind) ∷ q) ≡ has_offer p q
-offer-later p q kind h = ap (λ s. has_offer_by p s (before_signal (Got (Signal kind) ∷ q))) (later-kind q kind h) ∙ ap (λ b. has_offer_by p (signal_of q) b) (later-before q kind h)
+offer-later p q kind h =
+    ap (λ s. has_offer_by p s (before_signal (Got (Signal kind) ∷ q))) (later-kind q kind h) ∙ ap (λ b. has_offer_by p (signal_of q) b) (later-before q kind h)
 
-pub over-later : (p : Plan) (q : Record) (kind : ShutdownSignal) → has is_signal q ≡ true → has_cut (Got (Signal kind) ∷ q) ≡ has_cut q → is_over p (Got (Signal kind) ∷ q) ≡ is_over p q
+pub over-later : (p : Plan) (q : Record) (kind : ShutdownSignal) → has is_signal q ≡ true → has_cut (Got (Signal kind) ∷ q) ≡ has_cut q
+    → is_over p (Got (Signal kind) ∷ q) ≡ is_over p q
 over-later p q kind h uncut = ap (λ s. is_over_by p s (before_signal (Got (Signal kind) ∷ q)) (has_cut (Got (Signal kind) ∷ q)) q) (later-kind q kind h)
-    ∙ ap (λ b. is_over_by p (signal_of q) b (has_cut (Got (Signal kind) ∷ q)) q) (later-before q kind h) ∙ ap (λ c. is_over_by p (signal_of q) (before_signal q) c q) uncut
+    ∙ ap (λ b. is_over_by p (signal_of q) b (has_cut (Got (Signal kind) ∷ q)) q) (later-before q kind h)
+    ∙ ap (λ c. is_over_by p (signal_of q) (before_signal q) c q) uncut
 
 pub stands-later : (p : Plan) (d : OfferData) (q : Record) (kind : ShutdownSignal) → has is_signal q ≡ true → has_cut (Got (Signal kind) ∷ q) ≡ has_cut q
     → OfferStands p d q → OfferStands p d (Got (Signal kind) ∷ q)
@@ -77,21 +80,26 @@ pub offers-none : (p : Plan) (q : Record) → has is_signal q ≡ false → has_
 offers-none p q h = not-upgraded (signal_of q) (not (is_empty_table (table p q))) (no-kind q h)
 
 pub over-none : (p : Plan) (q : Record) → has is_signal q ≡ false → is_over p q ≡ false
-over-none p q h = not-upgraded (signal_of q) ((not (is_empty_table (table p q)) && (not (is_written (encode (table p q))) || has_cut q)) || is_answered p q) (no-kind q h)
+over-none p q h =
+    not-upgraded (signal_of q) ((not (is_empty_table (table p q)) && (not (is_written (encode (table p q))) || has_cut q)) || is_answered p q) (no-kind q h)
 
 -- whether the first signal offers something, and whether that is over at once
 pub offer-first : (p : Plan) (q : Record) (kind : ShutdownSignal) → has is_signal q ≡ false → has_offer p (Got (Signal kind) ∷ q) ≡ has_offer_by p (Some kind) q
-offer-first p q kind h = ap (λ s. has_offer_by p s (before_signal (Got (Signal kind) ∷ q))) (first-kind q kind h) ∙ ap (λ b. has_offer_by p (Some kind) b) (first-before q kind h)
+offer-first p q kind h =
+    ap (λ s. has_offer_by p s (before_signal (Got (Signal kind) ∷ q))) (first-kind q kind h) ∙ ap (λ b. has_offer_by p (Some kind) b) (first-before q kind h)
 
-pub over-first : (p : Plan) (q : Record) (kind : ShutdownSignal) → has is_signal q ≡ false → is_over p (Got (Signal kind) ∷ q) ≡ is_over_by p (Some kind) q false q
+pub over-first : (p : Plan) (q : Record) (kind : ShutdownSignal) → has is_signal q ≡ false
+    → is_over p (Got (Signal kind) ∷ q) ≡ is_over_by p (Some kind) q false q
 over-first p q kind h = ap (λ s. is_over_by p s (before_signal (Got (Signal kind) ∷ q)) (has_cut (Got (Signal kind) ∷ q)) q) (first-kind q kind h)
-    ∙ ap (λ b. is_over_by p (Some kind) b (has_cut (Got (Signal kind) ∷ q)) q) (first-before q kind h) ∙ ap (λ c. is_over_by p (Some kind) q c q) (first-uncut q kind h)
+    ∙ ap (λ b. is_over_by p (Some kind) b (has_cut (Got (Signal kind) ∷ q)) q) (first-before q kind h)
+    ∙ ap (λ c. is_over_by p (Some kind) q c q) (first-uncut q kind h)
 
 empty-none : (upgrade empty : Bool) → (upgrade ≡ true → empty ≡ true) → (upgrade && not empty) ≡ false
 empty-none true empty h = ap not (h refl)
 empty-none false empty h = refl
 
-empty-on : (upgrade empty unwritten answered : Bool) → (upgrade ≡ true → empty ≡ true) → answered ≡ false → (upgrade && ((not empty && unwritten) || answered)) ≡ false
+empty-on : (upgrade empty unwritten answered : Bool) → (upgrade ≡ true → empty ≡ true) → answered ≡ false
+    → (upgrade && ((not empty && unwritten) || answered)) ≡ false
 empty-on true empty unwritten answered h a = let e = h refl in grind arith
 empty-on false empty unwritten answered h a = refl
 
@@ -106,7 +114,8 @@ stands-unoffered p d q kind h empty s =
     record {
       offers_is = offer-first p q kind h ∙ empty-none (is_upgrade (Some kind)) (is_empty_table (live_table p q)) empty ∙ sym none;
       over_is = over-first p q kind h
-          ∙ empty-on (is_upgrade (Some kind)) (is_empty_table (live_table p q)) (not (is_written (encode (live_table p q))) || false) (is_answered p q) empty (answered-none p q u)
+          ∙ empty-on (is_upgrade (Some kind)) (is_empty_table (live_table p q)) (not (is_written (encode (live_table p q))) || false) (is_answered p q) empty
+          (answered-none p q u)
           ∙ sym open_end;
       since_is = λ at e. let k : is_some (over_since d.state) ≡ true = ap is_some e in cc;
       connecting_is = λ c. s.connecting_is (uncut-none q h);
@@ -150,7 +159,8 @@ few-yet b h = grind (arith, nat_tests)
 
 -- the first signal, an upgrade by which something is offered
 pub stands-begun : (p : Plan) (d : OfferData) (q : Record) (message : Option Message) (moment : ℕ) → moment ≡ now q → has is_signal q ≡ false
-    → is_empty_table (live_table p q) ≡ false → message ≡ encode (live_table p q) → OfferStands p d q → OfferStands p (begun message moment d) (Got (Signal GracefulUpgrade) ∷ q)
+    → is_empty_table (live_table p q) ≡ false → message ≡ encode (live_table p q) → OfferStands p d q
+    → OfferStands p (begun message moment d) (Got (Signal GracefulUpgrade) ∷ q)
 stands-begun p d q (Some w) moment at h some is s =
     let none : is_offering d.state ≡ false = sym s.offers_is ∙ offers-none p q h in
     let u : Unanswered q = unanswered q (s.unasked none).1 in
@@ -201,7 +211,8 @@ stands-begun p d q None moment at h some is s =
     }
 
 -- the same of what it is after the call
-pub after-begun : (p : Plan) (d new : OfferData) (q : Record) (message : Option Message) (moment : ℕ) → new ≡ begun message moment d → moment ≡ now q → has is_signal q ≡ false
+pub after-begun : (p : Plan) (d new : OfferData) (q : Record) (message : Option Message) (moment : ℕ) → new ≡ begun message moment d → moment ≡ now q
+    → has is_signal q ≡ false
     → is_empty_table (live_table p q) ≡ false → message ≡ encode (live_table p q) → OfferStands p d q → OfferStands p new (Got (Signal GracefulUpgrade) ∷ q)
 after-begun p d new q message moment after at h some is s =
     subst (λ (x : OfferData). OfferStands p x (Got (Signal GracefulUpgrade) ∷ q)) (sym after) (stands-begun p d q message moment at h some is s)

@@ -109,7 +109,12 @@ ask_with copy d moment = if is_connect_due d.state moment then Connect ∷ [] el
 
 -- the part after that
 abbrev pub asked : OfferData → ℕ → OfferData
-asked d moment = record { state = if is_connect_due d.state moment then Connecting else (if is_send_due d.state moment then Sending else d.state); message = d.message; patience = d.patience }
+asked d moment =
+    record {
+      state = if is_connect_due d.state moment then Connecting else (if is_send_due d.state moment then Sending else d.state);
+      message = d.message;
+      patience = d.patience;
+    }
 
 -- a send falls due by the event
 abbrev pub sends_at : Offering → Event → Bool

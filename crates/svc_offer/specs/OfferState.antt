@@ -107,7 +107,8 @@ is_offer_answer e = is_connect_answer e || is_send_answer e
 abbrev pub is_offer_ask : Entry → Bool
 is_offer_ask e = is_connect e || is_send e
 
--- the part says what the record says, and each ask was due as it was told; where nothing is offered, nothing was asked or answered. An ask that is open at a cut stays unanswered, and the part knows nothing more of it.
+-- the part says what the record says, and each ask was due as it was told; where nothing is offered, nothing was asked or answered. An ask that is
+-- open at a cut stays unanswered, and the part knows nothing more of it.
 pub record OfferStands (p : Plan) (d : OfferData) (q : Record) : Type 0 where
   pub offers_is : has_offer p q ≡ is_offering d.state
   pub over_is : is_over p q ≡ is_some (over_since d.state)

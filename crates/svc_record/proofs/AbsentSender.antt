@@ -40,7 +40,8 @@ served : Served plan run
 unfolding is_utf8 chars encode is_well_formed words
 served = served_from_test plan run refl
 
-shortened-wrong : right_ones plan (shortened run) ≡ false ∷ false ∷ false ∷ false ∷ false ∷ false ∷ false ∷ false ∷ false ∷ false ∷ false ∷ false ∷ false ∷ false ∷ []
+shortened-wrong : right_ones plan (shortened run)
+    ≡ false ∷ false ∷ false ∷ false ∷ false ∷ false ∷ false ∷ false ∷ false ∷ false ∷ false ∷ false ∷ false ∷ false ∷ []
 unfolding is_utf8 chars encode is_well_formed words
 shortened-wrong = refl
 

@@ -37,7 +37,8 @@ inherited = Told (Adopt 0 0 3) ∷ Told (Close 9) ∷ Got (Bound 0 0 9) ∷ Told
 
 -- the whole run
 abbrev pub run : Record
-run = Told (Phase Terminated 0) ∷ Told (Stop 0) ∷ Told (Close 3) ∷ Told (Phase ShutdownRuntimes 0) ∷ Told (Phase ShutdownStarted 0) ∷ Got (Signal FastShutdown) ∷ Got (Adopted 0 0) ∷ inherited
+run = Told (Phase Terminated 0) ∷ Told (Stop 0) ∷ Told (Close 3) ∷ Told (Phase ShutdownRuntimes 0) ∷ Told (Phase ShutdownStarted 0) ∷ Got (Signal FastShutdown)
+    ∷ Got (Adopted 0 0) ∷ inherited
 
 right : Right plan run
 unfolding is_utf8 chars encode is_well_formed words
@@ -47,11 +48,14 @@ served : Served plan run
 unfolding is_utf8 chars encode is_well_formed words
 served = served_from_test plan run refl
 
-beginnings-right : right_ones plan (beginnings run) ≡ true ∷ false ∷ false ∷ false ∷ false ∷ false ∷ true ∷ true ∷ false ∷ false ∷ true ∷ false ∷ true ∷ false ∷ false ∷ false ∷ false ∷ false ∷ false ∷ false ∷ []
+beginnings-right : right_ones plan (beginnings run)
+    ≡ true ∷ false ∷ false ∷ false ∷ false ∷ false ∷ true ∷ true ∷ false ∷ false ∷ true ∷ false ∷ true ∷ false ∷ false ∷ false ∷ false ∷ false ∷ false ∷ false
+    ∷ []
 unfolding is_utf8 chars encode is_well_formed words
 beginnings-right = refl
 
-shortened-right : right_ones plan (shortened run) ≡ false ∷ false ∷ false ∷ false ∷ false ∷ false ∷ true ∷ false ∷ false ∷ false ∷ false ∷ false ∷ false ∷ false ∷ false ∷ false ∷ false ∷ false ∷ false ∷ []
+shortened-right : right_ones plan (shortened run)
+    ≡ false ∷ false ∷ false ∷ false ∷ false ∷ false ∷ true ∷ false ∷ false ∷ false ∷ false ∷ false ∷ false ∷ false ∷ false ∷ false ∷ false ∷ false ∷ false ∷ []
 unfolding is_utf8 chars encode is_well_formed words
 shortened-right = refl
 
@@ -67,7 +71,8 @@ abbrev pub alone : Plan
 alone = plan_of (bootstrapping ∷ service (codes "b") (0 ∷ []) ∷ [])
 
 abbrev pub alone_run : Record
-alone_run = Told (Phase Terminated 0) ∷ Told (Stop 0) ∷ Told (Phase ShutdownRuntimes 0) ∷ Told (Phase ShutdownStarted 0) ∷ Got (Signal FastShutdown) ∷ Told (Phase Running 0)
+alone_run = Told (Phase Terminated 0) ∷ Told (Stop 0) ∷ Told (Phase ShutdownRuntimes 0) ∷ Told (Phase ShutdownStarted 0) ∷ Got (Signal FastShutdown)
+    ∷ Told (Phase Running 0)
     ∷ Told (Start 1) ∷ Told (Phase BootstrapComplete 0) ∷ Told (Phase Bootstrap 0) ∷ Told (Start 0) ∷ []
 
 alone-right : Right alone alone_run

@@ -21,7 +21,8 @@ abbrev plan : Plan
 plan = plan_of (service (codes "a") [] ∷ service (codes "b") (0 ∷ []) ∷ service (codes "c") (1 ∷ []) ∷ [])
 
 abbrev run : Record
-run = Told (Phase Terminated 0) ∷ Told (Stop 0) ∷ Told (Phase ShutdownRuntimes 0) ∷ Told (Phase ShutdownStarted 0) ∷ Got (Signal FastShutdown) ∷ Told (Phase Running 0)
+run = Told (Phase Terminated 0) ∷ Told (Stop 0) ∷ Told (Phase ShutdownRuntimes 0) ∷ Told (Phase ShutdownStarted 0) ∷ Got (Signal FastShutdown)
+    ∷ Told (Phase Running 0)
     ∷ Told (Start 2) ∷ Told (Start 1) ∷ Told (Start 0) ∷ []
 
 right : Right plan run

@@ -74,12 +74,17 @@ in_range test (suc n) a f = and (test a) (list_all test (range_with_len (a + 1) 
 pub below : (test : ℕ → Bool) (n : ℕ) → ((s : ℕ) → s < n → test s ≡ true) → list_all test (range_with_len 0 n) ≡ true
 below test n f = in_range test n 0 (λ s low high. f s (omega arith))
 
-pub each_endpoint : (p : Plan) (test : ℕ → ℕ → Bool) → ((s i : ℕ) → s < service_count p → i < length (endpoints p s) → test s i ≡ true) → list_all (λ s. list_all (test s) (endpoint_numbers p s)) (services p) ≡ true
-each_endpoint p test f = below (λ s. list_all (test s) (endpoint_numbers p s)) (service_count p) (λ s low. below (test s) (length (endpoints p s)) (λ i lower. f s i low lower))
+pub each_endpoint : (p : Plan) (test : ℕ → ℕ → Bool) → ((s i : ℕ) → s < service_count p → i < length (endpoints p s) → test s i ≡ true)
+    → list_all (λ s. list_all (test s) (endpoint_numbers p s)) (services p) ≡ true
+each_endpoint p test f =
+    below (λ s. list_all (test s) (endpoint_numbers p s)) (service_count p) (λ s low. below (test s) (length (endpoints p s)) (λ i lower. f s i low lower))
 
-pub each_number : (test : ℕ → Bool) (ds : List Descriptor) → ((fd : ℕ) → list_any (has_number fd) ds ≡ true → test fd ≡ true) → list_all (λ (d : Descriptor). test d.number) ds ≡ true
+pub each_number : (test : ℕ → Bool) (ds : List Descriptor) → ((fd : ℕ) → list_any (has_number fd) ds ≡ true → test fd ≡ true)
+    → list_all (λ (d : Descriptor). test d.number) ds ≡ true
 each_number test [] f = refl
-each_number test (d ∷ ds) f = and (test d.number) (list_all (λ (x : Descriptor). test x.number) ds) (f d.number (or_left (d.number == d.number) (list_any (has_number d.number) ds) (same d.number)))
+each_number test (d ∷ ds) f =
+    and (test d.number) (list_all (λ (x : Descriptor). test x.number) ds)
+    (f d.number (or_left (d.number == d.number) (list_any (has_number d.number) ds) (same d.number)))
     (each_number test ds (λ fd e. f fd (or_right (d.number == fd) (list_any (has_number fd) ds) e)))
 
 pub starts : (p : Plan) (q : Record) → StartsRight p q → (starts_right p q && each_entry (start_due p) q) ≡ true
@@ -125,9 +130,11 @@ ended p q h = and _ _ (on_true (has_ended_early p q) _ _ (λ e. ap is_silent e) 
 pub open_ : (p : Plan) (q : Record) → OpenRight p q → open_right p q ≡ true
 open_ p q h = and _ _ (and _ _ (and _ _ (and _ _ (boot p q h.boot) (offer p q h.offer)) (and _ _ (connections p q h.connections) (closes p q h.closes)))
     (and _ _ h.one_live (both_late (from_the_start q) h.starts h.endpoints_late)))
-    (and _ _ (on_true (in_service q) _ _ (held_or_wait p q) h.endpoints) (and _ _ (and _ _ (phases p q h.phases) (entries moment_right q h.moments)) (not_from_false _ h.no_end)))
+    (and _ _ (on_true (in_service q) _ _ (held_or_wait p q) h.endpoints)
+    (and _ _ (and _ _ (phases p q h.phases) (entries moment_right q h.moments)) (not_from_false _ h.no_end)))
   where
-    both_late : (b : Bool) → OnTrue b (StartsRight p q) → OnTrue b (EndpointsRightLate p q) → (not b || ((starts_right p q && each_entry (start_due p) q) && endpoints_right_late p q)) ≡ true
+    both_late : (b : Bool) → OnTrue b (StartsRight p q) → OnTrue b (EndpointsRightLate p q)
+        → (not b || ((starts_right p q && each_entry (start_due p) q) && endpoints_right_late p q)) ≡ true
     both_late true s l = and _ _ (starts p q s) (held_or_wait_late p q l)
     both_late false s l = refl
 
@@ -137,7 +144,8 @@ settled_clause p q h = chosen (has_ended p q) (ended_right p q) (open_right p q)
 pub serves : (p : Plan) (q : Record) → ServesRight p q → serves_right p q ≡ true
 serves p q h = and _ _ (on_false (has is_signal q) (closes_right p q) _ (closes p q) h.closes) (both_parts (in_service q) h.starts h.endpoints)
   where
-    both_parts : (b : Bool) → OnTrue b (StartsRight p q) → OnTrue b (EndpointsRight p q) → (not b || ((starts_right p q && each_entry (start_due p) q) && endpoints_right p q)) ≡ true
+    both_parts : (b : Bool) → OnTrue b (StartsRight p q) → OnTrue b (EndpointsRight p q)
+        → (not b || ((starts_right p q && each_entry (start_due p) q) && endpoints_right p q)) ≡ true
     both_parts true s l = and _ _ (starts p q s) (held_or_wait p q l)
     both_parts false s l = refl
 
@@ -169,11 +177,15 @@ ends p at r e = subst (λ z. begins_with (tell [] (last_actions p at)) z ≡ tru
     (begins (tell [] (last_actions p at)) at all_last)
   where
     all_last : AllLast (tell [] (last_actions p at))
-    all_last = cuts_stay (ascending (live_connections at)) _ (closes_stay (ascending (live_numbers p at)) _ (λ q h. (same (now at), (same (stop_seconds p at), h))))
+    all_last = cuts_stay (ascending (live_connections at)) _
+        (closes_stay (ascending (live_numbers p at)) _ (λ q h. (same (now at), (same (stop_seconds p at), h))))
         (Told (Phase ShutdownRuntimes (now at)) ∷ []) (same (now at), tt)
 
 pub drains : (p : Plan) (r : Record) → Drain p r → drain_right p r ≡ true
-drains p r h = and _ _ (and _ _ (and _ _ (and _ _ h.passes (earlier (λ q. not (waits_are_over p q)) (λ q. waits_are_over p q ≡ false) (λ q t. not_from_false (waits_are_over p q) t) r h.first))
+drains p r h =
+    and _ _ (and _ _
+    (and _ _ (and _ _ h.passes
+    (earlier (λ q. not (waits_are_over p q)) (λ q. waits_are_over p q ≡ false) (λ q t. not_from_false (waits_are_over p q) t) r h.first))
     (settled (phases_right p) (PhasesRight p) (phases p) r h.phases)) (entries every_moment_right r h.moments))
     (and _ _ (ends p (before_runtimes r) r h.ends) (not_from_false _ h.nowhere_else))
 
@@ -184,23 +196,30 @@ each_among test (n ∷ ns) f = and (test n) (list_all test ns) (f n (or_left (n 
 
 pub tested : (p : Plan) (q : Record) → TestedRight p q → tested_right p q ≡ true
 tested p q h = and _ _ (and _ _ (and _ _ h.forked h.begun) (entries (start_after_boot p) q h.in_turn)) (and _ _
-    (on_false p.eager _ _ (λ (f : (s : ℕ) → is_visited p q s ≡ true → times (is_start s) q ≡ (if is_due p q s then 1 else 0)). each_among (start_right p q) (visited_services p q) (λ s v. eq-eqb _ _ (f s v))) h.starts)
+    (on_false p.eager _ _
+    (λ (f : (s : ℕ) → is_visited p q s ≡ true → times (is_start s) q ≡ (if is_due p q s then 1 else 0)). each_among (start_right p q) (visited_services p q)
+    (λ s v. eq-eqb _ _ (f s v))) h.starts)
     (on_false p.eager _ _ (λ (f : (s i : ℕ) → is_visited p q s ≡ true → i < length (endpoints p s) → endpoint_right_late p q s i ≡ true).
-    each_among (λ s. list_all (endpoint_right_late p q s) (endpoint_numbers p s)) (visited_services p q) (λ s v. below (endpoint_right_late p q s) (length (endpoints p s)) (λ i low. f s i v low))) h.endpoints))
+    each_among (λ s. list_all (endpoint_right_late p q s) (endpoint_numbers p s)) (visited_services p q)
+    (λ s v. below (endpoint_right_late p q s) (length (endpoints p s)) (λ i low. f s i v low))) h.endpoints))
 
 pub last_step_clause : (p : Plan) (at : Record) → LastStepRight p at → last_step_right p at ≡ true
-last_step_clause p at h = and _ _ (and _ _ (and _ _ (starts p at h.starts) (held_or_wait_late p at h.endpoints)) (and _ _ (closes p at h.closes) (boot p at h.boot)))
+last_step_clause p at h =
+    and _ _ (and _ _ (and _ _ (starts p at h.starts) (held_or_wait_late p at h.endpoints)) (and _ _ (closes p at h.closes) (boot p at h.boot)))
     (and _ _ (offer p at h.offer) (connections p at h.connections))
 
 pub stronger : (p : Plan) (r : Record) → Stronger p r → is_stronger p r ≡ true
 stronger p r h = and _ _ (and _ _ (and _ _ (and _ _ (and _ _ (entries (boot_due p) r h.boots) (entries try_due r h.tries)) (entries retry_due r h.retries))
     (and _ _ (settled (one_ask p) (λ q. one_ask p q ≡ true) (λ q t. t) r h.one_ask) (on_true (ends_tested p r) _ _ (tested p r) h.tested)))
-    (and _ _ (and _ _ (entries (close_once p) r h.closes) (on_true (waits_are_over p r) _ _ (last_step_clause p (before_runtimes r)) h.last_step)) (entries every_moment_right r h.moments)))
+    (and _ _ (and _ _ (entries (close_once p) r h.closes) (on_true (waits_are_over p r) _ _ (last_step_clause p (before_runtimes r)) h.last_step))
+    (entries every_moment_right r h.moments)))
     (and _ _ (and _ _ (entries (start_known p) r h.known_starts) (entries (ask_known p) r h.known_asks)) (entries (connection_known p) r h.known_connections))
 
 served_by_words : (p : Plan) (r : Record) → Served p r → is_served_by_words p r ≡ true
-served_by_words p r h = and _ _ (and _ _ (and _ _ (entries (event_fits p) r h.fits) (drains p r h.drain)) (settled (serves_right p) (ServesRight p) (serves p) r h.serves))
-    (and _ _ (each_number (λ n. times (is_close n) r == 1) (opened_descriptors p r) (λ fd o. eq-eqb _ _ (h.closed_once fd o))) (entries (close_due p) r h.closed_after))
+served_by_words p r h =
+    and _ _ (and _ _ (and _ _ (entries (event_fits p) r h.fits) (drains p r h.drain)) (settled (serves_right p) (ServesRight p) (serves p) r h.serves))
+    (and _ _ (each_number (λ n. times (is_close n) r == 1) (opened_descriptors p r) (λ fd o. eq-eqb _ _ (h.closed_once fd o)))
+    (entries (close_due p) r h.closed_after))
 
 -- the record of a run that served passes the test
 pub test_from_served : (p : Plan) (r : Record) → Served p r → is_served p r ≡ true
@@ -211,6 +230,10 @@ passing p r h = and _ _ (and _ _ (served_by_words p r h.served) (boot p r h.boot
 
 -- a right record passes the test
 pub test_from_right : (p : Plan) (r : Record) → Right p r → is_right p r ≡ true
-test_from_right p r h = and _ _ (and _ _ (and _ _ (and _ _ (entries (event_fits p) r h.fits) (entries (start_due p) r h.starts)) (settled (settled_right p) (SettledRight p) (settled_clause p) r h.settled))
-    (and _ _ (and _ _ (entries (ask_due p) r h.asks.in_turn) (settled (fails_right p) (FailsRight p) (fails p) r h.asks.fails)) (on_true (waits_are_over p r) _ _ (passing p r) h.passed)))
+test_from_right p r h =
+    and _ _ (and _ _
+    (and _ _ (and _ _ (entries (event_fits p) r h.fits) (entries (start_due p) r h.starts))
+    (settled (settled_right p) (SettledRight p) (settled_clause p) r h.settled))
+    (and _ _ (and _ _ (entries (ask_due p) r h.asks.in_turn) (settled (fails_right p) (FailsRight p) (fails p) r h.asks.fails))
+    (on_true (waits_are_over p r) _ _ (passing p r) h.passed)))
     (stronger p r h.stronger)

@@ -90,7 +90,8 @@ stop_waits : IsRefusedBy waiting_plan (ended 100 [] 5 (cut late)) (LastActions �
 stop_waits = (refl, refl)
 
 -- the offer's end is told as without a cut
-timeout_told : IsRefusedBy plan (ended 0 (Told (Close 7) ∷ []) 0 (Told (Phase ShutdownStarted 0) ∷ Told (Phase GracefulUpgradeCloseTimeout 0) ∷ cut (offered held))) (AllPhases ∷ [])
+timeout_told : IsRefusedBy plan
+    (ended 0 (Told (Close 7) ∷ []) 0 (Told (Phase ShutdownStarted 0) ∷ Told (Phase GracefulUpgradeCloseTimeout 0) ∷ cut (offered held))) (AllPhases ∷ [])
 unfolding is_sayable message_bytes
 timeout_told = (refl, refl)
 

@@ -107,5 +107,6 @@ ready_unforked : IsRefusedBy waiting (Got ChildReady ∷ Told Daemonize ∷ []) 
 ready_unforked = (refl, refl)
 
 -- the child doesn't notify the parent that waits
-notify_left_out : IsRefusedBy bootstrapping (Told (Phase Running 0) ∷ Told (Phase BootstrapComplete 0) ∷ Told (Phase Bootstrap 0) ∷ Got (Forked Child) ∷ Told Daemonize ∷ []) (Beginning ∷ [])
+notify_left_out : IsRefusedBy bootstrapping
+    (Told (Phase Running 0) ∷ Told (Phase BootstrapComplete 0) ∷ Told (Phase Bootstrap 0) ∷ Got (Forked Child) ∷ Told Daemonize ∷ []) (Beginning ∷ [])
 notify_left_out = (refl, refl)

@@ -45,7 +45,8 @@ served : Served plan run
 served = served_from_test plan run refl
 
 -- what stands before each event is right, what ends within a step isn't
-beginnings-right : right_ones plan (beginnings run) ≡ true ∷ false ∷ false ∷ false ∷ false ∷ true ∷ false ∷ false ∷ true ∷ false ∷ true ∷ false ∷ false ∷ false ∷ []
+beginnings-right : right_ones plan (beginnings run)
+    ≡ true ∷ false ∷ false ∷ false ∷ false ∷ true ∷ false ∷ false ∷ true ∷ false ∷ true ∷ false ∷ false ∷ false ∷ []
 beginnings-right = refl
 
 -- no record that lacks an entry of it is right

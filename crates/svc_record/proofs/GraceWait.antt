@@ -24,7 +24,9 @@ ended ms closes seconds before = Told (Phase Terminated ms) ∷ Told (Stop secon
 
 -- the signal came at once, and the grace period has begun
 abbrev pub told_to_end : Record → Record
-told_to_end before = Told (Phase ShutdownGracePeriod 0) ∷ Told (Phase ShutdownStarted 0) ∷ Told (Phase GracefulTerminate 0) ∷ Told Broadcast ∷ Got (Signal TerminateSignal) ∷ before
+told_to_end before =
+    Told (Phase ShutdownGracePeriod 0) ∷ Told (Phase ShutdownStarted 0) ∷ Told (Phase GracefulTerminate 0) ∷ Told Broadcast ∷ Got (Signal TerminateSignal)
+    ∷ before
 
 abbrev pub waiting : Record
 waiting = told_to_end (Told (Phase Running 0) ∷ [])

@@ -42,7 +42,8 @@ row-step g was now s row k d lt before added a b =
     added a b
     ∙ ap (λ old. old || (a == s && b == slice_index_or row k d)) (before a b)
     ∙ ap (λ last. with_row g s (take k row) a b || (a == s && last)) (eqb_sym b (slice_index_or row k d))
-    ∙ sym (ap (λ listed. g a b || (a == s && listed)) (list_any_more (λ x. x == b) row k d lt) ∙ same_or (g a b) (a == s) (is_listed (take k row) b) (slice_index_or row k d == b))
+    ∙ sym (ap (λ listed. g a b || (a == s && listed)) (list_any_more (λ x. x == b) row k d lt)
+    ∙ same_or (g a b) (a == s) (is_listed (take k row) b) (slice_index_or row k d == b))
 
 -- a dependency is refused only where it isn't a service, or leads back
 pub refusal-cause : (old now : GraphData) (s : ℕ) (row : List ℕ) (k d : ℕ) → s < node_count old → k < length row
@@ -54,7 +55,8 @@ refusal-cause old now s row k d s_in lt same before (inl back) inside none =
     closes-cycle (is_edge now) (with_row (is_edge old) s row) s (slice_index_or row k d)
     (λ a b e. wider (is_edge old a b) (a == s) (is_listed (take k row) b) (is_listed row b) (listed_front row k b) (sym (before a b) ∙ e))
     (or_right (is_edge old s (slice_index_or row k d)) (s == s && is_listed row (slice_index_or row k d))
-    (and_from (s == s) (is_listed row (slice_index_or row k d)) (eq-eqb s s refl) (list_any_at (λ x. x == slice_index_or row k d) row k d lt (eq-eqb (slice_index_or row k d) (slice_index_or row k d) refl))))
+    (and_from (s == s) (is_listed row (slice_index_or row k d)) (eq-eqb s s refl)
+    (list_any_at (λ x. x == slice_index_or row k d) row k d lt (eq-eqb (slice_index_or row k d) (slice_index_or row k d) refl))))
     back none
   where
     wider : (edge here some all : Bool) → (some ≡ true → all ≡ true) → (edge || (here && some)) ≡ true → (edge || (here && all)) ≡ true

@@ -41,7 +41,8 @@ offered = Told (Phase Running 0) ∷ Told (Adopt 0 0 3) ∷ Told (Start 0) ∷ T
 
 -- the whole run
 abbrev pub run : Record
-run = Told (Phase Terminated 0) ∷ Told (Stop 0) ∷ Told (Close 4) ∷ Told (Close 3) ∷ Told (Phase ShutdownRuntimes 0) ∷ Told (Phase ShutdownStarted 0) ∷ Got (Signal FastShutdown) ∷ Got (Adopted 0 0) ∷ offered
+run = Told (Phase Terminated 0) ∷ Told (Stop 0) ∷ Told (Close 4) ∷ Told (Close 3) ∷ Told (Phase ShutdownRuntimes 0) ∷ Told (Phase ShutdownStarted 0)
+    ∷ Got (Signal FastShutdown) ∷ Got (Adopted 0 0) ∷ offered
 
 right : Right plan run
 unfolding is_utf8 chars encode is_well_formed words
@@ -52,23 +53,28 @@ unfolding is_utf8 chars encode is_well_formed words
 served = served_from_test plan run refl
 
 -- what stands before each event is right, what ends within a step isn't
-beginnings-right : right_ones plan (beginnings run) ≡ true ∷ false ∷ false ∷ false ∷ false ∷ false ∷ false ∷ true ∷ true ∷ false ∷ false ∷ false ∷ false ∷ true ∷ false ∷ false ∷ false ∷ []
+beginnings-right : right_ones plan (beginnings run)
+    ≡ true ∷ false ∷ false ∷ false ∷ false ∷ false ∷ false ∷ true ∷ true ∷ false ∷ false ∷ false ∷ false ∷ true ∷ false ∷ false ∷ false ∷ []
 unfolding is_utf8 chars encode is_well_formed words
 beginnings-right = refl
 
 -- of the records that lack an entry of it one is right: the adoption's answer may be missing
-shortened-right : right_ones plan (shortened run) ≡ false ∷ false ∷ false ∷ false ∷ false ∷ false ∷ false ∷ true ∷ false ∷ false ∷ false ∷ false ∷ false ∷ false ∷ false ∷ false ∷ []
+shortened-right : right_ones plan (shortened run)
+    ≡ false ∷ false ∷ false ∷ false ∷ false ∷ false ∷ false ∷ true ∷ false ∷ false ∷ false ∷ false ∷ false ∷ false ∷ false ∷ false ∷ []
 unfolding is_utf8 chars encode is_well_formed words
 shortened-right = refl
 
 -- and each entry comes once
-doubled-wrong : right_ones plan (doubled run) ≡ false ∷ false ∷ false ∷ false ∷ false ∷ false ∷ false ∷ false ∷ false ∷ false ∷ false ∷ false ∷ false ∷ false ∷ false ∷ false ∷ []
+doubled-wrong : right_ones plan (doubled run)
+    ≡ false ∷ false ∷ false ∷ false ∷ false ∷ false ∷ false ∷ false ∷ false ∷ false ∷ false ∷ false ∷ false ∷ false ∷ false ∷ false ∷ []
 unfolding is_utf8 chars encode is_well_formed words
 doubled-wrong = refl
 
 -- an older server that had no sockets: the address is bound
 abbrev pub without_sockets : Record
-without_sockets = Told (Phase Terminated 0) ∷ Told (Stop 0) ∷ Told (Close 9) ∷ Told (Phase ShutdownRuntimes 0) ∷ Told (Phase ShutdownStarted 0) ∷ Got (Signal FastShutdown) ∷ Got (Bound 0 0 9)
+without_sockets =
+    Told (Phase Terminated 0) ∷ Told (Stop 0) ∷ Told (Close 9) ∷ Told (Phase ShutdownRuntimes 0) ∷ Told (Phase ShutdownStarted 0) ∷ Got (Signal FastShutdown)
+    ∷ Got (Bound 0 0 9)
     ∷ Told (Phase Running 0) ∷ Told (Bind 0 0) ∷ Told (Start 0) ∷ Told (Phase BootstrapComplete 0) ∷ Got (Received [] []) ∷ begun
 
 abbrev pub one_address : Plan

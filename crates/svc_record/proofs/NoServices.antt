@@ -16,7 +16,8 @@ abbrev plan : Plan
 plan = plan_of []
 
 abbrev run : Record
-run = Told (Phase Terminated 0) ∷ Told (Stop 0) ∷ Told (Phase ShutdownRuntimes 0) ∷ Told (Phase ShutdownStarted 0) ∷ Got (Signal FastShutdown) ∷ Told (Phase Running 0) ∷ []
+run = Told (Phase Terminated 0) ∷ Told (Stop 0) ∷ Told (Phase ShutdownRuntimes 0) ∷ Told (Phase ShutdownStarted 0) ∷ Got (Signal FastShutdown)
+    ∷ Told (Phase Running 0) ∷ []
 
 right : Right plan run
 right = right_from_test plan run refl

@@ -62,7 +62,9 @@ unfolding is_sayable message_bytes
 ends = refl
 
 -- it needs each entry but for the moment at which nothing is due
-shortened-right : right_ones plan (shortened run) ≡ false ∷ false ∷ false ∷ false ∷ false ∷ false ∷ false ∷ false ∷ true ∷ false ∷ false ∷ false ∷ false ∷ false ∷ false ∷ false ∷ false ∷ false ∷ false ∷ false ∷ []
+shortened-right : right_ones plan (shortened run)
+    ≡ false ∷ false ∷ false ∷ false ∷ false ∷ false ∷ false ∷ false ∷ true ∷ false ∷ false ∷ false ∷ false ∷ false ∷ false ∷ false ∷ false ∷ false ∷ false
+    ∷ false ∷ []
 unfolding is_sayable message_bytes
 shortened-right = refl
 

@@ -57,18 +57,22 @@ shared_none : (ds : List Descriptor) → shared None ds ≡ false
 shared_none [] = refl
 shared_none (d ∷ more) = or_from (same_address d.address None) (shared None more) (no_address d.address) (shared_none more)
 
-shared_tail : (closed : ℕ → Bool) (a : Option (List ℕ)) (d : Descriptor) (more : List Descriptor) → shared a (open_of closed (d ∷ more)) ≡ false → shared a (open_of closed more) ≡ false
+shared_tail : (closed : ℕ → Bool) (a : Option (List ℕ)) (d : Descriptor) (more : List Descriptor) → shared a (open_of closed (d ∷ more)) ≡ false
+    → shared a (open_of closed more) ≡ false
 shared_tail closed a d more h = elim (cases_Bool (closed d.number)) [
   | inl shut ↦ rw shut at h
   | inr kept ↦ (or_parts (same_address d.address a) (shared a (open_of closed more)) (rw kept at h)).1
 ]
 
 -- where more is closed, less is open
-shared_fewer : (some all : ℕ → Bool) (a : Option (List ℕ)) (ds : List Descriptor) → ((n : ℕ) → some n ≡ true → all n ≡ true) → shared a (open_of some ds) ≡ false → shared a (open_of all ds) ≡ false
+shared_fewer : (some all : ℕ → Bool) (a : Option (List ℕ)) (ds : List Descriptor) → ((n : ℕ) → some n ≡ true → all n ≡ true)
+    → shared a (open_of some ds) ≡ false → shared a (open_of all ds) ≡ false
 shared_fewer some all a [] later h = refl
 shared_fewer some all a (d ∷ more) later h = elim (cases_Bool (all d.number)) [
   | inl shut ↦ rw shut (shared_fewer some all a more later (shared_tail some a d more h))
-  | inr kept ↦ rw kept (or_from (same_address d.address a) (shared a (open_of all more)) (unshared kept) (shared_fewer some all a more later (shared_tail some a d more h)))
+  | inr kept ↦
+      rw kept (or_from (same_address d.address a) (shared a (open_of all more)) (unshared kept)
+      (shared_fewer some all a more later (shared_tail some a d more h)))
 ]
   where
     unshared : all d.number ≡ false → same_address d.address a ≡ false
@@ -77,7 +81,8 @@ shared_fewer some all a (d ∷ more) later h = elim (cases_Bool (all d.number)) 
       | inr still ↦ (or_parts (same_address d.address a) (shared a (open_of some more)) (rw still at h)).0
     ]
 
-shared_words : (closed : ℕ → Bool) (a : List ℕ) (fds : List ℕ) (words : List (List ℕ)) (old : List Descriptor) → is_among a words ≡ false → shared (Some a) (open_of closed old) ≡ false → shared (Some a) (open_of closed (with_words fds words ++ old)) ≡ false
+shared_words : (closed : ℕ → Bool) (a : List ℕ) (fds : List ℕ) (words : List (List ℕ)) (old : List Descriptor) → is_among a words ≡ false
+    → shared (Some a) (open_of closed old) ≡ false → shared (Some a) (open_of closed (with_words fds words ++ old)) ≡ false
 shared_words closed a [] words old other h = h
 shared_words closed a (fd ∷ fds) [] old other h = elim (cases_Bool (closed fd)) [
   | inl shut ↦ rw shut (shared_words closed a fds [] old other h)
@@ -85,20 +90,24 @@ shared_words closed a (fd ∷ fds) [] old other h = elim (cases_Bool (closed fd)
 ]
 shared_words closed a (fd ∷ fds) (w ∷ words) old other h = let apart = or_parts (bytes_eq w a) (is_among a words) other in elim (cases_Bool (closed fd)) [
   | inl shut ↦ rw shut (shared_words closed a fds words old apart.1 h)
-  | inr kept ↦ rw kept (or_from (bytes_eq w a) (shared (Some a) (open_of closed (with_words fds words ++ old))) apart.0 (shared_words closed a fds words old apart.1 h))
+  | inr kept ↦
+      rw kept (or_from (bytes_eq w a) (shared (Some a) (open_of closed (with_words fds words ++ old))) apart.0 (shared_words closed a fds words old apart.1 h))
 ]
 
 -- the descriptors of a message have different addresses, or none
-apart_words : (closed : ℕ → Bool) (fds : List ℕ) (words : List (List ℕ)) (old : List Descriptor) → has_repeat words ≡ false → Fresh closed (λ a. shared a (open_of closed old)) (with_words fds words) → apart (open_of closed old) ≡ true → apart (open_of closed (with_words fds words ++ old)) ≡ true
+apart_words : (closed : ℕ → Bool) (fds : List ℕ) (words : List (List ℕ)) (old : List Descriptor) → has_repeat words ≡ false
+    → Fresh closed (λ a. shared a (open_of closed old)) (with_words fds words) → apart (open_of closed old) ≡ true
+    → apart (open_of closed (with_words fds words ++ old)) ≡ true
 apart_words closed [] words old distinct fresh h = h
 apart_words closed (fd ∷ fds) [] old distinct fresh h = elim (cases_Bool (closed fd)) [
   | inl shut ↦ rw shut (apart_words closed fds [] old distinct fresh.1 h)
   | inr kept ↦ rw kept (rw (shared_none (open_of closed (with_words fds [] ++ old))) (apart_words closed fds [] old distinct fresh.1 h))
 ]
-apart_words closed (fd ∷ fds) (w ∷ words) old distinct fresh h = let once = or_parts (is_among w words) (has_repeat words) distinct in elim (cases_Bool (closed fd)) [
-  | inl shut ↦ rw shut (apart_words closed fds words old once.1 fresh.1 h)
-  | inr kept ↦ rw kept (rw (shared_words closed w fds words old once.0 (fresh.0 kept)) (apart_words closed fds words old once.1 fresh.1 h))
-]
+apart_words closed (fd ∷ fds) (w ∷ words) old distinct fresh h =
+    let once = or_parts (is_among w words) (has_repeat words) distinct in elim (cases_Bool (closed fd)) [
+      | inl shut ↦ rw shut (apart_words closed fds words old once.1 fresh.1 h)
+      | inr kept ↦ rw kept (rw (shared_words closed w fds words old once.0 (fresh.0 kept)) (apart_words closed fds words old once.1 fresh.1 h))
+    ]
 
 distinct_words : (whole : Bool) (words : List (List ℕ)) → has_repeat (words_or_none (if whole && not (has_repeat words) then Some words else None)) ≡ false
 distinct_words false words = refl
@@ -107,12 +116,15 @@ distinct_words true words = elim (cases_Bool (has_repeat words)) [
   | inr once ↦ rw once once
 ]
 
-apart_entry : (p : Plan) (e : Entry) (closed : ℕ → Bool) (old : List Descriptor) → Fresh closed (λ a. shared a (open_of closed old)) (descriptors_of p e) → apart (open_of closed old) ≡ true → apart (open_of closed (descriptors_of p e ++ old)) ≡ true
+apart_entry : (p : Plan) (e : Entry) (closed : ℕ → Bool) (old : List Descriptor) → Fresh closed (λ a. shared a (open_of closed old)) (descriptors_of p e)
+    → apart (open_of closed old) ≡ true → apart (open_of closed (descriptors_of p e ++ old)) ≡ true
 apart_entry p (Got (Bound s i fd)) closed old fresh h = elim (cases_Bool (closed fd)) [
   | inl shut ↦ rw shut h
   | inr kept ↦ rw kept (rw (fresh.0 kept) h)
 ]
-apart_entry p (Got (Received bytes fds)) closed old fresh h = apart_words closed fds (words_or_none (decode bytes (length fds))) old (distinct_words ((is_utf8 bytes && is_well_formed bytes) && length (words bytes) == length fds) (words bytes)) fresh h
+apart_entry p (Got (Received bytes fds)) closed old fresh h =
+    apart_words closed fds (words_or_none (decode bytes (length fds))) old
+    (distinct_words ((is_utf8 bytes && is_well_formed bytes) && length (words bytes) == length fds) (words bytes)) fresh h
 apart_entry p _ closed old fresh h = h
 
 fresh_from : (closed : ℕ → Bool) (taken rest : Option (List ℕ) → Bool) (ds : List Descriptor) → ((a : Option (List ℕ)) → taken a ≡ false → rest a ≡ false)
@@ -123,24 +135,29 @@ fresh_from closed taken rest (d ∷ more) fewer doubled = (
     | inl twice ↦ absurd (true≢false (sym (doubled d.number (rw (eq-eqb d.number d.number refl, twice) refl)) ∙ kept))
     | inr free ↦ fewer d.address free
   ],
-  fresh_from closed taken rest more fewer (λ n later. doubled n (or_right (d.number == n && taken d.address) (list_any (λ (x : Descriptor). x.number == n && taken x.address) more) later)),
+  fresh_from closed taken rest more fewer
+      (λ n later. doubled n (or_right (d.number == n && taken d.address) (list_any (λ (x : Descriptor). x.number == n && taken x.address) more) later)),
 )
 
 -- where what is doubled is closed, no two open ones have one address
-one_open : (p : Plan) (q : Record) (closed : ℕ → Bool) → ((n : ℕ) → has (is_close n) q ≡ true → closed n ≡ true) → ((n : ℕ) → is_doubled p q n ≡ true → closed n ≡ true) → apart (open_of closed (opened_descriptors p q)) ≡ true
+one_open : (p : Plan) (q : Record) (closed : ℕ → Bool) → ((n : ℕ) → has (is_close n) q ≡ true → closed n ≡ true)
+    → ((n : ℕ) → is_doubled p q n ≡ true → closed n ≡ true) → apart (open_of closed (opened_descriptors p q)) ≡ true
 one_open p [] closed told doubled = refl
 one_open p (e ∷ before) closed told doubled = apart_entry p e closed (opened_descriptors p before)
     (fresh_from closed (has_live p before) (λ a. shared a (open_of closed (opened_descriptors p before))) (descriptors_of p e)
-    (λ a free. shared_fewer (λ n. has (is_close n) before) closed a (opened_descriptors p before) (λ n h. told n (or_right (is_close n e) (has (is_close n) before) h)) free)
+    (λ a free. shared_fewer (λ n. has (is_close n) before) closed a (opened_descriptors p before)
+    (λ n h. told n (or_right (is_close n e) (has (is_close n) before) h)) free)
     (λ n h. doubled n (or_left _ _ h)))
     (one_open p before closed (λ n h. told n (or_right (is_close n e) (has (is_close n) before) h)) (λ n h. doubled n (or_right _ _ h)))
 
-any_number : (n : ℕ) (taken : Option (List ℕ) → Bool) (ds old : List Descriptor) → list_any (λ (d : Descriptor). d.number == n && taken d.address) ds ≡ true → list_any (has_number n) (ds ++ old) ≡ true
+any_number : (n : ℕ) (taken : Option (List ℕ) → Bool) (ds old : List Descriptor) → list_any (λ (d : Descriptor). d.number == n && taken d.address) ds ≡ true
+    → list_any (has_number n) (ds ++ old) ≡ true
 any_number n taken [] old h = absurd (false≢true h)
-any_number n taken (d ∷ more) old h = elim (either (d.number == n && taken d.address) (list_any (λ (x : Descriptor). x.number == n && taken x.address) more) h) [
-  | inl here ↦ or_left (d.number == n) (list_any (has_number n) (more ++ old)) (both (d.number == n) (taken d.address) here).0
-  | inr later ↦ or_right (d.number == n) (list_any (has_number n) (more ++ old)) (any_number n taken more old later)
-]
+any_number n taken (d ∷ more) old h =
+    elim (either (d.number == n && taken d.address) (list_any (λ (x : Descriptor). x.number == n && taken x.address) more) h) [
+      | inl here ↦ or_left (d.number == n) (list_any (has_number n) (more ++ old)) (both (d.number == n) (taken d.address) here).0
+      | inr later ↦ or_right (d.number == n) (list_any (has_number n) (more ++ old)) (any_number n taken more old later)
+    ]
 
 doubled_opened : (p : Plan) (q : Record) (n : ℕ) → is_doubled p q n ≡ true → is_opened p q n ≡ true
 doubled_opened p [] n h = absurd (false≢true h)
@@ -183,35 +200,43 @@ fresh_none closed old [] = tt
 fresh_none closed old (fd ∷ fds) = (λ kept. shared_none old, fresh_none closed old fds)
 
 -- an event that ends a run early opens nothing that has an address
-early_one : (p : Plan) (e : Event) (before : Record) → has_ended_early p (Got e ∷ before) ≡ true → has_ended_early p before ≡ false → one_live p before ≡ true → one_live p (Got e ∷ before) ≡ true
+early_one : (p : Plan) (e : Event) (before : Record) → has_ended_early p (Got e ∷ before) ≡ true → has_ended_early p before ≡ false → one_live p before ≡ true
+    → one_live p (Got e ∷ before) ≡ true
 early_one p (Bound s i fd) before early on h = absurd (true≢false (sym early ∙ on))
 early_one p (Received bytes fds) before early on h = by (decode bytes (length fds)) refl
   where
     by : (found : Option (List (List ℕ))) → decode bytes (length fds) ≡ found → one_live p (Got (Received bytes fds) ∷ before) ≡ true
     by (Some words) e = absurd (true≢false (sym (rw e at early) ∙ on))
-    by None e = rw e (apart_words (λ n. has (is_close n) before) fds [] (opened_descriptors p before) refl (fresh_none (λ n. has (is_close n) before) (open_of (λ n. has (is_close n) before) (opened_descriptors p before)) fds) h)
+    by None e = rw e
+        (apart_words (λ n. has (is_close n) before) fds [] (opened_descriptors p before) refl
+        (fresh_none (λ n. has (is_close n) before) (open_of (λ n. has (is_close n) before) (opened_descriptors p before)) fds) h)
 early_one p _ before early on h = h
 
-silent_one : (p : Plan) (r : Record) → EachEntry (λ e before. event_fits p e before ≡ true) r → EachEarlier (SettledRight p) r → has_ended_early p r ≡ true → last_step r ≡ [] → one_live p r ≡ true
+silent_one : (p : Plan) (r : Record) → EachEntry (λ e before. event_fits p e before ≡ true) r → EachEarlier (SettledRight p) r → has_ended_early p r ≡ true
+    → last_step r ≡ [] → one_live p r ≡ true
 silent_one p [] fit settled early silent = refl
 silent_one p (Got e ∷ before) fit settled early silent = let on = not_ended p e before fit.0 in
     early_one p e before early (or_parts (waits_are_over p before || ends_tested p before) (has_ended_early p before) on).1 (open_one p before settled.0 on)
 silent_one p (Told a ∷ before) fit settled early silent = absurd (cc)
 
 -- where the run hasn't passed
-going_one : (p : Plan) (r : Record) → EachEntry (λ e before. event_fits p e before ≡ true) r → EachSettled (SettledRight p) r → waits_are_over p r ≡ false → one_live p r ≡ true
+going_one : (p : Plan) (r : Record) → EachEntry (λ e before. event_fits p e before ≡ true) r → EachSettled (SettledRight p) r → waits_are_over p r ≡ false
+    → one_live p r ≡ true
 going_one p r fit settled on = elim (cases_Bool (ends_tested p r)) [
   | inl tested ↦ closes_one p r (on_true_at (ends_tested p r) _ (ended (or_left _ _ (or_right _ _ tested))).tested tested).1
   | inr untested ↦ elim (cases_Bool (has_ended_early p r)) [
     | inl early ↦ silent_one p r fit settled.1 early (on_true_at (has_ended_early p r) _ (ended (or_right _ _ early)).early early)
-    | inr still ↦ open_one p r settled.0 (or_from (waits_are_over p r || ends_tested p r) (has_ended_early p r) (or_from (waits_are_over p r) (ends_tested p r) on untested) still)
+    | inr still ↦
+        open_one p r settled.0
+        (or_from (waits_are_over p r || ends_tested p r) (has_ended_early p r) (or_from (waits_are_over p r) (ends_tested p r) on untested) still)
   ]
 ]
   where
     ended : has_ended p r ≡ true → EndedRight p r
     ended over = true_at (has_ended p r) (EndedRight p r) (OpenRight p r) settled.0 over
 
-earlier_one : (p : Plan) (r : Record) → EachEntry (λ e before. event_fits p e before ≡ true) r → EachEarlier (SettledRight p) r → EachEarlier (λ q. one_live p q ≡ true) r
+earlier_one : (p : Plan) (r : Record) → EachEntry (λ e before. event_fits p e before ≡ true) r → EachEarlier (SettledRight p) r
+    → EachEarlier (λ q. one_live p q ≡ true) r
 earlier_one p [] fit settled = tt
 earlier_one p (Got e ∷ before) fit settled = (open_one p before settled.0 (not_ended p e before fit.0), earlier_one p before fit.1 settled.1)
 earlier_one p (Told a ∷ before) fit settled = earlier_one p before fit.1 settled

@@ -23,7 +23,8 @@ module _ (p : Plan) (g : GraphData) (whole : IsGraphUpTo p (service_count p) g) 
   -- what a plan's service depends on stands in its row
   row_plan : (P : ℕ → Type 0) (a : ℕ) → a < service_count p → All P (row_of g.depends a) → All P (depends p a)
   row_plan P a lt all = All-from_listed P (depends p a)
-      (λ b e. All-listed P (row_of g.depends a) b all (whole.edges a b ∙ and_from (nat_lt a (service_count p)) (depends_on p a b) (lt-ltb a (service_count p) lt) e))
+      (λ b e. All-listed P (row_of g.depends a) b all
+      (whole.edges a b ∙ and_from (nat_lt a (service_count p)) (depends_on p a b) (lt-ltb a (service_count p) lt) e))
 
   plan_row : (P : ℕ → Type 0) (a : ℕ) → All P (depends p a) → All P (row_of g.depends a)
   plan_row P a all = All-from_listed P (row_of g.depends a)
@@ -41,7 +42,8 @@ module _ (p : Plan) (g : GraphData) (whole : IsGraphUpTo p (service_count p) g) 
   depends-well = record {
     inside = λ s lt. row_plan (λ d. d < service_count p) s lt (subst (λ n. All (λ d. d < n) (row_of g.depends s)) whole.nodes (graph.inside s));
     acyclic = acyclic-within (depends_on p) (is_edge g)
-        (λ a b e. whole.edges a b ∙ and_from (nat_lt a (service_count p)) (depends_on p a b) (lt-ltb a (service_count p) (depends_inside a b e)) e) graph.acyclic;
+        (λ a b e. whole.edges a b ∙ and_from (nat_lt a (service_count p)) (depends_on p a b) (lt-ltb a (service_count p) (depends_inside a b e)) e)
+        graph.acyclic;
   }
 
   next-plan : (listed : List ℕ) (s : ℕ) → graphs.IsNext g.depends listed s → IsNext p listed s
@@ -70,7 +72,8 @@ in-order p order short least = record {
       (found.0, found.2, get_or_default order found.0 0 found.1 found.2 ∙ found.3 ∙ eqb-true found.1 s found.4));
   after = λ j k le lt. false_from_ne_true (depends_on p (slice_index order j) (slice_index order k))
       (λ e. (
-      let due = All-listed (λ d. is_listed (take j order) d ≡ true) (depends p (slice_index order j)) (slice_index order k) (least.next j (omega arith)).due e in
+      let due = All-listed (λ d. is_listed (take j order) d ≡ true) (depends p (slice_index order j)) (slice_index order k)
+      (least.next j (omega arith)).due e in
       let seen = earlier_listed order j k (slice_index order k) le due in
       let fresh = (least.next k lt).fresh in cc));
   short = short;

@@ -46,7 +46,8 @@ signalled = Got (Signal FastShutdown) ∷ bound
 
 -- the end with these closes, after which `Stop` waits so many seconds
 abbrev ended : Record → ℕ → Record → Record
-ended closes seconds before = Told (Phase Terminated 0) ∷ Told (Stop seconds) ∷ closes ++ Told (Phase ShutdownRuntimes 0) ∷ Told (Phase ShutdownStarted 0) ∷ before
+ended closes seconds before =
+    Told (Phase Terminated 0) ∷ Told (Stop seconds) ∷ closes ++ Told (Phase ShutdownRuntimes 0) ∷ Told (Phase ShutdownStarted 0) ∷ before
 
 -- a start is told twice
 start_twice : IsRefusedBy plan (Told (Start 0) ∷ begun) (StartInTurn ∷ Starts ∷ [])
@@ -125,7 +126,8 @@ close_left_out : IsRefusedBy plan (ended [] 0 signalled) (LastActions ∷ AllClo
 close_left_out = (refl, refl)
 
 -- a number is closed before it is opened, and not after that
-close_of_later_at_the_end : IsRefusedBy plan (ended [] 0 (Got (Signal FastShutdown) ∷ Got (Bound 1 0 7) ∷ Told (Close 7) ∷ asked)) (CloseOnce ∷ Closes ∷ Endpoints ∷ Serves ∷ ClosedAfter ∷ LastStep ∷ [])
+close_of_later_at_the_end : IsRefusedBy plan (ended [] 0 (Got (Signal FastShutdown) ∷ Got (Bound 1 0 7) ∷ Told (Close 7) ∷ asked))
+    (CloseOnce ∷ Closes ∷ Endpoints ∷ Serves ∷ ClosedAfter ∷ LastStep ∷ [])
 close_of_later_at_the_end = (refl, refl)
 
 -- a due service isn't started before the signal
@@ -137,7 +139,8 @@ close_in_last_step : IsRefusedBy plan (ended [] 0 (Told (Close 7) ∷ Got (Signa
 close_in_last_step = (refl, refl)
 
 -- the last closes stand in descending order
-closes_descend : IsRefusedBy pair (ended (Told (Close 7) ∷ Told (Close 8) ∷ []) 0 (Got (Signal FastShutdown) ∷ Got (Bound 1 0 8) ∷ Got (Bound 0 0 7) ∷ both_asked)) (LastActions ∷ [])
+closes_descend : IsRefusedBy pair
+    (ended (Told (Close 7) ∷ Told (Close 8) ∷ []) 0 (Got (Signal FastShutdown) ∷ Got (Bound 1 0 8) ∷ Got (Bound 0 0 7) ∷ both_asked)) (LastActions ∷ [])
 closes_descend = (refl, refl)
 
 -- `Stop` waits after a fast signal
@@ -157,11 +160,15 @@ moment_wrong : IsRefusedBy plan (Told (Phase Running 1) ∷ Told (Start 0) ∷ [
 moment_wrong = (refl, refl)
 
 -- the last phase does
-last_moment_wrong : IsRefusedBy plan (Told (Phase Terminated 1) ∷ Told (Stop 0) ∷ Told (Close 7) ∷ Told (Phase ShutdownRuntimes 0) ∷ Told (Phase ShutdownStarted 0) ∷ signalled) (Moment ∷ LastActions ∷ [])
+last_moment_wrong : IsRefusedBy plan
+    (Told (Phase Terminated 1) ∷ Told (Stop 0) ∷ Told (Close 7) ∷ Told (Phase ShutdownRuntimes 0) ∷ Told (Phase ShutdownStarted 0) ∷ signalled)
+    (Moment ∷ LastActions ∷ [])
 last_moment_wrong = (refl, refl)
 
 -- a phase after a moment carries none
-started_without_moment : IsRefusedBy plan (Told (Phase Terminated 5) ∷ Told (Stop 0) ∷ Told (Close 7) ∷ Told (Phase ShutdownRuntimes 5) ∷ Told (Phase ShutdownStarted 0) ∷ Got (Signal FastShutdown) ∷ Got (Time 5) ∷ bound) (Moment ∷ [])
+started_without_moment : IsRefusedBy plan
+    (Told (Phase Terminated 5) ∷ Told (Stop 0) ∷ Told (Close 7) ∷ Told (Phase ShutdownRuntimes 5) ∷ Told (Phase ShutdownStarted 0) ∷ Got (Signal FastShutdown)
+    ∷ Got (Time 5) ∷ bound) (Moment ∷ [])
 started_without_moment = (refl, refl)
 
 -- none of the last phases does
@@ -197,11 +204,15 @@ setup_told : IsRefusedBy plan (Told (Phase Setup 0) ∷ begun) (Phases ∷ [])
 setup_told = (refl, refl)
 
 -- a grace period is told where the signal has none
-grace_told : IsRefusedBy plan (Told (Phase Terminated 0) ∷ Told (Stop 0) ∷ Told (Close 7) ∷ Told (Phase ShutdownRuntimes 0) ∷ Told (Phase ShutdownGracePeriod 0) ∷ Told (Phase ShutdownStarted 0) ∷ signalled) (AllPhases ∷ [])
+grace_told : IsRefusedBy plan
+    (Told (Phase Terminated 0) ∷ Told (Stop 0) ∷ Told (Close 7) ∷ Told (Phase ShutdownRuntimes 0) ∷ Told (Phase ShutdownGracePeriod 0)
+    ∷ Told (Phase ShutdownStarted 0) ∷ signalled) (AllPhases ∷ [])
 grace_told = (refl, refl)
 
 -- two phases have changed places
-phases_swapped : IsRefusedBy plan (Told (Phase Terminated 0) ∷ Told (Stop 0) ∷ Told (Close 7) ∷ Told (Phase ShutdownStarted 0) ∷ Told (Phase ShutdownRuntimes 0) ∷ signalled) (AllPhases ∷ LastActions ∷ [])
+phases_swapped : IsRefusedBy plan
+    (Told (Phase Terminated 0) ∷ Told (Stop 0) ∷ Told (Close 7) ∷ Told (Phase ShutdownStarted 0) ∷ Told (Phase ShutdownRuntimes 0) ∷ signalled)
+    (AllPhases ∷ LastActions ∷ [])
 phases_swapped = (refl, refl)
 
 -- the shutdown begins without a signal
@@ -229,7 +240,9 @@ event_after_the_end : IsRefusedBy plan (Got (Signal FastShutdown) ∷ run) (Even
 event_after_the_end = (refl, refl)
 
 -- an event comes in the last step
-event_in_the_end : IsRefusedBy plan (Told (Phase Terminated 0) ∷ Told (Stop 0) ∷ Told (Close 7) ∷ Told (Phase ShutdownRuntimes 0) ∷ Told (Phase ShutdownStarted 0) ∷ Got (Signal FastShutdown) ∷ signalled) (EventFits ∷ FirstToPass ∷ AllPhases ∷ [])
+event_in_the_end : IsRefusedBy plan
+    (Told (Phase Terminated 0) ∷ Told (Stop 0) ∷ Told (Close 7) ∷ Told (Phase ShutdownRuntimes 0) ∷ Told (Phase ShutdownStarted 0) ∷ Got (Signal FastShutdown)
+    ∷ signalled) (EventFits ∷ FirstToPass ∷ AllPhases ∷ [])
 event_in_the_end = (refl, refl)
 
 -- a signal comes before `Running`

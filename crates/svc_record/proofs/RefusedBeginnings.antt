@@ -77,7 +77,8 @@ unfolding is_utf8 chars encode is_well_formed words
 try_after_message = (refl, refl)
 
 -- it is tried where nothing is to be received
-try_unasked : IsRefusedBy first (Told TryReceive ∷ Told (Phase Running 0) ∷ Told (Start 0) ∷ Told (Phase BootstrapComplete 0) ∷ Told (Phase Bootstrap 0) ∷ []) (TryInTurn ∷ Beginning ∷ [])
+try_unasked : IsRefusedBy first (Told TryReceive ∷ Told (Phase Running 0) ∷ Told (Start 0) ∷ Told (Phase BootstrapComplete 0) ∷ Told (Phase Bootstrap 0) ∷ [])
+    (TryInTurn ∷ Beginning ∷ [])
 try_unasked = (refl, refl)
 
 -- the first try isn't told
@@ -109,7 +110,8 @@ bootstrap_left_out : IsRefusedBy absent_plan (Told TryReceive ∷ Told OpenRecei
 bootstrap_left_out = (refl, refl)
 
 -- a service that bootstraps is started, and bootstrapping isn't told
-bootstrap_of_service_left_out : IsRefusedBy bootstrapping_plan (Told (Phase Running 0) ∷ Told (Start 1) ∷ Told (Bind 0 0) ∷ Told (Start 0) ∷ []) (Beginning ∷ [])
+bootstrap_of_service_left_out : IsRefusedBy bootstrapping_plan (Told (Phase Running 0) ∷ Told (Start 1) ∷ Told (Bind 0 0) ∷ Told (Start 0) ∷ [])
+    (Beginning ∷ [])
 bootstrap_of_service_left_out = (refl, refl)
 
 -- bootstrapping carries another moment
@@ -126,7 +128,8 @@ unfolding is_utf8 chars encode is_well_formed words
 complete_left_out = (refl, refl)
 
 -- bootstrapping is complete before it begins
-complete_first : IsRefusedBy first (Told (Phase Running 0) ∷ Told (Start 0) ∷ Told (Phase Bootstrap 0) ∷ Told (Phase BootstrapComplete 0) ∷ []) (BootInTurn ∷ [])
+complete_first : IsRefusedBy first (Told (Phase Running 0) ∷ Told (Start 0) ∷ Told (Phase Bootstrap 0) ∷ Told (Phase BootstrapComplete 0) ∷ [])
+    (BootInTurn ∷ [])
 complete_first = (refl, refl)
 
 -- the run runs before a message came
@@ -143,11 +146,13 @@ start_before_message : IsRefusedBy one_address (Told (Bind 0 0) ∷ Told (Start 
 start_before_message = (refl, refl)
 
 -- a service starts before bootstrapping is complete
-start_before_complete : IsRefusedBy first (Told (Phase Running 0) ∷ Told (Phase BootstrapComplete 0) ∷ Told (Start 0) ∷ Told (Phase Bootstrap 0) ∷ []) (BootBeforeStarts ∷ [])
+start_before_complete : IsRefusedBy first (Told (Phase Running 0) ∷ Told (Phase BootstrapComplete 0) ∷ Told (Start 0) ∷ Told (Phase Bootstrap 0) ∷ [])
+    (BootBeforeStarts ∷ [])
 start_before_complete = (refl, refl)
 
 -- a service starts that waits for one that bootstraps still
-dependent_before_complete : IsRefusedBy alone (Told (Phase Running 0) ∷ Told (Phase BootstrapComplete 0) ∷ Told (Start 1) ∷ Told (Phase Bootstrap 0) ∷ Told (Start 0) ∷ []) (StartInTurn ∷ [])
+dependent_before_complete : IsRefusedBy alone
+    (Told (Phase Running 0) ∷ Told (Phase BootstrapComplete 0) ∷ Told (Start 1) ∷ Told (Phase Bootstrap 0) ∷ Told (Start 0) ∷ []) (StartInTurn ∷ [])
 dependent_before_complete = (refl, refl)
 
 -- the work of a service that bootstraps is done
@@ -155,47 +160,58 @@ ended_of_bootstrapping : IsRefusedBy alone (Got (Ended 0) ∷ alone_begun) (Even
 ended_of_bootstrapping = (refl, refl)
 
 -- a descriptor that no service names is kept
-unclaimed_kept : IsRefusedBy one_address (Told (Phase Running 0) ∷ Told (Adopt 0 0 3) ∷ Told (Start 0) ∷ Told (Phase BootstrapComplete 0) ∷ received) (Closes ∷ [])
+unclaimed_kept : IsRefusedBy one_address (Told (Phase Running 0) ∷ Told (Adopt 0 0 3) ∷ Told (Start 0) ∷ Told (Phase BootstrapComplete 0) ∷ received)
+    (Closes ∷ [])
 unfolding is_utf8 chars encode is_well_formed words
 unclaimed_kept = (refl, refl)
 
 -- a descriptor is closed that a service names
-claimed_closed : IsRefusedBy claiming_plan (Told (Phase Running 0) ∷ Told (Adopt 0 0 3) ∷ Told (Start 0) ∷ Told (Phase BootstrapComplete 0) ∷ Told (Close 4) ∷ received) (Closes ∷ [])
+claimed_closed : IsRefusedBy claiming_plan
+    (Told (Phase Running 0) ∷ Told (Adopt 0 0 3) ∷ Told (Start 0) ∷ Told (Phase BootstrapComplete 0) ∷ Told (Close 4) ∷ received) (Closes ∷ [])
 unfolding is_utf8 chars encode is_well_formed words
 claimed_closed = (refl, refl)
 
 -- an address is bound whose descriptor was inherited
-bind_beside_inherited : IsRefusedBy claiming_plan (Told (Phase Running 0) ∷ Told (Bind 0 0) ∷ Told (Start 0) ∷ Told (Phase BootstrapComplete 0) ∷ received) (AskInTurn ∷ [])
+bind_beside_inherited : IsRefusedBy claiming_plan (Told (Phase Running 0) ∷ Told (Bind 0 0) ∷ Told (Start 0) ∷ Told (Phase BootstrapComplete 0) ∷ received)
+    (AskInTurn ∷ [])
 unfolding is_utf8 chars encode is_well_formed words
 bind_beside_inherited = (refl, refl)
 
 -- the inherited descriptor is closed, and the address bound
-inherited_closed : IsRefusedBy claiming_plan (Told (Phase Running 0) ∷ Told (Bind 0 0) ∷ Told (Start 0) ∷ Told (Phase BootstrapComplete 0) ∷ Told (Close 3) ∷ received) (Closes ∷ [])
+inherited_closed : IsRefusedBy claiming_plan
+    (Told (Phase Running 0) ∷ Told (Bind 0 0) ∷ Told (Start 0) ∷ Told (Phase BootstrapComplete 0) ∷ Told (Close 3) ∷ received) (Closes ∷ [])
 unfolding is_utf8 chars encode is_well_formed words
 inherited_closed = (refl, refl)
 
 -- the endpoint is offered the descriptor of another address
-other_adopted : IsRefusedBy claiming_plan (Told (Phase Running 0) ∷ Told (Adopt 0 0 4) ∷ Told (Start 0) ∷ Told (Phase BootstrapComplete 0) ∷ received) (AskInTurn ∷ [])
+other_adopted : IsRefusedBy claiming_plan (Told (Phase Running 0) ∷ Told (Adopt 0 0 4) ∷ Told (Start 0) ∷ Told (Phase BootstrapComplete 0) ∷ received)
+    (AskInTurn ∷ [])
 unfolding is_utf8 chars encode is_well_formed words
 other_adopted = (refl, refl)
 
 -- the second descriptor of an address is offered
-doubled_adopted : IsRefusedBy bootstrapping_plan (Told (Adopt 0 0 9) ∷ Got (Bound 0 0 9) ∷ Told (Phase BootstrapComplete 0) ∷ Got (Received (codes "127.0.0.1:80") (3 ∷ [])) ∷ both_begun) (Closes ∷ OneLive ∷ [])
+doubled_adopted : IsRefusedBy bootstrapping_plan
+    (Told (Adopt 0 0 9) ∷ Got (Bound 0 0 9) ∷ Told (Phase BootstrapComplete 0) ∷ Got (Received (codes "127.0.0.1:80") (3 ∷ [])) ∷ both_begun)
+    (Closes ∷ OneLive ∷ [])
 unfolding is_utf8 chars encode is_well_formed words
 doubled_adopted = (refl, refl)
 
 -- the inherited descriptor is closed in place of the second one
-own_kept : IsRefusedBy bootstrapping_plan (Told (Close 3) ∷ Got (Bound 0 0 9) ∷ Told (Phase BootstrapComplete 0) ∷ Got (Received (codes "127.0.0.1:80") (3 ∷ [])) ∷ both_begun) (Closes ∷ Endpoints ∷ EndpointsLate ∷ [])
+own_kept : IsRefusedBy bootstrapping_plan
+    (Told (Close 3) ∷ Got (Bound 0 0 9) ∷ Told (Phase BootstrapComplete 0) ∷ Got (Received (codes "127.0.0.1:80") (3 ∷ [])) ∷ both_begun)
+    (Closes ∷ Endpoints ∷ EndpointsLate ∷ [])
 unfolding is_utf8 chars encode is_well_formed words
 own_kept = (refl, refl)
 
 -- a message brings one number twice
-number_received_twice : IsRefusedBy bootstrapping_plan (Told (Phase BootstrapComplete 0) ∷ Got (Received (codes "127.0.0.1:80 a:1") (5 ∷ 5 ∷ [])) ∷ both_begun) (EventFits ∷ [])
+number_received_twice : IsRefusedBy bootstrapping_plan (Told (Phase BootstrapComplete 0) ∷ Got (Received (codes "127.0.0.1:80 a:1") (5 ∷ 5 ∷ [])) ∷ both_begun)
+    (EventFits ∷ [])
 unfolding is_utf8 chars encode is_well_formed words
 number_received_twice = (refl, refl)
 
 -- a message brings the number of a descriptor that is open
-number_received_again : IsRefusedBy bootstrapping_plan (Told (Phase BootstrapComplete 0) ∷ Got (Received (codes "a:1") (7 ∷ [])) ∷ Got (Bound 0 0 7) ∷ both_begun) (EventFits ∷ Closes ∷ [])
+number_received_again : IsRefusedBy bootstrapping_plan
+    (Told (Phase BootstrapComplete 0) ∷ Got (Received (codes "a:1") (7 ∷ [])) ∷ Got (Bound 0 0 7) ∷ both_begun) (EventFits ∷ Closes ∷ [])
 unfolding is_utf8 chars encode is_well_formed words
 number_received_again = (refl, refl)
 
@@ -258,15 +274,19 @@ tested_unforked : IsRefusedBy record two_tested { daemon = true } (Told (Phase B
 tested_unforked = (refl, refl)
 
 -- a parent is notified where there is none
-notify_without_daemon : IsRefusedBy first (Told (Phase Running 0) ∷ Told (Start 0) ∷ Told (Phase BootstrapComplete 0) ∷ Told NotifyParent ∷ Told (Phase Bootstrap 0) ∷ []) (Beginning ∷ [])
+notify_without_daemon : IsRefusedBy first
+    (Told (Phase Running 0) ∷ Told (Start 0) ∷ Told (Phase BootstrapComplete 0) ∷ Told NotifyParent ∷ Told (Phase Bootstrap 0) ∷ []) (Beginning ∷ [])
 notify_without_daemon = (refl, refl)
 
 -- it is notified before bootstrapping begins
-notify_first : IsRefusedBy first (Told (Phase Running 0) ∷ Told (Start 0) ∷ Told (Phase BootstrapComplete 0) ∷ Told (Phase Bootstrap 0) ∷ Told NotifyParent ∷ []) (BootInTurn ∷ Beginning ∷ [])
+notify_first : IsRefusedBy first
+    (Told (Phase Running 0) ∷ Told (Start 0) ∷ Told (Phase BootstrapComplete 0) ∷ Told (Phase Bootstrap 0) ∷ Told NotifyParent ∷ [])
+    (BootInTurn ∷ Beginning ∷ [])
 notify_first = (refl, refl)
 
 -- a server forks that is no daemon
-fork_without_daemon : IsRefusedBy first (Told (Phase Running 0) ∷ Told (Start 0) ∷ Told (Phase BootstrapComplete 0) ∷ Told (Phase Bootstrap 0) ∷ Told Daemonize ∷ []) (Beginning ∷ [])
+fork_without_daemon : IsRefusedBy first
+    (Told (Phase Running 0) ∷ Told (Start 0) ∷ Told (Phase BootstrapComplete 0) ∷ Told (Phase Bootstrap 0) ∷ Told Daemonize ∷ []) (Beginning ∷ [])
 fork_without_daemon = (refl, refl)
 
 -- a daemon doesn't fork

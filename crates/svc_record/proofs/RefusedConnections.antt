@@ -22,7 +22,9 @@ sending = Told (Send (codes "127.0.0.1:80") (7 ∷ [])) ∷ Got Connected ∷ To
 
 -- the whole end, in whose step these entries stand first
 abbrev ended_with : Record → Record
-ended_with first = Told (Phase Terminated 0) ∷ Told (Stop 0) ∷ Told (Close 7) ∷ Told (Phase ShutdownRuntimes 0) ∷ Told (Phase ShutdownStarted 0) ∷ first ++ Got (Signal FastShutdown) ∷ bound
+ended_with first =
+    Told (Phase Terminated 0) ∷ Told (Stop 0) ∷ Told (Close 7) ∷ Told (Phase ShutdownRuntimes 0) ∷ Told (Phase ShutdownStarted 0) ∷ first
+    ++ Got (Signal FastShutdown) ∷ bound
 
 -- a successor is asked for, and no upgrade
 connect_unasked : IsRefusedBy plan (Told Connect ∷ bound) (OfferInTurn ∷ [])
@@ -80,7 +82,9 @@ cut_unasked : IsRefusedBy plan (Told (Cut 3) ∷ bound) (ConnectionKnown ∷ NoE
 cut_unasked = (refl, refl)
 
 -- it is cut in the last step
-cut_in_last_step : IsRefusedBy plan (Told (Phase Terminated 0) ∷ Told (Stop 0) ∷ Told (Close 7) ∷ Told (Cut 3) ∷ Told (Phase ShutdownRuntimes 0) ∷ Told (Phase ShutdownStarted 0) ∷ Got (Signal FastShutdown) ∷ bound) (ConnectionKnown ∷ LastActions ∷ [])
+cut_in_last_step : IsRefusedBy plan
+    (Told (Phase Terminated 0) ∷ Told (Stop 0) ∷ Told (Close 7) ∷ Told (Cut 3) ∷ Told (Phase ShutdownRuntimes 0) ∷ Told (Phase ShutdownStarted 0)
+    ∷ Got (Signal FastShutdown) ∷ bound) (ConnectionKnown ∷ LastActions ∷ [])
 cut_in_last_step = (refl, refl)
 
 -- a loop rests though accepting didn't fail

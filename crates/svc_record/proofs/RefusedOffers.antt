@@ -72,7 +72,8 @@ unfolding is_sayable message_bytes
 closed_on_offer = (refl, refl)
 
 -- it is left open after the last answer
-left_open_after_offer : IsRefusedBy half_plan (Told (Phase GracefulUpgradeCloseTimeout 0) ∷ Got Sent ∷ Told (Send (codes "a:1") (7 ∷ [])) ∷ Got Connected ∷ held_back) (Closes ∷ [])
+left_open_after_offer : IsRefusedBy half_plan
+    (Told (Phase GracefulUpgradeCloseTimeout 0) ∷ Got Sent ∷ Told (Send (codes "a:1") (7 ∷ [])) ∷ Got Connected ∷ held_back) (Closes ∷ [])
 unfolding is_sayable message_bytes
 left_open_after_offer = (refl, refl)
 
@@ -107,6 +108,7 @@ unfolding is_sayable message_bytes
 send_crossed = (refl, refl)
 
 -- it is sent before a successor is there
-send_early : IsRefusedBy plan (Told (Send (codes "127.0.0.1:80") (7 ∷ [])) ∷ Told (Phase GracefulUpgradeTransferringFds 0) ∷ Got (Signal GracefulUpgrade) ∷ held) (OfferInTurn ∷ [])
+send_early : IsRefusedBy plan
+    (Told (Send (codes "127.0.0.1:80") (7 ∷ [])) ∷ Told (Phase GracefulUpgradeTransferringFds 0) ∷ Got (Signal GracefulUpgrade) ∷ held) (OfferInTurn ∷ [])
 unfolding is_sayable message_bytes
 send_early = (refl, refl)

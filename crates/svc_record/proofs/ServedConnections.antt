@@ -33,11 +33,13 @@ bound = Got (Bound 0 0 7) ∷ Told (Phase Running 0) ∷ Told (Bind 0 0) ∷ Tol
 
 -- the filter refuses the first connection, and the second one's handshake is polled
 abbrev shaking : Record
-shaking = Told (Handshake 2) ∷ Got (Set 2 true) ∷ Told (Settings 2 (NoDelay ∷ Dscp 10 ∷ [])) ∷ Told (Judged 2 true) ∷ Got (Arrived 0 0 2 (Inet from_port)) ∷ Told (Refuse 1) ∷ Told (Judged 1 false) ∷ Got (Arrived 0 0 1 (Inet from_port)) ∷ bound
+shaking = Told (Handshake 2) ∷ Got (Set 2 true) ∷ Told (Settings 2 (NoDelay ∷ Dscp 10 ∷ [])) ∷ Told (Judged 2 true) ∷ Got (Arrived 0 0 2 (Inet from_port))
+    ∷ Told (Refuse 1) ∷ Told (Judged 1 false) ∷ Got (Arrived 0 0 1 (Inet from_port)) ∷ bound
 
 -- it is served, and the settings of the third can't be applied
 abbrev serving : Record
-serving = Told (Drop 3) ∷ Got (Set 3 false) ∷ Told (Settings 3 (NoDelay ∷ Dscp 10 ∷ [])) ∷ Got (Arrived 0 0 3 Unknown) ∷ Told (Serve 2) ∷ Got (Shaken 2 true) ∷ shaking
+serving = Told (Drop 3) ∷ Got (Set 3 false) ∷ Told (Settings 3 (NoDelay ∷ Dscp 10 ∷ [])) ∷ Got (Arrived 0 0 3 Unknown) ∷ Told (Serve 2) ∷ Got (Shaken 2 true)
+    ∷ shaking
 
 -- a fourth is being set up
 abbrev setting : Record
@@ -45,7 +47,9 @@ setting = Told (Settings 4 (NoDelay ∷ Dscp 10 ∷ [])) ∷ Told (Judged 4 true
 
 -- the end with these cuts
 abbrev ended : Record → Record → Record
-ended cuts before = Told (Phase Terminated 0) ∷ Told (Stop 0) ∷ Told (Close 7) ∷ cuts ++ Told (Phase ShutdownRuntimes 0) ∷ Told (Phase ShutdownStarted 0) ∷ Got (Signal FastShutdown) ∷ before
+ended cuts before =
+    Told (Phase Terminated 0) ∷ Told (Stop 0) ∷ Told (Close 7) ∷ cuts ++ Told (Phase ShutdownRuntimes 0) ∷ Told (Phase ShutdownStarted 0)
+    ∷ Got (Signal FastShutdown) ∷ before
 
 -- the whole run
 abbrev run : Record
@@ -98,11 +102,14 @@ shaken_twice : IsRefusedBy plan (Got (Shaken 2 true) ∷ Told (Serve 2) ∷ Got 
 shaken_twice = (refl, refl)
 
 -- a connection comes with a number that came before
-arrived_twice : IsRefusedBy plan (Told (Refuse 1) ∷ Told (Judged 1 false) ∷ Got (Arrived 0 0 1 Unix) ∷ Told (Refuse 1) ∷ Told (Judged 1 false) ∷ Got (Arrived 0 0 1 Unix) ∷ bound) (EventFits ∷ Connections ∷ [])
+arrived_twice : IsRefusedBy plan
+    (Told (Refuse 1) ∷ Told (Judged 1 false) ∷ Got (Arrived 0 0 1 Unix) ∷ Told (Refuse 1) ∷ Told (Judged 1 false) ∷ Got (Arrived 0 0 1 Unix) ∷ bound)
+    (EventFits ∷ Connections ∷ [])
 arrived_twice = (refl, refl)
 
 -- one comes to a service that doesn't serve
-arrived_unserved : IsRefusedBy plan (Told (Settings 1 (NoDelay ∷ Dscp 10 ∷ [])) ∷ Got (Arrived 0 0 1 Unknown) ∷ Told (Phase Running 0) ∷ Told (Bind 0 0) ∷ Told (Start 0) ∷ []) (EventFits ∷ [])
+arrived_unserved : IsRefusedBy plan
+    (Told (Settings 1 (NoDelay ∷ Dscp 10 ∷ [])) ∷ Got (Arrived 0 0 1 Unknown) ∷ Told (Phase Running 0) ∷ Told (Bind 0 0) ∷ Told (Start 0) ∷ []) (EventFits ∷ [])
 arrived_unserved = (refl, refl)
 
 -- an option of the endpoint isn't applied

@@ -30,7 +30,8 @@ offered = Told (Adopt 1 0 5) ∷ Got (Bound 0 0 5) ∷ retried
 
 -- the whole run
 abbrev pub run : Record
-run = Told (Phase Terminated 1000) ∷ Told (Stop 0) ∷ Told (Close 5) ∷ Told (Phase ShutdownRuntimes 1000) ∷ Told (Phase ShutdownStarted 1000) ∷ Got (Signal FastShutdown) ∷ Got (Adopted 1 0) ∷ offered
+run = Told (Phase Terminated 1000) ∷ Told (Stop 0) ∷ Told (Close 5) ∷ Told (Phase ShutdownRuntimes 1000) ∷ Told (Phase ShutdownStarted 1000)
+    ∷ Got (Signal FastShutdown) ∷ Got (Adopted 1 0) ∷ offered
 
 right : Right plan run
 right = right_from_test plan run refl
@@ -39,9 +40,11 @@ served : Served plan run
 served = served_from_test plan run refl
 
 -- what stands before each event is right, what ends within a step isn't
-beginnings-right : right_ones plan (beginnings run) ≡ true ∷ false ∷ false ∷ false ∷ false ∷ false ∷ true ∷ true ∷ false ∷ true ∷ false ∷ true ∷ true ∷ false ∷ false ∷ false ∷ false ∷ []
+beginnings-right : right_ones plan (beginnings run)
+    ≡ true ∷ false ∷ false ∷ false ∷ false ∷ false ∷ true ∷ true ∷ false ∷ true ∷ false ∷ true ∷ true ∷ false ∷ false ∷ false ∷ false ∷ []
 beginnings-right = refl
 
 -- of the records that lack an entry of it one is right: the adoption's answer may be missing
-shortened-right : right_ones plan (shortened run) ≡ false ∷ false ∷ false ∷ false ∷ false ∷ false ∷ true ∷ false ∷ false ∷ false ∷ false ∷ false ∷ false ∷ false ∷ false ∷ false ∷ []
+shortened-right : right_ones plan (shortened run)
+    ≡ false ∷ false ∷ false ∷ false ∷ false ∷ false ∷ true ∷ false ∷ false ∷ false ∷ false ∷ false ∷ false ∷ false ∷ false ∷ false ∷ []
 shortened-right = refl

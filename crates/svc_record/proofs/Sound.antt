@@ -68,13 +68,17 @@ in_range test (suc n) a s e low high = let h = both (test a) (list_all test (ran
 pub below : (test : ℕ → Bool) (n s : ℕ) → list_all test (range_with_len 0 n) ≡ true → s < n → test s ≡ true
 below test n s e high = in_range test n 0 s e (omega arith) (omega arith)
 
-pub each_endpoint : (p : Plan) (test : ℕ → ℕ → Bool) → list_all (λ s. list_all (test s) (endpoint_numbers p s)) (services p) ≡ true → (s i : ℕ) → s < service_count p → i < length (endpoints p s) → test s i ≡ true
-each_endpoint p test e s i low lower = below (test s) (length (endpoints p s)) i (below (λ t. list_all (test t) (endpoint_numbers p t)) (service_count p) s e low) lower
+pub each_endpoint : (p : Plan) (test : ℕ → ℕ → Bool) → list_all (λ s. list_all (test s) (endpoint_numbers p s)) (services p) ≡ true → (s i : ℕ)
+    → s < service_count p → i < length (endpoints p s) → test s i ≡ true
+each_endpoint p test e s i low lower =
+    below (test s) (length (endpoints p s)) i (below (λ t. list_all (test t) (endpoint_numbers p t)) (service_count p) s e low) lower
 
-pub each_number : (test : ℕ → Bool) (ds : List Descriptor) (fd : ℕ) → list_all (λ (d : Descriptor). test d.number) ds ≡ true → list_any (has_number fd) ds ≡ true → test fd ≡ true
+pub each_number : (test : ℕ → Bool) (ds : List Descriptor) (fd : ℕ) → list_all (λ (d : Descriptor). test d.number) ds ≡ true
+    → list_any (has_number fd) ds ≡ true → test fd ≡ true
 each_number test [] fd all e = absurd (false≢true e)
 each_number test (d ∷ ds) fd all e = let h = both (test d.number) (list_all (λ (x : Descriptor). test x.number) ds) all in
-    elim (either (d.number == fd) (list_any (has_number fd) ds) e) [ inl same ↦ subst (λ n. test n ≡ true) (eqb-true d.number fd same) h.0 | inr later ↦ each_number test ds fd h.1 later ]
+    elim (either (d.number == fd) (list_any (has_number fd) ds) e)
+    [ inl same ↦ subst (λ n. test n ≡ true) (eqb-true d.number fd same) h.0 | inr later ↦ each_number test ds fd h.1 later ]
 
 pub starts : (p : Plan) (q : Record) → (starts_right p q && each_entry (start_due p) q) ≡ true → StartsRight p q
 starts p q e = let h = both (starts_right p q) (each_entry (start_due p) q) e in
@@ -94,7 +98,10 @@ fails p q e s low = eqb-true _ _ (below (λ t. times (is_fail t) q == (if has_fa
 
 -- the phase that has the number
 abbrev phase_of : ℕ → ExecutionPhase
-phase_of n = slice_index_or (Setup ∷ Bootstrap ∷ BootstrapComplete ∷ Running ∷ GracefulUpgradeTransferringFds ∷ GracefulUpgradeCloseTimeout ∷ GracefulTerminate ∷ ShutdownStarted ∷ ShutdownGracePeriod ∷ ShutdownRuntimes ∷ Terminated ∷ []) n Setup
+phase_of n =
+    slice_index_or
+    (Setup ∷ Bootstrap ∷ BootstrapComplete ∷ Running ∷ GracefulUpgradeTransferringFds ∷ GracefulUpgradeCloseTimeout ∷ GracefulTerminate ∷ ShutdownStarted
+    ∷ ShutdownGracePeriod ∷ ShutdownRuntimes ∷ Terminated ∷ []) n Setup
 
 phase_back : (x : ExecutionPhase) → phase_of (phase_number x) ≡ x
 phase_back Setup = refl
@@ -148,14 +155,17 @@ silent [] e = refl
 silent (a ∷ more) e = absurd (false≢true e)
 
 pub ended : (p : Plan) (q : Record) → ended_right p q ≡ true → EndedRight p q
-ended p q e = let h = both (not (has_ended_early p q) || is_silent (last_step q)) (not (ends_tested p q) || (is_test_step (now q) (last_step q) && closes_right p q)) e in
+ended p q e =
+    let h = both (not (has_ended_early p q) || is_silent (last_step q)) (not (ends_tested p q) || (is_test_step (now q) (last_step q) && closes_right p q)) e in
     record {
       early = on_true (has_ended_early p q) _ _ (silent (last_step q)) h.0;
       tested = on_true (ends_tested p q) _ _ (λ t. let k = both (is_test_step (now q) (last_step q)) (closes_right p q) t in (k.0, closes p q k.1)) h.1;
     }
 
 pub open_ : (p : Plan) (q : Record) → open_right p q ≡ true → OpenRight p q
-open_ p q e = let a = both _ _ e in let b = both _ _ a.0 in let c = both _ _ b.0 in let d = both _ _ b.1 in let f = both _ _ c.0 in let g = both _ _ c.1 in let k = both _ _ a.1 in let l = both _ _ k.1 in let m = both _ _ l.0 in
+open_ p q e =
+    let a = both _ _ e in let b = both _ _ a.0 in let c = both _ _ b.0 in let d = both _ _ b.1 in let f = both _ _ c.0 in let g = both _ _ c.1 in
+    let k = both _ _ a.1 in let l = both _ _ k.1 in let m = both _ _ l.0 in
     record {
       boot = boot p q f.0;
       offer = offer p q f.1;
@@ -174,7 +184,8 @@ pub settled_clause : (p : Plan) (q : Record) → settled_right p q ≡ true → 
 settled_clause p q e = chosen (has_ended p q) (ended_right p q) (open_right p q) _ _ (ended p q) (open_ p q) e
 
 pub serves : (p : Plan) (q : Record) → serves_right p q ≡ true → ServesRight p q
-serves p q e = let h = both (has is_signal q || closes_right p q) (not (in_service q) || ((starts_right p q && each_entry (start_due p) q) && endpoints_right p q)) e in
+serves p q e =
+    let h = both (has is_signal q || closes_right p q) (not (in_service q) || ((starts_right p q && each_entry (start_due p) q) && endpoints_right p q)) e in
     record {
       closes = on_false (has is_signal q) (closes_right p q) _ (closes p q) h.0;
       starts = on_true (in_service q) _ _ (λ t. starts p q (both _ _ t).0) h.1;
@@ -214,7 +225,9 @@ closes_leave (fd ∷ fds) more rest f q e = closes_leave fds more rest f (Told (
 
 -- before the last actions stands what they were told after
 pub stands_before : (p : Plan) (at rest : Record) → before_runtimes (tell rest (last_actions p at)) ≡ rest
-stands_before p at rest = cuts_leave (ascending (live_connections at)) _ rest (closes_leave (ascending (live_numbers p at)) _ rest (λ q e. e)) (Told (Phase ShutdownRuntimes (now at)) ∷ rest) refl
+stands_before p at rest =
+    cuts_leave (ascending (live_connections at)) _ rest (closes_leave (ascending (live_numbers p at)) _ rest (λ q e. e))
+    (Told (Phase ShutdownRuntimes (now at)) ∷ rest) refl
 
 pub ends : (p : Plan) (r : Record) → ends_right p (before_runtimes r) r ≡ true → r ≡ tell (before_runtimes r) (last_actions p (before_runtimes r))
 ends p r e = let at = before_runtimes r in
@@ -237,7 +250,8 @@ drains p r e = let a = both _ _ e in let b = both _ _ a.0 in let c = both _ _ b.
 pub each_among : (test : ℕ → Bool) (ns : List ℕ) (s : ℕ) → list_all test ns ≡ true → list_any (λ n. n == s) ns ≡ true → test s ≡ true
 each_among test [] s all e = absurd (false≢true e)
 each_among test (n ∷ ns) s all e = let h = both (test n) (list_all test ns) all in
-    elim (either (n == s) (list_any (λ m. m == s) ns) e) [ inl same ↦ subst (λ m. test m ≡ true) (eqb-true n s same) h.0 | inr later ↦ each_among test ns s h.1 later ]
+    elim (either (n == s) (list_any (λ m. m == s) ns) e)
+    [ inl same ↦ subst (λ m. test m ≡ true) (eqb-true n s same) h.0 | inr later ↦ each_among test ns s h.1 later ]
 
 pub tested : (p : Plan) (q : Record) → tested_right p q ≡ true → TestedRight p q
 tested p q e = let a = both _ _ e in let b = both _ _ a.0 in let c = both _ _ b.0 in let d = both _ _ a.1 in
@@ -245,17 +259,28 @@ tested p q e = let a = both _ _ e in let b = both _ _ a.0 in let c = both _ _ b.
       forked = c.0;
       begun = c.1;
       in_turn = entries (start_after_boot p) q b.1;
-      starts = on_false p.eager (list_all (start_right p q) (visited_services p q)) _ (λ t s v. eqb-true _ _ (each_among (start_right p q) (visited_services p q) s t v)) d.0;
+      starts = on_false p.eager (list_all (start_right p q) (visited_services p q)) _
+          (λ t s v. eqb-true _ _ (each_among (start_right p q) (visited_services p q) s t v)) d.0;
       endpoints = on_false p.eager (list_all (λ s. list_all (endpoint_right_late p q s) (endpoint_numbers p s)) (visited_services p q)) _
-          (λ t s i v low. below (endpoint_right_late p q s) (length (endpoints p s)) i (each_among (λ x. list_all (endpoint_right_late p q x) (endpoint_numbers p x)) (visited_services p q) s t v) low) d.1;
+          (λ t s i v low. below (endpoint_right_late p q s) (length (endpoints p s)) i
+          (each_among (λ x. list_all (endpoint_right_late p q x) (endpoint_numbers p x)) (visited_services p q) s t v) low) d.1;
     }
 
 pub last_step_clause : (p : Plan) (at : Record) → last_step_right p at ≡ true → LastStepRight p at
 last_step_clause p at e = let a = both _ _ e in let b = both _ _ a.0 in let c = both _ _ b.0 in let d = both _ _ b.1 in let f = both _ _ a.1 in
-    record { starts = starts p at c.0; endpoints = held_or_wait_late p at c.1; closes = closes p at d.0; boot = boot p at d.1; offer = offer p at f.0; connections = connections p at f.1 }
+    record {
+      starts = starts p at c.0;
+      endpoints = held_or_wait_late p at c.1;
+      closes = closes p at d.0;
+      boot = boot p at d.1;
+      offer = offer p at f.0;
+      connections = connections p at f.1;
+    }
 
 pub stronger : (p : Plan) (r : Record) → is_stronger p r ≡ true → Stronger p r
-stronger p r e = let a = both _ _ e in let b = both _ _ a.0 in let c = both _ _ b.0 in let d = both _ _ c.0 in let d0 = both _ _ d.0 in let f = both _ _ c.1 in let g = both _ _ b.1 in let h = both _ _ g.0 in let k = both _ _ a.1 in let l = both _ _ k.0 in
+stronger p r e =
+    let a = both _ _ e in let b = both _ _ a.0 in let c = both _ _ b.0 in let d = both _ _ c.0 in let d0 = both _ _ d.0 in let f = both _ _ c.1 in
+    let g = both _ _ b.1 in let h = both _ _ g.0 in let k = both _ _ a.1 in let l = both _ _ k.0 in
     record {
       boots = entries (boot_due p) r d0.0;
       tries = entries try_due r d0.1;
@@ -291,7 +316,9 @@ passing p r s e = let a = both _ _ e in let b = both _ _ a.0 in let c = both _ _
 
 -- a record that passes the test is right
 pub right_from_test : (p : Plan) (r : Record) → is_right p r ≡ true → Right p r
-right_from_test p r e = let w = both (is_right_by_words p r) (is_stronger p r) e in let s = stronger p r w.1 in let a = both _ _ w.0 in let b = both _ _ a.0 in let c = both _ _ b.0 in let d = both _ _ a.1 in let f = both _ _ d.0 in
+right_from_test p r e =
+    let w = both (is_right_by_words p r) (is_stronger p r) e in let s = stronger p r w.1 in let a = both _ _ w.0 in let b = both _ _ a.0 in
+    let c = both _ _ b.0 in let d = both _ _ a.1 in let f = both _ _ d.0 in
     record {
       fits = entries (event_fits p) r c.0;
       starts = entries (start_due p) r c.1;

@@ -10,11 +10,14 @@ use Rattle.svc_record.specs.Validity.{is_listed, IsStartupOrder}
 use Rattle.svc_base.proofs.Logic.{apart_from as not_true}
 
 -- the first number of a range that passes the test
-first-found : (test : ℕ → Bool) (n a s : ℕ) → a ≤ s → s < a + n → test s ≡ true → ((t : ℕ) → a ≤ t → t < s → test t ≡ false) → first_number test (range_with_len a n) ≡ s ∷ []
+first-found : (test : ℕ → Bool) (n a s : ℕ) → a ≤ s → s < a + n → test s ≡ true → ((t : ℕ) → a ≤ t → t < s → test t ≡ false)
+    → first_number test (range_with_len a n) ≡ s ∷ []
 first-found test zero a s low high holds below = absurd (omega arith)
 first-found test (suc n) a s low high holds below = elim (cases_eq a s) [
   | inl same ↦ rw (ap test same ∙ holds, same) refl
-  | inr other ↦ rw (below a (omega arith) (omega (arith, other))) (first-found test n (a + 1) s (omega (arith, other)) (omega arith) holds (λ t le lt. below t (omega arith) lt))
+  | inr other ↦
+      rw (below a (omega arith) (omega (arith, other)))
+      (first-found test n (a + 1) s (omega (arith, other)) (omega arith) holds (λ t le lt. below t (omega arith) lt))
 ]
 
 -- none does
@@ -49,7 +52,8 @@ take-within (suc n) (x ∷ xs) (suc i) h = let less = take-within n xs i (omega 
 comes : (p : Plan) (listed : List ℕ) (s : ℕ) → is_listed listed s ≡ false → All (λ d. is_listed listed d ≡ true) (depends p s) → comes_next p listed s ≡ true
 comes p listed s fresh due = rw fresh (all-pass (is_listed listed) (depends p s) due)
 
-not_next : (p : Plan) (listed : List ℕ) (t : ℕ) → (is_listed listed t ≡ false → All (λ d. is_listed listed d ≡ true) (depends p t) → ⊥) → comes_next p listed t ≡ false
+not_next : (p : Plan) (listed : List ℕ) (t : ℕ) → (is_listed listed t ≡ false → All (λ d. is_listed listed d ≡ true) (depends p t) → ⊥)
+    → comes_next p listed t ≡ false
 not_next p listed t fails = false_from_ne_true (comes_next p listed t)
     (λ e. (let both = and_parts (not (is_listed listed t)) (list_all (is_listed listed) (depends p t)) e in
     fails (not_true (is_listed listed t) both.0) (each-passes (is_listed listed) (depends p t) both.1)))
@@ -59,7 +63,8 @@ module _ (p : Plan) (order : List ℕ) (least : IsStartupOrder p order) where
   one-more : (k : ℕ) → k < length order → first_number (comes_next p (take k order)) (services p) ≡ slice_index order k ∷ []
   one-more k lt =
       let next = least.next k lt in
-      first-found (comes_next p (take k order)) (service_count p) 0 (slice_index order k) (omega arith) (let inside = next.inside in omega arith) (comes p (take k order) (slice_index order k) next.fresh next.due)
+      first-found (comes_next p (take k order)) (service_count p) 0 (slice_index order k) (omega arith) (let inside = next.inside in omega arith)
+      (comes p (take k order) (slice_index order k) next.fresh next.due)
       (λ t low below. not_next p (take k order) t (next.least t below))
 
   -- past the end all are listed
@@ -72,9 +77,11 @@ module _ (p : Plan) (order : List ℕ) (least : IsStartupOrder p order) where
   first-are (suc m) =
       ap (λ listed. listed ++ first_number (comes_next p listed) (services p)) (first-are m)
       ∙ elim (cases_lt m (length order)) [
-        | inl lt ↦ ap (λ x. take m order ++ x) (one-more m lt) ∙ sym (take_more order m 0 lt) ∙ (let e : m + 1 ≡ suc m = omega arith in ap (λ n. take n order) e)
+        | inl lt ↦ ap (λ x. take m order ++ x) (one-more m lt) ∙ sym (take_more order m 0 lt)
+            ∙ (let e : m + 1 ≡ suc m = omega arith in ap (λ n. take n order) e)
         | inr past ↦ (let all : take m order ≡ order = take-past order m past in
-            ap (λ xs. xs ++ first_number (comes_next p xs) (services p)) all ∙ ap (λ x. order ++ x) no-more ∙ append-nil order ∙ sym (take-past order (suc m) (omega arith)))
+            ap (λ xs. xs ++ first_number (comes_next p xs) (services p)) all ∙ ap (λ x. order ++ x) no-more ∙ append-nil order
+            ∙ sym (take-past order (suc m) (omega arith)))
       ]
 
   pub startup-is : startup_order p ≡ take (service_count p) order

@@ -20,7 +20,8 @@ tally fd (n ∷ more) = one_if (n == fd) + tally fd more
 abbrev pub is_in : ℕ → List ℕ → Bool
 is_in fd ns = list_any (λ n. n == fd) ns
 
-put_step : (fd n m : ℕ) (b : Bool) (ms put : List ℕ) → tally fd put ≡ one_if (n == fd) + tally fd ms → tally fd (if b then n ∷ m ∷ ms else m ∷ put) ≡ one_if (n == fd) + (one_if (m == fd) + tally fd ms)
+put_step : (fd n m : ℕ) (b : Bool) (ms put : List ℕ) → tally fd put ≡ one_if (n == fd) + tally fd ms
+    → tally fd (if b then n ∷ m ∷ ms else m ∷ put) ≡ one_if (n == fd) + (one_if (m == fd) + tally fd ms)
 put_step fd n m true ms put e = refl
 put_step fd n m false ms put e = omega (arith, e)
 
@@ -70,7 +71,9 @@ once false false i k m f g e h = zero-add k ∙ (e ∙ h)
 
 pub tally-each_once : (fd : ℕ) (ns : List ℕ) → tally fd (each_once ns) ≡ one_if (is_in fd ns)
 tally-each_once fd [] = refl
-tally-each_once fd (n ∷ more) = once (n == fd) (fd == n) (is_in fd more) _ _ (same-sym n fd) (same-sym fd n) (tally-filter fd (λ m. not (m == n)) (each_once more)) (tally-each_once fd more)
+tally-each_once fd (n ∷ more) =
+    once (n == fd) (fd == n) (is_in fd more) _ _ (same-sym n fd) (same-sym fd n) (tally-filter fd (λ m. not (m == n)) (each_once more))
+    (tally-each_once fd more)
 
 in_step : (s i : Bool) (k : ℕ) → i ≡ not (k == 0) → (s || i) ≡ not ((one_if s + k) == 0)
 in_step true i k e = sym (ap not (ap (λ x. x == 0) (one-add k) ∙ eqb-suc-zero k))

@@ -29,7 +29,20 @@ listening depends address = record { name = codes "api"; kind = Plain; depends =
 
 -- a plan of these services, and otherwise as by default
 abbrev pub plan_of : List ServicePlan → Plan
-plan_of services = record { services = services; grace = 300; stop = 5; tasks = 1; limit = 5; upgrade = false; test = false; eager = false; daemon = false; wait = false; ready_timeout = 600 }
+plan_of services =
+    record {
+      services = services;
+      grace = 300;
+      stop = 5;
+      tasks = 1;
+      limit = 5;
+      upgrade = false;
+      test = false;
+      eager = false;
+      daemon = false;
+      wait = false;
+      ready_timeout = 600;
+    }
 
 abbrev pub plan : Plan
 plan = plan_of (database ∷ listening (0 ∷ []) (codes "127.0.0.1:80") ∷ [])
@@ -44,7 +57,8 @@ bound = Got (Bound 1 0 7) ∷ asked
 
 -- the whole run
 abbrev pub run : Record
-run = Told (Phase Terminated 0) ∷ Told (Stop 0) ∷ Told (Close 7) ∷ Told (Phase ShutdownRuntimes 0) ∷ Told (Phase ShutdownStarted 0) ∷ Got (Signal FastShutdown) ∷ bound
+run = Told (Phase Terminated 0) ∷ Told (Stop 0) ∷ Told (Close 7) ∷ Told (Phase ShutdownRuntimes 0) ∷ Told (Phase ShutdownStarted 0) ∷ Got (Signal FastShutdown)
+    ∷ bound
 
 right : Right plan run
 right = right_from_test plan run refl

@@ -20,7 +20,8 @@ use Rattle.svc_record.proofs.Variants.{shortened, beginnings, right_ones}
 
 -- the second descriptor is closed at once
 abbrev pub run : Record
-run = Told (Phase Terminated 0) ∷ Told (Stop 0) ∷ Told (Close 3) ∷ Told (Phase ShutdownRuntimes 0) ∷ Told (Phase ShutdownStarted 0) ∷ Got (Signal FastShutdown) ∷ Got (Adopted 0 0)
+run = Told (Phase Terminated 0) ∷ Told (Stop 0) ∷ Told (Close 3) ∷ Told (Phase ShutdownRuntimes 0) ∷ Told (Phase ShutdownStarted 0) ∷ Got (Signal FastShutdown)
+    ∷ Got (Adopted 0 0)
     ∷ Told (Phase Running 0) ∷ Told (Adopt 0 0 3) ∷ Told (Start 0) ∷ Told (Phase BootstrapComplete 0) ∷ Told (Close 4) ∷ received
 
 right : Right one_address run
@@ -31,11 +32,13 @@ served : Served one_address run
 unfolding is_utf8 chars encode is_well_formed words
 served = served_from_test one_address run refl
 
-beginnings-right : right_ones one_address (beginnings run) ≡ true ∷ false ∷ false ∷ false ∷ false ∷ false ∷ true ∷ true ∷ false ∷ false ∷ false ∷ false ∷ false ∷ true ∷ false ∷ false ∷ false ∷ []
+beginnings-right : right_ones one_address (beginnings run)
+    ≡ true ∷ false ∷ false ∷ false ∷ false ∷ false ∷ true ∷ true ∷ false ∷ false ∷ false ∷ false ∷ false ∷ true ∷ false ∷ false ∷ false ∷ []
 unfolding is_utf8 chars encode is_well_formed words
 beginnings-right = refl
 
-shortened-right : right_ones one_address (shortened run) ≡ false ∷ false ∷ false ∷ false ∷ false ∷ false ∷ true ∷ false ∷ false ∷ false ∷ false ∷ false ∷ false ∷ false ∷ false ∷ false ∷ []
+shortened-right : right_ones one_address (shortened run)
+    ≡ false ∷ false ∷ false ∷ false ∷ false ∷ false ∷ true ∷ false ∷ false ∷ false ∷ false ∷ false ∷ false ∷ false ∷ false ∷ false ∷ []
 unfolding is_utf8 chars encode is_well_formed words
 shortened-right = refl
 
@@ -48,7 +51,8 @@ with_undeclared = inheriting (listening [] (codes "127.0.0.1:80") ∷ undeclared
 
 -- beside it nothing is unclaimed, so both descriptors are kept
 abbrev pub kept : Record
-kept = Told (Phase Terminated 0) ∷ Told (Stop 0) ∷ Told (Close 4) ∷ Told (Close 3) ∷ Told (Phase ShutdownRuntimes 0) ∷ Told (Phase ShutdownStarted 0) ∷ Got (Signal FastShutdown) ∷ Got (Adopted 0 0)
+kept = Told (Phase Terminated 0) ∷ Told (Stop 0) ∷ Told (Close 4) ∷ Told (Close 3) ∷ Told (Phase ShutdownRuntimes 0) ∷ Told (Phase ShutdownStarted 0)
+    ∷ Got (Signal FastShutdown) ∷ Got (Adopted 0 0)
     ∷ Told (Phase Running 0) ∷ Told (Start 1) ∷ Told (Adopt 0 0 3) ∷ Told (Start 0) ∷ Told (Phase BootstrapComplete 0) ∷ received
 
 kept-right : Right with_undeclared kept

@@ -31,7 +31,8 @@ given_up = Told (Bind 1 0) ∷ Told (Fail 0) ∷ Got (InUse 0 0) ∷ Told (Phase
 
 -- the whole run
 abbrev pub run : Record
-run = Told (Phase Terminated 0) ∷ Told (Stop 0) ∷ Told (Close 4) ∷ Told (Phase ShutdownRuntimes 0) ∷ Told (Phase ShutdownStarted 0) ∷ Got (Signal FastShutdown) ∷ Got (Bound 1 0 4) ∷ given_up
+run = Told (Phase Terminated 0) ∷ Told (Stop 0) ∷ Told (Close 4) ∷ Told (Phase ShutdownRuntimes 0) ∷ Told (Phase ShutdownStarted 0) ∷ Got (Signal FastShutdown)
+    ∷ Got (Bound 1 0 4) ∷ given_up
 
 right : Right plan run
 right = right_from_test plan run refl
@@ -40,5 +41,6 @@ served : Served plan run
 served = served_from_test plan run refl
 
 -- no record that lacks an entry of it is right
-shortened-wrong : right_ones plan (shortened run) ≡ false ∷ false ∷ false ∷ false ∷ false ∷ false ∷ false ∷ false ∷ false ∷ false ∷ false ∷ false ∷ false ∷ false ∷ []
+shortened-wrong : right_ones plan (shortened run)
+    ≡ false ∷ false ∷ false ∷ false ∷ false ∷ false ∷ false ∷ false ∷ false ∷ false ∷ false ∷ false ∷ false ∷ false ∷ []
 shortened-wrong = refl

@@ -13,7 +13,8 @@ use Rattle.svc_record.specs.Validity.{IsAddress, IsValid}
 use Rattle.svc_record.proofs.OrderLemmas.{depends-well}
 
 -- what holds of each service's endpoints
-pub endpoints-All : (P : List EndpointPlan → Type 0) (p : Plan) → All (λ (x : ServicePlan). P x.endpoints) p.services → (s : ℕ) → s < service_count p → P (endpoints p s)
+pub endpoints-All : (P : List EndpointPlan → Type 0) (p : Plan) → All (λ (x : ServicePlan). P x.endpoints) p.services → (s : ℕ) → s < service_count p
+    → P (endpoints p s)
 endpoints-All P p all s lt =
     elim (slice_get_cases p.services s).1 [
       | inl at ↦ rw at.2 (subst (λ (x : ServicePlan). P x.endpoints) at.3 (all s at.0 at.1))

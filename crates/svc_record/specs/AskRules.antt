@@ -14,9 +14,11 @@ use Rattle.svc_record.specs.Endpoints.{is_held, is_busy, is_at_work}
 
 -- it is the endpoint's turn: its service is at work, the earlier endpoints are held, it isn't, and no ask of it is open
 abbrev pub has_turn : Plan → Record → ℕ → ℕ → Bool
-has_turn p q s i = ((is_endpoint p s i && is_at_work p q s) && list_all (is_held p q s) (range_with_len 0 i)) && (not (is_held p q s i) && not (is_ask_open q s i))
+has_turn p q s i =
+    ((is_endpoint p s i && is_at_work p q s) && list_all (is_held p q s) (range_with_len 0 i)) && (not (is_held p q s i) && not (is_ask_open q s i))
 
--- an endpoint is bound in its turn, where no live descriptor has its address and no endpoint with it is busy; and it is offered a live descriptor of its address in its turn
+-- an endpoint is bound in its turn, where no live descriptor has its address and no endpoint with it is busy; and it is offered a live descriptor of
+-- its address in its turn
 abbrev pub ask_due : Plan → Entry → Record → Bool
 ask_due p (Told (Bind s i)) before = (has_turn p before s i && not (has_live p before (address p s i))) && not (any_with p (address p s i) (is_busy p before))
 ask_due p (Told (Adopt s i fd)) before = has_turn p before s i && list_any (λ n. n == fd) (live_numbers_with p before (address p s i))

@@ -144,7 +144,10 @@ first_of test (x ∷ more) = if test x then x ∷ [] else first_of test more
 
 -- the settings of the endpoint's connections: no delay, and for an endpoint that isn't Unix the first option of each other sort
 abbrev pub settings_list : Plan → ℕ → ℕ → List Setting
-settings_list p s i = NoDelay ∷ (if is_unix p s i then [] else (first_of is_keepalive (options_of p s i) ++ (first_of is_dscp (options_of p s i) ++ (first_of is_send_buffer (options_of p s i) ++ first_of is_receive_buffer (options_of p s i)))))
+settings_list p s i =
+    NoDelay ∷ (if is_unix p s i then [] else
+    (first_of is_keepalive (options_of p s i)
+    ++ (first_of is_dscp (options_of p s i) ++ (first_of is_send_buffer (options_of p s i) ++ first_of is_receive_buffer (options_of p s i)))))
 
 -- the entry tells these settings of the connection
 abbrev pub is_settings_of : List Setting → ℕ → Entry → Bool

@@ -197,7 +197,8 @@ begins_with _ _ = false
 abbrev pub ends_right : Plan → Record → Record → Bool
 ends_right p at r = begins_with (tell [] (last_actions p at)) r
 
--- r has passed and no shorter settled prefix has, so a cut is its last event; each phase is told at its event, with its moment; and from `ShutdownRuntimes` on stand the cuts, the closes, `Stop` and `Terminated`
+-- r has passed and no shorter settled prefix has, so a cut is its last event; each phase is told at its event, with its moment; and from
+-- `ShutdownRuntimes` on stand the cuts, the closes, `Stop` and `Terminated`
 pub record Drain (p : Plan) (r : Record) : Type 0 where
   pub passes : waits_are_over p r ≡ true
   pub first : EachEarlier (λ q. waits_are_over p q ≡ false) r
@@ -208,5 +209,6 @@ pub record Drain (p : Plan) (r : Record) : Type 0 where
 
 -- the same as a test
 abbrev pub drain_right : Plan → Record → Bool
-drain_right p r = (((waits_are_over p r && each_earlier (λ q. not (waits_are_over p q)) r) && each_settled (phases_right p) r) && each_entry every_moment_right r)
+drain_right p r =
+    (((waits_are_over p r && each_earlier (λ q. not (waits_are_over p q)) r) && each_settled (phases_right p) r) && each_entry every_moment_right r)
     && (ends_right p (before_runtimes r) r && not (has is_ending (before_runtimes r)))

@@ -46,7 +46,8 @@ parent_moment (e ∷ before) = if is_side_parent e && not (has is_side_parent be
 -- after that came a moment at which the parent had waited long enough
 abbrev pub parent_waited : Plan → Record → Bool
 parent_waited p [] = false
-parent_waited p (Got (Moment ms) ∷ before) = (has is_side_parent before && nat_le p.ready_timeout ((ms - parent_moment before) / 1000)) || parent_waited p before
+parent_waited p (Got (Moment ms) ∷ before) =
+    (has is_side_parent before && nat_le p.ready_timeout ((ms - parent_moment before) / 1000)) || parent_waited p before
 parent_waited p (e ∷ before) = parent_waited p before
 
 -- the ways in which a run ends
@@ -75,7 +76,9 @@ ends_bad_message q = has is_bad_message q
 
 -- how the run has ended, if it has
 abbrev pub step_end : Plan → Record → StepEnd
-step_end p q = if waits_are_over p q then Served else (if ends_tested p q then Tested else (if ends_parent_well p q then Parent 0 else (if ends_parent_badly p q then Parent 1
+step_end p q =
+    if waits_are_over p q then Served else
+    (if ends_tested p q then Tested else (if ends_parent_well p q then Parent 0 else (if ends_parent_badly p q then Parent 1
     else (if ends_transfer q then Ended Transfer else (if ends_no_sender p q then Ended NoSender else (if ends_bad_message q then Ended BadMessage else On))))))
 
 -- otherwise than served or tested
@@ -99,7 +102,8 @@ visited_services p q = before_boot p q (startup_order p)
 abbrev pub is_visited : Plan → Record → ℕ → Bool
 is_visited p q s = list_any (λ n. n == s) (visited_services p q)
 
--- stronger: a run that was tested has begun to bootstrap, as a daemon's child where it is a daemon; with `eager` nothing was started, and else the services before it are started where they are due, and their endpoints held or wait
+-- stronger: a run that was tested has begun to bootstrap, as a daemon's child where it is a daemon; with `eager` nothing was started, and else the
+-- services before it are started where they are due, and their endpoints held or wait
 pub record TestedRight (p : Plan) (q : Record) : Type 0 where
   pub forked : may_begin p q ≡ true
   pub begun : has_begun p q ≡ true
@@ -110,4 +114,5 @@ pub record TestedRight (p : Plan) (q : Record) : Type 0 where
 -- the same as a test
 abbrev pub tested_right : Plan → Record → Bool
 tested_right p q = ((may_begin p q && has_begun p q) && each_entry (start_after_boot p) q)
-    && ((p.eager || list_all (start_right p q) (visited_services p q)) && (p.eager || list_all (λ s. list_all (endpoint_right_late p q s) (endpoint_numbers p s)) (visited_services p q)))
+    && ((p.eager || list_all (start_right p q) (visited_services p q))
+    && (p.eager || list_all (λ s. list_all (endpoint_right_late p q s) (endpoint_numbers p s)) (visited_services p q)))

@@ -24,7 +24,8 @@ is_in_use s i _ = false
 -- how many answers `InUse` came for the endpoint before which no live descriptor had its address
 abbrev pub in_use_count : Plan → Record → ℕ → ℕ → ℕ
 in_use_count p [] s i = 0
-in_use_count p (e ∷ before) s i = if is_in_use s i e && not (has_live p before (address p s i)) then in_use_count p before s i + 1 else in_use_count p before s i
+in_use_count p (e ∷ before) s i =
+    if is_in_use s i e && not (has_live p before (address p s i)) then in_use_count p before s i + 1 else in_use_count p before s i
 
 -- after so many the service fails
 abbrev pub in_use_limit : Plan → ℕ → ℕ → ℕ

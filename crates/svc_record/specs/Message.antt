@@ -14,6 +14,7 @@ is_encodable t = is_sayable t && nat_le (length t) 32
 abbrev pub encode : List Entry → Option Message
 encode t = if is_encodable t then Some (written t) else None
 
--- the words of a message that came with n descriptors, where it is UTF-8 and has n distinct words, and where it begins as version 2 is a list of lengths and words; else none
+-- the words of a message that came with n descriptors, where it is UTF-8 and has n distinct words, and where it begins as version 2 is a list of
+-- lengths and words; else none
 abbrev pub decode : List ℕ → ℕ → Option (List (List ℕ))
 decode bytes n = if ((is_utf8 bytes && is_well_formed bytes) && length (words bytes) == n) && not (has_repeat (words bytes)) then Some (words bytes) else None

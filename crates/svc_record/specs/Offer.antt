@@ -118,7 +118,8 @@ is_message bytes fds None = false
 -- an ask of the offer comes while it goes on, after an answer to the one before, and is the one that this answer calls for
 abbrev pub offer_due : Plan → Entry → Record → Bool
 offer_due p (Told Connect) before = (goes_on p before && not (is_connect_open before || is_send_open before)) && not (sends_next before)
-offer_due p (Told (Send bytes fds)) before = ((goes_on p before && not (is_connect_open before || is_send_open before)) && sends_next before) && is_message bytes fds (encode (table p before))
+offer_due p (Told (Send bytes fds)) before =
+    ((goes_on p before && not (is_connect_open before || is_send_open before)) && sends_next before) && is_message bytes fds (encode (table p before))
 offer_due p _ before = true
 
 -- while the offer goes on, one of its asks is open, or the last answer rests

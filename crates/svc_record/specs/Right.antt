@@ -70,7 +70,9 @@ pub record Stronger (p : Plan) (r : Record) : Type 0 where
 
 -- the same as a test
 abbrev pub is_stronger : Plan → Record → Bool
-is_stronger p r = ((((each_entry (boot_due p) r && each_entry try_due r) && each_entry retry_due r) && (each_settled (one_ask p) r && (not (ends_tested p r) || tested_right p r)))
+is_stronger p r =
+    ((((each_entry (boot_due p) r && each_entry try_due r) && each_entry retry_due r)
+    && (each_settled (one_ask p) r && (not (ends_tested p r) || tested_right p r)))
     && ((each_entry (close_once p) r && (not (waits_are_over p r) || last_step_right p (before_runtimes r))) && each_entry every_moment_right r))
     && ((each_entry (start_known p) r && each_entry (ask_known p) r) && each_entry (connection_known p) r)
 

@@ -43,7 +43,8 @@ is_of cs fds (Cut c ∷ more) = list_any (λ n. n == c) cs && is_of cs fds more
 is_of cs fds (Close fd ∷ more) = list_any (λ n. n == fd) fds && is_of cs fds more
 is_of cs fds (_ ∷ more) = false
 
--- after the finished record, and perhaps one more event, these actions cut each live connection once, and close what isn't closed, so that each number is closed once
+-- after the finished record, and perhaps one more event, these actions cut each live connection once, and close what isn't closed, so that each
+-- number is closed once
 abbrev pub tail_right : Record → Option Event → List Action → Bool
 tail_right q also told = (is_of (live_connections q) (numbers_in (with_event also q)) told
     && list_all (λ c. times (is_cut c) (tell [] told) == 1) (live_connections q))

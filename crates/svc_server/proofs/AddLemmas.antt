@@ -43,7 +43,10 @@ no_position : {X : Type 0} (p : X → Bool) (xs : List X) → position p xs ≡ 
 no_position p xs e = none p xs (past (position_or_len p xs) (length xs) e)
   where
     past : (i n : ℕ) → cond (nat_lt i n) (Some i) None ≡ None → n ≤ i
-    past i n none = ltb-false i n (false_from_ne_true (nat_lt i n) (λ lt. (let found : cond true (Some i) None ≡ None = subst (λ b. cond b (Some i) None ≡ None) lt none in absurd (cc))))
+    past i n none =
+        ltb-false i n
+        (false_from_ne_true (nat_lt i n)
+        (λ lt. (let found : cond true (Some i) None ≡ None = subst (λ b. cond b (Some i) None ≡ None) lt none in absurd (cc))))
 
     none : {Y : Type 0} (q : Y → Bool) (ys : List Y) → length ys ≤ position_or_len q ys → All (λ y. q y ≡ false) ys
     none q [] le k d lt = absurd (omega arith)
@@ -62,9 +65,11 @@ record NoCause (full many : Bool) (bad filtered : Option ℕ) : Type 0 where
   filters : filtered ≡ None
 
 no_causes : (full many : Bool) (bad filtered : Option ℕ)
-    → first_cause (cause_if full TooMany ∷ cause_if many TooManyEndpoints ∷ option_map BadAddressText bad ∷ option_map UnknownFilter filtered ∷ []) ≡ None → NoCause full many bad filtered
+    → first_cause (cause_if full TooMany ∷ cause_if many TooManyEndpoints ∷ option_map BadAddressText bad ∷ option_map UnknownFilter filtered ∷ []) ≡ None
+    → NoCause full many bad filtered
 no_causes full many bad filtered none =
-    let a = or_none_parts (cause_if full TooMany) (first_cause (cause_if many TooManyEndpoints ∷ option_map BadAddressText bad ∷ option_map UnknownFilter filtered ∷ [])) none in
+    let a = or_none_parts (cause_if full TooMany)
+    (first_cause (cause_if many TooManyEndpoints ∷ option_map BadAddressText bad ∷ option_map UnknownFilter filtered ∷ [])) none in
     let b = or_none_parts (cause_if many TooManyEndpoints) (first_cause (option_map BadAddressText bad ∷ option_map UnknownFilter filtered ∷ [])) a.1 in
     let c = or_none_parts (option_map BadAddressText bad) (first_cause (option_map UnknownFilter filtered ∷ [])) b.1 in
     let d = or_none_parts (option_map UnknownFilter filtered) None c.1 in
@@ -89,7 +94,8 @@ good-address e good =
 
 good : (g : GraphData) (n : ℕ) (s : ServicePlan) → fault_of g n s ≡ None → IsGood n s
 good g n s none =
-    let said = no_causes (nat_le 1024 (node_count g)) (nat_lt 64 (length s.endpoints)) (position is_bad_address s.endpoints) (position (is_unknown_filter n) s.endpoints) none in
+    let said = no_causes (nat_le 1024 (node_count g)) (nat_lt 64 (length s.endpoints)) (position is_bad_address s.endpoints)
+    (position (is_unknown_filter n) s.endpoints) none in
     let filters = no_position (is_unknown_filter n) s.endpoints said.filters in
     record {
       limits = (
@@ -100,7 +106,8 @@ good g n s none =
     }
 
 -- a sound server stays so with a service that can be added
-pub sound-push : (g : GraphData) (n : ℕ) (answers : List ServicePlan) (s : ServicePlan) → fault_of g n s ≡ None → IsSound g n answers → IsSound (with_node g s.name) n (answers ++ s ∷ [])
+pub sound-push : (g : GraphData) (n : ℕ) (answers : List ServicePlan) (s : ServicePlan) → fault_of g n s ≡ None → IsSound g n answers
+    → IsSound (with_node g s.name) n (answers ++ s ∷ [])
 sound-push g n answers s none sound =
     let parts = good g n s none in
     record {
@@ -128,11 +135,13 @@ pub fault-room : (g : GraphData) (n : ℕ) (s : ServicePlan) → node_count g < 
 fault-room g n s room = let free : nat_le 1024 (node_count g) ≡ false = lt-leb 1024 (node_count g) room in rw free refl
 
 -- the server after a service was added
-pub add-sound : {B : Type 0} (means : Ghosts B) (g h : GraphData) (n : ℕ) (old new : List B) (b : B) → h ≡ with_node g (means.named b) → new ≡ old ++ b ∷ [] → fault_of g n (answer_of means b) ≡ None
+pub add-sound : {B : Type 0} (means : Ghosts B) (g h : GraphData) (n : ℕ) (old new : List B) (b : B) → h ≡ with_node g (means.named b) → new ≡ old ++ b ∷ []
+    → fault_of g n (answer_of means b) ≡ None
     → IsSound g n (answers_of means old) → IsSound h n (answers_of means new)
 add-sound means g h n old new b node added none sound =
     subst (λ (k : GraphData). IsSound k n (answers_of means new)) (sym node)
-    (subst (λ (answers : List ServicePlan). IsSound (with_node g (means.named b)) n answers) (sym (ap (λ xs. answers_of means xs) added ∙ map_push (answer_of means) old b))
+    (subst (λ (answers : List ServicePlan). IsSound (with_node g (means.named b)) n answers)
+    (sym (ap (λ xs. answers_of means xs) added ∙ map_push (answer_of means) old b))
     (sound-push g n (answers_of means old) (answer_of means b) none sound))
 
 -- ---- services one after the other
@@ -145,12 +154,14 @@ node_count-with_nodes : (g : GraphData) (names : List (List ℕ)) → node_count
 node_count-with_nodes g [] = omega arith
 node_count-with_nodes g (n ∷ names) = omega (arith, node_count-with_nodes (with_node g n) names, length-append g.names (n ∷ []))
 
-handles_from-push : (n : ℕ) (names : List (List ℕ)) (name : List ℕ) (k : ℕ) → n + length names ≡ k → handles_from n (names ++ name ∷ []) ≡ handles_from n names ++ (record { id = k; name = name }) ∷ []
+handles_from-push : (n : ℕ) (names : List (List ℕ)) (name : List ℕ) (k : ℕ) → n + length names ≡ k
+    → handles_from n (names ++ name ∷ []) ≡ handles_from n names ++ (record { id = k; name = name }) ∷ []
 handles_from-push n [] name k at = let same : n ≡ k = omega arith in ap (λ (i : ℕ). handles_from i (name ∷ [])) same
 handles_from-push n (x ∷ names) name k at = ap (λ rest. (record { id = n; name = x }) ∷ rest) (handles_from-push (n + 1) names name k (omega arith))
 
 -- what stands first in the rest of a list
-dropped : {B : Type 0} (more : List B) (n : ℕ) (b : B) (rest : List B) → drop n more ≡ b ∷ rest → (n < length more) × (slice_get more n ≡ Some b) × (drop (n + 1) more ≡ rest)
+dropped : {B : Type 0} (more : List B) (n : ℕ) (b : B) (rest : List B) → drop n more ≡ b ∷ rest
+    → (n < length more) × (slice_get more n ≡ Some b) × (drop (n + 1) more ≡ rest)
 dropped [] zero b rest e = absurd (cc)
 dropped (x ∷ xs) zero b rest e = (omega arith, first x xs b rest e, behind x xs b rest e)
   where
@@ -166,7 +177,8 @@ dropped (x ∷ xs) (suc n) b rest e =
     (omega (arith, inner.0), inner.1, ap (λ (k : ℕ). drop k (x ∷ xs)) same ∙ inner.2)
 
 -- what was popped from services that are left in reverse is the next of them
-pub popped : {B : Type 0} (more left now : List B) (n : ℕ) (b : B) → left ≡ reverse (drop n more) → left ≡ now ++ b ∷ [] → (n < length more) × (slice_get more n ≡ Some b) × (now ≡ reverse (drop (n + 1) more))
+pub popped : {B : Type 0} (more left now : List B) (n : ℕ) (b : B) → left ≡ reverse (drop n more) → left ≡ now ++ b ∷ []
+    → (n < length more) × (slice_get more n ≡ Some b) × (now ≡ reverse (drop (n + 1) more))
 popped {B = B} more left now n b reversed taken =
     let front : drop n more ≡ b ∷ reverse now =
     sym (reverse-reverse (drop n more)) ∙ ap (λ (l : List B). reverse l) (sym reversed ∙ taken) ∙ reverse-append now (b ∷ []) in
@@ -174,17 +186,22 @@ popped {B = B} more left now n b reversed taken =
     (inner.0, inner.1, sym (reverse-reverse now) ∙ ap (λ (l : List B). reverse l) (sym inner.2))
 
 -- one service more is added
-pub adds-more : {B : Type 0} (means : Ghosts B) (old g h : GraphData) (filters : ℕ) (there services now more : List B) (n m : ℕ) (b : B) (handles : List HandleData) (handle : HandleData)
-    → AddsFirst means old g filters there services more n handles → n < length more → slice_get more n ≡ Some b → now ≡ services ++ b ∷ [] → h ≡ with_node g (means.named b)
-    → fault_of g filters (answer_of means b) ≡ None → handle ≡ record { id = node_count g; name = means.named b } → m ≡ n + 1 → AddsFirst means old h filters there now more m (handles ++ handle ∷ [])
+pub adds-more : {B : Type 0} (means : Ghosts B) (old g h : GraphData) (filters : ℕ) (there services now more : List B) (n m : ℕ) (b : B)
+    (handles : List HandleData) (handle : HandleData)
+    → AddsFirst means old g filters there services more n handles → n < length more → slice_get more n ≡ Some b → now ≡ services ++ b ∷ []
+    → h ≡ with_node g (means.named b)
+    → fault_of g filters (answer_of means b) ≡ None → handle ≡ record { id = node_count g; name = means.named b } → m ≡ n + 1
+    → AddsFirst means old h filters there now more m (handles ++ handle ∷ [])
 adds-more {B = B} means old g h filters there services now more n m b handles handle adds lt at pushed node none is step =
     let next : take m more ≡ take n more ++ b ∷ [] =
     ap (λ (k : ℕ). take k more) step ∙ take_more more n b lt ∙ ap (λ (x : B). take n more ++ x ∷ []) (get_or_from_slice_get more n b b at) in
-    let names : map means.named (take m more) ≡ map means.named (take n more) ++ means.named b ∷ [] = ap (λ (xs : List B). map means.named xs) next ∙ map_push means.named (take n more) b in
+    let names : map means.named (take m more) ≡ map means.named (take n more) ++ means.named b ∷ [] =
+    ap (λ (xs : List B). map means.named xs) next ∙ map_push means.named (take n more) b in
     record {
       within = omega arith;
       added = pushed ∙ ap (λ (xs : List B). xs ++ b ∷ []) adds.added ∙ append_assoc there (take n more) (b ∷ []) ∙ ap (λ (xs : List B). there ++ xs) (sym next);
-      nodes = node ∙ ap (λ (k : GraphData). with_node k (means.named b)) adds.nodes ∙ sym (with_nodes-push old (map means.named (take n more)) (means.named b)) ∙ ap (λ (ns : List (List ℕ)). with_nodes old ns) (sym names);
+      nodes = node ∙ ap (λ (k : GraphData). with_node k (means.named b)) adds.nodes ∙ sym (with_nodes-push old (map means.named (take n more)) (means.named b))
+          ∙ ap (λ (ns : List (List ℕ)). with_nodes old ns) (sym names);
       numbered =
           ap (λ (x : HandleData). handles ++ x ∷ []) is
           ∙ ap (λ (xs : List HandleData). xs ++ (record { id = node_count g; name = means.named b }) ∷ []) adds.numbered
@@ -205,7 +222,8 @@ adds-more {B = B} means old g h filters there services now more n m b handles ha
     }
 
 -- the reason for which the next service isn't added
-pub refuses-at : {B : Type 0} (means : Ghosts B) (g h : GraphData) (filters : ℕ) (more : List B) (n index : ℕ) (b : B) (reason : AddError) → slice_get more n ≡ Some b → index ≡ n → h ≡ g
+pub refuses-at : {B : Type 0} (means : Ghosts B) (g h : GraphData) (filters : ℕ) (more : List B) (n index : ℕ) (b : B) (reason : AddError)
+    → slice_get more n ≡ Some b → index ≡ n → h ≡ g
     → IsReason (fault_of g filters (answer_of means b)) reason → RefusesAt means h filters more index reason
 refuses-at means g h filters more n index b reason at same nodes (inl wanted) = inl wanted
 refuses-at {B = B} means g h filters more n index b reason at same nodes (inr stands) =

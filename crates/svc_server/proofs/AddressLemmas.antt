@@ -45,7 +45,9 @@ others-more x y zs =
             | inl there ↦ rw (there, same) refl
             | inr missing ↦ (
                 let none : others x (y ∷ []) ≡ [] = rw back refl in
-                rw (missing, same) (ap (λ rest. x ∷ rest) (filter-append (λ v. not (bytes_eq v x)) zs (y ∷ []) ∙ ap (λ rest. others x zs ++ rest) none ∙ append-nil (others x zs))))
+                rw (missing, same)
+                (ap (λ rest. x ∷ rest)
+                (filter-append (λ v. not (bytes_eq v x)) zs (y ∷ []) ∙ ap (λ rest. others x zs ++ rest) none ∙ append-nil (others x zs))))
           ])
       | inr differs ↦ (
           let back : bytes_eq y x ≡ false = bytes_eq_sym y x ∙ differs in
@@ -67,7 +69,8 @@ each_once-push (x ∷ xs) y = ap (λ zs. x ∷ others x zs) (each_once-push xs y
 -- adding what is missing, text by text
 pub each_once-fold : (xs ys : List (List ℕ)) → fold with_missing (each_once xs) ys ≡ each_once (xs ++ ys)
 each_once-fold xs [] = ap each_once (sym (append-nil xs))
-each_once-fold xs (y ∷ ys) = ap (λ zs. fold with_missing zs ys) (sym (each_once-push xs y)) ∙ each_once-fold (xs ++ y ∷ []) ys ∙ ap each_once (append_assoc xs (y ∷ []) ys)
+each_once-fold xs (y ∷ ys) =
+    ap (λ zs. fold with_missing zs ys) (sym (each_once-push xs y)) ∙ each_once-fold (xs ++ y ∷ []) ys ∙ ap each_once (append_assoc xs (y ∷ []) ys)
 
 -- ---- service by service
 
@@ -96,7 +99,8 @@ declared-push [] x = joined-nil x.declared
 declared-push (y ∷ ys) x = ap (λ d. joined y.declared d) (declared-push ys x) ∙ joined_assoc y.declared (declared_by_all ys) x.declared
 
 -- a loop's step: the next service declares these texts
-pub seen-more : {B : Type 0} (means : Ghosts B) (bs : List B) (k : ℕ) (b : B) (texts seen expected now : List (List ℕ)) → k < length bs → b ≡ get_or bs k b → means.declares b ≡ Some texts
+pub seen-more : {B : Type 0} (means : Ghosts B) (bs : List B) (k : ℕ) (b : B) (texts seen expected now : List (List ℕ)) → k < length bs → b ≡ get_or bs k b
+    → means.declares b ≡ Some texts
     → declared_by_all (answers_of means (take k bs)) ≡ Some seen → expected ≡ each_once seen → now ≡ fold with_missing expected texts
     → (more : List (List ℕ)) × (declared_by_all (answers_of means (take (k + 1) bs)) ≡ Some more) × (now ≡ each_once more)
 seen-more {B = B} means bs k b texts seen expected now lt read declares before is added = (
@@ -109,7 +113,8 @@ seen-more {B = B} means bs k b texts seen expected now lt read declares before i
 )
 
 -- where one service declares nothing, none is expected
-pub expected-none : {B : Type 0} (means : Ghosts B) (bs : List B) (k : ℕ) (b : B) → k < length bs → b ≡ get_or bs k b → means.declares b ≡ None → expected_of (answers_of means bs) ≡ None
+pub expected-none : {B : Type 0} (means : Ghosts B) (bs : List B) (k : ℕ) (b : B) → k < length bs → b ≡ get_or bs k b → means.declares b ≡ None
+    → expected_of (answers_of means bs) ≡ None
 expected-none {B = B} means bs k b lt read says = ap (λ d. option_map each_once d) (nothing bs k lt read)
   where
     nothing : (xs : List B) (i : ℕ) → i < length xs → b ≡ get_or xs i b → declared_by_all (answers_of means xs) ≡ None
@@ -118,7 +123,9 @@ expected-none {B = B} means bs k b lt read says = ap (λ d. option_map each_once
     nothing (x ∷ xs) (suc i) le at = ap (λ d. joined (means.declares x) d) (nothing xs i (omega arith) at) ∙ joined-none (means.declares x)
 
 -- after the last service
-pub expected-all : {B : Type 0} (means : Ghosts B) (bs : List B) (k : ℕ) (seen expected : List (List ℕ)) → length bs ≤ k → declared_by_all (answers_of means (take k bs)) ≡ Some seen → expected ≡ each_once seen
+pub expected-all : {B : Type 0} (means : Ghosts B) (bs : List B) (k : ℕ) (seen expected : List (List ℕ)) → length bs ≤ k
+    → declared_by_all (answers_of means (take k bs)) ≡ Some seen → expected ≡ each_once seen
     → ◌≡◌ {A = Option (List (List ℕ))} (Some expected) (expected_of (answers_of means bs))
 expected-all {B = B} means bs k seen expected le declared is =
-    sym (ap (λ (xs : List B). expected_of (answers_of means xs)) (sym (take_all k bs le)) ∙ ap (λ d. option_map each_once d) declared ∙ ap (λ zs. option_map (λ _. zs) (Some seen)) (sym is))
+    sym (ap (λ (xs : List B). expected_of (answers_of means xs)) (sym (take_all k bs le)) ∙ ap (λ d. option_map each_once d) declared
+    ∙ ap (λ zs. option_map (λ _. zs) (Some seen)) (sym is))

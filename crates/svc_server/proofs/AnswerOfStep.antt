@@ -66,12 +66,15 @@ on_true false P is h = absurd (false≢true is)
 -- where the answer is that the run served, the record is a served one
 pub served_from_answer : (p : Plan) (q : Record) → Right p q → Served ≡ step_end p q → ServedRecord p q
 served_from_answer p q right is =
-    let passed = served_by (waits_are_over p q) (ends_tested p q) (ends_parent_well p q) (ends_parent_badly p q) (ends_transfer q) (ends_no_sender p q) (ends_bad_message q) is in
+    let passed =
+    served_by (waits_are_over p q) (ends_tested p q) (ends_parent_well p q) (ends_parent_badly p q) (ends_transfer q) (ends_no_sender p q)
+    (ends_bad_message q) is in
     (on_true (waits_are_over p q) (PassedRight p q) passed right.passed).served
 
 -- where it is that the run goes on, the record hasn't ended
 pub on_from_answer : (p : Plan) (q : Record) → On ≡ step_end p q → has_ended p q ≡ false
-on_from_answer p q is = on_by (waits_are_over p q) (ends_tested p q) (ends_parent_well p q) (ends_parent_badly p q) (ends_transfer q) (ends_no_sender p q) (ends_bad_message q) is
+on_from_answer p q is =
+    on_by (waits_are_over p q) (ends_tested p q) (ends_parent_well p q) (ends_parent_badly p q) (ends_transfer q) (ends_no_sender p q) (ends_bad_message q) is
 
 -- ---- where receiving failed
 
@@ -89,13 +92,18 @@ failure-tells ReceiveFailed is = refl
 failure-tells _ is = absurd (false≢true is)
 
 transfer-failed : (p : Plan) (q : Record) → Ended Transfer ≡ step_end p q → has is_receive_failure q ≡ true
-transfer-failed p q is = transfer_by (waits_are_over p q) (ends_tested p q) (ends_parent_well p q) (ends_parent_badly p q) (ends_transfer q) (ends_no_sender p q) (ends_bad_message q) is
+transfer-failed p q is =
+    transfer_by (waits_are_over p q) (ends_tested p q) (ends_parent_well p q) (ends_parent_badly p q) (ends_transfer q) (ends_no_sender p q)
+    (ends_bad_message q) is
 
 -- where the answer is that receiving failed, and the record before the event hadn't ended, the event tells a failure
-pub failure_from_answer : (p : Plan) (q : Record) (e : Event) (told : List Action) → has_ended p q ≡ false → Ended Transfer ≡ step_end p (tell (Got e ∷ q) told) → tells_failure e ≡ true
+pub failure_from_answer : (p : Plan) (q : Record) (e : Event) (told : List Action) → has_ended p q ≡ false → Ended Transfer ≡ step_end p (tell (Got e ∷ q) told)
+    → tells_failure e ≡ true
 failure_from_answer p q e told on is =
     let failed : has is_receive_failure (Got e ∷ q) ≡ true = sym (failed-tell (Got e ∷ q) told) ∙ transfer-failed p (tell (Got e ∷ q) told) is in
-    let before : has is_receive_failure q ≡ false = no_transfer_by (waits_are_over p q) (ends_tested p q) (ends_parent_well p q) (ends_parent_badly p q) (ends_transfer q) (ends_no_sender p q) (ends_bad_message q) on in
+    let before : has is_receive_failure q ≡ false =
+    no_transfer_by (waits_are_over p q) (ends_tested p q) (ends_parent_well p q) (ends_parent_badly p q) (ends_transfer q) (ends_no_sender p q)
+    (ends_bad_message q) on in
     failure-tells e (failed-here (is_receive_failure (Got e)) (has is_receive_failure q) failed before)
 
 -- it isn't the answer of the first step

@@ -6,10 +6,12 @@ use Rattle.std.proofs.lemmas.List.{map-set}
 use Rattle.std.proofs.lemmas.Option.{slice_get-map, slice_get-get_or}
 use Rattle.svc_server.specs.Handing.{names_left}
 
-pub left-taken : {B : Type 0} (named : B → List ℕ) (boxes : List (Option B)) (k : ℕ) (o : Option B) → o ≡ None → names_left named (set boxes k o) ≡ set (names_left named boxes) k None
+pub left-taken : {B : Type 0} (named : B → List ℕ) (boxes : List (Option B)) (k : ℕ) (o : Option B) → o ≡ None
+    → names_left named (set boxes k o) ≡ set (names_left named boxes) k None
 left-taken named boxes k o e = map-set (option_map named) boxes k o ∙ ap (λ x. set (names_left named boxes) k (option_map named x)) e
 
 pub taken-at : {B : Type 0} (named : B → List ℕ) (boxes : List (Option B)) (k : ℕ) (o : Option B) → k < length boxes → o ≡ get_or boxes k o
     → option_map named o ≡ unwrap_or (slice_get (names_left named boxes) k) None
 taken-at named boxes k o lt e =
-    ap (option_map named) e ∙ sym (ap (λ x. unwrap_or x None) (slice_get-map (option_map named) boxes k ∙ ap (option_map (option_map named)) (slice_get-get_or boxes k o lt)))
+    ap (option_map named) e
+    ∙ sym (ap (λ x. unwrap_or x None) (slice_get-map (option_map named) boxes k ∙ ap (option_map (option_map named)) (slice_get-get_or boxes k o lt)))

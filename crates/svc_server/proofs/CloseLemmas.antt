@@ -39,18 +39,30 @@ due-closing p q from also =
 pub need-room : (core : CoreData) (e : Event) → BringsFew e → close_need core (Some e) ≤ close_room core
 need-room core e few = omega arith
 
-closing-told : (p : Plan) (q : Record) (also : Option Event) (before after : List Action) → ClosesAll p q also before after → before ≡ [] → after ≡ closing_actions p q also
+closing-told : (p : Plan) (q : Record) (also : Option Event) (before after : List Action) → ClosesAll p q also before after → before ≡ []
+    → after ≡ closing_actions p q also
 closing-told p q also before after h empty = h.told.appended ∙ ap (λ xs. xs ++ h.told.told) empty ∙ h.told.kept
 
 -- they may be told
 pub may-close : (core : CoreData) (left : List (Option (List ℕ))) (account : Option Account) (also : Option Event) (before after : List Action)
-    → ((q : Record) → StandsFor core q → ClosesAll core.plan q also before after) → before ≡ [] → CanClose core left account also → MayHandAll left account after
+    → ((q : Record) → StandsFor core q → ClosesAll core.plan q also before after) → before ≡ [] → CanClose core left account also
+    → MayHandAll left account after
 may-close core left account also before after closes empty can =
-    let q = can.0 in
-    (core.plan, (with_event also q, (can.1.1, subst (DueStarts core.plan (with_event also q)) (sym (closing-told core.plan q also before after (closes q can.1.0) empty)) (due-closing core.plan q (with_event also q) also))))
+    let q = can.0 in (
+      core.plan,
+      (
+        with_event also q,
+        (
+          can.1.1,
+          subst (DueStarts core.plan (with_event also q)) (sym (closing-told core.plan q also before after (closes q can.1.0) empty))
+              (due-closing core.plan q (with_event also q) also),
+        ),
+      ),
+    )
 
 -- and then all is closed
-pub closed : (core : CoreData) (left now_left : List (Option (List ℕ))) (account now_account : Option Account) (also : Option Event) (before after : List Action)
+pub closed : (core : CoreData) (left now_left : List (Option (List ℕ))) (account now_account : Option Account) (also : Option Event)
+    (before after : List Action)
     → ((q : Record) → StandsFor core q → ClosesAll core.plan q also before after) → before ≡ []
     → ((p : Plan) (t : Record) → Hands left account p t → DueStarts p t after → Hands now_left now_account p (tell t after))
     → ClosesTo core left now_left account now_account also

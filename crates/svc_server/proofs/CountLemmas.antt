@@ -30,7 +30,8 @@ rose-if true before now h e = h
 rose-if false before now h e = absurd (cc)
 
 -- a turn in which an event came
-pub counts-came : (last : Option Event) (answer : Result StepEnd RunError) (before middle next now : Counts) → ComesWith nexts.Event last → CountsAfter nexts.Event last middle next → IfSome last (FailsBy answer)
+pub counts-came : (last : Option Event) (answer : Result StepEnd RunError) (before middle next now : Counts) → ComesWith nexts.Event last
+    → CountsAfter nexts.Event last middle next → IfSome last (FailsBy answer)
     → AnswersEvent answer → middle ≡ before → now ≡ next → TurnCounts answer before now
 counts-came None answer before middle next now comes after fails event same_before same_now = absurd comes
 counts-came (Some e) answer before middle next now comes after fails event same_before same_now =
@@ -61,7 +62,8 @@ configured-event (Err OutOfEvents) a = tt
 configured-event (Err NoMemory) a = tt
 
 -- a step after others
-pub counts-joined : (end : StepEnd) (before middle now : Counts) → IsUnfailed before middle → HasNotFallen before.failures middle.failures → EndCounts end middle now → EndCounts end before now
+pub counts-joined : (end : StepEnd) (before middle now : Counts) → IsUnfailed before middle → HasNotFallen before.failures middle.failures
+    → EndCounts end middle now → EndCounts end before now
 counts-joined end before middle now first stood h = record {
   unfailed = (h.unfailed.0 ∙ first.0, h.unfailed.1 ∙ first.1);
   failures = stood-joined before.failures middle.failures now.failures stood h.failures;
@@ -69,7 +71,8 @@ counts-joined end before middle now first stood h = record {
 }
 
 -- the same of a run that is given up
-pub counts-after : (error : RunError) (before middle now : Counts) → IsUnfailed before middle → HasNotFallen before.failures middle.failures → RunCounts (Err error) middle now → RunCounts (Err error) before now
+pub counts-after : (error : RunError) (before middle now : Counts) → IsUnfailed before middle → HasNotFallen before.failures middle.failures
+    → RunCounts (Err error) middle now → RunCounts (Err error) before now
 counts-after (Config key) before middle now first stood h = (h.0 ∙ first.0, h.1 ∙ first.1)
 counts-after HostFault before middle now first stood h = (subst (λ n. Rose n now.faults) first.0 h.0, h.1 ∙ first.1)
 counts-after (Bootstrap boots.Transfer) before middle now first stood h =
@@ -90,15 +93,22 @@ counts-same end before now same other = record {
 }
 
 -- the counts of a run that has ended so
-pub counts-end : (end : StepEnd) (answer : Result Outcome RunError) (before now : Counts) → answer_of end ≡ Some answer → EndCounts end before now → RunCounts answer before now
+pub counts-end : (end : StepEnd) (answer : Result Outcome RunError) (before now : Counts) → answer_of end ≡ Some answer → EndCounts end before now
+    → RunCounts answer before now
 counts-end ends.On answer before now is h = absurd (cc)
-counts-end ends.Served answer before now is h = let same : Ok Served ≡ answer = cc in subst (λ (a : Result Outcome RunError). RunCounts a before now) same h.unfailed
-counts-end ends.Tested answer before now is h = let same : Ok TestPassed ≡ answer = cc in subst (λ (a : Result Outcome RunError). RunCounts a before now) same h.unfailed
-counts-end (ends.Parent n) answer before now is h = let same : Ok (Parent n) ≡ answer = cc in subst (λ (a : Result Outcome RunError). RunCounts a before now) same h.unfailed
+counts-end ends.Served answer before now is h =
+    let same : Ok Served ≡ answer = cc in subst (λ (a : Result Outcome RunError). RunCounts a before now) same h.unfailed
+counts-end ends.Tested answer before now is h =
+    let same : Ok TestPassed ≡ answer = cc in subst (λ (a : Result Outcome RunError). RunCounts a before now) same h.unfailed
+counts-end (ends.Parent n) answer before now is h =
+    let same : Ok (Parent n) ≡ answer = cc in subst (λ (a : Result Outcome RunError). RunCounts a before now) same h.unfailed
 counts-end (ends.Ended boots.Transfer) answer before now is h =
-    let same : Err (Bootstrap boots.Transfer) ≡ answer = cc in subst (λ (a : Result Outcome RunError). RunCounts a before now) same (h.unfailed, h.transfer refl)
-counts-end (ends.Ended boots.NoSender) answer before now is h = let same : Err (Bootstrap boots.NoSender) ≡ answer = cc in subst (λ (a : Result Outcome RunError). RunCounts a before now) same h.unfailed
-counts-end (ends.Ended boots.BadMessage) answer before now is h = let same : Err (Bootstrap boots.BadMessage) ≡ answer = cc in subst (λ (a : Result Outcome RunError). RunCounts a before now) same h.unfailed
+    let same : Err (Bootstrap boots.Transfer) ≡ answer = cc in
+    subst (λ (a : Result Outcome RunError). RunCounts a before now) same (h.unfailed, h.transfer refl)
+counts-end (ends.Ended boots.NoSender) answer before now is h =
+    let same : Err (Bootstrap boots.NoSender) ≡ answer = cc in subst (λ (a : Result Outcome RunError). RunCounts a before now) same h.unfailed
+counts-end (ends.Ended boots.BadMessage) answer before now is h =
+    let same : Err (Bootstrap boots.BadMessage) ≡ answer = cc in subst (λ (a : Result Outcome RunError). RunCounts a before now) same h.unfailed
 
 pub configured-end : (end : StepEnd) (answer : Result Outcome RunError) → answer_of end ≡ Some answer → IsConfigured answer
 configured-end ends.On answer is = absurd (cc)

@@ -63,21 +63,26 @@ pub may-start : (account : Option Account) (p : Plan) (q : Record) (s : ℕ) (na
     → IfSome (option_map (with_handed (record { service = s; name = name })) account) (MayTell (Start s))
 may-start None p q s name h = tt
 may-start (Some a) p q s name h =
-    subst (λ (x : Account). map (λ (h : Handed). h.service) (record { service = s; name = name } ∷ x.handed) ≡ s ∷ starts_of x.entries) (sym h) (ap (λ xs. s ∷ xs) (services-handed p q))
+    subst (λ (x : Account). map (λ (h : Handed). h.service) (record { service = s; name = name } ∷ x.handed) ≡ s ∷ starts_of x.entries) (sym h)
+    (ap (λ xs. s ∷ xs) (services-handed p q))
 
 started-told : (account : Option Account) (p : Plan) (q : Record) (s : ℕ) (name : List ℕ) → name ≡ name_at p s → IfSome account (λ a. a ≡ account_of p q)
-    → IfSome (option_map (with_entry (Told (Start s))) (option_map (with_handed (record { service = s; name = name })) account)) (λ a. a ≡ account_of p (Told (Start s) ∷ q))
+    → IfSome (option_map (with_entry (Told (Start s))) (option_map (with_handed (record { service = s; name = name })) account))
+    (λ a. a ≡ account_of p (Told (Start s) ∷ q))
 started-told None p q s name e h = tt
 started-told (Some a) p q s name e h =
     let step : Account → Account = λ x. with_entry (Told (Start s)) (with_handed (record { service = s; name = name }) x) in
     let named : List ℕ → Account = λ n. record { entries = Told (Start s) ∷ q; handed = record { service = s; name = n } ∷ handed_of p q } in
     ap step h ∙ ap named e
 
-pub hands-same : (left now_left : List (Option (List ℕ))) (account now_account : Option Account) (p : Plan) (q : Record) → now_left ≡ left → now_account ≡ account → Hands left account p q → Hands now_left now_account p q
+pub hands-same : (left now_left : List (Option (List ℕ))) (account now_account : Option Account) (p : Plan) (q : Record) → now_left ≡ left
+    → now_account ≡ account → Hands left account p q → Hands now_left now_account p q
 hands-same left now_left account now_account p q e f h = subst (λ xs. Hands xs now_account p q) (sym e) (subst (λ o. Hands left o p q) (sym f) h)
 
-pub hands-start : (left : List (Option (List ℕ))) (account : Option Account) (p : Plan) (q : Record) (s : ℕ) (name : List ℕ) → Hands left account p q → name ≡ name_at p s
-    → Hands (set left s None) (option_map (with_entry (Told (Start s))) (option_map (with_handed (record { service = s; name = name })) account)) p (Told (Start s) ∷ q)
+pub hands-start : (left : List (Option (List ℕ))) (account : Option Account) (p : Plan) (q : Record) (s : ℕ) (name : List ℕ) → Hands left account p q
+    → name ≡ name_at p s
+    → Hands (set left s None) (option_map (with_entry (Told (Start s))) (option_map (with_handed (record { service = s; name = name })) account)) p
+    (Told (Start s) ∷ q)
 hands-start left account p q s name h e = record { left_is = ap (λ xs. set xs s None) h.left_is; told_is = started-told account p q s name e h.told_is }
 
 some-same : (a b : List ℕ) → ◌≡◌ {A = Option (List ℕ)} (Some a) (Some b) → a ≡ b
@@ -85,13 +90,16 @@ some-same a b e = cc
 
 -- the host's accounts of a handing over and a start
 pub hands-started : (left now_left : List (Option (List ℕ))) (account middle now_account : Option Account) (p : Plan) (q : Record) (s : ℕ) (name : List ℕ)
-    → now_left ≡ set left s None → middle ≡ option_map (with_handed (record { service = s; name = name })) account → now_account ≡ option_map (with_entry (Told (Start s))) middle
+    → now_left ≡ set left s None → middle ≡ option_map (with_handed (record { service = s; name = name })) account
+    → now_account ≡ option_map (with_entry (Told (Start s))) middle
     → Some name ≡ unwrap_or (slice_get left s) None → Hands left account p q → DueStart p q (Start s) → Hands now_left now_account p (Told (Start s) ∷ q)
 hands-started left now_left account middle now_account p q s name e f k taken h due =
     let named : name ≡ name_at p s = some-same name (name_at p s) (start-name left account p q s (Some name) h due.0 due.1 taken) in
-    hands-same (set left s None) now_left _ now_account p (Told (Start s) ∷ q) e (k ∙ ap (option_map (with_entry (Told (Start s)))) f) (hands-start left account p q s name h named)
+    hands-same (set left s None) now_left _ now_account p (Told (Start s) ∷ q) e (k ∙ ap (option_map (with_entry (Told (Start s)))) f)
+    (hands-start left account p q s name h named)
 
-pub none-taken : (left : List (Option (List ℕ))) (account : Option Account) (p : Plan) (q : Record) (s : ℕ) → Hands left account p q → DueStart p q (Start s) → None ≡ unwrap_or (slice_get left s) None → ⊥
+pub none-taken : (left : List (Option (List ℕ))) (account : Option Account) (p : Plan) (q : Record) (s : ℕ) → Hands left account p q → DueStart p q (Start s)
+    → None ≡ unwrap_or (slice_get left s) None → ⊥
 none-taken left account p q s h due taken = let named = start-name left account p q s None h due.0 due.1 taken in cc
 
 -- ---- the actions one by one

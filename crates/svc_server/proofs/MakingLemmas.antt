@@ -39,8 +39,10 @@ loaded_accepted (Err files.Failed) conf h = absurd cc
 loaded_accepted (Err files.NoMemory) conf h = absurd cc
 
 -- what a server is made of
-pub configures : {B F : Type 0} (options : Option Opt) (conf : ServerConf) (read : Result ServerConf ReadError) (result : Result (Server B F) ReadError) → read ≡ Ok conf → judged conf ≡ Ok tt
-    → IfOk result (λ server. server.configuration ≡ merged options conf) → IfErr result (λ error. (key : Key) × (error ≡ errors.Invalid key) × (judged (merged options conf) ≡ Err key)) → Configures options read result
+pub configures : {B F : Type 0} (options : Option Opt) (conf : ServerConf) (read : Result ServerConf ReadError) (result : Result (Server B F) ReadError)
+    → read ≡ Ok conf → judged conf ≡ Ok tt
+    → IfOk result (λ server. server.configuration ≡ merged options conf)
+    → IfErr result (λ error. (key : Key) × (error ≡ errors.Invalid key) × (judged (merged options conf) ≡ Err key)) → Configures options read result
 configures options conf read (Ok server) e a c r = (conf, e, c)
 configures options conf read (Err error) e a c (key, is, refused) = absurd (let both = sym a ∙ sym (judged-merged options conf) ∙ refused in cc)
 

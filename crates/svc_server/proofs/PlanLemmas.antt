@@ -41,12 +41,14 @@ not_broken false k rest e = (refl, e)
 -- a configuration is accepted only where each rule is kept
 rule_kept : (rules : List (Bool × Key)) (k : ℕ) (rule : Bool × Key) → first_broken rules ≡ Ok tt → slice_get rules k ≡ Some rule → rule.0 ≡ false
 rule_kept [] k rule accepted at = absurd (cc)
-rule_kept ((broken, key) ∷ more) zero rule accepted at = ap (λ (r : Bool × Key). r.0) (sym (same_Some (broken, key) rule at)) ∙ (not_broken broken key (first_broken more) accepted).0
+rule_kept ((broken, key) ∷ more) zero rule accepted at =
+    ap (λ (r : Bool × Key). r.0) (sym (same_Some (broken, key) rule at)) ∙ (not_broken broken key (first_broken more) accepted).0
 rule_kept ((broken, key) ∷ more) (suc k) rule accepted at = rule_kept more k rule (not_broken broken key (first_broken more) accepted).1 at
 
 -- an accepted configuration has an accept loop for each descriptor
 judged-tasks : (conf : ServerConf) → judged conf ≡ Ok tt → 0 < conf.listener_tasks_per_fd
-judged-tasks conf accepted = some_tasks conf.listener_tasks_per_fd (rule_kept (rules_of conf) 4 (conf.listener_tasks_per_fd == 0, ListenerTasksPerFd) accepted refl)
+judged-tasks conf accepted =
+    some_tasks conf.listener_tasks_per_fd (rule_kept (rules_of conf) 4 (conf.listener_tasks_per_fd == 0, ListenerTasksPerFd) accepted refl)
   where
     some_tasks : (n : ℕ) → (n == 0) ≡ false → 0 < n
     some_tasks zero e = absurd (cc)
@@ -85,7 +87,8 @@ or_after true c e = absurd (cc)
 or_after false c e = refl
 
 -- the numbers from lo on that pass are those that are listed
-listed-filter : (p : ℕ → Bool) (n lo : ℕ) (xs : List ℕ) → Rises lo xs → ((a : ℕ) → lo ≤ a → is_listed xs a ≡ p a) → ((a : ℕ) → p a ≡ true → a < lo + n) → xs ≡ filter p (range_with_len lo n)
+listed-filter : (p : ℕ → Bool) (n lo : ℕ) (xs : List ℕ) → Rises lo xs → ((a : ℕ) → lo ≤ a → is_listed xs a ≡ p a) → ((a : ℕ) → p a ≡ true → a < lo + n)
+    → xs ≡ filter p (range_with_len lo n)
 listed-filter p zero lo [] up same few = refl
 listed-filter p zero lo (x ∷ xs) up same few =
     let here : p x ≡ true = sym (same x up.0) ∙ rw (eq-eqb x x refl) refl in
@@ -112,28 +115,35 @@ edge_inside : (g : GraphData) (s a : ℕ) → IsGraph g → is_edge g s a ≡ tr
 edge_inside g s a graph e = All-listed (λ b. b < node_count g) (row_of g.depends s) a (graph.inside s) e
 
 -- the rising list of the nodes that s depends on is the one that the plan has
-pub depends_of-listed : (g : GraphData) (s : ℕ) (xs : List ℕ) → IsGraph g → IsStrictlyIncreasing xs → ((a : ℕ) → is_listed xs a ≡ is_edge g s a) → xs ≡ depends_of g s
+pub depends_of-listed : (g : GraphData) (s : ℕ) (xs : List ℕ) → IsGraph g → IsStrictlyIncreasing xs → ((a : ℕ) → is_listed xs a ≡ is_edge g s a)
+    → xs ≡ depends_of g s
 depends_of-listed g s xs graph up same =
     listed-filter (is_edge g s) (node_count g) 0 xs (rises xs up) (λ a le. same a) (λ a e. omega (arith, edge_inside g s a graph e))
 
 -- ---- one service more
 
-pub with_depends-push : (g : GraphData) (s : ℕ) (xs : List ServicePlan) (x : ServicePlan) (k : ℕ) → s + length xs ≡ k → with_depends g s (xs ++ x ∷ []) ≡ with_depends g s xs ++ (record x { depends = depends_of g k }) ∷ []
+pub with_depends-push : (g : GraphData) (s : ℕ) (xs : List ServicePlan) (x : ServicePlan) (k : ℕ) → s + length xs ≡ k
+    → with_depends g s (xs ++ x ∷ []) ≡ with_depends g s xs ++ (record x { depends = depends_of g k }) ∷ []
 with_depends-push g s [] x k at = let same : s ≡ k = omega arith in ap (λ (n : ℕ). with_depends g n (x ∷ [])) same
 with_depends-push g s (y ∷ ys) x k at = ap (λ rest. (record y { depends = depends_of g s }) ∷ rest) (with_depends-push g (s + 1) ys x k (omega arith))
 
-pub same_plan : (n m : List ℕ) (k j : Kind) (ds es : List ℕ) (a b : Option (List (List ℕ))) (xs ys : List EndpointPlan) → n ≡ m → k ≡ j → ds ≡ es → a ≡ b → xs ≡ ys
-    → ◌≡◌ {A = ServicePlan} (record { name = n; kind = k; depends = ds; declared = a; endpoints = xs }) (record { name = m; kind = j; depends = es; declared = b; endpoints = ys })
+pub same_plan : (n m : List ℕ) (k j : Kind) (ds es : List ℕ) (a b : Option (List (List ℕ))) (xs ys : List EndpointPlan) → n ≡ m → k ≡ j → ds ≡ es → a ≡ b
+    → xs ≡ ys
+    → ◌≡◌ {A = ServicePlan} (record { name = n; kind = k; depends = ds; declared = a; endpoints = xs })
+    (record { name = m; kind = j; depends = es; declared = b; endpoints = ys })
 same_plan n m k j ds es a b xs ys e f h i l = cc
 
 -- a loop's step: the next service is planned
-pub plans-more : {B : Type 0} (g : GraphData) (answer : B → ServicePlan) (services : List B) (s : ℕ) (b : B) (plans now : List ServicePlan) (plan : ServicePlan) → s < length services → b ≡ get_or services s b
-    → plans ≡ with_depends g 0 (map answer (take s services)) → plan ≡ record (answer b) { depends = depends_of g s } → now ≡ plans ++ plan ∷ [] → now ≡ with_depends g 0 (map answer (take (s + 1) services))
+pub plans-more : {B : Type 0} (g : GraphData) (answer : B → ServicePlan) (services : List B) (s : ℕ) (b : B) (plans now : List ServicePlan) (plan : ServicePlan)
+    → s < length services → b ≡ get_or services s b
+    → plans ≡ with_depends g 0 (map answer (take s services)) → plan ≡ record (answer b) { depends = depends_of g s } → now ≡ plans ++ plan ∷ []
+    → now ≡ with_depends g 0 (map answer (take (s + 1) services))
 plans-more {B = B} g answer services s b plans now plan lt read before is pushed =
     pushed
     ∙ ap (λ (ps : List ServicePlan). ps ++ plan ∷ []) before
     ∙ ap (λ (x : ServicePlan). with_depends g 0 (map answer (take s services)) ++ x ∷ []) is
-    ∙ sym (with_depends-push g 0 (map answer (take s services)) (answer b) s (omega (arith, length-map (take s services) answer, length-take-le s services (omega arith))))
+    ∙ sym (with_depends-push g 0 (map answer (take s services)) (answer b) s
+    (omega (arith, length-map (take s services) answer, length-take-le s services (omega arith))))
     ∙ ap (λ (y : B). with_depends g 0 (map answer (take s services) ++ answer y ∷ [])) read
     ∙ ap (λ (xs : List ServicePlan). with_depends g 0 xs) (sym (map_more answer services s b lt))
 
@@ -144,16 +154,19 @@ length-with_depends g s [] = refl
 length-with_depends g s (x ∷ xs) = ap (λ n. suc n) (length-with_depends g (s + 1) xs)
 
 -- what holds of each service whatever it depends on holds with its dependencies too
-All-with_depends : (P : ServicePlan → Type 0) → ((x : ServicePlan) (ds : List ℕ) → P x → P (record x { depends = ds })) → (g : GraphData) (s : ℕ) (xs : List ServicePlan) → All P xs → All P (with_depends g s xs)
+All-with_depends : (P : ServicePlan → Type 0) → ((x : ServicePlan) (ds : List ℕ) → P x → P (record x { depends = ds }))
+    → (g : GraphData) (s : ℕ) (xs : List ServicePlan) → All P xs → All P (with_depends g s xs)
 All-with_depends P kept g s [] all k d lt = absurd (omega arith)
 All-with_depends P kept g s (x ∷ xs) all zero d lt = kept x (depends_of g s) (all zero d (omega arith))
 All-with_depends P kept g s (x ∷ xs) all (suc k) d lt = All-with_depends P kept g (s + 1) xs (λ j e l. all (suc j) e (omega arith)) k d (omega arith)
 
-pub names-with_depends : (g : GraphData) (s : ℕ) (xs : List ServicePlan) → map (λ (x : ServicePlan). x.name) (with_depends g s xs) ≡ map (λ (x : ServicePlan). x.name) xs
+pub names-with_depends : (g : GraphData) (s : ℕ) (xs : List ServicePlan)
+    → map (λ (x : ServicePlan). x.name) (with_depends g s xs) ≡ map (λ (x : ServicePlan). x.name) xs
 names-with_depends g s [] = refl
 names-with_depends g s (x ∷ xs) = ap (λ names. x.name ∷ names) (names-with_depends g (s + 1) xs)
 
-slice_get-with_depends : (g : GraphData) (s : ℕ) (xs : List ServicePlan) (k : ℕ) → k < length xs → (x : ServicePlan) × (slice_get (with_depends g s xs) k ≡ Some (record x { depends = depends_of g (s + k) }))
+slice_get-with_depends : (g : GraphData) (s : ℕ) (xs : List ServicePlan) (k : ℕ) → k < length xs
+    → (x : ServicePlan) × (slice_get (with_depends g s xs) k ≡ Some (record x { depends = depends_of g (s + k) }))
 slice_get-with_depends g s [] k lt = absurd (omega arith)
 slice_get-with_depends g s (x ∷ xs) zero lt = let same : s ≡ s + 0 = omega arith in (x, ap (λ (n : ℕ). some (record x { depends = depends_of g n })) same)
 slice_get-with_depends g s (x ∷ xs) (suc k) lt =
@@ -163,12 +176,14 @@ slice_get-with_depends g s (x ∷ xs) (suc k) lt =
 
 -- ---- the whole plan
 
-module _ (conf : ServerConf) (options : Option Opt) (eager : Bool) (g : GraphData) (filters : ℕ) (answers : List ServicePlan) (graph : IsGraph g) (sound : IsSound g filters answers) where
+module _ (conf : ServerConf) (options : Option Opt) (eager : Bool) (g : GraphData) (filters : ℕ) (answers : List ServicePlan) (graph : IsGraph g)
+    (sound : IsSound g filters answers) where
   abbrev whole : Plan
   whole = plan_of conf options eager g answers
 
   size : service_count whole ≡ node_count g
-  size = length-with_depends g 0 answers ∙ sym (length-map answers (λ (x : ServicePlan). x.name)) ∙ sym (ap (λ (names : List (List ℕ)). length names) sound.names)
+  size = length-with_depends g 0 answers ∙ sym (length-map answers (λ (x : ServicePlan). x.name))
+      ∙ sym (ap (λ (names : List (List ℕ)). length names) sound.names)
 
   few_answers : length answers ≡ node_count g
   few_answers = sym (length-map answers (λ (x : ServicePlan). x.name)) ∙ sym (ap (λ (names : List (List ℕ)). length names) sound.names)
@@ -213,7 +228,8 @@ module _ (conf : ServerConf) (options : Option Opt) (eager : Bool) (g : GraphDat
 all-at : {X : Type 0} (P : X → Type 0) (xs : List X) (k : ℕ) (x : X) → All P xs → slice_get xs k ≡ Some x → P x
 all-at P xs k x all at = subst P (get_or_from_slice_get xs k x x at) (all k x (slice_get_within xs k x at))
 
-filter-at : (p : Plan) (s i : ℕ) (x : ServicePlan) (e : EndpointPlan) → slice_get p.services s ≡ Some x → slice_get x.endpoints i ≡ Some e → filter_of p s i ≡ e.filter
+filter-at : (p : Plan) (s i : ℕ) (x : ServicePlan) (e : EndpointPlan) → slice_get p.services s ≡ Some x → slice_get x.endpoints i ≡ Some e
+    → filter_of p s i ≡ e.filter
 filter-at p s i x e at there = rw at (rw there refl)
 
 filter-past : (p : Plan) (s i : ℕ) (x : ServicePlan) → slice_get p.services s ≡ Some x → slice_get x.endpoints i ≡ None → filter_of p s i ≡ None
@@ -234,18 +250,21 @@ names-each p n all s i f is =
     in_service x at =
         elim (slice_get_cases x.endpoints i).1 [
           | inl there ↦ (
-              let known : IfSome there.0.filter (λ k. k < n) = all-at (λ (e : EndpointPlan). IfSome e.filter (λ k. k < n)) x.endpoints i there.0 (all-at (HasFilters n) p.services s x all at) there.2 in
+              let known : IfSome there.0.filter (λ k. k < n) =
+              all-at (λ (e : EndpointPlan). IfSome e.filter (λ k. k < n)) x.endpoints i there.0 (all-at (HasFilters n) p.services s x all at) there.2 in
               subst (λ (o : Option ℕ). IfSome o (λ k. k < n)) (sym (filter-at p s i x there.0 at there.2) ∙ is) known)
           | inr past ↦ absurd (let none : filter_of p s i ≡ None = filter-past p s i x at past.1 in cc)
         ]
 
 -- each filter that a server's plan names is one of the server's
-pub names-filters : (conf : ServerConf) (options : Option Opt) (eager : Bool) (g : GraphData) (n : ℕ) (answers : List ServicePlan) → IsSound g n answers → NamesFilters (plan_of conf options eager g answers) n
+pub names-filters : (conf : ServerConf) (options : Option Opt) (eager : Bool) (g : GraphData) (n : ℕ) (answers : List ServicePlan) → IsSound g n answers
+    → NamesFilters (plan_of conf options eager g answers) n
 names-filters conf options eager g n answers sound =
     names-each (plan_of conf options eager g answers) n (All-with_depends (HasFilters n) (λ x ds h. h) g 0 answers sound.filtered)
 
 -- there are as many services as nodes
-pub count-sound : {B : Type 0} (means : Ghosts B) (services : List B) (g : GraphData) (n : ℕ) → IsSound g n (answers_of means services) → length services ≡ node_count g
+pub count-sound : {B : Type 0} (means : Ghosts B) (services : List B) (g : GraphData) (n : ℕ) → IsSound g n (answers_of means services)
+    → length services ≡ node_count g
 count-sound means services g n sound =
     sym (length-map services (answer_of means))
     ∙ sym (length-map (answers_of means services) (λ (x : ServicePlan). x.name))
@@ -261,9 +280,11 @@ names-plan_of {B = B} means services conf options eager g = names services ∙ s
     names (b ∷ bs) = ap (λ xs. means.named b ∷ xs) (names bs)
 
 -- a plan with these settings is the server's
-pub plan-is : (conf : ServerConf) (options : Option Opt) (eager : Bool) (g : GraphData) (answers services : List ServicePlan) (grace stop limit ready : ℕ) (upgrade test : Bool)
+pub plan-is : (conf : ServerConf) (options : Option Opt) (eager : Bool) (g : GraphData) (answers services : List ServicePlan) (grace stop limit ready : ℕ)
+    (upgrade test : Bool)
     → services ≡ with_depends g 0 answers → grace ≡ unwrap_or conf.grace_period_seconds 300 → stop ≡ unwrap_or conf.graceful_shutdown_timeout_seconds 5
-    → limit ≡ unwrap_or conf.upgrade_sock_connect_accept_max_retries 5 → upgrade ≡ is_upgrade options → test ≡ is_test options → ready ≡ unwrap_or conf.daemon_ready_timeout_seconds 600
+    → limit ≡ unwrap_or conf.upgrade_sock_connect_accept_max_retries 5 → upgrade ≡ is_upgrade options → test ≡ is_test options
+    → ready ≡ unwrap_or conf.daemon_ready_timeout_seconds 600
     → ◌≡◌ {A = Plan} (record {
       services = services;
       grace = grace;

@@ -31,7 +31,8 @@ asked-untold p q [] f none = refl
 asked-untold p q (Judged c said ∷ more) f none = absurd (cc)
 asked-untold p q (a ∷ more) f none = asked-untold p (Told a ∷ q) more f none
 
-pub judges-untold : (verdict now : Verdict) (p : Plan) (q : Record) (told : List Action) → judgements told ≡ [] → Judges verdict now p q → Judges verdict now p (tell q told)
+pub judges-untold : (verdict now : Verdict) (p : Plan) (q : Record) (told : List Action) → judgements told ≡ [] → Judges verdict now p q
+    → Judges verdict now p (tell q told)
 judges-untold verdict now p q told none h = record {
   said = said-untold verdict p q told none h.said;
   later = λ f asked x. h.later f asked x ∙ ap (λ (xs : List (Option PeerAddr)). verdict f (xs ++ asked) x) (sym (asked-untold p q told f none));
@@ -60,30 +61,38 @@ or-true true = refl
 or-true false = refl
 
 -- the judgement is right where the filter, if there is one, said so
-said-one : (verdict : Verdict) (p : Plan) (q : Record) (c : ℕ) (b : Bool) (a : Arrival) (number : Option ℕ) → arrival_of q c ≡ Some a → filter_of p a.service a.endpoint ≡ number
-    → IfSome number (λ f. b ≡ verdict f (peers_asked p q f) (asked_peer a.peer)) → (number ≡ None → b ≡ true) → said_right verdict p (Told (Judged c b)) q ≡ true
+said-one : (verdict : Verdict) (p : Plan) (q : Record) (c : ℕ) (b : Bool) (a : Arrival) (number : Option ℕ) → arrival_of q c ≡ Some a
+    → filter_of p a.service a.endpoint ≡ number
+    → IfSome number (λ f. b ≡ verdict f (peers_asked p q f) (asked_peer a.peer)) → (number ≡ None → b ≡ true)
+    → said_right verdict p (Told (Judged c b)) q ≡ true
 said-one verdict p q c b a (Some f) there is says sure = rw there (rw is (same-as b (verdict f (peers_asked p q f) (asked_peer a.peer)) says))
 said-one verdict p q c b a None there is says sure = rw there (rw is (sure refl))
 
 -- the filter was asked for the peer of the connection
-asked-one : (p : Plan) (q : Record) (c : ℕ) (b : Bool) (a : Arrival) (number : Option ℕ) (f : ℕ) → arrival_of q c ≡ Some a → filter_of p a.service a.endpoint ≡ number
+asked-one : (p : Plan) (q : Record) (c : ℕ) (b : Bool) (a : Arrival) (number : Option ℕ) (f : ℕ) → arrival_of q c ≡ Some a
+    → filter_of p a.service a.endpoint ≡ number
     → peers_asked p (Told (Judged c b) ∷ q) f ≡ peers_asked p q f ++ asked_now number (asked_peer a.peer) f
 asked-one p q c b a (Some n) f there is = rw there (rw is refl)
 asked-one p q c b a None f there is = rw there (rw is refl)
 
 -- what filters answer after one of them was asked
-later-one : (verdict before now : Verdict) (p : Plan) (q r : Record) (number : Option ℕ) (peer : Option PeerAddr) (said : Bool) → Asks before now number peer said → Judges verdict before p q
-    → ((f : ℕ) → peers_asked p r f ≡ peers_asked p q f ++ asked_now number peer f) → (f : ℕ) (asked : List (Option PeerAddr)) (x : Option PeerAddr) → now f asked x ≡ verdict f (peers_asked p r f ++ asked) x
+later-one : (verdict before now : Verdict) (p : Plan) (q r : Record) (number : Option ℕ) (peer : Option PeerAddr) (said : Bool)
+    → Asks before now number peer said → Judges verdict before p q
+    → ((f : ℕ) → peers_asked p r f ≡ peers_asked p q f ++ asked_now number peer f) → (f : ℕ) (asked : List (Option PeerAddr)) (x : Option PeerAddr)
+    → now f asked x ≡ verdict f (peers_asked p r f ++ asked) x
 later-one verdict before now p q r number peer said asks h more f asked x =
     asks.later f asked x
     ∙ (h.later f (asked_now number peer f ++ asked) x
-    ∙ ap (λ (xs : List (Option PeerAddr)). verdict f xs x) (sym (append_assoc (peers_asked p q f) (asked_now number peer f) asked) ∙ ap (λ (xs : List (Option PeerAddr)). xs ++ asked) (sym (more f))))
+    ∙ ap (λ (xs : List (Option PeerAddr)). verdict f xs x)
+    (sym (append_assoc (peers_asked p q f) (asked_now number peer f) asked) ∙ ap (λ (xs : List (Option PeerAddr)). xs ++ asked) (sym (more f))))
 
 -- what the filter said, where the connection is judged so
-says-one : (verdict before now : Verdict) (p : Plan) (q : Record) (number : Option ℕ) (peer : Option PeerAddr) (said : Bool) → Asks before now number peer said → Judges verdict before p q
+says-one : (verdict before now : Verdict) (p : Plan) (q : Record) (number : Option ℕ) (peer : Option PeerAddr) (said : Bool) → Asks before now number peer said
+    → Judges verdict before p q
     → IfSome number (λ f. said ≡ verdict f (peers_asked p q f) peer)
 says-one verdict before now p q None peer said asks h = tt
-says-one verdict before now p q (Some f) peer said asks h = asks.answer ∙ (h.later f [] peer ∙ ap (λ (xs : List (Option PeerAddr)). verdict f xs peer) (append-nil (peers_asked p q f)))
+says-one verdict before now p q (Some f) peer said asks h =
+    asks.answer ∙ (h.later f [] peer ∙ ap (λ (xs : List (Option PeerAddr)). verdict f xs peer) (append-nil (peers_asked p q f)))
 
 -- the connection was judged: as its filter said, or yes where its endpoint has none
 abbrev IsJudgedSo : Plan → Arrival → Bool → Bool → Type 0
@@ -95,12 +104,14 @@ judged-some p a said b f is so = so ∙ rw is (or-false said)
 judged-none : (p : Plan) (a : Arrival) (said b : Bool) → filter_of p a.service a.endpoint ≡ None → IsJudgedSo p a said b → b ≡ true
 judged-none p a said b is so = so ∙ rw is (or-true said)
 
-judged-says : (verdict : Verdict) (p : Plan) (q : Record) (a : Arrival) (number : Option ℕ) (said b : Bool) → filter_of p a.service a.endpoint ≡ number → IsJudgedSo p a said b
+judged-says : (verdict : Verdict) (p : Plan) (q : Record) (a : Arrival) (number : Option ℕ) (said b : Bool) → filter_of p a.service a.endpoint ≡ number
+    → IsJudgedSo p a said b
     → IfSome number (λ f. said ≡ verdict f (peers_asked p q f) (asked_peer a.peer)) → IfSome number (λ f. b ≡ verdict f (peers_asked p q f) (asked_peer a.peer))
 judged-says verdict p q a None said b is so says = tt
 judged-says verdict p q a (Some f) said b is so says = judged-some p a said b f is so ∙ says
 
-judges-one : (verdict before now : Verdict) (p : Plan) (q : Record) (c : ℕ) (a : Arrival) (number : Option ℕ) (said b : Bool) → arrival_of q c ≡ Some a → filter_of p a.service a.endpoint ≡ number
+judges-one : (verdict before now : Verdict) (p : Plan) (q : Record) (c : ℕ) (a : Arrival) (number : Option ℕ) (said b : Bool) → arrival_of q c ≡ Some a
+    → filter_of p a.service a.endpoint ≡ number
     → IsJudgedSo p a said b → Asks before now number (asked_peer a.peer) said → Judges verdict before p q → Judges verdict now p (Told (Judged c b) ∷ q)
 judges-one verdict before now p q c a number said b there is so asks h = record {
   said = (
@@ -118,8 +129,10 @@ same-parts : (x y : ℕ × Bool) (xs ys : List (ℕ × Bool)) → x ∷ xs ≡ y
 same-parts x y xs ys e = (cc, cc)
 
 -- one judgement is told, perhaps after other actions and before others
-judges-told : (verdict before now : Verdict) (p : Plan) (q : Record) (told : List Action) (c : ℕ) (a : Arrival) (number : Option ℕ) (said b : Bool) → judgements told ≡ (c, b) ∷ []
-    → arrival_of q c ≡ Some a → filter_of p a.service a.endpoint ≡ number → IsJudgedSo p a said b → Asks before now number (asked_peer a.peer) said → Judges verdict before p q → Judges verdict now p (tell q told)
+judges-told : (verdict before now : Verdict) (p : Plan) (q : Record) (told : List Action) (c : ℕ) (a : Arrival) (number : Option ℕ) (said b : Bool)
+    → judgements told ≡ (c, b) ∷ []
+    → arrival_of q c ≡ Some a → filter_of p a.service a.endpoint ≡ number → IsJudgedSo p a said b → Asks before now number (asked_peer a.peer) said
+    → Judges verdict before p q → Judges verdict now p (tell q told)
 judges-told verdict before now p q [] c a number said b one there is so asks h = absurd (cc)
 judges-told verdict before now p q (Judged n t ∷ more) c a number said b one there is so asks h =
     let both = same-parts (n, t) (c, b) (judgements more) [] one in
@@ -131,27 +144,35 @@ judges-told verdict before now p q (other ∷ more) c a number said b one there 
     judges-told verdict before now p (Told other ∷ q) more c a number said b one there is so asks (record { said = (refl, h.said); later = h.later })
 
 -- no filter was asked
-unasked : (verdict before now : Verdict) (p : Plan) (q : Record) (told : List Action) (peer : Option PeerAddr) (said : Bool) → judgements told ≡ [] → Asks before now None peer said → Judges verdict before p q
+unasked : (verdict before now : Verdict) (p : Plan) (q : Record) (told : List Action) (peer : Option PeerAddr) (said : Bool) → judgements told ≡ []
+    → Asks before now None peer said → Judges verdict before p q
     → Judges verdict now p (tell q told)
-unasked verdict before now p q told peer said none asks h = judges-untold verdict now p q told none (record { said = h.said; later = λ f asked x. asks.later f asked x ∙ h.later f asked x })
+unasked verdict before now p q told peer said none asks h =
+    judges-untold verdict now p q told none (record { said = h.said; later = λ f asked x. asks.later f asked x ∙ h.later f asked x })
 
-newest : (q : Record) (s i c : ℕ) (peer : Peer) → arrival_of (Got (Arrived s i c peer) ∷ q) c ≡ Some (record { service = s; endpoint = i; number = c; peer = peer })
+newest : (q : Record) (s i c : ℕ) (peer : Peer)
+    → arrival_of (Got (Arrived s i c peer) ∷ q) c ≡ Some (record { service = s; endpoint = i; number = c; peer = peer })
 newest q s i c peer = rw (eq-eqb c c refl) refl
 
 -- the step of an event, at which the filter was asked that is asked there
-pub judges-step : (verdict before now : Verdict) (p : Plan) (q : Record) (e : Event) (told : List Action) (said : Bool) → judgements told ≡ judged_at p e said → Asks before now (asked_filter p e) (peer_at e) said
+pub judges-step : (verdict before now : Verdict) (p : Plan) (q : Record) (e : Event) (told : List Action) (said : Bool) → judgements told ≡ judged_at p e said
+    → Asks before now (asked_filter p e) (peer_at e) said
     → Judges verdict before p (Got e ∷ q) → Judges verdict now p (tell (Got e ∷ q) told)
-judges-step verdict before now p q (Arrived s i c Unknown) told said judged asks h = unasked verdict before now p (Got (Arrived s i c Unknown) ∷ q) told None said judged asks h
+judges-step verdict before now p q (Arrived s i c Unknown) told said judged asks h =
+    unasked verdict before now p (Got (Arrived s i c Unknown) ∷ q) told None said judged asks h
 judges-step verdict before now p q (Arrived s i c Unix) told said judged asks h =
-    judges-told verdict before now p (Got (Arrived s i c Unix) ∷ q) told c (record { service = s; endpoint = i; number = c; peer = Unix }) (filter_of p s i) said (said || not (has_filter p s i)) judged
+    judges-told verdict before now p (Got (Arrived s i c Unix) ∷ q) told c (record { service = s; endpoint = i; number = c; peer = Unix })
+    (filter_of p s i) said (said || not (has_filter p s i)) judged
     (newest q s i c Unix) refl refl asks h
 judges-step verdict before now p q (Arrived s i c (Inet x)) told said judged asks h =
-    judges-told verdict before now p (Got (Arrived s i c (Inet x)) ∷ q) told c (record { service = s; endpoint = i; number = c; peer = Inet x }) (filter_of p s i) said (said || not (has_filter p s i)) judged
+    judges-told verdict before now p (Got (Arrived s i c (Inet x)) ∷ q) told c (record { service = s; endpoint = i; number = c; peer = Inet x })
+    (filter_of p s i) said (said || not (has_filter p s i)) judged
     (newest q s i c (Inet x)) refl refl asks h
 judges-step verdict before now p q e told said judged asks h = unasked verdict before now p (Got e ∷ q) told (peer_at e) said judged asks h
 
 -- the judgements of what a call told, which found an empty list
-pub judgements-told : (judged : List (ℕ × Bool)) (before after told : List Action) → TellsJudged judged before after → before ≡ [] → told ≡ after → judgements told ≡ judged
+pub judgements-told : (judged : List (ℕ × Bool)) (before after told : List Action) → TellsJudged judged before after → before ≡ [] → told ≡ after
+    → judgements told ≡ judged
 judgements-told judged before after told tells empty same = ap judgements (same ∙ (tells.appended ∙ ap (λ xs. xs ++ tells.told) empty)) ∙ tells.kept
 
 -- ---- the closes of all

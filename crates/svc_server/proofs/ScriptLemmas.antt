@@ -38,7 +38,8 @@ faults-event (nexts.Failed ∷ more) events e count = ap (λ (n : ℕ). n + 1) (
 faults-event (nexts.None ∷ more) events e count = faults-event more events e count
 
 -- one more fault
-faults-more : (answers : List Next) (events : List Event) → item_faults (items_given (answers ++ nexts.Failed ∷ []) events) ≡ item_faults (items_given answers events) + 1
+faults-more : (answers : List Next) (events : List Event)
+    → item_faults (items_given (answers ++ nexts.Failed ∷ []) events) ≡ item_faults (items_given answers events) + 1
 faults-more [] events = refl
 faults-more (nexts.Event ∷ more) [] = faults-more more []
 faults-more (nexts.Event ∷ more) (e ∷ events) = faults-more more events
@@ -59,7 +60,8 @@ few-more x left more is few k d lt =
     all (suc k) d (omega arith)
 
 -- an item is given
-pub keeps_given : (answers : List Next) (left more : List Item) (q : Record) (phases : List ExecutionPhase) (faults idles : ℕ) (x : Item) → left ≡ x ∷ more → length answers + 1 < 2 ^ 64 → KeepsScript answers left q phases faults idles
+pub keeps_given : (answers : List Next) (left more : List Item) (q : Record) (phases : List ExecutionPhase) (faults idles : ℕ) (x : Item) → left ≡ x ∷ more
+    → length answers + 1 < 2 ^ 64 → KeepsScript answers left q phases faults idles
     → KeepsScript (answers ++ answer_to x ∷ []) more (record_with (Some x) q) phases (faults_with (Some x) faults) (idles_with (Some x) idles)
 keeps_given answers left more q phases faults idles (items.Event e) is short kept =
     let counted : event_count (answers ++ nexts.Event ∷ []) ≡ length (events_of q ++ e ∷ []) =
@@ -74,7 +76,8 @@ keeps_given answers left more q phases faults idles (items.Event e) is short kep
       phases_told = kept.phases_told;
     }
 keeps_given answers left more q phases faults idles items.Fault is short kept =
-    let counted : event_count (answers ++ nexts.Failed ∷ []) ≡ length (events_of q) = omega (arith, event_count-append answers (nexts.Failed ∷ []), kept.counted) in
+    let counted : event_count (answers ++ nexts.Failed ∷ []) ≡ length (events_of q) =
+    omega (arith, event_count-append answers (nexts.Failed ∷ []), kept.counted) in
     record {
       follows = record {
         events = sym (events-given (answers ++ nexts.Failed ∷ []) (events_of q) counted);

@@ -32,29 +32,36 @@ due-one : (p : Plan) (q : Record) (a : Action) → start_due p (Told a) q ≡ tr
 due-one p q (Start s) due known = (ltb-true s (service_count p) known, not-true (is_started q s) (both (not (is_started q s)) (is_due p q s) due).0)
 due-one p q _ due known = tt
 
-due-told : (p : Plan) (q : Record) (told : List Action) → EachEntry (λ e before. start_due p e before ≡ true) (tell q told) → EachEntry (λ e before. start_known p e before ≡ true) (tell q told) → DueStarts p q told
+due-told : (p : Plan) (q : Record) (told : List Action) → EachEntry (λ e before. start_due p e before ≡ true) (tell q told)
+    → EachEntry (λ e before. start_known p e before ≡ true) (tell q told) → DueStarts p q told
 due-told p q [] due known = tt
 due-told p q (a ∷ more) due known = (
-  due-one p q a (each-front (λ e before. start_due p e before ≡ true) (Told a ∷ q) more due).0 (each-front (λ e before. start_known p e before ≡ true) (Told a ∷ q) more known).0,
+  due-one p q a (each-front (λ e before. start_due p e before ≡ true) (Told a ∷ q) more due).0
+      (each-front (λ e before. start_known p e before ≡ true) (Told a ∷ q) more known).0,
   due-told p (Told a ∷ q) more due known,
 )
 
 -- the starts of a step that leaves a right record are due
-due-step : (core : CoreData) (p : Plan) (q : Record) (told : List Action) (end : StepEnd) → core.plan ≡ p → StepRight core (tell q told) end → DueStarts p q told
+due-step : (core : CoreData) (p : Plan) (q : Record) (told : List Action) (end : StepEnd) → core.plan ≡ p → StepRight core (tell q told) end
+    → DueStarts p q told
 due-step core p q told end same h = subst (λ (x : Plan). DueStarts x q told) same (due-told core.plan q told h.right.starts h.right.stronger.known_starts)
 
-leaves : (answers now : Verdict) (core : CoreData) (left : List (Option (List ℕ))) (account : Option Account) (p : Plan) (q : Record) (told : List Action) (end : StepEnd) → core.plan ≡ p → StepRight core (tell q told) end
-    → Hands left account p (tell q told) → ((verdict : Verdict) → Judges verdict answers p q → Judges verdict now p (tell q told)) → Leaves answers now core left account end q
+leaves : (answers now : Verdict) (core : CoreData) (left : List (Option (List ℕ))) (account : Option Account) (p : Plan) (q : Record) (told : List Action)
+    (end : StepEnd) → core.plan ≡ p → StepRight core (tell q told) end
+    → Hands left account p (tell q told) → ((verdict : Verdict) → Judges verdict answers p q → Judges verdict now p (tell q told))
+    → Leaves answers now core left account end q
 leaves answers now core left account p q told end same h hands judges = record {
   told = told;
   step = h;
   hands = subst (λ (x : Plan). Hands left account x (tell q told)) (sym same) hands;
-  judges = λ verdict before. subst (λ (x : Plan). Judges verdict now x (tell q told)) (sym same) (judges verdict (subst (λ (x : Plan). Judges verdict answers x q) same before));
+  judges = λ verdict before. subst (λ (x : Plan). Judges verdict now x (tell q told)) (sym same)
+      (judges verdict (subst (λ (x : Plan). Judges verdict answers x q) same before));
 }
 
 -- ---- the first step
 
-begun : (core : CoreData) (before after told : List Action) (end : StepEnd) → BeginKeeps core before after end → before ≡ [] → told ≡ after → StepRight core (tell [] told) end
+begun : (core : CoreData) (before after told : List Action) (end : StepEnd) → BeginKeeps core before after end → before ≡ [] → told ≡ after
+    → StepRight core (tell [] told) end
 begun core before after told end keeps empty same =
     subst (λ xs. StepRight core (tell [] xs) end) (sym (same ∙ (keeps.appended ∙ ap (λ xs. xs ++ keeps.told) empty))) keeps.kept
 
@@ -63,7 +70,8 @@ pub may-begin : (core : CoreData) (p : Plan) (left : List (Option (List ℕ))) (
 may-begin core p left account before after told end keeps empty same plan hands =
     (p, ([], (hands, due-step core p [] told end plan (begun core before after told end keeps empty same))))
 
-pub begin-leaves : (answers : Verdict) (core : CoreData) (p : Plan) (left now_left : List (Option (List ℕ))) (account now_account : Option Account) (before after told : List Action) (end : StepEnd)
+pub begin-leaves : (answers : Verdict) (core : CoreData) (p : Plan) (left now_left : List (Option (List ℕ))) (account now_account : Option Account)
+    (before after told : List Action) (end : StepEnd)
     → BeginKeeps core before after end → TellsJudged [] before after → before ≡ [] → told ≡ after → core.plan ≡ p → Hands left account p []
     → ((r : Plan) (t : Record) → Hands left account r t → DueStarts r t told → Hands now_left now_account r (tell t told))
     → Leaves answers answers core now_left now_account end []
@@ -74,22 +82,34 @@ begin-leaves answers core p left now_left account now_account before after told 
 
 -- ---- the step of an event
 
-stepped : (old core : CoreData) (e : Event) (before after told : List Action) (end : StepEnd) (q : Record) → StepKeeps old core e before after end → before ≡ [] → told ≡ after
+stepped : (old core : CoreData) (e : Event) (before after told : List Action) (end : StepEnd) (q : Record) → StepKeeps old core e before after end → before ≡ []
+    → told ≡ after
     → Right old.plan q → StandsFor old q → StepRight core (tell (Got e ∷ q) told) end
 stepped old core e before after told end q keeps empty same right stands =
     subst (λ xs. StepRight core (tell (Got e ∷ q) xs) end) (sym (same ∙ (keeps.appended ∙ ap (λ xs. xs ++ keeps.told) empty))) (keeps.kept q right stands)
 
 pub may-step : (old core : CoreData) (left : List (Option (List ℕ))) (account : Option Account) (e : Event) (before after told : List Action) (end : StepEnd)
-    → StepKeeps old core e before after end → before ≡ [] → told ≡ after → core.plan ≡ old.plan → CanTake old left account (Some e) → MayHandAll left account told
+    → StepKeeps old core e before after end → before ≡ [] → told ≡ after → core.plan ≡ old.plan → CanTake old left account (Some e)
+    → MayHandAll left account told
 may-step old core left account e before after told end keeps empty same plan can =
-    let q = can.0 in
-    (old.plan, (Got e ∷ q, (can.1.1, due-step core old.plan (Got e ∷ q) told end plan (stepped old core e before after told end q keeps empty same can.1.0.1 can.1.0.0))))
+    let q = can.0 in (
+      old.plan,
+      (
+        Got e
+            ∷ q,
+        (can.1.1, due-step core old.plan (Got e ∷ q) told end plan (stepped old core e before after told end q keeps empty same can.1.0.1 can.1.0.0)),
+      ),
+    )
 
-pub step-leaves : (answers now : Verdict) (said : Bool) (old core : CoreData) (left now_left : List (Option (List ℕ))) (account now_account : Option Account) (e : Event) (before after told : List Action) (end : StepEnd)
-    → StepKeeps old core e before after end → TellsJudged (judged_at old.plan e said) before after → Asks answers now (asked_filter old.plan e) (peer_at e) said → before ≡ [] → told ≡ after → core.plan ≡ old.plan
+pub step-leaves : (answers now : Verdict) (said : Bool) (old core : CoreData) (left now_left : List (Option (List ℕ))) (account now_account : Option Account)
+    (e : Event) (before after told : List Action) (end : StepEnd)
+    → StepKeeps old core e before after end → TellsJudged (judged_at old.plan e said) before after → Asks answers now (asked_filter old.plan e) (peer_at e) said
+    → before ≡ [] → told ≡ after → core.plan ≡ old.plan
     → ((r : Plan) (t : Record) → Hands left account r t → DueStarts r t told → Hands now_left now_account r (tell t told))
     → (q : Record) → StandsFor old q → Right old.plan q → Hands left account old.plan (Got e ∷ q) → Leaves answers now core now_left now_account end (Got e ∷ q)
 step-leaves answers now said old core left now_left account now_account e before after told end keeps judged asks empty same plan step q stands right hands =
     let kept = stepped old core e before after told end q keeps empty same right stands in
-    leaves answers now core now_left now_account old.plan (Got e ∷ q) told end plan kept (step old.plan (Got e ∷ q) hands (due-step core old.plan (Got e ∷ q) told end plan kept))
-    (λ verdict h. judges-step verdict answers now old.plan q e told said (judgements-told (judged_at old.plan e said) before after told judged empty same) asks h)
+    leaves answers now core now_left now_account old.plan (Got e ∷ q) told end plan kept
+    (step old.plan (Got e ∷ q) hands (due-step core old.plan (Got e ∷ q) told end plan kept))
+    (λ verdict h. judges-step verdict answers now old.plan q e told said
+    (judgements-told (judged_at old.plan e said) before after told judged empty same) asks h)

@@ -3,7 +3,8 @@ use Rattle.std.specs.Prelude.{ℕ, List, Option}
 use Rattle.svc_record.specs.declared.event.Event.{Event}
 use Rattle.svc_record.specs.Record.{Record}
 
--- the record and the services that were handed over, each with its number, both with the newest first; how often the host failed, how often nothing came, and how many events came that tell a failure; for how much more there is memory; the last event that came
+-- the record and the services that were handed over, each with its number, both with the newest first; how often the host failed, how often nothing
+-- came, and how many events came that tell a failure; for how much more there is memory; the last event that came
 pub record AccountData (B : Type 0) : Type 0 where
   pub entries : Record
   pub handed : List (ℕ × B)

@@ -22,4 +22,5 @@ pub record AddsOne {B F : Type 0} (means : Ghosts B) (old new : Server B F) (ser
   pub back : IfErr result (λ refused. refused.service ≡ service)
   pub same_services : OnErr result (new.services.items ≡ old.services.items)
   pub same_nodes : OnErr result (new.dependencies ≡ old.dependencies)
-  pub sound : IsSound old.dependencies (length old.filters) (answers_of means old.services.items) → IsSound new.dependencies (length new.filters) (answers_of means new.services.items)
+  pub sound : IsSound old.dependencies (length old.filters) (answers_of means old.services.items)
+      → IsSound new.dependencies (length new.filters) (answers_of means new.services.items)

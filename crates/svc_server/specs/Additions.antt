@@ -29,7 +29,8 @@ abbrev pub first_cause : List (Option AddError) → Option AddError
 first_cause [] = None
 first_cause (cause ∷ more) = option_or cause (first_cause more)
 
--- the causes that lie in the endpoints, in the order in which they are looked at: too many, the first bad address, the first filter that isn't one of the first n
+-- the causes that lie in the endpoints, in the order in which they are looked at: too many, the first bad address, the first filter that isn't one of
+-- the first n
 abbrev pub endpoint_causes : ℕ → List EndpointPlan → List (Option AddError)
 endpoint_causes n endpoints =
     cause_if (nat_lt 64 (length endpoints)) TooManyEndpoints ∷
@@ -56,7 +57,8 @@ handles_from n [] = []
 handles_from n (name ∷ names) = record { id = n; name = name } ∷ handles_from (n + 1) names
 
 -- of the services that come, the first n are added at the end, in order, and have these handles: against each, in its turn, no cause stood
-pub record AddsFirst {B : Type 0} (means : Ghosts B) (old now : GraphData) (filters : ℕ) (there services more : List B) (n : ℕ) (handles : List HandleData) : Type 0 where
+pub record AddsFirst {B : Type 0} (means : Ghosts B) (old now : GraphData) (filters : ℕ) (there services more : List B) (n : ℕ)
+    (handles : List HandleData) : Type 0 where
   pub within : n ≤ length more
   pub added : services ≡ there ++ take n more
   pub nodes : now ≡ with_nodes old (map means.named (take n more))
@@ -64,7 +66,8 @@ pub record AddsFirst {B : Type 0} (means : Ghosts B) (old now : GraphData) (filt
   pub good : (k : ℕ) (b : B) → k < n → slice_get more k ≡ Some b
       → fault_of (with_nodes old (map means.named (take k more))) filters (answer_of means b) ≡ None
 
--- of the services that come, the one with this index isn't added to a server with this graph and so many filters, for this reason: want of memory, or the cause that stands
+-- of the services that come, the one with this index isn't added to a server with this graph and so many filters, for this reason: want of memory, or
+-- the cause that stands
 abbrev pub RefusesAt : {B : Type 0} → Ghosts B → GraphData → ℕ → List B → ℕ → AddError → Type 0
 RefusesAt {B} means g filters more index reason =
     (reason ≡ NoMemory) ⊎ ((b : B) × (slice_get more index ≡ Some b) × (fault_of g filters (answer_of means b) ≡ Some reason))

@@ -55,14 +55,16 @@ pub record IsServed (p : Plan) (r : Record) : Type 0 where
   pub served : ServedRecord p r
   pub right : Right p r
 
--- what stands of a run that didn't serve: a right record of finished steps in which the run goes on, perhaps one more event, and a close of each descriptor that isn't closed, so that each that came is closed once
+-- what stands of a run that didn't serve: a right record of finished steps in which the run goes on, perhaps one more event, and a close of each
+-- descriptor that isn't closed, so that each that came is closed once
 pub record IsClosed (p : Plan) (r finished : Record) (also : Option Event) : Type 0 where
   pub right : Right p finished
   pub goes_on : has_ended p finished ≡ false
   pub closed : r ≡ tell (with_event also finished) (closing_actions p finished also)
   pub closed_once : tail_right finished also (closing_actions p finished also) ≡ true
 
--- what stands of a run that ended otherwise than by its shutdown: a right record of finished steps in which it ended so, and then a close of each descriptor that isn't closed, so that each that came is closed once
+-- what stands of a run that ended otherwise than by its shutdown: a right record of finished steps in which it ended so, and then a close of each
+-- descriptor that isn't closed, so that each that came is closed once
 pub record IsEndedSo (p : Plan) (end : StepEnd) (r finished : Record) : Type 0 where
   pub right : Right p finished
   pub ended : end ≡ step_end p finished
@@ -105,7 +107,8 @@ RunEnds p turns (Err TurnsSpent) r = (finished : Record) × IsSpent p turns r fi
 RunEnds p turns (Err OutOfEvents) r = (finished : Record) × IsClosed p r finished None
 RunEnds p turns (Err NoMemory) r = IsRefused p r
 
--- what a host tells of such a run, whose filters answer so: its record, within so many events; each service that was started, handed over with the plan's name; and each judgement is its filter's verdict
+-- what a host tells of such a run, whose filters answer so: its record, within so many events; each service that was started, handed over with the
+-- plan's name; and each judgement is its filter's verdict
 pub record RunTells (verdict : Verdict) (p : Plan) (turns : ℕ) (answer : Result Outcome RunError) (a : Account) : Type 0 where
   pub ends : RunEnds p turns answer a.entries
   pub few : length (events_of a.entries) ≤ turns
@@ -161,7 +164,8 @@ pub record RunTakes (answer : Result Outcome RunError) (r : Record) (before now 
   pub left : LeavesNothing answer now
 
 -- what a run leaves that answers so
-pub record RunLeaves (verdict : Verdict) (p : Plan) (turns : ℕ) (answer : Result Outcome RunError) (account : Option Account) (old now : Counts) (before ahead : Option (List Item)) : Type 0 where
+pub record RunLeaves (verdict : Verdict) (p : Plan) (turns : ℕ) (answer : Result Outcome RunError) (account : Option Account) (old now : Counts)
+    (before ahead : Option (List Item)) : Type 0 where
   pub tells : IfSome account (RunTells verdict p turns answer)
   pub counts : RunCounts answer old now
   pub takes : IfSome account (λ a. IfSome before (λ b. IfSome ahead (RunTakes answer a.entries b)))

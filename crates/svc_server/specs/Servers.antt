@@ -41,7 +41,8 @@ abbrev pub is_test : Option Opt → Bool
 is_test (Some opt) = opt.test
 is_test None = false
 
--- the plan of a server: its services as they answer, their dependencies from the graph, whether it bootstraps before them, and the settings, with what stands for those that are unset
+-- the plan of a server: its services as they answer, their dependencies from the graph, whether it bootstraps before them, and the settings, with
+-- what stands for those that are unset
 abbrev pub plan_of : ServerConf → Option Opt → Bool → GraphData → List ServicePlan → Plan
 plan_of conf options eager g answers = record {
   services = with_depends g 0 answers;
@@ -61,7 +62,8 @@ plan_of conf options eager g answers = record {
 abbrev pub HasFilters : ℕ → ServicePlan → Type 0
 HasFilters n s = All (λ (e : EndpointPlan). IfSome e.filter (λ f. f < n)) s.endpoints
 
--- what a server's own calls keep: the graph's nodes are its services, by number and name; each service keeps the limits and names only filters of the server, which has so many
+-- what a server's own calls keep: the graph's nodes are its services, by number and name; each service keeps the limits and names only filters of the
+-- server, which has so many
 pub record IsSound (g : GraphData) (filters : ℕ) (answers : List ServicePlan) : Type 0 where
   pub names : g.names ≡ map (λ (x : ServicePlan). x.name) answers
   pub limits : All (λ (s : ServicePlan). (length s.endpoints ≤ 64) × All IsAddress s.endpoints) answers

@@ -28,7 +28,8 @@ use Rattle.svc_server.specs.Judges.{Judges}
 use Rattle.svc_server.specs.Runs.{events_of, RunTells, RunCounts, RunTakes, IsUnfailed}
 use Rattle.svc_server.specs.Handing.{Hands}
 
--- between two turns, or after the last: the core stands for the record q, which is right and leaves the run so; the services that aren't started are left, and the host's account is q's; k events came
+-- between two turns, or after the last: the core stands for the record q, which is right and leaves the run so; the services that aren't started are
+-- left, and the host's account is q's; k events came
 pub record IsAt (core : CoreData) (left : List (Option (List ℕ))) (account : Option Account) (k : ℕ) (end : StepEnd) (q : Record) : Type 0 where
   pub stands : StandsFor core q
   pub right : Right core.plan q
@@ -74,35 +75,42 @@ CanClose core left account also = (q : Record) × (StandsFor core q × Hands lef
 -- then all that the core's record has open was closed, and with it what an unfinished event brought
 abbrev pub ClosesTo : CoreData → List (Option (List ℕ)) → List (Option (List ℕ)) → Option Account → Option Account → Option Event → Type 0
 ClosesTo core left now_left account now_account also =
-    (q : Record) → StandsFor core q → Hands left account core.plan (with_event also q) → Hands now_left now_account core.plan (tell (with_event also q) (closing_actions core.plan q also))
+    (q : Record) → StandsFor core q → Hands left account core.plan (with_event also q)
+    → Hands now_left now_account core.plan (tell (with_event also q) (closing_actions core.plan q also))
 
 -- an event can be taken, which the host's account has already
 abbrev pub CanTake : CoreData → List (Option (List ℕ)) → Option Account → Option Event → Type 0
 CanTake core left account None = ⊥
 CanTake core left account (Some e) = (q : Record) × ((StandsFor core q × Right core.plan q) × Hands left account core.plan (Got e ∷ q))
 
--- after the record q some actions were told; the record with them is right, the core stands for it, and the answer is its own; where each judgement was its filter's verdict, it still is, with what the filters answer before and now
-pub record Leaves (before now : Verdict) (core : CoreData) (left : List (Option (List ℕ))) (account : Option Account) (end : StepEnd) (q : Record) : Type 0 where
+-- after the record q some actions were told; the record with them is right, the core stands for it, and the answer is its own; where each judgement
+-- was its filter's verdict, it still is, with what the filters answer before and now
+pub record Leaves (before now : Verdict) (core : CoreData) (left : List (Option (List ℕ))) (account : Option Account) (end : StepEnd)
+    (q : Record) : Type 0 where
   pub told : List Action
   pub step : StepRight core (tell q told) end
   pub hands : Hands left account core.plan (tell q told)
   pub judges : (verdict : Verdict) → Judges verdict before core.plan q → Judges verdict now core.plan (tell q told)
 
 -- what a run gives whose filters answer so, where the host tells its account, and where it knows what lies ahead
-pub record RunGives (verdict : Verdict) (p : Plan) (turns : ℕ) (answer : Result Outcome RunError) (account : Option Account) (before now : Option (List Item)) : Type 0 where
+pub record RunGives (verdict : Verdict) (p : Plan) (turns : ℕ) (answer : Result Outcome RunError) (account : Option Account)
+    (before now : Option (List Item)) : Type 0 where
   pub tells : IfSome account (RunTells verdict p turns answer)
   pub takes : IfSome account (λ a. IfSome before (λ b. IfSome now (RunTakes answer a.entries b)))
 
 -- a turn goes to the next point, with what the filters answer at first and now, or gives up the run
-abbrev pub TurnGives : Verdict → Verdict → CoreData → List (Option (List ℕ)) → Option Account → ℕ → ℕ → Result StepEnd RunError → Option (List Item) → Option (List Item) → Type 0
+abbrev pub TurnGives : Verdict → Verdict → CoreData → List (Option (List ℕ)) → Option Account → ℕ → ℕ → Result StepEnd RunError → Option (List Item)
+    → Option (List Item) → Type 0
 TurnGives verdict answers core left account k turns (Ok end) before now =
     (q : Record) × (IsAt core left account (k + 1) end q × (IsAhead before now q × Judges verdict answers core.plan q))
 TurnGives verdict answers core left account k turns (Err e) before now = RunGives verdict core.plan turns (Err e) account before now
 
 -- what a turn gives in which the event e came, and which answers so, with what the filters answer before and after it
-abbrev pub EventGives : Verdict → Verdict → CoreData → CoreData → List (Option (List ℕ)) → List (Option (List ℕ)) → Option Account → Option Account → ℕ → Result StepEnd RunError → Option (List Item) → Option (List Item) → Event → Type 0
+abbrev pub EventGives : Verdict → Verdict → CoreData → CoreData → List (Option (List ℕ)) → List (Option (List ℕ)) → Option Account → Option Account → ℕ
+    → Result StepEnd RunError → Option (List Item) → Option (List Item) → Event → Type 0
 EventGives answers now_answers core now_core left now_left account now_account k answer ahead now e =
-    (verdict : Verdict) (turns : ℕ) (before : Option (List Item)) (q : Record) → k < turns → IsAtEvent core left account k e q → IsAhead before ahead (Got e ∷ q)
+    (verdict : Verdict) (turns : ℕ) (before : Option (List Item)) (q : Record) → k < turns → IsAtEvent core left account k e q
+    → IsAhead before ahead (Got e ∷ q)
     → Judges verdict answers core.plan q → TurnGives verdict now_answers now_core now_left now_account k turns answer before now
 
 -- a count of 64 bits that didn't fall

@@ -243,7 +243,8 @@ impl<B: ServiceWithDependents, F: ConnectionFilter> Run<B, F> {
             → IsAt self.old.core (names_left B.named self.old.boxes) (H.account host.old) k StepEnd.On q
             → IsAhead before (H.ahead host.old) q
             → Judges verdict (verdict_at F.verdict self.old.filters) self.old.core.plan q
-            → TurnGives verdict (verdict_at F.verdict self.new.filters) self.new.core (names_left B.named self.new.boxes) (H.account host.new) k turns result before (H.ahead host.new) }
+            → TurnGives verdict (verdict_at F.verdict self.new.filters) self.new.core (names_left B.named self.new.boxes)
+            (H.account host.new) k turns result before (H.ahead host.new) }
         ensures room { OnOk result (HasRoom self.new.core self.new.closing (H.spare host.new)) }
         ensures plan { self.new.core.plan ≡ self.old.core.plan }
         ensures filters { length self.new.filters ≡ length self.old.filters }

@@ -62,13 +62,22 @@ opens b items none is =
       parts = record {
         turn = record {
           each = λ id u at live. subst (λ (x : ℕ × View). Knows [] maybe.none x.0 x.1) (λ i. (sym ((one-of v u id at).0) i, (one-of v u id at).1 i))
-              record { front = ([], refl); told_is = ([], refl); own_is = refl; holding_is = refl; base_is = λ _. refl; ended_are = λ k e there. absurd (none-of e k there) };
+              record {
+                front = ([], refl);
+                told_is = ([], refl);
+                own_is = refl;
+                holding_is = refl;
+                base_is = λ _. refl;
+                ended_are = λ k e there. absurd (none-of e k there);
+              };
           held = λ id never. absurd (maybe.some-ne-none id (sym never));
         };
         passes = record {
           undrawn = undrawn;
-          each = λ id h at live. subst (λ (x : ℕ × SeatView). SeatFits b first_role (λ _. 0) x.0 x.1) (λ i. (sym ((one-of (first_hand b) h id at).0) i, (one-of (first_hand b) h id at).1 i)) (first_fits b);
-          owner = λ n id is. let z = first_owner n id is in (first_hand b, subst (λ (k : ℕ). get_elem? (first_hand b ∷ []) k ≡ maybe.some (first_hand b)) z.0 refl, refl, inl z.1);
+          each = λ id h at live. subst (λ (x : ℕ × SeatView). SeatFits b first_role (λ _. 0) x.0 x.1)
+              (λ i. (sym ((one-of (first_hand b) h id at).0) i, (one-of (first_hand b) h id at).1 i)) (first_fits b);
+          owner = λ n id is. let z = first_owner n id is in
+              (first_hand b, subst (λ (k : ℕ). get_elem? (first_hand b ∷ []) k ≡ maybe.some (first_hand b)) z.0 refl, refl, inl z.1);
         };
         posted = tt;
         whole = λ id u at live whole free n is. absurd (none-some n (ap (λ (x : View). x.sight.last) (one-of v u id at).1 ∙ is));
@@ -78,7 +87,8 @@ opens b items none is =
 -- THE END
 
 -- the seat of each post is the pass's own or an ended one of it, as there is no other pass
-module _ (b : BookData) (next : ℕ) (role : ℕ → Role) (keeper : ℕ → ℕ) (hands : List SeatView) (passes : PassesPart b next role keeper hands) (id : ℕ) (h : SeatView) (at : get_elem? hands id ≡ maybe.some h) (live : h.spent ≡ false) (whole : IsWhole h) where
+module _ (b : BookData) (next : ℕ) (role : ℕ → Role) (keeper : ℕ → ℕ) (hands : List SeatView) (passes : PassesPart b next role keeper hands) (id : ℕ)
+    (h : SeatView) (at : get_elem? hands id ≡ maybe.some h) (live : h.spent ≡ false) (whole : IsWhole h) where
   same_hand : (j : ℕ) (g : SeatView) → get_elem? hands j ≡ maybe.some g → g.spent ≡ false → h ≡ g
   same_hand j g at-g live-g = let e = alone b next role keeper hands passes id j h g at live whole at-g live-g in
       maybe.some-injective h g (sym at ∙ (ap (get_elem? hands) (sym e) ∙ at-g))
@@ -102,7 +112,8 @@ pub record IsEnd (b : BookData) (v : View) (slot : Slot) : Type 0 where
   pub ended_are : (k : ℕ) (e : Ended) → get_elem? v.hand.ended k ≡ maybe.some e → own_posts journal e.number ≡ e.own
   pub seats : OfSeats v.hand journal
 
-pub closes : (b : BookData) (id : ℕ) (v : View) (ws : List ℕ) (xs : List Slot) (slot : Slot) → v.hand.spent ≡ false → v.sight.holding ≡ false → IsWhole v.hand → Final (Seen (Kept b) id v) ws xs → get_elem? xs 0 ≡ maybe.some slot → IsEnd b v slot
+pub closes : (b : BookData) (id : ℕ) (v : View) (ws : List ℕ) (xs : List Slot) (slot : Slot) → v.hand.spent ≡ false → v.sight.holding ≡ false → IsWhole v.hand
+    → Final (Seen (Kept b) id v) ws xs → get_elem? xs 0 ≡ maybe.some slot → IsEnd b v slot
 closes b id v ws xs slot live free whole end there =
     let s : State Slot View = end.0 in
     let rule = end.1.0 in
@@ -117,7 +128,8 @@ closes b id v ws xs slot live free whole end there =
       front = knows.front;
       own_is = sym knows.own_is;
       ended_are = λ k e e-at. sym (knows.ended_are k e e-at);
-      seats = seats_of b rule.next rule.role rule.keeper (map hand_of s.views) parts.passes id v.hand (hand_at b rule.next rule.role rule.keeper rule.journal rule.holder s.views parts id v at live id v at) live whole rule.journal parts.posted;
+      seats = seats_of b rule.next rule.role rule.keeper (map hand_of s.views) parts.passes id v.hand
+          (hand_at b rule.next rule.role rule.keeper rule.journal rule.holder s.views parts id v at live id v at) live whole rule.journal parts.posted;
     }
 
 pub in-slot : (x y : BookData) (s : Slot) → s ≡ Some x → s ≡ Some y → x ≡ y

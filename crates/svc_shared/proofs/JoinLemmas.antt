@@ -43,15 +43,22 @@ module _ (id other : ℕ) where
   rejoin_here (kept i) is = ap (λ (t : Bool). if t then kept id else kept i) (eq-eqb i other (maybe.some-injective i other is))
 
   -- who owned a number that i owns now
-  owned_before : (i : ℕ) (r : Role) → owner_of (rejoin r) ≡ maybe.some i → ((owner_of r ≡ maybe.some other) × (id ≡ i)) ⊎ ((i ≢ other) × (owner_of r ≡ maybe.some i))
+  owned_before : (i : ℕ) (r : Role) → owner_of (rejoin r) ≡ maybe.some i
+      → ((owner_of r ≡ maybe.some other) × (id ≡ i)) ⊎ ((i ≢ other) × (owner_of r ≡ maybe.some i))
   owned_before i fresh is = absurd (maybe.some-ne-none i (sym is))
   owned_before i (drawn j) is = absurd (maybe.some-ne-none i (sym is))
   owned_before i (seated j) is = dite (ℕ_discrete j other)
-      (λ (e : j ≡ other). inl (ap maybe.some e, maybe.some-injective id i (sym (ap owner_of (ap (λ (t : Bool). if t then kept id else seated j) (eq-eqb j other e))) ∙ is)))
-      (λ (ne : j ≢ other). let same : j ≡ i = maybe.some-injective j i (sym (ap owner_of (ap (λ (t : Bool). if t then kept id else seated j) (ne_eqb j other ne))) ∙ is) in inr ((λ e. ne (same ∙ e)), ap maybe.some same))
+      (λ (e : j ≡ other). inl
+      (ap maybe.some e, maybe.some-injective id i (sym (ap owner_of (ap (λ (t : Bool). if t then kept id else seated j) (eq-eqb j other e))) ∙ is)))
+      (λ (ne : j ≢ other).
+      let same : j ≡ i = maybe.some-injective j i (sym (ap owner_of (ap (λ (t : Bool). if t then kept id else seated j) (ne_eqb j other ne))) ∙ is) in
+      inr ((λ e. ne (same ∙ e)), ap maybe.some same))
   owned_before i (kept j) is = dite (ℕ_discrete j other)
-      (λ (e : j ≡ other). inl (ap maybe.some e, maybe.some-injective id i (sym (ap owner_of (ap (λ (t : Bool). if t then kept id else kept j) (eq-eqb j other e))) ∙ is)))
-      (λ (ne : j ≢ other). let same : j ≡ i = maybe.some-injective j i (sym (ap owner_of (ap (λ (t : Bool). if t then kept id else kept j) (ne_eqb j other ne))) ∙ is) in inr ((λ e. ne (same ∙ e)), ap maybe.some same))
+      (λ (e : j ≡ other). inl
+      (ap maybe.some e, maybe.some-injective id i (sym (ap owner_of (ap (λ (t : Bool). if t then kept id else kept j) (eq-eqb j other e))) ∙ is)))
+      (λ (ne : j ≢ other).
+      let same : j ≡ i = maybe.some-injective j i (sym (ap owner_of (ap (λ (t : Bool). if t then kept id else kept j) (ne_eqb j other ne))) ∙ is) in
+      inr ((λ e. ne (same ∙ e)), ap maybe.some same))
 
   rejoin_posts : (r : Role) → may_post r ≡ true → may_post (rejoin r) ≡ true
   rejoin_posts fresh may = may
@@ -67,9 +74,11 @@ module _ (id other : ℕ) where
       go true = refl
       go false = refl
 
-module _ (b : BookData) (next : ℕ) (role : ℕ → Role) (keeper : ℕ → ℕ) (journal : List PostData) (holder : maybe.Option ℕ) (views : List View) (parts : Parts b journal holder next role keeper views)
+module _ (b : BookData) (next : ℕ) (role : ℕ → Role) (keeper : ℕ → ℕ) (journal : List PostData) (holder : maybe.Option ℕ) (views : List View)
+    (parts : Parts b journal holder next role keeper views)
     (id : ℕ) (v : View) (at : get_elem? views id ≡ maybe.some v) (live : v.hand.spent ≡ false)
-    (other : ℕ) (w : View) (w-at : get_elem? views other ≡ maybe.some w) (w-live : w.hand.spent ≡ false) (ne : other ≢ id) (w-free : w.sight.holding ≡ false) (right_after : w.hand.low ≡ v.hand.high + 1) where
+    (other : ℕ) (w : View) (w-at : get_elem? views other ≡ maybe.some w) (w-live : w.hand.spent ≡ false) (ne : other ≢ id) (w-free : w.sight.holding ≡ false)
+    (right_after : w.hand.low ≡ v.hand.high + 1) where
   abbrev hands : List SeatView
   hands = map hand_of views
 
@@ -110,7 +119,8 @@ module _ (b : BookData) (next : ℕ) (role : ℕ → Role) (keeper : ℕ → ℕ
   keeps_else x no-e = ap (λ (t : Bool). if t then id else keeper x) (ne_eqb (keeper x) other no-e)
 
   -- the ended seats of the joined pass
-  ended_cases : (P : Ended → Type 0) → ((k : ℕ) (e : Ended) → get_elem? v.hand.ended k ≡ maybe.some e → P e) → ((k : ℕ) (e : Ended) → get_elem? w.hand.ended k ≡ maybe.some e → P e) → P (ended_seat w)
+  ended_cases : (P : Ended → Type 0) → ((k : ℕ) (e : Ended) → get_elem? v.hand.ended k ≡ maybe.some e → P e)
+      → ((k : ℕ) (e : Ended) → get_elem? w.hand.ended k ≡ maybe.some e → P e) → P (ended_seat w)
       → (k : ℕ) (e : Ended) → get_elem? B.ended k ≡ maybe.some e → P e
   ended_cases P left right last k e there = ⊎_elim
       (λ (old : get_elem? (v.hand.ended ++ w.hand.ended) k ≡ maybe.some e). ⊎_elim (λ (l : get_elem? v.hand.ended k ≡ maybe.some e). left k e l)
@@ -142,12 +152,15 @@ module _ (b : BookData) (next : ℕ) (role : ℕ → Role) (keeper : ℕ → ℕ
 
   -- the numbers of both are the joined pass's
   seat_left : (n : ℕ) → IsSeatOf v.hand n → IsSeatOf B n
-  seat_left n s = ⊎_elim (λ same. inl same) (λ e. inr (e.0, e.1, at_longer (v.hand.ended ++ w.hand.ended) (ended_seat w ∷ []) e.0 e.1 (at_longer v.hand.ended w.hand.ended e.0 e.1 e.2), e.3)) s
+  seat_left n s =
+      ⊎_elim (λ same. inl same)
+      (λ e. inr (e.0, e.1, at_longer (v.hand.ended ++ w.hand.ended) (ended_seat w ∷ []) e.0 e.1 (at_longer v.hand.ended w.hand.ended e.0 e.1 e.2), e.3)) s
 
   seat_right : (n : ℕ) → IsSeatOf w.hand n → IsSeatOf B n
   seat_right n s = ⊎_elim
       (λ same. let r = at_right (v.hand.ended ++ w.hand.ended) (ended_seat w ∷ []) (ended_seat w) 0 refl in inr (r.0, ended_seat w, r.1, sym same))
-      (λ e. let r = at_right v.hand.ended w.hand.ended e.1 e.0 e.2 in inr (r.0, e.1, at_longer (v.hand.ended ++ w.hand.ended) (ended_seat w ∷ []) r.0 e.1 r.1, e.3)) s
+      (λ e. let r = at_right v.hand.ended w.hand.ended e.1 e.0 e.2 in
+      inr (r.0, e.1, at_longer (v.hand.ended ++ w.hand.ended) (ended_seat w ∷ []) r.0 e.1 r.1, e.3)) s
 
   there_both : get_elem? hands' id ≡ maybe.some B
   there_both = set_else (set hands id B) other id spent_view.hand ne' ∙ set_there hands id v.hand B at_hand
@@ -187,14 +200,19 @@ module _ (b : BookData) (next : ℕ) (role : ℕ → Role) (keeper : ℕ → ℕ
       (λ j u ne e u_live k. k) (λ j is. inr is) in record {
         turn = record {
           each = λ j u e u-live. ⊎_elim (λ (gone : (j ≡ other) × (spent_view ≡ u)). absurd (apart (ap (λ (x : View). x.hand.spent) gone.1 ∙ u-live)))
-              (λ (still : (j ≢ other) × (get_elem? (set views id both) j ≡ maybe.some u)). turn.each j u still.1 u-live) (at_set (set views id both) other j spent_view u e);
+              (λ (still : (j ≢ other) × (get_elem? (set views id both) j ≡ maybe.some u)). turn.each j u still.1 u-live)
+              (at_set (set views id both) other j spent_view u e);
           held = λ j is.
-              let free : j ≢ other = (λ e. apart (sym (eq-eqb j other e) ∙ (sym (ap (λ (h : maybe.Option ℕ). is_holder h other) is) ∙ (sym r.holding_is ∙ w-free)))) in
+              let free : j ≢ other =
+              (λ e. apart (sym (eq-eqb j other e) ∙ (sym (ap (λ (h : maybe.Option ℕ). is_holder h other) is) ∙ (sym r.holding_is ∙ w-free)))) in
               let u = turn.held j is in (u.0, set_else (set views id both) other j spent_view free ∙ u.1, u.2);
         };
-        passes = subst (PassesPart b next role' keeper') (sym (map-set hand_of (set views id both) other spent_view ∙ ap (λ (hs : List SeatView). set hs other spent_view.hand) (map-set hand_of views id both))) join_passes;
+        passes = subst (PassesPart b next role' keeper')
+            (sym (map-set hand_of (set views id both) other spent_view
+            ∙ ap (λ (hs : List SeatView). set hs other spent_view.hand) (map-set hand_of views id both))) join_passes;
         posted = posted-by role role' journal (λ n may. rejoin_posts id other (role n) may) parts.posted;
-        whole = λ j u e u-live u-whole u-free n is. ⊎_elim (λ (gone : (j ≡ other) × (spent_view ≡ u)). absurd (apart (ap (λ (x : View). x.hand.spent) gone.1 ∙ u-live)))
+        whole = λ j u e u-live u-whole u-free n is. ⊎_elim
+            (λ (gone : (j ≡ other) × (spent_view ≡ u)). absurd (apart (ap (λ (x : View). x.hand.spent) gone.1 ∙ u-live)))
             (λ (still : (j ≢ other) × (get_elem? (set views id both) j ≡ maybe.some u)). ⊎_elim
             (λ (t : (j ≡ id) × (both ≡ u)). absurd (none-some n (ap (λ (x : View). x.sight.last) t.1 ∙ is)))
             (λ (t : (j ≢ id) × (get_elem? views j ≡ maybe.some u)). parts.whole j u t.1 u-live u-whole u-free n is) (at_set views id j both u still.1))

@@ -10,14 +10,16 @@ own_from-other : (k n : ℕ) (xs : List PostData) (p : PostData) → (p.seat == 
 own_from-other k n [] p ne = rw ne refl
 own_from-other k n (x ∷ xs) p ne = ap (λ (r : List (ℕ × PostData)). if x.seat == n then (k, x) ∷ r else r) (own_from-other (k + 1) n xs p ne)
 
-own_from-mine : (k n : ℕ) (xs : List PostData) (p : PostData) → (p.seat == n) ≡ true → own_posts_from k n (xs ++ p ∷ []) ≡ own_posts_from k n xs ++ (k + length xs, p) ∷ []
+own_from-mine : (k n : ℕ) (xs : List PostData) (p : PostData) → (p.seat == n) ≡ true
+    → own_posts_from k n (xs ++ p ∷ []) ≡ own_posts_from k n xs ++ (k + length xs, p) ∷ []
 own_from-mine k n [] p e = rw e (ap (λ (j : ℕ). (j, p) ∷ []) (omega arith))
 own_from-mine k n (x ∷ xs) p e =
     let same : (k + 1) + length xs ≡ k + length (x ∷ xs) = omega arith in
     go (x.seat == n) (own_from-mine (k + 1) n xs p e ∙ ap (λ (j : ℕ). own_posts_from (k + 1) n xs ++ (j, p) ∷ []) same)
   where
     go : (b : Bool) → own_posts_from (k + 1) n (xs ++ p ∷ []) ≡ own_posts_from (k + 1) n xs ++ (k + length (x ∷ xs), p) ∷ []
-        → (if b then (k, x) ∷ own_posts_from (k + 1) n (xs ++ p ∷ []) else own_posts_from (k + 1) n (xs ++ p ∷ [])) ≡ (if b then (k, x) ∷ own_posts_from (k + 1) n xs else own_posts_from (k + 1) n xs) ++ (k + length (x ∷ xs), p) ∷ []
+        → (if b then (k, x) ∷ own_posts_from (k + 1) n (xs ++ p ∷ []) else own_posts_from (k + 1) n (xs ++ p ∷ []))
+        ≡ (if b then (k, x) ∷ own_posts_from (k + 1) n xs else own_posts_from (k + 1) n xs) ++ (k + length (x ∷ xs), p) ∷ []
     go true more = ap (λ (r : List (ℕ × PostData)). (k, x) ∷ r) more
     go false more = more
 
@@ -49,7 +51,8 @@ pub posted-front : (role : ℕ → Role) (xs ys : List PostData) → Posted role
 posted-front role [] ys posted = tt
 posted-front role (x ∷ xs) ys posted = (posted.0, posted-front role xs ys posted.1)
 
-pub posted-by : (role role' : ℕ → Role) (xs : List PostData) → ((n : ℕ) → may_post (role n) ≡ true → may_post (role' n) ≡ true) → Posted role xs → Posted role' xs
+pub posted-by : (role role' : ℕ → Role) (xs : List PostData) → ((n : ℕ) → may_post (role n) ≡ true → may_post (role' n) ≡ true) → Posted role xs
+    → Posted role' xs
 posted-by role role' [] keeps posted = tt
 posted-by role role' (x ∷ xs) keeps posted = (keeps x.seat posted.0, posted-by role role' xs keeps posted.1)
 

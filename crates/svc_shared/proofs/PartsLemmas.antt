@@ -16,7 +16,8 @@ use Rattle.svc_shared.proofs.OwnLemmas.{set_there}
 
 module _ (b : BookData) (next : ℕ) (role : ℕ → Role) (keeper : ℕ → ℕ) where
   -- beside a pass with the whole share there is no other
-  pub alone : (hands : List SeatView) → PassesPart b next role keeper hands → (i j : ℕ) (h g : SeatView) → get_elem? hands i ≡ maybe.some h → h.spent ≡ false → IsWhole h
+  pub alone : (hands : List SeatView) → PassesPart b next role keeper hands → (i j : ℕ) (h g : SeatView) → get_elem? hands i ≡ maybe.some h → h.spent ≡ false
+      → IsWhole h
       → get_elem? hands j ≡ maybe.some g → g.spent ≡ false → j ≡ i
   alone hands p i j h g at-h live-h whole at-g live-g =
       let fh = p.each i h at-h live-h in
@@ -27,7 +28,8 @@ module _ (b : BookData) (next : ℕ) (role : ℕ → Role) (keeper : ℕ → ℕ
       let high : g.low ≤ h.high = subst (λ (z : ℕ). g.low ≤ z) (sym whole.1) (omega arith) in
       sym (fg.share g.low (omega arith) some) ∙ fh.share g.low low high
 
-  module _ (journal : List PostData) (holder : maybe.Option ℕ) (views : List View) (parts : Parts b journal holder next role keeper views) (id : ℕ) (v : View) (at : get_elem? views id ≡ maybe.some v) (live : v.hand.spent ≡ false) where
+  module _ (journal : List PostData) (holder : maybe.Option ℕ) (views : List View) (parts : Parts b journal holder next role keeper views) (id : ℕ) (v : View)
+      (at : get_elem? views id ≡ maybe.some v) (live : v.hand.spent ≡ false) where
     pub hand_at : (j : ℕ) (u : View) → get_elem? views j ≡ maybe.some u → get_elem? (map hand_of views) j ≡ maybe.some u.hand
     hand_at j u e = at_map hand_of views j u e
 
@@ -54,8 +56,10 @@ module _ (b : BookData) (next : ℕ) (role : ℕ → Role) (keeper : ℕ → ℕ
     turn_moved journal' holder' w w-live knows others holds = record {
       each = λ j u e u-live. ⊎_elim (λ (t : (j ≡ id) × (w ≡ u)). subst (λ (x : ℕ × View). Knows journal' holder' x.0 x.1) (λ i. (sym t.0 i, t.1 i)) knows)
           (λ (t : (j ≢ id) × (get_elem? views j ≡ maybe.some u)). others j u t.0 t.1 u-live (parts.turn.each j u t.1 u-live)) (at_set views id j w u e);
-      held = λ j is. dite (ℕ_discrete j id) (λ (e : j ≡ id). (w, subst (λ (k : ℕ). get_elem? (set views id w) k ≡ maybe.some w) (sym e) (set_there views id v w at), w-live))
-          (λ (ne : j ≢ id). ⊎_elim (λ (e : j ≡ id). absurd (ne e)) (λ (was : holder ≡ maybe.some j). let u = parts.turn.held j was in (u.0, set_else views id j w ne ∙ u.1, u.2)) (holds j is));
+      held = λ j is. dite (ℕ_discrete j id)
+          (λ (e : j ≡ id). (w, subst (λ (k : ℕ). get_elem? (set views id w) k ≡ maybe.some w) (sym e) (set_there views id v w at), w-live))
+          (λ (ne : j ≢ id). ⊎_elim (λ (e : j ≡ id). absurd (ne e))
+          (λ (was : holder ≡ maybe.some j). let u = parts.turn.held j was in (u.0, set_else views id j w ne ∙ u.1, u.2)) (holds j is));
     }
 
     pub moved : (journal' : List PostData) (holder' : maybe.Option ℕ) (w : View) → w.hand ≡ v.hand → Knows journal' holder' id w
@@ -70,7 +74,8 @@ module _ (b : BookData) (next : ℕ) (role : ℕ → Role) (keeper : ℕ → ℕ
       posted = posted;
       whole = λ j u e u-live u-whole u-free n is. ⊎_elim (λ (t : (j ≡ id) × (w ≡ u)). mine u t.1 u-whole u-free n is)
           (λ (t : (j ≢ id) × (get_elem? views j ≡ maybe.some u)).
-          absurd (t.0 (sym (alone (map hand_of views) parts.passes j id u.hand v.hand (hand_at j u t.1) u-live u-whole (hand_at id v at) live)))) (at_set views id j w u e);
+          absurd (t.0 (sym (alone (map hand_of views) parts.passes j id u.hand v.hand (hand_at j u t.1) u-live u-whole (hand_at id v at) live))))
+          (at_set views id j w u e);
     }
       where
         mine : (u : View) → w ≡ u → IsWhole u.hand → u.sight.holding ≡ false → (n : ℕ) → u.sight.last ≡ Some n → n ≡ 2 * length journal'

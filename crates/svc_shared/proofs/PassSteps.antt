@@ -22,7 +22,8 @@ use Rattle.svc_base.proofs.Logic.{some-inj, none-some}
 
 module _ (b : BookData) (id : ℕ) (v : View) (live : v.hand.spent ≡ false) where
   -- the number's word was read: the parts stay
-  reads : (journal : List PostData) (holder : maybe.Option ℕ) (next : ℕ) (role : ℕ → Role) (keeper : ℕ → ℕ) (views : List View) → Parts b journal holder next role keeper views → get_elem? views id ≡ maybe.some v
+  reads : (journal : List PostData) (holder : maybe.Option ℕ) (next : ℕ) (role : ℕ → Role) (keeper : ℕ → ℕ) (views : List View)
+      → Parts b journal holder next role keeper views → get_elem? views id ≡ maybe.some v
       → (n : ℕ) → Parts b journal holder next role keeper (set views id (noted v 1 n None))
   reads journal holder next role keeper views parts at n =
       let was = parts.turn.each id v at live in
@@ -36,7 +37,16 @@ module _ (b : BookData) (id : ℕ) (v : View) (live : v.hand.spent ≡ false) wh
     noted v 1 next None,
     keeps,
     tt,
-    record { journal = journal; holder = holder; next = next; role = role; keeper = keeper; words_are = refl; homes_are = refl; parts = reads journal holder next role keeper views parts at next },
+    record {
+      journal = journal;
+      holder = holder;
+      next = next;
+      role = role;
+      keeper = keeper;
+      words_are = refl;
+      homes_are = refl;
+      parts = reads journal holder next role keeper views parts at next;
+    },
     refl,
   ))
 
@@ -48,7 +58,8 @@ module _ (b : BookData) (id : ℕ) (v : View) (live : v.hand.spent ≡ false) wh
     abbrev Goes : List PostData → maybe.Option ℕ → ℕ → List View → ℕ → Type 0
     Goes journal holder next views x =
         (w : View) × (a : Act Slot) × Valid (home b journal holder ∷ []) cs a
-        × Kept b (stepped record { words = turn_word journal holder ∷ next ∷ []; homes = home b journal holder ∷ []; views = views } 1 x id cs w a) × drew_one drawing (v, cs) next (w, carried_after cs a)
+        × Kept b (stepped record { words = turn_word journal holder ∷ next ∷ []; homes = home b journal holder ∷ []; views = views } 1 x id cs w a)
+        × drew_one drawing (v, cs) next (w, carried_after cs a)
 
     pub draws_one : Allows (Kept b) slots id (v, cs) 1 (λ n. either (n == old) new n) (drew_one drawing (v, cs))
     draws_one = allowed b slots id v cs 1 (λ n. either (n == old) new n) (drew_one drawing (v, cs)) (λ journal holder next role keeper views parts at small.
@@ -73,7 +84,16 @@ module _ (b : BookData) (id : ℕ) (v : View) (live : v.hand.spent ≡ false) wh
           noted v 1 next None,
           keeps,
           tt,
-          record { journal = journal; holder = holder; next = next; role = role; keeper = keeper; words_are = refl; homes_are = refl; parts = reads journal holder next role keeper views parts at next },
+          record {
+            journal = journal;
+            holder = holder;
+            next = next;
+            role = role;
+            keeper = keeper;
+            words_are = refl;
+            homes_are = refl;
+            parts = reads journal holder next role keeper views parts at next;
+          },
           ((λ hit. absurd (ne hit)), λ _. refl),
         )))
 
@@ -91,7 +111,8 @@ module _ (b : BookData) (id : ℕ) (v : View) (live : v.hand.spent ≡ false) wh
   }
 
   -- KIND 7: a join
-  pub glues : (other : ℕ) (w : View) → w.hand.spent ≡ false → w.sight.holding ≡ false → w.hand.low ≡ v.hand.high + 1 → Joins (Kept b) id v other w (glued v w) spent_view
+  pub glues : (other : ℕ) (w : View) → w.hand.spent ≡ false → w.sight.holding ≡ false → w.hand.low ≡ v.hand.high + 1
+      → Joins (Kept b) id v other w (glued v w) spent_view
   glues other w w-live w-free after s rule at ne w-at = record {
     journal = rule.journal;
     holder = rule.holder;
@@ -100,11 +121,13 @@ module _ (b : BookData) (id : ℕ) (v : View) (live : v.hand.spent ≡ false) wh
     keeper = λ x. if rule.keeper x == other then id else rule.keeper x;
     words_are = rule.words_are;
     homes_are = rule.homes_are;
-    parts = joins b rule.next rule.role rule.keeper rule.journal rule.holder s.views rule.parts id v at live other w (sym (set_else s.views id other (glued v w) ne) ∙ w-at) w-live ne w-free after;
+    parts = joins b rule.next rule.role rule.keeper rule.journal rule.holder s.views rule.parts id v at live other w
+        (sym (set_else s.views id other (glued v w) ne) ∙ w-at) w-live ne w-free after;
   }
 
 -- of two fronts of one journal the longer one begins with both
-longer_begins : (journal xs ys : List PostData) → Begins journal xs → Begins journal ys → Begins (longer xs ys) xs × Begins (longer xs ys) ys × Begins journal (longer xs ys)
+longer_begins : (journal xs ys : List PostData) → Begins journal xs → Begins journal ys
+    → Begins (longer xs ys) xs × Begins (longer xs ys) ys × Begins journal (longer xs ys)
 longer_begins journal xs ys b c = ⊎_elim
     (λ (lt : length xs < length ys). let is : ys ≡ longer xs ys = ap (λ (t : Bool). if t then ys else xs) (sym (lt-ltb (length xs) (length ys) lt)) in
     subst (λ (zs : List PostData). Begins zs xs × Begins zs ys × Begins journal zs) is (begins-shorter journal xs ys b c (omega arith), begins-whole ys, c))
@@ -113,13 +136,15 @@ longer_begins journal xs ys b c = ⊎_elim
     (cases_lt (length xs) (length ys))
 
 -- KIND 1: a load of the turn's word, after which a joined pass has one front
-pub settles : (b : BookData) (slots id : ℕ) (v : View) (cs : List (ℕ × Slot)) (st : Step Slot) → v.hand.spent ≡ false → v.sight.holding ≡ false → Allows (Kept b) slots id (v, cs) 0 (λ n. n) (settled_down st (v, cs))
+pub settles : (b : BookData) (slots id : ℕ) (v : View) (cs : List (ℕ × Slot)) (st : Step Slot) → v.hand.spent ≡ false → v.sight.holding ≡ false
+    → Allows (Kept b) slots id (v, cs) 0 (λ n. n) (settled_down st (v, cs))
 settles b slots id v cs st live free = allowed b slots id v cs 0 (λ n. n) (settled_down st (v, cs)) (λ journal holder next role keeper views parts at small.
     let n : ℕ = turn_word journal holder in
     let w : View = settled v n in
     let was = parts.turn.each id v at live in
     let front = longer_begins journal v.sight.seen v.sight.told was.front was.told_is in
-    let word : IsWhole v.hand → n ≡ 2 * length journal = λ whole. ap (turn_word journal) (whole_free b next role keeper journal holder views parts id v at live whole free) in (
+    let word : IsWhole v.hand
+    → n ≡ 2 * length journal = λ whole. ap (turn_word journal) (whole_free b next role keeper journal holder views parts id v at live whole free) in (
       w,
       keeps,
       tt,
@@ -132,7 +157,14 @@ settles b slots id v cs st live free = allowed b slots id v cs 0 (λ n. n) (sett
         words_are = refl;
         homes_are = refl;
         parts = moved b next role keeper journal holder views parts id v at live journal holder w refl
-            record { front = front.2; told_is = (journal, refl); own_is = was.own_is; holding_is = was.holding_is; base_is = was.base_is; ended_are = was.ended_are }
+            record {
+              front = front.2;
+              told_is = (journal, refl);
+              own_is = was.own_is;
+              holding_is = was.holding_is;
+              base_is = was.base_is;
+              ended_are = was.ended_are;
+            }
             (λ j u ne e u_live k. k) (λ j is. inr is) parts.posted (λ whole _ m is. sym (some-inj n m is) ∙ word whole);
       },
       (refl, front.0, front.1),

@@ -50,7 +50,10 @@ module _ (s : SharedServer) (p : Pass) (of : IsOf s p) (word : ℕ) (m0 m1 : Min
 
   -- what this call noted
   noted_since : Begins m1.0.sight.notes (notes_of p)
-  noted_since = subst (λ (xs : List Note). Begins xs (notes_of p)) (sym notes) (begins-more (m0.0.sight.notes ++ note 0 word ∷ []) (note 0 word ∷ []) (notes_of p) (begins-more m0.0.sight.notes (note 0 word ∷ []) (notes_of p) waited.notes))
+  noted_since =
+      subst (λ (xs : List Note). Begins xs (notes_of p)) (sym notes)
+      (begins-more (m0.0.sight.notes ++ note 0 word ∷ []) (note 0 word ∷ []) (notes_of p)
+      (begins-more m0.0.sight.notes (note 0 word ∷ []) (notes_of p) waited.notes))
 
   pub posts_by : (event : Event) (said : Bool) (r : Posted) → r.pass.place.table_id ≡ p.place.table_id
       → LeftWith (origin_of s) (post (hand_in p).number event said (list_of r.actions)) r.place r.end m1 r.pass.place.me → IsPosted s p event said r
@@ -66,7 +69,10 @@ module _ (s : SharedServer) (p : Pass) (of : IsOf s p) (word : ℕ) (m0 m1 : Min
         hand_is = hands ∙ hand;
         long = place ∙ ap (length {A = PostData}) (sym sees);
         last = (m1.0.sight.base, sees, front);
-        own_is = owns ∙ (own-mine m1.0.hand.number m1.0.sight.base e (sym number) ∙ (ap (λ (xs : List (ℕ × PostData)). xs ++ (length after, e) ∷ []) (sym turn.turn.own_is ∙ own_kept) ∙ ap (λ (k : ℕ). own_of p ++ (k, e) ∷ []) (sym place)));
+        own_is = owns
+            ∙ (own-mine m1.0.hand.number m1.0.sight.base e (sym number)
+            ∙ (ap (λ (xs : List (ℕ × PostData)). xs ++ (length after, e) ∷ []) (sym turn.turn.own_is ∙ own_kept)
+            ∙ ap (λ (k : ℕ). own_of p ++ (k, e) ∷ []) (sym place)));
         own_stands = owns ∙ (ap (own_posts after) number ∙ ap (λ (xs : List PostData). own_posts xs (hand_in p).number) (sym sees));
         legal = subst (λ (xs : List PostData). IsLegal (origin_of s) xs) (sym sees) with.legal;
         end_is = with.end_is ∙ ap (λ (xs : List PostData). end_after (origin_of s) xs) (sym sees);
@@ -76,9 +82,15 @@ module _ (s : SharedServer) (p : Pass) (of : IsOf s p) (word : ℕ) (m0 m1 : Min
 
   -- the notes of this call are those before the turn was taken, and its own two
   noted_last : (notes0 : List Note) → Begins m0.0.sight.notes notes0 → (added : List Note) × (m1.0.sight.notes ≡ (notes0 ++ added) ++ note 0 word ∷ [])
-  noted_last notes0 b = (b.0 ++ note 0 word ∷ [], notes ∙ (ap (λ (xs : List Note). (xs ++ note 0 word ∷ []) ++ note 0 word ∷ []) b.1 ∙ ap (λ (xs : List Note). xs ++ note 0 word ∷ []) (append_assoc notes0 b.0 (note 0 word ∷ []))))
+  noted_last notes0 b = (
+    b.0 ++ note 0 word ∷ [],
+    notes
+        ∙ (ap (λ (xs : List Note). (xs ++ note 0 word ∷ []) ++ note 0 word ∷ []) b.1
+        ∙ ap (λ (xs : List Note). xs ++ note 0 word ∷ []) (append_assoc notes0 b.0 (note 0 word ∷ []))),
+  )
 
-  pub refuses_by : (busy : ℕ → Type 0) (event : Event) (r : PostRefused) → r.pass.place.table_id ≡ p.place.table_id → r.event ≡ event → LeftFor (origin_of s) event r.reason m1 r.pass.place.me → IsRefused busy s p event r
+  pub refuses_by : (busy : ℕ → Type 0) (event : Event) (r : PostRefused) → r.pass.place.table_id ≡ p.place.table_id → r.event ≡ event
+      → LeftFor (origin_of s) event r.reason m1 r.pass.place.me → IsRefused busy s p event r
   refuses_by busy event r table same left_for =
       let why = left_for.0 in
       let without = left_for.2 in
@@ -99,7 +111,8 @@ module _ (s : SharedServer) (p : Pass) (of : IsOf s p) (word : ℕ) (m0 m1 : Min
         cause = subst (λ (x : PostReason). HasCause busy s p event x r.pass) (sym left_for.1) (causes why without.due sees last twice);
       }
     where
-      causes : (why : Refusal) → IsDue (book_of (origin_of s) m1.0.sight.base) event why → seen_of r.pass ≡ m1.0.sight.base → LastNote p r.pass word → word ≡ 2 * length m1.0.sight.base → HasCause busy s p event (reason_is why) r.pass
+      causes : (why : Refusal) → IsDue (book_of (origin_of s) m1.0.sight.base) event why → seen_of r.pass ≡ m1.0.sight.base → LastNote p r.pass word
+          → word ≡ 2 * length m1.0.sight.base → HasCause busy s p event (reason_is why) r.pass
       causes Refusals.Full due sees last twice =
           let limit : length m1.0.sight.base ≡ (origin_of s).limit = due in
           (ap (length {A = PostData}) sees ∙ limit, subst (LastNote p r.pass) (twice ∙ ap (λ (k : ℕ). 2 * k) limit) last)
@@ -111,7 +124,8 @@ module _ (s : SharedServer) (p : Pass) (of : IsOf s p) (word : ℕ) (m0 m1 : Min
       causes Refusals.NoMemory due sees last twice = tt
 
 -- the turn was not to be had
-pub busy_by : (s : SharedServer) (p : Pass) (of : IsOf s p) (word : ℕ) (event : Event) (r : PostRefused) → r.pass.place.table_id ≡ p.place.table_id → r.event ≡ event → r.reason ≡ Busy word → Lost word p.place.me r.pass.place.me
+pub busy_by : (s : SharedServer) (p : Pass) (of : IsOf s p) (word : ℕ) (event : Event) (r : PostRefused) → r.pass.place.table_id ≡ p.place.table_id
+    → r.event ≡ event → r.reason ≡ Busy word → Lost word p.place.me r.pass.place.me
     → IsRefused (IsBusy p r.pass) s p event r
 busy_by s p of word event r table same reason lost =
     record {
@@ -119,7 +133,8 @@ busy_by s p of word event r table same reason lost =
       hand_is = kept.0;
       own_is = kept.2;
       front = subst (λ (xs : List PostData). Begins xs (seen_of p)) (sym kept.1) (begins-whole (seen_of p));
-      notes = ⊎_elim (λ once. (note 0 word ∷ [], once.0)) (λ twice. (note 0 twice.0 ∷ note 0 word ∷ [], twice.2 ∙ append_assoc (notes_of p) (note 0 twice.0 ∷ []) (note 0 word ∷ []))) busy;
+      notes = ⊎_elim (λ once. (note 0 word ∷ [], once.0))
+          (λ twice. (note 0 twice.0 ∷ note 0 word ∷ [], twice.2 ∙ append_assoc (notes_of p) (note 0 twice.0 ∷ []) (note 0 word ∷ []))) busy;
       event_is = same;
       cause = subst (λ (x : PostReason). HasCause (IsBusy p r.pass) s p event x r.pass) (sym reason) (lost.0, busy);
     }
@@ -128,5 +143,7 @@ busy_by s p of word event r table same reason lost =
     kept = ⊎_elim (λ once. (ap (λ (m : Mine). m.0.hand) once.0, ap (λ (m : Mine). m.0.sight.seen) once.0, ap (λ (m : Mine). m.0.sight.own) once.0))
         (λ twice. (ap (λ (m : Mine). m.0.hand) twice.2, ap (λ (m : Mine). m.0.sight.seen) twice.2, ap (λ (m : Mine). m.0.sight.own) twice.2)) lost.1
 
-    busy : ((notes_of r.pass ≡ notes_of p ++ note 0 word ∷ []) × (word % 2 ≡ 1)) ⊎ ((first : ℕ) × (first ≢ word) × (notes_of r.pass ≡ (notes_of p ++ note 0 first ∷ []) ++ note 0 word ∷ []))
-    busy = ⊎_elim (λ once. inl (ap (λ (m : Mine). m.0.sight.notes) once.0, once.1)) (λ twice. inr (twice.0, twice.1, ap (λ (m : Mine). m.0.sight.notes) twice.2)) lost.1
+    busy : ((notes_of r.pass ≡ notes_of p ++ note 0 word ∷ []) × (word % 2 ≡ 1))
+        ⊎ ((first : ℕ) × (first ≢ word) × (notes_of r.pass ≡ (notes_of p ++ note 0 first ∷ []) ++ note 0 word ∷ []))
+    busy = ⊎_elim (λ once. inl (ap (λ (m : Mine). m.0.sight.notes) once.0, once.1))
+        (λ twice. inr (twice.0, twice.1, ap (λ (m : Mine). m.0.sight.notes) twice.2)) lost.1

@@ -10,7 +10,8 @@ use Rattle.svc_shared.specs.Rule.{IsSeatOf}
 use Rattle.svc_shared.specs.Posting.{IsOf, hand_in, seen_of}
 use Rattle.svc_shared.specs.Sharing.{IsCut, IsJoined}
 
-pub cut_by : (m n l r : Mine) (k found : ℕ) → m.0.hand.drawn ≡ Some k → n ≡ (noted m.0 0 found (Some found), m.1) → (own_posts m.0.sight.seen k ≡ []) × (IsSeatOf m.0.hand k → ⊥)
+pub cut_by : (m n l r : Mine) (k found : ℕ) → m.0.hand.drawn ≡ Some k → n ≡ (noted m.0 0 found (Some found), m.1)
+    → (own_posts m.0.sight.seen k ≡ []) × (IsSeatOf m.0.hand k → ⊥)
     → l ≡ (lower n.0, n.1) → r ≡ (upper n.0, []) → IsCut k m l r
 cut_by m n l r k found has is free l-is r-is =
     let left : l.0 ≡ lower (noted m.0 0 found (Some found)) = ap (λ (x : Mine). x.0) l-is ∙ ap (λ (x : Mine). lower x.0) is in
@@ -25,8 +26,10 @@ cut_by m n l r k found has is free l-is r-is =
       no_seat = free.1;
     }
 
-pub joined_by : (s : SharedServer) (l r q : Pass) (n : Mine) (found : ℕ) → IsOf s l → q.place.table_id ≡ l.place.table_id → n ≡ (glued l.place.me.0 r.place.me.0, l.place.me.1)
-    → q.place.me ≡ (settled n.0 found, n.1) → Begins (longer n.0.sight.seen n.0.sight.told) n.0.sight.seen → Begins (longer n.0.sight.seen n.0.sight.told) n.0.sight.told → IsJoined s l r q
+pub joined_by : (s : SharedServer) (l r q : Pass) (n : Mine) (found : ℕ) → IsOf s l → q.place.table_id ≡ l.place.table_id
+    → n ≡ (glued l.place.me.0 r.place.me.0, l.place.me.1)
+    → q.place.me ≡ (settled n.0 found, n.1) → Begins (longer n.0.sight.seen n.0.sight.told) n.0.sight.seen
+    → Begins (longer n.0.sight.seen n.0.sight.told) n.0.sight.told → IsJoined s l r q
 joined_by s l r q n found of table is now one two =
     let G : View = glued l.place.me.0 r.place.me.0 in
     let n-is : n.0 ≡ G = ap (λ (x : Mine). x.0) is in
@@ -35,7 +38,11 @@ joined_by s l r q n found of table is now one two =
     let hand : hand_in q ≡ G.hand = ap (λ (v : View). v.hand) view in record {
       of = (table ∙ of.0, ap (λ (h : SeatView). h.origin) hand ∙ of.1);
       hand_is = hand;
-      front_left = subst (λ (xs : List PostData). Begins xs (seen_of l)) (sym sees) (subst (λ (v : View). Begins (longer v.sight.seen v.sight.told) v.sight.seen) n-is one);
-      front_right = subst (λ (xs : List PostData). Begins xs (seen_of r)) (sym sees) (subst (λ (v : View). Begins (longer v.sight.seen v.sight.told) v.sight.told) n-is two);
+      front_left =
+          subst (λ (xs : List PostData). Begins xs (seen_of l)) (sym sees)
+          (subst (λ (v : View). Begins (longer v.sight.seen v.sight.told) v.sight.seen) n-is one);
+      front_right =
+          subst (λ (xs : List PostData). Begins xs (seen_of r)) (sym sees)
+          (subst (λ (v : View). Begins (longer v.sight.seen v.sight.told) v.sight.told) n-is two);
       own_is = ap (λ (v : View). v.sight.own) view;
     }

@@ -35,15 +35,21 @@ module _ (keeper : ℕ → ℕ) (id m mid : ℕ) where
   split_keeper x = if keeper x == id then (if ltb mid x then m else id) else keeper x
 
   keeps_low : (x : ℕ) → keeper x ≡ id → x ≤ mid → split_keeper x ≡ id
-  keeps_low x is le = ap (λ (t : Bool). if t then (if ltb mid x then m else id) else keeper x) (eq-eqb (keeper x) id is) ∙ ap (λ (t : Bool). if t then m else id) (le-ltb mid x le)
+  keeps_low x is le =
+      ap (λ (t : Bool). if t then (if ltb mid x then m else id) else keeper x) (eq-eqb (keeper x) id is)
+      ∙ ap (λ (t : Bool). if t then m else id) (le-ltb mid x le)
 
   keeps_high : (x : ℕ) → keeper x ≡ id → mid < x → split_keeper x ≡ m
-  keeps_high x is lt = ap (λ (t : Bool). if t then (if ltb mid x then m else id) else keeper x) (eq-eqb (keeper x) id is) ∙ ap (λ (t : Bool). if t then m else id) (lt-ltb mid x lt)
+  keeps_high x is lt =
+      ap (λ (t : Bool). if t then (if ltb mid x then m else id) else keeper x) (eq-eqb (keeper x) id is)
+      ∙ ap (λ (t : Bool). if t then m else id) (lt-ltb mid x lt)
 
   keeps_else : (x : ℕ) → keeper x ≢ id → split_keeper x ≡ keeper x
   keeps_else x ne = ap (λ (t : Bool). if t then (if ltb mid x then m else id) else keeper x) (ne_eqb (keeper x) id ne)
 
-module _ (b : BookData) (next : ℕ) (role : ℕ → Role) (keeper : ℕ → ℕ) (journal : List PostData) (holder : maybe.Option ℕ) (views : List View) (parts : Parts b journal holder next role keeper views) (id : ℕ) (v : View) (at : get_elem? views id ≡ maybe.some v) (live : v.hand.spent ≡ false) (k : ℕ) (has : v.hand.drawn ≡ Some k) (two : v.hand.low < v.hand.high) where
+module _ (b : BookData) (next : ℕ) (role : ℕ → Role) (keeper : ℕ → ℕ) (journal : List PostData) (holder : maybe.Option ℕ) (views : List View)
+    (parts : Parts b journal holder next role keeper views) (id : ℕ) (v : View) (at : get_elem? views id ≡ maybe.some v) (live : v.hand.spent ≡ false) (k : ℕ)
+    (has : v.hand.drawn ≡ Some k) (two : v.hand.low < v.hand.high) where
   abbrev hands : List SeatView
   hands = map hand_of views
 
@@ -122,14 +128,20 @@ module _ (b : BookData) (next : ℕ) (role : ℕ → Role) (keeper : ℕ → ℕ
         (λ n is. split_else role m k n (λ same. t.0 (maybe.some-injective j id (sym is ∙ (ap (λ (x : ℕ). place_of (role x)) same ∙ ap place_of was_drawn)))))
         (λ x is. keeps_else keeper id m (middle v.hand) x (λ same. t.0 (sym is ∙ same)) ∙ is) (parts.passes.each j h t.1 h-live))
         (at_set hands id j L h old))
-        (λ (new : (j ≡ length (set hands id L)) × (U ≡ h)). subst (λ (x : ℕ × SeatView). SeatFits b role' keeper' x.0 x.1) (λ i. (sym (new.0 ∙ long) i, new.1 i)) upper_fits)
+        (λ (new : (j ≡ length (set hands id L)) × (U ≡ h)). subst (λ (x : ℕ × SeatView). SeatFits b role' keeper' x.0 x.1)
+        (λ i. (sym (new.0 ∙ long) i, new.1 i)) upper_fits)
         (at_more (set hands id L) U h j e);
     owner = λ n i is. dite (ℕ_discrete n k)
         (λ (e : n ≡ k). let who : m ≡ i = maybe.some-injective m i (sym (ap owner_of (ap role' e ∙ split_here role m k)) ∙ is) in
         (U, subst (λ (x : ℕ). get_elem? (set hands id L ++ U ∷ []) x ≡ maybe.some U) who (at_last (set hands id L) U m long), live, inl (e ∙ sym number_of)))
         (λ (ne : n ≢ k). let was = parts.passes.owner n i (ap owner_of (sym (split_else role m k n ne)) ∙ is) in dite (ℕ_discrete i id)
-        (λ (e : i ≡ id). let same : was.0 ≡ v.hand = maybe.some-injective was.0 v.hand (sym was.1 ∙ (ap (get_elem? hands) e ∙ at_hand)) in
-        (L, subst (λ (x : ℕ). get_elem? (set hands id L ++ U ∷ []) x ≡ maybe.some L) (sym e) (at_longer (set hands id L) (U ∷ []) id L (set_there hands id v.hand L at_hand)), live, subst (λ (g : SeatView). IsSeatOf g n) same was.3))
+        (λ (e : i ≡ id). let same : was.0 ≡ v.hand = maybe.some-injective was.0 v.hand (sym was.1 ∙ (ap (get_elem? hands) e ∙ at_hand)) in (
+          L,
+          subst (λ (x : ℕ). get_elem? (set hands id L ++ U ∷ []) x ≡ maybe.some L) (sym e)
+              (at_longer (set hands id L) (U ∷ []) id L (set_there hands id v.hand L at_hand)),
+          live,
+          subst (λ (g : SeatView). IsSeatOf g n) same was.3,
+        ))
         (λ (ne' : i ≢ id). (was.0, at_longer (set hands id L) (U ∷ []) i was.0 (set_else hands id i L ne' ∙ was.1), was.2, was.3)));
   }
 
@@ -146,18 +158,31 @@ module _ (b : BookData) (next : ℕ) (role : ℕ → Role) (keeper : ℕ → ℕ
       let vlong : length (set views id (lower v)) ≡ m = length-set views id (lower v) in
       let free : is_holder holder m ≡ false = not-holder holder (λ j is. let u = parts.turn.held j is in at_below views j u.0 u.1) in
       let none : own_posts journal U.number ≡ [] = ap (own_posts journal) number_of ∙ own-none role k journal (ap may_post was_drawn) parts.posted in
-      let knows : Knows journal holder m (upper v) = record { front = was.front; told_is = (journal, refl); own_is = sym none; holding_is = sym free; base_is = λ f. absurd (apart f); ended_are = λ i e there. absurd (maybe.some-ne-none e (sym there)) } in record {
+      let knows : Knows journal holder m (upper v) =
+      record {
+        front = was.front;
+        told_is = (journal, refl);
+        own_is = sym none;
+        holding_is = sym free;
+        base_is = λ f. absurd (apart f);
+        ended_are = λ i e there. absurd (maybe.some-ne-none e (sym there));
+      } in record {
         turn = record {
           each = λ j u e u-live. ⊎_elim (λ (old : get_elem? (set views id (lower v)) j ≡ maybe.some u). turn.each j u old u-live)
-              (λ (new : (j ≡ length (set views id (lower v))) × (upper v ≡ u)). subst (λ (x : ℕ × View). Knows journal holder x.0 x.1) (λ i. (sym (new.0 ∙ vlong) i, new.1 i)) knows) (at_more (set views id (lower v)) (upper v) u j e);
+              (λ (new : (j ≡ length (set views id (lower v))) × (upper v ≡ u)). subst (λ (x : ℕ × View). Knows journal holder x.0 x.1)
+              (λ i. (sym (new.0 ∙ vlong) i, new.1 i)) knows) (at_more (set views id (lower v)) (upper v) u j e);
           held = λ j is. let u = turn.held j is in (u.0, at_longer (set views id (lower v)) (upper v ∷ []) j u.0 u.1, u.2);
         };
-        passes = subst (PassesPart b next role' keeper') (sym (map-append hand_of (set views id (lower v)) (upper v ∷ []) ∙ ap (λ (hs : List SeatView). hs ++ U ∷ []) (map-set hand_of views id (lower v)))) split_passes;
-        posted = posted-by role role' journal (λ n may. ap may_post (split_else role m k n (λ e. apart' (sym (ap may_post (ap role e ∙ was_drawn)) ∙ may))) ∙ may) parts.posted;
+        passes = subst (PassesPart b next role' keeper')
+            (sym (map-append hand_of (set views id (lower v)) (upper v ∷ []) ∙ ap (λ (hs : List SeatView). hs ++ U ∷ []) (map-set hand_of views id (lower v))))
+            split_passes;
+        posted = posted-by role role' journal
+            (λ n may. ap may_post (split_else role m k n (λ e. apart' (sym (ap may_post (ap role e ∙ was_drawn)) ∙ may))) ∙ may) parts.posted;
         whole = λ j u e u-live u-whole u-free n is. ⊎_elim (λ (old : get_elem? (set views id (lower v)) j ≡ maybe.some u). ⊎_elim
             (λ (t : (j ≡ id) × (lower v ≡ u)). absurd (none-some n (ap (λ (x : View). x.sight.last) t.1 ∙ is)))
             (λ (t : (j ≢ id) × (get_elem? views j ≡ maybe.some u)). parts.whole j u t.1 u-live u-whole u-free n is) (at_set views id j (lower v) u old))
-            (λ (new : (j ≡ length (set views id (lower v))) × (upper v ≡ u)). absurd (none-some n (ap (λ (x : View). x.sight.last) new.1 ∙ is))) (at_more (set views id (lower v)) (upper v) u j e);
+            (λ (new : (j ≡ length (set views id (lower v))) × (upper v ≡ u)). absurd (none-some n (ap (λ (x : View). x.sight.last) new.1 ∙ is)))
+            (at_more (set views id (lower v)) (upper v) u j e);
       }
     where
       apart : false ≡ true → ⊥

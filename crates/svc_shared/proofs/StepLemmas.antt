@@ -19,10 +19,13 @@ use Rattle.svc_base.proofs.Logic.{some-inj}
 -- what a step owes, with the words and the homes written out
 abbrev pub Here : BookData → ℕ → View → List (ℕ × Slot) → ℕ → (ℕ → ℕ) → (ℕ → Mine → Type 0) → List ℕ → List (maybe.Option Slot) → List View → Type 0
 Here b id v cs i f then ws hs views =
-    get_or ws i 0 < 18446744073709551616 → (w : View) × (a : Act Slot) × Valid hs cs a × Kept b (stepped record { words = ws; homes = hs; views = views } i (f (get_or ws i 0)) id cs w a) × then (get_or ws i 0) (w, carried_after cs a)
+    get_or ws i 0 < 18446744073709551616
+    → (w : View) × (a : Act Slot) × Valid hs cs a × Kept b (stepped record { words = ws; homes = hs; views = views } i (f (get_or ws i 0)) id cs w a)
+    × then (get_or ws i 0) (w, carried_after cs a)
 
 pub allowed : (b : BookData) (slots id : ℕ) (v : View) (cs : List (ℕ × Slot)) (i : ℕ) (f : ℕ → ℕ) (then : ℕ → Mine → Type 0)
-    → ((journal : List PostData) (holder : maybe.Option ℕ) (next : ℕ) (role : ℕ → Role) (keeper : ℕ → ℕ) (views : List View) → Parts b journal holder next role keeper views → get_elem? views id ≡ maybe.some v
+    → ((journal : List PostData) (holder : maybe.Option ℕ) (next : ℕ) (role : ℕ → Role) (keeper : ℕ → ℕ) (views : List View)
+    → Parts b journal holder next role keeper views → get_elem? views id ≡ maybe.some v
     → Here b id v cs i f then (turn_word journal holder ∷ next ∷ []) (home b journal holder ∷ []) views)
     → Allows (Kept b) slots id (v, cs) i f then
 allowed b slots id v cs i f then go s rule long at small =
@@ -49,7 +52,8 @@ drawn-not i j r e f = ⊎_elim (λ s. drawn-seated i j (sym e ∙ s)) (λ s. dra
     drawn-kept i j e = cc
 
 -- a drawn number has no post yet, and is nobody's
-unused : (b : BookData) (next : ℕ) (role : ℕ → Role) (keeper : ℕ → ℕ) (journal : List PostData) (holder : maybe.Option ℕ) (views : List View) → Parts b journal holder next role keeper views
+unused : (b : BookData) (next : ℕ) (role : ℕ → Role) (keeper : ℕ → ℕ) (journal : List PostData) (holder : maybe.Option ℕ) (views : List View)
+    → Parts b journal holder next role keeper views
     → (id : ℕ) (v : View) → get_elem? views id ≡ maybe.some v → v.hand.spent ≡ false → (k : ℕ) → v.hand.drawn ≡ Some k → IsUnused v k
 unused b next role keeper journal holder views parts id v at live k is =
     let hand = parts.passes.each id v.hand (hand_at b next role keeper journal holder views parts id v at live id v at) live in
@@ -68,7 +72,8 @@ looks b slots id v cs st live free = allowed b slots id v cs 0 (λ n. n) (looked
     let n : ℕ = turn_word journal holder in
     let w : View = noted v 0 n (Some n) in
     let was = parts.turn.each id v at live in
-    let word : IsWhole v.hand → n ≡ 2 * length journal = λ whole. ap (turn_word journal) (whole_free b next role keeper journal holder views parts id v at live whole free) in (
+    let word : IsWhole v.hand
+    → n ≡ 2 * length journal = λ whole. ap (turn_word journal) (whole_free b next role keeper journal holder views parts id v at live whole free) in (
       w,
       keeps,
       tt,
@@ -81,10 +86,22 @@ looks b slots id v cs st live free = allowed b slots id v cs 0 (λ n. n) (looked
         words_are = refl;
         homes_are = refl;
         parts = moved b next role keeper journal holder views parts id v at live journal holder w refl
-            record { front = was.front; told_is = was.told_is; own_is = was.own_is; holding_is = was.holding_is; base_is = was.base_is; ended_are = was.ended_are }
+            record {
+              front = was.front;
+              told_is = was.told_is;
+              own_is = was.own_is;
+              holding_is = was.holding_is;
+              base_is = was.base_is;
+              ended_are = was.ended_are;
+            }
             (λ j u ne e u_live k. k) (λ j is. inr is) parts.posted (λ whole _ m is. sym (some-inj n m is) ∙ word whole);
       },
-      (refl, (λ whole. ap (λ (x : ℕ). x % 2) (word whole) ∙ even_of (length journal)), λ k is. unused b next role keeper journal holder views parts id v at live k is),
+      (
+        refl,
+        (λ whole. ap (λ (x : ℕ). x % 2) (word whole) ∙ even_of (length journal)),
+        λ k is. unused b next role keeper journal holder views parts id v at live
+            k is,
+      ),
     ))
 
 -- KIND 2: a compare and exchange that takes the turn, or is lost, which is kind 1
@@ -96,10 +113,12 @@ module _ (b : BookData) (slots id old new : ℕ) (v : View) (cs : List (ℕ × S
   abbrev Goes : List PostData → maybe.Option ℕ → ℕ → List View → ℕ → Type 0
   Goes journal holder next views x =
       (w : View) × (a : Act Slot) × Valid (home b journal holder ∷ []) cs a
-      × Kept b (stepped record { words = turn_word journal holder ∷ next ∷ []; homes = home b journal holder ∷ []; views = views } 0 x id cs w a) × taken taking (v, cs) (turn_word journal holder) (w, carried_after cs a)
+      × Kept b (stepped record { words = turn_word journal holder ∷ next ∷ []; homes = home b journal holder ∷ []; views = views } 0 x id cs w a)
+      × taken taking (v, cs) (turn_word journal holder) (w, carried_after cs a)
 
   module _ (live : v.hand.spent ≡ false) (free : v.sight.holding ≡ false) (even : old % 2 ≡ 0) (next_is : new ≡ old + 1) where
-    hits : (journal : List PostData) (holder : maybe.Option ℕ) (next : ℕ) (role : ℕ → Role) (keeper : ℕ → ℕ) (views : List View) → Parts b journal holder next role keeper views → get_elem? views id ≡ maybe.some v
+    hits : (journal : List PostData) (holder : maybe.Option ℕ) (next : ℕ) (role : ℕ → Role) (keeper : ℕ → ℕ) (views : List View)
+        → Parts b journal holder next role keeper views → get_elem? views id ≡ maybe.some v
         → turn_word journal holder ≡ old → Goes journal holder next views new
     hits journal maybe.none next role keeper views parts at is =
         let n : ℕ = 2 * length journal in
@@ -121,24 +140,43 @@ module _ (b : BookData) (slots id old new : ℕ) (v : View) (cs : List (ℕ × S
             homes_are = refl;
             parts = moved b next role keeper journal maybe.none views parts id v at live journal (maybe.some id) w refl
                 record { front = was.front; told_is = was.told_is; own_is = was.own_is; holding_is = sym me; base_is = λ _. refl; ended_are = was.ended_are }
-                (λ j u ne e u_live k. let other : (id == j) ≡ false = ne_eqb id j (λ s. ne (sym s)) in record { front = k.front; told_is = k.told_is; own_is = k.own_is; holding_is = k.holding_is ∙ sym other; base_is = k.base_is; ended_are = k.ended_are })
+                (λ j u ne e u_live k. let other : (id == j) ≡ false = ne_eqb id j (λ s. ne (sym s)) in
+                record {
+                  front = k.front;
+                  told_is = k.told_is;
+                  own_is = k.own_is;
+                  holding_is = k.holding_is
+                      ∙ sym other;
+                  base_is = k.base_is;
+                  ended_are = k.ended_are;
+                })
                 (λ j is. inl (sym (maybe.some-injective id j is))) parts.posted (λ whole f. absurd (cc));
           },
           (
-            (λ _ b' ours. (journal, ap (λ (z : BookData). (w, (0, Some (book_of z journal)) ∷ cs)) (same-some b b' (sym hand.origin_is ∙ ours)), was.front, refl, was.own_is)),
+            (λ _ b' ours. (
+              journal,
+              ap (λ (z : BookData). (w, (0, Some (book_of z journal)) ∷ cs))
+                  (same-some b b' (sym hand.origin_is ∙ ours)),
+              was.front,
+              refl,
+              was.own_is,
+            )),
             (λ ne. absurd (ne is)),
             (λ _ _. is),
           ),
         )
-    hits journal (maybe.some h) next role keeper views parts at is = let odd = odd_of (length journal) in let bad : old % 2 ≡ 1 = sym (ap (λ (x : ℕ). x % 2) is) ∙ odd in absurd (omega arith)
+    hits journal (maybe.some h) next role keeper views parts at is =
+        let odd = odd_of (length journal) in let bad : old % 2 ≡ 1 = sym (ap (λ (x : ℕ). x % 2) is) ∙ odd in absurd (omega arith)
 
-    misses : (journal : List PostData) (holder : maybe.Option ℕ) (next : ℕ) (role : ℕ → Role) (keeper : ℕ → ℕ) (views : List View) → Parts b journal holder next role keeper views → get_elem? views id ≡ maybe.some v
+    misses : (journal : List PostData) (holder : maybe.Option ℕ) (next : ℕ) (role : ℕ → Role) (keeper : ℕ → ℕ) (views : List View)
+        → Parts b journal holder next role keeper views → get_elem? views id ≡ maybe.some v
         → turn_word journal holder ≢ old → Goes journal holder next views (turn_word journal holder)
     misses journal holder next role keeper views parts at ne =
         let n : ℕ = turn_word journal holder in
         let w : View = noted v 0 n (Some n) in
         let was = parts.turn.each id v at live in
-        let word : IsWhole v.hand → n ≡ 2 * length journal = λ whole. ap (turn_word journal) (whole_free b next role keeper journal holder views parts id v at live whole free) in (
+        let word : IsWhole v.hand
+        → n ≡ 2 * length journal = λ whole. ap (turn_word journal) (whole_free b next role keeper journal holder views parts id v at live whole free) in (
           w,
           keeps,
           tt,
@@ -151,7 +189,14 @@ module _ (b : BookData) (slots id old new : ℕ) (v : View) (cs : List (ℕ × S
             words_are = refl;
             homes_are = refl;
             parts = moved b next role keeper journal holder views parts id v at live journal holder w refl
-                record { front = was.front; told_is = was.told_is; own_is = was.own_is; holding_is = was.holding_is; base_is = was.base_is; ended_are = was.ended_are }
+                record {
+                  front = was.front;
+                  told_is = was.told_is;
+                  own_is = was.own_is;
+                  holding_is = was.holding_is;
+                  base_is = was.base_is;
+                  ended_are = was.ended_are;
+                }
                 (λ j u ne e u_live k. k) (λ j is. inr is) parts.posted (λ whole _ m is. sym (some-inj n m is) ∙ word whole);
           },
           (
@@ -163,7 +208,8 @@ module _ (b : BookData) (slots id old new : ℕ) (v : View) (cs : List (ℕ × S
 
     pub takes_turn : Allows (Kept b) slots id (v, cs) 0 (λ n. either (n == old) new n) (taken taking (v, cs))
     takes_turn = allowed b slots id v cs 0 (λ n. either (n == old) new n) (taken taking (v, cs)) (λ journal holder next role keeper views parts at small.
-        exchanged (turn_word journal holder) old new (Goes journal holder next views) (hits journal holder next role keeper views parts at) (misses journal holder next role keeper views parts at))
+        exchanged (turn_word journal holder) old new (Goes journal holder next views) (hits journal holder next role keeper views parts at)
+        (misses journal holder next role keeper views parts at))
 
 kept-not-seated : (i j : ℕ) → kept i ≡ seated j → ⊥
 kept-not-seated i j e = cc
@@ -234,7 +280,8 @@ module _ (b : BookData) (slots id old new : ℕ) (v : View) (after : List PostDa
                   base_is = λ f. absurd (cc);
                   ended_are = λ k e there. was.ended_are k e there ∙ sym (last.2 e.number (λ s. kept-not-seated id id (sym (hand.ended_are k e there) ∙ s)));
                 }
-                (λ j u ne e u_live k. let g = parts.passes.each j u.hand (hand_at b next role keeper journal holder views parts id v at live j u e) u_live in record {
+                (λ j u ne e u_live k. let g = parts.passes.each j u.hand (hand_at b next role keeper journal holder views parts id v at live j u e) u_live in
+                record {
                   front = begins-trans after journal u.sight.seen last.0 k.front;
                   told_is = begins-trans after journal u.sight.told last.0 k.told_is;
                   own_is = k.own_is ∙ sym (last.2 u.hand.number (λ s. ne (seated-inj j id (sym g.number_is ∙ s))));
@@ -252,10 +299,12 @@ module _ (b : BookData) (slots id old new : ℕ) (v : View) (after : List PostDa
       → (st : Step Slot) → Allows (Kept b) slots id (v, out) 0 (λ n. either (n == old) new n) (left_turn st (v, out))
   leaves_without live holds old_is new_is same st = leaves live holds old_is new_is (λ journal role base mine posted.
       let is : journal ≡ after = sym (same ∙ base) in
-      subst (λ (js : List PostData). Begins js journal × Posted role js × ((n : ℕ) → role n ≢ seated id → own_posts js n ≡ own_posts journal n)) is (begins-whole journal, posted, λ n ne. refl)) st
+      subst (λ (js : List PostData). Begins js journal × Posted role js × ((n : ℕ) → role n ≢ seated id → own_posts js n ≡ own_posts journal n)) is
+      (begins-whole journal, posted, λ n ne. refl)) st
 
   -- KIND 3
-  pub leaves_with : (p : PostData) → v.hand.spent ≡ false → v.sight.holding ≡ true → old ≡ 2 * length v.sight.base + 1 → new ≡ 2 * length after → after ≡ v.sight.base ++ p ∷ [] → p.seat ≡ v.hand.number
+  pub leaves_with : (p : PostData) → v.hand.spent ≡ false → v.sight.holding ≡ true → old ≡ 2 * length v.sight.base + 1 → new ≡ 2 * length after
+      → after ≡ v.sight.base ++ p ∷ [] → p.seat ≡ v.hand.number
       → (st : Step Slot) → Allows (Kept b) slots id (v, out) 0 (λ n. either (n == old) new n) (left_turn st (v, out))
   leaves_with p live holds old_is new_is more by st = leaves live holds old_is new_is (λ journal role base mine posted.
       let is : journal ++ p ∷ [] ≡ after = sym (more ∙ ap (λ (js : List PostData). js ++ p ∷ []) base) in
@@ -267,27 +316,32 @@ module _ (b : BookData) (slots id old new : ℕ) (v : View) (after : List PostDa
 abbrev pub Leaves : BookData → ℕ → ℕ → ℕ → ℕ → Mine → Type 0
 Leaves b slots id old new m = (st : Step Slot) → Allows (Kept b) slots id m 0 (λ n. either (n == old) new n) (left_turn st m)
 
-leaves_by : (b : BookData) (slots id old new : ℕ) (m : Mine) (book : BookData) (after : List PostData) → m.1 ≡ (0, Some book) ∷ [] → book ≡ book_of b after → Leaves b slots id old new (m.0, (0, Some (book_of b after)) ∷ []) → Leaves b slots id old new m
+leaves_by : (b : BookData) (slots id old new : ℕ) (m : Mine) (book : BookData) (after : List PostData) → m.1 ≡ (0, Some book) ∷ [] → book ≡ book_of b after
+    → Leaves b slots id old new (m.0, (0, Some (book_of b after)) ∷ []) → Leaves b slots id old new m
 leaves_by b slots id old new m book after carries is law =
     let same : m.1 ≡ (0, Some (book_of b after)) ∷ [] = carries ∙ ap (λ (x : BookData). (0, Some x) ∷ []) is in
     subst (λ (cs : List (ℕ × Slot)). Leaves b slots id old new (m.0, cs)) (sym same) law
 
-pub leave_without : (b : BookData) (slots id old new : ℕ) (m : Mine) (book : BookData) → m.0.hand.spent ≡ false → m.0.sight.holding ≡ true → m.1 ≡ (0, Some book) ∷ [] → book ≡ book_of b m.0.sight.base
+pub leave_without : (b : BookData) (slots id old new : ℕ) (m : Mine) (book : BookData) → m.0.hand.spent ≡ false → m.0.sight.holding ≡ true
+    → m.1 ≡ (0, Some book) ∷ [] → book ≡ book_of b m.0.sight.base
     → old ≡ 2 * length m.0.sight.base + 1 → new ≡ 2 * length m.0.sight.base → Leaves b slots id old new m
 leave_without b slots id old new m book live holds carries is old_is new_is =
     leaves_by b slots id old new m book m.0.sight.base carries is (λ st. leaves_without b slots id old new m.0 m.0.sight.base live holds old_is new_is refl st)
 
-pub leave_with : (b : BookData) (slots id old new : ℕ) (m : Mine) (book : BookData) (p : PostData) → m.0.hand.spent ≡ false → m.0.sight.holding ≡ true → m.1 ≡ (0, Some book) ∷ [] → book ≡ book_of b (m.0.sight.base ++ p ∷ [])
+pub leave_with : (b : BookData) (slots id old new : ℕ) (m : Mine) (book : BookData) (p : PostData) → m.0.hand.spent ≡ false → m.0.sight.holding ≡ true
+    → m.1 ≡ (0, Some book) ∷ [] → book ≡ book_of b (m.0.sight.base ++ p ∷ [])
     → p.seat ≡ m.0.hand.number → old ≡ 2 * length m.0.sight.base + 1 → new ≡ 2 * length (m.0.sight.base ++ p ∷ []) → Leaves b slots id old new m
 leave_with b slots id old new m book p live holds carries is by old_is new_is =
-    leaves_by b slots id old new m book (m.0.sight.base ++ p ∷ []) carries is (λ st. leaves_with b slots id old new m.0 (m.0.sight.base ++ p ∷ []) p live holds old_is new_is refl by st)
+    leaves_by b slots id old new m book (m.0.sight.base ++ p ∷ []) carries is
+    (λ st. leaves_with b slots id old new m.0 (m.0.sight.base ++ p ∷ []) p live holds old_is new_is refl by st)
 
 -- what a seat has that holds one slot
 pub holds_one : (cs : List (ℕ × Slot)) (x : Slot) → cs ≡ (0, x) ∷ [] → cs ≡ (0, x) ∷ rest cs
 holds_one cs x e = e ∙ ap (λ (ds : List (ℕ × Slot)). (0, x) ∷ rest ds) (sym e)
 
 -- the step that leaves the turn, for a seat that lifted the book and put one back
-pub leaves_back : (b : BookData) (slots id word next : ℕ) (m m' : Mine) (book : BookData) → Lifted word m → GivesBack b book word next m → m' ≡ (m.0, (0, Some book) ∷ rest m.1) → Leaves b slots id (word + 1) next m'
+pub leaves_back : (b : BookData) (slots id word next : ℕ) (m m' : Mine) (book : BookData) → Lifted word m → GivesBack b book word next m
+    → m' ≡ (m.0, (0, Some book) ∷ rest m.1) → Leaves b slots id (word + 1) next m'
 leaves_back b slots id word next m m' book lifted back is =
     let now : m' ≡ (m.0, (0, Some book) ∷ []) = is ∙ ap (λ (cs : List (ℕ × Slot)). (m.0, (0, Some book) ∷ rest cs)) lifted.carries in
     let one : Mine = (m.0, (0, Some book) ∷ []) in
@@ -302,7 +356,8 @@ leaves_back b slots id word next m m' book lifted back is =
     back)
 
 -- and what it leaves
-pub left_back : (word : ℕ) (m m' after : Mine) (book : BookData) → Lifted word m → m' ≡ (m.0, (0, Some book) ∷ rest m.1) → ((b : BookData) → m'.1 ≡ (0, Some b) ∷ [] → after ≡ (left m'.0 b.posts, [])) → after ≡ (left m.0 book.posts, [])
+pub left_back : (word : ℕ) (m m' after : Mine) (book : BookData) → Lifted word m → m' ≡ (m.0, (0, Some book) ∷ rest m.1)
+    → ((b : BookData) → m'.1 ≡ (0, Some b) ∷ [] → after ≡ (left m'.0 b.posts, [])) → after ≡ (left m.0 book.posts, [])
 left_back word m m' after book lifted is told =
     let now : m' ≡ (m.0, (0, Some book) ∷ []) = is ∙ ap (λ (cs : List (ℕ × Slot)). (m.0, (0, Some book) ∷ rest cs)) lifted.carries in
     told book (ap (λ (x : Mine). x.1) now) ∙ ap (λ (x : Mine). (left x.0 book.posts, [])) now

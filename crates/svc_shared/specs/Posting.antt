@@ -72,7 +72,8 @@ LastNote p q n = (added : List Note) × (notes_of q ≡ (notes_of p ++ added) ++
 -- the pass hasn't the whole share; the last word that this call saw is `word`, and it is odd or differs from the one that this call saw before
 abbrev pub IsBusy : Pass → Pass → ℕ → Type 0
 IsBusy p q word = (IsWhole (hand_in p) → ⊥)
-    × (((notes_of q ≡ notes_of p ++ note 0 word ∷ []) × (word % 2 ≡ 1)) ⊎ ((first : ℕ) × (first ≢ word) × (notes_of q ≡ (notes_of p ++ note 0 first ∷ []) ++ note 0 word ∷ [])))
+    × (((notes_of q ≡ notes_of p ++ note 0 word ∷ []) × (word % 2 ≡ 1))
+    ⊎ ((first : ℕ) × (first ≢ word) × (notes_of q ≡ (notes_of p ++ note 0 first ∷ []) ++ note 0 word ∷ [])))
 
 -- the cause of a refusal, where `busy` is that of a turn that isn't free
 abbrev pub HasCause : (ℕ → Type 0) → SharedServer → Pass → Event → PostReason → Pass → Type 0

@@ -99,7 +99,8 @@ WholeReads journal views =
     → (n : ℕ) → v.sight.last ≡ Some n → n ≡ 2 * length journal
 
 -- both parts, and the two sentences that join them
-pub record Parts (b : BookData) (journal : List PostData) (holder : maybe.Option ℕ) (next : ℕ) (role : ℕ → Role) (keeper : ℕ → ℕ) (views : List View) : Type 0 where
+pub record Parts (b : BookData) (journal : List PostData) (holder : maybe.Option ℕ) (next : ℕ) (role : ℕ → Role) (keeper : ℕ → ℕ)
+    (views : List View) : Type 0 where
   pub turn : TurnPart journal holder views
   pub passes : PassesPart b next role keeper (map hand_of views)
   pub posted : Posted role journal

@@ -60,7 +60,8 @@ pub record IsSplit (s : SharedServer) (p l r : Pass) : Type 0 where
 -- the cause of a refusal
 abbrev pub SplitCause : Pass → SplitReason → Pass → Type 0
 SplitCause p Thin q = (hand_in p).low ≡ (hand_in p).high
-SplitCause p NoNumber q = ((hand_in p).low < (hand_in p).high) × ((hand_in p).drawn ≡ None) × ((added : List Note) × (notes_of q ≡ (notes_of p ++ added) ++ note 1 most ∷ []))
+SplitCause p NoNumber q = ((hand_in p).low < (hand_in p).high) × ((hand_in p).drawn ≡ None)
+    × ((added : List Note) × (notes_of q ≡ (notes_of p ++ added) ++ note 1 most ∷ []))
 SplitCause p NoMemory q = ⊥
 
 -- the pass after a refused split

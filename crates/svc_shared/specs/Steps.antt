@@ -18,7 +18,9 @@ looked st m found w = (w ≡ (noted m.0 0 found (Some found), m.1)) × (IsWhole 
 -- the turn was taken with the book, or lost. A pass with the whole share that read the word last doesn't lose it
 abbrev pub taken : Step Slot → Mine → ℕ → Mine → Type 0
 taken st m found w =
-    (found ≡ st.first → (b : BookData) → m.0.hand.origin ≡ Some b → (journal : List PostData) × (w ≡ (took m.0 found journal, (0, Some (book_of b journal)) ∷ m.1)) × Begins journal m.0.sight.seen × (2 * length journal ≡ found) × (m.0.sight.own ≡ own_posts journal m.0.hand.number))
+    (found ≡ st.first → (b : BookData) → m.0.hand.origin ≡ Some b
+    → (journal : List PostData) × (w ≡ (took m.0 found journal, (0, Some (book_of b journal)) ∷ m.1)) × Begins journal m.0.sight.seen
+    × (2 * length journal ≡ found) × (m.0.sight.own ≡ own_posts journal m.0.hand.number))
     × (found ≢ st.first → w ≡ (noted m.0 0 found (Some found), m.1))
     × (IsWhole m.0.hand → m.0.sight.last ≡ Some st.first → found ≡ st.first)
 
@@ -36,4 +38,5 @@ drew_one st m found w = (found ≡ st.first → w ≡ (drew m.0 found, m.1)) × 
 
 -- the turn's word was read, and of the pass's two fronts the longer one begins with both
 abbrev pub settled_down : Step Slot → Mine → ℕ → Mine → Type 0
-settled_down st m found w = (w ≡ (settled m.0 found, m.1)) × Begins (longer m.0.sight.seen m.0.sight.told) m.0.sight.seen × Begins (longer m.0.sight.seen m.0.sight.told) m.0.sight.told
+settled_down st m found w = (w ≡ (settled m.0 found, m.1)) × Begins (longer m.0.sight.seen m.0.sight.told) m.0.sight.seen
+    × Begins (longer m.0.sight.seen m.0.sight.told) m.0.sight.told

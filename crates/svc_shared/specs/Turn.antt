@@ -45,7 +45,8 @@ pub record Took (b : BookData) (word : ℕ) (m w : Mine) : Type 0 where
 -- the word that was seen is odd, or differs from the one that this call read before
 abbrev pub Lost : ℕ → Mine → Mine → Type 0
 Lost word m w = (IsWhole m.0.hand → ⊥)
-    × (((w ≡ (noted m.0 0 word (Some word), m.1)) × (word % 2 ≡ 1)) ⊎ ((first : ℕ) × (first ≢ word) × (w ≡ (noted (noted m.0 0 first (Some first)) 0 word (Some word), m.1))))
+    × (((w ≡ (noted m.0 0 word (Some word), m.1)) × (word % 2 ≡ 1))
+    ⊎ ((first : ℕ) × (first ≢ word) × (w ≡ (noted (noted m.0 0 first (Some first)) 0 word (Some word), m.1))))
 
 -- what reads of the turn's word leave as it was; the notes go on
 pub record Waited (m w : Mine) : Type 0 where

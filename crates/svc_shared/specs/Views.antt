@@ -55,14 +55,32 @@ first_view b = record {
 abbrev pub noted : View → ℕ → ℕ → Option ℕ → View
 noted v i n last = record {
   hand = v.hand;
-  sight = record { seen = v.sight.seen; own = v.sight.own; notes = v.sight.notes ++ note i n ∷ []; last = last; holding = v.sight.holding; base = v.sight.base; told = v.sight.told };
+  sight = record {
+    seen = v.sight.seen;
+    own = v.sight.own;
+    notes = v.sight.notes ++ note i n
+        ∷ [];
+    last = last;
+    holding = v.sight.holding;
+    base = v.sight.base;
+    told = v.sight.told;
+  };
 }
 
 -- the turn was taken, where the journal was the base
 abbrev pub took : View → ℕ → List PostData → View
 took v n base = record {
   hand = v.hand;
-  sight = record { seen = v.sight.seen; own = v.sight.own; notes = v.sight.notes ++ note 0 n ∷ []; last = None; holding = true; base = base; told = v.sight.told };
+  sight = record {
+    seen = v.sight.seen;
+    own = v.sight.own;
+    notes = v.sight.notes ++ note 0 n
+        ∷ [];
+    last = None;
+    holding = true;
+    base = base;
+    told = v.sight.told;
+  };
 }
 
 -- the turn was left, with this journal
@@ -80,7 +98,15 @@ with_drawn h k = record { spent = h.spent; origin = h.origin; number = h.number;
 abbrev pub drew : View → ℕ → View
 drew v k = record {
   hand = with_drawn v.hand k;
-  sight = record { seen = v.sight.seen; own = v.sight.own; notes = v.sight.notes; last = None; holding = v.sight.holding; base = v.sight.base; told = v.sight.told };
+  sight = record {
+    seen = v.sight.seen;
+    own = v.sight.own;
+    notes = v.sight.notes;
+    last = None;
+    holding = v.sight.holding;
+    base = v.sight.base;
+    told = v.sight.told;
+  };
 }
 
 -- the last number of the lower half of a share. Of an odd share the lower half has one number more
@@ -104,7 +130,15 @@ upper_hand h k = record { spent = h.spent; origin = h.origin; number = k; drawn 
 abbrev pub lower : View → View
 lower v = record {
   hand = lower_hand v.hand;
-  sight = record { seen = v.sight.seen; own = v.sight.own; notes = v.sight.notes; last = None; holding = v.sight.holding; base = v.sight.base; told = v.sight.told };
+  sight = record {
+    seen = v.sight.seen;
+    own = v.sight.own;
+    notes = v.sight.notes;
+    last = None;
+    holding = v.sight.holding;
+    base = v.sight.base;
+    told = v.sight.told;
+  };
 }
 
 -- the view of the second pass
@@ -120,13 +154,31 @@ ended_seat w = record { number = w.hand.number; own = w.sight.own }
 
 -- the left hand, with the right one's share, and its number as that of an ended seat with these posts
 abbrev pub glued_hand : SeatView → SeatView → List (ℕ × PostData) → SeatView
-glued_hand h g posts = record { spent = h.spent; origin = h.origin; number = h.number; drawn = h.drawn; low = h.low; high = g.high; ended = (h.ended ++ g.ended) ++ record { number = g.number; own = posts } ∷ [] }
+glued_hand h g posts =
+    record {
+      spent = h.spent;
+      origin = h.origin;
+      number = h.number;
+      drawn = h.drawn;
+      low = h.low;
+      high = g.high;
+      ended = (h.ended ++ g.ended)
+          ++ record { number = g.number; own = posts } ∷ [];
+    }
 
 -- the right pass ends in the left one
 abbrev pub glued : View → View → View
 glued v w = record {
   hand = glued_hand v.hand w.hand w.sight.own;
-  sight = record { seen = v.sight.seen; own = v.sight.own; notes = v.sight.notes; last = None; holding = v.sight.holding; base = v.sight.base; told = w.sight.seen };
+  sight = record {
+    seen = v.sight.seen;
+    own = v.sight.own;
+    notes = v.sight.notes;
+    last = None;
+    holding = v.sight.holding;
+    base = v.sight.base;
+    told = w.sight.seen;
+  };
 }
 
 -- what is left of a pass that was joined
@@ -144,5 +196,14 @@ longer xs ys = if ltb (length xs) (length ys) then ys else xs
 abbrev pub settled : View → ℕ → View
 settled v n = record {
   hand = v.hand;
-  sight = record { seen = longer v.sight.seen v.sight.told; own = v.sight.own; notes = v.sight.notes ++ note 0 n ∷ []; last = Some n; holding = v.sight.holding; base = v.sight.base; told = [] };
+  sight = record {
+    seen = longer v.sight.seen v.sight.told;
+    own = v.sight.own;
+    notes = v.sight.notes ++ note 0 n
+        ∷ [];
+    last = Some n;
+    holding = v.sight.holding;
+    base = v.sight.base;
+    told = [];
+  };
 }

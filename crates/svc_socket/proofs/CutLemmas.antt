@@ -19,7 +19,9 @@ first_cut p text k front rest e hf hr =
     let cut : drop k text ≡ get_or text k 0 ∷ drop (suc k) text = drop-cons text k 0 lt in
     let whole : take k text ++ (get_or text k 0 ∷ drop (suc k) text) ≡ text = rw (← cut) (take-append-drop k text) in
     let len : length (take k text) ≡ k = length-take-le k text (omega arith) in
-    let clear : All (λ b. p b ≡ false) (take k text) = λ j d below. let b : j < k = omega arith in let e' : get_or (take k text) j d ≡ get_or text j 0 = get_or-take k text j d b ∙ get_or_default text j d 0 (omega arith) in ap p e' ∙ at.2 j b in
+    let clear : All (λ b. p b ≡ false) (take k text) =
+    λ j d below. let b : j < k = omega arith in
+    let e' : get_or (take k text) j d ≡ get_or text j 0 = get_or-take k text j d b ∙ get_or_default text j d 0 (omega arith) in ap p e' ∙ at.2 j b in
     let after : rest ≡ drop (suc k) text = hr ∙ rest_whole (k + 1) text ∙ rw add-one refl in
     ap (slice_split p) (sym whole) ∙ slice_split_at p (take k text) (get_or text k 0) (drop (suc k) text) clear at.1 ∙ rw (hf, after) refl
 

@@ -48,7 +48,8 @@ unknown b e =
       | inr f ↦ f
     ]
 
-pub one_more : (word : List ℕ) (i group d : ℕ) → HasDigits word i group → i < length word → Some d ≡ digit_of (get_or word i 0) → HasDigits word (i + 1) (group * 16 + d)
+pub one_more : (word : List ℕ) (i group d : ℕ) → HasDigits word i group → i < length word → Some d ≡ digit_of (get_or word i 0)
+    → HasDigits word (i + 1) (group * 16 + d)
 one_more word i group d h lt e =
     let k = known (get_or word i 0) d e in
     let small = digit_below (get_or word i 0) k.0 in

@@ -29,7 +29,8 @@ pub record HasRead (read : List ℕ → Option ℕ) (words : List (List ℕ)) (i
 pub read_more : (read : List ℕ → Option ℕ) (words : List (List ℕ)) (i : ℕ) (front word : List ℕ) (later rest : List (List ℕ)) (n : ℕ)
     → HasRead read words i front rest → rest ≡ word ∷ later → Some n ≡ read word → HasRead read words (i + 1) (front ++ n ∷ []) later
 read_more read words i front word later rest n h cut e =
-    let shown : numbers_of read rest ≡ put_before (Some n) (numbers_of read later) = ap (numbers_of read) cut ∙ ap (λ o. put_before o (numbers_of read later)) (sym e) in
+    let shown : numbers_of read rest ≡ put_before (Some n) (numbers_of read later) =
+    ap (numbers_of read) cut ∙ ap (λ o. put_before o (numbers_of read later)) (sym e) in
     let long : length rest ≡ suc (length later) = ap (λ (ws : List (List ℕ)). length ws) cut in
     record {
       numbers = h.numbers ∙ ap (behind_all front) shown ∙ behind_one front n (numbers_of read later);
@@ -47,7 +48,8 @@ pub no_number : (read : List ℕ → Option ℕ) (words : List (List ℕ)) (i : 
     → HasRead read words i front rest → rest ≡ word ∷ later → None ≡ read word → so_many_of count read words ≡ None
 unfolding so_many_of
 no_number read words i front word later rest count h cut e =
-    let missing : numbers_of read words ≡ None = h.numbers ∙ ap (λ ws. behind_all front (numbers_of read ws)) cut ∙ ap (λ o. behind_all front (put_before o (numbers_of read later))) (sym e) in
+    let missing : numbers_of read words ≡ None =
+    h.numbers ∙ ap (λ ws. behind_all front (numbers_of read ws)) cut ∙ ap (λ o. behind_all front (put_before o (numbers_of read later))) (sym e) in
     rw missing (never_some (eqb (length words) count))
 
 pub all_read : (read : List ℕ → Option ℕ) (words : List (List ℕ)) (i : ℕ) (front word : List ℕ) (rest : List (List ℕ)) (n count : ℕ)
@@ -60,12 +62,14 @@ all_read read words i front word rest n count h cut e last =
 
 -- the numbers stand in a list from its front on
 pub stores_more : (read : List ℕ → Option ℕ) (words : List (List ℕ)) (i : ℕ) (numbers word : List ℕ) (later rest : List (List ℕ)) (n : ℕ)
-    → HasRead read words i (take i numbers) rest → rest ≡ word ∷ later → Some n ≡ read word → i < length numbers → HasRead read words (i + 1) (take (i + 1) (set numbers i n)) later
+    → HasRead read words i (take i numbers) rest → rest ≡ word ∷ later → Some n ≡ read word → i < length numbers
+    → HasRead read words (i + 1) (take (i + 1) (set numbers i n)) later
 stores_more read words i numbers word later rest n h cut e lt =
     rw (take_more_set numbers i n lt) (read_more read words i (take i numbers) word later rest n h cut e)
 
 pub stores_all : (read : List ℕ → Option ℕ) (words : List (List ℕ)) (i : ℕ) (numbers word : List ℕ) (rest : List (List ℕ)) (n count : ℕ)
-    → HasRead read words i (take i numbers) rest → rest ≡ word ∷ [] → Some n ≡ read word → i + 1 ≡ count → length numbers ≡ count → so_many_of count read words ≡ Some (set numbers i n)
+    → HasRead read words i (take i numbers) rest → rest ≡ word ∷ [] → Some n ≡ read word → i + 1 ≡ count → length numbers ≡ count
+    → so_many_of count read words ≡ Some (set numbers i n)
 stores_all read words i numbers word rest n count h cut e last len =
     let lt : i < length numbers = omega arith in
     let long : length (set numbers i n) ≡ i + 1 = length-set numbers i n ∙ len ∙ sym last in

@@ -28,7 +28,8 @@ digits_pass q each [] h = refl
 digits_pass q each (b ∷ w) h = let p = and_parts _ _ h in and_from _ _ (each b p.0) (digits_pass q each w p.1)
 
 -- and of such words with separators between them
-joined_pass : (q : ℕ → Bool) → ((b : ℕ) → is_hex_digit b ≡ true → q b ≡ true) → (s : ℕ) → q s ≡ true → (ws : List (List ℕ)) → AllByRecursion (λ w. list_all is_hex_digit w ≡ true) ws → list_all q (join_with_byte s ws) ≡ true
+joined_pass : (q : ℕ → Bool) → ((b : ℕ) → is_hex_digit b ≡ true → q b ≡ true) → (s : ℕ) → q s ≡ true → (ws : List (List ℕ))
+    → AllByRecursion (λ w. list_all is_hex_digit w ≡ true) ws → list_all q (join_with_byte s ws) ≡ true
 joined_pass q each s t [] h = refl
 joined_pass q each s t (w ∷ []) h = digits_pass q each w h.0
 joined_pass q each s t (w ∷ v ∷ ws) h =
@@ -51,10 +52,12 @@ other_byte c b f t =
     ]
 
 -- words of digits are what a text of them is cut into
-split_joined : (c : ℕ) → is_hex_digit c ≡ false → (w : List ℕ) (ws : List (List ℕ)) → AllByRecursion (λ w. list_all is_hex_digit w ≡ true) (w ∷ ws) → slice_split (λ b. eqb b c) (join_with_byte c (w ∷ ws)) ≡ w ∷ ws
+split_joined : (c : ℕ) → is_hex_digit c ≡ false → (w : List ℕ) (ws : List (List ℕ)) → AllByRecursion (λ w. list_all is_hex_digit w ≡ true) (w ∷ ws)
+    → slice_split (λ b. eqb b c) (join_with_byte c (w ∷ ws)) ≡ w ∷ ws
 split_joined c f w [] h = slice_split_none (λ b. eqb b c) w (no_separator c w (digits_pass (λ b. not (eqb b c)) (λ b. other_byte c b f) w h.0))
 split_joined c f w (v ∷ ws) h =
-    slice_split_at (λ b. eqb b c) w c (join_with_byte c (v ∷ ws)) (no_separator c w (digits_pass (λ b. not (eqb b c)) (λ b. other_byte c b f) w h.0)) (grind (arith, nat_tests))
+    slice_split_at (λ b. eqb b c) w c (join_with_byte c (v ∷ ws)) (no_separator c w (digits_pass (λ b. not (eqb b c)) (λ b. other_byte c b f) w h.0))
+    (grind (arith, nat_tests))
     ∙ ap (λ (vs : List (List ℕ)). w ∷ vs) (split_joined c f v ws h.1)
 
 -- a decimal digit is one
@@ -102,7 +105,8 @@ two_back a b n some ha hb e =
     let value : (0 * 16 + a) * 16 + b ≡ n = omega arith in
     record { digits = rw (ga.0, gb.0) refl; some = omega arith; back = rw (first, ga.0, ga.1, gb.0, gb.1) (ap (λ (m : ℕ). Some m) value) }
 
-three_back : (a b c n : ℕ) → 0 < a → a < 16 → b < 16 → c < 16 → (a * 16 + b) * 16 + c ≡ n → IsGroupText n (digit_glyph false a ∷ digit_glyph false b ∷ digit_glyph false c ∷ [])
+three_back : (a b c n : ℕ) → 0 < a → a < 16 → b < 16 → c < 16 → (a * 16 + b) * 16 + c ≡ n
+    → IsGroupText n (digit_glyph false a ∷ digit_glyph false b ∷ digit_glyph false c ∷ [])
 unfolding group_of
 three_back a b c n some ha hb hc e =
     let ga = glyph a ha in
@@ -112,7 +116,8 @@ three_back a b c n some ha hb hc e =
     let value : ((0 * 16 + a) * 16 + b) * 16 + c ≡ n = omega arith in
     record { digits = rw (ga.0, gb.0, gc.0) refl; some = omega arith; back = rw (first, ga.0, ga.1, gb.0, gb.1, gc.0, gc.1) (ap (λ (m : ℕ). Some m) value) }
 
-four_back : (a b c d n : ℕ) → 0 < a → a < 16 → b < 16 → c < 16 → d < 16 → ((a * 16 + b) * 16 + c) * 16 + d ≡ n → IsGroupText n (digit_glyph false a ∷ digit_glyph false b ∷ digit_glyph false c ∷ digit_glyph false d ∷ [])
+four_back : (a b c d n : ℕ) → 0 < a → a < 16 → b < 16 → c < 16 → d < 16 → ((a * 16 + b) * 16 + c) * 16 + d ≡ n
+    → IsGroupText n (digit_glyph false a ∷ digit_glyph false b ∷ digit_glyph false c ∷ digit_glyph false d ∷ [])
 unfolding group_of
 four_back a b c d n some ha hb hc hd e =
     let ga = glyph a ha in
@@ -121,14 +126,21 @@ four_back a b c d n some ha hb hc hd e =
     let gd = glyph d hd in
     let first = glyph_above a some ha in
     let value : (((0 * 16 + a) * 16 + b) * 16 + c) * 16 + d ≡ n = omega arith in
-    record { digits = rw (ga.0, gb.0, gc.0, gd.0) refl; some = omega arith; back = rw (first, ga.0, ga.1, gb.0, gb.1, gc.0, gc.1, gd.0, gd.1) (ap (λ (m : ℕ). Some m) value) }
+    record {
+      digits = rw (ga.0, gb.0, gc.0, gd.0) refl;
+      some = omega arith;
+      back = rw (first, ga.0, ga.1, gb.0, gb.1, gc.0, gc.1, gd.0, gd.1) (ap (λ (m : ℕ). Some m) value);
+    }
 
 group_back : (n : ℕ) → n < 2 ^ 16 → IsGroupText n (group_text n)
 group_back n below =
     elim (cases_lt n 4096) [
-      | inr four ↦ rw (four_hex_digits n four below) (four_back (n / 4096) (n / 256 % 16) (n / 16 % 16) (n % 16) n (omega arith) (omega arith) (omega arith) (omega arith) (omega arith) (omega arith))
+      | inr four ↦
+          rw (four_hex_digits n four below)
+          (four_back (n / 4096) (n / 256 % 16) (n / 16 % 16) (n % 16) n (omega arith) (omega arith) (omega arith) (omega arith) (omega arith) (omega arith))
       | inl h₃ ↦ elim (cases_lt n 256) [
-        | inr three ↦ rw (three_digits n three h₃) (three_back (n / 256) (n / 16 % 16) (n % 16) n (omega arith) (omega arith) (omega arith) (omega arith) (omega arith))
+        | inr three ↦
+            rw (three_digits n three h₃) (three_back (n / 256) (n / 16 % 16) (n % 16) n (omega arith) (omega arith) (omega arith) (omega arith) (omega arith))
         | inl h₂ ↦ elim (cases_lt n 16) [
           | inr two ↦ rw (hex_two_digits false n two h₂) (two_back (n / 16) (n % 16) n (omega arith) (omega arith) (omega arith) (omega arith))
           | inl h₁ ↦ rw (hex_one_digit false n h₁) (one_back n h₁)
@@ -157,7 +169,8 @@ pub record IsShown (read : List ℕ → Option ℕ) (show : ℕ → List ℕ) (n
   pub digits : list_all is_hex_digit (show n) ≡ true
   pub back : read (show n) ≡ Some n
 
-digits_shown : (read : List ℕ → Option ℕ) (show : ℕ → List ℕ) (ns : List ℕ) → AllByRecursion (IsShown read show) ns → AllByRecursion (λ w. list_all is_hex_digit w ≡ true) (map show ns)
+digits_shown : (read : List ℕ → Option ℕ) (show : ℕ → List ℕ) (ns : List ℕ) → AllByRecursion (IsShown read show) ns
+    → AllByRecursion (λ w. list_all is_hex_digit w ≡ true) (map show ns)
 digits_shown read show [] h = tt
 digits_shown read show (n ∷ ns) h = (h.0.digits, digits_shown read show ns h.1)
 
@@ -165,7 +178,8 @@ numbers_shown : (read : List ℕ → Option ℕ) (show : ℕ → List ℕ) (ns :
 numbers_shown read show [] h = refl
 numbers_shown read show (n ∷ ns) h = rw (h.0.back, numbers_shown read show ns h.1) refl
 
-all_shown : (read : List ℕ → Option ℕ) (show : ℕ → List ℕ) (c : ℕ) → is_hex_digit c ≡ false → (ns : List ℕ) → 0 < length ns → AllByRecursion (IsShown read show) ns
+all_shown : (read : List ℕ → Option ℕ) (show : ℕ → List ℕ) (c : ℕ) → is_hex_digit c ≡ false → (ns : List ℕ) → 0 < length ns
+    → AllByRecursion (IsShown read show) ns
     → so_many_of (length ns) read (slice_split (λ b. eqb b c) (join_with_byte c (map show ns))) ≡ Some ns
 unfolding so_many_of
 all_shown read show c f [] some h = absurd (omega arith)
@@ -184,13 +198,26 @@ group_shown : (n : ℕ) → n < 2 ^ 16 → IsShown group_of group_text n
 group_shown n h = let g = group_back n h in record { digits = g.digits; back = g.back }
 
 groups_shown : (high low : ℕ) → high < 2 ^ 64 → low < 2 ^ 64 → AllByRecursion (IsShown group_of group_text) (groups high low)
-groups_shown high low h l =
-    (group_shown _ (omega arith), (group_shown _ (omega arith), (group_shown _ (omega arith), (group_shown _ (omega arith), (group_shown _ (omega arith), (group_shown _ (omega arith), (group_shown _ (omega arith), (group_shown _ (omega arith), tt))))))))
+groups_shown high low h l = (
+  group_shown _ (omega arith),
+  (
+    group_shown _ (omega arith),
+    (
+      group_shown _ (omega arith),
+      (
+        group_shown _ (omega arith),
+        (group_shown _ (omega arith), (group_shown _ (omega arith), (group_shown _ (omega arith), (group_shown _ (omega arith), tt)))),
+      ),
+    ),
+  ),
+)
 
 -- the addresses between separators are read back
 ip4_back : (ip : ℕ) → ip < 2 ^ 32 → ip4_of (join_with_byte 46 (map decimal (octets ip))) ≡ Some ip
 unfolding ip4_of
-ip4_back ip h = ap (option_map (in_base (2 ^ 8))) (all_shown (number_of (2 ^ 8)) decimal 46 refl (octets ip) (omega arith) (octets_shown ip h)) ∙ ap (λ (n : ℕ). Some n) (octets_back ip h)
+ip4_back ip h =
+    ap (option_map (in_base (2 ^ 8))) (all_shown (number_of (2 ^ 8)) decimal 46 refl (octets ip) (omega arith) (octets_shown ip h))
+    ∙ ap (λ (n : ℕ). Some n) (octets_back ip h)
 
 ip6_back : (high low : ℕ) → high < 2 ^ 64 → low < 2 ^ 64 → ip6_of (join_with_byte 58 (map group_text (groups high low))) ≡ Some (ip6_number high low)
 unfolding ip6_of
@@ -199,7 +226,8 @@ ip6_back high low h l =
     ∙ ap (λ (n : ℕ). Some n) (groups_back high low h l)
 
 -- a host before a separator that it doesn't hold
-cut_after : (c s : ℕ) → is_hex_digit c ≡ false → eqb s c ≡ false → (ws : List (List ℕ)) → AllByRecursion (λ w. list_all is_hex_digit w ≡ true) ws → (rest : List ℕ) → list_all (λ b. not (eqb b c)) rest ≡ true
+cut_after : (c s : ℕ) → is_hex_digit c ≡ false → eqb s c ≡ false → (ws : List (List ℕ)) → AllByRecursion (λ w. list_all is_hex_digit w ≡ true) ws
+    → (rest : List ℕ) → list_all (λ b. not (eqb b c)) rest ≡ true
     → slice_split (λ b. eqb b c) (join_with_byte s ws ++ (c ∷ rest)) ≡ join_with_byte s ws ∷ rest ∷ []
 cut_after c s f other ws h rest clear =
     let t : not (eqb s c) ≡ true = rw other refl in
@@ -213,17 +241,28 @@ port_clear c port h f = digits_pass (λ b. not (eqb b c)) (λ b. other_byte c b 
 port_back : (port : ℕ) → port < 2 ^ 16 → number_of (2 ^ 16) (decimal port) ≡ Some port
 port_back port h = number_of-decimal (2 ^ 16) port (omega arith) h
 
-inet4_back : (ip port : ℕ) → ip < 2 ^ 32 → port < 2 ^ 16 → inet4_of (slice_split (λ b. eqb b 58) (join_with_byte 46 (map decimal (octets ip)) ++ (58 ∷ decimal port))) ≡ Some (addr.V4 ip port)
+inet4_back : (ip port : ℕ) → ip < 2 ^ 32 → port < 2 ^ 16
+    → inet4_of (slice_split (λ b. eqb b 58) (join_with_byte 46 (map decimal (octets ip)) ++ (58 ∷ decimal port))) ≡ Some (addr.V4 ip port)
 unfolding inet4_of
 inet4_back ip port h small =
-    rw (cut_after 58 46 refl refl (map decimal (octets ip)) (digits_shown _ _ (octets ip) (octets_shown ip h)) (decimal port) (port_clear 58 port small refl), ip4_back ip h, port_back port small) refl
+    rw (
+      cut_after 58 46 refl refl (map decimal (octets ip)) (digits_shown _ _ (octets ip) (octets_shown ip h)) (decimal port)
+          (port_clear 58 port small refl),
+      ip4_back ip h,
+      port_back port small,
+    ) refl
 
 inet6_back : (high low port : ℕ) → high < 2 ^ 64 → low < 2 ^ 64 → port < 2 ^ 16
     → inet6_of (slice_split (λ b. eqb b 93) (join_with_byte 58 (map group_text (groups high low)) ++ (93 ∷ 58 ∷ decimal port))) ≡ Some (addr.V6 high low port)
 unfolding inet6_of
 inet6_back high low port h l small =
     let hosts = digits_shown _ _ (groups high low) (groups_shown high low h l) in
-    rw (cut_after 93 58 refl refl (map group_text (groups high low)) hosts (58 ∷ decimal port) (port_clear 93 port small refl), ip6_back high low h l, port_back port small)
+    rw (
+      cut_after 93 58 refl refl (map group_text (groups high low)) hosts (58 ∷ decimal port)
+          (port_clear 93 port small refl),
+      ip6_back high low h l,
+      port_back port small,
+    )
     (ap (λ (x : PeerAddr). Some x) (peer6_back high low port l))
 
 -- a word that begins with another byte is neither `-` nor `unix`
@@ -231,7 +270,8 @@ named_by_address : (b : ℕ) (bs : List ℕ) → eqb b 45 ≡ false → eqb b 11
 unfolding peer_of
 named_by_address b bs f g = rw (f, g) refl
 
-starts_with_digits : (w rest : List ℕ) (found : PeerAddr) → 0 < length w → list_all is_hex_digit w ≡ true → inet4_of (slice_split (λ b. eqb b 58) (w ++ rest)) ≡ Some found → peer_of (w ++ rest) ≡ Some (Inet found)
+starts_with_digits : (w rest : List ℕ) (found : PeerAddr) → 0 < length w → list_all is_hex_digit w ≡ true
+    → inet4_of (slice_split (λ b. eqb b 58) (w ++ rest)) ≡ Some found → peer_of (w ++ rest) ≡ Some (Inet found)
 unfolding peer_addr_of
 starts_with_digits [] rest found some h e = absurd (omega arith)
 starts_with_digits (b ∷ w) rest found some h e =
@@ -246,11 +286,15 @@ addr_back (addr.V4 ip port) fits =
     let first = decimal_is_digits (ip / 2 ^ 24) (omega arith) in
     let whole = append_assoc (join_with_byte 46 (map decimal (octets ip))) (58 ∷ []) (decimal port) in
     let rest = join_with_byte 46 (decimal (ip / 2 ^ 16 % 2 ^ 8) ∷ decimal (ip / 2 ^ 8 % 2 ^ 8) ∷ decimal (ip % 2 ^ 8) ∷ []) in
-    let shown : (join_with_byte 46 (map decimal (octets ip)) ++ (58 ∷ decimal port)) ≡ decimal (ip / 2 ^ 24) ++ ((46 ∷ rest) ++ (58 ∷ decimal port)) = append_assoc (decimal (ip / 2 ^ 24)) (46 ∷ rest) (58 ∷ decimal port) in
-    ap peer_of (whole ∙ shown) ∙ starts_with_digits (decimal (ip / 2 ^ 24)) _ (addr.V4 ip port) first.0 first.1 (ap (λ t. inet4_of (slice_split (λ b. eqb b 58) t)) (sym shown) ∙ inet4_back ip port fits.0 fits.1)
+    let shown : (join_with_byte 46 (map decimal (octets ip)) ++ (58 ∷ decimal port)) ≡ decimal (ip / 2 ^ 24) ++ ((46 ∷ rest) ++ (58 ∷ decimal port)) =
+    append_assoc (decimal (ip / 2 ^ 24)) (46 ∷ rest) (58 ∷ decimal port) in
+    ap peer_of (whole ∙ shown)
+    ∙ starts_with_digits (decimal (ip / 2 ^ 24)) _ (addr.V4 ip port) first.0 first.1
+    (ap (λ t. inet4_of (slice_split (λ b. eqb b 58) t)) (sym shown) ∙ inet4_back ip port fits.0 fits.1)
 addr_back (addr.V6 high low port) fits =
     let hosts = join_with_byte 58 (map group_text (groups high low)) in
-    let shown : ((91 ∷ []) ++ hosts) ++ (93 ∷ 58 ∷ []) ++ decimal port ≡ 91 ∷ (hosts ++ (93 ∷ 58 ∷ decimal port)) = ap (λ (t : List ℕ). 91 ∷ t) (append_assoc hosts (93 ∷ 58 ∷ []) (decimal port)) in
+    let shown : ((91 ∷ []) ++ hosts) ++ (93 ∷ 58 ∷ []) ++ decimal port ≡ 91 ∷ (hosts ++ (93 ∷ 58 ∷ decimal port)) =
+    ap (λ (t : List ℕ). 91 ∷ t) (append_assoc hosts (93 ∷ 58 ∷ []) (decimal port)) in
     ap peer_of shown ∙ named_by_address 91 (hosts ++ (93 ∷ 58 ∷ decimal port)) refl refl ∙ ap (option_map Inet) (inet6_back high low port fits.0 fits.1 fits.2)
 
 pub peer_back : (x : Peer) → PeerFits x → peer_of (peer_text x) ≡ Some x
@@ -268,13 +312,15 @@ address_visible (addr.V4 ip port) fits =
     let host = joined_pass (λ b. ltb 32 b) above_space 46 refl (map decimal (octets ip)) (digits_shown _ _ (octets ip) (octets_shown ip fits.0)) in
     let word = digits_pass (λ b. ltb 32 b) above_space (decimal port) (decimal_is_digits port (omega arith)).1 in
     let whole = append_assoc (join_with_byte 46 (map decimal (octets ip))) (58 ∷ []) (decimal port) in
-    ap (list_all (λ b. ltb 32 b)) whole ∙ list_all-append (λ b. ltb 32 b) (join_with_byte 46 (map decimal (octets ip))) (58 ∷ decimal port) ∙ and_from _ _ host word
+    ap (list_all (λ b. ltb 32 b)) whole ∙ list_all-append (λ b. ltb 32 b) (join_with_byte 46 (map decimal (octets ip))) (58 ∷ decimal port)
+    ∙ and_from _ _ host word
 address_visible (addr.V6 high low port) fits =
     let hosts = join_with_byte 58 (map group_text (groups high low)) in
     let words = digits_shown _ _ (groups high low) (groups_shown high low fits.0 fits.1) in
     let host = joined_pass (λ b. ltb 32 b) above_space 58 refl (map group_text (groups high low)) words in
     let word = digits_pass (λ b. ltb 32 b) above_space (decimal port) (decimal_is_digits port (omega arith)).1 in
-    let shown : ((91 ∷ []) ++ hosts) ++ (93 ∷ 58 ∷ []) ++ decimal port ≡ 91 ∷ (hosts ++ (93 ∷ 58 ∷ decimal port)) = ap (λ (t : List ℕ). 91 ∷ t) (append_assoc hosts (93 ∷ 58 ∷ []) (decimal port)) in
+    let shown : ((91 ∷ []) ++ hosts) ++ (93 ∷ 58 ∷ []) ++ decimal port ≡ 91 ∷ (hosts ++ (93 ∷ 58 ∷ decimal port)) =
+    ap (λ (t : List ℕ). 91 ∷ t) (append_assoc hosts (93 ∷ 58 ∷ []) (decimal port)) in
     ap (list_all (λ b. ltb 32 b)) shown ∙ list_all-append (λ b. ltb 32 b) hosts (93 ∷ 58 ∷ decimal port) ∙ and_from _ _ host word
 
 pub peer_visible : (x : Peer) → PeerFits x → list_all (λ b. ltb 32 b) (peer_text x) ≡ true
@@ -284,7 +330,12 @@ peer_visible (Inet x) fits = address_visible x fits
 
 address_nonempty : (x : PeerAddr) → 0 < length (peer_addr_text x)
 address_nonempty (addr.V4 ip port) =
-    omega (arith, length-append (join_with_byte 46 (map decimal (octets ip)) ++ (58 ∷ [])) (decimal port), length-append (join_with_byte 46 (map decimal (octets ip))) (58 ∷ []))
+    omega (
+      arith,
+      length-append (join_with_byte 46 (map decimal (octets ip)) ++ (58 ∷ [])) (decimal port),
+      length-append
+          (join_with_byte 46 (map decimal (octets ip))) (58 ∷ []),
+    )
 address_nonempty (addr.V6 high low port) =
     let hosts = join_with_byte 58 (map group_text (groups high low)) in
     omega (arith, length-append (((91 ∷ []) ++ hosts) ++ (93 ∷ 58 ∷ [])) (decimal port), length-append ((91 ∷ []) ++ hosts) (93 ∷ 58 ∷ []))

@@ -41,7 +41,9 @@ all_then xs ys last a b c r p (inr q) =
       failed = q.failed;
       back = q.back;
       all = ap (λ (zs : Steps). xs ++ zs) q.all ∙ sym (append_assoc xs q.front (q.failed ∷ q.back));
-      called = subst (Adds a.called c.called) (sym (append_assoc (set_calls xs) (set_calls q.front) last_call) ∙ ap (λ (zs : List OptionCall). zs ++ last_call) (sym (set_calls-append xs q.front))) (Adds-then a.called b.called c.called _ _ p.called q.called);
+      called = subst (Adds a.called c.called)
+          (sym (append_assoc (set_calls xs) (set_calls q.front) last_call) ∙ ap (λ (zs : List OptionCall). zs ++ last_call) (sym (set_calls-append xs q.front)))
+          (Adds-then a.called b.called c.called _ _ p.called q.called);
       stays = Stays-then p.stays q.stays;
       place = places xs ys a.room b.room c.room p.place q.place;
       family = q.family ∙ p.family;
@@ -50,7 +52,8 @@ all_then xs ys last a b c r p (inr q) =
     })
 
 -- these, all of which were set, and then those
-pub Sets-then : (xs ys : Steps) (last : Answer) (a b c : OptionsData) (r : Answer) → Sets xs (Ok tt) a b (Ok tt) → Sets ys last b c r → Sets (xs ++ ys) last a c r
+pub Sets-then : (xs ys : Steps) (last : Answer) (a b c : OptionsData) (r : Answer) → Sets xs (Ok tt) a b (Ok tt) → Sets ys last b c r
+    → Sets (xs ++ ys) last a c r
 Sets-then xs ys last a b c r (inl p) q = all_then xs ys last a b c r p q
 Sets-then xs ys last a b c r (inr p) q = absurd (cc (p.answer_is))
 
@@ -75,27 +78,44 @@ one_given : {A : Type 0} (o : Option A) → cons_option o [] ≡ option_to_list 
 one_given None = refl
 one_given (Some x) = refl
 
-given-more : (steps : List (Option (SockOption × OptionError))) (n : ℕ) (d : Option (SockOption × OptionError)) → n < length steps → given (take (n + 1) steps) ≡ given (take n steps) ++ option_to_list (get_or steps n d)
+given-more : (steps : List (Option (SockOption × OptionError))) (n : ℕ) (d : Option (SockOption × OptionError)) → n < length steps
+    → given (take (n + 1) steps) ≡ given (take n steps) ++ option_to_list (get_or steps n d)
 given-more steps n d h =
-    ap given (take_more steps n d h) ∙ filter_map-append (λ step. step) (take n steps) (get_or steps n d ∷ []) ∙ ap (λ (zs : Steps). given (take n steps) ++ zs) (one_given (get_or steps n d))
+    ap given (take_more steps n d h) ∙ filter_map-append (λ step. step) (take n steps) (get_or steps n d ∷ [])
+    ∙ ap (λ (zs : Steps). given (take n steps) ++ zs) (one_given (get_or steps n d))
 
 given-front : (steps : List (Option (SockOption × OptionError))) (n : ℕ) → given steps ≡ given (take n steps) ++ given (drop n steps)
 given-front steps n = ap given (sym (take-append-drop n steps)) ∙ filter_map-append (λ step. step) (take n steps) (drop n steps)
 
-pub sets_more : (steps : List (Option (SockOption × OptionError))) (n : ℕ) (d : Option (SockOption × OptionError)) (a b c : OptionsData) (r : Answer) → n < length steps
+pub sets_more : (steps : List (Option (SockOption × OptionError))) (n : ℕ) (d : Option (SockOption × OptionError)) (a b c : OptionsData) (r : Answer)
+    → n < length steps
     → Sets (given (take n steps)) (Ok tt) a b (Ok tt) → Sets (option_to_list (get_or steps n d)) (Ok tt) b c r → Sets (given (take (n + 1) steps)) (Ok tt) a c r
 sets_more steps n d a b c r h p q =
-    subst (λ (zs : Steps). Sets zs (Ok tt) a c r) (sym (given-more steps n d h)) (Sets-then (given (take n steps)) (option_to_list (get_or steps n d)) (Ok tt) a b c r p q)
+    subst (λ (zs : Steps). Sets zs (Ok tt) a c r) (sym (given-more steps n d h))
+    (Sets-then (given (take n steps)) (option_to_list (get_or steps n d)) (Ok tt) a b c r p q)
 
 pub sets_front : (steps : List (Option (SockOption × OptionError))) (n : ℕ) (last : Answer) (a c : OptionsData) (e : OptionError)
     → Sets (given (take n steps)) (Ok tt) a c (Err e) → Sets (given steps) last a c (Err e)
-sets_front steps n last a c e p = subst (λ (zs : Steps). Sets zs last a c (Err e)) (sym (given-front steps n)) (Sets-rest (given (take n steps)) (given (drop n steps)) last a c e p)
+sets_front steps n last a c e p =
+    subst (λ (zs : Steps). Sets zs last a c (Err e)) (sym (given-front steps n)) (Sets-rest (given (take n steps)) (given (drop n steps)) last a c e p)
 
 -- one option that couldn't be set
-pub step_failed : (step : Option (SockOption × OptionError)) (x : SockOption × OptionError) (b c : OptionsData) → step ≡ Some x → IsAsked b c x.0 false → Sets (option_to_list step) (Ok tt) b c (Err x.1)
+pub step_failed : (step : Option (SockOption × OptionError)) (x : SockOption × OptionError) (b c : OptionsData) → step ≡ Some x → IsAsked b c x.0 false
+    → Sets (option_to_list step) (Ok tt) b c (Err x.1)
 step_failed step x b c e h =
     subst (λ (s : Option (SockOption × OptionError)). Sets (option_to_list s) (Ok tt) b c (Err x.1)) (sym e)
-    (inr (record { front = []; failed = x; back = []; all = refl; called = h.called; stays = h.stays; place = h.place; family = h.family; faults = h.faults; answer_is = refl }))
+    (inr (record {
+      front = [];
+      failed = x;
+      back = [];
+      all = refl;
+      called = h.called;
+      stays = h.stays;
+      place = h.place;
+      family = h.family;
+      faults = h.faults;
+      answer_is = refl;
+    }))
 
 -- ---- what is answered behind them
 
@@ -111,4 +131,5 @@ pub Sets-failed : (xs ys : Steps) (last : Answer) (a b : OptionsData) (e : Optio
 Sets-failed xs ys last a b e s p = subst (λ (zs : Steps). Sets zs last a b (Err e)) s (failed_so xs last a b e p)
 
 pub Sets-ended : (xs ys : Steps) (r last : Answer) (a b : OptionsData) → xs ≡ ys → r ≡ last → Sets xs (Ok tt) a b (Ok tt) → Sets ys last a b r
-Sets-ended xs ys r last a b s t p = subst (λ (x : Answer). Sets ys last a b x) (sym t) (subst (λ (zs : Steps). Sets zs last a b last) s (ended_so xs last a b p))
+Sets-ended xs ys r last a b s t p =
+    subst (λ (x : Answer). Sets ys last a b x) (sym t) (subst (λ (zs : Steps). Sets zs last a b last) s (ended_so xs last a b p))

@@ -59,7 +59,8 @@ by_backend may state middle new moment (Some before) (Some now) result open_yet 
     ]) h.1.1.1
 
 -- an early answer is the poll's
-early_is : {T : Type 0} (may : T → List StreamPoll → Type 0) (middle new : HandshakeData) (passed : ℕ) (before now : Option T) (early : Option HandshakePoll) (answer result : HandshakePoll)
+early_is : {T : Type 0} (may : T → List StreamPoll → Type 0) (middle new : HandshakeData) (passed : ℕ) (before now : Option T) (early : Option HandshakePoll)
+    (answer result : HandshakePoll)
     → early ≡ Some answer → Finishes may middle new passed before now early result → result ≡ answer
 early_is may middle new passed before now early answer result e h =
     let Q : Option HandshakePoll → Type 0 = λ o. Finishes may middle new passed before now o result in
@@ -73,7 +74,8 @@ was_due may None old new poll h e = absurd (cc)
 was_due may (Some number) old new poll h e = refl
 
 -- with TLS
-by_callback : {P : Type 0} {T : Type 0} (may_poll : P → List StreamPoll → Type 0) (may_shake : T → List StreamPoll → Type 0) (state middle new : HandshakeData) (moment : ℕ) (callbacks_old callbacks_new : List P)
+by_callback : {P : Type 0} {T : Type 0} (may_poll : P → List StreamPoll → Type 0) (may_shake : T → List StreamPoll → Type 0) (state middle new : HandshakeData)
+    (moment : ℕ) (callbacks_old callbacks_new : List P)
     (before now : Option T) (early : Option HandshakePoll) (result : HandshakePoll) → answered state.answer ≡ None → state.tls ≡ true
     → (said : StepPoll) (after : L4Stream)
     → CallbackPolled may_poll (due state) callbacks_old callbacks_new (record { before = (begun state moment).stream; answer = said; after = after })
@@ -90,7 +92,8 @@ by_callback may_poll may_shake state middle new moment callbacks_old callbacks_n
     subst P (sym (early_is may_shake middle new (passed_of middle moment) before now early _ result e h)) (inr (tls, d))
 
 -- where no answer came before
-goes_on : {P : Type 0} {T : Type 0} (may_poll : P → List StreamPoll → Type 0) (may_shake : T → List StreamPoll → Type 0) (state middle new : HandshakeData) (moment : ℕ) (callbacks_old callbacks_new : List P)
+goes_on : {P : Type 0} {T : Type 0} (may_poll : P → List StreamPoll → Type 0) (may_shake : T → List StreamPoll → Type 0) (state middle new : HandshakeData)
+    (moment : ℕ) (callbacks_old callbacks_new : List P)
     (before now : Option T) (early : Option HandshakePoll) (result : HandshakePoll) → answered state.answer ≡ None
     → (tls : Bool) → state.tls ≡ tls → Begins may_poll tls (begun state moment) middle (passed_of state moment) callbacks_old callbacks_new early
     → Finishes may_shake middle new (passed_of middle moment) before now early result → IsCaused state moment before result
@@ -102,7 +105,8 @@ goes_on may_poll may_shake state middle new moment callbacks_old callbacks_new b
     b.0 b.1.0 b.1.1.0 b.1.1.1 (ap (λ s. passed_of s moment) b.1.1.2) h
 
 -- each answer has its cause
-pub caused : {P : Type 0} {T : Type 0} (may_poll : P → List StreamPoll → Type 0) (may_shake : T → List StreamPoll → Type 0) (state middle new : HandshakeData) (moment : ℕ) (callbacks_old callbacks_new : List P)
+pub caused : {P : Type 0} {T : Type 0} (may_poll : P → List StreamPoll → Type 0) (may_shake : T → List StreamPoll → Type 0) (state middle new : HandshakeData)
+    (moment : ℕ) (callbacks_old callbacks_new : List P)
     (before now : Option T) (early : Option HandshakePoll) (result : HandshakePoll)
     → CallbackPart may_poll state middle moment callbacks_old callbacks_new early
     → Finishes may_shake middle new (passed_of middle moment) before now early result → IsCaused state moment before result
@@ -112,5 +116,7 @@ caused may_poll may_shake state middle new moment callbacks_old callbacks_new be
     (Begins may_poll state.tls (begun state moment) middle (passed_of state moment) callbacks_old callbacks_new early)
     (λ answer. (early ≡ Some answer) × (middle ≡ state) × (callbacks_new ≡ callbacks_old)) c) as (λ _. IsCaused state moment before result) [
       | inl begins ↦ goes_on may_poll may_shake state middle new moment callbacks_old callbacks_new before now early result begins.0 state.tls refl begins.1 h
-      | inr earlier ↦ subst P (sym (early_is may_shake middle new (passed_of middle moment) before now early state.answer result earlier.1.0 h)) (stays state moment before state.answer refl earlier.0)
+      | inr earlier ↦
+          subst P (sym (early_is may_shake middle new (passed_of middle moment) before now early state.answer result earlier.1.0 h))
+          (stays state moment before state.answer refl earlier.0)
     ]

@@ -4,7 +4,8 @@ use Rattle.std.proofs.lemmas.List.{map-append}
 use Rattle.svc_streams.specs.Events.{Processing, AppCall, Processed, AreCalled, IsCalled, HandsOn, Handling}
 
 -- what holds after some calls that all gave a stream back: this one is left
-pub record Turns {A : Type 0} {S : Type 0} (may : A → List (AppCall S) → Type 0) (old now : A) (event : S) (shutdown : Bool) (left : S) (calls : List (Processing S)) : Type 0 where
+pub record Turns {A : Type 0} {S : Type 0} (may : A → List (AppCall S) → Type 0) (old now : A) (event : S) (shutdown : Bool) (left : S)
+    (calls : List (Processing S)) : Type 0 where
   pub hands_on : HandsOn event shutdown calls (Some left)
   pub come : 1 ≤ length calls → may old (map Processed calls)
   pub go_on : (later : List (AppCall S)) → may now later → may old (map Processed calls ++ later)
@@ -28,7 +29,8 @@ hands_on-more {S} (call ∷ calls) event left shutdown back h =
     let next : Option S → Type 0 = λ b. MatchOption b ((calls ++ more ∷ [] ≡ []) × (back ≡ None)) (λ e. HandsOn e shutdown (calls ++ more ∷ []) back) in
     (h.0, h.1, (elim call.back as (λ b. now b → next b) [ None ↦ λ p. absurd (cc) | Some e ↦ λ p. hands_on-more calls e left shutdown back p ]) h.2)
 
-pub processed-more : {A : Type 0} {S : Type 0} (may : A → List (AppCall S) → Type 0) (old now new : A) (event left : S) (shutdown : Bool) (back : Option S) (calls : List (Processing S))
+pub processed-more : {A : Type 0} {S : Type 0} (may : A → List (AppCall S) → Type 0) (old now new : A) (event left : S) (shutdown : Bool) (back : Option S)
+    (calls : List (Processing S))
     → Turns may old now event shutdown left calls → IsCalled may now new (Processed (next_call left shutdown back))
     → AreCalled may old new (map Processed (calls ++ next_call left shutdown back ∷ []))
 processed-more may old now new event left shutdown back calls t p =
@@ -36,11 +38,13 @@ processed-more may old now new event left shutdown back calls t p =
     let split : map Processed (calls ++ call ∷ []) ≡ map Processed calls ++ Processed call ∷ [] = map-append Processed calls (call ∷ []) in
     record {
       come = rw split (t.go_on (Processed call ∷ []) p.come);
-      go_on = λ later h. rw split (subst (may old) (sym (append_assoc (map Processed calls) (Processed call ∷ []) later)) (t.go_on (Processed call ∷ later) (p.go_on later h)));
+      go_on = λ later h. rw split
+          (subst (may old) (sym (append_assoc (map Processed calls) (Processed call ∷ []) later)) (t.go_on (Processed call ∷ later) (p.go_on later h)));
     }
 
 -- the call gave a stream back
-pub turns-more : {A : Type 0} {S : Type 0} (may : A → List (AppCall S) → Type 0) (old now new : A) (event left back : S) (shutdown : Bool) (calls : List (Processing S))
+pub turns-more : {A : Type 0} {S : Type 0} (may : A → List (AppCall S) → Type 0) (old now new : A) (event left back : S) (shutdown : Bool)
+    (calls : List (Processing S))
     → Turns may old now event shutdown left calls → IsCalled may now new (Processed (next_call left shutdown (Some back)))
     → Turns may old new event shutdown back (calls ++ next_call left shutdown (Some back) ∷ [])
 turns-more may old now new event left back shutdown calls t p =
@@ -48,7 +52,8 @@ turns-more may old now new event left back shutdown calls t p =
     record { hands_on = hands_on-more calls event left shutdown (Some back) t.hands_on; come = λ _. q.come; go_on = q.go_on }
 
 -- the call gave nothing back
-pub turns-end : {A : Type 0} {S : Type 0} (may : A → List (AppCall S) → Type 0) (old now new : A) (event left : S) (shutdown : Bool) (calls : List (Processing S)) (turns : ℕ)
+pub turns-end : {A : Type 0} {S : Type 0} (may : A → List (AppCall S) → Type 0) (old now new : A) (event left : S) (shutdown : Bool)
+    (calls : List (Processing S)) (turns : ℕ)
     → Turns may old now event shutdown left calls → IsCalled may now new (Processed (next_call left shutdown None)) → length calls < turns
     → Handling may old new event shutdown turns None (calls ++ next_call left shutdown None ∷ [])
 turns-end may old now new event left shutdown calls turns t p lt =
@@ -63,7 +68,8 @@ turns-end may old now new event left shutdown calls turns t p lt =
     }
 
 -- all turns are spent
-pub turns-spent : {A : Type 0} {S : Type 0} (may : A → List (AppCall S) → Type 0) (old now : A) (event left : S) (shutdown : Bool) (calls : List (Processing S)) (turns : ℕ)
+pub turns-spent : {A : Type 0} {S : Type 0} (may : A → List (AppCall S) → Type 0) (old now : A) (event left : S) (shutdown : Bool) (calls : List (Processing S))
+    (turns : ℕ)
     → Turns may old now event shutdown left calls → length calls ≡ turns → 1 ≤ turns
     → Handling may old now event shutdown turns (Some left) calls
 turns-spent may old now event left shutdown calls turns t e one =

@@ -14,7 +14,8 @@ pub data AppCall (S : Type 0) : Type 0 where
   Processed : Processing S → AppCall S
   CleanedUp : AppCall S
 
--- the application was called so, one call after another, by its meaning: these calls may come at first, and what may come after them, may come of the application that they leave
+-- the application was called so, one call after another, by its meaning: these calls may come at first, and what may come after them, may come of the
+-- application that they leave
 pub record AreCalled {A : Type 0} {S : Type 0} (may : A → List (AppCall S) → Type 0) (old new : A) (calls : List (AppCall S)) : Type 0 where
   pub come : may old calls
   pub go_on : (later : List (AppCall S)) → may new later → may old (calls ++ later)
@@ -36,7 +37,8 @@ left_over Done = None
 left_over (TurnsSpent s) = Some s
 
 -- the application was called with these calls, at least once and at most so many times; a stream is left only where it was called so many times
-pub record Handling {A : Type 0} {S : Type 0} (may : A → List (AppCall S) → Type 0) (old new : A) (event : S) (shutdown : Bool) (turns : ℕ) (left : Option S) (calls : List (Processing S)) : Type 0 where
+pub record Handling {A : Type 0} {S : Type 0} (may : A → List (AppCall S) → Type 0) (old new : A) (event : S) (shutdown : Bool) (turns : ℕ) (left : Option S)
+    (calls : List (Processing S)) : Type 0 where
   pub hands_on : HandsOn event shutdown calls left
   pub called : 1 ≤ length calls
   pub within : length calls ≤ turns

@@ -92,7 +92,8 @@ BackendPart may old new passed (Some before) (Some now) result =
 BackendPart may old new passed _ _ result = ⊥
 
 -- the rest of a poll: the backend's part, which is left out where an answer has come
-abbrev pub Finishes : {T : Type 0} → (T → List StreamPoll → Type 0) → HandshakeData → HandshakeData → ℕ → Option T → Option T → Option HandshakePoll → HandshakePoll → Type 0
+abbrev pub Finishes : {T : Type 0} → (T → List StreamPoll → Type 0) → HandshakeData → HandshakeData → ℕ → Option T → Option T → Option HandshakePoll
+    → HandshakePoll → Type 0
 Finishes may old new passed before now None result = BackendPart may old new passed before now result
 Finishes may old new passed before now (Some answer) result = (result ≡ answer) × (new ≡ old) × (now ≡ before)
 

@@ -38,13 +38,15 @@ failed-since : (p : Plan) (q : Record) (s : ℕ) → has_failed p (before_signal
 failed-since p [] s h = h
 failed-since p (Got (Signal kind) ∷ q) s h = failed-later p q (Got (Signal kind)) s (by (has is_signal q) (failed-since p q s) h)
   where
-    by : (b : Bool) → (has_failed p (before_signal q) s ≡ true → has_failed p q s ≡ true) → has_failed p (if b then before_signal q else q) s ≡ true → has_failed p q s ≡ true
+    by : (b : Bool) → (has_failed p (before_signal q) s ≡ true → has_failed p q s ≡ true) → has_failed p (if b then before_signal q else q) s ≡ true
+        → has_failed p q s ≡ true
     by true f k = f k
     by false f k = k
 failed-since p (e ∷ q) s h = failed-later p q e s (failed-since p q s h)
 
 sound-before : (p : Plan) (q : Record) (a : List ℕ) → is_sound_for p q a ≡ true → is_sound_for p (before_signal q) a ≡ true
-sound-before p q a h = all-more (λ s. not (names p s a) || not (has_failed p q s)) (λ s. not (names p s a) || not (has_failed p (before_signal q) s)) (services p)
+sound-before p q a h =
+    all-more (λ s. not (names p s a) || not (has_failed p q s)) (λ s. not (names p s a) || not (has_failed p (before_signal q) s)) (services p)
     (λ s k. weaker (not (names p s a)) (has_failed p q s) (has_failed p (before_signal q) s) (failed-since p q s) k) h
   where
     weaker : (n f b : Bool) → (b ≡ true → f ≡ true) → (n || not f) ≡ true → (n || not b) ≡ true
@@ -81,18 +83,25 @@ module _ (a : List ℕ) (g : Generation) (s : Stands g) (good : Good g a) (held 
   upgrade came = let some = signal-some (history g) came in ap is_upgrade some.1 ∙ subst (λ k. is_upgrade_or_none k ≡ true) some.1 good.kind
 
   going-live : has is_signal (history g) ≡ true → is_over g.core.plan (history g) ≡ false → has_live g.core.plan (history g) (Some a) ≡ true
-  going-live came going = picked (λ b. has_live g.core.plan (history g) (Some b)) a (table g.core.plan (history g)) (offered-live g.core (history g) s.stands s.right (upgrade came) going) (among came)
+  going-live came going =
+      picked (λ b. has_live g.core.plan (history g) (Some b)) a (table g.core.plan (history g))
+      (offered-live g.core (history g) s.stands s.right (upgrade came) going) (among came)
 
   -- before a signal, and while the offer isn't over, it carries the address
   by-silence : (next : Option GenerationData) → has is_signal (history g) ≡ false → carries (data_of g) next a ≡ true
-  by-silence next none = quiet (has_live g.core.plan (history g) (Some a)) (has is_signal (history g)) (is_on_offer (data_of g) a) (is_on_its_way (data_of g) next a) (silent-live none) none
+  by-silence next none =
+      quiet (has_live g.core.plan (history g) (Some a)) (has is_signal (history g)) (is_on_offer (data_of g) a) (is_on_its_way (data_of g) next a)
+      (silent-live none) none
     where
       quiet : (l s o w : Bool) → l ≡ true → s ≡ false → ((l && (not s || o)) || w) ≡ true
       quiet l s o w h k = rw (h, k) refl
 
   by-offer : (next : Option GenerationData) → has is_signal (history g) ≡ true → is_over g.core.plan (history g) ≡ false → carries (data_of g) next a ≡ true
-  by-offer next came going = offered (has_live g.core.plan (history g) (Some a)) (has is_signal (history g)) (is_on_offer (data_of g) a) (is_on_its_way (data_of g) next a) (going-live came going)
-      (and_from (is_upgrade (signal_of (history g))) (not (is_over g.core.plan (history g)) && is_among a (addresses (table g.core.plan (history g)))) (upgrade came)
+  by-offer next came going =
+      offered (has_live g.core.plan (history g) (Some a)) (has is_signal (history g)) (is_on_offer (data_of g) a) (is_on_its_way (data_of g) next a)
+      (going-live came going)
+      (and_from (is_upgrade (signal_of (history g))) (not (is_over g.core.plan (history g)) && is_among a (addresses (table g.core.plan (history g))))
+      (upgrade came)
       (and_from (not (is_over g.core.plan (history g))) (is_among a (addresses (table g.core.plan (history g)))) (ap not going) (among came)))
     where
       offered : (l s o w : Bool) → l ≡ true → o ≡ true → ((l && (not s || o)) || w) ≡ true
@@ -110,12 +119,16 @@ module _ (a : List ℕ) (g : Generation) (s : Stands g) (good : Good g a) (held 
     -- it names the address
     sent-names : names_address a (sent_message (history g)) ≡ true
     sent-names = ap (names_address a) offers.1.0 ∙ encode-names (table g.core.plan (history g)) a (live-ascending g.core.plan (before_signal (history g)))
-        (encode-some (table g.core.plan (history g)) (subst (λ x. is_written x ≡ true) offers.1.0 offers.1.1)) (table-texts g.core.plan (before_signal (history g)) s.texts) ∙ among came
+        (encode-some (table g.core.plan (history g)) (subst (λ x. is_written x ≡ true) offers.1.0 offers.1.1))
+        (table-texts g.core.plan (before_signal (history g)) s.texts) ∙ among came
 
     -- and is on its way until the next generation has received it
     by-flight : (h : Generation) → has is_receipt (history h) ≡ false → carries (data_of g) (Some (data_of h)) a ≡ true
-    by-flight h none = or_right (has_live g.core.plan (history g) (Some a) && (not (has is_signal (history g)) || is_on_offer (data_of g) a)) (is_on_its_way (data_of g) (Some (data_of h)) a)
-        (and_from (is_in_flight (channel_of (history g) (history h))) (names_address a (sent_message (history g))) (flies (has is_receipt (history h)) (has is_sent (history g)) (has is_join (history g)) (has is_open_receiver (history h)) none sent) sent-names)
+    by-flight h none =
+        or_right (has_live g.core.plan (history g) (Some a) && (not (has is_signal (history g)) || is_on_offer (data_of g) a))
+        (is_on_its_way (data_of g) (Some (data_of h)) a)
+        (and_from (is_in_flight (channel_of (history g) (history h))) (names_address a (sent_message (history g)))
+        (flies (has is_receipt (history h)) (has is_sent (history g)) (has is_join (history g)) (has is_open_receiver (history h)) none sent) sent-names)
 
     -- then the next one held it before any signal
     held-next : (h : Generation) → PairRuns g h → Good h a → has is_receipt (history h) ≡ true → was_held h.core.plan (history h) a ≡ true
@@ -131,11 +144,14 @@ module _ (a : List ℕ) (g : Generation) (s : Stands g) (good : Good g a) (held 
           | inr none ↦ ap (has is_signal) (unsignalled-whole (history h) none) ∙ none
         ] in
         let sound : is_sound_for h.core.plan u a ≡ true = elim (cases_Bool (has is_signal (history h))) [
-          | inl was ↦ subst (λ r. is_sound_for h.core.plan r a ≡ true) (sym (unsignalled-before (history h) was)) (sound-before h.core.plan (history h) a next_good.sound)
+          | inl was ↦ subst (λ r. is_sound_for h.core.plan r a ≡ true) (sym (unsignalled-before (history h) was))
+              (sound-before h.core.plan (history h) a next_good.sound)
           | inr none ↦ subst (λ r. is_sound_for h.core.plan r a ≡ true) (sym (unsignalled-whole (history h) none)) next_good.sound
         ] in
-        let reads = read-as-sent g.core.plan (history g) (receipt_of u).bytes (receipt_of u).fds (sent_message (history g)) offers.1.0 offers.1.1 (table-texts g.core.plan (before_signal (history g)) s.texts) (q.stands.taken before) in
-        let live : has_live q.core.plan u (Some a) ≡ true = elim (received-kept q.core.plan u a (addresses (table g.core.plan (history g))) q.stands.new_right before reads.0 reads.1 (among came)) [
+        let reads = read-as-sent g.core.plan (history g) (receipt_of u).bytes (receipt_of u).fds (sent_message (history g)) offers.1.0 offers.1.1
+        (table-texts g.core.plan (before_signal (history g)) s.texts) (q.stands.taken before) in
+        let live : has_live q.core.plan u (Some a) ≡ true =
+        elim (received-kept q.core.plan u a (addresses (table g.core.plan (history g))) q.stands.new_right before reads.0 reads.1 (among came)) [
           | inl there ↦ there
           | inr gone ↦ clash (has_given_up q.core.plan u a) gone (never-given-up q.core u a q.stands.new_stands q.stands.new_right silent
               (subst (λ p. is_named p a ≡ true) (sym q.plan) next_good.named) (subst (λ p. is_sound_for p u a ≡ true) (sym q.plan) sound))
@@ -146,7 +162,8 @@ module _ (a : List ℕ) (g : Generation) (s : Stands g) (good : Good g a) (held 
 sent-over : (over sent : Bool) → (not over || sent) ≡ true → over ≡ true → sent ≡ true
 sent-over over sent h k = grind arith
 
-carried : (a : List ℕ) (gs : List Generation) → Linked gs → was_held_first (map data_of gs) a ≡ true → is_good_chain (map data_of gs) a ≡ true → is_carried (map data_of gs) a ≡ true
+carried : (a : List ℕ) (gs : List Generation) → Linked gs → was_held_first (map data_of gs) a ≡ true → is_good_chain (map data_of gs) a ≡ true
+    → is_carried (map data_of gs) a ≡ true
 carried a [] l held good = absurd (cc)
 carried a (g ∷ []) l held good =
     let parts = good-parts g a (and_parts (is_good (data_of g) a) true good).0 in
@@ -161,7 +178,8 @@ carried a (g ∷ h ∷ more) (s, pair, rest) held good =
     let both = and_parts (is_good (data_of g) a) (is_good_chain (map data_of (h ∷ more)) a) good in
     let parts = good-parts g a both.0 in
     let next = good-parts h a (and_parts (is_good (data_of h) a) (is_good_chain (map data_of more) a) both.1).0 in
-    let here : carries (data_of g) (Some (data_of h)) a ≡ true → is_carried (map data_of (g ∷ h ∷ more)) a ≡ true = or_left (carries (data_of g) (Some (data_of h)) a) (is_carried (map data_of (h ∷ more)) a) in
+    let here : carries (data_of g) (Some (data_of h)) a ≡ true
+    → is_carried (map data_of (g ∷ h ∷ more)) a ≡ true = or_left (carries (data_of g) (Some (data_of h)) a) (is_carried (map data_of (h ∷ more)) a) in
     elim (cases_Bool (has is_signal (history g))) [
       | inr none ↦ here (by-silence a g s parts held (Some (data_of h)) none)
       | inl came ↦ elim (cases_Bool (is_over g.core.plan (history g))) [
@@ -169,7 +187,9 @@ carried a (g ∷ h ∷ more) (s, pair, rest) held good =
         | inl over ↦ (let sent = sent-over (is_over g.core.plan (history g)) (has is_sent (history g)) parts.sent over in
             elim (cases_Bool (has is_receipt (history h))) [
               | inr none ↦ here (by-flight a g s parts held came sent h none)
-              | inl received ↦ or_right (carries (data_of g) (Some (data_of h)) a) (is_carried (map data_of (h ∷ more)) a) (carried a (h ∷ more) rest (held-next a g s parts held came sent h pair next received) both.1)
+              | inl received ↦
+                  or_right (carries (data_of g) (Some (data_of h)) a) (is_carried (map data_of (h ∷ more)) a)
+                  (carried a (h ∷ more) rest (held-next a g s parts held came sent h pair next received) both.1)
             ])
       ]
     ]
@@ -183,7 +203,9 @@ covers-more : (a : List ℕ) (gs : List GenerationData) → is_carried gs a ≡ 
 covers-more a [] h = h
 covers-more a (g ∷ []) h = covered-by (has_live g.plan g.history (Some a)) (not (has is_signal g.history) || is_on_offer g a) (is_on_its_way g None a) h
 covers-more a (g ∷ i ∷ more) h = elim (or_cases (carries g (Some i) a) (is_carried (i ∷ more) a) h) [
-  | inl here ↦ or_left (covers g (Some i) a) (is_covered (i ∷ more) a) (covered-by (has_live g.plan g.history (Some a)) (not (has is_signal g.history) || is_on_offer g a) (is_on_its_way g (Some i) a) here)
+  | inl here ↦
+      or_left (covers g (Some i) a) (is_covered (i ∷ more) a)
+      (covered-by (has_live g.plan g.history (Some a)) (not (has is_signal g.history) || is_on_offer g a) (is_on_its_way g (Some i) a) here)
   | inr later ↦ or_right (covers g (Some i) a) (is_covered (i ∷ more) a) (covers-more a (i ∷ more) later)
 ]
 

@@ -21,9 +21,12 @@ next-stands (suc k) (x ∷ old) [] d inside s h = absurd h
 next-stands (suc k) (x ∷ old) (y ∷ new) d inside s h = next-stands k old new d (omega arith) s.1 h.1
 
 -- and is closed now
-pub closed-more : (k : ℕ) (old new : List Generation) (d y : Generation) → k < length new → ClosedUpTo k old new → IsClosed (get_or new k d) y → ClosedUpTo (suc k) old (set new k y)
+pub closed-more : (k : ℕ) (old new : List Generation) (d y : Generation) → k < length new → ClosedUpTo k old new → IsClosed (get_or new k d) y
+    → ClosedUpTo (suc k) old (set new k y)
 closed-more zero [] new d y inside h c = absurd (let e = ap (λ (xs : List Generation). length xs) h in omega arith)
-closed-more zero (x ∷ old) new d y inside h c = subst (λ (xs : List Generation). ClosedUpTo (suc zero) (x ∷ old) (set xs zero y)) (sym h) (subst (λ (xs : List Generation). IsClosed (get_or xs zero d) y) h c, refl)
+closed-more zero (x ∷ old) new d y inside h c =
+    subst (λ (xs : List Generation). ClosedUpTo (suc zero) (x ∷ old) (set xs zero y)) (sym h)
+    (subst (λ (xs : List Generation). IsClosed (get_or xs zero d) y) h c, refl)
 closed-more (suc k) [] new d y inside h c = absurd (let e = ap (λ (xs : List Generation). length xs) h in omega arith)
 closed-more (suc k) (x ∷ old) [] d y inside h c = absurd h
 closed-more (suc k) (x ∷ old) (z ∷ new) d y inside h c = (h.0, closed-more k old new d y (omega arith) h.1 c)
@@ -35,7 +38,8 @@ closed-all zero (x ∷ old) new inside h = absurd (let e = ap (λ (xs : List Gen
 closed-all (suc k) [] new inside h = ap (map data_of) h
 closed-all (suc k) (x ∷ old) [] inside h = absurd h
 closed-all (suc k) (x ∷ old) (y ∷ new) inside h =
-    ap (λ (g : GenerationData). g ∷ map data_of new) h.0.closed ∙ ap (λ (gs : List GenerationData). closed (data_of x) ∷ gs) (closed-all k old new (omega arith) h.1)
+    ap (λ (g : GenerationData). g ∷ map data_of new) h.0.closed
+    ∙ ap (λ (gs : List GenerationData). closed (data_of x) ∷ gs) (closed-all k old new (omega arith) h.1)
 
 pub whole-all : (k : ℕ) (old new : List Generation) → length new ≤ k → ClosedUpTo k old new → AreClosed (map data_of old)
 whole-all zero [] new inside h = tt

@@ -45,12 +45,15 @@ begun p g b = record { told = b.told; plan = b.begins.plan_is; history = begun-h
 abbrev pub step_of : Bool → Event → Bool → PairStep
 step_of old e said = record { old = old; event = e; said = said }
 
-abbrev pub server-takes : (side : Bool) (g next : Generation) (e : Event) (said : Bool) (end : StepEnd) → (t : Takes g next e said end) → ServerTakes (server_of g) (server_of next) (step_of side e said) t.told
+abbrev pub server-takes : (side : Bool) (g next : Generation) (e : Event) (said : Bool) (end : StepEnd) → (t : Takes g next e said end)
+    → ServerTakes (server_of g) (server_of next) (step_of side e said) t.told
 server-takes side g next e said end t = record { end = end; keeps = t.keeps; plan_is = t.plan_is; judged = t.judged; entries = t.entries }
 
 -- its record has grown by the event and what was told
-pub taken-history : (g next : Generation) (e : Event) (said : Bool) (end : StepEnd) (t : Takes g next e said end) → history next ≡ tell (Got e ∷ history g) t.keeps.told
-taken-history g next e said end t = taken-entries (server_of g) (server_of next) (step_of true e said) t.told (history g) (server-takes true g next e said end t) refl
+pub taken-history : (g next : Generation) (e : Event) (said : Bool) (end : StepEnd) (t : Takes g next e said end)
+    → history next ≡ tell (Got e ∷ history g) t.keeps.told
+taken-history g next e said end t =
+    taken-entries (server_of g) (server_of next) (step_of true e said) t.told (history g) (server-takes true g next e said end t) refl
 
 pub stands-taken : (g next : Generation) (e : Event) (said : Bool) (end : StepEnd) → Stands g → Takes g next e said end → Stands next
 stands-taken g next e said end s t =

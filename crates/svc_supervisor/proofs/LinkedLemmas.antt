@@ -31,10 +31,14 @@ may-fits : (before next : Option GenerationData) (g : GenerationData) (e : Event
 may-fits before next g e h = (and_parts (fits g.plan g.history e) (before_may before g e && old_may (channel_to g next) e) h).0
 
 may-before : (before next : Option GenerationData) (g : GenerationData) (e : Event) → may_come before g next e ≡ true → before_may before g e ≡ true
-may-before before next g e h = (and_parts (before_may before g e) (old_may (channel_to g next) e) (and_parts (fits g.plan g.history e) (before_may before g e && old_may (channel_to g next) e) h).1).0
+may-before before next g e h =
+    (and_parts (before_may before g e) (old_may (channel_to g next) e)
+    (and_parts (fits g.plan g.history e) (before_may before g e && old_may (channel_to g next) e) h).1).0
 
 may-next : (before next : Option GenerationData) (g : GenerationData) (e : Event) → may_come before g next e ≡ true → old_may (channel_to g next) e ≡ true
-may-next before next g e h = (and_parts (before_may before g e) (old_may (channel_to g next) e) (and_parts (fits g.plan g.history e) (before_may before g e && old_may (channel_to g next) e) h).1).1
+may-next before next g e h =
+    (and_parts (before_may before g e) (old_may (channel_to g next) e)
+    (and_parts (fits g.plan g.history e) (before_may before g e && old_may (channel_to g next) e) h).1).1
 
 -- and without the generation before
 may-alone : (before next : Option GenerationData) (g : GenerationData) (e : Event) → may_come before g next e ≡ true → may_come None g next e ≡ true
@@ -49,8 +53,11 @@ neither : (x y : Bool) → x ≡ false → y ≡ false → (x || y) ≡ false
 neither x y h k = grind arith
 
 -- a signal that isn't early comes after the receipt
-received-in-time : (f g : Generation) (e : Event) → (is_signal (Got e) && not (has_taken_over (Some (data_of f)) (data_of g))) ≡ false → is_signal (Got e) ≡ true → has is_receipt (history g) ≡ true
-received-in-time f g e timely came = taken-received (has is_receipt (history g)) (has is_sent (history f)) (has is_join (history f)) (has is_open_receiver (history g)) (unless (is_signal (Got e)) (is_taken (channel_of (history f) (history g))) timely came)
+received-in-time : (f g : Generation) (e : Event) → (is_signal (Got e) && not (has_taken_over (Some (data_of f)) (data_of g))) ≡ false
+    → is_signal (Got e) ≡ true → has is_receipt (history g) ≡ true
+received-in-time f g e timely came =
+    taken-received (has is_receipt (history g)) (has is_sent (history f)) (has is_join (history f)) (has is_open_receiver (history g))
+    (unless (is_signal (Got e)) (is_taken (channel_of (history f) (history g))) timely came)
   where
     unless : (x y : Bool) → (x && not y) ≡ false → x ≡ true → y ≡ true
     unless x y h k = grind arith
@@ -73,13 +80,25 @@ module _ (g next : Generation) (e : Event) (said : Bool) (end : StepEnd) (t : Ta
   step-first [] may l = record {
     stands = stands-taken g next e said end l.stands t;
     awaits = awaits-taken g next e said end l.stands t (may-fits None None (data_of g) e may) (may-next None None (data_of g) e may) l.awaits;
-    unsent = ap (has is_sent) (taken-history g next e said end t) ∙ has-tell is_sent (λ a. refl) (Got e ∷ history g) t.keeps.told ∙ neither (is_sent (Got e)) (has is_sent (history g)) (missing-unsent e (may-next None None (data_of g) e may)) l.unsent;
+    unsent = ap (has is_sent) (taken-history g next e said end t) ∙ has-tell is_sent (λ a. refl) (Got e ∷ history g) t.keeps.told
+        ∙ neither (is_sent (Got e)) (has is_sent (history g)) (missing-unsent e (may-next None None (data_of g) e may)) l.unsent;
   }
-  step-first (h ∷ []) may (s, pair, rest) = (stands-taken g next e said end s t, pair-old g next h e said end s rest.stands t (may-fits None (Some (data_of h)) (data_of g) e may) (may-next None (Some (data_of h)) (data_of g) e may) pair, rest)
-  step-first (h ∷ i ∷ more) may (s, pair, rest) = (stands-taken g next e said end s t, pair-old g next h e said end s rest.0 t (may-fits None (Some (data_of h)) (data_of g) e may) (may-next None (Some (data_of h)) (data_of g) e may) pair, rest)
+  step-first (h ∷ []) may (s, pair, rest) = (
+    stands-taken g next e said end s t,
+    pair-old g next h e said end s rest.stands t (may-fits None (Some (data_of h)) (data_of g) e may)
+        (may-next None (Some (data_of h)) (data_of g) e may) pair,
+    rest,
+  )
+  step-first (h ∷ i ∷ more) may (s, pair, rest) = (
+    stands-taken g next e said end s t,
+    pair-old g next h e said end s rest.0 t (may-fits None (Some (data_of h)) (data_of g) e may)
+        (may-next None (Some (data_of h)) (data_of g) e may) pair,
+    rest,
+  )
 
   -- the one at this place does
-  pub linked-step : (gs : List Generation) (k : ℕ) → slice_get gs k ≡ Some g → is_early (map data_of gs) k e ≡ false → may_come_at (map data_of gs) k e ≡ true → Linked gs → Linked (set gs k next)
+  pub linked-step : (gs : List Generation) (k : ℕ) → slice_get gs k ≡ Some g → is_early (map data_of gs) k e ≡ false → may_come_at (map data_of gs) k e ≡ true
+      → Linked gs → Linked (set gs k next)
   linked-step [] k here timely may l = absurd (cc)
   linked-step (x ∷ []) zero here timely may l =
       let same : x ≡ g = same_Some x g here in
@@ -87,15 +106,20 @@ module _ (g next : Generation) (e : Event) (said : Bool) (end : StepEnd) (t : Ta
   linked-step (x ∷ []) (suc k) here timely may l = absurd (cc)
   linked-step (x ∷ h ∷ more) zero here timely may l =
       let same : x ≡ g = same_Some x g here in
-      step-first (h ∷ more) (subst (λ (y : Generation). may_come_at (map data_of (y ∷ h ∷ more)) zero e ≡ true) same may) (subst (λ (y : Generation). Linked (y ∷ h ∷ more)) same l)
+      step-first (h ∷ more) (subst (λ (y : Generation). may_come_at (map data_of (y ∷ h ∷ more)) zero e ≡ true) same may)
+      (subst (λ (y : Generation). Linked (y ∷ h ∷ more)) same l)
   linked-step (x ∷ h ∷ more) (suc zero) here timely may (s, pair, rest) =
       let same : h ≡ g = same_Some h g here in
-      let second : may_come (Some (data_of x)) (data_of g) (slice_get (map data_of more) zero) e ≡ true = subst (λ (y : Generation). may_come (Some (data_of x)) (data_of y) (slice_get (map data_of more) zero) e ≡ true) same may in
+      let second : may_come (Some (data_of x)) (data_of g) (slice_get (map data_of more) zero) e ≡ true =
+      subst (λ (y : Generation). may_come (Some (data_of x)) (data_of y) (slice_get (map data_of more) zero) e ≡ true) same may in
       let was : Linked (g ∷ more) = subst (λ (y : Generation). Linked (y ∷ more)) same rest in
       let later : Linked (next ∷ more) = step-first more (may-alone (Some (data_of x)) (slice_get (map data_of more) zero) (data_of g) e second) was in (
         s,
-        pair-new x g next e said end s (linked-stands g more was) t (may-fits (Some (data_of x)) (slice_get (map data_of more) zero) (data_of g) e second) (may-before (Some (data_of x)) (slice_get (map data_of more) zero) (data_of g) e second)
-            (received-in-time x g e (subst (λ (y : Generation). (is_signal (Got e) && not (has_taken_over (Some (data_of x)) (data_of y))) ≡ false) same timely)) (subst (PairRuns x) same pair),
+        pair-new x g next e said end s (linked-stands g more was) t (may-fits (Some (data_of x)) (slice_get (map data_of more) zero) (data_of g) e second)
+            (may-before (Some (data_of x)) (slice_get (map data_of more) zero) (data_of g) e second)
+            (received-in-time x g e
+            (subst (λ (y : Generation). (is_signal (Got e) && not (has_taken_over (Some (data_of x)) (data_of y))) ≡ false) same timely))
+            (subst (PairRuns x) same pair),
         later,
       )
   linked-step (x ∷ h ∷ more) (suc (suc k)) here timely may (s, pair, rest) = (s, pair, linked-step (h ∷ more) (suc k) here timely may rest)
@@ -140,8 +164,10 @@ stands-before gs zero l = tt
 stands-before gs (suc k) l = stands-at gs k l
 
 -- and its neighbours
-pub all-stand : (gs : List Generation) (k : ℕ) (g : Generation) → slice_get gs k ≡ Some g → Linked gs → AllStand (generation_before gs k) g (slice_get gs (suc k))
-all-stand gs k g here l = record { earlier = stands-before gs k l; here = subst (λ (o : Option Generation). IfSome o Stands) here (stands-at gs k l); later = stands-at gs (suc k) l }
+pub all-stand : (gs : List Generation) (k : ℕ) (g : Generation) → slice_get gs k ≡ Some g → Linked gs
+    → AllStand (generation_before gs k) g (slice_get gs (suc k))
+all-stand gs k g here l =
+    record { earlier = stands-before gs k l; here = subst (λ (o : Option Generation). IfSome o Stands) here (stands-at gs k l); later = stands-at gs (suc k) l }
 
 -- where only the room of one has changed, the chain is linked as before
 same-old : (g next h : Generation) → IsSame g next → servers_of g h ≡ servers_of next h
@@ -153,12 +179,14 @@ same-new f g next s = let core = s.core in let entries = s.entries in let marks 
 pair-same-old : (g next h : Generation) → IsSame g next → PairRuns g h → PairRuns next h
 pair-same-old g next h s pair = record {
   schedule = pair.schedule;
-  runs = subst (λ (c : CoreData). Runs c.plan h.core.plan pair.schedule (servers_of next h)) (sym s.core) (subst (Runs g.core.plan h.core.plan pair.schedule) (same-old g next h s) pair.runs);
+  runs = subst (λ (c : CoreData). Runs c.plan h.core.plan pair.schedule (servers_of next h)) (sym s.core)
+      (subst (Runs g.core.plan h.core.plan pair.schedule) (same-old g next h s) pair.runs);
   quiet = record {
     core = pair.quiet.core;
     plan = pair.quiet.plan;
     stands = subst (λ (c : CoreData). PairStands c pair.quiet.core (quiet_world next h)) (sym s.core)
-        (subst (λ q. PairStands g.core pair.quiet.core (record { old = q; new = unsignalled (history h); channel = channel_of q (unsignalled (history h)) })) (sym (same-history g next s)) pair.quiet.stands);
+        (subst (λ q. PairStands g.core pair.quiet.core (record { old = q; new = unsignalled (history h); channel = channel_of q (unsignalled (history h)) }))
+        (sym (same-history g next s)) pair.quiet.stands);
     timely = pair.quiet.timely;
   };
 }
@@ -166,18 +194,25 @@ pair-same-old g next h s pair = record {
 pair-same-new : (f g next : Generation) → IsSame g next → PairRuns f g → PairRuns f next
 pair-same-new f g next s pair = record {
   schedule = pair.schedule;
-  runs = subst (λ (c : CoreData). Runs f.core.plan c.plan pair.schedule (servers_of f next)) (sym s.core) (subst (Runs f.core.plan g.core.plan pair.schedule) (same-new f g next s) pair.runs);
+  runs = subst (λ (c : CoreData). Runs f.core.plan c.plan pair.schedule (servers_of f next)) (sym s.core)
+      (subst (Runs f.core.plan g.core.plan pair.schedule) (same-new f g next s) pair.runs);
   quiet = record {
     core = pair.quiet.core;
     plan = pair.quiet.plan ∙ ap (λ (c : CoreData). c.plan) (sym s.core);
-    stands = subst (λ q. PairStands f.core pair.quiet.core (record { old = history f; new = unsignalled q; channel = channel_of (history f) (unsignalled q) })) (sym (same-history g next s)) pair.quiet.stands;
+    stands = subst (λ q. PairStands f.core pair.quiet.core (record { old = history f; new = unsignalled q; channel = channel_of (history f) (unsignalled q) }))
+        (sym (same-history g next s)) pair.quiet.stands;
     timely = subst (λ q. has is_signal q ≡ true → has is_receipt (unsignalled q) ≡ true) (sym (same-history g next s)) pair.quiet.timely;
   };
 }
 
 module _ (g next : Generation) (s : IsSame g next) where
   same-first : (gs : List Generation) → Linked (g ∷ gs) → Linked (next ∷ gs)
-  same-first [] l = record { stands = stands-same g next s l.stands; awaits = λ h d. pair-same-old g next h s (l.awaits h d); unsent = ap (has is_sent) (same-history g next s) ∙ l.unsent }
+  same-first [] l =
+      record {
+        stands = stands-same g next s l.stands;
+        awaits = λ h d. pair-same-old g next h s (l.awaits h d);
+        unsent = ap (has is_sent) (same-history g next s) ∙ l.unsent;
+      }
   same-first (h ∷ more) (z, pair, rest) = (stands-same g next s z, pair-same-old g next h s pair, rest)
 
   pub linked-same : (gs : List Generation) (k : ℕ) → slice_get gs k ≡ Some g → Linked gs → Linked (set gs k next)

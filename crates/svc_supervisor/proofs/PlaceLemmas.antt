@@ -25,7 +25,8 @@ unless-err (Ok x) P h p = p
 unless-err (Err e) P h p = absurd (cc)
 
 -- the test of an event by the core is that by its record
-pub fits-here : (g : Generation) (e : Event) (b : Bool) → ((q : Record) → StandsFor g.core q → (b ≡ true) ↔ Fits g.core.plan q e) → Stands g → b ≡ fits g.core.plan (history g) e
+pub fits-here : (g : Generation) (e : Event) (b : Bool) → ((q : Record) → StandsFor g.core q → (b ≡ true) ↔ Fits g.core.plan q e) → Stands g
+    → b ≡ fits g.core.plan (history g) e
 fits-here g e b means s = bool_same b (fits g.core.plan (history g) e) (means (history g) s.stands).0 (means (history g) s.stands).1
 
 -- what holds of the one at a place
@@ -46,15 +47,18 @@ data-before gs zero = refl
 data-before gs (suc k) = slice_get-map data_of gs k
 
 -- whether the event may come, by the three
-pub may-come-at : (gs : List Generation) (k : ℕ) (g : Generation) (e : Event) (b n : Option Generation) (r : Bool) → slice_get gs k ≡ Some g → b ≡ generation_before gs k → n ≡ slice_get gs (suc k)
+pub may-come-at : (gs : List Generation) (k : ℕ) (g : Generation) (e : Event) (b n : Option Generation) (r : Bool) → slice_get gs k ≡ Some g
+    → b ≡ generation_before gs k → n ≡ slice_get gs (suc k)
     → (AllStand b g n → r ≡ may_come (option_map data_of b) (data_of g) (option_map data_of n) e) → Linked gs → r ≡ may_come_at (map data_of gs) k e
 may-come-at gs k g e b n r here before next means l =
-    means (subst (λ (x : Option Generation). AllStand x g n) (sym before) (subst (λ (y : Option Generation). AllStand (generation_before gs k) g y) (sym next) (all-stand gs k g here l)))
+    means (subst (λ (x : Option Generation). AllStand x g n) (sym before)
+    (subst (λ (y : Option Generation). AllStand (generation_before gs k) g y) (sym next) (all-stand gs k g here l)))
     ∙ ap (λ (x : Option Generation). may_come (option_map data_of x) (data_of g) (option_map data_of n) e) before
     ∙ ap (λ (y : Option Generation). may_come (option_map data_of (generation_before gs k)) (data_of g) (option_map data_of y) e) next
     ∙ ap (λ (x : Option GenerationData). may_come x (data_of g) (option_map data_of (slice_get gs (suc k))) e) (sym (data-before gs k))
     ∙ ap (λ (y : Option GenerationData). may_come (generation_before (map data_of gs) k) (data_of g) y e) (sym (slice_get-map data_of gs (suc k)))
-    ∙ ap (λ (o : Option GenerationData). may_come_to (generation_before (map data_of gs) k) o (slice_get (map data_of gs) (suc k)) e) (sym (data-here gs k g here))
+    ∙ ap (λ (o : Option GenerationData). may_come_to (generation_before (map data_of gs) k) o (slice_get (map data_of gs) (suc k)) e)
+    (sym (data-here gs k g here))
 
 -- whether it has taken over
 taken-is : (t s j l : Bool) → is_taken (reached t s j l) ≡ t
@@ -69,7 +73,8 @@ taken-first [] k inside e = absurd (omega arith)
 taken-first (g ∷ more) zero inside e = refl
 taken-first (g ∷ more) (suc k) inside e = absurd (omega arith)
 
-pub taken-later : (gs : List Generation) (k : ℕ) (g : Generation) → slice_get gs k ≡ Some g → (k ≡ 0 → ⊥) → Linked gs → g.marks.taken ≡ has_taken_at (map data_of gs) k
+pub taken-later : (gs : List Generation) (k : ℕ) (g : Generation) → slice_get gs k ≡ Some g → (k ≡ 0 → ⊥) → Linked gs
+    → g.marks.taken ≡ has_taken_at (map data_of gs) k
 taken-later gs zero g here later l = absurd (later refl)
 taken-later gs (suc k) g here later l = by (slice_get gs k) refl
   where
@@ -86,7 +91,8 @@ taken-later gs (suc k) g here later l = by (slice_get gs k) refl
         ∙ ap (λ (o : Option GenerationData). has_taken (slice_get (map data_of gs) k) o) (sym (data-here gs (suc k) g here))
 
 -- a step of the one at a place
-pub steps-at : (gs : List Generation) (k : ℕ) (g next : Generation) (e : Event) (said : Bool) (end : StepEnd) → slice_get gs k ≡ Some g → MayStep gs k e → Takes g next e said end → Linked gs
+pub steps-at : (gs : List Generation) (k : ℕ) (g next : Generation) (e : Event) (said : Bool) (end : StepEnd) → slice_get gs k ≡ Some g → MayStep gs k e
+    → Takes g next e said end → Linked gs
     → Steps (map data_of gs) (map data_of (set gs k next)) k e said end
 steps-at gs k g next e said end here may t l = record {
   was = data_of g;
@@ -98,7 +104,8 @@ steps-at gs k g next e said end here may t l = record {
   others = data-set gs k next;
 }
 
-pub linked-at : (gs : List Generation) (k : ℕ) (g next : Generation) (e : Event) (said : Bool) (end : StepEnd) → slice_get gs k ≡ Some g → MayStep gs k e → Takes g next e said end → Linked gs → Linked (set gs k next)
+pub linked-at : (gs : List Generation) (k : ℕ) (g next : Generation) (e : Event) (said : Bool) (end : StepEnd) → slice_get gs k ≡ Some g → MayStep gs k e
+    → Takes g next e said end → Linked gs → Linked (set gs k next)
 linked-at gs k g next e said end here may t l = linked-step g next e said end t gs k here (may.timely l) (may.may l) l
 
 -- whether the event may come, by its parts

@@ -36,7 +36,8 @@ before-first q (Signal kind) h s = ap (λ b. if b then before_signal q else q) h
 before-first q _ h s = absurd (cc)
 
 -- so a step at or after the first signal leaves what stands before it
-pub unsignalled-step : (q : Record) (e : Event) (told : List Action) → (has is_signal q || is_signal (Got e)) ≡ true → unsignalled (tell (Got e ∷ q) told) ≡ unsignalled q
+pub unsignalled-step : (q : Record) (e : Event) (told : List Action) → (has is_signal q || is_signal (Got e)) ≡ true
+    → unsignalled (tell (Got e ∷ q) told) ≡ unsignalled q
 unsignalled-step q e told h =
     let came : has is_signal (tell (Got e ∷ q) told) ≡ true = signal-tell (Got e ∷ q) told ∙ turned (is_signal (Got e)) (has is_signal q) h in
     unsignalled-before (tell (Got e ∷ q) told) came ∙ before-tell (Got e ∷ q) told ∙ elim (cases_Bool (has is_signal q)) [
@@ -58,7 +59,8 @@ receipt-before : (q : Record) → has is_receipt (before_signal q) ≡ true → 
 receipt-before [] h = h
 receipt-before (Got (Signal kind) ∷ q) h = by (has is_signal q) (receipt-before q) h
   where
-    by : (b : Bool) → (has is_receipt (before_signal q) ≡ true → has is_receipt q ≡ true) → has is_receipt (if b then before_signal q else q) ≡ true → has is_receipt q ≡ true
+    by : (b : Bool) → (has is_receipt (before_signal q) ≡ true → has is_receipt q ≡ true) → has is_receipt (if b then before_signal q else q) ≡ true
+        → has is_receipt q ≡ true
     by true f k = f k
     by false f k = k
 receipt-before (e ∷ q) h = or_right (is_receipt e) (has is_receipt q) (receipt-before q h)

@@ -41,9 +41,12 @@ is_carried gs a = any_with_next (λ g next. carries g next a) gs
 abbrev pub is_covered : List GenerationData → List ℕ → Bool
 is_covered gs a = any_with_next (λ g next. covers g next a) gs
 
--- the generation is good for the address: a service names it, none that names it has failed, the first signal is an upgrade, the offer, once over, was sent, and if it has ended, then as served
+-- the generation is good for the address: a service names it, none that names it has failed, the first signal is an upgrade, the offer, once over,
+-- was sent, and if it has ended, then as served
 abbrev pub is_good : GenerationData → List ℕ → Bool
-is_good g a = (is_named g.plan a && is_sound_for g.plan g.history a) && (is_upgrade_or_none (signal_of g.history) && (ends_sent g.plan g.history && not (is_down g.plan g.history)))
+is_good g a =
+    (is_named g.plan a && is_sound_for g.plan g.history a)
+    && (is_upgrade_or_none (signal_of g.history) && (ends_sent g.plan g.history && not (is_down g.plan g.history)))
 
 -- the chain is good for the address: each generation is
 abbrev pub is_good_chain : List GenerationData → List ℕ → Bool
@@ -59,6 +62,7 @@ pub record IsCarried (gs : List GenerationData) (a : List ℕ) : Type 0 where
   pub carried : is_carried gs a ≡ true
   pub covered : is_covered gs a ≡ true
 
--- the law of a chain: once the first generation has held an address before any signal, and while the chain is good for it, some generation carries it, so it is covered
+-- the law of a chain: once the first generation has held an address before any signal, and while the chain is good for it, some generation carries
+-- it, so it is covered
 abbrev pub KeepsCarried : List GenerationData → Type 0
 KeepsCarried gs = (a : List ℕ) → was_held_first gs a ≡ true → is_good_chain gs a ≡ true → IsCarried gs a

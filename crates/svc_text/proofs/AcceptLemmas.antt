@@ -65,7 +65,8 @@ after_keeps s t value h e =
 endpoint_keeps : (s t : ServiceLine) (unix : Bool) (value : List ℕ) → boots s.kind ≡ false → IsAccepted s → with_endpoint s unix value ≡ Some t → IsAccepted t
 unfolding with_endpoint
 endpoint_keeps s t unix value k h e =
-    let c = chosen_some (ltb (length s.endpoints) 64) (option_map (λ address. record s { endpoints = s.endpoints ++ endpoint_at unix address ∷ [] }) (address_of value)) t e in
+    let c = chosen_some (ltb (length s.endpoints) 64)
+    (option_map (λ address. record s { endpoints = s.endpoints ++ endpoint_at unix address ∷ [] }) (address_of value)) t e in
     let m = mapped_some (λ address. record s { endpoints = s.endpoints ++ endpoint_at unix address ∷ [] }) (address_of value) t c.1 in
     let few : length s.endpoints < 64 = ltb-true (length s.endpoints) 64 c.0 in
     subst IsAccepted m.2 (record {
@@ -160,7 +161,13 @@ said_accepted (name ∷ []) s e = absurd cc
 said_accepted (name ∷ kind ∷ items) s e =
     let n = then_some (name_of name) (λ n. kind_of kind >>= λ k. with_items (bare n k) items) s e in
     let k = then_some (kind_of kind) (λ k. with_items (bare n.0 k) items) s n.2 in
-    items_keep items (bare n.0 k.0) s (record { boots_alone = λ b. (refl, refl, refl, refl); few_endpoints = omega arith; addresses = λ i d lt. absurd (omega arith); claims = λ i d lt. absurd (omega arith) }) k.2
+    items_keep items (bare n.0 k.0) s
+    (record {
+      boots_alone = λ b. (refl, refl, refl, refl);
+      few_endpoints = omega arith;
+      addresses = λ i d lt. absurd (omega arith);
+      claims = λ i d lt. absurd (omega arith);
+    }) k.2
 
 -- ---- one more service
 
@@ -194,7 +201,8 @@ next_few : (xs : List ServiceLine) (o : Option ServiceLine) → is_next xs o ≡
 next_few xs o h = ltb-true (length xs) 1024 (and_parts _ _ h).1
 
 -- a line of no header that fits and says a service, in the part of the services
-fits_next : (part : ℕ) (eager : Bool) (xs : List ServiceLine) (line : List ℕ) (s : ServiceLine) → header_of line ≡ None → (part == 2) ≡ true → service_of (words line) ≡ Some s
+fits_next : (part : ℕ) (eager : Bool) (xs : List ServiceLine) (line : List ℕ) (s : ServiceLine) → header_of line ≡ None → (part == 2) ≡ true
+    → service_of (words line) ≡ Some s
     → line_fits part eager xs line ≡ true → is_next xs (service_of (words line)) ≡ true
 unfolding line_fits place_fits says_item says_service
 fits_next part eager xs line s h two e f =
@@ -205,7 +213,8 @@ fits_next part eager xs line s h two e f =
     let p = and_parts (is_utf8 line) _ f in
     rw (h, other, skipped, two, plain) at p.1
 
-said_one : (xs : List ServiceLine) (o : Option ServiceLine) → AreAccepted xs → ((s : ServiceLine) → o ≡ Some s → AreAccepted (xs ++ s ∷ [])) → AreAccepted (xs ++ option_to_list o)
+said_one : (xs : List ServiceLine) (o : Option ServiceLine) → AreAccepted xs → ((s : ServiceLine) → o ≡ Some s → AreAccepted (xs ++ s ∷ []))
+    → AreAccepted (xs ++ option_to_list o)
 said_one xs None h f = subst AreAccepted (sym (append-nil xs)) h
 said_one xs (Some s) h f = f s refl
 
@@ -214,11 +223,13 @@ said_if false xs ys h f = subst AreAccepted (sym (append-nil xs)) h
 said_if true xs ys h f = f refl
 
 -- a line that fits leaves the services accepted
-pub accepted_line : (part : ℕ) (eager : Bool) (xs : List ServiceLine) (line : List ℕ) → AreAccepted xs → line_fits part eager xs line ≡ true → AreAccepted (xs ++ said_services part line)
+pub accepted_line : (part : ℕ) (eager : Bool) (xs : List ServiceLine) (line : List ℕ) → AreAccepted xs → line_fits part eager xs line ≡ true
+    → AreAccepted (xs ++ said_services part line)
 accepted_line part eager xs line h f = by_header (header_of line) refl
   where
     by_header : (o : Option Section) → header_of line ≡ o → AreAccepted (xs ++ said_services part line)
-    by_header (Some p) e = subst (λ (ys : List ServiceLine). AreAccepted (xs ++ ys)) (sym (header_says part line p e).0) (subst AreAccepted (sym (append-nil xs)) h)
+    by_header (Some p) e =
+        subst (λ (ys : List ServiceLine). AreAccepted (xs ++ ys)) (sym (header_says part line p e).0) (subst AreAccepted (sym (append-nil xs)) h)
     by_header None e =
         subst (λ (ys : List ServiceLine). AreAccepted (xs ++ ys)) (sym (item_says part line e).0)
         (said_if (part == 2) xs (option_to_list (service_of (words line))) h (λ two.

@@ -45,7 +45,8 @@ action_of_two key v w =
 
 action_of_three : List ℕ → List ℕ → List ℕ → List ℕ → Option Action
 action_of_three key v w x =
-    cond (bytes_eq key (codes "adopt")) (number_of (2 ^ 32) v >>= λ s. number_of (2 ^ 32) w >>= λ i. number_of (2 ^ 64) x >>= λ fd. Some (actions.Adopt s i fd)) None
+    cond (bytes_eq key (codes "adopt"))
+    (number_of (2 ^ 32) v >>= λ s. number_of (2 ^ 32) w >>= λ i. number_of (2 ^ 64) x >>= λ fd. Some (actions.Adopt s i fd)) None
 
 settings_of : List (List ℕ) → Option Action
 settings_of [] = None

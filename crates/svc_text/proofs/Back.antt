@@ -62,8 +62,10 @@ text_back [] rest h = refl
 text_back (e ∷ r) rest h =
     let ws : List (List ℕ) = entry_words e in
     let fits : AllByRecursion IsWord ws = entry_fits e h.0 in
-    let cut : text_of (e ∷ r) ++ rest ≡ line_of e ++ (text_of r ++ rest) = ap (λ (t : List ℕ). t ++ rest) (flat_map-cons line_of e r) ∙ append_assoc (line_of e) (text_of r) rest in
-    let first : lines (text_of (e ∷ r) ++ rest) ≡ spaced ws ∷ lines (text_of r ++ rest) = ap lines cut ∙ line_back (spaced ws) (text_of r ++ rest) (spaced_printable ws fits) in
+    let cut : text_of (e ∷ r) ++ rest ≡ line_of e ++ (text_of r ++ rest) =
+    ap (λ (t : List ℕ). t ++ rest) (flat_map-cons line_of e r) ∙ append_assoc (line_of e) (text_of r) rest in
+    let first : lines (text_of (e ∷ r) ++ rest) ≡ spaced ws ∷ lines (text_of r ++ rest) =
+    ap lines cut ∙ line_back (spaced ws) (text_of r ++ rest) (spaced_printable ws fits) in
     let read : entry_of (words (spaced ws)) ≡ Some e = ap entry_of (words_spaced ws fits) ∙ entry_back e h.0 in
     let more : entries_of (lines (text_of r ++ rest)) ≡ map Some r ++ entries_of (lines rest) = text_back r rest h.1 in
     ap entries_of first ∙ rw (read, more) refl
@@ -90,7 +92,8 @@ last_back : (line : List ℕ) → IsLastLine line → entries_of (lines (line ++
 unfolding entries_of
 last_back line h = rw (h.one, h.none) refl
 
-answer_back : (r : List Entry) (line : List ℕ) → All EntryFits r → IsLastLine line → entries_of (lines (text_of r ++ (line ++ (10 ∷ [])))) ≡ map Some r ++ (None ∷ [])
+answer_back : (r : List Entry) (line : List ℕ) → All EntryFits r → IsLastLine line
+    → entries_of (lines (text_of r ++ (line ++ (10 ∷ [])))) ≡ map Some r ++ (None ∷ [])
 answer_back r line h k =
     text_back r (line ++ (10 ∷ [])) (by_recursion EntryFits r h) ∙ ap (λ (os : List (Option Entry)). map Some r ++ os) (last_back line k)
 

@@ -60,7 +60,8 @@ says_to n place Unknown rest after h = tt
 says_to n place Item rest after h = item_to n _ place.list rest h
 says_to n place Other rest after h = h
 
-joined_to : (n : ℕ) (r : Result (Option Said) ReadError) (more : Result (List Said) ReadError) → RefusedUpTo n r → RefusedUpTo n more → RefusedUpTo n (joined r more)
+joined_to : (n : ℕ) (r : Result (Option Said) ReadError) (more : Result (List Said) ReadError) → RefusedUpTo n r → RefusedUpTo n more
+    → RefusedUpTo n (joined r more)
 joined_to n (Err e) more p q = p
 joined_to n (Ok None) more p q = q
 joined_to n (Ok (Some s)) (Err e) p q = q
@@ -72,7 +73,8 @@ lines_to before (line ∷ after) =
     let kind : Kind × List ℕ = kind_in (skips before) line in
     let n : ℕ = length before + length (line ∷ after) in
     let same : length (kind.0 ∷ before) + length after ≡ n = omega arith in
-    let more : RefusedUpTo n (said_from (kind.0 ∷ before) after) = subst (λ m. RefusedUpTo m (said_from (kind.0 ∷ before) after)) same (lines_to (kind.0 ∷ before) after) in
+    let more : RefusedUpTo n (said_from (kind.0 ∷ before) after) =
+    subst (λ m. RefusedUpTo m (said_from (kind.0 ∷ before) after)) same (lines_to (kind.0 ∷ before) after) in
     joined_to n _ _ (says_to n (place_of before) kind.0 kind.1 after (omega arith)) more
 
 overridden_to : (n : ℕ) (conf : ServerConf) (r : Result (List Said) ReadError) → RefusedUpTo n r → RefusedUpTo n (overridden_by conf r)
@@ -81,7 +83,9 @@ overridden_to n conf (Ok saids) p = tt
 
 pub text_refused : (text : List ℕ) → RefusedUpTo (length (lines text)) (configuration text)
 unfolding configuration
-text_refused text = overridden_to (length (lines text)) defaults _ (subst (λ (n : ℕ). RefusedUpTo n (said_from [] (lines text))) (zero-add (length (lines text))) (lines_to [] (lines text)))
+text_refused text =
+    overridden_to (length (lines text)) defaults _
+    (subst (λ (n : ℕ). RefusedUpTo n (said_from [] (lines text))) (zero-add (length (lines text))) (lines_to [] (lines text)))
 
 -- the same of the error that it is
 pub error_in : (text : List ℕ) (e : ReadError) → configuration text ≡ Err e → NamesUpTo (length (lines text)) e

@@ -45,7 +45,8 @@ parts_joined (xs ∷ xss) yss h =
     parts_then xs (xss ++ yss) (omega (arith, length-append xss yss)) ∙ ap (λ (zss : List (List ℕ)). strip_carriage_return xs ∷ zss) (parts_joined xss yss h)
 
 lines_cut : (xs ys : List ℕ) → lines (xs ++ 10 ∷ ys) ≡ map strip_carriage_return (slice_split is_feed xs) ++ lines ys
-lines_cut xs ys = ap lines_of_parts (split_joined xs ys) ∙ parts_joined (slice_split is_feed xs) (slice_split is_feed ys) (omega (arith, length-slice_split is_feed ys))
+lines_cut xs ys =
+    ap lines_of_parts (split_joined xs ys) ∙ parts_joined (slice_split is_feed xs) (slice_split is_feed ys) (omega (arith, length-slice_split is_feed ys))
 
 pub lines_joined : (xs ys : List ℕ) → EndsLine xs → lines (xs ++ ys) ≡ lines xs ++ lines ys
 lines_joined xs ys ends =
@@ -56,7 +57,8 @@ lines_joined xs ys ends =
 
 -- ---- a text between two places
 
-pub between_places : (head text rest : List ℕ) (start end : ℕ) → start ≡ length head → end ≡ length head + length text → between start end (head ++ (text ++ rest)) ≡ text
+pub between_places : (head text rest : List ℕ) (start end : ℕ) → start ≡ length head → end ≡ length head + length text
+    → between start end (head ++ (text ++ rest)) ≡ text
 between_places head text rest start end s e =
     let len : end - start ≡ length text = omega (arith, s, e) in
     let from : drop start (head ++ (text ++ rest)) ≡ text ++ rest = ap (λ (n : ℕ). drop n (head ++ (text ++ rest))) s ∙ drop-append_seam head (text ++ rest) in
@@ -123,7 +125,8 @@ further : (all rest line after : List ℕ) (front : List ℕ) (k : IsCut rest li
 further all rest line after front k e = e ∙ ap (λ (xs : List ℕ). front ++ xs) k.whole ∙ sym (append_assoc front k.chunk after)
 
 -- a line before the configuration's part
-line_before : (all rest line after : List ℕ) (ls : List (List ℕ)) (c : ConfText) → begun ls ≡ 0 → is_header line ≡ false → HasText all rest ls c → IsCut rest line after
+line_before : (all rest line after : List ℕ) (ls : List (List ℕ)) (c : ConfText) → begun ls ≡ 0 → is_header line ≡ false → HasText all rest ls c
+    → IsCut rest line after
     → HasText all after (ls ++ line ∷ []) (record c { before = c.before + 1 })
 line_before all rest line after ls c w h t k =
     let zeroth : part_of 0 (ls ++ line ∷ []) ≡ part_of 0 ls ++ line ∷ [] = part_gains 0 ls line w h in
@@ -144,14 +147,16 @@ line_before all rest line after ls c w h t k =
     }
 
 -- the line that begins the configuration's part
-line_opens : (all rest line after : List ℕ) (ls : List (List ℕ)) (c : ConfText) (place : ℕ) → place ≡ length all - length after → begun ls ≡ 0 → is_header line ≡ true → HasText all rest ls c → IsCut rest line after
+line_opens : (all rest line after : List ℕ) (ls : List (List ℕ)) (c : ConfText) (place : ℕ) → place ≡ length all - length after → begun ls ≡ 0
+    → is_header line ≡ true → HasText all rest ls c → IsCut rest line after
     → HasText all after (ls ++ line ∷ []) (record c { start = place; end = place })
 line_opens all rest line after ls c place p w h t k =
     let zeroth : part_of 0 (ls ++ line ∷ []) ≡ part_of 0 ls = no_part 0 ls line h in
     let first : part_of 1 (ls ++ line ∷ []) ≡ [] = no_part 1 ls line h ∙ part_unbegun 1 ls (omega (arith, w)) in
     let whole : all ≡ (t.front ++ k.chunk) ++ after = further all rest line after t.front k t.front_is in
     let at : place ≡ length (t.front ++ k.chunk) = p ∙ omega (arith, ap length whole, length-append (t.front ++ k.chunk) after) in
-    let empty : between place place all ≡ [] = ap (between place place) whole ∙ between_places (t.front ++ k.chunk) [] after place place at (omega (arith, at)) in
+    let empty : between place place all ≡ [] =
+    ap (between place place) whole ∙ between_places (t.front ++ k.chunk) [] after place place at (omega (arith, at)) in
     record {
       conf = record {
         order = omega arith;
@@ -167,7 +172,8 @@ line_opens all rest line after ls c place p w h t k =
     }
 
 -- a text that ended with a line has the lines of what follows too
-more_lines : (text chunk line rest after : List ℕ) → ((text ≡ []) ⊎ EndsLine text) ⊎ (rest ≡ []) → rest ≡ chunk ++ after → lines chunk ≡ line ∷ [] → lines (text ++ chunk) ≡ lines text ++ line ∷ []
+more_lines : (text chunk line rest after : List ℕ) → ((text ≡ []) ⊎ EndsLine text) ⊎ (rest ≡ []) → rest ≡ chunk ++ after → lines chunk ≡ line ∷ []
+    → lines (text ++ chunk) ≡ lines text ++ line ∷ []
 more_lines text chunk line rest after (inl (inl e)) w one = rw e one
 more_lines text chunk line rest after (inl (inr ends)) w one = lines_joined text chunk ends ∙ ap (λ (xs : List (List ℕ)). lines text ++ xs) one
 more_lines text [] line rest after (inr none) w one = absurd cc
@@ -178,7 +184,8 @@ ends_more text chunk after (inl ends) = inl (inr (text ++ ends.0, ap (λ (xs : L
 ends_more text chunk after (inr none) = inr none
 
 -- a line of the configuration
-line_inside : (all rest line after : List ℕ) (ls : List (List ℕ)) (c : ConfText) (place : ℕ) → place ≡ length all - length after → begun ls ≡ 1 → is_header line ≡ false → IsUtf8 line → HasText all rest ls c → IsCut rest line after
+line_inside : (all rest line after : List ℕ) (ls : List (List ℕ)) (c : ConfText) (place : ℕ) → place ≡ length all - length after → begun ls ≡ 1
+    → is_header line ≡ false → IsUtf8 line → HasText all rest ls c → IsCut rest line after
     → HasText all after (ls ++ line ∷ []) (record c { end = place })
 line_inside all rest line after ls c place p w h u t k =
     let o = t.passing w in
@@ -186,9 +193,11 @@ line_inside all rest line after ls c place p w h u t k =
     let first : part_of 1 (ls ++ line ∷ []) ≡ part_of 1 ls ++ line ∷ [] = part_gains 1 ls line w h in
     let inner : o.text ++ rest ≡ (o.text ++ k.chunk) ++ after = ap (λ (xs : List ℕ). o.text ++ xs) k.whole ∙ sym (append_assoc o.text k.chunk after) in
     let whole : all ≡ o.head ++ ((o.text ++ k.chunk) ++ after) = o.whole ∙ ap (λ (xs : List ℕ). o.head ++ xs) inner in
-    let len : length all ≡ length o.head + (length (o.text ++ k.chunk) + length after) = ap length whole ∙ length-append o.head _ ∙ ap (λ (n : ℕ). length o.head + n) (length-append (o.text ++ k.chunk) after) in
+    let len : length all ≡ length o.head + (length (o.text ++ k.chunk) + length after) =
+    ap length whole ∙ length-append o.head _ ∙ ap (λ (n : ℕ). length o.head + n) (length-append (o.text ++ k.chunk) after) in
     let at : place ≡ length o.head + length (o.text ++ k.chunk) = p ∙ omega (arith, len) in
-    let now : between c.start place all ≡ o.text ++ k.chunk = ap (between c.start place) whole ∙ between_places o.head (o.text ++ k.chunk) after c.start place o.start_is at in
+    let now : between c.start place all ≡ o.text ++ k.chunk =
+    ap (between c.start place) whole ∙ between_places o.head (o.text ++ k.chunk) after c.start place o.start_is at in
     let old : text_at c all ≡ o.text = open_text all rest c o in
     let said : lines o.text ≡ part_of 1 ls = ap lines (sym old) ∙ t.conf.says in
     record {
@@ -202,11 +211,13 @@ line_inside all rest line after ls c place p w h u t k =
       };
       front = t.front ++ k.chunk;
       front_is = further all rest line after t.front k t.front_is;
-      passing = λ e. record { head = o.head; text = o.text ++ k.chunk; whole = whole; start_is = o.start_is; end_is = at; ends = ends_more o.text k.chunk after k.ends };
+      passing = λ e.
+          record { head = o.head; text = o.text ++ k.chunk; whole = whole; start_is = o.start_is; end_is = at; ends = ends_more o.text k.chunk after k.ends };
     }
 
 -- a line behind the configuration, or the one that ends its part
-line_behind : (all rest line after : List ℕ) (ls : List (List ℕ)) (c : ConfText) → 1 < begun (ls ++ line ∷ []) → part_of 0 (ls ++ line ∷ []) ≡ part_of 0 ls → part_of 1 (ls ++ line ∷ []) ≡ part_of 1 ls
+line_behind : (all rest line after : List ℕ) (ls : List (List ℕ)) (c : ConfText) → 1 < begun (ls ++ line ∷ []) → part_of 0 (ls ++ line ∷ []) ≡ part_of 0 ls
+    → part_of 1 (ls ++ line ∷ []) ≡ part_of 1 ls
     → HasText all rest ls c → IsCut rest line after → HasText all after (ls ++ line ∷ []) c
 line_behind all rest line after ls c more zeroth first t k = record {
   conf = record {
@@ -224,7 +235,8 @@ line_behind all rest line after ls c more zeroth first t k = record {
 
 -- ---- one more line
 
-pub one_more : (all rest line after : List ℕ) (ls : List (List ℕ)) (c : ConfText) (w m place : ℕ) (h : Bool) → place ≡ length all - length after → begun ls ≡ w → is_header line ≡ h → m ≡ w + cond h 1 0
+pub one_more : (all rest line after : List ℕ) (ls : List (List ℕ)) (c : ConfText) (w m place : ℕ) (h : Bool) → place ≡ length all - length after → begun ls ≡ w
+    → is_header line ≡ h → m ≡ w + cond h 1 0
     → IsUtf8 line → HasText all rest ls c → IsCut rest line after → HasText all after (ls ++ line ∷ []) (passed c w m place)
 one_more all rest line after ls c zero m place false p b h e u t k =
     subst (HasText all after (ls ++ line ∷ [])) (sym (to_before c 0 m place (e ∙ omega arith))) (line_before all rest line after ls c b h t k)
@@ -251,5 +263,8 @@ unfolding line_fits
 one_line_more all rest line after n r s c d h e f a t k is =
     let next = next_line all rest line after n r h e in
     let text : IsUtf8 line = IsUtf8-from_is_utf8 line (and_parts (is_utf8 line) _ f).0 in
-    let more = one_more all rest line after (take n (lines all)) c (section_index r.part) (section_index s.part) (length all - length after) (is_header line) refl (sym h.said.part) refl a.part text t k in
-    subst (HasText all after (take (n + 1) (lines all))) (sym is) (subst (λ (ls : List (List ℕ)). HasText all after ls (passed c (section_index r.part) (section_index s.part) (length all - length after))) (sym next.more) more)
+    let more = one_more all rest line after (take n (lines all)) c (section_index r.part) (section_index s.part) (length all - length after)
+    (is_header line) refl (sym h.said.part) refl a.part text t k in
+    subst (HasText all after (take (n + 1) (lines all))) (sym is)
+    (subst (λ (ls : List (List ℕ)). HasText all after ls (passed c (section_index r.part) (section_index s.part) (length all - length after)))
+    (sym next.more) more)

@@ -115,7 +115,8 @@ listed_at xs i x lt e = list_any-from_Any (λ y. y == x) xs (i, x, lt, sym e, eq
 
 listed_front : (xs : List ℕ) (i d : ℕ) → list_any (λ y. y == d) (take i xs) ≡ true → list_any (λ y. y == d) xs ≡ true
 listed_front xs i d h =
-    let e : list_any (λ y. y == d) (take i xs ++ drop i xs) ≡ true = list_any-append (λ y. y == d) (take i xs) (drop i xs) ∙ or_left _ (list_any (λ y. y == d) (drop i xs)) h in
+    let e : list_any (λ y. y == d) (take i xs ++ drop i xs) ≡ true =
+    list_any-append (λ y. y == d) (take i xs) (drop i xs) ∙ or_left _ (list_any (λ y. y == d) (drop i xs)) h in
     ap (list_any (λ y. y == d)) (sym (take-append-drop i xs)) ∙ e
 
 row_front : (f : Edges) (a : ℕ) (xs : List ℕ) (i c d : ℕ) → with_row f a (take i xs) c d ≡ true → with_row f a xs c d ≡ true
@@ -142,12 +143,24 @@ refused_circular old g a x xs i t lt e back =
     let edge : with_row (is_edge old) a xs a x ≡ true = row_at (is_edge old) a xs x (listed_at xs i x lt e) in
     elim back [
       | inl same ↦ inr (a, ([], ap (λ (y : ℕ). with_row (is_edge old) a xs a y) same ∙ edge))
-      | inr path ↦ inr (a, (x ∷ path.0, (edge, chain_in (is_edge g) (with_row (is_edge old) a xs) (λ c d f. row_front (is_edge old) a xs i c d (sym (t.edges.same c d) ∙ f)) x path.0 a path.1)))
+      | inr path ↦
+          inr (
+            a,
+            (
+              x ∷ path.0,
+              (
+                edge,
+                chain_in (is_edge g) (with_row (is_edge old) a xs)
+                    (λ c d f. row_front (is_edge old) a xs i c d (sym (t.edges.same c d) ∙ f)) x path.0 a path.1,
+              ),
+            ),
+          )
     ]
 
 -- ---- one service after the other
 
-split_at : (p q r x y : Bool) → (p ≡ true → (q ≡ false) × (r ≡ true)) → (q ≡ true → (r ≡ true) × (x ≡ y)) → ((p ≡ false) → (q ≡ false) → r ≡ false) → ((p && y) || (q && x)) ≡ (r && y)
+split_at : (p q r x y : Bool) → (p ≡ true → (q ≡ false) × (r ≡ true)) → (q ≡ true → (r ≡ true) × (x ≡ y)) → ((p ≡ false) → (q ≡ false) → r ≡ false)
+    → ((p && y) || (q && x)) ≡ (r && y)
 split_at true q r x y f g h = let e = f refl in rw (e.0, e.1) (either y)
   where
     either : (y : Bool) → (y || (false && x)) ≡ y
@@ -159,7 +172,8 @@ split_at false false r x y f g h = rw (h refl refl) refl
 starts_after : (a k : ℕ) → k ≤ a → (a ≡ k → ⊥) → k + 1 ≤ a
 starts_after a k le ne = elim (cases_lt k a) [ inl lt ↦ omega arith | inr ge ↦ absurd (ne (omega arith)) ]
 
-edges_more : (xs : List ServiceLine) (k : ℕ) (after : List ℕ) (a b : ℕ) → after ≡ after_at xs k → with_row (edges_up_to xs k) k after a b ≡ edges_up_to xs (k + 1) a b
+edges_more : (xs : List ServiceLine) (k : ℕ) (after : List ℕ) (a b : ℕ) → after ≡ after_at xs k
+    → with_row (edges_up_to xs k) k after a b ≡ edges_up_to xs (k + 1) a b
 edges_more xs k after a b e =
     split_at (ltb a k) (a == k) (ltb a (k + 1)) (list_any (λ x. x == b) after) (list_any (λ x. x == b) (after_at xs a))
     (λ p. let lt = ltb-true a k p in (ne_eqb a k (λ s. omega arith), lt-ltb a (k + 1) (omega arith)))
@@ -180,14 +194,16 @@ pub record HasServices (g : GraphData) (xs : List ServiceLine) (k : ℕ) : Type 
 pub services_none : (g : GraphData) (xs : List ServiceLine) → HasEdges g (length xs) (edges_up_to xs 0) → HasServices g xs 0
 services_none g xs h = record { edges = h; known = sound_none xs }
 
-pub services_more : (g h : GraphData) (xs : List ServiceLine) (k : ℕ) (after : List ℕ) → HasServices g xs k → after ≡ after_at xs k → HasTaken g h k after → HasServices h xs (k + 1)
+pub services_more : (g h : GraphData) (xs : List ServiceLine) (k : ℕ) (after : List ℕ) → HasServices g xs k → after ≡ after_at xs k → HasTaken g h k after
+    → HasServices h xs (k + 1)
 services_more g h xs k after s e t = record {
   edges = record {
     count = t.edges.count ∙ s.edges.count;
     same = λ a b. t.edges.same a b ∙ ap (λ (x : Bool). x || (a == k && list_any (λ y. y == b) after)) (s.edges.same a b) ∙ edges_more xs k after a b e;
     acyclic = t.edges.acyclic;
   };
-  known = below_more (λ a. All (λ b. b < length xs) (after_at xs a)) k s.known (subst (All (λ b. b < length xs)) e (subst (λ (n : ℕ). All (λ b. b < n) after) s.edges.count t.known));
+  known = below_more (λ a. All (λ b. b < length xs) (after_at xs a)) k s.known
+      (subst (All (λ b. b < length xs)) e (subst (λ (n : ℕ). All (λ b. b < n) after) s.edges.count t.known));
 }
 
 services_sound : (g : GraphData) (xs : List ServiceLine) (k : ℕ) → HasServices g xs k → AreSoundUpTo xs k
@@ -196,7 +212,8 @@ services_sound g xs k s = record { known = s.known; acyclic = same_acyclic (edge
 pub services_all : (g : GraphData) (xs : List ServiceLine) (k : ℕ) → k ≡ length xs → HasServices g xs k → RefusesNone xs
 services_all g xs k e s = subst (AreSoundUpTo xs) e (services_sound g xs k s)
 
-chain_same : (n m : ℕ) (f g : Edges) (after row : List ℕ) → n ≡ m → after ≡ row → ((a b : ℕ) → f a b ≡ true → g a b ≡ true) → IsUnsound n f after → IsUnsound m g row
+chain_same : (n m : ℕ) (f g : Edges) (after row : List ℕ) → n ≡ m → after ≡ row → ((a b : ℕ) → f a b ≡ true → g a b ≡ true) → IsUnsound n f after
+    → IsUnsound m g row
 chain_same n m f g after row en er h u =
     elim u [
       | inl none ↦ inl (subst (λ (ys : List ℕ). Any (λ b. m ≤ b) ys) er (subst (λ (x : ℕ). Any (λ b. x ≤ b) after) en none))
@@ -215,7 +232,8 @@ services_refused g xs k after s lt e u = record {
 -- ---- the node at a place of the row
 
 pub taken_next : (old g h : GraphData) (a : ℕ) (xs : List ℕ) (i d : ℕ) → HasTaken old g a (take i xs) → i < length xs → h ≡ with_edge g a (get_or xs i d)
-    → ((x y : ℕ) → is_edge h x y ≡ (is_edge g x y || (x == a && y == get_or xs i d))) → IsAcyclic (is_edge h) → (IsUnknown g a (get_or xs i d) → ⊥) → HasTaken old h a (take (i + 1) xs)
+    → ((x y : ℕ) → is_edge h x y ≡ (is_edge g x y || (x == a && y == get_or xs i d))) → IsAcyclic (is_edge h) → (IsUnknown g a (get_or xs i d) → ⊥)
+    → HasTaken old h a (take (i + 1) xs)
 taken_next old g h a xs i d t lt made edges acyclic known =
     let x : ℕ = get_or xs i d in
     let below : x < node_count g = elim (cases_lt x (node_count g)) [ inl lt' ↦ lt' | inr le ↦ absurd (known (inr le)) ] in
@@ -251,7 +269,9 @@ refused_unsound xs k n r lt s =
           let here : get_or (after_at xs k) none.0 none.1 ≡ none.1 = none.3 in
           let past : length xs ≤ none.1 = none.4 in
           omega arith
-      | inr cycle ↦ s.acyclic cycle.0 (cycle.1.0, chain_in (edges_up_to xs (k + 1)) (edges_up_to xs n) (edges_grow xs (k + 1) n (omega arith)) cycle.0 cycle.1.0 cycle.0 cycle.1.1)
+      | inr cycle ↦
+          s.acyclic cycle.0
+          (cycle.1.0, chain_in (edges_up_to xs (k + 1)) (edges_up_to xs n) (edges_grow xs (k + 1) n (omega arith)) cycle.0 cycle.1.0 cycle.0 cycle.1.1)
     ]
 
 pub refused_some : (xs : List ServiceLine) (k : ℕ) → RefusesAt xs k → RefusesNone xs → ⊥

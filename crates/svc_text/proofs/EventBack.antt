@@ -73,7 +73,10 @@ event_fits events.ConnectFailed h = (record { visible = refl; some = omega arith
 event_fits events.Sent h = (record { visible = refl; some = omega arith }, tt)
 event_fits events.SendBusy h = (record { visible = refl; some = omega arith }, tt)
 event_fits events.SendFailed h = (record { visible = refl; some = omega arith }, tt)
-event_fits (events.Arrived s i c peer) h = (record { visible = refl; some = omega arith }, (digits_word 10 s, (digits_word 10 i, (digits_word 10 c, (record { visible = peer_visible peer h.3; some = peer_nonempty peer }, tt)))))
+event_fits (events.Arrived s i c peer) h = (
+  record { visible = refl; some = omega arith },
+  (digits_word 10 s, (digits_word 10 i, (digits_word 10 c, (record { visible = peer_visible peer h.3; some = peer_nonempty peer }, tt)))),
+)
 event_fits (events.AcceptFailed s i n) h = (record { visible = refl; some = omega arith }, (digits_word 10 s, (digits_word 10 i, (digits_word 10 n, tt))))
 event_fits (events.Set c ok) h = (record { visible = refl; some = omega arith }, (digits_word 10 c, (ok_fits ok, tt)))
 event_fits (events.Shaken c ok) h = (record { visible = refl; some = omega arith }, (digits_word 10 c, (ok_fits ok, tt)))

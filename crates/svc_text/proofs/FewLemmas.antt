@@ -40,9 +40,15 @@ after (Some a) f h = h a
 few_bare : (key : List ℕ) → IsFew (bare_event key)
 unfolding bare_event
 few_bare key =
-    either _ _ _ (one_few (events.NoSenderYet) (omega arith)) (either _ _ _ (one_few (events.ReceiveFailed) (omega arith)) (either _ _ _ (one_few (events.Connected) (omega arith)) (either _ _ _ (one_few (events.NotThere) (omega arith))
-    (either _ _ _ (one_few (events.StillConnecting) (omega arith)) (either _ _ _ (one_few (events.ConnectFailed) (omega arith)) (either _ _ _ (one_few (events.Sent) (omega arith)) (either _ _ _ (one_few (events.SendBusy) (omega arith))
-    (either _ _ _ (one_few (events.SendFailed) (omega arith)) (either _ _ _ (one_few (events.ChildReady) (omega arith)) (either _ _ _ (one_few (events.ChildGone) (omega arith)) (either _ _ _ (one_few (events.DropFailed) (omega arith)) none_few)))))))))))
+    either _ _ _ (one_few (events.NoSenderYet) (omega arith))
+    (either _ _ _ (one_few (events.ReceiveFailed) (omega arith))
+    (either _ _ _ (one_few (events.Connected) (omega arith)) (either _ _ _ (one_few (events.NotThere) (omega arith))
+    (either _ _ _ (one_few (events.StillConnecting) (omega arith))
+    (either _ _ _ (one_few (events.ConnectFailed) (omega arith))
+    (either _ _ _ (one_few (events.Sent) (omega arith)) (either _ _ _ (one_few (events.SendBusy) (omega arith))
+    (either _ _ _ (one_few (events.SendFailed) (omega arith))
+    (either _ _ _ (one_few (events.ChildReady) (omega arith))
+    (either _ _ _ (one_few (events.ChildGone) (omega arith)) (either _ _ _ (one_few (events.DropFailed) (omega arith)) none_few)))))))))))
 
 few_of_one : (key first : List ℕ) → IsFew (event_of_one key first)
 unfolding event_of_one
@@ -67,16 +73,27 @@ few_of_two key first second =
 few_of_three : (key first second third : List ℕ) → IsFew (event_of_three key first second third)
 unfolding event_of_three
 few_of_three key first second third =
-    either _ _ _ (after (number_of (2 ^ 32) first) _ (λ s. after (number_of (2 ^ 32) second) _ (λ i. after (number_of (2 ^ 64) third) _ (λ n. one_few (events.Bound s i n) (omega arith)))))
-    (either _ _ _ (after (number_of (2 ^ 32) first) _ (λ s. after (number_of (2 ^ 32) second) _ (λ i. after (number_of (2 ^ 32) third) _ (λ n. one_few (events.AcceptFailed s i n) (omega arith)))))
-    (either _ _ _ (after (number_of (2 ^ 32) first) _ (λ s. after (number_of (2 ^ 32) second) _ (λ i. after (number_of (2 ^ 64) third) _ (λ n. one_few (events.LoopEnded s i n) (omega arith))))) none_few))
+    either _ _ _
+    (after (number_of (2 ^ 32) first) _
+    (λ s. after (number_of (2 ^ 32) second) _ (λ i. after (number_of (2 ^ 64) third) _ (λ n. one_few (events.Bound s i n) (omega arith)))))
+    (either _ _ _
+    (after (number_of (2 ^ 32) first) _
+    (λ s. after (number_of (2 ^ 32) second) _ (λ i. after (number_of (2 ^ 32) third) _ (λ n. one_few (events.AcceptFailed s i n) (omega arith)))))
+    (either _ _ _
+    (after (number_of (2 ^ 32) first) _
+    (λ s. after (number_of (2 ^ 32) second) _ (λ i. after (number_of (2 ^ 64) third) _ (λ n. one_few (events.LoopEnded s i n) (omega arith)))))
+    none_few))
 
 few_of_four : (key first second third fourth : List ℕ) → IsFew (event_of_four key first second third fourth)
 unfolding event_of_four
 few_of_four key first second third fourth =
-    either _ _ _ (after (number_of (2 ^ 32) first) _ (λ s. after (number_of (2 ^ 32) second) _ (λ i. after (number_of (2 ^ 64) third) _ (λ n. after (peer_of fourth) _ (λ p. one_few (events.Arrived s i n p) (omega arith)))))) none_few
+    either _ _ _
+    (after (number_of (2 ^ 32) first) _
+    (λ s. after (number_of (2 ^ 32) second) _
+    (λ i. after (number_of (2 ^ 64) third) _ (λ n. after (peer_of fourth) _ (λ p. one_few (events.Arrived s i n p) (omega arith)))))) none_few
 
-few_descriptors : (bytes : List ℕ) (o : Option (List ℕ)) → IsFew ((o >>= λ fds. cond (leb (length fds) 32) (Some fds) None) >>= λ fds. Some (events.Received bytes fds))
+few_descriptors : (bytes : List ℕ) (o : Option (List ℕ))
+    → IsFew ((o >>= λ fds. cond (leb (length fds) 32) (Some fds) None) >>= λ fds. Some (events.Received bytes fds))
 few_descriptors bytes None = none_few
 few_descriptors bytes (Some fds) =
     elim (cases_Bool (leb (length fds) 32)) [

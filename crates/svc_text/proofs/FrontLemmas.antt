@@ -30,7 +30,8 @@ fitting_all ls e = rw e (take-length ls)
 
 -- the next line doesn't fit
 pub front_refused : (all rest line after : List ℕ) (n : ℕ) (r : Reading) (f : ParsedPrefix) → HasRead all rest n r → lines rest ≡ line ∷ lines after
-    → line_fits (section_index r.part) r.eager r.services.items line ≡ false → HasText all rest (take n (lines all)) f.conf → n ≤ length all → f.number ≡ n → f.refused ≡ true → IsFront all f
+    → line_fits (section_index r.part) r.eager r.services.items line ≡ false → HasText all rest (take n (lines all)) f.conf → n ≤ length all → f.number ≡ n
+    → f.refused ≡ true → IsFront all f
 front_refused all rest line after n r f h e never t short number refused =
     let next = next_line all rest line after n r h e in
     let m : first_misfit (lines all) ≡ Some n = misfit_at (lines all) n h.fit next.here (fits_next all rest line after n r h next ∙ never) in
@@ -50,7 +51,8 @@ ended ls n le d =
     (e, rw e (take-length ls))
 
 -- all lines fit
-pub front_whole : (all rest : List ℕ) (n : ℕ) (r : Reading) (f : ParsedPrefix) → HasRead all rest n r → lines rest ≡ [] → HasText all rest (take n (lines all)) f.conf
+pub front_whole : (all rest : List ℕ) (n : ℕ) (r : Reading) (f : ParsedPrefix) → HasRead all rest n r → lines rest ≡ []
+    → HasText all rest (take n (lines all)) f.conf
     → AreLines (lines all) (length r.services.items) f.lines.items → n ≤ length all → f.number ≡ n → f.refused ≡ false → f.reading ≡ r → IsFront all f
 front_whole all rest n r f h e t places short number refused same =
     let z = ended (lines all) n h.within (sym h.rest_is ∙ e) in
@@ -72,7 +74,8 @@ unfolding conf_in configuration
 conf_is all f h = ap (λ (ls : List (List ℕ)). overridden_by defaults (said_from [] ls)) (sym h.conf.says)
 
 -- a line of the configuration is refused
-pub conf_refused : (all : List ℕ) (f : ParsedPrefix) (error : ScriptError) → IsFront all f → SaysConf (Err error) f.conf.before (configuration (text_at f.conf all)) → Gives (Err error) (script all)
+pub conf_refused : (all : List ℕ) (f : ParsedPrefix) (error : ScriptError) → IsFront all f
+    → SaysConf (Err error) f.conf.before (configuration (text_at f.conf all)) → Gives (Err error) (script all)
 unfolding script script_of judged
 conf_refused all f (Line n) h (e, is, number) =
     let c : conf_in (fitting (lines all)) ≡ Err e = conf_is all f h ∙ is in
@@ -81,14 +84,17 @@ conf_refused all f (Line n) h (e, is, number) =
 conf_refused all f NoMemory h said = tt
 
 -- where the configuration is taken, what the lines that fit are followed by
-behind : (all : List ℕ) (f : ParsedPrefix) (conf : ServerConf) → IsFront all f → SaysConf (Ok conf) f.conf.before (configuration (text_at f.conf all)) → script all ≡ judged (not f.refused) (Ok conf) (fitting (lines all))
+behind : (all : List ℕ) (f : ParsedPrefix) (conf : ServerConf) → IsFront all f → SaysConf (Ok conf) f.conf.before (configuration (text_at f.conf all))
+    → script all ≡ judged (not f.refused) (Ok conf) (fitting (lines all))
 unfolding script script_of
 behind all f conf h is =
     let c : conf_in (fitting (lines all)) ≡ Ok conf = conf_is all f h ∙ is in
-    ap (λ (b : Bool). judged b (conf_in (fitting (lines all))) (fitting (lines all))) h.whole ∙ ap (λ (r : Result ServerConf ReadError). judged (not f.refused) r (fitting (lines all))) c
+    ap (λ (b : Bool). judged b (conf_in (fitting (lines all))) (fitting (lines all))) h.whole
+    ∙ ap (λ (r : Result ServerConf ReadError). judged (not f.refused) r (fitting (lines all))) c
 
 -- it is what is answered
-pub finished_gives : (all : List ℕ) (f : ParsedPrefix) (conf : ServerConf) → IsFront all f → SaysConf (Ok conf) f.conf.before (configuration (text_at f.conf all)) → Gives (finished f conf) (script all)
+pub finished_gives : (all : List ℕ) (f : ParsedPrefix) (conf : ServerConf) → IsFront all f
+    → SaysConf (Ok conf) f.conf.before (configuration (text_at f.conf all)) → Gives (finished f conf) (script all)
 unfolding judged
 finished_gives all f conf h is = by_tests f.refused (section_index f.reading.part == 3) refl refl
   where

@@ -18,15 +18,18 @@ two_first (a ∷ []) h = absurd (omega arith)
 two_first (a ∷ b ∷ rest) h = refl
 
 -- one byte more
-pub hex_of-more : (word rest bytes others : List ℕ) (byte : ℕ) → hex_of word ≡ behind bytes (hex_of rest) → 2 ≤ length rest → Some byte ≡ hex_byte_of (get_or rest 0 0) (get_or rest 1 0) → others ≡ bytes ++ byte ∷ []
+pub hex_of-more : (word rest bytes others : List ℕ) (byte : ℕ) → hex_of word ≡ behind bytes (hex_of rest) → 2 ≤ length rest
+    → Some byte ≡ hex_byte_of (get_or rest 0 0) (get_or rest 1 0) → others ≡ bytes ++ byte ∷ []
     → hex_of word ≡ behind others (hex_of (drop 2 rest))
 unfolding hex_of
 hex_of-more word rest bytes others byte h le eb eo =
     let step : hex_of (get_or rest 0 0 ∷ get_or rest 1 0 ∷ drop 2 rest) ≡ option_map (λ more. byte ∷ more) (hex_of (drop 2 rest)) = rw (← eb) refl in
-    h ∙ ap (λ (r : List ℕ). behind bytes (hex_of r)) (two_first rest le) ∙ ap (behind bytes) step ∙ behind_pushed bytes byte (hex_of (drop 2 rest)) ∙ ap (λ (t : List ℕ). behind t (hex_of (drop 2 rest))) (sym eo)
+    h ∙ ap (λ (r : List ℕ). behind bytes (hex_of r)) (two_first rest le) ∙ ap (behind bytes) step ∙ behind_pushed bytes byte (hex_of (drop 2 rest))
+    ∙ ap (λ (t : List ℕ). behind t (hex_of (drop 2 rest))) (sym eo)
 
 -- two bytes that are no digits
-pub hex_of-stops : (word rest bytes : List ℕ) → hex_of word ≡ behind bytes (hex_of rest) → 2 ≤ length rest → None ≡ hex_byte_of (get_or rest 0 0) (get_or rest 1 0) → hex_of word ≡ None
+pub hex_of-stops : (word rest bytes : List ℕ) → hex_of word ≡ behind bytes (hex_of rest) → 2 ≤ length rest
+    → None ≡ hex_byte_of (get_or rest 0 0) (get_or rest 1 0) → hex_of word ≡ None
 unfolding hex_of
 hex_of-stops word rest bytes h le eb =
     let step : hex_of (get_or rest 0 0 ∷ get_or rest 1 0 ∷ drop 2 rest) ≡ None = rw (← eb) refl in

@@ -8,15 +8,18 @@ unfolding with_items
 items_end s ws e = rw e refl
 
 -- of the words that they are
-pub items_of : (s : ServiceLine) (key : List ℕ) (ws vs : List (List ℕ)) (o : Option ServiceLine) → ws ≡ key ∷ vs → with_items s (key ∷ vs) ≡ o → with_items s ws ≡ o
+pub items_of : (s : ServiceLine) (key : List ℕ) (ws vs : List (List ℕ)) (o : Option ServiceLine) → ws ≡ key ∷ vs → with_items s (key ∷ vs) ≡ o
+    → with_items s ws ≡ o
 items_of s key ws vs o e h = rw e h
 
-pub undeclared_not : (s : ServiceLine) (key : List ℕ) (ws : List (List ℕ)) → is_undeclared key ≡ true → with_undeclared s ≡ None → with_items s (key ∷ ws) ≡ None
+pub undeclared_not : (s : ServiceLine) (key : List ℕ) (ws : List (List ℕ)) → is_undeclared key ≡ true → with_undeclared s ≡ None
+    → with_items s (key ∷ ws) ≡ None
 unfolding with_items
 undeclared_not s key [] h e = rw (h, e) refl
 undeclared_not s key (value ∷ more) h e = rw (h, e) refl
 
-pub undeclared_taken : (s t : ServiceLine) (key : List ℕ) (ws : List (List ℕ)) → is_undeclared key ≡ true → with_undeclared s ≡ Some t → with_items s (key ∷ ws) ≡ with_items t ws
+pub undeclared_taken : (s t : ServiceLine) (key : List ℕ) (ws : List (List ℕ)) → is_undeclared key ≡ true → with_undeclared s ≡ Some t
+    → with_items s (key ∷ ws) ≡ with_items t ws
 unfolding with_items
 undeclared_taken s t key [] h e = rw (h, e) refl
 undeclared_taken s t key (value ∷ more) h e = rw (h, e) refl
@@ -25,11 +28,13 @@ pub pair_odd : (s : ServiceLine) (key : List ℕ) (ws : List (List ℕ)) → is_
 unfolding with_items
 pair_odd s key ws h e = rw (e, h) refl
 
-pub pair_not : (s : ServiceLine) (key value : List ℕ) (ws more : List (List ℕ)) → is_undeclared key ≡ false → ws ≡ value ∷ more → with_item s key value ≡ None → with_items s (key ∷ ws) ≡ None
+pub pair_not : (s : ServiceLine) (key value : List ℕ) (ws more : List (List ℕ)) → is_undeclared key ≡ false → ws ≡ value ∷ more → with_item s key value ≡ None
+    → with_items s (key ∷ ws) ≡ None
 unfolding with_items
 pair_not s key value ws more h e f = rw (e, h, f) refl
 
-pub pair_taken : (s t : ServiceLine) (key value : List ℕ) (ws more : List (List ℕ)) → is_undeclared key ≡ false → ws ≡ value ∷ more → with_item s key value ≡ Some t → with_items s (key ∷ ws) ≡ with_items t more
+pub pair_taken : (s t : ServiceLine) (key value : List ℕ) (ws more : List (List ℕ)) → is_undeclared key ≡ false → ws ≡ value ∷ more
+    → with_item s key value ≡ Some t → with_items s (key ∷ ws) ≡ with_items t more
 unfolding with_items
 pair_taken s t key value ws more h e f = rw (e, h, f) refl
 

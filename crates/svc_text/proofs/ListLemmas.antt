@@ -28,11 +28,14 @@ abbrev pub read : List (List ℕ) → Option (List ℕ)
 read parts = all_some (map (number_of (2 ^ 32)) parts)
 
 -- one more part
-pub read_more : (parts : List (List ℕ)) (i j n : ℕ) (w : List ℕ) (xs ys : List ℕ) → (i < length parts) × (w ≡ get_or parts i w) → Some n ≡ number_of (2 ^ 32) w → j ≡ i + 1 → ys ≡ xs ++ n ∷ []
+pub read_more : (parts : List (List ℕ)) (i j n : ℕ) (w : List ℕ) (xs ys : List ℕ) → (i < length parts) × (w ≡ get_or parts i w) → Some n ≡ number_of (2 ^ 32) w
+    → j ≡ i + 1 → ys ≡ xs ++ n ∷ []
     → read (take i parts) ≡ Some xs → read (take j parts) ≡ Some ys
 read_more parts i j n w xs ys at e ej ey h =
     let cut : take (i + 1) parts ≡ take i parts ++ w ∷ [] = take_more parts i w at.0 ∙ ap (λ (v : List ℕ). take i parts ++ v ∷ []) (sym at.1) in
-    let one : read (take (i + 1) parts) ≡ Some (xs ++ n ∷ []) = ap read cut ∙ ap all_some (map_push (number_of (2 ^ 32)) (take i parts) w) ∙ rw (← e) (all_some-push (map (number_of (2 ^ 32)) (take i parts)) xs n h) in
+    let one : read (take (i + 1) parts) ≡ Some (xs ++ n ∷ []) =
+    ap read cut ∙ ap all_some (map_push (number_of (2 ^ 32)) (take i parts) w)
+    ∙ rw (← e) (all_some-push (map (number_of (2 ^ 32)) (take i parts)) xs n h) in
     rw (ej, ey) one
 
 -- a part that is no number
@@ -40,7 +43,8 @@ pub read_stops : (parts : List (List ℕ)) (i : ℕ) (w : List ℕ) → (i < len
 read_stops parts i w at e =
     let lt : i < length parts = at.0 in
     let len : length (map (number_of (2 ^ 32)) parts) ≡ length parts = length-map parts (number_of (2 ^ 32)) in
-    let there : get_or (map (number_of (2 ^ 32)) parts) i None ≡ None = get_or-map (number_of (2 ^ 32)) parts i w None lt ∙ ap (number_of (2 ^ 32)) (sym at.1) ∙ sym e in
+    let there : get_or (map (number_of (2 ^ 32)) parts) i None ≡ None =
+    get_or-map (number_of (2 ^ 32)) parts i w None lt ∙ ap (number_of (2 ^ 32)) (sym at.1) ∙ sym e in
     all_some-stop (map (number_of (2 ^ 32)) parts) i None (omega arith) there
 
 pub read_all : (parts : List (List ℕ)) (i : ℕ) (xs : List ℕ) → i ≡ length parts → read (take i parts) ≡ Some xs → read parts ≡ Some xs

@@ -29,7 +29,8 @@ part-later x (part ∷ parts) n h = refl
 split_some : {X : Type 0} (p : X → Bool) (xs : List X) → 0 < length (slice_split p xs)
 split_some p xs = omega (arith, length-slice_split p xs)
 
-push_nil : {X : Type 0} (p : X → Bool) (y : X) (b : Bool) (n : ℕ) → p y ≡ b → get_or (slice_split p (y ∷ [])) n [] ≡ get_or (slice_split p []) n [] ++ pick (eqb 0 n && not (p y)) y
+push_nil : {X : Type 0} (p : X → Bool) (y : X) (b : Bool) (n : ℕ) → p y ≡ b
+    → get_or (slice_split p (y ∷ [])) n [] ≡ get_or (slice_split p []) n [] ++ pick (eqb 0 n && not (p y)) y
 unfolding pick
 push_nil p y true zero e = rw e refl
 push_nil p y true (suc zero) e = rw e refl
@@ -61,7 +62,8 @@ push_step p x xs y false (suc n) e ih =
     let d = part-later x (slice_split p xs) n (split_some p xs) in
     rw (c, e, a, d) (ih (suc n))
 
-part_push : {X : Type 0} (p : X → Bool) (xs : List X) (y : X) (n : ℕ) → get_or (slice_split p (xs ++ y ∷ [])) n [] ≡ get_or (slice_split p xs) n [] ++ pick (eqb (count_by p xs) n && not (p y)) y
+part_push : {X : Type 0} (p : X → Bool) (xs : List X) (y : X) (n : ℕ)
+    → get_or (slice_split p (xs ++ y ∷ [])) n [] ≡ get_or (slice_split p xs) n [] ++ pick (eqb (count_by p xs) n && not (p y)) y
 part_push p [] y n = push_nil p y (p y) n refl
 part_push p (x ∷ xs) y n = push_step p x xs y (p x) n refl (λ k. part_push p xs y k)
 

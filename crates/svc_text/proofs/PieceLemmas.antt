@@ -12,15 +12,18 @@ abbrev pub read_by : (List ℕ → Option ℕ) → List (List ℕ) → Option (L
 read_by f pieces = all_some (map f pieces)
 
 -- one more piece
-pub read_by-more : (f : List ℕ → Option ℕ) (pieces : List (List ℕ)) (i j n : ℕ) (w : List ℕ) (xs ys : List ℕ) → (i < length pieces) × (w ≡ get_or pieces i w) → Some n ≡ f w → j ≡ i + 1 → ys ≡ xs ++ n ∷ []
+pub read_by-more : (f : List ℕ → Option ℕ) (pieces : List (List ℕ)) (i j n : ℕ) (w : List ℕ) (xs ys : List ℕ) → (i < length pieces) × (w ≡ get_or pieces i w)
+    → Some n ≡ f w → j ≡ i + 1 → ys ≡ xs ++ n ∷ []
     → read_by f (take i pieces) ≡ Some xs → read_by f (take j pieces) ≡ Some ys
 read_by-more f pieces i j n w xs ys at e ej ey h =
     let cut : take (i + 1) pieces ≡ take i pieces ++ w ∷ [] = take_more pieces i w at.0 ∙ ap (λ (v : List ℕ). take i pieces ++ v ∷ []) (sym at.1) in
-    let one : read_by f (take (i + 1) pieces) ≡ Some (xs ++ n ∷ []) = ap (read_by f) cut ∙ ap all_some (map_push f (take i pieces) w) ∙ rw (← e) (all_some-push (map f (take i pieces)) xs n h) in
+    let one : read_by f (take (i + 1) pieces) ≡ Some (xs ++ n ∷ []) =
+    ap (read_by f) cut ∙ ap all_some (map_push f (take i pieces) w) ∙ rw (← e) (all_some-push (map f (take i pieces)) xs n h) in
     rw (ej, ey) one
 
 -- a piece that can't be read
-pub read_by-stops : (f : List ℕ → Option ℕ) (pieces : List (List ℕ)) (i : ℕ) (w : List ℕ) → (i < length pieces) × (w ≡ get_or pieces i w) → None ≡ f w → read_by f pieces ≡ None
+pub read_by-stops : (f : List ℕ → Option ℕ) (pieces : List (List ℕ)) (i : ℕ) (w : List ℕ) → (i < length pieces) × (w ≡ get_or pieces i w) → None ≡ f w
+    → read_by f pieces ≡ None
 read_by-stops f pieces i w at e =
     let lt : i < length pieces = at.0 in
     let len : length (map f pieces) ≡ length pieces = length-map pieces f in
@@ -28,7 +31,8 @@ read_by-stops f pieces i w at e =
     all_some-stop (map f pieces) i None (omega arith) there
 
 -- the last piece
-pub read_by-all : (f : List ℕ → Option ℕ) (pieces : List (List ℕ)) (i : ℕ) (xs : List ℕ) → i ≡ length pieces → read_by f (take i pieces) ≡ Some xs → read_by f pieces ≡ Some xs
+pub read_by-all : (f : List ℕ → Option ℕ) (pieces : List (List ℕ)) (i : ℕ) (xs : List ℕ) → i ≡ length pieces → read_by f (take i pieces) ≡ Some xs
+    → read_by f pieces ≡ Some xs
 read_by-all f pieces i xs e h = ap (read_by f) (sym (rw e (take-length pieces))) ∙ h
 
 -- all, one after the other

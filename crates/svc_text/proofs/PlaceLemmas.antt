@@ -25,11 +25,13 @@ pub fits_not_text : (n : ℕ) (eager : Bool) (ss : List ServiceLine) (line : Lis
 unfolding line_fits
 fits_not_text n eager ss line e = rw e refl
 
-pub fits_header : (n : ℕ) (eager : Bool) (ss : List ServiceLine) (line : List ℕ) (p : Section) → is_utf8 line ≡ true → header_of line ≡ Some p → (section_index p == n + 1) ≡ line_fits n eager ss line
+pub fits_header : (n : ℕ) (eager : Bool) (ss : List ServiceLine) (line : List ℕ) (p : Section) → is_utf8 line ≡ true → header_of line ≡ Some p
+    → (section_index p == n + 1) ≡ line_fits n eager ss line
 unfolding line_fits place_fits
 fits_header n eager ss line p e h = rw (e, h) refl
 
-pub fits_conf : (n : ℕ) (eager : Bool) (ss : List ServiceLine) (line : List ℕ) → is_utf8 line ≡ true → header_of line ≡ None → n ≡ 1 → line_fits n eager ss line ≡ true
+pub fits_conf : (n : ℕ) (eager : Bool) (ss : List ServiceLine) (line : List ℕ) → is_utf8 line ≡ true → header_of line ≡ None → n ≡ 1
+    → line_fits n eager ss line ≡ true
 unfolding line_fits place_fits
 fits_conf n eager ss line e h k = rw (e, h, k) refl
 
@@ -37,7 +39,8 @@ either_true : (b : Bool) → (b || true) ≡ true
 either_true true = refl
 either_true false = refl
 
-pub fits_skipped : (n : ℕ) (eager : Bool) (ss : List ServiceLine) (line : List ℕ) → is_utf8 line ≡ true → header_of line ≡ None → is_skipped (words line) ≡ true → line_fits n eager ss line ≡ true
+pub fits_skipped : (n : ℕ) (eager : Bool) (ss : List ServiceLine) (line : List ℕ) → is_utf8 line ≡ true → header_of line ≡ None → is_skipped (words line) ≡ true
+    → line_fits n eager ss line ≡ true
 unfolding line_fits place_fits
 fits_skipped n eager ss line e h k = rw (e, h, k) (either_true (n == 1))
 
@@ -45,7 +48,8 @@ pub blank_skipped : (ws : List (List ℕ)) → ws ≡ [] → is_skipped ws ≡ t
 unfolding is_skipped
 blank_skipped ws e = rw e refl
 
-pub fits_item : (n : ℕ) (eager : Bool) (ss : List ServiceLine) (line : List ℕ) → is_utf8 line ≡ true → header_of line ≡ None → (n == 1) ≡ false → is_skipped (words line) ≡ false
+pub fits_item : (n : ℕ) (eager : Bool) (ss : List ServiceLine) (line : List ℕ) → is_utf8 line ≡ true → header_of line ≡ None → (n == 1) ≡ false
+    → is_skipped (words line) ≡ false
     → says_item n eager ss (words line) ≡ line_fits n eager ss line
 unfolding line_fits place_fits
 fits_item n eager ss line e h other k = rw (e, h, other, k) refl
@@ -67,7 +71,8 @@ eager_service (w ∷ []) h = refl
 eager_service (w ∷ v ∷ ws) h = absurd cc
 
 -- it says no service
-pub eager_services : (old new : Reading) (line : List ℕ) (r : Result (Unit {0}) LineError) → is_eager (words line) ≡ true → OnOk r (new ≡ record old { eager = true })
+pub eager_services : (old new : Reading) (line : List ℕ) (r : Result (Unit {0}) LineError) → is_eager (words line) ≡ true
+    → OnOk r (new ≡ record old { eager = true })
     → OnOk r (new.services.items ≡ old.services.items ++ option_to_list (service_of (words line)))
 eager_services old new line (Ok x) h e =
     let none : service_of (words line) ≡ None = eager_service (words line) h in
@@ -88,7 +93,8 @@ skipped_item : (ws : List (List ℕ)) → is_skipped ws ≡ true → item_of ws 
 unfolding item_of
 skipped_item ws h = rw (skipped_is_no_fault ws h, skipped_event ws h) refl
 
-pub header_says : (n : ℕ) (line : List ℕ) (p : Section) → header_of line ≡ Some p → (said_services n line ≡ []) × (said_items n line ≡ []) × (said_eager n line ≡ false)
+pub header_says : (n : ℕ) (line : List ℕ) (p : Section) → header_of line ≡ Some p
+    → (said_services n line ≡ []) × (said_items n line ≡ []) × (said_eager n line ≡ false)
 unfolding said_services said_items said_eager
 header_says n line p h =
     let t : is_header line ≡ true = rw h refl in
@@ -97,7 +103,8 @@ header_says n line p h =
     (rw a refl, rw b refl, rw a refl)
 
 pub item_says : (n : ℕ) (line : List ℕ) → header_of line ≡ None
-    → (said_services n line ≡ cond (n == 2) (option_to_list (service_of (words line))) []) × (said_items n line ≡ cond (n == 3) (option_to_list (item_of (words line))) [])
+    → (said_services n line ≡ cond (n == 2) (option_to_list (service_of (words line))) [])
+    × (said_items n line ≡ cond (n == 3) (option_to_list (item_of (words line))) [])
     × (said_eager n line ≡ ((n == 2) && is_eager (words line)))
 unfolding said_services said_items said_eager
 item_says n line h =
@@ -124,7 +131,8 @@ or_false : (b : Bool) → b ≡ (b || false)
 or_false true = refl
 or_false false = refl
 
-pub after_header : (old new : Reading) (line : List ℕ) (p : Section) → header_of line ≡ Some p → (section_index p == section_index old.part + 1) ≡ true → new ≡ record old { part = p } → After old line new
+pub after_header : (old new : Reading) (line : List ℕ) (p : Section) → header_of line ≡ Some p → (section_index p == section_index old.part + 1) ≡ true
+    → new ≡ record old { part = p } → After old line new
 after_header old new line p h t e =
     let n : ℕ = section_index old.part in
     let says = header_says n line p h in
@@ -138,7 +146,8 @@ after_header old new line p h t e =
     }
 
 -- a line that says nothing
-silent : (r : Reading) (line : List ℕ) → header_of line ≡ None → said_services (section_index r.part) line ≡ [] → said_items (section_index r.part) line ≡ [] → said_eager (section_index r.part) line ≡ false → After r line r
+silent : (r : Reading) (line : List ℕ) → header_of line ≡ None → said_services (section_index r.part) line ≡ [] → said_items (section_index r.part) line ≡ []
+    → said_eager (section_index r.part) line ≡ false → After r line r
 silent r line h ss es ea =
     let is : is_header line ≡ false = rw h refl in
     record {

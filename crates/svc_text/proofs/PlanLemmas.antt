@@ -27,16 +27,19 @@ plans-length services s [] = refl
 plans-length services s (x ∷ xs) = ap suc (plans-length services (s + 1) xs)
 
 -- what each service of a sort gives, all give
-plans-All : (P : ServicePlan → Type 0) (Q : ServiceLine → Type 0) (services : List ServiceLine) → ((s : ℕ) (x : ServiceLine) → Q x → P (service_plan services s x))
+plans-All : (P : ServicePlan → Type 0) (Q : ServiceLine → Type 0) (services : List ServiceLine)
+    → ((s : ℕ) (x : ServiceLine) → Q x → P (service_plan services s x))
     → (s : ℕ) (xs : List ServiceLine) → All Q xs → All P (plans_from services s xs)
 plans-All P Q services f s [] h k d lt = absurd (omega arith)
 plans-All P Q services f s (x ∷ xs) h zero d lt = f s x (h 0 x (omega arith))
 plans-All P Q services f s (x ∷ xs) h (suc k) d lt = plans-All P Q services f (s + 1) xs (λ i e below. h (suc i) e (omega arith)) k d (omega arith)
 
-plans-depends : (services : List ServiceLine) (s : ℕ) (xs : List ServiceLine) (k : ℕ) (d : ServicePlan) → k < length xs → (get_or (plans_from services s xs) k d).depends ≡ depends_of services (s + k)
+plans-depends : (services : List ServiceLine) (s : ℕ) (xs : List ServiceLine) (k : ℕ) (d : ServicePlan) → k < length xs
+    → (get_or (plans_from services s xs) k d).depends ≡ depends_of services (s + k)
 plans-depends services s [] k d lt = absurd (omega arith)
 plans-depends services s (x ∷ xs) zero d lt = ap (depends_of services) (sym (add-zero s))
-plans-depends services s (x ∷ xs) (suc k) d lt = let e : (s + 1) + k ≡ s + suc k = omega arith in plans-depends services (s + 1) xs k d (omega arith) ∙ ap (depends_of services) e
+plans-depends services s (x ∷ xs) (suc k) d lt =
+    let e : (s + 1) + k ≡ s + suc k = omega arith in plans-depends services (s + 1) xs k d (omega arith) ∙ ap (depends_of services) e
 
 -- ---- endpoints
 
@@ -46,7 +49,8 @@ good_address number e h =
     let some : 0 < length e.address = ltb-true 0 (length e.address) p.0 in
     (omega arith, leb-true (length e.address) 4096 p.1)
 
-pub good_endpoints : (number : Option ℕ) (x : ServiceLine) → IsAccepted x → (length (map (endpoint_of number) x.endpoints) ≤ 64) × All IsAddress (map (endpoint_of number) x.endpoints)
+pub good_endpoints : (number : Option ℕ) (x : ServiceLine) → IsAccepted x
+    → (length (map (endpoint_of number) x.endpoints) ≤ 64) × All IsAddress (map (endpoint_of number) x.endpoints)
 good_endpoints number x h = (
   omega (arith, length-map x.endpoints (endpoint_of number), h.few_endpoints),
   All-map IsAddress (endpoint_of number) x.endpoints (λ k d lt. good_address number (get_or x.endpoints k d) (h.addresses k d lt)),
@@ -60,7 +64,8 @@ depends_inside services s =
     let below : k < length services = omega (arith, length-range_with_len 0 (length services)) in
     omega (arith, get_or-range_with_len 0 (length services) k d below))
 
-depends_edge : (services : List ServiceLine) (a b : ℕ) → list_any (λ x. x == b) (depends_of services a) ≡ true → edges_up_to services (length services) a b ≡ true
+depends_edge : (services : List ServiceLine) (a b : ℕ) → list_any (λ x. x == b) (depends_of services a) ≡ true
+    → edges_up_to services (length services) a b ≡ true
 depends_edge services a b h =
     let f : ℕ → Bool = edges_up_to services (length services) a in
     let found = Any-from_list_any (λ x. x == b) (depends_of services a) h in
@@ -73,7 +78,8 @@ listed_depends opt parts s lt =
     let services : List ServiceLine = parts.services in
     elim (slice_get_cases (plans_from services 0 services) s).1 [
       | inl at ↦
-          let same : at.0.depends ≡ depends_of services s = ap (λ (x : ServicePlan). x.depends) (sym at.3) ∙ plans-depends services 0 services s at.0 lt ∙ ap (depends_of services) (zero-add s) in
+          let same : at.0.depends ≡ depends_of services s =
+          ap (λ (x : ServicePlan). x.depends) (sym at.3) ∙ plans-depends services 0 services s at.0 lt ∙ ap (depends_of services) (zero-add s) in
           rw at.2 same
       | inr past ↦ absurd (let le = past.0 in omega (arith, plans-length services 0 services))
     ]
@@ -85,12 +91,14 @@ no_depends opt parts s le =
       | inr past ↦ rw past.1 refl
     ]
 
-plan_inside : (opt : Opt) (parts : Parts) (s : ℕ) → s < service_count (plan_of opt parts) → All (λ d. d < service_count (plan_of opt parts)) (depends (plan_of opt parts) s)
+plan_inside : (opt : Opt) (parts : Parts) (s : ℕ) → s < service_count (plan_of opt parts)
+    → All (λ d. d < service_count (plan_of opt parts)) (depends (plan_of opt parts) s)
 plan_inside opt parts s lt =
     let services : List ServiceLine = parts.services in
     let count : service_count (plan_of opt parts) ≡ length services = plans-length services 0 services in
     let same : depends (plan_of opt parts) s ≡ depends_of services s = listed_depends opt parts s (omega arith) in
-    subst (All (λ d. d < service_count (plan_of opt parts))) (sym same) (subst (λ (n : ℕ). All (λ d. d < n) (depends_of services s)) (sym count) (depends_inside services s))
+    subst (All (λ d. d < service_count (plan_of opt parts))) (sym same)
+    (subst (λ (n : ℕ). All (λ d. d < n) (depends_of services s)) (sym count) (depends_inside services s))
 
 plan_edge : (opt : Opt) (parts : Parts) (a b : ℕ) → depends_on (plan_of opt parts) a b ≡ true → edges_up_to parts.services (length parts.services) a b ≡ true
 plan_edge opt parts a b h =
@@ -101,12 +109,14 @@ plan_edge opt parts a b h =
 
 -- ---- the plan
 
-pub plan_valid : (opt : Opt) (parts : Parts) → AreAccepted parts.services → RefusesNone parts.services → 0 < parts.conf.listener_tasks_per_fd → IsValid (plan_of opt parts)
+pub plan_valid : (opt : Opt) (parts : Parts) → AreAccepted parts.services → RefusesNone parts.services → 0 < parts.conf.listener_tasks_per_fd
+    → IsValid (plan_of opt parts)
 plan_valid opt parts h sound tasks =
     valid-plan (plan_of opt parts) (record {
       few = omega (arith, plans-length parts.services 0 parts.services, h.few);
       tasks = tasks;
-      endpoints = plans-All (λ (x : ServicePlan). (length x.endpoints ≤ 64) × All IsAddress x.endpoints) IsAccepted parts.services (λ s x k. good_endpoints (filter_number (take s parts.services) x) x k) 0 parts.services h.each;
+      endpoints = plans-All (λ (x : ServicePlan). (length x.endpoints ≤ 64) × All IsAddress x.endpoints) IsAccepted parts.services
+          (λ s x k. good_endpoints (filter_number (take s parts.services) x) x k) 0 parts.services h.each;
     }) (record {
       inside = plan_inside opt parts;
       acyclic = fewer_acyclic (depends_on (plan_of opt parts)) (edges_up_to parts.services (length parts.services)) (plan_edge opt parts) sound.acyclic;

@@ -19,4 +19,5 @@ number_ascii n mark rest fits low h = IsAscii-append (decimal n) (mark ∷ rest)
 
 -- two pieces are appended, one after the other
 pub two_pieces : (was now more first second third : List ℕ) → now ≡ was ++ first → more ≡ now ++ second → second ≡ third → more ≡ was ++ (first ++ third)
-two_pieces was now more first second third e f g = f ∙ ap (λ (t : List ℕ). t ++ second) e ∙ append_assoc was first second ∙ ap (λ (t : List ℕ). was ++ (first ++ t)) g
+two_pieces was now more first second third e f g =
+    f ∙ ap (λ (t : List ℕ). t ++ second) e ∙ append_assoc was first second ∙ ap (λ (t : List ℕ). was ++ (first ++ t)) g

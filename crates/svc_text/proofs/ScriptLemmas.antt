@@ -38,7 +38,8 @@ find_at p a (suc n) zero lt h t =
 find_at p a (suc n) (suc i) lt h t =
     let e : p a ≡ false = h a (omega arith) (omega arith) in
     let z : (a + 1) + i ≡ a + suc i = omega arith in
-    let rest : find p (range_with_len (a + 1) n) ≡ Some ((a + 1) + i) = find_at p (a + 1) n i (omega arith) (λ k le lt'. h k (omega arith) (omega arith)) (ap p z ∙ t) in
+    let rest : find p (range_with_len (a + 1) n) ≡ Some ((a + 1) + i) =
+    find_at p (a + 1) n i (omega arith) (λ k le lt'. h k (omega arith) (omega arith)) (ap p z ∙ t) in
     rw (e, rest, z) refl
 
 -- each of the first n lines fits those before it
@@ -53,7 +54,8 @@ pub misfit_at : (ls : List (List ℕ)) (n : ℕ) → FitUpTo ls n → n < length
 unfolding first_misfit
 misfit_at ls n h lt f =
     let z : 0 + n ≡ n = zero-add n in
-    find_at (λ k. not (fits_at ls k)) 0 (length ls) n lt (λ k le lt'. ap not (h.below k (omega arith))) (ap (λ k. not (fits_at ls k)) z ∙ ap not f) ∙ ap (λ (k : ℕ). Some k) z
+    find_at (λ k. not (fits_at ls k)) 0 (length ls) n lt (λ k le lt'. ap not (h.below k (omega arith))) (ap (λ k. not (fits_at ls k)) z ∙ ap not f)
+    ∙ ap (λ (k : ℕ). Some k) z
 
 pub fit_more : (ls : List (List ℕ)) (n : ℕ) → FitUpTo ls n → fits_at ls n ≡ true → FitUpTo ls (n + 1)
 fit_more ls n h f = record { below = below_more (λ k. fits_at ls k ≡ true) n h.below f }
@@ -73,7 +75,14 @@ none_read all r p s b e = record {
   rest_is = refl;
   within = omega arith;
   fit = record { below = λ k lt. absurd (omega arith) };
-  said = record { part = ap section_index p; services = s; eager = b; items = e; accepted = subst AreAccepted (sym s) accepted_none; few = subst (All BringsFew) (sym e) few_none };
+  said = record {
+    part = ap section_index p;
+    services = s;
+    eager = b;
+    items = e;
+    accepted = subst AreAccepted (sym s) accepted_none;
+    few = subst (All BringsFew) (sym e) few_none;
+  };
 }
 
 -- the next line, and those after it
@@ -98,7 +107,8 @@ next_line all rest line after n r h e =
     record { here = p.0; is = p.1; more = p.2; rest = p.3 }
 
 -- the reading's test is the definition's
-pub fits_next : (all rest line after : List ℕ) (n : ℕ) (r : Reading) → HasRead all rest n r → Next all n line after → fits_at (lines all) n ≡ line_fits (section_index r.part) r.eager r.services.items line
+pub fits_next : (all rest line after : List ℕ) (n : ℕ) (r : Reading) → HasRead all rest n r → Next all n line after
+    → fits_at (lines all) n ≡ line_fits (section_index r.part) r.eager r.services.items line
 unfolding fits_at
 fits_next all rest line after n r h e = rw (h.said.part, h.said.eager, h.said.services, e.is) refl
 
@@ -106,14 +116,16 @@ both : {X Y : Type 0} (f : X → ℕ → Y) {x y : X} {m n : ℕ} → x ≡ y �
 both f {x} {y} {m} {n} e g = ap (λ z. f z m) e ∙ ap (f y) g
 
 -- what one more line adds
-said_more : (ls : List (List ℕ)) (line : List ℕ) (r s : Reading) → HasSaid ls r → line_fits (section_index r.part) r.eager r.services.items line ≡ true → After r line s → HasSaid (ls ++ line ∷ []) s
+said_more : (ls : List (List ℕ)) (line : List ℕ) (r s : Reading) → HasSaid ls r → line_fits (section_index r.part) r.eager r.services.items line ≡ true
+    → After r line s → HasSaid (ls ++ line ∷ []) s
 said_more ls line r s h t a = record {
   part = a.part ∙ ap (λ (m : ℕ). m + cond (is_header line) 1 0) h.part ∙ sym (begun-push ls line);
   services = a.services ∙ both (λ (xs : List ServiceLine) m. xs ++ said_services m line) h.services h.part ∙ sym (services-push ls line);
   eager = a.eager ∙ both (λ (b : Bool) m. b || said_eager m line) h.eager h.part ∙ sym (eager-push ls line);
   items = a.items ∙ both (λ (xs : List Item) m. xs ++ said_items m line) h.items h.part ∙ sym (items-push ls line);
   accepted = subst AreAccepted (sym a.services) (accepted_line (section_index r.part) r.eager r.services.items line h.accepted t);
-  few = subst (All BringsFew) (sym a.items) (All-append BringsFew r.items.items (said_items (section_index r.part) line) h.few (few_said (section_index r.part) line));
+  few = subst (All BringsFew) (sym a.items)
+      (All-append BringsFew r.items.items (said_items (section_index r.part) line) h.few (few_said (section_index r.part) line));
 }
 
 pub reads_more : (all rest line after : List ℕ) (n : ℕ) (r s : Reading) → HasRead all rest n r → lines rest ≡ line ∷ lines after
@@ -138,7 +150,8 @@ said_few : (part : ℕ) (line : List ℕ) → length (said_services part line) �
 unfolding said_services
 said_few part line = one_at_most _ (service_of (words line))
 
-few_more : (old new : Reading) (line : List ℕ) → After old line new → (length old.services.items ≤ length new.services.items) × (length new.services.items ≤ length old.services.items + 1)
+few_more : (old new : Reading) (line : List ℕ) → After old line new
+    → (length old.services.items ≤ length new.services.items) × (length new.services.items ≤ length old.services.items + 1)
 few_more old new line a =
     let e : length (new.services.items) ≡ length (old.services.items ++ said_services (section_index old.part) line) = ap length a.services in
     let f = said_few (section_index old.part) line in
@@ -180,7 +193,8 @@ lines_more all rest after line n r s ns ms h j a old e =
           let is : ms ≡ ns ++ (n + 1) ∷ [] = e ∙ rw t refl in
           record {
             count_is = ap length is ∙ omega (arith, length-append ns ((n + 1) ∷ []), old.count_is, few);
-            each = λ k below. line_at (lines all) n ns ms (length r.services.items) is old.count_is before (behind ∙ omega (arith, old.count_is, few)) old.each k (omega (arith, old.count_is, few));
+            each = λ k below. line_at (lines all) n ns ms (length r.services.items) is old.count_is before
+                (behind ∙ omega (arith, old.count_is, few)) old.each k (omega (arith, old.count_is, few));
           }
       | inr le ↦
           let t : ltb (length ns) (length s.services.items) ≡ false = le-ltb _ _ le in

@@ -16,7 +16,8 @@ stripped xs u =
     elim (cases_Bool (slice_index xs (length xs - 1) == 13)) [
       | inl is ↦
           let last : get_or xs (length xs - 1) 0 ≡ 13 = eqb-true (slice_index xs (length xs - 1)) 13 is in
-          let some : length xs ≢ 0 = λ z. absurd (let e : slice_index xs (length xs - 1) ≡ 0 = get_or_past xs (length xs - 1) 0 (omega (arith, z)) in omega (arith, e, last)) in
+          let some : length xs ≢ 0 =
+          λ z. absurd (let e : slice_index xs (length xs - 1) ≡ 0 = get_or_past xs (length xs - 1) 0 (omega (arith, z)) in omega (arith, e, last)) in
           rw is (IsUtf8-take xs (length xs - 1) u (IsCharBoundary-before_ascii xs (length xs - 1) (omega (arith, some)) (omega (arith, last))))
       | inr other ↦ rw other u
     ]
@@ -50,7 +51,8 @@ behind_feed text front after u e =
     let chunk : List ℕ = front ++ 10 ∷ [] in
     let len : length chunk ≡ length front + 1 = length-append front (10 ∷ []) in
     let at : get_or text (length front) 0 ≡ 10 =
-    ap (λ (xs : List ℕ). get_or xs (length front) 0) e ∙ get_or_append_left chunk after 0 (length front) (omega (arith, len)) ∙ get_or_push front 10 0 (length front) (omega arith) in
+    ap (λ (xs : List ℕ). get_or xs (length front) 0) e ∙ get_or_append_left chunk after 0 (length front) (omega (arith, len))
+    ∙ get_or_push front 10 0 (length front) (omega arith) in
     let all : length text ≡ length chunk + length after = ap length e ∙ length-append chunk after in
     let rest : drop (length front + 1) text ≡ after = rw (← len, e) (drop-append_seam chunk after) in
     subst IsUtf8 rest (IsUtf8-drop text (length front + 1) u (IsCharBoundary-after_ascii text (length front) u (omega (arith, len, all)) (omega (arith, at))))

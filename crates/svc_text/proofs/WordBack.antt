@@ -95,7 +95,8 @@ pub bytes_back : (bytes : List ℕ) → AllByRecursion (λ b. b < 2 ^ 8) bytes �
 unfolding bytes_of
 bytes_back [] h = refl
 bytes_back (b ∷ bytes) h =
-    let dash : bytes_eq (bytes_word (b ∷ bytes)) (codes "-") ≡ false = no_dash_first (digit_glyph false (b / 16)) (digit_glyph false (b % 16) ∷ flat_map hex_byte bytes) (glyph_high (b / 16)) in
+    let dash : bytes_eq (bytes_word (b ∷ bytes)) (codes "-") ≡ false =
+    no_dash_first (digit_glyph false (b / 16)) (digit_glyph false (b % 16) ∷ flat_map hex_byte bytes) (glyph_high (b / 16)) in
     rw dash (hex_back (b ∷ bytes) h)
 
 glyph_visible : (d : ℕ) → ltb 32 (digit_glyph false d) ≡ true
@@ -116,7 +117,9 @@ abbrev after_commas : List ℕ → List ℕ
 after_commas ns = flat_map (λ m. 44 ∷ decimal m) ns
 
 cut_numbers : (n : ℕ) (ns : List ℕ) → slice_split (λ b. b == 44) (decimal n ++ after_commas ns) ≡ decimal n ∷ map decimal ns
-cut_numbers n [] = ap (slice_split (λ b. b == 44)) (append-nil (decimal n)) ∙ slice_split_none (λ b. b == 44) (decimal n) (high_without 44 (decimal n) (omega arith) (digits_high 10 n))
+cut_numbers n [] =
+    ap (slice_split (λ b. b == 44)) (append-nil (decimal n))
+    ∙ slice_split_none (λ b. b == 44) (decimal n) (high_without 44 (decimal n) (omega arith) (digits_high 10 n))
 cut_numbers n (m ∷ ns) =
     slice_split_at (λ b. b == 44) (decimal n) 44 (decimal m ++ after_commas ns) (high_without 44 (decimal n) (omega arith) (digits_high 10 n)) refl
     ∙ ap (λ (ws : List (List ℕ)). decimal n ∷ ws) (cut_numbers m ns)

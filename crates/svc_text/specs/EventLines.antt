@@ -85,24 +85,37 @@ event_of_one key first =
 -- of a key and two words
 unfoldable pub event_of_two : List ℕ → List ℕ → List ℕ → Option Event
 event_of_two key first second =
-    if bytes_eq key (codes "inuse") then (number_of (2 ^ 32) first >>= λ service. number_of (2 ^ 32) second >>= λ endpoint. Some (events.InUse service endpoint))
-    else (if bytes_eq key (codes "bindfailed") then (number_of (2 ^ 32) first >>= λ service. number_of (2 ^ 32) second >>= λ endpoint. Some (events.BindFailed service endpoint))
-    else (if bytes_eq key (codes "adopted") then (number_of (2 ^ 32) first >>= λ service. number_of (2 ^ 32) second >>= λ endpoint. Some (events.Adopted service endpoint))
-    else (if bytes_eq key (codes "adoptfailed") then (number_of (2 ^ 32) first >>= λ service. number_of (2 ^ 32) second >>= λ endpoint. Some (events.AdoptFailed service endpoint))
+    if bytes_eq key (codes "inuse") then
+    (number_of (2 ^ 32) first >>= λ service. number_of (2 ^ 32) second >>= λ endpoint. Some (events.InUse service endpoint))
+    else (if bytes_eq key (codes "bindfailed") then
+    (number_of (2 ^ 32) first >>= λ service. number_of (2 ^ 32) second >>= λ endpoint. Some (events.BindFailed service endpoint))
+    else (if bytes_eq key (codes "adopted") then
+    (number_of (2 ^ 32) first >>= λ service. number_of (2 ^ 32) second >>= λ endpoint. Some (events.Adopted service endpoint))
+    else (if bytes_eq key (codes "adoptfailed") then
+    (number_of (2 ^ 32) first >>= λ service. number_of (2 ^ 32) second >>= λ endpoint. Some (events.AdoptFailed service endpoint))
     else (if bytes_eq key (codes "set") then (number_of (2 ^ 64) first >>= λ connection. ok_of second >>= λ ok. Some (events.Set connection ok))
-    else (if bytes_eq key (codes "shaken") then (number_of (2 ^ 64) first >>= λ connection. ok_of second >>= λ ok. Some (events.Shaken connection ok)) else None)))))
+    else (if bytes_eq key (codes "shaken") then
+    (number_of (2 ^ 64) first >>= λ connection. ok_of second >>= λ ok. Some (events.Shaken connection ok)) else None)))))
 
 -- of a key and three words
 unfoldable pub event_of_three : List ℕ → List ℕ → List ℕ → List ℕ → Option Event
 event_of_three key first second third =
-    if bytes_eq key (codes "bound") then (number_of (2 ^ 32) first >>= λ service. number_of (2 ^ 32) second >>= λ endpoint. number_of (2 ^ 64) third >>= λ descriptor. Some (events.Bound service endpoint descriptor))
-    else (if bytes_eq key (codes "acceptfailed") then (number_of (2 ^ 32) first >>= λ service. number_of (2 ^ 32) second >>= λ endpoint. number_of (2 ^ 32) third >>= λ error. Some (events.AcceptFailed service endpoint error))
-    else (if bytes_eq key (codes "loopended") then (number_of (2 ^ 32) first >>= λ service. number_of (2 ^ 32) second >>= λ endpoint. number_of (2 ^ 64) third >>= λ number. Some (events.LoopEnded service endpoint number)) else None))
+    if bytes_eq key (codes "bound") then
+    (number_of (2 ^ 32) first >>= λ service. number_of (2 ^ 32) second >>= λ endpoint. number_of (2 ^ 64) third >>= λ descriptor. Some
+    (events.Bound service endpoint descriptor))
+    else (if bytes_eq key (codes "acceptfailed") then
+    (number_of (2 ^ 32) first >>= λ service. number_of (2 ^ 32) second >>= λ endpoint. number_of (2 ^ 32) third >>= λ error. Some
+    (events.AcceptFailed service endpoint error))
+    else (if bytes_eq key (codes "loopended") then
+    (number_of (2 ^ 32) first >>= λ service. number_of (2 ^ 32) second >>= λ endpoint. number_of (2 ^ 64) third >>= λ number. Some
+    (events.LoopEnded service endpoint number)) else None))
 
 -- of a key and four words
 unfoldable pub event_of_four : List ℕ → List ℕ → List ℕ → List ℕ → List ℕ → Option Event
 event_of_four key first second third fourth =
-    if bytes_eq key (codes "arrived") then (number_of (2 ^ 32) first >>= λ service. number_of (2 ^ 32) second >>= λ endpoint. number_of (2 ^ 64) third >>= λ connection. peer_of fourth >>= λ peer. Some (events.Arrived service endpoint connection peer)) else None
+    if bytes_eq key (codes "arrived") then
+    (number_of (2 ^ 32) first >>= λ service. number_of (2 ^ 32) second >>= λ endpoint. number_of
+    (2 ^ 64) third >>= λ connection. peer_of fourth >>= λ peer. Some (events.Arrived service endpoint connection peer)) else None
 
 -- a message with its descriptors
 unfoldable pub received_of : List ℕ → List ℕ → Option Event

@@ -114,7 +114,8 @@ refused_line _ = 0
 abbrev pub lines_before : List (List ℕ) → ℕ
 lines_before ls = length (part_of 0 ls) + 1
 
--- what lines that fit, which are all or not, say: a refused line of the configuration comes first; else the line behind them is refused, where they aren't all or a part is missing
+-- what lines that fit, which are all or not, say: a refused line of the configuration comes first; else the line behind them is refused, where they
+-- aren't all or a part is missing
 unfoldable pub judged : Bool → Result ServerConf ReadError → List (List ℕ) → Result Parts ℕ
 judged all (Err e) ls = Err (lines_before ls + refused_line e)
 judged all (Ok conf) ls =

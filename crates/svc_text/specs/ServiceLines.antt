@@ -60,7 +60,8 @@ endpoint_at unix address = record { address = address; unix = unix; options = []
 -- the service with its next endpoint, where it has fewer than 64
 unfoldable pub with_endpoint : ServiceLine → Bool → List ℕ → Option ServiceLine
 with_endpoint s unix value =
-    if nat_lt (length s.endpoints) 64 then option_map (λ address. record s { endpoints = s.endpoints ++ endpoint_at unix address ∷ [] }) (address_of value) else None
+    if nat_lt (length s.endpoints) 64 then option_map (λ address. record s { endpoints = s.endpoints ++ endpoint_at unix address ∷ [] })
+    (address_of value) else None
 
 -- the service with one more declared address
 unfoldable pub with_claim : ServiceLine → List ℕ → Option ServiceLine

@@ -13,7 +13,8 @@ returns-clause-entries g c =
 pub returns-clause-filled : goal.returns-clause-filled
 returns-clause-filled g c = later-set c.args.blocks.now.items c.args.place.block c.insert_in.new.block (λ some.
     let old = c.index_mut.result.now in
-    let more = ap length (c.insert_in.ensures.items ∙ ap (λ (v : Vec g.row.T.Denot Global). insert v.items c.args.place.entry c.args.entry) c.index_mut.ensures.value) in
+    let more = ap length
+    (c.insert_in.ensures.items ∙ ap (λ (v : Vec g.row.T.Denot Global). insert v.items c.args.place.entry c.args.entry) c.index_mut.ensures.value) in
     omega (arith, length-insert (get_or c.args.blocks.now.items c.args.place.block old).items c.args.place.entry c.args.entry (c.requires.inside old)))
 
 pub returns-clause-wide : goal.returns-clause-wide

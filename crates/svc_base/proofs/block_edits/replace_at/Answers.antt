@@ -7,7 +7,8 @@ pub returns-clause-entries : goal.returns-clause-entries
 returns-clause-entries g c =
     let old = c.index_mut-block.result.now in
     let lt : c.args.place.block < length c.args.blocks.now.items = search rules in
-    joined-other c.args.blocks.now.items c.args.place.block c.args.place.entry (with_item old c.args.place.entry c.args.entry) c.args.entry old lt (c.requires.inside old)
+    joined-other c.args.blocks.now.items c.args.place.block c.args.place.entry (with_item old c.args.place.entry c.args.entry) c.args.entry old lt
+    (c.requires.inside old)
     (ap (λ (v : Vec g.row.T.Denot Global). set v.items c.args.place.entry c.args.entry) c.index_mut-block.ensures.value)
 
 pub returns-clause-filled : goal.returns-clause-filled

@@ -15,9 +15,14 @@ returns g c =
     let lower : c.split_off.new.self.items ≡ take c.cut_place-place.result c.index_mut.result.now.items = c.in_ok-upper.ensures.items in
     let upper : c.in_ok-upper.upper.items ≡ drop c.cut_place-place.result c.index_mut.result.now.items = c.in_ok-upper.ensures.tail in
     let parts : c.split_off.new.self.items ++ c.in_ok-upper.upper.items ≡ (get_or c.reserve.new.self.items c.args.at c.index_mut.result.now).items =
-    rw (lower, upper) (take-append-drop c.cut_place-place.result c.index_mut.result.now.items ∙ ap (λ (v : Vec g.row.T.Denot Global). v.items) c.index_mut.ensures.value) in
+    rw (lower, upper)
+    (take-append-drop c.cut_place-place.result c.index_mut.result.now.items ∙ ap (λ (v : Vec g.row.T.Denot Global). v.items) c.index_mut.ensures.value) in
     let some : 0 < length c.split_off.new.self.items = omega (arith, c.split_off.new.self.ok.0, c.in_ok-upper.ensures.len) in
-    let more : 0 < length c.in_ok-upper.upper.items = omega (arith, c.in_ok-upper.upper.ok.0, c.in_ok-upper.ensures.tail_len, c.len-len.ensures, ap (λ (v : Vec g.row.T.Denot Global). vec_len v) block) in
-    let put : c.insert.new.self.items ≡ insert (set c.reserve.new.self.items c.args.at c.split_off.new.self) (suc c.args.at) c.in_ok-upper.upper = search rules in
-    rw put (subst (λ (bs : List (Vec g.row.T.Denot Global)). KeepsEntries bs (insert (set c.reserve.new.self.items c.args.at c.split_off.new.self) (suc c.args.at) c.in_ok-upper.upper)) same
+    let more : 0 < length c.in_ok-upper.upper.items =
+    omega (arith, c.in_ok-upper.upper.ok.0, c.in_ok-upper.ensures.tail_len, c.len-len.ensures, ap (λ (v : Vec g.row.T.Denot Global). vec_len v) block) in
+    let put : c.insert.new.self.items ≡ insert (set c.reserve.new.self.items c.args.at c.split_off.new.self) (suc c.args.at) c.in_ok-upper.upper =
+    search rules in
+    rw put (subst
+    (λ (bs : List (Vec g.row.T.Denot Global)). KeepsEntries bs
+    (insert (set c.reserve.new.self.items c.args.at c.split_off.new.self) (suc c.args.at) c.in_ok-upper.upper)) same
     (keeps-cut c.reserve.new.self.items c.args.at c.split_off.new.self c.in_ok-upper.upper c.index_mut.result.now within parts some more))

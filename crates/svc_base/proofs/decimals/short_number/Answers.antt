@@ -25,5 +25,6 @@ returns c =
     let i = c.loop-digit.invariant in
     let end : c.loop-digit.digit-index ≡ length c.args.word.now = omega (arith, c.loop-digit-test.false, c.loop-digit.auto.digit-index-end) in
     let whole : take c.loop-digit.digit-index c.args.word.now ≡ c.args.word.now = rw end (take-length c.args.word.now) in
-    value_is c.args.word.now (subst (AllDigits 10) whole i.1) (c.is_short.ensures.some c.if-not-is_short.false) i.2 (c.is_short.ensures.plain c.if-not-is_short.false)
+    value_is c.args.word.now (subst (AllDigits 10) whole i.1) (c.is_short.ensures.some c.if-not-is_short.false) i.2
+    (c.is_short.ensures.plain c.if-not-is_short.false)
     ∙ ap (λ (n : ℕ). Some n) (ap (digits_value 10) (sym whole) ∙ sym i.0)

@@ -8,6 +8,13 @@ use Rattle.svc_core.proofs.copies.repeat_one.Goals.{in-OfSettings, in_default-co
 pub returns-after-copy-3-clause-told : goal.returns-after-copy-3-clause-told
 returns-after-copy-3-clause-told c =
     elim c.match-copy-3.branch [
-      | in-OfSettings w ↦ ap list_of w.again-is ∙ (w.put-in-OfSettings.ensures.items ∙ ap (λ (a : Action). list_of c.args.again.now ++ a ∷ []) (settings-told c.args.copy c.args.action.now c.in-Settings.c c.in-Settings.field-1 w.in-OfSettings.settings c.requires.copied c.in-Settings.is w.in-OfSettings.is))
-      | in_default-copy-2 w ↦ let some = of-settings c.args.copy c.args.action.now c.in-Settings.c c.in-Settings.field-1 c.requires.copied c.in-Settings.is in absurd (w.in_default-copy-2.not-OfSettings some.0 some.1)
+      | in-OfSettings w ↦
+          ap list_of w.again-is
+          ∙ (w.put-in-OfSettings.ensures.items
+          ∙ ap (λ (a : Action). list_of c.args.again.now ++ a ∷ [])
+          (settings-told c.args.copy c.args.action.now c.in-Settings.c c.in-Settings.field-1 w.in-OfSettings.settings c.requires.copied c.in-Settings.is
+          w.in-OfSettings.is))
+      | in_default-copy-2 w ↦
+          let some = of-settings c.args.copy c.args.action.now c.in-Settings.c c.in-Settings.field-1 c.requires.copied c.in-Settings.is in
+          absurd (w.in_default-copy-2.not-OfSettings some.0 some.1)
     ]

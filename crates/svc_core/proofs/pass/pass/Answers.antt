@@ -13,22 +13,30 @@ loop-k-init c = record {
   known = c.requires.known;
   bare = bare-none (list_of c.args.actions.now);
   spends = record { few = omega arith; room = omega arith };
-  passed = passes-none c.args.plan.now c.args.order.now c.args.drain.now 0 c.args.starts.now c.args.endpoints.now.parts c.args.boot.now (list_of c.args.actions.now) (sym (append-nil (list_of c.args.actions.now)));
+  passed = passes-none c.args.plan.now c.args.order.now c.args.drain.now 0 c.args.starts.now c.args.endpoints.now.parts c.args.boot.now
+      (list_of c.args.actions.now) (sym (append-nil (list_of c.args.actions.now)));
 }
 
 pub loop-k-preserved : goal.loop-k-preserved
 loop-k-preserved c =
     let found = c.in-Some.ensures.found in
-    let skipped = passes-skip c.args.plan.now c.loop-k.invariant.formed.valid c.args.order.now c.args.drain.now c.loop-k.from c.in-Some.k found.0 (omega (arith, found.1)) c.loop-k.invariant.formed.in_order
-    c.loop-k.starts c.loop-k.endpoints.parts c.loop-k.boot c.loop-k.waits (list_of c.loop-k.actions) c.loop-k.invariant.formed.starts c.loop-k.invariant.formed.endpoints c.loop-k.invariant.known c.in-Some.ensures.least in
+    let skipped =
+    passes-skip c.args.plan.now c.loop-k.invariant.formed.valid c.args.order.now c.args.drain.now c.loop-k.from c.in-Some.k found.0
+    (omega (arith, found.1)) c.loop-k.invariant.formed.in_order
+    c.loop-k.starts c.loop-k.endpoints.parts c.loop-k.boot c.loop-k.waits
+    (list_of c.loop-k.actions) c.loop-k.invariant.formed.starts c.loop-k.invariant.formed.endpoints c.loop-k.invariant.known c.in-Some.ensures.least in
     record {
       within = omega (arith, found.1);
       formed = c.attend.ensures.formed;
       table = c.attend.ensures.table ∙ c.loop-k.invariant.table;
       known = c.attend.ensures.known;
       bare = bare-then (list_of c.args.actions.now) (list_of c.loop-k.actions) (list_of c.attend.new.actions) c.loop-k.invariant.bare c.attend.ensures.bare;
-      spends = record { few = omega (arith, found.0, c.loop-k.invariant.spends.few, c.attend.ensures.spends.few); room = omega (arith, found.0, c.loop-k.invariant.spends.room, c.attend.ensures.spends.room) };
-      passed = passes-then c.args.plan.now c.args.order.now c.args.drain.now 0 c.in-Some.k (c.in-Some.k + 1) c.args.starts.now c.loop-k.starts c.attend.new.starts
+      spends = record {
+        few = omega (arith, found.0, c.loop-k.invariant.spends.few, c.attend.ensures.spends.few);
+        room = omega (arith, found.0, c.loop-k.invariant.spends.room, c.attend.ensures.spends.room);
+      };
+      passed = passes-then c.args.plan.now c.args.order.now c.args.drain.now 0 c.in-Some.k
+          (c.in-Some.k + 1) c.args.starts.now c.loop-k.starts c.attend.new.starts
           c.args.endpoints.now.parts c.loop-k.endpoints.parts c.attend.new.endpoints.parts c.args.boot.now c.loop-k.boot c.attend.new.boot
           (list_of c.args.actions.now) (list_of c.loop-k.actions) (list_of c.attend.new.actions)
           (passes-then c.args.plan.now c.args.order.now c.args.drain.now 0 c.loop-k.from c.in-Some.k c.args.starts.now c.loop-k.starts c.loop-k.starts
@@ -42,11 +50,17 @@ returns-clause-passed c =
     passes-then c.args.plan.now c.args.order.now c.args.drain.now 0 c.loop-k.from (length c.args.order.now) c.args.starts.now c.loop-k.starts c.loop-k.starts
     c.args.endpoints.now.parts c.loop-k.endpoints.parts c.loop-k.endpoints.parts c.args.boot.now c.loop-k.boot c.loop-k.boot
     (list_of c.args.actions.now) (list_of c.loop-k.actions) (list_of c.loop-k.actions) c.loop-k.invariant.passed
-    (passes-skip c.args.plan.now c.loop-k.invariant.formed.valid c.args.order.now c.args.drain.now c.loop-k.from (length c.args.order.now) c.loop-k.invariant.within (omega arith) c.loop-k.invariant.formed.in_order
-    c.loop-k.starts c.loop-k.endpoints.parts c.loop-k.boot c.loop-k.waits (list_of c.loop-k.actions) c.loop-k.invariant.formed.starts c.loop-k.invariant.formed.endpoints c.loop-k.invariant.known c.in_default.ensures.none)
+    (passes-skip c.args.plan.now c.loop-k.invariant.formed.valid c.args.order.now c.args.drain.now c.loop-k.from
+    (length c.args.order.now) c.loop-k.invariant.within (omega arith) c.loop-k.invariant.formed.in_order
+    c.loop-k.starts c.loop-k.endpoints.parts c.loop-k.boot c.loop-k.waits
+    (list_of c.loop-k.actions) c.loop-k.invariant.formed.starts c.loop-k.invariant.formed.endpoints c.loop-k.invariant.known c.in_default.ensures.none)
 
 pub attend-requires-clause-known : goal.attend-requires-clause-known
-attend-requires-clause-known c = known-skip c.args.plan.now c.args.order.now c.loop-k.starts c.loop-k.endpoints.parts c.loop-k.boot.complete c.args.drain.now.moment c.loop-k.from c.in-Some.k c.loop-k.waits c.in-Some.ensures.least c.loop-k.invariant.known
+attend-requires-clause-known c =
+    known-skip c.args.plan.now c.args.order.now c.loop-k.starts c.loop-k.endpoints.parts c.loop-k.boot.complete c.args.drain.now.moment c.loop-k.from
+    c.in-Some.k c.loop-k.waits c.in-Some.ensures.least c.loop-k.invariant.known
 
 pub returns-clause-known : goal.returns-clause-known
-returns-clause-known c = known-skip c.args.plan.now c.args.order.now c.loop-k.starts c.loop-k.endpoints.parts c.loop-k.boot.complete c.args.drain.now.moment c.loop-k.from (length c.args.order.now) c.loop-k.waits c.in_default.ensures.none c.loop-k.invariant.known
+returns-clause-known c =
+    known-skip c.args.plan.now c.args.order.now c.loop-k.starts c.loop-k.endpoints.parts c.loop-k.boot.complete c.args.drain.now.moment c.loop-k.from
+    (length c.args.order.now) c.loop-k.waits c.in_default.ensures.none c.loop-k.invariant.known

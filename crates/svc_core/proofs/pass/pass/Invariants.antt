@@ -15,7 +15,8 @@ invariant-loop-k l = record {
   known : IsKnown l.plan l.order l.starts l.endpoints.parts l.boot.complete l.drain.moment l.from l.waits;
   bare : TellsBare (list_of l.initial.actions) (list_of l.actions);
   spends : Spends (begin_room l.initial.boot + 2 * l.from) (begin_room l.boot) l.initial.actions l.actions;
-  passed : Passes l.plan l.order l.drain 0 l.from l.initial.starts l.starts l.initial.endpoints.parts l.endpoints.parts l.initial.boot l.boot (list_of l.initial.actions) (list_of l.actions);
+  passed : Passes l.plan l.order l.drain 0 l.from l.initial.starts l.starts l.initial.endpoints.parts l.endpoints.parts l.initial.boot l.boot
+      (list_of l.initial.actions) (list_of l.actions);
 }
 
 abbrev pub decreases-loop-k : goal.decreases-loop-k

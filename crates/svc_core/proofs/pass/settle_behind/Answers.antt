@@ -7,7 +7,8 @@ use Rattle.svc_core.proofs.pass.settle_behind.Goals as goal
 
 pub returns-then-is_started : goal.returns-then-is_started
 returns-then-is_started c =
-    known-behind c.args.plan.now c.args.order.now c.args.starts.now c.args.endpoints.now.parts c.args.complete c.args.moment c.args.k c.args.waits.now c.last_asked-e.result c.park_behind.new.self c.if-e-k.false c.requires.started
+    known-behind c.args.plan.now c.args.order.now c.args.starts.now c.args.endpoints.now.parts c.args.complete c.args.moment c.args.k c.args.waits.now
+    c.last_asked-e.result c.park_behind.new.self c.if-e-k.false c.requires.started
     (subst (λ t. is_flagged c.args.starts.now.started t ≡ true) (sym c.if-order-e.false) (sym c.is_started.ensures ∙ c.if-is_started.true))
     (subst (λ t. WaitsBehind c.args.plan.now c.args.endpoints.now.parts (slice_index c.args.order.now c.args.k) t) (sym c.if-order-e.false) c.requires.waits)
     (subst (λ t. ParksBehind c.args.k t c.args.waits.now c.park_behind.new.self) (sym c.if-order-e.false) c.park_behind.ensures) c.requires.known

@@ -2,20 +2,33 @@ use Rattle.svc_core.proofs.PlaceLemmas.{freed-open, known-asking, known-closed, 
 use Rattle.svc_core.proofs.pass.settle_started.Goals as goal
 
 pub returns-in-Asking : goal.returns-in-Asking
-returns-in-Asking c = known-asking c.args.plan.now c.args.order.now c.args.starts.now c.args.endpoints.now.parts c.args.complete c.args.moment c.args.k c.args.waits.now c.close_asking.new.self c.requires.started (rw c.in-Asking.is at c.requires.stands) c.close_asking.ensures c.requires.known
+returns-in-Asking c =
+    known-asking c.args.plan.now c.args.order.now c.args.starts.now c.args.endpoints.now.parts c.args.complete c.args.moment c.args.k c.args.waits.now
+    c.close_asking.new.self c.requires.started (rw c.in-Asking.is at c.requires.stands) c.close_asking.ensures c.requires.known
 
 pub returns-in-Resting : goal.returns-in-Resting
-returns-in-Resting c = known-resting c.args.plan.now c.args.order.now c.args.starts.now c.args.endpoints.now.parts c.args.complete c.args.moment c.args.k c.args.waits.now c.in-Resting.end c.rest.new.self c.requires.started (rw c.in-Resting.is at c.requires.stands) c.rest.ensures c.requires.known
+returns-in-Resting c =
+    known-resting c.args.plan.now c.args.order.now c.args.starts.now c.args.endpoints.now.parts c.args.complete c.args.moment c.args.k c.args.waits.now
+    c.in-Resting.end c.rest.new.self c.requires.started (rw c.in-Resting.is at c.requires.stands) c.rest.ensures c.requires.known
 
 pub returns-in-Served : goal.returns-in-Served
-returns-in-Served c = known-closed c.args.plan.now c.args.order.now c.args.starts.now c.args.endpoints.now.parts c.args.complete c.args.moment c.args.k c.free.new.self c.close.new.self c.requires.started (rw c.in-Served.is at c.requires.stands) c.close.ensures
-    (known-freed c.args.plan.now c.args.order.now c.args.starts.now c.args.endpoints.now.parts c.args.complete c.args.moment c.args.k c.args.waits.now c.free.new.self c.free.ensures c.requires.known)
+returns-in-Served c =
+    known-closed c.args.plan.now c.args.order.now c.args.starts.now c.args.endpoints.now.parts c.args.complete c.args.moment c.args.k c.free.new.self
+    c.close.new.self c.requires.started (rw c.in-Served.is at c.requires.stands) c.close.ensures
+    (known-freed c.args.plan.now c.args.order.now c.args.starts.now c.args.endpoints.now.parts c.args.complete c.args.moment c.args.k c.args.waits.now
+    c.free.new.self c.free.ensures c.requires.known)
 
 pub settle_behind-requires-clause-known : goal.settle_behind-requires-clause-known
-settle_behind-requires-clause-known c = known-freed c.args.plan.now c.args.order.now c.args.starts.now c.args.endpoints.now.parts c.args.complete c.args.moment c.args.k c.args.waits.now c.free-in-Behind.new.self c.free-in-Behind.ensures c.requires.known
+settle_behind-requires-clause-known c =
+    known-freed c.args.plan.now c.args.order.now c.args.starts.now c.args.endpoints.now.parts c.args.complete c.args.moment c.args.k c.args.waits.now
+    c.free-in-Behind.new.self c.free-in-Behind.ensures c.requires.known
 
 pub settle_behind-requires-clause-open : goal.settle_behind-requires-clause-open
-settle_behind-requires-clause-open c = freed-open c.args.plan.now c.args.order.now c.args.starts.now c.args.endpoints.now.parts c.args.complete c.args.moment c.args.k c.args.waits.now c.free-in-Behind.new.self c.free-in-Behind.ensures c.requires.open
+settle_behind-requires-clause-open c =
+    freed-open c.args.plan.now c.args.order.now c.args.starts.now c.args.endpoints.now.parts c.args.complete c.args.moment c.args.k c.args.waits.now
+    c.free-in-Behind.new.self c.free-in-Behind.ensures c.requires.open
 
 pub returns-in-Due : goal.returns-in-Due
-returns-in-Due c = known-freed c.args.plan.now c.args.order.now c.args.starts.now c.args.endpoints.now.parts c.args.complete c.args.moment c.args.k c.args.waits.now c.free-in-Due.new.self c.free-in-Due.ensures c.requires.known
+returns-in-Due c =
+    known-freed c.args.plan.now c.args.order.now c.args.starts.now c.args.endpoints.now.parts c.args.complete c.args.moment c.args.k c.args.waits.now
+    c.free-in-Due.new.self c.free-in-Due.ensures c.requires.known

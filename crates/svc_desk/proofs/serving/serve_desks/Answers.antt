@@ -32,6 +32,7 @@ returns-in_default-close_both-clause-refused g c =
     let x = c.refused-in_default-close_both.ensures in
     let seen_left = sym (ap g.D.Desk.seen x.left) in
     let seen_right = sym (ap g.D.Desk.seen x.right) in
-    back_as c.args.plan (g.D.Desk.seen c.args.left) (g.D.Desk.seen c.args.right) (g.D.Desk.seen one.desk) (g.D.Desk.seen two.desk) _ _ _ seen_left seen_right x.reason
+    back_as c.args.plan (g.D.Desk.seen c.args.left) (g.D.Desk.seen c.args.right) (g.D.Desk.seen one.desk)
+    (g.D.Desk.seen two.desk) _ _ _ seen_left seen_right x.reason
     (back_worked c.args.plan c.args.turns o.server o.left o.right (list_of o.opening) (g.D.Desk.seen c.args.left) mid (g.D.Desk.seen c.args.right)
     (g.D.Desk.seen one.desk) (g.D.Desk.seen two.desk) one.worked two.worked performed c.work_both-one.ensures.left right_worked)

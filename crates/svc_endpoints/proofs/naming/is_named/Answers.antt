@@ -4,10 +4,14 @@ use Rattle.svc_endpoints.proofs.RangeLemmas.{at0, none0, more_false}
 use Rattle.svc_endpoints.proofs.naming.is_named.Goals as goal
 
 pub returns-then-names : goal.returns-then-names
-returns-then-names c = let e = c.service_count-s-end.ensures in sym (at0 (λ s. names c.args.plan.now s c.args.address.now) (service_count c.args.plan.now) c.loop-s.s (omega (arith, e)) (sym c.names.ensures ∙ c.if-names.true))
+returns-then-names c =
+    let e = c.service_count-s-end.ensures in
+    sym (at0 (λ s. names c.args.plan.now s c.args.address.now) (service_count c.args.plan.now) c.loop-s.s (omega (arith, e))
+    (sym c.names.ensures ∙ c.if-names.true))
 
 pub returns : goal.returns
-returns c = let e = c.service_count-s-end.ensures in sym (none0 (λ s. names c.args.plan.now s c.args.address.now) (service_count c.args.plan.now) (λ k lt. c.loop-s.invariant k (omega (arith, e))))
+returns c = let e = c.service_count-s-end.ensures in
+    sym (none0 (λ s. names c.args.plan.now s c.args.address.now) (service_count c.args.plan.now) (λ k lt. c.loop-s.invariant k (omega (arith, e))))
 
 pub loop-s-preserved : goal.loop-s-preserved
 loop-s-preserved c = more_false (λ s. names c.args.plan.now s c.args.address.now) c.loop-s.s c.loop-s.invariant (sym c.names.ensures ∙ c.if-names.false)

@@ -12,7 +12,14 @@ pub returns-in-Ok-clause-words : goal.returns-in-Ok-clause-words
 returns-in-Ok-clause-words c = c.in-Ok.ensures.words ∙ sym (ap words_or_none (decode-message c.args.bytes.now c.args.count c.in-Ok.ensures.message))
 
 pub returns-else-eq-clause-good : goal.returns-else-eq-clause-good
-returns-else-eq-clause-good c = sym (ap is_read (decode-refused c.args.bytes.now c.args.count c.in-Err.reason (λ same. (let here : c.eq.result ≡ true = rw same at c.eq.ensures in clash c.eq.result here c.if-eq.false)) c.in-Err.ensures.refusal))
+returns-else-eq-clause-good c =
+    sym (ap is_read
+    (decode-refused c.args.bytes.now c.args.count c.in-Err.reason
+    (λ same. (let here : c.eq.result ≡ true = rw same at c.eq.ensures in clash c.eq.result here c.if-eq.false)) c.in-Err.ensures.refusal))
 
 pub returns-else-eq-clause-words : goal.returns-else-eq-clause-words
-returns-else-eq-clause-words c = c.new.ensures.items ∙ sym (ap words_or_none (decode-refused c.args.bytes.now c.args.count c.in-Err.reason (λ same. (let here : c.eq.result ≡ true = rw same at c.eq.ensures in clash c.eq.result here c.if-eq.false)) c.in-Err.ensures.refusal))
+returns-else-eq-clause-words c =
+    c.new.ensures.items
+    ∙ sym (ap words_or_none
+    (decode-refused c.args.bytes.now c.args.count c.in-Err.reason
+    (λ same. (let here : c.eq.result ≡ true = rw same at c.eq.ensures in clash c.eq.result here c.if-eq.false)) c.in-Err.ensures.refusal))

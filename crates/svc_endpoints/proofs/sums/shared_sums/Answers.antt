@@ -11,4 +11,5 @@ loop-s-init c = noted-none c.args.plan.now (list_of c.new-seen.result) (list_of 
 pub returns : goal.returns
 returns c =
     let end : c.loop-s.s ≡ service_count c.args.plan.now = (let e = c.service_count-s-end.ensures in omega arith) in
-    shared-all c.args.plan.now (list_of c.loop-s.seen) (list_of c.loop-s.shared) (subst (λ n. AreNoted c.args.plan.now n 0 (list_of c.loop-s.seen) (list_of c.loop-s.shared)) end c.loop-s.invariant)
+    shared-all c.args.plan.now (list_of c.loop-s.seen) (list_of c.loop-s.shared)
+    (subst (λ n. AreNoted c.args.plan.now n 0 (list_of c.loop-s.seen) (list_of c.loop-s.shared)) end c.loop-s.invariant)

@@ -11,9 +11,11 @@ loop-i-preserved c =
     let test = goes c.args.plan.now c.args.kept.now (states_of c.args.rows.now c.args.failed.now (list_of c.args.loops.now)) in
     elim c.if-goes.branch [
       | then-goes w ↦ rw (w.table-is, w.actions-is, w.left-is)
-          (clears-here test c.args.table.now.items c.loop-i.table.items c.loop-i.left c.loop-i.i c.index-entry.result.now (omega arith) c.index-entry.ensures c.args.actions.now c.loop-i.actions c.loop-i.invariant
+          (clears-here test c.args.table.now.items c.loop-i.table.items c.loop-i.left c.loop-i.i c.index-entry.result.now
+          (omega arith) c.index-entry.ensures c.args.actions.now c.loop-i.actions c.loop-i.invariant
           w.put.new.self (sym c.goes.ensures ∙ w.if-goes.true) w.put.ensures.items w.put.ensures.room)
       | else-goes w ↦ rw (w.table-is, w.actions-is, w.left-is)
-          (clears-past test c.args.table.now.items c.loop-i.table.items c.loop-i.left c.loop-i.i c.index-entry.result.now (omega arith) c.index-entry.ensures c.args.actions.now c.loop-i.actions c.loop-i.invariant
+          (clears-past test c.args.table.now.items c.loop-i.table.items c.loop-i.left c.loop-i.i c.index-entry.result.now
+          (omega arith) c.index-entry.ensures c.args.actions.now c.loop-i.actions c.loop-i.invariant
           w.swap.new.self.items (sym c.goes.ensures ∙ w.if-goes.false) w.swap.ensures.by_index)
     ]

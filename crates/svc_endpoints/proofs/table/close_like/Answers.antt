@@ -7,30 +7,36 @@ use Rattle.svc_endpoints.proofs.table.close_like.Goals as goal
 
 pub put-requires : goal.put-requires
 put-requires c =
-    let less = shorter c.args.fd (list_of c.loop-closed.table) (list_of c.remove.new.self) c.in-Some._closed c.in-Some.ensures.removed.0 c.in-Some.ensures.removed.1 in
+    let less = shorter c.args.fd (list_of c.loop-closed.table)
+    (list_of c.remove.new.self) c.in-Some._closed c.in-Some.ensures.removed.0 c.in-Some.ensures.removed.1 in
     let fits = c.loop-closed.invariant.fits in
     omega arith
 
 pub loop-closed-preserved : goal.loop-closed-preserved
 loop-closed-preserved c =
-    closing-next c.args.fd (list_of c.args.table.now) (list_of c.loop-closed.table) (list_of c.remove.new.self) c.args.actions.now c.loop-closed.actions c.put.new.self c.in-Some._closed
+    closing-next c.args.fd (list_of c.args.table.now) (list_of c.loop-closed.table)
+    (list_of c.remove.new.self) c.args.actions.now c.loop-closed.actions c.put.new.self c.in-Some._closed
     c.in-Some.ensures.removed.0 c.in-Some.ensures.removed.1 c.put.ensures.items c.put.ensures.room c.loop-closed.invariant
 
 pub loop-closed-preserved-in-Some : goal.loop-closed-preserved-in-Some
 loop-closed-preserved-in-Some c =
-    closing-next c.args.fd (list_of c.args.table.now) (list_of c.loop-closed.table) (list_of c.remove.new.self) c.args.actions.now c.loop-closed.actions c.put.new.self c.in-Some._closed
+    closing-next c.args.fd (list_of c.args.table.now) (list_of c.loop-closed.table)
+    (list_of c.remove.new.self) c.args.actions.now c.loop-closed.actions c.put.new.self c.in-Some._closed
     c.in-Some.ensures.removed.0 c.in-Some.ensures.removed.1 c.put.ensures.items c.put.ensures.room c.loop-closed.invariant
 
 pub loop-closed-smaller : goal.loop-closed-smaller
 loop-closed-smaller c =
-    let less = shorter c.args.fd (list_of c.loop-closed.table) (list_of c.remove.new.self) c.in-Some._closed c.in-Some.ensures.removed.0 c.in-Some.ensures.removed.1 in
+    let less = shorter c.args.fd (list_of c.loop-closed.table)
+    (list_of c.remove.new.self) c.in-Some._closed c.in-Some.ensures.removed.0 c.in-Some.ensures.removed.1 in
     omega arith
 
 pub returns : goal.returns
 returns c =
     let none = like-none c.args.fd (list_of c.loop-closed.table) c.in_default.ensures.absent in
     record {
-      after = ap list_of c.in_default.ensures.same ∙ unlike-none c.args.fd (list_of c.loop-closed.table) c.in_default.ensures.absent ∙ c.loop-closed.invariant.left;
-      told = sym (append-nil (list_of c.loop-closed.actions)) ∙ ap (λ w. list_of c.loop-closed.actions ++ map Close w) (sym none) ∙ c.loop-closed.invariant.told;
+      after = ap list_of c.in_default.ensures.same ∙ unlike-none c.args.fd (list_of c.loop-closed.table) c.in_default.ensures.absent
+          ∙ c.loop-closed.invariant.left;
+      told = sym (append-nil (list_of c.loop-closed.actions)) ∙ ap (λ w. list_of c.loop-closed.actions ++ map Close w) (sym none)
+          ∙ c.loop-closed.invariant.told;
       room = (let room = c.loop-closed.invariant.room in let size = ap length none in omega arith);
     }

@@ -11,5 +11,7 @@ returns-then-is_used_between c = sym (c.is_used_between.ensures.found c.if-is_us
 pub returns : goal.returns
 returns c =
     let e = c.service_count-end.ensures in
-    in_halves (any_user c.args.plan.now (states_of c.args.rows.now c.args.failed.now (list_of c.args.loops.now)) c.args.fd) (service_count c.args.plan.now) c.args.from c.is_used_between-2.result
-    (λ j le lt. c.is_used_between.ensures.none c.if-is_used_between.false j le (omega (arith, e))) c.is_used_between-2.ensures.found (λ off j le lt. c.is_used_between-2.ensures.none off j le (omega (arith, e)))
+    in_halves (any_user c.args.plan.now (states_of c.args.rows.now c.args.failed.now (list_of c.args.loops.now)) c.args.fd)
+    (service_count c.args.plan.now) c.args.from c.is_used_between-2.result
+    (λ j le lt. c.is_used_between.ensures.none c.if-is_used_between.false j le (omega (arith, e))) c.is_used_between-2.ensures.found
+    (λ off j le lt. c.is_used_between-2.ensures.none off j le (omega (arith, e)))

@@ -6,10 +6,17 @@ use Rattle.svc_endpoints.proofs.RangeLemmas.{at0, none0, more_false}
 use Rattle.svc_endpoints.proofs.uses.is_used_in.Goals as goal
 
 pub returns-then-is_used_at : goal.returns-then-is_used_at
-returns-then-is_used_at c = let e = c.endpoint_count-i-end.ensures in sym (at0 (is_user c.args.plan.now (states_of c.args.rows.now c.args.failed.now (list_of c.args.loops.now)) c.args.fd c.args.s) (length (endpoints c.args.plan.now c.args.s)) c.loop-i.i (omega (arith, e)) (sym c.is_used_at.ensures ∙ c.if-is_used_at.true))
+returns-then-is_used_at c =
+    let e = c.endpoint_count-i-end.ensures in
+    sym (at0 (is_user c.args.plan.now (states_of c.args.rows.now c.args.failed.now (list_of c.args.loops.now)) c.args.fd c.args.s)
+    (length (endpoints c.args.plan.now c.args.s)) c.loop-i.i (omega (arith, e)) (sym c.is_used_at.ensures ∙ c.if-is_used_at.true))
 
 pub returns : goal.returns
-returns c = let e = c.endpoint_count-i-end.ensures in sym (none0 (is_user c.args.plan.now (states_of c.args.rows.now c.args.failed.now (list_of c.args.loops.now)) c.args.fd c.args.s) (length (endpoints c.args.plan.now c.args.s)) (λ k lt. c.loop-i.invariant k (omega (arith, e))))
+returns c = let e = c.endpoint_count-i-end.ensures in
+    sym (none0 (is_user c.args.plan.now (states_of c.args.rows.now c.args.failed.now (list_of c.args.loops.now)) c.args.fd c.args.s)
+    (length (endpoints c.args.plan.now c.args.s)) (λ k lt. c.loop-i.invariant k (omega (arith, e))))
 
 pub loop-i-preserved : goal.loop-i-preserved
-loop-i-preserved c = more_false (is_user c.args.plan.now (states_of c.args.rows.now c.args.failed.now (list_of c.args.loops.now)) c.args.fd c.args.s) c.loop-i.i c.loop-i.invariant (sym c.is_used_at.ensures ∙ c.if-is_used_at.false)
+loop-i-preserved c =
+    more_false (is_user c.args.plan.now (states_of c.args.rows.now c.args.failed.now (list_of c.args.loops.now)) c.args.fd c.args.s) c.loop-i.i
+    c.loop-i.invariant (sym c.is_used_at.ensures ∙ c.if-is_used_at.false)

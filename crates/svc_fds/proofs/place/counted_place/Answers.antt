@@ -11,7 +11,8 @@ pub loop-low-preserved-in-Less : goal.loop-low-preserved-in-Less
 loop-low-preserved-in-Less g c =
     let i = c.loop-low.invariant in
     let middle = c.loop-low.low + (c.loop-low.high - c.loop-low.low) / 2 in
-    let step = one_step c.args.steps.now c.loop-low.steps c.loop-low.low c.loop-low.high (c.loop-low.high - (middle + 1)) (length c.args.entries.now) i.counted (omega arith) c.loop-low-test.true i.left in
+    let step = one_step c.args.steps.now c.loop-low.steps c.loop-low.low c.loop-low.high (c.loop-low.high - (middle + 1)) (length c.args.entries.now) i.counted
+    (omega arith) c.loop-low-test.true i.left in
     record {
       ordered = omega arith;
       within = i.within;
@@ -25,18 +26,22 @@ loop-low-preserved-in-Less g c =
 
 pub returns-in-Equal-clause-place : goal.returns-in-Equal-clause-place
 returns-in-Equal-clause-place g c =
-    held-found c.args.bind.now c.args.entries.now _ c.index-entries-middle.result c.requires (omega (arith, c.loop-low.invariant.within, c.loop-low-test.true)) c.index-entries-middle.is (sym c.in-Equal.ensures.answer)
+    held-found c.args.bind.now c.args.entries.now _ c.index-entries-middle.result c.requires
+    (omega (arith, c.loop-low.invariant.within, c.loop-low-test.true)) c.index-entries-middle.is (sym c.in-Equal.ensures.answer)
 
 pub returns-in-Equal-clause-cost : goal.returns-in-Equal-clause-cost
 returns-in-Equal-clause-cost g c =
     let i = c.loop-low.invariant in
-    rw c.compare.ensures.step (one_step c.args.steps.now c.loop-low.steps c.loop-low.low c.loop-low.high 0 (length c.args.entries.now) i.counted (omega arith) c.loop-low-test.true i.left).1
+    rw c.compare.ensures.step
+    (one_step c.args.steps.now c.loop-low.steps c.loop-low.low c.loop-low.high 0 (length c.args.entries.now) i.counted
+    (omega arith) c.loop-low-test.true i.left).1
 
 pub loop-low-preserved : goal.loop-low-preserved
 loop-low-preserved g c =
     let i = c.loop-low.invariant in
     let middle = c.loop-low.low + (c.loop-low.high - c.loop-low.low) / 2 in
-    let step = one_step c.args.steps.now c.loop-low.steps c.loop-low.low c.loop-low.high (middle - c.loop-low.low) (length c.args.entries.now) i.counted (omega arith) c.loop-low-test.true i.left in
+    let step = one_step c.args.steps.now c.loop-low.steps c.loop-low.low c.loop-low.high (middle - c.loop-low.low) (length c.args.entries.now) i.counted
+    (omega arith) c.loop-low-test.true i.left in
     record {
       ordered = omega arith;
       within = omega arith;

@@ -10,7 +10,8 @@ loop-channel-preserved g c =
     record {
       told = close-more (g.C.Channel.calls c.args.channel.now) (g.C.Channel.calls c.loop-channel.channel) (g.C.Channel.calls c.close.new.self)
           c.loop-channel.invariant.told.0 c.loop-channel.fds.items c.remove.new.self.items c.args.fds.items c.remove.result
-          c.loop-channel.invariant.told.1 c.loop-channel.invariant.told.2 c.close.ensures.told (omega (arith, c.loop-channel.fds.ok.0)) c.remove.ensures.value c.remove.ensures.items;
+          c.loop-channel.invariant.told.1 c.loop-channel.invariant.told.2 c.close.ensures.told
+          (omega (arith, c.loop-channel.fds.ok.0)) c.remove.ensures.value c.remove.ensures.items;
       stays = Stays-then c.loop-channel.invariant.stays c.close.ensures.stays;
       same = c.close.ensures.cause ∙ c.loop-channel.invariant.same;
     }

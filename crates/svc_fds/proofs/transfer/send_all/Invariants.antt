@@ -4,7 +4,8 @@ use Rattle.svc_fds.proofs.transfer.send_all.Given as goal
 
 abbrev pub invariant-loop-answer : goal.invariant-loop-answer
 invariant-loop-answer g l = record {
-  sending : Sending l.limit l.bytes l.fds (g.C.Channel.calls l.initial.channel) (g.C.Channel.calls l.channel) (g.C.Channel.faulted l.initial.channel) (g.C.Channel.faulted l.channel) l.next l.retry;
+  sending : Sending l.limit l.bytes l.fds (g.C.Channel.calls l.initial.channel) (g.C.Channel.calls l.channel) (g.C.Channel.faulted l.initial.channel)
+      (g.C.Channel.faulted l.channel) l.next l.retry;
   stays : Stays (g.C.Channel.calls l.initial.channel) (g.C.Channel.calls l.channel) (g.C.Channel.room l.initial.channel) (g.C.Channel.room l.channel);
 }
 

@@ -10,4 +10,5 @@ unreachable-requires c =
 pub returns-in-Receive-clause-falls : goal.returns-in-Receive-clause-falls
 returns-in-Receive-clause-falls c =
     let state = c.args.retry.now in
-    wait-falls state c.step.new.self c.in-Receive.ms (c.in-Receive.ensures.next state [] (fresh-state state)) (c.in-Receive.ensures.after state [] (fresh-state state))
+    wait-falls state c.step.new.self c.in-Receive.ms (c.in-Receive.ensures.next state [] (fresh-state state))
+    (c.in-Receive.ensures.after state [] (fresh-state state))

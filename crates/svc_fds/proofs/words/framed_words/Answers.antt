@@ -20,7 +20,8 @@ loop-rest-preserved c =
     let after = c.in-Some.after.now in
     rw (c.in_ok-push.ensures.items, c.in_ok-new.ensures)
     (words-more found c.in-Some.word.now (framed_words after)
-    ∙ ap (λ o. option_map (λ (words : List (List ℕ)). found ++ words) o) (sym (framed_words-front c.loop-rest.rest.now c.in-Some.word.now after c.in-Some.ensures.cut))
+    ∙ ap (λ o. option_map (λ (words : List (List ℕ)). found ++ words) o)
+    (sym (framed_words-front c.loop-rest.rest.now c.in-Some.word.now after c.in-Some.ensures.cut))
     ∙ c.loop-rest.invariant)
 
 pub returns : goal.returns
@@ -28,4 +29,5 @@ returns c =
     let found = c.loop-rest.found.items in
     let rest = c.loop-rest.rest.now in
     let none : rest ≡ [] = nil_from_length rest (eqb-true (length rest) 0 (sym c.loop-rest-test.ensures)) in
-    sym c.loop-rest.invariant ∙ ap (λ o. option_map (λ (words : List (List ℕ)). found ++ words) o) (ap framed_words none ∙ framed_words-nil) ∙ ap (λ (ws : List (List ℕ)). Some ws) (append-nil found)
+    sym c.loop-rest.invariant ∙ ap (λ o. option_map (λ (words : List (List ℕ)). found ++ words) o) (ap framed_words none ∙ framed_words-nil)
+    ∙ ap (λ (ws : List (List ℕ)). Some ws) (append-nil found)

@@ -15,4 +15,6 @@ loop-word-preserved c =
 pub returns : goal.returns
 returns c =
     let found = c.loop-word.found.items in
-    sym (append-nil found) ∙ ap (λ (ws : List (List ℕ)). found ++ ws) (sym (joined_words-blanks (split_ascii_whitespace_text c.loop-word.word-iterator) c.in-None.ensures.steps.0)) ∙ c.loop-word.invariant
+    sym (append-nil found)
+    ∙ ap (λ (ws : List (List ℕ)). found ++ ws) (sym (joined_words-blanks (split_ascii_whitespace_text c.loop-word.word-iterator) c.in-None.ensures.steps.0))
+    ∙ c.loop-word.invariant

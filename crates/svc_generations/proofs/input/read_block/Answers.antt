@@ -9,7 +9,9 @@ returns-in-Ok-script_of-clause-says c = block_says _ _ _ _ c.in-Ok.ensures.lines
 
 pub returns-in-Err-Line-clause-refused : goal.returns-in-Err-Line-clause-refused
 returns-in-Err-Line-clause-refused c =
-    refuses_block c.args.before c.in-Err-Line.n _ c.refused_behind.result (block_says _ _ _ (Err c.in-Err-Line.n) c.in-Ok.ensures.lines c.in-Ok.ensures.daemon (rw c.in-Err-Line.field-0-is at c.in-Err-Line.ensures.read)) (rw c.in-Err-Line.field-0-is at c.refused_behind.ensures)
+    refuses_block c.args.before c.in-Err-Line.n _ c.refused_behind.result
+    (block_says _ _ _ (Err c.in-Err-Line.n) c.in-Ok.ensures.lines c.in-Ok.ensures.daemon (rw c.in-Err-Line.field-0-is at c.in-Err-Line.ensures.read))
+    (rw c.in-Err-Line.field-0-is at c.refused_behind.ensures)
 
 pub returns-in-Ok-script_of-clause-is_block : goal.returns-in-Ok-script_of-clause-is_block
 returns-in-Ok-script_of-clause-is_block c = record {

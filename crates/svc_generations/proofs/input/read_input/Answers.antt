@@ -6,4 +6,6 @@ use Rattle.svc_generations.proofs.input.read_input.Goals as goal
 
 pub returns-clause-read : goal.returns-clause-read
 unfolding input_of
-returns-clause-read c = subst (Reads input_parts_of c.first_block.result) (sym (front_ends c.loop-after.passed _ c.in_default.ensures.front) ∙ c.loop-after.invariant.said) c.first_block.ensures.read
+returns-clause-read c =
+    subst (Reads input_parts_of c.first_block.result)
+    (sym (front_ends c.loop-after.passed _ c.in_default.ensures.front) ∙ c.loop-after.invariant.said) c.first_block.ensures.read

@@ -19,10 +19,15 @@ returns-in-Ok-read_input-clause-ended g c =
     if_ok _ _ c.answer_input.result c.answer_input.ensures (λ a h. input_ends (input_parts_of c.in-Ok-read_input.input) a.line _ _ h c.in-Ok.ensures.ended)
 
 pub returns-in-Ok-read_input-clause-fault : goal.returns-in-Ok-read_input-clause-fault
-returns-in-Ok-read_input-clause-fault g c = if_ok _ _ c.answer_input.result c.answer_input.ensures (λ a h. input_faults (input_parts_of c.in-Ok-read_input.input) a.line _ _ _ h)
+returns-in-Ok-read_input-clause-fault g c =
+    if_ok _ _ c.answer_input.result c.answer_input.ensures (λ a h. input_faults (input_parts_of c.in-Ok-read_input.input) a.line _ _ _ h)
 
 pub answer_input-requires-clause-some : goal.answer_input-requires-clause-some
-answer_input-requires-clause-some g c = (let n = input_count _ (input_parts_of c.in-Ok-read_input.input) c.in-Ok-read_input.ensures.read in omega (arith, n.0, length-map c.in-Ok-read_input.input.blocks block_parts_of))
+answer_input-requires-clause-some g c =
+    (let n = input_count _ (input_parts_of c.in-Ok-read_input.input) c.in-Ok-read_input.ensures.read in
+    omega (arith, n.0, length-map c.in-Ok-read_input.input.blocks block_parts_of))
 
 pub answer_input-requires-clause-few : goal.answer_input-requires-clause-few
-answer_input-requires-clause-few g c = (let n = input_count _ (input_parts_of c.in-Ok-read_input.input) c.in-Ok-read_input.ensures.read in omega (arith, n.1, length-map c.in-Ok-read_input.input.blocks block_parts_of))
+answer_input-requires-clause-few g c =
+    (let n = input_count _ (input_parts_of c.in-Ok-read_input.input) c.in-Ok-read_input.ensures.read in
+    omega (arith, n.1, length-map c.in-Ok-read_input.input.blocks block_parts_of))

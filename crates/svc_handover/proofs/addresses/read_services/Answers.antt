@@ -7,8 +7,11 @@ use Rattle.svc_handover.specs.Law.{AreTextual}
 use Rattle.svc_handover.proofs.addresses.read_services.Goals as goal
 
 pub loop-service-preserved : goal.loop-service-preserved
-loop-service-preserved c = All-more (λ (s : ServicePlan). AreTextual s.endpoints) c.args.services.now c.loop-service.service-index c.service-item.result c.loop-service-test.true c.loop-service.invariant
+loop-service-preserved c =
+    All-more (λ (s : ServicePlan). AreTextual s.endpoints) c.args.services.now c.loop-service.service-index c.service-item.result c.loop-service-test.true
+    c.loop-service.invariant
     (subst (λ (s : ServicePlan). AreTextual s.endpoints) c.service-item.is (subst AreTextual c.as_slice.ensures c.read_endpoints.ensures))
 
 pub returns : goal.returns
-returns c = subst (λ ss. All (λ (s : ServicePlan). AreTextual s.endpoints) ss) (take_all c.loop-service.service-index c.args.services.now c.loop-service-test.false) c.loop-service.invariant
+returns c = subst (λ ss. All (λ (s : ServicePlan). AreTextual s.endpoints) ss)
+    (take_all c.loop-service.service-index c.args.services.now c.loop-service-test.false) c.loop-service.invariant

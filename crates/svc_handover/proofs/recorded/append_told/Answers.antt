@@ -6,4 +6,5 @@ use Rattle.svc_handover.specs.Runs.{told_entries}
 use Rattle.svc_handover.proofs.recorded.append_told.Goals as goal
 
 pub returns : goal.returns
-returns c = c.loop-action.invariant ∙ ap (λ (xs : List Action). list_of c.args.entries.now ++ told_entries xs) (take_all c.loop-action.action-index c.args.told.now c.loop-action-test.false)
+returns c = c.loop-action.invariant
+    ∙ ap (λ (xs : List Action). list_of c.args.entries.now ++ told_entries xs) (take_all c.loop-action.action-index c.args.told.now c.loop-action-test.false)

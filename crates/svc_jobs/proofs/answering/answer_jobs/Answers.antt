@@ -7,5 +7,8 @@ pub returns-in-Ok : goal.returns-in-Ok
 returns-in-Ok c =
     let left = c.in_ok-left-in-Ok in
     let due = rw c.deref-in-Ok.ensures.value at left.ensures.due in
-    ran_jobs (job_parts_of c.args.jobs) c.args.jobs.script.lines.items left.left.end _ _ c.ran.result c.ran.ensures (c.as_slice.ensures ∙ c.runs.ensures.runs ∙ due)
-    (left.ensures.run (job_parts_of c.args.jobs) (record { configuration = refl; flags = c.in-Ok.ensures.options; begins_at_once = c.in-Ok.ensures.eager; jobs = c.in-Ok.ensures.jobs }) (sym c.deref-in-Ok.ensures.value) refl) c.in-Ok.ensures.edges
+    ran_jobs (job_parts_of c.args.jobs) c.args.jobs.script.lines.items left.left.end _ _ c.ran.result c.ran.ensures
+    (c.as_slice.ensures ∙ c.runs.ensures.runs ∙ due)
+    (left.ensures.run (job_parts_of c.args.jobs)
+    (record { configuration = refl; flags = c.in-Ok.ensures.options; begins_at_once = c.in-Ok.ensures.eager; jobs = c.in-Ok.ensures.jobs })
+    (sym c.deref-in-Ok.ensures.value) refl) c.in-Ok.ensures.edges

@@ -5,16 +5,19 @@ use Rattle.svc_jobs.proofs.program.serve_jobs.Goals as goal
 
 pub returns-in-Ok-write_all-clause-served : goal.returns-in-Ok-write_all-clause-served
 returns-in-Ok-write_all-clause-served g c = λ e.
-    ran_from 0 (λ q. omega (arith, q)) (λ q. omega (arith, q)) (λ q. omega (arith, q)) _ (g.S.Source.left c.args.source.now) (g.S.Source.left c.make_answer.new.source) _ _ c.in-Ok.answer.line _
+    ran_from 0 (λ q. omega (arith, q)) (λ q. omega (arith, q)) (λ q. omega (arith, q)) _ (g.S.Source.left c.args.source.now)
+    (g.S.Source.left c.make_answer.new.source) _ _ c.in-Ok.answer.line _
     c.in-Ok.ensures.answer c.in-Ok.ensures.ended (rw c.as_bytes.ensures.value at c.in-Ok-write_all.ensures.whole) (sym c.status.ensures ∙ e)
 
 pub returns-in-Ok-write_all-clause-run_error : goal.returns-in-Ok-write_all-clause-run_error
 returns-in-Ok-write_all-clause-run_error g c = λ e.
-    ran_from 4 (λ q. omega (arith, q)) (λ q. omega (arith, q)) (λ q. omega (arith, q)) _ (g.S.Source.left c.args.source.now) (g.S.Source.left c.make_answer.new.source) _ _ c.in-Ok.answer.line _
+    ran_from 4 (λ q. omega (arith, q)) (λ q. omega (arith, q)) (λ q. omega (arith, q)) _ (g.S.Source.left c.args.source.now)
+    (g.S.Source.left c.make_answer.new.source) _ _ c.in-Ok.answer.line _
     c.in-Ok.ensures.answer c.in-Ok.ensures.ended (rw c.as_bytes.ensures.value at c.in-Ok-write_all.ensures.whole) (sym c.status.ensures ∙ e)
 
 pub returns-in-Ok-write_all-clause-words_refused : goal.returns-in-Ok-write_all-clause-words_refused
-returns-in-Ok-write_all-clause-words_refused g c = λ refused. inl (c.status.ensures ∙ refused_words _ (g.S.Source.left c.args.source.now) c.in-Ok.answer.line _ refused c.in-Ok.ensures.answer)
+returns-in-Ok-write_all-clause-words_refused g c =
+    λ refused. inl (c.status.ensures ∙ refused_words _ (g.S.Source.left c.args.source.now) c.in-Ok.answer.line _ refused c.in-Ok.ensures.answer)
 
 pub returns-in-Ok-write_all-clause-complete : goal.returns-in-Ok-write_all-clause-complete
 returns-in-Ok-write_all-clause-complete g c = λ bytes parts tells whole source sink.

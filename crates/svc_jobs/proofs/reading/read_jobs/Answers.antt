@@ -6,16 +6,19 @@ use Rattle.svc_jobs.proofs.reading.read_jobs.Goals as goal
 
 pub returns-in-Ok-parse-clause-parts : goal.returns-in-Ok-parse-clause-parts
 returns-in-Ok-parse-clause-parts c =
-    reads_jobs _ c.args.bytes.now _ (parts_of c.in-Ok-parse.script) c.in-Ok.ensures.lines c.in-Ok.ensures.periods (rw c.deref.ensures.value at c.in-Ok-parse.ensures.parts)
+    reads_jobs _ c.args.bytes.now _ (parts_of c.in-Ok-parse.script) c.in-Ok.ensures.lines c.in-Ok.ensures.periods
+    (rw c.deref.ensures.value at c.in-Ok-parse.ensures.parts)
 
 pub returns-in-Ok-parse-clause-sized : goal.returns-in-Ok-parse-clause-sized
 returns-in-Ok-parse-clause-sized c =
-    let says = reads_script _ c.args.bytes.now (parts_of c.in-Ok-parse.script) c.in-Ok.ensures.lines (rw c.deref.ensures.value at c.in-Ok-parse.ensures.parts) in
+    let says = reads_script _ c.args.bytes.now (parts_of c.in-Ok-parse.script) c.in-Ok.ensures.lines
+    (rw c.deref.ensures.value at c.in-Ok-parse.ensures.parts) in
     as_many c.args.bytes.now (parts_of c.in-Ok-parse.script) says ∙ ap length (sym c.in-Ok.ensures.periods)
 
 pub returns-in-Ok-parse-clause-items : goal.returns-in-Ok-parse-clause-items
 returns-in-Ok-parse-clause-items c =
-    job_items c.args.bytes.now (parts_of c.in-Ok-parse.script) (reads_script _ c.args.bytes.now (parts_of c.in-Ok-parse.script) c.in-Ok.ensures.lines (rw c.deref.ensures.value at c.in-Ok-parse.ensures.parts))
+    job_items c.args.bytes.now (parts_of c.in-Ok-parse.script)
+    (reads_script _ c.args.bytes.now (parts_of c.in-Ok-parse.script) c.in-Ok.ensures.lines (rw c.deref.ensures.value at c.in-Ok-parse.ensures.parts))
 
 pub returns-clause-parts : goal.returns-clause-parts
 returns-clause-parts c = refused_reads _ c.args.bytes.now c.in-Err.error c.in-Ok.ensures.lines (rw c.deref.ensures.value at c.in-Err.ensures.parts)

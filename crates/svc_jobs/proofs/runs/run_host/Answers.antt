@@ -10,9 +10,20 @@ pub end_of-requires : goal.end_of-requires
 end_of-requires c =
     let ran = c.run_jobs-answer.ensures in
     let same = c.is_of.ensures.0 c.if-not-is_of.false in
-    let p = plan_of c.args.server.configuration c.args.server.options c.args.server.eager c.args.server.dependencies (answers_of services.TheImpl.ghosts c.args.server.services.items) in
-    may_answer _ p ((length c.args.items.now + length c.args.periods.now) + 1) c.run_jobs-answer.result c.args.server.configuration c.run_jobs-answer.new.host c.args.periods.now c.args.items.now (ap is_test c.requires.bare.0) same.0 same.1 refl
-    (record { jobs = ran.jobs; words = ran.words; next = ran.next; order = ran.order; ends = ran.tells.ends; config = λ key e. (ran.config key).0 e; keeps = c.read_kept.ensures.words })
+    let p = plan_of c.args.server.configuration c.args.server.options c.args.server.eager c.args.server.dependencies
+    (answers_of services.TheImpl.ghosts c.args.server.services.items) in
+    may_answer _ p
+    ((length c.args.items.now + length c.args.periods.now) + 1) c.run_jobs-answer.result c.args.server.configuration c.run_jobs-answer.new.host
+    c.args.periods.now c.args.items.now (ap is_test c.requires.bare.0) same.0 same.1 refl
+    (record {
+      jobs = ran.jobs;
+      words = ran.words;
+      next = ran.next;
+      order = ran.order;
+      ends = ran.tells.ends;
+      config = λ key e. (ran.config key).0 e;
+      keeps = c.read_kept.ensures.words;
+    })
 
 pub returns-clause-run : goal.returns-clause-run
 returns-clause-run c = λ parts server paced given.
@@ -20,7 +31,17 @@ returns-clause-run c = λ parts server paced given.
     let same = c.is_of.ensures.0 c.if-not-is_of.false in
     let turns = (length c.args.items.now + length c.args.periods.now) + 1 in
     if_ok _ _ c.end_of.result c.end_of.ensures (λ end is.
-    job_run _ parts end turns c.run_jobs-answer.result c.args.server.configuration c.args.server.options c.args.server.eager c.args.server.dependencies _ (answers_of services.TheImpl.ghosts c.args.server.services.items) c.run_jobs-answer.new.host server
-    (all_notify services.TheImpl.ghosts c.args.server.configuration c.args.server.options c.args.server.eager c.args.server.dependencies c.args.server.services.items (λ b. refl)) is (same.0 ∙ sym paced) (same.1 ∙ sym given)
+    job_run _ parts end turns c.run_jobs-answer.result c.args.server.configuration c.args.server.options c.args.server.eager c.args.server.dependencies _
+    (answers_of services.TheImpl.ghosts c.args.server.services.items) c.run_jobs-answer.new.host server
+    (all_notify services.TheImpl.ghosts c.args.server.configuration c.args.server.options c.args.server.eager c.args.server.dependencies
+    c.args.server.services.items (λ b. refl)) is (same.0 ∙ sym paced) (same.1 ∙ sym given)
     (omega (arith, ap length paced, ap length given))
-    (record { jobs = ran.jobs; words = ran.words; next = ran.next; order = ran.order; ends = ran.tells.ends; config = λ key e. (ran.config key).0 e; keeps = c.read_kept.ensures.words }))
+    (record {
+      jobs = ran.jobs;
+      words = ran.words;
+      next = ran.next;
+      order = ran.order;
+      ends = ran.tells.ends;
+      config = λ key e. (ran.config key).0 e;
+      keeps = c.read_kept.ensures.words;
+    }))

@@ -11,7 +11,8 @@ loop-line-preserved c =
       options = c.add_service.ensures.options ∙ c.loop-line.invariant.options;
       eager = c.add_service.ensures.eager ∙ c.loop-line.invariant.eager;
       first =
-          first_more (answer_of services.TheImpl.ghosts) c.args.lines.now c.loop-line.line-index c.line-item.result _ _ _ _ _ _ _ c.new-service.result c.loop-line.invariant.first c.loop-line-test.true c.line-item.is
+          first_more (answer_of services.TheImpl.ghosts) c.args.lines.now c.loop-line.line-index c.line-item.result _ _ _ _ _ _ _ c.new-service.result
+          c.loop-line.invariant.first c.loop-line-test.true c.line-item.is
           says c.in-Ok.ensures.node c.in-Ok.ensures.added (c.add_service.ensures.sound c.loop-line.invariant.first.sound);
     }
 

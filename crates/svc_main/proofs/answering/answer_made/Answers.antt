@@ -8,7 +8,8 @@ use Rattle.svc_main.proofs.ServerLemmas.{made_lines, made_server}
 use Rattle.svc_main.proofs.answering.answer_made.Goals as goal
 
 pub server_of_services-requires-clause-accepted : goal.server_of_services-requires-clause-accepted
-server_of_services-requires-clause-accepted c = subst AreAccepted (sym (c.as_slice.ensures.value ∙ c.in_ok-services.ensures)) (services_accepted c.args.n c.requires)
+server_of_services-requires-clause-accepted c =
+    subst AreAccepted (sym (c.as_slice.ensures.value ∙ c.in_ok-services.ensures)) (services_accepted c.args.n c.requires)
 
 pub server_of_services-requires-clause-edges : goal.server_of_services-requires-clause-edges
 server_of_services-requires-clause-edges c = subst RefusesNone (sym (c.as_slice.ensures.value ∙ c.in_ok-services.ensures)) (services_sound c.args.n)
@@ -19,11 +20,14 @@ run_made-requires-clause-few c = subst (All BringsFew) (sym c.in_ok-made_items.e
 pub run_made-requires-clause-lines : goal.run_made-requires-clause-lines
 run_made-requires-clause-lines c =
     let set = c.configured-server.ensures in
-    made_lines c.args.n _ _ _ _ _ _ _ (c.as_slice.ensures.value ∙ c.in_ok-services.ensures) set.dependencies set.filters (ap (answers_of services.TheImpl.ghosts) set.services) c.in_ok-server.ensures.lines
+    made_lines c.args.n _ _ _ _ _ _ _ (c.as_slice.ensures.value ∙ c.in_ok-services.ensures) set.dependencies set.filters
+    (ap (answers_of services.TheImpl.ghosts) set.services) c.in_ok-server.ensures.lines
 
 pub returns : goal.returns
 returns c =
     let set = c.configured-server.ensures in
     c.run_made.ensures c.args.n c.requires
-    (made_server c.args.n _ _ _ _ _ _ _ _ _ _ _ _ _ (c.as_slice.ensures.value ∙ c.in_ok-services.ensures) c.no_flags.ensures c.in_ok-conf.ensures set.configuration set.options c.in_ok-server.ensures.eager set.eager set.dependencies set.filters
+    (made_server c.args.n _ _ _ _ _ _ _ _ _ _ _ _ _
+    (c.as_slice.ensures.value ∙ c.in_ok-services.ensures) c.no_flags.ensures c.in_ok-conf.ensures set.configuration set.options c.in_ok-server.ensures.eager
+    set.eager set.dependencies set.filters
     (ap (answers_of services.TheImpl.ghosts) set.services) c.in_ok-server.ensures.lines) c.in_ok-made_items.ensures

@@ -7,5 +7,7 @@ pub returns : goal.returns
 returns g c =
     rw c.into_recorder-recorder.ensures (
     λ opt parts server items.
-    run_is opt parts c.in_ok-end.end _ c.args.server.configuration (c.len.result + 1) c.new-host.result.left _ server.configuration c.in_ok-end.ensures.judged (omega (arith, c.len.ensures, ap length items))
-    (c.in_ok-end.ensures.tells opt parts server) (ap (λ (o : Option (List Item)). unwrap_or o c.args.items.items) c.new-host.ensures.ahead ∙ sym items) c.in_ok-end.ensures.takes)
+    run_is opt parts c.in_ok-end.end _ c.args.server.configuration (c.len.result + 1) c.new-host.result.left _ server.configuration c.in_ok-end.ensures.judged
+    (omega (arith, c.len.ensures, ap length items))
+    (c.in_ok-end.ensures.tells opt parts server)
+    (ap (λ (o : Option (List Item)). unwrap_or o c.args.items.items) c.new-host.ensures.ahead ∙ sym items) c.in_ok-end.ensures.takes)

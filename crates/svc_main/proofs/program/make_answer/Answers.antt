@@ -4,10 +4,13 @@ use Rattle.svc_main.proofs.program.make_answer.Goals as goal
 
 pub returns-in-Some-clause-answer : goal.returns-in-Some-clause-answer
 returns-in-Some-clause-answer g c =
-    if_ok _ _ c.answer_made.result c.answer_made.ensures (λ a h. made_answer _ (g.S.Source.left c.args.source.now) c.in-Some.n a.line _ (sym c.in-Some.ensures.size) h)
+    if_ok _ _ c.answer_made.result c.answer_made.ensures
+    (λ a h. made_answer _ (g.S.Source.left c.args.source.now) c.in-Some.n a.line _ (sym c.in-Some.ensures.size) h)
 
 pub returns-in-Some-clause-ended : goal.returns-in-Some-clause-ended
-returns-in-Some-clause-ended g c = if_ok _ _ c.answer_made.result c.answer_made.ensures (λ a h. made_ends _ (g.S.Source.left c.args.source.now) c.in-Some.n a.line (sym c.in-Some.ensures.size) h.0)
+returns-in-Some-clause-ended g c =
+    if_ok _ _ c.answer_made.result c.answer_made.ensures
+    (λ a h. made_ends _ (g.S.Source.left c.args.source.now) c.in-Some.n a.line (sym c.in-Some.ensures.size) h.0)
 
 pub returns-in-Some-clause-fault : goal.returns-in-Some-clause-fault
 returns-in-Some-clause-fault g c = if_ok _ _ c.answer_made.result c.answer_made.ensures (λ a h. made_faults a.line _ _ h.0)

@@ -12,12 +12,14 @@ returns-in-Ok-write_all-clause-served g c = λ e.
 
 pub returns-in-Ok-write_all-clause-parent : goal.returns-in-Ok-write_all-clause-parent
 returns-in-Ok-write_all-clause-parent g c = λ e.
-    ran_from 1 (λ q. omega (arith, q)) (λ q. omega (arith, q)) (λ q. omega (arith, q)) (λ q. omega (arith, q)) _ (g.S.Source.left c.args.source.now) (g.S.Source.left c.make_answer.new.source) _ _ c.in-Ok.answer.line _
+    ran_from 1 (λ q. omega (arith, q)) (λ q. omega (arith, q)) (λ q. omega (arith, q)) (λ q. omega (arith, q)) _ (g.S.Source.left c.args.source.now)
+    (g.S.Source.left c.make_answer.new.source) _ _ c.in-Ok.answer.line _
     c.in-Ok.ensures.answer c.in-Ok.ensures.ended (rw c.as_bytes.ensures.value at c.in-Ok-write_all.ensures.whole) (sym c.status.ensures ∙ e)
 
 pub returns-in-Ok-write_all-clause-run_error : goal.returns-in-Ok-write_all-clause-run_error
 returns-in-Ok-write_all-clause-run_error g c = λ e.
-    ran_from 4 (λ q. omega (arith, q)) (λ q. omega (arith, q)) (λ q. omega (arith, q)) (λ q. omega (arith, q)) _ (g.S.Source.left c.args.source.now) (g.S.Source.left c.make_answer.new.source) _ _ c.in-Ok.answer.line _
+    ran_from 4 (λ q. omega (arith, q)) (λ q. omega (arith, q)) (λ q. omega (arith, q)) (λ q. omega (arith, q)) _ (g.S.Source.left c.args.source.now)
+    (g.S.Source.left c.make_answer.new.source) _ _ c.in-Ok.answer.line _
     c.in-Ok.ensures.answer c.in-Ok.ensures.ended (rw c.as_bytes.ensures.value at c.in-Ok-write_all.ensures.whole) (sym c.status.ensures ∙ e)
 
 pub returns-in-Ok-write_all-clause-complete : goal.returns-in-Ok-write_all-clause-complete

@@ -32,5 +32,6 @@ returns-in_default-len1-up c = (
 pub returns-in_default : goal.returns-in_default
 returns-in_default c =
     let alone = swapped_alone c.args.a.now c.args.b.now c.behind_shared.result.0.now c.behind_shared.result.1.now c.behind_shared.ensures
-    (omega (arith, ltb-false)) (omega (arith, ltb-false)) (other_letters _ _ c.if-eq.ensures) (other_letters _ _ c.if-eq-2.ensures) (other_letters _ _ c.if-eq-3.ensures) in
+    (omega (arith, ltb-false)) (omega (arith, ltb-false)) (other_letters _ _ c.if-eq.ensures) (other_letters _ _ c.if-eq-2.ensures)
+    (other_letters _ _ c.if-eq-3.ensures) in
     (λ e. alone.0 (c.is_swapped.ensures.0 e), λ h. c.is_swapped.ensures.1 (alone.1 h))

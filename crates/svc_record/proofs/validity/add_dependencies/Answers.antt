@@ -7,7 +7,9 @@ use Rattle.svc_record.proofs.validity.add_dependencies.Goals as goal
 
 pub returns-in-Circular-clause-refused : goal.returns-in-Circular-clause-refused
 returns-in-Circular-clause-refused c =
-    let refusal = subst (λ (error : DependencyError). RefusalFits c.loop-dependency.graph c.args.service (slice_index_or c.args.dependencies.now c.loop-dependency.dependency-index 0) error)
+    let refusal =
+    subst (λ (error : DependencyError). RefusalFits c.loop-dependency.graph c.args.service
+    (slice_index_or c.args.dependencies.now c.loop-dependency.dependency-index 0) error)
     c.in-Circular.is c.in-Err.ensures.refusal in
     λ no. refusal-cause c.args.graph.now c.loop-dependency.graph c.args.service c.args.dependencies.now c.loop-dependency.dependency-index 0
     c.requires.service c.loop-dependency-test.true c.loop-dependency.invariant.names c.loop-dependency.invariant.edges (inl refusal.2)

@@ -7,6 +7,7 @@ use Rattle.svc_record.proofs.validity.graph_of.Goals as goal
 
 pub returns-then-not-branch-clause-none : goal.returns-then-not-branch-clause-none
 returns-then-not-branch-clause-none c =
-    graph-cause c.args.plan.now c.loop-service.graph c.loop-service.service (omega (arith, ap length c.as_slice-service-end.ensures)) c.loop-service.invariant.so_far
+    graph-cause c.args.plan.now c.loop-service.graph c.loop-service.service
+    (omega (arith, ap length c.as_slice-service-end.ensures)) c.loop-service.invariant.so_far
     (subst (λ row. All (λ d. d < node_count c.loop-service.graph) row → IsAcyclic (with_row (is_edge c.loop-service.graph) c.loop-service.service row) → ⊥)
     c.depends.ensures (c.in_ok-add_dependencies.ensures.refused c.if-not-branch.true))

@@ -12,7 +12,8 @@ pub overflow_mul-group : goal.overflow_mul-group
 overflow_mul-group c = omega (arith, room c.args.word.now c.loop-b.b-index c.loop-b.group c.loop-b.invariant c.loop-b-test.true)
 
 pub overflow_add-group : goal.overflow_add-group
-overflow_add-group c = omega (arith, room_for_digit c.args.word.now c.loop-b.b-index c.loop-b.group c.in-Some.digit c.loop-b.invariant c.loop-b-test.true c.in-Some.ensures)
+overflow_add-group c =
+    omega (arith, room_for_digit c.args.word.now c.loop-b.b-index c.loop-b.group c.in-Some.digit c.loop-b.invariant c.loop-b-test.true c.in-Some.ensures)
 
 pub loop-b-preserved : goal.loop-b-preserved
 loop-b-preserved c = one_more c.args.word.now c.loop-b.b-index c.loop-b.group c.in-Some.digit c.loop-b.invariant c.loop-b-test.true c.in-Some.ensures

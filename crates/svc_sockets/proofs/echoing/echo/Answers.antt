@@ -10,9 +10,11 @@ returns-in-Err g c =
 
 pub loop-turn-preserved : goal.loop-turn-preserved
 loop-turn-preserved g c =
-    let whole : length (take c.in-Got.count c.read.new.buffer) ≡ c.in-Got.count = length-take-le c.in-Got.count c.read.new.buffer (omega (arith, c.in-Got.ensures.fits)) in
+    let whole : length (take c.in-Got.count c.read.new.buffer) ≡ c.in-Got.count =
+    length-take-le c.in-Got.count c.read.new.buffer (omega (arith, c.in-Got.ensures.fits)) in
     let some : 0 < length (take c.in-Got.count c.read.new.buffer) = omega (arith, c.in-Got.ensures.fits) in (
-      echoed_more _ _ _ _ _ _ c.loop-turn._turn (take c.in-Got.count c.read.new.buffer) c.loop-turn.invariant.0 some c.in-Got.ensures.bytes c.in-Ok.ensures.whole,
+      echoed_more _ _ _ _ _ _ c.loop-turn._turn
+          (take c.in-Got.count c.read.new.buffer) c.loop-turn.invariant.0 some c.in-Got.ensures.bytes c.in-Ok.ensures.whole,
       c.in-Got.ensures.cause ∙ c.loop-turn.invariant.1,
       c.in-Ok.ensures.steady ∙ c.loop-turn.invariant.2,
     )

@@ -9,8 +9,10 @@ close-requires c = record {
 }
 
 pub loop-generation-preserved : goal.loop-generation-preserved
-loop-generation-preserved c = rw add-one (closed-more c.loop-generation.generation-index c.args.generations.now c.loop-generation.generations c.generation-item.result c.close.new.self
-    (let same = c.loop-generation.auto.generations in let inside = c.loop-generation-test.true in omega arith) c.loop-generation.invariant c.close.ensures.closed)
+loop-generation-preserved c =
+    rw add-one (closed-more c.loop-generation.generation-index c.args.generations.now c.loop-generation.generations c.generation-item.result c.close.new.self
+    (let same = c.loop-generation.auto.generations in let inside = c.loop-generation-test.true in omega arith) c.loop-generation.invariant
+    c.close.ensures.closed)
 
 pub returns-clause-closed : goal.returns-clause-closed
 returns-clause-closed c = closed-all c.loop-generation.generation-index c.args.generations.now c.loop-generation.generations

@@ -13,14 +13,16 @@ returns-then-not-fits-clause-may c h = absurd (clash false h refl)
 
 pub returns-then-not-fits-clause-means : goal.returns-then-not-fits-clause-means
 returns-then-not-fits-clause-means c all = let g = c.args.generation.now in
-    come-unfit c.fits.result (fits g.core.plan (history g) c.args.event.now) _ c.if-not-fits.true (fits-here g c.args.event.now c.fits.result c.fits.ensures.means all.here)
+    come-unfit c.fits.result (fits g.core.plan (history g) c.args.event.now) _ c.if-not-fits.true
+    (fits-here g c.args.event.now c.fits.result c.fits.ensures.means all.here)
 
 pub returns-then-not-before_may-clause-may : goal.returns-then-not-before_may-clause-may
 returns-then-not-before_may-clause-may c h = absurd (clash false h refl)
 
 pub returns-then-not-before_may-clause-means : goal.returns-then-not-before_may-clause-means
 returns-then-not-before_may-clause-means c all =
-    come-held c.before_may.result _ (before_may (option_map data_of (option_copied c.args.before)) (data_of c.args.generation.now) c.args.event.now) _ c.if-not-before_may.true
+    come-held c.before_may.result _
+    (before_may (option_map data_of (option_copied c.args.before)) (data_of c.args.generation.now) c.args.event.now) _ c.if-not-before_may.true
     (c.before_may.ensures (record { earlier = all.earlier; here = all.here; later = tt }))
 
 pub returns-clause-may : goal.returns-clause-may
@@ -28,7 +30,8 @@ returns-clause-may c h = c.fits.ensures.may.0 c.if-not-fits.false
 
 pub returns-clause-means : goal.returns-clause-means
 returns-clause-means c all = let g = c.args.generation.now in let e = c.args.event.now in
-    come-next c.fits.result (fits g.core.plan (history g) e) c.before_may.result (before_may (option_map data_of (option_copied c.args.before)) (data_of g) e) c.old_may.result
+    come-next c.fits.result (fits g.core.plan (history g) e) c.before_may.result
+    (before_may (option_map data_of (option_copied c.args.before)) (data_of g) e) c.old_may.result
     (old_may (channel_to (data_of g) (option_map data_of (option_copied c.args.next))) e)
     c.if-not-fits.false (fits-here g e c.fits.result c.fits.ensures.means all.here)
     c.if-not-before_may.false (c.before_may.ensures (record { earlier = all.earlier; here = all.here; later = tt }))

@@ -9,5 +9,6 @@ returns-in-Ok-clause-may c = record {
   begins = c.in-Ok.ensures.begins;
   may = (let m = c.in-Ok-true.ensures in rw c.in-Ok-true.field-0-test at m);
   few = omega (arith, c.if-generations-ge64.false);
-  ready = λ linked. subst (λ (n : ℕ). has_taken_at (map data_of c.args.generations.now) (n - 1) ≡ true) (sym (length-map c.args.generations.now data_of)) (sym (c.if-not-has_taken_at.ensures linked));
+  ready = λ linked. subst (λ (n : ℕ). has_taken_at (map data_of c.args.generations.now) (n - 1) ≡ true) (sym (length-map c.args.generations.now data_of))
+      (sym (c.if-not-has_taken_at.ensures linked));
 }

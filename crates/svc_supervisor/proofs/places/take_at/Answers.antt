@@ -14,7 +14,8 @@ returns-clause-linked c l =
     let d = c.index-generations-index.result in
     let here = slice_get-get_or gs k d c.requires.may.inside in
     let next = c.take.new.self in
-    either-way c.take.result (λ (end : StepEnd). Takes (get_or gs k d) next c.args.event c.args.said end) (IsSame (get_or gs k d) next) (Linked (set gs k next)) c.take.ensures.takes c.take.ensures.refused
+    either-way c.take.result (λ (end : StepEnd). Takes (get_or gs k d) next c.args.event c.args.said end) (IsSame (get_or gs k d) next)
+    (Linked (set gs k next)) c.take.ensures.takes c.take.ensures.refused
     (λ end t. linked-at gs k (get_or gs k d) next c.args.event c.args.said end here c.requires.may t l) (λ s. linked-same (get_or gs k d) next s gs k here l)
 
 pub returns-clause-takes : goal.returns-clause-takes

@@ -10,5 +10,6 @@ loop-k-preserved c =
     let same = ap (λ (e : EndpointLine). e.unix) line.is in
     elim c.if-not-lines-k.branch [
       | then-not-lines-k w ↦ last_taken c.args.lines.now c.loop-k.k line.result _ (omega arith) line.is (same ∙ w.if-not-lines-k.true) w.last-is
-      | else-not-lines-k w ↦ last_passed c.args.lines.now c.loop-k.k line.result _ _ (omega arith) line.is (same ∙ w.if-not-lines-k.false) w.last-is c.loop-k.invariant
+      | else-not-lines-k w ↦
+          last_passed c.args.lines.now c.loop-k.k line.result _ _ (omega arith) line.is (same ∙ w.if-not-lines-k.false) w.last-is c.loop-k.invariant
     ]

@@ -11,4 +11,5 @@ returns-in-Err-clause-parts c = conf_refused c.args.bytes.now c.in-Ok.front c.in
 
 pub returns-clause-parts : goal.returns-clause-parts
 returns-clause-parts c =
-    subst (λ (r : Result Script ScriptError). Gives r (script c.args.bytes.now)) (sym c.finished.ensures) (finished_gives c.args.bytes.now c.in-Ok.front c.in-Ok-read_conf.conf c.in-Ok.ensures c.in-Ok-read_conf.ensures)
+    subst (λ (r : Result Script ScriptError). Gives r (script c.args.bytes.now)) (sym c.finished.ensures)
+    (finished_gives c.args.bytes.now c.in-Ok.front c.in-Ok-read_conf.conf c.in-Ok.ensures c.in-Ok-read_conf.ensures)

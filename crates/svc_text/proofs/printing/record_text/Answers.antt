@@ -7,5 +7,6 @@ use Rattle.svc_text.proofs.printing.record_text.Goals as goal
 pub loop-entry-preserved : goal.loop-entry-preserved
 loop-entry-preserved c = (
   grind (arith, common_steps),
-  all_more EntryFits c.args.entries.now c.loop-entry.entry-index c.entry-item.result c.loop-entry-test.true c.loop-entry.invariant.1 (subst EntryFits c.entry-item.is c.read_entry.ensures),
+  all_more EntryFits c.args.entries.now c.loop-entry.entry-index c.entry-item.result c.loop-entry-test.true c.loop-entry.invariant.1
+      (subst EntryFits c.entry-item.is c.read_entry.ensures),
 )

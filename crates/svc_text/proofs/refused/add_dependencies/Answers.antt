@@ -10,13 +10,15 @@ loop-number-init c = record { services = services_none c.args.graph.now c.args.s
 pub returns-then-not-branch-clause-refused : goal.returns-then-not-branch-clause-refused
 returns-then-not-branch-clause-refused c =
     services_refused c.loop-number.graph c.args.services.now c.loop-number.number _ c.loop-number.invariant.services c.loop-number-test.true
-    (c.dependencies-after.ensures ∙ after_read c.args.services.now c.loop-number.number c.index-services-number.result c.loop-number-test.true c.index-services-number.is)
+    (c.dependencies-after.ensures
+    ∙ after_read c.args.services.now c.loop-number.number c.index-services-number.result c.loop-number-test.true c.index-services-number.is)
     (rw c.if-not-branch.true at c.in_ok-add_row.ensures.taken)
 
 pub loop-number-preserved : goal.loop-number-preserved
 loop-number-preserved c = record {
   services = services_more c.loop-number.graph c.add_row.new.graph c.args.services.now c.loop-number.number _ c.loop-number.invariant.services
-      (c.dependencies-after.ensures ∙ after_read c.args.services.now c.loop-number.number c.index-services-number.result c.loop-number-test.true c.index-services-number.is)
+      (c.dependencies-after.ensures
+      ∙ after_read c.args.services.now c.loop-number.number c.index-services-number.result c.loop-number-test.true c.index-services-number.is)
       (rw c.if-not-branch.false at c.in_ok-add_row.ensures.taken);
   names = c.in_ok-add_row.ensures.names ∙ c.loop-number.invariant.names;
 }

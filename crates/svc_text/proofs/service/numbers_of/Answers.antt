@@ -21,7 +21,9 @@ loop-piece-preserved c = (
   search rules,
   let y = YieldsList-from_slice_split _ (λ b. b == 44) c.args.word.now (search rules) (search rules) (search rules) (λ x b q k. search (rules, tests)) in
       let t = YieldsList-turn y c.loop-piece.yielded _ c.loop-piece.yielded_by _ _ c.in-Some.piece c.in-Some.is c.next.ensures.steps in
-      read_more (slice_split (λ b. b == 44) c.args.word.now) (length c.loop-piece.yielded) _ c.in-Some-number32.n c.in-Some.piece.now c.loop-piece.numbers _ t c.in-Some-number32.ensures (length_push c.loop-piece.yielded c.in-Some.piece) c.in_ok-push_item.ensures.ok c.loop-piece.invariant.2,
+      read_more (slice_split (λ b. b == 44) c.args.word.now)
+      (length c.loop-piece.yielded) _ c.in-Some-number32.n c.in-Some.piece.now c.loop-piece.numbers _ t c.in-Some-number32.ensures
+      (length_push c.loop-piece.yielded c.in-Some.piece) c.in_ok-push_item.ensures.ok c.loop-piece.invariant.2,
 )
 
 pub returns : goal.returns

@@ -19,5 +19,6 @@ returns-in-Some-clause-replaced g c =
     let bs = c.self.inside.blocks.items in
     let place = rw (c.key.ensures, c.deref.ensures.value) at c.in-Some.ensures.found in
     let old = entry-at key (key c.args.entry) bs c.in-Some.place.block c.in-Some.place.entry c.args.entry place in
-    subst (λ (l : List g.row.T.Denot × ℕ). (x : g.row.T.Denot) × (s : StandsIn key (key c.args.entry) (list_of l) x) × (joined c.replace_at.new.blocks.items ≡ s.front ++ c.args.entry ∷ s.back)) c.self.view_is
+    subst (λ (l : List g.row.T.Denot × ℕ). (x : g.row.T.Denot) × (s : StandsIn key (key c.args.entry) (list_of l) x)
+    × (joined c.replace_at.new.blocks.items ≡ s.front ++ c.args.entry ∷ s.back)) c.self.view_is
     (old.0, stands-behind key (key c.args.entry) bs c.in-Some.place.block c.in-Some.place.entry old.0 old.1 old.2, c.replace_at.ensures.entries)

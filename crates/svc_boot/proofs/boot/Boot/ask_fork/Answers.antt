@@ -10,4 +10,6 @@ pub returns-clause-after : goal.returns-clause-after
 returns-clause-after c = search rules
 
 pub returns-clause-stands : goal.returns-clause-stands
-returns-clause-stands c = λ p daemon stand. same-stands p (forked Asked c.args.self.now) _ (Told Daemonize ∷ []) (returns-clause-after c) (stands-asked p c.args.self.now daemon stand)
+returns-clause-stands c =
+    λ p daemon stand. same-stands p (forked Asked c.args.self.now) _ (Told Daemonize ∷ []) (returns-clause-after c)
+    (stands-asked p c.args.self.now daemon stand)

@@ -10,4 +10,6 @@ pub returns-clause-after : goal.returns-clause-after
 returns-clause-after c = search rules
 
 pub returns-clause-stands : goal.returns-clause-stands
-returns-clause-stands c = λ p q stand. same-stands p (forked (Over 0) c.args.self.now) _ (Got ChildReady ∷ q) (returns-clause-after c) (stands-ready p c.args.self.now q c.requires stand)
+returns-clause-stands c =
+    λ p q stand. same-stands p (forked (Over 0) c.args.self.now) _ (Got ChildReady ∷ q) (returns-clause-after c)
+    (stands-ready p c.args.self.now q c.requires stand)

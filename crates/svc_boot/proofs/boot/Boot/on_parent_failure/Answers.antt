@@ -9,4 +9,6 @@ pub returns-clause-after : goal.returns-clause-after
 returns-clause-after c = search rules
 
 pub returns-clause-stands : goal.returns-clause-stands
-returns-clause-stands c = λ p q e fails stand. same-stands p (forked (Over 1) c.args.self.now) _ (Got e ∷ q) (returns-clause-after c) (stands-failure p c.args.self.now q e c.requires fails stand)
+returns-clause-stands c =
+    λ p q e fails stand. same-stands p (forked (Over 1) c.args.self.now) _ (Got e ∷ q) (returns-clause-after c)
+    (stands-failure p c.args.self.now q e c.requires fails stand)

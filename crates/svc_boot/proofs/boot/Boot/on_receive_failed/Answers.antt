@@ -9,4 +9,5 @@ pub returns-clause-after : goal.returns-clause-after
 returns-clause-after c = search rules
 
 pub returns-clause-stands : goal.returns-clause-stands
-returns-clause-stands c = λ p q stand. same-stands p (failed c.args.self.now) _ (Got ReceiveFailed ∷ q) (returns-clause-after c) (stands-failed p c.args.self.now q c.requires stand)
+returns-clause-stands c =
+    λ p q stand. same-stands p (failed c.args.self.now) _ (Got ReceiveFailed ∷ q) (returns-clause-after c) (stands-failed p c.args.self.now q c.requires stand)

@@ -47,7 +47,8 @@ module _ {M : Type 1} {𝓤 : Ura M} (𝓛 : Logic 𝓤) (at_mem : Memory → SP
   at_session z o = ((z.0.0, z.0.1, z.0.2, (record z.0.3.0 { session = o }, tt), z.0.4), z.1)
 
   abbrev Goes : Ghost → Type 1
-  Goes z = ent 𝓤 ((walk_of 𝓛 F.ended handle_stays (F.clauses 𝓛 at_mem run)).pre z) (WpFn 𝓤 H 𝓣.C 𝓣.Λ code.function (z.0.4.0 ++ []) ((walk_of 𝓛 F.ended handle_stays (F.clauses 𝓛 at_mem run)).post z))
+  Goes z = ent 𝓤 ((walk_of 𝓛 F.ended handle_stays (F.clauses 𝓛 at_mem run)).pre z)
+      (WpFn 𝓤 H 𝓣.C 𝓣.Λ code.function (z.0.4.0 ++ []) ((walk_of 𝓛 F.ended handle_stays (F.clauses 𝓛 at_mem run)).post z))
 
   walk_some : (z : Ghost) (s : (R E).Denot) → Goes (at_session z (Some s))
   walk_some z s =
@@ -56,21 +57,26 @@ module _ {M : Type 1} {𝓤 : Ura M} (𝓛 : Logic 𝓤) (at_mem : Memory → SP
       let v : D E = record { ptr = z.0.3.0.at; alloc = z.0.3.0.alloc; value = s } in
       let To = type_at (F.signature).result tt in
       let made : To.Denot = record { ptr = v.ptr; alloc = v.alloc; value = v.value } in
-      qed 𝓛 ((‵ ftrue ⊛ ‵ (fsep ((B E).own_val v z.0.4.0) ftrue)) ∷ raw (fact 𝓤 (IsSome (Some s))) ∷ []) ∵ move ! (1 ∷ []) $ drop ! $ split ! $ drop ! $ fsplit ! $
-      box_out E ! v z.0.4.0 (λ b o hv e ws fa. box_in E ! v b o v.value e refl $ use1 𝓛 (‵ (To.own_val made (word E hv b o ∷ []))) (id⊢ 𝓤 _) $ move ! (1 ∷ []) $ drop ! $
+      qed 𝓛 ((‵ ftrue ⊛ ‵ (fsep ((B E).own_val v z.0.4.0) ftrue)) ∷ raw (fact 𝓤 (IsSome (Some s))) ∷ []) ∵ move !
+      (1 ∷ []) $ drop ! $ split ! $ drop ! $ fsplit ! $
+      box_out E ! v z.0.4.0
+      (λ b o hv e ws fa. box_in E ! v b o v.value e refl $ use1 𝓛 (‵ (To.own_val made (word E hv b o ∷ []))) (id⊢ 𝓤 _) $ move ! (1 ∷ []) $ drop ! $
       let w = word E hv b o in
       let Γ : List (Item 𝓤) = ‵ (To.own_val made (w ∷ [])) ∷ [] in
       by ! (subst (λ (us : List Val). ent 𝓤 (types.Kit.⋆ 𝓛 Γ) (WpFn 𝓤 H 𝓣.C 𝓣.Λ code.function (us ++ []) Post)) (sym ws)
       (qed 𝓛 Γ ∵ enter ! 𝓣.C 𝓣.Λ code.function (w ∷ []) _ $ alloc_all ! (λ ls. pass_all ! refl (box_typed E hv b o fa, tt) $
-      sets ! (of_opd ! (get_in ! (fld ! refl (stop !)) (sub ! 0 refl (whole !)))) refl (tt, tt) $ sets ! (of_opd ! (get_in ! (fld ! refl (stop !)) (sub ! 1 refl (whole !)))) refl fa $
+      sets ! (of_opd ! (get_in ! (fld ! refl (stop !)) (sub ! 0 refl (whole !)))) refl (tt, tt) $ sets !
+      (of_opd ! (get_in ! (fld ! refl (stop !)) (sub ! 1 refl (whole !)))) refl fa $
       sets ! (of_opd ! (get ! refl)) refl (tt, tt) $
-      sets ! (agg ! (and_then ! (get ! refl) (and_then ! (get ! refl) (no_more !)))) refl (box_typed E hv b o fa) $ returns ! (look_at ! 0 refl) $ free_all ! refl $
+      sets ! (agg ! (and_then ! (get ! refl) (and_then ! (get ! refl) (no_more !)))) refl (box_typed E hv b o fa) $ returns !
+      (look_at ! 0 refl) $ free_all ! refl $
       suffices ! _ (ends_at 𝓛 F.ended handle_stays (F.clauses 𝓛 at_mem run) y w made (tt, tt) (tt, tt)) $ says ! refl $
       nothing ! $ nothing ! $ fjoin ! $ join ! $ nothing ! $ join ! $ done !))))
 
   walk_none : (z : Ghost) → Goes (at_session z None)
   walk_none z =
-      qed 𝓛 ((‵ ftrue ⊛ ‵ (fsep (Handle.the_row.own_val (record z.0.3.0 { session = None }) z.0.4.0) ftrue)) ∷ raw (fact 𝓤 (IsSome {T = (R E).Denot} None)) ∷ []) ∵ move ! (1 ∷ []) $ heard ! (IsSome {T = (R E).Denot} None) (λ some. let no : false ≡ true = some in absurd (cc))
+      qed 𝓛 ((‵ ftrue ⊛ ‵ (fsep (Handle.the_row.own_val (record z.0.3.0 { session = None }) z.0.4.0) ftrue)) ∷ raw (fact 𝓤 (IsSome {T = (R E).Denot} None))
+      ∷ []) ∵ move ! (1 ∷ []) $ heard ! (IsSome {T = (R E).Denot} None) (λ some. let no : false ≡ true = some in absurd (cc))
 
   walk : (z : Ghost) → Goes z
   walk z = elim z.0.3.0.session as (λ o. Goes (at_session z o)) [ None ↦ walk_none z | Some s ↦ walk_some z s ]
@@ -80,5 +86,6 @@ unfolding tables_of
 into_parts_spec 𝓤 𝓛 𝓜 𝓡 wired =
     let 𝓣 : Tables 𝓤 𝓛.H = tables_of 𝓤 𝓛.H 𝓜 (tables 𝓤 𝓛.H 𝓜 𝓡 𝓡.env) in
     entered 𝓤 𝓛.H (triple_of 𝓛 F.signature (F.spec 𝓛 𝓜.mem 𝓡.returns)) 𝓣.C 𝓣.Λ #self code.function (code.unfolded 𝓤 𝓛.H 𝓜 𝓡 wired)
-    (walk_Meets 𝓛 F.ended handle_stays (Goes-dropped 𝓛 0 From yes (λ κs x f. refl), tt) (F.clauses 𝓛 𝓜.mem 𝓡.returns) (WpFn 𝓤 𝓛.H 𝓣.C 𝓣.Λ code.function) (WpFn-mono 𝓤 𝓛.H 𝓛.laws 𝓣 code.function)
+    (walk_Meets 𝓛 F.ended handle_stays (Goes-dropped 𝓛 0 From yes (λ κs x f. refl), tt) (F.clauses 𝓛 𝓜.mem 𝓡.returns) (WpFn 𝓤 𝓛.H 𝓣.C 𝓣.Λ code.function)
+    (WpFn-mono 𝓤 𝓛.H 𝓛.laws 𝓣 code.function)
     (walk 𝓛 𝓜.mem 𝓡.returns 𝓣))

@@ -7,7 +7,8 @@ use Rattle.svc_connections.proofs.Came.{new-stage, came-more, came-put}
 use Rattle.svc_connections.proofs.connections.Connections.take_in.Goals as goal
 
 pub put-requires-clause-new : goal.put-requires-clause-new
-put-requires-clause-new c = new-stage c.args.c (list_of c.self.inside.came) (list_of c.self.inside.live) c.self.invariant (rw (← c.self.view_is) at c.requires.new)
+put-requires-clause-new c =
+    new-stage c.args.c (list_of c.self.inside.came) (list_of c.self.inside.live) c.self.invariant (rw (← c.self.view_is) at c.requires.new)
 
 pub invariant_of-self : goal.invariant_of-self
 invariant_of-self c =

@@ -6,11 +6,13 @@ use Rattle.svc_connections.proofs.LiveLemmas.{moved-left, moved-stage, climbs-mo
 use Rattle.svc_connections.proofs.live.Live.move_to.Goals as goal
 
 pub returns-then-replace : goal.returns-then-replace
-returns-then-replace c = rw (← c.self.view_is) (moved-left c.args.c c.args.stage c.self.inside.connections c.replace.new.self c.replace.result c.self.invariant.rise
+returns-then-replace c =
+    rw (← c.self.view_is) (moved-left c.args.c c.args.stage c.self.inside.connections c.replace.new.self c.replace.result c.self.invariant.rise
     c.replace.ensures.replaced c.replace.ensures.absent c.replace.ensures.same)
 
 pub returns-else-replace : goal.returns-else-replace
-returns-else-replace c = rw (← c.self.view_is) (moved-left c.args.c c.args.stage c.self.inside.connections c.replace.new.self c.replace.result c.self.invariant.rise
+returns-else-replace c =
+    rw (← c.self.view_is) (moved-left c.args.c c.args.stage c.self.inside.connections c.replace.new.self c.replace.result c.self.invariant.rise
     c.replace.ensures.replaced c.replace.ensures.absent c.replace.ensures.same)
 
 pub invariant_of-self : goal.invariant_of-self

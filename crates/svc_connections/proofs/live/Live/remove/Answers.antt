@@ -6,7 +6,8 @@ use Rattle.svc_connections.proofs.LiveLemmas.{removed-left, climbs-without}
 use Rattle.svc_connections.proofs.live.Live.remove.Goals as goal
 
 pub returns : goal.returns
-returns c = rw (← c.self.view_is) (removed-left c.args.c c.self.inside.connections c.remove-self-inside.new.self c.remove-self-inside.result c.self.invariant.rise
+returns c = rw (← c.self.view_is)
+    (removed-left c.args.c c.self.inside.connections c.remove-self-inside.new.self c.remove-self-inside.result c.self.invariant.rise
     c.remove-self-inside.ensures.removed c.remove-self-inside.ensures.absent c.remove-self-inside.ensures.same)
 
 pub invariant_of-self : goal.invariant_of-self

@@ -20,12 +20,17 @@ returns-then-passed c = opened-goes (λ core. Tried core c.args.copy) answer_roo
       (rw c.over_since-over.ensures at c.publish_due-passed.ensures.after) (rw c.moment.ensures at c.ask.ensures.after)
       (rw c.over_since-over.ensures at c.publish_due-passed.ensures.stands) (rw c.over_since-over.ensures at c.publish_due-passed.ensures.settled)
       (rw c.moment.ensures at c.ask.ensures.stands) (rw c.moment.ensures at c.ask.ensures.settled)
-      (list_of c.args.actions.now) (list_of c.publish_due-passed.new.actions) (list_of c.ask.new.actions) (list_of c.end_run.new.actions) c.self.invariant.formed.in_order
+      (list_of c.args.actions.now) (list_of c.publish_due-passed.new.actions) (list_of c.ask.new.actions)
+      (list_of c.end_run.new.actions) c.self.invariant.formed.in_order
       (sym c.publish_due-passed.ensures.passes ∙ c.if-passed.true)
       (rw c.over_since-over.ensures at c.publish_due-passed.ensures.told) (rw c.moment.ensures at c.ask.ensures.told) c.end_run.ensures.told);
   copied = bare-last (copy_of c.args.copy) (list_of c.args.actions.now) (list_of c.ask.new.actions) (list_of c.end_run.new.actions)
-      (answer-copied c.args.copy (list_of c.args.actions.now) (list_of c.publish_due-passed.new.actions) (list_of c.ask.new.actions) c.self.inside.offer c.moment.result c.self.inside.drain c.over_since-over.result c.publish_due-passed.ensures.told c.ask.ensures.told)
-      (bare-these (list_of c.ask.new.actions) (list_of c.end_run.new.actions) _ c.end_run.ensures.told (end-bare c.self.inside.plan c.publish_due-passed.new.self (numbers c.self.inside.connections.parts.live) (open_numbers c.self.inside.endpoints.parts)));
+      (answer-copied c.args.copy (list_of c.args.actions.now) (list_of c.publish_due-passed.new.actions)
+      (list_of c.ask.new.actions) c.self.inside.offer c.moment.result c.self.inside.drain c.over_since-over.result c.publish_due-passed.ensures.told
+      c.ask.ensures.told)
+      (bare-these (list_of c.ask.new.actions) (list_of c.end_run.new.actions) _ c.end_run.ensures.told
+      (end-bare c.self.inside.plan c.publish_due-passed.new.self (numbers c.self.inside.connections.parts.live)
+      (open_numbers c.self.inside.endpoints.parts)));
   spends = let few = ended-few c.end_run.ensures in rw c.end_run.ensures.after (record { few = omega (arith, few); room = omega arith });
 })
 
@@ -39,7 +44,21 @@ returns c = opened-goes (λ core. Tried core c.args.copy) answer_room c.self.vie
       (list_of c.args.actions.now) (list_of c.publish_due-passed.new.actions) (list_of c.ask.new.actions) c.self.invariant.formed.in_order
       (sym c.publish_due-passed.ensures.passes ∙ c.if-passed.false)
       (rw c.over_since-over.ensures at c.publish_due-passed.ensures.told) (rw c.moment.ensures at c.ask.ensures.told);
-  copied = answer-copied c.args.copy (list_of c.args.actions.now) (list_of c.publish_due-passed.new.actions) (list_of c.ask.new.actions) c.self.inside.offer c.moment.result c.self.inside.drain c.over_since-over.result c.publish_due-passed.ensures.told c.ask.ensures.told;
-  spends = let few = few-open (record { plan = c.self.inside.plan; order = c.self.inside.order.items; starts = c.self.inside.starts; endpoints = c.self.inside.endpoints.parts; boot = c.self.inside.boot; offer = c.ask.new.self; drain = c.publish_due-passed.new.self; connections = c.self.inside.connections.parts; end = c.self.inside.end }) in
+  copied = answer-copied c.args.copy (list_of c.args.actions.now) (list_of c.publish_due-passed.new.actions)
+      (list_of c.ask.new.actions) c.self.inside.offer c.moment.result c.self.inside.drain c.over_since-over.result c.publish_due-passed.ensures.told
+      c.ask.ensures.told;
+  spends = let few =
+      few-open (record {
+        plan = c.self.inside.plan;
+        order = c.self.inside.order.items;
+        starts = c.self.inside.starts;
+        endpoints = c.self.inside.endpoints.parts;
+        boot = c.self.inside.boot;
+        offer = c.ask.new.self;
+        drain = c.publish_due-passed.new.self;
+        connections = c.self.inside.connections.parts;
+        end =
+            c.self.inside.end;
+      }) in
       record { few = omega (arith, few); room = omega (arith, few) };
 })

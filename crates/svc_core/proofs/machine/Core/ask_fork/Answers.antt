@@ -15,4 +15,5 @@ returns c =
     (begin-daemon _ c.ask_fork.new.self (list_of c.args.actions.now) (list_of c.ask_fork.new.actions) c.self.invariant.formed.in_order
     (subst HasNotBegun (sym c.self.view_is) c.requires.first) (ap (λ (core : CoreData). core.plan.daemon) c.self.view_is ∙ c.requires.daemon)
     c.ask_fork.ensures.after c.ask_fork.ensures.told c.ask_fork.ensures.stands)
-    (bare-these (list_of c.args.actions.now) (list_of c.ask_fork.new.actions) _ c.ask_fork.ensures.told refl) (record { few = omega arith; room = omega arith }))
+    (bare-these (list_of c.args.actions.now) (list_of c.ask_fork.new.actions) _ c.ask_fork.ensures.told refl)
+    (record { few = omega arith; room = omega arith }))

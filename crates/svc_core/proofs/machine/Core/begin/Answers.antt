@@ -6,7 +6,8 @@ use Rattle.svc_core.proofs.JudgedLemmas.{unjudged-bare, unjudged-copied}
 use Rattle.svc_core.proofs.machine.Core.begin.Goals as goal
 
 pub returns-then-is_daemon-clause-judged : goal.returns-then-is_daemon-clause-judged
-returns-then-is_daemon-clause-judged c = unjudged-bare (list_of c.args.actions.now) (list_of c.ask_fork.new.actions) (rw c.in_ok-reserve.ensures.items at c.ask_fork.ensures.bare)
+returns-then-is_daemon-clause-judged c =
+    unjudged-bare (list_of c.args.actions.now) (list_of c.ask_fork.new.actions) (rw c.in_ok-reserve.ensures.items at c.ask_fork.ensures.bare)
 
 pub returns-clause-kept : goal.returns-clause-kept
 returns-clause-kept c =
@@ -14,4 +15,5 @@ returns-clause-kept c =
     (sym c.is_daemon.ensures ∙ c.if-is_daemon.false) (rw c.in_ok-reserve.ensures.items at c.bootstrap.ensures.kept)
 
 pub returns-clause-judged : goal.returns-clause-judged
-returns-clause-judged c = unjudged-copied None (list_of c.args.actions.now) (list_of c.bootstrap.new.actions) (rw c.in_ok-reserve.ensures.items at c.bootstrap.ensures.copied)
+returns-clause-judged c =
+    unjudged-copied None (list_of c.args.actions.now) (list_of c.bootstrap.new.actions) (rw c.in_ok-reserve.ensures.items at c.bootstrap.ensures.copied)

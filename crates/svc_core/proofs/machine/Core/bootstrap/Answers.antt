@@ -11,7 +11,8 @@ use Rattle.svc_core.proofs.machine.Core.bootstrap.Goals as goal
 
 pub returns-then-is_eager : goal.returns-then-is_eager
 returns-then-is_eager c = opened-goes MayBootstrap bootstrap_room c.self.view_is (then-goes c.settle.ensures refl
-    (bare-these (list_of c.args.actions.now) (list_of c.begin.new.actions) _ c.begin.ensures.told (begin-bare c.self.inside.plan.test (notifies c.self.inside.plan) c.self.inside.plan.upgrade c.self.inside.boot c.moment.result))
+    (bare-these (list_of c.args.actions.now) (list_of c.begin.new.actions) _ c.begin.ensures.told
+    (begin-bare c.self.inside.plan.test (notifies c.self.inside.plan) c.self.inside.plan.upgrade c.self.inside.boot c.moment.result))
     (let begins = begin-few c.begin.new.self in record { few = omega (arith, begins); room = omega (arith, begins) })
     (bootstrap-eager-at _ _ c.begin.new.self (list_of c.args.actions.now) (list_of c.begin.new.actions) (list_of c.settle.new.actions) c.settle.result
     (rw (← c.self.view_is) at (sym c.is_eager.ensures ∙ c.if-is_eager.true))
@@ -21,4 +22,5 @@ pub returns : goal.returns
 returns c =
     let begins = begin-few c.args.self.now.boot in
     then-goes c.settle-2.ensures refl (bare-none (list_of c.args.actions.now)) (record { few = omega (arith, begins); room = omega (arith, begins) })
-    (bootstrap-plain _ _ (list_of c.args.actions.now) (list_of c.settle-2.new.actions) c.settle-2.result (sym c.is_eager.ensures ∙ c.if-is_eager.false) c.settle-2.ensures.kept)
+    (bootstrap-plain _ _ (list_of c.args.actions.now) (list_of c.settle-2.new.actions) c.settle-2.result
+    (sym c.is_eager.ensures ∙ c.if-is_eager.false) c.settle-2.ensures.kept)

@@ -11,67 +11,86 @@ use Rattle.svc_core.proofs.FitsLemmas.{loop-fits, ready-fits, ended-fits, bound-
 use Rattle.svc_core.proofs.machine.Core.fits.Goals as goal
 
 pub returns-then-not-is_on-clause-means : goal.returns-then-not-is_on-clause-means
-returns-then-not-is_on-clause-means c = λ q stands. (λ x. absurd (let off = x in cc), λ fit. absurd (ended-none c.args.self.now q c.args.event.now (subst (λ (core : CoreData). is_on core.end ≡ false) c.self.view_is (sym c.is_on.ensures ∙ c.if-not-is_on.true)) stands fit))
+returns-then-not-is_on-clause-means c =
+    λ q stands. (
+      λ x. absurd (let off = x in cc),
+      λ fit. absurd
+          (ended-none c.args.self.now q c.args.event.now
+          (subst (λ (core : CoreData). is_on core.end ≡ false) c.self.view_is (sym c.is_on.ensures ∙ c.if-not-is_on.true)) stands fit),
+    )
 
 pub returns-in-Ready-clause-means : goal.returns-in-Ready-clause-means
 returns-in-Ready-clause-means c = λ q stands. (
-    let both = ready-fits c.args.self.now q (subst (λ (core : CoreData). is_on core.end ≡ true) c.self.view_is (sym c.is_on.ensures ∙ c.if-not-is_on.false)) stands c.in-Ready.s in (
+    let both = ready-fits c.args.self.now q
+    (subst (λ (core : CoreData). is_on core.end ≡ true) c.self.view_is (sym c.is_on.ensures ∙ c.if-not-is_on.false)) stands c.in-Ready.s in (
       λ holds. rw c.in-Ready.is (both.0 (c.ready_fits.ensures.0 holds)),
       λ fit. c.ready_fits.ensures.1 (both.1 (rw c.in-Ready.is at fit)),
     ))
 
 pub returns-in-Ended-clause-means : goal.returns-in-Ended-clause-means
 returns-in-Ended-clause-means c = λ q stands. (
-    let both = ended-fits c.args.self.now q (subst (λ (core : CoreData). is_on core.end ≡ true) c.self.view_is (sym c.is_on.ensures ∙ c.if-not-is_on.false)) stands c.in-Ended.s in (
+    let both = ended-fits c.args.self.now q
+    (subst (λ (core : CoreData). is_on core.end ≡ true) c.self.view_is (sym c.is_on.ensures ∙ c.if-not-is_on.false)) stands c.in-Ended.s in (
       λ holds. rw c.in-Ended.is (both.0 (c.ended_fits.ensures.0 holds)),
       λ fit. c.ended_fits.ensures.1 (both.1 (rw c.in-Ended.is at fit)),
     ))
 
 pub returns-in-Bound-clause-means : goal.returns-in-Bound-clause-means
 returns-in-Bound-clause-means c = λ q stands. (
-    let both = bound-fits c.args.self.now q (subst (λ (core : CoreData). is_on core.end ≡ true) c.self.view_is (sym c.is_on.ensures ∙ c.if-not-is_on.false)) stands c.in-Bound.s c.in-Bound.i c.in-Bound.fd in (
+    let both = bound-fits c.args.self.now q
+    (subst (λ (core : CoreData). is_on core.end ≡ true) c.self.view_is (sym c.is_on.ensures ∙ c.if-not-is_on.false)) stands c.in-Bound.s c.in-Bound.i
+    c.in-Bound.fd in (
       λ holds. rw c.in-Bound.is (both.0 (c.bound_fits.ensures.0 holds)),
       λ fit. c.bound_fits.ensures.1 (both.1 (rw c.in-Bound.is at fit)),
     ))
 
 pub returns-in-InUse-clause-means : goal.returns-in-InUse-clause-means
 returns-in-InUse-clause-means c = λ q stands. (
-    let both = bind-fits c.args.self.now q (subst (λ (core : CoreData). is_on core.end ≡ true) c.self.view_is (sym c.is_on.ensures ∙ c.if-not-is_on.false)) stands c.in-InUse.s c.in-InUse.i in (
+    let both = bind-fits c.args.self.now q
+    (subst (λ (core : CoreData). is_on core.end ≡ true) c.self.view_is (sym c.is_on.ensures ∙ c.if-not-is_on.false)) stands c.in-InUse.s c.in-InUse.i in (
       λ holds. rw c.in-InUse.is (both.0 (c.bind_answer_fits.ensures.0 holds)),
       λ fit. c.bind_answer_fits.ensures.1 (both.1 (rw c.in-InUse.is at fit)),
     ))
 
 pub returns-in-BindFailed-clause-means : goal.returns-in-BindFailed-clause-means
 returns-in-BindFailed-clause-means c = λ q stands. (
-    let both = bind-fits c.args.self.now q (subst (λ (core : CoreData). is_on core.end ≡ true) c.self.view_is (sym c.is_on.ensures ∙ c.if-not-is_on.false)) stands c.in-BindFailed.s c.in-BindFailed.i in (
+    let both = bind-fits c.args.self.now q
+    (subst (λ (core : CoreData). is_on core.end ≡ true) c.self.view_is (sym c.is_on.ensures ∙ c.if-not-is_on.false)) stands c.in-BindFailed.s
+    c.in-BindFailed.i in (
       λ holds. rw c.in-BindFailed.is (both.0 (c.bind_answer_fits-in-BindFailed.ensures.0 holds)),
       λ fit. c.bind_answer_fits-in-BindFailed.ensures.1 (both.1 (rw c.in-BindFailed.is at fit)),
     ))
 
 pub returns-in-Adopted-clause-means : goal.returns-in-Adopted-clause-means
 returns-in-Adopted-clause-means c = λ q stands. (
-    let both = adopt-fits c.args.self.now q (subst (λ (core : CoreData). is_on core.end ≡ true) c.self.view_is (sym c.is_on.ensures ∙ c.if-not-is_on.false)) stands c.in-Adopted.s c.in-Adopted.i in (
+    let both = adopt-fits c.args.self.now q
+    (subst (λ (core : CoreData). is_on core.end ≡ true) c.self.view_is (sym c.is_on.ensures ∙ c.if-not-is_on.false)) stands c.in-Adopted.s c.in-Adopted.i in (
       λ holds. rw c.in-Adopted.is (both.0 (c.adopt_answer_fits.ensures.0 holds)),
       λ fit. c.adopt_answer_fits.ensures.1 (both.1 (rw c.in-Adopted.is at fit)),
     ))
 
 pub returns-in-AdoptFailed-clause-means : goal.returns-in-AdoptFailed-clause-means
 returns-in-AdoptFailed-clause-means c = λ q stands. (
-    let both = adopt-fits c.args.self.now q (subst (λ (core : CoreData). is_on core.end ≡ true) c.self.view_is (sym c.is_on.ensures ∙ c.if-not-is_on.false)) stands c.in-AdoptFailed.s c.in-AdoptFailed.i in (
+    let both = adopt-fits c.args.self.now q
+    (subst (λ (core : CoreData). is_on core.end ≡ true) c.self.view_is (sym c.is_on.ensures ∙ c.if-not-is_on.false)) stands c.in-AdoptFailed.s
+    c.in-AdoptFailed.i in (
       λ holds. rw c.in-AdoptFailed.is (both.0 (c.adopt_answer_fits-in-AdoptFailed.ensures.0 holds)),
       λ fit. c.adopt_answer_fits-in-AdoptFailed.ensures.1 (both.1 (rw c.in-AdoptFailed.is at fit)),
     ))
 
 pub returns-in-Received-clause-means : goal.returns-in-Received-clause-means
 returns-in-Received-clause-means c = λ q stands. (
-    let both = received-fits c.args.self.now q (subst (λ (core : CoreData). is_on core.end ≡ true) c.self.view_is (sym c.is_on.ensures ∙ c.if-not-is_on.false)) stands c.in-Received.field-0 c.in-Received.fds in (
+    let both = received-fits c.args.self.now q
+    (subst (λ (core : CoreData). is_on core.end ≡ true) c.self.view_is (sym c.is_on.ensures ∙ c.if-not-is_on.false)) stands c.in-Received.field-0
+    c.in-Received.fds in (
       λ holds. rw c.in-Received.is (both.0 (rw c.as_slice.ensures at (c.received_fits.ensures.0 holds))),
       λ fit. c.received_fits.ensures.1 (rw c.as_slice.ensures (both.1 (rw c.in-Received.is at fit))),
     ))
 
 pub returns-in-Connected-clause-means : goal.returns-in-Connected-clause-means
 returns-in-Connected-clause-means c = λ q stands. (
-    let both = connect-fits c.args.self.now q (subst (λ (core : CoreData). is_on core.end ≡ true) c.self.view_is (sym c.is_on.ensures ∙ c.if-not-is_on.false)) stands in
+    let both = connect-fits c.args.self.now q
+    (subst (λ (core : CoreData). is_on core.end ≡ true) c.self.view_is (sym c.is_on.ensures ∙ c.if-not-is_on.false)) stands in
     let asks = c.is_connecting.ensures ∙ ap (λ (core : CoreData). is_connecting core.offer.state) c.self.view_is in (
       λ holds. rw c.in-Connected.is (both.0 (sym asks ∙ holds)),
       λ fit. asks ∙ both.1 (rw c.in-Connected.is at fit),
@@ -79,7 +98,8 @@ returns-in-Connected-clause-means c = λ q stands. (
 
 pub returns-in-NotThere-clause-means : goal.returns-in-NotThere-clause-means
 returns-in-NotThere-clause-means c = λ q stands. (
-    let both = connect-fits c.args.self.now q (subst (λ (core : CoreData). is_on core.end ≡ true) c.self.view_is (sym c.is_on.ensures ∙ c.if-not-is_on.false)) stands in
+    let both = connect-fits c.args.self.now q
+    (subst (λ (core : CoreData). is_on core.end ≡ true) c.self.view_is (sym c.is_on.ensures ∙ c.if-not-is_on.false)) stands in
     let asks = c.is_connecting-in-NotThere.ensures ∙ ap (λ (core : CoreData). is_connecting core.offer.state) c.self.view_is in (
       λ holds. rw c.in-NotThere.is (both.0 (sym asks ∙ holds)),
       λ fit. asks ∙ both.1 (rw c.in-NotThere.is at fit),
@@ -87,7 +107,8 @@ returns-in-NotThere-clause-means c = λ q stands. (
 
 pub returns-in-StillConnecting-clause-means : goal.returns-in-StillConnecting-clause-means
 returns-in-StillConnecting-clause-means c = λ q stands. (
-    let both = connect-fits c.args.self.now q (subst (λ (core : CoreData). is_on core.end ≡ true) c.self.view_is (sym c.is_on.ensures ∙ c.if-not-is_on.false)) stands in
+    let both = connect-fits c.args.self.now q
+    (subst (λ (core : CoreData). is_on core.end ≡ true) c.self.view_is (sym c.is_on.ensures ∙ c.if-not-is_on.false)) stands in
     let asks = c.is_connecting-in-StillConnecting.ensures ∙ ap (λ (core : CoreData). is_connecting core.offer.state) c.self.view_is in (
       λ holds. rw c.in-StillConnecting.is (both.0 (sym asks ∙ holds)),
       λ fit. asks ∙ both.1 (rw c.in-StillConnecting.is at fit),
@@ -95,7 +116,8 @@ returns-in-StillConnecting-clause-means c = λ q stands. (
 
 pub returns-in-ConnectFailed-clause-means : goal.returns-in-ConnectFailed-clause-means
 returns-in-ConnectFailed-clause-means c = λ q stands. (
-    let both = connect-fits c.args.self.now q (subst (λ (core : CoreData). is_on core.end ≡ true) c.self.view_is (sym c.is_on.ensures ∙ c.if-not-is_on.false)) stands in
+    let both = connect-fits c.args.self.now q
+    (subst (λ (core : CoreData). is_on core.end ≡ true) c.self.view_is (sym c.is_on.ensures ∙ c.if-not-is_on.false)) stands in
     let asks = c.is_connecting-in-ConnectFailed.ensures ∙ ap (λ (core : CoreData). is_connecting core.offer.state) c.self.view_is in (
       λ holds. rw c.in-ConnectFailed.is (both.0 (sym asks ∙ holds)),
       λ fit. asks ∙ both.1 (rw c.in-ConnectFailed.is at fit),
@@ -103,7 +125,8 @@ returns-in-ConnectFailed-clause-means c = λ q stands. (
 
 pub returns-in-Sent-clause-means : goal.returns-in-Sent-clause-means
 returns-in-Sent-clause-means c = λ q stands. (
-    let both = send-fits c.args.self.now q (subst (λ (core : CoreData). is_on core.end ≡ true) c.self.view_is (sym c.is_on.ensures ∙ c.if-not-is_on.false)) stands in
+    let both = send-fits c.args.self.now q
+    (subst (λ (core : CoreData). is_on core.end ≡ true) c.self.view_is (sym c.is_on.ensures ∙ c.if-not-is_on.false)) stands in
     let asks = c.is_sending.ensures ∙ ap (λ (core : CoreData). is_sending core.offer.state) c.self.view_is in (
       λ holds. rw c.in-Sent.is (both.0 (sym asks ∙ holds)),
       λ fit. asks ∙ both.1 (rw c.in-Sent.is at fit),
@@ -111,7 +134,8 @@ returns-in-Sent-clause-means c = λ q stands. (
 
 pub returns-in-SendBusy-clause-means : goal.returns-in-SendBusy-clause-means
 returns-in-SendBusy-clause-means c = λ q stands. (
-    let both = send-fits c.args.self.now q (subst (λ (core : CoreData). is_on core.end ≡ true) c.self.view_is (sym c.is_on.ensures ∙ c.if-not-is_on.false)) stands in
+    let both = send-fits c.args.self.now q
+    (subst (λ (core : CoreData). is_on core.end ≡ true) c.self.view_is (sym c.is_on.ensures ∙ c.if-not-is_on.false)) stands in
     let asks = c.is_sending-in-SendBusy.ensures ∙ ap (λ (core : CoreData). is_sending core.offer.state) c.self.view_is in (
       λ holds. rw c.in-SendBusy.is (both.0 (sym asks ∙ holds)),
       λ fit. asks ∙ both.1 (rw c.in-SendBusy.is at fit),
@@ -119,7 +143,8 @@ returns-in-SendBusy-clause-means c = λ q stands. (
 
 pub returns-in-SendFailed-clause-means : goal.returns-in-SendFailed-clause-means
 returns-in-SendFailed-clause-means c = λ q stands. (
-    let both = send-fits c.args.self.now q (subst (λ (core : CoreData). is_on core.end ≡ true) c.self.view_is (sym c.is_on.ensures ∙ c.if-not-is_on.false)) stands in
+    let both = send-fits c.args.self.now q
+    (subst (λ (core : CoreData). is_on core.end ≡ true) c.self.view_is (sym c.is_on.ensures ∙ c.if-not-is_on.false)) stands in
     let asks = c.is_sending-in-SendFailed.ensures ∙ ap (λ (core : CoreData). is_sending core.offer.state) c.self.view_is in (
       λ holds. rw c.in-SendFailed.is (both.0 (sym asks ∙ holds)),
       λ fit. asks ∙ both.1 (rw c.in-SendFailed.is at fit),
@@ -127,7 +152,8 @@ returns-in-SendFailed-clause-means c = λ q stands. (
 
 pub returns-in-Moment-clause-means : goal.returns-in-Moment-clause-means
 returns-in-Moment-clause-means c = λ q stands. (
-    let both = moment-fits c.args.self.now q (subst (λ (core : CoreData). is_on core.end ≡ true) c.self.view_is (sym c.is_on.ensures ∙ c.if-not-is_on.false)) stands c.in-Moment.ms in
+    let both = moment-fits c.args.self.now q
+    (subst (λ (core : CoreData). is_on core.end ≡ true) c.self.view_is (sym c.is_on.ensures ∙ c.if-not-is_on.false)) stands c.in-Moment.ms in
     let time = c.moment.ensures ∙ ap (λ (core : CoreData). core.drain.moment) c.self.view_is in (
       λ holds. rw c.in-Moment.is (both.0 (subst (λ m. m ≤ c.in-Moment.ms) time (leb-true c.moment.result c.in-Moment.ms holds))),
       λ fit. le-leb c.moment.result c.in-Moment.ms (subst (λ m. m ≤ c.in-Moment.ms) (sym time) (both.1 (rw c.in-Moment.is at fit))),
@@ -135,7 +161,8 @@ returns-in-Moment-clause-means c = λ q stands. (
 
 pub returns-in-NoSenderYet-clause-means : goal.returns-in-NoSenderYet-clause-means
 returns-in-NoSenderYet-clause-means c = λ q stands. (
-    let both = try-fits c.args.self.now q (subst (λ (core : CoreData). is_on core.end ≡ true) c.self.view_is (sym c.is_on.ensures ∙ c.if-not-is_on.false)) stands in
+    let both = try-fits c.args.self.now q
+    (subst (λ (core : CoreData). is_on core.end ≡ true) c.self.view_is (sym c.is_on.ensures ∙ c.if-not-is_on.false)) stands in
     let asks = c.is_trying.ensures ∙ ap (λ (core : CoreData). is_trying core.boot.receiving) c.self.view_is in (
       λ holds. rw c.in-NoSenderYet.is (both.0 (sym asks ∙ holds)),
       λ fit. asks ∙ both.1 (rw c.in-NoSenderYet.is at fit),
@@ -143,7 +170,8 @@ returns-in-NoSenderYet-clause-means c = λ q stands. (
 
 pub returns-in-ReceiveFailed-clause-means : goal.returns-in-ReceiveFailed-clause-means
 returns-in-ReceiveFailed-clause-means c = λ q stands. (
-    let both = try-fits c.args.self.now q (subst (λ (core : CoreData). is_on core.end ≡ true) c.self.view_is (sym c.is_on.ensures ∙ c.if-not-is_on.false)) stands in
+    let both = try-fits c.args.self.now q
+    (subst (λ (core : CoreData). is_on core.end ≡ true) c.self.view_is (sym c.is_on.ensures ∙ c.if-not-is_on.false)) stands in
     let asks = c.is_trying-in-ReceiveFailed.ensures ∙ ap (λ (core : CoreData). is_trying core.boot.receiving) c.self.view_is in (
       λ holds. rw c.in-ReceiveFailed.is (both.0 (sym asks ∙ holds)),
       λ fit. asks ∙ both.1 (rw c.in-ReceiveFailed.is at fit),
@@ -152,14 +180,17 @@ returns-in-ReceiveFailed-clause-means c = λ q stands. (
 pub returns-in-LoopEnded-clause-means : goal.returns-in-LoopEnded-clause-means
 returns-in-LoopEnded-clause-means c = λ q stands. (
     let sized = subst (λ (core : CoreData). IsEndpointsSized core.plan core.endpoints) c.self.view_is c.self.invariant.formed.endpoints in
-    let both = loop-fits c.args.self.now q (subst (λ (core : CoreData). is_on core.end ≡ true) c.self.view_is (sym c.is_on.ensures ∙ c.if-not-is_on.false)) stands sized c.in-LoopEnded.s c.in-LoopEnded.i c.in-LoopEnded.j in (
+    let both = loop-fits c.args.self.now q
+    (subst (λ (core : CoreData). is_on core.end ≡ true) c.self.view_is (sym c.is_on.ensures ∙ c.if-not-is_on.false)) stands sized c.in-LoopEnded.s
+    c.in-LoopEnded.i c.in-LoopEnded.j in (
       λ holds. rw c.in-LoopEnded.is (both.0 (c.loop_fits.ensures.0 holds)),
       λ fit. c.loop_fits.ensures.1 (both.1 (rw c.in-LoopEnded.is at fit)),
     ))
 
 pub returns-in-Signal-clause-means : goal.returns-in-Signal-clause-means
 returns-in-Signal-clause-means c = λ q stands. (
-    let both = kind-fits c.args.self.now q (subst (λ (core : CoreData). is_on core.end ≡ true) c.self.view_is (sym c.is_on.ensures ∙ c.if-not-is_on.false)) stands c.in-Signal.field-0 in
+    let both = kind-fits c.args.self.now q
+    (subst (λ (core : CoreData). is_on core.end ≡ true) c.self.view_is (sym c.is_on.ensures ∙ c.if-not-is_on.false)) stands c.in-Signal.field-0 in
     let runs = c.is_running.ensures ∙ ap (λ (core : CoreData). core.drain.running) c.self.view_is in (
       λ holds. rw c.in-Signal.is (both.0 (sym runs ∙ holds)),
       λ fit. runs ∙ both.1 (rw c.in-Signal.is at fit),
@@ -167,21 +198,28 @@ returns-in-Signal-clause-means c = λ q stands. (
 
 pub returns-in-Arrived-clause-means : goal.returns-in-Arrived-clause-means
 returns-in-Arrived-clause-means c = λ q stands. (
-    let both = arrived-fits c.args.self.now q (subst (λ (core : CoreData). is_on core.end ≡ true) c.self.view_is (sym c.is_on.ensures ∙ c.if-not-is_on.false)) stands (subst (λ (core : CoreData). IsEndpointsSized core.plan core.endpoints) c.self.view_is c.self.invariant.formed.endpoints) c.in-Arrived.s c.in-Arrived.i c.in-Arrived.c c.in-Arrived.field-3 in (
+    let both = arrived-fits c.args.self.now q
+    (subst (λ (core : CoreData). is_on core.end ≡ true) c.self.view_is (sym c.is_on.ensures ∙ c.if-not-is_on.false)) stands
+    (subst (λ (core : CoreData). IsEndpointsSized core.plan core.endpoints) c.self.view_is c.self.invariant.formed.endpoints) c.in-Arrived.s
+    c.in-Arrived.i c.in-Arrived.c c.in-Arrived.field-3 in (
       λ holds. rw c.in-Arrived.is (both.0 (c.arrived_fits.ensures.0 holds)),
       λ fit. c.arrived_fits.ensures.1 (both.1 (rw c.in-Arrived.is at fit)),
     ))
 
 pub returns-in-AcceptFailed-clause-means : goal.returns-in-AcceptFailed-clause-means
 returns-in-AcceptFailed-clause-means c = λ q stands. (
-    let both = accept-fits c.args.self.now q (subst (λ (core : CoreData). is_on core.end ≡ true) c.self.view_is (sym c.is_on.ensures ∙ c.if-not-is_on.false)) stands (subst (λ (core : CoreData). IsEndpointsSized core.plan core.endpoints) c.self.view_is c.self.invariant.formed.endpoints) c.in-AcceptFailed.s c.in-AcceptFailed.i c.in-AcceptFailed.field-2 in (
+    let both = accept-fits c.args.self.now q
+    (subst (λ (core : CoreData). is_on core.end ≡ true) c.self.view_is (sym c.is_on.ensures ∙ c.if-not-is_on.false)) stands
+    (subst (λ (core : CoreData). IsEndpointsSized core.plan core.endpoints) c.self.view_is c.self.invariant.formed.endpoints) c.in-AcceptFailed.s
+    c.in-AcceptFailed.i c.in-AcceptFailed.field-2 in (
       λ holds. rw c.in-AcceptFailed.is (both.0 (c.accepts.ensures.0 holds)),
       λ fit. c.accepts.ensures.1 (both.1 (rw c.in-AcceptFailed.is at fit)),
     ))
 
 pub returns-in-Set-clause-means : goal.returns-in-Set-clause-means
 returns-in-Set-clause-means c = λ q stands. (
-    let both = set-fits c.args.self.now q (subst (λ (core : CoreData). is_on core.end ≡ true) c.self.view_is (sym c.is_on.ensures ∙ c.if-not-is_on.false)) stands c.in-Set.c c.in-Set.field-1 in
+    let both = set-fits c.args.self.now q
+    (subst (λ (core : CoreData). is_on core.end ≡ true) c.self.view_is (sym c.is_on.ensures ∙ c.if-not-is_on.false)) stands c.in-Set.c c.in-Set.field-1 in
     let stage = c.is_setting.ensures ∙ ap (λ (core : CoreData). is_setting (stage_of core.connections.live c.in-Set.c)) c.self.view_is in (
       λ holds. rw c.in-Set.is (both.0 (sym stage ∙ holds)),
       λ fit. stage ∙ both.1 (rw c.in-Set.is at fit),
@@ -189,7 +227,9 @@ returns-in-Set-clause-means c = λ q stands. (
 
 pub returns-in-Shaken-clause-means : goal.returns-in-Shaken-clause-means
 returns-in-Shaken-clause-means c = λ q stands. (
-    let both = shaken-fits c.args.self.now q (subst (λ (core : CoreData). is_on core.end ≡ true) c.self.view_is (sym c.is_on.ensures ∙ c.if-not-is_on.false)) stands c.in-Shaken.c c.in-Shaken.field-1 in
+    let both = shaken-fits c.args.self.now q
+    (subst (λ (core : CoreData). is_on core.end ≡ true) c.self.view_is (sym c.is_on.ensures ∙ c.if-not-is_on.false)) stands c.in-Shaken.c
+    c.in-Shaken.field-1 in
     let stage = c.is_shaking.ensures ∙ ap (λ (core : CoreData). is_shaking (stage_of core.connections.live c.in-Shaken.c)) c.self.view_is in (
       λ holds. rw c.in-Shaken.is (both.0 (sym stage ∙ holds)),
       λ fit. stage ∙ both.1 (rw c.in-Shaken.is at fit),
@@ -197,7 +237,8 @@ returns-in-Shaken-clause-means c = λ q stands. (
 
 pub returns-in-Finished-clause-means : goal.returns-in-Finished-clause-means
 returns-in-Finished-clause-means c = λ q stands. (
-    let both = finished-fits c.args.self.now q (subst (λ (core : CoreData). is_on core.end ≡ true) c.self.view_is (sym c.is_on.ensures ∙ c.if-not-is_on.false)) stands c.in-Finished.c in
+    let both = finished-fits c.args.self.now q
+    (subst (λ (core : CoreData). is_on core.end ≡ true) c.self.view_is (sym c.is_on.ensures ∙ c.if-not-is_on.false)) stands c.in-Finished.c in
     let stage = c.is_serving.ensures ∙ ap (λ (core : CoreData). is_serving (stage_of core.connections.live c.in-Finished.c)) c.self.view_is in (
       λ holds. rw c.in-Finished.is (both.0 (sym stage ∙ holds)),
       λ fit. stage ∙ both.1 (rw c.in-Finished.is at fit),
@@ -205,7 +246,8 @@ returns-in-Finished-clause-means c = λ q stands. (
 
 pub returns-in-Side-clause-means : goal.returns-in-Side-clause-means
 returns-in-Side-clause-means c = λ q stands. (
-    let both = side-fits c.args.self.now q (subst (λ (core : CoreData). is_on core.end ≡ true) c.self.view_is (sym c.is_on.ensures ∙ c.if-not-is_on.false)) stands c.in-Side.field-0 in
+    let both = side-fits c.args.self.now q
+    (subst (λ (core : CoreData). is_on core.end ≡ true) c.self.view_is (sym c.is_on.ensures ∙ c.if-not-is_on.false)) stands c.in-Side.field-0 in
     let asks = c.is_fork_asked.ensures ∙ ap (λ (core : CoreData). is_asked core.boot.fork) c.self.view_is in (
       λ holds. rw c.in-Side.is (both.0 (sym asks ∙ holds)),
       λ fit. asks ∙ both.1 (rw c.in-Side.is at fit),
@@ -213,7 +255,8 @@ returns-in-Side-clause-means c = λ q stands. (
 
 pub returns-in-ChildReady-clause-means : goal.returns-in-ChildReady-clause-means
 returns-in-ChildReady-clause-means c = λ q stands. (
-    let both = parent-fits c.args.self.now q (subst (λ (core : CoreData). is_on core.end ≡ true) c.self.view_is (sym c.is_on.ensures ∙ c.if-not-is_on.false)) stands ChildReady refl in
+    let both = parent-fits c.args.self.now q
+    (subst (λ (core : CoreData). is_on core.end ≡ true) c.self.view_is (sym c.is_on.ensures ∙ c.if-not-is_on.false)) stands ChildReady refl in
     let waits = c.is_parent_waiting.ensures ∙ ap (λ (core : CoreData). is_waiting core.boot.fork) c.self.view_is in (
       λ holds. rw c.in-ChildReady.is (both.0 (sym waits ∙ holds)),
       λ fit. waits ∙ both.1 (rw c.in-ChildReady.is at fit),
@@ -221,7 +264,8 @@ returns-in-ChildReady-clause-means c = λ q stands. (
 
 pub returns-in-ChildGone-clause-means : goal.returns-in-ChildGone-clause-means
 returns-in-ChildGone-clause-means c = λ q stands. (
-    let both = parent-fits c.args.self.now q (subst (λ (core : CoreData). is_on core.end ≡ true) c.self.view_is (sym c.is_on.ensures ∙ c.if-not-is_on.false)) stands ChildGone refl in
+    let both = parent-fits c.args.self.now q
+    (subst (λ (core : CoreData). is_on core.end ≡ true) c.self.view_is (sym c.is_on.ensures ∙ c.if-not-is_on.false)) stands ChildGone refl in
     let waits = c.is_parent_waiting-in-ChildGone.ensures ∙ ap (λ (core : CoreData). is_waiting core.boot.fork) c.self.view_is in (
       λ holds. rw c.in-ChildGone.is (both.0 (sym waits ∙ holds)),
       λ fit. waits ∙ both.1 (rw c.in-ChildGone.is at fit),
@@ -229,7 +273,8 @@ returns-in-ChildGone-clause-means c = λ q stands. (
 
 pub returns-in-DropFailed-clause-means : goal.returns-in-DropFailed-clause-means
 returns-in-DropFailed-clause-means c = λ q stands. (
-    let both = parent-fits c.args.self.now q (subst (λ (core : CoreData). is_on core.end ≡ true) c.self.view_is (sym c.is_on.ensures ∙ c.if-not-is_on.false)) stands DropFailed refl in
+    let both = parent-fits c.args.self.now q
+    (subst (λ (core : CoreData). is_on core.end ≡ true) c.self.view_is (sym c.is_on.ensures ∙ c.if-not-is_on.false)) stands DropFailed refl in
     let waits = c.is_parent_waiting-in-DropFailed.ensures ∙ ap (λ (core : CoreData). is_waiting core.boot.fork) c.self.view_is in (
       λ holds. rw c.in-DropFailed.is (both.0 (sym waits ∙ holds)),
       λ fit. waits ∙ both.1 (rw c.in-DropFailed.is at fit),

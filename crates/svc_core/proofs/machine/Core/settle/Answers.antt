@@ -10,11 +10,14 @@ use Rattle.svc_core.proofs.machine.Core.settle.Goals as goal
 
 pub returns-then-not-is_on : goal.returns-then-not-is_on
 returns-then-not-is_on c = opened-goes (λ core. Struck core c.args.copy) finish_room c.self.view_is (stops c.args.copy refl (omega arith)
-    (follows-ended-at _ c.args.copy c.end-self-inside.result (list_of c.args.actions.now) c.end-self-inside.ensures (sym c.is_on.ensures ∙ c.if-not-is_on.true)))
+    (follows-ended-at _ c.args.copy c.end-self-inside.result (list_of c.args.actions.now) c.end-self-inside.ensures
+    (sym c.is_on.ensures ∙ c.if-not-is_on.true)))
 
 pub returns : goal.returns
-returns c = opened-goes (λ core. Struck core c.args.copy) finish_room c.self.view_is (visited-goes c.advance.ensures c.startup_pass.ensures refl refl (ap (λ (b : BootData). b.begun) c.complete.ensures.after) refl
-    (bare-these (list_of c.args.actions.now) (list_of c.complete.new.actions) _ c.complete.ensures.told (complete-bare c.complete.result c.moment.result)) (record { few = omega arith; room = omega arith })
+returns c = opened-goes (λ core. Struck core c.args.copy) finish_room c.self.view_is
+    (visited-goes c.advance.ensures c.startup_pass.ensures refl refl (ap (λ (b : BootData). b.begun) c.complete.ensures.after) refl
+    (bare-these (list_of c.args.actions.now) (list_of c.complete.new.actions) _ c.complete.ensures.told (complete-bare c.complete.result c.moment.result))
+    (record { few = omega arith; room = omega arith })
     (follows-on-at _ _ _ _ c.args.copy c.end-self-inside.result c.advance.result c.complete.new.self
     (list_of c.args.actions.now) (list_of c.complete.new.actions) (list_of c.startup_pass.new.actions) (list_of c.advance.new.actions) c.complete.result
     c.end-self-inside.ensures (sym c.is_on.ensures ∙ c.if-not-is_on.false) c.complete.ensures.due c.complete.ensures.after

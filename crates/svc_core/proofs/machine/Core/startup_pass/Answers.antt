@@ -38,17 +38,23 @@ returns-else-may_start c = record {
 pub pass-requires-clause-known : goal.pass-requires-clause-known
 pass-requires-clause-known c =
     rw c.deref.ensures.value
-    (known-caught c.self.inside.plan c.self.inside.order.items c.self.inside.starts c.self.inside.endpoints.parts c.self.inside.boot.complete c.self.inside.drain.moment c.wake.new.self c.catch_up.new.self
-    (watched-woken c.self.inside.plan c.self.inside.order.items c.self.inside.starts c.self.inside.endpoints.parts c.self.inside.waits c.wake.new.self c.wake.ensures.wakes c.self.invariant.watched)
-    c.catch_up.ensures.opens (c.catch_up.ensures.complete ∙ c.is_complete.ensures) (rw (c.failed.ensures, c.is_complete.ensures) at c.catch_up.ensures.ready) (rw c.moment.ensures at c.wake.ensures.soon))
+    (known-caught c.self.inside.plan c.self.inside.order.items c.self.inside.starts c.self.inside.endpoints.parts c.self.inside.boot.complete
+    c.self.inside.drain.moment c.wake.new.self c.catch_up.new.self
+    (watched-woken c.self.inside.plan c.self.inside.order.items c.self.inside.starts c.self.inside.endpoints.parts c.self.inside.waits c.wake.new.self
+    c.wake.ensures.wakes c.self.invariant.watched)
+    c.catch_up.ensures.opens (c.catch_up.ensures.complete ∙ c.is_complete.ensures) (rw (c.failed.ensures, c.is_complete.ensures) at c.catch_up.ensures.ready)
+    (rw c.moment.ensures at c.wake.ensures.soon))
 
 pub invariant_of-self : goal.invariant_of-self
 invariant_of-self c = record {
   formed = rw c.deref.ensures.value at c.pass.ensures.formed;
-  watched = watched-known c.self.inside.plan c.self.inside.order.items c.pass.new.starts c.pass.new.endpoints.parts c.pass.new.boot.complete c.self.inside.drain.moment _ c.pass.new.waits (rw c.deref.ensures.value at c.pass.ensures.known);
+  watched = watched-known c.self.inside.plan c.self.inside.order.items c.pass.new.starts c.pass.new.endpoints.parts c.pass.new.boot.complete
+      c.self.inside.drain.moment _ c.pass.new.waits (rw c.deref.ensures.value at c.pass.ensures.known);
 }
 
 pub catch_up-requires-clause-watched : goal.catch_up-requires-clause-watched
 catch_up-requires-clause-watched c =
-    subst (λ (failed : List Bool). OnTrue c.wake.new.self.fresh (KnowsReady c.self.inside.plan c.self.inside.starts failed c.wake.new.self.complete c.wake.new.self)) (sym c.failed.ensures)
-    (watched-woken c.self.inside.plan c.self.inside.order.items c.self.inside.starts c.self.inside.endpoints.parts c.self.inside.waits c.wake.new.self c.wake.ensures.wakes c.self.invariant.watched).ready
+    subst (λ (failed : List Bool). OnTrue c.wake.new.self.fresh
+    (KnowsReady c.self.inside.plan c.self.inside.starts failed c.wake.new.self.complete c.wake.new.self)) (sym c.failed.ensures)
+    (watched-woken c.self.inside.plan c.self.inside.order.items c.self.inside.starts c.self.inside.endpoints.parts c.self.inside.waits c.wake.new.self
+    c.wake.ensures.wakes c.self.invariant.watched).ready

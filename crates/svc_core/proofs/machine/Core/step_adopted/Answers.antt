@@ -19,8 +19,11 @@ returns c = opened c.self.view_is c.requires (λ may.
 pub invariant_of-self : goal.invariant_of-self
 invariant_of-self c = record {
   formed = search rules;
-  watched = watched-adopted c.self.inside.plan c.self.inside.order.items c.self.inside.starts c.self.inside.endpoints.parts c.on_adopted.new.self.parts c.args.s c.self.inside.waits c.reopen.new.self c.free.new.self
-      c.on_adopted.ensures.held c.on_adopted.ensures.others c.on_adopted.ensures.failed (λ a none. ap (λ (table : List Open). has_open table a) c.on_adopted.ensures.table ∙ none) (rw c.deref.ensures.value at c.reopen.ensures) c.free.ensures c.self.invariant.watched;
+  watched = watched-adopted c.self.inside.plan c.self.inside.order.items c.self.inside.starts c.self.inside.endpoints.parts c.on_adopted.new.self.parts c.args.s
+      c.self.inside.waits c.reopen.new.self c.free.new.self
+      c.on_adopted.ensures.held c.on_adopted.ensures.others c.on_adopted.ensures.failed
+      (λ a none. ap (λ (table : List Open). has_open table a) c.on_adopted.ensures.table ∙ none)
+      (rw c.deref.ensures.value at c.reopen.ensures) c.free.ensures c.self.invariant.watched;
 }
 
 pub reopen-requires : goal.reopen-requires

@@ -6,16 +6,19 @@ use Rattle.svc_core.proofs.machine.Core.step_answer.Goals as goal
 
 pub returns-then-is_some : goal.returns-then-is_some
 returns-then-is_some c = opened c.self.view_is c.requires.may (λ may. gives-up c.settle.ensures refl refl (record { few = omega arith; room = omega arith })
-    (strike-ends _ c.args.answer may.on (awaited-row _ c.args.answer may.may) _ (rw c.moment.ensures at c.take.ensures.after) (rw c.moment.ensures at c.take.ensures.stands)
+    (strike-ends _ c.args.answer may.on (awaited-row _ c.args.answer may.may) _ (rw c.moment.ensures at c.take.ensures.after)
+    (rw c.moment.ensures at c.take.ensures.stands)
     _ _ _ c.over_since.result c.over_since.ensures (sym c.is_some.ensures ∙ c.if-is_some.true) c.requires.rests c.release.ensures.stands))
 
 pub returns : goal.returns
 returns c = opened c.self.view_is c.requires.may (λ may. silently-taken c.settle-2.ensures refl refl (omega arith)
-    (strike-rests _ c.args.answer may.on (awaited-row _ c.args.answer may.may) _ (rw c.moment.ensures at c.take.ensures.after) (rw c.moment.ensures at c.take.ensures.stands)
+    (strike-rests _ c.args.answer may.on (awaited-row _ c.args.answer may.may) _ (rw c.moment.ensures at c.take.ensures.after)
+    (rw c.moment.ensures at c.take.ensures.stands)
     c.over_since.result c.over_since.ensures (sym c.is_some.ensures ∙ c.if-is_some.false) c.requires.rests))
 
 pub invariant_of-self : goal.invariant_of-self
 invariant_of-self c = record {
   formed = search rules;
-  watched = watched-same c.self.inside.plan c.self.inside.order.items c.self.inside.starts c.self.inside.endpoints.parts c.release.new.self.parts c.self.inside.waits c.release.ensures.rows c.release.ensures.failed c.release.ensures.gains c.self.invariant.watched;
+  watched = watched-same c.self.inside.plan c.self.inside.order.items c.self.inside.starts c.self.inside.endpoints.parts c.release.new.self.parts
+      c.self.inside.waits c.release.ensures.rows c.release.ensures.failed c.release.ensures.gains c.self.invariant.watched;
 }

@@ -10,8 +10,11 @@ pub returns-clause-steps : goal.returns-clause-steps
 returns-clause-steps c = opened c.self.view_is c.requires (λ may.
     dealt c.on_arrived.new.self.parts (arrived_told c.args.c c.args.peer.now c.verdict_on-verdict.result c.in_ok-settings.settings) may.on refl
     (arrived-deals c.args.c c.args.peer.now c.verdict_on-verdict.result c.in_ok-settings.settings)
-    (rw (sym c.in_ok-settings.ensures) (arrived-copied c.args.c c.args.peer.now c.verdict_on-verdict.result c.in_ok-settings.settings)) c.on_arrived.ensures.told
-    (arrived-length c.args.c c.args.peer.now c.verdict_on-verdict.result c.self.inside.connections.parts c.on_arrived.new.self.parts (rw c.in_ok-reserve.ensures.parts at c.on_arrived.ensures.after))
+    (rw (sym c.in_ok-settings.ensures) (arrived-copied c.args.c c.args.peer.now c.verdict_on-verdict.result c.in_ok-settings.settings))
+    c.on_arrived.ensures.told
+    (arrived-length c.args.c c.args.peer.now c.verdict_on-verdict.result c.self.inside.connections.parts c.on_arrived.new.self.parts
+    (rw c.in_ok-reserve.ensures.parts at c.on_arrived.ensures.after))
     (record { few = omega arith; room = omega arith })
     (λ q stands. fits-arrived _ q c.args.s c.args.i c.args.c c.args.peer.now c.self.invariant.formed.endpoints may.on stands may.may)
-    (λ q. (rw c.in_ok-reserve.ensures.parts at c.on_arrived.ensures.stands) c.self.inside.plan c.args.s c.args.i q c.in_ok-settings.ensures (filterless c.self.inside.plan c.args.s c.args.i c.args.said c.verdict_on-verdict.result c.verdict_on-verdict.ensures)))
+    (λ q. (rw c.in_ok-reserve.ensures.parts at c.on_arrived.ensures.stands) c.self.inside.plan c.args.s c.args.i q c.in_ok-settings.ensures
+    (filterless c.self.inside.plan c.args.s c.args.i c.args.said c.verdict_on-verdict.result c.verdict_on-verdict.ensures)))

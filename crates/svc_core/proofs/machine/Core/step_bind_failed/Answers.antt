@@ -25,10 +25,14 @@ mark_failed-requires c =
 pub invariant_of-self : goal.invariant_of-self
 invariant_of-self c = record {
   formed = search rules;
-  watched = watched-answer c.self.inside.plan c.self.inside.order.items c.self.inside.starts c.self.inside.endpoints.parts c.on_bind_failed.new.self.parts c.args.s c.self.inside.waits c.reopen.new.self c.mark_failed.new.self
-      (subst (λ (core : CoreData). c.args.s < service_count core.plan) (sym c.self.view_is) c.requires.may.inside) c.self.invariant.formed.endpoints c.on_bind_failed.ensures.failed c.on_bind_failed.ensures.held c.on_bind_failed.ensures.unheld c.on_bind_failed.ensures.gains c.on_bind_failed.ensures.others
+  watched = watched-answer c.self.inside.plan c.self.inside.order.items c.self.inside.starts c.self.inside.endpoints.parts c.on_bind_failed.new.self.parts
+      c.args.s c.self.inside.waits c.reopen.new.self c.mark_failed.new.self
+      (subst (λ (core : CoreData). c.args.s < service_count core.plan) (sym c.self.view_is) c.requires.may.inside) c.self.invariant.formed.endpoints
+      c.on_bind_failed.ensures.failed c.on_bind_failed.ensures.held c.on_bind_failed.ensures.unheld c.on_bind_failed.ensures.gains
+      c.on_bind_failed.ensures.others
       (rw c.deref.ensures.value at c.reopen.ensures)
-      (subst (λ (failed : List Bool). MarksIf (is_flagged failed c.args.s) c.args.s c.reopen.new.self c.mark_failed.new.self) c.failed.ensures c.mark_failed.ensures) c.self.invariant.watched;
+      (subst (λ (failed : List Bool). MarksIf (is_flagged failed c.args.s) c.args.s c.reopen.new.self c.mark_failed.new.self) c.failed.ensures
+      c.mark_failed.ensures) c.self.invariant.watched;
 }
 
 pub reopen-requires : goal.reopen-requires

@@ -12,18 +12,23 @@ pub returns : goal.returns
 returns c = opened c.self.view_is c.requires (λ may.
     let same = ap (λ (d : EndpointsData). length d.table) c.in_ok-reserve.ensures.parts in
     gives-up c.settle.ensures refl refl (record { few = omega (arith, same); room = omega (arith, same) })
-    (strike-answer _ (Bound c.args.s c.args.i c.args.fd) _ _ _ may.on refl refl refl refl refl (λ q stands. fits-bound _ q c.args.s c.args.i c.args.fd may.on may.may stands)
+    (strike-answer _ (Bound c.args.s c.args.i c.args.fd) _ _ _ may.on refl refl refl refl refl
+    (λ q stands. fits-bound _ q c.args.s c.args.i c.args.fd may.on may.may stands)
     (unheld _ _ _ _ _ (Bound c.args.s c.args.i c.args.fd) _ _ (rw c.in_ok-reserve.ensures.parts at c.on_bound.ensures.stands))))
 
 pub invariant_of-self : goal.invariant_of-self
-invariant_of-self c = subst (λ (d : EndpointsData). IsKept c.self.inside.plan c.self.inside.order.items c.self.inside.starts d c.self.inside.waits) (sym c.reserve.ensures.parts) c.self.invariant
+invariant_of-self c =
+    subst (λ (d : EndpointsData). IsKept c.self.inside.plan c.self.inside.order.items c.self.inside.starts d c.self.inside.waits)
+    (sym c.reserve.ensures.parts) c.self.invariant
 
 pub invariant_of-self-2 : goal.invariant_of-self-2
 invariant_of-self-2 c = record {
   formed = search rules;
-  watched = watched-bound c.self.inside.plan c.self.inside.order.items c.self.inside.starts c.self.inside.endpoints.parts c.on_bound.new.self.parts c.args.s c.self.inside.waits c.reopen.new.self c.free_all.new.self
+  watched = watched-bound c.self.inside.plan c.self.inside.order.items c.self.inside.starts c.self.inside.endpoints.parts c.on_bound.new.self.parts c.args.s
+      c.self.inside.waits c.reopen.new.self c.free_all.new.self
       (subst (λ (d : EndpointsData). StaysHeld d c.on_bound.new.self.parts) c.in_ok-reserve.ensures.parts c.on_bound.ensures.held)
-      (subst (λ (d : EndpointsData). OthersStay c.args.s d c.on_bound.new.self.parts) c.in_ok-reserve.ensures.parts c.on_bound.ensures.others) (c.on_bound.ensures.failed ∙ ap (λ (d : EndpointsData). d.failed) c.in_ok-reserve.ensures.parts)
+      (subst (λ (d : EndpointsData). OthersStay c.args.s d c.on_bound.new.self.parts) c.in_ok-reserve.ensures.parts c.on_bound.ensures.others)
+      (c.on_bound.ensures.failed ∙ ap (λ (d : EndpointsData). d.failed) c.in_ok-reserve.ensures.parts)
       (rw c.deref.ensures.value at c.reopen.ensures) c.free_all.ensures c.self.invariant.watched;
 }
 

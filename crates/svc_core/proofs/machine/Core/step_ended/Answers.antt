@@ -9,7 +9,9 @@ use Rattle.svc_core.proofs.WaitsLemmas.{watched-end}
 use Rattle.svc_core.proofs.machine.Core.step_ended.Goals as goal
 
 pub returns : goal.returns
-returns c = opened c.self.view_is c.requires (λ may. silently-taken (rw c.on_ended.ensures.end at c.settle.ensures) refl refl (omega arith) (strike-ended _ c.args.s c.self.invariant.formed may.on may.may))
+returns c = opened c.self.view_is c.requires
+    (λ may. silently-taken (rw c.on_ended.ensures.end at c.settle.ensures) refl refl (omega arith)
+    (strike-ended _ c.args.s c.self.invariant.formed may.on may.may))
 
 pub mark-requires : goal.mark-requires
 mark-requires c =
@@ -20,7 +22,9 @@ mark-requires c =
 pub invariant_of-self : goal.invariant_of-self
 invariant_of-self c = record {
   formed = search rules;
-  watched = subst (λ (st : StartsData). IsWatched c.self.inside.plan c.self.inside.order.items st c.self.inside.endpoints.parts c.mark.new.self) (sym c.on_ended.ensures.end)
+  watched = subst (λ (st : StartsData). IsWatched c.self.inside.plan c.self.inside.order.items st c.self.inside.endpoints.parts c.mark.new.self)
+      (sym c.on_ended.ensures.end)
       (watched-end c.self.inside.plan c.self.inside.order.items c.self.inside.starts c.self.inside.endpoints.parts c.args.s c.self.inside.waits c.mark.new.self
-      (subst (λ (core : CoreData). c.args.s < service_count core.plan) (sym c.self.view_is) c.requires.may.inside) c.self.invariant.formed.starts c.mark.ensures c.self.invariant.watched);
+      (subst (λ (core : CoreData). c.args.s < service_count core.plan) (sym c.self.view_is) c.requires.may.inside) c.self.invariant.formed.starts c.mark.ensures
+      c.self.invariant.watched);
 }

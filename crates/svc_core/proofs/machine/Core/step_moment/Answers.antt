@@ -9,7 +9,8 @@ pub returns : goal.returns
 returns c = opened c.self.view_is c.requires (λ may.
     let copied = rw (← c.self.view_is) at c.in_ok-copy.ensures in
     copy-taken c.settle.ensures refl refl (omega arith) (ap copy_of copied)
-    (strike-moment _ c.args.ms _ c.in_ok-copy.copy may.on (goes-on c.is_held.result (is_free c.self.inside.plan c.self.inside.boot.fork) (rw (← c.self.view_is) at c.is_held.ensures) c.if-is_held.false) may.may
+    (strike-moment _ c.args.ms _ c.in_ok-copy.copy may.on
+    (goes-on c.is_held.result (is_free c.self.inside.plan c.self.inside.boot.fork) (rw (← c.self.view_is) at c.is_held.ensures) c.if-is_held.false) may.may
     c.on_moment.ensures.after c.on_moment.ensures.stands copied))
   where
     goes-on : (held free : Bool) → held ≡ not free → held ≡ false → free ≡ true

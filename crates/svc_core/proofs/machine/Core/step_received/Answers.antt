@@ -16,6 +16,7 @@ returns c = opened c.self.view_is c.requires (λ may.
 pub invariant_of-self-2 : goal.invariant_of-self-2
 invariant_of-self-2 c = record {
   formed = search rules;
-  watched = watched-received c.self.inside.plan c.self.inside.order.items c.self.inside.starts c.self.inside.endpoints.parts c.on_received.new.self.parts c.self.inside.waits c.free_all.new.self
+  watched = watched-received c.self.inside.plan c.self.inside.order.items c.self.inside.starts c.self.inside.endpoints.parts c.on_received.new.self.parts
+      c.self.inside.waits c.free_all.new.self
       c.on_received.ensures.rows c.on_received.ensures.failed c.free_all.ensures c.self.invariant.watched;
 }

@@ -8,6 +8,9 @@ use Rattle.svc_core.proofs.StepForms.{opened, dealt}
 use Rattle.svc_core.proofs.machine.Core.step_shaken.Goals as goal
 
 pub returns : goal.returns
-returns c = opened c.self.view_is c.requires (λ may. dealt c.on_shaken.new.self.parts (shaken_told c.args.c c.args.ok) may.on refl (shaken-deals c.args.c c.args.ok) (bare-copied _ (shaken_told c.args.c c.args.ok) (shaken-bare c.args.c c.args.ok))
-    c.on_shaken.ensures.told (gone-length c.args.c c.args.ok Serving c.self.inside.connections.parts c.on_shaken.new.self.parts c.on_shaken.ensures.after) (record { few = omega arith; room = omega arith })
+returns c = opened c.self.view_is c.requires
+    (λ may. dealt c.on_shaken.new.self.parts (shaken_told c.args.c c.args.ok) may.on refl (shaken-deals c.args.c c.args.ok)
+    (bare-copied _ (shaken_told c.args.c c.args.ok) (shaken-bare c.args.c c.args.ok))
+    c.on_shaken.ensures.told (gone-length c.args.c c.args.ok Serving c.self.inside.connections.parts c.on_shaken.new.self.parts c.on_shaken.ensures.after)
+    (record { few = omega arith; room = omega arith })
     (λ q stands. fits-shaken _ q c.args.c c.args.ok may.on stands may.may) (λ q. c.on_shaken.ensures.stands c.self.inside.plan q))

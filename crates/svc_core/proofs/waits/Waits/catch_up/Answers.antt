@@ -12,5 +12,6 @@ returns-then-is_fresh_at-clause-complete c = c.is_fresh_at.ensures.complete c.if
 
 pub returns-then-is_fresh_at-clause-ready : goal.returns-then-is_fresh_at-clause-ready
 returns-then-is_fresh_at-clause-ready c =
-    subst (λ (complete : Bool). KnowsReady c.args.plan.now c.args.starts.now c.args.failed.now complete c.args.self.now) (c.is_fresh_at.ensures.complete c.if-is_fresh_at.true)
+    subst (λ (complete : Bool). KnowsReady c.args.plan.now c.args.starts.now c.args.failed.now complete c.args.self.now)
+    (c.is_fresh_at.ensures.complete c.if-is_fresh_at.true)
     (on-fresh c.args.self.now.fresh (c.is_fresh_at.ensures.fresh c.if-is_fresh_at.true) c.requires.watched)

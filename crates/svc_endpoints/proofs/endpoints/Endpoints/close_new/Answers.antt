@@ -8,10 +8,13 @@ pub loop-k-preserved : goal.loop-k-preserved
 loop-k-preserved c = elim c.if-is_new_after.branch [
   | then-is_new_after w ↦ (let lt = c.loop-k-test.true in rw w.actions-is (record {
     room = omega (arith, c.loop-k.invariant.room, w.put.ensures.room);
-    told = w.put.ensures.items ∙ closes-new c.args.self.now.parts.came c.args.fds.now (list_of c.args.actions.now) (list_of c.loop-k.actions) c.loop-k.k (omega (arith, lt)) c.loop-k.invariant.told (sym c.is_new_after.ensures ∙ w.if-is_new_after.true);
+    told = w.put.ensures.items
+        ∙ closes-new c.args.self.now.parts.came c.args.fds.now (list_of c.args.actions.now) (list_of c.loop-k.actions) c.loop-k.k
+        (omega (arith, lt)) c.loop-k.invariant.told (sym c.is_new_after.ensures ∙ w.if-is_new_after.true);
   }))
   | else-is_new_after w ↦ (let lt = c.loop-k-test.true in rw w.actions-is (record {
     room = omega (arith, c.loop-k.invariant.room);
-    told = closes-old c.args.self.now.parts.came c.args.fds.now (list_of c.args.actions.now) (list_of c.loop-k.actions) c.loop-k.k (omega (arith, lt)) c.loop-k.invariant.told (sym c.is_new_after.ensures ∙ w.if-is_new_after.false);
+    told = closes-old c.args.self.now.parts.came c.args.fds.now (list_of c.args.actions.now) (list_of c.loop-k.actions) c.loop-k.k
+        (omega (arith, lt)) c.loop-k.invariant.told (sym c.is_new_after.ensures ∙ w.if-is_new_after.false);
   }))
 ]

@@ -12,5 +12,6 @@ use Rattle.svc_endpoints.proofs.endpoints.Endpoints.message.Goals as goal
 
 pub returns : goal.returns
 returns c =
-    IfOk-weaker c.filled-message.result (λ m. m ≡ encode (offer_table (list_of c.table.result.now))) (λ m. (p : Plan) (q : Record) → EndpointsStand p c.args.self.now.parts q → m ≡ encode (live_table p q))
+    IfOk-weaker c.filled-message.result (λ m. m ≡ encode (offer_table (list_of c.table.result.now)))
+    (λ m. (p : Plan) (q : Record) → EndpointsStand p c.args.self.now.parts q → m ≡ encode (live_table p q))
     (λ m told p q h. told ∙ ap (λ t. encode (offer_table t)) c.table.ensures ∙ ap encode (offer-is p c.args.self.now.parts q h)) c.filled-message.ensures

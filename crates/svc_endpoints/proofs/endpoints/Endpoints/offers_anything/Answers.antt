@@ -7,4 +7,5 @@ use Rattle.svc_endpoints.proofs.endpoints.Endpoints.offers_anything.Goals as goa
 
 pub returns : goal.returns
 returns c p q h =
-    c.has_addressed_block.ensures ∙ ap (list_any is_addressed) (c.as_blocks.ensures ∙ c.table.ensures) ∙ some-offered c.args.self.now.parts.table ∙ ap (λ t. not (is_empty_table t)) (offer-is p c.args.self.now.parts q h)
+    c.has_addressed_block.ensures ∙ ap (list_any is_addressed) (c.as_blocks.ensures ∙ c.table.ensures) ∙ some-offered c.args.self.now.parts.table
+    ∙ ap (λ t. not (is_empty_table t)) (offer-is p c.args.self.now.parts q h)

@@ -13,7 +13,11 @@ returns-clause-stands c = λ q stand. subst (λ (e : EndpointsData). EndpointsSt
     (after-adopted c.args.plan.now c.args.self.now.parts q c.args.s c.args.i c.requires.sized c.requires.service c.requires.endpoint stand c.requires.asks)
 
 pub returns-clause-held : goal.returns-clause-held
-returns-clause-held c = subst (λ (m : EndpointsData). StaysHeld c.args.self.now.parts m) (sym c.hold.ensures) (held-adopted c.args.plan.now c.args.self.now.parts c.args.s c.args.i c.requires.sized c.requires.service c.requires.endpoint c.requires.asks)
+returns-clause-held c =
+    subst (λ (m : EndpointsData). StaysHeld c.args.self.now.parts m) (sym c.hold.ensures)
+    (held-adopted c.args.plan.now c.args.self.now.parts c.args.s c.args.i c.requires.sized c.requires.service c.requires.endpoint c.requires.asks)
 
 pub returns-clause-others : goal.returns-clause-others
-returns-clause-others c = subst (λ (m : EndpointsData). OthersStay c.args.s c.args.self.now.parts m) (sym c.hold.ensures) (others-adopted c.args.plan.now c.args.self.now.parts c.args.s c.args.i c.requires.sized c.requires.service c.requires.endpoint)
+returns-clause-others c =
+    subst (λ (m : EndpointsData). OthersStay c.args.s c.args.self.now.parts m) (sym c.hold.ensures)
+    (others-adopted c.args.plan.now c.args.self.now.parts c.args.s c.args.i c.requires.sized c.requires.service c.requires.endpoint)

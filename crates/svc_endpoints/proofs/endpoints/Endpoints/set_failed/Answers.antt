@@ -13,6 +13,7 @@ invariant_of-self c =
     let given = c.requires in
     let flags = c.self.invariant.flags in
     let inside : c.args.s < length rows = omega (arith, same, given, flags) in
-    known-failed rows c.self.inside.failed.items c.self.inside.busy c.put_bit.new.bits c.args.s c.self.invariant c.put_bit.ensures.rows c.put_bit.ensures.others (omega (arith, same, given))
+    known-failed rows c.self.inside.failed.items c.self.inside.busy c.put_bit.new.bits c.args.s c.self.invariant c.put_bit.ensures.rows c.put_bit.ensures.others
+    (omega (arith, same, given))
     (λ off. subst (λ (row : List EndpointState). IsRowCalm true row) (c.index-row.ensures ∙ get_or_default rows c.args.s c.index-row.result.now [] inside)
     (c.is_ever_busy-is_busy.ensures (sym c.put_bit.ensures.here ∙ off)))

@@ -14,7 +14,9 @@ returns-then-asks_with c = λ moment.
         none = c.requires.none;
         other = c.last_asked-t.result.1;
         other_first = with.first;
-        same = subst (λ (a : Option (List ℕ)). same_address (address c.args.plan.now c.last_asked-t.result.0 c.last_asked-t.result.1) a ≡ true) c.address_of-text.ensures with.same;
+        same = subst
+            (λ (a : Option (List ℕ)). same_address (address c.args.plan.now c.last_asked-t.result.0 c.last_asked-t.result.1) a ≡ true) c.address_of-text.ensures
+            with.same;
       };
       asks = with.asks;
     }

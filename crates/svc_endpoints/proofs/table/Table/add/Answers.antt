@@ -15,6 +15,7 @@ returns-clause-entries c =
 
 pub invariant_of-self : goal.invariant_of-self
 invariant_of-self c =
-    ap (have_sums (list_of c.take_sum.new.sums)) (c.insert.ensures.entries ∙ put-open (record { fd = c.args.fd; address = c.args.address }) (list_of c.self.inside.entries))
+    ap (have_sums (list_of c.take_sum.new.sums))
+    (c.insert.ensures.entries ∙ put-open (record { fd = c.args.fd; address = c.args.address }) (list_of c.self.inside.entries))
     ∙ summed-put (list_of c.take_sum.new.sums) (record { fd = c.args.fd; address = c.args.address }) (list_of c.self.inside.entries) c.take_sum.ensures.put
     (summed-grows (list_of c.self.inside.sums) (list_of c.take_sum.new.sums) (list_of c.self.inside.entries) c.take_sum.ensures.kept c.self.invariant)

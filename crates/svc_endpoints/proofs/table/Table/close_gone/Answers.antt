@@ -16,12 +16,15 @@ put_blocks-requires c =
     let size = ap length c.close_done_blocks.ensures.after in
     let few = c.take_blocks-blocks.ensures.few in
     record {
-      rise = ap (rises_by (λ (o : Open). o.fd)) c.close_done_blocks.ensures.after ∙ rises-filter (λ (o : Open). o.fd) (λ (o : Open). not (done o)) (joined c.take_blocks-blocks.result.items) c.take_blocks-blocks.ensures.rise;
+      rise = ap (rises_by (λ (o : Open). o.fd)) c.close_done_blocks.ensures.after
+          ∙ rises-filter (λ (o : Open). o.fd) (λ (o : Open). not (done o)) (joined c.take_blocks-blocks.result.items) c.take_blocks-blocks.ensures.rise;
       few = omega (arith, picked-length done (joined c.take_blocks-blocks.result.items));
     }
 
 pub invariant_of-self : goal.invariant_of-self
 invariant_of-self c =
     let done = goes c.args.plan.now c.args.kept.now (states_of c.args.rows.now c.args.failed.now (list_of c.args.loops.now)) in
-    let left : list_of c.put_blocks.new.self ≡ unpicked done (list_of c.self.inside.entries) = c.put_blocks.ensures ∙ c.close_done_blocks.ensures.after ∙ ap (unpicked done) c.take_blocks-blocks.ensures.entries in
-    ap (have_sums (list_of c.self.inside.sums)) left ∙ summed-filter (list_of c.self.inside.sums) (λ (o : Open). not (done o)) (list_of c.self.inside.entries) c.self.invariant
+    let left : list_of c.put_blocks.new.self ≡ unpicked done (list_of c.self.inside.entries) =
+    c.put_blocks.ensures ∙ c.close_done_blocks.ensures.after ∙ ap (unpicked done) c.take_blocks-blocks.ensures.entries in
+    ap (have_sums (list_of c.self.inside.sums)) left
+    ∙ summed-filter (list_of c.self.inside.sums) (λ (o : Open). not (done o)) (list_of c.self.inside.entries) c.self.invariant

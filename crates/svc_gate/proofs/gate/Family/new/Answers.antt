@@ -19,5 +19,6 @@ returns-clause-answers c =
 pub returns-clause-count : goal.returns-clause-count
 returns-clause-count c =
     let few = subst (λ s. length s ≤ 2 * length c.as_slice.result.now) (sym c.as_slice-2.ensures.value) c.in_ok-segments.ensures.few in
-    let count = length-ranges _ _ c.args.rules.now.rules _ _ _ (subst (λ rules. length c.as_slice-2.result.now ≤ 2 * length rules) c.as_slice.ensures few) c.advance-found.ensures.rest c.in_ok-later.ensures in
+    let count = length-ranges _ _ c.args.rules.now.rules _ _ _
+    (subst (λ rules. length c.as_slice-2.result.now ≤ 2 * length rules) c.as_slice.ensures few) c.advance-found.ensures.rest c.in_ok-later.ensures in
     omega (arith, count)

@@ -3,7 +3,9 @@ use Rattle.svc_generations.proofs.ServingLemmas.{given_serving, given_open, same
 use Rattle.svc_generations.proofs.serving.Serving.give.Goals as goal
 
 pub returns-in-Ok-clause-took : goal.returns-in-Ok-clause-took
-returns-in-Ok-clause-took c = λ blocks before s. given_serving blocks before c.args.generation c.args.event _ _ _ _ s c.in-Ok.ensures.steps (rw c.as_slice.ensures at c.said_to-said.ensures) c.in-Ok.ensures.kept c.in-Ok.ensures.open refl refl
+returns-in-Ok-clause-took c =
+    λ blocks before s. given_serving blocks before c.args.generation c.args.event _ _ _ _ s c.in-Ok.ensures.steps
+    (rw c.as_slice.ensures at c.said_to-said.ensures) c.in-Ok.ensures.kept c.in-Ok.ensures.open refl refl
 
 pub returns-in-Err-Early-clause-took : goal.returns-in-Err-Early-clause-took
 returns-in-Err-Early-clause-took c = λ blocks before s.

@@ -10,6 +10,7 @@ returns c = record {
     end = c.in_ok-begin.field-0;
     begun = rw c.new-told.ensures at c.in_ok-begin.ensures.kept;
     plan_is = c.in_ok-begin.ensures.plan ∙ c.in_ok-core.ensures.plan;
-    entries = c.in_ok-append_told.ensures ∙ ap (λ (xs : List Entry). xs ++ told_entries c.as_slice.result.now) c.new-entries.ensures ∙ ap (λ (xs : List Action). told_entries xs) c.as_slice.ensures;
+    entries = c.in_ok-append_told.ensures ∙ ap (λ (xs : List Entry). xs ++ told_entries c.as_slice.result.now) c.new-entries.ensures
+        ∙ ap (λ (xs : List Action). told_entries xs) c.as_slice.ensures;
   };
 }

@@ -16,7 +16,8 @@ returns c = let judged = rw c.new-told.ensures at c.in_ok-step.ensures.judged in
     plan_is = c.in_ok-step.ensures.plan;
     judged = ap judgements judged.appended ∙ judged.kept;
     entries = c.in_ok-append_told.ensures
-        ∙ ap (λ (xs : List Entry). xs ++ told_entries c.as_slice.result.now) (c.in_ok-append.ensures ∙ ap (λ (e : Event). list_of c.args.self.now.entries ++ Got e ∷ []) c.in_ok-event.ensures)
+        ∙ ap (λ (xs : List Entry). xs ++ told_entries c.as_slice.result.now)
+        (c.in_ok-append.ensures ∙ ap (λ (e : Event). list_of c.args.self.now.entries ++ Got e ∷ []) c.in_ok-event.ensures)
         ∙ ap (λ (xs : List Action). (list_of c.args.self.now.entries ++ Got c.args.step.now.event ∷ []) ++ told_entries xs) c.as_slice.ensures;
   };
 }

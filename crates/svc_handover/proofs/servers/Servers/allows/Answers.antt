@@ -6,9 +6,11 @@ use Rattle.svc_handover.proofs.servers.Servers.allows.Goals as goal
 pub returns-then-step-clause-means : goal.returns-then-step-clause-means
 returns-then-step-clause-means c p n before runs = let e = c.args.step.now.event in
     c.allows_old.ensures.means p n before runs
-    ∙ sym (ap (λ b. if b then fits p runs.world.old e && old_may runs.world.channel e else fits n runs.world.new e && new_may runs.world.channel runs.world.old e) c.if-step.true)
+    ∙ sym (ap (λ b. if b then fits p runs.world.old e && old_may runs.world.channel e else fits n runs.world.new e
+    && new_may runs.world.channel runs.world.old e) c.if-step.true)
 
 pub returns-else-step-clause-means : goal.returns-else-step-clause-means
 returns-else-step-clause-means c p n before runs = let e = c.args.step.now.event in
     c.allows_new.ensures.means p n before runs
-    ∙ sym (ap (λ b. if b then fits p runs.world.old e && old_may runs.world.channel e else fits n runs.world.new e && new_may runs.world.channel runs.world.old e) c.if-step.false)
+    ∙ sym (ap (λ b. if b then fits p runs.world.old e && old_may runs.world.channel e else fits n runs.world.new e
+    && new_may runs.world.channel runs.world.old e) c.if-step.false)

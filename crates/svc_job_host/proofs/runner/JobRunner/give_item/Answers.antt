@@ -9,7 +9,9 @@ returns-in-Signal-clause-keeps g c =
     let next = rw c.deref.ensures.value at c.in-Signal.ensures in
     rw (← c.self.view_is)
     (λ q faults idles kept none. record {
-      jobs = keeps_signal (periods_of c.self.inside.plans.items) c.self.inside.timetable c.self.inside.items.items c.self.inside.given q faults idles c.in-Signal.kind kept.jobs none next;
+      jobs = keeps_signal
+          (periods_of c.self.inside.plans.items) c.self.inside.timetable c.self.inside.items.items c.self.inside.given q faults idles c.in-Signal.kind kept.jobs
+          none next;
       heard = kept.heard;
     })
 
@@ -18,7 +20,8 @@ returns-in-Nothing-clause-keeps g c =
     let next = rw c.deref.ensures.value at c.in-Nothing.ensures in
     rw (← c.self.view_is)
     (λ q faults idles kept none. record {
-      jobs = keeps_end (periods_of c.self.inside.plans.items) c.self.inside.timetable c.self.inside.items.items c.self.inside.given q faults idles (counted idles) kept.jobs none
+      jobs = keeps_end (periods_of c.self.inside.plans.items) c.self.inside.timetable c.self.inside.items.items c.self.inside.given q faults idles
+          (counted idles) kept.jobs none
           (nothing_past c.self.inside.items.items c.self.inside.given next);
       heard = kept.heard;
     })

@@ -6,6 +6,7 @@ pub returns-clause-keeps : goal.returns-clause-keeps
 returns-clause-keeps g c =
     rw (c.take_ready.ensures, ← c.self.view_is)
     (λ q faults idles kept first. record {
-      jobs = keeps_ready (periods_of c.self.inside.plans.items) c.self.inside.timetable c.self.inside.items.items c.self.inside.given q faults idles c.args.s kept.jobs first;
+      jobs = keeps_ready
+          (periods_of c.self.inside.plans.items) c.self.inside.timetable c.self.inside.items.items c.self.inside.given q faults idles c.args.s kept.jobs first;
       heard = kept.heard;
     })

@@ -7,6 +7,8 @@ pub returns-clause-keeps : goal.returns-clause-keeps
 returns-clause-keeps g c =
     rw (c.note.ensures, ← c.self.view_is)
     (λ q faults idles kept. record {
-      jobs = keeps_told (periods_of c.self.inside.plans.items) c.self.inside.timetable c.self.inside.items.items c.self.inside.given q faults idles c.args.action.now kept.jobs;
+      jobs = keeps_told
+          (periods_of c.self.inside.plans.items) c.self.inside.timetable c.self.inside.items.items c.self.inside.given q faults idles c.args.action.now
+          kept.jobs;
       heard = rw (runs-noted c.self.inside.timetable c.args.action.now) kept.heard;
     })

@@ -10,6 +10,8 @@ invariant_of-result c = (paced_new c.args.plans.now c.in_ok-rows.rows.items c.in
 
 pub returns : goal.returns
 returns c = record {
-  table = subst (λ (runs : List JobRun). IsTimetableOf (periods_of c.args.plans.now) (record { rows = c.in_ok-rows.rows.items; last = 0; shut = false; runs = runs; spare = spare c.new.result }) [])
+  table = subst
+      (λ (runs : List JobRun). IsTimetableOf (periods_of c.args.plans.now)
+      (record { rows = c.in_ok-rows.rows.items; last = 0; shut = false; runs = runs; spare = spare c.new.result }) [])
       (sym c.new.ensures) (table_new c.args.plans.now c.in_ok-rows.rows.items (spare c.new.result) c.in_ok-rows.ensures);
 }

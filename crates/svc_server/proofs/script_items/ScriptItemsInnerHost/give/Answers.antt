@@ -15,5 +15,6 @@ pub returns-clause-keeps : goal.returns-clause-keeps
 returns-clause-keeps c =
     rw (c.put.ensures.items, c.answer_to.ensures, ← c.self.view_is)
     (λ q faults idles kept.
-    keeps_given (list_of c.self.inside.answers) (into_iter_items c.self.inside.left) (into_iter_items c.next.new.self) q (list_of c.self.inside.phases) faults idles c.in_ok-item.item
+    keeps_given (list_of c.self.inside.answers) (into_iter_items c.self.inside.left) (into_iter_items c.next.new.self) q
+    (list_of c.self.inside.phases) faults idles c.in_ok-item.item
     c.in_ok-item.ensures.items (rw c.as_slice.ensures at c.read_size.ensures) kept)

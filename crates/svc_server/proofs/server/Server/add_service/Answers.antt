@@ -20,7 +20,9 @@ returns-in-Ok g c =
       same_services = tt;
       same_nodes = tt;
       sound = λ sound.
-          subst (λ (fs : List g.row.F.Denot). IsSound c.prepare.new.self.dependencies (length fs) (answers_of g.B.ServiceWithDependents c.push_reserved.new.self.items)) (sym c.in-Ok.ensures.filters)
-          (add-sound g.B.ServiceWithDependents c.args.self.now.dependencies c.prepare.new.self.dependencies (length c.args.self.now.filters) c.args.self.now.services.items c.push_reserved.new.self.items c.args.service
+          subst (λ (fs : List g.row.F.Denot). IsSound c.prepare.new.self.dependencies (length fs)
+          (answers_of g.B.ServiceWithDependents c.push_reserved.new.self.items)) (sym c.in-Ok.ensures.filters)
+          (add-sound g.B.ServiceWithDependents c.args.self.now.dependencies c.prepare.new.self.dependencies
+          (length c.args.self.now.filters) c.args.self.now.services.items c.push_reserved.new.self.items c.args.service
           c.in-Ok.ensures.node added c.in-Ok.ensures.good sound);
     }

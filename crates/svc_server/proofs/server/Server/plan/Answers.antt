@@ -14,11 +14,13 @@ pub returns-clause-plan : goal.returns-clause-plan
 returns-clause-plan g c =
     let server = c.args.self.now in
     plan-is server.configuration server.options server.eager server.dependencies (answers_of g.B.ServiceWithDependents server.services.items) _ _ _ _ _ _ _
-    (c.in_ok-services.ensures.plans ∙ ap (λ (bs : List g.row.B.Denot). with_depends server.dependencies 0 (answers_of g.B.ServiceWithDependents bs)) c.deref.ensures.value)
+    (c.in_ok-services.ensures.plans
+    ∙ ap (λ (bs : List g.row.B.Denot). with_depends server.dependencies 0 (answers_of g.B.ServiceWithDependents bs)) c.deref.ensures.value)
     c.unwrap_or.ensures c.unwrap_or-2.ensures c.unwrap_or-3.ensures c.is_upgrade.ensures c.is_test.ensures c.unwrap_or-4.ensures
 
 pub returns-clause-valid : goal.returns-clause-valid
 returns-clause-valid g c = λ accepted.
     let server = c.args.self.now in
     subst (λ (p : Plan). IsValid p) (sym (returns-clause-plan g c))
-    (whole-valid server.configuration server.options server.eager server.dependencies (length server.filters) (answers_of g.B.ServiceWithDependents server.services.items) c.in_ok-services.ensures.graph c.requires.sound accepted)
+    (whole-valid server.configuration server.options server.eager server.dependencies (length server.filters)
+    (answers_of g.B.ServiceWithDependents server.services.items) c.in_ok-services.ensures.graph c.requires.sound accepted)

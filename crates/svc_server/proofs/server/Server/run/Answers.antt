@@ -15,7 +15,8 @@ pub run_plan-requires-clause-known : goal.run_plan-requires-clause-known
 run_plan-requires-clause-known g c =
     let server = c.args.self in
     subst (λ (p : Plan). NamesFilters p (length server.filters)) (sym c.in_ok-plan.ensures.plan)
-    (names-filters server.configuration server.options server.eager server.dependencies (length server.filters) (answers_of g.B.ServiceWithDependents server.services.items) c.requires.sound)
+    (names-filters server.configuration server.options server.eager server.dependencies (length server.filters)
+    (answers_of g.B.ServiceWithDependents server.services.items) c.requires.sound)
 
 pub run_plan-requires-clause-names : goal.run_plan-requires-clause-names
 run_plan-requires-clause-names g c =

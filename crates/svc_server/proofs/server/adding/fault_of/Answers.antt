@@ -9,5 +9,6 @@ use Rattle.svc_server.proofs.server.adding.fault_of.Goals as goal
 pub returns : goal.returns
 returns g c =
     let room : node_count c.args.graph.now < 1024 = omega (arith, c.if-len-ge-NODE_LIMIT.false, c.len.ensures.count) in
-    c.endpoints_fault.ensures ∙ ap (λ (es : List EndpointPlan). first_cause (endpoint_causes c.args.filters es)) (c.deref.ensures.value ∙ c.in_ok-endpoints.ensures)
+    c.endpoints_fault.ensures
+    ∙ ap (λ (es : List EndpointPlan). first_cause (endpoint_causes c.args.filters es)) (c.deref.ensures.value ∙ c.in_ok-endpoints.ensures)
     ∙ sym (fault-room c.args.graph.now c.args.filters (answer_of g.B.ServiceWithDependents c.args.service.now) room)

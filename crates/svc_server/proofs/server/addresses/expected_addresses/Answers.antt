@@ -11,15 +11,18 @@ items found = option_map (λ (texts : Vec Text Global). texts.items) found
 pub returns : goal.returns
 returns g c =
     let seen = c.loop-service.invariant in
-    expected-all g.B.ServiceWithDependents c.args.services.now c.loop-service.service-index seen.0 c.loop-service.expected.items c.loop-service-test.false seen.1 seen.2
+    expected-all g.B.ServiceWithDependents c.args.services.now c.loop-service.service-index seen.0 c.loop-service.expected.items c.loop-service-test.false
+    seen.1 seen.2
 
 pub returns-in-None : goal.returns-in-None
 returns-in-None g c =
-    sym (expected-none g.B.ServiceWithDependents c.args.services.now c.loop-service.service-index c.service-item.result c.loop-service-test.true c.service-item.is
+    sym (expected-none g.B.ServiceWithDependents c.args.services.now c.loop-service.service-index c.service-item.result c.loop-service-test.true
+    c.service-item.is
     (sym c.in_ok-declared.ensures ∙ ap items c.in-None.is))
 
 pub loop-service-preserved : goal.loop-service-preserved
 loop-service-preserved g c =
     let seen = c.loop-service.invariant in
-    seen-more g.B.ServiceWithDependents c.args.services.now c.loop-service.service-index c.service-item.result c.in-Some.declared.items seen.0 c.loop-service.expected.items c.add_all_missing.new.texts.items
+    seen-more g.B.ServiceWithDependents c.args.services.now c.loop-service.service-index c.service-item.result c.in-Some.declared.items seen.0
+    c.loop-service.expected.items c.add_all_missing.new.texts.items
     c.loop-service-test.true c.service-item.is (sym c.in_ok-declared.ensures ∙ ap items c.in-Some.is) seen.1 seen.2 c.in_ok-add_all_missing-in-Some.ensures

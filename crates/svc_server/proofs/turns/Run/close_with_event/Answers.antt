@@ -17,13 +17,21 @@ close_all-requires g c =
 pub tell_all-requires-clause-room : goal.tell_all-requires-clause-room
 tell_all-requires-clause-room g c =
     let few : BringsFew c.event.result.now = subst (λ (o : Option Event). ComesWith nexts.Event o) c.event.ensures c.requires.few in
-    omega (arith, need-room c.args.self.now.core c.event.result.now few, c.requires.room.told, c.close_all.ensures.few, ap (λ (xs : List Action). length xs) c.requires.room.empty)
+    omega (
+      arith,
+      need-room c.args.self.now.core c.event.result.now few,
+      c.requires.room.told,
+      c.close_all.ensures.few,
+      ap
+          (λ (xs : List Action). length xs) c.requires.room.empty,
+    )
 
 pub tell_all-requires-clause-may : goal.tell_all-requires-clause-may
 tell_all-requires-clause-may g c =
     let left = names_left g.B.ServiceWithDependents.named c.args.self.now.boxes in
     let account = g.H.Host.account c.args.host.now in
-    may-close c.args.self.now.core left account (Some c.event.result.now) (list_of c.args.self.now.closing) (list_of c.close_all.new.actions) c.close_all.ensures.closes c.requires.room.empty
+    may-close c.args.self.now.core left account (Some c.event.result.now) (list_of c.args.self.now.closing)
+    (list_of c.close_all.new.actions) c.close_all.ensures.closes c.requires.room.empty
     (subst (λ (o : Option Event). CanClose c.args.self.now.core left account o) c.event.ensures c.requires.can)
 
 pub returns-clause-closed : goal.returns-clause-closed
@@ -34,5 +42,6 @@ returns-clause-closed g c =
     let account = g.H.Host.account c.args.host.now in
     let now_account = g.H.Host.account c.tell_all.new.host in
     subst (λ (o : Option Event). ClosesTo c.args.self.now.core left now_left account now_account o) (sym c.event.ensures)
-    (closed c.args.self.now.core left now_left account now_account (Some c.event.result.now) (list_of c.args.self.now.closing) (list_of c.close_all.new.actions) c.close_all.ensures.closes
+    (closed c.args.self.now.core left now_left account now_account (Some c.event.result.now) (list_of c.args.self.now.closing)
+    (list_of c.close_all.new.actions) c.close_all.ensures.closes
     c.requires.room.empty c.tell_all.ensures.hands)

@@ -11,7 +11,9 @@ close-requires-clause-can g c = let at = c.requires.at.1.1 in (c.requires.at.1.0
 
 pub returns-then-has_served-clause-gives : goal.returns-then-has_served-clause-gives
 returns-then-has_served-clause-gives g c = λ verdict k turns before q le at ahead judges.
-    gives-served verdict (verdict_at g.F.ConnectionFilter.verdict c.args.self.now.filters) c.args.self.now.core (names_left g.B.ServiceWithDependents.named c.args.self.now.boxes) (g.H.Host.account c.args.host.now) k turns c.args.end c.args.answer q before (g.H.Host.ahead c.args.host.now)
+    gives-served verdict (verdict_at g.F.ConnectionFilter.verdict c.args.self.now.filters) c.args.self.now.core
+    (names_left g.B.ServiceWithDependents.named c.args.self.now.boxes) (g.H.Host.account c.args.host.now) k turns c.args.end c.args.answer q before
+    (g.H.Host.ahead c.args.host.now)
     (sym c.has_served.ensures ∙ c.if-has_served.true) c.requires.answers at le ahead judges
 
 pub returns-clause-gives : goal.returns-clause-gives
@@ -22,7 +24,10 @@ returns-clause-gives g c = λ verdict k turns before q le at ahead judges.
     let now_left = names_left named c.close.new.self.boxes in
     let account = g.H.Host.account c.args.host.now in
     let now_account = g.H.Host.account c.close.new.host in
-    gives-ended verdict core.plan now_account k turns c.args.end c.args.answer q (tell q (closing_actions core.plan q None)) before (g.H.Host.ahead c.close.new.host)
+    gives-ended verdict core.plan now_account k turns c.args.end c.args.answer q (tell q (closing_actions core.plan q None)) before
+    (g.H.Host.ahead c.close.new.host)
     (sym c.has_served.ensures ∙ c.if-has_served.false) c.requires.answers
-    (closed-at verdict (verdict_at g.F.ConnectionFilter.verdict c.args.self.now.filters) core core left left now_left account account now_account k c.args.end q refl refl refl at judges c.close.ensures.closed) le
+    (closed-at verdict
+    (verdict_at g.F.ConnectionFilter.verdict c.args.self.now.filters) core core left left now_left account account now_account k c.args.end q refl refl refl
+    at judges c.close.ensures.closed) le
     (ahead-now before (g.H.Host.ahead c.args.host.now) (g.H.Host.ahead c.close.new.host) q c.close.ensures.ahead ahead)

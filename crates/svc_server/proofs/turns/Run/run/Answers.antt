@@ -21,7 +21,8 @@ finish-requires-clause-at g c =
     let account = g.H.Host.account c.begin.new.host in
     let before = g.H.Host.ahead c.args.host.now in
     let answers = verdict_at g.F.ConnectionFilter.verdict c.args.self.now.filters in
-    let t = leaves-at answers answers (verdict_at g.F.ConnectionFilter.verdict c.begin.new.self.filters) core left account 0 c.in-Ok.end [] before (g.H.Host.ahead c.begin.new.host) c.in-Ok.ensures.leaves refl
+    let t = leaves-at answers answers (verdict_at g.F.ConnectionFilter.verdict c.begin.new.self.filters) core left account 0 c.in-Ok.end [] before
+    (g.H.Host.ahead c.begin.new.host) c.in-Ok.ensures.leaves refl
     (ahead-first before (g.H.Host.ahead c.begin.new.host) c.begin.ensures.ahead) (judges-first answers core.plan) in
     (0, (t.0, t.1.0))
 
@@ -32,13 +33,15 @@ take_turns-requires-clause-at g c =
     let account = g.H.Host.account c.begin.new.host in
     let before = g.H.Host.ahead c.args.host.now in
     let answers = verdict_at g.F.ConnectionFilter.verdict c.args.self.now.filters in
-    let t = leaves-at answers answers (verdict_at g.F.ConnectionFilter.verdict c.begin.new.self.filters) core left account 0 c.in-Ok.end [] before (g.H.Host.ahead c.begin.new.host) c.in-Ok.ensures.leaves refl
+    let t = leaves-at answers answers (verdict_at g.F.ConnectionFilter.verdict c.begin.new.self.filters) core left account 0 c.in-Ok.end [] before
+    (g.H.Host.ahead c.begin.new.host) c.in-Ok.ensures.leaves refl
     (ahead-first before (g.H.Host.ahead c.begin.new.host) c.begin.ensures.ahead) (judges-first answers core.plan) in
     (t.0, (subst (λ (end : StepEnd). IsAt core left account 0 end t.0) (on-end c.in-Ok.end (sym c.answer_of.ensures ∙ c.in-None.is)) t.1.0, (answers, t.1.1.1)))
 
 pub take_turns-requires-clause-known : goal.take_turns-requires-clause-known
 take_turns-requires-clause-known g c =
-    names-now c.args.self.now.core.plan c.begin.new.self.core.plan (length c.args.self.now.filters) (length c.begin.new.self.filters) c.in-Ok.ensures.plan (ap (λ (fs : List g.row.F.Denot). length fs) c.begin.ensures.filters)
+    names-now c.args.self.now.core.plan c.begin.new.self.core.plan (length c.args.self.now.filters) (length c.begin.new.self.filters) c.in-Ok.ensures.plan
+    (ap (λ (fs : List g.row.F.Denot). length fs) c.begin.ensures.filters)
     c.requires.known
 
 pub returns-in-Some-clause-gives : goal.returns-in-Some-clause-gives
@@ -48,9 +51,11 @@ returns-in-Some-clause-gives g c =
     let account = g.H.Host.account c.begin.new.host in
     let before = g.H.Host.ahead c.args.host.now in
     let answers = verdict_at g.F.ConnectionFilter.verdict c.args.self.now.filters in
-    let t = leaves-at answers answers (verdict_at g.F.ConnectionFilter.verdict c.begin.new.self.filters) core left account 0 c.in-Ok.end [] before (g.H.Host.ahead c.begin.new.host) c.in-Ok.ensures.leaves refl
+    let t = leaves-at answers answers (verdict_at g.F.ConnectionFilter.verdict c.begin.new.self.filters) core left account 0 c.in-Ok.end [] before
+    (g.H.Host.ahead c.begin.new.host) c.in-Ok.ensures.leaves refl
     (ahead-first before (g.H.Host.ahead c.begin.new.host) c.begin.ensures.ahead) (judges-first answers core.plan) in
-    plan-now answers core.plan c.args.self.now.core.plan c.args.turns c.finish.result (g.H.Host.account c.finish.new.host) before (g.H.Host.ahead c.finish.new.host) (sym c.in-Ok.ensures.plan)
+    plan-now answers core.plan c.args.self.now.core.plan c.args.turns c.finish.result (g.H.Host.account c.finish.new.host) before
+    (g.H.Host.ahead c.finish.new.host) (sym c.in-Ok.ensures.plan)
     (c.finish.ensures.gives answers 0 c.args.turns before t.0 (omega arith) t.1.0 t.1.1.0 t.1.1.1)
 
 pub returns-in-Some-clause-counts : goal.returns-in-Some-clause-counts
@@ -64,7 +69,8 @@ returns-in-Some-clause-counts g c =
 
 pub returns-in-Some-clause-configured : goal.returns-in-Some-clause-configured
 returns-in-Some-clause-configured g c =
-    subst (λ (answer : Result Outcome RunError). IsConfigured answer) (sym c.finish.ensures.answers) (configured-end c.in-Ok.end c.in-Some.answer (sym c.answer_of.ensures ∙ c.in-Some.is))
+    subst (λ (answer : Result Outcome RunError). IsConfigured answer) (sym c.finish.ensures.answers)
+    (configured-end c.in-Ok.end c.in-Some.answer (sym c.answer_of.ensures ∙ c.in-Some.is))
 
 pub returns-in-None-clause-gives : goal.returns-in-None-clause-gives
 returns-in-None-clause-gives g c =
@@ -73,15 +79,21 @@ returns-in-None-clause-gives g c =
     let account = g.H.Host.account c.begin.new.host in
     let before = g.H.Host.ahead c.args.host.now in
     let answers = verdict_at g.F.ConnectionFilter.verdict c.args.self.now.filters in
-    let t = leaves-at answers answers (verdict_at g.F.ConnectionFilter.verdict c.begin.new.self.filters) core left account 0 c.in-Ok.end [] before (g.H.Host.ahead c.begin.new.host) c.in-Ok.ensures.leaves refl
+    let t = leaves-at answers answers (verdict_at g.F.ConnectionFilter.verdict c.begin.new.self.filters) core left account 0 c.in-Ok.end [] before
+    (g.H.Host.ahead c.begin.new.host) c.in-Ok.ensures.leaves refl
     (ahead-first before (g.H.Host.ahead c.begin.new.host) c.begin.ensures.ahead) (judges-first answers core.plan) in
-    plan-now answers core.plan c.args.self.now.core.plan c.args.turns c.take_turns.result (g.H.Host.account c.take_turns.new.host) before (g.H.Host.ahead c.take_turns.new.host) (sym c.in-Ok.ensures.plan)
-    (c.take_turns.ensures.gives answers before t.0 (subst (λ (end : StepEnd). IsAt core left account 0 end t.0) (on-end c.in-Ok.end (sym c.answer_of.ensures ∙ c.in-None.is)) t.1.0) t.1.1.0 t.1.1.1)
+    plan-now answers core.plan c.args.self.now.core.plan c.args.turns c.take_turns.result (g.H.Host.account c.take_turns.new.host) before
+    (g.H.Host.ahead c.take_turns.new.host) (sym c.in-Ok.ensures.plan)
+    (c.take_turns.ensures.gives answers before t.0
+    (subst (λ (end : StepEnd). IsAt core left account 0 end t.0) (on-end c.in-Ok.end (sym c.answer_of.ensures ∙ c.in-None.is)) t.1.0) t.1.1.0 t.1.1.1)
 
 pub returns-in-None-clause-counts : goal.returns-in-None-clause-counts
-returns-in-None-clause-counts g c = subst (λ (x : Counts). RunCounts c.take_turns.result x (g.H.Host.counts c.take_turns.new.host)) c.begin.ensures.counts c.take_turns.ensures.counts
+returns-in-None-clause-counts g c =
+    subst (λ (x : Counts). RunCounts c.take_turns.result x (g.H.Host.counts c.take_turns.new.host)) c.begin.ensures.counts c.take_turns.ensures.counts
 
 pub returns-in-Err-clause-gives : goal.returns-in-Err-clause-gives
 returns-in-Err-clause-gives g c =
-    gives-nothing (verdict_at g.F.ConnectionFilter.verdict c.args.self.now.filters) (g.H.Host.account c.begin.new.host) c.args.self.now.core.plan c.args.turns (g.H.Host.ahead c.args.host.now) (g.H.Host.ahead c.begin.new.host)
-    (account-same (g.H.Host.account c.args.host.now) (g.H.Host.account c.begin.new.host) c.args.self.now.core.plan c.in-Err.ensures.untold c.requires.hands.told_is) c.begin.ensures.ahead
+    gives-nothing (verdict_at g.F.ConnectionFilter.verdict c.args.self.now.filters) (g.H.Host.account c.begin.new.host) c.args.self.now.core.plan c.args.turns
+    (g.H.Host.ahead c.args.host.now) (g.H.Host.ahead c.begin.new.host)
+    (account-same (g.H.Host.account c.args.host.now)
+    (g.H.Host.account c.begin.new.host) c.args.self.now.core.plan c.in-Err.ensures.untold c.requires.hands.told_is) c.begin.ensures.ahead

@@ -16,7 +16,8 @@ use Rattle.svc_server.proofs.StepLemmas.{may-step, step-leaves}
 use Rattle.svc_server.proofs.turns.Run.take.Goals as goal
 
 pub ask_filter-said-requires : goal.ask_filter-said-requires
-ask_filter-said-requires g c = record { known = asks-known c.args.self.now.core.plan (length c.args.self.now.filters) c.event-event.result.now c.asks.result c.requires.known c.asks.ensures }
+ask_filter-said-requires g c =
+    record { known = asks-known c.args.self.now.core.plan (length c.args.self.now.filters) c.event-event.result.now c.asks.result c.requires.known c.asks.ensures }
 
 pub step-requires : goal.step-requires
 step-requires g c = record { fits = subst (λ (o : Option Event). IfSome o (MayCome c.args.self.now.core)) c.event-event.ensures c.requires.fits }
@@ -27,8 +28,10 @@ tell_all-requires-clause-may g c =
     let left = names_left named c.note_event.new.self in
     let same = ap (names_left named) c.note_event.ensures in
     let can : CanTake c.args.self.now.core left (g.H.Host.account c.args.host.now) (g.H.Host.last c.args.host.now) =
-    subst (λ (left : List (Option (List _))). CanTake c.args.self.now.core left (g.H.Host.account c.args.host.now) (g.H.Host.last c.args.host.now)) (sym same) c.requires.can in
-    may-step c.args.self.now.core c.step.new.self left (g.H.Host.account c.args.host.now) c.event-event.result.now (list_of c.empty.new.actions) (list_of c.step.new.actions) (list_of c.step.new.actions)
+    subst (λ (left : List (Option (List _))). CanTake c.args.self.now.core left (g.H.Host.account c.args.host.now) (g.H.Host.last c.args.host.now))
+    (sym same) c.requires.can in
+    may-step c.args.self.now.core c.step.new.self left (g.H.Host.account c.args.host.now) c.event-event.result.now (list_of c.empty.new.actions)
+    (list_of c.step.new.actions) (list_of c.step.new.actions)
     c.in_ok-end.end c.in_ok-end.ensures.kept c.empty.ensures refl c.in_ok-end.ensures.plan
     (subst (λ (o : Option Event). CanTake c.args.self.now.core left (g.H.Host.account c.args.host.now) o) c.event-event.ensures can)
 
@@ -41,10 +44,15 @@ returns-clause-leaves g c =
     let same = ap (names_left named) c.note_event.ensures in
     let answers = verdict_at g.F.ConnectionFilter.verdict c.args.self.now.filters in
     let now = verdict_at g.F.ConnectionFilter.verdict c.ask_filter-said.new.filters in
-    let asks = subst (λ (number : Option ℕ). Asks answers now number (peer_at c.event-event.result.now) c.ask_filter-said.result) c.asks.ensures c.ask_filter-said.ensures.asks in
+    let asks = subst
+    (λ (number : Option ℕ). Asks answers now number (peer_at c.event-event.result.now) c.ask_filter-said.result) c.asks.ensures
+    c.ask_filter-said.ensures.asks in
     subst (λ (o : Option Event). IfSome o (λ e. (q : Record) → StandsFor core q → Right core.plan q → Hands left account core.plan (Got e ∷ q)
-    → Leaves answers now c.step.new.self (names_left named c.tell_all.new.boxes) (g.H.Host.account c.tell_all.new.host) c.in_ok-end.end (Got e ∷ q))) (sym c.event-event.ensures)
-    (λ q stands right hands. step-leaves answers now c.ask_filter-said.result core c.step.new.self (names_left named c.note_event.new.self) (names_left named c.tell_all.new.boxes) account (g.H.Host.account c.tell_all.new.host)
-    c.event-event.result.now (list_of c.empty.new.actions) (list_of c.step.new.actions) (list_of c.step.new.actions) c.in_ok-end.end c.in_ok-end.ensures.kept c.in_ok-end.ensures.judged asks
+    → Leaves answers now c.step.new.self (names_left named c.tell_all.new.boxes) (g.H.Host.account c.tell_all.new.host) c.in_ok-end.end (Got e ∷ q)))
+    (sym c.event-event.ensures)
+    (λ q stands right hands. step-leaves answers now c.ask_filter-said.result core c.step.new.self (names_left named c.note_event.new.self)
+    (names_left named c.tell_all.new.boxes) account (g.H.Host.account c.tell_all.new.host)
+    c.event-event.result.now (list_of c.empty.new.actions) (list_of c.step.new.actions)
+    (list_of c.step.new.actions) c.in_ok-end.end c.in_ok-end.ensures.kept c.in_ok-end.ensures.judged asks
     c.empty.ensures refl c.in_ok-end.ensures.plan c.tell_all.ensures.hands q stands right
     (hands-same left (names_left named c.note_event.new.self) account account core.plan (Got c.event-event.result.now ∷ q) same refl hands))

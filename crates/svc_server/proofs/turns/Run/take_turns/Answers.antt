@@ -21,22 +21,26 @@ use Rattle.svc_server.proofs.turns.Run.take_turns.Goals as goal
 pub turn-requires-clause-at : goal.turn-requires-clause-at
 turn-requires-clause-at g c =
     let q = c.requires.at.0 in
-    let t = c.loop-k.invariant.at c.requires.at.1.1.0 (option_map (λ rest. map items.Event (events_of q) ++ rest) (g.H.Host.ahead c.args.host.now)) q c.requires.at.1.0 refl c.requires.at.1.1.1 in
+    let t = c.loop-k.invariant.at c.requires.at.1.1.0
+    (option_map (λ rest. map items.Event (events_of q) ++ rest) (g.H.Host.ahead c.args.host.now)) q c.requires.at.1.0 refl c.requires.at.1.1.1 in
     (t.0, t.1.0)
 
 pub turn-requires-clause-known : goal.turn-requires-clause-known
 turn-requires-clause-known g c =
-    names-now c.args.self.now.core.plan c.loop-k.self.core.plan (length c.args.self.now.filters) (length c.loop-k.self.filters) c.loop-k.invariant.plan c.loop-k.invariant.filters c.requires.known
+    names-now c.args.self.now.core.plan c.loop-k.self.core.plan (length c.args.self.now.filters)
+    (length c.loop-k.self.filters) c.loop-k.invariant.plan c.loop-k.invariant.filters c.requires.known
 
 pub returns-in-Err-clause-gives : goal.returns-in-Err-clause-gives
 returns-in-Err-clause-gives g c = λ verdict before q at ahead judges.
     let t = c.loop-k.invariant.at verdict before q at ahead judges in
-    plan-now verdict c.turn.new.self.core.plan c.args.self.now.core.plan c.args.turns _ (g.H.Host.account c.turn.new.host) before (g.H.Host.ahead c.turn.new.host)
+    plan-now verdict c.turn.new.self.core.plan c.args.self.now.core.plan c.args.turns _ (g.H.Host.account c.turn.new.host) before
+    (g.H.Host.ahead c.turn.new.host)
     (sym (c.turn.ensures.plan ∙ c.loop-k.invariant.plan)) (c.in-Err.ensures.gives verdict c.args.turns before t.0 c.loop-k-test.true t.1.0 t.1.1.0 t.1.1.1)
 
 pub returns-in-Err-clause-counts : goal.returns-in-Err-clause-counts
 returns-in-Err-clause-counts g c =
-    counts-after c.in-Err.error (g.H.Host.counts c.args.host.now) (g.H.Host.counts c.loop-k.host) (g.H.Host.counts c.turn.new.host) c.loop-k.invariant.unfailed c.loop-k.invariant.failures c.in-Err.ensures.counts
+    counts-after c.in-Err.error (g.H.Host.counts c.args.host.now) (g.H.Host.counts c.loop-k.host)
+    (g.H.Host.counts c.turn.new.host) c.loop-k.invariant.unfailed c.loop-k.invariant.failures c.in-Err.ensures.counts
 
 pub finish-requires-clause-at : goal.finish-requires-clause-at
 finish-requires-clause-at g c =
@@ -51,8 +55,10 @@ pub returns-in-Some-clause-gives : goal.returns-in-Some-clause-gives
 returns-in-Some-clause-gives g c = λ verdict before q at ahead judges.
     let t = c.loop-k.invariant.at verdict before q at ahead judges in
     let u = c.in-Ok.ensures.gives verdict c.args.turns before t.0 c.loop-k-test.true t.1.0 t.1.1.0 t.1.1.1 in
-    plan-now verdict c.turn.new.self.core.plan c.args.self.now.core.plan c.args.turns _ (g.H.Host.account c.finish.new.host) before (g.H.Host.ahead c.finish.new.host)
-    (sym (c.turn.ensures.plan ∙ c.loop-k.invariant.plan)) (c.finish.ensures.gives verdict (c.loop-k.k + 1) c.args.turns before u.0 (omega (arith, c.loop-k-test.true)) u.1.0 u.1.1.0 u.1.1.1)
+    plan-now verdict c.turn.new.self.core.plan c.args.self.now.core.plan c.args.turns _ (g.H.Host.account c.finish.new.host) before
+    (g.H.Host.ahead c.finish.new.host)
+    (sym (c.turn.ensures.plan ∙ c.loop-k.invariant.plan))
+    (c.finish.ensures.gives verdict (c.loop-k.k + 1) c.args.turns before u.0 (omega (arith, c.loop-k-test.true)) u.1.0 u.1.1.0 u.1.1.1)
 
 pub returns-in-Some-clause-counts : goal.returns-in-Some-clause-counts
 returns-in-Some-clause-counts g c =
@@ -61,11 +67,13 @@ returns-in-Some-clause-counts g c =
     subst (λ (answer : Result Outcome RunError). RunCounts answer before now) (sym c.finish.ensures.answers)
     (counts-end c.in-Ok.end c.in-Some.answer before now (sym c.answer_of.ensures ∙ c.in-Some.is)
     (subst (λ (x : Counts). EndCounts c.in-Ok.end before x) (sym c.finish.ensures.counts)
-    (counts-joined c.in-Ok.end before (g.H.Host.counts c.loop-k.host) (g.H.Host.counts c.turn.new.host) c.loop-k.invariant.unfailed c.loop-k.invariant.failures c.in-Ok.ensures.counts)))
+    (counts-joined c.in-Ok.end before (g.H.Host.counts c.loop-k.host)
+    (g.H.Host.counts c.turn.new.host) c.loop-k.invariant.unfailed c.loop-k.invariant.failures c.in-Ok.ensures.counts)))
 
 pub returns-in-Some-clause-configured : goal.returns-in-Some-clause-configured
 returns-in-Some-clause-configured g c =
-    subst (λ (answer : Result Outcome RunError). IsConfigured answer) (sym c.finish.ensures.answers) (configured-end c.in-Ok.end c.in-Some.answer (sym c.answer_of.ensures ∙ c.in-Some.is))
+    subst (λ (answer : Result Outcome RunError). IsConfigured answer) (sym c.finish.ensures.answers)
+    (configured-end c.in-Ok.end c.in-Some.answer (sym c.answer_of.ensures ∙ c.in-Some.is))
 
 pub loop-k-init : goal.loop-k-init
 loop-k-init g c = record {
@@ -80,11 +88,15 @@ loop-k-init g c = record {
 pub loop-k-preserved : goal.loop-k-preserved
 loop-k-preserved g c =
     let on : c.in-Ok.end ≡ ends.On = on-end c.in-Ok.end (sym c.answer_of.ensures ∙ c.in-None.is) in
-    let counts = counts-joined c.in-Ok.end (g.H.Host.counts c.args.host.now) (g.H.Host.counts c.loop-k.host) (g.H.Host.counts c.turn.new.host) c.loop-k.invariant.unfailed c.loop-k.invariant.failures c.in-Ok.ensures.counts in
+    let counts =
+    counts-joined c.in-Ok.end (g.H.Host.counts c.args.host.now) (g.H.Host.counts c.loop-k.host)
+    (g.H.Host.counts c.turn.new.host) c.loop-k.invariant.unfailed c.loop-k.invariant.failures c.in-Ok.ensures.counts in
     record {
       at = λ verdict before q at ahead judges. (
           let t = c.loop-k.invariant.at verdict before q at ahead judges in
-          subst (λ (end : StepEnd). TurnGives verdict (verdict_at g.F.ConnectionFilter.verdict c.turn.new.self.filters) c.turn.new.self.core (names_left g.B.ServiceWithDependents.named c.turn.new.self.boxes) (g.H.Host.account c.turn.new.host) c.loop-k.k c.args.turns (Ok end) before (g.H.Host.ahead c.turn.new.host))
+          subst (λ (end : StepEnd). TurnGives verdict (verdict_at g.F.ConnectionFilter.verdict c.turn.new.self.filters) c.turn.new.self.core
+          (names_left g.B.ServiceWithDependents.named c.turn.new.self.boxes) (g.H.Host.account c.turn.new.host) c.loop-k.k c.args.turns (Ok end) before
+          (g.H.Host.ahead c.turn.new.host))
           on (c.in-Ok.ensures.gives verdict c.args.turns before t.0 c.loop-k-test.true t.1.0 t.1.1.0 t.1.1.1));
       room = c.in-Ok.ensures.room;
       filters = c.turn.ensures.filters ∙ c.loop-k.invariant.filters;
@@ -96,7 +108,8 @@ loop-k-preserved g c =
 pub close-requires-clause-can : goal.close-requires-clause-can
 close-requires-clause-can g c =
     let q = c.requires.at.0 in
-    let t = c.loop-k.invariant.at c.requires.at.1.1.0 (option_map (λ rest. map items.Event (events_of q) ++ rest) (g.H.Host.ahead c.args.host.now)) q c.requires.at.1.0 refl c.requires.at.1.1.1 in
+    let t = c.loop-k.invariant.at c.requires.at.1.1.0
+    (option_map (λ rest. map items.Event (events_of q) ++ rest) (g.H.Host.ahead c.args.host.now)) q c.requires.at.1.0 refl c.requires.at.1.1.1 in
     (t.0, (t.1.0.stands, t.1.0.hands))
 
 pub returns-clause-gives : goal.returns-clause-gives
@@ -108,7 +121,12 @@ returns-clause-gives g c = λ verdict before q at ahead judges.
     let account = g.H.Host.account c.loop-k.host in
     let r : Record = tell t.0 (closing_actions core.plan t.0 None) in
     let spent : c.loop-k.k ≡ c.args.turns = omega arith in
-    let closed = closed-at verdict (verdict_at g.F.ConnectionFilter.verdict c.loop-k.self.filters) core core left left (names_left named c.close.new.self.boxes) account account (g.H.Host.account c.close.new.host) c.loop-k.k ends.On t.0 refl refl refl t.1.0 t.1.1.1 c.close.ensures.closed in
-    plan-now verdict core.plan c.args.self.now.core.plan c.args.turns _ (g.H.Host.account c.close.new.host) before (g.H.Host.ahead c.close.new.host) (sym c.loop-k.invariant.plan)
+    let closed =
+    closed-at verdict (verdict_at g.F.ConnectionFilter.verdict c.loop-k.self.filters) core core left left
+    (names_left named c.close.new.self.boxes) account account
+    (g.H.Host.account c.close.new.host) c.loop-k.k ends.On t.0 refl refl refl t.1.0 t.1.1.1 c.close.ensures.closed in
+    plan-now verdict core.plan c.args.self.now.core.plan c.args.turns _ (g.H.Host.account c.close.new.host) before (g.H.Host.ahead c.close.new.host)
+    (sym c.loop-k.invariant.plan)
     (gives-spent verdict core.plan (g.H.Host.account c.close.new.host) c.args.turns t.0 r before (g.H.Host.ahead c.close.new.host)
-    (subst (λ n. ClosedAt verdict core.plan (g.H.Host.account c.close.new.host) n ends.On t.0 r) spent closed) (ahead-now before (g.H.Host.ahead c.loop-k.host) (g.H.Host.ahead c.close.new.host) t.0 c.close.ensures.ahead t.1.1.0))
+    (subst (λ n. ClosedAt verdict core.plan (g.H.Host.account c.close.new.host) n ends.On t.0 r) spent closed)
+    (ahead-now before (g.H.Host.ahead c.loop-k.host) (g.H.Host.ahead c.close.new.host) t.0 c.close.ensures.ahead t.1.1.0))

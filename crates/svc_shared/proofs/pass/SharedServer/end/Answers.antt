@@ -9,7 +9,8 @@ use Rattle.svc_shared.proofs.pass.SharedServer.end.Goals as goal
 use Rattle.svc_shared.proofs.pass.SharedServer.end.Goals.{After-free}
 
 at_end : (c : After-free) → IsEnd c.args.self.board.shared.key.value c.args.pass.place.me.0 c.take-slot.result
-at_end c = closes c.args.self.board.shared.key.value c.args.pass.place.id c.args.pass.place.me.0 _ _ c.take-slot.result c.args.pass.idle.live c.args.pass.idle.free c.requires.whole c.close_with-closed.ensures.values.2 c.take-slot.ensures.value
+at_end c = closes c.args.self.board.shared.key.value c.args.pass.place.id c.args.pass.place.me.0 _ _ c.take-slot.result c.args.pass.idle.live
+    c.args.pass.idle.free c.requires.whole c.close_with-closed.ensures.values.2 c.take-slot.ensures.value
 
 pub unreachable-requires : goal.unreachable-requires
 unreachable-requires c = let e = at_end ((goal.at.unreachable-requires c).After-free) in not-empty _ c.take-slot.result e.slot_is c.in-None.is

@@ -21,8 +21,10 @@ invariant_of-self c =
 pub returns-clause-finished : goal.returns-clause-finished
 returns-clause-finished c =
     let same = with_items_is c.self.inside.generations c.close_each.new.generations (omega arith) in
-    let all : map data_of c.close_each.new.generations ≡ map closed (map data_of c.self.inside.generations.items) = rw c.as_mut_slice.ensures.value at c.close_each.ensures.closed in
-    ap (λ (ds : List GenerationData). record { generations = ds; finished = true }) (ap (map data_of) same ∙ all ∙ ap (λ (x : ChainData). map closed x.generations) c.self.view_is)
+    let all : map data_of c.close_each.new.generations ≡ map closed (map data_of c.self.inside.generations.items) =
+    rw c.as_mut_slice.ensures.value at c.close_each.ensures.closed in
+    ap (λ (ds : List GenerationData). record { generations = ds; finished = true })
+    (ap (map data_of) same ∙ all ∙ ap (λ (x : ChainData). map closed x.generations) c.self.view_is)
 
 pub returns-clause-closed : goal.returns-clause-closed
 returns-clause-closed c = subst (λ (x : ChainData). AreClosed x.generations) c.self.view_is (rw c.as_mut_slice.ensures.value at c.close_each.ensures.whole)

@@ -32,7 +32,9 @@ pub returns-in-Err-clause-kept : goal.returns-in-Err-clause-kept
 returns-in-Err-clause-kept c = kept-now c.self.inside.generations.items c.self.inside.finished c.args.self.now c.self.view_is c.self.invariant c.requires.open
 
 pub returns-in-Err-clause-cause : goal.returns-in-Err-clause-cause
-returns-in-Err-clause-cause c = said-now (λ ds. IsLaunchRefusal ds c.args.plan c.in-Err.refused) c.self.inside.generations.items c.self.inside.finished c.args.self.now c.self.view_is c.self.invariant c.requires.open (rw c.as_slice.ensures.value at c.in-Err.ensures.cause)
+returns-in-Err-clause-cause c =
+    said-now (λ ds. IsLaunchRefusal ds c.args.plan c.in-Err.refused) c.self.inside.generations.items c.self.inside.finished c.args.self.now c.self.view_is
+    c.self.invariant c.requires.open (rw c.as_slice.ensures.value at c.in-Err.ensures.cause)
 
 pub returns-in-Err-clause-refused : goal.returns-in-Err-clause-refused
 returns-in-Err-clause-refused c = refl
@@ -42,7 +44,9 @@ invariant_of-self c =
     let gs = c.self.inside.generations.items in
     let going = open-now gs c.self.inside.finished c.args.self.now c.self.view_is c.requires.open in
     elim c.match-push.branch [
-      | in-Ok-push w ↦ launched-chain gs c.push.new.self.items c.self.inside.finished c.args.plan c.in-Ok.generation c.self.invariant going (rw c.as_slice.ensures.value at c.in-Ok.ensures.may) w.in-Ok-push.ensures.items
+      | in-Ok-push w ↦
+          launched-chain gs c.push.new.self.items c.self.inside.finished c.args.plan c.in-Ok.generation c.self.invariant going
+          (rw c.as_slice.ensures.value at c.in-Ok.ensures.may) w.in-Ok-push.ensures.items
       | in-Err-push w ↦ kept-chain gs c.push.new.self.items c.self.inside.finished c.self.invariant w.in-Err-push.ensures.items
     ]
 
@@ -52,7 +56,8 @@ returns-clause-launched c =
     let going = open-now gs c.self.inside.finished c.args.self.now c.self.view_is c.requires.open in
     elim c.match-push.branch [
       | in-Ok-push w ↦ rw w.result-is (subst (λ (x : ChainData). Launches x.generations (map data_of c.push.new.self.items) c.args.plan) c.self.view_is
-          (launched-to gs c.push.new.self.items c.self.inside.finished c.args.plan c.in-Ok.generation c.self.invariant going (rw c.as_slice.ensures.value at c.in-Ok.ensures.may) w.in-Ok-push.ensures.items))
+          (launched-to gs c.push.new.self.items c.self.inside.finished c.args.plan c.in-Ok.generation c.self.invariant going
+          (rw c.as_slice.ensures.value at c.in-Ok.ensures.may) w.in-Ok-push.ensures.items))
       | in-Err-push w ↦ rw w.result-is tt
     ]
 
@@ -76,5 +81,8 @@ returns-clause-cause c = elim c.match-push.branch [ in-Ok-push w ↦ rw w.result
 pub returns-clause-refused : goal.returns-clause-refused
 returns-clause-refused c = elim c.match-push.branch [
   | in-Ok-push w ↦ rw w.result-is tt
-  | in-Err-push w ↦ rw w.result-is (same-now c.self.inside.generations.items c.push.new.self.items c.self.inside.finished c.args.self.now c.self.view_is (ap (map data_of) w.in-Err-push.ensures.items))
+  | in-Err-push w ↦
+      rw w.result-is
+      (same-now c.self.inside.generations.items c.push.new.self.items c.self.inside.finished c.args.self.now c.self.view_is
+      (ap (map data_of) w.in-Err-push.ensures.items))
 ]

@@ -24,7 +24,8 @@ returns-in-Err-clause-kept c = kept-now c.self.inside.generations.items c.self.i
 
 pub returns-in-Err-clause-cause : goal.returns-in-Err-clause-cause
 returns-in-Err-clause-cause c =
-    said-now (λ ds. IsStepRefusal ds c.args.generation c.args.event c.in-Err.refused) c.self.inside.generations.items c.self.inside.finished c.args.self.now c.self.view_is c.self.invariant c.requires.open
+    said-now (λ ds. IsStepRefusal ds c.args.generation c.args.event c.in-Err.refused) c.self.inside.generations.items c.self.inside.finished c.args.self.now
+    c.self.view_is c.self.invariant c.requires.open
     (rw c.as_slice.ensures.value at c.in-Err.ensures.cause)
 
 pub returns-in-Err-clause-refused : goal.returns-in-Err-clause-refused
@@ -48,10 +49,14 @@ returns-clause-steps c =
     let linked = c.self.invariant.linked (open-now gs c.self.inside.finished c.args.self.now c.self.view_is c.requires.open) in
     elim c.match-take_at.branch [
       | in-Ok-take_at w ↦ rw w.result-is (
-          let took : Steps (map data_of gs) (map data_of c.take_at.new.generations) c.args.generation c.in-Ok.event c.args.said w.in-Ok-take_at.end = (rw c.as_mut_slice.ensures.value at w.in-Ok-take_at.ensures.takes) linked in
+          let took : Steps (map data_of gs) (map data_of c.take_at.new.generations) c.args.generation c.in-Ok.event c.args.said w.in-Ok-take_at.end =
+          (rw c.as_mut_slice.ensures.value at w.in-Ok-take_at.ensures.takes) linked in
           let event = c.in-Ok.ensures.back in
-          subst (λ (x : ChainData). Steps x.generations (map data_of (with_items c.self.inside.generations c.take_at.new.generations).items) c.args.generation c.args.event c.args.said w.in-Ok-take_at.end) c.self.view_is
-          (subst (λ (xs : List Generation). Steps (map data_of gs) (map data_of xs) c.args.generation c.args.event c.args.said w.in-Ok-take_at.end) (sym same) (rw event at took)))
+          subst (λ (x : ChainData). Steps x.generations
+          (map data_of (with_items c.self.inside.generations c.take_at.new.generations).items) c.args.generation c.args.event c.args.said
+          w.in-Ok-take_at.end) c.self.view_is
+          (subst (λ (xs : List Generation). Steps (map data_of gs) (map data_of xs) c.args.generation c.args.event c.args.said w.in-Ok-take_at.end) (sym same)
+          (rw event at took)))
       | in-Err-take_at w ↦ rw w.result-is tt
     ]
 
@@ -59,7 +64,9 @@ pub returns-clause-open : goal.returns-clause-open
 returns-clause-open c = open-now c.self.inside.generations.items c.self.inside.finished c.args.self.now c.self.view_is c.requires.open
 
 pub returns-clause-kept : goal.returns-clause-kept
-returns-clause-kept c = kept-open _ c.self.inside.finished (invariant_of-self c) (open-now c.self.inside.generations.items c.self.inside.finished c.args.self.now c.self.view_is c.requires.open)
+returns-clause-kept c =
+    kept-open _ c.self.inside.finished (invariant_of-self c)
+    (open-now c.self.inside.generations.items c.self.inside.finished c.args.self.now c.self.view_is c.requires.open)
 
 pub returns-clause-cause : goal.returns-clause-cause
 returns-clause-cause c = elim c.match-take_at.branch [
@@ -72,5 +79,6 @@ returns-clause-refused c = elim c.match-take_at.branch [
   | in-Ok-take_at w ↦ rw w.result-is tt
   | in-Err-take_at w ↦ rw w.result-is (
       let same = with_items_is c.self.inside.generations c.take_at.new.generations (omega arith) in
-      same-now c.self.inside.generations.items _ c.self.inside.finished c.args.self.now c.self.view_is (ap (map data_of) same ∙ rw c.as_mut_slice.ensures.value at w.in-Err-take_at.ensures.same))
+      same-now c.self.inside.generations.items _ c.self.inside.finished c.args.self.now c.self.view_is
+      (ap (map data_of) same ∙ rw c.as_mut_slice.ensures.value at w.in-Err-take_at.ensures.same))
 ]

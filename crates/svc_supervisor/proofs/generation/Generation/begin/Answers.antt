@@ -27,7 +27,8 @@ returns c =
           end = c.in_ok-begin.field-0;
           begun = rw c.new-told.ensures at c.in_ok-begin.ensures.kept;
           plan_is = c.in_ok-begin.ensures.plan ∙ c.in_ok-core.ensures.plan;
-          entries = c.put_told.ensures.put ∙ ap (λ (xs : List Entry). xs ++ told_entries (list_of c.begin.new.actions)) (c.in_ok-reserve.ensures.items ∙ c.new-entries.ensures);
+          entries = c.put_told.ensures.put
+              ∙ ap (λ (xs : List Entry). xs ++ told_entries (list_of c.begin.new.actions)) (c.in_ok-reserve.ensures.items ∙ c.new-entries.ensures);
         };
         marks = c.after_told-marks.ensures [] c.new-2.ensures ∙ ap (λ (ts : List Action). marks_of (tell [] ts)) c.as_slice.ensures;
         texts = c.read_addresses.ensures;

@@ -29,12 +29,15 @@ returns-in_default-clause-refused c = let s = c.reserve.ensures.same in record {
 }
 
 pub put-requires : goal.put-requires
-put-requires c = let room : HasStepRoom c.reserve.new.self = unless-err c.reserve.result (HasStepRoom c.reserve.new.self) (sym c.is_err.ensures.value ∙ c.if-is_err.false) c.reserve.ensures.room in
+put-requires c =
+    let room : HasStepRoom c.reserve.new.self =
+    unless-err c.reserve.result (HasStepRoom c.reserve.new.self) (sym c.is_err.ensures.value ∙ c.if-is_err.false) c.reserve.ensures.room in
     let more = room.entries in omega arith
 
 pub put_told-requires : goal.put_told-requires
 put_told-requires c = record {
-  room = let room : HasStepRoom c.reserve.new.self = unless-err c.reserve.result (HasStepRoom c.reserve.new.self) (sym c.is_err.ensures.value ∙ c.if-is_err.false) c.reserve.ensures.room in
+  room = let room : HasStepRoom c.reserve.new.self =
+      unless-err c.reserve.result (HasStepRoom c.reserve.new.self) (sym c.is_err.ensures.value ∙ c.if-is_err.false) c.reserve.ensures.room in
       let more = room.entries in
       let none : length (list_of c.new-told.result) ≡ 0 = ap (λ (xs : List Action). length xs) c.new-told.ensures in
       let few = c.in-Ok.ensures.few in
@@ -47,7 +50,8 @@ returns-clause-takes c =
     let e = c.args.event in
     let told = list_of c.step.new.actions in
     let judged = rw c.new-told.ensures at c.in-Ok.ensures.judged in
-    let room : HasStepRoom c.reserve.new.self = unless-err c.reserve.result (HasStepRoom c.reserve.new.self) (sym c.is_err.ensures.value ∙ c.if-is_err.false) c.reserve.ensures.room in
+    let room : HasStepRoom c.reserve.new.self =
+    unless-err c.reserve.result (HasStepRoom c.reserve.new.self) (sym c.is_err.ensures.value ∙ c.if-is_err.false) c.reserve.ensures.room in
     let none : length (list_of c.new-told.result) ≡ 0 = ap (λ (xs : List Action). length xs) c.new-told.ensures in
     let few = c.in-Ok.ensures.few in
     record {
@@ -55,8 +59,10 @@ returns-clause-takes c =
       keeps = subst (λ (k : CoreData). StepKeeps k c.step.new.self e [] told c.in-Ok.end) s.core (rw c.new-told.ensures at c.in-Ok.ensures.kept);
       plan_is = c.in-Ok.ensures.plan ∙ ap (λ (k : CoreData). k.plan) s.core;
       judged = ap judgements judged.appended ∙ judged.kept ∙ ap (λ (k : CoreData). judged_at k.plan e c.args.said) s.core;
-      entries = c.put_told.ensures.put ∙ ap (λ (xs : List Entry). xs ++ told_entries told) (c.put.ensures.items ∙ ap (λ (xs : List Entry). xs ++ Got e ∷ []) s.entries);
-      marks = λ q h. c.after_told-self.ensures (Got e ∷ q) (c.after_event.ensures q (s.marks ∙ h)) ∙ ap (λ (ts : List Action). marks_of (tell (Got e ∷ q) ts)) c.as_slice.ensures;
+      entries = c.put_told.ensures.put
+          ∙ ap (λ (xs : List Entry). xs ++ told_entries told) (c.put.ensures.items ∙ ap (λ (xs : List Entry). xs ++ Got e ∷ []) s.entries);
+      marks = λ q h. c.after_told-self.ensures (Got e ∷ q) (c.after_event.ensures q (s.marks ∙ h))
+          ∙ ap (λ (ts : List Action). marks_of (tell (Got e ∷ q) ts)) c.as_slice.ensures;
       room = λ unclosed. record {
         unclosed = s.closing ∙ unclosed;
         closing = let more = room.closing in omega arith;

@@ -11,4 +11,5 @@ returns-in-Ok-try_get_matches_from-clause-taken c =
 pub returns-clause-words : goal.returns-clause-words
 returns-clause-words c = λ kind e.
     let q : c.kind.result ≡ kind = cc in
-    words_refused (app_of c.in-Ok.command) (map rc_str_bytes c.args.words.now) _ kind c.in-Ok.ensures (sym c.kind.ensures ∙ q) (λ o. c.in_default-kind.not-OutOfMemory (c.kind.ensures ∙ o)) c.in-Err.ensures.passes c.in-Err.ensures.kinds
+    words_refused (app_of c.in-Ok.command) (map rc_str_bytes c.args.words.now) _ kind c.in-Ok.ensures (sym c.kind.ensures ∙ q)
+    (λ o. c.in_default-kind.not-OutOfMemory (c.kind.ensures ∙ o)) c.in-Err.ensures.passes c.in-Err.ensures.kinds

@@ -5,4 +5,6 @@ use Rattle.svc_conf.proofs.server.configuration.ServerConf.put_keys.Goals as goa
 
 pub loop-key-preserved : goal.loop-key-preserved
 loop-key-preserved c =
-    shows_next (key_lines c.args.self.now) (KeyFits c.args.self.now) c.args.keys.now c.loop-key.key-index Version c.args.out.now.items c.loop-key.out.items c.put_key.new.out.items c.loop-key-test.true c.loop-key.invariant.0 c.loop-key.invariant.1 c.in_ok-put_key.ensures.shown c.in_ok-put_key.ensures.fits
+    shows_next (key_lines c.args.self.now)
+    (KeyFits c.args.self.now) c.args.keys.now c.loop-key.key-index Version c.args.out.now.items c.loop-key.out.items c.put_key.new.out.items
+    c.loop-key-test.true c.loop-key.invariant.0 c.loop-key.invariant.1 c.in_ok-put_key.ensures.shown c.in_ok-put_key.ensures.fits

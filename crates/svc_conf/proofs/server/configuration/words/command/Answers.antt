@@ -7,9 +7,12 @@ use Rattle.svc_conf.proofs.server.configuration.words.command.Goals as goal
 
 pub returns : goal.returns
 returns c =
-    let upgrade_is : rule_of c.short-upgrade.result ≡ upgrade_rule = ap rule_of c.short-upgrade.ensures ∙ ap (λ (r : Rule). record r { short = Some 117 }) c.flag.ensures.rule in
-    let daemon_is : rule_of c.short-daemon.result ≡ daemon_rule = ap rule_of c.short-daemon.ensures ∙ ap (λ (r : Rule). record r { short = Some 100 }) c.flag-2.ensures.rule in
-    let test_is : rule_of c.short-test.result ≡ test_rule = ap rule_of c.short-test.ensures ∙ ap (λ (r : Rule). record r { short = Some 116 }) c.flag-3.ensures.rule in
+    let upgrade_is : rule_of c.short-upgrade.result ≡ upgrade_rule =
+    ap rule_of c.short-upgrade.ensures ∙ ap (λ (r : Rule). record r { short = Some 117 }) c.flag.ensures.rule in
+    let daemon_is : rule_of c.short-daemon.result ≡ daemon_rule =
+    ap rule_of c.short-daemon.ensures ∙ ap (λ (r : Rule). record r { short = Some 100 }) c.flag-2.ensures.rule in
+    let test_is : rule_of c.short-test.result ≡ test_rule =
+    ap rule_of c.short-test.ensures ∙ ap (λ (r : Rule). record r { short = Some 116 }) c.flag-3.ensures.rule in
     let conf_is : rule_of c.action-conf.result ≡ conf_rule = search rules in
     let own_1 : c.short-upgrade.result.global ≡ false = ap (λ (a : Arg). a.global) c.short-upgrade.ensures ∙ c.flag.ensures.own in
     let own_2 : c.short-daemon.result.global ≡ false = ap (λ (a : Arg). a.global) c.short-daemon.ensures ∙ c.flag-2.ensures.own in

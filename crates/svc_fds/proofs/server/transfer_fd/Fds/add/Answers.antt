@@ -7,12 +7,16 @@ use Rattle.svc_fds.proofs.server.transfer_fd.Fds.add.Goals as goal
 use Rattle.svc_fds.proofs.server.transfer_fd.Fds.add.Goals.{After-replace_at, In_ok-insert_at-in-Free}
 
 -- the entries after a replacement
-replaced : (c : After-replace_at) → take c.self.inside.entries.len (c.replace_at.new.entries ++ drop (length c.replace_at.new.entries) c.self.inside.entries.items) ≡ put c.args.bind c.args.fd c.self.inside.entries.items
+replaced : (c : After-replace_at)
+    → take c.self.inside.entries.len (c.replace_at.new.entries ++ drop (length c.replace_at.new.entries) c.self.inside.entries.items)
+    ≡ put c.args.bind c.args.fd c.self.inside.entries.items
 replaced c =
     let es = c.self.inside.entries.items in
     let held = rw (c.as_str.ensures, c.deref.ensures.value) at c.in-Held.ensures in
-    let now = rw c.deref_mut.ensures.value at (c.replace_at.ensures.now c.args.bind held.fd (rw c.deref_mut.ensures.value (held-get c.args.bind es c.in-Held.at held))) in
-    put-replaced c.self.inside.entries.len es c.replace_at.new.entries c.args.bind c.args.fd c.in-Held.at held (omega (arith, c.self.inside.entries.ok.0, c.replace_at.auto.entries, c.deref_mut.ensures.len)) now
+    let now = rw c.deref_mut.ensures.value at
+    (c.replace_at.ensures.now c.args.bind held.fd (rw c.deref_mut.ensures.value (held-get c.args.bind es c.in-Held.at held))) in
+    put-replaced c.self.inside.entries.len es c.replace_at.new.entries c.args.bind c.args.fd c.in-Held.at held
+    (omega (arith, c.self.inside.entries.ok.0, c.replace_at.auto.entries, c.deref_mut.ensures.len)) now
 
 pub invariant_of-self : goal.invariant_of-self
 invariant_of-self c =
@@ -37,7 +41,8 @@ returns-in-Held-clause-only c =
 
 pub returns-in-Held-clause-ascending : goal.returns-in-Held-clause-ascending
 returns-in-Held-clause-ascending c =
-    subst (λ xs. IsAscending xs) (sym (replaced ((goal.at.returns-in-Held-clause-ascending c).After-replace_at))) (ascending-put c.args.bind c.args.fd c.self.inside.entries.items c.self.invariant)
+    subst (λ xs. IsAscending xs) (sym (replaced ((goal.at.returns-in-Held-clause-ascending c).After-replace_at)))
+    (ascending-put c.args.bind c.args.fd c.self.inside.entries.items c.self.invariant)
 
 -- the entries after an insertion
 inserted : (c : In_ok-insert_at-in-Free) → c.insert_at.new.entries.items ≡ put c.args.bind c.args.fd c.self.inside.entries.items
@@ -51,7 +56,8 @@ invariant_of-self-in-Free c =
 
 pub returns-in_ok-insert_at-in-Free-clause-added : goal.returns-in_ok-insert_at-in-Free-clause-added
 returns-in_ok-insert_at-in-Free-clause-added c =
-    inserted ((goal.at.returns-in_ok-insert_at-in-Free-clause-added c).In_ok-insert_at-in-Free) ∙ ap (λ (t : FdTable). put c.args.bind c.args.fd t.entries) c.self.view_is
+    inserted ((goal.at.returns-in_ok-insert_at-in-Free-clause-added c).In_ok-insert_at-in-Free)
+    ∙ ap (λ (t : FdTable). put c.args.bind c.args.fd t.entries) c.self.view_is
 
 pub returns-in_ok-insert_at-in-Free-clause-replaced : goal.returns-in_ok-insert_at-in-Free-clause-replaced
 returns-in_ok-insert_at-in-Free-clause-replaced c =
@@ -60,9 +66,11 @@ returns-in_ok-insert_at-in-Free-clause-replaced c =
 
 pub returns-in_ok-insert_at-in-Free-clause-only : goal.returns-in_ok-insert_at-in-Free-clause-only
 returns-in_ok-insert_at-in-Free-clause-only c =
-    let e = inserted ((goal.at.returns-in_ok-insert_at-in-Free-clause-only c).In_ok-insert_at-in-Free) ∙ ap (λ (t : FdTable). put c.args.bind c.args.fd t.entries) c.self.view_is in
+    let e = inserted ((goal.at.returns-in_ok-insert_at-in-Free-clause-only c).In_ok-insert_at-in-Free)
+    ∙ ap (λ (t : FdTable). put c.args.bind c.args.fd t.entries) c.self.view_is in
     λ other. ap (λ xs. lookup other xs) e ∙ lookup-put c.args.bind c.args.fd c.args.self.now.entries other
 
 pub returns-in_ok-insert_at-in-Free-clause-ascending : goal.returns-in_ok-insert_at-in-Free-clause-ascending
 returns-in_ok-insert_at-in-Free-clause-ascending c =
-    subst (λ xs. IsAscending xs) (sym (inserted ((goal.at.returns-in_ok-insert_at-in-Free-clause-ascending c).In_ok-insert_at-in-Free))) (ascending-put c.args.bind c.args.fd c.self.inside.entries.items c.self.invariant)
+    subst (λ xs. IsAscending xs) (sym (inserted ((goal.at.returns-in_ok-insert_at-in-Free-clause-ascending c).In_ok-insert_at-in-Free)))
+    (ascending-put c.args.bind c.args.fd c.self.inside.entries.items c.self.invariant)

@@ -11,7 +11,8 @@ returns-in-Err-clause-refused g c = nothing_came c.in-Err.error c.in-Err.ensures
 
 pub returns-then-is_err-clause-refused : goal.returns-then-is_err-clause-refused
 returns-then-is_err-clause-refused g c =
-    turned_away c.in-Ok.message.1 c.in-Ok.message.0.items (g.C.Channel.calls c.get_fds_from.new.channel) errors.NoMemory c.in-Ok.ensures.came tt c.close_all.ensures.told
+    turned_away c.in-Ok.message.1 c.in-Ok.message.0.items
+    (g.C.Channel.calls c.get_fds_from.new.channel) errors.NoMemory c.in-Ok.ensures.came tt c.close_all.ensures.told
 
 pub take_in-requires-clause-room : goal.take_in-requires-clause-room
 take_in-requires-clause-room g c =
@@ -26,4 +27,5 @@ returns-clause-refused g c =
     rw c.from.ensures
     (turned_away c.in-Ok.message.1 c.in-Ok.message.0.items (g.C.Channel.calls c.get_fds_from.new.channel) c.in-Err-decode.refused.reason c.in-Ok.ensures.came
     (subst (λ n. DecodeRefusalFits c.in-Ok.message.1 n c.in-Err-decode.refused.reason) c.in-Ok.message.0.ok.0 fits)
-    (subst (λ fds. Adds (g.C.Channel.calls c.get_fds_from.new.channel) (g.C.Channel.calls c.close_all-in-Err-decode.new.channel) (closes fds)) c.in-Err-decode.ensures.back c.close_all-in-Err-decode.ensures.told))
+    (subst (λ fds. Adds (g.C.Channel.calls c.get_fds_from.new.channel) (g.C.Channel.calls c.close_all-in-Err-decode.new.channel) (closes fds))
+    c.in-Err-decode.ensures.back c.close_all-in-Err-decode.ensures.told))

@@ -11,7 +11,8 @@ invariant-loop-alloc l = record {
   room : vec_len l.fds ≤ l.self.spare;
   replaced_room : vec_len l.fds + vec_len l.replaced ≤ vec_capacity l.replaced;
   added : put_all (zip l.binds.items l.fds.items) l.self.entries ≡ put_all (zip l.initial.binds.items l.initial.fds.items) l.initial.self.entries;
-  replaced : l.replaced.items ++ replaced_by (zip l.binds.items l.fds.items) l.self.entries ≡ l.initial.replaced.items ++ replaced_by (zip l.initial.binds.items l.initial.fds.items) l.initial.self.entries;
+  replaced : l.replaced.items ++ replaced_by (zip l.binds.items l.fds.items) l.self.entries
+      ≡ l.initial.replaced.items ++ replaced_by (zip l.initial.binds.items l.initial.fds.items) l.initial.self.entries;
 }
 
 abbrev pub decreases-loop-alloc : goal.decreases-loop-alloc

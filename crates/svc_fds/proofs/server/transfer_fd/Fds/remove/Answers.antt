@@ -14,7 +14,8 @@ left c =
 
 pub invariant_of-self : goal.invariant_of-self
 invariant_of-self c =
-    subst (λ xs. IsAscending xs) (sym (left ((goal.at.invariant_of-self c).After-remove-fd))) (ascending-without c.args.bind.now c.self.inside.entries.items c.self.invariant)
+    subst (λ xs. IsAscending xs) (sym (left ((goal.at.invariant_of-self c).After-remove-fd)))
+    (ascending-without c.args.bind.now c.self.inside.entries.items c.self.invariant)
 
 pub returns-in-Held-clause-removed : goal.returns-in-Held-clause-removed
 returns-in-Held-clause-removed c =
@@ -34,7 +35,8 @@ returns-in-Held-clause-only c =
 
 pub returns-in-Held-clause-ascending : goal.returns-in-Held-clause-ascending
 returns-in-Held-clause-ascending c =
-    subst (λ xs. IsAscending xs) (sym (left ((goal.at.returns-in-Held-clause-ascending c).After-remove-fd))) (ascending-without c.args.bind.now c.self.inside.entries.items c.self.invariant)
+    subst (λ xs. IsAscending xs) (sym (left ((goal.at.returns-in-Held-clause-ascending c).After-remove-fd)))
+    (ascending-without c.args.bind.now c.self.inside.entries.items c.self.invariant)
 
 pub returns-in-Free-clause-removed : goal.returns-in-Free-clause-removed
 returns-in-Free-clause-removed c =

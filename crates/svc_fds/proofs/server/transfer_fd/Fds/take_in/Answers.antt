@@ -9,9 +9,11 @@ loop-bind-preserved g c =
     record {
       ascending = c.in-Some.ensures.ascending;
       room = omega (arith, ap length c.in-Some.ensures.entries);
-      added = taken-added c.in-Some.bind c.in-Some.fd c.loop-bind.table.entries c.pop_first.new.self.entries c.loop-bind.self.entries c.take_one.new.self.entries
+      added = taken-added c.in-Some.bind c.in-Some.fd c.loop-bind.table.entries c.pop_first.new.self.entries c.loop-bind.self.entries
+          c.take_one.new.self.entries
           c.in-Some.ensures.entries c.in-Some.ensures.least c.take_one.ensures.entries ∙ kept.added;
-      closed = taken-closed c.in-Some.bind c.in-Some.fd c.loop-bind.table.entries c.pop_first.new.self.entries c.loop-bind.self.entries c.take_one.new.self.entries
+      closed = taken-closed c.in-Some.bind c.in-Some.fd c.loop-bind.table.entries c.pop_first.new.self.entries c.loop-bind.self.entries
+          c.take_one.new.self.entries
           (g.C.Channel.calls c.args.channel.now) (g.C.Channel.calls c.loop-bind.channel) (g.C.Channel.calls c.take_one.new.channel)
           kept.closed.0 _ c.in-Some.ensures.entries c.in-Some.ensures.least c.take_one.ensures.entries kept.closed.1 kept.closed.2 c.take_one.ensures.told;
       stays = Stays-then kept.stays c.take_one.ensures.stays;

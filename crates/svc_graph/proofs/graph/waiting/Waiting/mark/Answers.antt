@@ -12,11 +12,13 @@ pub invariant_of-self : goal.invariant_of-self
 invariant_of-self g c =
     let size = ap (λ (w : WaitingData). length w.marks) c.self.view_is in
     let free = subst (λ (w : WaitingData). is_marked w.marks c.args.s ≡ false) (sym c.self.view_is) c.requires.fresh in
-    let whole = whole_slice c.self.inside.counts.len c.self.inside.counts.items c.lower.new.counts (omega (arith, c.self.inside.counts.ok.0, c.lower.auto.counts, c.deref_mut.ensures.len)) in
+    let whole = whole_slice c.self.inside.counts.len c.self.inside.counts.items c.lower.new.counts
+    (omega (arith, c.self.inside.counts.ok.0, c.lower.auto.counts, c.deref_mut.ensures.len)) in
     subst (λ counts. IsCounted counts c.self.inside.edges (slice_set c.self.inside.marks.items c.args.s true)) (sym whole)
     (counted-mark c.self.inside.counts.items c.self.inside.edges c.self.inside.marks.items c.args.s c.self.invariant (omega arith) free c.lower.new.counts
     (omega (arith, c.lower.auto.counts, c.deref_mut.ensures.len))
-    (subst (λ ws. (a : ℕ) → slice_index_or c.lower.new.counts a 0 + cond (is_set c.self.inside.edges c.args.s a) 1 0 ≡ slice_index_or ws a 0) c.deref_mut.ensures.value c.lower.ensures.counts))
+    (subst (λ ws. (a : ℕ) → slice_index_or c.lower.new.counts a 0 + cond (is_set c.self.inside.edges c.args.s a) 1 0 ≡ slice_index_or ws a 0)
+    c.deref_mut.ensures.value c.lower.ensures.counts))
 
 pub lower-requires-clause-some : goal.lower-requires-clause-some
 lower-requires-clause-some g c =

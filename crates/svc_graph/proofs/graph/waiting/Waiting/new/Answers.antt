@@ -16,13 +16,16 @@ counted c =
     let rows = c.graph.inside.rows.items in
     let free : (a : ℕ) → is_marked c.in_ok-marks.marks.items a ≡ false =
     (λ a. subst (λ ms. is_marked ms a ≡ false) (sym (c.in_ok-marks.ensures.items_if_clones_equal (λ y e. e))) (replicate-free c.len.result a)) in
-    let counts : c.in_ok-counts.counts.items ≡ map (λ (row : List ℕ). length row) rows = subst (λ rs. c.in_ok-counts.counts.items ≡ map (λ (row : List ℕ). length row) rs) c.deref.ensures.value c.in_ok-counts.ensures in
+    let counts : c.in_ok-counts.counts.items ≡ map (λ (row : List ℕ). length row) rows =
+    subst (λ rs. c.in_ok-counts.counts.items ≡ map (λ (row : List ℕ). length row) rs) c.deref.ensures.value c.in_ok-counts.ensures in
     let size = ap (λ (xs : List ℕ). length xs) counts ∙ length-map rows (λ (row : List ℕ). length row) in
     let sized = c.graph.invariant.sized in
-    counted-none rows c.in_ok-counts.counts.items c.in_ok-edges.edges c.in_ok-marks.marks.items (length c.graph.inside.names) c.graph.invariant.few c.graph.invariant.sized
+    counted-none rows c.in_ok-counts.counts.items c.in_ok-edges.edges c.in_ok-marks.marks.items
+    (length c.graph.inside.names) c.graph.invariant.few c.graph.invariant.sized
     (omega (arith, c.in_ok-marks.ensures.len, c.len.ensures, c.in_ok-marks.marks.ok.0, c.graph.inside.rows.ok.0, sized)) (omega arith)
     (λ a. ap (λ (xs : List ℕ). slice_index_or xs a 0) counts ∙ lengths rows a)
-    (subst (λ ws. IsNeeded (length c.graph.inside.names) (is_in_row rows) ws) (sym c.in_ok-edges.ensures) c.graph.invariant.direct) c.graph.invariant.inside c.graph.invariant.unique free
+    (subst (λ ws. IsNeeded (length c.graph.inside.names) (is_in_row rows) ws) (sym c.in_ok-edges.ensures) c.graph.invariant.direct) c.graph.invariant.inside
+    c.graph.invariant.unique free
 
 pub invariant_of-result : goal.invariant_of-result
 invariant_of-result c = counted ((goal.at.invariant_of-result c).In_ok-marks)

@@ -8,4 +8,5 @@ returns-then-not-set_step g c =
     (sets_more false c.args.c c.args.steps.now c.loop-step.step-index _ _ _ _ c.loop-step-test.true c.loop-step.invariant c.if-not-set_step.ensures)
 
 pub loop-step-preserved : goal.loop-step-preserved
-loop-step-preserved g c = sets_more true c.args.c c.args.steps.now c.loop-step.step-index _ _ _ _ c.loop-step-test.true c.loop-step.invariant c.if-not-set_step.ensures
+loop-step-preserved g c =
+    sets_more true c.args.c c.args.steps.now c.loop-step.step-index _ _ _ _ c.loop-step-test.true c.loop-step.invariant c.if-not-set_step.ensures

@@ -15,11 +15,13 @@ returns-then-not-judged g c = refused c.in-Came.c c.in-Came.peer c.accept.new.se
 pub returns-then-not-set_given : goal.returns-then-not-set_given
 returns-then-not-set_given g c =
     unset c.in-Came.c c.in-Came.peer c.accept.new.self c.set_given.new.from c.in-Came.ensures c.if-not-judged.ensures
-    (subst (λ (s : List Setting). SetFails c.in-Came.c s (g.A.Accepting.seen c.accept.new.self) (g.A.Accepting.seen c.set_given.new.from)) c.settings_for.ensures c.if-not-set_given.ensures)
+    (subst (λ (s : List Setting). SetFails c.in-Came.c s (g.A.Accepting.seen c.accept.new.self) (g.A.Accepting.seen c.set_given.new.from))
+    c.settings_for.ensures c.if-not-set_given.ensures)
     c.refuse-then-not-set_given.ensures
 
 pub returns-else-not-set_given : goal.returns-else-not-set_given
 returns-else-not-set_given g c =
     rw c.fresh.ensures
     (taken c.in-Came.c c.in-Came.peer c.accept.new.self c.in-Came.ensures c.if-not-judged.ensures
-    (subst (λ (s : List Setting). AllSet c.in-Came.c s (g.A.Accepting.seen c.accept.new.self) (g.A.Accepting.seen c.set_given.new.from)) c.settings_for.ensures c.if-not-set_given.ensures))
+    (subst (λ (s : List Setting). AllSet c.in-Came.c s (g.A.Accepting.seen c.accept.new.self) (g.A.Accepting.seen c.set_given.new.from)) c.settings_for.ensures
+    c.if-not-set_given.ensures))
