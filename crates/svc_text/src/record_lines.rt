@@ -15,6 +15,9 @@ use svc_base::{NoMemory, Setting};
 use svc_record::{Action, Entry, Event};
 use svc_socket::{Peer, PeerAddr};
 
+/// The bytes of the longest line's numbers: eight of up to 20 digits, with a mark behind each.
+const LINE: usize = 8 * 21;
+
 /// Appends a number.
 fn push_number(text: &mut String, n: u64) -> Result<(), NoMemory>
     ensures { OnOk result (string_bytes text.new ≡ string_bytes text.old ++ decimal n) }
@@ -49,7 +52,7 @@ fn yes_end(said: bool) -> &'static str
 }
 
 /// Writes a number and what follows it so that they end at this place. It answers where they start.
-fn write_before(n: u64, mark: u8, line: &mut [u8; 168], end: usize) -> usize
+fn write_before(n: u64, mark: u8, line: &mut [u8; LINE], end: usize) -> usize
     requires { (21 ≤ end) × (end ≤ 168) }
     ensures start { (result ≤ end) × (end ≤ result + 21) }
     ensures written { drop result line.new ≡ decimal n ++ mark ∷ drop end line.old }
@@ -60,12 +63,12 @@ fn write_before(n: u64, mark: u8, line: &mut [u8; 168], end: usize) -> usize
 
 /// Writes where a connection arrived, its number and its peer's address so that they end at this
 /// place. It answers where they start.
-fn write_arrived(s: u32, i: u32, c: u64, ip: u32, port: u16, line: &mut [u8; 168]) -> usize
+fn write_arrived(s: u32, i: u32, c: u64, ip: u32, port: u16, line: &mut [u8; LINE]) -> usize
     ensures within { result ≤ 168 }
     ensures written { drop result line.new ≡ spaced (decimal s ∷ decimal i ∷ decimal c ∷ peer_text (Inet (V4 ip port)) ∷ []) ++ (10 ∷ []) }
     ensures ascii { IsAscii (drop result line.new) }
 {
-    let at = write_before(port as u64, b'\n', line, 168);
+    let at = write_before(port as u64, b'\n', line, LINE);
     let at = write_before((ip % 0x100) as u64, b':', line, at);
     let at = write_before((ip / 0x100 % 0x100) as u64, b'.', line, at);
     let at = write_before((ip / 0x1_0000 % 0x100) as u64, b'.', line, at);
@@ -86,7 +89,7 @@ fn push_arrived(
 ) -> Result<(), NoMemory>
     ensures { OnOk result (string_bytes text.new ≡ string_bytes text.old ++ line_of (Got (Arrived s i c (Inet (V4 ip port))))) }
 {
-    let mut line = [0; 168];
+    let mut line = [0; LINE];
     let start = write_arrived(s, i, c, ip, port, &mut line);
     let Ok(numbers) = str::from_utf8(&line[start..]) else {
         unreachable!()
