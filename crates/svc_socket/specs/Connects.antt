@@ -1,10 +1,13 @@
 -- What a connect asks of its dialer, and what it answers.
-use Rattle.std.specs.Prelude.{◌≡◌, Bool, true, false, ◌&&◌, ◌||◌, is_some, if◌then◌else◌, List, [], ◌∷◌, Option, Some, None, MatchOption, Result, Ok, Err}
+use Rattle.std.specs.Prelude.{◌≡◌, ℤ, Bool, true, false, ◌&&◌, ◌||◌, is_some, if◌then◌else◌, List, [], ◌∷◌, Option, Some, None, MatchOption, Result, Ok, Err}
+use Rattle.std.specs.declared.io.ErrorKind.{ErrorKind}
+use Rattle.std.specs.declared.io.ErrorKind.TheVariants as errors
 use Rattle.svc_base.specs.Calls.{Adds, Stays}
 use Rattle.svc_socket.specs.DialerData.{DialerData}
 use Rattle.svc_socket.specs.declared.peer.PeerAddr.{PeerAddr}
 use Rattle.svc_socket.specs.declared.connectors.dialer.Target.{Target}
 use Rattle.svc_socket.specs.declared.connectors.dialer.BindTo.{BindTo}
+use Rattle.svc_socket.specs.declared.connectors.dialer.OsFault.{OsFault}
 use Rattle.svc_socket.specs.declared.connectors.dialer.OsFault.TheVariants.{Refused, TimedOut, AddrNotAvailable, PermissionDenied, AddrInUse, NetUnreachable, HostUnreachable, Other}
 use Rattle.svc_socket.specs.declared.connectors.dialer.DialFault.{DialFault}
 use Rattle.svc_socket.specs.declared.connectors.dialer.DialFault.TheVariants.{Socket, Bind, Os}
@@ -14,6 +17,17 @@ use Rattle.svc_socket.specs.declared.connectors.dialer.DialCall.{DialCall}
 use Rattle.svc_socket.specs.declared.connectors.l4.ConnectKind.{ConnectKind}
 use Rattle.svc_socket.specs.declared.connectors.l4.ConnectKind.TheVariants.{SocketError, BindError, ConnectRefused, ConnectTimedout, ConnectNoRoute, InternalError, ConnectError, NoMemory}
 use Rattle.svc_socket.specs.declared.connectors.l4.ConnectError.{ConnectError as Error}
+
+-- the fault of an error of the system: by its kind, and by its number where that kind has no fault of its own
+abbrev pub fault_of : ErrorKind → ℤ → OsFault
+fault_of errors.ConnectionRefused number = Refused
+fault_of errors.TimedOut number = TimedOut
+fault_of errors.AddrNotAvailable number = AddrNotAvailable
+fault_of errors.PermissionDenied number = PermissionDenied
+fault_of errors.AddrInUse number = AddrInUse
+fault_of errors.NetworkUnreachable number = NetUnreachable
+fault_of errors.HostUnreachable number = HostUnreachable
+fault_of kind number = Other number
 
 -- the dial is to go out from a given address, or from a range of ports
 abbrev pub is_bound : Option BindTo → Bool

@@ -2,6 +2,7 @@
 
 ghost use Rattle.std.specs.Prelude.{◌≡◌, IfOk, ◌&&◌, is_some};
 ghost use Rattle.std.specs.Option.{option_copied};
+ghost use Rattle.svc_socket.specs.Connects.{fault_of};
 ghost use Rattle.svc_socket.specs.DialerData.{DialerData, IsDialed};
 
 use crate::peer::PeerAddr;
@@ -67,7 +68,9 @@ pub enum OsFault {
 
 impl OsFault {
     /// The fault of an error of this kind. One without a fault of its own is told by its number.
-    pub fn of(kind: ErrorKind, number: i32) -> OsFault {
+    pub fn of(kind: ErrorKind, number: i32) -> OsFault
+        ensures { result ≡ fault_of kind number }
+    {
         match kind {
             ErrorKind::ConnectionRefused => OsFault::Refused,
             ErrorKind::TimedOut => OsFault::TimedOut,

@@ -55,7 +55,9 @@ impl<S> SslStream<S> {
     }
 
     /// Does nothing.
-    pub fn shutdown(&mut self) {}
+    pub fn shutdown(&mut self)
+        ensures { self.new ≡ self.old }
+    {}
 
     /// The addresses of its socket, which it has none of.
     pub fn get_socket_digest(&self) -> Option<PeerAddr>
