@@ -42,9 +42,9 @@ kept-graph g needed reach kept = record {
 }
 
 -- the same for a graph that is seen as one
-pub view-graph : (names rows : List (List ℕ)) (needed reach : List ℕ) (g : GraphData) → record { names = names; depends = rows } ≡ g
+pub view-graph : {names rows : List (List ℕ)} {needed reach : List ℕ} {g : GraphData} → record { names = names; depends = rows } ≡ g
     → IsKept (length names) rows needed reach → IsGraph g
-view-graph names rows needed reach g same kept =
+view-graph {names} {rows} {needed} {reach} same kept =
     subst (λ (h : GraphData). IsGraph h) same (kept-graph (record { names = names; depends = rows }) needed reach kept)
 
 -- more room for bits
