@@ -8,7 +8,7 @@ use Rattle.svc_text.specs.Dependencies.{RefusesAt, RefusesNone}
 use Rattle.svc_text.specs.Script.{IsLineOf}
 use Rattle.svc_main.specs.declared.outcome.StatusLine.TheVariants.{Words, Line, ReadFault, Run}
 use Rattle.svc_main.specs.declared.outcome.RunEnd.TheVariants.{Config}
-use Rattle.svc_main.specs.Program.{Faults as FaultsSo}
+use Rattle.svc_main.specs.Program.{Faults as FaultsSo, WritesFrontOf}
 use Rattle.svc_generations.specs.declared.outcome.ChainLine.{ChainLine}
 use Rattle.svc_generations.specs.declared.outcome.ChainLine.TheVariants.{Unbegun, Chained, Step}
 use Rattle.svc_generations.specs.declared.outcome.StepRefusal.{StepRefusal}
@@ -134,8 +134,7 @@ pub record Answers (status : ℕ) (words : List (List ℕ)) (left now_left befor
 -- that is too long only where the source was read to its end
 abbrev pub WritesFront : List (List ℕ) → Option (List ℕ) → Option (List ℕ) → ℕ → ℕ → Option (List ℕ) → Option (List ℕ) → Type 0
 WritesFront words left now_left faults now_faults before now =
-    (line : ChainLine) × (out : List ℕ) × IsAnswer words left line out × Ends line now_left × Faults line faults now_faults
-    × (n : ℕ) × (n ≤ length out) × Appends before now (take n out)
+    WritesFrontOf (IsAnswer words left) (λ line. Ends line now_left) (λ line. Faults line faults now_faults) before now
 
 -- no step is refused by the chain that those before it leave
 abbrev pub RunsThrough : InputParts → Type 0

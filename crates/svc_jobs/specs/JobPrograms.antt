@@ -1,8 +1,8 @@
 -- What the program of jobs answers, and why.
-use Rattle.std.specs.Prelude.{◌≡◌, ◌≢◌, ◌⊎◌, ℕ, ◌+◌, ◌<◌, ◌≤◌, true, false, List, [], ◌∷◌, ◌++◌, length, take, map, codes, slice_index, Option, Ok, Err, IfSome}
+use Rattle.std.specs.Prelude.{◌≡◌, ◌≢◌, ◌⊎◌, ℕ, ◌+◌, ◌<◌, ◌≤◌, true, false, List, [], ◌∷◌, ◌++◌, length, map, codes, slice_index, Option, Ok, Err, IfSome}
 use Rattle.std.specs.List.{flat_map}
 use Rattle.std.specs.Fmt.{decimal}
-use Rattle.std.specs.Io.KnownBytes.{Appends, IsAtEnd}
+use Rattle.std.specs.Io.KnownBytes.{IsAtEnd}
 use Rattle.svc_conf.specs.Configuration.{judged}
 use Rattle.svc_record.specs.declared.event.Event.{Event}
 use Rattle.svc_record.specs.declared.item.Item.{Item}
@@ -25,7 +25,7 @@ use Rattle.svc_main.specs.declared.outcome.RunEnd.TheVariants.{HostFault, Stray,
 use Rattle.svc_main.specs.declared.outcome.StatusLine.{StatusLine}
 use Rattle.svc_main.specs.declared.outcome.StatusLine.TheVariants.{Words, Line, ReadFault, Run}
 use Rattle.svc_main.specs.Status.{status_line, end_status}
-use Rattle.svc_main.specs.Program.{answer_of, Judges, Faults, Writes}
+use Rattle.svc_main.specs.Program.{answer_of, Judges, Faults, Writes, WritesFrontOf}
 use Rattle.svc_jobs.specs.JobEnds.{MayEnd}
 use Rattle.svc_jobs.specs.JobServices.{plan_of_jobs}
 use Rattle.svc_jobs.specs.JobTexts.{JobParts, script_lines, jobs_in}
@@ -130,8 +130,7 @@ Ran status words left now_left before now = (end : RunEnd) × (end_status end �
 -- where the source was read to its end
 abbrev pub WritesFront : List (List ℕ) → Option (List ℕ) → Option (List ℕ) → ℕ → ℕ → Option (List ℕ) → Option (List ℕ) → Type 0
 WritesFront words left now_left faults now_faults before now =
-    (line : StatusLine) × (out : List ℕ) × IsAnswer words left line out × Ends line now_left × Faults line faults now_faults
-    × (n : ℕ) × (n ≤ length out) × Appends before now (take n out)
+    WritesFrontOf (IsAnswer words left) (λ line. Ends line now_left) (λ line. Faults line faults now_faults) before now
 
 -- in whatever right record the first of the items came, with the jobs' words: while the run goes on the next item is an event that fits; and with all
 -- of them it has passed

@@ -166,12 +166,16 @@ Ran status words left now_left before now =
 abbrev pub Made : List (List ℕ) → Option (List ℕ) → Option (List ℕ) → Type 0
 Made words before now = Writes before now (MadeText words)
 
+-- the sink took a front of an answer of a status line, where what was read and what failed are as that line says
+abbrev pub WritesFrontOf : {Line : Type 0} → (Line → List ℕ → Type 0) → (Line → Type 0) → (Line → Type 0) → Option (List ℕ) → Option (List ℕ) → Type 0
+WritesFrontOf {Line} Answer Read Failed before now =
+    (line : Line) × (out : List ℕ) × Answer line out × Read line × Failed line × (n : ℕ) × (n ≤ length out) × Appends before now (take n out)
+
 -- the sink took a front of an answer that had its cause: of a read fault only where the source's count rose, and of a run or a refused line only
 -- where the source was read to its end
 abbrev pub WritesFront : List (List ℕ) → Option (List ℕ) → Option (List ℕ) → ℕ → ℕ → Option (List ℕ) → Option (List ℕ) → Type 0
 WritesFront words left now_left faults now_faults before now =
-    (line : StatusLine) × (out : List ℕ) × IsAnswer words left line out × Ends words line now_left × Faults line faults now_faults
-    × (n : ℕ) × (n ≤ length out) × Appends before now (take n out)
+    WritesFrontOf (IsAnswer words left) (λ line. Ends words line now_left) (λ line. Faults line faults now_faults) before now
 
 -- the run goes on, or has gone through its shutdown
 abbrev pub EndsServed : StepEnd → Type 0
