@@ -17,7 +17,9 @@ use Rattle.svc_server.proofs.turns.Run.take.Goals as goal
 
 pub ask_filter-said-requires : goal.ask_filter-said-requires
 ask_filter-said-requires g c =
-    record { known = asks-known c.args.self.now.core.plan (length c.args.self.now.filters) c.event-event.result.now c.asks.result c.requires.known c.asks.ensures }
+    record {
+      known = asks-known c.args.self.now.core.plan (length c.args.self.now.filters) c.event-event.result.now c.asks.result c.requires.known c.asks.ensures;
+    }
 
 pub step-requires : goal.step-requires
 step-requires g c = record { fits = subst (λ (o : Option Event). IfSome o (MayCome c.args.self.now.core)) c.event-event.ensures c.requires.fits }

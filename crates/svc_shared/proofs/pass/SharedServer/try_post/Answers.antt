@@ -19,7 +19,9 @@ returns-in-Ok-clause-posted c = ok_map c.finish.result
     × LeftWith c.args.self.now.board.shared.key.value
     (post c.args.pass.lot.number c.args.event c.args.said (list_of r.actions)) r.place r.end c.take.new.place.me r.pass.place.me)
     (IsPosted c.args.self.now c.args.pass c.args.event c.args.said)
-    (λ (r : Posted) (h : (r.pass.place.table_id ≡ c.take.new.place.table_id) × LeftWith c.args.self.now.board.shared.key.value (post c.args.pass.lot.number c.args.event c.args.said (list_of r.actions)) r.place r.end c.take.new.place.me r.pass.place.me).
+    (λ (r : Posted) (h : (r.pass.place.table_id ≡ c.take.new.place.table_id)
+    × LeftWith c.args.self.now.board.shared.key.value
+    (post c.args.pass.lot.number c.args.event c.args.said (list_of r.actions)) r.place r.end c.take.new.place.me r.pass.place.me).
     posts_by c.args.self.now c.args.pass c.requires c.in-Ok.word c.args.pass.place.me c.take.new.place.me
     (at_once c) c.in-Ok.ensures.took c.args.event c.args.said r (h.0 ∙ c.take.ensures.table.0)
     (subst (λ (n : ℕ). LeftWith c.args.self.now.board.shared.key.value
@@ -31,7 +33,8 @@ returns-in-Ok-clause-refused c = err_map c.finish.result
     (λ (r : PostRefused). (r.pass.place.table_id ≡ c.take.new.place.table_id) × (r.event ≡ c.args.event)
     × LeftFor c.args.self.now.board.shared.key.value c.args.event r.reason c.take.new.place.me r.pass.place.me)
     (λ (r : PostRefused). IsRefused (IsBusy c.args.pass r.pass) c.args.self.now c.args.pass c.args.event r)
-    (λ (r : PostRefused) (h : (r.pass.place.table_id ≡ c.take.new.place.table_id) × (r.event ≡ c.args.event) × LeftFor c.args.self.now.board.shared.key.value c.args.event r.reason c.take.new.place.me r.pass.place.me).
+    (λ (r : PostRefused) (h : (r.pass.place.table_id ≡ c.take.new.place.table_id) × (r.event ≡ c.args.event)
+    × LeftFor c.args.self.now.board.shared.key.value c.args.event r.reason c.take.new.place.me r.pass.place.me).
     refuses_by c.args.self.now c.args.pass c.requires c.in-Ok.word c.args.pass.place.me c.take.new.place.me (at_once c) c.in-Ok.ensures.took
     (IsBusy c.args.pass r.pass) c.args.event r (h.0 ∙ c.take.ensures.table.0) h.1 h.2) c.finish.ensures.refused
 
