@@ -152,7 +152,9 @@ pub struct BootstrapService;
 
 impl BootstrapService {
     /// The service. There is only one value of it.
-    pub fn new() -> Self {
+    pub fn new() -> Self
+        ensures { result ≡ record {} }
+    {
         BootstrapService
     }
 }
