@@ -1,47 +1,42 @@
 -- What is taken out of the table where one descriptor, or none, is drained.
-use Rattle.std.proofs.Common.{ℕ, Bool, true, false, not, inl, inr, List, [], ◌∷◌, ◌==◌, ◌||◌, filter, ◌≡◌, refl, ap, sym, ◌∙◌, Some}
-use Rattle.std.specs.Option.{option_to_list}
+use Rattle.std.proofs.Common.{ℕ, Bool, true, false, not, inl, inr, List, [], ◌∷◌, ◌==◌, ◌||◌, filter, ◌≡◌, refl, ap, sym}
 use Rattle.std.proofs.lemmas.Bool.{cases_Bool, cases_eq, eq-eqb, ne_eqb}
-use Rattle.svc_record.specs.declared.plan.Plan.{Plan}
 use Rattle.svc_base.specs.NumberSets.{is_in}
 use Rattle.svc_endpoints.specs.declared.table.Open.{Open}
 use Rattle.svc_endpoints.specs.EndpointsData.{EndpointsData}
 use Rattle.svc_endpoints.specs.EndpointsState.{numbers_of_table}
-use Rattle.svc_endpoints.specs.Effects.{numbers_like, without_number, drains_at, drained_numbers, drained_out}
+use Rattle.svc_endpoints.specs.Effects.{numbers_like, numbers_among, without_number, closed_out}
 
-filter_by : (f g : Open → Bool) (t : List Open) → ((o : Open) → f o ≡ g o) → filter f t ≡ filter g t
-filter_by f g [] same = refl
-filter_by f g (o ∷ t) same = elim (cases_Bool (g o)) [
-  | inl y ↦ rw (same o, y) (ap (λ (w : List Open). o ∷ w) (filter_by f g t same))
-  | inr n ↦ rw (same o, n) (filter_by f g t same)
+pub filter-by : (f g : Open → Bool) (t : List Open) → ((o : Open) → f o ≡ g o) → filter f t ≡ filter g t
+filter-by f g [] same = refl
+filter-by f g (o ∷ t) same = elim (cases_Bool (g o)) [
+  | inl y ↦ rw (same o, y) (ap (λ (w : List Open). o ∷ w) (filter-by f g t same))
+  | inr n ↦ rw (same o, n) (filter-by f g t same)
 ]
 
-filter_none : (f : Open → Bool) (t : List Open) → ((o : Open) → f o ≡ false) → filter f t ≡ []
-filter_none f [] none = refl
-filter_none f (o ∷ t) none = rw (none o) (filter_none f t none)
+filter_none : (t : List Open) → filter (λ (o : Open). false) t ≡ []
+filter_none [] = refl
+filter_none (o ∷ t) = filter_none t
 
-filter_all : (f : Open → Bool) (t : List Open) → ((o : Open) → f o ≡ true) → filter f t ≡ t
-filter_all f [] all = refl
-filter_all f (o ∷ t) all = rw (all o) (ap (λ (w : List Open). o ∷ w) (filter_all f t all))
+filter_all : (t : List Open) → filter (λ (o : Open). true) t ≡ t
+filter_all [] = refl
+filter_all (o ∷ t) = ap (λ (w : List Open). o ∷ w) (filter_all t)
 
-same_number : (a b : ℕ) → ((b == a) || false) ≡ (a == b)
+same_number : (a b : ℕ) → (b == a) ≡ ((a == b) || false)
 same_number a b = elim (cases_eq a b) [
   | inl e ↦ rw (eq-eqb a b e, eq-eqb b a (sym e)) refl
   | inr ne ↦ rw (ne_eqb a b ne, ne_eqb b a (λ e. ne (sym e))) refl
 ]
 
-module _ (p : Plan) (s i : ℕ) (d : EndpointsData) where
-  pub none-numbers : ((fd : ℕ) → false ≡ drains_at p d s i fd) → [] ≡ drained_numbers p s i d
-  none-numbers none = sym (ap numbers_of_table (filter_none (λ (o : Open). drains_at p d s i o.fd) d.table (λ o. sym (none o.fd))))
+pub none-among : (t : List Open) → [] ≡ numbers_among [] t
+none-among t = sym (ap numbers_of_table (filter_none t))
 
-  pub none-out : ((fd : ℕ) → false ≡ drains_at p d s i fd) → d ≡ drained_out p s i d
-  none-out none =
-      ap (λ (t : List Open). record d { table = t }) (sym (filter_all (λ (o : Open). not (drains_at p d s i o.fd)) d.table (λ o. ap not (sym (none o.fd)))))
+pub none-out : (d : EndpointsData) → d ≡ closed_out [] d
+none-out d = ap (λ (t : List Open). record d { table = t }) (sym (filter_all d.table))
 
-  pub one-numbers : (n : ℕ) → ((fd : ℕ) → is_in fd (option_to_list (Some n)) ≡ drains_at p d s i fd) → numbers_like n d.table ≡ drained_numbers p s i d
-  one-numbers n one =
-      ap numbers_of_table (filter_by (λ (o : Open). o.fd == n) (λ (o : Open). drains_at p d s i o.fd) d.table (λ o. sym (same_number o.fd n) ∙ one o.fd))
+pub one-among : (n : ℕ) (t : List Open) → numbers_like n t ≡ numbers_among (n ∷ []) t
+one-among n t = ap numbers_of_table (filter-by (λ (o : Open). o.fd == n) (λ (o : Open). is_in o.fd (n ∷ [])) t (λ o. same_number n o.fd))
 
-  pub one-out : (n : ℕ) → ((fd : ℕ) → is_in fd (option_to_list (Some n)) ≡ drains_at p d s i fd) → without_number n d ≡ drained_out p s i d
-  one-out n one = ap (λ (t : List Open). record d { table = t })
-      (filter_by (λ (o : Open). not (o.fd == n)) (λ (o : Open). not (drains_at p d s i o.fd)) d.table (λ o. ap not (sym (same_number o.fd n) ∙ one o.fd)))
+pub one-out : (n : ℕ) (d : EndpointsData) → without_number n d ≡ closed_out (n ∷ []) d
+one-out n d = ap (λ (t : List Open). record d { table = t })
+    (filter-by (λ (o : Open). not (o.fd == n)) (λ (o : Open). not (is_in o.fd (n ∷ []))) d.table (λ o. ap not (same_number n o.fd)))

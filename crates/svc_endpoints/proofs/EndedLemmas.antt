@@ -24,9 +24,9 @@ use Rattle.svc_endpoints.specs.declared.loops.LoopEnd.{LoopEnd}
 use Rattle.svc_endpoints.specs.EndpointsData.{EndpointsData}
 use Rattle.svc_endpoints.specs.EndpointsState.{IsEndpointsSized, AreOnOffer, ServesIn, LoopsStand, StatesKept, StatesStand, EndpointsStand, last_at, failed_at, is_holding, is_done, held_of, numbers_of_table}
 use Rattle.svc_endpoints.specs.Loops.{is_loop, has_loop, loop_count}
-use Rattle.svc_endpoints.specs.Uses.{uses, is_user, is_drained_by, serves_by, accepts_by}
+use Rattle.svc_endpoints.specs.Uses.{HasDescriptor, HaveOneAddress, uses, is_user, is_drained_by, serves_by, accepts_by}
 use Rattle.svc_endpoints.specs.declared.table.Open.{Open}
-use Rattle.svc_endpoints.specs.Effects.{loop_ended, cleared, gone_numbers, goes, is_done_for, drains_at, drained_numbers, drained_out}
+use Rattle.svc_endpoints.specs.Effects.{loop_ended, cleared, gone_numbers, goes, is_done_for, drains_at, numbers_among, closed_out}
 use Rattle.svc_endpoints.proofs.RangeLemmas.{fails0, all0}
 use Rattle.svc_endpoints.proofs.LoopLemmas.{ended-less, has_loop-more, loop_count-more}
 use Rattle.svc_endpoints.proofs.UseLemmas.{drained-is, drained-grows, all_get}
@@ -40,6 +40,8 @@ use Rattle.svc_endpoints.proofs.FailLemmas.{fails-same}
 use Rattle.svc_endpoints.proofs.EventLemmas.{opened_is-event, numbers-event, place-event, turned-event}
 use Rattle.svc_endpoints.proofs.ClearLemmas.{Answered, stands-cleared, goes-live, goes-gone}
 use Rattle.svc_endpoints.proofs.RestLemmas.{picked-length}
+use Rattle.svc_endpoints.proofs.HolderLemmas.{one-address}
+use Rattle.svc_endpoints.proofs.DrainedLemmas.{filter-by}
 use Rattle.svc_endpoints.proofs.AnswerLemmas.{giving-closes}
 use Rattle.svc_endpoints.proofs.Laws.{endpoint-inside}
 
@@ -280,43 +282,53 @@ module _ (p : Plan) (d : EndpointsData) (q : Record) (sized : IsEndpointsSized p
   stands-ended keep offer = stands-cleared p keep d2 r offer answered
 
 -- what is told, and how much
-module _ (p : Plan) (d mid new : EndpointsData) (s i j : ℕ) (keep : List ℕ) (before after : List Action) (is : mid ≡ loop_ended d s i j)
-    (left : new ≡ drained_out p s i mid) (appended : after ≡ before ++ map Close (drained_numbers p s i mid)) where
+module _ (p : Plan) (d mid new : EndpointsData) (s i j : ℕ) (keep closed : List ℕ) (before after : List Action) (is : mid ≡ loop_ended d s i j)
+    (left : new ≡ closed_out closed mid) (appended : after ≡ before ++ map Close (numbers_among closed mid.table)) where
   abbrev made : EndpointsData
   made = loop_ended d s i j
 
-  new_is : new ≡ drained_out p s i made
-  new_is = left ∙ ap (drained_out p s i) is
+  new_is : new ≡ closed_out closed made
+  new_is = left ∙ ap (closed_out closed) is
 
-  told_is : after ≡ before ++ map Close (drained_numbers p s i made)
-  told_is = appended ∙ ap (λ (m : EndpointsData). before ++ map Close (drained_numbers p s i m)) is
+  told_is : after ≡ before ++ map Close (numbers_among closed made.table)
+  told_is = appended ∙ ap (λ (m : EndpointsData). before ++ map Close (numbers_among closed m.table)) is
 
-  pub tells-ended : IsEndpointsSized p d
+  pub tells-ended : IsEndpointsSized p d → (HaveOneAddress p mid → (fd : ℕ) → is_in fd closed ≡ drains_at p mid s i fd)
       → Tells before after
       (λ told. IsGivingUp told
       × ((q : Record) → fits_row p q (LoopEnded s i j) ≡ true → AreOnOffer p keep q → EndpointsStand p d q
       → EndpointsStand p new (tell (Got (LoopEnded s i j) ∷ q) told)))
-  tells-ended sized = record {
-    told = map Close (drained_numbers p s i made);
+  tells-ended sized drained = record {
+    told = map Close (numbers_among closed made.table);
     appended = told_is;
-    kept = (giving-closes (drained_numbers p s i made), λ q fit offer stand. stands q fit offer stand);
+    kept = (giving-closes (numbers_among closed made.table), λ q fit offer stand. stands q fit offer stand);
   }
     where
+      has_before : (fd t k : ℕ) → HasDescriptor p made fd t k → HasDescriptor p d fd t k
+      has_before fd t k h = record { inside = h.inside; within = h.within; has = h.has }
+
+      exactly : (q : Record) → EndpointsStand p d q → (fd : ℕ) → is_in fd closed ≡ drains_at p made s i fd
+      exactly q stand = subst (λ (m : EndpointsData). HaveOneAddress p m → (fd : ℕ) → is_in fd closed ≡ drains_at p m s i fd) is drained
+          (λ fd t k u l h g. one-address p d q stand fd t k u l (has_before fd t k h) (has_before fd u l g))
+
       stands : (q : Record) → fits_row p q (LoopEnded s i j) ≡ true → AreOnOffer p keep q → EndpointsStand p d q
-          → EndpointsStand p new (tell (Got (LoopEnded s i j) ∷ q) (map Close (drained_numbers p s i made)))
+          → EndpointsStand p new (tell (Got (LoopEnded s i j) ∷ q) (map Close (numbers_among closed made.table)))
       stands q fit offer stand =
           let same = same-goes p d q sized s i j fit stand keep offer in
-          let table : cleared p keep made ≡ new = ap (λ (t : List Open). record made { table = t }) same.1 ∙ sym new_is in
-          let told : gone_numbers p keep made made.table ≡ drained_numbers p s i made = ap numbers_of_table same.0 in
-          subst (λ (m : EndpointsData). EndpointsStand p m (tell (Got (LoopEnded s i j) ∷ q) (map Close (drained_numbers p s i made)))) table
+          let kept = filter-by (λ (o : Open). not (is_in o.fd closed)) (λ (o : Open). not (drains_at p made s i o.fd)) d.table
+          (λ o. ap not (exactly q stand o.fd)) in
+          let gone = filter-by (λ (o : Open). is_in o.fd closed) (λ (o : Open). drains_at p made s i o.fd) d.table (λ o. exactly q stand o.fd) in
+          let table : cleared p keep made ≡ new = ap (λ (t : List Open). record made { table = t }) (same.1 ∙ sym kept) ∙ sym new_is in
+          let told : gone_numbers p keep made made.table ≡ numbers_among closed made.table = ap numbers_of_table (same.0 ∙ sym gone) in
+          subst (λ (m : EndpointsData). EndpointsStand p m (tell (Got (LoopEnded s i j) ∷ q) (map Close (numbers_among closed made.table)))) table
           (subst (λ (ns : List ℕ). EndpointsStand p (cleared p keep made) (tell (Got (LoopEnded s i j) ∷ q) (map Close ns))) told
           (stands-ended p d q sized s i j fit stand keep offer))
 
   pub few-ended : length after + length new.table ≤ length before + length d.table
   few-ended =
-      let few = picked-length (λ (o : Open). drains_at p made s i o.fd) d.table in
-      let told = ap length told_is ∙ length-append before (map Close (drained_numbers p s i made)) in
-      let closes = length-map (drained_numbers p s i made) Close in
+      let few = picked-length (λ (o : Open). is_in o.fd closed) d.table in
+      let told = ap length told_is ∙ length-append before (map Close (numbers_among closed made.table)) in
+      let closes = length-map (numbers_among closed made.table) Close in
       let rest = ap (λ (m : EndpointsData). length m.table) new_is in
       omega (arith, few, told, closes, rest)
 

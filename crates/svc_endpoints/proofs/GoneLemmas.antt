@@ -1,7 +1,7 @@
 -- What is gone, and what keeps it so.
 use Rattle.std.proofs.Common.{ℕ, Bool, true, false, ◌||◌, ◌&&◌, ◌==◌, not, inl, inr, List, [], ◌∷◌, ◌≡◌, refl, ap, sym, ◌∙◌, subst, arith, map, if◌then◌else◌}
 use Rattle.std.specs.List.{list_any}
-use Rattle.std.proofs.lemmas.Bool.{cases_Bool, and_parts, or_cases, or_left, or_right, eqb-true}
+use Rattle.std.proofs.lemmas.Bool.{cases_Bool, and_parts, or_cases, or_left, or_right, eqb-true, eq-eqb}
 use Rattle.std.proofs.lemmas.List.Folds.{list_any-append}
 use Rattle.svc_record.specs.declared.plan.Plan.{Plan}
 use Rattle.svc_record.specs.declared.entry.Entry.{Entry}
@@ -27,6 +27,7 @@ use Rattle.svc_base.specs.NumberSets.{is_in}
 use Rattle.svc_endpoints.proofs.OpenedLemmas.{first_address, opens-later, live-opened}
 use Rattle.svc_endpoints.proofs.CloseLemmas.{along-closes}
 use Rattle.svc_endpoints.proofs.UseLemmas.{get-endpoint}
+use Rattle.svc_endpoints.proofs.StatesLemmas.{at_here}
 
 -- the event says that a loop ended
 abbrev pub is_any_loop_end : Event → Bool
@@ -87,49 +88,64 @@ turned-same p q r fd opened doubled =
     ap (λ ds. (list_any (λ (d : Descriptor). d.number == fd && d.received) ds && is_address_unclaimed p (first_address fd ds)) || is_doubled p r fd) opened
     ∙ ap (λ b. (is_received p q fd && is_address_unclaimed p (address_of p q fd)) || b) doubled
 
--- what was offered was opened
-adopt_opened : (p : Plan) (q : Record) (s i fd : ℕ) → EachEntry (λ e before. ask_due p e before ≡ true) q → is_in fd (last_adopt q s i) ≡ true
-    → is_opened p q fd ≡ true
-adopt_opened p [] s i fd due h = absurd (cc)
-adopt_opened p (Told (Adopt t k n) ∷ q) s i fd due h = elim (cases_Bool (t == s && k == i)) [
-  | inl y ↦ (let here : (n == fd) ≡ true = only (n == fd) (rw y at h) in
-      let parts = and_parts (has_turn p q t k) (list_any (λ m. m == n) (live_numbers_with p q (address p t k))) due.0 in
-      live-opened p q fd (address p t k) (subst (λ m. is_in m (live_numbers_with p q (address p t k)) ≡ true) (eqb-true n fd here) parts.1))
-  | inr m ↦ adopt_opened p q s i fd due.1 (rw m at h)
-]
-  where
-    only : (b : Bool) → (b || false) ≡ true → b ≡ true
-    only b h = grind arith
-adopt_opened p (e ∷ q) s i fd due h = opens-later fd (descriptors_of p e) (opened_descriptors p q) (adopt_opened p q s i fd due.1 h)
+-- what is so of a live descriptor of the endpoint's address, and stays so, is so of what was offered to the endpoint last
+module _ (p : Plan) (s i fd : ℕ) (P : Record → Type 0) (later : (e : Entry) (q : Record) → P q → P (e ∷ q))
+    (live : (q : Record) → is_in fd (live_numbers_with p q (address p s i)) ≡ true → P q) where
+  pub adopt-comes : (q : Record) → EachEntry (λ e before. ask_due p e before ≡ true) q → is_in fd (last_adopt q s i) ≡ true → P q
+  adopt-comes [] due h = absurd (cc)
+  adopt-comes (Told (Adopt t k n) ∷ q) due h = later (Told (Adopt t k n)) q (elim (cases_Bool (t == s && k == i)) [
+    | inl y ↦ (let here : (n == fd) ≡ true = only (n == fd) (rw y at h) in
+        let parts = and_parts (has_turn p q t k) (list_any (λ m. m == n) (live_numbers_with p q (address p t k))) due.0 in
+        let there = subst (λ m. is_in m (live_numbers_with p q (address p t k)) ≡ true) (eqb-true n fd here) parts.1 in
+        live q (at_here (λ u j. is_in fd (live_numbers_with p q (address p u j)) ≡ true) t s k i there y))
+    | inr m ↦ adopt-comes q due.1 (rw m at h)
+  ])
+    where
+      only : (b : Bool) → (b || false) ≡ true → b ≡ true
+      only b h = grind arith
+  adopt-comes (e ∷ q) due h = later e q (adopt-comes q due.1 h)
+
+  -- and where it is so of what is bound, of what holds the endpoint
+  module _ (bound : (q : Record) → P (Got (Bound s i fd) ∷ q)) where
+    brought : (t k n : ℕ) (c : Bool) (q : Record) → is_in fd (if (t == s && k == i) && c then n ∷ [] else []) ≡ true → P (Got (Bound t k n) ∷ q)
+    brought t k n c q h = elim (cases_Bool (t == s && k == i)) [
+      | inl y ↦ (let parts = and_parts (t == s) (k == i) y in
+          subst (λ u. P (Got (Bound u k n) ∷ q)) (sym (eqb-true t s parts.0))
+          (subst (λ j. P (Got (Bound s j n) ∷ q)) (sym (eqb-true k i parts.1))
+          (subst (λ m. P (Got (Bound s i m) ∷ q)) (sym (eqb-true n fd (number c n (rw y at h)))) (bound q))))
+      | inr m ↦ absurd (let none = rw m at h in cc)
+    ]
+      where
+        number : (c : Bool) (n : ℕ) → is_in fd (if true && c then n ∷ [] else []) ≡ true → (n == fd) ≡ true
+        number true n h = only (n == fd) h
+          where
+            only : (b : Bool) → (b || false) ≡ true → b ≡ true
+            only b h = grind arith
+        number false n h = absurd (cc)
+
+    taken : (b : Bool) (xs : List ℕ) → is_in fd (if b then xs else []) ≡ true → is_in fd xs ≡ true
+    taken true xs h = h
+    taken false xs h = absurd (cc)
+
+    held_now : (e : Entry) (q : Record) → EachEntry (λ e before. ask_due p e before ≡ true) q → is_in fd (held_numbers_of p s i e q) ≡ true → P (e ∷ q)
+    held_now (Got (Bound t k n)) q due h = brought t k n (not (has_live p q (address p t k))) q h
+    held_now (Got (Adopted t k)) q due h = later (Got (Adopted t k)) q (adopt-comes q due (taken (t == s && k == i) (last_adopt q s i) h))
+    held_now e q due h = absurd (cc)
+
+    pub held-comes : (q : Record) → EachEntry (λ e before. ask_due p e before ≡ true) q → is_in fd (held_numbers p q s i) ≡ true → P q
+    held-comes [] due h = absurd (cc)
+    held-comes (e ∷ q) due h =
+        elim (or_cases (is_in fd (held_numbers_of p s i e q)) (is_in fd (held_numbers p q s i))
+        (sym (list_any-append (λ n. n == fd) (held_numbers_of p s i e q) (held_numbers p q s i)) ∙ h)) [
+          | inl now ↦ held_now e q due.1 now
+          | inr earlier ↦ later e q (held-comes q due.1 earlier)
+        ]
 
 -- what holds an endpoint was opened
 pub held-opened : (p : Plan) (q : Record) (s i fd : ℕ) → EachEntry (λ e before. ask_due p e before ≡ true) q → is_in fd (held_numbers p q s i) ≡ true
     → is_opened p q fd ≡ true
-held-opened p [] s i fd due h = absurd (cc)
-held-opened p (e ∷ q) s i fd due h =
-    elim (or_cases (is_in fd (held_numbers_of p s i e q)) (is_in fd (held_numbers p q s i))
-    (sym (list_any-append (λ n. n == fd) (held_numbers_of p s i e q) (held_numbers p q s i)) ∙ h)) [
-      | inl now ↦ held_now p e q s i fd due now
-      | inr earlier ↦ opens-later fd (descriptors_of p e) (opened_descriptors p q) (held-opened p q s i fd due.1 earlier)
-    ]
-  where
-    brought : (b : Bool) (n fd : ℕ) → is_in fd (if b then n ∷ [] else []) ≡ true → (n == fd) ≡ true
-    brought true n fd h = only (n == fd) h
-      where
-        only : (b : Bool) → (b || false) ≡ true → b ≡ true
-        only b h = grind arith
-    brought false n fd h = absurd (cc)
-
-    taken : (b : Bool) (fd : ℕ) (xs : List ℕ) → is_in fd (if b then xs else []) ≡ true → is_in fd xs ≡ true
-    taken true fd xs h = h
-    taken false fd xs h = absurd (cc)
-
-    held_now : (p : Plan) (e : Entry) (q : Record) (s i fd : ℕ) → EachEntry (λ e before. ask_due p e before ≡ true) (e ∷ q)
-        → is_in fd (held_numbers_of p s i e q) ≡ true → is_opened p (e ∷ q) fd ≡ true
-    held_now p (Got (Bound t k n)) q s i fd due h =
-        or_left (n == fd) (is_opened p q fd) (brought ((t == s && k == i) && not (has_live p q (address p t k))) n fd h)
-    held_now p (Got (Adopted t k)) q s i fd due h = adopt_opened p q s i fd due.1 (taken (t == s && k == i) fd (last_adopt q s i) h)
-    held_now p e q s i fd due h = absurd (cc)
+held-opened p q s i fd due h = held-comes p s i fd (λ x. is_opened p x fd ≡ true) (λ e x. opens-later fd (descriptors_of p e) (opened_descriptors p x))
+    (λ x. live-opened p x fd (address p s i)) (λ x. or_left (fd == fd) (is_opened p x fd) (eq-eqb fd fd refl)) q due h
 
 -- what is drained was opened
 pub drained-opened : (p : Plan) (q : Record) (fd : ℕ) → EachEntry (λ e before. ask_due p e before ≡ true) q → is_drained p q fd ≡ true → is_opened p q fd ≡ true

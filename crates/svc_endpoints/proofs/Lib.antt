@@ -29,6 +29,8 @@ pub mod ReleaseLemmas
 pub mod BoundStands
 pub mod NewLemmas
 pub mod Laws
+pub mod HolderLemmas
+pub mod DrainedLemmas
 pub mod EndedLemmas
 pub mod GatherLemmas
 pub mod DecodeLemmas
@@ -41,6 +43,5 @@ pub mod BusyLemmas
 pub mod CalmLemmas
 pub mod SumLemmas
 pub mod TableSums
-pub mod DrainedLemmas
 pub mod TallyLemmas
 pub mod StaysLemmas

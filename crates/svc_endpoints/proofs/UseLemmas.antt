@@ -51,7 +51,7 @@ offer_is fd (AddressInUse at) adopting adopts e f = rw (← e) refl
 offer_is fd (Holding n) adopting adopts e f = rw (← e) refl
 offer_is fd AdoptionFailed adopting adopts e f = rw (← e) refl
 
-held_is : (fd : ℕ) (x : EndpointStatus) → is_in fd (held_of x) ≡ has_held fd x
+pub held_is : (fd : ℕ) (x : EndpointStatus) → is_in fd (held_of x) ≡ has_held fd x
 held_is fd (Holding n) = sym (or_none (n == fd))
 held_is fd Idle = refl
 held_is fd Binding = refl

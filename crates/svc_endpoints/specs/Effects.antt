@@ -204,10 +204,10 @@ without_number fd d = record d { table = filter (λ (o : Open). not (o.fd == fd)
 abbrev pub drains_at : Plan → EndpointsData → ℕ → ℕ → ℕ → Bool
 drains_at p d s i fd = is_in fd (held_of (last_at d s i)) && (is_done p d s i && is_drained_by p d fd)
 
--- the numbers of those in the table of which that holds
-abbrev pub drained_numbers : Plan → ℕ → ℕ → EndpointsData → List ℕ
-drained_numbers p s i d = numbers_of_table (filter (λ (o : Open). drains_at p d s i o.fd) d.table)
+-- the numbers of the table's descriptors that are among these
+abbrev pub numbers_among : List ℕ → List Open → List ℕ
+numbers_among out table = numbers_of_table (filter (λ (o : Open). is_in o.fd out) table)
 
--- the states without them
-abbrev pub drained_out : Plan → ℕ → ℕ → EndpointsData → EndpointsData
-drained_out p s i d = record d { table = filter (λ (o : Open). not (drains_at p d s i o.fd)) d.table }
+-- the states without the descriptors with these numbers
+abbrev pub closed_out : List ℕ → EndpointsData → EndpointsData
+closed_out out d = record d { table = without_numbers out d.table }

@@ -1,14 +1,15 @@
 -- Which descriptors are drained, by the states: held, and no longer used.
-use Rattle.std.specs.Prelude.{ℕ, Bool, false, ◌==◌, ◌≡◌, ◌<◌, not, ◌&&◌, List, [], length, slice_index_or}
+use Rattle.std.specs.Prelude.{ℕ, Bool, true, false, ◌==◌, ◌≡◌, ◌<◌, not, ◌&&◌, List, [], length, slice_index_or}
 use Rattle.std.specs.List.{list_any, list_all}
 use Rattle.svc_record.specs.declared.plan.Plan.{Plan}
-use Rattle.svc_record.specs.Plans.{service_count, services, endpoints, endpoint_numbers, is_endpoint}
+use Rattle.svc_record.specs.Plans.{service_count, services, endpoints, endpoint_numbers, address, is_endpoint}
+use Rattle.svc_base.specs.NumberSets.{is_in}
 use Rattle.svc_endpoints.specs.declared.states.EndpointStatus.{EndpointStatus}
 use Rattle.svc_endpoints.specs.declared.states.EndpointStatus.TheVariants.{Adopting, Holding}
 use Rattle.svc_endpoints.specs.declared.states.EndpointState.{EndpointState}
 use Rattle.svc_endpoints.specs.declared.loops.LoopEnd.{LoopEnd}
 use Rattle.svc_endpoints.specs.EndpointsData.{EndpointsData}
-use Rattle.svc_endpoints.specs.EndpointsState.{last_at, failed_at, is_holding, is_done}
+use Rattle.svc_endpoints.specs.EndpointsState.{last_at, failed_at, is_holding, is_done, fd_of}
 
 -- the states alone, with no descriptors
 abbrev pub states_of : List (List EndpointState) → List Bool → List LoopEnd → EndpointsData
@@ -43,6 +44,16 @@ is_holder_by d fd s i = not (failed_at d s) && has_held fd (last_at d s i)
 -- the endpoint uses the descriptor
 abbrev pub is_user : Plan → EndpointsData → ℕ → ℕ → ℕ → Bool
 is_user p d fd s i = uses fd (failed_at d s) (is_done p d s i) (last_at d s i)
+
+-- endpoint i of s is one of the plan, and the descriptor is offered to it or holds it
+pub record HasDescriptor (p : Plan) (d : EndpointsData) (fd s i : ℕ) : Type 0 where
+  pub inside : s < service_count p
+  pub within : i < length (endpoints p s)
+  pub has : is_in fd (fd_of (last_at d s i)) ≡ true
+
+-- the endpoints that one descriptor is offered to, or holds, have one address
+abbrev pub HaveOneAddress : Plan → EndpointsData → Type 0
+HaveOneAddress p d = (fd t k s i : ℕ) → HasDescriptor p d fd t k → HasDescriptor p d fd s i → address p t k ≡ address p s i
 
 -- some endpoint of the service passes the test
 abbrev pub any_of : Plan → (ℕ → ℕ → Bool) → ℕ → Bool

@@ -1,6 +1,6 @@
 //! What answers to asks make of the endpoints.
 
-ghost use Rattle.std.specs.Prelude.{◌≡◌, ◌+◌, ◌<◌, ◌≤◌, ◌++◌, ◌∷◌, ◌==◌, [], length, ℕ, Some, true, false, not, ◌&&◌, nat_lt, map};
+ghost use Rattle.std.specs.Prelude.{◌≡◌, ◌+◌, ◌<◌, ◌≤◌, ◌++◌, ◌∷◌, ◌==◌, [], length, ℕ, Some, IfSome, true, false, not, ◌&&◌, nat_lt, map};
 ghost use Rattle.std.specs.List.{list_any};
 ghost use Rattle.std.specs.Option.{option_to_list};
 ghost use Rattle.svc_base.specs.NumberSets.{is_in};
@@ -19,10 +19,10 @@ ghost use Rattle.svc_record.specs.Record.{Record, has, now, tell};
 ghost use Rattle.svc_record.specs.Told.{Tells, IsGivingUp};
 ghost use Rattle.svc_endpoints.specs.EndpointsState.{IsEndpointsSized, EndpointsStand, AreOnOffer, last_at, is_binding, is_adopting, is_done, held_of};
 ghost use Rattle.svc_endpoints.specs.Foreign.{is_endpoints_event};
-ghost use Rattle.svc_endpoints.specs.Effects.{is_last_refusal, refused, bind_failed, adopt_failed, adopted, bound_or_again, has_open, cleared_if, given_up_if, close_told, drains_at, drained_out, drained_numbers};
+ghost use Rattle.svc_endpoints.specs.Effects.{is_last_refusal, refused, bind_failed, adopt_failed, adopted, bound_or_again, has_open, cleared_if, given_up_if, close_told, drains_at, closed_out, numbers_among};
 ghost use Rattle.svc_endpoints.specs.Loops.{has_loop};
 ghost use Rattle.svc_endpoints.specs.Stays.{FailsOnly, StaysHeld, StaysUnheld, OthersStay, GainsNone};
-ghost use Rattle.svc_endpoints.specs.Uses.{serves_by, accepts_by};
+ghost use Rattle.svc_endpoints.specs.Uses.{HaveOneAddress, is_drained_by, serves_by, accepts_by};
 
 use crate::endpoints::Endpoints;
 use crate::loops::is_done;
@@ -201,40 +201,56 @@ impl Endpoints {
         ensures rows { self.new.parts.rows ≡ self.old.parts.rows }
     {
         self.end_loop(s, i, j);
-        self.close_drained(plan, s as usize, i as usize, actions);
+        let drained = self.drained_at(plan, s as usize, i as usize);
+        self.close_drained(drained, actions);
     }
 
-    /// Closes the descriptor that holds the endpoint, where it is drained by the end of the endpoint's
-    /// last loop. No other descriptor can be.
-    fn close_drained(&mut self, plan: &Plan, s: usize, i: usize, actions: &mut Actions)
-        requires sized { IsEndpointsSized plan.now self.old.parts }
+    /// Closes the live descriptor with the number, if there is one.
+    fn close_drained(&mut self, drained: Option<u64>, actions: &mut Actions)
         requires room { length self.old.parts.table ≤ spare actions.old }
-        ensures after { self.new.parts ≡ drained_out plan.now s i self.old.parts }
-        ensures told { list_of actions.new ≡ list_of actions.old ++ map Close (drained_numbers plan.now s i self.old.parts) }
+        ensures after { self.new.parts ≡ closed_out (option_to_list drained) self.old.parts }
+        ensures told { list_of actions.new ≡ list_of actions.old ++ map Close (numbers_among (option_to_list drained) self.old.parts.table) }
         ensures room { spare actions.old + length self.new.parts.table ≤ spare actions.new + length self.old.parts.table }
     {
-        if let Some(fd) = self.drained_at(plan, s, i) {
+        if let Some(fd) = drained {
             self.close_number(fd, actions);
         }
     }
 
-    /// The descriptor that holds the endpoint, where each of the endpoint's loops has ended and it is
-    /// drained.
+    /// The descriptor that holds the endpoint, where it is drained by the end of the endpoint's last
+    /// loop. No other descriptor can be.
     fn drained_at(&self, plan: &Plan, s: usize, i: usize) -> Option<u64>
         requires sized { IsEndpointsSized plan.now self.now.parts }
-        ensures { (fd : ℕ) → is_in fd (option_to_list result) ≡ drains_at plan.now self.now.parts s i fd }
+        ensures { HaveOneAddress plan.now self.now.parts → (fd : ℕ) → is_in fd (option_to_list result) ≡ drains_at plan.now self.now.parts s i fd }
     {
         let fd = self.held_at(plan, s, i)?;
-        if is_done(self.ended_loops(), plan.tasks, s, i) && self.is_drained(plan, fd, s) {
+        if is_done(self.ended_loops(), plan.tasks, s, i) && self.is_let_go(plan, s, i, fd) {
             return Some(fd);
         }
         None
     }
 
+    /// The descriptor that holds the endpoint, each of whose loops has ended, is drained. Most often no
+    /// other endpoint has the address, so that none other can use the descriptor.
+    fn is_let_go(&self, plan: &Plan, s: usize, i: usize, fd: u64) -> bool
+        requires sized { IsEndpointsSized plan.now self.now.parts }
+        requires service { s < service_count plan.now }
+        requires endpoint { i < length (endpoints plan.now s) }
+        requires held { held_of (last_at self.now.parts s i) ≡ fd ∷ [] }
+        requires done { is_done plan.now self.now.parts s i ≡ true }
+        ensures { HaveOneAddress plan.now self.now.parts → result ≡ is_drained_by plan.now self.now.parts fd }
+    {
+        if self.may_share(address_of(plan, s, i)) {
+            return self.is_drained(plan, fd, s);
+        }
+        !self.has_failed(s)
+    }
+
     /// The descriptor that holds the endpoint.
     fn held_at(&self, plan: &Plan, s: usize, i: usize) -> Option<u64>
         requires sized { IsEndpointsSized plan.now self.now.parts }
-        ensures { option_to_list result ≡ held_of (last_at self.now.parts s i) }
+        ensures held { option_to_list result ≡ held_of (last_at self.now.parts s i) }
+        ensures inside { IfSome result (λ fd. (s < service_count plan.now) × (i < length (endpoints plan.now s))) }
     {
         if s >= service_count(plan) || i >= endpoint_count(plan, s) {
             return None;
