@@ -28,6 +28,14 @@ pub record SharesWith (p : Plan) (d : EndpointsData) (s t : ℕ) : Type 0 where
   pub other_first : IsFirst p d t other
   pub same : same_address (address p t other) (address p s at) ≡ true
 
+-- the first endpoints of s and t that aren't held have one address
+pub record LackSame (p : Plan) (d : EndpointsData) (s t : ℕ) : Type 0 where
+  pub at : ℕ
+  pub first : IsFirst p d s at
+  pub other : ℕ
+  pub other_first : IsFirst p d t other
+  pub same : address p t other ≡ address p s at
+
 -- it is busy at each moment up to this one
 abbrev pub IsBusyUntil : EndpointsData → ℕ → ℕ → ℕ → Type 0
 IsBusyUntil d t k end = (moment : ℕ) → moment ≤ end → busy_in d moment t k ≡ true

@@ -5,7 +5,7 @@ ghost use Rattle.svc_record.specs.Plans.{service_count, address};
 ghost use Rattle.svc_endpoints.specs.EndpointsState.{IsEndpointsSized, failed_at};
 ghost use Rattle.svc_endpoints.specs.Effects.{has_open};
 ghost use Rattle.svc_endpoints.specs.Visits.{IsFirst};
-ghost use Rattle.svc_endpoints.specs.Rests.{AsksWith, IsStanding};
+ghost use Rattle.svc_endpoints.specs.Rests.{AsksWith, IsStanding, LackSame};
 
 use crate::endpoints::Endpoints;
 use crate::naming::{address_of, endpoint_count, service_count};
@@ -95,5 +95,21 @@ impl Endpoints {
         }
         is_asking(self.last(t as usize, k as usize))
             && address_of(plan, t as usize, k as usize) == text
+    }
+
+    /// The first endpoints of the two services that aren't held have the same address.
+    pub fn lack_same(&self, plan: &Plan, service: u32, other: u32) -> bool
+        requires sized { IsEndpointsSized plan.now self.now.parts }
+        requires service { service < service_count plan.now }
+        requires other { other < service_count plan.now }
+        ensures { result ≡ true → LackSame plan.now self.now.parts service other }
+    {
+        let missing = self.first_missing(plan, service) as usize;
+        let lacks = self.first_missing(plan, other) as usize;
+        let (service, other) = (service as usize, other as usize);
+        if missing >= endpoint_count(plan, service) || lacks >= endpoint_count(plan, other) {
+            return false;
+        }
+        address_of(plan, service, missing) == address_of(plan, other, lacks)
     }
 }
