@@ -4,11 +4,12 @@ use Rattle.std.proofs.lemmas.Bool.{cases_eq, cases_lt}
 use Rattle.svc_base.proofs.Logic.{clash}
 use Rattle.svc_graph.specs.Bits.{is_set}
 use Rattle.svc_record.specs.declared.plan.Plan.{Plan}
+use Rattle.svc_record.specs.Plans.{address, same_address}
 use Rattle.svc_endpoints.specs.declared.states.EndpointState.{EndpointState}
 use Rattle.svc_endpoints.specs.declared.states.EndpointStatus.{EndpointStatus}
 use Rattle.svc_endpoints.specs.EndpointsData.{EndpointsData}
 use Rattle.svc_endpoints.specs.EndpointsState.{failed_at, last_at, is_asking, is_holding}
-use Rattle.svc_endpoints.specs.Rests.{IsBusyUntil}
+use Rattle.svc_endpoints.specs.Rests.{IsBusyUntil, LackSame, SharesWith}
 use Rattle.svc_endpoints.specs.Stays.{StaysHeld, StaysUnheld, OthersStay, GainsNone}
 use Rattle.svc_endpoints.specs.Visits.{IsFirst, busy_of, busy_in}
 use Rattle.svc_core.specs.StartsState.{is_flagged}
@@ -24,6 +25,18 @@ first-one p d s i j a b = elim (cases_eq i j) [
     | inr ge ↦ absurd (clash (is_holding (last_at d s j)) (a.earlier j (omega arith)) b.missing)
   ]
 ]
+
+-- what waits for the address of a service waits for that of another one too that lacks the same
+pub shares-on : (p : Plan) (d : EndpointsData) (s t u : ℕ) → SharesWith p d s t → LackSame p d t u → SharesWith p d s u
+shares-on p d s t u shares lack = record {
+  at = shares.at;
+  first = shares.first;
+  none = shares.none;
+  other = lack.other;
+  other_first = lack.other_first;
+  same = ap (λ a. same_address a (address p s shares.at)) lack.same
+      ∙ ap (λ i. same_address (address p t i) (address p s shares.at)) (first-one p d t lack.at shares.other lack.first shares.other_first) ∙ shares.same;
+}
 
 -- it stays the first where the same are held, or where the service's states stay
 first_kept : (p : Plan) (d d' : EndpointsData) (s j : ℕ) → StaysHeld d d' → StaysUnheld d d' → IsFirst p d s j → IsFirst p d' s j

@@ -1,22 +1,22 @@
 -- What a visit at one place leaves of what is known of the others.
 use Rattle.std.proofs.Common.{ℕ, Bool, true, false, ◌||◌, ◌&&◌, not, ◌==◌, inl, inr, List, ◌≡◌, ◌≢◌, refl, ap, sym, ◌∙◌, subst, arith, ◌<◌, ◌≤◌, ◌+◌, ◌*◌, length, min, slice_index}
 use Rattle.std.specs.Bool.{OnTrue}
-use Rattle.std.proofs.lemmas.Bool.{eq-eqb, ne_eqb, or_left, or_right, cases_eq, cases_lt}
+use Rattle.std.proofs.lemmas.Bool.{and_from, eq-eqb, ne_eqb, or_left, or_right, cases_eq, cases_lt}
 use Rattle.svc_graph.specs.Bits.{is_set}
 use Rattle.svc_record.specs.declared.plan.Plan.{Plan}
 use Rattle.svc_record.specs.Plans.{service_count, depends}
 use Rattle.svc_endpoints.specs.EndpointsData.{EndpointsData}
 use Rattle.svc_endpoints.specs.EndpointsState.{last_at, is_asking}
 use Rattle.svc_endpoints.specs.Effects.{has_open}
-use Rattle.svc_endpoints.specs.Rests.{HasAll, IsBusyUntil, AsksFirst, RestsUntil, WaitsBehind}
+use Rattle.svc_endpoints.specs.Rests.{HasAll, SharesWith, IsBusyUntil, AsksFirst, RestsUntil, WaitsBehind}
 use Rattle.svc_endpoints.specs.Stays.{StaysHeld, StaysUnheld, OthersStay}
 use Rattle.svc_endpoints.specs.Visits.{IsFirst}
 use Rattle.svc_core.specs.StartsData.{StartsData}
 use Rattle.svc_core.specs.StartsState.{IsStartsSized, is_flagged, due_now, starts_now, start_if}
 use Rattle.svc_core.specs.WaitsData.{WaitsData}
-use Rattle.svc_core.specs.WaitsState.{IsUnmarked, IsWaiting, AreApart, StaysBusy, IsParked, IsIdle, AreIdle, KnowsReady, KnowsOthers, IsKnown, Opens, HasBits, Frees, ClosesPlace, LeavesPlace, Parks, ParksBehind, ParksResting, WaitsStill, StartsOnly, is_open, is_behind, is_resting}
-use Rattle.svc_core.proofs.ParkedLemmas.{first-one, parked-on}
-use Rattle.svc_core.proofs.WaitsLemmas.{and_clash, opens-idle, idle-start, idle-unheld, open-of, opens-joined, none-behind, others-start, keeps-same}
+use Rattle.svc_core.specs.WaitsState.{IsUnmarked, IsWaiting, AreApart, StaysBusy, IsParked, IsIdle, AreIdle, KnowsReady, KnowsOthers, IsKnown, IsHeir, Opens, HasBits, Frees, HandsOn, ClosesPlace, LeavesPlace, Parks, ParksBehind, ParksResting, WaitsStill, StartsOnly, is_open, is_behind, is_resting}
+use Rattle.svc_core.proofs.ParkedLemmas.{first-one, shares-on, parked-on}
+use Rattle.svc_core.proofs.WaitsLemmas.{and_clash, opens-idle, idle-start, idle-unheld, open-of, grown-open, opens-joined, opens-handed, none-behind, others-start, keeps-same}
 
 -- a change at one place leaves the others idle, where what waits behind its service still has reason to
 idle_moved : (p : Plan) (order : List ℕ) (st : StartsData) (d : EndpointsData) (from next k : ℕ) (bits : ℕ → ℕ → Bool) (until : ℕ) (w v : WaitsData)
@@ -106,6 +106,13 @@ resting_other set x y z row here off = grind arith
 resting_on : (set x y z row here : Bool) → here ≡ true → row ≡ false → (((set || x) || y) || z) ≡ true
     → ((((set || (x && here)) || (y && here)) || (z && here)) && not (row && here)) ≡ true
 resting_on set x y z row here there off on = grind arith
+
+-- what is set there was, and what was is set in the other row
+handed_from : (was other row here : Bool) → row ≡ false → ((was || (other && was)) || (row && here)) ≡ true → was ≡ true
+handed_from was other row here off on = grind arith
+
+handed_on : (set row was opened : Bool) → row ≡ true → was ≡ true → ((set || (row && was)) || opened) ≡ true
+handed_on set row was opened there on = grind arith
 
 -- the same marks know the same
 known_bits : (p : Plan) (order : List ℕ) (st : StartsData) (d : EndpointsData) (complete : Bool) (moment from next : ℕ) (bits : ℕ → ℕ → Bool) (until : ℕ)
@@ -271,6 +278,67 @@ module _ (p : Plan) (order : List ℕ) (st : StartsData) (d : EndpointsData) (co
               ]),
         ))
       ]) known
+
+  -- or the first of it is, and the others wait behind that one
+  pub known-handed : (e : ℕ) (v : WaitsData) → IsHeir p order st.started d w k e → HandsOn (slice_index order k) (slice_index order e) e w v
+      → is_open w k ≡ true → IsKnown p order st d complete moment k w → IsKnown p order st d complete moment (k + 1) v
+  known-handed e v heir hands opened known = known_bits p order st d complete moment k (k + 1) _ w.until w v hands known.soon
+      (λ j lt off. elim (opens-idle p order st d k w v grown known.idle j lt off) [
+        | inl done ↦ inl done
+        | inr (inl waits) ↦ inr (inl waits)
+        | inr (inr x) ↦ inr (inr (
+          x.0,
+          elim (cases_eq x.1.by k) [
+            | inl there ↦ handed j off x.1 there
+            | inr ne ↦ parked-on p order st.started d k (k + 1) v (slice_index order j) j x.1 (λ le on. omega arith)
+          ],
+        ))
+      ]) known
+    where
+      grown : Opens w v
+      grown = opens-handed (slice_index order k) (slice_index order e) e w v hands
+
+      was_behind : (j : ℕ) → is_behind v (slice_index order k) j ≡ true → is_behind w (slice_index order k) j ≡ true
+      was_behind j on =
+          let row : ℕ = length w.marks + 1 + slice_index order k in
+          handed_from (is_set w.bits row j) (row == length w.marks + 1 + slice_index order e) (row == length w.marks) (j == e)
+          (ne_eqb row (length w.marks) (λ same. omega arith))
+          (sym (hands.bits row j) ∙ sym (ap (λ marks. is_set v.bits (length marks + 1 + slice_index order k) j) hands.marks) ∙ on)
+
+      is_behind_heir : (j : ℕ) → is_behind w (slice_index order k) j ≡ true → is_behind v (slice_index order e) j ≡ true
+      is_behind_heir j on =
+          let row : ℕ = length w.marks + 1 + slice_index order e in
+          ap (λ marks. is_set v.bits (length marks + 1 + slice_index order e) j) hands.marks ∙ hands.bits row j
+          ∙ handed_on (is_set w.bits row j) (row == row) (is_set w.bits (length w.marks + 1 + slice_index order k) j) (row == length w.marks && j == e)
+          (eq-eqb row row refl) on
+
+      heir_open : is_open v e ≡ true
+      heir_open = ap (λ marks. is_set v.bits (length marks) e) hands.marks ∙ hands.bits (length w.marks) e
+          ∙ or_right _ (length w.marks == length w.marks && e == e)
+          (and_from (length w.marks == length w.marks) (e == e) (eq-eqb (length w.marks) (length w.marks) refl) (eq-eqb e e refl))
+
+      later : (j : ℕ) → is_open v j ≡ false → k ≤ j → is_behind w (slice_index order k) j ≡ true → e ≤ j
+      later j off le on = elim (cases_eq j k) [
+        | inl here ↦ and_clash (is_open v j) (subst (λ n. is_open v n ≡ true) (sym here) (grown-open w v k grown opened)) off (e ≤ j)
+        | inr ne ↦ elim (cases_lt j e) [
+          | inl lt ↦ and_clash (is_behind w (slice_index order k) j) on (heir.first j (omega arith) lt) (e ≤ j)
+          | inr ge ↦ ge
+        ]
+      ]
+
+      handed : (j : ℕ) → is_open v j ≡ false → (x : IsParked p order st.started d k v (slice_index order j) j) → x.by ≡ k
+          → IsParked p order st.started d (k + 1) v (slice_index order j) j
+      handed j off x there =
+          let on = was_behind j (subst (λ n. is_behind v (slice_index order n) j ≡ true) there x.behind) in record {
+            by = e;
+            earlier = later j off (let le = x.earlier in omega arith) on;
+            started = heir.started;
+            shares = shares-on p d (slice_index order j) (slice_index order k) (slice_index order e)
+                (subst (λ n. SharesWith p d (slice_index order j) (slice_index order n)) there x.shares) heir.same;
+            busy = inr (inl (heir_open, let lt = heir.later in omega arith));
+            behind = is_behind_heir j on;
+            parked = x.parked;
+          }
 
   pub freed-open : (v : WaitsData) → Frees (slice_index order k) w v → is_open w k ≡ true → is_open v k ≡ true
   freed-open v freed opened =

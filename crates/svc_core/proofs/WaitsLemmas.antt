@@ -16,7 +16,7 @@ use Rattle.svc_core.specs.CoreData.{IsFormed}
 use Rattle.svc_core.specs.StartsData.{StartsData}
 use Rattle.svc_core.specs.StartsState.{IsStartsSized, is_flagged, ready_now, due_now, start_if, word_taken, end_taken}
 use Rattle.svc_core.specs.WaitsData.{WaitsData}
-use Rattle.svc_core.specs.WaitsState.{IsUnmarked, IsWaiting, AsksNothing, AreApart, IsShortOrder, IsOpenOf, Reopens, StaysBusy, IsParked, IsIdle, AreIdle, KnowsReady, KnowsOthers, IsWatched, IsKnown, Opens, IsMarked, MarksIf, JoinsRow, Frees, FreesAll, Wakes, StartsOnly, is_open, is_behind, is_parked}
+use Rattle.svc_core.specs.WaitsState.{IsUnmarked, IsWaiting, AsksNothing, AreApart, IsShortOrder, IsOpenOf, Reopens, StaysBusy, IsParked, IsIdle, AreIdle, KnowsReady, KnowsOthers, IsWatched, IsKnown, Opens, IsMarked, MarksIf, HasBits, JoinsRow, Frees, HandsOn, FreesAll, Wakes, StartsOnly, is_open, is_behind, is_parked}
 use Rattle.svc_core.proofs.StartsLemmas.{flag-set}
 use Rattle.svc_core.proofs.ParkedLemmas.{parked-grown, parked-on, parked-started, parked-kept, parked-others, parked-rows}
 
@@ -277,14 +277,24 @@ kept_off a n s off = grind arith
 joined_same : (row until : ℕ) (u v : WaitsData) (a k : ℕ) → JoinsRow row until u v → a ≢ length u.marks → is_set v.bits a k ≡ is_set u.bits a k
 joined_same row until u v a k j ne = j.bits a k ∙ kept_off (is_set u.bits a k) (a == length u.marks) (is_set u.bits row k) (ne_eqb a (length u.marks) ne)
 
-pub opens-joined : (row : ℕ) (u v : WaitsData) → JoinsRow row u.until u v → Opens u v
-opens-joined row u v j = record {
-  count = ap (λ marks. length marks) j.marks;
-  kept = λ t on. ap (λ marks. is_flagged marks t) j.marks ∙ on;
-  waits = λ a b e. j.bits a b ∙ or_left (is_set u.bits a b) (a == length u.marks && is_set u.bits row b) e;
-  opened = λ t k off on waits. and_clash (is_flagged u.marks t) (sym (ap (λ marks. is_flagged marks t) j.marks) ∙ on) off (is_open v k ≡ true);
-  until = j.until_is;
+-- where only bits are set, services are marked as before
+opens_bits : (bits : ℕ → ℕ → Bool) (u v : WaitsData) → HasBits bits u.until u v → ((a b : ℕ) → is_set u.bits a b ≡ true → bits a b ≡ true) → Opens u v
+opens_bits bits u v has more = record {
+  count = ap (λ marks. length marks) has.marks;
+  kept = λ t on. ap (λ marks. is_flagged marks t) has.marks ∙ on;
+  waits = λ a b e. has.bits a b ∙ more a b e;
+  opened = λ t k off on waits. and_clash (is_flagged u.marks t) (sym (ap (λ marks. is_flagged marks t) has.marks) ∙ on) off (is_open v k ≡ true);
+  until = has.until_is;
 }
+
+pub opens-joined : (row : ℕ) (u v : WaitsData) → JoinsRow row u.until u v → Opens u v
+opens-joined row u v j = opens_bits _ u v j (λ a b e. or_left (is_set u.bits a b) (a == length u.marks && is_set u.bits row b) e)
+
+pub opens-handed : (s t k : ℕ) (u v : WaitsData) → HandsOn s t k u v → Opens u v
+opens-handed s t k u v hands =
+    opens_bits _ u v hands
+    (λ a b e. or_left _ (a == length u.marks && b == k)
+    (or_left (is_set u.bits a b) (a == length u.marks + 1 + t && is_set u.bits (length u.marks + 1 + s) b) e))
 
 -- what waited behind the service is open, and so is what waited behind any
 pub none-behind : (t : ℕ) (u v : WaitsData) (k : ℕ) → Frees t u v → is_behind v t k ≡ true → is_open v k ≡ true

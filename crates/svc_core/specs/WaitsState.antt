@@ -6,7 +6,7 @@ use Rattle.svc_record.specs.declared.plan.Plan.{Plan}
 use Rattle.svc_record.specs.Plans.{service_count, depends, endpoints}
 use Rattle.svc_endpoints.specs.EndpointsData.{EndpointsData}
 use Rattle.svc_endpoints.specs.EndpointsState.{last_at, is_asking}
-use Rattle.svc_endpoints.specs.Rests.{HasAll, SharesWith, IsBusyUntil}
+use Rattle.svc_endpoints.specs.Rests.{HasAll, LackSame, SharesWith, IsBusyUntil}
 use Rattle.svc_core.specs.CoreData.{IsFormed}
 use Rattle.svc_core.specs.StartsData.{StartsData}
 use Rattle.svc_core.specs.StartsState.{is_flagged, ready_now, due_now, start_if}
@@ -89,6 +89,14 @@ pub record IsWatched (p : Plan) (order : List ℕ) (st : StartsData) (d : Endpoi
   pub idle : AreIdle p order st d 0 w
   pub ready : OnTrue w.fresh (KnowsReady p st d.failed w.complete w)
 
+-- the place e is the first of those that waited behind the service at the place k, and its service is started and wants the same address
+pub record IsHeir (p : Plan) (order : List ℕ) (on : List Bool) (d : EndpointsData) (w : WaitsData) (k e : ℕ) : Type 0 where
+  pub later : k < e
+  pub place : e < length order
+  pub started : is_flagged on (slice_index order e) ≡ true
+  pub same : LackSame p d (slice_index order k) (slice_index order e)
+  pub first : (c : ℕ) → k < c → c < e → is_behind w (slice_index order k) c ≡ false
+
 -- in a pass that has come to the place `from`: what is ready is marked, and what rests still does
 pub record IsKnown (p : Plan) (order : List ℕ) (st : StartsData) (d : EndpointsData) (complete : Bool) (moment from : ℕ) (w : WaitsData) : Type 0 where
   pub count : length w.marks ≡ service_count p
@@ -167,6 +175,12 @@ JoinsRow row until old new = HasBits (λ a b. is_set old.bits a b || (a == lengt
 -- the places that wait behind the service are open again
 abbrev pub Frees : ℕ → WaitsData → WaitsData → Type 0
 Frees t old new = JoinsRow (length old.marks + 1 + t) old.until old new
+
+-- what waits behind the service s waits behind t too, the place of which is open
+abbrev pub HandsOn : ℕ → ℕ → ℕ → WaitsData → WaitsData → Type 0
+HandsOn s t k old new =
+    HasBits (λ a b. (is_set old.bits a b || (a == length old.marks + 1 + t && is_set old.bits (length old.marks + 1 + s) b))
+    || (a == length old.marks && b == k)) old.until old new
 
 -- all places that wait behind a service are open again
 abbrev pub FreesAll : WaitsData → WaitsData → Type 0

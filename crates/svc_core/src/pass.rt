@@ -1,6 +1,6 @@
 //! The pass over the services: it starts what is due, asks for endpoints, and begins to bootstrap.
 
-ghost use Rattle.std.specs.Prelude.{◌≡◌, ◌+◌, ◌*◌, ◌<◌, ◌≤◌, length, slice_index, true, false};
+ghost use Rattle.std.specs.Prelude.{◌≡◌, ◌+◌, ◌*◌, ◌<◌, ◌≤◌, length, slice_index, true, false, IfSome};
 ghost use Rattle.svc_base.specs.Items.{list_of, spare};
 ghost use Rattle.svc_record.specs.Plans.{service_count, endpoints};
 ghost use Rattle.svc_record.specs.Validity.{IsValid, IsInOrder};
@@ -11,7 +11,7 @@ ghost use Rattle.svc_core.specs.Passes.{StartsAt, VisitsAt, VisitsAll, is_tested
 ghost use Rattle.svc_core.specs.Steps.{Spends};
 ghost use Rattle.svc_endpoints.specs.Rests.{IsStanding, WaitsBehind};
 ghost use Rattle.svc_endpoints.specs.Stays.{StaysHeld, StaysUnheld, OthersStay};
-ghost use Rattle.svc_core.specs.WaitsState.{IsKnown, StartsOnly, WaitsStill, is_open};
+ghost use Rattle.svc_core.specs.WaitsState.{IsHeir, IsKnown, StartsOnly, WaitsStill, is_open};
 
 use crate::plans::{depends_of, is_bootstrap};
 use crate::starts::Starts;
@@ -172,7 +172,7 @@ fn settle_started(
         Standing::Asking => waits.close_asking(k),
         Standing::Resting(end) => waits.rest(k, order[k], end),
         Standing::Served => {
-            waits.free(order[k]);
+            hand_on(plan, order, k, starts, endpoints, complete, moment, waits);
             waits.close(k);
         }
         Standing::Behind(t) => {
@@ -182,6 +182,53 @@ fn settle_started(
             );
         }
         Standing::Due => waits.free(order[k]),
+    }
+}
+
+/// The service at the place asks for nothing more: of what waits behind it the first place alone is
+/// visited again, and the others wait behind that one, if it wants the same address; else all are.
+fn hand_on(
+    plan: &Plan,
+    order: &[u32],
+    k: usize,
+    starts: &Starts,
+    endpoints: &Endpoints,
+    complete: bool,
+    moment: u64,
+    waits: &mut Waits,
+)
+    requires formed { IsFormed plan.now order.now starts.now endpoints.now.parts }
+    requires place { k < length order.now }
+    requires known { IsKnown plan.now order.now starts.now endpoints.now.parts complete moment k waits.old }
+    requires open { is_open waits.old k ≡ true }
+    ensures { IsKnown plan.now order.now starts.now endpoints.now.parts complete moment (k + 1) waits.new }
+{
+    match heir(plan, order, k, starts, endpoints, waits) {
+        Some(next) => waits.hand_on(order[k], order[next], next),
+        None => waits.free(order[k]),
+    }
+}
+
+/// The first place that waits, or has waited, behind the service at this one, where its service is
+/// started and wants the same address.
+fn heir(
+    plan: &Plan,
+    order: &[u32],
+    k: usize,
+    starts: &Starts,
+    endpoints: &Endpoints,
+    waits: &Waits,
+) -> Option<usize>
+    requires formed { IsFormed plan.now order.now starts.now endpoints.now.parts }
+    requires place { k < length order.now }
+    requires count { length waits.now.marks ≡ service_count plan.now }
+    ensures { IfSome result (IsHeir plan.now order.now starts.now.started endpoints.now.parts waits.now k) }
+{
+    let next = waits.next_behind(order[k], k + 1, order.len())?;
+    if starts.is_started(plan, order[next]) && endpoints.lack_same(plan, order[k], order[next]) {
+        Some(next)
+    } else {
+        None
     }
 }
 

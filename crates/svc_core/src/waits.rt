@@ -6,7 +6,7 @@ ghost use Rattle.svc_record.specs.Plans.{service_count};
 ghost use Rattle.svc_record.specs.Validity.{IsValid};
 ghost use Rattle.svc_core.specs.StartsState.{IsStartsSized, is_flagged, ready_now};
 ghost use Rattle.std.specs.Bool.{OnTrue};
-ghost use Rattle.svc_core.specs.WaitsState.{is_open, IsUnmarked, KnowsReady, KnowsOthers, Opens, IsMarked, MarksIf, ClosesPlace, OpensPlace, IsShortOrder, Reopens, Parks, JoinsRow, Frees, FreesAll, Wakes, LeavesPlace, ParksBehind, ParksResting};
+ghost use Rattle.svc_core.specs.WaitsState.{is_open, is_behind, IsUnmarked, KnowsReady, KnowsOthers, Opens, IsMarked, MarksIf, ClosesPlace, OpensPlace, IsShortOrder, Reopens, Parks, JoinsRow, Frees, HandsOn, FreesAll, Wakes, LeavesPlace, ParksBehind, ParksResting};
 
 use crate::plans::depends_of;
 use crate::starts::Starts;
@@ -175,18 +175,19 @@ impl Waits {
         self.marks.len() as u32
     }
 
-    /// The least open place from one on, before the end.
-    pub(crate) fn next(&self, from: usize, end: usize) -> Option<usize>
-        requires { end ≤ 1024 }
+    /// The least place of a row from one on, before the end.
+    fn next_in(&self, row: u32, from: usize, end: usize) -> Option<usize>
+        requires row { row < 2 * length self.now.marks + 3 }
+        requires end { end ≤ 1024 }
         ensures found { IfSome result (λ k. (from ≤ k) × (k < end)) }
-        ensures open { IfSome result (λ k. is_open self.now k ≡ true) }
-        ensures least { IfSome result (λ k. (c : ℕ) → from ≤ c → c < k → is_open self.now c ≡ false) }
-        ensures none { IfNone result ((c : ℕ) → from ≤ c → c < end → is_open self.now c ≡ false) }
+        ensures is_set { IfSome result (λ k. is_set self.now.bits row k ≡ true) }
+        ensures least { IfSome result (λ k. (c : ℕ) → from ≤ c → c < k → is_set self.now.bits row c ≡ false) }
+        ensures none { IfNone result ((c : ℕ) → from ≤ c → c < end → is_set self.now.bits row c ≡ false) }
     {
         if from >= end {
             return None;
         }
-        match self.bits.next(self.open_row(), from as u32) {
+        match self.bits.next(row, from as u32) {
             Some(k) => {
                 if (k as usize) < end {
                     Some(k as usize)
@@ -196,6 +197,27 @@ impl Waits {
             }
             None => None,
         }
+    }
+
+    /// The least open place from one on, before the end.
+    pub(crate) fn next(&self, from: usize, end: usize) -> Option<usize>
+        requires { end ≤ 1024 }
+        ensures found { IfSome result (λ k. (from ≤ k) × (k < end)) }
+        ensures open { IfSome result (λ k. is_open self.now k ≡ true) }
+        ensures least { IfSome result (λ k. (c : ℕ) → from ≤ c → c < k → is_open self.now c ≡ false) }
+        ensures none { IfNone result ((c : ℕ) → from ≤ c → c < end → is_open self.now c ≡ false) }
+    {
+        self.next_in(self.open_row(), from, end)
+    }
+
+    /// The least place from one on, before the end, that waits or has waited behind the service.
+    pub(crate) fn next_behind(&self, service: u32, from: usize, end: usize) -> Option<usize>
+        requires service { service < length self.now.marks }
+        requires end { end ≤ 1024 }
+        ensures found { IfSome result (λ k. (from ≤ k) × (k < end)) }
+        ensures least { IfSome result (λ k. (c : ℕ) → from ≤ c → c < k → is_behind self.now service c ≡ false) }
+    {
+        self.next_in(self.open_row() + 1 + service, from, end)
     }
 
     /// Marks the service as ready, and opens the places that wait for it.
@@ -265,6 +287,19 @@ impl Waits {
     {
         let row = self.open_row();
         self.bits.join(row, row + 1 + t);
+    }
+
+    /// The places that wait behind the service wait behind the other one too, whose place is visited again.
+    pub(crate) fn hand_on(&mut self, service: u32, other: u32, place: usize)
+        requires service { service < length self.old.marks }
+        requires other { other < length self.old.marks }
+        requires apart { service ≢ other }
+        requires place { place < 1024 }
+        ensures { HandsOn service other place self.old self.new }
+    {
+        let row = self.open_row();
+        self.bits.join(row + 1 + other, row + 1 + service);
+        self.bits.set(row, place as u32);
     }
 
     /// All places that wait behind a service are visited again.

@@ -13,20 +13,18 @@ returns-in-Resting c =
 
 pub returns-in-Served : goal.returns-in-Served
 returns-in-Served c =
-    known-closed c.args.plan.now c.args.order.now c.args.starts.now c.args.endpoints.now.parts c.args.complete c.args.moment c.args.k c.free.new.self
-    c.close.new.self c.requires.started (rw c.in-Served.is at c.requires.stands) c.close.ensures
-    (known-freed c.args.plan.now c.args.order.now c.args.starts.now c.args.endpoints.now.parts c.args.complete c.args.moment c.args.k c.args.waits.now
-    c.free.new.self c.free.ensures c.requires.known)
+    known-closed c.args.plan.now c.args.order.now c.args.starts.now c.args.endpoints.now.parts c.args.complete c.args.moment c.args.k c.hand_on.new.waits
+    c.close.new.self c.requires.started (rw c.in-Served.is at c.requires.stands) c.close.ensures c.hand_on.ensures
 
 pub settle_behind-requires-clause-known : goal.settle_behind-requires-clause-known
 settle_behind-requires-clause-known c =
     known-freed c.args.plan.now c.args.order.now c.args.starts.now c.args.endpoints.now.parts c.args.complete c.args.moment c.args.k c.args.waits.now
-    c.free-in-Behind.new.self c.free-in-Behind.ensures c.requires.known
+    c.free.new.self c.free.ensures c.requires.known
 
 pub settle_behind-requires-clause-open : goal.settle_behind-requires-clause-open
 settle_behind-requires-clause-open c =
     freed-open c.args.plan.now c.args.order.now c.args.starts.now c.args.endpoints.now.parts c.args.complete c.args.moment c.args.k c.args.waits.now
-    c.free-in-Behind.new.self c.free-in-Behind.ensures c.requires.open
+    c.free.new.self c.free.ensures c.requires.open
 
 pub returns-in-Due : goal.returns-in-Due
 returns-in-Due c =
