@@ -1,1 +1,3 @@
 pub mod EchoLemmas
+pub mod NumberLemmas
+pub mod TellLemmas

@@ -1,6 +1,9 @@
 //! The connections of a server, and what is to be told of each.
 
-ghost use Rattle.std.specs.Prelude.{◌<◌, length, IfSome};
+ghost use Rattle.std.specs.Prelude.{◌≡◌, ◌<◌, length, IfSome};
+ghost use Rattle.svc_sockets.specs.OpenSockets.{without};
+ghost use Rattle.svc_sockets.specs.Seen.{connection_numbers};
+ghost use Rattle.svc_sockets.specs.SocketsData.{SocketsData, TellsNext};
 
 use crate::sockets::Seat;
 use crate::streams::{Incoming, Outgoing, Progress, echo_piece};
@@ -69,23 +72,32 @@ fn apply(stream: &TcpStream, settings: &[Setting]) -> bool {
     true
 }
 
+/// Writes back what is there, up to so many pieces. Answers whether no further piece comes back.
+fn is_over(incoming: &mut Incoming, outgoing: &mut Outgoing) -> bool {
+    for _ in 0..PIECES {
+        match echo_piece(incoming, outgoing) {
+            Progress::More => {}
+            Progress::Waits => return false,
+            Progress::Over => return true,
+        }
+    }
+    false
+}
+
 impl Connection {
     /// Writes back what is there, and notes where the connection is done.
-    fn echo_round(&mut self) {
-        for _ in 0..PIECES {
-            match echo_piece(&mut self.incoming, &mut self.outgoing) {
-                Progress::More => {}
-                Progress::Waits => return,
-                Progress::Over => {
-                    self.state = ConnectionState::Finished;
-                    return;
-                }
-            }
+    fn echo_round(&mut self)
+        ensures { self.new.number ≡ self.old.number }
+    {
+        if is_over(&mut self.incoming, &mut self.outgoing) {
+            self.state = ConnectionState::Finished;
         }
     }
 
     /// Reads the signal of a connection on the control endpoint, if it is there.
-    fn read_signal(&mut self) {
+    fn read_signal(&mut self)
+        ensures { self.new.number ≡ self.old.number }
+    {
         let mut byte = [0u8; 1];
         self.state = match self.incoming.read(&mut byte) {
             Taken::Got(_) => match signal_of(byte[0]) {
@@ -95,6 +107,29 @@ impl Connection {
             Taken::Failed if self.incoming.waits => ConnectionState::Serving,
             _ => ConnectionState::Finished,
         };
+    }
+
+    /// That it came is posted, where this seat was told.
+    fn settle(&mut self, seat: Seat)
+        ensures { self.new.number ≡ self.old.number }
+    {
+        if self.state == ConnectionState::Arriving(seat) {
+            self.state = ConnectionState::Waiting;
+        }
+    }
+
+    /// Gives it its turn, where the application has it.
+    fn serve(&mut self)
+        ensures { self.new.number ≡ self.old.number }
+    {
+        if self.state != ConnectionState::Serving {
+            return;
+        }
+        if self.endpoint == CONTROL {
+            self.read_signal();
+        } else {
+            self.echo_round();
+        }
     }
 
     /// Whether something is to be told of it.
@@ -109,7 +144,10 @@ impl Connection {
     }
 
     /// What is to be told of it, which then is told.
-    fn next_answer(&mut self) -> Option<Event> {
+    fn next_answer(&mut self) -> Option<Event>
+        ensures number { self.new.number ≡ self.old.number }
+        ensures told { (rest : SocketsData) → TellsNext result rest rest }
+    {
         let (event, state) = match self.state {
             ConnectionState::Set(done) => {
                 (Event::Set(self.number, done), ConnectionState::Waiting)
@@ -134,36 +172,66 @@ fn place_of_next(connections: &[Connection]) -> Option<usize>
         .position(|connection| connection.has_answer())
 }
 
-/// The next answer of a connection. One that the application is done with is dropped: its stream is closed.
-pub(crate) fn next_answer(connections: &mut Vec<Connection>) -> Option<Event> {
-    let at = place_of_next(connections.as_slice())?;
-    if connections[at].state == ConnectionState::Finished {
-        let done = connections.swap_remove(at);
-        return Some(Event::Finished(done.number));
-    }
+/// The next answer of the connection at this place, which goes on.
+fn answer_at(connections: &mut [Connection], at: usize) -> Option<Event>
+    requires { at < length connections.old }
+    ensures numbers { connection_numbers connections.new ≡ connection_numbers connections.old }
+    ensures told { (rest : SocketsData) → TellsNext result rest rest }
+{
     connections[at].next_answer()
 }
 
+/// The next answer of a connection. One that the application is done with is dropped: its stream is closed.
+fn next_answer(connections: &mut Vec<Connection>) -> Option<Event>
+    ensures { (rest : SocketsData) → TellsNext result (record rest { connections = connection_numbers connections.old.items })
+        (record rest { connections = connection_numbers connections.new.items }) }
+{
+    let at = place_of_next(connections.as_slice())?;
+    if connections[at].state == ConnectionState::Finished {
+        let number = connections[at].number;
+        drop_one(connections, number);
+        return Some(Event::Finished(number));
+    }
+    answer_at(connections.as_mut_slice(), at)
+}
+
 /// Each connection that the application has gets a turn.
-pub(crate) fn serve_all(connections: &mut [Connection]) {
+fn serve_each(connections: &mut [Connection])
+    ensures { connection_numbers connections.new ≡ connection_numbers connections.old }
+{
     for connection in connections.iter_mut() {
-        if connection.state != ConnectionState::Serving {
-            continue;
-        }
-        if connection.endpoint == CONTROL {
-            connection.read_signal();
-        } else {
-            connection.echo_round();
+        connection.serve();
+    }
+}
+
+/// The same of a table.
+fn serve_all(connections: &mut Vec<Connection>)
+    ensures { connection_numbers connections.new.items ≡ connection_numbers connections.old.items }
+{
+    serve_each(connections.as_mut_slice());
+}
+
+/// The next answer of a connection. Each that the application has gets a turn, where no earlier answer is
+/// to be told.
+pub(crate) fn next_served(connections: &mut Vec<Connection>) -> Option<Event>
+    ensures { (rest : SocketsData) → TellsNext result (record rest { connections = connection_numbers connections.old.items })
+        (record rest { connections = connection_numbers connections.new.items }) }
+{
+    match next_answer(connections) {
+        Some(event) => Some(event),
+        None => {
+            serve_all(connections);
+            next_answer(connections)
         }
     }
 }
 
 /// What the seat was told before is posted by now, since it asks again.
-pub(crate) fn settle(connections: &mut [Connection], seat: Seat) {
+pub(crate) fn settle(connections: &mut [Connection], seat: Seat)
+    ensures { connection_numbers connections.new ≡ connection_numbers connections.old }
+{
     for connection in connections.iter_mut() {
-        if connection.state == ConnectionState::Arriving(seat) {
-            connection.state = ConnectionState::Waiting;
-        }
+        connection.settle(seat);
     }
 }
 
@@ -187,14 +255,18 @@ fn place_of(connections: &[Connection], number: u64) -> Option<usize>
 }
 
 /// The connection goes on so.
-pub(crate) fn set_state(connections: &mut [Connection], number: u64, state: ConnectionState) {
+pub(crate) fn set_state(connections: &mut [Connection], number: u64, state: ConnectionState)
+    ensures { connection_numbers connections.new ≡ connection_numbers connections.old }
+{
     if let Some(at) = place_of(connections, number) {
         connections[at].state = state;
     }
 }
 
 /// Applies settings to the connection.
-pub(crate) fn set_options(connections: &mut [Connection], number: u64, settings: &[Setting]) {
+pub(crate) fn set_options(connections: &mut [Connection], number: u64, settings: &[Setting])
+    ensures { connection_numbers connections.new ≡ connection_numbers connections.old }
+{
     if let Some(at) = place_of(connections, number) {
         let done = apply(&connections[at].incoming.stream, settings);
         connections[at].state = ConnectionState::Set(done);
@@ -202,8 +274,8 @@ pub(crate) fn set_options(connections: &mut [Connection], number: u64, settings:
 }
 
 /// Drops the connection: its stream is closed.
-pub(crate) fn drop_one(connections: &mut Vec<Connection>, number: u64) {
-    if let Some(at) = place_of(connections.as_slice(), number) {
-        let _ = connections.swap_remove(at);
-    }
+pub(crate) fn drop_one(connections: &mut Vec<Connection>, number: u64)
+    ensures { connection_numbers connections.new.items ≡ without number (connection_numbers connections.old.items) }
+{
+    connections.retain(|connection| connection.number != number);
 }

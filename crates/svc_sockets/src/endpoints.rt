@@ -1,6 +1,9 @@
 //! The endpoints of a server, and what is to be told of each.
 
-ghost use Rattle.std.specs.Prelude.{◌<◌, length, IfSome};
+ghost use Rattle.std.specs.Prelude.{◌≡◌, ◌<◌, length, IfSome};
+ghost use Rattle.svc_sockets.specs.OpenSockets.{number_behind};
+ghost use Rattle.svc_sockets.specs.SocketsData.{SocketsData, Tells, TellsNext};
+ghost use Rattle.svc_sockets.specs.Told.{descriptor_by, endpoint_event};
 
 use crate::sockets::Seat;
 use std::net::{Net, SocketAddr, ToSocketAddrs};
@@ -111,7 +114,9 @@ pub(crate) fn add_all<R: Net>(
 
 impl Endpoint {
     /// This is to be told.
-    pub fn answer(&mut self, answer: EndpointAnswer) {
+    pub fn answer(&mut self, answer: EndpointAnswer)
+        ensures { self.new ≡ record self.old { state = EndpointState.Due answer; fd = descriptor_by answer self.old.fd } }
+    {
         if let EndpointAnswer::Bound(fd) = answer {
             self.fd = Some(fd);
         }
@@ -119,14 +124,20 @@ impl Endpoint {
     }
 
     /// The event of an accept loop that ends.
-    pub fn end_loop(&mut self) -> Event {
+    pub fn end_loop(&mut self) -> Event
+        ensures event { result ≡ Event.LoopEnded self.old.service self.old.number self.old.ended }
+        ensures next { self.new ≡ record self.old { ended = number_behind self.old.ended } }
+    {
         let number = self.ended;
         self.ended = number.saturating_add(1);
         Event::LoopEnded(self.service, self.number, number)
     }
 
     /// Tells the answer, as an event, to a seat.
-    fn tell(&mut self, seat: Seat, answer: EndpointAnswer) -> Event {
+    fn tell(&mut self, seat: Seat, answer: EndpointAnswer) -> Event
+        ensures event { result ≡ endpoint_event self.old.service self.old.number answer }
+        ensures told { (rest : SocketsData) → Tells result rest rest }
+    {
         let (s, i) = (self.service, self.number);
         self.state = match answer {
             EndpointAnswer::Bound(_) | EndpointAnswer::Adopted => EndpointState::Telling(seat),
@@ -143,7 +154,9 @@ impl Endpoint {
 }
 
 /// The next answer of an endpoint.
-pub(crate) fn next_answer(endpoints: &mut [Endpoint], seat: Seat) -> Option<Event> {
+pub(crate) fn next_answer(endpoints: &mut [Endpoint], seat: Seat) -> Option<Event>
+    ensures { (rest : SocketsData) → TellsNext result rest rest }
+{
     for endpoint in endpoints.iter_mut() {
         if let EndpointState::Due(answer) = endpoint.state {
             return Some(endpoint.tell(seat, answer));

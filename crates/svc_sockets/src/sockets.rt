@@ -2,7 +2,11 @@
 //! a state of a row, and rows are made as the addresses are learned, as a connection comes and as a
 //! letter is opened: so an action takes no memory.
 
-ghost use Rattle.std.specs.Prelude.{◌<◌, length, IfSome};
+ghost use Rattle.std.specs.Prelude.{◌≡◌, ◌<◌, [], ◌∷◌, ◌++◌, ◌⊎◌, ◌≢◌, false, length, IsSome, IfSome, IfOk, IsOk, OnOk, OnErr, vec_len, vec_capacity};
+ghost use Rattle.svc_sockets.specs.OpenSockets.{open_numbers, without};
+ghost use Rattle.svc_sockets.specs.Peers.{peer_address};
+ghost use Rattle.svc_sockets.specs.Seen.{endpoint_count, loop_count, seen};
+ghost use Rattle.svc_sockets.specs.SocketsData.{TellsNext, Performs, on_connections, refused, without_all};
 
 use crate::connections::{Connection, ConnectionState};
 use crate::descriptors::Descriptors;
@@ -120,7 +124,9 @@ pub fn accept(listener: &TcpListener) -> Accepted {
 }
 
 /// Who is at the other end, by the address.
-pub fn peer_of(addr: SocketAddr) -> Peer {
+pub fn peer_of(addr: SocketAddr) -> Peer
+    ensures { result ≡ Peer.Inet (peer_address addr) }
+{
     Peer::Inet(match addr {
         SocketAddr::V4(addr) => PeerAddr::V4 {
             ip: addr.ip().to_bits(),
@@ -135,7 +141,10 @@ fn bind<R: Net<Listener = TcpListener, Stream = TcpStream>>(
     rt: &R,
     descriptors: &mut Descriptors,
     address: Option<SocketAddr>,
-) -> EndpointAnswer {
+) -> EndpointAnswer
+    ensures { (open_numbers descriptors.new ≡ open_numbers descriptors.old)
+        ⊎ (open_numbers descriptors.new ≡ open_numbers descriptors.old ++ descriptors.old.next ∷ []) }
+{
     let Some(address) = address else {
         return EndpointAnswer::BindFailed;
     };
@@ -167,7 +176,17 @@ fn loop_to_end(endpoints: &[Endpoint], connections: &[Connection], tasks: u64) -
 
 impl Sockets {
     /// No sockets yet. It takes no memory.
-    pub fn new(alloc: Global) -> Self {
+    pub fn new(alloc: Global) -> Self
+        ensures { seen result ≡ record {
+          listeners = [];
+          next_listener = 3;
+          connections = [];
+          next_connection = 1;
+          moment = 0;
+          is_draining = false;
+          has_ended = false;
+        } }
+    {
         Sockets {
             alloc,
             start: None,
@@ -187,25 +206,37 @@ impl Sockets {
     }
 
     /// Learns the addresses of a plan, looks each of them up, and makes room for their sockets and for as
-    /// many as a letter hands over. A second call learns nothing new.
-    pub fn meet<R: Net>(&mut self, rt: &R, plan: &Plan) -> Result<(), NoMemory> {
+    /// many as a letter hands over. A second call learns nothing new, and one without memory learns nothing.
+    pub fn meet<R: Net>(&mut self, rt: &R, plan: &Plan) -> Result<(), NoMemory>
+        ensures seen { seen self.new ≡ seen self.old }
+        ensures again { 0 < endpoint_count self.old → IsOk result × self.new ≡ self.old }
+        ensures loops { endpoint_count self.old ≡ 0 → loop_count self.new ≡ plan.now.tasks }
+        ensures unmet { OnErr result (endpoint_count self.new ≡ 0) }
+    {
         if !self.endpoints.is_empty() {
             return Ok(());
         }
         self.tasks = plan.tasks;
         self.offers.reserve()?;
-        endpoints::add_all(rt, &mut self.endpoints, plan)?;
+        let mut endpoints = Vec::new(self.alloc);
+        endpoints::add_all(rt, &mut endpoints, plan)?;
         self.descriptors
-            .reserve(self.endpoints.len().saturating_add(MOST_HANDED))
+            .reserve(endpoints.len().saturating_add(MOST_HANDED))?;
+        self.endpoints = endpoints;
+        Ok(())
     }
 
     /// The server has ended, so nothing comes any more.
-    pub fn has_ended(&self) -> bool {
+    pub fn has_ended(&self) -> bool
+        ensures { result ≡ (seen self.now).has_ended }
+    {
         self.has_ended
     }
 
     /// How many milliseconds have passed since the first call.
-    fn now<R: Clock>(&mut self, rt: &R) -> Option<u64> {
+    fn now<R: Clock>(&mut self, rt: &R) -> Option<u64>
+        ensures seen { seen self.new ≡ seen self.old }
+    {
         let now = match Instant::now(rt) {
             Ok(now) => now,
             Err(_) => return None,
@@ -222,7 +253,9 @@ impl Sockets {
     }
 
     /// What the seat was told before is posted by now, since it asks again.
-    fn settle(&mut self, seat: Seat) {
+    fn settle(&mut self, seat: Seat)
+        ensures { seen self.new ≡ seen self.old }
+    {
         endpoints::settle(self.endpoints.as_mut_slice(), seat);
         connections::settle(self.connections.as_mut_slice(), seat);
         if self.moment_with == Some(seat) {
@@ -232,7 +265,9 @@ impl Sockets {
 
     /// The time, where it is to be told again. One seat at a time is told it, so that two moments don't
     /// change places.
-    fn next_moment(&mut self, seat: Seat, now: u64) -> Option<Event> {
+    fn next_moment(&mut self, seat: Seat, now: u64) -> Option<Event>
+        ensures { TellsNext result (seen self.old) (seen self.new) }
+    {
         let passed = now.saturating_sub(self.moment);
         let is_free = self.moment_with.is_none() || passed >= MOMENT_LOST;
         if passed < MOMENT_EVERY || !is_free {
@@ -260,21 +295,41 @@ impl Sockets {
         }
     }
 
+    /// Tries to accept at each endpoint that serves, from the one whose turn it is, up to the first at which
+    /// something comes. Answers that endpoint's place.
+    fn accept_in_turn(&self, now: u64) -> (usize, Accepted)
+        ensures { result.1 ≢ Accepted.Nothing → result.0 < vec_len self.now.endpoints }
+    {
+        let count = self.endpoints.len();
+        for k in 0..count {
+            let at = self.turn.wrapping_add(k) % count;
+            match self.accept_at(at, now) {
+                Accepted::Nothing => {}
+                accepted => return (at, accepted),
+            }
+        }
+        (0, Accepted::Nothing)
+    }
+
     /// The event of a failed accept. The endpoint waits a little before the next try.
-    fn accept_failed(&mut self, at: usize, number: u32, now: u64) -> Option<Event> {
+    fn accept_failed(&mut self, at: usize, number: u32, now: u64) -> Option<Event>
+        requires { self.old.is_draining ≡ false }
+        ensures { TellsNext result (seen self.old) (seen self.new) }
+    {
         let endpoint = self.endpoints.get_mut(at)?;
         endpoint.rests_until = now.saturating_add(MOMENT_EVERY);
         Some(Event::AcceptFailed(endpoint.service, endpoint.number, number))
     }
 
     /// The event of a connection that came. Room for it is made before.
-    fn admit(
-        &mut self,
-        seat: Seat,
-        at: usize,
-        stream: TcpStream,
-        addr: SocketAddr,
-    ) -> Option<Event> {
+    fn admit(&mut self, seat: Seat, at: usize, stream: TcpStream, addr: SocketAddr) -> Option<Event>
+        requires place { at < vec_len self.old.endpoints }
+        requires accepts { self.old.is_draining ≡ false }
+        requires room { vec_len self.old.connections < vec_capacity self.old.connections }
+        requires spare { IsSome self.old.spare }
+        ensures comes { IsSome result }
+        ensures told { TellsNext result (seen self.old) (seen self.new) }
+    {
         let endpoint = self.endpoints.get(at)?;
         let (service, number) = (endpoint.service, endpoint.number);
         let outgoing = self.spare.take()?;
@@ -300,7 +355,12 @@ impl Sockets {
     }
 
     /// Makes room for one connection.
-    fn prepare(&mut self) -> Result<(), NoMemory> {
+    fn prepare(&mut self) -> Result<(), NoMemory>
+        ensures seen { seen self.new ≡ seen self.old }
+        ensures endpoints { self.new.endpoints ≡ self.old.endpoints }
+        ensures room { OnOk result (vec_len self.new.connections < vec_capacity self.new.connections) }
+        ensures spare { OnOk result (IsSome self.new.spare) }
+    {
         self.connections.reserve(1)?;
         if self.spare.is_none() {
             self.spare = Some(Box::new(self.alloc, Outgoing::new())?);
@@ -310,64 +370,93 @@ impl Sockets {
 
     /// A connection that came, or an accept that failed. From the broadcast on none is accepted: what waits
     /// is for a successor, if there is one.
-    fn next_arrival(&mut self, seat: Seat, now: u64) -> Result<Option<Event>, NoMemory> {
+    fn next_arrival(&mut self, seat: Seat, now: u64) -> Result<Option<Event>, NoMemory>
+        ensures told { IfOk result (λ event. TellsNext event (seen self.old) (seen self.new)) }
+        ensures stays { OnErr result (seen self.new ≡ seen self.old) }
+    {
         if self.is_draining {
             return Ok(None);
         }
         self.prepare()?;
-        let count = self.endpoints.len();
-        for k in 0..count {
-            let at = self.turn.wrapping_add(k) % count;
-            match self.accept_at(at, now) {
-                Accepted::Nothing => {}
-                Accepted::Failed(number) => return Ok(self.accept_failed(at, number, now)),
-                Accepted::Came(stream, addr) => {
-                    self.turn = at.wrapping_add(1);
-                    return Ok(self.admit(seat, at, stream, addr));
-                }
+        match self.accept_in_turn(now) {
+            (_, Accepted::Nothing) => Ok(None),
+            (at, Accepted::Failed(number)) => Ok(self.accept_failed(at, number, now)),
+            (at, Accepted::Came(stream, addr)) => {
+                self.turn = at.wrapping_add(1);
+                Ok(self.admit(seat, at, stream, addr))
             }
         }
-        Ok(None)
     }
 
-    /// What an endpoint or a connection answers. Each connection that the application has gets a turn,
-    /// where no earlier answer is to be told.
-    fn next_answer(&mut self, seat: Seat) -> Option<Event> {
+    /// What an endpoint or a connection answers.
+    fn next_answer(&mut self, seat: Seat) -> Option<Event>
+        ensures { TellsNext result (seen self.old) (seen self.new) }
+    {
         if let Some(event) = endpoints::next_answer(self.endpoints.as_mut_slice(), seat) {
             return Some(event);
         }
-        if let Some(event) = connections::next_answer(&mut self.connections) {
-            return Some(event);
+        connections::next_served(&mut self.connections)
+    }
+
+    /// The end of an accept loop, where one is to be told. They end from the broadcast on.
+    fn next_end(&mut self) -> Option<Event>
+        ensures { TellsNext result (seen self.old) (seen self.new) }
+    {
+        if !self.is_draining {
+            return None;
         }
-        connections::serve_all(self.connections.as_mut_slice());
-        connections::next_answer(&mut self.connections)
+        match loop_to_end(&self.endpoints, &self.connections, self.tasks) {
+            Some(at) => Some(self.endpoints[at].end_loop()),
+            None => None,
+        }
+    }
+
+    /// What is to be told of endpoints and connections.
+    fn next_of_tables(&mut self, seat: Seat, now: u64) -> Result<Option<Event>, NoMemory>
+        ensures told { IfOk result (λ event. TellsNext event (seen self.old) (seen self.new)) }
+        ensures stays { OnErr result (seen self.new ≡ seen self.old) }
+    {
+        match self.next_answer(seat) {
+            Some(event) => Ok(Some(event)),
+            None => match self.next_arrival(seat, now)? {
+                Some(event) => Ok(Some(event)),
+                None => Ok(self.next_end()),
+            },
+        }
+    }
+
+    /// The answer to an offer or what was received, and else what is to be told of the tables.
+    fn next_of_offers(&mut self, seat: Seat, now: u64) -> Result<Option<Event>, NoMemory>
+        ensures told { IfOk result (λ event. TellsNext event (seen self.old) (seen self.new)) }
+        ensures stays { OnErr result (seen self.new ≡ record (seen self.old) { next_listener = (seen self.new).next_listener }) }
+    {
+        match self.offers.next(&mut self.descriptors)? {
+            Some(event) => Ok(Some(event)),
+            None => self.next_of_tables(seat, now),
+        }
+    }
+
+    /// What is to be told next at this moment.
+    fn next_at(&mut self, seat: Seat, now: u64) -> Result<Option<Event>, NoMemory>
+        ensures told { IfOk result (λ event. TellsNext event (seen self.old) (seen self.new)) }
+        ensures stays { OnErr result (seen self.new ≡ record (seen self.old) { next_listener = (seen self.new).next_listener }) }
+    {
+        match self.next_moment(seat, now) {
+            Some(event) => Ok(Some(event)),
+            None => self.next_of_offers(seat, now),
+        }
     }
 
     /// What is to be told next, if anything is. It doesn't wait.
-    pub fn next<R: Clock>(&mut self, rt: &R, seat: Seat) -> Result<Option<Event>, NextRefused> {
+    pub fn next<R: Clock>(&mut self, rt: &R, seat: Seat) -> Result<Option<Event>, NextRefused>
+        ensures told { IfOk result (λ event. TellsNext event (seen self.old) (seen self.new)) }
+        ensures stays { OnErr result (seen self.new ≡ record (seen self.old) { next_listener = (seen self.new).next_listener }) }
+    {
         self.settle(seat);
         let Some(now) = self.now(rt) else {
             return Err(NextRefused::Clock);
         };
-        if let Some(event) = self.next_moment(seat, now) {
-            return Ok(Some(event));
-        }
-        if let Some(event) = self.offers.next(&mut self.descriptors)? {
-            return Ok(Some(event));
-        }
-        if let Some(event) = self.next_answer(seat) {
-            return Ok(Some(event));
-        }
-        if let Some(event) = self.next_arrival(seat, now)? {
-            return Ok(Some(event));
-        }
-        if !self.is_draining {
-            return Ok(None);
-        }
-        match loop_to_end(&self.endpoints, &self.connections, self.tasks) {
-            Some(at) => Ok(Some(self.endpoints[at].end_loop())),
-            None => Ok(None),
-        }
+        Ok(self.next_at(seat, now)?)
     }
 
     fn bind_at<R: Net<Listener = TcpListener, Stream = TcpStream>>(
@@ -375,7 +464,9 @@ impl Sockets {
         rt: &R,
         service: u32,
         number: u32,
-    ) {
+    )
+        ensures { Performs (Action.Bind service number) (seen self.old) (seen self.new) }
+    {
         let Some(at) = endpoints::place_of(&self.endpoints, service, number) else {
             return;
         };
@@ -383,7 +474,9 @@ impl Sockets {
         self.endpoints[at].answer(answer);
     }
 
-    fn adopt_at(&mut self, service: u32, number: u32, fd: u64) {
+    fn adopt_at(&mut self, service: u32, number: u32, fd: u64)
+        ensures { seen self.new ≡ seen self.old }
+    {
         let Some(at) = endpoints::place_of(&self.endpoints, service, number) else {
             return;
         };
@@ -395,7 +488,9 @@ impl Sockets {
         }
     }
 
-    fn rest_at<R: Clock>(&mut self, rt: &R, service: u32, number: u32) {
+    fn rest_at<R: Clock>(&mut self, rt: &R, service: u32, number: u32)
+        ensures { seen self.new ≡ seen self.old }
+    {
         let Some(now) = self.now(rt) else {
             return;
         };
@@ -404,13 +499,17 @@ impl Sockets {
         }
     }
 
-    fn close(&mut self, fd: u64) {
+    fn close(&mut self, fd: u64)
+        ensures { seen self.new ≡ record (seen self.old) { listeners = without fd (seen self.old).listeners } }
+    {
         self.descriptors.close(fd);
         endpoints::forget(self.endpoints.as_mut_slice(), fd);
     }
 
     /// Performs an action of a connection.
-    fn perform_on_connection(&mut self, action: &Action) {
+    fn perform_on_connection(&mut self, action: &Action)
+        ensures { seen self.new ≡ on_connections action.now (seen self.old) }
+    {
         let connections = &mut self.connections;
         match action {
             Action::Settings(c, list) => {
@@ -430,7 +529,9 @@ impl Sockets {
     }
 
     /// Performs an action of a handover.
-    fn perform_at_slot(&mut self, slot: &mut Slot<TcpListener>, action: &Action) {
+    fn perform_at_slot(&mut self, slot: &mut Slot<TcpListener>, action: &Action)
+        ensures { seen self.new ≡ seen self.old }
+    {
         match action {
             Action::OpenReceiver => {
                 let _ = slot.open();
@@ -452,7 +553,9 @@ impl Sockets {
         rt: &R,
         slot: &Mutex<Slot<TcpListener>>,
         action: &Action,
-    ) {
+    )
+        ensures { Performs action.now (seen self.old) (seen self.new) }
+    {
         match action {
             Action::Bind(s, i) => self.bind_at(rt, *s, *i),
             Action::Adopt(s, i, fd) => self.adopt_at(*s, *i, *fd),
@@ -467,14 +570,18 @@ impl Sockets {
         }
     }
 
-    fn close_all(&mut self, fds: &[u64]) {
+    fn close_all(&mut self, fds: &[u64])
+        ensures { seen self.new ≡ record (seen self.old) { listeners = without_all fds.now (seen self.old).listeners } }
+    {
         for fd in fds {
             self.close(*fd);
         }
     }
 
     /// Takes back an event that wasn't posted: what it brought is dropped.
-    pub fn refuse(&mut self, event: &Event) {
+    pub fn refuse(&mut self, event: &Event)
+        ensures { seen self.new ≡ refused event.now (seen self.old) }
+    {
         match event {
             Event::Arrived(_, _, c, _) => connections::drop_one(&mut self.connections, *c),
             Event::Bound(_, _, fd) => self.close(*fd),

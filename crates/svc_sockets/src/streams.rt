@@ -1,7 +1,7 @@
 //! Both directions of a connection: a source over its nonblocking stream, and a sink of the bytes that
 //! the stream hasn't taken yet.
 
-ghost use Rattle.std.specs.Prelude.{◌≤◌};
+ghost use Rattle.std.specs.Prelude.{◌≡◌, ◌≤◌};
 
 use crate::echoing::{EchoEnd, PIECE, echo};
 use std::io::{ErrorKind, Read, Write};
@@ -70,7 +70,10 @@ pub(crate) enum Flushed {
 
 impl Outgoing {
     /// Nothing is to be taken.
-    pub fn new() -> Self {
+    pub fn new() -> Self
+        ensures empty { result.from ≡ result.to }
+        ensures faults { result.count ≡ 0 }
+    {
         Outgoing {
             bytes: [0u8; PIECE],
             from: 0,

@@ -1,0 +1,9 @@
+use Rattle.std.proofs.Common.{◌∙◌}
+use Rattle.std.proofs.Math.Seq.{map-set_same}
+use Rattle.svc_sockets.proofs.connections.serve_each.Goals as goal
+
+pub loop-connection-preserved : goal.loop-connection-preserved
+loop-connection-preserved c =
+    map-set_same (λ connection. connection.number) c.loop-connection.connections c.loop-connection.connection-index c.serve.new.self c.connection-item.result
+    c.serve.ensures
+    ∙ c.loop-connection.invariant
