@@ -1,2 +1,5 @@
+pub mod ItemFaults
+pub mod Messages
+pub mod Places
 pub mod Refusals
 pub mod Spelling

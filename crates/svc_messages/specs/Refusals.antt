@@ -1,5 +1,5 @@
--- What a message on a refused script says.
-use Rattle.std.specs.Prelude.{ℕ, ◌≡◌, ◌⊎◌, List, ◌++◌, codes, Ok, Err}
+-- What a message on a line, or on a refused script, says.
+use Rattle.std.specs.Prelude.{ℕ, ◌≡◌, ◌<◌, ◌≤◌, ◌⊎◌, List, ◌++◌, length, codes, Ok, Err}
 use Rattle.std.specs.Fmt.{decimal}
 use Rattle.std.specs.Str.Lines.{lines}
 use Rattle.svc_text.specs.Script.{Parts, IsLineOf, script}
@@ -7,7 +7,15 @@ use Rattle.svc_text.specs.Dependencies.{RefusesAt, RefusesNone}
 
 -- a message on line n
 abbrev pub line_text : ℕ → List ℕ → List ℕ
-line_text n cause = codes "line " ++ decimal n ++ codes ": " ++ cause
+line_text n cause = codes "line " ++ (decimal n ++ (codes ": " ++ cause))
+
+-- the text is one
+abbrev pub TellsOf : ℕ → List ℕ → Type 0
+TellsOf n text = (cause : List ℕ) × (text ≡ line_text n cause)
+
+-- it is one on one of the lines
+abbrev pub TellsOfLine : List (List ℕ) → List ℕ → Type 0
+TellsOfLine ls text = (n : ℕ) × (0 < n) × (n ≤ length ls) × TellsOf n text
 
 -- line n is that of the first service whose dependencies are refused
 abbrev pub RefusesEdge : List ℕ → ℕ → Type 0
@@ -24,3 +32,7 @@ NamesRefusal bytes text = (n : ℕ) × (cause : List ℕ) × RefusesLine bytes n
 -- the bytes are a script, and all its dependencies are taken
 abbrev pub IsTaken : List ℕ → Type 0
 IsTaken bytes = (parts : Parts) × (script bytes ≡ Ok parts) × RefusesNone parts.services
+
+-- the exit status alone says why the program ended so: the daemon's child isn't ready, the words are refused, a fault of input or output, or no memory
+abbrev pub AlwaysTold : ℕ → Type 0
+AlwaysTold status = (status ≡ 1) ⊎ ((status ≡ 2) ⊎ ((5 ≤ status) × (status ≤ 7)))

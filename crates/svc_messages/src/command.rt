@@ -1,5 +1,9 @@
 //! Why the words of the command line are refused.
 
+ghost use Rattle.std.specs.Prelude.{◌≡◌, ◌⊎◌, IsTrue, IfOk, length, string_bytes};
+ghost use Rattle.std.specs.List.{list_all};
+ghost use Rattle.svc_messages.specs.Messages.{IsMessage, stands};
+
 use crate::words::{said, shown, unknown_word};
 use clap::error::ErrorKind;
 use std::alloc::Global;
@@ -30,7 +34,10 @@ The last line printed, and the exit status:
                         out of memory               7";
 
 /// The words and the exit statuses of the program.
-pub fn help() -> &'static str {
+pub fn help() -> &'static str
+    ensures commands { IsTrue (list_all (λ word. stands word.now result.now) COMMANDS) }
+    ensures flags { IsTrue (list_all (λ word. stands word.now result.now) FLAGS) }
+{
     HELP
 }
 
@@ -71,7 +78,9 @@ fn refused_word(alloc: Global, words: &[RcStr]) -> Result<Option<(&RcStr, ErrorK
 }
 
 /// Why the words behind `run` are refused.
-fn run_message(alloc: Global, words: &[RcStr]) -> Result<String, NoMemory> {
+fn run_message(alloc: Global, words: &[RcStr]) -> Result<String, NoMemory>
+    ensures { IfOk result (λ text. IsMessage (string_bytes text) ⊎ (string_bytes text ≡ HELP.now)) }
+{
     let Some((word, kind)) = refused_word(alloc, words)? else {
         return said(alloc, HELP);
     };
@@ -93,7 +102,9 @@ fn run_message(alloc: Global, words: &[RcStr]) -> Result<String, NoMemory> {
 }
 
 /// Why the words behind `gen` are refused.
-fn gen_message(alloc: Global, words: &[RcStr]) -> Result<String, NoMemory> {
+fn gen_message(alloc: Global, words: &[RcStr]) -> Result<String, NoMemory>
+    ensures { IfOk result (λ text. IsMessage (string_bytes text)) }
+{
     match words {
         [] => said(alloc, "gen lacks its number, from 1 to 1024"),
         [word] => {
@@ -113,7 +124,10 @@ fn gen_message(alloc: Global, words: &[RcStr]) -> Result<String, NoMemory> {
 
 /// Why these words behind the program's name are refused, in one line, or the help where none stands
 /// there or it is asked for.
-pub fn words_message(alloc: Global, words: &[RcStr]) -> Result<String, NoMemory> {
+pub fn words_message(alloc: Global, words: &[RcStr]) -> Result<String, NoMemory>
+    ensures message { IfOk result (λ text. IsMessage (string_bytes text) ⊎ (string_bytes text ≡ HELP.now)) }
+    ensures none { length words.now ≡ 0 → IfOk result (λ text. string_bytes text ≡ HELP.now) }
+{
     let Some((first, more)) = words.split_first() else {
         return said(alloc, HELP);
     };

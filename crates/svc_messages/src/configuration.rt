@@ -1,5 +1,10 @@
 //! Why a line of a configuration is refused, and which of its keys are misspelled.
 
+ghost use Rattle.std.specs.Prelude.{All, IfOk, IfSome, string_bytes};
+ghost use Rattle.std.specs.Str.Lines.{lines};
+ghost use Rattle.svc_messages.specs.Messages.{IsPlain, ArePlain, IsMessage};
+ghost use Rattle.svc_messages.specs.Refusals.{TellsOf, TellsOfLine};
+
 use crate::places::{Section, header};
 use crate::spelling::nearest;
 use crate::words::{is_known, said, shown};
@@ -59,7 +64,9 @@ const LISTS: [&str; 2] = ["client_bind_to_ipv4", "client_bind_to_ipv6"];
 const SCALE: &str = "runtime_metrics_poll_time_histogram_scale";
 
 /// What the key takes, if it is known.
-fn wanted(key: &[u8]) -> Option<&'static str> {
+fn wanted(key: &[u8]) -> Option<&'static str>
+    ensures { IfSome result (λ text. IsPlain text.now) }
+{
     if is_known(key, &NUMBERS) {
         Some("a number in decimal digits, without sign or leading zero")
     } else if is_known(key, &FLAGS) {
@@ -75,13 +82,23 @@ fn wanted(key: &[u8]) -> Option<&'static str> {
     }
 }
 
+/// The one of these keys that the word is one letter off.
+fn near_key(key: &[u8], known: &[&'static str]) -> Option<&'static str>
+    requires { ArePlain known.now }
+    ensures { IfSome result (λ text. IsPlain text.now) }
+{
+    nearest(key, known)
+}
+
 /// The key that the word was meant to be, if it is one letter off.
-fn meant(key: &[u8]) -> Option<&'static str> {
-    nearest(key, &NUMBERS)
-        .or(nearest(key, &FLAGS))
-        .or(nearest(key, &TEXTS))
-        .or(nearest(key, &LISTS))
-        .or(nearest(key, &[SCALE]))
+fn meant(key: &[u8]) -> Option<&'static str>
+    ensures { IfSome result (λ text. IsPlain text.now) }
+{
+    near_key(key, &NUMBERS)
+        .or(near_key(key, &FLAGS))
+        .or(near_key(key, &TEXTS))
+        .or(near_key(key, &LISTS))
+        .or(near_key(key, &[SCALE]))
 }
 
 /// The key at the front of a line, and what follows its colon.
@@ -137,7 +154,9 @@ fn has_wrong_value(alloc: Global, bytes: &[u8]) -> Result<bool, NoMemory> {
 }
 
 /// Why a line without a key is refused.
-fn keyless_text(line: &[u8]) -> &'static str {
+fn keyless_text(line: &[u8]) -> &'static str
+    ensures { IsMessage result.now }
+{
     match split_word(line) {
         Some((word, _)) if word.first() == Some(&b'-') => {
             "an item, - TEXT, stands below client_bind_to_ipv4: or client_bind_to_ipv6: alone, and --- once, before any key"
@@ -156,7 +175,9 @@ pub fn configuration_message(
     bytes: &[u8],
     number: usize,
     line: &[u8],
-) -> Result<String, NoMemory> {
+) -> Result<String, NoMemory>
+    ensures { IfOk result (λ text. IsMessage (string_bytes text)) }
+{
     let Some((key, value)) = split_key(line) else {
         return said(alloc, keyless_text(line));
     };
@@ -186,12 +207,21 @@ pub fn configuration_message(
     }
 }
 
-/// Why no server can run with the value of the key with this name, with the key's line.
-pub fn key_message(alloc: Global, bytes: &[u8], name: &str) -> Result<String, NoMemory> {
-    let taken = match name {
+/// What the key with this name takes, where not every number is taken.
+fn taken_by(name: &str) -> &'static str
+    ensures { IsPlain result.now }
+{
+    match name {
         "runtime_metrics_poll_time_histogram_buckets" => "a number from 1 to 1024",
         _ => "a number from 1 on",
-    };
+    }
+}
+
+/// Why no server can run with the value of the key with this name, with the key's line.
+pub fn key_message(alloc: Global, bytes: &[u8], name: &str) -> Result<String, NoMemory>
+    ensures { IsPlain name.now → IfOk result (λ text. IsMessage (string_bytes text)) }
+{
+    let taken = taken_by(name);
     match key_line(bytes, name.as_bytes()) {
         Some(number) => Ok(format!(in alloc;
             "line {number}: no server can run with this value of {name}; it takes {taken}"
@@ -203,7 +233,10 @@ pub fn key_message(alloc: Global, bytes: &[u8], name: &str) -> Result<String, No
 }
 
 /// What is said of a line whose key isn't known and is one letter off a known one.
-fn unknown_key(alloc: Global, number: usize, line: &[u8]) -> Result<Option<String>, NoMemory> {
+fn unknown_key(alloc: Global, number: usize, line: &[u8]) -> Result<Option<String>, NoMemory>
+    ensures message { IfOk result (λ told. IfSome told (λ text. IsMessage (string_bytes text))) }
+    ensures line { IfOk result (λ told. IfSome told (λ text. TellsOf number (string_bytes text))) }
+{
     let Some((key, _)) = split_key(line) else {
         return Ok(None);
     };
@@ -221,7 +254,10 @@ fn unknown_key(alloc: Global, number: usize, line: &[u8]) -> Result<Option<Strin
 
 /// What is said of the keys of a script's configuration that aren't known and are one letter off a
 /// known one: a line each.
-pub fn unknown_keys(alloc: Global, bytes: &[u8]) -> Result<Vec<String>, NoMemory> {
+pub fn unknown_keys(alloc: Global, bytes: &[u8]) -> Result<Vec<String>, NoMemory>
+    ensures messages { IfOk result (λ notes. All (λ note. IsMessage (string_bytes note)) notes.items) }
+    ensures lines { IfOk result (λ notes. All (λ note. TellsOfLine (lines bytes.now) (string_bytes note)) notes.items) }
+{
     let mut notes = Vec::new(alloc);
     let mut section = Section::Nothing;
     let mut rest = bytes;

@@ -1,6 +1,7 @@
 //! The first service of a script whose dependencies are refused, and why.
 
-ghost use Rattle.std.specs.Prelude.{◌≤◌, length, IfOk, MatchOption};
+ghost use Rattle.std.specs.Prelude.{◌≤◌, length, IfOk, IfSome, MatchOption, string_bytes};
+ghost use Rattle.svc_messages.specs.Messages.{IsPlain, IsMessage};
 ghost use Rattle.svc_text.specs.Dependencies.{RefusesAt, RefusesNone, edges_up_to};
 ghost use Rattle.svc_text.specs.Edges.{HasEdges};
 
@@ -35,7 +36,9 @@ pub fn refused_service(alloc: Global, services: &[ServiceLine]) -> Result<Option
 }
 
 /// The name of a service, by its number.
-fn name_of(alloc: Global, services: &[ServiceLine], number: u32) -> Result<String, NoMemory> {
+fn name_of(alloc: Global, services: &[ServiceLine], number: u32) -> Result<String, NoMemory>
+    ensures { IfOk result (λ name. IsPlain (string_bytes name)) }
+{
     match services.get(number as usize) {
         Some(service) => shown(alloc, service.name.as_str().as_bytes()),
         None => said(alloc, "no service"),
@@ -49,7 +52,9 @@ fn dependency_fault(
     services: &[ServiceLine],
     number: u32,
     dependency: u32,
-) -> Result<Option<String>, NoMemory> {
+) -> Result<Option<String>, NoMemory>
+    ensures { IfOk result (λ told. IfSome told (λ text. IsMessage (string_bytes text))) }
+{
     match graph.add_dependency(alloc, number, dependency) {
         Ok(()) => Ok(None),
         Err(DependencyError::NoMemory) => Err(NoMemory),
@@ -76,6 +81,7 @@ pub fn dependency_message(
     k: usize,
 ) -> Result<String, NoMemory>
     requires few { length services.now ≤ 1024 }
+    ensures { IfOk result (λ text. IsMessage (string_bytes text)) }
 {
     let mut graph = nodes(alloc, services)?;
     let _ = add_dependencies(alloc, &mut graph, services)?;

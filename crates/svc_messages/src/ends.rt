@@ -1,5 +1,8 @@
 //! Why a run ended otherwise than by its shutdown.
 
+ghost use Rattle.std.specs.Prelude.{IfOk, IfSome, string_bytes};
+ghost use Rattle.svc_messages.specs.Messages.{IsPlain, IsMessage};
+
 use crate::configuration::key_message;
 use crate::events::fits_where;
 use crate::places::{Section, header};
@@ -38,7 +41,9 @@ fn event_line(bytes: &[u8], k: u64) -> Option<(usize, &[u8])> {
 }
 
 /// Why the k-th event was refused.
-fn stray_message(alloc: Global, bytes: &[u8], k: u64) -> Result<Option<String>, NoMemory> {
+fn stray_message(alloc: Global, bytes: &[u8], k: u64) -> Result<Option<String>, NoMemory>
+    ensures { IfOk result (λ told. IfSome told (λ text. IsMessage (string_bytes text))) }
+{
     let Some((number, line)) = event_line(bytes, k) else {
         return Ok(None);
     };
@@ -58,7 +63,9 @@ fn stray_number(line: &str) -> Option<u64> {
 }
 
 /// Why a run that left this status line ended, where that is known without its script.
-fn plain_message(line: &str) -> Option<&'static str> {
+fn plain_message(line: &str) -> Option<&'static str>
+    ensures { IfSome result (λ text. IsMessage text.now) }
+{
     match line {
         "status host fault" => Some(
             "a line fault came, at which the host fails in place of giving an event",
@@ -80,7 +87,9 @@ fn plain_message(line: &str) -> Option<&'static str> {
 }
 
 /// Why a run that left this status line ended.
-pub fn end_message(alloc: Global, bytes: &[u8], line: &[u8]) -> Result<Option<String>, NoMemory> {
+pub fn end_message(alloc: Global, bytes: &[u8], line: &[u8]) -> Result<Option<String>, NoMemory>
+    ensures { IsPlain line.now → IfOk result (λ told. IfSome told (λ text. IsMessage (string_bytes text))) }
+{
     let Ok(text) = str::from_utf8(line) else {
         return Ok(None);
     };

@@ -1,5 +1,8 @@
 //! Why a line isn't one of an event.
 
+ghost use Rattle.std.specs.Prelude.{IfOk, string_bytes};
+ghost use Rattle.svc_messages.specs.Messages.{IsPlain, ArePlain, IsMessage};
+
 use crate::spelling::nearest;
 use crate::words::{is_known, said, shown, unknown_word};
 use std::alloc::Global;
@@ -61,7 +64,9 @@ enum Slot {
 
 impl Slot {
     /// Its name in the form of a line.
-    fn name(self) -> &'static str {
+    fn name(self) -> &'static str
+        ensures { IsPlain result.now }
+    {
         match self {
             Slot::Moment => "MS",
             Slot::Service => "S",
@@ -80,7 +85,9 @@ impl Slot {
     }
 
     /// What it has to be.
-    fn wanted(self) -> &'static str {
+    fn wanted(self) -> &'static str
+        ensures { IsPlain result.now }
+    {
         match self {
             Slot::Moment => "a time in milliseconds, in decimal digits",
             Slot::Service => "the number of a service, from 0",
@@ -99,7 +106,9 @@ impl Slot {
     }
 
     /// The words that may stand there, where they are few.
-    fn known(self) -> &'static [&'static str] {
+    fn known(self) -> &'static [&'static str]
+        ensures { ArePlain result.now }
+    {
         match self {
             Slot::Answer => &["ok", "no"],
             Slot::Signal => &["fast", "terminate", "upgrade"],
@@ -168,7 +177,10 @@ fn slots(key: &[u8]) -> Option<&'static [Slot]> {
 }
 
 /// The form of a line with this first word.
-fn form_text(alloc: Global, key: &str, slots: &[Slot]) -> Result<String, NoMemory> {
+fn form_text(alloc: Global, key: &str, slots: &[Slot]) -> Result<String, NoMemory>
+    requires { IsPlain key.now }
+    ensures { IfOk result (λ text. IsPlain (string_bytes text)) }
+{
     let mut text = said(alloc, key)?;
     for slot in slots {
         text.push_str(" ")?;
@@ -187,7 +199,11 @@ struct Form<'a> {
 }
 
 /// Why the word may not stand in the slot, in a line of this form.
-fn word_fault(alloc: Global, form: &Form<'_>, slot: Slot, word: &[u8]) -> Result<String, NoMemory> {
+fn word_fault(alloc: Global, form: &Form<'_>, slot: Slot, word: &[u8]) -> Result<String, NoMemory>
+    requires key { IsPlain form.now.key.now }
+    requires text { IsPlain form.now.text.now }
+    ensures { IfOk result (λ text. IsMessage (string_bytes text)) }
+{
     let (key, text, wanted) = (form.key, form.text, slot.wanted());
     let word_shown = shown(alloc, word)?;
     match nearest(word, slot.known()) {
@@ -201,7 +217,11 @@ fn word_fault(alloc: Global, form: &Form<'_>, slot: Slot, word: &[u8]) -> Result
 }
 
 /// Why the words behind the first one are none of a line of this form.
-fn words_fault(alloc: Global, form: &Form<'_>, words: &[u8]) -> Result<String, NoMemory> {
+fn words_fault(alloc: Global, form: &Form<'_>, words: &[u8]) -> Result<String, NoMemory>
+    requires key { IsPlain form.now.key.now }
+    requires text { IsPlain form.now.text.now }
+    ensures { IfOk result (λ text. IsMessage (string_bytes text)) }
+{
     let (key, text) = (form.key, form.text);
     let mut rest = words;
     for slot in form.slots {
@@ -226,7 +246,9 @@ fn words_fault(alloc: Global, form: &Form<'_>, words: &[u8]) -> Result<String, N
 }
 
 /// Why the line is none of an event.
-pub fn event_message(alloc: Global, line: &[u8]) -> Result<String, NoMemory> {
+pub fn event_message(alloc: Global, line: &[u8]) -> Result<String, NoMemory>
+    ensures { IfOk result (λ text. IsMessage (string_bytes text)) }
+{
     let Some((word, rest)) = split_word(line) else {
         return said(alloc, "an event line begins with a word");
     };
@@ -244,7 +266,9 @@ pub fn event_message(alloc: Global, line: &[u8]) -> Result<String, NoMemory> {
 }
 
 /// Where an event with this first word fits.
-pub fn fits_where(key: &[u8]) -> &'static str {
+pub fn fits_where(key: &[u8]) -> &'static str
+    ensures { IsMessage result.now }
+{
     let Ok(text) = str::from_utf8(key) else {
         return "the run goes on";
     };

@@ -1,5 +1,8 @@
 //! What is said of a program that has ended.
 
+ghost use Rattle.std.specs.Prelude.{◌≡◌, ◌<◌, ◌≤◌, IfOk, IfSome, IsNone, IsSome, MatchOption, length, string_bytes};
+ghost use Rattle.svc_messages.specs.Refusals.{AlwaysTold, IsTaken, NamesRefusal};
+
 use crate::command::words_message;
 use crate::ends::end_message;
 use crate::script::script_message;
@@ -22,7 +25,10 @@ pub struct Ending<'a> {
 }
 
 /// Why a script of these bytes was refused.
-fn text_message(alloc: Global, bytes: &[u8]) -> Result<Option<String>, NoMemory> {
+fn text_message(alloc: Global, bytes: &[u8]) -> Result<Option<String>, NoMemory>
+    ensures { length bytes.now ≤ READ_LIMIT →
+        IfOk result (λ message. MatchOption message (IsTaken bytes.now) (λ text. NamesRefusal bytes.now (string_bytes text))) }
+{
     if bytes.len() > READ_LIMIT {
         let text = "the script is too long; it may have 16777216 bytes";
         return Ok(Some(said(alloc, text)?));
@@ -32,7 +38,12 @@ fn text_message(alloc: Global, bytes: &[u8]) -> Result<Option<String>, NoMemory>
 
 /// Why the program ended so, in one line, or in several where the help is asked for; None where nothing is
 /// to be explained. The status decides, so a run that went through its shutdown isn't explained.
-pub fn explanation(alloc: Global, ending: Ending<'_>) -> Result<Option<String>, NoMemory> {
+pub fn explanation(alloc: Global, ending: Ending<'_>) -> Result<Option<String>, NoMemory>
+    ensures served { ending.entry.status ≡ 0 → IfOk result (λ told. IsNone told) }
+    ensures told { AlwaysTold ending.entry.status → IfOk result (λ told. IsSome told) }
+    ensures refused { ending.entry.status ≡ 3 → IfSome ending.entry.script (λ bytes. length bytes.now ≤ READ_LIMIT →
+        IfOk result (λ told. MatchOption told (IsTaken bytes.now) (λ text. NamesRefusal bytes.now (string_bytes text)))) }
+{
     match (ending.status, ending.script) {
         (1, _) => Ok(Some(said(alloc, "the daemon's child isn't ready")?)),
         (2, _) => Ok(Some(words_message(alloc, ending.words)?)),

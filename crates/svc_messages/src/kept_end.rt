@@ -1,6 +1,8 @@
 //! A sink of which the last line is kept, so that how a run ended can be explained.
 
-ghost use Rattle.std.specs.Prelude.{◌≡◌};
+ghost use Rattle.std.specs.Prelude.{◌≡◌, []};
+ghost use Rattle.std.specs.Str.Lines.{lines};
+ghost use Rattle.svc_messages.specs.Messages.{last_or};
 
 use std::alloc::Global;
 use svc_base::{Put, Sink, split_line};
@@ -28,7 +30,9 @@ impl<K: Sink> KeptEnd<K> {
     }
 
     /// The last line that was written, without its line feed.
-    pub fn last_line(&self) -> &[u8] {
+    pub fn last_line(&self) -> &[u8]
+        ensures { result.now ≡ last_or [] (lines self.now.end.items) }
+    {
         let mut last: &[u8] = &[];
         let mut rest = self.end.as_slice();
         while let Some((line, after)) = split_line(rest) {

@@ -1,5 +1,9 @@
 //! Where a line of a script stands.
 
+ghost use Rattle.std.specs.Prelude.{◌≡◌, ◌≤◌, ◌-◌, length, take, slice_get, MatchOption, IsSomeAnd};
+ghost use Rattle.std.specs.Str.Lines.{lines};
+ghost use Rattle.svc_messages.specs.Places.{Begins, BeginsNone, next_section, StandsBehind};
+
 use svc_base::split_line;
 
 /// The part of a script that a line stands in.
@@ -14,7 +18,9 @@ pub enum Section {
 
 impl Section {
     /// The line that begins the next part, if one follows.
-    pub fn next_header(self) -> Option<&'static str> {
+    pub fn next_header(self) -> Option<&'static str>
+        ensures { MatchOption result (next_section self ≡ None) (λ line. IsSomeAnd (next_section self) (λ next. Begins next line.now)) }
+    {
         match self {
             Section::Nothing => Some("%conf"),
             Section::Configuration => Some("%services"),
@@ -25,7 +31,9 @@ impl Section {
 }
 
 /// The part that the line begins, if it begins one.
-pub fn header(line: &[u8]) -> Option<Section> {
+pub fn header(line: &[u8]) -> Option<Section>
+    ensures { MatchOption result (BeginsNone line.now) (λ section. Begins section line.now) }
+{
     if line == b"%conf".as_slice() {
         Some(Section::Configuration)
     } else if line == b"%services".as_slice() {
@@ -46,7 +54,10 @@ pub struct Place<'a> {
 }
 
 /// The line with this number, from 1.
-pub fn place_of(bytes: &[u8], number: usize) -> Place<'_> {
+pub fn place_of(bytes: &[u8], number: usize) -> Place<'_>
+    ensures line { MatchOption result.line (length (lines bytes.now) ≤ number - 1) (λ line. slice_get (lines bytes.now) (number - 1) ≡ Some line.now) }
+    ensures section { StandsBehind (take (number - 1) (lines bytes.now)) result.section }
+{
     let mut section = Section::Nothing;
     let mut rest = bytes;
     let mut passed = 1usize;

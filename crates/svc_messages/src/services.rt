@@ -1,5 +1,9 @@
 //! Why a line isn't one of a service.
 
+ghost use Rattle.std.specs.Prelude.{IfErr, IfOk, IfSome, string_bytes};
+ghost use Rattle.svc_messages.specs.ItemFaults.{IsPlainFault};
+ghost use Rattle.svc_messages.specs.Messages.{IsPlain, IsMessage};
+
 use crate::spelling::nearest;
 use crate::words::{is_known, said, shown, unknown_word};
 use std::alloc::Global;
@@ -79,7 +83,9 @@ impl Options {
 
 impl SaidItems {
     /// Takes `undeclared`.
-    fn take_undeclared(&mut self) -> Option<ItemFault> {
+    fn take_undeclared(&mut self) -> Option<ItemFault>
+        ensures { IfSome result IsPlainFault }
+    {
         if self.bootstraps {
             return Some(ItemFault::Bootstraps);
         }
@@ -89,7 +95,9 @@ impl SaidItems {
     }
 
     /// Takes an item whose value is one by itself.
-    fn take(&mut self, item: &str) -> Option<ItemFault> {
+    fn take(&mut self, item: &str) -> Option<ItemFault>
+        ensures { IfSome result IsPlainFault }
+    {
         match item {
             "after" => {
                 let was = self.after;
@@ -106,7 +114,9 @@ impl SaidItems {
         }
     }
 
-    fn take_endpoint(&mut self, item: &str) -> Option<ItemFault> {
+    fn take_endpoint(&mut self, item: &str) -> Option<ItemFault>
+        ensures { IfSome result IsPlainFault }
+    {
         if self.endpoints >= 64 {
             return Some(ItemFault::TooManyEndpoints);
         }
@@ -145,7 +155,9 @@ fn is_ip(word: &[u8]) -> bool {
 }
 
 /// What the item's value has to be, where it isn't so.
-fn value_fault(item: &str, value: &[u8]) -> Option<ItemFault> {
+fn value_fault(item: &str, value: &[u8]) -> Option<ItemFault>
+    ensures { IfSome result IsPlainFault }
+{
     let wanted = match item {
         "after" if !are_numbers(value, u32::MAX as u64, None) => {
             "numbers of services joined by commas, as 0,2"
@@ -163,12 +175,11 @@ fn value_fault(item: &str, value: &[u8]) -> Option<ItemFault> {
 }
 
 /// The fault of an item in words.
-fn fault_text(
-    alloc: Global,
-    item: &str,
-    value: &[u8],
-    fault: ItemFault,
-) -> Result<String, NoMemory> {
+fn fault_text(alloc: Global, item: &str, value: &[u8], fault: ItemFault) -> Result<String, NoMemory>
+    requires item { IsPlain item.now }
+    requires fault { IsPlainFault fault }
+    ensures { IfOk result (λ text. IsMessage (string_bytes text)) }
+{
     let value_shown = shown(alloc, value)?;
     Ok(match fault {
         ItemFault::Value(wanted) => {
@@ -198,7 +209,9 @@ fn item_fault<'a>(
     alloc: Global,
     said_items: &mut SaidItems,
     items: &'a [u8],
-) -> Result<Option<Result<&'a [u8], String>>, NoMemory> {
+) -> Result<Option<Result<&'a [u8], String>>, NoMemory>
+    ensures { IfOk result (λ found. IfSome found (λ rest. IfErr rest (λ text. IsMessage (string_bytes text)))) }
+{
     let Some((key, rest)) = split_word(items) else {
         return Ok(None);
     };
@@ -225,7 +238,9 @@ fn item_fault<'a>(
 }
 
 /// What is wrong with the items of a service, by the first that is wrong.
-fn items_fault(alloc: Global, bootstraps: bool, items: &[u8]) -> Result<Option<String>, NoMemory> {
+fn items_fault(alloc: Global, bootstraps: bool, items: &[u8]) -> Result<Option<String>, NoMemory>
+    ensures { IfOk result (λ told. IfSome told (λ text. IsMessage (string_bytes text))) }
+{
     let mut said_items = SaidItems {
         bootstraps,
         after: false,
@@ -245,7 +260,9 @@ fn items_fault(alloc: Global, bootstraps: bool, items: &[u8]) -> Result<Option<S
 }
 
 /// A name without more: `eager`, misspelled or a second time, or a service without its kind.
-fn name_alone(alloc: Global, name: &[u8]) -> Result<String, NoMemory> {
+fn name_alone(alloc: Global, name: &[u8]) -> Result<String, NoMemory>
+    ensures { IfOk result (λ text. IsMessage (string_bytes text)) }
+{
     let name_shown = shown(alloc, name)?;
     if name == b"eager".as_slice() {
         return said(
@@ -260,7 +277,9 @@ fn name_alone(alloc: Global, name: &[u8]) -> Result<String, NoMemory> {
 }
 
 /// Why the line is none of a service.
-pub fn service_message(alloc: Global, line: &[u8]) -> Result<String, NoMemory> {
+pub fn service_message(alloc: Global, line: &[u8]) -> Result<String, NoMemory>
+    ensures { IfOk result (λ text. IsMessage (string_bytes text)) }
+{
     let Some((name, rest)) = split_word(line) else {
         return said(alloc, "a service line begins with a name");
     };
