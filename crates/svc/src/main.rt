@@ -2,48 +2,42 @@
 //! refused is explained on standard error.
 #![tactic(auto)]
 
-use std::alloc::AllocError;
+use std::env;
 use std::io::IsTerminal;
 use std::process::ExitCode;
-use std::rc::RcStr;
-use std::{env, io};
 use svc_base::{NoMemory, Reading, Status, Writing};
 use svc_main::serve_script;
-use svc_messages::{Ending, KeptEnd, KeptSource, ProgressSource, explanation, unknown_keys};
+use svc_messages::{
+    Ending, KeptEnd, KeptSource, ProgressSource, explanation, more_refusals, warnings,
+};
+use svc_words::{are_text, words};
 
-/// The words after the program's name. A word that isn't UTF-8 makes a command line that is refused,
-/// as one without words is.
-fn words(rt: &HostRuntime) -> Result<Vec<RcStr>, AllocError> {
-    let mut words = Vec::new(rt.alloc());
-    let args = match env::args(rt) {
-        Ok(args) => args,
-        Err(error) if error.kind() == io::ErrorKind::OutOfMemory => return Err(AllocError),
-        Err(_) => {
-            let _ = eprintln!(rt; "a command word isn't UTF-8");
-            return Ok(words);
-        }
-    };
-    for word in args.skip(1) {
-        words.push(RcStr::from_str(rt.alloc(), word.as_str())?)?;
+/// Tells these notes on standard error.
+fn tell(rt: &HostRuntime, notes: Vec<String>) {
+    for note in &notes {
+        let _ = eprintln!(rt; "{note}");
     }
-    Ok(words)
 }
 
-/// Explains how the program ended, and tells misspelled keys, as far as memory and standard error allow.
+/// Tells what is to be known before the end is explained, then why the program ended so, and which further
+/// lines are refused, as far as memory and standard error allow.
 fn explain(rt: &HostRuntime, ending: Ending<'_>) -> Result<(), NoMemory> {
+    if let Ok(notes) = warnings(rt.alloc(), ending) {
+        tell(rt, notes);
+    }
     if let Some(message) = explanation(rt.alloc(), ending)? {
         let _ = eprintln!(rt; "{message}");
     }
-    if let Some(bytes) = ending.script {
-        for note in unknown_keys(rt.alloc(), bytes)? {
-            let _ = eprintln!(rt; "{note}");
-        }
-    }
+    tell(rt, more_refusals(rt.alloc(), ending)?);
     Ok(())
 }
 
 fn main(rt: HostRuntime) -> ExitCode {
-    let Ok(words) = words(&rt) else {
+    let args = env::args(&rt);
+    if !are_text(&args) {
+        let _ = eprintln!(&rt; "a command word isn't UTF-8");
+    }
+    let Ok(words) = words(rt.alloc(), args) else {
         return ExitCode::from(7);
     };
     let tells = rt.stderr().is_terminal();
@@ -54,6 +48,7 @@ fn main(rt: HostRuntime) -> ExitCode {
     let ending = Ending {
         words: &words,
         script: source.whole(),
+        record: sink.whole(),
         line: sink.last_line(),
         status,
     };

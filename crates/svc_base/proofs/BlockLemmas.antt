@@ -7,7 +7,7 @@ use Rattle.std.specs.Vec.{vec_items}
 use Rattle.std.proofs.lemmas.List.Concat.{flat_map-append}
 use Rattle.std.proofs.lemmas.List.{append-nil, take_more, drop_more, take-append-drop, set_split, get_or_read, length-set, nil_from_length}
 use Rattle.std.proofs.lemmas.List.Edits.{length-insert}
-use Rattle.svc_base.specs.Blocks.{joined, are_filled, later_filled, are_wide, rises_by, has_key, starts, StandsIn, put_by, IsBlockFor, before, behind, IsPlaceFor, IsPlaceOf, KeepsEntries, IsTable}
+use Rattle.svc_base.specs.Blocks.{joined, are_filled, later_filled, are_wide, rises_by, has_key, is_over, starts, StandsIn, StandsLast, put_by, IsBlockFor, before, behind, IsPlaceFor, IsPlaceOf, IsLastPlace, KeepsEntries, IsTable}
 use Rattle.svc_base.proofs.KeyLemmas.{all-both, all-mid, all-weaker, rises-left, rises-right, under, over, none-under, none-over, none-both, put-parted, rises-put, rises-cut, rises-other}
 
 -- one test of all elements, after an edit
@@ -318,36 +318,56 @@ module _ {T Z : Type 0} (key : T → ℕ) (c : ℕ) where
   before-none (b ∷ bs) zero e = refl
   before-none (b ∷ bs) (suc at) e = absurd (omega arith)
 
-  pub absent-first : (bs : List (Vec T Z)) (at place : ℕ) → place ≡ 0 → IsPlaceFor key c bs at place → has_key key c (joined bs) ≡ false
-  absent-first bs at place none p =
+  pub over-first : (bs : List (Vec T Z)) (at place : ℕ) → place ≡ 0 → IsPlaceFor key c bs at place → is_over key c (joined bs) ≡ true
+  over-first bs at place none p =
       let first : at ≡ 0 = elim (cases_lt 0 at) [ inl some ↦ absurd (let more = p.later some in omega arith) | inr le ↦ omega arith ] in
       let parts : joined bs ≡ behind bs at place =
       joined-parts bs at place ∙ ap (λ (xs : List T). xs ++ behind bs at place) (ap (before bs at) none ∙ before-none bs at first) in
-      ap (has_key key c) parts ∙ none-over key c (behind bs at place) p.above
+      ap (is_over key c) parts ∙ p.above
 
-  module _ (bs : List (Vec T Z)) (at place entry : ℕ) (b : Vec T Z) (x : T) (p : IsPlaceFor key c bs at place) (next : place ≡ suc entry)
+  -- behind the last entry with at most the key is its place
+  pub last-for : (bs : List (Vec T Z)) (at place entry : ℕ) → place ≡ suc entry → IsPlaceFor key c bs at place → IsLastPlace key c bs at entry
+  last-for bs at place entry next p = record {
+    within = p.within;
+    inside = λ d. let most = p.inside d in omega arith;
+    most = ap (λ (n : ℕ). list_all (λ x. nat_le (key x) c) (before bs at n)) (sym next) ∙ p.below;
+    above = ap (λ (n : ℕ). is_over key c (behind bs at n)) (sym next) ∙ p.above;
+  }
+
+  pub stands-last : (bs : List (Vec T Z)) (at entry : ℕ) (b : Vec T Z) (x : T) → IsLastPlace key c bs at entry → x ≡ get_or (get_or bs at b).items entry x
+      → StandsLast key c (joined bs) x
+  stands-last bs at entry b x p read = record {
+    front = before bs at entry;
+    back = behind bs at (suc entry);
+    is = joined-parts bs at entry
+        ∙ ap (λ (xs : List T). before bs at entry ++ xs)
+        (behind-at bs at entry b x p.within (p.inside b) ∙ ap (λ (y : T). y ∷ behind bs at (suc entry)) (sym read));
+    most = let to : before bs at (suc entry) ≡ before bs at entry ++ x ∷ [] =
+        before-more bs at entry b x p.within (p.inside b) ∙ ap (λ (y : T). before bs at entry ++ y ∷ []) (sym read) in
+        leb-true (key x) c (all-mid (λ y. nat_le (key y) c) (before bs at entry) x [] (ap (list_all (λ y. nat_le (key y) c)) (sym to) ∙ p.most));
+    above = p.above;
+  }
+
+  module _ (bs : List (Vec T Z)) (at entry : ℕ) (b : Vec T Z) (x : T) (p : IsLastPlace key c bs at entry)
       (read : b ≡ get_or bs at b) (found : x ≡ get_or b.items entry x) where
-    inside : entry < length (get_or bs at b).items
-    inside = let most = p.inside b in omega arith
-
     same : x ≡ get_or (get_or bs at b).items entry x
     same = found ∙ ap (λ (v : Vec T Z). get_or v.items entry x) read
 
     -- the last one with at most the key has another, so none has it
     pub absent-other : (key x ≡ c → ⊥) → rises_by key (joined bs) ≡ true → has_key key c (joined bs) ≡ false
     absent-other other rise =
-        let to : before bs at place ≡ before bs at entry ++ x ∷ [] =
-        ap (before bs at) next ∙ before-more bs at entry b x p.within inside ∙ ap (λ (y : T). before bs at entry ++ y ∷ []) (sym same) in
-        let below = ap (list_all (λ y. nat_le (key y) c)) (sym to) ∙ p.below in
+        let to : before bs at (suc entry) ≡ before bs at entry ++ x ∷ [] =
+        before-more bs at entry b x p.within (p.inside b) ∙ ap (λ (y : T). before bs at entry ++ y ∷ []) (sym same) in
+        let below = ap (list_all (λ y. nat_le (key y) c)) (sym to) ∙ p.most in
         let most = leb-true (key x) c (all-mid (λ y. nat_le (key y) c) (before bs at entry) x [] below) in
-        let up = rises-left key (before bs at place) (behind bs at place) (ap (rises_by key) (sym (joined-parts bs at place)) ∙ rise) in
+        let up = rises-left key (before bs at (suc entry)) (behind bs at (suc entry)) (ap (rises_by key) (sym (joined-parts bs at (suc entry))) ∙ rise) in
         let under_x = under key (key x) (before bs at entry) x [] (ap (rises_by key) (sym to) ∙ up) (omega arith) in
         let all_x = ap (list_all (λ y. nat_le (key y) (key x))) to
         ∙ all-both (λ y. nat_le (key y) (key x)) (before bs at entry) (x ∷ []) under_x
         (and_from (nat_le (key x) (key x)) true (le-leb (key x) (key x) (omega arith)) refl) in
-        ap (has_key key c) (joined-parts bs at place)
-        ∙ none-both key c (before bs at place) (behind bs at place) (none-under key c (key x) (before bs at place) (less most other) all_x)
-        (none-over key c (behind bs at place) p.above)
+        ap (has_key key c) (joined-parts bs at (suc entry))
+        ∙ none-both key c (before bs at (suc entry)) (behind bs at (suc entry)) (none-under key c (key x) (before bs at (suc entry)) (less most other) all_x)
+        (none-over key c (behind bs at (suc entry)) p.above)
       where
         less : key x ≤ c → (key x ≡ c → ⊥) → key x < c
         less le ne = omega arith

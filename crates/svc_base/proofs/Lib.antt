@@ -8,4 +8,5 @@ pub mod Logic
 pub mod NumberLemmas
 pub mod NumberSetLemmas
 pub mod Pieces
+pub mod RangeLemmas
 pub mod WordLemmas

@@ -41,6 +41,18 @@ pub record StandsIn {T : Type 0} (key : T → ℕ) (c : ℕ) (list : List T) (x 
   pub is : list ≡ front ++ x ∷ back
   pub has : key x ≡ c
 
+-- all keys are over c
+abbrev pub is_over : {T : Type 0} → (T → ℕ) → ℕ → List T → Bool
+is_over key c list = list_all (λ x. nat_lt c (key x)) list
+
+-- the entry is the last one in the list whose key is at most c
+pub record StandsLast {T : Type 0} (key : T → ℕ) (c : ℕ) (list : List T) (x : T) : Type 0 where
+  pub front : List T
+  pub back : List T
+  pub is : list ≡ front ++ x ∷ back
+  pub most : key x ≤ c
+  pub above : is_over key c back ≡ true
+
 -- the first key is at most c, if there is one
 abbrev pub starts : {T : Type 0} → (T → ℕ) → ℕ → List T → Bool
 starts key c [] = true
@@ -77,6 +89,13 @@ pub record IsPlaceOf {T Z : Type 0} (key : T → ℕ) (c : ℕ) (blocks : List (
   pub within : at < length blocks
   pub inside : (d : Vec T Z) → place < length (slice_index_or blocks at d).items
   pub here : (d : Vec T Z) (e : T) → key (slice_index_or (slice_index_or blocks at d).items place e) ≡ c
+
+-- the last entry whose key is at most c stands there
+pub record IsLastPlace {T Z : Type 0} (key : T → ℕ) (c : ℕ) (blocks : List (Vec T Z)) (at place : ℕ) : Type 0 where
+  pub within : at < length blocks
+  pub inside : (d : Vec T Z) → place < length (slice_index_or blocks at d).items
+  pub most : list_all (λ x. nat_le (key x) c) (before blocks at (suc place)) ≡ true
+  pub above : is_over key c (behind blocks at (suc place)) ≡ true
 
 -- the blocks have the same entries, and there are no fewer blocks
 pub record KeepsEntries {T Z : Type 0} (old new : List (Vec T Z)) : Type 0 where

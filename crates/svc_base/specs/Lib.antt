@@ -2,6 +2,7 @@ pub mod Blocks
 pub mod Calls
 pub mod FileCalls
 pub mod Items
+pub mod NumberRanges
 pub mod NumberSets
 pub mod Options
 pub mod Streams

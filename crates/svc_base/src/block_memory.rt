@@ -5,6 +5,7 @@ ghost use Rattle.svc_base.specs.Blocks.{are_wide, KeepsEntries};
 
 use crate::memory::NoMemory;
 use std::alloc::Global;
+use std::mem::drop;
 
 /// A block with more entries is cut.
 const FULL: usize = 256;
@@ -41,7 +42,7 @@ fn cut<T: Drop>(blocks: &mut Vec<Vec<T>>, at: usize) -> Result<(), NoMemory>
     let place = cut_place(len, at + 1 == blocks.len());
     blocks.reserve(1)?;
     let upper = blocks[at].split_off(place)?;
-    let _ = blocks.insert(at + 1, upper);
+    drop(blocks.insert(at + 1, upper));
     Ok(())
 }
 

@@ -2,7 +2,7 @@
 
 ghost use Rattle.std.specs.Prelude.{◌≡◌, ◌<◌, ◌≤◌, length, take, drop, nat_lt, nat_le, IfSome, IfNone, true, false};
 ghost use Rattle.std.specs.List.{list_all};
-ghost use Rattle.svc_base.specs.Blocks.{joined, later_filled, rises_by, has_key, starts, IsBlockFor, IsPlaceFor, IsPlaceOf};
+ghost use Rattle.svc_base.specs.Blocks.{joined, later_filled, rises_by, has_key, is_over, starts, IsBlockFor, IsPlaceFor, IsPlaceOf, IsLastPlace};
 
 use crate::keyed::Keyed;
 
@@ -63,12 +63,12 @@ pub(crate) fn place_for<T: Keyed>(blocks: &[Vec<T>], key: u64) -> Place
     Place { block, entry }
 }
 
-/// Where the last entry with the key stands, if there is one.
-pub(crate) fn find_place<T: Keyed>(blocks: &[Vec<T>], key: u64) -> Option<Place>
+/// Where the last entry stands whose key is at most this, if there is one.
+pub(crate) fn last_place<T: Keyed>(blocks: &[Vec<T>], key: u64) -> Option<Place>
     requires filled { later_filled blocks.now ≡ true }
     requires rise { rises_by T.key_of (joined blocks.now) ≡ true }
-    ensures found { IfSome result (λ p. IsPlaceOf T.key_of key blocks.now p.block p.entry) }
-    ensures absent { IfNone result (has_key T.key_of key (joined blocks.now) ≡ false) }
+    ensures found { IfSome result (λ p. IsLastPlace T.key_of key blocks.now p.block p.entry) }
+    ensures absent { IfNone result (is_over T.key_of key (joined blocks.now) ≡ true) }
 {
     if blocks.is_empty() {
         return None;
@@ -77,13 +77,28 @@ pub(crate) fn find_place<T: Keyed>(blocks: &[Vec<T>], key: u64) -> Option<Place>
     if behind.entry == 0 {
         return None;
     }
-    let entry = behind.entry - 1;
-    let block = &blocks[behind.block];
-    if block[entry].key() != key {
-        return None;
-    }
     Some(Place {
         block: behind.block,
-        entry,
+        entry: behind.entry - 1,
     })
+}
+
+/// Where the last entry with the key stands, if there is one.
+pub(crate) fn find_place<T: Keyed>(blocks: &[Vec<T>], key: u64) -> Option<Place>
+    requires filled { later_filled blocks.now ≡ true }
+    requires rise { rises_by T.key_of (joined blocks.now) ≡ true }
+    ensures found { IfSome result (λ p. IsPlaceOf T.key_of key blocks.now p.block p.entry) }
+    ensures absent { IfNone result (has_key T.key_of key (joined blocks.now) ≡ false) }
+{
+    match last_place(blocks, key) {
+        Some(place) => {
+            let block = &blocks[place.block];
+            if block[place.entry].key() == key {
+                Some(place)
+            } else {
+                None
+            }
+        }
+        None => None,
+    }
 }

@@ -3,11 +3,11 @@
 ghost use Rattle.std.specs.Prelude.{◌≡◌, ◌+◌, ◌<◌, ◌≤◌, ◌++◌, ◌∷◌, ◌^◌, [], length, OnOk, IfSome, IfNone, true, false};
 ghost use Rattle.std.specs.Bool.{OnTrue, OnFalse};
 ghost use Rattle.svc_base.specs.Items.{list_of, spare};
-ghost use Rattle.svc_base.specs.Blocks.{joined, later_filled, put_by, has_key, rises_by, StandsIn};
+ghost use Rattle.svc_base.specs.Blocks.{joined, later_filled, put_by, has_key, is_over, rises_by, StandsIn, StandsLast};
 
 use crate::block_edits::{insert_at, remove_at, replace_at};
 use crate::block_memory::{SLACK, make_room};
-use crate::block_places::{find_place, place_for};
+use crate::block_places::{find_place, last_place, place_for};
 use crate::keyed::Keyed;
 use crate::memory::NoMemory;
 use std::alloc::Global;
@@ -120,6 +120,20 @@ impl<T: Keyed> Blocks<T> {
         }
     }
 
+    /// The last entry whose key is at most this.
+    pub fn last_up_to(&self, key: u64) -> Option<&T>
+        ensures found { IfSome result (λ x. StandsLast T.key_of key (list_of self.now) x.now) }
+        ensures absent { IfNone result (is_over T.key_of key (list_of self.now) ≡ true) }
+    {
+        match last_place(&self.blocks, key) {
+            Some(place) => {
+                let block = &self.blocks[place.block];
+                Some(&block[place.entry])
+            }
+            None => None,
+        }
+    }
+
     /// Takes an entry.
     pub fn insert(&mut self, entry: T)
         requires { 0 < spare self.old }
@@ -138,6 +152,7 @@ impl<T: Keyed> Blocks<T> {
             × (list_of self.new ≡ s.front ++ entry ∷ s.back)) }
         ensures absent { OnFalse result (has_key T.key_of (T.key_of entry) (list_of self.old) ≡ false) }
         ensures same { OnFalse result (self.new ≡ self.old) }
+        ensures room { spare self.new ≡ spare self.old }
     {
         match find_place(&self.blocks, entry.key()) {
             Some(place) => {
@@ -153,6 +168,7 @@ impl<T: Keyed> Blocks<T> {
         ensures removed { IfSome result (λ x. (s : StandsIn T.key_of key (list_of self.old) x) × (list_of self.new ≡ s.front ++ s.back)) }
         ensures absent { IfNone result (has_key T.key_of key (list_of self.old) ≡ false) }
         ensures same { IfNone result (self.new ≡ self.old) }
+        ensures room { spare self.new ≡ spare self.old }
     {
         match find_place(&self.blocks, key) {
             Some(place) => {

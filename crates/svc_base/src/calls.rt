@@ -11,7 +11,7 @@ use std::marker::Model;
 
 /// The calls that an object in memory was asked, each with its answer. It tells them, the oldest
 /// first, as long as it has room for each; from the first on that it has none for it tells none.
-#[derive(Debug, Drop)]
+#[derive(Drop)]
 pub struct Calls<T> {
     made: Reserved<T>,
     room: u64,

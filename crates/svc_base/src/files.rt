@@ -8,6 +8,8 @@ use crate::memory::NoMemory;
 use crate::source::{ReadAllError, Reading, read_all};
 use crate::text::Text;
 use std::alloc::Global;
+use std::io::Read;
+use std::mem::drop;
 use std::{fs, str};
 use thiserror::Error;
 
@@ -221,18 +223,29 @@ impl<'a, R: fs::Files> SystemFiles<'a, R> {
     }
 }
 
-fn read_system<R: fs::Files>(alloc: Global, system: &R, path: &str) -> Result<Text, FileError> {
-    let Ok(file) = fs::open(system, path) else {
-        return Err(FileError::Failed);
-    };
-    let mut source = Reading::new(file);
-    let bytes = match read_all(alloc, &mut source) {
-        Ok(bytes) => bytes,
-        Err(ReadAllError::NoMemory) => return Err(FileError::NoMemory),
-        Err(ReadAllError::Fault | ReadAllError::TooLong) => return Err(FileError::Failed),
-    };
-    match str::from_utf8(&bytes) {
+/// The bytes as a text, where they are one.
+fn text_in(alloc: Global, bytes: &[u8]) -> Result<Text, FileError> {
+    match str::from_utf8(bytes) {
         Ok(text) => Ok(Text::new(alloc, text)?),
+        Err(_) => Err(FileError::Failed),
+    }
+}
+
+/// The text of a reader.
+fn read_text<R: Read + Drop>(alloc: Global, reader: R) -> Result<Text, FileError> {
+    let mut source = Reading::new(reader);
+    let read = read_all(alloc, &mut source);
+    drop(source);
+    match read {
+        Ok(bytes) => text_in(alloc, &bytes),
+        Err(ReadAllError::NoMemory) => Err(FileError::NoMemory),
+        Err(ReadAllError::Fault | ReadAllError::TooLong) => Err(FileError::Failed),
+    }
+}
+
+fn read_system<R: fs::Files>(alloc: Global, system: &R, path: &str) -> Result<Text, FileError> {
+    match fs::open(system, path) {
+        Ok(file) => read_text(alloc, file),
         Err(_) => Err(FileError::Failed),
     }
 }

@@ -40,6 +40,14 @@ impl<T> Reserved<T> {
         }
     }
 
+    /// These items, with the room that they have.
+    pub fn of(items: Vec<T>) -> Self
+        ensures items { list_of result ≡ items.items }
+        ensures room { spare result ≡ vec_capacity items - vec_len items }
+    {
+        Reserved { items }
+    }
+
     /// The items.
     pub fn as_slice(&self) -> &[T]
         ensures { result.now ≡ list_of self.now }
@@ -125,6 +133,13 @@ impl<T> Reserved<T> {
     {
         self.items.pop()
     }
+
+    /// The same items as a list that doesn't tell its room. The memory stays with them.
+    pub fn into_items(self) -> Items<T>
+        ensures { result ≡ list_of self }
+    {
+        Items { inner: self }
+    }
 }
 
 /// A list. Contracts see it as the list of its items. It stands over a `Reserved`, whose contracts
@@ -195,6 +210,13 @@ impl<T> Items<T> {
         ensures none { result ≡ None → self.old ≡ [] }
     {
         self.inner.pop_first()
+    }
+
+    /// The same items as a list that tells contracts its room.
+    pub fn into_reserved(self) -> Reserved<T>
+        ensures { list_of result ≡ self }
+    {
+        self.inner
     }
 }
 

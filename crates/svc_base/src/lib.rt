@@ -13,6 +13,7 @@ mod files;
 mod items;
 mod keyed;
 mod memory;
+mod number_ranges;
 mod number_set;
 mod runtime;
 mod settings;
@@ -29,6 +30,7 @@ pub use files::{FileCall, FileError, Files, MemoryFile, MemoryFiles, SteadyFiles
 pub use items::{Bytes, ItemRefused, Items, Numbers, Reserved, Settings, Texts, copy_items};
 pub use keyed::Keyed;
 pub use memory::NoMemory;
+pub use number_ranges::NumberRanges;
 pub use number_set::NumberSet;
 pub use runtime::{RuntimeMetricsOpts, RuntimeMetricsPollTimeHistogramScale, RuntimeOpts};
 pub use settings::{Setting, TcpKeepalive};

@@ -1,4 +1,3 @@
 pub mod BookData
 pub mod Journals
-pub mod Keeping
 pub mod Refusals

@@ -7,9 +7,10 @@ ghost use Rattle.svc_book.specs.Journals.{IsLegal, end_after};
 ghost use Rattle.svc_book.specs.Refusals.{IsDue};
 
 use crate::post::Post;
-use crate::told::{copies, take_actions, take_told};
+use crate::told::{copies, take_actions};
 use std::alloc::Global;
 use std::marker::Model;
+use std::mem::drop;
 use svc_base::NoMemory;
 use svc_core::Core;
 use svc_record::{Actions, Event, Plan, StepEnd};
@@ -87,8 +88,22 @@ impl Book {
     {
         let mut core = Core::new(alloc, plan)?;
         let mut opening = Actions::new(alloc);
-        core.begin(alloc, &mut opening)?;
-        let actions = copies(alloc, opening.as_slice())?;
+        match core.begin(alloc, &mut opening) {
+            Ok(_) => {}
+            Err(NoMemory) => {
+                drop(opening);
+                drop(core);
+                return Err(NoMemory);
+            }
+        }
+        let actions = match copies(alloc, opening.as_slice()) {
+            Ok(actions) => actions,
+            Err(NoMemory) => {
+                drop(opening);
+                drop(core);
+                return Err(NoMemory);
+            }
+        };
         let posts = Vec::new(alloc);
         Ok((
             Book {
@@ -139,7 +154,7 @@ impl Book {
         else {
             return Err(refused(Refusal::NoMemory, event));
         };
-        let told = take_told(alloc, &mut self.stage);
+        let told = take_actions(alloc, &mut self.stage);
         let actions = take_actions(alloc, &mut self.second);
         self.posts.push_reserved(Post {
             seat,
@@ -160,13 +175,17 @@ impl Book {
         ensures legal { IsLegal self self.posts }
     {
         let Book {
-            core: _,
-            opening: _,
+            core,
+            opening,
             limit: _,
             posts,
-            stage: _,
-            second: _,
+            stage,
+            second,
         } = self;
+        drop(core);
+        drop(opening);
+        drop(stage);
+        drop(second);
         posts
     }
 }

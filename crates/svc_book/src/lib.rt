@@ -7,4 +7,3 @@ mod told;
 
 pub use book::{Answer, Book, BookRefused, Refusal};
 pub use post::Post;
-pub use told::Told;

@@ -3,5 +3,3 @@ pub mod ForkState
 pub mod BootState
 pub mod BootEffects
 pub mod BootFacts
-pub mod BootstrapData
-pub mod Lending

@@ -11,6 +11,7 @@ ghost use Rattle.svc_record.specs.Record.{Record, now, tell};
 ghost use Rattle.svc_record.specs.Message.{decode};
 ghost use Rattle.svc_record.specs.Boot.{is_read};
 ghost use Rattle.svc_record.specs.Ends.{is_parent_failure};
+ghost use Rattle.svc_moments.specs.Least.{IsLeast};
 ghost use Rattle.svc_boot.specs.declared.fork.Fork.TheVariants.{Asked, Over};
 ghost use Rattle.svc_boot.specs.ForkState.{is_asked, is_waiting, is_parent_over, is_free};
 ghost use Rattle.svc_boot.specs.BootState.{BootStands, is_trying, is_due_in};
@@ -20,7 +21,8 @@ use crate::fork::Fork;
 use crate::receiving::Receiving;
 use std::marker::Model;
 use svc_fds::{ReceiveKind, ReceiveNext, ReceiveRetry};
-use svc_proc::{ParentEvent, ParentNext, ParentWait};
+use svc_moments::{after, after_seconds};
+use svc_parent::{ParentEvent, ParentNext, ParentWait};
 use svc_record::{Action, Actions, BootstrapError, ExecutionPhase, Plan, Side, StepEnd};
 
 /// How long nothing is tried after a try that met no sender, in milliseconds.
@@ -199,7 +201,7 @@ impl Boot {
     }
 
     /// How bootstrapping ends a run that tests or not.
-    pub(crate) fn end_with(&self, test: bool) -> StepEnd
+    pub fn end_with(&self, test: bool) -> StepEnd
         ensures { result ≡ end_from test self.now }
     {
         if test && self.begun {
@@ -252,7 +254,7 @@ impl Boot {
     /// Bootstrapping begins at the moment, in milliseconds. Only the first time changes and tells
     /// something: with `test` the phase alone, and else, after the parent is notified where `notify`
     /// is set, with `upgrade` the first try to receive, and without it that all is complete.
-    pub(crate) fn begin_with(
+    pub fn begin_with(
         &mut self,
         test: bool,
         notify: bool,
@@ -364,6 +366,29 @@ impl Boot {
         match self.receiving {
             Receiving::Missed(at) => REST <= moment.saturating_sub(at),
             _ => false,
+        }
+    }
+
+    /// The least moment, in milliseconds, at which it is tried again, if nothing but moments comes; none
+    /// where no such moment is of 64 bits.
+    pub fn next_try(&self) -> Option<u64>
+        ensures { IsLeast (λ t. is_due_in self.now.receiving t ≡ true) result }
+    {
+        match self.receiving {
+            Receiving::Missed(at) => after(at, REST),
+            _ => None,
+        }
+    }
+
+    /// The least moment, in milliseconds, at which a parent that waits ends badly, or it has ended, if
+    /// nothing but moments comes; none where no such moment is of 64 bits.
+    pub fn next_end(&self, plan: &Plan) -> Option<u64>
+        ensures { IsLeast (λ t. is_parent_over (waited plan.now.ready_timeout t self.now.fork) ≡ true) result }
+    {
+        match self.fork {
+            Fork::Waiting(at) => after_seconds(at, plan.ready_timeout),
+            Fork::Over(_) => Some(0),
+            Fork::Unforked | Fork::Asked | Fork::Child => None,
         }
     }
 

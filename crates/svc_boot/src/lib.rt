@@ -6,7 +6,6 @@ mod boot;
 mod fork;
 pub mod laws;
 mod receiving;
-pub mod server;
 
 pub use boot::Boot;
 pub use fork::Fork;

@@ -2,6 +2,7 @@
 use Rattle.std.specs.Prelude.{ℕ, ◌≡◌, Bool, List, length, Option, Some, None, unwrap_or, Result, Ok, Err}
 use Rattle.svc_conf.specs.Keys.{key_name}
 use Rattle.svc_record.specs.declared.action.StepEnd.{StepEnd}
+use Rattle.svc_core.specs.Dues.{TellsNothingBefore, TellsAt}
 use Rattle.svc_c.specs.declared.making.MakeError.{MakeError}
 use Rattle.svc_c.specs.declared.making.MakeError.TheVariants as making
 use Rattle.svc_c.specs.declared.session.Asked.{Asked}
@@ -65,6 +66,11 @@ Tells old new before after size n =
 -- how the run has ended so far
 abbrev pub Ends : Option SessionData → Option SessionData → ℕ → Type 0
 Ends old new n = Both old new (λ s t. (t ≡ s) × (n ≡ end_number s.end))
+
+-- from which moment on a moment tells something
+abbrev pub Waits : Option SessionData → Option SessionData → ℕ → Type 0
+Waits old new n = Both old new (λ s t. (t ≡ s) × ((at : Option ℕ) × ((n ≡ unwrap_or at 18446744073709551615)
+    × (TellsNothingBefore s.core at × TellsAt s.core at))))
 
 -- all is closed
 abbrev pub Closes : List ℕ → Option SessionData → Option SessionData → ℕ → Type 0

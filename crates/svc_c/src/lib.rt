@@ -2,7 +2,7 @@
 #![tactic(auto)]
 
 ghost use Rattle.std.specs.Prelude.{◌≡◌, None, IsSome};
-ghost use Rattle.svc_c.specs.Exports.{Makes, Begins, Tests, Steps, Tells, Ends, Closes, Gives};
+ghost use Rattle.svc_c.specs.Exports.{Makes, Begins, Tests, Steps, Tells, Ends, Closes, Gives, Waits};
 
 mod answers;
 mod handle;
@@ -150,6 +150,19 @@ pub extern "C" fn svc_c_end(alloc: Global, handle: &mut Handle) -> u32
     let end = session.end();
     *handle = Handle::of(session);
     end_number(end)
+}
+
+/// The least moment, in milliseconds, at which the step of a moment tells something or ends the run; the
+/// greatest number of 64 bits while only other events can. Each earlier moment tells nothing.
+#[unsafe(no_mangle)]
+pub extern "C" fn svc_c_next_due(alloc: Global, handle: &mut Handle) -> u64
+    requires { IsSome handle.old.session }
+    ensures { Waits handle.old.session handle.new.session result }
+{
+    let session = mem::replace(handle, Handle::none(alloc)).into_box();
+    let moment = session.next_due();
+    *handle = Handle::of(session);
+    moment.unwrap_or(u64::MAX)
 }
 
 /// Cuts what is live and closes what is open, as a run is given up or has ended otherwise than by its

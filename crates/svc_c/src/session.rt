@@ -4,6 +4,7 @@ ghost use Rattle.std.specs.Prelude.{◌≡◌, ◌≤◌, ◌+◌, ◌++◌, [],
 ghost use Rattle.svc_base.specs.Items.{list_of};
 ghost use Rattle.std.specs.Option.{option_copied};
 ghost use Rattle.svc_record.specs.declared.entry.Entry.TheVariants.{Told};
+ghost use Rattle.svc_core.specs.Dues.{TellsNothingBefore, TellsAt};
 ghost use Rattle.svc_core.specs.Rooms.{close_need};
 ghost use Rattle.svc_core.specs.Stands.{HasNotBegun, MayCome};
 ghost use Rattle.svc_c.specs.Sessions.{own_word, put_in, brought_by, entries_of, IsBegun, IsAsked, IsStepped, IsTaken, IsClosed, IsEndedWith, IsToldIn, Says};
@@ -164,6 +165,15 @@ impl Session {
         ensures { result ≡ self.now.end }
     {
         self.end
+    }
+
+    /// The least moment, in milliseconds, at which the step of a moment tells something or ends the run; none
+    /// while only other events can, or where that moment is beyond 64 bits.
+    pub fn next_due(&self) -> Option<u64>
+        ensures before { TellsNothingBefore self.now.core result }
+        ensures due { TellsAt self.now.core result }
+    {
+        self.core.next_due()
     }
 
     /// The first step.

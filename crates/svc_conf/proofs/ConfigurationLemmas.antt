@@ -1,5 +1,5 @@
 -- How what a text says goes along its lines.
-use Rattle.std.proofs.Common.{◌≡◌, ℕ, ◌+◌, List, [], ◌∷◌, length, Option, Some, None, Result, Ok, Err, refl, sym, ap, ◌∙◌, arith}
+use Rattle.std.proofs.Common.{◌≡◌, ℕ, ◌+◌, List, [], ◌∷◌, length, Option, Some, None, Result, Ok, Err, refl, sym, ap, subst, ◌∙◌, arith}
 use Rattle.std.specs.Str.Lines.{lines}
 use Rattle.svc_conf.specs.declared.server.configuration.ServerConf.{ServerConf}
 use Rattle.svc_conf.specs.declared.server.configuration.kind.Kind.{Kind}
@@ -92,3 +92,20 @@ new_is conf h =
     let made : valid (configuration new_text) ≡ Ok (record defaults { version = 1 }) = ap valid started in
     let e = sym h ∙ made in
     cc
+
+-- nothing but want of memory keeps the new text from being read
+answered : (error : ReadError) (conf : ServerConf) → Answers (Err error) (Ok conf) → error ≡ errors.NoMemory
+answered errors.NoMemory conf h = refl
+answered errors.Fault conf h = absurd cc
+answered (errors.Line n) conf h = absurd cc
+answered (errors.Value key n) conf h = absurd cc
+answered (errors.Invalid key) conf h = absurd cc
+answered errors.NoPath conf h = absurd cc
+
+pub new_refused : (result : Result ServerConf ReadError) (error : ReadError) → result ≡ Err error → Answers result (valid (configuration new_text))
+    → error ≡ errors.NoMemory
+new_refused result error e h =
+    let made : valid (configuration new_text) ≡ Ok (record defaults { version = 1 }) = ap valid started in
+    answered error (record defaults { version = 1 })
+    (subst (λ (r : Result ServerConf ReadError). Answers (Err error) r) made
+    (subst (λ (r : Result ServerConf ReadError). Answers r (valid (configuration new_text))) e h))

@@ -25,6 +25,7 @@ use Rattle.svc_conf.specs.declared.server.configuration.said.Said.{Said}
 use Rattle.svc_conf.specs.declared.server.configuration.said.Said.TheVariants as said
 use Rattle.svc_conf.specs.declared.server.configuration.read_error.ReadError.{ReadError}
 use Rattle.svc_conf.specs.Configuration.{defaults}
+use Rattle.svc_conf.proofs.ShownLemmas.{first_of, more_of}
 use Rattle.svc_conf.specs.OptionalNumbers.{is_zero}
 use Rattle.svc_conf.specs.Keys.{key_name}
 use Rattle.svc_conf.specs.Fields.{field_of, all_keys, key_of, list_key, set_list, held_number, held_flag, held_text, held_optional_text, held_optional_number, held_list}
@@ -353,12 +354,6 @@ item_set before conf list t after h at =
     let e : text_value b.value ≡ Some t = text_said b.value t b.unset b.text_is in
     rw (at, b.value_is, e) refl
 
-first_of : (t : List ℕ) (ts : List (List ℕ)) → All IsText (t ∷ ts) → IsText t
-first_of t ts h = h 0 t (omega arith)
-
-more_of : (t : List ℕ) (ts : List (List ℕ)) → All IsText (t ∷ ts) → All IsText ts
-more_of t ts h = λ k d lt. h (suc k) d (omega arith)
-
 items_read : (list : ListKey) (ts : List (List ℕ)) (before : List Kind) (conf : ServerConf) (rest : List ℕ) → All IsText ts → list_at before ≡ Some list
     → skips before ≡ false
     → Reads before conf (set_list list (held_list list conf ++ ts) conf) (flat_map item_line ts ++ rest) rest (keys_in before)
@@ -367,16 +362,16 @@ items_read list [] before conf rest h at none =
 items_read list (t ∷ ts) before conf rest h at none =
     let one : ServerConf = set_list list (push (held_list list conf) t) conf in
     let more : Reads (Item ∷ before) one (set_list list (held_list list one ++ ts) one) (flat_map item_line ts ++ rest) rest (keys_in before) =
-    items_read list ts (Item ∷ before) one rest (more_of t ts h) at refl in
+    items_read list ts (Item ∷ before) one rest (more_of IsText t ts h) at refl in
     let again : set_list list (held_list list one ++ ts) one ≡ set_list list (held_list list conf ++ t ∷ ts) conf =
     set_again list (push (held_list list conf) t) ts (held_list list conf ++ t ∷ ts) conf (append_assoc (held_list list conf) (t ∷ []) ts) in
     record {
       now = more.now;
       keys_are = more.keys_are;
       none = more.none;
-      same = ap (reads before conf) (item_lines_are t ts rest (first_of t ts h))
+      same = ap (reads before conf) (item_lines_are t ts rest (first_of IsText t ts h))
           ∙ line_reads before conf one (45 ∷ 32 ∷ text_shown t) (lines (flat_map item_line ts ++ rest)) Item (32 ∷ text_shown t) none
-          (item_named (text_shown t)) (item_set before conf list t (lines (flat_map item_line ts ++ rest)) (first_of t ts h) at)
+          (item_named (text_shown t)) (item_set before conf list t (lines (flat_map item_line ts ++ rest)) (first_of IsText t ts h) at)
           ∙ more.same
           ∙ ap (λ (c : ServerConf). reads more.now c (lines rest)) again;
     }
@@ -425,7 +420,7 @@ list_reads (t ∷ ts) before conf key list rest f free none h =
       none = more.none;
       same = ap (reads before conf) is_line
           ∙ line_reads before conf (set_list list [] conf) line (lines (flat_map item_line (t ∷ ts) ++ rest)) (Opens list) [] none
-          (kind_named key [] refl ∙ ap (sort_kind key []) f) (opening_set before conf key list t ts rest (first_of t ts h) e free)
+          (kind_named key [] refl ∙ ap (sort_kind key []) f) (opening_set before conf key list t ts rest (first_of IsText t ts h) e free)
           ∙ more.same
           ∙ ap (λ (c : ServerConf). reads more.now c (lines rest)) (set_again list [] (t ∷ ts) (t ∷ ts) conf refl);
     }

@@ -1,7 +1,7 @@
 -- The command that reads a server's flags, and what its matches give.
 use Rattle.std.proofs.Common.{◌≡◌, ◌≢◌, ◌⊎◌, true, List, [], refl, sym, ap, subst, ◌∙◌, inl, inr, codes}
-use Rattle.clap.specs.Walk.{Text, first_of, rows_of}
-use Rattle.clap.specs.Simple.{App}
+use Rattle.clap.specs.Walk.{Text, Row, first_of, rows_of}
+use Rattle.clap.specs.Simple.{App, is_simple, matches_of}
 use Rattle.clap.specs.Words.{first_value}
 use Rattle.clap.specs.Takes.{takes}
 use Rattle.clap.specs.Faults.{fault_of, is_simple_and_free}
@@ -47,3 +47,12 @@ words_refused a words k kind e q never passes kinds = (
       | inl o ↦ absurd (never o)
       | inr i ↦ subst (λ (b : App). IsAmong k (fault_of b words)) e i
     ]
+
+opt_simple : is_simple opt_app ≡ true
+unfolding clap_on_literals
+opt_simple = refl
+
+-- the flags of words are those of the matches that the command finds in them
+pub words_give : {More : Type 0} (a : App) (words : List Text) (rows : List Row) (opt : Opt) → a ≡ opt_app
+    → (is_simple a ≡ true → (rows ≡ matches_of a words) × More) → opt ≡ opt_of rows → opt ≡ opt_of (matches_of opt_app words)
+words_give a words rows opt e has is = is ∙ ap opt_of ((has (ap is_simple e ∙ opt_simple)).0 ∙ ap (λ (b : App). matches_of b words) e)

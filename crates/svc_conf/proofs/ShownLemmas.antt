@@ -1,5 +1,5 @@
 -- How what is shown of a list grows with its items.
-use Rattle.std.proofs.Common.{◌≡◌, ℕ, ◌+◌, ◌<◌, List, [], ◌∷◌, ◌++◌, length, get_or, take, All, sym, ap, subst, ◌∙◌, append_assoc}
+use Rattle.std.proofs.Common.{◌≡◌, ℕ, suc, ◌+◌, ◌<◌, List, [], ◌∷◌, ◌++◌, length, get_or, take, All, sym, ap, subst, ◌∙◌, append_assoc, arith}
 use Rattle.std.specs.Prelude.{flat_map}
 use Rattle.std.specs.Str.{IsUtf8}
 use Rattle.std.proofs.lemmas.Str.{is_utf8-from_IsUtf8}
@@ -30,3 +30,10 @@ pub shows_next : {X : Type 0} (show : X → List ℕ) (P : X → Type 0) (xs : L
     → (new ≡ from ++ flat_map show (take (i + 1) xs)) × All P (take (i + 1) xs)
 shows_next show P xs i d from old new lt e all h one =
     shows_more show P xs i (get_or xs i d) from old new lt (get_or_default xs i d (get_or xs i d) lt) e all h one
+
+-- what holds of each of a list
+pub first_of : {X : Type 0} (P : X → Type 0) (x : X) (xs : List X) → All P (x ∷ xs) → P x
+first_of P x xs all = all 0 x (omega arith)
+
+pub more_of : {X : Type 0} (P : X → Type 0) (x : X) (xs : List X) → All P (x ∷ xs) → All P xs
+more_of P x xs all k d lt = all (suc k) d (omega (arith, lt))

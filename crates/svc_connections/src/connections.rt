@@ -17,7 +17,7 @@ use crate::live::Live;
 use crate::stage::{Connection, Stage};
 use std::alloc::Global;
 use std::marker::Model;
-use svc_base::{NoMemory, NumberSet, Settings};
+use svc_base::{NoMemory, NumberRanges, Settings};
 use svc_record::{Action, Actions};
 use svc_socket::Peer;
 
@@ -28,7 +28,7 @@ const TOO_MANY_FILES: u32 = 24;
 #[derive(Drop)]
 pub struct Connections {
     live: Live,
-    came: NumberSet,
+    came: NumberRanges,
 }
 
 impl Model for Connections {
@@ -93,7 +93,7 @@ impl Connections {
     {
         Connections {
             live: Live::new(alloc),
-            came: NumberSet::new(alloc),
+            came: NumberRanges::new(alloc),
         }
     }
 

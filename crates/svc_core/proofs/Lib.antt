@@ -1,5 +1,6 @@
 pub mod RecordLemmas
 pub mod StartsLemmas
+pub mod CountLemmas
 pub mod ParkedLemmas
 pub mod WaitsLemmas
 pub mod PlaceLemmas
@@ -26,3 +27,7 @@ pub mod CloseCounts
 pub mod RoomLemmas
 pub mod StepForms
 pub mod GoForms
+pub mod DueLemmas
+pub mod DueRecords
+pub mod DueSilent
+pub mod DueGrows

@@ -1,5 +1,5 @@
 -- Places that wait behind a service, an endpoint of which keeps their address busy.
-use Rattle.std.proofs.Common.{ℕ, Bool, true, inl, inr, List, ◌≡◌, ◌≢◌, refl, ap, sym, ◌∙◌, subst, arith, ◌<◌, ◌≤◌, ◌+◌, ◌*◌, length, slice_index}
+use Rattle.std.proofs.Common.{ℕ, Bool, true, inl, inr, List, ◌≡◌, ◌≢◌, refl, ap, sym, ◌∙◌, subst, arith, ◌<◌, ◌≤◌, ◌+◌, length, slice_index}
 use Rattle.std.proofs.lemmas.Bool.{cases_eq, cases_lt}
 use Rattle.svc_base.proofs.Logic.{clash}
 use Rattle.svc_graph.specs.Bits.{is_set}
@@ -63,14 +63,14 @@ stays_moved d d' from w e t k last failed (inr (inr rest)) =
     ))
 
 -- more bits set
-stays_grown : (d : EndpointsData) (from : ℕ) (u v : WaitsData) (e t k : ℕ) → length v.marks ≡ length u.marks
+stays_grown : (d : EndpointsData) (from : ℕ) (u v : WaitsData) (e t k : ℕ) → length v.counts.marks ≡ length u.counts.marks
     → ((a b : ℕ) → is_set u.bits a b ≡ true → is_set v.bits a b ≡ true) → v.until ≡ u.until → StaysBusy d from u e t k → StaysBusy d from v e t k
 stays_grown d from u v e t k count kept until (inl asks) = inl asks
 stays_grown d from u v e t k count kept until (inr (inl next)) =
-    inr (inl (subst (λ n. is_set v.bits n e ≡ true) (sym count) (kept (length u.marks) e next.0), next.1))
+    inr (inl (kept 0 e next.0, next.1))
 stays_grown d from u v e t k count kept until (inr (inr rest)) =
     inr (inr (
-      subst (λ n. is_set v.bits (2 * n + 2) e ≡ true) (sym count) (kept (2 * length u.marks + 2) e rest.0),
+      subst (λ n. is_set v.bits (n + 2) e ≡ true) (sym count) (kept (length u.counts.marks + 2) e rest.0),
       subst (λ m. IsBusyUntil d t k m)
           (sym until) rest.1,
     ))
@@ -83,7 +83,7 @@ stays-on d from next w e t k far (inr (inl opened)) = inr (inl (opened.0, far op
 stays-on d from next w e t k far (inr (inr rest)) = inr (inr rest)
 
 module _ (p : Plan) (order : List ℕ) (on : List Bool) where
-  pub parked-grown : (d : EndpointsData) (from : ℕ) (u v : WaitsData) (s c : ℕ) → length v.marks ≡ length u.marks
+  pub parked-grown : (d : EndpointsData) (from : ℕ) (u v : WaitsData) (s c : ℕ) → length v.counts.marks ≡ length u.counts.marks
       → ((a b : ℕ) → is_set u.bits a b ≡ true → is_set v.bits a b ≡ true) → v.until ≡ u.until
       → IsParked p order on d from u s c → IsParked p order on d from v s c
   parked-grown d from u v s c count kept until x = record {
@@ -92,8 +92,8 @@ module _ (p : Plan) (order : List ℕ) (on : List Bool) where
     started = x.started;
     shares = x.shares;
     busy = stays_grown d from u v x.by (slice_index order x.by) x.shares.other count kept until x.busy;
-    behind = subst (λ n. is_set v.bits (n + 1 + slice_index order x.by) c ≡ true) (sym count) (kept (length u.marks + 1 + slice_index order x.by) c x.behind);
-    parked = subst (λ n. is_set v.bits (2 * n + 1) c ≡ true) (sym count) (kept (2 * length u.marks + 1) c x.parked);
+    behind = kept (1 + slice_index order x.by) c x.behind;
+    parked = subst (λ n. is_set v.bits (n + 1) c ≡ true) (sym count) (kept (length u.counts.marks + 1) c x.parked);
   }
 
   pub parked-on : (d : EndpointsData) (from next : ℕ) (w : WaitsData) (s c : ℕ) (x : IsParked p order on d from w s c)

@@ -1,10 +1,13 @@
 -- What a visit at one place leaves of what is known of the others.
-use Rattle.std.proofs.Common.{ℕ, Bool, true, false, ◌||◌, ◌&&◌, not, ◌==◌, inl, inr, List, ◌≡◌, ◌≢◌, refl, ap, sym, ◌∙◌, subst, arith, ◌<◌, ◌≤◌, ◌+◌, ◌*◌, length, min, slice_index}
+use Rattle.std.proofs.Common.{ℕ, Bool, true, false, ◌||◌, ◌&&◌, not, ◌==◌, ◌⊎◌, inl, inr, List, ◌≡◌, ◌≢◌, refl, ap, sym, ◌∙◌, subst, arith, ◌<◌, ◌≤◌, ◌+◌, length, min, slice_index}
 use Rattle.std.specs.Bool.{OnTrue}
 use Rattle.std.proofs.lemmas.Bool.{and_from, eq-eqb, ne_eqb, or_left, or_right, cases_eq, cases_lt}
 use Rattle.svc_graph.specs.Bits.{is_set}
+use Rattle.svc_graph.specs.WaitingData.{WaitingData}
+use Rattle.svc_graph.specs.Waitings.{missing_of}
 use Rattle.svc_record.specs.declared.plan.Plan.{Plan}
-use Rattle.svc_record.specs.Plans.{service_count, depends}
+use Rattle.svc_record.specs.Plans.{service_count}
+use Rattle.svc_record.specs.Validity.{IsInOrder}
 use Rattle.svc_endpoints.specs.EndpointsData.{EndpointsData}
 use Rattle.svc_endpoints.specs.EndpointsState.{last_at, is_asking}
 use Rattle.svc_endpoints.specs.Effects.{has_open}
@@ -12,11 +15,12 @@ use Rattle.svc_endpoints.specs.Rests.{HasAll, SharesWith, IsBusyUntil, AsksFirst
 use Rattle.svc_endpoints.specs.Stays.{StaysHeld, StaysUnheld, OthersStay}
 use Rattle.svc_endpoints.specs.Visits.{IsFirst}
 use Rattle.svc_core.specs.StartsData.{StartsData}
-use Rattle.svc_core.specs.StartsState.{IsStartsSized, is_flagged, due_now, starts_now, start_if}
+use Rattle.svc_core.specs.StartsState.{IsStartsSized, is_flagged, ready_now, due_now, starts_now, start_if}
 use Rattle.svc_core.specs.WaitsData.{WaitsData}
-use Rattle.svc_core.specs.WaitsState.{IsUnmarked, IsWaiting, AreApart, StaysBusy, IsParked, IsIdle, AreIdle, KnowsReady, KnowsOthers, IsKnown, IsHeir, Opens, HasBits, Frees, HandsOn, ClosesPlace, LeavesPlace, Parks, ParksBehind, ParksResting, WaitsStill, StartsOnly, is_open, is_behind, is_resting}
+use Rattle.svc_core.specs.WaitsState.{Lacks, IsSound, MarksOnly, IsDueAt, AreApart, StaysBusy, IsParked, IsIdle, AreIdle, KnowsReady, KnowsOthers, IsKnown, IsHeir, Opens, HasBits, Frees, HandsOn, ClosesPlace, LeavesPlace, ParksBehind, ParksResting, WaitsStill, StartsOnly, is_open, is_behind, is_resting}
 use Rattle.svc_core.proofs.ParkedLemmas.{first-one, shares-on, parked-on}
-use Rattle.svc_core.proofs.WaitsLemmas.{and_clash, opens-idle, idle-start, idle-unheld, open-of, grown-open, opens-joined, opens-handed, none-behind, others-start, keeps-same}
+use Rattle.svc_core.proofs.CountLemmas.{and_clash, sound-only, grows-start, grows-complete}
+use Rattle.svc_core.proofs.WaitsLemmas.{edges-kept, opens-idle, idle-start, idle-unheld, open-of, grown-open, opens-joined, opens-handed, none-behind, others-start, keeps-same}
 
 -- a change at one place leaves the others idle, where what waits behind its service still has reason to
 idle_moved : (p : Plan) (order : List ℕ) (st : StartsData) (d : EndpointsData) (from next k : ℕ) (bits : ℕ → ℕ → Bool) (until : ℕ) (w v : WaitsData)
@@ -30,17 +34,11 @@ idle_moved p order st d from next k bits until w v has others less far here behi
       | inl same ↦
           subst (λ i. IsIdle p order st d next v (slice_index order i) i) (sym same)
           (here (subst (λ i. i < length order) same lt) (subst (λ i. is_open v i ≡ false) same off))
-      | inr ne ↦ (let was : is_open w j ≡ false = sym (bit j ne (length w.marks)) ∙ ap (λ marks. is_set v.bits (length marks) j) (sym has.marks) ∙ off in
+      | inr ne ↦ (let was : is_open w j ≡ false = sym (bit j ne 0) ∙ off in
           elim (idle j lt was) [
             | inl done ↦ inl done
-            | inr (inl waits) ↦ inr (inl (
-              waits.0,
-              record {
-                at = waits.1.at;
-                lacks = subst (λ marks. IsUnmarked p marks (slice_index order j) waits.1.at) (sym has.marks) waits.1.lacks;
-                waits = bit j ne (slice_index (depends p (slice_index order j)) waits.1.at) ∙ waits.1.waits;
-              },
-            ))
+            | inr (inl waits) ↦
+                inr (inl (waits.0, λ none. waits.1 (ap (λ (counts : WaitingData). missing_of counts (slice_index order j)) (sym has.counts) ∙ none)))
             | inr (inr parked) ↦ inr (inr (
               parked.0,
               record {
@@ -52,9 +50,9 @@ idle_moved p order st d from next k bits until w v has others less far here behi
                   | inl there ↦ behind j parked.1 was there
                   | inr other ↦ moved parked.1.by (slice_index order parked.1.by) parked.1.shares.other other parked.1.busy
                 ];
-                behind = ap (λ marks. is_set v.bits (length marks + 1 + slice_index order parked.1.by) j) has.marks
-                    ∙ bit j ne (length w.marks + 1 + slice_index order parked.1.by) ∙ parked.1.behind;
-                parked = ap (λ marks. is_set v.bits (2 * length marks + 1) j) has.marks ∙ bit j ne (2 * length w.marks + 1) ∙ parked.1.parked;
+                behind = bit j ne (1 + slice_index order parked.1.by) ∙ parked.1.behind;
+                parked = ap (λ (counts : WaitingData). is_set v.bits (length counts.marks + 1) j) has.counts ∙ bit j ne (length w.counts.marks + 1)
+                    ∙ parked.1.parked;
               },
             ))
           ])
@@ -66,10 +64,10 @@ idle_moved p order st d from next k bits until w v has others less far here behi
     moved : (e t i : ℕ) → e ≢ k → StaysBusy d from w e t i → StaysBusy d next v e t i
     moved e t i ne (inl asks) = inl asks
     moved e t i ne (inr (inl opened)) =
-        inr (inl (ap (λ marks. is_set v.bits (length marks) e) has.marks ∙ bit e ne (length w.marks) ∙ opened.0, far e opened.1 ne))
+        inr (inl (bit e ne 0 ∙ opened.0, far e opened.1 ne))
     moved e t i ne (inr (inr rest)) =
         inr (inr (
-          ap (λ marks. is_set v.bits (2 * length marks + 2) e) has.marks ∙ bit e ne (2 * length w.marks + 2)
+          ap (λ (counts : WaitingData). is_set v.bits (length counts.marks + 2) e) has.counts ∙ bit e ne (length w.counts.marks + 2)
               ∙ rest.0,
           λ m le. rest.1 m (let same = has.until_is in omega arith),
         ))
@@ -82,12 +80,6 @@ left_other set x y here off = grind arith
 
 left_open : (set x y here : Bool) → set ≡ true → x ≡ false → y ≡ false → ((set && not (x && here)) && not (y && here)) ≡ true
 left_open set x y here on p q = grind arith
-
-parked_other : (set d row here : Bool) → here ≡ false → ((set || (d && here)) && not (row && here)) ≡ set
-parked_other set d row here off = grind arith
-
-parked_here : (set d row here : Bool) → d ≡ true → here ≡ true → row ≡ false → ((set || (d && here)) && not (row && here)) ≡ true
-parked_here set d row here on there off = grind arith
 
 kept_there : (set row here : Bool) → set ≡ true → row ≡ false → (set && not (row && here)) ≡ true
 kept_there set row here on off = grind arith
@@ -119,10 +111,12 @@ known_bits : (p : Plan) (order : List ℕ) (st : StartsData) (d : EndpointsData)
     (w v : WaitsData) → HasBits bits until w v → moment ≤ until → AreIdle p order st d next v
     → IsKnown p order st d complete moment from w → IsKnown p order st d complete moment next v
 known_bits p order st d complete moment from next bits until w v has soon idle known = record {
-  count = ap (λ marks. length marks) has.marks ∙ known.count;
+  count = ap (λ (counts : WaitingData). length counts.marks) has.counts ∙ known.count;
+  edges = edges-kept p w v (ap (λ (counts : WaitingData). counts.depends) has.counts) known.edges;
+  sound = subst (λ (counts : WaitingData). IsSound p st d.failed complete (record v { counts = counts })) (sym has.counts) known.sound;
   idle = idle;
   complete_is = has.complete ∙ known.complete_is;
-  ready = λ s inside on. ap (λ marks. is_flagged marks s) has.marks ∙ known.ready s inside on;
+  ready = λ s inside on. ap (λ (counts : WaitingData). is_flagged counts.marks s) has.counts ∙ known.ready s inside on;
   soon = (let same = has.until_is in omega arith);
 }
 
@@ -142,46 +136,37 @@ module _ (p : Plan) (order : List ℕ) (st : StartsData) (d : EndpointsData) (co
       (λ j x closed there. unstarted (StaysBusy d (k + 1) w x.by (slice_index order x.by) x.shares.other) off j x there) known.idle) known
     where
       same : HasBits (λ a b. is_set w.bits a b) w.until w w
-      same = record { marks = refl; bits = λ a b. refl; fresh = refl; complete = refl; until_is = refl }
+      same = record { counts = refl; bits = λ a b. refl; fresh = refl; complete = refl; until_is = refl }
 
-  -- a service that still waits for another one to be ready
-  pub parked-waits : (s at : ℕ) (v : WaitsData) → IsUnmarked p w.marks s at → Parks k (slice_index (depends p s) at) w v → IsWaiting p v s k
-  parked-waits s at v lacks parks =
-      let r : ℕ = slice_index (depends p s) at in record {
-        at = at;
-        lacks = subst (λ marks. IsUnmarked p marks s at) (sym parks.marks) lacks;
-        waits = parks.bits r k
-            ∙ parked_here (is_set w.bits r k) (r == r) (r == length w.marks) (k == k) (eq-eqb r r refl) (eq-eqb k k refl)
-            (ne_eqb r (length w.marks) (λ e. (let lt = lacks.inside in omega arith)));
-      }
+  -- a service that still lacks a dependency
+  pub still-lacks : (s : ℕ) (v : WaitsData) → ClosesPlace k w v → Lacks w s → Lacks v s
+  still-lacks s v closes lacks = λ none. lacks (ap (λ (counts : WaitingData). missing_of counts s) (sym closes.counts) ∙ none)
 
-  pub known-parked : (at : ℕ) (v : WaitsData) → is_flagged st.started (slice_index order k) ≡ false → IsUnmarked p w.marks (slice_index order k) at
-      → Parks k (slice_index (depends p (slice_index order k)) at) w v
+  pub known-parked : (v : WaitsData) → is_flagged st.started (slice_index order k) ≡ false → Lacks w (slice_index order k) → ClosesPlace k w v
       → IsKnown p order st d complete moment k w → IsKnown p order st d complete moment (k + 1) v
-  known-parked at v off lacks parks known =
-      let r : ℕ = slice_index (depends p (slice_index order k)) at in
-      known_bits p order st d complete moment k (k + 1)
-      (λ a b. (is_set w.bits a b || (a == r && b == k)) && not (a == length w.marks && b == k)) w.until w v parks known.soon
-      (idle_moved p order st d k (k + 1) k (λ a b. (is_set w.bits a b || (a == r && b == k)) && not (a == length w.marks && b == k)) w.until w v parks
-      (λ a b ne. parked_other (is_set w.bits a b) (a == r) (a == length w.marks) (b == k) ne) (omega arith) (λ e le ne. omega arith)
-      (λ lt closed. inr (inl (off, parked-waits (slice_index order k) at v lacks parks)))
+  known-parked v off lacks closes known =
+      known_bits p order st d complete moment k (k + 1) (λ a b. is_set w.bits a b && not (a == 0 && b == k)) w.until w v closes known.soon
+      (idle_moved p order st d k (k + 1) k (λ a b. is_set w.bits a b && not (a == 0 && b == k)) w.until w v closes
+      (λ a b ne. cleared_other (is_set w.bits a b) (a == 0) (b == k) ne) (omega arith) (λ e le ne. omega arith)
+      (λ lt closed. inr (inl (off, still-lacks (slice_index order k) v closes lacks)))
       (λ j x closed there. unstarted (StaysBusy d (k + 1) v x.by (slice_index order x.by) x.shares.other) off j x there) known.idle) known
 
   -- a place that is visited waits behind nothing, and what waits behind its service does so until then
   pub left-open : (v : WaitsData) → LeavesPlace k w v → is_open w k ≡ true → is_open v k ≡ true
   left-open v left opened =
-      ap (λ marks. is_set v.bits (length marks) k) left.marks ∙ left.bits (length w.marks) k
-      ∙ left_open (is_set w.bits (length w.marks) k) (length w.marks == 2 * length w.marks + 1) (length w.marks == 2 * length w.marks + 2) (k == k) opened
-      (ne_eqb (length w.marks) (2 * length w.marks + 1) (λ e. omega arith)) (ne_eqb (length w.marks) (2 * length w.marks + 2) (λ e. omega arith))
+      left.bits 0 k
+      ∙ left_open (is_set w.bits 0 k) (0 == length w.counts.marks + 1) (0 == length w.counts.marks + 2) (k == k) opened
+      (ne_eqb 0 (length w.counts.marks + 1) (λ e. omega arith)) (ne_eqb 0 (length w.counts.marks + 2) (λ e. omega arith))
 
   pub known-left : (v : WaitsData) → LeavesPlace k w v → is_open w k ≡ true → IsKnown p order st d complete moment k w
       → IsKnown p order st d complete moment k v
   known-left v left opened known =
       known_bits p order st d complete moment k k
-      (λ a b. (is_set w.bits a b && not (a == 2 * length w.marks + 1 && b == k)) && not (a == 2 * length w.marks + 2 && b == k)) w.until w v left known.soon
+      (λ a b. (is_set w.bits a b && not (a == length w.counts.marks + 1 && b == k)) && not
+      (a == length w.counts.marks + 2 && b == k)) w.until w v left known.soon
       (idle_moved p order st d k k k
-      (λ a b. (is_set w.bits a b && not (a == 2 * length w.marks + 1 && b == k)) && not (a == 2 * length w.marks + 2 && b == k)) w.until w v left
-      (λ a b ne. left_other (is_set w.bits a b) (a == 2 * length w.marks + 1) (a == 2 * length w.marks + 2) (b == k) ne) (omega arith) (λ e le ne. le)
+      (λ a b. (is_set w.bits a b && not (a == length w.counts.marks + 1 && b == k)) && not (a == length w.counts.marks + 2 && b == k)) w.until w v left
+      (λ a b ne. left_other (is_set w.bits a b) (a == length w.counts.marks + 1) (a == length w.counts.marks + 2) (b == k) ne) (omega arith) (λ e le ne. le)
       (λ lt closed. and_clash (is_open v k) (left-open v left opened) closed (IsIdle p order st d k v (slice_index order k) k))
       (λ j x closed there. inr (inl (subst (λ e. is_open v e ≡ true) (sym there) (left-open v left opened), omega arith))) known.idle) known
 
@@ -189,9 +174,9 @@ module _ (p : Plan) (order : List ℕ) (st : StartsData) (d : EndpointsData) (co
   pub known-asking : (v : WaitsData) → is_flagged st.started (slice_index order k) ≡ true → AsksFirst p d (slice_index order k) → ClosesPlace k w v
       → IsKnown p order st d complete moment k w → IsKnown p order st d complete moment (k + 1) v
   known-asking v on ask closes known =
-      known_bits p order st d complete moment k (k + 1) (λ a b. is_set w.bits a b && not (a == length w.marks && b == k)) w.until w v closes known.soon
-      (idle_moved p order st d k (k + 1) k (λ a b. is_set w.bits a b && not (a == length w.marks && b == k)) w.until w v closes
-      (λ a b ne. cleared_other (is_set w.bits a b) (a == length w.marks) (b == k) ne) (omega arith) (λ e le ne. omega arith)
+      known_bits p order st d complete moment k (k + 1) (λ a b. is_set w.bits a b && not (a == 0 && b == k)) w.until w v closes known.soon
+      (idle_moved p order st d k (k + 1) k (λ a b. is_set w.bits a b && not (a == 0 && b == k)) w.until w v closes
+      (λ a b ne. cleared_other (is_set w.bits a b) (a == 0) (b == k) ne) (omega arith) (λ e le ne. omega arith)
       (λ lt closed. inl (on, inr (record { at = ask.at; within = ask.first.within; asks = ask.asks })))
       (λ j x closed there. inl (asks_there x.by x.shares.other there x.shares.other_first)) known.idle) known
     where
@@ -206,12 +191,12 @@ module _ (p : Plan) (order : List ℕ) (st : StartsData) (d : EndpointsData) (co
   known-resting end v on rests parks known =
       let to : ℕ → ℕ
       → Bool = λ a b.
-      (((is_set w.bits a b || (a == length w.marks + 1 + slice_index order k && b == k)) || (a == 2 * length w.marks + 1 && b == k))
-      || (a == 2 * length w.marks + 2 && b == k)) && not (a == length w.marks && b == k) in
+      (((is_set w.bits a b || (a == 1 + slice_index order k && b == k)) || (a == length w.counts.marks + 1 && b == k))
+      || (a == length w.counts.marks + 2 && b == k)) && not (a == 0 && b == k) in
       known_bits p order st d complete moment k (k + 1) to (min w.until end) w v parks (let a = known.soon in let b = rests.lasts in omega arith)
       (idle_moved p order st d k (k + 1) k to (min w.until end) w v parks
-      (λ a b ne. resting_other (is_set w.bits a b) (a == length w.marks + 1 + slice_index order k) (a == 2 * length w.marks + 1) (a == 2 * length w.marks + 2)
-      (a == length w.marks) (b == k) ne) (omega arith) (λ e le ne. omega arith)
+      (λ a b ne. resting_other (is_set w.bits a b) (a == 1 + slice_index order k) (a == length w.counts.marks + 1) (a == length w.counts.marks + 2)
+      (a == 0) (b == k) ne) (omega arith) (λ e le ne. omega arith)
       (λ lt closed. inr (inr (
         on,
         record {
@@ -220,36 +205,36 @@ module _ (p : Plan) (order : List ℕ) (st : StartsData) (d : EndpointsData) (co
           started = on;
           shares = rests.shares;
           busy = inr (inr (rests_now, busy));
-          behind = ap (λ marks. is_set v.bits (length marks + 1 + slice_index order k) k) parks.marks
-              ∙ set (length w.marks + 1 + slice_index order k) (λ e. omega arith) (first_on (length w.marks + 1 + slice_index order k));
-          parked = ap (λ marks. is_set v.bits (2 * length marks + 1) k) parks.marks
-              ∙ set (2 * length w.marks + 1) (λ e. omega arith) (second_on (2 * length w.marks + 1));
+          behind = set (1 + slice_index order k) (λ e. omega arith) (first_on (1 + slice_index order k));
+          parked = ap (λ (counts : WaitingData). is_set v.bits (length counts.marks + 1) k) parks.counts
+              ∙ set (length w.counts.marks + 1) (λ e. omega arith) (second_on (length w.counts.marks + 1));
         },
       )))
       (λ j x closed there. inr (inr (subst (λ e. is_resting v e ≡ true) (sym there) rests_now, busy_there x.by x.shares.other there x.shares.other_first)))
       known.idle) known
     where
-      set : (a : ℕ) → a ≢ length w.marks
-          → (((is_set w.bits a k || (a == length w.marks + 1 + slice_index order k)) || (a == 2 * length w.marks + 1)) || (a == 2 * length w.marks + 2)) ≡ true
+      set : (a : ℕ) → a ≢ 0
+          → (((is_set w.bits a k || (a == 1 + slice_index order k)) || (a == length w.counts.marks + 1)) || (a == length w.counts.marks + 2)) ≡ true
           → is_set v.bits a k ≡ true
       set a ne one =
           parks.bits a k
-          ∙ resting_on (is_set w.bits a k) (a == length w.marks + 1 + slice_index order k) (a == 2 * length w.marks + 1) (a == 2 * length w.marks + 2)
-          (a == length w.marks) (k == k) (eq-eqb k k refl) (ne_eqb a (length w.marks) ne) one
+          ∙ resting_on (is_set w.bits a k) (a == 1 + slice_index order k) (a == length w.counts.marks + 1) (a == length w.counts.marks + 2)
+          (a == 0) (k == k) (eq-eqb k k refl) (ne_eqb a 0 ne) one
 
-      first_on : (a : ℕ) → (((is_set w.bits a k || (a == a)) || (a == 2 * length w.marks + 1)) || (a == 2 * length w.marks + 2)) ≡ true
-      first_on a = or_left _ (a == 2 * length w.marks + 2) (or_left _ (a == 2 * length w.marks + 1) (or_right (is_set w.bits a k) (a == a) (eq-eqb a a refl)))
+      first_on : (a : ℕ) → (((is_set w.bits a k || (a == a)) || (a == length w.counts.marks + 1)) || (a == length w.counts.marks + 2)) ≡ true
+      first_on a = or_left _ (a == length w.counts.marks + 2) (or_left _ (a == length w.counts.marks + 1) (or_right (is_set w.bits a k) (a == a)
+          (eq-eqb a a refl)))
 
-      second_on : (a : ℕ) → (((is_set w.bits a k || (a == length w.marks + 1 + slice_index order k)) || (a == a)) || (a == 2 * length w.marks + 2)) ≡ true
+      second_on : (a : ℕ) → (((is_set w.bits a k || (a == 1 + slice_index order k)) || (a == a)) || (a == length w.counts.marks + 2)) ≡ true
       second_on a =
-          or_left _ (a == 2 * length w.marks + 2) (or_right (is_set w.bits a k || (a == length w.marks + 1 + slice_index order k)) (a == a) (eq-eqb a a refl))
+          or_left _ (a == length w.counts.marks + 2) (or_right (is_set w.bits a k || (a == 1 + slice_index order k)) (a == a) (eq-eqb a a refl))
 
-      third_on : (a : ℕ) → (((is_set w.bits a k || (a == length w.marks + 1 + slice_index order k)) || (a == 2 * length w.marks + 1)) || (a == a)) ≡ true
-      third_on a = or_right ((is_set w.bits a k || (a == length w.marks + 1 + slice_index order k)) || (a == 2 * length w.marks + 1)) (a == a) (eq-eqb a a refl)
+      third_on : (a : ℕ) → (((is_set w.bits a k || (a == 1 + slice_index order k)) || (a == length w.counts.marks + 1)) || (a == a)) ≡ true
+      third_on a = or_right ((is_set w.bits a k || (a == 1 + slice_index order k)) || (a == length w.counts.marks + 1)) (a == a) (eq-eqb a a refl)
 
       rests_now : is_resting v k ≡ true
-      rests_now = ap (λ marks. is_set v.bits (2 * length marks + 2) k) parks.marks
-          ∙ set (2 * length w.marks + 2) (λ e. omega arith) (third_on (2 * length w.marks + 2))
+      rests_now = ap (λ (counts : WaitingData). is_set v.bits (length counts.marks + 2) k) parks.counts
+          ∙ set (length w.counts.marks + 2) (λ e. omega arith) (third_on (length w.counts.marks + 2))
 
       busy : IsBusyUntil d (slice_index order k) rests.shares.other v.until
       busy m le = rests.busy m (let same = parks.until_is in omega arith)
@@ -263,7 +248,7 @@ module _ (p : Plan) (order : List ℕ) (st : StartsData) (d : EndpointsData) (co
   pub known-freed : (v : WaitsData) → Frees (slice_index order k) w v → IsKnown p order st d complete moment k w
       → IsKnown p order st d complete moment (k + 1) v
   known-freed v freed known = known_bits p order st d complete moment k (k + 1) _ w.until w v freed known.soon
-      (λ j lt off. elim (opens-idle p order st d k w v (opens-joined (length w.marks + 1 + slice_index order k) w v freed) known.idle j lt off) [
+      (λ j lt off. elim (opens-idle p order st d k w v (opens-joined order (1 + slice_index order k) w v freed) known.idle j lt off) [
         | inl done ↦ inl done
         | inr (inl waits) ↦ inr (inl waits)
         | inr (inr x) ↦ inr (inr (
@@ -295,31 +280,30 @@ module _ (p : Plan) (order : List ℕ) (st : StartsData) (d : EndpointsData) (co
         ))
       ]) known
     where
-      grown : Opens w v
-      grown = opens-handed (slice_index order k) (slice_index order e) e w v hands
+      grown : Opens order w v
+      grown = opens-handed order (slice_index order k) (slice_index order e) e w v hands
 
       was_behind : (j : ℕ) → is_behind v (slice_index order k) j ≡ true → is_behind w (slice_index order k) j ≡ true
       was_behind j on =
-          let row : ℕ = length w.marks + 1 + slice_index order k in
-          handed_from (is_set w.bits row j) (row == length w.marks + 1 + slice_index order e) (row == length w.marks) (j == e)
-          (ne_eqb row (length w.marks) (λ same. omega arith))
-          (sym (hands.bits row j) ∙ sym (ap (λ marks. is_set v.bits (length marks + 1 + slice_index order k) j) hands.marks) ∙ on)
+          let row : ℕ = 1 + slice_index order k in
+          handed_from (is_set w.bits row j) (row == 1 + slice_index order e) (row == 0) (j == e)
+          (ne_eqb row (0) (λ same. omega arith))
+          (sym (hands.bits row j) ∙ on)
 
       is_behind_heir : (j : ℕ) → is_behind w (slice_index order k) j ≡ true → is_behind v (slice_index order e) j ≡ true
       is_behind_heir j on =
-          let row : ℕ = length w.marks + 1 + slice_index order e in
-          ap (λ marks. is_set v.bits (length marks + 1 + slice_index order e) j) hands.marks ∙ hands.bits row j
-          ∙ handed_on (is_set w.bits row j) (row == row) (is_set w.bits (length w.marks + 1 + slice_index order k) j) (row == length w.marks && j == e)
+          let row : ℕ = 1 + slice_index order e in
+          hands.bits row j
+          ∙ handed_on (is_set w.bits row j) (row == row) (is_set w.bits (1 + slice_index order k) j) (row == 0 && j == e)
           (eq-eqb row row refl) on
 
       heir_open : is_open v e ≡ true
-      heir_open = ap (λ marks. is_set v.bits (length marks) e) hands.marks ∙ hands.bits (length w.marks) e
-          ∙ or_right _ (length w.marks == length w.marks && e == e)
-          (and_from (length w.marks == length w.marks) (e == e) (eq-eqb (length w.marks) (length w.marks) refl) (eq-eqb e e refl))
+      heir_open = hands.bits 0 e
+          ∙ or_right _ (0 == 0 && e == e) (and_from (0 == 0) (e == e) refl (eq-eqb e e refl))
 
       later : (j : ℕ) → is_open v j ≡ false → k ≤ j → is_behind w (slice_index order k) j ≡ true → e ≤ j
       later j off le on = elim (cases_eq j k) [
-        | inl here ↦ and_clash (is_open v j) (subst (λ n. is_open v n ≡ true) (sym here) (grown-open w v k grown opened)) off (e ≤ j)
+        | inl here ↦ and_clash (is_open v j) (subst (λ n. is_open v n ≡ true) (sym here) (grown-open order w v k grown opened)) off (e ≤ j)
         | inr ne ↦ elim (cases_lt j e) [
           | inl lt ↦ and_clash (is_behind w (slice_index order k) j) on (heir.first j (omega arith) lt) (e ≤ j)
           | inr ge ↦ ge
@@ -342,7 +326,7 @@ module _ (p : Plan) (order : List ℕ) (st : StartsData) (d : EndpointsData) (co
 
   pub freed-open : (v : WaitsData) → Frees (slice_index order k) w v → is_open w k ≡ true → is_open v k ≡ true
   freed-open v freed opened =
-      ap (λ marks. is_set v.bits (length marks) k) freed.marks ∙ freed.bits (length w.marks) k ∙ or_left (is_set w.bits (length w.marks) k) _ opened
+      freed.bits 0 k ∙ or_left (is_set w.bits 0 k) _ opened
 
   -- then the place may be closed
   late : (v : WaitsData) (t i : ℕ) → (is_resting w k ≡ true → is_resting v k ≡ true) → v.until ≡ w.until → (e : ℕ) → e ≡ k → StaysBusy d (k + 1) w e t i
@@ -359,16 +343,16 @@ module _ (p : Plan) (order : List ℕ) (st : StartsData) (d : EndpointsData) (co
   pub known-closed : (v : WaitsData) → is_flagged st.started (slice_index order k) ≡ true → HasAll p d (slice_index order k) → ClosesPlace k w v
       → IsKnown p order st d complete moment (k + 1) w → IsKnown p order st d complete moment (k + 1) v
   known-closed v on all closes known =
-      known_bits p order st d complete moment (k + 1) (k + 1) (λ a b. is_set w.bits a b && not (a == length w.marks && b == k)) w.until w v closes known.soon
-      (idle_moved p order st d (k + 1) (k + 1) k (λ a b. is_set w.bits a b && not (a == length w.marks && b == k)) w.until w v closes
-      (λ a b ne. cleared_other (is_set w.bits a b) (a == length w.marks) (b == k) ne) (omega arith) (λ e le ne. le)
+      known_bits p order st d complete moment (k + 1) (k + 1) (λ a b. is_set w.bits a b && not (a == 0 && b == k)) w.until w v closes known.soon
+      (idle_moved p order st d (k + 1) (k + 1) k (λ a b. is_set w.bits a b && not (a == 0 && b == k)) w.until w v closes
+      (λ a b ne. cleared_other (is_set w.bits a b) (a == 0) (b == k) ne) (omega arith) (λ e le ne. le)
       (λ lt closed. inl (on, inl all))
       (λ j x closed there. late v (slice_index order x.by) x.shares.other same closes.until_is x.by there x.busy) known.idle) known
     where
       same : is_resting w k ≡ true → is_resting v k ≡ true
-      same rests = ap (λ marks. is_set v.bits (2 * length marks + 2) k) closes.marks ∙ closes.bits (2 * length w.marks + 2) k
-          ∙ kept_there (is_set w.bits (2 * length w.marks + 2) k) (2 * length w.marks + 2 == length w.marks) (k == k) rests
-          (ne_eqb (2 * length w.marks + 2) (length w.marks) (λ e. omega arith))
+      same rests = ap (λ (counts : WaitingData). is_set v.bits (length counts.marks + 2) k) closes.counts ∙ closes.bits (length w.counts.marks + 2) k
+          ∙ kept_there (is_set w.bits (length w.counts.marks + 2) k) (length w.counts.marks + 2 == 0) (k == k) rests
+          (ne_eqb (length w.counts.marks + 2) 0 (λ e. omega arith))
 
   -- or wait behind another one
   pub known-behind : (e : ℕ) (v : WaitsData) → e ≤ k → is_flagged st.started (slice_index order k) ≡ true → is_flagged st.started (slice_index order e) ≡ true
@@ -376,11 +360,11 @@ module _ (p : Plan) (order : List ℕ) (st : StartsData) (d : EndpointsData) (co
       → ParksBehind k (slice_index order e) w v → IsKnown p order st d complete moment (k + 1) w → IsKnown p order st d complete moment (k + 1) v
   known-behind e v le on started waits parks known =
       let to : ℕ → ℕ
-      → Bool = λ a b. ((is_set w.bits a b || (a == length w.marks + 1 + slice_index order e && b == k)) || (a == 2 * length w.marks + 1 && b == k))
-      && not (a == length w.marks && b == k) in
+      → Bool = λ a b. ((is_set w.bits a b || (a == 1 + slice_index order e && b == k)) || (a == length w.counts.marks + 1 && b == k))
+      && not (a == 0 && b == k) in
       known_bits p order st d complete moment (k + 1) (k + 1) to w.until w v parks known.soon
       (idle_moved p order st d (k + 1) (k + 1) k to w.until w v parks
-      (λ a b ne. behind_other (is_set w.bits a b) (a == length w.marks + 1 + slice_index order e) (a == 2 * length w.marks + 1) (a == length w.marks)
+      (λ a b ne. behind_other (is_set w.bits a b) (a == 1 + slice_index order e) (a == length w.counts.marks + 1) (a == 0)
       (b == k) ne) (omega arith) (λ i low ne. low)
       (λ lt closed. inr (inr (
         on,
@@ -390,45 +374,52 @@ module _ (p : Plan) (order : List ℕ) (st : StartsData) (d : EndpointsData) (co
           started = started;
           shares = waits.shares;
           busy = inl waits.asks;
-          behind = ap (λ marks. is_set v.bits (length marks + 1 + slice_index order e) k) parks.marks
-              ∙ set (length w.marks + 1 + slice_index order e) (λ i. omega arith) (first_on (length w.marks + 1 + slice_index order e));
-          parked = ap (λ marks. is_set v.bits (2 * length marks + 1) k) parks.marks
-              ∙ set (2 * length w.marks + 1) (λ i. omega arith) (second_on (2 * length w.marks + 1));
+          behind = set (1 + slice_index order e) (λ i. omega arith) (first_on (1 + slice_index order e));
+          parked = ap (λ (counts : WaitingData). is_set v.bits (length counts.marks + 1) k) parks.counts
+              ∙ set (length w.counts.marks + 1) (λ i. omega arith) (second_on (length w.counts.marks + 1));
         },
       )))
       (λ j x closed there. late v (slice_index order x.by) x.shares.other same parks.until_is x.by there x.busy) known.idle) known
     where
-      set : (a : ℕ) → a ≢ length w.marks → ((is_set w.bits a k || (a == length w.marks + 1 + slice_index order e)) || (a == 2 * length w.marks + 1)) ≡ true
+      set : (a : ℕ) → a ≢ 0 → ((is_set w.bits a k || (a == 1 + slice_index order e)) || (a == length w.counts.marks + 1)) ≡ true
           → is_set v.bits a k ≡ true
       set a ne one =
           parks.bits a k
-          ∙ behind_on (is_set w.bits a k) (a == length w.marks + 1 + slice_index order e) (a == 2 * length w.marks + 1) (a == length w.marks) (k == k)
-          (eq-eqb k k refl) (ne_eqb a (length w.marks) ne) one
+          ∙ behind_on (is_set w.bits a k) (a == 1 + slice_index order e) (a == length w.counts.marks + 1) (a == 0) (k == k)
+          (eq-eqb k k refl) (ne_eqb a 0 ne) one
 
-      first_on : (a : ℕ) → ((is_set w.bits a k || (a == a)) || (a == 2 * length w.marks + 1)) ≡ true
-      first_on a = or_left (is_set w.bits a k || (a == a)) (a == 2 * length w.marks + 1) (or_right (is_set w.bits a k) (a == a) (eq-eqb a a refl))
+      first_on : (a : ℕ) → ((is_set w.bits a k || (a == a)) || (a == length w.counts.marks + 1)) ≡ true
+      first_on a = or_left (is_set w.bits a k || (a == a)) (a == length w.counts.marks + 1) (or_right (is_set w.bits a k) (a == a) (eq-eqb a a refl))
 
-      second_on : (a : ℕ) → ((is_set w.bits a k || (a == length w.marks + 1 + slice_index order e)) || (a == a)) ≡ true
-      second_on a = or_right (is_set w.bits a k || (a == length w.marks + 1 + slice_index order e)) (a == a) (eq-eqb a a refl)
+      second_on : (a : ℕ) → ((is_set w.bits a k || (a == 1 + slice_index order e)) || (a == a)) ≡ true
+      second_on a = or_right (is_set w.bits a k || (a == 1 + slice_index order e)) (a == a) (eq-eqb a a refl)
 
       same : is_resting w k ≡ true → is_resting v k ≡ true
-      same rests = ap (λ marks. is_set v.bits (2 * length marks + 2) k) parks.marks ∙ set (2 * length w.marks + 2) (λ i. omega arith)
-          (or_left (is_set w.bits (2 * length w.marks + 2) k || (2 * length w.marks + 2 == length w.marks + 1 + slice_index order e))
-          (2 * length w.marks + 2 == 2 * length w.marks + 1)
-          (or_left (is_set w.bits (2 * length w.marks + 2) k) (2 * length w.marks + 2 == length w.marks + 1 + slice_index order e) rests))
+      same rests = ap (λ (counts : WaitingData). is_set v.bits (length counts.marks + 2) k) parks.counts ∙ set (length w.counts.marks + 2) (λ i. omega arith)
+          (or_left (is_set w.bits (length w.counts.marks + 2) k || (length w.counts.marks + 2 == 1 + slice_index order e))
+          (length w.counts.marks + 2 == length w.counts.marks + 1)
+          (or_left (is_set w.bits (length w.counts.marks + 2) k) (length w.counts.marks + 2 == 1 + slice_index order e) rests))
 
 -- after a visit: the service may have been started, what is held stays held and nothing else is, and what is ready was marked
 pub attended : (p : Plan) (order : List ℕ) (st st' : StartsData) (d d' : EndpointsData) (complete complete' : Bool) (moment : ℕ) (w v : WaitsData) (k : ℕ)
-    → IsStartsSized p st → slice_index order k < service_count p → AreApart order → k < length order
+    → IsStartsSized p st → IsInOrder p order → AreApart order → k < length order
     → IsKnown p order st d complete moment k w → StartsOnly p d.failed complete (slice_index order k) st st' → StaysHeld d d' → StaysUnheld d d'
-    → OthersStay (slice_index order k) d d' → d'.failed ≡ d.failed → d'.table ≡ d.table → is_open w k ≡ true
-    → Opens w v → v.complete ≡ complete' → KnowsReady p st' d'.failed complete' v → IsKnown p order st' d' complete' moment k v
-attended p order st st' d d' complete complete' moment w v k sized inside apart lt known only held unheld others failed table opened grown complete_is knows =
+    → OthersStay (slice_index order k) d d' → d'.failed ≡ d.failed → d'.table ≡ d.table → (complete ≡ true → complete' ≡ true) → is_open w k ≡ true
+    → Opens order w v → v.complete ≡ complete' → KnowsReady p st' d'.failed complete' v → MarksOnly (ready_now p st' d'.failed complete') w v
+    → IsKnown p order st' d' complete' moment k v
+attended p order st st' d d' complete complete' moment w v k sized in_order apart lt known only held unheld others failed table late opened grown complete_is
+    knows marks =
+    let inside : slice_index order k < service_count p = in_order.inside k lt in
+    let room : slice_index order k < length st.started = (let n = sized.started in omega arith) in
     let started : AreIdle p order st' d k w =
-    idle-start p order st st' d d.failed complete k w (slice_index order k)
-    (let n = sized.started in omega arith) known.count known.ready only known.idle in
+    idle-start p order st st' d d.failed complete k w (slice_index order k) room known.count known.ready known.edges in_order.inside only known.idle in
     record {
       count = grown.count ∙ known.count;
+      edges = edges-kept p w v grown.depends known.edges;
+      sound = sound-only p st' d'.failed complete' w v marks
+          (subst (λ flags. IsSound p st' flags complete' w) (sym failed)
+          (λ t within on. grows-complete p st' d.failed complete complete' t late
+          (grows-start p st d.failed complete st' complete (slice_index order k) t room only (known.sound t within on))));
       idle = opens-idle p order st' d' k w v grown
           (idle-unheld p order st' d d' k (slice_index order k) w (keeps-same (slice_index order k) d d' held others failed) unheld
           (λ a none. ap (λ t. has_open t a) table ∙ none) (λ t ne. ap (λ flags. is_flagged flags t) failed)
@@ -455,7 +446,21 @@ pub on-fresh : {A : Type 0} (b : Bool) → b ≡ true → OnTrue b A → A
 on-fresh true e h = h
 on-fresh false e h = absurd (cc)
 
--- what a visit makes of the starts
+-- what a visit makes of the starts, where the service is due if it isn't started
+due_fresh : (on due r : Bool) → (on ≡ true) ⊎ (due ≡ true) → r ≡ not on → r ≡ (not on && due)
+due_fresh on due r (inl started) e = started_none on due r started e
+  where
+    started_none : (on due r : Bool) → on ≡ true → r ≡ not on → r ≡ (not on && due)
+    started_none on due r h e = grind arith
+due_fresh on due r (inr is) e = due_now_is on due r is e
+  where
+    due_now_is : (on due r : Bool) → due ≡ true → r ≡ not on → r ≡ (not on && due)
+    due_now_is on due r h e = grind arith
+
+pub starts-due : (p : Plan) (st : StartsData) (failed : List Bool) (complete : Bool) (s : ℕ) (starts : Bool) → IsDueAt p st failed complete s
+    → starts ≡ not (is_flagged st.started s) → starts ≡ starts_now p st failed complete s
+starts-due p st failed complete s starts due fresh = due_fresh (is_flagged st.started s) (due_now p st failed complete s) starts due fresh
+
 yes_due : (here due n : Bool) → n ≡ (not here && due) → n ≡ true → due ≡ true
 yes_due here due n e h = grind arith
 
@@ -468,11 +473,12 @@ pub starts-none : (p : Plan) (st : StartsData) (failed : List Bool) (complete : 
 starts-none p st failed complete s = record { starts = false; due = λ on. absurd (cc); after = refl }
 
 -- what was found of a service that isn't started
-pub still-parked : (p : Plan) (st : StartsData) (s k : ℕ) (old new : WaitsData) (b : Bool) → b ≡ true → WaitsStill p st s k old new b
-    → (is_flagged st.started s ≡ false) × ((at : ℕ) × (IsUnmarked p old.marks s at × Parks k (slice_index (depends p s) at) old new))
-still-parked p st s k old new true e h = h
-still-parked p st s k old new false e h = absurd (cc)
+pub still-parked : (st : StartsData) (s k : ℕ) (old new : WaitsData) (b : Bool) → b ≡ true → WaitsStill st s k old new b
+    → (is_flagged st.started s ≡ false) × (Lacks old s × ClosesPlace k old new)
+still-parked st s k old new true e h = h
+still-parked st s k old new false e h = absurd (cc)
 
-pub still-same : (p : Plan) (st : StartsData) (s k : ℕ) (old new : WaitsData) (b : Bool) → b ≡ false → WaitsStill p st s k old new b → new ≡ old
-still-same p st s k old new true e h = absurd (cc)
-still-same p st s k old new false e h = h
+pub still-same : (st : StartsData) (s k : ℕ) (old new : WaitsData) (b : Bool) → b ≡ false → WaitsStill st s k old new b
+    → ((is_flagged st.started s ≡ true) ⊎ (missing_of old.counts s ≡ 0)) × (new ≡ old)
+still-same st s k old new true e h = absurd (cc)
+still-same st s k old new false e h = h

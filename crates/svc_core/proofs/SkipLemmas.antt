@@ -18,10 +18,11 @@ use Rattle.svc_drain.specs.DrainData.{DrainData}
 use Rattle.svc_core.specs.StartsData.{StartsData}
 use Rattle.svc_core.specs.StartsState.{IsStartsSized, is_flagged, starts_now, due_now}
 use Rattle.svc_core.specs.WaitsData.{WaitsData}
-use Rattle.svc_core.specs.WaitsState.{AsksNothing, IsWaiting, IsIdle, StaysBusy, KnowsReady, IsKnown, is_open}
+use Rattle.svc_core.specs.WaitsState.{AsksNothing, Lacks, CountsPlan, IsIdle, StaysBusy, KnowsReady, IsKnown, is_open}
 use Rattle.svc_core.specs.Passes.{Passes, is_tested}
 use Rattle.svc_core.proofs.ParkedLemmas.{asking-busy}
-use Rattle.svc_core.proofs.WaitsLemmas.{not-due, idle-on}
+use Rattle.svc_core.proofs.CountLemmas.{not-due}
+use Rattle.svc_core.proofs.WaitsLemmas.{idle-on}
 use Rattle.svc_core.proofs.PassLemmas.{wait-half, ask-whole, passes-none, passes-stay, passes-then}
 
 started_not : (on due : Bool) → on ≡ true → (not on && due) ≡ false
@@ -41,16 +42,18 @@ record IsKeptBusy (p : Plan) (d : EndpointsData) (s moment : ℕ) : Type 0 where
 abbrev TellsNothing : Plan → StartsData → EndpointsData → WaitsData → ℕ → ℕ → ℕ → Type 0
 TellsNothing p st d w s k moment =
     ((is_flagged st.started s ≡ true) × AsksNothing p d s)
-    ⊎ (((is_flagged st.started s ≡ false) × IsWaiting p w s k) ⊎ ((is_flagged st.started s ≡ true) × IsKeptBusy p d s moment))
+    ⊎ (((is_flagged st.started s ≡ false) × Lacks w s) ⊎ ((is_flagged st.started s ≡ true) × IsKeptBusy p d s moment))
 
 -- an idle service isn't started
 idle-waits : (p : Plan) (st : StartsData) (d : EndpointsData) (failed : List Bool) (complete : Bool) (w : WaitsData) (s k moment : ℕ)
-    → length w.marks ≡ service_count p → KnowsReady p st failed complete w → TellsNothing p st d w s k moment
+    → s < service_count p → length w.counts.marks ≡ service_count p → CountsPlan p w → KnowsReady p st failed complete w → TellsNothing p st d w s k moment
     → starts_now p st failed complete s ≡ false
-idle-waits p st d failed complete w s k moment count knows (inl done) = started_not (is_flagged st.started s) (due_now p st failed complete s) done.0
-idle-waits p st d failed complete w s k moment count knows (inr (inl waits)) =
-    due_not (is_flagged st.started s) (due_now p st failed complete s) (not-due p st failed complete w s waits.1.at count knows waits.1.lacks)
-idle-waits p st d failed complete w s k moment count knows (inr (inr busy)) = started_not (is_flagged st.started s) (due_now p st failed complete s) busy.0
+idle-waits p st d failed complete w s k moment inside count edges knows (inl done) = started_not (is_flagged st.started s)
+    (due_now p st failed complete s) done.0
+idle-waits p st d failed complete w s k moment inside count edges knows (inr (inl waits)) =
+    due_not (is_flagged st.started s) (due_now p st failed complete s) (not-due p st failed complete w s inside count edges knows waits.1)
+idle-waits p st d failed complete w s k moment inside count edges knows (inr (inr busy)) = started_not (is_flagged st.started s)
+    (due_now p st failed complete s) busy.0
 
 -- there is nothing to ask for a service that has failed, or each endpoint of which is held
 has-visited : (p : Plan) (d : EndpointsData) (s : ℕ) (q : Record) → IsEndpointsSized p d → s < service_count p → EndpointsStand p d q → is_started q s ≡ true
@@ -81,9 +84,9 @@ idle-visited p st d w s k moment q sized inside is at stand (inr (inr busy)) =
 -- so a visit of it is none
 passes_idle : (p : Plan) → IsValid p → (order : List ℕ) (dr : DrainData) (k : ℕ) → k < length order → IsInOrder p order
     → (st : StartsData) (d : EndpointsData) (b : BootData) (w : WaitsData) (before : List Action)
-    → IsStartsSized p st → IsEndpointsSized p d → length w.marks ≡ service_count p → KnowsReady p st d.failed b.complete w
+    → IsStartsSized p st → IsEndpointsSized p d → length w.counts.marks ≡ service_count p → CountsPlan p w → KnowsReady p st d.failed b.complete w
     → TellsNothing p st d w (slice_index order k) k dr.moment → Passes p order dr k (k + 1) st st d d b b before before
-passes_idle p valid order dr k place in_order st d b w before sized ends count knows idle =
+passes_idle p valid order dr k place in_order st d b w before sized ends count edges knows idle =
     elim (cases_Bool (is_tested p b)) [
       | inl tested ↦ passes-stay p order dr k st d b before tested
       | inr untested ↦ record {
@@ -93,18 +96,18 @@ passes_idle p valid order dr k place in_order st d b w before sized ends count k
             (idle-visited p st d w (slice_index order k) k dr.moment q ends (in_order.inside k place)
             (was.going.starts.started_is (slice_index order k) (in_order.inside k place)) was.going.drain.moment_is was.going.ends idle)
             (wait-half p valid order dr k place in_order st d b o cn q sized untested was
-            (idle-waits p st d d.failed b.complete w (slice_index order k) k dr.moment count knows idle));
+            (idle-waits p st d d.failed b.complete w (slice_index order k) k dr.moment (in_order.inside k place) count edges knows idle));
       }
     ]
 
 -- a service that isn't started and waits
 pub passes-waiting : (p : Plan) → IsValid p → (order : List ℕ) (dr : DrainData) (k : ℕ) → k < length order → IsInOrder p order
     → (st : StartsData) (d : EndpointsData) (b : BootData) (w : WaitsData) (before : List Action)
-    → IsStartsSized p st → IsEndpointsSized p d → length w.marks ≡ service_count p → KnowsReady p st d.failed b.complete w
-    → is_flagged st.started (slice_index order k) ≡ false → IsWaiting p w (slice_index order k) k
+    → IsStartsSized p st → IsEndpointsSized p d → length w.counts.marks ≡ service_count p → CountsPlan p w → KnowsReady p st d.failed b.complete w
+    → is_flagged st.started (slice_index order k) ≡ false → Lacks w (slice_index order k)
     → Passes p order dr k (k + 1) st st d d b b before before
-passes-waiting p valid order dr k place in_order st d b w before sized ends count knows off waits =
-    passes_idle p valid order dr k place in_order st d b w before sized ends count knows (inr (inl (off, waits)))
+passes-waiting p valid order dr k place in_order st d b w before sized ends count edges knows off waits =
+    passes_idle p valid order dr k place in_order st d b w before sized ends count edges knows (inr (inl (off, waits)))
 
 -- what a service waits behind is busy when the pass has come to its place and no earlier one is open
 still_busy : (d : EndpointsData) (from moment : ℕ) (w : WaitsData) (e t i : ℕ) → moment ≤ w.until → (from ≤ e → is_open w e ≡ false) → StaysBusy d from w e t i
@@ -142,7 +145,7 @@ passes_skip p valid order dr from (suc n) within in_order st d b w before sized 
     subst (λ k. Passes p order dr from k st st d d b b before before) (one_more from n)
     (passes-then p order dr from (from + n) ((from + n) + 1) st st st d d d b b b before before before
     (passes_skip p valid order dr from n (omega arith) in_order st d b w before sized ends known (λ c le lt. off c le (omega arith)))
-    (passes_idle p valid order dr (from + n) (omega arith) in_order st d b w before sized ends known.count known.ready
+    (passes_idle p valid order dr (from + n) (omega arith) in_order st d b w before sized ends known.count known.edges known.ready
     (tells_nothing p order st d from dr.moment w (from + n) in_order (omega arith) known.soon (λ c le lt. off c le (omega arith))
     (known.idle (from + n) (omega arith) (off (from + n) (omega arith) (omega arith))))))
   where
@@ -166,6 +169,8 @@ pub known-skip : (p : Plan) (order : List ℕ) (st : StartsData) (d : EndpointsD
     → ((c : ℕ) → from ≤ c → c < k → is_open w c ≡ false) → IsKnown p order st d complete moment from w → IsKnown p order st d complete moment k w
 known-skip p order st d complete moment from k w off known = record {
   count = known.count;
+  edges = known.edges;
+  sound = known.sound;
   idle = idle-on p order st d from k w (λ e le on. elim (cases_lt e k) [ inl lt ↦ absurd (clash (is_open w e) on (off e le lt)) | inr ge ↦ ge ]) known.idle;
   complete_is = known.complete_is;
   ready = known.ready;

@@ -1,150 +1,99 @@
 -- What becomes of the places that a pass leaves out, by an event and at the beginning of a pass.
-use Rattle.std.proofs.Common.{ℕ, zero, suc, Bool, true, false, ◌||◌, ◌&&◌, ◌==◌, inl, inr, List, ◌≡◌, ◌≢◌, refl, ap, sym, ◌∙◌, subst, arith, ◌<◌, ◌≤◌, ◌+◌, ◌*◌, length, length-set, take, slice_index}
+use Rattle.std.proofs.Common.{ℕ, zero, suc, Bool, true, false, ◌||◌, ◌&&◌, ◌==◌, inl, inr, List, ◌≡◌, ◌≢◌, refl, ap, sym, ◌∙◌, subst, arith, ◌<◌, ◌≤◌, ◌+◌, length, take, slice_index, if◌then◌else◌}
 use Rattle.std.specs.Bool.{OnTrue}
-use Rattle.std.specs.List.{list_all}
 use Rattle.std.proofs.lemmas.Bool.{eq-eqb, ne_eqb, or_left, or_right, cases_eq, cases_lt, cases_Bool}
-use Rattle.std.proofs.lemmas.List.Folds.{list_all_at, list_any_more}
+use Rattle.std.proofs.lemmas.List.Folds.{list_any_more}
 use Rattle.svc_graph.specs.Bits.{is_set}
+use Rattle.svc_graph.specs.Graphs.{is_in_row}
+use Rattle.svc_graph.specs.WaitingData.{WaitingData}
+use Rattle.svc_graph.specs.Waitings.{missing_of}
 use Rattle.svc_graph.specs.declared.plan.Kind.TheVariants.{Plain, Bootstrap}
 use Rattle.svc_record.specs.declared.plan.Plan.{Plan}
-use Rattle.svc_record.specs.Plans.{service_count, depends, has_kind}
+use Rattle.svc_record.specs.Plans.{service_count, has_kind}
 use Rattle.svc_record.specs.Validity.{IsStartupOrder, is_listed}
 use Rattle.svc_endpoints.specs.EndpointsData.{EndpointsData}
 use Rattle.svc_endpoints.specs.EndpointsState.{IsEndpointsSized, failed_at, last_at, is_asking, is_holding}
 use Rattle.svc_endpoints.specs.Stays.{FailsOnly, StaysHeld, StaysUnheld, OthersStay, GainsNone}
+use Rattle.svc_boot.specs.BootData.{BootData}
+use Rattle.svc_boot.specs.BootEffects.{begun_with, begun_by}
 use Rattle.svc_core.specs.CoreData.{IsFormed}
 use Rattle.svc_core.specs.StartsData.{StartsData}
 use Rattle.svc_core.specs.StartsState.{IsStartsSized, is_flagged, ready_now, due_now, start_if, word_taken, end_taken}
 use Rattle.svc_core.specs.WaitsData.{WaitsData}
-use Rattle.svc_core.specs.WaitsState.{IsUnmarked, IsWaiting, AsksNothing, AreApart, IsShortOrder, IsOpenOf, Reopens, StaysBusy, IsParked, IsIdle, AreIdle, KnowsReady, KnowsOthers, IsWatched, IsKnown, Opens, IsMarked, MarksIf, HasBits, JoinsRow, Frees, HandsOn, FreesAll, Wakes, StartsOnly, is_open, is_behind, is_parked}
+use Rattle.svc_core.specs.WaitsState.{CountsPlan, IsSound, MarksOnly, AsksNothing, AreApart, IsShortOrder, IsOpenOf, Reopens, StaysBusy, IsParked, IsIdle, AreIdle, KnowsReady, KnowsOthers, IsWatched, IsKnown, IsKept, Opens, IsMarked, MarksIf, HasBits, JoinsRow, Frees, HandsOn, FreesAll, Wakes, StartsOnly, is_open, is_behind, is_parked}
 use Rattle.svc_core.proofs.StartsLemmas.{flag-set}
+use Rattle.svc_core.proofs.CountLemmas.{and_clash, not-due, sound-marked, sound-only, grows-word, grows-end, grows-failed, grows-complete, ready-word, ready-end, ready-failed}
 use Rattle.svc_core.proofs.ParkedLemmas.{parked-grown, parked-on, parked-started, parked-kept, parked-others, parked-rows}
 
--- Boolean algebra, over plain variables
-pub and_clash : (a : Bool) → a ≡ true → a ≡ false → (A : Type 0) → A
-and_clash a on off A = absurd (cc)
+-- where no count has changed nothing has to be opened
+opens_counts : (order : List ℕ) (u v : WaitsData) → v.counts ≡ u.counts → ((a b : ℕ) → is_set u.bits a b ≡ true → is_set v.bits a b ≡ true)
+    → v.until ≡ u.until → Opens order u v
+opens_counts order u v same more until = record {
+  count = ap (λ (counts : WaitingData). length counts.marks) same;
+  depends = ap (λ (counts : WaitingData). counts.depends) same;
+  kept = λ t on. ap (λ (counts : WaitingData). is_flagged counts.marks t) same ∙ on;
+  waits = more;
+  opened = λ k inside lacks none. absurd (lacks (ap (λ (counts : WaitingData). missing_of counts (slice_index order k)) (sym same) ∙ none));
+  until = until;
+}
 
--- what holds of each number of a list holds of the one at a place
-all_at : (P : ℕ → Bool) (xs : List ℕ) (at : ℕ) → at < length xs → list_all P xs ≡ true → P (slice_index xs at) ≡ true
-all_at P xs at lt all = elim (cases_Bool (P (slice_index xs at))) [
-  | inl on ↦ on
-  | inr off ↦ and_clash (list_all P xs) all (list_all_at P xs at 0 lt off) (P (slice_index xs at) ≡ true)
-]
+pub opens-none : (order : List ℕ) (w : WaitsData) → Opens order w w
+opens-none order w = opens_counts order w w refl (λ a b e. e) refl
 
-pub opens-none : (w : WaitsData) → Opens w w
-opens-none w =
-    record {
-      count = refl;
-      kept = λ d on. on;
-      waits = λ a b e. e;
-      opened = λ d k off on waits. and_clash (is_flagged w.marks d) on off (is_open w k ≡ true);
-      until = refl;
-    }
-
-pub opens-then : (u v w : WaitsData) → Opens u v → Opens v w → Opens u w
-opens-then u v w first next = record {
+pub opens-then : (order : List ℕ) (u v w : WaitsData) → Opens order u v → Opens order v w → Opens order u w
+opens-then order u v w first next = record {
   count = next.count ∙ first.count;
+  depends = next.depends ∙ first.depends;
   kept = λ d on. next.kept d (first.kept d on);
   waits = λ a b e. next.waits a b (first.waits a b e);
-  opened = λ d k off on waits.
-      elim (cases_Bool (is_flagged v.marks d)) [
-        | inl early ↦ subst (λ n. is_set w.bits n k ≡ true) (sym next.count) (next.waits (length v.marks) k (first.opened d k off early waits))
-        | inr late ↦ next.opened d k late on (first.waits d k waits)
+  opened = λ k inside lacks none.
+      elim (cases_eq (missing_of v.counts (slice_index order k)) 0) [
+        | inl early ↦ next.waits 0 k (first.opened k inside lacks early)
+        | inr late ↦ next.opened k inside late none
       ];
   until = next.until ∙ first.until;
 }
 
+-- the counts of the same edges
+pub edges-kept : (p : Plan) (u v : WaitsData) → v.counts.depends ≡ u.counts.depends → CountsPlan p u → CountsPlan p v
+edges-kept p u v same edges = λ a b lt. ap (λ rows. is_in_row rows a b) same ∙ edges a b lt
+
 -- a service that was marked
-pub marked-is : (s t : ℕ) (w v : WaitsData) → s < length w.marks → IsMarked s w v → is_flagged v.marks t ≡ ((s == t) || is_flagged w.marks t)
-marked-is s t w v lt m = ap (λ marks. is_flagged marks t) m.marks ∙ flag-set w.marks s t lt
-
-pub marked-here : (s : ℕ) (w v : WaitsData) → s < length w.marks → IsMarked s w v → is_flagged v.marks s ≡ true
-marked-here s w v lt m = marked-is s s w v lt m ∙ or_left (s == s) (is_flagged w.marks s) (eq-eqb s s refl)
-
-pub marked-count : (s : ℕ) (w v : WaitsData) → IsMarked s w v → length v.marks ≡ length w.marks
-marked-count s w v m = ap (λ marks. length marks) m.marks ∙ length-set w.marks s true
-
-or_first : (a b : Bool) → (a || b) ≡ true → b ≡ false → a ≡ true
-or_first a b h off = grind arith
+pub marked-here : (order : List ℕ) (s : ℕ) (w v : WaitsData) → IsMarked order s w v → is_flagged v.counts.marks s ≡ true
+marked-here order s w v m = m.marks s ∙ or_left (s == s) (is_flagged w.counts.marks s) (eq-eqb s s refl)
 
 joined_on : (a n s : Bool) → n ≡ true → s ≡ true → (a || (n && s)) ≡ true
 joined_on a n s h g = grind arith
 
-pub opens-marked : (s : ℕ) (w v : WaitsData) → s < length w.marks → IsMarked s w v → Opens w v
-opens-marked s w v lt m = record {
-  count = marked-count s w v m;
-  kept = λ d on. marked-is s d w v lt m ∙ or_right (s == d) (is_flagged w.marks d) on;
-  waits = λ a b e. m.bits a b ∙ or_left (is_set w.bits a b) (a == length w.marks && is_set w.bits s b) e;
-  opened = λ d k off on waits. (
-      let same : (s == d) ≡ true = or_first (s == d) (is_flagged w.marks d) (sym (marked-is s d w v lt m) ∙ on) off in
-      let here : is_set w.bits s k ≡ true = elim (cases_eq s d) [
-        | inl e ↦ subst (λ t. is_set w.bits t k ≡ true) (sym e) waits
-        | inr ne ↦ and_clash (s == d) same (ne_eqb s d ne) (is_set w.bits s k ≡ true)
-      ] in
-      subst (λ n. is_set v.bits n k ≡ true) (sym (marked-count s w v m))
-      (m.bits (length w.marks) k
-      ∙ joined_on (is_set w.bits (length w.marks) k) (length w.marks == length w.marks) (is_set w.bits s k)
-      (eq-eqb (length w.marks) (length w.marks) refl) here));
-  until = m.until;
-}
-
 -- a place that isn't open by then wasn't before
-still_off : (u v : WaitsData) (k : ℕ) → Opens u v → is_open v k ≡ false → is_open u k ≡ false
-still_off u v k grown off = elim (cases_Bool (is_open u k)) [
-  | inl on ↦ and_clash (is_open v k) (subst (λ n. is_set v.bits n k ≡ true) (sym grown.count) (grown.waits (length u.marks) k on)) off (is_open u k ≡ false)
+still_off : (order : List ℕ) (u v : WaitsData) (k : ℕ) → Opens order u v → is_open v k ≡ false → is_open u k ≡ false
+still_off order u v k grown off = elim (cases_Bool (is_open u k)) [
+  | inl on ↦ and_clash (is_open v k) (grown.waits 0 k on) off (is_open u k ≡ false)
   | inr was ↦ was
 ]
 
-pub opens-idle : (p : Plan) (order : List ℕ) (st : StartsData) (d : EndpointsData) (from : ℕ) (u v : WaitsData) → Opens u v → AreIdle p order st d from u
-    → AreIdle p order st d from v
+pub opens-idle : (p : Plan) (order : List ℕ) (st : StartsData) (d : EndpointsData) (from : ℕ) (u v : WaitsData) → Opens order u v
+    → AreIdle p order st d from u → AreIdle p order st d from v
 opens-idle p order st d from u v grown idle = λ k lt off.
-    elim (idle k lt (still_off u v k grown off)) [
+    elim (idle k lt (still_off order u v k grown off)) [
       | inl done ↦ inl done
-      | inr (inl waits) ↦ inr (inl (waits.0, waiting (slice_index order k) k off waits.1))
+      | inr (inl waits) ↦ inr (inl (waits.0, λ none. and_clash (is_open v k) (grown.opened k lt waits.1 none) off ⊥))
       | inr (inr parked) ↦ inr (inr (parked.0, parked-grown p order st.started d from u v (slice_index order k) k grown.count grown.waits grown.until parked.1))
     ]
-  where
-    unmarked : (d k : ℕ) → is_open v k ≡ false → is_flagged u.marks d ≡ false → is_set u.bits d k ≡ true → is_flagged v.marks d ≡ false
-    unmarked d k off was waits = elim (cases_Bool (is_flagged v.marks d)) [
-      | inl on ↦ and_clash (is_open v k) (grown.opened d k was on waits) off (is_flagged v.marks d ≡ false)
-      | inr not_on ↦ not_on
-    ]
-
-    waiting : (s k : ℕ) → is_open v k ≡ false → IsWaiting p u s k → IsWaiting p v s k
-    waiting s k off x = record {
-      at = x.at;
-      lacks = record {
-        within = x.lacks.within;
-        inside = let same = grown.count in let lt = x.lacks.inside in omega arith;
-        unmarked = unmarked (slice_index (depends p s) x.at) k off x.lacks.unmarked x.waits;
-      };
-      waits = grown.waits (slice_index (depends p s) x.at) k x.waits;
-    }
-
--- a dependency that isn't marked isn't ready
-pub not-due : (p : Plan) (st : StartsData) (failed : List Bool) (complete : Bool) (w : WaitsData) (s at : ℕ) → length w.marks ≡ service_count p
-    → KnowsReady p st failed complete w → IsUnmarked p w.marks s at
-    → due_now p st failed complete s ≡ false
-not-due p st failed complete w s at count knows lacks = elim (cases_Bool (due_now p st failed complete s)) [
-  | inl due ↦ and_clash (is_flagged w.marks (slice_index (depends p s) at))
-      (knows (slice_index (depends p s) at) (let lt = lacks.inside in omega arith) (all_at (ready_now p st failed complete) (depends p s) at lacks.within due))
-      lacks.unmarked
-      (due_now p st failed complete s ≡ false)
-  | inr off ↦ off
-]
 
 -- a start of a service that was due leaves the others waiting
 idle_start : (p : Plan) (order : List ℕ) (st : StartsData) (d : EndpointsData) (failed : List Bool) (complete : Bool) (from : ℕ) (w : WaitsData) (s : ℕ)
-    (starts : Bool) → s < length st.started → length w.marks ≡ service_count p → KnowsReady p st failed complete w
+    (starts : Bool) → s < length st.started → length w.counts.marks ≡ service_count p → KnowsReady p st failed complete w
+    → CountsPlan p w → ((k : ℕ) → k < length order → slice_index order k < service_count p)
     → (starts ≡ true → due_now p st failed complete s ≡ true) → AreIdle p order st d from w → AreIdle p order (start_if starts s st) d from w
-idle_start p order st d failed complete from w s false lt count knows due idle = idle
-idle_start p order st d failed complete from w s true lt count knows due idle = λ k inside off.
-    elim (idle k inside off) [
+idle_start p order st d failed complete from w s false lt count knows edges inside due idle = idle
+idle_start p order st d failed complete from w s true lt count knows edges inside due idle = λ k within off.
+    elim (idle k within off) [
       | inl done ↦ inl (more (slice_index order k) done.0, done.1)
       | inr (inl waits) ↦ elim (cases_eq s (slice_index order k)) [
         | inl same ↦ and_clash (due_now p st failed complete s) (due refl)
             (subst (λ t. due_now p st failed complete t ≡ false) (sym same)
-            (not-due p st failed complete w (slice_index order k) waits.1.at count knows waits.1.lacks))
+            (not-due p st failed complete w (slice_index order k) (inside k within) count edges knows waits.1))
             (IsIdle p order (start_if true s st) d from w (slice_index order k) k)
         | inr ne ↦ inr
             (inl (
@@ -165,10 +114,12 @@ idle_start p order st d failed complete from w s true lt count knows due idle = 
     more t on = flag-set st.started s t lt ∙ or_right (s == t) (is_flagged st.started t) on
 
 pub idle-start : (p : Plan) (order : List ℕ) (st st' : StartsData) (d : EndpointsData) (failed : List Bool) (complete : Bool) (from : ℕ) (w : WaitsData) (s : ℕ)
-    → s < length st.started → length w.marks ≡ service_count p → KnowsReady p st failed complete w
+    → s < length st.started → length w.counts.marks ≡ service_count p → KnowsReady p st failed complete w → CountsPlan p w
+    → ((k : ℕ) → k < length order → slice_index order k < service_count p)
     → StartsOnly p failed complete s st st' → AreIdle p order st d from w → AreIdle p order st' d from w
-idle-start p order st st' d failed complete from w s lt count knows only idle =
-    subst (λ x. AreIdle p order x d from w) (sym only.after) (idle_start p order st d failed complete from w s only.starts lt count knows only.due idle)
+idle-start p order st st' d failed complete from w s lt count knows edges inside only idle =
+    subst (λ x. AreIdle p order x d from w) (sym only.after)
+    (idle_start p order st d failed complete from w s only.starts lt count knows edges inside only.due idle)
 
 -- what is held stays held, no failure is taken back, and at most this service's asks change
 pub record KeepsHeld (s : ℕ) (d d' : EndpointsData) : Type 0 where
@@ -255,57 +206,46 @@ open-of order k w apart inside on j within same = elim (cases_lt j k) [
 ]
 
 -- a service whose place was opened
-opens_reopened : (order : List ℕ) (s : ℕ) (u w : WaitsData) → Reopens order s u w → Opens u w
-opens_reopened order s u w r = record {
-  count = ap (λ marks. length marks) r.marks;
-  kept = λ t on. ap (λ marks. is_flagged marks t) r.marks ∙ on;
-  waits = r.kept;
-  opened = λ t k off on waits. and_clash (is_flagged u.marks t) (sym (ap (λ marks. is_flagged marks t) r.marks) ∙ on) off (is_open w k ≡ true);
-  until = r.until;
-}
+opens_reopened : (order : List ℕ) (s : ℕ) (u w : WaitsData) → Reopens order s u w → Opens order u w
+opens_reopened order s u w r = opens_counts order u w r.counts r.kept r.until
 
 -- a row of places that was opened
 joined_is : (row until : ℕ) (u v : WaitsData) (k : ℕ) → JoinsRow row until u v → is_set u.bits row k ≡ true → is_open v k ≡ true
 joined_is row until u v k j on =
-    ap (λ marks. is_set v.bits (length marks) k) j.marks ∙ j.bits (length u.marks) k
-    ∙ joined_on (is_set u.bits (length u.marks) k) (length u.marks == length u.marks) (is_set u.bits row k) (eq-eqb (length u.marks) (length u.marks) refl) on
+    j.bits 0 k
+    ∙ joined_on (is_set u.bits 0 k) (0 == 0) (is_set u.bits row k) refl on
 
 kept_off : (a n s : Bool) → n ≡ false → (a || (n && s)) ≡ a
 kept_off a n s off = grind arith
 
 -- the other rows are as they were
-joined_same : (row until : ℕ) (u v : WaitsData) (a k : ℕ) → JoinsRow row until u v → a ≢ length u.marks → is_set v.bits a k ≡ is_set u.bits a k
-joined_same row until u v a k j ne = j.bits a k ∙ kept_off (is_set u.bits a k) (a == length u.marks) (is_set u.bits row k) (ne_eqb a (length u.marks) ne)
+joined_same : (row until : ℕ) (u v : WaitsData) (a k : ℕ) → JoinsRow row until u v → a ≢ 0 → is_set v.bits a k ≡ is_set u.bits a k
+joined_same row until u v a k j ne = j.bits a k ∙ kept_off (is_set u.bits a k) (a == 0) (is_set u.bits row k) (ne_eqb a 0 ne)
 
 -- where only bits are set, services are marked as before
-opens_bits : (bits : ℕ → ℕ → Bool) (u v : WaitsData) → HasBits bits u.until u v → ((a b : ℕ) → is_set u.bits a b ≡ true → bits a b ≡ true) → Opens u v
-opens_bits bits u v has more = record {
-  count = ap (λ marks. length marks) has.marks;
-  kept = λ t on. ap (λ marks. is_flagged marks t) has.marks ∙ on;
-  waits = λ a b e. has.bits a b ∙ more a b e;
-  opened = λ t k off on waits. and_clash (is_flagged u.marks t) (sym (ap (λ marks. is_flagged marks t) has.marks) ∙ on) off (is_open v k ≡ true);
-  until = has.until_is;
-}
+opens_bits : (order : List ℕ) (bits : ℕ → ℕ → Bool) (u v : WaitsData) → HasBits bits u.until u v
+    → ((a b : ℕ) → is_set u.bits a b ≡ true → bits a b ≡ true) → Opens order u v
+opens_bits order bits u v has more = opens_counts order u v has.counts (λ a b e. has.bits a b ∙ more a b e) has.until_is
 
-pub opens-joined : (row : ℕ) (u v : WaitsData) → JoinsRow row u.until u v → Opens u v
-opens-joined row u v j = opens_bits _ u v j (λ a b e. or_left (is_set u.bits a b) (a == length u.marks && is_set u.bits row b) e)
+pub opens-joined : (order : List ℕ) (row : ℕ) (u v : WaitsData) → JoinsRow row u.until u v → Opens order u v
+opens-joined order row u v j = opens_bits order _ u v j (λ a b e. or_left (is_set u.bits a b) (a == 0 && is_set u.bits row b) e)
 
-pub opens-handed : (s t k : ℕ) (u v : WaitsData) → HandsOn s t k u v → Opens u v
-opens-handed s t k u v hands =
-    opens_bits _ u v hands
-    (λ a b e. or_left _ (a == length u.marks && b == k)
-    (or_left (is_set u.bits a b) (a == length u.marks + 1 + t && is_set u.bits (length u.marks + 1 + s) b) e))
+pub opens-handed : (order : List ℕ) (s t k : ℕ) (u v : WaitsData) → HandsOn s t k u v → Opens order u v
+opens-handed order s t k u v hands =
+    opens_bits order _ u v hands
+    (λ a b e. or_left _ (a == 0 && b == k)
+    (or_left (is_set u.bits a b) (a == 1 + t && is_set u.bits (1 + s) b) e))
 
 -- what waited behind the service is open, and so is what waited behind any
 pub none-behind : (t : ℕ) (u v : WaitsData) (k : ℕ) → Frees t u v → is_behind v t k ≡ true → is_open v k ≡ true
-none-behind t u v k j on = joined_is (length u.marks + 1 + t) u.until u v k j
-    (sym (joined_same (length u.marks + 1 + t) u.until u v (length u.marks + 1 + t) k j (λ e. omega arith))
-    ∙ sym (ap (λ marks. is_set v.bits (length marks + 1 + t) k) j.marks) ∙ on)
+none-behind t u v k j on = joined_is (1 + t) u.until u v k j
+    (sym (joined_same (1 + t) u.until u v (1 + t) k j (λ e. omega arith))
+    ∙ on)
 
 pub none-parked : (u v : WaitsData) (k : ℕ) → FreesAll u v → is_parked v k ≡ true → is_open v k ≡ true
-none-parked u v k j on = joined_is (2 * length u.marks + 1) u.until u v k j
-    (sym (joined_same (2 * length u.marks + 1) u.until u v (2 * length u.marks + 1) k j (λ e. omega arith))
-    ∙ sym (ap (λ marks. is_set v.bits (2 * length marks + 1) k) j.marks) ∙ on)
+none-parked u v k j on = joined_is (length u.counts.marks + 1) u.until u v k j
+    (sym (joined_same (length u.counts.marks + 1) u.until u v (length u.counts.marks + 1) k j (λ e. omega arith))
+    ∙ sym (ap (λ (counts : WaitingData). is_set v.bits (length counts.marks + 1) k) j.counts) ∙ on)
 
 others_start : (p : Plan) (st : StartsData) (failed : List Bool) (complete : Bool) (w : WaitsData) (s : ℕ) (starts : Bool) → s < length st.started
     → KnowsReady p st failed complete w → KnowsOthers p (start_if starts s st) failed complete s w
@@ -324,12 +264,12 @@ others-start p st st' failed complete w s lt knows only =
     subst (λ x. KnowsOthers p x failed complete s w) (sym only.after) (others_start p st failed complete w s only.starts lt knows)
 
 -- once the service itself is marked, or isn't ready, all are known
-pub all-marked : (p : Plan) (st : StartsData) (failed : List Bool) (complete : Bool) (s : ℕ) (w v : WaitsData) → s < length w.marks
-    → KnowsOthers p st failed complete s w → IsMarked s w v → KnowsReady p st failed complete v
-all-marked p st failed complete s w v lt others m = λ t inside on.
+pub all-marked : (p : Plan) (order : List ℕ) (st : StartsData) (failed : List Bool) (complete : Bool) (s : ℕ) (w v : WaitsData)
+    → KnowsOthers p st failed complete s w → IsMarked order s w v → KnowsReady p st failed complete v
+all-marked p order st failed complete s w v others m = λ t inside on.
     elim (cases_eq s t) [
-      | inl same ↦ subst (λ u. is_flagged v.marks u ≡ true) same (marked-here s w v lt m)
-      | inr ne ↦ marked-is s t w v lt m ∙ or_right (s == t) (is_flagged w.marks t) (others t inside (ne_eqb s t ne) on)
+      | inl same ↦ subst (λ u. is_flagged v.counts.marks u ≡ true) same (marked-here order s w v m)
+      | inr ne ↦ m.opens.kept t (others t inside (ne_eqb s t ne) on)
     ]
 
 -- a service's word, or the end of its work, leaves the others as they were
@@ -355,30 +295,39 @@ when_fresh : (b c : Bool) (A B : Type 0) → c ≡ b → (A → B) → OnTrue b 
 when_fresh true c A B e f h = subst (λ x. OnTrue x B) (sym e) (f h)
 when_fresh false c A B e f h = subst (λ x. OnTrue x B) (sym e) tt
 
-watched_marked : (p : Plan) (order : List ℕ) (st st' : StartsData) (d d' : EndpointsData) (s : ℕ) (w v : WaitsData) → s < length w.marks
+watched_marked : (p : Plan) (order : List ℕ) (st st' : StartsData) (d d' : EndpointsData) (s : ℕ) (w v : WaitsData)
     → AreIdle p order st' d' 0 w
-    → ((complete : Bool) → KnowsReady p st d.failed complete w → KnowsOthers p st' d'.failed complete s w) → IsMarked s w v → IsWatched p order st d w
+    → ((complete : Bool) → KnowsReady p st d.failed complete w → KnowsOthers p st' d'.failed complete s w)
+    → ((complete : Bool) (t : ℕ) → ready_now p st d.failed complete t ≡ true → ready_now p st' d'.failed complete t ≡ true)
+    → ((complete : Bool) → ready_now p st' d'.failed complete s ≡ true) → IsMarked order s w v → IsWatched p order st d w
     → IsWatched p order st' d' v
-watched_marked p order st st' d d' s w v lt idle others m was = record {
-  count = marked-count s w v m ∙ was.count;
-  idle = opens-idle p order st' d' 0 w v (opens-marked s w v lt m) idle;
+watched_marked p order st st' d d' s w v idle others grows here m was = record {
+  count = m.opens.count ∙ was.count;
+  edges = edges-kept p w v m.opens.depends was.edges;
+  sound = subst (λ complete. IsSound p st' d'.failed complete v) (sym m.complete)
+      (sound-marked p order st st' d.failed d'.failed w.complete s w v m (grows w.complete) (here w.complete) was.sound);
+  idle = opens-idle p order st' d' 0 w v m.opens idle;
   ready = when_fresh w.fresh v.fresh (KnowsReady p st d.failed w.complete w) (KnowsReady p st' d'.failed v.complete v) m.fresh
       (λ knows. subst (λ complete. KnowsReady p st' d'.failed complete v) (sym m.complete)
-      (all-marked p st' d'.failed w.complete s w v lt (others w.complete knows) m)) was.ready;
+      (all-marked p order st' d'.failed w.complete s w v (others w.complete knows) m)) was.ready;
 }
 
 -- the event of a service's word, and of the end of its work
 pub watched-word : (p : Plan) (order : List ℕ) (st : StartsData) (d : EndpointsData) (s : ℕ) (w v : WaitsData) → s < service_count p → IsStartsSized p st
-    → IsMarked s w v → IsWatched p order st d w → IsWatched p order (word_taken s st) d v
+    → IsMarked order s w v → IsWatched p order st d w → IsWatched p order (word_taken s st) d v
 watched-word p order st d s w v inside sized m was =
-    watched_marked p order st (word_taken s st) d d s w v (let n = was.count in omega arith) was.idle
-    (λ complete. others-word p st d.failed complete w s (let n = sized.ready in omega arith)) m was
+    let lt : s < length st.ready = (let n = sized.ready in omega arith) in
+    watched_marked p order st (word_taken s st) d d s w v was.idle
+    (λ complete. others-word p st d.failed complete w s lt)
+    (λ complete t. grows-word p st d.failed complete s t lt) (λ complete. ready-word p st d.failed complete s lt) m was
 
 pub watched-end : (p : Plan) (order : List ℕ) (st : StartsData) (d : EndpointsData) (s : ℕ) (w v : WaitsData) → s < service_count p → IsStartsSized p st
-    → IsMarked s w v → IsWatched p order st d w → IsWatched p order (end_taken s st) d v
+    → IsMarked order s w v → IsWatched p order st d w → IsWatched p order (end_taken s st) d v
 watched-end p order st d s w v inside sized m was =
-    watched_marked p order st (end_taken s st) d d s w v (let n = was.count in omega arith) was.idle
-    (λ complete. others-end p st d.failed complete w s (let n = sized.ended in omega arith)) m was
+    let lt : s < length st.ended = (let n = sized.ended in omega arith) in
+    watched_marked p order st (end_taken s st) d d s w v was.idle
+    (λ complete. others-end p st d.failed complete w s lt)
+    (λ complete t. grows-end p st d.failed complete s t lt) (λ complete. ready-end p st d.failed complete s lt) m was
 
 -- an answer to an ask changes at most whether this service has failed
 pub others-failed : (p : Plan) (st : StartsData) (failed failed' : List Bool) (complete : Bool) (w : WaitsData) (s : ℕ)
@@ -411,32 +360,39 @@ knows_failed p st failed failed' complete w s same off knows = λ t inside on.
     ]
 
 -- more places are open
-watched_opened : (p : Plan) (order : List ℕ) (st : StartsData) (d : EndpointsData) (u w : WaitsData) → Opens u w → w.marks ≡ u.marks → w.fresh ≡ u.fresh
-    → w.complete ≡ u.complete → IsWatched p order st d u → IsWatched p order st d w
-watched_opened p order st d u w grown marks fresh complete was = record {
+watched_opened : (p : Plan) (order : List ℕ) (st : StartsData) (d : EndpointsData) (u w : WaitsData) → Opens order u w → w.counts ≡ u.counts
+    → w.fresh ≡ u.fresh → w.complete ≡ u.complete → IsWatched p order st d u → IsWatched p order st d w
+watched_opened p order st d u w grown counts fresh complete was = record {
   count = grown.count ∙ was.count;
+  edges = edges-kept p u w grown.depends was.edges;
+  sound = subst (λ c. IsSound p st d.failed c w) (sym complete)
+      (subst (λ (counts : WaitingData). IsSound p st d.failed u.complete (record w { counts = counts })) (sym counts) was.sound);
   idle = opens-idle p order st d 0 u w grown was.idle;
   ready = when_fresh u.fresh w.fresh (KnowsReady p st d.failed u.complete u) (KnowsReady p st d.failed w.complete w) fresh
-      (λ knows t inside on. ap (λ m. is_flagged m t) marks ∙ knows t inside (subst (λ c. ready_now p st d.failed c t ≡ true) complete on)) was.ready;
+      (λ knows t inside on. grown.kept t (knows t inside (subst (λ c. ready_now p st d.failed c t ≡ true) complete on))) was.ready;
 }
 
 -- the service's place is open again
 watched_reopened : (p : Plan) (order : List ℕ) (st : StartsData) (d : EndpointsData) (s : ℕ) (u w : WaitsData) → Reopens order s u w → IsWatched p order st d u
     → IsWatched p order st d w
-watched_reopened p order st d s u w r was = watched_opened p order st d u w (opens_reopened order s u w r) r.marks r.fresh r.complete was
+watched_reopened p order st d s u w r was = watched_opened p order st d u w (opens_reopened order s u w r) r.counts r.fresh r.complete was
 
 -- a row of places is open again
 watched_joined : (p : Plan) (order : List ℕ) (st : StartsData) (d : EndpointsData) (row : ℕ) (u w : WaitsData) → JoinsRow row u.until u w
     → IsWatched p order st d u → IsWatched p order st d w
-watched_joined p order st d row u w j was = watched_opened p order st d u w (opens-joined row u w j) j.marks j.fresh j.complete was
+watched_joined p order st d row u w j was = watched_opened p order st d u w (opens-joined order row u w j) j.counts j.fresh j.complete was
 
-watched_if : (p : Plan) (order : List ℕ) (st : StartsData) (d d' : EndpointsData) (s : ℕ) (w v : WaitsData) (b : Bool) → b ≡ failed_at d' s → s < length w.marks
+watched_if : (p : Plan) (order : List ℕ) (st : StartsData) (d d' : EndpointsData) (s : ℕ) (w v : WaitsData) (b : Bool) → b ≡ failed_at d' s
     → AreIdle p order st d' 0 w → ((t : ℕ) → (s == t) ≡ false → failed_at d' t ≡ failed_at d t)
-    → MarksIf b s w v → IsWatched p order st d w → IsWatched p order st d' v
-watched_if p order st d d' s w v true e lt idle same m was =
-    watched_marked p order st st d d' s w v lt idle (λ complete. others-failed p st d.failed d'.failed complete w s same) m was
-watched_if p order st d d' s w v false e lt idle same m was = subst (λ x. IsWatched p order st d' x) (sym m) (record {
+    → ((t : ℕ) → failed_at d t ≡ true → failed_at d' t ≡ true)
+    → MarksIf b order s w v → IsWatched p order st d w → IsWatched p order st d' v
+watched_if p order st d d' s w v true e idle same stays m was =
+    watched_marked p order st st d d' s w v idle (λ complete. others-failed p st d.failed d'.failed complete w s same)
+    (λ complete t. grows-failed p st d.failed complete d'.failed t (stays t)) (λ complete. ready-failed p st d'.failed complete s (sym e)) m was
+watched_if p order st d d' s w v false e idle same stays m was = subst (λ x. IsWatched p order st d' x) (sym m) (record {
   count = was.count;
+  edges = was.edges;
+  sound = λ t inside on. grows-failed p st d.failed w.complete d'.failed t (stays t) (was.sound t inside on);
   idle = idle;
   ready = when_fresh w.fresh w.fresh (KnowsReady p st d.failed w.complete w) (KnowsReady p st d'.failed w.complete w) refl
       (knows_failed p st d.failed d'.failed w.complete w s same (sym e)) was.ready;
@@ -453,22 +409,23 @@ flag_stays s flags next lt (inr set) t on = ap (λ f. is_flagged f t) set ∙ fl
 
 pub watched-answer : (p : Plan) (order : List ℕ) (st : StartsData) (d d' : EndpointsData) (s : ℕ) (u w v : WaitsData) → s < service_count p
     → IsEndpointsSized p d → FailsOnly s d.failed d'.failed → StaysHeld d d' → StaysUnheld d d' → GainsNone d d' → OthersStay s d d'
-    → Reopens order s u w → MarksIf (failed_at d' s) s w v → IsWatched p order st d u → IsWatched p order st d' v
+    → Reopens order s u w → MarksIf (failed_at d' s) order s w v → IsWatched p order st d u → IsWatched p order st d' v
 watched-answer p order st d d' s u w v inside sized fails held unheld gains others r m was =
     let lt : s < length d.failed = (let n = sized.failed in omega arith) in
     let reopened = watched_reopened p order st d s u w r was in
     let same = flag_others s d.failed d'.failed lt fails in
-    watched_if p order st d d' s w v (failed_at d' s) refl (let n = reopened.count in omega arith)
-    (idle-unheld p order st d d' 0 s w (record { held = held; failed = flag_stays s d.failed d'.failed lt fails; others = others }) unheld gains
+    let stays = flag_stays s d.failed d'.failed lt fails in
+    watched_if p order st d d' s w v (failed_at d' s) refl
+    (idle-unheld p order st d d' 0 s w (record { held = held; failed = stays; others = others }) unheld gains
     (λ t ne. same t (ne_eqb s t (λ e. ne (sym e)))) (λ k lt same. (r.opened k lt same, omega arith)) reopened.idle)
-    same m reopened
+    same stays m reopened
 
 -- what was open stays so
-pub grown-open : (u v : WaitsData) (k : ℕ) → Opens u v → is_open u k ≡ true → is_open v k ≡ true
-grown-open u v k grown on = subst (λ n. is_set v.bits n k ≡ true) (sym grown.count) (grown.waits (length u.marks) k on)
+pub grown-open : (order : List ℕ) (u v : WaitsData) (k : ℕ) → Opens order u v → is_open u k ≡ true → is_open v k ≡ true
+grown-open order u v k grown on = grown.waits 0 k on
 
-opened_then : (order : List ℕ) (s : ℕ) (u v : WaitsData) → Opens u v → IsOpenOf order s u → IsOpenOf order s v
-opened_then order s u v grown opened k lt same = grown-open u v k grown (opened k lt same)
+opened_then : (order : List ℕ) (s : ℕ) (u v : WaitsData) → Opens order u v → IsOpenOf order s u → IsOpenOf order s v
+opened_then order s u v grown opened k lt same = grown-open order u v k grown (opened k lt same)
 
 -- so it is where no service failed
 pub keeps-same : (s : ℕ) (d d' : EndpointsData) → StaysHeld d d' → OthersStay s d d' → d'.failed ≡ d.failed → KeepsHeld s d d'
@@ -479,10 +436,12 @@ pub watched-adopted : (p : Plan) (order : List ℕ) (st : StartsData) (d d' : En
     → d'.failed ≡ d.failed → GainsNone d d' → Reopens order s u w → Frees s w v
     → IsWatched p order st d u → IsWatched p order st d' v
 watched-adopted p order st d d' s u w v held others same gains r j was =
-    let freed = watched_joined p order st d (length w.marks + 1 + s) w v j (watched_reopened p order st d s u w r was) in record {
+    let freed = watched_joined p order st d (1 + s) w v j (watched_reopened p order st d s u w r was) in record {
       count = freed.count;
+      edges = freed.edges;
+      sound = subst (λ failed. IsSound p st failed v.complete v) (sym same) freed.sound;
       idle = idle-kept p order st d d' 0 s v (keeps-same s d d' held others same)
-          (opened_then order s w v (opens-joined (length w.marks + 1 + s) w v j) r.opened)
+          (opened_then order s w v (opens-joined order (1 + s) w v j) r.opened)
           (λ k lt off ne x. elim (cases_eq (slice_index order x.by) s) [
             | inl here ↦
                 and_clash (is_open v k) (none-behind s w v k j (subst (λ t. is_behind v t k ≡ true) here x.behind)) off
@@ -497,10 +456,12 @@ pub watched-bound : (p : Plan) (order : List ℕ) (st : StartsData) (d d' : Endp
     → d'.failed ≡ d.failed → Reopens order s u w → FreesAll w v
     → IsWatched p order st d u → IsWatched p order st d' v
 watched-bound p order st d d' s u w v held others same r j was =
-    let freed = watched_joined p order st d (2 * length w.marks + 1) w v j (watched_reopened p order st d s u w r was) in record {
+    let freed = watched_joined p order st d (length w.counts.marks + 1) w v j (watched_reopened p order st d s u w r was) in record {
       count = freed.count;
+      edges = freed.edges;
+      sound = subst (λ failed. IsSound p st failed v.complete v) (sym same) freed.sound;
       idle = idle-kept p order st d d' 0 s v (keeps-same s d d' held others same)
-          (opened_then order s w v (opens-joined (2 * length w.marks + 1) w v j) r.opened)
+          (opened_then order s w v (opens-joined order (length w.counts.marks + 1) w v j) r.opened)
           (λ k lt off ne x. and_clash (is_open v k) (none-parked w v k j x.parked) off (IsParked p order st.started d' 0 v (slice_index order k) k)) freed.idle;
       ready = subst (λ failed. OnTrue v.fresh (KnowsReady p st failed v.complete v)) (sym same) freed.ready;
     }
@@ -511,6 +472,8 @@ watched_rows : (p : Plan) (order : List ℕ) (st : StartsData) (d d' : Endpoints
     → IsWatched p order st d w → IsWatched p order st d' w
 watched_rows p order st d d' w rows same moves was = record {
   count = was.count;
+  edges = was.edges;
+  sound = subst (λ failed. IsSound p st failed w.complete w) (sym same) was.sound;
   idle = idle_rows p order st d d' w rows same moves was.idle;
   ready = subst (λ failed. OnTrue w.fresh (KnowsReady p st failed w.complete w)) (sym same) was.ready;
 }
@@ -527,22 +490,15 @@ pub watched-received : (p : Plan) (order : List ℕ) (st : StartsData) (d d' : E
 watched-received p order st d d' w v rows same j was =
     watched_rows p order st d d' v rows same
     (λ k off x. and_clash (is_open v k) (none-parked w v k j x.parked) off (IsParked p order st.started d' 0 v (slice_index order k) k))
-    (watched_joined p order st d (2 * length w.marks + 1) w v j was)
+    (watched_joined p order st d (length w.counts.marks + 1) w v j was)
 
 -- once a rest may be over, all that rest are open
-idle_woken : (p : Plan) (order : List ℕ) (st : StartsData) (d : EndpointsData) (w v : WaitsData) → JoinsRow (2 * length w.marks + 2) v.until w v
+idle_woken : (p : Plan) (order : List ℕ) (st : StartsData) (d : EndpointsData) (w v : WaitsData) → JoinsRow (length w.counts.marks + 2) v.until w v
     → AreIdle p order st d 0 w → AreIdle p order st d 0 v
 idle_woken p order st d w v j idle = λ k lt off.
     elim (idle k lt (was_off k off)) [
       | inl done ↦ inl done
-      | inr (inl waits) ↦ inr (inl (
-        waits.0,
-        record {
-          at = waits.1.at;
-          lacks = subst (λ marks. IsUnmarked p marks (slice_index order k) waits.1.at) (sym j.marks) waits.1.lacks;
-          waits = grown (slice_index (depends p (slice_index order k)) waits.1.at) k waits.1.waits;
-        },
-      ))
+      | inr (inl waits) ↦ inr (inl (waits.0, λ none. waits.1 (ap (λ (counts : WaitingData). missing_of counts (slice_index order k)) (sym j.counts) ∙ none)))
       | inr (inr parked) ↦ inr (inr (
         parked.0,
         record {
@@ -551,18 +507,17 @@ idle_woken p order st d w v j idle = λ k lt off.
           started = parked.1.started;
           shares = parked.1.shares;
           busy = woken parked.1.by (slice_index order parked.1.by) parked.1.shares.other parked.1.busy;
-          behind = ap (λ marks. is_set v.bits (length marks + 1 + slice_index order parked.1.by) k) j.marks
-              ∙ grown (length w.marks + 1 + slice_index order parked.1.by) k parked.1.behind;
-          parked = ap (λ marks. is_set v.bits (2 * length marks + 1) k) j.marks ∙ grown (2 * length w.marks + 1) k parked.1.parked;
+          behind = grown (1 + slice_index order parked.1.by) k parked.1.behind;
+          parked = ap (λ (counts : WaitingData). is_set v.bits (length counts.marks + 1) k) j.counts ∙ grown (length w.counts.marks + 1) k parked.1.parked;
         },
       ))
     ]
   where
     grown : (a b : ℕ) → is_set w.bits a b ≡ true → is_set v.bits a b ≡ true
-    grown a b e = j.bits a b ∙ or_left (is_set w.bits a b) (a == length w.marks && is_set w.bits (2 * length w.marks + 2) b) e
+    grown a b e = j.bits a b ∙ or_left (is_set w.bits a b) (a == 0 && is_set w.bits (length w.counts.marks + 2) b) e
 
     stays_open : (k : ℕ) → is_open w k ≡ true → is_open v k ≡ true
-    stays_open k on = ap (λ marks. is_set v.bits (length marks) k) j.marks ∙ grown (length w.marks) k on
+    stays_open k on = grown 0 k on
 
     was_off : (k : ℕ) → is_open v k ≡ false → is_open w k ≡ false
     was_off k off = elim (cases_Bool (is_open w k)) [
@@ -573,31 +528,40 @@ idle_woken p order st d w v j idle = λ k lt off.
     woken : (e t i : ℕ) → StaysBusy d 0 w e t i → StaysBusy d 0 v e t i
     woken e t i (inl asks) = inl asks
     woken e t i (inr (inl next)) = inr (inl (stays_open e next.0, next.1))
-    woken e t i (inr (inr rest)) = inr (inl (joined_is (2 * length w.marks + 2) v.until w v e j rest.0, omega arith))
+    woken e t i (inr (inr rest)) = inr (inl (joined_is (length w.counts.marks + 2) v.until w v e j rest.0, omega arith))
 
 pub watched-woken : (p : Plan) (order : List ℕ) (st : StartsData) (d : EndpointsData) (w v : WaitsData) → Wakes w v → IsWatched p order st d w
     → IsWatched p order st d v
 watched-woken p order st d w v (inl same) was = subst (λ x. IsWatched p order st d x) (sym same) was
 watched-woken p order st d w v (inr j) was = record {
-  count = ap (λ marks. length marks) j.marks ∙ was.count;
+  count = ap (λ (counts : WaitingData). length counts.marks) j.counts ∙ was.count;
+  edges = edges-kept p w v (ap (λ (counts : WaitingData). counts.depends) j.counts) was.edges;
+  sound = subst (λ c. IsSound p st d.failed c v) (sym j.complete)
+      (subst (λ (counts : WaitingData). IsSound p st d.failed w.complete (record v { counts = counts })) (sym j.counts) was.sound);
   idle = idle_woken p order st d w v j was.idle;
   ready = when_fresh w.fresh v.fresh (KnowsReady p st d.failed w.complete w) (KnowsReady p st d.failed v.complete v) j.fresh
-      (λ knows t inside on. ap (λ m. is_flagged m t) j.marks ∙ knows t inside (subst (λ c. ready_now p st d.failed c t ≡ true) j.complete on)) was.ready;
+      (λ knows t inside on. ap (λ (counts : WaitingData). is_flagged counts.marks t) j.counts
+      ∙ knows t inside (subst (λ c. ready_now p st d.failed c t ≡ true) j.complete on)) was.ready;
 }
+
+-- what was complete stays so while the waits of a pass are over
+pub woken-late : (w v : WaitsData) (complete : Bool) → Wakes w v → (w.complete ≡ true → complete ≡ true) → v.complete ≡ true → complete ≡ true
+woken-late w v complete (inl same) late on = late (sym (ap (λ (x : WaitsData). x.complete) same) ∙ on)
+woken-late w v complete (inr j) late on = late (sym j.complete ∙ on)
 
 -- before a pass, and after it
 pub known-caught : (p : Plan) (order : List ℕ) (st : StartsData) (d : EndpointsData) (complete : Bool) (moment : ℕ) (w v : WaitsData) → IsWatched p order st d w
-    → Opens w v → v.complete ≡ complete → KnowsReady p st d.failed complete v
-    → moment ≤ w.until → IsKnown p order st d complete moment 0 v
-known-caught p order st d complete moment w v was grown complete_is knows soon =
+    → Opens order w v → v.complete ≡ complete → KnowsReady p st d.failed complete v → MarksOnly (ready_now p st d.failed complete) w v
+    → (w.complete ≡ true → complete ≡ true) → moment ≤ w.until → IsKnown p order st d complete moment 0 v
+known-caught p order st d complete moment w v was grown complete_is knows only late soon =
     record {
-      count = grown.count
-          ∙ was.count;
+      count = grown.count ∙ was.count;
+      edges = edges-kept p w v grown.depends was.edges;
+      sound = sound-only p st d.failed complete w v only (λ t inside on. grows-complete p st d.failed w.complete complete t late (was.sound t inside on));
       idle = opens-idle p order st d 0 w v grown was.idle;
       complete_is = complete_is;
       ready = knows;
-      soon =
-          (let same = grown.until in omega arith);
+      soon = (let same = grown.until in omega arith);
     }
 
 -- a pass that has gone on over places that aren't open
@@ -614,6 +578,8 @@ pub watched-known : (p : Plan) (order : List ℕ) (st : StartsData) (d : Endpoin
     → IsKnown p order st d complete moment from w → IsWatched p order st d w
 watched-known p order st d complete moment from w known = record {
   count = known.count;
+  edges = known.edges;
+  sound = subst (λ c. IsSound p st d.failed c w) (sym known.complete_is) known.sound;
   idle = idle-on p order st d from 0 w (λ e le on. omega arith) known.idle;
   ready = anyhow w.fresh (KnowsReady p st d.failed w.complete w) (subst (λ c. KnowsReady p st d.failed c w) (sym known.complete_is) known.ready);
 }
@@ -622,11 +588,34 @@ watched-known p order st d complete moment from w known = record {
     anyhow true A h = h
     anyhow false A h = tt
 
--- at the beginning each place is open
-pub watched-open : (p : Plan) (order : List ℕ) (st : StartsData) (d : EndpointsData) (w : WaitsData) → length w.marks ≡ service_count p
+-- at the beginning each place is open, and nothing is marked
+pub watched-open : (p : Plan) (order : List ℕ) (st : StartsData) (d : EndpointsData) (w : WaitsData) → length w.counts.marks ≡ service_count p
+    → CountsPlan p w → ((s : ℕ) → is_flagged w.counts.marks s ≡ false)
     → ((k : ℕ) → k < length order → is_open w k ≡ true) → w.fresh ≡ false → IsWatched p order st d w
-watched-open p order st d w count opened off = record {
+watched-open p order st d w count edges none opened off = record {
   count = count;
+  edges = edges;
+  sound = λ t inside on. and_clash (is_flagged w.counts.marks t) on (none t) (ready_now p st d.failed w.complete t ≡ true);
   idle = λ k lt closed. and_clash (is_open w k) (opened k lt) closed (IsIdle p order st d 0 w (slice_index order k) k);
   ready = when_fresh false w.fresh (KnowsReady p st d.failed w.complete w) (KnowsReady p st d.failed w.complete w) off (λ knows. knows) tt;
 }
+
+-- what a core keeps, where bootstrapping that was complete is
+pub kept-boot : {p : Plan} {order : List ℕ} {st : StartsData} {d : EndpointsData} {w : WaitsData} (was is : Bool) → (was ≡ true → is ≡ true)
+    → IsKept p order st d was w → IsKept p order st d is w
+kept-boot was is more kept = record { formed = kept.formed; watched = kept.watched; late = λ on. more (kept.late on) }
+
+-- a beginning leaves what was complete
+begun_complete : (begun test upgrade : Bool) (b : BootData) → b.complete ≡ true → (if begun then b else begun_with test upgrade b).complete ≡ true
+begun_complete true test upgrade b on = on
+begun_complete false true upgrade b on = on
+begun_complete false false true b on = on
+begun_complete false false false b on = refl
+
+pub begun-complete : (p : Plan) (b : BootData) → b.complete ≡ true → (begun_by p b).complete ≡ true
+begun-complete p b on = begun_complete b.begun p.test p.upgrade b on
+
+-- and so does a mark
+pub marked-late : (order : List ℕ) (s : ℕ) (w v : WaitsData) (b : Bool) → MarksIf b order s w v → v.complete ≡ w.complete
+marked-late order s w v true m = m.complete
+marked-late order s w v false m = ap (λ (x : WaitsData). x.complete) m

@@ -50,3 +50,5 @@ pub use Rattle.svc_record.specs.Right
 pub use Rattle.svc_record.specs.Facts
 pub use Rattle.svc_record.specs.Tail
 pub use Rattle.svc_record.specs.Validity
+mod EventKinds
+pub mod Dues

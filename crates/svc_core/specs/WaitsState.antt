@@ -1,9 +1,11 @@
 -- Which services the pass needn't visit, and why.
-use Rattle.std.specs.Prelude.{ℕ, Bool, true, false, not, ◌≡◌, ◌≢◌, ◌<◌, ◌≤◌, ◌+◌, ◌*◌, ◌==◌, ◌||◌, ◌&&◌, ◌⊎◌, List, length, min, slice_index, slice_set}
+use Rattle.std.specs.Prelude.{ℕ, Bool, true, false, not, ◌≡◌, ◌≢◌, ◌<◌, ◌≤◌, ◌+◌, ◌==◌, ◌||◌, ◌&&◌, ◌⊎◌, List, length, min, slice_index}
 use Rattle.std.specs.Bool.{OnTrue}
 use Rattle.svc_graph.specs.Bits.{is_set}
+use Rattle.svc_graph.specs.Waitings.{missing_of, waits_for}
 use Rattle.svc_record.specs.declared.plan.Plan.{Plan}
-use Rattle.svc_record.specs.Plans.{service_count, depends, endpoints}
+use Rattle.svc_record.specs.Plans.{service_count, endpoints}
+use Rattle.svc_record.specs.Validity.{depends_on}
 use Rattle.svc_endpoints.specs.EndpointsData.{EndpointsData}
 use Rattle.svc_endpoints.specs.EndpointsState.{last_at, is_asking}
 use Rattle.svc_endpoints.specs.Rests.{HasAll, LackSame, SharesWith, IsBusyUntil}
@@ -14,31 +16,23 @@ use Rattle.svc_core.specs.WaitsData.{WaitsData}
 
 -- the place is open: the pass visits it
 abbrev pub is_open : WaitsData → ℕ → Bool
-is_open w k = is_set w.bits (length w.marks) k
+is_open w k = is_set w.bits 0 k
 
 -- the place waits behind the service t
 abbrev pub is_behind : WaitsData → ℕ → ℕ → Bool
-is_behind w t k = is_set w.bits (length w.marks + 1 + t) k
+is_behind w t k = is_set w.bits (1 + t) k
 
 -- the place waits behind some service
 abbrev pub is_parked : WaitsData → ℕ → Bool
-is_parked w k = is_set w.bits (2 * length w.marks + 1) k
+is_parked w k = is_set w.bits (length w.counts.marks + 1) k
 
 -- the place's service rests
 abbrev pub is_resting : WaitsData → ℕ → Bool
-is_resting w k = is_set w.bits (2 * length w.marks + 2) k
+is_resting w k = is_set w.bits (length w.counts.marks + 2) k
 
--- the dependency at this place of the service's list isn't marked
-pub record IsUnmarked (p : Plan) (marks : List Bool) (s at : ℕ) : Type 0 where
-  pub within : at < length (depends p s)
-  pub inside : slice_index (depends p s) at < length marks
-  pub unmarked : is_flagged marks (slice_index (depends p s) at) ≡ false
-
--- the service's place waits for such a dependency
-pub record IsWaiting (p : Plan) (w : WaitsData) (s k : ℕ) : Type 0 where
-  pub at : ℕ
-  pub lacks : IsUnmarked p w.marks s at
-  pub waits : is_set w.bits (slice_index (depends p s) at) k ≡ true
+-- a dependency of the service isn't marked
+abbrev pub Lacks : WaitsData → ℕ → Type 0
+Lacks w s = missing_of w.counts s ≢ 0
 
 -- an ask of the service is open
 pub record HasAsk (p : Plan) (d : EndpointsData) (s : ℕ) : Type 0 where
@@ -69,7 +63,7 @@ pub record IsParked (p : Plan) (order : List ℕ) (on : List Bool) (d : Endpoint
 abbrev pub IsIdle : Plan → List ℕ → StartsData → EndpointsData → ℕ → WaitsData → ℕ → ℕ → Type 0
 IsIdle p order st d from w s k =
     ((is_flagged st.started s ≡ true) × AsksNothing p d s)
-    ⊎ (((is_flagged st.started s ≡ false) × IsWaiting p w s k) ⊎ ((is_flagged st.started s ≡ true) × IsParked p order st.started d from w s k))
+    ⊎ (((is_flagged st.started s ≡ false) × Lacks w s) ⊎ ((is_flagged st.started s ≡ true) × IsParked p order st.started d from w s k))
 
 -- so it is at each place that isn't open, as a pass has come to the place `from`
 abbrev pub AreIdle : Plan → List ℕ → StartsData → EndpointsData → ℕ → WaitsData → Type 0
@@ -77,15 +71,26 @@ AreIdle p order st d from w = (k : ℕ) → k < length order → is_open w k ≡
 
 -- each service that is ready is marked
 abbrev pub KnowsReady : Plan → StartsData → List Bool → Bool → WaitsData → Type 0
-KnowsReady p st failed complete w = (s : ℕ) → s < service_count p → ready_now p st failed complete s ≡ true → is_flagged w.marks s ≡ true
+KnowsReady p st failed complete w = (s : ℕ) → s < service_count p → ready_now p st failed complete s ≡ true → is_flagged w.counts.marks s ≡ true
 
 -- the same but for this service
 abbrev pub KnowsOthers : Plan → StartsData → List Bool → Bool → ℕ → WaitsData → Type 0
-KnowsOthers p st failed complete s w = (t : ℕ) → t < service_count p → (s == t) ≡ false → ready_now p st failed complete t ≡ true → is_flagged w.marks t ≡ true
+KnowsOthers p st failed complete s w = (t : ℕ) → t < service_count p → (s == t) ≡ false → ready_now p st failed complete t ≡ true
+    → is_flagged w.counts.marks t ≡ true
 
--- between two steps: what was ready when it was last looked at all is marked
+-- nothing else is
+abbrev pub IsSound : Plan → StartsData → List Bool → Bool → WaitsData → Type 0
+IsSound p st failed complete w = (s : ℕ) → s < service_count p → is_flagged w.counts.marks s ≡ true → ready_now p st failed complete s ≡ true
+
+-- the counts are of the plan's dependencies
+abbrev pub CountsPlan : Plan → WaitsData → Type 0
+CountsPlan p w = (a b : ℕ) → a < service_count p → waits_for w.counts a b ≡ depends_on p a b
+
+-- between two steps: what was ready when it was last looked at all is marked, and nothing else
 pub record IsWatched (p : Plan) (order : List ℕ) (st : StartsData) (d : EndpointsData) (w : WaitsData) : Type 0 where
-  pub count : length w.marks ≡ service_count p
+  pub count : length w.counts.marks ≡ service_count p
+  pub edges : CountsPlan p w
+  pub sound : IsSound p st d.failed w.complete w
   pub idle : AreIdle p order st d 0 w
   pub ready : OnTrue w.fresh (KnowsReady p st d.failed w.complete w)
 
@@ -99,36 +104,42 @@ pub record IsHeir (p : Plan) (order : List ℕ) (on : List Bool) (d : EndpointsD
 
 -- in a pass that has come to the place `from`: what is ready is marked, and what rests still does
 pub record IsKnown (p : Plan) (order : List ℕ) (st : StartsData) (d : EndpointsData) (complete : Bool) (moment from : ℕ) (w : WaitsData) : Type 0 where
-  pub count : length w.marks ≡ service_count p
+  pub count : length w.counts.marks ≡ service_count p
+  pub edges : CountsPlan p w
+  pub sound : IsSound p st d.failed complete w
   pub idle : AreIdle p order st d from w
   pub complete_is : w.complete ≡ complete
   pub ready : KnowsReady p st d.failed complete w
   pub soon : moment ≤ w.until
 
--- services were marked, and each place that waited for one of them is open
-pub record Opens (old new : WaitsData) : Type 0 where
-  pub count : length new.marks ≡ length old.marks
-  pub kept : (d : ℕ) → is_flagged old.marks d ≡ true → is_flagged new.marks d ≡ true
+-- services were marked, and the place of each that lacked one and lacks none by now is open
+pub record Opens (order : List ℕ) (old new : WaitsData) : Type 0 where
+  pub count : length new.counts.marks ≡ length old.counts.marks
+  pub depends : new.counts.depends ≡ old.counts.depends
+  pub kept : (d : ℕ) → is_flagged old.counts.marks d ≡ true → is_flagged new.counts.marks d ≡ true
   pub waits : (a b : ℕ) → is_set old.bits a b ≡ true → is_set new.bits a b ≡ true
-  pub opened : (d k : ℕ) → is_flagged old.marks d ≡ false → is_flagged new.marks d ≡ true → is_set old.bits d k ≡ true → is_open new k ≡ true
+  pub opened : (k : ℕ) → k < length order → Lacks old (slice_index order k) → missing_of new.counts (slice_index order k) ≡ 0 → is_open new k ≡ true
   pub until : new.until ≡ old.until
 
--- the service is marked, and the places that waited for it are open
-pub record IsMarked (s : ℕ) (old new : WaitsData) : Type 0 where
-  pub marks : new.marks ≡ slice_set old.marks s true
-  pub bits : (a b : ℕ) → is_set new.bits a b ≡ (is_set old.bits a b || (a == length old.marks && is_set old.bits s b))
+-- those that were marked pass the test
+abbrev pub MarksOnly : (ℕ → Bool) → WaitsData → WaitsData → Type 0
+MarksOnly test old new = (t : ℕ) → is_flagged new.counts.marks t ≡ true → (is_flagged old.counts.marks t ≡ true) ⊎ (test t ≡ true)
+
+-- the service is marked
+pub record IsMarked (order : List ℕ) (s : ℕ) (old new : WaitsData) : Type 0 where
+  pub opens : Opens order old new
+  pub marks : (t : ℕ) → is_flagged new.counts.marks t ≡ ((s == t) || is_flagged old.counts.marks t)
   pub fresh : new.fresh ≡ old.fresh
   pub complete : new.complete ≡ old.complete
-  pub until : new.until ≡ old.until
 
 -- the service is marked, where b says so
-abbrev pub MarksIf : Bool → ℕ → WaitsData → WaitsData → Type 0
-MarksIf true s old new = IsMarked s old new
-MarksIf false s old new = new ≡ old
+abbrev pub MarksIf : Bool → List ℕ → ℕ → WaitsData → WaitsData → Type 0
+MarksIf true order s old new = IsMarked order s old new
+MarksIf false order s old new = new ≡ old
 
 -- only bits have changed, and up to which moment all that rest do
 pub record HasBits (to : ℕ → ℕ → Bool) (until : ℕ) (old new : WaitsData) : Type 0 where
-  pub marks : new.marks ≡ old.marks
+  pub counts : new.counts ≡ old.counts
   pub bits : (a b : ℕ) → is_set new.bits a b ≡ to a b
   pub fresh : new.fresh ≡ old.fresh
   pub complete : new.complete ≡ old.complete
@@ -136,11 +147,7 @@ pub record HasBits (to : ℕ → ℕ → Bool) (until : ℕ) (old new : WaitsDat
 
 -- the place isn't open any more
 abbrev pub ClosesPlace : ℕ → WaitsData → WaitsData → Type 0
-ClosesPlace k old new = HasBits (λ a b. is_set old.bits a b && not (a == length old.marks && b == k)) old.until old new
-
--- the place is open again
-abbrev pub OpensPlace : ℕ → WaitsData → WaitsData → Type 0
-OpensPlace k old new = HasBits (λ a b. is_set old.bits a b || (a == length old.marks && b == k)) old.until old new
+ClosesPlace k old new = HasBits (λ a b. is_set old.bits a b && not (a == 0 && b == k)) old.until old new
 
 -- no service has two places
 abbrev pub AreApart : List ℕ → Type 0
@@ -157,57 +164,54 @@ IsOpenOf order s w = (k : ℕ) → k < length order → slice_index order k ≡ 
 
 -- the service's place is open again
 pub record Reopens (order : List ℕ) (s : ℕ) (old new : WaitsData) : Type 0 where
-  pub marks : new.marks ≡ old.marks
+  pub counts : new.counts ≡ old.counts
   pub kept : (a b : ℕ) → is_set old.bits a b ≡ true → is_set new.bits a b ≡ true
   pub opened : IsOpenOf order s new
   pub fresh : new.fresh ≡ old.fresh
   pub complete : new.complete ≡ old.complete
   pub until : new.until ≡ old.until
 
--- the place isn't open any more, and waits for the service
-abbrev pub Parks : ℕ → ℕ → WaitsData → WaitsData → Type 0
-Parks k d old new = HasBits (λ a b. (is_set old.bits a b || (a == d && b == k)) && not (a == length old.marks && b == k)) old.until old new
-
 -- the places in this row are open again
 abbrev pub JoinsRow : ℕ → ℕ → WaitsData → WaitsData → Type 0
-JoinsRow row until old new = HasBits (λ a b. is_set old.bits a b || (a == length old.marks && is_set old.bits row b)) until old new
+JoinsRow row until old new = HasBits (λ a b. is_set old.bits a b || (a == 0 && is_set old.bits row b)) until old new
 
 -- the places that wait behind the service are open again
 abbrev pub Frees : ℕ → WaitsData → WaitsData → Type 0
-Frees t old new = JoinsRow (length old.marks + 1 + t) old.until old new
+Frees t old new = JoinsRow (1 + t) old.until old new
 
 -- what waits behind the service s waits behind t too, the place of which is open
 abbrev pub HandsOn : ℕ → ℕ → ℕ → WaitsData → WaitsData → Type 0
 HandsOn s t k old new =
-    HasBits (λ a b. (is_set old.bits a b || (a == length old.marks + 1 + t && is_set old.bits (length old.marks + 1 + s) b))
-    || (a == length old.marks && b == k)) old.until old new
+    HasBits (λ a b. (is_set old.bits a b || (a == 1 + t && is_set old.bits (1 + s) b))
+    || (a == 0 && b == k)) old.until old new
 
 -- all places that wait behind a service are open again
 abbrev pub FreesAll : WaitsData → WaitsData → Type 0
-FreesAll old new = JoinsRow (2 * length old.marks + 1) old.until old new
+FreesAll old new = JoinsRow (length old.counts.marks + 1) old.until old new
 
 -- what rests is open again, or nothing has changed
 abbrev pub Wakes : WaitsData → WaitsData → Type 0
-Wakes old new = (new ≡ old) ⊎ JoinsRow (2 * length old.marks + 2) new.until old new
+Wakes old new = (new ≡ old) ⊎ JoinsRow (length old.counts.marks + 2) new.until old new
 
 -- the place waits behind no service
 abbrev pub LeavesPlace : ℕ → WaitsData → WaitsData → Type 0
 LeavesPlace k old new =
-    HasBits (λ a b. (is_set old.bits a b && not (a == 2 * length old.marks + 1 && b == k)) && not (a == 2 * length old.marks + 2 && b == k)) old.until old new
+    HasBits (λ a b. (is_set old.bits a b && not (a == length old.counts.marks + 1 && b == k)) && not
+    (a == length old.counts.marks + 2 && b == k)) old.until old new
 
 -- the place isn't open any more, and waits behind the service
 abbrev pub ParksBehind : ℕ → ℕ → WaitsData → WaitsData → Type 0
 ParksBehind k t old new =
-    HasBits (λ a b. ((is_set old.bits a b || (a == length old.marks + 1 + t && b == k)) || (a == 2 * length old.marks + 1 && b == k))
-    && not (a == length old.marks && b == k)) old.until old new
+    HasBits (λ a b. ((is_set old.bits a b || (a == 1 + t && b == k)) || (a == length old.counts.marks + 1 && b == k))
+    && not (a == 0 && b == k)) old.until old new
 
 -- the same, and its service rests up to the end
 abbrev pub ParksResting : ℕ → ℕ → ℕ → WaitsData → WaitsData → Type 0
 ParksResting k t end old new =
     HasBits (λ a b.
-    (((is_set old.bits a b || (a == length old.marks + 1 + t && b == k)) || (a == 2 * length old.marks + 1 && b == k))
-    || (a == 2 * length old.marks + 2 && b == k))
-    && not (a == length old.marks && b == k)) (min old.until end) old new
+    (((is_set old.bits a b || (a == 1 + t && b == k)) || (a == length old.counts.marks + 1 && b == k))
+    || (a == length old.counts.marks + 2 && b == k))
+    && not (a == 0 && b == k)) (min old.until end) old new
 
 -- the service may have been started, where all that it depends on was ready
 pub record StartsOnly (p : Plan) (failed : List Bool) (complete : Bool) (s : ℕ) (st st' : StartsData) : Type 0 where
@@ -215,13 +219,17 @@ pub record StartsOnly (p : Plan) (failed : List Bool) (complete : Bool) (s : ℕ
   pub due : starts ≡ true → due_now p st failed complete s ≡ true
   pub after : st' ≡ start_if starts s st
 
--- a service that isn't started waits at its place, or nothing has changed
-abbrev pub WaitsStill : Plan → StartsData → ℕ → ℕ → WaitsData → WaitsData → Bool → Type 0
-WaitsStill p st s k old new true = (is_flagged st.started s ≡ false)
-    × ((at : ℕ) × (IsUnmarked p old.marks s at × Parks k (slice_index (depends p s) at) old new))
-WaitsStill p st s k old new false = new ≡ old
+-- a visit of the service at its place starts it, if it isn't started
+abbrev pub IsDueAt : Plan → StartsData → List Bool → Bool → ℕ → Type 0
+IsDueAt p st failed complete s = (is_flagged st.started s ≡ true) ⊎ (due_now p st failed complete s ≡ true)
 
--- what a core keeps: its parts fit the plan, and what its pass leaves out needn't be visited
-pub record IsKept (p : Plan) (order : List ℕ) (st : StartsData) (d : EndpointsData) (w : WaitsData) : Type 0 where
+-- a service that isn't started waits at its place, where a dependency of it isn't marked; else nothing has changed
+abbrev pub WaitsStill : StartsData → ℕ → ℕ → WaitsData → WaitsData → Bool → Type 0
+WaitsStill st s k old new true = (is_flagged st.started s ≡ false) × (Lacks old s × ClosesPlace k old new)
+WaitsStill st s k old new false = ((is_flagged st.started s ≡ true) ⊎ (missing_of old.counts s ≡ 0)) × (new ≡ old)
+
+-- what a core keeps: its parts fit the plan, what its pass leaves out needn't be visited, and bootstrapping that was complete is
+pub record IsKept (p : Plan) (order : List ℕ) (st : StartsData) (d : EndpointsData) (complete : Bool) (w : WaitsData) : Type 0 where
   pub formed : IsFormed p order st d
   pub watched : IsWatched p order st d w
+  pub late : w.complete ≡ true → complete ≡ true

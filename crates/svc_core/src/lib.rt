@@ -12,7 +12,6 @@ mod waits;
 
 pub use machine::Core;
 pub use phase_reader::PhaseReader;
-pub use svc_boot::server::bootstrap_services::{Bootstrap, BootstrapService};
 pub use svc_record::{
     Action, Actions, BootstrapError, Entries, Entry, Event, ExecutionPhase, Plan, ServiceList,
     ServicePlan, ShutdownSignal, Side, StepEnd,

@@ -11,6 +11,7 @@ ghost use Rattle.svc_offer.specs.OfferEffects.{event_of};
 ghost use Rattle.svc_record.specs.Judging.{TellsJudged, judged_at, asked_filter};
 ghost use Rattle.svc_fds.specs.declared.encoding.Message.{Message};
 ghost use Rattle.svc_core.specs.Copies.{TellsCopied, message_at, copy_at};
+ghost use Rattle.svc_core.specs.EventKinds.{is_plain, is_answer};
 ghost use Rattle.svc_core.specs.CoreData.{is_on, is_served};
 ghost use Rattle.svc_core.specs.Passes.{may_start};
 ghost use Rattle.svc_core.specs.Stands.{StandsFor, HasNotBegun, Struck, Visited, Tried, MayCome, StepKeeps, BeginKeeps};
@@ -20,17 +21,19 @@ ghost use Rattle.svc_core.specs.Rooms.{TellsWithin, KeepsRoom, tell_room, step_r
 
 mod closing;
 mod connecting;
+mod dues;
 mod fitting;
 mod forking;
 
 use crate::copies::{SecondCopy, repeat};
 use crate::ends::{is_on, is_served};
 use crate::pass::pass;
-use crate::plans::{address_of, asked_filter, service_count};
+use crate::plans::{address_of, asked_filter};
 use crate::starts::Starts;
 use crate::waits::Waits;
 use std::alloc::Global;
 use std::marker::Model;
+use std::mem::drop;
 use svc_base::NoMemory;
 use svc_boot::Boot;
 use svc_connections::{Connections, settings_of};
@@ -39,7 +42,7 @@ use svc_endpoints::Endpoints;
 use svc_fds::{Message, SendAnswer};
 use svc_graph::services::ServiceReadyWatch;
 use svc_offer::Offer;
-use svc_record::{Actions, Event, Plan, ShutdownSignal, StepEnd, startup_order};
+use svc_record::{Actions, Event, Plan, ShutdownSignal, StepEnd, startup_graph};
 
 /// The lifecycle of one server: what it is told, step by step, and what it tells.
 #[derive(Drop)]
@@ -75,7 +78,7 @@ impl Model for Core {
       end = c.end;
     } };
 
-    ghost invariant = { λ c. IsKept c.plan c.order.items c.starts c.endpoints.parts c.waits };
+    ghost invariant = { λ c. IsKept c.plan c.order.items c.starts c.endpoints.parts c.boot.complete c.waits };
 }
 
 impl Core {
@@ -85,13 +88,15 @@ impl Core {
         ensures plan { IfOk result (λ core. core.plan ≡ plan) }
         ensures first { IfOk result HasNotBegun }
     {
-        let order = startup_order(alloc, &plan)?;
+        let found = startup_graph(alloc, &plan)?;
         let starts = Starts::new(alloc, &plan)?;
         let endpoints = Endpoints::new(alloc, &plan)?;
         let boot = Boot::new(plan.limit);
         let offer = Offer::new(plan.limit);
         let connections = Connections::new(alloc);
-        let waits = Waits::new(alloc, service_count(&plan), &order)?;
+        let waits = Waits::new(alloc, &found.0, &found.1)?;
+        let (graph, order) = found;
+        drop(graph);
         Ok(Core {
             plan,
             order,
@@ -197,6 +202,7 @@ impl Core {
             self.waits.wake(self.drain.moment());
             self.waits.catch_up(
                 &self.plan,
+                &self.order,
                 &self.starts,
                 self.endpoints.failed(),
                 self.boot.is_complete(),
@@ -305,39 +311,62 @@ impl Core {
     {
         match event {
             Event::Moment(ms) => self.step_moment(alloc, *ms, actions),
-            Event::Ready(s) => Ok(self.step_ready(*s, actions)),
-            Event::Ended(s) => Ok(self.step_ended(*s, actions)),
             Event::Bound(s, i, fd) => self.step_bound(alloc, *s, *i, *fd, actions),
-            Event::InUse(s, i) => Ok(self.step_in_use(*s, *i, actions)),
-            Event::BindFailed(s, i) => Ok(self.step_bind_failed(*s, *i, actions)),
-            Event::Adopted(s, i) => Ok(self.step_adopted(*s, *i, actions)),
-            Event::AdoptFailed(s, i) => Ok(self.step_adopt_failed(*s, *i, actions)),
             Event::Received(bytes, fds) => {
                 self.step_received(alloc, bytes.as_slice(), fds.as_slice(), actions)
             }
-            Event::NoSenderYet => Ok(self.step_no_sender(actions)),
-            Event::ReceiveFailed => Ok(self.step_receive_failed(actions)),
             Event::Connected => self.step_connected(alloc, actions),
-            Event::NotThere => Ok(self.step_answer(SendAnswer::NotThere, actions)),
-            Event::StillConnecting => Ok(self.step_answer(SendAnswer::StillConnecting, actions)),
-            Event::ConnectFailed => Ok(self.step_answer(SendAnswer::ConnectFailed, actions)),
-            Event::Sent => Ok(self.step_answer(SendAnswer::Sent, actions)),
-            Event::SendBusy => Ok(self.step_answer(SendAnswer::SendBusy, actions)),
-            Event::SendFailed => Ok(self.step_answer(SendAnswer::SendFailed, actions)),
             Event::Arrived(s, i, c, peer) => {
                 self.step_arrived(alloc, *s, *i, *c, peer, said, actions)
             }
-            Event::AcceptFailed(s, i, n) => Ok(self.step_accept_failed(*s, *i, *n, actions)),
-            Event::Set(c, ok) => Ok(self.step_set(*c, *ok, actions)),
-            Event::Shaken(c, ok) => Ok(self.step_shaken(*c, *ok, actions)),
-            Event::Finished(c) => Ok(self.step_finished(*c, actions)),
             Event::LoopEnded(s, i, j) => self.step_loop_ended(*s, *i, *j, actions),
             Event::Signal(kind) => self.step_signal(alloc, *kind, actions),
-            Event::Side(side) => Ok(self.step_side(*side, actions)),
-            Event::ChildReady => Ok(self.step_child_ready(actions)),
-            Event::ChildGone => Ok(self.step_parent_failure(event, actions)),
-            Event::DropFailed => Ok(self.step_parent_failure(event, actions)),
+            _ => Ok(self.take_plain(event, actions)),
         }
+    }
+
+    /// The step of an event for which no memory is wanted.
+    fn take_plain(&mut self, event: &Event, actions: &mut Actions) -> StepEnd
+        requires may { MayStep self.old event.now actions.old }
+        requires plain { is_plain event.now ≡ true }
+        ensures { Steps self.old self.new event.now actions.old actions.new result }
+    {
+        match event {
+            Event::Ready(s) => self.step_ready(*s, actions),
+            Event::Ended(s) => self.step_ended(*s, actions),
+            Event::InUse(s, i) => self.step_in_use(*s, *i, actions),
+            Event::BindFailed(s, i) => self.step_bind_failed(*s, *i, actions),
+            Event::Adopted(s, i) => self.step_adopted(*s, *i, actions),
+            Event::AdoptFailed(s, i) => self.step_adopt_failed(*s, *i, actions),
+            Event::NoSenderYet => self.step_no_sender(actions),
+            Event::ReceiveFailed => self.step_receive_failed(actions),
+            Event::AcceptFailed(s, i, n) => self.step_accept_failed(*s, *i, *n, actions),
+            Event::Set(c, ok) => self.step_set(*c, *ok, actions),
+            Event::Shaken(c, ok) => self.step_shaken(*c, *ok, actions),
+            Event::Finished(c) => self.step_finished(*c, actions),
+            Event::Side(side) => self.step_side(*side, actions),
+            Event::ChildReady => self.step_child_ready(actions),
+            Event::ChildGone | Event::DropFailed => self.step_parent_failure(event, actions),
+            _ => self.take_answer(event, actions),
+        }
+    }
+
+    /// The step of an answer to a connect or a send that doesn't connect.
+    fn take_answer(&mut self, event: &Event, actions: &mut Actions) -> StepEnd
+        requires may { MayStep self.old event.now actions.old }
+        requires answers { is_answer event.now ≡ true }
+        ensures { Steps self.old self.new event.now actions.old actions.new result }
+    {
+        let answer = match event {
+            Event::NotThere => SendAnswer::NotThere,
+            Event::StillConnecting => SendAnswer::StillConnecting,
+            Event::ConnectFailed => SendAnswer::ConnectFailed,
+            Event::Sent => SendAnswer::Sent,
+            Event::SendBusy => SendAnswer::SendBusy,
+            Event::SendFailed => SendAnswer::SendFailed,
+            _ => unreachable!(),
+        };
+        self.step_answer(answer, actions)
     }
 
     /// As `step`, and the same actions are appended to `again` too. After `NoMemory` nothing has
@@ -417,7 +446,7 @@ impl Core {
         ensures { Steps self.old self.new (Event.Ready s) actions.old actions.new result }
     {
         self.starts.on_ready(&self.plan, s);
-        self.waits.mark(s);
+        self.waits.mark(&self.order, s);
         self.settle(None, actions)
     }
 
@@ -427,7 +456,7 @@ impl Core {
         ensures { Steps self.old self.new (Event.Ended s) actions.old actions.new result }
     {
         self.starts.on_ended(&self.plan, s);
-        self.waits.mark(s);
+        self.waits.mark(&self.order, s);
         self.settle(None, actions)
     }
 
@@ -462,7 +491,8 @@ impl Core {
         self.endpoints
             .on_in_use(&self.plan, s, i, moment, kept, actions);
         self.waits.reopen(&self.order, s);
-        self.waits.mark_failed(self.endpoints.failed(), s);
+        self.waits
+            .mark_failed(&self.order, self.endpoints.failed(), s);
         self.settle(None, actions)
     }
 
@@ -475,7 +505,8 @@ impl Core {
         self.endpoints
             .on_bind_failed(&self.plan, s, i, kept, actions);
         self.waits.reopen(&self.order, s);
-        self.waits.mark_failed(self.endpoints.failed(), s);
+        self.waits
+            .mark_failed(&self.order, self.endpoints.failed(), s);
         self.settle(None, actions)
     }
 
@@ -499,7 +530,8 @@ impl Core {
         self.endpoints
             .on_adopt_failed(&self.plan, s, i, kept, actions);
         self.waits.reopen(&self.order, s);
-        self.waits.mark_failed(self.endpoints.failed(), s);
+        self.waits
+            .mark_failed(&self.order, self.endpoints.failed(), s);
         self.settle(None, actions)
     }
 

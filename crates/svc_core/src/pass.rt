@@ -3,7 +3,7 @@
 ghost use Rattle.std.specs.Prelude.{◌≡◌, ◌+◌, ◌*◌, ◌<◌, ◌≤◌, length, slice_index, true, false, IfSome};
 ghost use Rattle.svc_base.specs.Items.{list_of, spare};
 ghost use Rattle.svc_record.specs.Plans.{service_count, endpoints};
-ghost use Rattle.svc_record.specs.Validity.{IsValid, IsInOrder};
+ghost use Rattle.svc_record.specs.Validity.{IsInOrder};
 ghost use Rattle.svc_core.specs.Copies.{TellsBare};
 ghost use Rattle.svc_core.specs.CoreData.{IsFormed};
 ghost use Rattle.svc_core.specs.StartsState.{IsStartsSized, is_flagged};
@@ -11,9 +11,9 @@ ghost use Rattle.svc_core.specs.Passes.{StartsAt, VisitsAt, VisitsAll, is_tested
 ghost use Rattle.svc_core.specs.Steps.{Spends};
 ghost use Rattle.svc_endpoints.specs.Rests.{IsStanding, WaitsBehind};
 ghost use Rattle.svc_endpoints.specs.Stays.{StaysHeld, StaysUnheld, OthersStay};
-ghost use Rattle.svc_core.specs.WaitsState.{IsHeir, IsKnown, StartsOnly, WaitsStill, is_open};
+ghost use Rattle.svc_core.specs.WaitsState.{IsDueAt, IsHeir, IsKnown, StartsOnly, WaitsStill, is_open};
 
-use crate::plans::{depends_of, is_bootstrap};
+use crate::plans::is_bootstrap;
 use crate::starts::Starts;
 use crate::waits::Waits;
 use svc_boot::Boot;
@@ -28,8 +28,8 @@ fn is_tested(plan: &Plan, boot: &Boot) -> bool
     plan.test && boot.is_begun()
 }
 
-/// Starts the service at the place where it is due. With the first that bootstraps bootstrapping
-/// begins.
+/// Starts the service at the place, which is due, if it isn't started. With the first that bootstraps
+/// bootstrapping begins.
 fn start(
     plan: &Plan,
     order: &[u32],
@@ -43,23 +43,24 @@ fn start(
     requires formed { IsFormed plan.now order.now starts.old endpoints.now.parts }
     requires place { k < length order.now }
     requires untested { is_tested plan.now boot.old ≡ false }
+    requires due { IsDueAt plan.now starts.old endpoints.now.parts.failed boot.old.complete (slice_index order.now k) }
     requires room { 1 + begin_room boot.old ≤ spare actions.old }
     ensures starts_sized { IsStartsSized plan.now starts.new }
     ensures bare { TellsBare (list_of actions.old) (list_of actions.new) }
     ensures spends { Spends (begin_room boot.old + 1) (begin_room boot.new) actions.old actions.new }
     ensures only { StartsOnly plan.now endpoints.now.parts.failed boot.old.complete (slice_index order.now k) starts.old starts.new }
+    ensures late { boot.old.complete ≡ true → boot.new.complete ≡ true }
     ensures started { StartsAt plan.now order.now drain.now k starts.old starts.new endpoints.now boot.old boot.new actions.old actions.new }
 {
     let s = order[k];
-    let complete = boot.is_complete();
-    let starts_now = starts.visit(plan, endpoints.failed(), complete, s, actions);
+    let starts_now = starts.visit(plan, s, actions);
     if starts_now && is_bootstrap(plan, s) && !boot.is_begun() {
         boot.begin(plan, drain.moment(), actions);
     }
 }
 
-/// Starts the service at the place where it is due, and asks for its endpoints, unless the run was
-/// tested before or by that.
+/// Starts the service at the place, which is due, if it isn't started, and asks for its endpoints, unless
+/// the run was tested before or by that.
 fn visit(
     plan: &Plan,
     order: &[u32],
@@ -72,6 +73,7 @@ fn visit(
 )
     requires formed { IsFormed plan.now order.now starts.old endpoints.old.parts }
     requires place { k < length order.now }
+    requires due { IsDueAt plan.now starts.old endpoints.old.parts.failed boot.old.complete (slice_index order.now k) }
     requires room { 2 + begin_room boot.old ≤ spare actions.old }
     ensures formed { IsFormed plan.now order.now starts.new endpoints.new.parts }
     ensures table { endpoints.new.parts.table ≡ endpoints.old.parts.table }
@@ -82,6 +84,7 @@ fn visit(
     ensures unheld { StaysUnheld endpoints.old.parts endpoints.new.parts }
     ensures others { OthersStay (slice_index order.now k) endpoints.old.parts endpoints.new.parts }
     ensures only { StartsOnly plan.now endpoints.old.parts.failed boot.old.complete (slice_index order.now k) starts.old starts.new }
+    ensures late { boot.old.complete ≡ true → boot.new.complete ≡ true }
     ensures passed { VisitsAt plan.now order.now drain.now k starts.old starts.new endpoints.old endpoints.new boot.old boot.new actions.old actions.new }
 {
     if is_tested(plan, boot) {
@@ -96,27 +99,24 @@ fn visit(
     endpoints.visit(plan, s, is_started, drain.moment(), actions);
 }
 
-/// Where the service at the place isn't started and a dependency of it isn't marked as ready, the place
-/// waits for that one.
+/// Where the service at the place isn't started and lacks a dependency, the place isn't visited until it
+/// lacks none.
 fn waits_still(plan: &Plan, order: &[u32], k: usize, starts: &Starts, waits: &mut Waits) -> bool
-    requires valid { IsValid plan.now }
     requires in_order { IsInOrder plan.now order.now }
     requires place { k < length order.now }
     requires sized { IsStartsSized plan.now starts.now }
-    requires count { length waits.old.marks ≡ service_count plan.now }
-    ensures { WaitsStill plan.now starts.now (slice_index order.now k) k waits.old waits.new result }
+    requires count { length waits.old.counts.marks ≡ service_count plan.now }
+    ensures { WaitsStill starts.now (slice_index order.now k) k waits.old waits.new result }
 {
     let s = order[k];
     if starts.is_started(plan, s) {
         return false;
     }
-    match waits.lacking(plan, s) {
-        None => false,
-        Some(at) => {
-            waits.park(k, depends_of(plan, s)[at]);
-            true
-        }
+    if waits.missing(s) == 0 {
+        return false;
     }
+    waits.close(k);
+    true
 }
 
 /// What becomes of the place of a service that was visited: it is left out of the next visits while they
@@ -221,7 +221,7 @@ fn heir(
 ) -> Option<usize>
     requires formed { IsFormed plan.now order.now starts.now endpoints.now.parts }
     requires place { k < length order.now }
-    requires count { length waits.now.marks ≡ service_count plan.now }
+    requires count { length waits.now.counts.marks ≡ service_count plan.now }
     ensures { IfSome result (IsHeir plan.now order.now starts.now.started endpoints.now.parts waits.now k) }
 {
     let next = waits.next_behind(order[k], k + 1, order.len())?;
@@ -291,7 +291,7 @@ fn attend(
     waits.leave(k);
     visit(plan, order, k, drain, starts, endpoints, boot, actions);
     let complete = boot.is_complete();
-    waits.note(plan, starts, endpoints.failed(), complete, order[k]);
+    waits.note(plan, order, starts, endpoints.failed(), complete, order[k]);
     settle(plan, order, k, drain, starts, endpoints, complete, waits);
 }
 

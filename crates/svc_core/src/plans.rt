@@ -1,7 +1,7 @@
 //! What the core reads of a plan.
 
 ghost use Rattle.std.specs.Prelude.{◌≡◌, ◌<◌, ◌||◌, not, length, Some};
-ghost use Rattle.svc_record.specs.Plans.{service_count, depends, has_kind, endpoints, address, filter_of};
+ghost use Rattle.svc_record.specs.Plans.{service_count, has_kind, endpoints, address, filter_of};
 ghost use Rattle.svc_record.specs.Connections.{is_known, has_filter};
 ghost use Rattle.svc_record.specs.Judging.{asked_filter};
 ghost use Rattle.svc_record.specs.Fits.{may_end};
@@ -16,13 +16,6 @@ pub(crate) fn service_count(plan: &Plan) -> usize
     ensures { result ≡ service_count plan.now }
 {
     plan.services.as_slice().len()
-}
-
-pub(crate) fn depends_of(plan: &Plan, s: u32) -> &[u32]
-    requires { s < service_count plan.now }
-    ensures { result.now ≡ depends plan.now s }
-{
-    plan.services.as_slice()[s as usize].depends.as_slice()
 }
 
 pub(crate) fn is_plain(plan: &Plan, s: u32) -> bool

@@ -1,12 +1,11 @@
 //! The part of the core that starts services.
 
-ghost use Rattle.std.specs.Prelude.{◌≡◌, ◌+◌, ◌<◌, ◌≤◌, ◌++◌, length, IfOk};
+ghost use Rattle.std.specs.Prelude.{◌≡◌, ◌+◌, ◌<◌, ◌≤◌, ◌++◌, not, length, IfOk};
 ghost use Rattle.svc_base.specs.Items.{list_of, spare};
 ghost use Rattle.svc_record.specs.Plans.{service_count};
-ghost use Rattle.svc_record.specs.Validity.{IsValid};
-ghost use Rattle.svc_core.specs.StartsState.{IsStartsSized, IsBlank, is_flagged, ready_now, due_now, starts_now, start_if, start_told, word_taken, end_taken};
+ghost use Rattle.svc_core.specs.StartsState.{IsStartsSized, IsBlank, is_flagged, ready_now, start_if, start_told, word_taken, end_taken};
 
-use crate::plans::{depends_of, is_bootstrap, is_plain, service_count};
+use crate::plans::{is_bootstrap, is_plain, service_count};
 use std::alloc::Global;
 use std::marker::Model;
 use svc_base::NoMemory;
@@ -57,21 +56,6 @@ impl Starts {
                 && (is_plain(plan, s) || (is_bootstrap(plan, s) && complete)))
     }
 
-    fn is_due(&self, plan: &Plan, failed: &[bool], complete: bool, s: u32) -> bool
-        requires service { s < service_count plan.now }
-        requires valid { IsValid plan.now }
-        requires sized { IsStartsSized plan.now self.now }
-        requires flags { length failed.now ≡ service_count plan.now }
-        ensures { result ≡ due_now plan.now self.now failed.now complete s }
-    {
-        for d in depends_of(plan, s) {
-            if !self.is_ready(plan, failed, complete, *d) {
-                return false;
-            }
-        }
-        true
-    }
-
     pub(crate) fn is_started(&self, plan: &Plan, s: u32) -> bool
         requires service { s < service_count plan.now }
         requires sized { IsStartsSized plan.now self.now }
@@ -118,28 +102,19 @@ impl Starts {
         self.ended[s as usize] = true;
     }
 
-    /// Starts the service where it is due and not started yet, and says so.
-    pub(crate) fn visit(
-        &mut self,
-        plan: &Plan,
-        failed: &[bool],
-        complete: bool,
-        s: u32,
-        actions: &mut Actions,
-    ) -> bool
+    /// Starts the service, if it isn't started, and says so.
+    pub(crate) fn visit(&mut self, plan: &Plan, s: u32, actions: &mut Actions) -> bool
         requires service { s < service_count plan.now }
-        requires valid { IsValid plan.now }
         requires sized { IsStartsSized plan.now self.old }
-        requires flags { length failed.now ≡ service_count plan.now }
         requires room { 0 < spare actions.old }
         ensures sized { IsStartsSized plan.now self.new }
-        ensures due { result ≡ starts_now plan.now self.old failed.now complete s }
+        ensures fresh { result ≡ not (is_flagged self.old.started s) }
         ensures after { self.new ≡ start_if result s self.old }
         ensures told { list_of actions.new ≡ list_of actions.old ++ start_told result s }
         ensures few { length (list_of actions.new) ≤ length (list_of actions.old) + 1 }
         ensures room { spare actions.old ≤ spare actions.new + 1 }
     {
-        if self.started[s as usize] || !self.is_due(plan, failed, complete, s) {
+        if self.started[s as usize] {
             return false;
         }
         self.started[s as usize] = true;

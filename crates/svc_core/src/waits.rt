@@ -1,36 +1,39 @@
 //! The places of the startup order that a pass visits, and what the others wait for.
 
-ghost use Rattle.std.specs.Prelude.{◌≡◌, ◌<◌, ◌≤◌, ◌+◌, ◌*◌, ◌≢◌, ℕ, true, false, length, slice_index, All, IfOk, IfSome, IfNone};
+ghost use Rattle.std.specs.Prelude.{◌≡◌, ◌<◌, ◌≤◌, ◌+◌, ◌≢◌, ℕ, true, false, length, slice_index, slice_set, IfOk, IfSome, IfNone};
 ghost use Rattle.svc_graph.specs.Bits.{is_set, HasRows};
+ghost use Rattle.svc_graph.specs.Graphs.{node_count, is_edge};
+ghost use Rattle.svc_graph.specs.Waitings.{missing_of, waits_for};
 ghost use Rattle.svc_record.specs.Plans.{service_count};
-ghost use Rattle.svc_record.specs.Validity.{IsValid};
 ghost use Rattle.svc_core.specs.StartsState.{IsStartsSized, is_flagged, ready_now};
 ghost use Rattle.std.specs.Bool.{OnTrue};
-ghost use Rattle.svc_core.specs.WaitsState.{is_open, is_behind, IsUnmarked, KnowsReady, KnowsOthers, Opens, IsMarked, MarksIf, ClosesPlace, OpensPlace, IsShortOrder, Reopens, Parks, JoinsRow, Frees, HandsOn, FreesAll, Wakes, LeavesPlace, ParksBehind, ParksResting};
+ghost use Rattle.svc_core.specs.WaitsState.{is_open, is_behind, KnowsReady, KnowsOthers, Opens, MarksOnly, IsMarked, MarksIf, ClosesPlace, IsShortOrder, Reopens, JoinsRow, Frees, HandsOn, FreesAll, Wakes, LeavesPlace, ParksBehind, ParksResting};
 
-use crate::plans::depends_of;
 use crate::starts::Starts;
 use std::alloc::Global;
-use std::marker::Model;
+use std::marker::{Brand, Model};
+use std::sync::ledger::{Blank, Ledger};
 use svc_base::NoMemory;
-use svc_graph::Bits;
+use svc_graph::{Bits, DependencyGraph, Steps, Waiting};
 use svc_record::Plan;
 
-/// Which places are open, so that a pass visits them. A service that isn't started waits at its place
-/// for one dependency that isn't marked as ready; one that is started and has failed, or holds each of
+/// The row of the places that are open.
+const OPEN: u32 = 0;
+
+/// Which places are open, so that a pass visits them. A service that isn't started and lacks a dependency
+/// waits at its place until it lacks none; one that is started and has failed, or holds each of
 /// its endpoints, is done; one of which an ask is open waits for the answer; and one whose address is kept
 /// busy waits behind the service of which an endpoint does so, where it rests behind itself. Any other
 /// place is open.
 #[derive(Drop)]
 pub(crate) struct Waits {
-    /// For each service a row of the places that wait for it to be ready, then one of those that are open;
-    /// for each service a row of those that wait behind it, then one of all these, and one of those that
-    /// rest.
+    /// A row of the places that are open; for each service a row of those that wait behind it, then one of
+    /// all these, and one of those that rest.
     bits: Bits,
-    /// Which services are marked: at least each that is ready, once all were looked at.
-    marks: Vec<bool>,
-    /// How many of each service's dependencies are still to be looked at, at most.
-    looked: Vec<usize>,
+    /// Which services are marked, those that are ready, and how many dependencies of each aren't.
+    counts: Waiting,
+    /// How many services there are.
+    services: u32,
     /// Whether all were looked at.
     fresh: bool,
     /// Whether bootstrapping was complete when all were last looked at.
@@ -48,40 +51,24 @@ impl Model for Waits {
 
     ghost Value = { WaitsData };
 
-    ghost view = { λ w. record { bits = w.bits; marks = w.marks.items; fresh = w.fresh; complete = w.complete; until = w.until } };
+    ghost view = { λ w. record { bits = w.bits; counts = w.counts; fresh = w.fresh; complete = w.complete; until = w.until } };
 
-    ghost invariant = { λ w. AreWaitsSized w.bits w.marks.items w.looked.items };
+    ghost invariant = { λ w. AreWaitsSized w.bits w.counts w.services };
 }
 
 /// Rows for so many services, and among them the one in which each of so many places is open.
 fn all_open(alloc: Global, services: u32, places: usize) -> Result<Bits, NoMemory>
     requires services { services ≤ 1024 }
     requires places { places ≤ 1024 }
-    ensures rows { IfOk result (λ bits. HasRows bits (2 * services + 3)) }
-    ensures open { IfOk result (λ bits. (k : ℕ) → k < places → is_set bits services k ≡ true) }
+    ensures rows { IfOk result (λ bits. HasRows bits (services + 3)) }
+    ensures open { IfOk result (λ bits. (k : ℕ) → k < places → is_set bits 0 k ≡ true) }
 {
     let mut bits = Bits::new(alloc);
-    bits.grow(2 * services + 3)?;
+    bits.grow(services + 3)?;
     for k in 0..places {
-        bits.set(services, k as u32);
+        bits.set(OPEN, k as u32);
     }
     Ok(bits)
-}
-
-/// The place of the last number, of the first `left`, that isn't marked.
-fn last_unmarked(depends: &[u32], marks: &[bool], left: usize) -> Option<usize>
-    requires left { left ≤ length depends.now }
-    requires inside { All (λ d. d < length marks.now) depends.now }
-    ensures { IfSome result (λ at. (at < length depends.now) × (is_flagged marks.now (slice_index depends.now at) ≡ false)) }
-{
-    let mut left = left;
-    while left > 0 {
-        if !marks[depends[left - 1] as usize] {
-            return Some(left - 1);
-        }
-        left -= 1;
-    }
-    None
 }
 
 /// The place of each of so many services, and 0 where it has none.
@@ -134,31 +121,74 @@ fn place_of(places: &[u32], order: &[u32], s: u32) -> Option<usize>
     first_place(order, s)
 }
 
-/// How many are still to be looked at.
-fn left_of(found: Option<usize>) -> usize {
-    match found {
-        Some(at) => at.saturating_add(1),
-        None => 0,
+/// The service's place is open.
+fn open_place(bits: &mut Bits, places: &[u32], order: &[u32], s: u32)
+    requires row { HasRows bits.old 1 }
+    requires order { IsShortOrder order.now }
+    ensures len { length bits.new ≡ length bits.old }
+    ensures kept { (a b : ℕ) → is_set bits.old a b ≡ true → is_set bits.new a b ≡ true }
+    ensures opened { (k : ℕ) → k < length order.now → slice_index order.now k ≡ s → is_set bits.new 0 k ≡ true }
+{
+    if let Some(k) = place_of(places, order, s) {
+        bits.set(OPEN, k as u32);
     }
 }
 
+/// The places of those that depend on the service and lack no dependency are open.
+fn open_freed(bits: &mut Bits, counts: &Waiting, places: &[u32], order: &[u32], s: u32)
+    requires row { HasRows bits.old 1 }
+    requires service { s < length counts.now.marks }
+    requires order { IsShortOrder order.now }
+    ensures len { length bits.new ≡ length bits.old }
+    ensures kept { (a b : ℕ) → is_set bits.old a b ≡ true → is_set bits.new a b ≡ true }
+    ensures opened { (k : ℕ) → k < length order.now → waits_for counts.now (slice_index order.now k) s ≡ true
+        → missing_of counts.now (slice_index order.now k) ≡ 0 → is_set bits.new 0 k ≡ true }
+{
+    for dependent in counts.dependents(s) {
+        if counts.missing(*dependent) == 0 {
+            open_place(bits, places, order, *dependent);
+        }
+    }
+}
+
+/// Marks the service. Nobody counts the steps.
+fn count<L: Ledger>(counts: &mut Waiting, s: u32, blank: Blank)
+    requires name { blank.name ≡ L.name }
+    requires parts { blank.parts ≡ L.parts }
+    requires some { 0 < blank.parts }
+    requires node { s < length counts.old.marks }
+    requires fresh { is_flagged counts.old.marks s ≡ false }
+    ensures depends { counts.new.depends ≡ counts.old.depends }
+    ensures marks { counts.new.marks ≡ slice_set counts.old.marks s true }
+{
+    let mut steps = Steps::<L>::new(blank);
+    counts.mark(s, &mut steps);
+}
+
 impl Waits {
-    /// Each place is open, and nothing is known to be ready.
-    pub(crate) fn new(alloc: Global, services: usize, order: &[u32]) -> Result<Waits, NoMemory>
-        requires services { services ≤ 1024 }
+    /// Each place is open, and no service is known to be ready.
+    pub(crate) fn new(
+        alloc: Global,
+        graph: &DependencyGraph,
+        order: &[u32],
+    ) -> Result<Waits, NoMemory>
+        requires services { node_count graph.now ≤ 1024 }
         requires places { length order.now ≤ 1024 }
-        ensures count { IfOk result (λ w. length w.marks ≡ services) }
+        ensures count { IfOk result (λ w. length w.counts.marks ≡ node_count graph.now) }
+        ensures edges { IfOk result (λ w. (a b : ℕ) → waits_for w.counts a b ≡ is_edge graph.now a b) }
+        ensures none { IfOk result (λ w. (s : ℕ) → is_flagged w.counts.marks s ≡ false) }
         ensures open { IfOk result (λ w. (k : ℕ) → k < length order.now → is_open w k ≡ true) }
         ensures stale { IfOk result (λ w. w.fresh ≡ false) }
+        ensures early { IfOk result (λ w. w.complete ≡ false) }
     {
-        let places = places_in(alloc, services, order)?;
-        let bits = all_open(alloc, services as u32, order.len())?;
-        let marks = vec![in alloc; false; services]?;
-        let looked = vec![in alloc; usize::MAX; services]?;
+        let services = graph.len() as u32;
+        let places = places_in(alloc, services as usize, order)?;
+        let bits = all_open(alloc, services, order.len())?;
+        let counts = Waiting::new(alloc, graph)?;
         Ok(Waits {
             bits,
-            marks,
-            looked,
+            counts,
+            services,
             fresh: false,
             complete: false,
             until: u64::MAX,
@@ -167,17 +197,25 @@ impl Waits {
         })
     }
 
-    /// The row of the places that are open.
-    fn open_row(&self) -> u32
-        ensures row { result ≡ length self.now.marks }
-        ensures few { result ≤ 1024 }
+    /// The row of the places that wait behind a service.
+    fn parked_row(&self) -> u32
+        ensures row { result ≡ length self.now.counts.marks + 1 }
+        ensures few { result ≤ 1025 }
     {
-        self.marks.len() as u32
+        self.services + 1
+    }
+
+    /// The row of the places that rest.
+    fn resting_row(&self) -> u32
+        ensures row { result ≡ length self.now.counts.marks + 2 }
+        ensures few { result ≤ 1026 }
+    {
+        self.services + 2
     }
 
     /// The least place of a row from one on, before the end.
     fn next_in(&self, row: u32, from: usize, end: usize) -> Option<usize>
-        requires row { row < 2 * length self.now.marks + 3 }
+        requires row { row < length self.now.counts.marks + 3 }
         requires end { end ≤ 1024 }
         ensures found { IfSome result (λ k. (from ≤ k) × (k < end)) }
         ensures is_set { IfSome result (λ k. is_set self.now.bits row k ≡ true) }
@@ -207,47 +245,52 @@ impl Waits {
         ensures least { IfSome result (λ k. (c : ℕ) → from ≤ c → c < k → is_open self.now c ≡ false) }
         ensures none { IfNone result ((c : ℕ) → from ≤ c → c < end → is_open self.now c ≡ false) }
     {
-        self.next_in(self.open_row(), from, end)
+        self.next_in(OPEN, from, end)
     }
 
     /// The least place from one on, before the end, that waits or has waited behind the service.
     pub(crate) fn next_behind(&self, service: u32, from: usize, end: usize) -> Option<usize>
-        requires service { service < length self.now.marks }
+        requires service { service < length self.now.counts.marks }
         requires end { end ≤ 1024 }
         ensures found { IfSome result (λ k. (from ≤ k) × (k < end)) }
         ensures least { IfSome result (λ k. (c : ℕ) → from ≤ c → c < k → is_behind self.now service c ≡ false) }
     {
-        self.next_in(self.open_row() + 1 + service, from, end)
+        prove!(service < self.services);
+        self.next_in(1 + service, from, end)
     }
 
-    /// Marks the service as ready, and opens the places that wait for it.
-    pub(crate) fn mark(&mut self, s: u32)
-        requires { s < length self.old.marks }
-        ensures { IsMarked s self.old self.new }
+    /// No place before the end is open, and no rest is known to end at a moment of 64 bits.
+    pub(crate) fn is_still(&self, end: usize) -> bool
+        requires end { end ≤ 1024 }
+        ensures shut { result ≡ true → (k : ℕ) → k < end → is_open self.now k ≡ false }
+        ensures long { result ≡ true → self.now.until ≡ u64.MAX }
     {
-        let row = self.open_row();
-        self.bits.join(row, s);
-        self.marks[s as usize] = true;
+        self.until == u64::MAX && self.next(0, end).is_none()
+    }
+
+    /// Marks the service as ready where it isn't yet, and opens the places of those that lack nothing then.
+    pub(crate) fn mark(&mut self, order: &[u32], s: u32)
+        requires service { s < length self.old.counts.marks }
+        requires order { IsShortOrder order.now }
+        ensures { IsMarked order.now s self.old self.new }
+    {
+        if self.counts.marked(s) {
+            return;
+        }
+        count::<Brand>(&mut self.counts, s, Blank::new(1));
+        open_freed(&mut self.bits, &self.counts, &self.places, order, s);
     }
 
     /// Marks the service as ready where it has failed.
-    pub(crate) fn mark_failed(&mut self, failed: &[bool], s: u32)
-        requires service { s < length self.old.marks }
-        requires flags { length failed.now ≡ length self.old.marks }
-        ensures { MarksIf (is_flagged failed.now s) s self.old self.new }
+    pub(crate) fn mark_failed(&mut self, order: &[u32], failed: &[bool], s: u32)
+        requires service { s < length self.old.counts.marks }
+        requires order { IsShortOrder order.now }
+        requires flags { length failed.now ≡ length self.old.counts.marks }
+        ensures { MarksIf (is_flagged failed.now s) order.now s self.old self.new }
     {
         if failed[s as usize] {
-            self.mark(s);
+            self.mark(order, s);
         }
-    }
-
-    /// The place is visited again.
-    fn open(&mut self, k: usize)
-        requires { k < 1024 }
-        ensures { OpensPlace k self.old self.new }
-    {
-        let row = self.open_row();
-        self.bits.set(row, k as u32);
     }
 
     /// The service's place is visited again.
@@ -255,9 +298,7 @@ impl Waits {
         requires { IsShortOrder order.now }
         ensures { Reopens order.now s self.old self.new }
     {
-        if let Some(k) = place_of(&self.places, order, s) {
-            self.open(k);
-        }
+        open_place(&mut self.bits, &self.places, order, s);
     }
 
     /// The place isn't visited any more.
@@ -265,49 +306,35 @@ impl Waits {
         requires { k < 1024 }
         ensures { ClosesPlace k self.old self.new }
     {
-        let row = self.open_row();
-        self.bits.clear(row, k as u32);
-    }
-
-    /// The place isn't visited until the service is marked.
-    pub(crate) fn park(&mut self, k: usize, d: u32)
-        requires place { k < 1024 }
-        requires service { d < length self.old.marks }
-        ensures { Parks k d self.old self.new }
-    {
-        let row = self.open_row();
-        self.bits.set(d, k as u32);
-        self.bits.clear(row, k as u32);
+        self.bits.clear(OPEN, k as u32);
     }
 
     /// The places that wait behind the service are visited again.
     pub(crate) fn free(&mut self, t: u32)
-        requires { t < length self.old.marks }
+        requires { t < length self.old.counts.marks }
         ensures { Frees t self.old self.new }
     {
-        let row = self.open_row();
-        self.bits.join(row, row + 1 + t);
+        self.bits.join(OPEN, 1 + t);
     }
 
     /// The places that wait behind the service wait behind the other one too, whose place is visited again.
     pub(crate) fn hand_on(&mut self, service: u32, other: u32, place: usize)
-        requires service { service < length self.old.marks }
-        requires other { other < length self.old.marks }
+        requires service { service < length self.old.counts.marks }
+        requires other { other < length self.old.counts.marks }
         requires apart { service ≢ other }
         requires place { place < 1024 }
         ensures { HandsOn service other place self.old self.new }
     {
-        let row = self.open_row();
-        self.bits.join(row + 1 + other, row + 1 + service);
-        self.bits.set(row, place as u32);
+        self.bits.join(1 + other, 1 + service);
+        self.bits.set(OPEN, place as u32);
     }
 
     /// All places that wait behind a service are visited again.
     pub(crate) fn free_all(&mut self)
         ensures { FreesAll self.old self.new }
     {
-        let row = self.open_row();
-        self.bits.join(row, 2 * row + 1);
+        let row = self.parked_row();
+        self.bits.join(OPEN, row);
     }
 
     /// What rests is visited again, once one of the rests is over at the moment, in milliseconds.
@@ -323,11 +350,11 @@ impl Waits {
 
     /// What rests is visited again.
     fn wake_all(&mut self)
-        ensures wakes { JoinsRow (2 * length self.old.marks + 2) self.new.until self.old self.new }
+        ensures wakes { JoinsRow (length self.old.counts.marks + 2) self.new.until self.old self.new }
         ensures last { self.new.until ≡ u64.MAX }
     {
-        let row = self.open_row();
-        self.bits.join(row, 2 * row + 2);
+        let row = self.resting_row();
+        self.bits.join(OPEN, row);
         self.until = u64::MAX;
     }
 
@@ -336,34 +363,34 @@ impl Waits {
         requires { k < 1024 }
         ensures { LeavesPlace k self.old self.new }
     {
-        let row = self.open_row();
-        self.bits.clear(2 * row + 1, k as u32);
-        self.bits.clear(2 * row + 2, k as u32);
+        let row = self.parked_row();
+        self.bits.clear(row, k as u32);
+        self.bits.clear(row + 1, k as u32);
     }
 
     /// The place isn't visited until the service has another state.
     pub(crate) fn park_behind(&mut self, k: usize, t: u32)
         requires place { k < 1024 }
-        requires service { t < length self.old.marks }
+        requires service { t < length self.old.counts.marks }
         ensures { ParksBehind k t self.old self.new }
     {
-        let row = self.open_row();
-        self.bits.set(row + 1 + t, k as u32);
-        self.bits.set(2 * row + 1, k as u32);
-        self.bits.clear(row, k as u32);
+        let row = self.parked_row();
+        self.bits.set(1 + t, k as u32);
+        self.bits.set(row, k as u32);
+        self.bits.clear(OPEN, k as u32);
     }
 
     /// The service's place isn't visited until its rest is over.
     pub(crate) fn rest(&mut self, k: usize, s: u32, end: u64)
         requires place { k < 1024 }
-        requires service { s < length self.old.marks }
+        requires service { s < length self.old.counts.marks }
         ensures { ParksResting k s end self.old self.new }
     {
-        let row = self.open_row();
-        self.bits.set(row + 1 + s, k as u32);
-        self.bits.set(2 * row + 1, k as u32);
-        self.bits.set(2 * row + 2, k as u32);
-        self.bits.clear(row, k as u32);
+        let row = self.parked_row();
+        self.bits.set(1 + s, k as u32);
+        self.bits.set(row, k as u32);
+        self.bits.set(row + 1, k as u32);
+        self.bits.clear(OPEN, k as u32);
         self.until = self.until.min(end);
     }
 
@@ -381,80 +408,107 @@ impl Waits {
         self.asked
     }
 
-    /// The place of a dependency of the service that isn't marked, the last one first. Those behind it
-    /// aren't looked at again.
-    pub(crate) fn lacking(&mut self, plan: &Plan, s: u32) -> Option<usize>
-        requires service { s < service_count plan.now }
-        requires valid { IsValid plan.now }
-        requires count { length self.old.marks ≡ service_count plan.now }
-        ensures same { self.new ≡ self.old }
-        ensures lacks { IfSome result (λ at. IsUnmarked plan.now self.old.marks s at) }
+    /// How many dependencies of the service aren't marked.
+    pub(crate) fn missing(&self, s: u32) -> u64
+        requires { s < length self.now.counts.marks }
+        ensures { result ≡ missing_of self.now.counts s }
     {
-        let depends = depends_of(plan, s);
-        let left = self.looked[s as usize].min(depends.len());
-        let found = last_unmarked(depends, &self.marks, left);
-        self.looked[s as usize] = left_of(found);
-        found
+        self.counts.missing(s)
     }
 
     /// Marks the service where it is ready.
-    fn look_at(&mut self, plan: &Plan, starts: &Starts, failed: &[bool], complete: bool, s: u32)
-        requires count { length self.old.marks ≡ service_count plan.now }
+    fn look_at(
+        &mut self,
+        plan: &Plan,
+        order: &[u32],
+        starts: &Starts,
+        failed: &[bool],
+        complete: bool,
+        s: u32,
+    )
+        requires count { length self.old.counts.marks ≡ service_count plan.now }
         requires service { s < service_count plan.now }
+        requires order { IsShortOrder order.now }
         requires sized { IsStartsSized plan.now starts.now }
         requires flags { length failed.now ≡ service_count plan.now }
-        ensures opens { Opens self.old self.new }
+        ensures opens { Opens order.now self.old self.new }
         ensures complete { self.new.complete ≡ self.old.complete }
-        ensures ready { ready_now plan.now starts.now failed.now complete s ≡ true → is_flagged self.new.marks s ≡ true }
+        ensures ready { ready_now plan.now starts.now failed.now complete s ≡ true → is_flagged self.new.counts.marks s ≡ true }
+        ensures only { MarksOnly (ready_now plan.now starts.now failed.now complete) self.old self.new }
     {
-        if self.marks[s as usize] {
+        if !starts.is_ready(plan, failed, complete, s) {
             return;
         }
-        if starts.is_ready(plan, failed, complete, s) {
-            self.mark(s);
-        }
+        self.mark(order, s);
     }
 
     /// Marks each service that is ready.
-    fn refresh(&mut self, plan: &Plan, starts: &Starts, failed: &[bool], complete: bool)
-        requires count { length self.old.marks ≡ service_count plan.now }
+    fn refresh(
+        &mut self,
+        plan: &Plan,
+        order: &[u32],
+        starts: &Starts,
+        failed: &[bool],
+        complete: bool,
+    )
+        requires count { length self.old.counts.marks ≡ service_count plan.now }
+        requires order { IsShortOrder order.now }
         requires sized { IsStartsSized plan.now starts.now }
         requires flags { length failed.now ≡ service_count plan.now }
-        ensures opens { Opens self.old self.new }
+        ensures opens { Opens order.now self.old self.new }
         ensures complete { self.new.complete ≡ complete }
         ensures ready { KnowsReady plan.now starts.now failed.now complete self.new }
+        ensures only { MarksOnly (ready_now plan.now starts.now failed.now complete) self.old self.new }
     {
-        self.look_at_all(plan, starts, failed, complete);
+        self.look_at_all(plan, order, starts, failed, complete);
         self.fresh = true;
         self.complete = complete;
     }
 
-    fn look_at_all(&mut self, plan: &Plan, starts: &Starts, failed: &[bool], complete: bool)
-        requires count { length self.old.marks ≡ service_count plan.now }
+    fn look_at_all(
+        &mut self,
+        plan: &Plan,
+        order: &[u32],
+        starts: &Starts,
+        failed: &[bool],
+        complete: bool,
+    )
+        requires count { length self.old.counts.marks ≡ service_count plan.now }
+        requires order { IsShortOrder order.now }
         requires sized { IsStartsSized plan.now starts.now }
         requires flags { length failed.now ≡ service_count plan.now }
-        ensures opens { Opens self.old self.new }
+        ensures opens { Opens order.now self.old self.new }
         ensures ready { KnowsReady plan.now starts.now failed.now complete self.new }
+        ensures only { MarksOnly (ready_now plan.now starts.now failed.now complete) self.old self.new }
     {
-        for s in 0..self.open_row() {
-            self.look_at(plan, starts, failed, complete, s);
+        for s in 0..self.services {
+            self.look_at(plan, order, starts, failed, complete, s);
         }
     }
 
     /// Each service that is ready is marked, by a look at all where that isn't known.
-    pub(crate) fn catch_up(&mut self, plan: &Plan, starts: &Starts, failed: &[bool], complete: bool)
-        requires count { length self.old.marks ≡ service_count plan.now }
+    pub(crate) fn catch_up(
+        &mut self,
+        plan: &Plan,
+        order: &[u32],
+        starts: &Starts,
+        failed: &[bool],
+        complete: bool,
+    )
+        requires count { length self.old.counts.marks ≡ service_count plan.now }
+        requires order { IsShortOrder order.now }
         requires sized { IsStartsSized plan.now starts.now }
         requires flags { length failed.now ≡ service_count plan.now }
         requires watched { OnTrue self.old.fresh (KnowsReady plan.now starts.now failed.now self.old.complete self.old) }
-        ensures opens { Opens self.old self.new }
+        ensures opens { Opens order.now self.old self.new }
         ensures complete { self.new.complete ≡ complete }
         ensures ready { KnowsReady plan.now starts.now failed.now complete self.new }
+        ensures only { MarksOnly (ready_now plan.now starts.now failed.now complete) self.old self.new }
     {
         if self.is_fresh_at(complete) {
             return;
         }
-        self.refresh(plan, starts, failed, complete);
+        self.refresh(plan, order, starts, failed, complete);
     }
 
     /// Nothing may have become ready since all were looked at, but by an event that marked it.
@@ -477,24 +531,27 @@ impl Waits {
     pub(crate) fn note(
         &mut self,
         plan: &Plan,
+        order: &[u32],
         starts: &Starts,
         failed: &[bool],
         complete: bool,
         s: u32,
     )
-        requires count { length self.old.marks ≡ service_count plan.now }
+        requires count { length self.old.counts.marks ≡ service_count plan.now }
+        requires order { IsShortOrder order.now }
         requires service { s < service_count plan.now }
         requires sized { IsStartsSized plan.now starts.now }
         requires flags { length failed.now ≡ service_count plan.now }
         requires others { KnowsOthers plan.now starts.now failed.now self.old.complete s self.old }
-        ensures opens { Opens self.old self.new }
+        ensures opens { Opens order.now self.old self.new }
         ensures complete { self.new.complete ≡ complete }
         ensures ready { KnowsReady plan.now starts.now failed.now complete self.new }
+        ensures only { MarksOnly (ready_now plan.now starts.now failed.now complete) self.old self.new }
     {
         if !self.is_at(complete) {
-            self.refresh(plan, starts, failed, complete);
+            self.refresh(plan, order, starts, failed, complete);
             return;
         }
-        self.look_at(plan, starts, failed, complete, s);
+        self.look_at(plan, order, starts, failed, complete, s);
     }
 }

@@ -1,5 +1,5 @@
 -- A worker's deeds one after the other.
-use Rattle.std.proofs.Common.{◌≡◌, ◌≢◌, ℕ, ◌+◌, ◌<◌, ◌≤◌, List, [], ◌∷◌, ◌++◌, length, Option, Some, None, refl, sym, ap, ◌∙◌, subst, arith, append_assoc, append-nil, length-append}
+use Rattle.std.proofs.Common.{◌≡◌, ◌≢◌, ℕ, ◌+◌, ◌<◌, ◌≤◌, Bool, List, [], ◌∷◌, ◌++◌, length, Option, Some, None, refl, sym, ap, ◌∙◌, subst, arith, append_assoc, append-nil, length-append}
 use Rattle.svc_base.specs.Streams.{Rose}
 use Rattle.svc_base.specs.Calls.{Adds}
 use Rattle.svc_base.proofs.CallLemmas.{Adds-nil, Adds-then, Stays-same, Stays-then}
@@ -18,11 +18,13 @@ use Rattle.svc_desk.specs.declared.stray.Strayed.{Strayed}
 use Rattle.svc_desk.specs.declared.worker.WorkEnd.{WorkEnd}
 use Rattle.svc_desk.specs.declared.worker.WorkEnd.TheVariants as ends
 use Rattle.svc_desk.specs.Desks.{DeskData, DeskStays, IsPerformed, Grew}
-use Rattle.svc_desk.specs.Deeds.{Deed, posted, strayed, events_of, posts_of, actions_of, stray_events, stray, strays_from, OfFront, Follows, LeavesOn, EndsRun, EndsBy, GrewUpTo, call_count}
+use Rattle.svc_desk.specs.Deeds.{Deed, posted, strayed, events_of, posts_of, actions_of, stray_events, stray, strays_from, SaidBy, OfFront, Follows, LeavesOn, EndsRun, EndsBy, GrewUpTo, call_count}
 use Rattle.svc_desk.specs.Working.{IsDone, IsAtDesk, TurnEnds}
 
 pub stays-same : (d : DeskData) → DeskStays d d
 stays-same d = record {
+  met = refl;
+  says = refl;
   taken = Stays-same d.taken d.room;
   performed = Stays-same d.performed d.room;
   refused = Stays-same d.refused d.room;
@@ -31,6 +33,8 @@ stays-same d = record {
 
 pub stays-then : (a b c : DeskData) → DeskStays a b → DeskStays b c → DeskStays a c
 stays-then a b c p q = record {
+  met = q.met ∙ p.met;
+  says = q.says ∙ p.says;
   taken = Stays-then p.taken q.taken;
   performed = Stays-then p.performed q.performed;
   refused = Stays-then p.refused q.refused;
@@ -86,6 +90,15 @@ stray_events-append : (xs ys : List Deed) → stray_events (xs ++ ys) ≡ stray_
 stray_events-append [] ys = refl
 stray_events-append (posted own ∷ xs) ys = stray_events-append xs ys
 stray_events-append (strayed e seen ∷ xs) ys = ap (λ (l : List Event). e ∷ l) (stray_events-append xs ys)
+
+said-append : (says : Event → Bool) (xs ys : List Deed) → SaidBy says xs → SaidBy says ys → SaidBy says (xs ++ ys)
+said-append says [] ys f g = g
+said-append says (posted own ∷ xs) ys f g = (f.0, said-append says xs ys f.1 g)
+said-append says (strayed e seen ∷ xs) ys f g = said-append says xs ys f g
+
+-- what a desk says later it says from the start
+pub said-from : (a b : DeskData) (xs : List Deed) → DeskStays a b → SaidBy b.says xs → SaidBy a.says xs
+said-from a b xs same f = subst (λ (says : Event → Bool). SaidBy says xs) same.says f
 
 strays-append : (k : ℕ) (xs ys : List Deed) → strays_from k (xs ++ ys) ≡ strays_from k xs ++ strays_from (k + length xs) ys
 strays-append k [] ys = ap (λ (j : ℕ). strays_from j ys) (omega arith)
@@ -186,6 +199,7 @@ pub at_desk-then : (a b c : DeskData) (xs ys : List Deed) (hand : List Event) �
 at_desk-then a b c xs ys hand f g = record {
   taken = subst (λ (l : List Event). Adds a.taken c.taken l) (joined (events_of xs) (events_of ys) (events_of (xs ++ ys)) (events-append xs ys))
       (Adds-then a.taken b.taken c.taken (events_of xs ++ []) (events_of ys ++ hand) f.taken g.taken);
+  said = said-append a.says xs ys f.said (said-from a b ys f.stays g.said);
   performed = subst (λ (l : List Action). Adds a.performed c.performed l) (sym (actions-append xs ys))
       (Adds-then a.performed b.performed c.performed (actions_of xs) (actions_of ys) f.performed g.performed);
   refused = subst (λ (l : List Event). Adds a.refused c.refused l)
@@ -218,6 +232,7 @@ place-then a b c counter turns xs ys hand lt f g = let both = call_count-append 
 pub at_desk-none : (a : DeskData) → IsAtDesk a a [] []
 at_desk-none a = record {
   taken = Adds-nil a.taken;
+  said = tt;
   performed = Adds-nil a.performed;
   refused = Adds-nil a.refused;
   stays = stays-same a;

@@ -1,5 +1,5 @@
 -- A server opened with two passes, closed with both, and its journal against both desks.
-use Rattle.std.proofs.Common.{◌≡◌, ◌⊎◌, inl, inr, ⊎_elim, ℕ, zero, suc, ◌+◌, ◌≤◌, List, [], ◌∷◌, ◌++◌, length, Option, sym, ap, ◌∙◌, subst, arith}
+use Rattle.std.proofs.Common.{◌≡◌, ◌⊎◌, inl, inr, ⊎_elim, ℕ, zero, suc, ◌≤◌, List, [], ◌∷◌, ◌++◌, length, Option, sym, ap, ◌∙◌, subst, arith}
 use mathlib.Core.Option.{some, some-ne-none, some-injective}
 use lib.ListN.{get_elem?}
 use Rattle.svc_base.specs.Streams.{Rose}
@@ -26,11 +26,11 @@ use Rattle.svc_desk.specs.declared.worker.WorkEnd.TheVariants as ends
 use Rattle.svc_desk.specs.declared.worker.Worked.{Worked}
 use Rattle.svc_desk.specs.declared.serving.EchoReason.{EchoReason}
 use Rattle.svc_desk.specs.declared.serving.EchoReason.TheVariants as reasons
-use Rattle.svc_desk.specs.Desks.{DeskData, IsPerformed, Grew}
+use Rattle.svc_desk.specs.Desks.{DeskData, IsPerformed, Grew, meeting}
 use Rattle.svc_desk.specs.Deeds.{Deed, events_of, posts_of, actions_of, stray_events, Follows, EndsBy, Shows}
 use Rattle.svc_desk.specs.Working.{IsWorked}
-use Rattle.svc_desk.specs.Serving.{desk_end, StandsFor, OfTwo, IsServed, IsLater, IsHandedBack, AreSides, IsOpened, IsJournalOf}
-use Rattle.svc_desk.proofs.DeedLemmas.{follows-later, ends-later, stays-then, performed-none}
+use Rattle.svc_desk.specs.Serving.{desk_end, StandsFor, OfTwo, IsServed, IsLater, IsBack, IsHandedBack, AreSides, IsOpened, IsJournalOf}
+use Rattle.svc_desk.proofs.DeedLemmas.{follows-later, ends-later, stays-then, said-from, performed-none}
 
 -- CLOSING
 
@@ -81,6 +81,7 @@ shows-from : (o : BookData) (journal : List PostData) (n turns : ℕ) (first : L
     → Shows o journal n turns [] mid now log hand strays end → Shows o journal n turns first before now log hand strays end
 shows-from o journal n turns first before mid now log hand strays end p x = record {
   taken = subst (λ (k : Option (List Event)). Adds k now.taken (events_of log ++ hand)) p.taken x.taken;
+  said = said-from before mid log p.stays x.said;
   performed = Adds-then before.performed mid.performed now.performed first (actions_of log) p.performed x.performed;
   refused = subst (λ (k : Option (List Event)). Adds k now.refused (stray_events log ++ hand)) p.refused x.refused;
   takes = (x.takes.0, x.takes.1, subst (λ (k : Option ℕ). Grew k now.takes x.takes.0) p.takes x.takes.2);
@@ -99,6 +100,7 @@ shows-later : (o : BookData) (a b : List PostData) (n m turns : ℕ) (first : Li
     → Shows o a n turns first before now log hand strays end → Shows o b m turns first before now log hand strays end
 shows-later o a b n m turns first before now log hand strays end more same x = record {
   taken = x.taken;
+  said = x.said;
   performed = x.performed;
   refused = x.refused;
   takes = x.takes;
@@ -126,7 +128,8 @@ stands_for s p turns n first before mid now r journal performed w none_seen none
 
 pub served : (plan : Plan) (limit turns : ℕ) (s : SharedServer) (p1 p2 : Pass) (opening : List Action) (left mid right one two : DeskData) (r1 r2 : Worked)
     (journal : List PostData) → IsValid plan → IsOpened plan limit s p1 p2 opening
-    → IsPerformed left mid opening → IsWorked s p1 turns mid one r1 → IsWorked s p2 turns right two r2 → IsJournalOf s r1.pass r2.pass 0 1 journal
+    → IsPerformed (meeting left) mid opening → IsWorked s p1 turns mid one r1 → IsWorked s p2 turns (meeting right) two r2
+    → IsJournalOf s r1.pass r2.pass 0 1 journal
     → IsServed plan limit turns left right (desk_end one r1.end r1.strays) (desk_end two r2.end r2.strays) journal
 served plan limit turns s p1 p2 opening left mid right one two r1 r2 journal valid o performed w1 w2 j = record {
   origin = origin_of s;
@@ -136,9 +139,11 @@ served plan limit turns s p1 p2 opening left mid right one two r1 r2 journal val
   begun = o.begun;
   legal = j.legal;
   seats = j.seats;
-  left_desk = subst (λ (first : List Action). StandsFor (origin_of s) journal 0 turns first left (desk_end one r1.end r1.strays)) (sym o.opening_is)
-      (stands_for s p1 turns 0 opening left mid one r1 journal performed w1 o.left_seen o.left_own j.left_own j.front_left);
-  right_desk = stands_for s p2 turns 1 [] right right two r2 journal (performed-none right) w2 o.right_seen o.right_own j.right_own j.front_right;
+  left_desk = subst (λ (first : List Action). StandsFor (origin_of s) journal 0 turns first (meeting left) (desk_end one r1.end r1.strays))
+      (sym o.opening_is)
+      (stands_for s p1 turns 0 opening (meeting left) mid one r1 journal performed w1 o.left_seen o.left_own j.left_own j.front_left);
+  right_desk = stands_for s p2 turns 1 [] (meeting right) (meeting right) two r2 journal (performed-none (meeting right)) w2
+      o.right_seen o.right_own j.right_own j.front_right;
 }
 
 -- REFUSALS
@@ -158,13 +163,15 @@ worked_later s p turns first before mid now r performed w =
 
 -- the desks did their work, and the journal is lost
 pub back_worked : (plan : Plan) (turns : ℕ) (s : SharedServer) (p1 p2 : Pass) (opening : List Action) (left mid right one two : DeskData) (r1 r2 : Worked)
-    → IsPerformed left mid opening → IsWorked s p1 turns mid one r1 → IsWorked s p2 turns right two r2
+    → IsPerformed (meeting left) mid opening → IsWorked s p1 turns mid one r1 → IsWorked s p2 turns (meeting right) two r2
     → IsHandedBack plan left right one two reasons.NoMemory
-back_worked plan turns s p1 p2 opening left mid right one two r1 r2 performed w1 w2 =
-    (worked_later s p1 turns opening left mid one r1 performed w1, worked_later s p2 turns [] right right two r2 (performed-none right) w2)
+back_worked plan turns s p1 p2 opening left mid right one two r1 r2 performed w1 w2 = (
+  inr (worked_later s p1 turns opening (meeting left) mid one r1 performed w1),
+  inr (worked_later s p2 turns [] (meeting right) (meeting right) two r2 (performed-none (meeting right)) w2),
+)
 
 -- the same desks, as they are handed back
 pub back_as : (plan : Plan) (left right one two one' two' : DeskData) (reason : EchoReason) → one ≡ one' → two ≡ two' → reason ≡ reasons.NoMemory
     → IsHandedBack plan left right one two reasons.NoMemory → IsHandedBack plan left right one' two' reason
 back_as plan left right one two one' two' reason l r is back = subst (λ (why : EchoReason). IsHandedBack plan left right one' two' why) (sym is)
-    (subst (λ (d : DeskData). IsLater left d) l back.0, subst (λ (d : DeskData). IsLater right d) r back.1)
+    (subst (λ (d : DeskData). IsBack left d) l back.0, subst (λ (d : DeskData). IsBack right d) r back.1)

@@ -29,7 +29,7 @@ use Rattle.svc_desk.specs.declared.worker.WorkEnd.TheVariants as ends
 use Rattle.svc_desk.specs.Desks.{DeskData, IsTaken, IsPerformed, IsRefusedBy, Grew, brought}
 use Rattle.svc_desk.specs.Deeds.{Deed, posted, strayed, events_of, actions_of, stray_events, strays_from, LeavesOn, call_count}
 use Rattle.svc_desk.specs.Working.{IsHandled, IsSettled, IsTurned, TurnEnds, FateIs, fate_by, end_by}
-use Rattle.svc_desk.proofs.DeedLemmas.{begins-length, of_front-whole, events-length, done-none, stays-then, at_desk-none, grew-none}
+use Rattle.svc_desk.proofs.DeedLemmas.{begins-length, of_front-whole, events-length, done-none, stays-then, said-from, at_desk-none, grew-none}
 
 same-list : {T : Type 0} (a b : Option (List T)) → b ≡ a → Adds a b []
 same-list a b is = subst (λ (x : Option (List _)). Adds a x []) (sym is) (Adds-nil a)
@@ -44,6 +44,7 @@ kept_in_hand s p before now event fate q of hand own front is back = record {
   done = record { of = of; hand_is = hand; front = front; own_is = own ∙ sym (append-nil (own_of p)); follows = begins-length (seen_of q) (seen_of p) front };
   all = refl;
   fate_is = is;
+  said = tt;
   performed = same-list before.performed now.performed back.performed;
   refused = back.refused;
   taken = back.taken;
@@ -76,6 +77,7 @@ refused_as s p before now event (reasons.Stray seen) q of hand own front cause b
   };
   all = refl;
   fate_is = (refl, refl);
+  said = tt;
   performed = same-list before.performed now.performed back.performed;
   refused = back.refused;
   taken = back.taken;
@@ -96,9 +98,9 @@ handled_refused s p before now event r fate x put is =
     (refused_as s p before now event r.reason r.pass x.of x.hand_is x.own_is x.front x.cause (subst (λ (e : Event). IsRefusedBy before now e) x.event_is put))
 
 -- an event that was posted, and whose actions were performed
-pub handled_posted : (s : SharedServer) (p : Pass) (before now : DeskData) (event : Event) (said : Bool) (r : Posted) → IsPosted s p event said r
-    → IsPerformed before now (list_of r.actions) → IsHandled s p before now event (fates.Posted r.end) r.pass
-handled_posted s p before now event said r x y =
+pub handled_posted : (s : SharedServer) (p : Pass) (before now : DeskData) (event : Event) (said : Bool) (r : Posted) → said ≡ before.says event
+    → IsPosted s p event said r → IsPerformed before now (list_of r.actions) → IsHandled s p before now event (fates.Posted r.end) r.pass
+handled_posted s p before now event said r says x y =
     let mine : PostData = post (hand_in p).number event said (list_of r.actions) in
     let behind : Begins (seen_of r.pass) x.last.0 = (mine ∷ [], x.last.1) in
     let long = x.long in
@@ -116,6 +118,7 @@ handled_posted s p before now event said r x y =
       };
       all = refl;
       fate_is = (refl, ((r.place, mine), refl, x.long, x.end_is));
+      said = (says, tt);
       performed = subst (λ (l : List Action). Adds before.performed now.performed l) (sym (append-nil (list_of r.actions))) y.performed;
       refused = same-list before.refused now.refused y.refused;
       taken = y.taken;
@@ -136,6 +139,7 @@ turned_idle s p before now answer t u end of none x strays count why = record {
   done = done-none s p of;
   at_desk = record {
     taken = subst (λ (l : List Event). Adds before.taken now.taken l) none x.taken;
+    said = tt;
     performed = same-list before.performed now.performed x.performed;
     refused = same-list before.refused now.refused x.refused;
     stays = x.stays;
@@ -254,6 +258,7 @@ turned_event s p a b c event fate o t u q end same count more x h y =
       at_desk = record {
         taken = subst (λ (k : Option (List Event)). Adds a.taken k (events_of h.log ++ h.hand)) (sym h.taken)
             (subst (λ (l : List Event). Adds a.taken b.taken l) (sym h.all) x.taken);
+        said = said-from a b h.log x.stays h.said;
         performed = subst (λ (k : Option (List Action)). Adds k c.performed (actions_of h.log)) x.performed h.performed;
         refused = subst (λ (k : Option (List Event)). Adds k c.refused (stray_events h.log ++ h.hand)) x.refused h.refused;
         stays = stays-then a b c x.stays h.stays;

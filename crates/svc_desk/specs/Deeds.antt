@@ -1,5 +1,5 @@
 -- What a worker does, event after event, and what a desk shows of it against the journal.
-use Rattle.std.specs.Prelude.{◌≡◌, ◌≢◌, ℕ, ◌+◌, ◌<◌, ◌≤◌, List, [], ◌∷◌, ◌++◌, length}
+use Rattle.std.specs.Prelude.{◌≡◌, ◌≢◌, ℕ, ◌+◌, ◌<◌, ◌≤◌, Bool, List, [], ◌∷◌, ◌++◌, length}
 use Rattle.svc_base.specs.Streams.{Rose}
 use Rattle.svc_base.specs.Calls.{Adds}
 use Rattle.svc_record.specs.declared.event.Event.{Event}
@@ -53,6 +53,12 @@ strays_from k [] = []
 strays_from k (posted own ∷ ds) = strays_from (k + 1) ds
 strays_from k (strayed e seen ∷ ds) = stray k seen ∷ strays_from (k + 1) ds
 
+-- what was posted with each event is what the desk says of it
+abbrev pub SaidBy : (Event → Bool) → List Deed → Type 0
+SaidBy says [] = Unit {0}
+SaidBy says (posted own ∷ ds) = (own.1.said ≡ says own.1.event) × SaidBy says ds
+SaidBy says (strayed e seen ∷ ds) = SaidBy says ds
+
 -- this holds of the journal's first k posts
 abbrev pub OfFront : List PostData → ℕ → (List PostData → Type 0) → Type 0
 OfFront journal k P = (front : List PostData) × (length front ≡ k) × Begins journal front × P front
@@ -92,11 +98,12 @@ GrewUpTo before now turns = (k : ℕ) × (k ≤ turns) × Grew before.takes now.
 abbrev pub call_count : List Deed → List Event → ℕ
 call_count log hand = length (actions_of log) + length (stray_events log ++ hand)
 
--- what a desk shows of a worker's deeds, where n posts of the journal had been seen: the events that it gave, the actions that it performed, first
--- these and then those of the posts, and the events that it took back. Each of its calls took room for one at most
+-- what a desk shows of a worker's deeds, where n posts of the journal had been seen: the events that it gave, what it said of those that were posted,
+-- the actions that it performed, first these and then those of the posts, and the events that it took back. Each of its calls took room for one at most
 pub record Shows (b : BookData) (journal : List PostData) (n turns : ℕ) (first : List Action) (before now : DeskData) (log : List Deed) (hand : List Event)
     (strays : List Strayed) (end : WorkEnd) : Type 0 where
   pub taken : Adds before.taken now.taken (events_of log ++ hand)
+  pub said : SaidBy before.says log
   pub performed : Adds before.performed now.performed (first ++ actions_of log)
   pub refused : Adds before.refused now.refused (stray_events log ++ hand)
   pub takes : GrewUpTo before now turns

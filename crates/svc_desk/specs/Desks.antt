@@ -1,5 +1,5 @@
 -- What contracts see of a desk, and what its calls change.
-use Rattle.std.specs.Prelude.{◌≡◌, ℕ, ◌+◌, ◌-◌, ◌<◌, ◌≤◌, min, List, [], ◌∷◌, length, Option, Some, None, is_some}
+use Rattle.std.specs.Prelude.{◌≡◌, ℕ, ◌+◌, ◌-◌, ◌<◌, ◌≤◌, min, Bool, true, List, [], ◌∷◌, length, Option, Some, None, is_some}
 use Rattle.svc_base.specs.Streams.{Rose}
 use Rattle.svc_base.specs.Calls.{Adds, Stays}
 use Rattle.svc_record.specs.declared.event.Event.{Event}
@@ -7,9 +7,12 @@ use Rattle.svc_record.specs.declared.action.Action.{Action}
 use Rattle.svc_desk.specs.declared.desk.DeskAnswer.{DeskAnswer}
 use Rattle.svc_desk.specs.declared.desk.DeskAnswer.TheVariants as answers
 
--- the events that it gave, the actions that it performed and the events that it took back, the oldest first, and the number of its takes, each where
--- it tells it, and for how many more calls it is sure to tell them; how often it failed, and how often nothing came any more
+-- whether it met a plan, and what it says of each event; the events that it gave, the actions that it performed and the events that
+-- it took back, the oldest first, and the number of its takes, each where it tells it, and for how many more calls it is sure to tell them; how often it
+-- failed, and how often nothing came any more
 pub record DeskData : Type 0 where
+  pub met : Bool
+  pub says : Event → Bool
   pub taken : Option (List Event)
   pub performed : Option (List Action)
   pub refused : Option (List Event)
@@ -22,8 +25,24 @@ pub record DeskData : Type 0 where
 abbrev pub least_room : ℕ → ℕ → ℕ → ℕ → ℕ
 least_room taken performed refused takes = min (min taken performed) (min refused (18446744073709551615 - takes))
 
--- what was told is told as long as room is left, and no call makes room
+-- the same desk, which met a plan
+abbrev pub meeting : DeskData → DeskData
+meeting d = record {
+  met = true;
+  says = d.says;
+  taken = d.taken;
+  performed = d.performed;
+  refused = d.refused;
+  takes = d.takes;
+  room = d.room;
+  faults = d.faults;
+  idles = d.idles;
+}
+
+-- whether it met a plan and what it says stay; what was told is told as long as room is left, and no call makes room
 pub record DeskStays (before now : DeskData) : Type 0 where
+  pub met : now.met ≡ before.met
+  pub says : now.says ≡ before.says
   pub taken : Stays before.taken now.taken before.room now.room
   pub performed : Stays before.performed now.performed before.room now.room
   pub refused : Stays before.refused now.refused before.room now.room

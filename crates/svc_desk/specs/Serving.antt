@@ -17,7 +17,7 @@ use Rattle.svc_desk.specs.declared.stray.Strayed.{Strayed}
 use Rattle.svc_desk.specs.declared.worker.WorkEnd.{WorkEnd}
 use Rattle.svc_desk.specs.declared.serving.EchoReason.{EchoReason}
 use Rattle.svc_desk.specs.declared.serving.EchoReason.TheVariants.{BadPlan, NoMemory}
-use Rattle.svc_desk.specs.Desks.{DeskData, DeskStays}
+use Rattle.svc_desk.specs.Desks.{DeskData, DeskStays, meeting}
 use Rattle.svc_desk.specs.Deeds.{Deed, posts_of, Shows}
 
 -- a desk after its worker's work, why the worker stopped, and its strays
@@ -42,7 +42,8 @@ abbrev pub OfTwo : ℕ → ℕ → List PostData → Type 0
 OfTwo m n [] = Unit {0}
 OfTwo m n (p ∷ ps) = ((p.seat ≡ m) ⊎ (p.seat ≡ n)) × OfTwo m n ps
 
--- both desks against the journal, which is legal for the plan and the opening. The left desk, of seat 0, performed the opening first; the right one's seat is 1
+-- both desks, which met the plan, against the journal, which is legal for the plan and the opening. The left desk, of seat 0, performed the opening first;
+-- the right one's seat is 1
 pub record IsServed (plan : Plan) (limit turns : ℕ) (left right : DeskData) (one two : DeskEnd) (journal : List PostData) : Type 0 where
   pub origin : BookData
   pub plan_is : origin.plan ≡ plan
@@ -51,8 +52,8 @@ pub record IsServed (plan : Plan) (limit turns : ℕ) (left right : DeskData) (o
   pub begun : IsLegal origin []
   pub legal : IsLegal origin journal
   pub seats : OfTwo 0 1 journal
-  pub left_desk : StandsFor origin journal 0 turns origin.opening left one
-  pub right_desk : StandsFor origin journal 1 turns [] right two
+  pub left_desk : StandsFor origin journal 0 turns origin.opening (meeting left) one
+  pub right_desk : StandsFor origin journal 1 turns [] (meeting right) two
 
 -- the desk is the one from before: its lists begin with what they told then and are told as long as room is left, and its counts didn't fall
 pub record IsLater (before now : DeskData) : Type 0 where
@@ -63,10 +64,14 @@ pub record IsLater (before now : DeskData) : Type 0 where
   pub faults : before.faults ≤ now.faults
   pub idles : before.idles ≤ now.idles
 
+-- the desk is the one from before, or the one that met the plan then
+abbrev pub IsBack : DeskData → DeskData → Type 0
+IsBack before now = IsLater before now ⊎ IsLater (meeting before) now
+
 -- the desks after a refusal: with a plan that isn't valid they were asked for nothing
 abbrev pub IsHandedBack : Plan → DeskData → DeskData → DeskData → DeskData → EchoReason → Type 0
 IsHandedBack plan left right one two BadPlan = (IsValid plan → ⊥) × (one ≡ left) × (two ≡ right)
-IsHandedBack plan left right one two NoMemory = IsLater left one × IsLater right two
+IsHandedBack plan left right one two NoMemory = IsBack left one × IsBack right two
 
 -- both passes are the server's, have these numbers and no ended seats, and their shares are the two halves of the whole one
 pub record AreSides (s : SharedServer) (l r : Pass) (m n : ℕ) : Type 0 where

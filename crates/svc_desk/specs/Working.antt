@@ -20,7 +20,7 @@ use Rattle.svc_desk.specs.declared.worker.Fate.{Fate}
 use Rattle.svc_desk.specs.declared.worker.Fate.TheVariants as fates
 use Rattle.svc_desk.specs.declared.worker.Tally.{Tally}
 use Rattle.svc_desk.specs.Desks.{DeskData, DeskStays, Grew}
-use Rattle.svc_desk.specs.Deeds.{Deed, posted, strayed, events_of, posts_of, actions_of, stray_events, stray, strays_from, Follows, LeavesOn, EndsBy, GrewUpTo, call_count, Shows}
+use Rattle.svc_desk.specs.Deeds.{Deed, posted, strayed, events_of, posts_of, actions_of, stray_events, stray, strays_from, SaidBy, Follows, LeavesOn, EndsBy, GrewUpTo, call_count, Shows}
 
 -- these deeds were done with the pass
 pub record IsDone (s : SharedServer) (p : Pass) (log : List Deed) (q : Pass) : Type 0 where
@@ -60,6 +60,7 @@ pub record IsHandled (s : SharedServer) (p : Pass) (before now : DeskData) (even
   pub done : IsDone s p log q
   pub all : events_of log ++ hand ≡ event ∷ []
   pub fate_is : FateIs s event fate log hand q
+  pub said : SaidBy before.says log
   pub performed : Adds before.performed now.performed (actions_of log)
   pub refused : Adds before.refused now.refused (stray_events log ++ hand)
   pub taken : now.taken ≡ before.taken
@@ -84,6 +85,7 @@ IsSettled fates.NoMemory t u r = (list_of u.strays ≡ list_of t.strays) × (r �
 -- these deeds were done over the desk, and these events refused beside them
 pub record IsAtDesk (before now : DeskData) (log : List Deed) (hand : List Event) : Type 0 where
   pub taken : Adds before.taken now.taken (events_of log ++ hand)
+  pub said : SaidBy before.says log
   pub performed : Adds before.performed now.performed (actions_of log)
   pub refused : Adds before.refused now.refused (stray_events log ++ hand)
   pub stays : DeskStays before now

@@ -1,7 +1,7 @@
 //! One worker's part of the outside.
 
-ghost use Rattle.std.specs.Prelude.{◌≡◌, [], ◌∷◌};
-ghost use Rattle.svc_desk.specs.Desks.{DeskData, IsTaken, IsPerformed, IsRefusedBy};
+ghost use Rattle.std.specs.Prelude.{◌≡◌, [], ◌∷◌, IfErr, OnOk};
+ghost use Rattle.svc_desk.specs.Desks.{DeskData, IsTaken, IsPerformed, IsRefusedBy, meeting};
 
 use std::alloc::Global;
 use svc_base::NoMemory;
@@ -42,17 +42,20 @@ pub trait Desk {
         ensures { result ≡ (seen self.now).idles };
 
     /// Learns the plan's services and addresses. It is asked first. `NoMemory` where there is none for
-    /// what it has to keep of them.
+    /// what it has to keep of them; the desk is then as it was.
     fn meet(&mut self, alloc: Global, plan: &Plan) -> Result<(), NoMemory>
-        ensures { seen self.new ≡ seen self.old };
+        ensures met { OnOk result (seen self.new ≡ meeting (seen self.old)) }
+        ensures refused { IfErr result (λ _. seen self.new ≡ seen self.old) };
 
     /// Takes the next event, if one comes in time.
     fn take(&mut self, alloc: Global) -> DeskAnswer
         ensures { IsTaken (seen self.old) (seen self.new) result };
 
-    /// What the endpoint's filter says of an arrival. At other events the answer has no effect.
+    /// What the endpoint's filter says of an arrival, at each time the same. At other events the answer
+    /// has no effect.
     fn said(&mut self, event: &Event) -> bool
-        ensures { seen self.new ≡ seen self.old };
+        ensures said { result ≡ (seen self.old).says event.now }
+        ensures seen { seen self.new ≡ seen self.old };
 
     /// Performs an action. It takes no memory.
     fn perform(&mut self, action: Action)

@@ -7,6 +7,7 @@ ghost use Rattle.svc_desk.specs.MemoryDesks.{GivesNext};
 
 use crate::desk::{Desk, DeskAnswer};
 use std::alloc::Global;
+use std::mem::drop;
 use svc_base::{Calls, NoMemory};
 use svc_record::{Action, Event, Plan};
 
@@ -23,10 +24,12 @@ pub enum DeskItem {
 /// A desk in memory. Its takes give its items in order, and then `Closed`. It says yes to every
 /// arrival. It tells each of its three lists for as many entries as it was made with room for, since a
 /// take for whose entry there is no memory gives no event.
-#[derive(Debug, Drop)]
+#[derive(Drop)]
 pub struct MemoryDesk {
     /// What is to come, the next item last.
     pub coming: Vec<DeskItem>,
+    /// Whether it met a plan.
+    pub met: bool,
     pub taken: Calls<Event>,
     pub performed: Calls<Action>,
     pub refused: Calls<Event>,
@@ -48,12 +51,28 @@ impl MemoryDesk {
         ensures faults { IfOk result (λ desk. desk.fault_count ≡ 0) }
         ensures idles { IfOk result (λ desk. desk.idle_count ≡ 0) }
     {
+        let Ok(taken) = Calls::new(alloc, room) else {
+            drop(items);
+            return Err(NoMemory);
+        };
+        let Ok(performed) = Calls::new(alloc, room) else {
+            drop(items);
+            drop(taken);
+            return Err(NoMemory);
+        };
+        let Ok(refused) = Calls::new(alloc, room) else {
+            drop(items);
+            drop(taken);
+            drop(performed);
+            return Err(NoMemory);
+        };
         items.reverse();
         Ok(MemoryDesk {
             coming: items,
-            taken: Calls::new(alloc, room)?,
-            performed: Calls::new(alloc, room)?,
-            refused: Calls::new(alloc, room)?,
+            met: false,
+            taken,
+            performed,
+            refused,
             takes: 0,
             fault_count: 0,
             idle_count: 0,
@@ -86,12 +105,14 @@ fn next(alloc: Global, coming: &mut Vec<DeskItem>, taken: &mut Calls<Event>) -> 
 }
 
 impl Desk for MemoryDesk {
-    ghost use Rattle.std.specs.Prelude.{Some, None, ltb, if◌then◌else◌};
+    ghost use Rattle.std.specs.Prelude.{Some, None, true, ltb, if◌then◌else◌};
     ghost use Rattle.svc_base.specs.Calls.{told_of, room_of};
     ghost use Rattle.svc_desk.specs.Desks.{least_room};
 
     // The takes are told until their count stands at its greatest value.
     ghost seen = { λ d. record {
+      met = d.met;
+      says = λ event. true;
       taken = told_of d.taken;
       performed = told_of d.performed;
       refused = told_of d.refused;
@@ -110,6 +131,7 @@ impl Desk for MemoryDesk {
     }
 
     fn meet(&mut self, _alloc: Global, _plan: &Plan) -> Result<(), NoMemory> {
+        self.met = true;
         Ok(())
     }
 

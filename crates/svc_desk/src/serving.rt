@@ -3,6 +3,7 @@
 ghost use Rattle.std.specs.Prelude.{◌≡◌, ◌≤◌, IfOk, IfErr, OnOk};
 ghost use Rattle.svc_base.specs.Items.{list_of};
 ghost use Rattle.svc_record.specs.Validity.{IsValid};
+ghost use Rattle.svc_desk.specs.Desks.{meeting};
 ghost use Rattle.svc_desk.specs.Serving.{AreSides, IsOpened, IsJournalOf, IsServed, IsHandedBack, desk_end};
 ghost use Rattle.svc_desk.specs.Working.{IsWorked};
 ghost use Rattle.svc_shared.specs.Posting.{IsOf};
@@ -11,6 +12,7 @@ use crate::desk::Desk;
 use crate::stray::StrayList;
 use crate::worker::{WorkEnd, Worked, perform_all, work};
 use std::alloc::Global;
+use std::mem::drop;
 use std::sync::Wait;
 use std::thread::{Threads, join};
 use svc_base::NoMemory;
@@ -73,16 +75,19 @@ fn meet_both<D: Desk>(
     right: &mut D,
 ) -> Result<(), EchoReason>
     ensures valid { OnOk result (IsValid plan.now) }
-    ensures bad { IfErr result (λ reason. reason ≡ EchoReason.BadPlan → IsValid plan.now → ⊥) }
-    ensures left { D.seen left.new ≡ D.seen left.old }
-    ensures right { D.seen right.new ≡ D.seen right.old }
+    ensures left { OnOk result (D.seen left.new ≡ meeting (D.seen left.old)) }
+    ensures right { OnOk result (D.seen right.new ≡ meeting (D.seen right.old)) }
+    ensures refused { IfErr result (λ reason. IsHandedBack plan.now (D.seen left.old) (D.seen right.old) (D.seen left.new) (D.seen right.new) reason) }
 {
     match plan.valid(alloc) {
         Ok(true) => {}
         Ok(false) => return Err(EchoReason::BadPlan),
         Err(NoMemory) => return Err(EchoReason::NoMemory),
     }
-    if left.meet(alloc, plan).is_err() || right.meet(alloc, plan).is_err() {
+    if left.meet(alloc, plan).is_err() {
+        return Err(EchoReason::NoMemory);
+    }
+    if right.meet(alloc, plan).is_err() {
         return Err(EchoReason::NoMemory);
     }
     Ok(())
@@ -205,6 +210,7 @@ pub fn serve_desks<D: Desk + Drop + Send, G: Gate + Sync, R: Threads + Wait + Sy
     ensures refused { IfErr result (λ r. IsHandedBack plan (D.seen left) (D.seen right) (D.seen r.left) (D.seen r.right) r.reason) }
 {
     if let Err(reason) = meet_both(alloc, &plan, &mut left, &mut right) {
+        drop(plan);
         return Err(refused(reason, left, right));
     }
     let Ok(opened) = open(rt, alloc, plan, limit) else {
@@ -225,7 +231,10 @@ pub fn serve_desks<D: Desk + Drop + Send, G: Gate + Sync, R: Threads + Wait + Sy
     );
     let (left, first) = (one.desk, one.worked);
     let (right, second) = (two.desk, two.worked);
+    let (left_strays, right_strays) = (first.strays, second.strays);
     let Ok(journal) = close_both(alloc, server, first.pass, second.pass) else {
+        drop(left_strays);
+        drop(right_strays);
         return Err(refused(EchoReason::NoMemory, left, right));
     };
     Ok(Echoed {
@@ -233,8 +242,8 @@ pub fn serve_desks<D: Desk + Drop + Send, G: Gate + Sync, R: Threads + Wait + Sy
         right,
         left_end: first.end,
         right_end: second.end,
-        left_strays: first.strays,
-        right_strays: second.strays,
+        left_strays,
+        right_strays,
         journal,
     })
 }

@@ -1,10 +1,10 @@
 //! A worker: it takes a desk's events, posts them, and lets the desk perform the actions of its posts.
 
-ghost use Rattle.std.specs.Prelude.{◌≡◌, ◌+◌, ◌<◌, ◌≤◌, Some};
+ghost use Rattle.std.specs.Prelude.{◌≡◌, ◌≢◌, ◌+◌, ◌<◌, ◌≤◌, Some};
 ghost use Rattle.svc_base.specs.Items.{list_of, spare};
 ghost use Rattle.svc_desk.specs.Desks.{IsPerformed};
 ghost use Rattle.svc_desk.specs.Working.{IsWorked, IsHandled, IsTurned, IsSettled, end_by, fate_by};
-ghost use Rattle.svc_shared.specs.Posting.{IsOf};
+ghost use Rattle.svc_shared.specs.Posting.{IsOf, hand_in};
 
 use crate::desk::{Desk, DeskAnswer};
 use crate::stray::{StrayList, Strayed};
@@ -160,6 +160,8 @@ fn settle(fate: Fate, tally: &mut Tally) -> Option<WorkEnd>
 /// Which of two workers has the pass: 0 where its seat has the number 0, else 1.
 fn worker_of(shared: &SharedServer, pass: &Pass) -> u32
     requires { IsOf shared.now pass.now }
+    ensures left { (hand_in pass.now).number ≡ 0 → result ≡ 0 }
+    ensures right { (hand_in pass.now).number ≢ 0 → result ≡ 1 }
 {
     if shared.seat(pass) == 0 { 0 } else { 1 }
 }

@@ -2,3 +2,4 @@ pub mod DrainData
 pub mod DrainState
 pub mod DrainEffects
 pub mod DrainFacts
+pub mod DrainDues

@@ -11,12 +11,15 @@ ghost use Rattle.svc_record.specs.declared.action.ExecutionPhase.TheVariants.{Gr
 ghost use Rattle.svc_record.specs.Record.{Record, tell, has, is_signal, is_graceful};
 ghost use Rattle.svc_record.specs.Descriptors.{live_table};
 ghost use Rattle.svc_record.specs.Offer.{is_upgrade, is_empty_table};
+ghost use Rattle.svc_moments.specs.Least.{IsLeast};
 ghost use Rattle.svc_drain.specs.declared.stage.Stage.TheVariants.{Running, Offering, CloseTimeout, Grace, Terminating, CutShort};
 ghost use Rattle.svc_drain.specs.DrainState.{DrainStands, IsDrainSettled, OverIs, passes, rest_from, is_broadcast_told, is_cut};
+ghost use Rattle.svc_drain.specs.DrainDues.{is_due_at};
 ghost use Rattle.svc_drain.specs.DrainEffects.{still, at_moment, signalled, further, cuts, cut_stage, run, run_told, at_stage, next_stage, gone_on, row_told, stage_told, timeout_told, grace_told, rested_told, shutdown_told, stop_after, stop_told};
 
 use crate::stage::Stage;
 use std::marker::Model;
+use svc_moments::{after, after_seconds};
 use svc_record::{Action, Actions, ExecutionPhase, Plan, ShutdownSignal};
 
 /// How long it is waited after the offer is over, in milliseconds.
@@ -56,6 +59,23 @@ fn is_graceful(first: Option<ShutdownSignal>) -> bool
     match first {
         Some(ShutdownSignal::GracefulTerminate | ShutdownSignal::GracefulUpgrade) => true,
         _ => false,
+    }
+}
+
+/// At each moment, or at none.
+fn at_once(due: bool) -> Option<u64>
+    ensures { IsLeast (λ t. due ≡ true) result }
+{
+    if due { Some(0) } else { None }
+}
+
+/// The least moment at which it was waited long enough since the offer is over.
+fn rest_over(over: Option<u64>) -> Option<u64>
+    ensures { IsLeast (λ t. is_some (rest_from over t) ≡ true) result }
+{
+    match over {
+        Some(at) => after(at, CLOSE_TIMEOUT),
+        None => None,
     }
 }
 
@@ -351,6 +371,21 @@ impl Drain {
         if self.has_rested(over) {
             actions.put(Action::Broadcast);
             self.begin_grace(actions);
+        }
+    }
+
+    /// The least moment, in milliseconds, at which something more is due of the shutdown, or all waits
+    /// have passed, where the offer is over since the moment, if it is, and nothing but moments comes;
+    /// none where no such moment is of 64 bits.
+    pub fn next_due(&self, plan: &Plan, over: Option<u64>) -> Option<u64>
+        ensures { IsLeast (λ t. is_due_at plan.now self.now over t ≡ true) result }
+    {
+        match self.stage {
+            Stage::Running => at_once(self.signal.is_some()),
+            Stage::Offering => at_once(over.is_some()),
+            Stage::CloseTimeout => rest_over(over),
+            Stage::Grace(at) => after_seconds(at, plan.grace),
+            Stage::Terminating | Stage::CutShort(_) => Some(0),
         }
     }
 

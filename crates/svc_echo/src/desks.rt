@@ -1,10 +1,11 @@
 //! Desks over sockets.
 
-ghost use Rattle.std.specs.Prelude.{◌≡◌, [], Some, IfOk};
-ghost use Rattle.svc_base.specs.Calls.{told_of, room_of};
+ghost use Rattle.std.specs.Prelude.{◌≡◌, ◌+◌, ◌≤◌, [], ◌∷◌, Some, None, IfOk, IfSome, OnErr};
+ghost use Rattle.svc_base.specs.Calls.{told_of, room_of, Adds, Stays};
 ghost use Rattle.svc_desk.specs.Desks.{least_room};
 
 use std::alloc::Global;
+use std::mem::drop;
 use std::net::{Net, TcpListener, TcpStream};
 use std::sync::{Mutex, Wait};
 use std::thread;
@@ -23,6 +24,8 @@ pub struct RealDesk<'a, R: Wait + Net<Listener = TcpListener, Stream = TcpStream
     pub seat: Seat,
     pub sockets: &'a Mutex<Sockets>,
     pub slot: &'a Mutex<Slot<TcpListener>>,
+    /// Whether it met a plan.
+    pub met: bool,
     pub taken: Calls<Event>,
     pub performed: Calls<Action>,
     pub refused: Calls<Event>,
@@ -56,6 +59,49 @@ fn look<R: Wait + Clock>(rt: &R, sockets: &Mutex<Sockets>, seat: Seat) -> Found 
     }
 }
 
+/// The event that was kept, or what a look at the sockets finds.
+fn found_next<R: Wait + Clock>(
+    rt: &R,
+    sockets: &Mutex<Sockets>,
+    seat: Seat,
+    kept: &mut Option<Event>,
+) -> Found
+    ensures kept { IfSome kept.old (λ event. result ≡ Found.Event event) }
+    ensures none { kept.new ≡ None }
+{
+    match kept.take() {
+        Some(event) => Found::Event(event),
+        None => look(rt, sockets, seat),
+    }
+}
+
+/// Notes an event and gives it back. Where there is no memory for its entry, it is kept for the next take.
+fn noted(
+    alloc: Global,
+    event: Event,
+    taken: &mut Calls<Event>,
+    kept: &mut Option<Event>,
+) -> Result<Event, NoMemory>
+    requires none { kept.old ≡ None }
+    ensures given { IfOk result (λ given. given ≡ event) }
+    ensures taken { IfOk result (λ given. Adds (told_of taken.old) (told_of taken.new) (event ∷ [])) }
+    ensures kept { OnErr result (kept.new ≡ Some event) }
+    ensures same { OnErr result (taken.new ≡ taken.old) }
+    ensures stays { Stays (told_of taken.old) (told_of taken.new) (room_of taken.old) (room_of taken.new) }
+    ensures place { room_of taken.old ≤ room_of taken.new + 1 }
+{
+    match event.copy(alloc) {
+        Ok(copied) => {
+            taken.note(copied);
+            Ok(event)
+        }
+        Err(NoMemory) => {
+            *kept = Some(event);
+            Err(NoMemory)
+        }
+    }
+}
+
 /// A desk over these sockets, with the slot between its server and another one, and with room for so
 /// many entries in each list. `NoMemory` where there is none for them.
 pub fn real_desk<'a, R: Wait + Net<Listener = TcpListener, Stream = TcpStream> + Clock>(
@@ -74,14 +120,27 @@ pub fn real_desk<'a, R: Wait + Net<Listener = TcpListener, Stream = TcpStream> +
     ensures faults { IfOk result (λ desk. desk.fault_count ≡ 0) }
     ensures idles { IfOk result (λ desk. desk.idle_count ≡ 0) }
 {
+    let Ok(taken) = Calls::new(alloc, room) else {
+        return Err(NoMemory);
+    };
+    let Ok(performed) = Calls::new(alloc, room) else {
+        drop(taken);
+        return Err(NoMemory);
+    };
+    let Ok(refused) = Calls::new(alloc, room) else {
+        drop(taken);
+        drop(performed);
+        return Err(NoMemory);
+    };
     Ok(RealDesk {
         rt,
         seat,
         sockets,
         slot,
-        taken: Calls::new(alloc, room)?,
-        performed: Calls::new(alloc, room)?,
-        refused: Calls::new(alloc, room)?,
+        met: false,
+        taken,
+        performed,
+        refused,
         kept: None,
         takes: 0,
         fault_count: 0,
@@ -91,12 +150,14 @@ pub fn real_desk<'a, R: Wait + Net<Listener = TcpListener, Stream = TcpStream> +
 
 impl<'a, R: Wait + Net<Listener = TcpListener, Stream = TcpStream> + Clock> Desk
     for RealDesk<'a, R> {
-    ghost use Rattle.std.specs.Prelude.{Some, None, ltb, if◌then◌else◌};
+    ghost use Rattle.std.specs.Prelude.{Some, None, true, ltb, if◌then◌else◌};
     ghost use Rattle.svc_base.specs.Calls.{told_of, room_of};
     ghost use Rattle.svc_desk.specs.Desks.{least_room};
 
     // The takes are told until their count stands at its greatest value.
     ghost seen = { λ d. record {
+      met = d.met;
+      says = λ event. true;
       taken = told_of d.taken;
       performed = told_of d.performed;
       refused = told_of d.refused;
@@ -115,25 +176,17 @@ impl<'a, R: Wait + Net<Listener = TcpListener, Stream = TcpStream> + Clock> Desk
     }
 
     fn meet(&mut self, _alloc: Global, plan: &Plan) -> Result<(), NoMemory> {
-        self.sockets.lock(self.rt).meet(self.rt, plan)
+        self.sockets.lock(self.rt).meet(self.rt, plan)?;
+        self.met = true;
+        Ok(())
     }
 
     fn take(&mut self, alloc: Global) -> DeskAnswer {
         self.takes = self.takes.saturating_add(1);
-        let found = match self.kept.take() {
-            Some(event) => Found::Event(event),
-            None => look(self.rt, self.sockets, self.seat),
-        };
-        match found {
-            Found::Event(event) => match event.copy(alloc) {
-                Ok(copied) => {
-                    self.taken.note(copied);
-                    DeskAnswer::Event(event)
-                }
-                Err(NoMemory) => {
-                    self.kept = Some(event);
-                    DeskAnswer::NoMemory
-                }
+        match found_next(self.rt, self.sockets, self.seat, &mut self.kept) {
+            Found::Event(event) => match noted(alloc, event, &mut self.taken, &mut self.kept) {
+                Ok(event) => DeskAnswer::Event(event),
+                Err(NoMemory) => DeskAnswer::NoMemory,
             },
             Found::Nothing => {
                 thread::sleep(self.rt, Duration::from_millis(1));

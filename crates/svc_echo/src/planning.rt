@@ -5,6 +5,7 @@ ghost use Rattle.std.specs.Rc.{rc_str_bytes};
 ghost use Rattle.svc_echo.specs.EchoPlans.{endpoint_at, echo_service, echo_plan, plan_of};
 
 use std::alloc::Global;
+use std::mem::drop;
 use std::rc::RcStr;
 use svc_base::{NoMemory, Numbers, Text, Texts};
 use svc_graph::{EndpointList, EndpointPlan, Kind};
@@ -15,12 +16,19 @@ use svc_socket::settings_of;
 fn endpoint(alloc: Global, address: &str) -> Result<EndpointPlan, NoMemory>
     ensures { IfOk result (λ e. e ≡ endpoint_at address.now) }
 {
-    Ok(EndpointPlan {
-        address: Text::new(alloc, address)?,
-        unix: false,
-        options: settings_of(alloc, None)?,
-        filter: None,
-    })
+    let options = settings_of(alloc, None)?;
+    match Text::new(alloc, address) {
+        Ok(address) => Ok(EndpointPlan {
+            address,
+            unix: false,
+            options,
+            filter: None,
+        }),
+        Err(NoMemory) => {
+            drop(options);
+            Err(NoMemory)
+        }
+    }
 }
 
 /// Appends an endpoint.

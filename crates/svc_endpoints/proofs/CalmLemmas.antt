@@ -5,9 +5,11 @@ use Rattle.std.proofs.lemmas.List.{length-set, get_or-set_same, get_or-set_other
 use Rattle.svc_graph.specs.Bits.{is_set, HasRows}
 use Rattle.svc_record.specs.declared.plan.Plan.{Plan}
 use Rattle.svc_record.specs.Plans.{endpoints, address, same_address}
+use Rattle.svc_endpoints.specs.declared.states.EndpointStatus.{EndpointStatus}
 use Rattle.svc_endpoints.specs.declared.states.EndpointState.{EndpointState}
+use Rattle.svc_endpoints.specs.EndpointsState.{idle, is_asking, rests_in}
 use Rattle.svc_endpoints.specs.EndpointsData.{EndpointsData}
-use Rattle.svc_endpoints.specs.Visits.{busy_in, any_busy}
+use Rattle.svc_endpoints.specs.Visits.{busy_of, busy_in, any_busy}
 use Rattle.svc_endpoints.specs.Calm.{IsRowCalm, IsServiceCalm, AreBusyKnown}
 use Rattle.svc_endpoints.proofs.RangeLemmas.{none0}
 use Rattle.svc_endpoints.proofs.BusyLemmas.{and-none}
@@ -50,6 +52,30 @@ module _ (rows : List (List EndpointState)) (failed : List Bool) (busy next : Li
       | inr ne ↦ subst (λ b. IsRowCalm b (slice_index_or rows t [])) (sym (get_or-set_other failed s t true false ne)) (known.calm t (sym (others t ne) ∙ off))
     ];
   }
+
+  -- one of its rows is another
+  pub known-put : (row : List EndpointState) → s < length rows → (is_set next 0 s ≡ false → IsRowCalm false row)
+      → AreBusyKnown (slice_set rows s row) failed next
+  known-put row inside here = record {
+    few = (let few = known.few in let size = length-set rows s row in omega arith);
+    flags = known.flags ∙ sym (length-set rows s row);
+    bits = bits_next;
+    calm = λ t off. elim (cases_eq t s) [
+      | inl e ↦ subst (λ (r : List EndpointState). IsRowCalm (slice_index_or failed t false) r)
+          (sym (subst (λ u. slice_index_or (slice_set rows s row) u [] ≡ row) (sym e) (get_or-set_same rows s row [] inside)))
+          (λ k moment. calmer (slice_index_or failed t false) moment (slice_index_or row k idle).last
+          (here (subst (λ u. is_set next 0 u ≡ false) e off) k moment))
+      | inr ne ↦ subst (λ (r : List EndpointState). IsRowCalm (slice_index_or failed t false) r) (sym (get_or-set_other rows s t row [] ne))
+          (known.calm t (sym (others t ne) ∙ off))
+    ];
+  }
+    where
+      calmer : (b : Bool) (moment : ℕ) (x : EndpointStatus) → busy_of false moment x ≡ false → busy_of b moment x ≡ false
+      calmer true moment x h = both (is_asking x) (rests_in x moment) h
+        where
+          both : (a c : Bool) → (a || (true && c)) ≡ false → (a || (false && c)) ≡ false
+          both a c h = grind arith
+      calmer false moment x h = h
 
 -- of a calm service no endpoint is busy
 pub calm-none : (p : Plan) (d : EndpointsData) (moment : ℕ) (a : Option (List ℕ)) (t : ℕ) → IsServiceCalm d t → any_busy p d moment a t ≡ false

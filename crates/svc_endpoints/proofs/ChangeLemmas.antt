@@ -1,5 +1,5 @@
 -- What a change at one endpoint that wasn't held leaves of the loops, and of what is drained.
-use Rattle.std.proofs.Common.{ℕ, Bool, true, false, ◌||◌, ◌&&◌, ◌==◌, not, inl, inr, List, [], ◌++◌, map, ◌≡◌, refl, ap, sym, ◌∙◌, subst, arith, ◌<◌, length, slice_index_or}
+use Rattle.std.proofs.Common.{ℕ, Bool, true, false, ◌||◌, ◌&&◌, ◌==◌, not, inl, inr, [], ◌≡◌, refl, ap, sym, ◌∙◌, subst, arith, ◌<◌, length, slice_index_or}
 use Rattle.std.proofs.lemmas.Bool.{cases_eq, eq-eqb, ne_eqb}
 use Rattle.svc_record.specs.declared.plan.Plan.{Plan}
 use Rattle.svc_record.specs.Record.{Record}
@@ -9,13 +9,9 @@ use Rattle.svc_endpoints.specs.declared.states.EndpointStatus.TheVariants.{Idle,
 use Rattle.svc_endpoints.specs.declared.states.EndpointState.{EndpointState}
 use Rattle.svc_endpoints.specs.EndpointsData.{EndpointsData}
 use Rattle.svc_endpoints.specs.EndpointsState.{ServesIn, LoopsStand, last_at, failed_at, is_binding, is_asking, is_holding, is_done}
-use Rattle.svc_record.specs.declared.action.Action.{Action}
-use Rattle.svc_record.specs.declared.action.Action.TheVariants.{Close}
-use Rattle.svc_endpoints.specs.declared.loops.LoopEnd.{LoopEnd}
-use Rattle.svc_endpoints.specs.declared.table.Open.{Open}
-use Rattle.svc_endpoints.specs.Effects.{put, fail_if, gone_numbers, without_gone, cleared}
+use Rattle.svc_endpoints.specs.Effects.{put, fail_if}
 use Rattle.svc_endpoints.specs.Loops.{has_loop, loop_count}
-use Rattle.svc_endpoints.specs.Uses.{states_of, has_held, uses, is_holder_by, is_user, is_drained_by}
+use Rattle.svc_endpoints.specs.Uses.{has_held, uses, is_holder_by, is_user, is_drained_by}
 use Rattle.svc_endpoints.proofs.PutLemmas.{last_at-put}
 use Rattle.svc_endpoints.proofs.StatesLemmas.{failed_at-fail, last_at-fail}
 use Rattle.svc_endpoints.proofs.UseLemmas.{done-serves, drained-grows}
@@ -151,21 +147,3 @@ changed-put p d s i b x in_rows in_row in_failed within idle = record {
 pub put-here : (p : Plan) (d : EndpointsData) (s i : ℕ) (b : Bool) (x : EndpointState) → s < length d.rows → i < length (slice_index_or d.rows s [])
     → last_at (fail_if b s (put d s i x)) s i ≡ x.last
 put-here p d s i b x in_rows in_row = last_at-fail b s (put d s i x) s i ∙ last_at-put d s i x in_rows in_row s i ∙ (rw (eq-eqb s s refl, eq-eqb i i refl) refl)
-
--- the same states make the same go
-module _ (p : Plan) (keep : List ℕ) (rows : List (List EndpointState)) (flags : List Bool) (loops : List LoopEnd) (d : EndpointsData)
-    (same_rows : rows ≡ d.rows) (same_flags : flags ≡ d.failed) (same_loops : loops ≡ d.loops) where
-  same_states : {A : Type 0} (f : EndpointsData → A) → f (states_of rows flags loops) ≡ f (states_of d.rows d.failed d.loops)
-  same_states f =
-      ap (λ (r : List (List EndpointState)). f (states_of r flags loops)) same_rows ∙ ap (λ (g : List Bool). f (states_of d.rows g loops)) same_flags
-      ∙ ap (λ (l : List LoopEnd). f (states_of d.rows d.failed l)) same_loops
-
-  pub cleared-is : (table : List Open) → table ≡ without_gone p keep (states_of rows flags loops) d.table → record d { table = table } ≡ cleared p keep d
-  cleared-is table is = ap (λ (t : List Open). record d { table = t }) (is ∙ same_states (λ (m : EndpointsData). without_gone p keep m d.table))
-
-  pub told-is : (before after : List Action) → after ≡ before ++ map Close (gone_numbers p keep (states_of rows flags loops) d.table)
-      → after ≡ before ++ map Close (gone_numbers p keep d d.table)
-  told-is before after is = is ∙ same_states (λ (m : EndpointsData). before ++ map Close (gone_numbers p keep m d.table))
-
-  pub drained-by_states : (fd : ℕ) → is_drained_by p (states_of rows flags loops) fd ≡ is_drained_by p d fd
-  drained-by_states fd = same_states (λ (m : EndpointsData). is_drained_by p m fd)

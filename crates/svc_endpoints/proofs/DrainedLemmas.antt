@@ -1,11 +1,21 @@
 -- What is taken out of the table where one descriptor, or none, is drained.
 use Rattle.std.proofs.Common.{ℕ, Bool, true, false, not, inl, inr, List, [], ◌∷◌, ◌==◌, ◌||◌, filter, ◌≡◌, refl, ap, sym}
-use Rattle.std.proofs.lemmas.Bool.{cases_Bool, cases_eq, eq-eqb, ne_eqb}
+use Rattle.std.proofs.lemmas.Bool.{cases_Bool, cases_eq, or_left, or_right, eq-eqb, ne_eqb}
 use Rattle.svc_base.specs.NumberSets.{is_in}
 use Rattle.svc_endpoints.specs.declared.table.Open.{Open}
 use Rattle.svc_endpoints.specs.EndpointsData.{EndpointsData}
 use Rattle.svc_endpoints.specs.EndpointsState.{numbers_of_table}
 use Rattle.svc_endpoints.specs.Effects.{numbers_like, numbers_among, without_number, closed_out}
+
+pub filter-live : (f g : Open → Bool) (t : List Open) → ((o : Open) → is_in o.fd (numbers_of_table t) ≡ true → f o ≡ g o) → filter f t ≡ filter g t
+filter-live f g [] same = refl
+filter-live f g (o ∷ t) same =
+    let here = same o (or_left (o.fd == o.fd) (is_in o.fd (numbers_of_table t)) (eq-eqb o.fd o.fd refl)) in
+    let more = filter-live f g t (λ x there. same x (or_right (o.fd == x.fd) (is_in x.fd (numbers_of_table t)) there)) in
+    elim (cases_Bool (g o)) [
+      | inl y ↦ rw (here, y) (ap (λ (w : List Open). o ∷ w) more)
+      | inr n ↦ rw (here, n) more
+    ]
 
 pub filter-by : (f g : Open → Bool) (t : List Open) → ((o : Open) → f o ≡ g o) → filter f t ≡ filter g t
 filter-by f g [] same = refl

@@ -22,9 +22,9 @@ use Rattle.svc_endpoints.specs.declared.states.EndpointStatus.{EndpointStatus}
 use Rattle.svc_endpoints.specs.declared.states.EndpointStatus.TheVariants.{Idle, Binding, AddressInUse, Adopting, Holding, AdoptionFailed}
 use Rattle.svc_endpoints.specs.declared.loops.LoopEnd.{LoopEnd}
 use Rattle.svc_endpoints.specs.EndpointsData.{EndpointsData}
-use Rattle.svc_endpoints.specs.EndpointsState.{IsEndpointsSized, AreOnOffer, ServesIn, LoopsStand, StatesKept, StatesStand, EndpointsStand, last_at, failed_at, is_holding, is_done, held_of, numbers_of_table}
+use Rattle.svc_endpoints.specs.EndpointsState.{IsEndpointsSized, AreOnOffer, ServesIn, LoopsStand, StatesKept, StatesStand, EndpointsStand, last_at, failed_at, is_holding, is_done, held_of, numbers_of_table, open_numbers}
 use Rattle.svc_endpoints.specs.Loops.{is_loop, has_loop, loop_count}
-use Rattle.svc_endpoints.specs.Uses.{HasDescriptor, HaveOneAddress, uses, is_user, is_drained_by, serves_by, accepts_by}
+use Rattle.svc_endpoints.specs.Uses.{uses, is_user, is_drained_by, serves_by, accepts_by}
 use Rattle.svc_endpoints.specs.declared.table.Open.{Open}
 use Rattle.svc_endpoints.specs.Effects.{loop_ended, cleared, gone_numbers, goes, is_done_for, drains_at, numbers_among, closed_out}
 use Rattle.svc_endpoints.proofs.RangeLemmas.{fails0, all0}
@@ -40,8 +40,7 @@ use Rattle.svc_endpoints.proofs.FailLemmas.{fails-same}
 use Rattle.svc_endpoints.proofs.EventLemmas.{opened_is-event, numbers-event, place-event, turned-event}
 use Rattle.svc_endpoints.proofs.ClearLemmas.{Answered, stands-cleared, goes-live, goes-gone}
 use Rattle.svc_endpoints.proofs.RestLemmas.{picked-length}
-use Rattle.svc_endpoints.proofs.HolderLemmas.{one-address}
-use Rattle.svc_endpoints.proofs.DrainedLemmas.{filter-by}
+use Rattle.svc_endpoints.proofs.DrainedLemmas.{filter-live}
 use Rattle.svc_endpoints.proofs.AnswerLemmas.{giving-closes}
 use Rattle.svc_endpoints.proofs.Laws.{endpoint-inside}
 
@@ -293,7 +292,7 @@ module _ (p : Plan) (d mid new : EndpointsData) (s i j : ℕ) (keep closed : Lis
   told_is : after ≡ before ++ map Close (numbers_among closed made.table)
   told_is = appended ∙ ap (λ (m : EndpointsData). before ++ map Close (numbers_among closed m.table)) is
 
-  pub tells-ended : IsEndpointsSized p d → (HaveOneAddress p mid → (fd : ℕ) → is_in fd closed ≡ drains_at p mid s i fd)
+  pub tells-ended : IsEndpointsSized p d → ((fd : ℕ) → is_in fd (open_numbers mid) ≡ true → is_in fd closed ≡ drains_at p mid s i fd)
       → Tells before after
       (λ told. IsGivingUp told
       × ((q : Record) → fits_row p q (LoopEnded s i j) ≡ true → AreOnOffer p keep q → EndpointsStand p d q
@@ -304,20 +303,16 @@ module _ (p : Plan) (d mid new : EndpointsData) (s i j : ℕ) (keep closed : Lis
     kept = (giving-closes (numbers_among closed made.table), λ q fit offer stand. stands q fit offer stand);
   }
     where
-      has_before : (fd t k : ℕ) → HasDescriptor p made fd t k → HasDescriptor p d fd t k
-      has_before fd t k h = record { inside = h.inside; within = h.within; has = h.has }
-
-      exactly : (q : Record) → EndpointsStand p d q → (fd : ℕ) → is_in fd closed ≡ drains_at p made s i fd
-      exactly q stand = subst (λ (m : EndpointsData). HaveOneAddress p m → (fd : ℕ) → is_in fd closed ≡ drains_at p m s i fd) is drained
-          (λ fd t k u l h g. one-address p d q stand fd t k u l (has_before fd t k h) (has_before fd u l g))
+      exactly : (fd : ℕ) → is_in fd (numbers_of_table d.table) ≡ true → is_in fd closed ≡ drains_at p made s i fd
+      exactly = subst (λ (m : EndpointsData). (fd : ℕ) → is_in fd (open_numbers m) ≡ true → is_in fd closed ≡ drains_at p m s i fd) is drained
 
       stands : (q : Record) → fits_row p q (LoopEnded s i j) ≡ true → AreOnOffer p keep q → EndpointsStand p d q
           → EndpointsStand p new (tell (Got (LoopEnded s i j) ∷ q) (map Close (numbers_among closed made.table)))
       stands q fit offer stand =
           let same = same-goes p d q sized s i j fit stand keep offer in
-          let kept = filter-by (λ (o : Open). not (is_in o.fd closed)) (λ (o : Open). not (drains_at p made s i o.fd)) d.table
-          (λ o. ap not (exactly q stand o.fd)) in
-          let gone = filter-by (λ (o : Open). is_in o.fd closed) (λ (o : Open). drains_at p made s i o.fd) d.table (λ o. exactly q stand o.fd) in
+          let kept = filter-live (λ (o : Open). not (is_in o.fd closed)) (λ (o : Open). not (drains_at p made s i o.fd)) d.table
+          (λ o live. ap not (exactly o.fd live)) in
+          let gone = filter-live (λ (o : Open). is_in o.fd closed) (λ (o : Open). drains_at p made s i o.fd) d.table (λ o live. exactly o.fd live) in
           let table : cleared p keep made ≡ new = ap (λ (t : List Open). record made { table = t }) (same.1 ∙ sym kept) ∙ sym new_is in
           let told : gone_numbers p keep made made.table ≡ numbers_among closed made.table = ap numbers_of_table (same.0 ∙ sym gone) in
           subst (λ (m : EndpointsData). EndpointsStand p m (tell (Got (LoopEnded s i j) ∷ q) (map Close (numbers_among closed made.table)))) table

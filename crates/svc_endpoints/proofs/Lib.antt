@@ -29,7 +29,6 @@ pub mod ReleaseLemmas
 pub mod BoundStands
 pub mod NewLemmas
 pub mod Laws
-pub mod HolderLemmas
 pub mod DrainedLemmas
 pub mod EndedLemmas
 pub mod GatherLemmas
@@ -45,3 +44,9 @@ pub mod SumLemmas
 pub mod TableSums
 pub mod TallyLemmas
 pub mod StaysLemmas
+pub mod CountLemmas
+pub mod BlockFilters
+pub mod UsesLemmas
+pub mod CountedLemmas
+pub mod DueLemmas
+pub mod DueStands

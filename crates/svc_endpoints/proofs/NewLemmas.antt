@@ -1,13 +1,19 @@
 -- The blank states stand for the empty record.
-use Rattle.std.proofs.Common.{ℕ, Bool, true, false, [], ◌≡◌, refl, ap, sym, ◌∙◌, subst, arith, ◌<◌, length, nat_le, if◌then◌else◌}
+use Rattle.std.proofs.Common.{ℕ, Bool, true, false, not, ◌||◌, ◌&&◌, inl, inr, List, [], ◌≡◌, refl, ap, sym, ◌∙◌, subst, arith, ◌<◌, ◌≤◌, length, nat_le, slice_index_or, if◌then◌else◌}
+use Rattle.std.proofs.lemmas.Bool.{cases_lt}
+use Rattle.std.proofs.lemmas.List.{get_or_past}
+use Rattle.svc_graph.specs.Bits.{HasRows}
 use Rattle.svc_record.specs.declared.plan.Plan.{Plan}
-use Rattle.svc_record.specs.Plans.{endpoints, is_unix}
+use Rattle.svc_record.specs.Plans.{service_count, endpoints, is_unix}
 use Rattle.svc_record.specs.Failed.{has_failed}
 use Rattle.svc_endpoints.specs.declared.states.EndpointStatus.{EndpointStatus}
 use Rattle.svc_endpoints.specs.declared.states.EndpointStatus.TheVariants.{Idle}
 use Rattle.svc_endpoints.specs.declared.states.EndpointState.{EndpointState}
 use Rattle.svc_endpoints.specs.EndpointsData.{EndpointsData}
 use Rattle.svc_endpoints.specs.EndpointsState.{StatesKept, StatesStand, EndpointsStand, OneStands, last_at, failed_at, state_at, idle, is_asking, is_adoption_failed, has_fd}
+use Rattle.svc_endpoints.specs.Calm.{AreBusyKnown}
+use Rattle.svc_endpoints.specs.Counts.{row_size}
+use Rattle.svc_endpoints.specs.Visits.{busy_of}
 use Rattle.svc_endpoints.proofs.RangeLemmas.{none0}
 
 none_limit : (u : Bool) → nat_le (if u then 1 else 30) 0 ≡ false
@@ -63,3 +69,27 @@ module _ (p : Plan) (d : EndpointsData) (blank : (s i : ℕ) → state_at d s i 
     came_are = nothing;
     came_apart = refl;
   }
+
+-- of blank states none is busy, and the rows are short
+pub blank-known : (rows : List (List EndpointState)) (failed : List Bool) (busy : List ℕ) → length rows ≤ 1024 → length failed ≡ length rows → HasRows busy 1
+    → ((s i : ℕ) → slice_index_or (slice_index_or rows s []) i idle ≡ idle) → AreBusyKnown rows failed busy
+blank-known rows failed busy few flags bits blank = record {
+  few = few;
+  flags = flags;
+  bits = bits;
+  calm = λ s off k moment. ap (λ (x : EndpointState). busy_of (slice_index_or failed s false) moment x.last) (blank s k)
+      ∙ quiet (slice_index_or failed s false);
+}
+  where
+    quiet : (b : Bool) → (false || (not b && false)) ≡ false
+    quiet true = refl
+    quiet false = refl
+
+pub blank-few : (p : Plan) (rows : List (List EndpointState)) → length rows ≡ service_count p
+    → ((s : ℕ) → s < service_count p → length (slice_index_or rows s []) ≡ length (endpoints p s))
+    → ((s : ℕ) → s < service_count p → length (endpoints p s) ≤ 64) → (s : ℕ) → row_size rows s ≤ 64
+blank-few p rows same each few s = elim (cases_lt s (service_count p)) [
+  | inl inside ↦ (let a = each s inside in let b = few s inside in omega (arith, a, b))
+  | inr past ↦ (let none : row_size rows s ≡ 0 = ap (λ (r : List EndpointState). length r) (get_or_past rows s [] (omega (arith, same, past))) in omega
+      (arith, none))
+]

@@ -1,7 +1,7 @@
 -- Tests over a range of numbers.
-use Rattle.std.proofs.Common.{ℕ, Bool, true, false, zero, suc, ◌||◌, ◌&&◌, ◌==◌, inl, inr, List, [], ◌∷◌, ◌≡◌, refl, sym, ◌∙◌, subst, arith, ◌<◌, ◌≤◌, ◌+◌, min}
+use Rattle.std.proofs.Common.{ℕ, Bool, true, false, zero, suc, ◌||◌, ◌&&◌, ◌==◌, inl, inr, List, [], ◌∷◌, ◌≡◌, refl, sym, ◌∙◌, subst, arith, ◌<◌, ◌≤◌, ◌+◌}
 use Rattle.std.specs.List.{list_any, list_all, range_with_len}
-use Rattle.std.proofs.lemmas.Bool.{cases_Bool, cases_eq, cases_lt, and_from, or_cases, or_left, or_right, eq-eqb, ne_eqb}
+use Rattle.std.proofs.lemmas.Bool.{cases_Bool, cases_eq, and_from, or_cases, or_left, or_right, eq-eqb, ne_eqb}
 
 pub any-at : (f : ℕ → Bool) (a n k : ℕ) → a ≤ k → k < a + n → f k ≡ true → list_any f (range_with_len a n) ≡ true
 any-at f a zero k low high h = absurd (omega arith)
@@ -104,20 +104,3 @@ all_range f a (suc n) h =
 
 pub all0 : (f : ℕ → Bool) (n : ℕ) → ((k : ℕ) → k < n → f k ≡ true) → list_all f (range_with_len 0 n) ≡ true
 all0 f n h = all_range f 0 n (λ k low high. h k (omega arith))
-
-pub more_from : (f : ℕ → Bool) (m n : ℕ) → ((j : ℕ) → m ≤ j → j < n → f j ≡ false) → f n ≡ false → (j : ℕ) → m ≤ j → j < n + 1 → f j ≡ false
-more_from f m n h here j le lt = elim (cases_eq j n) [
-  | inl e ↦ subst (λ x. f x ≡ false) (sym e) here
-  | inr ne ↦ h j le (omega arith)
-]
-
--- where none is from m on, those before it tell
-pub in_halves : (f : ℕ → Bool) (n m : ℕ) (early : Bool) → ((j : ℕ) → m ≤ j → j < n → f j ≡ false) → (early ≡ true → list_any f (range_with_len 0 n) ≡ true)
-    → (early ≡ false → (j : ℕ) → 0 ≤ j → j < min m n → f j ≡ false) → early ≡ list_any f (range_with_len 0 n)
-in_halves f n m early late found none = elim (cases_Bool early) [
-  | inl y ↦ y ∙ sym (found y)
-  | inr off ↦ off ∙ sym (none0 f n (λ j lt. elim (cases_lt j m) [
-    | inl less ↦ none off j (omega arith) (omega arith)
-    | inr more ↦ late j (omega arith) lt
-  ]))
-]

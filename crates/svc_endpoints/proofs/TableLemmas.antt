@@ -1,5 +1,5 @@
 -- The table of open descriptors, walked from its front.
-use Rattle.std.proofs.Common.{ℕ, suc, Bool, true, false, not, inl, inr, ◌==◌, List, [], ◌∷◌, ◌++◌, append_assoc, length-append, length-set, map, filter, take, drop, set, drop-cons, ◌≡◌, refl, ap, sym, ◌∙◌, subst, arith, ◌<◌, ◌≤◌, ◌+◌, length, nat_lt, Some, Option, is_some, get_or, get_or-drop, add-zero, Vec}
+use Rattle.std.proofs.Common.{ℕ, suc, Bool, true, false, not, inl, inr, ◌==◌, ◌||◌, List, [], ◌∷◌, ◌++◌, append_assoc, length-append, length-set, map, filter, take, drop, set, drop-cons, ◌≡◌, refl, ap, sym, ◌∙◌, subst, arith, ◌<◌, ◌≤◌, ◌+◌, length, nat_lt, Some, Option, is_some, get_or, get_or-drop, add-zero, Vec}
 use Rattle.svc_endpoints.specs.declared.table.Open.{Open}
 use Rattle.std.proofs.lemmas.Bool.{cases_Bool, eq-eqb, eqb-true, or_parts}
 use Rattle.std.specs.List.{SwappedAt}
@@ -11,7 +11,7 @@ use Rattle.std.proofs.lemmas.List.Elements.{filter-append}
 use Rattle.std.proofs.lemmas.List.Filters.{FiltersInPlace, FiltersInPlace-more_no, FiltersInPlace-more_swap}
 use Rattle.svc_base.specs.Blocks.{joined, put_by, has_key, StandsIn}
 use Rattle.svc_base.specs.Items.{list_of, spare}
-use Rattle.svc_base.specs.NumberSets.{put_number}
+use Rattle.svc_base.specs.NumberSets.{put_number, is_in}
 use Rattle.svc_base.proofs.BlockLemmas.{joined-front, joined-back}
 use Rattle.svc_record.specs.declared.action.Action.{Action}
 use Rattle.svc_record.specs.declared.action.Action.TheVariants.{Close}
@@ -39,6 +39,10 @@ numbers_of-put o (x ∷ more) = elim (cases_Bool (nat_lt o.fd x.fd)) [
   | inl below ↦ rw below refl
   | inr above ↦ rw above (ap (λ w. x.fd ∷ w) (numbers_of-put o more))
 ]
+
+pub has-numbers : (c : ℕ) (table : List Open) → has_key (λ (o : Open). o.fd) c table ≡ is_in c (numbers_of_table table)
+has-numbers c [] = refl
+has-numbers c (x ∷ more) = ap (λ b. (x.fd == c) || b) (has-numbers c more)
 
 -- the same as one more entry in ascending key
 pub put-open : (o : Open) (table : List Open) → put_by (λ (o : Open). o.fd) o table ≡ put_open o table

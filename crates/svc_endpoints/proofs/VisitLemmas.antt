@@ -16,7 +16,7 @@ use Rattle.svc_endpoints.specs.Visits.{busy_of, busy_in, IsFirst, IsDecided, dec
 use Rattle.svc_endpoints.proofs.RangeLemmas.{same0}
 use Rattle.svc_endpoints.proofs.LiveLemmas.{same_eq}
 
-first_same : (p : Plan) (d : EndpointsData) (s j k : ℕ) → IsFirst p d s j → IsFirst p d s k → j ≡ k
+pub first_same : (p : Plan) (d : EndpointsData) (s j k : ℕ) → IsFirst p d s j → IsFirst p d s k → j ≡ k
 first_same p d s j k a b = elim (cases_lt j k) [
   | inl lt ↦ absurd (let h = b.earlier j lt in let m = a.missing in cc)
   | inr ge ↦ elim (cases_lt k j) [

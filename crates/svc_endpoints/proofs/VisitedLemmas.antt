@@ -43,7 +43,7 @@ use Rattle.svc_endpoints.proofs.SharedLemmas.{right-bind, right-adopt, late-bind
 use Rattle.svc_endpoints.proofs.LiveLemmas.{same_eq}
 use Rattle.svc_endpoints.proofs.VisitLemmas.{held-is, ask_open-is, holds-is, any_busy-is, busy_counts}
 
-missing_range : (p : Plan) (q : Record) (s a n j : ℕ) → a ≤ j → j < a + n → ((k : ℕ) → a ≤ k → k < j → is_held p q s k ≡ true) → is_held p q s j ≡ false
+pub missing_range : (p : Plan) (q : Record) (s a n j : ℕ) → a ≤ j → j < a + n → ((k : ℕ) → a ≤ k → k < j → is_held p q s k ≡ true) → is_held p q s j ≡ false
     → first_missing p q s (range_with_len a n) ≡ Some j
 missing_range p q s a zero j low high h m = absurd (omega arith)
 missing_range p q s a (suc n) j low high h m = elim (cases_eq a j) [

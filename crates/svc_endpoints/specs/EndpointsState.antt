@@ -117,13 +117,15 @@ abbrev pub all_new : List ℕ → List ℕ → Bool
 all_new came [] = true
 all_new came (fd ∷ fds) = (not (is_in fd came) && not (is_in fd fds)) && all_new came fds
 
--- one flag and one row for each service, and in the row a state for each of its endpoints, which are few; and the sum of each address that several of them have
+-- one flag and one row for each service, and in the row a state for each of its endpoints, which are few; the sum of each address that several of them
+-- have; and as many loops of an endpoint as the plan says
 pub record IsEndpointsSized (p : Plan) (d : EndpointsData) : Type 0 where
   pub services : length d.rows ≡ service_count p
   pub failed : length d.failed ≡ service_count p
   pub each : (s : ℕ) → s < service_count p → length (slice_index_or d.rows s []) ≡ length (endpoints p s)
   pub few : (s : ℕ) → s < service_count p → length (endpoints p s) ≤ 64
   pub shared : AreShared p d.shared
+  pub tasks : d.tasks ≡ p.tasks
 
 -- what the states keep among themselves: an ask is of a service that hasn't failed, whose earlier endpoints are held; while no loop ended, what is
 -- held or offered is the one live descriptor of its address; no address has two, and no descriptor two addresses

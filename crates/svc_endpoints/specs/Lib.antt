@@ -5,9 +5,11 @@ pub mod EndpointsState
 pub mod Rows
 pub mod Uses
 pub mod Effects
+pub mod Counts
 pub mod Visits
 pub mod Calm
 pub mod Foreign
 pub mod Offered
 pub mod Stays
 pub mod Rests
+pub mod Dues

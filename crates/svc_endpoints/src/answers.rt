@@ -17,17 +17,17 @@ ghost use Rattle.svc_record.specs.Fits.{fits_row, accepts};
 ghost use Rattle.svc_record.specs.Starts.{is_started};
 ghost use Rattle.svc_record.specs.Record.{Record, has, now, tell};
 ghost use Rattle.svc_record.specs.Told.{Tells, IsGivingUp};
-ghost use Rattle.svc_endpoints.specs.EndpointsState.{IsEndpointsSized, EndpointsStand, AreOnOffer, last_at, is_binding, is_adopting, is_done, held_of};
+ghost use Rattle.svc_endpoints.specs.EndpointsState.{IsEndpointsSized, EndpointsStand, AreOnOffer, last_at, open_numbers, is_binding, is_adopting, is_done, held_of};
 ghost use Rattle.svc_endpoints.specs.Foreign.{is_endpoints_event};
 ghost use Rattle.svc_endpoints.specs.Effects.{is_last_refusal, refused, bind_failed, adopt_failed, adopted, bound_or_again, has_open, cleared_if, given_up_if, close_told, drains_at, closed_out, numbers_among};
 ghost use Rattle.svc_endpoints.specs.Loops.{has_loop};
 ghost use Rattle.svc_endpoints.specs.Stays.{FailsOnly, StaysHeld, StaysUnheld, OthersStay, GainsNone};
-ghost use Rattle.svc_endpoints.specs.Uses.{HaveOneAddress, is_drained_by, serves_by, accepts_by};
+ghost use Rattle.svc_endpoints.specs.Uses.{serves_by, accepts_by};
 
 use crate::endpoints::Endpoints;
 use crate::loops::is_done;
 use crate::naming::{address_of, endpoint_count, limit, service_count};
-use crate::states::{EndpointState, EndpointStatus, held_now};
+use crate::states::{EndpointState, EndpointStatus};
 use svc_base::Text;
 use svc_record::{Action, Actions, Plan};
 
@@ -221,29 +221,13 @@ impl Endpoints {
     /// loop. No other descriptor can be.
     fn drained_at(&self, plan: &Plan, s: usize, i: usize) -> Option<u64>
         requires sized { IsEndpointsSized plan.now self.now.parts }
-        ensures { HaveOneAddress plan.now self.now.parts → (fd : ℕ) → is_in fd (option_to_list result) ≡ drains_at plan.now self.now.parts s i fd }
+        ensures { (fd : ℕ) → is_in fd (open_numbers self.now.parts) ≡ true → is_in fd (option_to_list result) ≡ drains_at plan.now self.now.parts s i fd }
     {
         let fd = self.held_at(plan, s, i)?;
-        if is_done(self.ended_loops(), plan.tasks, s, i) && self.is_let_go(plan, s, i, fd) {
+        if is_done(self.ended_loops(), plan.tasks, s, i) && self.is_drained(plan, fd) {
             return Some(fd);
         }
         None
-    }
-
-    /// The descriptor that holds the endpoint, each of whose loops has ended, is drained. Most often no
-    /// other endpoint has the address, so that none other can use the descriptor.
-    fn is_let_go(&self, plan: &Plan, s: usize, i: usize, fd: u64) -> bool
-        requires sized { IsEndpointsSized plan.now self.now.parts }
-        requires service { s < service_count plan.now }
-        requires endpoint { i < length (endpoints plan.now s) }
-        requires held { held_of (last_at self.now.parts s i) ≡ fd ∷ [] }
-        requires done { is_done plan.now self.now.parts s i ≡ true }
-        ensures { HaveOneAddress plan.now self.now.parts → result ≡ is_drained_by plan.now self.now.parts fd }
-    {
-        if self.may_share(address_of(plan, s, i)) {
-            return self.is_drained(plan, fd, s);
-        }
-        !self.has_failed(s)
     }
 
     /// The descriptor that holds the endpoint.
@@ -418,11 +402,8 @@ impl Endpoints {
         requires endpoint { i < length (endpoints plan.now s) }
         ensures { self.new.parts ≡ adopted self.old.parts s i }
     {
-        self.put_last(
-            s as usize,
-            i as usize,
-            held_now(self.last(s as usize, i as usize)),
-        );
+        let last = self.last_held(s as usize, i as usize);
+        self.put_last(s as usize, i as usize, last);
     }
 
     /// Where the service fails, it is given up, and what nobody needs any more is closed, but for

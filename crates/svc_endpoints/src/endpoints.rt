@@ -11,20 +11,21 @@ ghost use Rattle.svc_record.specs.Validity.{IsValid};
 ghost use Rattle.svc_endpoints.specs.EndpointsState.{IsEndpointsSized, EndpointsStand, last_at, failed_at, state_at, open_numbers, numbers_with, is_binding, is_adopting, is_holding, all_new};
 ghost use Rattle.svc_base.specs.NumberSets.{is_in};
 ghost use Rattle.svc_endpoints.specs.declared.states.EndpointStatus.TheVariants.{Idle};
-ghost use Rattle.svc_endpoints.specs.Effects.{put, put_last, fail_if, has_open, first_of, with_number, with_open, cleared, given_up, gone_numbers, loop_ended, is_abandoned_by, put_opens, put_numbers, opens_of, without_numbers, without_number, numbers_like};
+ghost use Rattle.svc_endpoints.specs.Effects.{held_now, put, put_last, fail_if, has_open, first_of, with_number, with_open, cleared, given_up, gone_numbers, loop_ended, is_abandoned_by, put_opens, put_numbers, opens_of, without_numbers, without_number, numbers_like};
 ghost use Rattle.svc_endpoints.specs.Sums.{sum_of};
 ghost use Rattle.svc_endpoints.specs.Calm.{IsServiceCalm};
 ghost use Rattle.svc_endpoints.specs.Uses.{is_drained_by};
+ghost use Rattle.svc_endpoints.specs.Counts.{row_share, changed_to, put_unused, counted_numbers, are_few, is_known};
 
 use crate::came::{add_all, contains};
-use crate::loops::{LoopEnd, Loops};
+use crate::loops::{LoopEnd, Loops, is_done};
 use crate::naming::{is_abandoned, service_count};
 use crate::states::{
-    EndpointState, EndpointStatus, Row, is_adopting, is_binding, new_flags, new_rows,
+    EndpointState, EndpointStatus, Row, held_now, is_adopting, is_binding, new_flags, new_rows,
 };
 use crate::sums::{shared_sums, sum_of};
 use crate::table::Table;
-use crate::uses::is_drained;
+use crate::uses::{Share, Uses, share_of};
 use std::alloc::Global;
 use std::marker::Model;
 use svc_base::{NoMemory, NumberSet, Text};
@@ -33,9 +34,9 @@ use svc_record::{Action, Actions, Plan};
 
 /// The state of each endpoint, which services have failed, the loops that ended, the live
 /// descriptors with their addresses, the numbers of all descriptors that came, and the sums of the
-/// addresses that several endpoints may have; beside them a bit for each service, which is set where one of
-/// its endpoints may be busy with its address at some moment, and the endpoint that was asked for last,
-/// which contracts don't see.
+/// addresses that several endpoints may have; beside them how many endpoints use each live descriptor, a bit
+/// for each service, which is set where one of its endpoints may be busy with its address at some moment, and
+/// the endpoint that was asked for last, which contracts don't see.
 #[derive(Drop)]
 pub struct Endpoints {
     rows: Vec<Row>,
@@ -44,6 +45,8 @@ pub struct Endpoints {
     table: Table,
     came: NumberSet,
     shared: NumberSet,
+    tasks: u64,
+    uses: Uses,
     busy: Bits,
     last_asked: (u32, u32),
 }
@@ -53,6 +56,7 @@ impl Model for Endpoints {
     ghost use Rattle.svc_base.specs.Items.{list_of, spare};
     ghost use Rattle.svc_endpoints.specs.EndpointsData.{EndpointsRoom};
     ghost use Rattle.svc_endpoints.specs.Calm.{AreBusyKnown};
+    ghost use Rattle.svc_endpoints.specs.Counts.{AreUsesKept};
 
     ghost Value = { EndpointsRoom };
 
@@ -64,12 +68,22 @@ impl Model for Endpoints {
         table = list_of e.table;
         came = list_of e.came;
         shared = list_of e.shared;
+        tasks = e.tasks;
       };
-      room = min (spare e.table) (spare e.came);
+      room = min (min (spare e.table) (spare e.came)) (spare e.uses);
       loop_room = spare e.loops;
     } };
 
-    ghost invariant = { λ e. AreBusyKnown e.rows.items e.failed.items e.busy };
+    ghost invariant = { λ e. AreBusyKnown e.rows.items e.failed.items e.busy × AreUsesKept
+        (record {
+          rows = e.rows.items;
+          failed = e.failed.items;
+          loops = list_of e.loops;
+          table = list_of e.table;
+          came = list_of e.came;
+          shared = list_of e.shared;
+          tasks = e.tasks;
+        }) (list_of e.uses) };
 }
 
 /// A bit for each service, none of them set.
@@ -96,6 +110,51 @@ fn put_bit(bits: &mut Bits, s: u32, on: bool)
     }
 }
 
+/// What the endpoint has of a descriptor, if it is one of a service's.
+fn share_in(
+    rows: &[Row],
+    failed: &[bool],
+    loops: &Loops,
+    tasks: u64,
+    s: usize,
+    i: usize,
+) -> Option<Share>
+    requires { length failed.now ≡ length rows.now }
+    ensures { result ≡ row_share (slice_index_or failed.now s false) (list_of loops.now) tasks s (slice_index_or rows.now s []) i }
+{
+    if s >= rows.len() || i >= rows[s].len() {
+        return None;
+    }
+    share_of(failed[s], is_done(loops, tasks, s, i), rows[s].get(i).last)
+}
+
+/// The service fails, and its endpoints hold nothing any more.
+fn fail_shares(uses: &mut Uses, row: &Row, failed: bool, loops: &Loops, tasks: u64, s: usize)
+    requires few { (n : ℕ) → n < length row.now → are_few (changed_to (row_share failed (list_of loops.now) tasks s row.now)
+        (row_share true (list_of loops.now) tasks s row.now) n (list_of uses.old)) ≡ true }
+    ensures { list_of uses.new ≡ changed_to (row_share failed (list_of loops.now) tasks s row.now) (row_share true (list_of loops.now) tasks s row.now)
+        (length row.now) (list_of uses.old) }
+{
+    for i in 0..row.len() {
+        let done = is_done(loops, tasks, s, i);
+        let last = row.get(i).last;
+        uses.change(share_of(failed, done, last), share_of(true, done, last));
+    }
+}
+
+/// Takes the numbers that aren't left out.
+fn add_counts(uses: &mut Uses, fds: &[u64], out: &NumberSet)
+    requires new { all_new (counted_numbers (list_of uses.old)) fds.now ≡ true }
+    requires room { length fds.now ≤ spare uses.old }
+    ensures { list_of uses.new ≡ put_unused (filter (λ n. not (is_in n (list_of out.now))) fds.now) (list_of uses.old) }
+{
+    for k in 0..fds.len() {
+        if !out.has(fds[k]) {
+            uses.add(fds[k]);
+        }
+    }
+}
+
 impl Endpoints {
     /// Nothing is asked for yet.
     pub fn new(alloc: Global, plan: &Plan) -> Result<Endpoints, NoMemory>
@@ -109,6 +168,7 @@ impl Endpoints {
         let table = Table::new(alloc);
         let came = NumberSet::new(alloc);
         let shared = shared_sums(alloc, plan)?;
+        let uses = Uses::new(alloc);
         let busy = no_bits(alloc)?;
         Ok(Endpoints {
             rows,
@@ -117,6 +177,8 @@ impl Endpoints {
             table,
             came,
             shared,
+            tasks: plan.tasks,
+            uses,
             busy,
             last_asked: (0, 0),
         })
@@ -136,6 +198,7 @@ impl Endpoints {
         ensures room { OnOk result (count ≤ self.new.room) }
     {
         self.table.reserve(count)?;
+        self.uses.reserve(count)?;
         self.came.reserve(count)
     }
 
@@ -251,6 +314,7 @@ impl Endpoints {
         } }
     {
         self.table.add_rest(words, fds, out);
+        add_counts(&mut self.uses, fds, out);
         add_all(&mut self.came, fds);
     }
 
@@ -281,14 +345,29 @@ impl Endpoints {
         self.state(s, i).last
     }
 
+    /// What became of the endpoint, where it holds what was offered to it.
+    pub(crate) fn last_held(&self, s: usize, i: usize) -> EndpointStatus
+        requires service { s < length self.now.parts.rows }
+        requires endpoint { i < length (slice_index_or self.now.parts.rows s []) }
+        ensures is { result ≡ held_now (last_at self.now.parts s i) }
+        ensures known { is_known result self.now.parts.came ≡ true }
+    {
+        let row = &self.rows[s];
+        held_now(row.get(i).last)
+    }
+
     pub(crate) fn put(&mut self, s: usize, i: usize, state: EndpointState)
         requires service { s < length self.old.parts.rows }
         requires endpoint { i < length (slice_index_or self.old.parts.rows s []) }
-        ensures parts { self.new.parts ≡ put self.old.parts s i state }
-        ensures room { self.new.room ≡ self.old.room }
+        requires known { is_known state.last self.old.parts.came ≡ true }
+        ensures { self.new.parts ≡ put self.old.parts s i state }
     {
+        let failed = self.failed[s];
+        let done = is_done(&self.loops, self.tasks, s, i);
         let row = &mut self.rows[s];
+        let was = share_of(failed, done, row.get(i).last);
         row.set(i, state);
+        self.uses.change(was, share_of(failed, done, state.last));
         let is_busy = row.is_ever_busy(false);
         put_bit(&mut self.busy, s as u32, is_busy);
     }
@@ -297,8 +376,8 @@ impl Endpoints {
     pub(crate) fn put_last(&mut self, s: usize, i: usize, last: EndpointStatus)
         requires service { s < length self.old.parts.rows }
         requires endpoint { i < length (slice_index_or self.old.parts.rows s []) }
-        ensures parts { self.new.parts ≡ put_last self.old.parts s i last }
-        ensures room { self.new.room ≡ self.old.room }
+        requires known { is_known last self.old.parts.came ≡ true }
+        ensures { self.new.parts ≡ put_last self.old.parts s i last }
     {
         let times_in_use = self.state(s, i).times_in_use;
         self.put(s, i, EndpointState { last, times_in_use });
@@ -353,8 +432,10 @@ impl Endpoints {
         requires { s < length self.old.parts.failed }
         ensures { self.new.parts ≡ fail_if true s self.old.parts }
     {
-        self.failed[s] = true;
         let row = &self.rows[s];
+        let failed = self.failed[s];
+        fail_shares(&mut self.uses, row, failed, &self.loops, self.tasks, s);
+        self.failed[s] = true;
         let is_busy = row.is_ever_busy(true);
         put_bit(&mut self.busy, s as u32, is_busy);
     }
@@ -371,11 +452,29 @@ impl Endpoints {
         requires { 0 < self.old.loop_room }
         ensures { self.new.parts ≡ loop_ended self.old.parts s i j }
     {
+        let (service, endpoint) = (s as usize, i as usize);
+        let was = share_in(
+            &self.rows,
+            &self.failed,
+            &self.loops,
+            self.tasks,
+            service,
+            endpoint,
+        );
         self.loops.add(LoopEnd {
-            service: s as usize,
-            endpoint: i as usize,
+            service,
+            endpoint,
             number: j,
         });
+        let is = share_in(
+            &self.rows,
+            &self.failed,
+            &self.loops,
+            self.tasks,
+            service,
+            endpoint,
+        );
+        self.uses.change(was, is);
     }
 
     /// The first endpoint of the service that isn't held, else their number.
@@ -399,7 +498,8 @@ impl Endpoints {
 
     /// The live descriptor with this address.
     pub(crate) fn find(&self, address: &str) -> Option<u64>
-        ensures { result ≡ first_of (numbers_with self.now.parts.table (Some address.now)) }
+        ensures came { IfSome result (λ fd. is_in fd self.now.parts.came ≡ true) }
+        ensures is { result ≡ first_of (numbers_with self.now.parts.table (Some address.now)) }
     {
         self.table.find(address)
     }
@@ -435,6 +535,7 @@ impl Endpoints {
         ensures { self.new.parts ≡ with_open fd address self.old.parts }
     {
         self.table.add(fd, Some(address));
+        self.uses.add(fd);
         self.came.add(fd);
     }
 
@@ -451,12 +552,12 @@ impl Endpoints {
         self.clear(plan, kept, actions);
     }
 
-    /// The descriptor is drained. The endpoints of this service and of those after it are looked at first.
-    pub(crate) fn is_drained(&self, plan: &Plan, fd: u64, from: usize) -> bool
+    /// The live descriptor is drained.
+    pub(crate) fn is_drained(&self, plan: &Plan, fd: u64) -> bool
         requires sized { IsEndpointsSized plan.now self.now.parts }
-        ensures { result ≡ is_drained_by plan.now self.now.parts fd }
+        ensures { is_in fd (open_numbers self.now.parts) ≡ true → result ≡ is_drained_by plan.now self.now.parts fd }
     {
-        is_drained(plan, &self.rows, &self.failed, &self.loops, fd, from)
+        self.uses.is_let_go(fd)
     }
 
     /// Closes the live descriptor with this number.
@@ -467,6 +568,7 @@ impl Endpoints {
         ensures room { spare actions.old + length self.new.parts.table ≤ spare actions.new + length self.old.parts.table }
     {
         self.table.close_number(fd, actions);
+        self.uses.remove(fd);
     }
 
     /// Closes what nobody needs any more, but for what is kept.
@@ -478,6 +580,7 @@ impl Endpoints {
         ensures room { spare actions.old + length self.new.parts.table ≤ spare actions.new + length self.old.parts.table }
     {
         self.table
-            .close_gone(plan, &self.rows, &self.failed, &self.loops, kept, actions);
+            .close_gone(plan, &self.failed, kept, &self.uses, actions);
+        self.uses.keep(&self.table);
     }
 }

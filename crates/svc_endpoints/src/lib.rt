@@ -4,6 +4,7 @@
 
 mod answers;
 mod came;
+mod dues;
 mod endpoints;
 mod loops;
 mod message;

@@ -3,6 +3,7 @@
 ghost use Rattle.std.specs.Prelude.{◌≡◌, ◌<◌, ◌≤◌, [], length, ℕ, true, false, slice_index_or, slice_set, vec_len, IfOk, IfSome, ◌+◌, ◌^◌, ◌≢◌};
 ghost use Rattle.svc_record.specs.declared.plan.Plan.{Plan};
 ghost use Rattle.svc_record.specs.Plans.{service_count, endpoints};
+ghost use Rattle.svc_moments.specs.Least.{EndsAt};
 ghost use Rattle.svc_endpoints.specs.declared.states.EndpointStatus.TheVariants.{Idle};
 ghost use Rattle.svc_endpoints.specs.EndpointsState.{idle, is_binding, is_adopting, is_asking, is_holding};
 ghost use Rattle.svc_endpoints.specs.Effects.{held_now};
@@ -97,6 +98,12 @@ impl Row {
             held: 0,
             touched: 0,
         })
+    }
+
+    pub(crate) fn len(&self) -> usize
+        ensures { result ≡ length self.now }
+    {
+        self.states.len()
     }
 
     pub(crate) fn get(&self, i: usize) -> EndpointState
@@ -251,6 +258,18 @@ pub(crate) fn rest_end(moment: u64, last: EndpointStatus) -> Option<u64>
             }
         }
         _ => None,
+    }
+}
+
+/// The moment from which on the endpoint isn't busy, in milliseconds: never while an ask of it is open,
+/// and after the rest of a service that hasn't failed.
+pub(crate) fn busy_end(failed: bool, last: EndpointStatus) -> Option<u64>
+    ensures { EndsAt (λ t. busy_of failed t last) result }
+{
+    match last {
+        EndpointStatus::Binding | EndpointStatus::Adopting(_) => None,
+        EndpointStatus::AddressInUse(at) if !failed => svc_moments::rest_end(at, REST),
+        _ => Some(0),
     }
 }
 

@@ -4,20 +4,19 @@ ghost use Rattle.std.specs.Prelude.{true, ◌≡◌, ◌+◌, ◌<◌, ◌≤◌
 ghost use Rattle.std.specs.Option.{option_to_list};
 ghost use Rattle.svc_base.specs.Blocks.{joined};
 ghost use Rattle.svc_base.specs.Items.{list_of, spare};
+ghost use Rattle.svc_base.specs.NumberSets.{is_in};
 ghost use Rattle.svc_record.specs.declared.plan.Plan.{Plan};
 ghost use Rattle.svc_record.specs.declared.action.Action.TheVariants.{Close};
 ghost use Rattle.svc_record.specs.Plans.{service_count, same_address};
 ghost use Rattle.svc_endpoints.specs.EndpointsState.{numbers_with, numbers_of_table};
-ghost use Rattle.svc_endpoints.specs.Effects.{first_of, put_open, put_opens, opens_of, without_numbers, passes, is_abandoned_by, is_done_for, goes, gone_numbers, without_gone, numbers_like};
+ghost use Rattle.svc_endpoints.specs.Effects.{first_of, put_open, put_opens, opens_of, without_numbers, passes, is_abandoned_by, is_done_for, numbers_like};
+ghost use Rattle.svc_endpoints.specs.Counts.{goes_by, gone_by, left_by};
 ghost use Rattle.svc_endpoints.specs.declared.table.Open.{Open};
-ghost use Rattle.svc_endpoints.specs.Uses.{AreStatesSized, states_of};
 
 use crate::came::contains;
-use crate::loops::Loops;
 use crate::naming::is_abandoned;
-use crate::states::Row;
 use crate::sums::{sum_of, take_sum};
-use crate::uses::is_drained;
+use crate::uses::Uses;
 use std::alloc::Global;
 use std::marker::Model;
 use svc_base::{Blocks, Keyed, NoMemory, NumberSet, Text};
@@ -89,18 +88,11 @@ fn is_done(entry: &Open, plan: &Plan, failed: &[bool], kept: &[u64]) -> bool
 }
 
 /// The same, or it is drained.
-fn goes(
-    entry: &Open,
-    plan: &Plan,
-    rows: &[Row],
-    failed: &[bool],
-    loops: &Loops,
-    kept: &[u64],
-) -> bool
-    requires { AreStatesSized plan.now rows.now failed.now }
-    ensures { result ≡ goes plan.now kept.now (states_of rows.now failed.now (list_of loops.now)) entry.now }
+fn goes(entry: &Open, plan: &Plan, failed: &[bool], kept: &[u64], uses: &Uses) -> bool
+    requires { length failed.now ≡ service_count plan.now }
+    ensures { result ≡ goes_by plan.now failed.now kept.now (list_of uses.now) entry.now }
 {
-    is_done(entry, plan, failed, kept) || is_drained(plan, rows, failed, loops, entry.fd, 0)
+    is_done(entry, plan, failed, kept) || uses.is_let_go(entry.fd)
 }
 
 /// The next word is taken out, if there is one.
@@ -164,24 +156,23 @@ fn close_blocks(blocks: &[Vec<Open>], actions: &mut Actions)
 fn close_done(
     table: &mut Vec<Open>,
     plan: &Plan,
-    rows: &[Row],
     failed: &[bool],
-    loops: &Loops,
     kept: &[u64],
+    uses: &Uses,
     actions: &mut Actions,
 )
-    requires sized { AreStatesSized plan.now rows.now failed.now }
+    requires flags { length failed.now ≡ service_count plan.now }
     requires room { vec_len table.old ≤ spare actions.old }
-    ensures after { table.new.items ≡ without_gone plan.now kept.now (states_of rows.now failed.now (list_of loops.now)) table.old.items }
+    ensures after { table.new.items ≡ left_by plan.now failed.now kept.now (list_of uses.now) table.old.items }
     ensures told { list_of actions.new ≡ list_of actions.old
-        ++ map Close (gone_numbers plan.now kept.now (states_of rows.now failed.now (list_of loops.now)) table.old.items) }
+        ++ map Close (gone_by plan.now failed.now kept.now (list_of uses.now) table.old.items) }
     ensures room { spare actions.old ≤ spare actions.new
-        + length (gone_numbers plan.now kept.now (states_of rows.now failed.now (list_of loops.now)) table.old.items) }
+        + length (gone_by plan.now failed.now kept.now (list_of uses.now) table.old.items) }
 {
     let mut left = 0;
     for i in 0..table.len() {
         let entry = &table[i];
-        if goes(entry, plan, rows, failed, loops, kept) {
+        if goes(entry, plan, failed, kept, uses) {
             actions.put(Action::Close(entry.fd));
         } else {
             table.swap(left, i);
@@ -195,22 +186,21 @@ fn close_done(
 fn close_done_blocks(
     blocks: &mut Vec<Vec<Open>>,
     plan: &Plan,
-    rows: &[Row],
     failed: &[bool],
-    loops: &Loops,
     kept: &[u64],
+    uses: &Uses,
     actions: &mut Actions,
 )
-    requires sized { AreStatesSized plan.now rows.now failed.now }
+    requires flags { length failed.now ≡ service_count plan.now }
     requires room { length (joined blocks.old.items) ≤ spare actions.old }
-    ensures after { joined blocks.new.items ≡ without_gone plan.now kept.now (states_of rows.now failed.now (list_of loops.now)) (joined blocks.old.items) }
+    ensures after { joined blocks.new.items ≡ left_by plan.now failed.now kept.now (list_of uses.now) (joined blocks.old.items) }
     ensures told { list_of actions.new ≡ list_of actions.old
-        ++ map Close (gone_numbers plan.now kept.now (states_of rows.now failed.now (list_of loops.now)) (joined blocks.old.items)) }
+        ++ map Close (gone_by plan.now failed.now kept.now (list_of uses.now) (joined blocks.old.items)) }
     ensures room { spare actions.old ≤ spare actions.new
-        + length (gone_numbers plan.now kept.now (states_of rows.now failed.now (list_of loops.now)) (joined blocks.old.items)) }
+        + length (gone_by plan.now failed.now kept.now (list_of uses.now) (joined blocks.old.items)) }
 {
     for at in 0..blocks.len() {
-        close_done(&mut blocks[at], plan, rows, failed, loops, kept, actions);
+        close_done(&mut blocks[at], plan, failed, kept, uses, actions);
     }
 }
 
@@ -251,6 +241,13 @@ impl Table {
         ensures length { result ≡ length (list_of self.now) }
     {
         self.entries.len()
+    }
+
+    /// The descriptor is live.
+    pub(crate) fn has(&self, fd: u64) -> bool
+        ensures { result ≡ is_in fd (numbers_of_table (list_of self.now)) }
+    {
+        self.entries.find(fd).is_some()
     }
 
     /// The live descriptors, in ascending number, block after block.
@@ -307,22 +304,21 @@ impl Table {
     pub(crate) fn close_gone(
         &mut self,
         plan: &Plan,
-        rows: &[Row],
         failed: &[bool],
-        loops: &Loops,
         kept: &[u64],
+        uses: &Uses,
         actions: &mut Actions,
     )
-        requires sized { AreStatesSized plan.now rows.now failed.now }
+        requires flags { length failed.now ≡ service_count plan.now }
         requires room { length (list_of self.old) ≤ spare actions.old }
-        ensures after { list_of self.new ≡ without_gone plan.now kept.now (states_of rows.now failed.now (list_of loops.now)) (list_of self.old) }
+        ensures after { list_of self.new ≡ left_by plan.now failed.now kept.now (list_of uses.now) (list_of self.old) }
         ensures told { list_of actions.new ≡ list_of actions.old
-            ++ map Close (gone_numbers plan.now kept.now (states_of rows.now failed.now (list_of loops.now)) (list_of self.old)) }
+            ++ map Close (gone_by plan.now failed.now kept.now (list_of uses.now) (list_of self.old)) }
         ensures room { spare actions.old ≤ spare actions.new + length
-            (gone_numbers plan.now kept.now (states_of rows.now failed.now (list_of loops.now)) (list_of self.old)) }
+            (gone_by plan.now failed.now kept.now (list_of uses.now) (list_of self.old)) }
     {
         let mut blocks = self.entries.take_blocks();
-        close_done_blocks(&mut blocks, plan, rows, failed, loops, kept, actions);
+        close_done_blocks(&mut blocks, plan, failed, kept, uses, actions);
         self.entries.put_blocks(blocks);
     }
 

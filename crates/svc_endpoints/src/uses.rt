@@ -1,187 +1,227 @@
-//! Which descriptors are drained: held, and no longer used.
+//! How many endpoints hold each live descriptor, and how many use it.
 
-ghost use Rattle.std.specs.Prelude.{◌≡◌, ◌<◌, ◌≤◌, ◌&&◌, ◌==◌, [], ℕ, length, slice_index_or, false, true};
-ghost use Rattle.svc_base.specs.Items.{list_of};
-ghost use Rattle.svc_record.specs.declared.plan.Plan.{Plan};
-ghost use Rattle.svc_record.specs.Plans.{service_count, endpoints};
-ghost use Rattle.svc_endpoints.specs.EndpointsState.{idle};
-ghost use Rattle.svc_endpoints.specs.Uses.{AreStatesSized, states_of, has_held, has_offer, is_holder_by, is_user, any_holder, any_user, any_endpoint, is_drained_by};
+ghost use Rattle.std.specs.Prelude.{◌≡◌, ◌+◌, ◌<◌, ◌≤◌, ◌==◌, [], OnOk, Some, map, filter, not, true, false};
+ghost use Rattle.svc_base.specs.Blocks.{joined, put_by};
+ghost use Rattle.svc_base.specs.Items.{list_of, spare};
+ghost use Rattle.svc_base.specs.NumberSets.{is_in};
+ghost use Rattle.svc_endpoints.specs.declared.uses.UseCount.{UseCount};
+ghost use Rattle.svc_endpoints.specs.EndpointsState.{numbers_of_table};
+ghost use Rattle.svc_endpoints.specs.Counts.{share_of, raised, lowered, unused, one, are_few, is_unused, is_let_go, counted_numbers};
 
-use crate::loops::{Loops, is_done};
-use crate::naming::{endpoint_count, service_count};
-use crate::states::{EndpointStatus, Row};
-use svc_record::Plan;
+use crate::states::EndpointStatus;
+use crate::table::Table;
+use std::alloc::Global;
+use std::marker::Model;
+use svc_base::{Blocks, Keyed, NoMemory};
 
-/// The descriptor holds the endpoint.
-fn has_held(last: EndpointStatus, fd: u64) -> bool
-    ensures { result ≡ has_held fd last }
+/// How many endpoints have a descriptor.
+#[derive(Clone, Copy, Drop)]
+pub(crate) struct UseCount {
+    pub fd: u64,
+    /// So many endpoints of services that haven't failed hold it.
+    pub holders: u32,
+    /// So many of those have loops that go on, or are offered it.
+    pub users: u32,
+}
+
+impl Keyed for UseCount {
+    ghost key_of = { λ u. u.fd };
+
+    fn key(&self) -> u64 {
+        self.fd
+    }
+}
+
+/// What an endpoint has of a descriptor.
+#[derive(Clone, Copy, Drop)]
+pub(crate) struct Share {
+    pub fd: u64,
+    /// The descriptor holds it, and its service hasn't failed.
+    pub holds: bool,
+    /// The same, and a loop of it goes on; or it is offered the descriptor.
+    pub uses: bool,
+}
+
+/// What the endpoint has of a descriptor, as its service failed or not, and as each of its loops ended or
+/// not.
+pub(crate) fn share_of(failed: bool, done: bool, last: EndpointStatus) -> Option<Share>
+    ensures { result ≡ share_of failed done last }
 {
     match last {
-        EndpointStatus::Holding(n) => n == fd,
-        _ => false,
+        EndpointStatus::Adopting(fd) => Some(Share {
+            fd,
+            holds: false,
+            uses: true,
+        }),
+        EndpointStatus::Holding(fd) => Some(Share {
+            fd,
+            holds: !failed,
+            uses: !failed && !done,
+        }),
+        _ => None,
     }
 }
 
-/// The descriptor is offered to the endpoint.
-fn has_offer(last: EndpointStatus, fd: u64) -> bool
-    ensures { result ≡ has_offer fd last }
+fn one(b: bool) -> u32
+    ensures { result ≡ one b }
 {
-    match last {
-        EndpointStatus::Adopting(n) => n == fd,
-        _ => false,
+    if b { 1 } else { 0 }
+}
+
+/// The count without the share.
+fn lowered(count: UseCount, share: Share) -> UseCount
+    requires { count.fd ≡ share.fd }
+    ensures { result ≡ lowered (Some share) count }
+{
+    UseCount {
+        fd: count.fd,
+        holders: count.holders.saturating_sub(one(share.holds)),
+        users: count.users.saturating_sub(one(share.uses)),
     }
 }
 
-fn last_of(rows: &[Row], s: usize, i: usize) -> EndpointStatus
-    requires service { s < length rows.now }
-    requires endpoint { i < length (slice_index_or rows.now s []) }
-    ensures { result ≡ (slice_index_or (slice_index_or rows.now s []) i idle).last }
+/// The count with the share.
+fn raised(count: UseCount, share: Share) -> UseCount
+    requires same { count.fd ≡ share.fd }
+    requires few { (count.holders ≤ 65536) × (count.users ≤ 65536) }
+    ensures { result ≡ raised (Some share) count }
 {
-    rows[s].get(i).last
-}
-
-/// Some endpoint of a service that hasn't failed holds the descriptor. This service and those after it are
-/// looked at first.
-fn is_held(plan: &Plan, rows: &[Row], failed: &[bool], fd: u64, from: usize) -> bool
-    requires sized { AreStatesSized plan.now rows.now failed.now }
-    ensures { result ≡ any_endpoint plan.now (is_holder_by (states_of rows.now failed.now []) fd) }
-{
-    let end = service_count(plan);
-    if is_held_between(plan, rows, failed, fd, from, end) {
-        return true;
+    UseCount {
+        fd: count.fd,
+        holders: count.holders + one(share.holds),
+        users: count.users + one(share.uses),
     }
-    is_held_between(plan, rows, failed, fd, 0, from.min(end))
 }
 
-/// Some endpoint of these services does.
-fn is_held_between(
-    plan: &Plan,
-    rows: &[Row],
-    failed: &[bool],
-    fd: u64,
-    from: usize,
-    end: usize,
-) -> bool
-    requires sized { AreStatesSized plan.now rows.now failed.now }
-    requires within { end ≤ service_count plan.now }
-    ensures found { result ≡ true → any_endpoint plan.now (is_holder_by (states_of rows.now failed.now []) fd) ≡ true }
-    ensures none { result ≡ false → (t : ℕ) → from ≤ t → t < end → any_holder plan.now (states_of rows.now failed.now []) fd t ≡ false }
+fn is_unused(count: UseCount) -> bool
+    ensures { result ≡ is_unused count }
 {
-    for s in from..end {
-        if is_held_in(plan, rows, failed, fd, s) {
-            return true;
+    count.holders > 0 && count.users == 0
+}
+
+/// The counts of the table's descriptors are kept, block after block.
+fn keep_blocks(blocks: &mut Vec<Vec<UseCount>>, table: &Table)
+    ensures { joined blocks.new.items ≡ filter (λ (u : UseCount). is_in u.fd (numbers_of_table (list_of table.now))) (joined blocks.old.items) }
+{
+    for at in 0..blocks.len() {
+        keep_live(&mut blocks[at], table);
+    }
+}
+
+/// The same in one block.
+fn keep_live(block: &mut Vec<UseCount>, table: &Table)
+    ensures { block.new.items ≡ filter (λ (u : UseCount). is_in u.fd (numbers_of_table (list_of table.now))) block.old.items }
+{
+    block.retain(|count| table.has(count.fd));
+}
+
+/// The counts of descriptors, in ascending number. Contracts see them and for how many more there is memory.
+#[derive(Drop)]
+pub(crate) struct Uses {
+    counts: Blocks<UseCount>,
+}
+
+impl Model for Uses {
+    ghost use Rattle.std.specs.Prelude.{List, ℕ, ◌≡◌, true};
+    ghost use Rattle.svc_base.specs.Items.{list_of};
+    ghost use Rattle.svc_base.specs.NumberSets.{distinct};
+    ghost use Rattle.svc_endpoints.specs.declared.uses.UseCount.{UseCount};
+    ghost use Rattle.svc_endpoints.specs.Counts.{counted_numbers};
+
+    ghost Value = { List UseCount × ℕ };
+
+    ghost view = { λ u. u.counts };
+
+    ghost invariant = { λ u. distinct (counted_numbers (list_of u.counts)) ≡ true };
+}
+
+impl Uses {
+    pub(crate) fn new(alloc: Global) -> Uses
+        ensures { list_of result ≡ [] }
+    {
+        Uses {
+            counts: Blocks::new(alloc),
         }
     }
-    false
-}
 
-/// Some endpoint of the service does.
-fn is_held_in(plan: &Plan, rows: &[Row], failed: &[bool], fd: u64, s: usize) -> bool
-    requires sized { AreStatesSized plan.now rows.now failed.now }
-    requires service { s < service_count plan.now }
-    ensures { result ≡ any_holder plan.now (states_of rows.now failed.now []) fd s }
-{
-    for i in 0..endpoint_count(plan, s) {
-        if is_held_at(plan, rows, failed, fd, s, i) {
-            return true;
+    /// After it there is room for so many more descriptors. `NoMemory` where there is none; nothing has
+    /// changed then.
+    pub(crate) fn reserve(&mut self, count: usize) -> Result<(), NoMemory>
+        ensures counts { list_of self.new ≡ list_of self.old }
+        ensures room { OnOk result (count ≤ spare self.new) }
+    {
+        self.counts.reserve(count)
+    }
+
+    /// Takes a descriptor that no endpoint has.
+    pub(crate) fn add(&mut self, fd: u64)
+        requires new { is_in fd (counted_numbers (list_of self.old)) ≡ false }
+        requires room { 0 < spare self.old }
+        ensures counts { list_of self.new ≡ put_by (λ (u : UseCount). u.fd) (unused fd) (list_of self.old) }
+        ensures room { spare self.old ≤ spare self.new + 1 }
+    {
+        self.counts.insert(UseCount {
+            fd,
+            holders: 0,
+            users: 0,
+        });
+    }
+
+    /// The descriptor isn't counted any more.
+    pub(crate) fn remove(&mut self, fd: u64)
+        ensures { list_of self.new ≡ filter (λ (u : UseCount). not (u.fd == fd)) (list_of self.old) }
+    {
+        let _ = self.counts.remove(fd);
+    }
+
+    /// Only the descriptors of the table are counted any more.
+    pub(crate) fn keep(&mut self, table: &Table)
+        ensures { list_of self.new ≡ filter (λ (u : UseCount). is_in u.fd (numbers_of_table (list_of table.now))) (list_of self.old) }
+    {
+        let mut blocks = self.counts.take_blocks();
+        keep_blocks(&mut blocks, table);
+        self.counts.put_blocks(blocks);
+    }
+
+    /// What an endpoint has of descriptors changes.
+    pub(crate) fn change(&mut self, was: Option<Share>, is: Option<Share>)
+        requires few { are_few (list_of self.old) ≡ true }
+        ensures { list_of self.new ≡ map (raised is) (map (lowered was) (list_of self.old)) }
+    {
+        self.lower(was);
+        self.raise(is);
+    }
+
+    fn lower(&mut self, share: Option<Share>)
+        ensures { list_of self.new ≡ map (lowered share) (list_of self.old) }
+    {
+        if let Some(share) = share {
+            if let Some(count) = self.counts.find(share.fd) {
+                let next = lowered(*count, share);
+                self.counts.replace(next);
+            }
         }
     }
-    false
-}
 
-/// This endpoint does.
-fn is_held_at(plan: &Plan, rows: &[Row], failed: &[bool], fd: u64, s: usize, i: usize) -> bool
-    requires sized { AreStatesSized plan.now rows.now failed.now }
-    requires service { s < service_count plan.now }
-    requires endpoint { i < length (endpoints plan.now s) }
-    ensures { result ≡ is_holder_by (states_of rows.now failed.now []) fd s i }
-{
-    !failed[s] && has_held(last_of(rows, s, i), fd)
-}
-
-/// Some endpoint uses the descriptor. This service and those after it are looked at first.
-fn is_used(plan: &Plan, rows: &[Row], failed: &[bool], loops: &Loops, fd: u64, from: usize) -> bool
-    requires sized { AreStatesSized plan.now rows.now failed.now }
-    ensures { result ≡ any_endpoint plan.now (is_user plan.now (states_of rows.now failed.now (list_of loops.now)) fd) }
-{
-    let end = service_count(plan);
-    if is_used_between(plan, rows, failed, loops, fd, from, end) {
-        return true;
-    }
-    is_used_between(plan, rows, failed, loops, fd, 0, from.min(end))
-}
-
-/// Some endpoint of these services does.
-fn is_used_between(
-    plan: &Plan,
-    rows: &[Row],
-    failed: &[bool],
-    loops: &Loops,
-    fd: u64,
-    from: usize,
-    end: usize,
-) -> bool
-    requires sized { AreStatesSized plan.now rows.now failed.now }
-    requires within { end ≤ service_count plan.now }
-    ensures found { result ≡ true → any_endpoint plan.now (is_user plan.now (states_of rows.now failed.now (list_of loops.now)) fd) ≡ true }
-    ensures none { result ≡ false → (t : ℕ) → from ≤ t → t < end → any_user plan.now (states_of rows.now failed.now (list_of loops.now)) fd t ≡ false }
-{
-    for s in from..end {
-        if is_used_in(plan, rows, failed, loops, fd, s) {
-            return true;
+    fn raise(&mut self, share: Option<Share>)
+        requires few { are_few (list_of self.old) ≡ true }
+        ensures { list_of self.new ≡ map (raised share) (list_of self.old) }
+    {
+        if let Some(share) = share {
+            if let Some(count) = self.counts.find(share.fd) {
+                let next = raised(*count, share);
+                self.counts.replace(next);
+            }
         }
     }
-    false
-}
 
-/// Some endpoint of the service does.
-fn is_used_in(plan: &Plan, rows: &[Row], failed: &[bool], loops: &Loops, fd: u64, s: usize) -> bool
-    requires sized { AreStatesSized plan.now rows.now failed.now }
-    requires service { s < service_count plan.now }
-    ensures { result ≡ any_user plan.now (states_of rows.now failed.now (list_of loops.now)) fd s }
-{
-    for i in 0..endpoint_count(plan, s) {
-        if is_used_at(plan, rows, failed, loops, fd, s, i) {
-            return true;
+    /// Endpoints hold the descriptor, and none uses it any more.
+    pub(crate) fn is_let_go(&self, fd: u64) -> bool
+        ensures { result ≡ is_let_go fd (list_of self.now) }
+    {
+        match self.counts.find(fd) {
+            Some(count) => is_unused(*count),
+            None => false,
         }
     }
-    false
-}
-
-/// This endpoint does.
-fn is_used_at(
-    plan: &Plan,
-    rows: &[Row],
-    failed: &[bool],
-    loops: &Loops,
-    fd: u64,
-    s: usize,
-    i: usize,
-) -> bool
-    requires sized { AreStatesSized plan.now rows.now failed.now }
-    requires service { s < service_count plan.now }
-    requires endpoint { i < length (endpoints plan.now s) }
-    ensures { result ≡ is_user plan.now (states_of rows.now failed.now (list_of loops.now)) fd s i }
-{
-    let last = last_of(rows, s, i);
-    if has_held(last, fd) {
-        return !failed[s] && !is_done(loops, plan.tasks, s, i);
-    }
-    has_offer(last, fd)
-}
-
-/// Some endpoint of a service that hasn't failed holds the descriptor, and none uses it any more. This
-/// service and those after it are looked at first.
-pub(crate) fn is_drained(
-    plan: &Plan,
-    rows: &[Row],
-    failed: &[bool],
-    loops: &Loops,
-    fd: u64,
-    from: usize,
-) -> bool
-    requires sized { AreStatesSized plan.now rows.now failed.now }
-    ensures { result ≡ is_drained_by plan.now (states_of rows.now failed.now (list_of loops.now)) fd }
-{
-    is_held(plan, rows, failed, fd, from) && !is_used(plan, rows, failed, loops, fd, from)
 }

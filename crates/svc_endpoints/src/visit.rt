@@ -9,6 +9,7 @@ ghost use Rattle.svc_record.specs.Told.{Tells};
 ghost use Rattle.svc_endpoints.specs.EndpointsState.{IsEndpointsSized, EndpointsStand};
 ghost use Rattle.svc_endpoints.specs.Stays.{StaysHeld, StaysUnheld, OthersStay};
 ghost use Rattle.svc_endpoints.specs.Visits.{busy_in, any_busy, decide_at, IsWithin, IsDecided, IsAskOf, Visited, told_by, after};
+ghost use Rattle.svc_endpoints.specs.Counts.{is_known_visit};
 
 use crate::endpoints::Endpoints;
 use crate::naming::{address_of, endpoint_count, service_count};
@@ -56,6 +57,7 @@ impl Endpoints {
         requires service { s < service_count plan.now }
         ensures is { IsDecided plan.now self.now.parts s started moment result }
         ensures within { IsWithin plan.now s result }
+        ensures known { is_known_visit result self.now.parts.came ≡ true }
     {
         if !started || self.has_failed(s as usize) {
             return Visit::Nothing;
@@ -74,6 +76,7 @@ impl Endpoints {
         requires endpoint { j < length (endpoints plan.now s) }
         ensures is { result ≡ decide_at plan.now self.now.parts s moment j }
         ensures within { IsWithin plan.now s result }
+        ensures known { is_known_visit result self.now.parts.came ≡ true }
     {
         if is_asking(self.last(s as usize, j as usize)) {
             return Visit::Nothing;
@@ -96,6 +99,7 @@ impl Endpoints {
         requires sized { IsEndpointsSized plan.now self.old.parts }
         requires service { s < service_count plan.now }
         requires within { IsWithin plan.now s visit }
+        requires known { is_known_visit visit self.old.parts.came ≡ true }
         requires room { 0 < spare actions.old }
         ensures after { self.new.parts ≡ after self.old.parts s visit }
         ensures told { list_of actions.new ≡ list_of actions.old ++ told_by s visit }

@@ -76,7 +76,7 @@ pub receiving-refused : (limit : ℕ) (before now resting then_now : Option (Lis
     → ((limit : ℕ) (earlier : List ReceiveKind) → IsAfterReceives limit earlier state → receive_next limit earlier kinds.NotYet ≡ receives.Refused error)
     → ReceivesNot limit before then_now error
 receiving-refused limit before now resting then_now faults_before faults_now ms state error receiving slept got ends =
-    given_up receipts.NotYet receiving.earlier error receiving.wait
+    given_up receipts.NotYet receiving.earlier error tt receiving.wait
     (told-more limit before now resting then_now faults_before faults_now ms state receipts.NotYet receiving slept got)
     (ends limit (map kind_of receiving.earlier) receiving.after)
 
@@ -84,7 +84,7 @@ pub receiving-failed : (limit : ℕ) (before now resting then_now : Option (List
     → Receiving limit before now faults_before faults_now ms state
     → Adds now resting (rested ms) → Adds resting then_now (Receive receipts.Failed ∷ []) → ReceivesNot limit before then_now receive_errors.Transfer
 receiving-failed limit before now resting then_now faults_before faults_now ms state receiving slept got =
-    given_up receipts.Failed receiving.earlier receive_errors.Transfer receiving.wait
+    given_up receipts.Failed receiving.earlier receive_errors.Transfer tt receiving.wait
     (told-more limit before now resting then_now faults_before faults_now ms state receipts.Failed receiving slept got) refl
 
 pub receiving-unread : (limit : ℕ) (before now resting then_now : Option (List ChannelCall)) (faults_before faults_now ms state : ℕ)

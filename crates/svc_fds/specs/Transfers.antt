@@ -104,10 +104,17 @@ pub record Receives (limit : ℕ) (before now : Option (List ChannelCall)) (byte
   pub wait : IsWait limit earlier
   pub told : Adds before now (receives_asked limit (receipts.Got bytes fds ∷ earlier))
 
+-- there was memory for what came of a receipt
+abbrev pub IsRead : Receipt → Type 0
+IsRead (receipts.Got bytes fds) = Unit {0}
+IsRead receipts.NotYet = Unit {0}
+IsRead receipts.Failed = Unit {0}
+IsRead receipts.NoMemory = ⊥
+
 -- nothing came: the socket wasn't opened, the last receipt ended the tries, or there was no memory for it
 pub data ReceivesNot (limit : ℕ) (before now : Option (List ChannelCall)) : ReceiveError → Type 0 where
   not_opened : Adds before now (Listen false ∷ []) → ReceivesNot limit before now receive_errors.Transfer
-  given_up : (receipt : Receipt) (earlier : List Receipt) (error : ReceiveError) → IsWait limit earlier
+  given_up : (receipt : Receipt) (earlier : List Receipt) (error : ReceiveError) → IsRead receipt → IsWait limit earlier
       → Adds before now (receives_asked limit (receipt ∷ earlier))
       → receive_next limit (map kind_of earlier) (kind_of receipt) ≡ receives.Refused error → ReceivesNot limit before now error
   unread : (earlier : List Receipt) → IsWait limit earlier → Adds before now (receives_asked limit (receipts.NoMemory ∷ earlier))

@@ -17,7 +17,7 @@ pub enum ReceiveAnswer {
 }
 
 /// What one try to receive gave, as a channel tells it: with the numbers of the descriptors.
-#[derive(Debug, Drop)]
+#[derive(Drop)]
 pub enum Receipt {
     Got(Bytes, Items<u64>),
     NotYet,
@@ -26,7 +26,7 @@ pub enum Receipt {
 }
 
 /// A call of a channel, with its answer.
-#[derive(Debug, Drop)]
+#[derive(Drop)]
 pub enum ChannelCall {
     Listen(bool),
     Receive(Receipt),

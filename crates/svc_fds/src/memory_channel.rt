@@ -14,7 +14,7 @@ use svc_base::{Calls, NoMemory};
 
 /// A channel in memory. The calls that can fail and whose numbers, from 0, are listed fail. It tells
 /// its calls for as many as it was made with room for.
-#[derive(Debug, Drop)]
+#[derive(Drop)]
 pub struct MemoryChannel {
     alloc: Global,
     calls: Calls<ChannelCall>,
@@ -141,7 +141,7 @@ impl Channel for MemoryChannel {
 }
 
 /// A channel in memory that never fails. It tells its calls for as many as it was made with room for.
-#[derive(Debug, Drop)]
+#[derive(Drop)]
 pub struct SteadyChannel {
     alloc: Global,
     calls: Calls<ChannelCall>,

@@ -103,7 +103,7 @@ fn receipt(alloc: Global, answer: &ReceiveAnswer) -> Result<Receipt, NoMemory>
 }
 
 /// The peer of a channel in memory: whether it listens, and what it was sent.
-#[derive(Debug, Drop)]
+#[derive(Drop)]
 pub(crate) struct Peer {
     /// A connect is answered from now on.
     pub(crate) listening: bool,

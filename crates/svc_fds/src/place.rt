@@ -15,7 +15,7 @@ use svc_base::Text;
 use svc_steps::Steps;
 
 /// Where an address stands among others that ascend, or where it would stand.
-#[derive(Clone, Copy, Debug)]
+#[derive(Clone, Copy)]
 pub(crate) enum Place {
     /// It stands at this index.
     Held(usize),

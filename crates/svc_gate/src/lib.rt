@@ -18,6 +18,3 @@ pub use program::serve_gate;
 pub use reading::{GateError, read_rules};
 pub use rules::{GateRule, GateRuleList, GateRules};
 pub use svc_steps::Steps;
-
-#[cfg(test)]
-mod tests;

@@ -9,7 +9,7 @@ use svc_base::NoMemory;
 
 /// The numbers from one up to the beginning of the next segment: what the first rule says that holds
 /// them, if one does.
-#[derive(Clone, Copy, Debug)]
+#[derive(Clone, Copy)]
 pub(crate) struct Segment {
     pub from: u128,
     pub allow: Option<bool>,

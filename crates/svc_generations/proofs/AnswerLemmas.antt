@@ -1,5 +1,5 @@
 -- The answer to an input is the program's answer, and what a status says of it.
-use Rattle.std.proofs.Common.{◌≡◌, inl, inr, ℕ, List, [], ◌∷◌, ◌++◌, map, Option, Some, None, Ok, IfSome, refl, sym, ap, subst, ◌∙◌, arith}
+use Rattle.std.proofs.Common.{◌≡◌, ◌≤◌, inl, inr, ℕ, List, [], length, ◌∷◌, ◌++◌, map, Option, Some, None, Ok, IfSome, refl, sym, ap, subst, ◌∙◌, arith}
 use Rattle.std.specs.Io.KnownBytes.{Appends, IsAtEnd}
 use Rattle.std.specs.Str.Lines.{lines}
 use Rattle.svc_base.specs.Streams.{Rose}
@@ -47,24 +47,25 @@ edge_answer input n line out refused said = subst (λ (l : ChainLine). AnswersIn
 
 -- the answer to an input is the program's
 pub input_answer : (words : List (List ℕ)) (left : Option (List ℕ)) (read : List ℕ) (input : InputParts) (line : ChainLine) (out : List ℕ) → words ≡ []
-    → IfSome left (λ bytes. read ≡ bytes) → input_of (lines read) ≡ Ok input → AnswersInput input line out → IsAnswer words left line out
-input_answer words left read input (Unbegun Words) out none same says a = absurd a
-input_answer words left read input (Unbegun (Line n)) out none same says a =
-    (none, a.0, of_left left read (λ bytes. RefusesIn bytes n) same (inr (inl (input, (says, a.1)))))
-input_answer words left read input (Unbegun ReadFault) out none same says a = absurd a
-input_answer words left read input (Unbegun (Run Served)) out none same says a = absurd a
-input_answer words left read input (Unbegun (Run Tested)) out none same says a = absurd a
-input_answer words left read input (Unbegun (Run (Parent n))) out none same says a = absurd a
-input_answer words left read input (Unbegun (Run (Config key))) out none same says a =
-    (none, a.0, of_left left read (λ bytes. RefusesConf bytes key) same (input, (says, a.1, a.2)))
-input_answer words left read input (Unbegun (Run HostFault)) out none same says a = absurd a
-input_answer words left read input (Unbegun (Run (Bootstrap error))) out none same says a = absurd a
-input_answer words left read input (Unbegun (Run (Stray k))) out none same says a = absurd a
-input_answer words left read input (Unbegun (Run OutOfEvents)) out none same says a = absurd a
-input_answer words left read input Chained out none same says a =
-    (none, (input, (a.2, of_left left read (λ bytes. IsChainText bytes input) same (record { says = says; edges = a.0; accepted = a.1 }))))
-input_answer words left read input (Step k refusal) out none same says a =
-    (none, (input, (a.2, of_left left read (λ bytes. IsChainText bytes input) same (record { says = says; edges = a.0; accepted = a.1 }))))
+    → IfSome left (λ bytes. read ≡ bytes) → length read ≤ 16777216 → input_of (lines read) ≡ Ok input → AnswersInput input line out
+    → IsAnswer words left line out
+input_answer words left read input (Unbegun Words) out none same short says a = absurd a
+input_answer words left read input (Unbegun (Line n)) out none same short says a =
+    (none, a.0, of_left left read (λ bytes. RefusesIn bytes n) same (inl (short, inr (input, (says, a.1)))))
+input_answer words left read input (Unbegun ReadFault) out none same short says a = absurd a
+input_answer words left read input (Unbegun (Run Served)) out none same short says a = absurd a
+input_answer words left read input (Unbegun (Run Tested)) out none same short says a = absurd a
+input_answer words left read input (Unbegun (Run (Parent n))) out none same short says a = absurd a
+input_answer words left read input (Unbegun (Run (Config key))) out none same short says a =
+    (none, a.0, of_left left read (λ bytes. RefusesConf bytes key) same (short, (input, (says, a.1, a.2))))
+input_answer words left read input (Unbegun (Run HostFault)) out none same short says a = absurd a
+input_answer words left read input (Unbegun (Run (Bootstrap error))) out none same short says a = absurd a
+input_answer words left read input (Unbegun (Run (Stray k))) out none same short says a = absurd a
+input_answer words left read input (Unbegun (Run OutOfEvents)) out none same short says a = absurd a
+input_answer words left read input Chained out none same short says a =
+    (none, (input, (a.2, of_left left read (λ bytes. IsChainText bytes input) same (record { short = short; says = says; edges = a.0; accepted = a.1 }))))
+input_answer words left read input (Step k refusal) out none same short says a =
+    (none, (input, (a.2, of_left left read (λ bytes. IsChainText bytes input) same (record { short = short; says = says; edges = a.0; accepted = a.1 }))))
 
 -- it was read to its end
 pub input_ends : (input : InputParts) (line : ChainLine) (out : List ℕ) (left : Option (List ℕ)) → AnswersInput input line out → IsAtEnd left → Ends line left
@@ -144,17 +145,17 @@ whole_is_chained words bytes input (Unbegun Words) out before now w a f n = absu
 whole_is_chained words bytes input (Unbegun (Line k)) out before now w a f n = absurd (by a.2)
   where
     by : RefusesIn bytes k → ⊥
-    by (inl refused) = let said : input_of (lines bytes) ≡ Ok input = w.is_text.says in cc
-    by (inr (inl edge)) =
+    by (inl (short, inl refused)) = let said : input_of (lines bytes) ≡ Ok input = w.is_text.says in cc
+    by (inl (short, inr edge)) =
         no_edge input.blocks k w.is_text.edges
         (subst (λ (i : InputParts). RefusesEdge i.blocks k) (one_input bytes edge.0 input edge.1.0 w.is_text.says) edge.1.1)
-    by (inr (inr long)) = let short = w.short in omega (arith, long.1)
+    by (inr long) = let short = w.is_text.short in omega (arith, long.1)
 whole_is_chained words bytes input (Unbegun ReadFault) out before now w a f n = absurd (n f)
 whole_is_chained words bytes input (Unbegun (Run Served)) out before now w a f n = absurd a
 whole_is_chained words bytes input (Unbegun (Run Tested)) out before now w a f n = absurd a
 whole_is_chained words bytes input (Unbegun (Run (Parent k))) out before now w a f n = absurd a
 whole_is_chained words bytes input (Unbegun (Run (Config key))) out before now w a f n =
-    let refused = a.2 in
+    let refused = a.2.1 in
     absurd (no_key input.blocks key w.is_text.accepted
     (subst (λ (i : InputParts). RefusesKey i.blocks key) (one_input bytes refused.0 input refused.1.0 w.is_text.says) refused.1.2))
 whole_is_chained words bytes input (Unbegun (Run HostFault)) out before now w a f n = absurd a

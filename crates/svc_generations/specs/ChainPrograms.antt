@@ -68,8 +68,9 @@ AnswersInput input (Unbegun (Run (Config key))) out = (out ≡ status_line (Unbe
 AnswersInput input (Unbegun line) out = ⊥
 AnswersInput input line out = AllSound input.blocks × AllAccepted input.blocks × PrintsChain input line out
 
--- the bytes say this input, whose dependencies and configurations are accepted
+-- the bytes, within the limit, say this input, whose dependencies and configurations are accepted
 pub record IsChainText (bytes : List ℕ) (input : InputParts) : Type 0 where
+  pub short : length bytes ≤ 16777216
   pub says : input_of (lines bytes) ≡ Ok input
   pub edges : AllSound input.blocks
   pub accepted : AllAccepted input.blocks
@@ -82,17 +83,22 @@ ChainText left line out = (input : InputParts) × (PrintsChain input line out ×
 abbrev pub RefusesService : List ℕ → ℕ → Type 0
 RefusesService bytes n = (input : InputParts) × ((input_of (lines bytes) ≡ Ok input) × RefusesEdge input.blocks n)
 
--- the refused line of these bytes: the first that doesn't fit; else that of the first service whose dependencies are refused; 0 for a text that is too long
+-- the refused line of bytes within the limit: the first that doesn't fit; else that of the first service whose dependencies are refused
+abbrev pub RefusesWithin : List ℕ → ℕ → Type 0
+RefusesWithin bytes n = (length bytes ≤ 16777216) × ((input_of (lines bytes) ≡ Err n) ⊎ RefusesService bytes n)
+
+-- the refused line of these bytes; 0 for a text that is too long
 abbrev pub RefusesIn : List ℕ → ℕ → Type 0
-RefusesIn bytes n = (input_of (lines bytes) ≡ Err n) ⊎ (RefusesService bytes n ⊎ ((n ≡ 0) × (16777216 < length bytes)))
+RefusesIn bytes n = RefusesWithin bytes n ⊎ ((n ≡ 0) × (16777216 < length bytes))
 
 -- the refused line, where the source tells its bytes
 abbrev pub Refuses : Option (List ℕ) → ℕ → Type 0
 Refuses left n = IfSome left (λ bytes. RefusesIn bytes n)
 
--- the bytes say an input, whose first configuration that isn't accepted is refused for this key
+-- the bytes, within the limit, say an input, whose first configuration that isn't accepted is refused for this key
 abbrev pub RefusesConf : List ℕ → Key → Type 0
-RefusesConf bytes key = (input : InputParts) × ((input_of (lines bytes) ≡ Ok input) × AllSound input.blocks × RefusesKey input.blocks key)
+RefusesConf bytes key = (length bytes ≤ 16777216)
+    × ((input : InputParts) × ((input_of (lines bytes) ≡ Ok input) × AllSound input.blocks × RefusesKey input.blocks key))
 
 -- what is to be written, by its status line
 abbrev pub IsAnswer : List (List ℕ) → Option (List ℕ) → ChainLine → List ℕ → Type 0
@@ -141,10 +147,8 @@ abbrev pub RunsThrough : InputParts → Type 0
 RunsThrough input = (before : ℕ) (step : StepOf) (gs : List GenerationData) (refusal : StepRefusal) → slice_get input.steps before ≡ Some step
     → Leaves input.blocks (take before input.steps) gs → RefusesStep input.blocks gs step refusal → ⊥
 
--- there are no words, the source tells bytes within the limit that say an input, whose dependencies and configurations are accepted, and of whose
--- steps none is refused
+-- there are no words, the source tells bytes that say an input, whose dependencies and configurations are accepted, and of whose steps none is refused
 pub record IsWholeText (words : List (List ℕ)) (bytes : List ℕ) (input : InputParts) : Type 0 where
   pub none : words ≡ []
-  pub short : length bytes ≤ 16777216
   pub is_text : IsChainText bytes input
   pub through : RunsThrough input

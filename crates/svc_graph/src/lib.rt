@@ -5,6 +5,7 @@
 mod bits;
 mod graph;
 mod handles;
+pub mod laws;
 mod plan;
 mod reach;
 pub mod services;

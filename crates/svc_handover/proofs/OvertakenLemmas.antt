@@ -1,6 +1,6 @@
 -- An answer to a bind that an arrival overtook: in use, or bound, while a live descriptor had the address. It changes nothing of what is gone, so that
 -- descriptor stays open in the step.
-use Rattle.std.proofs.Common.{ℕ, Bool, true, false, ◌||◌, ◌&&◌, not, ◌==◌, ◌+◌, List, [], ◌∷◌, ◌++◌, ◌≡◌, refl, ap, sym, ◌∙◌, subst, arith, inl, inr, length, nat_lt, nat_le, if◌then◌else◌, MatchBool}
+use Rattle.std.proofs.Common.{ℕ, Bool, true, false, ◌||◌, ◌&&◌, not, ◌==◌, List, [], ◌∷◌, ◌++◌, ◌≡◌, refl, ap, sym, ◌∙◌, subst, arith, inl, inr, length, nat_lt, nat_le, if◌then◌else◌, MatchBool}
 use Rattle.std.specs.List.{list_any, list_all}
 use Rattle.std.proofs.lemmas.Bool.{and_parts, and_from, or_parts, or_left, or_right, cases_Bool, eqb-true, false_from_ne_true, lt-ltb}
 use Rattle.std.proofs.lemmas.List.Folds.{list_any-append}

@@ -8,6 +8,8 @@ ghost use Rattle.svc_handover.specs.Law.{Gives, RefusesAt};
 use crate::pair::{PairRefused, PairRun, PairStep};
 use crate::servers::Servers;
 use std::alloc::Global;
+use std::mem::drop;
+use svc_base::NoMemory;
 use svc_core::Plan;
 
 /// Runs an old and a new server through the schedule, whose steps are events for one of them, in
@@ -27,14 +29,17 @@ pub fn handover_law(
     ensures hands_over { IfOk result (λ run. Gives old new schedule.now (list_of run.old) (list_of run.new) run.channel) }
     ensures stray { (k : ℕ) → result ≡ Err (PairRefused.Stray k) → RefusesAt old new schedule.now k }
 {
-    let Ok(mut servers) = Servers::begin(alloc, old, new) else {
-        return Err(PairRefused::NoMemory);
+    let mut servers = match Servers::begin(alloc, old, new) {
+        Ok(servers) => servers,
+        Err(NoMemory) => return Err(PairRefused::NoMemory),
     };
     for (index, step) in schedule.iter().enumerate() {
         if !servers.allows(step) {
+            drop(servers);
             return Err(PairRefused::Stray(index as u64 + 1));
         }
         let Ok(()) = servers.take(alloc, step) else {
+            drop(servers);
             return Err(PairRefused::NoMemory);
         };
     }

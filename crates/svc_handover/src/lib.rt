@@ -10,6 +10,3 @@ pub mod servers;
 
 pub use law::handover_law;
 pub use pair::{ChannelState, PairRefused, PairRun, PairStep};
-
-#[cfg(test)]
-mod tests;

@@ -2,14 +2,16 @@
 
 ghost use Rattle.std.specs.Prelude.{◌≡◌, ◌++◌, ◌∷◌, [], IfOk, OnOk};
 ghost use Rattle.svc_base.specs.Items.{list_of};
+ghost use Rattle.svc_record.specs.declared.entry.Entry.TheVariants.{Got};
 ghost use Rattle.svc_record.specs.Validity.{IsValid};
 ghost use Rattle.svc_core.specs.Stands.{MayCome};
 ghost use Rattle.svc_handover.specs.Runs.{Begins, Takes, told_entries};
 
 use crate::pair::PairStep;
 use std::alloc::Global;
+use std::mem::drop;
 use svc_base::NoMemory;
-use svc_core::{Action, Actions, Core, Entries, Entry, Plan};
+use svc_core::{Action, Actions, Core, Entries, Entry, Event, Plan};
 
 /// A core that has begun, and what it got and told, the first entry first.
 #[derive(Drop)]
@@ -26,9 +28,18 @@ impl Recorded {
     {
         let mut core = Core::new(alloc, plan)?;
         let mut told = Actions::new(alloc);
-        core.begin(alloc, &mut told)?;
+        let Ok(_) = core.begin(alloc, &mut told) else {
+            drop(core);
+            drop(told);
+            return Err(NoMemory);
+        };
         let mut entries = Entries::new(alloc);
-        append_told(alloc, told.as_slice(), &mut entries)?;
+        let Ok(()) = append_told(alloc, told.as_slice(), &mut entries) else {
+            drop(core);
+            drop(told);
+            drop(entries);
+            return Err(NoMemory);
+        };
         Ok((Recorded { core, entries }, told))
     }
 
@@ -38,18 +49,25 @@ impl Recorded {
         ensures takes { IfOk result (λ told. Takes self.old self.new step.now (list_of told)) }
     {
         let mut told = Actions::new(alloc);
-        self.core.step(alloc, &step.event, step.said, &mut told)?;
-        let event = step.event.copy(alloc)?;
-        append(alloc, Entry::Got(event), &mut self.entries)?;
-        append_told(alloc, told.as_slice(), &mut self.entries)?;
-        Ok(told)
+        let Ok(_) = self.core.step(alloc, &step.event, step.said, &mut told) else {
+            drop(told);
+            return Err(NoMemory);
+        };
+        match append_step(alloc, &step.event, told.as_slice(), &mut self.entries) {
+            Ok(()) => Ok(told),
+            Err(NoMemory) => {
+                drop(told);
+                Err(NoMemory)
+            }
+        }
     }
 
     /// The record.
     pub(crate) fn into_entries(self) -> Entries
         ensures { list_of result ≡ list_of self.entries }
     {
-        let Recorded { core: _, entries } = self;
+        let Recorded { core, entries } = self;
+        drop(core);
         entries
     }
 }
@@ -61,6 +79,19 @@ fn append(alloc: Global, entry: Entry, entries: &mut Entries) -> Result<(), NoMe
         Ok(()) => Ok(()),
         Err(refused) => Err(refused.reason),
     }
+}
+
+/// Appends the event, and what was told at it.
+fn append_step(
+    alloc: Global,
+    event: &Event,
+    told: &[Action],
+    entries: &mut Entries,
+) -> Result<(), NoMemory>
+    ensures { OnOk result (list_of entries.new ≡ (list_of entries.old ++ Got event.now ∷ []) ++ told_entries told.now) }
+{
+    append(alloc, Entry::Got(event.copy(alloc)?), entries)?;
+    append_told(alloc, told, entries)
 }
 
 /// Appends what was told, action by action.

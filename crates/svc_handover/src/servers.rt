@@ -16,6 +16,7 @@ use crate::channel::{after_new, after_old, after_told, new_may, old_may};
 use crate::pair::{ChannelState, PairRun, PairStep};
 use crate::recorded::Recorded;
 use std::alloc::Global;
+use std::mem::drop;
 use svc_base::NoMemory;
 use svc_core::{Event, Plan};
 
@@ -35,9 +36,25 @@ impl Servers {
         ensures begins { IfOk result (λ servers. Runs old new [] servers) }
     {
         read_addresses(&old);
-        let (predecessor, _) = Recorded::begin(alloc, old)?;
-        let (successor, told) = Recorded::begin(alloc, new)?;
+        let predecessor = match Recorded::begin(alloc, old) {
+            Ok((predecessor, told)) => {
+                drop(told);
+                predecessor
+            }
+            Err(NoMemory) => {
+                drop(new);
+                return Err(NoMemory);
+            }
+        };
+        let (successor, told) = match Recorded::begin(alloc, new) {
+            Ok(begun) => begun,
+            Err(NoMemory) => {
+                drop(predecessor);
+                return Err(NoMemory);
+            }
+        };
         let channel = after_told(told.as_slice(), ChannelState::Missing);
+        drop(told);
         Ok(Servers {
             predecessor,
             successor,
@@ -93,7 +110,7 @@ impl Servers {
         requires may { MayCome self.old.predecessor.core step.now.event }
         ensures grows { OnOk result (Grows self.old self.new step.now) }
     {
-        self.predecessor.take(alloc, step)?;
+        drop(self.predecessor.take(alloc, step)?);
         self.channel = after_old(&step.event, self.channel);
         Ok(())
     }
@@ -106,6 +123,7 @@ impl Servers {
         let told = self.successor.take(alloc, step)?;
         let channel = after_new(&step.event, self.channel);
         self.channel = after_told(told.as_slice(), channel);
+        drop(told);
         Ok(())
     }
 

@@ -2,22 +2,26 @@
 //! over to a newer one, which is begun then.
 #![tactic(auto)]
 
-use std::alloc::{AllocError, Global};
-use std::convert::AsStr;
+use std::alloc::Global;
+use std::mem::drop;
 use std::net::{Net, TcpListener, TcpStream};
 use std::process::ExitCode;
 use std::sync::atomic::{AtomicBool, Ordering};
 use std::sync::{Mutex, Wait};
 use std::thread::{Threads, join};
 use std::time::{Clock, Duration};
-use std::{env, io, thread};
+use std::{env, thread};
 use svc_base::NoMemory;
 use svc_desk::{Gate, WorkEnd, serve_desks};
 use svc_echo::{JOURNAL_LIMIT, Seat, Slot, Sockets, echo_plan, real_desk};
 use svc_record::Plan;
+use svc_words::words;
 
 /// How often a desk is asked at most.
 const TURNS: u64 = 1_000_000_000;
+
+/// So many entries of each of its lists a desk tells.
+const ROOM: u64 = 65_536;
 
 /// So many seconds the older server serves what it has, after it accepts nothing more.
 const GRACE: u64 = 1;
@@ -38,25 +42,17 @@ impl Gate for OpenGate {
     fn after(&self, _worker: u32, _answered: u64) {}
 }
 
-/// The words after the program's name; none where one isn't UTF-8.
-fn words(rt: &HostRuntime) -> Result<Vec<String>, AllocError> {
-    let mut words = Vec::new(rt.alloc());
-    let args = match env::args(rt) {
-        Ok(args) => args,
-        Err(error) if error.kind() == io::ErrorKind::OutOfMemory => return Err(AllocError),
-        Err(_) => return Ok(words),
-    };
-    for word in args.skip(1) {
-        words.push(word)?;
-    }
-    Ok(words)
-}
-
 /// The plans of the older and of the newer server at these addresses.
 fn plans(alloc: Global, address: &str, control: &str) -> Result<(Plan, Plan), NoMemory> {
     let mut older = echo_plan(alloc, address, control)?;
     older.grace = GRACE;
-    let mut newer = echo_plan(alloc, address, control)?;
+    let mut newer = match echo_plan(alloc, address, control) {
+        Ok(newer) => newer,
+        Err(NoMemory) => {
+            drop(older);
+            return Err(NoMemory);
+        }
+    };
     newer.upgrade = true;
     newer.eager = true;
     Ok((older, newer))
@@ -70,10 +66,13 @@ fn serves<R: Threads + Wait + Sync + Net<Listener = TcpListener, Stream = TcpStr
     sockets: &Mutex<Sockets>,
     slot: &Mutex<Slot<TcpListener>>,
 ) -> bool {
-    let Ok(left) = real_desk(rt, alloc, Seat::Left, sockets, slot, 0) else {
+    let Ok(left) = real_desk(rt, alloc, Seat::Left, sockets, slot, ROOM) else {
+        drop(plan);
         return false;
     };
-    let Ok(right) = real_desk(rt, alloc, Seat::Right, sockets, slot, 0) else {
+    let Ok(right) = real_desk(rt, alloc, Seat::Right, sockets, slot, ROOM) else {
+        drop(left);
+        drop(plan);
         return false;
     };
     match serve_desks(
@@ -86,8 +85,15 @@ fn serves<R: Threads + Wait + Sync + Net<Listener = TcpListener, Stream = TcpStr
         right,
         &OpenGate,
     ) {
-        Ok(echoed) => echoed.left_end == WorkEnd::Over || echoed.right_end == WorkEnd::Over,
-        Err(_) => false,
+        Ok(echoed) => {
+            let (left, right) = (echoed.left_end, echoed.right_end);
+            drop(echoed);
+            left == WorkEnd::Over || right == WorkEnd::Over
+        }
+        Err(refused) => {
+            drop(refused);
+            false
+        }
     }
 }
 
@@ -145,7 +151,7 @@ fn serve_both<
 
 fn main(rt: HostRuntime) -> ExitCode {
     let alloc = rt.alloc();
-    let Ok(words) = words(&rt) else {
+    let Ok(words) = words(alloc, env::args(&rt)) else {
         return ExitCode::from(NO_MEMORY);
     };
     let [address, control] = words.as_slice() else {

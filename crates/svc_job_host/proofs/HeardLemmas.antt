@@ -35,7 +35,7 @@ unheard told s due o at none =
     rw none (sym (ap (λ x. set told s x) (sym same) ∙ set-get_or told s None))
 
 -- the due number of a run, if it is one
-abbrev due_list : ℕ → List ℕ
+abbrev pub due_list : ℕ → List ℕ
 due_list due = if due == 0 then [] else due ∷ []
 
 dues-append : (s : ℕ) (xs ys : List JobRun) → dues_of s (xs ++ ys) ≡ dues_of s xs ++ dues_of s ys
@@ -104,6 +104,14 @@ told-tail o due numbers dues h =
         let same : before ++ due ∷ [] ≡ numbers = cc in
         subst (λ xs. drop (length xs - length (dues ++ due ∷ [])) xs ≡ dues ++ due ∷ []) same (tail-more before dues due (h before refl))
 
+-- the due numbers of the runs of job s, with a moment
+pub dues_moment : (periods : List ℕ) (q : Record) (m s : ℕ) (old new : List JobRun) → old ≡ due_runs periods q → new ≡ due_runs periods (Got (Moment m) ∷ q)
+    → s < length periods → dues_of s new ≡ dues_of s old ++ due_list (due_at periods q m s)
+dues_moment periods q m s old new old_is new_is within =
+    ap (dues_of s) new_is ∙ dues-append s (due_runs periods q) (runs_at periods q m)
+    ∙ ap (λ xs. xs ++ dues_of s (runs_at periods q m)) (ap (dues_of s) (sym old_is))
+    ∙ ap (λ xs. dues_of s old ++ xs) (dues-at (due_at periods q m) m s (length periods) 0 (omega arith) (omega arith))
+
 -- after a moment
 pub heard_moment : (periods : List ℕ) (q : Record) (m : ℕ) (first told : List (Option (List ℕ))) (old new : List JobRun) → AreHeard first old
     → old ≡ due_runs periods q → new ≡ due_runs periods (Got (Moment m) ∷ q)
@@ -115,10 +123,7 @@ heard_moment periods q m first told old new heard old_is new_is sized same_size 
     let there : slice_get first s ≡ Some o = slice_get-get_or first s None within in
     let now_told : told_after o (due_at periods q m s) ≡ Some numbers =
     (let both : Some (told_after o (due_at periods q m s)) ≡ Some (Some numbers) = sym (says s o there) ∙ at in cc) in
-    let dues : dues_of s new ≡ dues_of s old ++ due_list (due_at periods q m s) =
-    ap (dues_of s) new_is ∙ dues-append s (due_runs periods q) (runs_at periods q m)
-    ∙ ap (λ xs. xs ++ dues_of s (runs_at periods q m)) (ap (dues_of s) (sym old_is))
-    ∙ ap (λ xs. dues_of s old ++ xs) (dues-at (due_at periods q m) m s (length periods) 0 (omega arith) (omega arith)) in
+    let dues : dues_of s new ≡ dues_of s old ++ due_list (due_at periods q m s) = dues_moment periods q m s old new old_is new_is (omega arith) in
     rw dues (told-tail o (due_at periods q m s) numbers (dues_of s old) (λ before is. heard s before (there ∙ ap (λ x. Some x) is)) now_told)
 
 -- nothing ran yet

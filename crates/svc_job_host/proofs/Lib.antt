@@ -3,6 +3,7 @@ mod RangeLemmas
 mod RunLemmas
 mod TableLemmas
 mod HeardLemmas
+mod MakeLemmas
 mod HostLemmas
 mod RoomLemmas
 mod ShutLemmas

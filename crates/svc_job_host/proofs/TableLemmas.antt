@@ -1,10 +1,10 @@
 -- What a timetable keeps of a record as the record grows.
-use Rattle.std.proofs.Common.{ℕ, zero, suc, Bool, true, false, ◌≡◌, ◌<◌, ◌≤◌, ◌+◌, ◌==◌, ◌||◌, ◌&&◌, not, List, [], ◌∷◌, ◌++◌, length, map, set, get_or, Option, refl, sym, ap, subst, ◌∙◌, inl, inr, arith, length-set}
+use Rattle.std.proofs.Common.{ℕ, zero, suc, Bool, true, false, ◌≡◌, ◌<◌, ◌≤◌, ◌^◌, ◌+◌, ◌==◌, ◌||◌, ◌&&◌, not, List, [], ◌∷◌, ◌++◌, length, map, set, get_or, Option, refl, sym, ap, subst, ◌∙◌, inl, inr, arith, length-set}
 use Rattle.std.specs.Prelude.{slice_get, Some, None, MatchOption, nat_lt, position, if◌then◌else◌}
 use Rattle.std.proofs.lemmas.Bool.{cases_eq, eq-eqb, ne_eqb}
 use Rattle.std.proofs.lemmas.List.Quantifiers.{position-Some}
 use Rattle.std.proofs.lemmas.Option.{get_or_from_slice_get, slice_get_within}
-use Rattle.std.proofs.lemmas.List.{append-nil}
+use Rattle.std.proofs.lemmas.List.{append-nil, length-map}
 use Rattle.svc_record.specs.declared.entry.Entry.TheVariants.{Got, Told}
 use Rattle.svc_record.specs.declared.event.Event.TheVariants.{Moment, Ready, Signal}
 use Rattle.svc_record.specs.declared.event.ShutdownSignal.{ShutdownSignal}
@@ -127,6 +127,12 @@ table_new plans rows room are = record {
   shut_is = refl;
   runs_are = refl;
 }
+
+-- as many rows as plans
+pub few_rows : (plans : List JobPlan) (rows : List JobRow)
+    → rows ≡ map (λ (plan : JobPlan). record { every = plan.every; started = None; ran = false; owes = false }) plans
+    → length plans ≤ 2 ^ 32 → length rows ≤ 2 ^ 32
+few_rows plans rows are few = omega (arith, sizes plans rows are, length-map plans (λ (p : JobPlan). p.every), few)
 
 new-paced : (plans : List JobPlan) → HavePeriods plans
     → ArePaced (map (λ (plan : JobPlan). record { every = plan.every; started = None; ran = false; owes = false }) plans)

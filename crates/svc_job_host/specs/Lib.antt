@@ -9,4 +9,5 @@ pub mod Upcoming
 pub mod JobRunnerData
 pub mod JobRunners
 pub mod JobHostData
+pub mod JobMakes
 pub mod JobRuns

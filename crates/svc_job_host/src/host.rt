@@ -1,13 +1,13 @@
 //! A host that runs jobs.
 
-ghost use Rattle.std.specs.Prelude.{◌≡◌, ◌<◌, [], length, map, reverse, position, slice_get, Some, None, IfOk, IfErr, OnOk};
-ghost use Rattle.std.specs.Bool.{Decides};
+ghost use Rattle.std.specs.Prelude.{◌≡◌, ◌<◌, ◌≤◌, ◌^◌, [], length, map, reverse, position, slice_get, Some, None, IfOk, IfErr, OnOk};
 ghost use Rattle.svc_base.specs.Items.{list_of};
 ghost use Rattle.svc_record.specs.declared.item.Item.TheVariants as items_given;
 ghost use Rattle.svc_server.specs.Hosts.{no_account};
 ghost use Rattle.svc_server.specs.ScriptHosts.{counts_with, handed_with};
 ghost use Rattle.svc_job_host.specs.Dues.{due_runs};
 ghost use Rattle.svc_job_host.specs.JobHosts.{AreJobItems};
+ghost use Rattle.svc_job_host.specs.JobMakes.{host_make};
 ghost use Rattle.svc_job_host.specs.JobRuns.{TellsJobs, KeepsWords};
 ghost use Rattle.svc_job_host.specs.JobRefusals.{fault_of, is_idle, IsReason};
 ghost use Rattle.svc_job_host.specs.Rows.{HavePeriods, owing};
@@ -70,9 +70,13 @@ fn fault_of(plans: &[JobPlan], jobs: usize) -> Option<JobError>
     ensures cause { result ≡ fault_of plans.now jobs }
     ensures periods { result ≡ None → HavePeriods plans.now }
     ensures equal { result ≡ None → length plans.now ≡ jobs }
+    ensures few { result ≡ None → length plans.now ≤ 2 ^ 32 }
 {
     if plans.len() != jobs {
         return Some(JobError::Unequal);
+    }
+    if plans.len() > 4_294_967_296 {
+        return Some(JobError::TooMany);
     }
     match first_idle(plans) {
         Some(index) => Some(JobError::ZeroPeriod(index as u64)),
@@ -145,14 +149,6 @@ impl<J: Job> JobHost<J> {
         let _runner = self.host.inner();
     }
 
-    /// Its jobs have these periods, in milliseconds, and it gives these items.
-    pub fn is_of(&self, periods: &[u64], items: &[Item]) -> bool
-        requires { AreJobItems items.now }
-        ensures { Decides result ((periods_of self.now.plans ≡ periods.now) × (self.now.items ≡ items.now)) }
-    {
-        self.host.inner().is_of(periods, items)
-    }
-
     /// What it gave and was told, the oldest first.
     pub fn entries(&self) -> &Entries
         ensures { list_of result.now ≡ reverse self.now.entries }
@@ -172,6 +168,8 @@ impl<J: Job> Host for JobHost<J> {
     ghost spare = { λ h. h.spare };
 
     ghost last = { λ h. h.last };
+
+    ghost made_of = { λ h. Some (host_make J.told h) };
 
     fn faults(&self) -> u64 {
         self.host.faults()

@@ -12,10 +12,12 @@ pub enum JobError {
     /// There aren't as many jobs as plans.
     #[error("there aren't as many jobs as plans")]
     Unequal,
+    /// There are more than 4,294,967,296 jobs: some have no number.
+    #[error("there are more jobs than numbers for them")]
+    TooMany,
     /// The plan with this index, from 0, is the first whose period is 0.
     #[error("the period of job {0} is 0")]
     ZeroPeriod(u64),
-    /// Memory was refused, or there are more than 4,294,967,296 jobs, which have no numbers.
     #[error("out of memory")]
     NoMemory,
 }

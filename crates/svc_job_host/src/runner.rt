@@ -1,7 +1,6 @@
 //! What a host of jobs does by itself: it gives its items and the jobs' words, and runs what is due.
 
 ghost use Rattle.std.specs.Prelude.{◌≡◌, ◌+◌, ◌<◌, ◌≤◌, ℕ, Option, [], ◌∷◌, length, slice_get, Some, IfSome};
-ghost use Rattle.std.specs.Bool.{Decides};
 ghost use Rattle.svc_base.specs.Items.{list_of};
 ghost use Rattle.svc_record.specs.declared.entry.Entry.TheVariants.{Got};
 ghost use Rattle.svc_record.specs.declared.event.Event.TheVariants as events;
@@ -10,6 +9,7 @@ ghost use Rattle.svc_record.specs.Record.{Record};
 ghost use Rattle.svc_server.specs.InnerHosts.{record_with, faults_with, idles_with};
 ghost use Rattle.svc_server.specs.ScriptHosts.{GivesFew};
 ghost use Rattle.svc_job_host.specs.JobHosts.{AreJobItems};
+ghost use Rattle.svc_job_host.specs.JobMakes.{runner_make};
 ghost use Rattle.svc_job_host.specs.JobRunners.{KeepsRunner, moments_left};
 ghost use Rattle.svc_job_host.specs.Rows.{owing};
 ghost use Rattle.svc_job_host.specs.Timetables.{periods_of};
@@ -17,7 +17,7 @@ ghost use Rattle.svc_job_host.specs.Timetables.{periods_of};
 use crate::job::Job;
 use crate::plan::{JobPlan, RunList};
 use crate::timetable::Timetable;
-use crate::upcoming::{NextItem, are_same, upcoming};
+use crate::upcoming::{NextItem, upcoming};
 use std::alloc::Global;
 use std::marker::Model;
 use svc_base::NoMemory;
@@ -57,21 +57,6 @@ impl<J: Job> Model for JobRunner<J> {
     ghost invariant = { λ h. (length h.jobs.items ≡ length h.plans.items) × (length h.timetable.rows ≡ length h.plans.items) × AreJobItems h.items.items };
 }
 
-/// The plans have these periods, in milliseconds.
-fn have_periods(plans: &[JobPlan], periods: &[u64]) -> bool
-    ensures { Decides result (periods_of plans.now ≡ periods.now) }
-{
-    if plans.len() != periods.len() {
-        return false;
-    }
-    for s in 0..plans.len() {
-        if plans[s].every != periods[s] {
-            return false;
-        }
-    }
-    true
-}
-
 impl<J: Job> JobRunner<J> {
     /// Jobs by their plans, of which none was started yet, and items of which none was given.
     pub(crate) fn new(
@@ -101,20 +86,13 @@ impl<J: Job> JobRunner<J> {
         self.timetable.runs()
     }
 
-    /// Its jobs have these periods, in milliseconds, and it gives these items.
-    pub(crate) fn is_of(&self, periods: &[u64], items: &[Item]) -> bool
-        requires { AreJobItems items.now }
-        ensures { Decides result ((periods_of self.now.plans ≡ periods.now) × (self.now.items ≡ items.now)) }
-    {
-        have_periods(&self.plans, periods) && are_same(&self.items, items)
-    }
-
     /// A job says that it is ready: the first that owes its word.
     fn take_ready(&mut self, s: usize)
         requires row { s < length self.old.timetable.rows }
         ensures keeps { (q : Record) (faults idles : ℕ) → KeepsRunner J.told self.old q faults idles
             → owing (periods_of self.old.plans) q ≡ s ∷ owing (periods_of self.old.plans) (Got (events.Ready s) ∷ q)
             → KeepsRunner J.told self.new (Got (events.Ready s) ∷ q) faults idles }
+        ensures made { runner_make J.told self.new ≡ runner_make J.told self.old }
         ensures room { moments_left self.new ≡ moments_left self.old }
     {
         self.timetable.take_ready(s);
@@ -126,6 +104,8 @@ impl<J: Job> JobRunner<J> {
         requires next { slice_get self.old.items self.old.given ≡ Some (items_given.Event (events.Moment moment)) }
         ensures keeps { (q : Record) (faults idles : ℕ) → KeepsRunner J.told self.old q faults idles → owing (periods_of self.old.plans) q ≡ []
             → KeepsRunner J.told self.new (Got (events.Moment moment) ∷ q) faults idles }
+        ensures made { (q : Record) (faults idles : ℕ) → KeepsRunner J.told self.old q faults idles
+            → runner_make J.told self.new ≡ runner_make J.told self.old }
         ensures room { moments_left self.old ≤ moments_left self.new + 1 }
     {
         self.given += 1;
@@ -138,6 +118,8 @@ impl<J: Job> JobRunner<J> {
         ensures few { IfSome result GivesFew }
         ensures keeps { (q : Record) (faults idles : ℕ) → KeepsRunner J.told self.old q faults idles → owing (periods_of self.old.plans) q ≡ []
             → KeepsRunner J.told self.new (record_with result q) (faults_with result faults) (idles_with result idles) }
+        ensures made { (q : Record) (faults idles : ℕ) → KeepsRunner J.told self.old q faults idles
+            → runner_make J.told self.new ≡ runner_make J.told self.old }
         ensures room { moments_left self.old ≤ moments_left self.new + 1 }
     {
         match upcoming(&self.items, self.given) {
@@ -159,6 +141,8 @@ impl<J: Job> InnerHost for JobRunner<J> {
     ghost keeps = { λ h q faults idles. KeepsRunner J.told h q faults idles };
 
     ghost spare = { λ h. moments_left h };
+
+    ghost made_of = { λ h. Some (runner_make J.told h) };
 
     fn reserve(&mut self, alloc: Global, n: u64) -> Result<(), NoMemory> {
         let Some(runs) = n.checked_mul(self.jobs.len() as u64 + 1) else {

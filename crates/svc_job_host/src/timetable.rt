@@ -126,16 +126,13 @@ fn owing_at(rows: &[JobRow]) -> Option<usize>
 }
 
 impl Timetable {
-    /// The timetable of jobs that weren't started yet. It is refused for want of memory, or where there
-    /// are more jobs than numbers.
+    /// The timetable of jobs that weren't started yet.
     pub(crate) fn new(alloc: Global, plans: &[JobPlan]) -> Result<Self, NoMemory>
-        requires { HavePeriods plans.now }
+        requires periods { HavePeriods plans.now }
+        requires few { length plans.now ≤ 2 ^ 32 }
         ensures table { IfOk result (λ t. IsTimetableOf (periods_of plans.now) t []) }
     {
         let rows = new_rows(alloc, plans)?;
-        if rows.len() > 4_294_967_296 {
-            return Err(NoMemory);
-        }
         Ok(Timetable {
             rows,
             last: 0,

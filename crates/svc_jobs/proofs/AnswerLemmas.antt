@@ -1,5 +1,5 @@
 -- What is answered to a text of jobs, and what a status says of the answer.
-use Rattle.std.proofs.Common.{◌≡◌, inl, inr, ℕ, List, [], length, Option, Some, None, Result, Ok, Err, IfOk, IfSome, refl, sym, ap, subst, ◌∙◌, ◌++◌, string_bytes}
+use Rattle.std.proofs.Common.{◌≡◌, inl, inr, ℕ, List, [], length, ◌≤◌, Option, Some, None, Result, Ok, Err, IfOk, IfSome, refl, sym, ap, subst, ◌∙◌, ◌++◌, string_bytes}
 use Rattle.std.specs.Io.KnownBytes.{Appends}
 use Rattle.svc_record.specs.Record.{Record}
 use Rattle.svc_text.specs.Dependencies.{RefusesNone}
@@ -21,16 +21,16 @@ known (Some bytes) read P e h = subst P e h
 
 -- the answer to jobs is the program's answer
 pub jobs_answer : (words : List (List ℕ)) (left : Option (List ℕ)) (read numbers : List ℕ) (parts : JobParts) (line : StatusLine) (out : List ℕ) → words ≡ []
-    → IfSome left (λ bytes. read ≡ bytes) → jobs_in read ≡ Ok parts
+    → IfSome left (λ bytes. read ≡ bytes) → length read ≤ 16777216 → jobs_in read ≡ Ok parts
     → AreLines (script_lines read) (length parts.script.services) numbers → AnswersJobs parts numbers line out → IsAnswer words left line out
-jobs_answer words left read numbers parts (Run end) out none same says places (edges, ran) =
-    (none, (parts, (ran, known left read (λ bytes. IsJobText bytes parts) same (record { says = says; edges = edges }))))
-jobs_answer words left read numbers parts (Line n) out none same says places (printed, refusal) =
+jobs_answer words left read numbers parts (Run end) out none same short says places (edges, ran) =
+    (none, (parts, (ran, known left read (λ bytes. IsJobText bytes parts) same (record { short = short; says = says; edges = edges }))))
+jobs_answer words left read numbers parts (Line n) out none same short says places (printed, refusal) =
     let k : ℕ = refusal.0 in
     let place : IsLineOf (script_lines read) k n = subst (IsLineOf (script_lines read) k) (sym refusal.1.1) (places.each k refusal.1.0.here) in
-    (none, printed, known left read (λ bytes. RefusesIn bytes n) same (inr (inl (parts, (says, (k, (refusal.1.0, place)))))))
-jobs_answer words left read numbers parts Words out none same says places h = absurd h
-jobs_answer words left read numbers parts ReadFault out none same says places h = absurd h
+    (none, printed, known left read (λ bytes. RefusesIn bytes n) same (inl (short, inr (parts, (says, (k, (refusal.1.0, place)))))))
+jobs_answer words left read numbers parts Words out none same short says places h = absurd h
+jobs_answer words left read numbers parts ReadFault out none same short says places h = absurd h
 
 -- where the status isn't that of another line, it is that of a run
 pub ran_from : (status : ℕ) → (status ≡ 2 → ⊥) → (status ≡ 3 → ⊥) → (status ≡ 5 → ⊥)

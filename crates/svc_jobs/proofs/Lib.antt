@@ -1,6 +1,7 @@
 pub mod ScriptLemmas
 pub mod SaidLemmas
 pub mod ReadLemmas
+pub mod PeriodLemmas
 pub mod ServerLemmas
 pub mod CountLemmas
 pub mod RunLemmas

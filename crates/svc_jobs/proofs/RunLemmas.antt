@@ -149,6 +149,22 @@ pub record LeavesJobs {J : Type 0} (told : J → Option (List ℕ)) (p : Plan) (
   pub config : (key : Key) → answer ≡ Err (errors.Config key) → judged conf ≡ Err key
   pub keeps : KeepsWords (periods_of host.plans) host.entries
 
+-- of what the run ensures of these periods, which are the host's
+pub leaves_jobs : {J : Type 0} (told : J → Option (List ℕ)) (p : Plan) (turns : ℕ) (answer : Result Outcome RunError) (conf : ServerConf) (host : JobHostData J)
+    (periods : List ℕ) → periods_of host.plans ≡ periods → TellsJobs told host → EndsTold answer periods host.entries → ComesNext answer host
+    → EachEntry (λ e before. start_after_runs p periods e before ≡ true) host.entries → RunEnds p turns answer host.entries
+    → ((key : Key) → answer ≡ Err (errors.Config key) → judged conf ≡ Err key) → KeepsWords (periods_of host.plans) host.entries
+    → LeavesJobs told p turns answer conf host
+leaves_jobs told p turns answer conf host periods paced jobs words next order ends config keeps = record {
+  jobs = jobs;
+  words = subst (λ (ps : List ℕ). EndsTold answer ps host.entries) (sym paced) words;
+  next = next;
+  order = subst (λ (ps : List ℕ). EachEntry (λ e before. start_after_runs p ps e before ≡ true) host.entries) (sym paced) order;
+  ends = ends;
+  config = config;
+  keeps = keeps;
+}
+
 pub may_answer : {J : Type 0} (told : J → Option (List ℕ)) (p : Plan) (turns : ℕ) (answer : Result Outcome RunError) (conf : ServerConf) (host : JobHostData J)
     (periods : List ℕ) (all : List Item) → p.test ≡ false
     → periods_of host.plans ≡ periods → host.items ≡ all → turns ≡ (length all + length periods) + 1 → LeavesJobs told p turns answer conf host → MayEnd answer

@@ -1,12 +1,13 @@
 -- The server that the jobs of a text are services of, and the plan that it is run by.
-use Rattle.std.proofs.Common.{◌≡◌, ◌+◌, ◌<◌, ℕ, Bool, false, List, [], ◌∷◌, ◌++◌, length, map, take, filter, get_or, Option, Some, None, refl, ap, sym, ◌∙◌, arith}
+use Rattle.std.proofs.Common.{◌≡◌, ◌+◌, ◌<◌, ◌≤◌, inl, inr, ℕ, Bool, false, List, [], ◌∷◌, ◌++◌, length, map, take, filter, get_or, Option, Some, None, refl, ap, sym, ◌∙◌, arith}
 use Rattle.std.specs.List.{range_with_len}
 use Rattle.std.proofs.lemmas.List.{map-append, take_more, take_all}
 use Rattle.std.proofs.lemmas.List.Elements.{filter_agree}
+use Rattle.std.proofs.lemmas.Bool.{lt-leb}
 use Rattle.svc_conf.specs.declared.server.configuration.ServerConf.{ServerConf}
 use Rattle.svc_conf.specs.declared.server.configuration.Opt.{Opt}
 use Rattle.svc_graph.specs.GraphData.{GraphData}
-use Rattle.svc_graph.specs.Graphs.{is_edge, with_node}
+use Rattle.svc_graph.specs.Graphs.{is_edge, node_count, with_node}
 use Rattle.svc_graph.specs.declared.plan.Kind.TheVariants.{Notifying}
 use Rattle.svc_record.specs.declared.plan.ServicePlan.{ServicePlan}
 use Rattle.svc_text.specs.declared.service.ServiceLine.{ServiceLine}
@@ -15,6 +16,9 @@ use Rattle.svc_text.specs.Edges.{HasEdges}
 use Rattle.svc_text.specs.Script.{Parts}
 use Rattle.svc_text.specs.ScriptPlans as script
 use Rattle.svc_text.proofs.EdgeLemmas.{HasNodes, nodes_more, nodes_start}
+use Rattle.svc_server.specs.declared.server.refusals.AddError.{AddError}
+use Rattle.svc_server.specs.declared.server.refusals.AddError.TheVariants.{NoMemory}
+use Rattle.svc_server.specs.Additions.{fault_of, IsReason}
 use Rattle.svc_server.specs.Servers.{depends_of, with_depends, plan_of, IsSound}
 use Rattle.svc_jobs.specs.JobServices.{answered, job_service, services_from, plan_of_jobs, HasJobs, IsJobServer}
 
@@ -80,3 +84,15 @@ first_all lines k g filters answers h all = record {
 -- what a job's service of this name answers
 abbrev pub named : List ℕ → ServicePlan
 named name = record { name = name; kind = Notifying; depends = []; declared = Some []; endpoints = [] }
+
+-- against a job's service no cause stands, where fewer than 1,024 services are there
+no_cause : (name : List ℕ) (g : GraphData) (filters : ℕ) → node_count g < 1024 → fault_of g filters (named name) ≡ None
+no_cause name g filters few = rw (lt-leb 1024 (node_count g) few) refl
+
+-- so it is refused for want of memory alone
+pub only_memory : (lines : List ServiceLine) (k : ℕ) (name : List ℕ) (g : GraphData) (filters : ℕ) (answers : List ServicePlan) (plan : ServicePlan)
+    (reason : AddError) → length lines ≤ 1024 → HasFirst lines k g filters answers → k < length lines → plan ≡ named name
+    → IsReason (fault_of g filters plan) reason → reason ≡ NoMemory
+only_memory lines k name g filters answers plan reason all first lt says (inl memory) = memory
+only_memory lines k name g filters answers plan reason all first lt says (inr stands) =
+    absurd (let none = ap (fault_of g filters) says ∙ no_cause name g filters (omega (arith, first.nodes.count)) in cc)

@@ -94,12 +94,12 @@ whole_is_served words bytes parts ReadFault out before now w a f n = absurd (n f
 whole_is_served words bytes parts (Line k) out before now w a f n = absurd (by a.2)
   where
     by : RefusesIn bytes k → ⊥
-    by (inl refused) = let said : jobs_in bytes ≡ Ok parts = w.is_text.says in cc
-    by (inr (inl edge)) =
+    by (inl (short, inl refused)) = let said : jobs_in bytes ≡ Ok parts = w.is_text.says in cc
+    by (inl (short, inr edge)) =
         refused_some parts.script.services edge.1.1.0
         (subst (λ (q : JobParts). RefusesAt q.script.services edge.1.1.0) (one_text bytes edge.0 parts edge.1.0 w.is_text.says) edge.1.1.1.0)
         w.is_text.edges
-    by (inr (inr long)) = let short = w.short in omega (arith, long.1)
+    by (inr long) = let short = w.is_text.short in omega (arith, long.1)
 whole_is_served words bytes parts (Run end) out before now w a f n =
     let ran = a.1 in
     let same : ran.0 ≡ parts = one_text bytes ran.0 parts ran.1.1.says w.is_text.says in

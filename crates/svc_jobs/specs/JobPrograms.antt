@@ -76,8 +76,9 @@ pub record PrintsRuns (parts : JobParts) (end : RunEnd) (out : List ℕ) (r : Re
 abbrev pub RanJobs : JobParts → RunEnd → List ℕ → Type 0
 RanJobs parts end out = (r : Record) × PrintsRuns parts end out r
 
--- the bytes say these jobs, whose dependencies are known and without a cycle
+-- the bytes, within the limit, say these jobs, whose dependencies are known and without a cycle
 pub record IsJobText (bytes : List ℕ) (parts : JobParts) : Type 0 where
+  pub short : length bytes ≤ 16777216
   pub says : jobs_in bytes ≡ Ok parts
   pub edges : RefusesNone parts.script.services
 
@@ -89,9 +90,13 @@ RanText left end out = (parts : JobParts) × (RanJobs parts end out × IfSome le
 abbrev pub RefusesEdge : List ℕ → ℕ → Type 0
 RefusesEdge bytes n = (parts : JobParts) × ((jobs_in bytes ≡ Ok parts) × ((k : ℕ) × (RefusesAt parts.script.services k × IsLineOf (script_lines bytes) k n)))
 
--- the refused line of these bytes: the first that doesn't fit; else that of the first job whose dependencies are refused; 0 for a text that is too long
+-- the refused line of bytes within the limit: the first that doesn't fit; else that of the first job whose dependencies are refused
+abbrev pub RefusesWithin : List ℕ → ℕ → Type 0
+RefusesWithin bytes n = (length bytes ≤ 16777216) × ((jobs_in bytes ≡ Err n) ⊎ RefusesEdge bytes n)
+
+-- the refused line of these bytes; 0 for a text that is too long
 abbrev pub RefusesIn : List ℕ → ℕ → Type 0
-RefusesIn bytes n = (jobs_in bytes ≡ Err n) ⊎ (RefusesEdge bytes n ⊎ ((n ≡ 0) × (16777216 < length bytes)))
+RefusesIn bytes n = RefusesWithin bytes n ⊎ ((n ≡ 0) × (16777216 < length bytes))
 
 -- the refused line, where the source tells its bytes
 abbrev pub Refuses : Option (List ℕ) → ℕ → Type 0
@@ -140,10 +145,9 @@ pub record RunsThrough (p : Plan) (all : List Item) : Type 0 where
   pub faultless : (q : Record) (more : List Item) → Right p q → has_ended p q ≡ false → all ≡ map items.Event (items_of q) ++ items.Fault ∷ more → ⊥
   pub passes : (q : Record) → Right p q → all ≡ map items.Event (items_of q) → waits_are_over p q ≡ true
 
--- there are no words, the source tells bytes within the limit that say jobs, a server can be run with their configuration, and their items run through
+-- there are no words, the source tells bytes that say jobs, a server can be run with their configuration, and their items run through
 pub record IsWholeText (words : List (List ℕ)) (bytes : List ℕ) (parts : JobParts) : Type 0 where
   pub none : words ≡ []
-  pub short : length bytes ≤ 16777216
   pub is_text : IsJobText bytes parts
   pub runs : judged parts.script.conf ≡ Ok tt
   pub through : RunsThrough (plan_of_jobs parts.script) parts.script.items

@@ -1,5 +1,6 @@
 -- What a text of jobs says. It is read as a script: each of its lines is one of the script, and services stand for the jobs.
-use Rattle.std.specs.Prelude.{ℕ, ◌^◌, ◌+◌, Bool, false, not, ◌&&◌, ◌||◌, ◌==◌, if◌then◌else◌, List, [], ◌∷◌, ◌++◌, codes, Option, Some, None, Result, Ok, Err}
+use Rattle.std.specs.Prelude.{ℕ, ◌≡◌, ◌^◌, ◌+◌, Bool, true, false, not, ◌&&◌, ◌||◌, ◌==◌, if◌then◌else◌, List, [], ◌∷◌, ◌++◌, codes, Option, Some, None, Result, Ok, Err}
+use Rattle.std.specs.List.{list_all}
 use Rattle.std.specs.Option.{option_map, option_to_list}
 use Rattle.std.specs.Str.{bytes_eq}
 use Rattle.std.specs.Str.Lines.{lines}
@@ -33,6 +34,14 @@ period_in n = if n == 0 then None else Some n
 -- the period that a word says
 unfoldable pub period_of : List ℕ → Option ℕ
 period_of word = number_of (2 ^ 64) word >>= period_in
+
+-- the number is a period
+abbrev pub is_period : ℕ → Bool
+is_period n = not (n == 0)
+
+-- each of the numbers is
+abbrev pub ArePeriods : List ℕ → Type 0
+ArePeriods periods = list_all is_period periods ≡ true
 
 -- what the last words of a job's line say: nothing, or `after N,N`
 unfoldable pub after_of : List (List ℕ) → Option (Option (List ℕ))

@@ -5,14 +5,16 @@ ghost use Rattle.svc_job_host.specs.JobHosts.{AreJobItems};
 ghost use Rattle.svc_main.specs.declared.outcome.StatusLine.TheVariants.{Run as RunLine};
 ghost use Rattle.svc_main.specs.Status.{status_line};
 ghost use Rattle.svc_jobs.specs.JobReadings.{job_parts_of};
+ghost use Rattle.svc_jobs.specs.JobTexts.{ArePeriods};
 ghost use Rattle.svc_jobs.specs.JobPrograms.{runs_text, AnswersJobs};
 
 use crate::printing::runs_text;
 use crate::reading::JobsText;
-use crate::runs::run_text;
+use crate::runs::{RunLeft, run_text};
 use crate::services::server_of_jobs;
 use std::alloc::Global;
 use std::fmt::Write;
+use std::mem::drop;
 use svc_base::NoMemory;
 use svc_job_host::JobRun;
 use svc_main::{RunEnd, StatusLine};
@@ -49,6 +51,7 @@ pub(crate) fn answer_jobs(alloc: Global, jobs: JobsText) -> Result<Answer, NoMem
     requires few { length jobs.script.services.items ≤ 1024 }
     requires lines { length jobs.script.lines.items ≡ length jobs.script.services.items }
     requires sized { length jobs.script.services.items ≡ length jobs.periods.items }
+    requires paced { ArePeriods jobs.periods.items }
     requires items { AreJobItems jobs.script.items.items }
     ensures { IfOk result (λ a. AnswersJobs (job_parts_of jobs) jobs.script.lines.items a.line (string_bytes a.text)) }
 {
@@ -58,14 +61,33 @@ pub(crate) fn answer_jobs(alloc: Global, jobs: JobsText) -> Result<Answer, NoMem
             let Script {
                 conf,
                 services,
+                eager: _,
                 items,
-                ..
+                lines,
             } = script;
+            drop(lines);
             server.configuration = conf;
-            let left = run_text(alloc, server, &services, &periods, items)?;
-            ran(alloc, left.end, left.host.runs().as_slice())
+            match run_text(alloc, server, &services, &periods, items) {
+                Ok(left) => {
+                    drop(services);
+                    let RunLeft { end, host } = left;
+                    let answer = ran(alloc, end, host.runs().as_slice());
+                    drop(host);
+                    answer
+                }
+                Err(NoMemory) => {
+                    drop(services);
+                    Err(NoMemory)
+                }
+            }
         }
-        Err(ScriptError::Line(n)) => said(alloc, StatusLine::Line(n as u64)),
-        Err(ScriptError::NoMemory) => Err(NoMemory),
+        Err(ScriptError::Line(n)) => {
+            drop(script);
+            said(alloc, StatusLine::Line(n as u64))
+        }
+        Err(ScriptError::NoMemory) => {
+            drop(script);
+            Err(NoMemory)
+        }
     }
 }

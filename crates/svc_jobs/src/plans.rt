@@ -1,14 +1,12 @@
 //! What a host of jobs is made of.
 
-ghost use Rattle.std.specs.Prelude.{◌≡◌, length, true, IfOk};
-ghost use Rattle.svc_job_host.specs.JobHosts.{AreJobItems, is_job_item};
+ghost use Rattle.std.specs.Prelude.{◌≡◌, length, IfOk};
 ghost use Rattle.svc_job_host.specs.Timetables.{periods_of};
 
 use crate::quiet::QuietJob;
 use std::alloc::Global;
 use svc_base::{NoMemory, copy_items};
 use svc_job_host::JobPlan;
-use svc_record::{Event, Item};
 use svc_text::ServiceLine;
 
 /// The plan of a job with this period, of the line of its service.
@@ -47,29 +45,4 @@ pub(crate) fn quiet_jobs(alloc: Global, count: usize) -> Result<Vec<QuietJob>, N
         jobs.push(QuietJob)?;
     }
     Ok(jobs)
-}
-
-/// The item once more.
-fn copy_item(item: &Item) -> Item
-    requires { is_job_item item.now ≡ true }
-    ensures { result ≡ item.now }
-{
-    match item {
-        Item::Event(Event::Moment(ms)) => Item::Event(Event::Moment(*ms)),
-        Item::Event(Event::Signal(kind)) => Item::Event(Event::Signal(*kind)),
-        Item::Event(_) => unreachable!(),
-        Item::Fault => Item::Fault,
-    }
-}
-
-/// The items once more.
-pub(crate) fn copy_of(alloc: Global, items: &[Item]) -> Result<Vec<Item>, NoMemory>
-    requires { AreJobItems items.now }
-    ensures { IfOk result (λ copy. copy.items ≡ items.now) }
-{
-    let mut copy = Vec::new(alloc);
-    for item in items {
-        copy.push(copy_item(item))?;
-    }
-    Ok(copy)
 }

@@ -4,7 +4,7 @@ ghost use Rattle.std.specs.Prelude.{◌≡◌, length, IfOk};
 ghost use Rattle.svc_text.specs.Accepted.{AreAccepted};
 ghost use Rattle.svc_text.specs.Script.{AreLines};
 ghost use Rattle.svc_job_host.specs.JobHosts.{AreJobItems};
-ghost use Rattle.svc_jobs.specs.JobTexts.{script_lines, jobs_in};
+ghost use Rattle.svc_jobs.specs.JobTexts.{ArePeriods, script_lines, jobs_in};
 ghost use Rattle.svc_jobs.specs.JobReadings.{GivesJobs};
 
 use crate::script_text::{ScriptText, script_text};
@@ -25,6 +25,7 @@ pub(crate) fn read_jobs(alloc: Global, bytes: &[u8]) -> Result<JobsText, ScriptE
     ensures parts { GivesJobs result (jobs_in bytes.now) }
     ensures accepted { IfOk result (λ t. AreAccepted t.script.services.items) }
     ensures sized { IfOk result (λ t. length t.script.services.items ≡ length t.periods.items) }
+    ensures paced { IfOk result (λ t. ArePeriods t.periods.items) }
     ensures items { IfOk result (λ t. AreJobItems t.script.items.items) }
     ensures numbers { IfOk result (λ t. AreLines (script_lines bytes.now) (length t.script.services.items) t.script.lines.items) }
 {

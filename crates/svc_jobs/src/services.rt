@@ -3,15 +3,17 @@
 ghost use Rattle.std.specs.Prelude.{◌≡◌, ◌≤◌, ℕ, [], length, slice_index, None, false, IfOk, IfErr, OnOk};
 ghost use Rattle.svc_text.specs.Dependencies.{RefusesNone, RefusesAt};
 ghost use Rattle.svc_text.specs.declared.parsing.ScriptError.TheVariants as errors;
+ghost use Rattle.svc_server.specs.declared.server.refusals.AddError.TheVariants as refusals;
 ghost use Rattle.svc_server.specs.Servers.{answers_of, IsSound};
 ghost use Rattle.svc_jobs.specs.JobServices.{HasJobs};
 
 use std::alloc::Global;
+use std::mem::drop;
 use svc_base::NoMemory;
 use svc_conf::ServerConf;
 use svc_graph::services::ServiceWithDependents;
 use svc_job_host::JobService;
-use svc_server::Server;
+use svc_server::{AddError, AddRefused, Server};
 use svc_streams::AcceptAllFilter;
 use svc_text::{Script, ScriptError, ServiceLine, add_dependencies};
 
@@ -30,12 +32,27 @@ fn empty_server(alloc: Global) -> Result<JobServer, NoMemory>
     let conf = ServerConf::default(alloc)?;
     match Server::new_with_opt_and_conf(alloc, None, conf) {
         Ok(server) => Ok(server),
-        Err(_) => Err(NoMemory),
+        Err(_) => unreachable!(),
     }
 }
 
-/// A server with the services of jobs, and no dependencies yet.
+/// A refusal for want of memory.
+fn memory_alone(reason: AddError) -> NoMemory
+    requires { reason ≡ refusals.NoMemory }
+{
+    match reason {
+        AddError::NoMemory => NoMemory,
+        AddError::TooMany
+        | AddError::TooManyEndpoints
+        | AddError::BadAddressText(_)
+        | AddError::UnknownFilter(_) => unreachable!(),
+    }
+}
+
+/// A server with the services of jobs, and no dependencies yet. Against none of them a cause stands, so
+/// it is memory that is wanted.
 fn server_of(alloc: Global, lines: &[ServiceLine]) -> Result<JobServer, NoMemory>
+    requires { length lines.now ≤ 1024 }
     ensures options { IfOk result (λ server. server.options ≡ None) }
     ensures eager { IfOk result (λ server. server.eager ≡ false) }
     ensures jobs { IfOk result (λ server. HasJobs lines.now 0 server.dependencies (length server.filters)
@@ -43,10 +60,22 @@ fn server_of(alloc: Global, lines: &[ServiceLine]) -> Result<JobServer, NoMemory
 {
     let mut server = empty_server(alloc)?;
     for line in lines {
-        let service = JobService::new(line.name.copy(alloc)?);
+        let name = match line.name.copy(alloc) {
+            Ok(name) => name,
+            Err(NoMemory) => {
+                drop(server);
+                return Err(NoMemory);
+            }
+        };
+        let service = JobService::new(name);
         match server.add_service(alloc, service) {
             Ok(_) => {}
-            Err(_) => return Err(NoMemory),
+            Err(refused) => {
+                let AddRefused { service, reason } = refused;
+                drop(service);
+                drop(server);
+                return Err(memory_alone(reason));
+            }
         }
     }
     Ok(server)
@@ -71,7 +100,13 @@ pub(crate) fn server_of_jobs(alloc: Global, script: &Script) -> Result<JobServer
     };
     match add_dependencies(alloc, &mut server.dependencies, &script.services) {
         Ok(None) => Ok(server),
-        Ok(Some(k)) => Err(ScriptError::Line(script.lines[k])),
-        Err(NoMemory) => Err(ScriptError::NoMemory),
+        Ok(Some(k)) => {
+            drop(server);
+            Err(ScriptError::Line(script.lines[k]))
+        }
+        Err(NoMemory) => {
+            drop(server);
+            Err(ScriptError::NoMemory)
+        }
     }
 }

@@ -1,4 +1,4 @@
--- What is told after a further signal would stand where it isn't due, action by action: asks, closes and connections.
+-- What is told after a record that is right alone would stand where it isn't due, action by action: asks, closes and connections.
 use Rattle.std.proofs.Common.{ℕ, Bool, true, false, zero, suc, not, ◌&&◌, ◌||◌, ◌==◌, ◌+◌, ◌≤◌, ◌<◌, List, [], ◌∷◌, Option, Some, filter, map, length, nat_le, inl, inr, ◌≡◌, ◌∙◌, refl, sym, ap, subst, arith}
 use Rattle.std.specs.List.{list_any, list_all, range_with_len}
 use Rattle.std.proofs.lemmas.Bool.{cases_Bool, cases_eq, and_parts, and_from, or_cases, or_left, or_right, or_parts, eqb-true, ltb-true, leb-true, false≢true}
@@ -11,7 +11,6 @@ use Rattle.svc_record.specs.declared.action.Action.TheVariants.{Bind, Adopt, Jud
 use Rattle.svc_record.specs.declared.entry.Entry.{Entry}
 use Rattle.svc_record.specs.declared.entry.Entry.TheVariants.{Got, Told}
 use Rattle.svc_record.specs.declared.event.Event.TheVariants.{Arrived, Received, NoSenderYet, ReceiveFailed}
-use Rattle.svc_record.specs.declared.event.ShutdownSignal.{ShutdownSignal}
 use Rattle.svc_record.specs.Record.{Record, has, times, tell, once_if, EachEntry}
 use Rattle.svc_record.specs.Plans.{service_count, services, endpoints, endpoint_numbers, is_endpoint, address, same_address, any_with}
 use Rattle.svc_record.specs.Descriptors.{Descriptor, live_descriptors, has_live}
@@ -22,10 +21,9 @@ use Rattle.svc_record.specs.Boot.{try_rests, may_try}
 use Rattle.svc_record.specs.Connections.{Arrival, arrivals, is_arrival, is_judged, is_judged_as, is_refuse, is_serve, is_drop, is_set_as, is_shaken_as, is_known, connection_right}
 use Rattle.svc_record.specs.Drain.{is_boot_phase, told_marks}
 use Rattle.svc_record.specs.Closes.{is_adopt_of_open}
-use Rattle.svc_laws.proofs.ToldLemmas.{entries_before, has_same}
-use Rattle.svc_laws.proofs.WaitLemmas.{after, still}
+use Rattle.svc_laws.proofs.ToldLemmas.{kept, entries_before, has_same}
 use Rattle.svc_laws.proofs.StartLemmas.{any_in_range, any_service, any_grows}
-use Rattle.svc_laws.proofs.FurtherLemmas.{once_same}
+use Rattle.svc_laws.proofs.CalmLemmas.{once_same}
 
 -- endpoints
 
@@ -240,14 +238,14 @@ said_no n (Told (Judged m true)) h = absurd (false≢true h)
 said_no n (Told a) h = absurd (false≢true h)
 said_no n (Got e) h = absurd (false≢true h)
 
-calls-same : (p : Plan) (b : Record) (kind : ShutdownSignal) (told : List Action) (x : Arrival) → CallParts p (tell (after kind b) told) x → CallParts p b x
-    → SameCalls b (tell (after kind b) told) x.number
-calls-same p b kind told x now_parts parts =
+calls-same : (p : Plan) (b : Record) (told : List Action) (x : Arrival) → CallParts p (tell b told) x → CallParts p b x
+    → SameCalls b (tell b told) x.number
+calls-same p b told x now_parts parts =
     let n = x.number in
     let judged = once_same _ _ _ _ refl now_parts.judged parts.judged in
-    let no = has_same (is_judged n) (is_judged_as false n) (said_no n) told (after kind b) judged in
-    let set : (ok : Bool) → has (is_set_as ok n) (tell (after kind b) told) ≡ has (is_set_as ok n) b = λ ok. set_same ok n in
-    let shaken : (ok : Bool) → has (is_shaken_as ok n) (tell (after kind b) told) ≡ has (is_shaken_as ok n) b = λ ok. shaken_same ok n in
+    let no = has_same (is_judged n) (is_judged_as false n) (said_no n) told b judged in
+    let set : (ok : Bool) → has (is_set_as ok n) (tell b told) ≡ has (is_set_as ok n) b = λ ok. set_same ok n in
+    let shaken : (ok : Bool) → has (is_shaken_as ok n) (tell b told) ≡ has (is_shaken_as ok n) b = λ ok. shaken_same ok n in
     record {
       judged = judged;
       refused = once_same _ _ _ _ no now_parts.refused parts.refused;
@@ -255,17 +253,17 @@ calls-same p b kind told x now_parts parts =
       handshake = once_same _ _ _ _ (set true) now_parts.handshake parts.handshake;
       served = once_same _ _ _ _ (shaken true) now_parts.served parts.served;
       dropped = once_same _ _ _ _
-          (ap (λ y. y || has (is_shaken_as false n) (tell (after kind b) told)) (set false) ∙ ap (λ y. has (is_set_as false n) b || y)
+          (ap (λ y. y || has (is_shaken_as false n) (tell b told)) (set false) ∙ ap (λ y. has (is_set_as false n) b || y)
           (shaken false)) now_parts.dropped parts.dropped;
     }
   where
-    set_same : (ok : Bool) (n : ℕ) → has (is_set_as ok n) (tell (after kind b) told) ≡ has (is_set_as ok n) b
-    set_same true n = still (has (is_set_as true n)) (λ a q. refl) told kind b refl
-    set_same false n = still (has (is_set_as false n)) (λ a q. refl) told kind b refl
+    set_same : (ok : Bool) (n : ℕ) → has (is_set_as ok n) (tell b told) ≡ has (is_set_as ok n) b
+    set_same true n = kept (has (is_set_as true n)) (λ a q. refl) told b
+    set_same false n = kept (has (is_set_as false n)) (λ a q. refl) told b
 
-    shaken_same : (ok : Bool) (n : ℕ) → has (is_shaken_as ok n) (tell (after kind b) told) ≡ has (is_shaken_as ok n) b
-    shaken_same true n = still (has (is_shaken_as true n)) (λ a q. refl) told kind b refl
-    shaken_same false n = still (has (is_shaken_as false n)) (λ a q. refl) told kind b refl
+    shaken_same : (ok : Bool) (n : ℕ) → has (is_shaken_as ok n) (tell b told) ≡ has (is_shaken_as ok n) b
+    shaken_same true n = kept (has (is_shaken_as true n)) (λ a q. refl) told b
+    shaken_same false n = kept (has (is_shaken_as false n)) (λ a q. refl) told b
 
 -- the connection with this number passes what each does
 arrival_at : (f g : Arrival → Bool) (q : Record) (c : ℕ) → has (is_arrival c) q ≡ true → list_all f (arrivals q) ≡ true → list_all g (arrivals q) ≡ true
@@ -282,12 +280,12 @@ arrival_at f g (Got (Arrived s i n peer) ∷ q) c h all both =
 arrival_at f g (Got e ∷ q) c h all both = arrival_at f g q c h all both
 arrival_at f g (Told a ∷ q) c h all both = arrival_at f g q c h all both
 
-pub connection_calls : (p : Plan) (b : Record) (kind : ShutdownSignal) (told : List Action) (c : ℕ) → has (is_arrival c) b ≡ true
-    → list_all (connection_right p (tell (after kind b) told)) (arrivals (tell (after kind b) told)) ≡ true
+pub connection_calls : (p : Plan) (b : Record) (told : List Action) (c : ℕ) → has (is_arrival c) b ≡ true
+    → list_all (connection_right p (tell b told)) (arrivals (tell b told)) ≡ true
     → list_all (connection_right p b) (arrivals b) ≡ true
-    → SameCalls b (tell (after kind b) told) c
-connection_calls p b kind told c h now_each each =
-    let q : Record = tell (after kind b) told in
-    let same = still arrivals (λ a z. refl) told kind b refl in
+    → SameCalls b (tell b told) c
+connection_calls p b told c h now_each each =
+    let q : Record = tell b told in
+    let same = kept arrivals (λ a z. refl) told b in
     let found = arrival_at (connection_right p q) (connection_right p b) b c h (subst (λ xs. list_all (connection_right p q) xs ≡ true) same now_each) each in
-    subst (SameCalls b q) found.1 (calls-same p b kind told found.0 (call_parts p q found.0 found.2) (call_parts p b found.0 found.3))
+    subst (SameCalls b q) found.1 (calls-same p b told found.0 (call_parts p q found.0 found.2) (call_parts p b found.0 found.3))

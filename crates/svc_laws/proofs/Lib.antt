@@ -3,9 +3,11 @@ pub mod AskLemmas
 pub mod ToldLemmas
 pub mod WaitLemmas
 pub mod StartLemmas
-pub mod FurtherLemmas
+pub mod CalmLemmas
 pub mod AfterLemmas
 pub mod SilentLemmas
+pub mod FurtherLemmas
+pub mod DueLemmas
 pub mod Verdicts
 pub mod Journals
 pub mod Tails

@@ -1,4 +1,4 @@
--- After a further signal no service starts, whatever else is told.
+-- No service starts where each due one was started before, whatever else is told.
 use Rattle.std.proofs.Common.{ℕ, Bool, true, false, not, ◌&&◌, ◌||◌, ◌==◌, ◌+◌, ◌≤◌, ◌<◌, zero, suc, inl, inr, List, [], ◌∷◌, ◌≡◌, ◌∙◌, refl, sym, ap, subst, arith, if◌then◌else◌}
 use Rattle.std.specs.List.{list_any, range_with_len}
 use Rattle.std.proofs.lemmas.Bool.{cases_eq, and_parts, or_left, or_right, or_cases, eqb-true, ltb-true, false≢true}

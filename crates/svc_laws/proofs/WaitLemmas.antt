@@ -1,31 +1,16 @@
--- After a further signal the waits and the offer stand as before it, whatever is told.
-use Rattle.std.proofs.Common.{ℕ, Bool, true, false, not, ◌&&◌, ◌||◌, ◌++◌, List, [], ◌∷◌, Option, Some, None, ◌≡◌, ◌∙◌, refl, sym, ap, if◌then◌else◌}
-use Rattle.std.proofs.lemmas.Bool.{and_parts, false≢true}
-use Rattle.svc_base.proofs.Logic.{apart_from}
+-- The waits and the offer stand as before, whatever is told.
+use Rattle.std.proofs.Common.{ℕ, Bool, false, not, ◌&&◌, ◌||◌, ◌++◌, List, [], ◌∷◌, Option, Some, None, ◌≡◌, ◌∙◌, refl, sym, ap, if◌then◌else◌}
 use Rattle.svc_record.specs.declared.plan.Plan.{Plan}
 use Rattle.svc_record.specs.declared.action.Action.{Action}
 use Rattle.svc_record.specs.declared.action.ExecutionPhase.TheVariants.{Running, ShutdownRuntimes, Terminated}
-use Rattle.svc_record.specs.declared.entry.Entry.TheVariants.{Got, Told}
-use Rattle.svc_record.specs.declared.event.Event.TheVariants.{Signal}
 use Rattle.svc_record.specs.declared.event.ShutdownSignal.{ShutdownSignal}
 use Rattle.svc_record.specs.declared.event.ShutdownSignal.TheVariants.{FastShutdown, GracefulTerminate, GracefulUpgrade}
-use Rattle.svc_record.specs.Record.{Record, has, tell, now, is_signal, is_running, signal_of, first_or, before_signal, has_cut}
+use Rattle.svc_record.specs.Record.{Record, has, tell, now, is_running, signal_of, before_signal, has_cut}
 use Rattle.svc_record.specs.Message.{encode}
 use Rattle.svc_record.specs.Descriptors.{live_table}
 use Rattle.svc_record.specs.Offer.{is_upgrade, is_empty_table, is_written, has_offer, is_answered, is_over, is_offered, is_held_back, goes_on}
 use Rattle.svc_record.specs.Drain.{Mark, phase, rest_end, grace_over, signal_grace_over, offer_grace_over, has_passed_by, waits_are_over, marks_if, offer_row, row_by, wait_row, due_marks}
-use Rattle.svc_laws.specs.Signals.{is_further}
 use Rattle.svc_laws.proofs.ToldLemmas.{kept}
-
--- the record with the signal
-abbrev pub after : ShutdownSignal → Record → Record
-after kind b = Got (Signal kind) ∷ b
-
--- what neither the signal changes nor what is told
-pub still : {X : Type 0} (F : Record → X) → ((a : Action) (q : Record) → F (Told a ∷ q) ≡ F q) → (told : List Action) (kind : ShutdownSignal)
-    (b : Record) → F (after kind b) ≡ F b
-    → F (tell (after kind b) told) ≡ F b
-still F same told kind b step = kept F same told (after kind b) ∙ step
 
 -- what the waits and the offer look at is in both the same
 pub record SameWaits (p : Plan) (b q : Record) : Type 0 where
@@ -36,24 +21,14 @@ pub record SameWaits (p : Plan) (b q : Record) : Type 0 where
   pub rest : rest_end p q ≡ rest_end p b
   pub answered : is_answered p q ≡ is_answered p b
 
-first_twice : (s : Option ShutdownSignal) (k kind : ShutdownSignal) → first_or (first_or s k) kind ≡ first_or s k
-first_twice (Some earlier) k kind = refl
-first_twice None k kind = refl
-
-signal_stays : (q : Record) (kind : ShutdownSignal) → has is_signal q ≡ true → first_or (signal_of q) kind ≡ signal_of q
-signal_stays [] kind h = absurd (false≢true h)
-signal_stays (Got (Signal k) ∷ q) kind h = first_twice (signal_of q) k kind
-signal_stays (Got e ∷ q) kind h = signal_stays q kind h
-signal_stays (Told a ∷ q) kind h = signal_stays q kind h
-
-pub same-waits : (p : Plan) (b : Record) (kind : ShutdownSignal) (told : List Action) → is_further kind b ≡ true → SameWaits p b (tell (after kind b) told)
-same-waits p b kind told further = let parts = and_parts _ _ further in record {
-  signal = still signal_of (λ a q. refl) told kind b (signal_stays b kind parts.0);
-  cut = still has_cut (λ a q. refl) told kind b (ap (λ x. x || has_cut b) (apart_from _ parts.1));
-  before = still before_signal (λ a q. refl) told kind b (rw parts.0 refl);
-  time = still now (λ a q. refl) told kind b refl;
-  rest = still (rest_end p) (λ a q. refl) told kind b refl;
-  answered = still (is_answered p) (λ a q. refl) told kind b refl;
+pub same-waits : (p : Plan) (b : Record) (told : List Action) → SameWaits p b (tell b told)
+same-waits p b told = record {
+  signal = kept signal_of (λ a q. refl) told b;
+  cut = kept has_cut (λ a q. refl) told b;
+  before = kept before_signal (λ a q. refl) told b;
+  time = kept now (λ a q. refl) told b;
+  rest = kept (rest_end p) (λ a q. refl) told b;
+  answered = kept (is_answered p) (λ a q. refl) told b;
 }
 
 -- `is_over` by what it looks at

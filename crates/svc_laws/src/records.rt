@@ -4,10 +4,12 @@ ghost use Rattle.std.specs.Prelude.{◌≡◌, true, false, List, [], ◌∷◌}
 ghost use Rattle.svc_record.specs.declared.plan.Plan.{Plan};
 ghost use Rattle.svc_record.specs.declared.action.Action.{Action};
 ghost use Rattle.svc_record.specs.declared.entry.Entry.TheVariants.{Got};
+ghost use Rattle.svc_record.specs.declared.event.Event.{Event};
 ghost use Rattle.svc_record.specs.declared.event.Event.TheVariants.{Signal};
 ghost use Rattle.svc_record.specs.declared.event.ShutdownSignal.{ShutdownSignal};
 ghost use Rattle.svc_record.specs.Record.{Record, EachEntry, tell};
 ghost use Rattle.svc_record.specs.Descriptors.{one_live};
+ghost use Rattle.svc_record.specs.Due.{is_calm};
 ghost use Rattle.svc_record.specs.Ends.{has_ended};
 ghost use Rattle.svc_record.specs.Facts.{Settled};
 ghost use Rattle.svc_record.specs.Right.{Right};
@@ -31,4 +33,14 @@ pub fn one_ask_of_a_kind()
 pub fn further_signal()
     ensures { (p : Plan) (r before : Record) (kind : ShutdownSignal) (told : List Action) → Right p r → is_further kind before ≡ true
         → Settled (tell (Got (Signal kind) ∷ before) told) r → told ≡ [] }
+{}
+
+/// After an event nothing is told before the next one exactly where nothing is due with it: where the record up
+/// to the event is right as it is, while the run goes on. So a moment at which nothing is due tells nothing, and
+/// one at which something is due tells something, or ends the run.
+pub fn nothing_due()
+    ensures silent { (p : Plan) (r before : Record) (e : Event) (told : List Action) → Right p r → Settled (tell (Got e ∷ before) told) r
+        → is_calm p (Got e ∷ before) ≡ true → told ≡ [] }
+    ensures due { (p : Plan) (r before : Record) (e : Event) → Right p r → Settled (Got e ∷ before) r
+        → has_ended p (Got e ∷ before) ≡ false → is_calm p (Got e ∷ before) ≡ true }
 {}

@@ -18,7 +18,7 @@ pub enum BindAnswer {
 }
 
 /// What one try to bind an address gave, as a binder tells it: with the number of the descriptor.
-#[derive(Clone, Copy, PartialEq, Eq, Debug)]
+#[derive(Clone, Copy)]
 pub enum BindOutcome {
     Bound(u64),
     InUse,
@@ -26,7 +26,7 @@ pub enum BindOutcome {
 }
 
 /// A call of a binder, with its answer.
-#[derive(Debug, Drop)]
+#[derive(Drop)]
 pub enum BinderCall {
     Bind(ServerAddress, BindOutcome),
     /// The number of the descriptor that was to be adopted, and whether it was.

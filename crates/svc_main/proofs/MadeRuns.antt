@@ -1,5 +1,5 @@
 -- The run of the generator's services serves, and what is counted in it.
-use Rattle.std.proofs.Common.{◌≡◌, ℕ, ◌*◌, ◌≤◌, Bool, true, false, cond, List, ◌++◌, string_bytes, refl, sym, ap, subst, ◌∙◌, Ok, Err, IfOk}
+use Rattle.std.proofs.Common.{◌≡◌, ℕ, ◌*◌, ◌≤◌, Bool, true, false, cond, List, ◌++◌, string_bytes, refl, sym, ap, subst, ◌∙◌, arith, Ok, Err, IfOk}
 use Rattle.std.specs.Prelude.{Result}
 use Rattle.svc_record.specs.declared.action.StepEnd.TheVariants as ends
 use Rattle.svc_record.specs.Record.{Record, times}
@@ -10,7 +10,7 @@ use Rattle.svc_main.specs.declared.outcome.RunEnd.{RunEnd}
 use Rattle.svc_main.specs.declared.outcome.RunEnd.TheVariants.{Served}
 use Rattle.svc_main.specs.declared.outcome.StatusLine.TheVariants.{Run}
 use Rattle.svc_main.specs.Status.{status_line}
-use Rattle.svc_main.specs.Counts.{is_any_bind, is_any_close, count_lines, summary}
+use Rattle.svc_main.specs.Counts.{is_any_bind, is_any_close, count_lines, summary, FitCounts}
 use Rattle.svc_main.specs.Generator.{made_parts, made_plan, made_events, no_flags}
 use Rattle.svc_main.specs.Program.{EndsServed, RunsThrough, IsRunOf, PrintsCounts, CountsText}
 use Rattle.svc_main.proofs.MadeThrough.{made-fits, made-goes, made-passes}
@@ -58,6 +58,17 @@ prints n out r few run printed =
       starts = starts;
       binds = binds;
       closes = closes;
+    }
+
+-- its counts are below 2^64
+pub made_fit : (n : ℕ) (end : RunEnd) (r : Record) → n ≤ 1024 → IsRunOf no_flags (made_parts n) end r → FitCounts r
+made_fit n end r few run =
+    let served : end ≡ Served = made_served n end r few run in
+    let d = done n r few (subst (λ (x : RunEnd). IsRunOf no_flags (made_parts n) x r) served run) in
+    record {
+      starts_fit = omega (arith, few, count-starts n r d);
+      binds_fit = omega (arith, few, count-binds n r d);
+      closes_fit = omega (arith, few, count-closes n r d);
     }
 
 -- where memory was found for the counts

@@ -36,7 +36,7 @@ script_answer words left read numbers opt parts (Run end) out takes flags same s
 script_answer words left read numbers opt parts (Line n) out takes flags same short says places (printed, refusal) =
     let k : ℕ = refusal.0 in
     let place : IsLineOf (lines read) k n = subst (IsLineOf (lines read) k) (sym refusal.1.1) (places.each k refusal.1.0.here) in
-    (takes, printed, of_left left read (λ bytes. RefusesIn bytes n) same (inr (inl (parts, (says, (k, (refusal.1.0, place)))))))
+    (takes, printed, of_left left read (λ bytes. RefusesIn bytes n) same (inl (short, inr (parts, (says, (k, (refusal.1.0, place)))))))
 script_answer words left read numbers opt parts Words out takes flags same short says places h = absurd h
 script_answer words left read numbers opt parts ReadFault out takes flags same short says places h = absurd h
 

@@ -134,11 +134,11 @@ whole_is_served words bytes parts ReadFault out before now w a f n = absurd (n f
 whole_is_served words bytes parts (Line k) out before now w a f n = absurd (by a.2)
   where
     by : RefusesIn bytes k → ⊥
-    by (inl refused) = let said : script bytes ≡ Ok parts = w.is_script.says in cc
-    by (inr (inl edge)) =
+    by (inl (short, inl refused)) = let said : script bytes ≡ Ok parts = w.is_script.says in cc
+    by (inl (short, inr edge)) =
         refused_some parts.services edge.1.1.0
         (subst (λ (q : Parts). RefusesAt q.services edge.1.1.0) (one_script bytes edge.0 parts edge.1.0 w.is_script.says) edge.1.1.1.0) w.is_script.edges
-    by (inr (inr long)) = let short = w.is_script.short in omega (arith, long.1)
+    by (inr long) = let short = w.is_script.short in omega (arith, long.1)
 whole_is_served words bytes parts (Run end) out before now w a f n =
     by a
   where

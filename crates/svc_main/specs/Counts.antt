@@ -1,5 +1,5 @@
 -- What the generator's command counts in a record.
-use Rattle.std.specs.Prelude.{ℕ, Bool, true, false, ◌≡◌, List, [], ◌∷◌, ◌++◌, codes}
+use Rattle.std.specs.Prelude.{ℕ, Bool, true, false, ◌≡◌, ◌<◌, ◌^◌, List, [], ◌∷◌, ◌++◌, codes}
 use Rattle.std.specs.Fmt.{decimal}
 use Rattle.svc_record.specs.declared.entry.Entry.{Entry}
 use Rattle.svc_record.specs.declared.entry.Entry.TheVariants.{Told}
@@ -38,3 +38,9 @@ pub record HasCounts (starts binds closes : ℕ) (r : Record) : Type 0 where
   pub starts_are : starts ≡ times is_any_start r
   pub binds_are : binds ≡ times is_any_bind r
   pub closes_are : closes ≡ times is_any_close r
+
+-- each count of the record is below 2^64
+pub record FitCounts (r : Record) : Type 0 where
+  pub starts_fit : times is_any_start r < 2 ^ 64
+  pub binds_fit : times is_any_bind r < 2 ^ 64
+  pub closes_fit : times is_any_close r < 2 ^ 64

@@ -113,9 +113,13 @@ RunText opt left end out = (parts : Parts) × (RanText opt parts end out × IfSo
 abbrev pub RefusesEdge : List ℕ → ℕ → Type 0
 RefusesEdge bytes n = (parts : Parts) × ((script bytes ≡ Ok parts) × ((k : ℕ) × (RefusesAt parts.services k × IsLineOf (lines bytes) k n)))
 
--- the refused line of these bytes: the first that doesn't fit; else that of the first service whose dependencies are refused; 0 for a text that is too long
+-- the refused line of bytes within the limit: the first that doesn't fit; else that of the first service whose dependencies are refused
+abbrev pub RefusesWithin : List ℕ → ℕ → Type 0
+RefusesWithin bytes n = (length bytes ≤ 16777216) × ((script bytes ≡ Err n) ⊎ RefusesEdge bytes n)
+
+-- the refused line of these bytes; 0 for a text that is too long
 abbrev pub RefusesIn : List ℕ → ℕ → Type 0
-RefusesIn bytes n = (script bytes ≡ Err n) ⊎ (RefusesEdge bytes n ⊎ ((n ≡ 0) × (16777216 < length bytes)))
+RefusesIn bytes n = RefusesWithin bytes n ⊎ ((n ≡ 0) × (16777216 < length bytes))
 
 -- the refused line, where the source tells its bytes
 abbrev pub Refuses : Option (List ℕ) → ℕ → Type 0

@@ -1,6 +1,6 @@
 //! What is answered to a script, and by the generator.
 
-ghost use Rattle.std.specs.Prelude.{◌≡◌, ◌≤◌, ℕ, ◌++◌, [], length, map, reverse, List, All, IfOk, OnOk, string_bytes};
+ghost use Rattle.std.specs.Prelude.{◌≡◌, ◌≤◌, ◌++◌, [], length, map, reverse, List, All, IfOk, OnOk, string_bytes};
 ghost use Rattle.svc_record.specs.Text.{text_of, EntryFits};
 ghost use Rattle.svc_text.specs.Accepted.{AreAccepted, BringsFew};
 ghost use Rattle.svc_conf.specs.declared.server.configuration.Opt.{Opt};
@@ -14,7 +14,7 @@ ghost use Rattle.svc_main.specs.declared.outcome.StatusLine.TheVariants.{Run as 
 ghost use Rattle.svc_main.specs.Status.{status_line, StatusFits};
 ghost use Rattle.svc_main.specs.Services.{HasLines, IsServerOf};
 ghost use Rattle.svc_record.specs.declared.item.Item.TheVariants as item;
-ghost use Rattle.svc_main.specs.Counts.{summary};
+ghost use Rattle.svc_main.specs.Counts.{summary, FitCounts};
 ghost use Rattle.svc_main.specs.Generator.{made_events, made_parts, no_flags};
 ghost use Rattle.svc_main.specs.Program.{IsRunOf, RanText, CountsText, AnswersScript};
 
@@ -29,6 +29,7 @@ use crate::script_service::ScriptService;
 use crate::services::{configured, server_of_script, server_of_services};
 use std::alloc::Global;
 use std::fmt::Write;
+use std::mem::drop;
 use svc_base::NoMemory;
 use svc_conf::{Opt, ServerConf};
 use svc_graph::services::ServiceWithDependents;
@@ -93,9 +94,16 @@ fn run_over<R: Recorder + Drop>(
 {
     let turns = items.len() as u64 + 1;
     let mut host = RecordingHost::new(items, recorder);
-    let end = run_items(alloc, server, turns, &mut host)?;
-    let recorder = host.into_recorder();
-    Ok(FinishedRun { end, recorder })
+    match run_items(alloc, server, turns, &mut host) {
+        Ok(end) => {
+            let recorder = host.into_recorder();
+            Ok(FinishedRun { end, recorder })
+        }
+        Err(NoMemory) => {
+            drop(host);
+            Err(NoMemory)
+        }
+    }
 }
 
 /// Runs the server of a script over the script's items, and prints its record.
@@ -118,6 +126,7 @@ fn run_script(
 
 /// The counts of the record of a run, and its status line.
 fn counted(alloc: Global, end: RunEnd, counts: &RecordCounts) -> Result<Answer, NoMemory>
+    requires { FitCounts counts.now }
     ensures { IfOk result (λ a. (a.line ≡ RunLine end) × (string_bytes a.text ≡ summary counts.now ++ status_line (RunLine end))) }
 {
     let line = StatusLine::Run(end);
@@ -126,19 +135,21 @@ fn counted(alloc: Global, end: RunEnd, counts: &RecordCounts) -> Result<Answer, 
     Ok(Answer { line, text })
 }
 
-/// Runs the server of the generator's services over its events, and counts what its record tells.
+/// Runs the server of n services of the generator over its events, and counts what its record tells.
 fn run_made(
     alloc: Global,
+    n: u32,
     server: Server<ScriptService, ScriptFilter>,
     items: Vec<Item>,
 ) -> Result<Answer, NoMemory>
+    requires size { n ≤ 1024 }
     requires few { All BringsFew items.items }
     requires lines { (services : List ServiceLine) × HasLines services (length services) server.dependencies server.filters
         (answers_of ⟦<ScriptService as ServiceWithDependents>⟧ server.services.items) }
-    ensures { (n : ℕ) → n ≤ 1024 → IsServerOf no_flags (made_parts n) server.configuration server.options server.eager
-        server.dependencies server.filters (answers_of ⟦<ScriptService as ServiceWithDependents>⟧ server.services.items)
-        → items.items ≡ map item.Event (made_events n)
-        → IfOk result (λ a. (a.line ≡ RunLine Served) × CountsText n (string_bytes a.text)) }
+    requires server { IsServerOf no_flags (made_parts n) server.configuration server.options server.eager
+        server.dependencies server.filters (answers_of ⟦<ScriptService as ServiceWithDependents>⟧ server.services.items) }
+    requires items { items.items ≡ map item.Event (made_events n) }
+    ensures { IfOk result (λ a. (a.line ≡ RunLine Served) × CountsText n (string_bytes a.text)) }
 {
     let left = run_over(alloc, server, items, RecordCounts::new())?;
     counted(alloc, left.end, &left.recorder)
@@ -150,10 +161,29 @@ pub(crate) fn answer_made(alloc: Global, n: u32) -> Result<Answer, NoMemory>
     ensures { IfOk result (λ a. (a.line ≡ RunLine Served) × CountsText n (string_bytes a.text)) }
 {
     let services = made_services(alloc, n)?;
-    let server = server_of_services(alloc, services.as_slice())?;
-    let conf = ServerConf::default(alloc)?;
+    let server = match server_of_services(alloc, services.as_slice()) {
+        Ok(server) => server,
+        Err(NoMemory) => {
+            drop(services);
+            return Err(NoMemory);
+        }
+    };
+    drop(services);
+    let conf = match ServerConf::default(alloc) {
+        Ok(conf) => conf,
+        Err(NoMemory) => {
+            drop(server);
+            return Err(NoMemory);
+        }
+    };
     let server = configured(server, conf, no_flags(), false);
-    run_made(alloc, server, made_items(alloc, n)?)
+    match made_items(alloc, n) {
+        Ok(items) => run_made(alloc, n, server, items),
+        Err(NoMemory) => {
+            drop(server);
+            Err(NoMemory)
+        }
+    }
 }
 
 /// The answer to a script with these flags.
@@ -165,10 +195,27 @@ pub(crate) fn answer_script(alloc: Global, opt: Opt, script: Script) -> Result<A
 {
     match server_of_script(alloc, &script) {
         Ok(server) => {
-            let server = configured(server, script.conf, opt, script.eager);
-            run_script(alloc, server, script.items)
+            let Script {
+                conf,
+                services,
+                eager,
+                items,
+                lines,
+            } = script;
+            drop(services);
+            drop(lines);
+            let server = configured(server, conf, opt, eager);
+            run_script(alloc, server, items)
         }
-        Err(ScriptError::Line(n)) => said(alloc, StatusLine::Line(n as u64)),
-        Err(ScriptError::NoMemory) => Err(NoMemory),
+        Err(ScriptError::Line(n)) => {
+            drop(opt);
+            drop(script);
+            said(alloc, StatusLine::Line(n as u64))
+        }
+        Err(ScriptError::NoMemory) => {
+            drop(opt);
+            drop(script);
+            Err(NoMemory)
+        }
     }
 }

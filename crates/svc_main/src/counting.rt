@@ -1,7 +1,7 @@
 //! What is counted in a record, as it grows.
 
-ghost use Rattle.std.specs.Prelude.{◌≡◌, ◌+◌, [], if◌then◌else◌, IfOk, IfSome, string_bytes};
-ghost use Rattle.svc_main.specs.Counts.{is_any_start, is_any_bind, is_any_close, summary};
+ghost use Rattle.std.specs.Prelude.{◌≡◌, ◌≤◌, ◌+◌, ◌^◌, [], if◌then◌else◌, IfOk, None, IfSome, string_bytes};
+ghost use Rattle.svc_main.specs.Counts.{is_any_start, is_any_bind, is_any_close, summary, FitCounts};
 
 use crate::recorder::Recorder;
 use std::alloc::Global;
@@ -42,20 +42,21 @@ pub(crate) struct RecordCounts {
 }
 
 impl Model for RecordCounts {
-    ghost use Rattle.std.specs.Prelude.{◌≡◌, false};
+    ghost use Rattle.std.specs.Prelude.{◌≡◌, true, false};
     ghost use Rattle.svc_record.specs.Record.{Record};
-    ghost use Rattle.svc_main.specs.Counts.{HasCounts};
+    ghost use Rattle.svc_main.specs.Counts.{HasCounts, FitCounts};
 
     ghost Value = { Record };
 
     ghost view = { λ c. c.entries };
 
-    ghost invariant = { λ c. c.is_past ≡ false → HasCounts c.starts c.binds c.closes c.entries };
+    ghost invariant = { λ c. (c.is_past ≡ false → HasCounts c.starts c.binds c.closes c.entries) × (c.is_past ≡ true → FitCounts c.entries → ⊥) };
 }
 
 /// The count with this entry, where it can be told.
 fn counted(count: u64, counts: bool) -> Option<u64>
-    ensures { IfSome result (λ n. n ≡ (if counts then count + 1 else count)) }
+    ensures count { IfSome result (λ n. n ≡ (if counts then count + 1 else count)) }
+    ensures past { result ≡ None → 2 ^ 64 ≤ (if counts then count + 1 else count) }
 {
     if counts {
         count.checked_add(1)
@@ -78,12 +79,13 @@ impl RecordCounts {
         }
     }
 
-    /// The three counts, a line each. There is no memory for a count past 2^64.
+    /// The three counts, a line each. Each is below 2^64.
     pub(crate) fn summary(&self, alloc: Global) -> Result<String, NoMemory>
+        requires { FitCounts self.now }
         ensures { IfOk result (λ text. string_bytes text ≡ summary self.now) }
     {
         if self.is_past {
-            return Err(NoMemory);
+            unreachable!();
         }
         let mut text = String::new(alloc);
         writeln!(text, "starts {}", self.starts)?;

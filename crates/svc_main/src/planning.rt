@@ -13,6 +13,7 @@ ghost use Rattle.svc_main.specs.Planned.{IsRefused};
 
 use crate::services::{configured, server_of_script};
 use std::alloc::Global;
+use std::mem::drop;
 use svc_base::NoMemory;
 use svc_conf::{Key, Opt, ServerConf};
 use svc_record::Plan;
@@ -54,17 +55,37 @@ pub fn plan_script(alloc: Global, opt: Opt, script: Script) -> Result<PlannedScr
 {
     match server_of_script(alloc, &script) {
         Ok(server) => {
-            let server = configured(server, script.conf, opt, script.eager);
+            let Script {
+                conf,
+                services,
+                eager,
+                items,
+                lines,
+            } = script;
+            drop(items);
+            drop(lines);
+            let server = configured(server, conf, opt, eager);
             let refused = refused_key(&server.configuration);
             match server.plan(alloc) {
-                Ok(plan) => Ok(PlannedScript {
-                    plan,
-                    services: script.services,
-                    refused,
-                }),
-                Err(NoMemory) => Err(ScriptError::NoMemory),
+                Ok(plan) => {
+                    drop(server);
+                    Ok(PlannedScript {
+                        plan,
+                        services,
+                        refused,
+                    })
+                }
+                Err(NoMemory) => {
+                    drop(server);
+                    drop(services);
+                    Err(ScriptError::NoMemory)
+                }
             }
         }
-        Err(error) => Err(error),
+        Err(error) => {
+            drop(opt);
+            drop(script);
+            Err(error)
+        }
     }
 }

@@ -13,10 +13,11 @@ ghost use Rattle.svc_main.specs.Services.{HasLines};
 use crate::script_filter::{ScriptFilter, add_filters};
 use crate::script_service::ScriptService;
 use std::alloc::Global;
+use std::mem::drop;
 use svc_base::NoMemory;
 use svc_conf::{Opt, ServerConf};
 use svc_graph::services::ServiceWithDependents;
-use svc_server::{AddError, Server};
+use svc_server::{AddError, AddRefused, Server};
 use svc_text::{Script, ScriptError, ServiceLine, add_dependencies, filter_number};
 
 /// A server without services, with the default configuration.
@@ -62,13 +63,30 @@ pub(crate) fn server_of(
         (answers_of ⟦<ScriptService as ServiceWithDependents>⟧ server.services.items)) }
 {
     let mut server = empty_server(alloc)?;
-    add_filters(alloc, &mut server.filters, lines)?;
+    match add_filters(alloc, &mut server.filters, lines) {
+        Ok(()) => {}
+        Err(NoMemory) => {
+            drop(server);
+            return Err(NoMemory);
+        }
+    }
     for k in 0..lines.len() {
         let line = &lines[k];
-        let service = ScriptService::new(alloc, line, filter_number(&lines[..k], line))?;
+        let service = match ScriptService::new(alloc, line, filter_number(&lines[..k], line)) {
+            Ok(service) => service,
+            Err(NoMemory) => {
+                drop(server);
+                return Err(NoMemory);
+            }
+        };
         match server.add_service(alloc, service) {
             Ok(_) => {}
-            Err(refused) => return Err(memory_alone(refused.reason)),
+            Err(refused) => {
+                let AddRefused { service, reason } = refused;
+                drop(service);
+                drop(server);
+                return Err(memory_alone(reason));
+            }
         }
     }
     Ok(server)
@@ -96,8 +114,14 @@ pub(crate) fn server_of_script(
     };
     match add_dependencies(alloc, &mut server.dependencies, &script.services) {
         Ok(None) => Ok(server),
-        Ok(Some(k)) => Err(ScriptError::Line(script.lines[k])),
-        Err(NoMemory) => Err(ScriptError::NoMemory),
+        Ok(Some(k)) => {
+            drop(server);
+            Err(ScriptError::Line(script.lines[k]))
+        }
+        Err(NoMemory) => {
+            drop(server);
+            Err(ScriptError::NoMemory)
+        }
     }
 }
 
@@ -116,7 +140,10 @@ pub(crate) fn server_of_services(
     match add_dependencies(alloc, &mut server.dependencies, lines) {
         Ok(None) => Ok(server),
         Ok(Some(_)) => unreachable!(),
-        Err(NoMemory) => Err(NoMemory),
+        Err(NoMemory) => {
+            drop(server);
+            Err(NoMemory)
+        }
     }
 }
 

@@ -126,3 +126,10 @@ either_plain (Some x) b p q = p
 pub or_plain : (a b found : Option (Bor (List ℕ))) → found ≡ option_or a b → IfSome a (λ text. IsPlain text.now) → IfSome b (λ text. IsPlain text.now)
     → IfSome found (λ text. IsPlain text.now)
 or_plain a b found e p q = subst (λ (o : Option (Bor (List ℕ))). IfSome o (λ text. IsPlain text.now)) (sym e) (either_plain a b p q)
+
+-- a message goes on with a plain text
+pub message_on : (old new back : List ℕ) → IsMessage old → new ≡ old ++ back → list_all is_plain back ≡ true → IsMessage new
+message_on old new back m e p = record {
+  plain = plain_behind new old back m.plain e p;
+  says = omega (arith, m.says, ap length e, length-append old back);
+}

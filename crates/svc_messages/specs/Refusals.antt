@@ -13,6 +13,10 @@ line_text n cause = codes "line " ++ (decimal n ++ (codes ": " ++ cause))
 abbrev pub TellsOf : ℕ → List ℕ → Type 0
 TellsOf n text = (cause : List ℕ) × (text ≡ line_text n cause)
 
+-- the text is one on some line
+abbrev pub TellsOfSome : List ℕ → Type 0
+TellsOfSome text = (n : ℕ) × TellsOf n text
+
 -- it is one on one of the lines
 abbrev pub TellsOfLine : List (List ℕ) → List ℕ → Type 0
 TellsOfLine ls text = (n : ℕ) × (0 < n) × (n ≤ length ls) × TellsOf n text

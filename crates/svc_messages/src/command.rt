@@ -4,7 +4,8 @@ ghost use Rattle.std.specs.Prelude.{◌≡◌, ◌⊎◌, IsTrue, IfOk, length, 
 ghost use Rattle.std.specs.List.{list_all};
 ghost use Rattle.svc_messages.specs.Messages.{IsMessage, stands};
 
-use crate::words::{said, shown, unknown_word};
+use crate::pieces::about;
+use crate::words::{said, unknown_word};
 use clap::error::ErrorKind;
 use std::alloc::Global;
 use std::rc::RcStr;
@@ -85,19 +86,27 @@ fn run_message(alloc: Global, words: &[RcStr]) -> Result<String, NoMemory>
         return said(alloc, HELP);
     };
     let word = word.as_str().as_bytes();
-    let word_shown = shown(alloc, word)?;
     match kind {
         ErrorKind::DisplayHelp | ErrorKind::DisplayVersion => said(alloc, HELP),
         ErrorKind::UnknownArgument => unknown_word(alloc, word, "flag of svc run", &FLAGS),
-        ErrorKind::ArgumentConflict => Ok(format!(in alloc;
-            "{word_shown} says a flag a second time; each flag of svc run stands at most once"
-        )?),
-        ErrorKind::TooManyValues => Ok(format!(in alloc;
-            "{word_shown} gives a value to a flag that takes none; -c and --conf of svc run take one"
-        )?),
-        _ => Ok(format!(in alloc;
-            "{word_shown} lacks its path; -c and --conf of svc run take one behind them"
-        )?),
+        ErrorKind::ArgumentConflict => about(
+            alloc,
+            word,
+            " says a flag a second time; each flag of svc run stands at most once",
+            &[],
+        ),
+        ErrorKind::TooManyValues => about(
+            alloc,
+            word,
+            " gives a value to a flag that takes none; -c and --conf of svc run take one",
+            &[],
+        ),
+        _ => about(
+            alloc,
+            word,
+            " lacks its path; -c and --conf of svc run take one behind them",
+            &[],
+        ),
     }
 }
 
@@ -107,18 +116,18 @@ fn gen_message(alloc: Global, words: &[RcStr]) -> Result<String, NoMemory>
 {
     match words {
         [] => said(alloc, "gen lacks its number, from 1 to 1024"),
-        [word] => {
-            let word_shown = shown(alloc, word.as_str().as_bytes())?;
-            Ok(format!(in alloc;
-                "{word_shown} behind gen isn't a number from 1 to 1024, without sign or leading zero"
-            )?)
-        }
-        [_, word, ..] => {
-            let word_shown = shown(alloc, word.as_str().as_bytes())?;
-            Ok(format!(in alloc;
-                "{word_shown} is one word too many; gen takes one number, from 1 to 1024"
-            )?)
-        }
+        [word] => about(
+            alloc,
+            word.as_str().as_bytes(),
+            " behind gen isn't a number from 1 to 1024, without sign or leading zero",
+            &[],
+        ),
+        [_, word, ..] => about(
+            alloc,
+            word.as_str().as_bytes(),
+            " is one word too many; gen takes one number, from 1 to 1024",
+            &[],
+        ),
     }
 }
 

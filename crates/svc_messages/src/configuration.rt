@@ -1,13 +1,15 @@
 //! Why a line of a configuration is refused, and which of its keys are misspelled.
 
-ghost use Rattle.std.specs.Prelude.{All, IfOk, IfSome, string_bytes};
+ghost use Rattle.std.specs.Prelude.{All, OnOk, IfOk, IfSome, string_bytes};
 ghost use Rattle.std.specs.Str.Lines.{lines};
 ghost use Rattle.svc_messages.specs.Messages.{IsPlain, ArePlain, IsMessage};
 ghost use Rattle.svc_messages.specs.Refusals.{TellsOf, TellsOfLine};
 
-use crate::places::{Section, header};
+use crate::near::{add_near, put_near};
+use crate::pieces::{Piece, about, numbered, told};
+use crate::places::{Section, behind_header, header};
 use crate::spelling::nearest;
-use crate::words::{is_known, said, shown};
+use crate::words::{is_known, said};
 use std::alloc::Global;
 use std::str;
 use svc_base::{NoMemory, split_line, split_word};
@@ -61,7 +63,7 @@ const TEXTS: [&str; 7] = [
 const LISTS: [&str; 2] = ["client_bind_to_ipv4", "client_bind_to_ipv6"];
 
 /// The key whose value is one of two words.
-const SCALE: &str = "runtime_metrics_poll_time_histogram_scale";
+const SCALES: [&str; 1] = ["runtime_metrics_poll_time_histogram_scale"];
 
 /// What the key takes, if it is known.
 fn wanted(key: &[u8]) -> Option<&'static str>
@@ -75,7 +77,7 @@ fn wanted(key: &[u8]) -> Option<&'static str>
         Some("a text")
     } else if is_known(key, &LISTS) {
         Some("[], or below it an item, - TEXT, a line")
-    } else if key == SCALE.as_bytes() {
+    } else if is_known(key, &SCALES) {
         Some("linear or log")
     } else {
         None
@@ -98,7 +100,7 @@ fn meant(key: &[u8]) -> Option<&'static str>
         .or(near_key(key, &FLAGS))
         .or(near_key(key, &TEXTS))
         .or(near_key(key, &LISTS))
-        .or(near_key(key, &[SCALE]))
+        .or(near_key(key, &SCALES))
 }
 
 /// The key at the front of a line, and what follows its colon.
@@ -110,18 +112,19 @@ fn split_key(line: &[u8]) -> Option<(&[u8], &[u8])> {
     }
 }
 
-/// The number of the first line, from 1, in the configuration of a script that has this key.
-fn key_line(bytes: &[u8], key: &[u8]) -> Option<usize> {
+/// The number of the first line, from 1, in the configuration of a script that has this key, and what
+/// follows its colon.
+fn key_at<'a>(bytes: &'a [u8], key: &[u8]) -> Option<(usize, &'a [u8])> {
     let mut section = Section::Nothing;
     let mut rest = bytes;
     let mut number = 1usize;
     while let Some((line, after)) = split_line(rest) {
         section = header(line).unwrap_or(section);
         if section == Section::Configuration
-            && let Some((found, _)) = split_key(line)
+            && let Some((found, value)) = split_key(line)
             && found == key
         {
-            return Some(number);
+            return Some((number, value));
         }
         rest = after;
         number = number.saturating_add(1);
@@ -129,21 +132,22 @@ fn key_line(bytes: &[u8], key: &[u8]) -> Option<usize> {
     None
 }
 
-/// What follows the line `%conf`.
-fn behind_header(bytes: &[u8]) -> &[u8] {
-    let mut rest = bytes;
-    while let Some((line, after)) = split_line(rest) {
-        if header(line) == Some(Section::Configuration) {
-            return after;
-        }
-        rest = after;
-    }
-    rest
+/// The number of the first line, from 1, in the configuration of a script that has this key.
+fn key_line(bytes: &[u8], key: &[u8]) -> Option<usize> {
+    let (number, _) = key_at(bytes, key)?;
+    Some(number)
+}
+
+/// The number that the configuration of a script gives this key, if it sets one.
+pub(crate) fn key_number(bytes: &[u8], key: &[u8]) -> Option<u64> {
+    let (_, value) = key_at(bytes, key)?;
+    let (word, _) = split_word(value)?;
+    svc_base::number(word)
 }
 
 /// The first refused line of the configuration has a value that isn't of its key's sort.
 fn has_wrong_value(alloc: Global, bytes: &[u8]) -> Result<bool, NoMemory> {
-    let Ok(text) = str::from_utf8(behind_header(bytes)) else {
+    let Ok(text) = str::from_utf8(behind_header(bytes, Section::Configuration)) else {
         return Ok(false);
     };
     match ServerConf::parse(alloc, text) {
@@ -169,6 +173,54 @@ fn keyless_text(line: &[u8]) -> &'static str
     }
 }
 
+/// Why the value of a key, which takes what is said, isn't taken.
+fn value_text<'a>(
+    alloc: Global,
+    key: &'a [u8],
+    value: &'a [u8],
+    wanted: &'a str,
+) -> Result<String, NoMemory>
+    requires { IsPlain wanted.now }
+    ensures { IfOk result (λ text. IsMessage (string_bytes text)) }
+{
+    let pieces = [
+        Piece::Word(value),
+        Piece::Text(" isn't taken; "),
+        Piece::Word(key),
+        Piece::Text(" takes "),
+        Piece::Text(wanted),
+    ];
+    about(alloc, key, ": ", &pieces)
+}
+
+/// Why what follows the colon of a key is no value.
+fn form_text(alloc: Global, key: &[u8], value: &[u8]) -> Result<String, NoMemory>
+    ensures { IfOk result (λ text. IsMessage (string_bytes text)) }
+{
+    match value.first() {
+        None | Some(b' ' | b'\t') => told(
+            alloc,
+            "the line of ",
+            &[
+                Piece::Word(key),
+                Piece::Text(
+                    " isn't in the form KEY: VALUE; a value that isn't plain stands in quotes",
+                ),
+            ],
+        ),
+        Some(_) => told(
+            alloc,
+            "a blank lacks behind ",
+            &[
+                Piece::Word(key),
+                Piece::Text(":, as in "),
+                Piece::Word(key),
+                Piece::Text(": VALUE"),
+            ],
+        ),
+    }
+}
+
 /// Why the line with this number is none of a configuration.
 pub fn configuration_message(
     alloc: Global,
@@ -181,30 +233,21 @@ pub fn configuration_message(
     let Some((key, value)) = split_key(line) else {
         return said(alloc, keyless_text(line));
     };
-    let key_shown = shown(alloc, key)?;
     if let Some(first) = key_line(bytes, key)
         && first < number
     {
-        return Ok(format!(in alloc;
-            "{key_shown} stands twice, first in line {first}; a key stands once"
-        )?);
+        let pieces = [
+            Piece::Number(first as u64),
+            Piece::Text("; a key stands once"),
+        ];
+        return about(alloc, key, " stands twice, first in line ", &pieces);
     }
     if let Some(wanted) = wanted(key)
         && has_wrong_value(alloc, bytes)?
     {
-        let value_shown = shown(alloc, value.trim_ascii())?;
-        return Ok(format!(in alloc;
-            "{key_shown}: {value_shown} isn't taken; {key_shown} takes {wanted}"
-        )?);
+        return value_text(alloc, key, value.trim_ascii(), wanted);
     }
-    match value.first() {
-        None | Some(b' ' | b'\t') => Ok(format!(in alloc;
-            "the line of {key_shown} isn't in the form KEY: VALUE; a value that isn't plain stands in quotes"
-        )?),
-        Some(_) => Ok(format!(in alloc;
-            "a blank lacks behind {key_shown}:, as in {key_shown}: VALUE"
-        )?),
-    }
+    form_text(alloc, key, value)
 }
 
 /// What the key with this name takes, where not every number is taken.
@@ -222,17 +265,72 @@ pub fn key_message(alloc: Global, bytes: &[u8], name: &str) -> Result<String, No
     ensures { IsPlain name.now → IfOk result (λ text. IsMessage (string_bytes text)) }
 {
     let taken = taken_by(name);
+    let pieces = [
+        Piece::Word(name.as_bytes()),
+        Piece::Text("; it takes "),
+        Piece::Text(taken),
+    ];
+    let cause = told(alloc, "no server can run with this value of ", &pieces)?;
     match key_line(bytes, name.as_bytes()) {
-        Some(number) => Ok(format!(in alloc;
-            "line {number}: no server can run with this value of {name}; it takes {taken}"
-        )?),
-        None => Ok(format!(in alloc;
-            "no server can run with this value of {name}; it takes {taken}"
-        )?),
+        Some(number) => numbered(alloc, number, cause.as_str()),
+        None => Ok(cause),
     }
 }
 
-/// What is said of a line whose key isn't known and is one letter off a known one.
+/// How many unknown keys are told at most.
+const TOLD: usize = 10;
+
+/// The sorts of keys.
+const SORTS: usize = 5;
+
+/// The keys of a sort.
+fn keys_of(sort: usize) -> &'static [&'static str]
+    ensures { ArePlain result.now }
+{
+    match sort {
+        0 => &NUMBERS,
+        1 => &FLAGS,
+        2 => &TEXTS,
+        3 => &LISTS,
+        _ => &SCALES,
+    }
+}
+
+/// Puts the known keys behind a message that are nearest to the key.
+fn put_nearest(alloc: Global, text: &mut String, key: &[u8]) -> Result<(), NoMemory>
+    ensures { OnOk result (IsMessage (string_bytes text.old) → IsMessage (string_bytes text.new)) }
+{
+    let mut near = Vec::new(alloc);
+    for sort in 0..SORTS {
+        add_near(&mut near, key, keys_of(sort))?;
+    }
+    put_near(alloc, text, near.as_mut_slice())
+}
+
+/// What is said of a key that isn't known: the known one that it is one letter off, or else those that
+/// are nearest to it.
+fn key_cause(alloc: Global, key: &[u8]) -> Result<String, NoMemory>
+    ensures { IfOk result (λ text. IsMessage (string_bytes text)) }
+{
+    if let Some(meant) = meant(key) {
+        return about(
+            alloc,
+            key,
+            " is no key and is skipped; did you mean ",
+            &[Piece::Text(meant), Piece::Text("?")],
+        );
+    }
+    let mut text = about(
+        alloc,
+        key,
+        " is no key and is skipped; known keys near it:",
+        &[],
+    )?;
+    put_nearest(alloc, &mut text, key)?;
+    Ok(text)
+}
+
+/// What is said of a line whose key isn't known.
 fn unknown_key(alloc: Global, number: usize, line: &[u8]) -> Result<Option<String>, NoMemory>
     ensures message { IfOk result (λ told. IfSome told (λ text. IsMessage (string_bytes text))) }
     ensures line { IfOk result (λ told. IfSome told (λ text. TellsOf number (string_bytes text))) }
@@ -243,17 +341,11 @@ fn unknown_key(alloc: Global, number: usize, line: &[u8]) -> Result<Option<Strin
     if wanted(key).is_some() {
         return Ok(None);
     }
-    let Some(meant) = meant(key) else {
-        return Ok(None);
-    };
-    let key_shown = shown(alloc, key)?;
-    Ok(Some(format!(in alloc;
-        "line {number}: {key_shown} is no key and is skipped; did you mean {meant}?"
-    )?))
+    let cause = key_cause(alloc, key)?;
+    Ok(Some(numbered(alloc, number, cause.as_str())?))
 }
 
-/// What is said of the keys of a script's configuration that aren't known and are one letter off a
-/// known one: a line each.
+/// What is said of the first ten keys of a script's configuration that aren't known: a line each.
 pub fn unknown_keys(alloc: Global, bytes: &[u8]) -> Result<Vec<String>, NoMemory>
     ensures messages { IfOk result (λ notes. All (λ note. IsMessage (string_bytes note)) notes.items) }
     ensures lines { IfOk result (λ notes. All (λ note. TellsOfLine (lines bytes.now) (string_bytes note)) notes.items) }
@@ -264,7 +356,7 @@ pub fn unknown_keys(alloc: Global, bytes: &[u8]) -> Result<Vec<String>, NoMemory
     let mut number = 1usize;
     while let Some((line, after)) = split_line(rest) {
         section = header(line).unwrap_or(section);
-        if section == Section::Services {
+        if section == Section::Services || notes.len() >= TOLD {
             return Ok(notes);
         }
         if section == Section::Configuration

@@ -5,8 +5,11 @@ ghost use Rattle.svc_messages.specs.Messages.{IsPlain, IsMessage};
 
 use crate::configuration::key_message;
 use crate::events::fits_where;
+use crate::pieces::{Piece, told};
 use crate::places::{Section, header};
-use crate::words::shown;
+use crate::record_lines::before_last_event;
+use crate::stray::{Judged, put_cause};
+use crate::waits::used_up;
 use std::alloc::Global;
 use std::str;
 use svc_base::{NoMemory, number, split_line, split_word};
@@ -40,21 +43,59 @@ fn event_line(bytes: &[u8], k: u64) -> Option<(usize, &[u8])> {
     None
 }
 
+/// Where the k-th event, which was refused, would fit.
+fn fits_text(alloc: Global, number: usize, line: &[u8], k: u64) -> Result<Option<String>, NoMemory>
+    ensures { IfOk result (λ told. IfSome told (λ text. IsMessage (string_bytes text))) }
+{
+    let where_it_fits = match split_word(line) {
+        Some((word, _)) => fits_where(word),
+        None => return Ok(None),
+    };
+    let pieces = [
+        Piece::Number(number as u64),
+        Piece::Text(": "),
+        Piece::Word(line),
+        Piece::Text(", event "),
+        Piece::Number(k),
+        Piece::Text(", doesn't fit there; it fits where "),
+        Piece::Text(where_it_fits),
+    ];
+    Ok(Some(told(alloc, "line ", &pieces)?))
+}
+
 /// Why the k-th event was refused.
-fn stray_message(alloc: Global, bytes: &[u8], k: u64) -> Result<Option<String>, NoMemory>
+fn stray_message(
+    alloc: Global,
+    bytes: &[u8],
+    record: &[u8],
+    k: u64,
+) -> Result<Option<String>, NoMemory>
     ensures { IfOk result (λ told. IfSome told (λ text. IsMessage (string_bytes text))) }
 {
     let Some((number, line)) = event_line(bytes, k) else {
         return Ok(None);
     };
-    let line_shown = shown(alloc, line)?;
-    let where_it_fits = match split_word(line) {
-        Some((word, _)) => fits_where(word),
-        None => return Ok(None),
+    let Some((key, words)) = split_word(line) else {
+        return Ok(None);
     };
-    Ok(Some(format!(in alloc;
-        "line {number}: {line_shown}, event {k}, doesn't fit there; it fits where {where_it_fits}"
-    )?))
+    let judged = Judged {
+        script: bytes,
+        record: before_last_event(record),
+        words,
+    };
+    let pieces = [
+        Piece::Number(number as u64),
+        Piece::Text(": "),
+        Piece::Word(line),
+        Piece::Text(", event "),
+        Piece::Number(k),
+        Piece::Text(", doesn't fit there: "),
+    ];
+    let mut text = told(alloc, "line ", &pieces)?;
+    if !record.is_empty() && put_cause(alloc, &mut text, &judged, key)? {
+        return Ok(Some(text));
+    }
+    fits_text(alloc, number, line, k)
 }
 
 /// What stands behind `status stray `.
@@ -86,18 +127,26 @@ fn plain_message(line: &str) -> Option<&'static str>
     }
 }
 
-/// Why a run that left this status line ended.
-pub fn end_message(alloc: Global, bytes: &[u8], line: &[u8]) -> Result<Option<String>, NoMemory>
+/// Why a run that left this status line ended, of which this record was kept.
+pub fn end_message(
+    alloc: Global,
+    bytes: &[u8],
+    record: &[u8],
+    line: &[u8],
+) -> Result<Option<String>, NoMemory>
     ensures { IsPlain line.now → IfOk result (λ told. IfSome told (λ text. IsMessage (string_bytes text))) }
 {
     let Ok(text) = str::from_utf8(line) else {
         return Ok(None);
     };
     if let Some(k) = stray_number(text) {
-        return stray_message(alloc, bytes, k);
+        return stray_message(alloc, bytes, record, k);
     }
     if let Some(name) = text.strip_prefix("status config ") {
         return Ok(Some(key_message(alloc, bytes, name)?));
+    }
+    if text == "status out of events" && !record.is_empty() {
+        return Ok(Some(used_up(alloc, bytes, record)?));
     }
     match plain_message(text) {
         Some(text) => Ok(Some(String::from_str(alloc, text)?)),

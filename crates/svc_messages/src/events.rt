@@ -3,6 +3,7 @@
 ghost use Rattle.std.specs.Prelude.{IfOk, string_bytes};
 ghost use Rattle.svc_messages.specs.Messages.{IsPlain, ArePlain, IsMessage};
 
+use crate::pieces::{Piece, about, put, told};
 use crate::spelling::nearest;
 use crate::words::{is_known, said, shown, unknown_word};
 use std::alloc::Global;
@@ -205,15 +206,49 @@ fn word_fault(alloc: Global, form: &Form<'_>, slot: Slot, word: &[u8]) -> Result
     ensures { IfOk result (λ text. IsMessage (string_bytes text)) }
 {
     let (key, text, wanted) = (form.key, form.text, slot.wanted());
-    let word_shown = shown(alloc, word)?;
+    let mut fault = about(
+        alloc,
+        word,
+        " behind ",
+        &[
+            Piece::Text(key),
+            Piece::Text(" isn't "),
+            Piece::Text(wanted),
+        ],
+    )?;
     match nearest(word, slot.known()) {
-        Some(meant) => Ok(format!(in alloc;
-            "{word_shown} behind {key} isn't {wanted}; did you mean {meant}?"
-        )?),
-        None => Ok(format!(in alloc;
-            "{word_shown} behind {key} isn't {wanted}; the line is written {text}"
-        )?),
+        Some(meant) => put(
+            alloc,
+            &mut fault,
+            &[
+                Piece::Text("; did you mean "),
+                Piece::Word(meant.as_bytes()),
+                Piece::Text("?"),
+            ],
+        )?,
+        None => put(
+            alloc,
+            &mut fault,
+            &[Piece::Text("; the line is written "), Piece::Text(text)],
+        )?,
     }
+    Ok(fault)
+}
+
+/// What lacks in a line of this form that ends before the slot.
+fn missing_word(alloc: Global, form: &Form<'_>, slot: Slot) -> Result<String, NoMemory>
+    requires text { IsPlain form.now.text.now }
+    ensures { IfOk result (λ text. IsMessage (string_bytes text)) }
+{
+    let (text, name, wanted) = (form.text, slot.name(), slot.wanted());
+    let pieces = [
+        Piece::Text(name),
+        Piece::Text(", "),
+        Piece::Text(wanted),
+        Piece::Text("; the line is written "),
+        Piece::Text(text),
+    ];
+    about(alloc, form.key.as_bytes(), " lacks ", &pieces)
 }
 
 /// Why the words behind the first one are none of a line of this form.
@@ -226,10 +261,7 @@ fn words_fault(alloc: Global, form: &Form<'_>, words: &[u8]) -> Result<String, N
     let mut rest = words;
     for slot in form.slots {
         let Some((word, after)) = split_word(rest) else {
-            let (name, wanted) = (slot.name(), slot.wanted());
-            return Ok(format!(in alloc;
-                "{key} lacks {name}, {wanted}; the line is written {text}"
-            )?);
+            return missing_word(alloc, form, *slot);
         };
         if !slot.takes(word) {
             return word_fault(alloc, form, *slot, word);
@@ -237,12 +269,20 @@ fn words_fault(alloc: Global, form: &Form<'_>, words: &[u8]) -> Result<String, N
         rest = after;
     }
     let Some((word, _)) = split_word(rest) else {
-        return Ok(format!(in alloc;
-            "the words behind {key} are refused; the line is written {text}"
-        )?);
+        let pieces = [
+            Piece::Text(key),
+            Piece::Text(" are refused; the line is written "),
+            Piece::Text(text),
+        ];
+        return told(alloc, "the words behind ", &pieces);
     };
-    let word_shown = shown(alloc, word)?;
-    Ok(format!(in alloc; "{word_shown} is one word too many; the line is written {text}")?)
+    let pieces = [Piece::Text(text)];
+    about(
+        alloc,
+        word,
+        " is one word too many; the line is written ",
+        &pieces,
+    )
 }
 
 /// Why the line is none of an event.

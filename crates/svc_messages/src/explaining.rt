@@ -18,6 +18,8 @@ pub struct Ending<'a> {
     pub words: &'a [RcStr],
     /// What it read, where that was kept.
     pub script: Option<&'a [u8]>,
+    /// What it wrote, where that was kept; nothing where it wasn't.
+    pub record: &'a [u8],
     /// The last line that it wrote, without its end.
     pub line: &'a [u8],
     /// Its exit status.
@@ -48,7 +50,7 @@ pub fn explanation(alloc: Global, ending: Ending<'_>) -> Result<Option<String>, 
         (1, _) => Ok(Some(said(alloc, "the daemon's child isn't ready")?)),
         (2, _) => Ok(Some(words_message(alloc, ending.words)?)),
         (3, Some(bytes)) => text_message(alloc, bytes),
-        (4, Some(bytes)) => end_message(alloc, bytes, ending.line),
+        (4, Some(bytes)) => end_message(alloc, bytes, ending.record, ending.line),
         (5, _) => Ok(Some(said(alloc, "standard input can't be read")?)),
         (6, _) => Ok(Some(said(alloc, "standard output can't be written")?)),
         (7, _) => Ok(Some(said(alloc, "out of memory")?)),

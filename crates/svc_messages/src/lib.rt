@@ -2,6 +2,7 @@
 //! long input is.
 #![tactic(auto)]
 
+mod addresses;
 mod command;
 mod configuration;
 mod dependencies;
@@ -10,11 +11,19 @@ mod events;
 mod explaining;
 mod kept_end;
 mod kept_source;
+mod near;
+mod pieces;
 mod places;
 mod progress;
+mod record_lines;
+mod refused_lines;
 mod script;
+mod service_lines;
 mod services;
 mod spelling;
+mod stray;
+mod waits;
+mod warning_lines;
 mod words;
 
 pub use command::{help, words_message};
@@ -23,5 +32,7 @@ pub use explaining::{Ending, explanation};
 pub use kept_end::KeptEnd;
 pub use kept_source::KeptSource;
 pub use progress::ProgressSource;
+pub use refused_lines::more_refusals;
 pub use script::script_message;
 pub use spelling::{is_one_off, nearest};
+pub use warning_lines::warnings;

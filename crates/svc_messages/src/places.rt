@@ -77,3 +77,15 @@ pub fn place_of(bytes: &[u8], number: usize) -> Place<'_>
         line: None,
     }
 }
+
+/// What follows the line that begins this part of a script; nothing where there is no such line.
+pub(crate) fn behind_header(bytes: &[u8], part: Section) -> &[u8] {
+    let mut rest = bytes;
+    while let Some((line, after)) = split_line(rest) {
+        if header(line) == Some(part) {
+            return after;
+        }
+        rest = after;
+    }
+    &[]
+}

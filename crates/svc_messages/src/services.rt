@@ -4,6 +4,8 @@ ghost use Rattle.std.specs.Prelude.{IfErr, IfOk, IfSome, string_bytes};
 ghost use Rattle.svc_messages.specs.ItemFaults.{IsPlainFault};
 ghost use Rattle.svc_messages.specs.Messages.{IsPlain, IsMessage};
 
+use crate::pieces::{Piece, about, told};
+use crate::service_lines::number_of;
 use crate::spelling::nearest;
 use crate::words::{is_known, said, shown, unknown_word};
 use std::alloc::Global;
@@ -174,39 +176,88 @@ fn value_fault(item: &str, value: &[u8]) -> Option<ItemFault>
     Some(ItemFault::Value(wanted))
 }
 
+/// What is said of an option without an endpoint, before an example.
+const NO_ENDPOINT: &str = " lacks its tcp endpoint; options stand behind one, as tcp 127.0.0.1:80 ";
+
 /// The fault of an item in words.
-fn fault_text(alloc: Global, item: &str, value: &[u8], fault: ItemFault) -> Result<String, NoMemory>
+fn fault_text<'a>(
+    alloc: Global,
+    item: &'a str,
+    value: &'a [u8],
+    fault: ItemFault,
+) -> Result<String, NoMemory>
     requires item { IsPlain item.now }
     requires fault { IsPlainFault fault }
     ensures { IfOk result (λ text. IsMessage (string_bytes text)) }
 {
-    let value_shown = shown(alloc, value)?;
-    Ok(match fault {
+    let item = item.as_bytes();
+    match fault {
         ItemFault::Value(wanted) => {
-            format!(in alloc; "{value_shown} behind {item} isn't {wanted}")?
+            let pieces = [
+                Piece::Word(item),
+                Piece::Text(" isn't "),
+                Piece::Text(wanted),
+            ];
+            about(alloc, value, " behind ", &pieces)
         }
-        ItemFault::Twice => format!(in alloc;
-            "{item} stands twice; after and undeclared stand once in a line, an option once for its tcp endpoint"
-        )?,
-        ItemFault::Bootstraps => {
-            format!(in alloc;
-                "{item} stands in the line of a bootstrap service, which takes after alone"
-            )?
-        }
+        ItemFault::Twice => about(
+            alloc,
+            item,
+            " stands twice; after and undeclared stand once in a line, an option once for its tcp endpoint",
+            &[],
+        ),
+        ItemFault::Bootstraps => about(
+            alloc,
+            item,
+            " stands in the line of a bootstrap service, which takes after alone",
+            &[],
+        ),
         ItemFault::TooManyEndpoints => {
-            format!(in alloc;
-                "{item} {value_shown} is one endpoint too many; a service has at most 64"
-            )?
+            let pieces = [
+                Piece::Word(value),
+                Piece::Text(" is one endpoint too many; a service has at most 64"),
+            ];
+            about(alloc, item, " ", &pieces)
         }
-        ItemFault::NoEndpoint => format!(in alloc;
-            "{item} lacks its tcp endpoint; options stand behind one, as tcp 127.0.0.1:80 {item} {value_shown}"
-        )?,
-    })
+        ItemFault::NoEndpoint => {
+            let pieces = [Piece::Word(item), Piece::Text(" "), Piece::Word(value)];
+            about(alloc, item, NO_ENDPOINT, &pieces)
+        }
+    }
+}
+
+/// The first piece of a list that is no number.
+fn no_number(list: &[u8]) -> Option<&[u8]> {
+    list.split(|b| *b == b',')
+        .find(|piece| number(piece).is_none())
+}
+
+/// Why the value of `after` is refused where a service's name stands in it.
+fn named_fault(alloc: Global, bytes: &[u8], value: &[u8]) -> Result<Option<String>, NoMemory>
+    ensures { IfOk result (λ told. IfSome told (λ text. IsMessage (string_bytes text))) }
+{
+    let Some(piece) = no_number(value) else {
+        return Ok(None);
+    };
+    let Some(service) = number_of(bytes, piece) else {
+        return Ok(None);
+    };
+    let pieces = [
+        Piece::Number(service),
+        Piece::Text("; after takes numbers of services joined by commas, as 0,2"),
+    ];
+    Ok(Some(about(
+        alloc,
+        piece,
+        " behind after is the name of service ",
+        &pieces,
+    )?))
 }
 
 /// What is wrong with the first item of these; None where none is left. Else what follows it.
 fn item_fault<'a>(
     alloc: Global,
+    bytes: &[u8],
     said_items: &mut SaidItems,
     items: &'a [u8],
 ) -> Result<Option<Result<&'a [u8], String>>, NoMemory>
@@ -228,8 +279,13 @@ fn item_fault<'a>(
         }));
     }
     let Some((value, more)) = split_word(rest) else {
-        return Ok(Some(Err(format!(in alloc; "{item} lacks the word behind it")?)));
+        return Ok(Some(Err(about(alloc, key, " lacks the word behind it", &[])?)));
     };
+    if item == "after"
+        && let Some(text) = named_fault(alloc, bytes, value)?
+    {
+        return Ok(Some(Err(text)));
+    }
     let fault = value_fault(item, value).or(said_items.take(item));
     Ok(Some(match fault {
         Some(fault) => Err(fault_text(alloc, item, value, fault)?),
@@ -238,7 +294,12 @@ fn item_fault<'a>(
 }
 
 /// What is wrong with the items of a service, by the first that is wrong.
-fn items_fault(alloc: Global, bootstraps: bool, items: &[u8]) -> Result<Option<String>, NoMemory>
+fn items_fault(
+    alloc: Global,
+    bytes: &[u8],
+    bootstraps: bool,
+    items: &[u8],
+) -> Result<Option<String>, NoMemory>
     ensures { IfOk result (λ told. IfSome told (λ text. IsMessage (string_bytes text))) }
 {
     let mut said_items = SaidItems {
@@ -250,7 +311,7 @@ fn items_fault(alloc: Global, bootstraps: bool, items: &[u8]) -> Result<Option<S
     };
     let mut rest = items;
     for _ in 0..items.len() {
-        match item_fault(alloc, &mut said_items, rest)? {
+        match item_fault(alloc, bytes, &mut said_items, rest)? {
             Some(Err(text)) => return Ok(Some(text)),
             Some(Ok(more)) => rest = more,
             None => return Ok(None),
@@ -263,7 +324,6 @@ fn items_fault(alloc: Global, bootstraps: bool, items: &[u8]) -> Result<Option<S
 fn name_alone(alloc: Global, name: &[u8]) -> Result<String, NoMemory>
     ensures { IfOk result (λ text. IsMessage (string_bytes text)) }
 {
-    let name_shown = shown(alloc, name)?;
     if name == b"eager".as_slice() {
         return said(
             alloc,
@@ -271,13 +331,17 @@ fn name_alone(alloc: Global, name: &[u8]) -> Result<String, NoMemory>
         );
     }
     if nearest(name, &["eager"]).is_some() {
-        return Ok(format!(in alloc; "{name_shown} lacks its kind; did you mean eager?")?);
+        return about(alloc, name, " lacks its kind; did you mean eager?", &[]);
     }
-    Ok(format!(in alloc; "service {name_shown} lacks its kind: plain, notify or bootstrap")?)
+    let pieces = [
+        Piece::Word(name),
+        Piece::Text(" lacks its kind: plain, notify or bootstrap"),
+    ];
+    told(alloc, "service ", &pieces)
 }
 
-/// Why the line is none of a service.
-pub fn service_message(alloc: Global, line: &[u8]) -> Result<String, NoMemory>
+/// Why the line of a script of these bytes is none of a service.
+pub fn service_message(alloc: Global, bytes: &[u8], line: &[u8]) -> Result<String, NoMemory>
     ensures { IfOk result (λ text. IsMessage (string_bytes text)) }
 {
     let Some((name, rest)) = split_word(line) else {
@@ -287,21 +351,24 @@ pub fn service_message(alloc: Global, line: &[u8]) -> Result<String, NoMemory>
         return name_alone(alloc, name);
     };
     if name.len() > 255 || name.first() == Some(&b'%') {
-        let name_shown = shown(alloc, name)?;
-        return Ok(format!(in alloc;
-            "{name_shown} is no name; a service's name has 1 to 255 bytes and doesn't begin with # or %"
-        )?);
+        return about(
+            alloc,
+            name,
+            " is no name; a service's name has 1 to 255 bytes and doesn't begin with # or %",
+            &[],
+        );
     }
     if !is_known(kind, &KINDS) {
         return unknown_word(alloc, kind, "kind of a service", &KINDS);
     }
-    match items_fault(alloc, kind == b"bootstrap".as_slice(), items)? {
+    match items_fault(alloc, bytes, kind == b"bootstrap".as_slice(), items)? {
         Some(text) => Ok(text),
         None => {
-            let name_shown = shown(alloc, name)?;
-            Ok(format!(in alloc;
-                "service {name_shown} is one too many; a script has at most 1024"
-            )?)
+            let pieces = [
+                Piece::Word(name),
+                Piece::Text(" is one too many; a script has at most 1024"),
+            ];
+            told(alloc, "service ", &pieces)
         }
     }
 }

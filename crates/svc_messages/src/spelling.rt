@@ -4,7 +4,7 @@ ghost use Rattle.std.specs.Prelude.{◌≡◌, ◌↔◌, IsTrue, All, Any, Matc
 ghost use Rattle.svc_messages.specs.Spelling.{IsOneOff, SwapsFront, BehindShared};
 
 /// What the two go on with behind the bytes that both begin with.
-fn behind_shared<'a>(a: &'a [u8], b: &'a [u8]) -> (&'a [u8], &'a [u8])
+pub fn behind_shared<'a>(a: &'a [u8], b: &'a [u8]) -> (&'a [u8], &'a [u8])
     ensures { BehindShared a.now b.now result.0.now result.1.now }
 {
     let (mut left, mut right) = (a, b);

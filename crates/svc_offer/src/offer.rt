@@ -11,8 +11,10 @@ ghost use Rattle.svc_record.specs.Record.{Record, now, tell, has, is_signal, is_
 ghost use Rattle.svc_record.specs.Descriptors.{live_table};
 ghost use Rattle.svc_record.specs.Message.{encode};
 ghost use Rattle.svc_record.specs.Offer.{is_empty_table};
+ghost use Rattle.svc_moments.specs.Least.{IsLeast};
 ghost use Rattle.svc_offer.specs.OfferState.{OfferStands, IsOfferSettled, is_connecting, is_sending, is_connect_due, is_send_due, is_stall_over, is_going, over_since, numbers_on_offer};
 ghost use Rattle.svc_offer.specs.OfferEffects.{nothing, event_of, is_awaited, begun, ends_by, state_after, answered_state, patience_after, answered, cut_state, cut_off, send_told, ask_with, asked, sends_at};
+ghost use Rattle.svc_offer.specs.OfferDues.{is_due_at};
 
 use crate::copies::copy_message;
 use crate::offering::Offering;
@@ -20,6 +22,7 @@ use std::alloc::Global;
 use std::marker::Model;
 use svc_base::NoMemory;
 use svc_fds::{Message, SendAnswer, SendNext, SendRetry};
+use svc_moments::after;
 use svc_record::{Action, Actions, Event};
 
 /// How long it is waited after nobody was there, in milliseconds.
@@ -251,6 +254,21 @@ impl Offer {
             Offering::Connected => true,
             Offering::Stalled(at) => DELAY <= moment.saturating_sub(at),
             _ => false,
+        }
+    }
+
+    /// The least moment, in milliseconds, at which a connect or a send is due, if nothing but moments
+    /// comes; none where no such moment is of 64 bits.
+    pub fn next_due(&self) -> Option<u64>
+        ensures { IsLeast (λ t. is_due_at self.now.state t ≡ true) result }
+    {
+        match self.state {
+            Offering::Unasked | Offering::Connected => Some(0),
+            Offering::Absent(at) => after(at, ABSENCE),
+            Offering::Delayed(at) | Offering::Stalled(at) => after(at, DELAY),
+            Offering::Nothing | Offering::Connecting | Offering::Sending | Offering::Over(_) => {
+                None
+            }
         }
     }
 

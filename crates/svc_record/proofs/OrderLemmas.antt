@@ -1,6 +1,5 @@
 -- The startup order of a plan, from that of its graph.
 use Rattle.std.proofs.Common.{ℕ, true, false, ◌==◌, List, ◌≡◌, refl, sym, ◌∙◌, inl, inr, subst, arith, ◌<◌, ◌≤◌, nat_lt, length, take, All, slice_index}
-use Rattle.std.specs.Prelude.{Result, Ok, Err, IfOk}
 use Rattle.std.proofs.lemmas.Bool.{and_parts, and_from, eqb-true, false_from_ne_true, lt-ltb}
 use Rattle.std.proofs.lemmas.List.{take-take, get_or_default}
 use Rattle.std.proofs.lemmas.Option.{slice_get_cases}
@@ -78,8 +77,3 @@ in-order p order short least = record {
       let fresh = (least.next k lt).fresh in cc));
   short = short;
 }
-
--- what both say of the value
-pub both_ok : {T E : Type 0} (r : Result T E) (P Q R : T → Type 0) → ((x : T) → P x → Q x → R x) → IfOk r P → IfOk r Q → IfOk r R
-both_ok (Ok x) P Q R f p q = f x p q
-both_ok (Err e) P Q R f p q = p

@@ -12,6 +12,7 @@ pub mod AskRules
 pub mod Connections
 pub mod Judging
 pub mod Drain
+pub mod Due
 pub mod Boot
 pub mod Ends
 pub mod Fits
@@ -24,3 +25,4 @@ pub mod Text
 pub mod Building
 pub mod Told
 pub use Rattle.svc_graph.specs.Paths
+pub mod Keywords

@@ -69,6 +69,7 @@ pub enum Action {
     Daemonize,
 }
 
+/// What a server tells, in the order in which it tells it, in a list whose room is reserved before an event is taken.
 pub type Actions = Reserved<Action>;
 
 /// Why a server couldn't take over an older one's sockets.
@@ -97,6 +98,30 @@ pub enum StepEnd {
     Ended(BootstrapError),
 }
 
+impl ExecutionPhase {
+    ghost use Rattle.std.specs.Prelude.{◌≡◌};
+    ghost use Rattle.svc_record.specs.Text.{phase_word};
+
+    /// The phase's name.
+    pub fn word(self) -> &'static str
+        ensures { result.now ≡ phase_word self }
+    {
+        match self {
+            ExecutionPhase::Setup => "Setup",
+            ExecutionPhase::Bootstrap => "Bootstrap",
+            ExecutionPhase::BootstrapComplete => "BootstrapComplete",
+            ExecutionPhase::Running => "Running",
+            ExecutionPhase::GracefulUpgradeTransferringFds => "GracefulUpgradeTransferringFds",
+            ExecutionPhase::GracefulUpgradeCloseTimeout => "GracefulUpgradeCloseTimeout",
+            ExecutionPhase::GracefulTerminate => "GracefulTerminate",
+            ExecutionPhase::ShutdownStarted => "ShutdownStarted",
+            ExecutionPhase::ShutdownGracePeriod => "ShutdownGracePeriod",
+            ExecutionPhase::ShutdownRuntimes => "ShutdownRuntimes",
+            ExecutionPhase::Terminated => "Terminated",
+        }
+    }
+}
+
 impl fmt::Display for ExecutionPhase {
     ghost use Rattle.std.specs.Prelude.{Some};
     ghost use Rattle.svc_record.specs.Text.{phase_word};
@@ -104,21 +129,42 @@ impl fmt::Display for ExecutionPhase {
     ghost output = { λ p. Some (phase_word p) };
 
     fn fmt<W: fmt::Write>(&self, f: &mut fmt::Formatter<W>) -> fmt::Result {
+        let word = self.word();
+        write!(f, "{word}")
+    }
+}
+
+impl Action {
+    ghost use Rattle.std.specs.Prelude.{◌≡◌};
+    ghost use Rattle.svc_record.specs.Keywords.{action_keyword};
+
+    /// The first word of the action's line.
+    pub fn keyword(&self) -> &'static str
+        ensures { result.now ≡ action_keyword self.now }
+    {
         match self {
-            ExecutionPhase::Setup => write!(f, "Setup"),
-            ExecutionPhase::Bootstrap => write!(f, "Bootstrap"),
-            ExecutionPhase::BootstrapComplete => write!(f, "BootstrapComplete"),
-            ExecutionPhase::Running => write!(f, "Running"),
-            ExecutionPhase::GracefulUpgradeTransferringFds => write!(
-                f,
-                "GracefulUpgradeTransferringFds"
-            ),
-            ExecutionPhase::GracefulUpgradeCloseTimeout => write!(f, "GracefulUpgradeCloseTimeout"),
-            ExecutionPhase::GracefulTerminate => write!(f, "GracefulTerminate"),
-            ExecutionPhase::ShutdownStarted => write!(f, "ShutdownStarted"),
-            ExecutionPhase::ShutdownGracePeriod => write!(f, "ShutdownGracePeriod"),
-            ExecutionPhase::ShutdownRuntimes => write!(f, "ShutdownRuntimes"),
-            ExecutionPhase::Terminated => write!(f, "Terminated"),
+            Action::Start(_) => "start",
+            Action::Fail(_) => "fail",
+            Action::Bind(_, _) => "bind",
+            Action::Adopt(_, _, _) => "adopt",
+            Action::Close(_) => "close",
+            Action::OpenReceiver => "openreceiver",
+            Action::TryReceive => "tryreceive",
+            Action::NotifyParent => "notifyparent",
+            Action::Connect => "connect",
+            Action::Send(_, _) => "send",
+            Action::Phase(_, _) => "phase",
+            Action::Broadcast => "broadcast",
+            Action::Judged(_, _) => "judged",
+            Action::Refuse(_) => "refuse",
+            Action::Settings(_, _) => "settings",
+            Action::Handshake(_) => "handshake",
+            Action::Serve(_) => "serve",
+            Action::Drop(_) => "drop",
+            Action::Rest(_, _) => "rest",
+            Action::Cut(_) => "cut",
+            Action::Stop(_) => "stop",
+            Action::Daemonize => "daemonize",
         }
     }
 }
@@ -131,34 +177,33 @@ impl fmt::Display for Action {
 
     #[tactic(auto, using(crate::proofs::SettingLemmas::spaced_settings))]
     fn fmt<W: fmt::Write>(&self, f: &mut fmt::Formatter<W>) -> fmt::Result {
+        let word = self.keyword();
         match self {
-            Action::Start(s) => write!(f, "start {s}"),
-            Action::Fail(s) => write!(f, "fail {s}"),
-            Action::Bind(s, i) => write!(f, "bind {s} {i}"),
-            Action::Adopt(s, i, fd) => write!(f, "adopt {s} {i} {fd}"),
-            Action::Close(fd) => write!(f, "close {fd}"),
-            Action::OpenReceiver => write!(f, "openreceiver"),
-            Action::TryReceive => write!(f, "tryreceive"),
-            Action::NotifyParent => write!(f, "notifyparent"),
-            Action::Connect => write!(f, "connect"),
+            Action::Start(s) | Action::Fail(s) => write!(f, "{word} {s}"),
+            Action::Bind(s, i) | Action::Rest(s, i) => write!(f, "{word} {s} {i}"),
+            Action::Adopt(s, i, fd) => write!(f, "{word} {s} {i} {fd}"),
+            Action::Close(n)
+            | Action::Refuse(n)
+            | Action::Handshake(n)
+            | Action::Serve(n)
+            | Action::Drop(n)
+            | Action::Cut(n)
+            | Action::Stop(n) => write!(f, "{word} {n}"),
             Action::Send(bytes, fds) => write!(
                 f,
-                "send {} {}",
+                "{word} {} {}",
                 HexBytes(bytes.as_slice()),
                 FdNumbers(fds.as_slice())
             ),
-            Action::Phase(p, ms) => write!(f, "phase {p} {ms}"),
-            Action::Broadcast => write!(f, "broadcast"),
-            Action::Judged(c, said) => write!(f, "judged {c} {}", YesWord(*said)),
-            Action::Refuse(c) => write!(f, "refuse {c}"),
-            Action::Settings(c, list) => write!(f, "settings {c}{}", SettingWords(list.as_slice())),
-            Action::Handshake(c) => write!(f, "handshake {c}"),
-            Action::Serve(c) => write!(f, "serve {c}"),
-            Action::Drop(c) => write!(f, "drop {c}"),
-            Action::Rest(s, i) => write!(f, "rest {s} {i}"),
-            Action::Cut(c) => write!(f, "cut {c}"),
-            Action::Stop(seconds) => write!(f, "stop {seconds}"),
-            Action::Daemonize => write!(f, "daemonize"),
+            Action::Phase(p, ms) => write!(f, "{word} {p} {ms}"),
+            Action::Judged(c, said) => write!(f, "{word} {c} {}", YesWord(*said)),
+            Action::Settings(c, list) => write!(f, "{word} {c}{}", SettingWords(list.as_slice())),
+            Action::OpenReceiver
+            | Action::TryReceive
+            | Action::NotifyParent
+            | Action::Connect
+            | Action::Broadcast
+            | Action::Daemonize => write!(f, "{word}"),
         }
     }
 }

@@ -84,6 +84,22 @@ pub enum Event {
     DropFailed,
 }
 
+impl ShutdownSignal {
+    ghost use Rattle.std.specs.Prelude.{◌≡◌};
+    ghost use Rattle.svc_record.specs.Text.{signal_word};
+
+    /// The signal's word in a line.
+    pub fn word(self) -> &'static str
+        ensures { result.now ≡ signal_word self }
+    {
+        match self {
+            ShutdownSignal::FastShutdown => "fast",
+            ShutdownSignal::GracefulTerminate => "terminate",
+            ShutdownSignal::GracefulUpgrade => "upgrade",
+        }
+    }
+}
+
 impl fmt::Display for ShutdownSignal {
     ghost use Rattle.std.specs.Prelude.{Some};
     ghost use Rattle.svc_record.specs.Text.{signal_word};
@@ -91,10 +107,22 @@ impl fmt::Display for ShutdownSignal {
     ghost output = { λ s. Some (signal_word s) };
 
     fn fmt<W: fmt::Write>(&self, f: &mut fmt::Formatter<W>) -> fmt::Result {
+        let word = self.word();
+        write!(f, "{word}")
+    }
+}
+
+impl Side {
+    ghost use Rattle.std.specs.Prelude.{◌≡◌};
+    ghost use Rattle.svc_record.specs.Text.{side_word};
+
+    /// The side's word in a line.
+    pub fn word(self) -> &'static str
+        ensures { result.now ≡ side_word self }
+    {
         match self {
-            ShutdownSignal::FastShutdown => write!(f, "fast"),
-            ShutdownSignal::GracefulTerminate => write!(f, "terminate"),
-            ShutdownSignal::GracefulUpgrade => write!(f, "upgrade"),
+            Side::Child => "child",
+            Side::Parent => "parent",
         }
     }
 }
@@ -106,9 +134,49 @@ impl fmt::Display for Side {
     ghost output = { λ s. Some (side_word s) };
 
     fn fmt<W: fmt::Write>(&self, f: &mut fmt::Formatter<W>) -> fmt::Result {
+        let word = self.word();
+        write!(f, "{word}")
+    }
+}
+
+impl Event {
+    ghost use Rattle.std.specs.Prelude.{◌≡◌};
+    ghost use Rattle.svc_record.specs.Keywords.{event_keyword};
+
+    /// The first word of the event's line.
+    pub fn keyword(&self) -> &'static str
+        ensures { result.now ≡ event_keyword self.now }
+    {
         match self {
-            Side::Child => write!(f, "child"),
-            Side::Parent => write!(f, "parent"),
+            Event::Moment(_) => "moment",
+            Event::Ready(_) => "ready",
+            Event::Ended(_) => "ended",
+            Event::Bound(_, _, _) => "bound",
+            Event::InUse(_, _) => "inuse",
+            Event::BindFailed(_, _) => "bindfailed",
+            Event::Adopted(_, _) => "adopted",
+            Event::AdoptFailed(_, _) => "adoptfailed",
+            Event::Received(_, _) => "received",
+            Event::NoSenderYet => "nosender",
+            Event::ReceiveFailed => "receivefailed",
+            Event::Connected => "connected",
+            Event::NotThere => "notthere",
+            Event::StillConnecting => "connecting",
+            Event::ConnectFailed => "connectfailed",
+            Event::Sent => "sent",
+            Event::SendBusy => "sendbusy",
+            Event::SendFailed => "sendfailed",
+            Event::Arrived(_, _, _, _) => "arrived",
+            Event::AcceptFailed(_, _, _) => "acceptfailed",
+            Event::Set(_, _) => "set",
+            Event::Shaken(_, _) => "shaken",
+            Event::Finished(_) => "finished",
+            Event::LoopEnded(_, _, _) => "loopended",
+            Event::Signal(_) => "signal",
+            Event::Side(_) => "side",
+            Event::ChildReady => "childready",
+            Event::ChildGone => "childgone",
+            Event::DropFailed => "dropfailed",
         }
     }
 }
@@ -120,41 +188,38 @@ impl fmt::Display for Event {
     ghost output = { λ e. Some (spaced (event_words e)) };
 
     fn fmt<W: fmt::Write>(&self, f: &mut fmt::Formatter<W>) -> fmt::Result {
+        let word = self.keyword();
         match self {
-            Event::Moment(ms) => write!(f, "moment {ms}"),
-            Event::Ready(s) => write!(f, "ready {s}"),
-            Event::Ended(s) => write!(f, "ended {s}"),
-            Event::Bound(s, i, fd) => write!(f, "bound {s} {i} {fd}"),
-            Event::InUse(s, i) => write!(f, "inuse {s} {i}"),
-            Event::BindFailed(s, i) => write!(f, "bindfailed {s} {i}"),
-            Event::Adopted(s, i) => write!(f, "adopted {s} {i}"),
-            Event::AdoptFailed(s, i) => write!(f, "adoptfailed {s} {i}"),
+            Event::Moment(n) | Event::Finished(n) => write!(f, "{word} {n}"),
+            Event::Ready(s) | Event::Ended(s) => write!(f, "{word} {s}"),
+            Event::InUse(s, i)
+            | Event::BindFailed(s, i)
+            | Event::Adopted(s, i)
+            | Event::AdoptFailed(s, i) => write!(f, "{word} {s} {i}"),
+            Event::Bound(s, i, n) | Event::LoopEnded(s, i, n) => write!(f, "{word} {s} {i} {n}"),
             Event::Received(bytes, fds) => write!(
                 f,
-                "received {} {}",
+                "{word} {} {}",
                 HexBytes(bytes.as_slice()),
                 FdNumbers(fds.as_slice())
             ),
-            Event::NoSenderYet => write!(f, "nosender"),
-            Event::ReceiveFailed => write!(f, "receivefailed"),
-            Event::Connected => write!(f, "connected"),
-            Event::NotThere => write!(f, "notthere"),
-            Event::StillConnecting => write!(f, "connecting"),
-            Event::ConnectFailed => write!(f, "connectfailed"),
-            Event::Sent => write!(f, "sent"),
-            Event::SendBusy => write!(f, "sendbusy"),
-            Event::SendFailed => write!(f, "sendfailed"),
-            Event::Arrived(s, i, c, peer) => write!(f, "arrived {s} {i} {c} {peer}"),
-            Event::AcceptFailed(s, i, n) => write!(f, "acceptfailed {s} {i} {n}"),
-            Event::Set(c, ok) => write!(f, "set {c} {}", OkWord(*ok)),
-            Event::Shaken(c, ok) => write!(f, "shaken {c} {}", OkWord(*ok)),
-            Event::Finished(c) => write!(f, "finished {c}"),
-            Event::LoopEnded(s, i, j) => write!(f, "loopended {s} {i} {j}"),
-            Event::Signal(kind) => write!(f, "signal {kind}"),
-            Event::Side(side) => write!(f, "side {side}"),
-            Event::ChildReady => write!(f, "childready"),
-            Event::ChildGone => write!(f, "childgone"),
-            Event::DropFailed => write!(f, "dropfailed"),
+            Event::Arrived(s, i, c, peer) => write!(f, "{word} {s} {i} {c} {peer}"),
+            Event::AcceptFailed(s, i, n) => write!(f, "{word} {s} {i} {n}"),
+            Event::Set(c, ok) | Event::Shaken(c, ok) => write!(f, "{word} {c} {}", OkWord(*ok)),
+            Event::Signal(kind) => write!(f, "{word} {kind}"),
+            Event::Side(side) => write!(f, "{word} {side}"),
+            Event::NoSenderYet
+            | Event::ReceiveFailed
+            | Event::Connected
+            | Event::NotThere
+            | Event::StillConnecting
+            | Event::ConnectFailed
+            | Event::Sent
+            | Event::SendBusy
+            | Event::SendFailed
+            | Event::ChildReady
+            | Event::ChildGone
+            | Event::DropFailed => write!(f, "{word}"),
         }
     }
 }

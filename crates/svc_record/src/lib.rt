@@ -15,4 +15,4 @@ pub use entry::{Entries, Entry};
 pub use event::{Event, ShutdownSignal, Side};
 pub use item::Item;
 pub use plan::{Plan, ServiceList, ServicePlan};
-pub use validity::startup_order;
+pub use validity::startup_graph;

@@ -9,6 +9,7 @@ ghost use Rattle.svc_record.specs.Building.{KeepsLimits, DependsWell, IsGraphUpT
 
 use crate::plan::{Plan, ServicePlan};
 use std::alloc::Global;
+use std::mem::drop;
 use svc_base::NoMemory;
 use svc_graph::{DependencyError, DependencyGraph, EndpointPlan};
 
@@ -83,14 +84,22 @@ fn graph_of(alloc: Global, plan: &Plan) -> Result<Option<DependencyGraph>, NoMem
     Ok(Some(graph))
 }
 
-/// The services in the order in which they start: always the least one whose dependencies are listed.
-pub fn startup_order(alloc: Global, plan: &Plan) -> Result<Vec<u32>, NoMemory>
+/// The graph of the services' dependencies, and the services in the order in which they start: always the
+/// least one whose dependencies are listed.
+pub fn startup_graph(alloc: Global, plan: &Plan) -> Result<(DependencyGraph, Vec<u32>), NoMemory>
     requires { IsValid plan.now }
-    ensures least { IfOk result (λ order. IsStartupOrder plan.now order.items) }
-    ensures in_order { IfOk result (λ order. IsInOrder plan.now order.items) }
+    ensures graph { IfOk result (λ found. IsGraphUpTo plan.now (service_count plan.now) found.0) }
+    ensures least { IfOk result (λ found. IsStartupOrder plan.now found.1.items) }
+    ensures in_order { IfOk result (λ found. IsInOrder plan.now found.1.items) }
 {
     match graph_of(alloc, plan)? {
-        Some(graph) => graph.topological_sort(alloc),
+        Some(graph) => match graph.topological_sort(alloc) {
+            Ok(order) => Ok((graph, order)),
+            Err(NoMemory) => {
+                drop(graph);
+                Err(NoMemory)
+            }
+        },
         None => unreachable!(),
     }
 }

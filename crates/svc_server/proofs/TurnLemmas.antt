@@ -27,7 +27,7 @@ use Rattle.svc_server.specs.declared.run.RunError.TheVariants.{HostFault, Bootst
 use Rattle.svc_server.specs.declared.host.Next.TheVariants as nexts
 use Rattle.svc_server.specs.Hosts.{Account, no_account, ComesWith, AheadAfter, item_of, account_after, with_entry}
 use Rattle.svc_server.specs.Judges.{IsSaid, Judges}
-use Rattle.svc_server.specs.Runs.{events_of, names_of, IsClosed, IsEndedSo, RunEnds, RunTells, RunTakes, taken_items, LeavesNothing, answer_of}
+use Rattle.svc_server.specs.Runs.{events_of, names_of, IsClosed, IsEndedSo, RunEnds, StopsEarly, RunTells, RunTakes, taken_items, LeavesNothing, answer_of}
 use Rattle.svc_server.specs.Handing.{account_of, names_left, Hands}
 use Rattle.svc_server.specs.Turns.{IsAt, IsAtEvent, IsSomewhereAtEvent, IsAhead, ClosesTo, Leaves, RunGives, TurnGives, EventGives, FailsBy}
 use Rattle.svc_server.proofs.SaidLemmas.{said-untold, judges-got, closing-judges}
@@ -45,10 +45,10 @@ events-count q e k h = omega (arith, h, length-append (events_of q) (e ∷ []))
 
 tells-from : (verdict : Verdict) (account : Option Account) (p : Plan) (turns : ℕ) (answer : Result Outcome RunError) (r : Record)
     → IfSome account (λ a. a ≡ account_of p r) → RunEnds p turns answer r
-    → length (events_of r) ≤ turns → IsSaid verdict p r → IfSome account (RunTells verdict p turns answer)
-tells-from verdict None p turns answer r told ends few said = tt
-tells-from verdict (Some a) p turns answer r told ends few said =
-    subst (RunTells verdict p turns answer) (sym told) (record { ends = ends; few = few; handed = refl; said = said })
+    → length (events_of r) ≤ turns → StopsEarly turns answer r → IsSaid verdict p r → IfSome account (RunTells verdict p turns answer)
+tells-from verdict None p turns answer r told ends few early said = tt
+tells-from verdict (Some a) p turns answer r told ends few early said =
+    subst (RunTells verdict p turns answer) (sym told) (record { ends = ends; few = few; early = early; handed = refl; said = said })
 
 some-same : (a b : List Item) → ◌≡◌ {A = Option (List Item)} (Some a) (Some b) → a ≡ b
 some-same a b e = cc
@@ -65,11 +65,14 @@ takes-from (Some a) p answer r (Some b) (Some n) told ahead left =
 
 pub gives : (verdict : Verdict) (account : Option Account) (p : Plan) (turns : ℕ) (answer : Result Outcome RunError) (r : Record)
     (before now : Option (List Item)) → IfSome account (λ a. a ≡ account_of p r)
-    → RunEnds p turns answer r → length (events_of r) ≤ turns → IsSaid verdict p r → before ≡ option_map (λ rest. taken_items answer r ++ rest) now
+    → RunEnds p turns answer r → length (events_of r) ≤ turns → StopsEarly turns answer r → IsSaid verdict p r
+    → before ≡ option_map (λ rest. taken_items answer r ++ rest) now
     → IfSome now (LeavesNothing answer)
     → RunGives verdict p turns answer account before now
-gives verdict account p turns answer r before now told ends few said ahead left =
-    record { tells = tells-from verdict account p turns answer r told ends few said; takes = takes-from account p answer r before now told ahead left }
+gives verdict account p turns answer r before now told ends few early said ahead left = record {
+  tells = tells-from verdict account p turns answer r told ends few early said;
+  takes = takes-from account p answer r before now told ahead left;
+}
 
 -- nothing is said of what is left, where the answer says nothing of it
 none-said : (now : Option (List Item)) (P : List Item → Type 0) → ((n : List Item) → P n) → IfSome now P
@@ -143,7 +146,7 @@ pub gives-no_memory : (verdict : Verdict) (p : Plan) (account : Option Account) 
     → RunGives verdict p turns (Err NoMemory) account before now
 gives-no_memory verdict p account k turns q r before now c lt ahead =
     gives verdict account p turns (Err NoMemory) r before now c.told (inr (q, (None, is-closed verdict p account k q r c)))
-    (few-closed verdict p account k turns ends.On q r c (omega arith)) c.said (ahead-same before now q r c.events ahead)
+    (few-closed verdict p account k turns ends.On q r c (omega arith)) tt c.said (ahead-same before now q r c.events ahead)
     (none-said now (LeavesNothing (Err NoMemory)) (λ n. tt))
 
 pub gives-spent : (verdict : Verdict) (p : Plan) (account : Option Account) (turns : ℕ) (q r : Record) (before now : Option (List Item))
@@ -151,7 +154,7 @@ pub gives-spent : (verdict : Verdict) (p : Plan) (account : Option Account) (tur
     → RunGives verdict p turns (Err TurnsSpent) account before now
 gives-spent verdict p account turns q r before now c ahead =
     gives verdict account p turns (Err TurnsSpent) r before now c.told (q, record { closed = is-closed verdict p account turns q r c; count = c.count })
-    (few-closed verdict p account turns turns ends.On q r c (omega arith)) c.said
+    (few-closed verdict p account turns turns ends.On q r c (omega arith)) tt c.said
     (ahead-same before now q r c.events ahead) (none-said now (LeavesNothing (Err TurnsSpent)) (λ n. tt))
 
 -- nothing was left, so nothing is
@@ -163,7 +166,7 @@ pub gives-idle : (verdict : Verdict) (p : Plan) (account : Option Account) (k tu
     → now ≡ middle → IfSome middle (λ rest. rest ≡ []) → RunGives verdict p turns (Err OutOfEvents) account before now
 gives-idle verdict p account k turns q r before middle now c lt ahead same none =
     gives verdict account p turns (Err OutOfEvents) r before now c.told (q, is-closed verdict p account k q r c)
-    (few-closed verdict p account k turns ends.On q r c (omega arith)) c.said
+    (few-closed verdict p account k turns ends.On q r c (omega arith)) (omega (arith, ap length c.events, c.count)) c.said
     (ahead-same before now q r c.events (ahead-now before middle now q same ahead)) (left-none middle now same none)
 
 map-both : (f g : List Item → List Item) (o : Option (List Item)) → option_map f (option_map g o) ≡ option_map (λ rest. f (g rest)) o
@@ -187,7 +190,7 @@ pub gives-fault : (verdict : Verdict) (p : Plan) (account : Option Account) (k t
     → middle ≡ option_map (λ rest. items.Fault ∷ rest) now → RunGives verdict p turns (Err HostFault) account before now
 gives-fault verdict p account k turns q r before middle now c lt ahead step =
     gives verdict account p turns (Err HostFault) r before now c.told (q, is-closed verdict p account k q r c)
-    (few-closed verdict p account k turns ends.On q r c (omega arith)) c.said
+    (few-closed verdict p account k turns ends.On q r c (omega arith)) (omega (arith, ap length c.events, c.count)) c.said
     (ahead-more before middle now (map items.Event (events_of r)) items.Fault (ahead-same before middle q r c.events ahead) step)
     (none-said now (LeavesNothing (Err HostFault)) (λ n. tt))
 
@@ -234,7 +237,7 @@ gives-stray verdict core core2 account k turns e q r before middle now same u mi
     plan-now verdict core.plan core2.plan turns (Err (Stray (k + 1))) account before now (ap (λ (x : CoreData). x.plan) same)
     (gives verdict account core.plan turns (Err (Stray (k + 1))) r before now u.told
     (q, (e, record { closed = u.is_closed; misfit = misfit; number = ap (λ n. n + 1) (sym u.count) }))
-    (omega (arith, u.more)) u.said (ahead-same before now (Got e ∷ q) r u.events (ahead-now before middle now (Got e ∷ q) same_ahead ahead))
+    (omega (arith, u.more)) tt u.said (ahead-same before now (Got e ∷ q) r u.events (ahead-now before middle now (Got e ∷ q) same_ahead ahead))
     (none-said now (LeavesNothing (Err (Stray (k + 1)))) (λ n. tt)))
 
 -- memory was refused for its step
@@ -243,7 +246,7 @@ pub gives-refused : (verdict : Verdict) (core core2 : CoreData) (account : Optio
     → k < turns → IsAhead before middle (Got e ∷ q) → now ≡ middle → RunGives verdict core2.plan turns (Err NoMemory) account before now
 gives-refused verdict core core2 account k turns e q r before middle now same u lt ahead same_ahead =
     plan-now verdict core.plan core2.plan turns (Err NoMemory) account before now (ap (λ (x : CoreData). x.plan) same)
-    (gives verdict account core.plan turns (Err NoMemory) r before now u.told (inr (q, (Some e, u.is_closed))) (omega (arith, u.more)) u.said
+    (gives verdict account core.plan turns (Err NoMemory) r before now u.told (inr (q, (Some e, u.is_closed))) (omega (arith, u.more)) tt u.said
     (ahead-same before now (Got e ∷ q) r u.events (ahead-now before middle now (Got e ∷ q) same_ahead ahead))
     (none-said now (LeavesNothing (Err NoMemory)) (λ n. tt)))
 
@@ -305,7 +308,7 @@ gives-served verdict answers core left account k turns ends.Served answer q befo
     subst (λ (a : Result Outcome RunError). RunGives verdict core.plan turns a account before now) same
     (gives verdict account core.plan turns (Ok Served) q before now at.hands.told_is
     (record { served = served_from_answer core.plan q at.right at.answer; right = at.right })
-    (omega (arith, at.count)) judges.said ahead (none-said now (LeavesNothing (Ok Served)) (λ n. tt)))
+    (omega (arith, at.count)) tt judges.said ahead (none-said now (LeavesNothing (Ok Served)) (λ n. tt)))
 gives-served verdict answers core left account k turns ends.Tested answer q before now served is at le ahead judges = absurd (cc)
 gives-served verdict answers core left account k turns (ends.Parent n) answer q before now served is at le ahead judges = absurd (cc)
 gives-served verdict answers core left account k turns (ends.Ended x) answer q before now served is at le ahead judges = absurd (cc)
@@ -320,19 +323,19 @@ gives-ended verdict p account k turns ends.Tested answer q r before now other is
     let same : Ok TestPassed ≡ answer = cc in
     subst (λ (a : Result Outcome RunError). RunGives verdict p turns a account before now) same
     (gives verdict account p turns (Ok TestPassed) r before now c.told (q, is-ended verdict p account k ends.Tested q r c)
-    (few-closed verdict p account k turns ends.Tested q r c le) c.said (ahead-same before now q r c.events ahead)
+    (few-closed verdict p account k turns ends.Tested q r c le) tt c.said (ahead-same before now q r c.events ahead)
     (none-said now (LeavesNothing (Ok TestPassed)) (λ n. tt)))
 gives-ended verdict p account k turns (ends.Parent n) answer q r before now other is c le ahead =
     let same : Ok (Parent n) ≡ answer = cc in
     subst (λ (a : Result Outcome RunError). RunGives verdict p turns a account before now) same
     (gives verdict account p turns (Ok (Parent n)) r before now c.told (q, is-ended verdict p account k (ends.Parent n) q r c)
-    (few-closed verdict p account k turns (ends.Parent n) q r c le) c.said (ahead-same before now q r c.events ahead)
+    (few-closed verdict p account k turns (ends.Parent n) q r c le) tt c.said (ahead-same before now q r c.events ahead)
     (none-said now (LeavesNothing (Ok (Parent n))) (λ m. tt)))
 gives-ended verdict p account k turns (ends.Ended x) answer q r before now other is c le ahead =
     let same : Err (Bootstrap x) ≡ answer = cc in
     subst (λ (a : Result Outcome RunError). RunGives verdict p turns a account before now) same
     (gives verdict account p turns (Err (Bootstrap x)) r before now c.told (q, is-ended verdict p account k (ends.Ended x) q r c)
-    (few-closed verdict p account k turns (ends.Ended x) q r c le) c.said (ahead-same before now q r c.events ahead)
+    (few-closed verdict p account k turns (ends.Ended x) q r c le) tt c.said (ahead-same before now q r c.events ahead)
     (none-said now (LeavesNothing (Err (Bootstrap x))) (λ n. tt)))
 
 -- nothing was taken yet
@@ -412,7 +415,7 @@ hands-first named services boxes account p q same left names first =
 pub gives-nothing : (verdict : Verdict) (account : Option Account) (p : Plan) (turns : ℕ) (before now : Option (List Item))
     → IfSome account (λ a. a ≡ account_of p []) → now ≡ before → RunGives verdict p turns (Err NoMemory) account before now
 gives-nothing verdict account p turns before now told same =
-    gives verdict account p turns (Err NoMemory) [] before now told (inl refl) (omega arith) tt (ahead-first before now same)
+    gives verdict account p turns (Err NoMemory) [] before now told (inl refl) (omega arith) tt tt (ahead-first before now same)
     (none-said now (LeavesNothing (Err NoMemory)) (λ n. tt))
 
 -- the account is where it was

@@ -29,6 +29,12 @@ pub record Account : Type 0 where
 abbrev pub no_account : Account
 no_account = record { entries = []; handed = [] }
 
+-- what a host was made of: the numbers that it goes by, the items that it gives, and what those that it tells numbers had been told before
+pub record HostMake : Type 0 where
+  pub numbers : List ℕ
+  pub items : List Item
+  pub told : List (Option (List ℕ))
+
 -- the account with one more entry
 abbrev pub with_entry : Entry → Account → Account
 with_entry e a = record { entries = e ∷ a.entries; handed = a.handed }

@@ -1,5 +1,5 @@
 -- How a run went, by what it answers. `p` is the plan, `r` the record, whose newest entry stands first.
-use Rattle.std.specs.Prelude.{ℕ, true, false, ◌≡◌, ◌+◌, ◌≤◌, ◌⊎◌, List, [], ◌∷◌, ◌++◌, length, map, Option, Some, None, IfSome, Result, Ok, Err}
+use Rattle.std.specs.Prelude.{ℕ, true, false, ◌≡◌, ◌+◌, ◌<◌, ◌≤◌, ◌⊎◌, List, [], ◌∷◌, ◌++◌, length, map, Option, Some, None, IfSome, Result, Ok, Err}
 use Rattle.svc_base.specs.Streams.{Rose}
 use Rattle.svc_record.specs.declared.action.BootstrapError.TheVariants as boots
 use Rattle.svc_record.specs.declared.action.StepEnd.{StepEnd}
@@ -107,11 +107,19 @@ RunEnds p turns (Err TurnsSpent) r = (finished : Record) × IsSpent p turns r fi
 RunEnds p turns (Err OutOfEvents) r = (finished : Record) × IsClosed p r finished None
 RunEnds p turns (Err NoMemory) r = IsRefused p r
 
--- what a host tells of such a run, whose filters answer so: its record, within so many events; each service that was started, handed over with the
+-- a fault of the host, or that nothing comes, is answered only where turns are left
+abbrev pub StopsEarly : ℕ → Result Outcome RunError → Record → Type 0
+StopsEarly turns (Err HostFault) r = length (events_of r) < turns
+StopsEarly turns (Err OutOfEvents) r = length (events_of r) < turns
+StopsEarly turns answer r = Unit {0}
+
+-- what a host tells of such a run, whose filters answer so: its record, within so many events; where they are as many as there are turns, neither a
+-- fault nor that nothing comes is answered; each service that was started, handed over with the
 -- plan's name; and each judgement is its filter's verdict
 pub record RunTells (verdict : Verdict) (p : Plan) (turns : ℕ) (answer : Result Outcome RunError) (a : Account) : Type 0 where
   pub ends : RunEnds p turns answer a.entries
   pub few : length (events_of a.entries) ≤ turns
+  pub early : StopsEarly turns answer a.entries
   pub handed : a.handed ≡ handed_of p a.entries
   pub said : IsSaid verdict p a.entries
 

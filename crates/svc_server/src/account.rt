@@ -10,6 +10,7 @@ ghost use Rattle.svc_server.specs.ScriptHosts.{last_event};
 
 use std::alloc::Global;
 use std::marker::Model;
+use std::mem::drop;
 use svc_base::{NoMemory, Reserved};
 use svc_record::{Action, Entries, Entry, Event};
 
@@ -77,7 +78,15 @@ impl<B: Drop> HostAccount<B> {
     pub(crate) fn into_entries(self) -> Entries
         ensures { list_of result ≡ reverse self.entries }
     {
-        let HostAccount { entries, .. } = self;
+        let HostAccount {
+            entries,
+            handed,
+            last: _,
+            faults: _,
+            idles: _,
+            failures: _,
+        } = self;
+        drop(handed);
         entries
     }
 }

@@ -9,6 +9,7 @@ use crate::host::{Host, Next};
 use crate::inner_host::InnerHost;
 use std::alloc::Global;
 use std::marker::Model;
+use std::mem::drop;
 use svc_base::NoMemory;
 use svc_graph::services::ServiceWithDependents;
 use svc_record::{Action, Entries, Event, Item};
@@ -82,7 +83,8 @@ impl<H: InnerHost + Drop, B: Drop> AccountHost<H, B> {
     pub fn into_entries(self) -> Entries
         ensures { list_of result ≡ reverse self.entries }
     {
-        let AccountHost { account, .. } = self;
+        let AccountHost { inner, account } = self;
+        drop(inner);
         account.into_entries()
     }
 }
@@ -100,6 +102,8 @@ impl<H: InnerHost, B: ServiceWithDependents> Host for AccountHost<H, B> {
     ghost last = { λ h. h.last };
 
     ghost ahead = { λ h. H.ahead h.inner };
+
+    ghost made_of = { λ h. H.made_of h.inner };
 
     fn faults(&self) -> u64 {
         self.account.faults()

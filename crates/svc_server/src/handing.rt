@@ -27,6 +27,7 @@ fn start<B: ServiceWithDependents, H: Host<Service = B>>(
     ensures room { H.spare host.old ≤ H.spare host.new + 2 }
     ensures counts { H.counts host.new ≡ H.counts host.old }
     ensures ahead { H.ahead host.new ≡ H.ahead host.old }
+    ensures made { H.made_of host.new ≡ H.made_of host.old }
 {
     match boxes.take(plan, s) {
         Some(service) => {
@@ -51,6 +52,7 @@ fn tell_one<B: ServiceWithDependents, H: Host<Service = B>>(
     ensures room { H.spare host.old ≤ H.spare host.new + 2 }
     ensures counts { H.counts host.new ≡ H.counts host.old }
     ensures ahead { H.ahead host.new ≡ H.ahead host.old }
+    ensures made { H.made_of host.new ≡ H.made_of host.old }
 {
     boxes.note(&action);
     match action {
@@ -75,6 +77,7 @@ pub(crate) fn tell_all<B: ServiceWithDependents, H: Host<Service = B>>(
     ensures room { H.spare host.old ≤ H.spare host.new + 2 * length (list_of actions.old) }
     ensures counts { H.counts host.new ≡ H.counts host.old }
     ensures ahead { H.ahead host.new ≡ H.ahead host.old }
+    ensures made { H.made_of host.new ≡ H.made_of host.old }
 {
     actions.reverse();
     while let Some(action) = actions.pop_last() {

@@ -5,7 +5,7 @@ ghost use Rattle.std.specs.Option.{option_map};
 ghost use Rattle.svc_record.specs.declared.event.Event.{Event};
 ghost use Rattle.svc_record.specs.declared.item.Item.{Item};
 ghost use Rattle.svc_record.specs.declared.entry.Entry.TheVariants.{Told};
-ghost use Rattle.svc_server.specs.Hosts.{Account, Counts, ComesWith, CountsAfter, AheadAfter, MayTell, account_after, item_of, with_entry, with_handed};
+ghost use Rattle.svc_server.specs.Hosts.{Account, HostMake, Counts, ComesWith, CountsAfter, AheadAfter, MayTell, account_after, item_of, with_entry, with_handed};
 
 use std::alloc::Global;
 use svc_base::NoMemory;
@@ -48,6 +48,9 @@ pub trait Host {
     // What it will answer, where that is known beforehand.
     ghost ahead: { Self → Option (List Item) } = { λ _. None };
 
+    // What it was made of, where it tells that: it stays, whatever it gives and is told.
+    ghost made_of: { Self → Option HostMake } = { λ _. None };
+
     /// How often the host failed.
     fn faults(&self) -> u64
         ensures { result ≡ (counts self.now).faults };
@@ -66,7 +69,8 @@ pub trait Host {
         ensures kept { spare self.old ≤ spare self.new }
         ensures account { account self.new ≡ account self.old }
         ensures counts { counts self.new ≡ counts self.old }
-        ensures ahead { ahead self.new ≡ ahead self.old };
+        ensures ahead { ahead self.new ≡ ahead self.old }
+        ensures made { made_of self.new ≡ made_of self.old };
 
     /// Takes the next event, if one comes. It needs room for one, and uses it. An event brings at
     /// most 32 descriptors.
@@ -76,7 +80,8 @@ pub trait Host {
         ensures event { ComesWith result (last self.new) }
         ensures account { account self.new ≡ account_after result (last self.new) (account self.old) }
         ensures counts { CountsAfter result (last self.new) (counts self.old) (counts self.new) }
-        ensures ahead { AheadAfter (item_of result (last self.new)) (ahead self.old) (ahead self.new) };
+        ensures ahead { AheadAfter (item_of result (last self.new)) (ahead self.old) (ahead self.new) }
+        ensures made { made_of self.new ≡ made_of self.old };
 
     /// The last event that came.
     fn event(&self) -> &Event
@@ -92,7 +97,8 @@ pub trait Host {
             ≡ option_map (with_handed (record { service = s; name = Self.Service.named service }))
             (account self.old) }
         ensures counts { counts self.new ≡ counts self.old }
-        ensures ahead { ahead self.new ≡ ahead self.old };
+        ensures ahead { ahead self.new ≡ ahead self.old }
+        ensures made { made_of self.new ≡ made_of self.old };
 
     /// Is told an action. It needs room for one, and uses it. Before a start, where the host tells its
     /// account, the services that were started were handed over, in order, and then this one.
@@ -102,5 +108,6 @@ pub trait Host {
         ensures room { spare self.old ≤ spare self.new + 1 }
         ensures account { account self.new ≡ option_map (with_entry (Told action)) (account self.old) }
         ensures counts { counts self.new ≡ counts self.old }
-        ensures ahead { ahead self.new ≡ ahead self.old };
+        ensures ahead { ahead self.new ≡ ahead self.old }
+        ensures made { made_of self.new ≡ made_of self.old };
 }

@@ -1,4 +1,4 @@
-//! A server over any host: what it is made of, and its run; and one server that several threads share.
+//! A server over any host: what it is made of, and its run.
 #![tactic(auto)]
 
 mod account;
@@ -22,7 +22,3 @@ pub use run::{Outcome, RunArgs, RunError};
 pub use script_host::ScriptHost;
 pub use server::{AddAllRefused, AddError, AddRefused, Server};
 pub use svc_record::Item;
-pub use svc_shared::{
-    CloseRefused, Fed, Feed, Gate, Pass, Post, PostReason, PostRefused, Posted, SharedServer,
-    SplitReason, SplitRefused,
-};

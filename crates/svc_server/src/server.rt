@@ -16,6 +16,7 @@ use crate::server::planning::{is_test, is_upgrade, service_plans, status_of};
 use crate::turns::run_plan;
 pub use refusals::{AddAllRefused, AddError, AddRefused};
 use std::alloc::Global;
+use std::mem::drop;
 use svc_base::{NoMemory, Text};
 use svc_conf::{Opt, ReadError, ServerConf};
 use svc_core::PhaseReader;
@@ -82,17 +83,21 @@ impl<B: ServiceWithDependents, F: ConnectionFilter> Server<B, F> {
         if let Some(opt) = &opt {
             conf.merge_with_opt(opt);
         }
-        if let Err(key) = conf.validate() {
-            return Err(ReadError::Invalid(key));
+        match conf.validate() {
+            Ok(()) => Ok(Server {
+                configuration: conf,
+                options: opt,
+                dependencies: DependencyGraph::new(alloc),
+                filters: Filters::new(alloc),
+                services: Vec::new(alloc),
+                eager: false,
+            }),
+            Err(key) => {
+                drop(conf);
+                drop(opt);
+                Err(ReadError::Invalid(key))
+            }
         }
-        Ok(Server {
-            configuration: conf,
-            options: opt,
-            dependencies: DependencyGraph::new(alloc),
-            filters: Filters::new(alloc),
-            services: Vec::new(alloc),
-            eager: false,
-        })
     }
 
     /// Makes a node for the service, and room for it. The services and the configuration stay.
@@ -118,11 +123,20 @@ impl<B: ServiceWithDependents, F: ConnectionFilter> Server<B, F> {
         }
         self.services.reserve(1).map_err(NoMemory::from)?;
         let name = Text::new(alloc, service.name())?;
-        let node_name = Text::new(alloc, service.name())?;
+        let node_name = match Text::new(alloc, service.name()) {
+            Ok(text) => text,
+            Err(NoMemory) => {
+                drop(name);
+                return Err(AddError::NoMemory);
+            }
+        };
         match self.dependencies.add_node(alloc, node_name) {
             Ok(id) => Ok(ServiceHandle::new(id, name)),
             // There is room for a node, so it is memory that is wanted.
-            Err(_) => Err(AddError::NoMemory),
+            Err(_) => {
+                drop(name);
+                Err(AddError::NoMemory)
+            }
         }
     }
 
@@ -217,6 +231,7 @@ impl<B: ServiceWithDependents, F: ConnectionFilter> Server<B, F> {
                 }
             }
         }
+        drop(services);
         Ok(handles)
     }
 
@@ -306,20 +321,34 @@ impl<B: ServiceWithDependents, F: ConnectionFilter> Server<B, F> {
         // was refused.
         ensures complete { IfSome (H.account host.new) (λ a. GoesWell (plan_of self.configuration self.options self.eager self.dependencies
             (answers_of B.ServiceWithDependents self.services.items)) a.entries → GoesThrough result) }
+
+        // The host is the one that was handed in, where it tells what it was made of.
+        ensures made { H.made_of host.new ≡ H.made_of host.old }
     {
         if let Err(key) = self.configuration.validate() {
+            drop(self);
             return Err(RunError::Config(key));
         }
-        let plan = self.plan(alloc)?;
-        let Server {
-            configuration: _,
-            options: _,
-            dependencies: _,
-            filters,
-            services,
-            eager: _,
-        } = self;
-        run_plan(alloc, plan, services, filters, args.turns, host)
+        match self.plan(alloc) {
+            Ok(plan) => {
+                let Server {
+                    configuration,
+                    options,
+                    dependencies,
+                    filters,
+                    services,
+                    eager: _,
+                } = self;
+                drop(configuration);
+                drop(options);
+                drop(dependencies);
+                run_plan(alloc, plan, services, filters, args.turns, host)
+            }
+            Err(NoMemory) => {
+                drop(self);
+                Err(RunError::NoMemory)
+            }
+        }
     }
 
     /// Runs as `run` does with the turns of `RunArgs::default`, and answers the status to end with: the
@@ -340,6 +369,7 @@ impl<B: ServiceWithDependents, F: ConnectionFilter> Server<B, F> {
             (H.account host.new) (H.counts host.old) (H.counts host.new) (H.ahead host.old) (H.ahead host.new)) }
         ensures config { (key : _) → (result ≡ Err (RunError.Config key))
             ↔ (judged self.configuration ≡ Err key) }
+        ensures made { H.made_of host.new ≡ H.made_of host.old }
     {
         let answer = self.run(alloc, RunArgs::default(), host);
         status_of(answer)

@@ -24,6 +24,7 @@ use crate::handing::tell_all;
 use crate::host::{Host, Next};
 use crate::run::{Outcome, RunError};
 use std::alloc::Global;
+use std::mem::drop;
 use svc_base::NoMemory;
 use svc_core::Core;
 use svc_graph::services::ServiceWithDependents;
@@ -65,15 +66,27 @@ impl<B: ServiceWithDependents, F: ConnectionFilter> Run<B, F> {
         ensures filters { IfOk result (λ machine. machine.filters ≡ filters) }
         ensures empty { IfOk result (λ machine. list_of machine.closing ≡ []) }
     {
-        let core = Core::new(alloc, plan)?;
-        let boxes = PendingServices::new(alloc, services)?;
-        Ok(Run {
-            core,
-            boxes,
-            filters,
-            closing: Actions::new(alloc),
-            told: Actions::new(alloc),
-        })
+        match Core::new(alloc, plan) {
+            Ok(core) => match PendingServices::new(alloc, services) {
+                Ok(boxes) => Ok(Run {
+                    core,
+                    boxes,
+                    filters,
+                    closing: Actions::new(alloc),
+                    told: Actions::new(alloc),
+                }),
+                Err(NoMemory) => {
+                    drop(core);
+                    drop(filters);
+                    Err(NoMemory)
+                }
+            },
+            Err(NoMemory) => {
+                drop(services);
+                drop(filters);
+                Err(NoMemory)
+            }
+        }
     }
 
     /// Closes all.
@@ -86,6 +99,7 @@ impl<B: ServiceWithDependents, F: ConnectionFilter> Run<B, F> {
         ensures filters { self.new.filters ≡ self.old.filters }
         ensures counts { H.counts host.new ≡ H.counts host.old }
         ensures ahead { H.ahead host.new ≡ H.ahead host.old }
+        ensures made { H.made_of host.new ≡ H.made_of host.old }
     {
         self.core.close_all(None, &mut self.closing);
         tell_all(self.core.plan(), &mut self.boxes, &mut self.closing, host);
@@ -102,6 +116,7 @@ impl<B: ServiceWithDependents, F: ConnectionFilter> Run<B, F> {
         ensures filters { self.new.filters ≡ self.old.filters }
         ensures counts { H.counts host.new ≡ H.counts host.old }
         ensures ahead { H.ahead host.new ≡ H.ahead host.old }
+        ensures made { H.made_of host.new ≡ H.made_of host.old }
     {
         self.core.close_all(Some(host.event()), &mut self.closing);
         tell_all(self.core.plan(), &mut self.boxes, &mut self.closing, host);
@@ -123,6 +138,7 @@ impl<B: ServiceWithDependents, F: ConnectionFilter> Run<B, F> {
         ensures account { H.account host.new ≡ H.account host.old }
         ensures counts { H.counts host.new ≡ H.counts host.old }
         ensures ahead { H.ahead host.new ≡ H.ahead host.old }
+        ensures made { H.made_of host.new ≡ H.made_of host.old }
     {
         let room = self.core.step_room();
         self.closing.reserve(alloc, room)?;
@@ -146,14 +162,23 @@ impl<B: ServiceWithDependents, F: ConnectionFilter> Run<B, F> {
         ensures untold { OnErr result (H.account host.new ≡ H.account host.old) }
         ensures counts { H.counts host.new ≡ H.counts host.old }
         ensures ahead { H.ahead host.new ≡ H.ahead host.old }
+        ensures made { H.made_of host.new ≡ H.made_of host.old }
     {
         let room = self.core.step_room();
         self.closing.reserve(alloc, room)?;
         host.reserve(alloc, room)?;
         let mut actions = Actions::new(alloc);
-        let end = self.core.begin(alloc, &mut actions)?;
-        tell_all(self.core.plan(), &mut self.boxes, &mut actions, host);
-        Ok(end)
+        match self.core.begin(alloc, &mut actions) {
+            Ok(end) => {
+                tell_all(self.core.plan(), &mut self.boxes, &mut actions, host);
+                drop(actions);
+                Ok(end)
+            }
+            Err(NoMemory) => {
+                drop(actions);
+                Err(NoMemory)
+            }
+        }
     }
 
     /// The step of the host's last event, which fits, with its actions told. Before it the filter is
@@ -181,6 +206,7 @@ impl<B: ServiceWithDependents, F: ConnectionFilter> Run<B, F> {
         ensures list { self.new.closing ≡ self.old.closing }
         ensures counts { H.counts host.new ≡ H.counts host.old }
         ensures ahead { H.ahead host.new ≡ H.ahead host.old }
+        ensures made { H.made_of host.new ≡ H.made_of host.old }
     {
         empty(&mut self.told);
         let event = host.event();
@@ -214,6 +240,7 @@ impl<B: ServiceWithDependents, F: ConnectionFilter> Run<B, F> {
         ensures failed { IfSome (H.last host.old) (FailsBy result) }
         ensures cause { AnswersEvent result }
         ensures counts { H.counts host.new ≡ H.counts host.old }
+        ensures made { H.made_of host.new ≡ H.made_of host.old }
     {
         if !self.core.fits(host.event()) {
             self.close_with_event(host);
@@ -250,6 +277,7 @@ impl<B: ServiceWithDependents, F: ConnectionFilter> Run<B, F> {
         ensures filters { length self.new.filters ≡ length self.old.filters }
         ensures counts { TurnCounts result (H.counts host.old) (H.counts host.new) }
         ensures configured { IsConfigured result }
+        ensures made { H.made_of host.new ≡ H.made_of host.old }
     {
         if self.make_room(alloc, host).is_err() {
             self.close(host);
@@ -285,6 +313,7 @@ impl<B: ServiceWithDependents, F: ConnectionFilter> Run<B, F> {
             → RunGives verdict self.old.core.plan turns result (H.account host.new) before (H.ahead host.new) }
         ensures answers { result ≡ answer }
         ensures counts { H.counts host.new ≡ H.counts host.old }
+        ensures made { H.made_of host.new ≡ H.made_of host.old }
     {
         if has_served(end) {
             return answer;
@@ -311,6 +340,7 @@ impl<B: ServiceWithDependents, F: ConnectionFilter> Run<B, F> {
             → RunGives verdict self.old.core.plan turns result (H.account host.new) before (H.ahead host.new) }
         ensures counts { RunCounts result (H.counts host.old) (H.counts host.new) }
         ensures configured { IsConfigured result }
+        ensures made { H.made_of host.new ≡ H.made_of host.old }
     {
         for k in 0..turns {
             let end = match self.turn(alloc, k, host) {
@@ -341,6 +371,7 @@ impl<B: ServiceWithDependents, F: ConnectionFilter> Run<B, F> {
             (H.ahead host.new) }
         ensures counts { RunCounts result (H.counts host.old) (H.counts host.new) }
         ensures configured { IsConfigured result }
+        ensures made { H.made_of host.new ≡ H.made_of host.old }
     {
         let end = match self.begin(alloc, host) {
             Ok(end) => end,
@@ -391,11 +422,14 @@ pub(crate) fn run_plan<B: ServiceWithDependents, F: ConnectionFilter, H: Host<Se
     ensures counts { RunCounts result (H.counts host.old) (H.counts host.new) }
     ensures takes { IfSome (H.account host.new) (λ a. IfSome (H.ahead host.old) (λ before. IfSome (H.ahead host.new) (RunTakes result a.entries before))) }
     ensures configured { IsConfigured result }
+    ensures made { H.made_of host.new ≡ H.made_of host.old }
 {
     match Run::new(alloc, plan, services, filters) {
         Ok(machine) => {
             let mut machine = machine;
-            machine.run(alloc, turns, host)
+            let answer = machine.run(alloc, turns, host);
+            drop(machine);
+            answer
         }
         Err(NoMemory) => Err(RunError::NoMemory),
     }

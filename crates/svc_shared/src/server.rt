@@ -10,6 +10,7 @@ use crate::pass::{Pass, ShareState, SharedServer};
 use crate::refusals::CloseRefused;
 use atomic_table::Table;
 use std::alloc::Global;
+use std::mem::drop;
 use std::snapshot::Snapshot;
 use svc_base::NoMemory;
 use svc_book::{Book, Post};
@@ -32,19 +33,30 @@ impl SharedServer {
     {
         let (book, opening) = Book::new(alloc, plan, limit)?;
         let about = Snapshot::of(&book);
-        let mut slots = Vec::with_capacity(alloc, 1)?;
-        slots.push_reserved(Some(book));
-        let Ok((board, place)) = Table::new(alloc, &[0, 2], slots, &about) else {
-            return Err(NoMemory);
+        let mut slots = match Vec::with_capacity(alloc, 1) {
+            Ok(slots) => slots,
+            Err(_) => {
+                drop(book);
+                drop(opening);
+                return Err(NoMemory);
+            }
         };
-        let server = SharedServer { board };
+        slots.push_reserved(Some(book));
+        let (board, place) = match Table::new(alloc, &[0, 2], slots, &about) {
+            Ok(made) => made,
+            Err(refused) => {
+                drop(refused);
+                drop(opening);
+                return Err(NoMemory);
+            }
+        };
         let lot = ShareState {
             number: 0,
             low: 0,
             high: u64::MAX,
             drawn: Some(1),
         };
-        Ok((server, Pass { place, lot }, opening))
+        Ok((SharedServer { board }, Pass { place, lot }, opening))
     }
 
     /// Gives the journal. A pass with the whole share says that all other passes were joined.

@@ -9,6 +9,7 @@ use crate::pass::SharedServer;
 use crate::plays::{AcquireTurn, LoadTurn, ReleaseTurn};
 use crate::view::{Board, Place};
 use std::alloc::Global;
+use std::mem::drop;
 use svc_book::{Answer, Book, BookRefused};
 use svc_record::Event;
 
@@ -60,7 +61,7 @@ impl SharedServer {
         ensures table { (place.new.table_id ≡ place.old.table_id) × (place.new.id ≡ place.old.id) }
         ensures left { place.new.me ≡ (left place.old.me.0 book.posts, []) }
     {
-        let _ = self.board.shared.exchange(place, 0, Some(book));
+        drop(self.board.shared.exchange(place, 0, Some(book)));
         let _ = self
             .board
             .shared

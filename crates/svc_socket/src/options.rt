@@ -39,7 +39,7 @@ pub enum SockOption {
 }
 
 /// A call that set an option, or that failed to.
-#[derive(Clone, Copy, PartialEq, Eq, Debug)]
+#[derive(Clone, Copy)]
 pub struct OptionCall {
     pub option: SockOption,
     /// Whether it was set.

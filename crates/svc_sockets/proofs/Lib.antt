@@ -1,3 +1,4 @@
 pub mod EchoLemmas
 pub mod NumberLemmas
 pub mod TellLemmas
+mod PendingLemmas

@@ -1,7 +1,9 @@
+pub mod Arrivals
 pub mod Echoing
 pub mod Offered
 pub mod OpenSockets
 pub mod Peers
+pub mod Pending
 pub mod Seen
 pub mod Slots
 pub mod SocketsData

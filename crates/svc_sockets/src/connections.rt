@@ -18,7 +18,7 @@ pub(crate) const CONTROL: u32 = 1;
 const PIECES: u32 = 8;
 
 /// How far a connection is.
-#[derive(Clone, Copy, Debug, PartialEq, Eq)]
+#[derive(Clone, Copy, PartialEq, Eq)]
 pub(crate) enum ConnectionState {
     /// This seat was told that it came, and perhaps hasn't posted that yet.
     Arriving(Seat),

@@ -11,7 +11,7 @@ use svc_base::NoMemory;
 use svc_record::{Event, Plan, ServicePlan};
 
 /// What an endpoint answers that was asked.
-#[derive(Clone, Copy, Debug, PartialEq, Eq)]
+#[derive(Clone, Copy, PartialEq, Eq)]
 pub(crate) enum EndpointAnswer {
     Bound(u64),
     InUse,
@@ -21,7 +21,7 @@ pub(crate) enum EndpointAnswer {
 }
 
 /// How far an endpoint is.
-#[derive(Clone, Copy, Debug, PartialEq, Eq)]
+#[derive(Clone, Copy, PartialEq, Eq)]
 pub(crate) enum EndpointState {
     /// It listens on nothing, and was asked nothing.
     Idle,

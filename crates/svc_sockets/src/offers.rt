@@ -19,7 +19,7 @@ use svc_record::Event;
 pub(crate) const MOST_HANDED: usize = 32;
 
 /// What an old server is to be told of its offer.
-#[derive(Clone, Copy, Debug, PartialEq, Eq)]
+#[derive(Clone, Copy)]
 pub(crate) enum OfferAnswer {
     Connected,
     NotThere,

@@ -2,11 +2,13 @@
 //! a state of a row, and rows are made as the addresses are learned, as a connection comes and as a
 //! letter is opened: so an action takes no memory.
 
-ghost use Rattle.std.specs.Prelude.{◌≡◌, ◌<◌, [], ◌∷◌, ◌++◌, ◌⊎◌, ◌≢◌, false, length, IsSome, IfSome, IfOk, IsOk, OnOk, OnErr, vec_len, vec_capacity};
+ghost use Rattle.std.specs.Prelude.{◌≡◌, ◌<◌, [], ◌∷◌, ◌++◌, ◌⊎◌, ◌≢◌, false, length, slice_get, IsSome, IfSome, IfOk, IsOk, OnOk, OnErr, vec_len, vec_capacity};
 ghost use Rattle.svc_sockets.specs.OpenSockets.{open_numbers, without};
 ghost use Rattle.svc_sockets.specs.Peers.{peer_address};
 ghost use Rattle.svc_sockets.specs.Seen.{endpoint_count, loop_count, seen};
-ghost use Rattle.svc_sockets.specs.SocketsData.{TellsNext, Performs, on_connections, refused, without_all};
+ghost use Rattle.svc_sockets.specs.declared.connections.Connection.{Connection};
+ghost use Rattle.svc_sockets.specs.Arrivals.{failed_at, arrived_at, IsNoteOf};
+ghost use Rattle.svc_sockets.specs.SocketsData.{Tells, TellsNext, Performs, on_connections, refused, without_all};
 
 use crate::connections::{Connection, ConnectionState};
 use crate::descriptors::Descriptors;
@@ -17,6 +19,8 @@ use crate::streams::{Incoming, Outgoing};
 use crate::{connections, endpoints};
 use std::alloc::Global;
 use std::io::ErrorKind;
+use std::mem;
+use std::mem::drop;
 use std::net::{Net, SocketAddr, TcpListener, TcpStream};
 use std::sync::{Mutex, Wait};
 use std::time::{Clock, Instant};
@@ -219,11 +223,32 @@ impl Sockets {
         self.tasks = plan.tasks;
         self.offers.reserve()?;
         let mut endpoints = Vec::new(self.alloc);
-        endpoints::add_all(rt, &mut endpoints, plan)?;
+        match self.learn(rt, plan, &mut endpoints) {
+            Ok(()) => {
+                drop(mem::replace(&mut self.endpoints, endpoints));
+                Ok(())
+            }
+            Err(NoMemory) => {
+                drop(endpoints);
+                Err(NoMemory)
+            }
+        }
+    }
+
+    /// Lists the endpoints of a plan, and makes room for their sockets and for as many as a letter hands over.
+    fn learn<R: Net>(
+        &mut self,
+        rt: &R,
+        plan: &Plan,
+        endpoints: &mut Vec<Endpoint>,
+    ) -> Result<(), NoMemory>
+        ensures seen { seen self.new ≡ seen self.old }
+        ensures loops { loop_count self.new ≡ loop_count self.old }
+        ensures endpoints { self.new.endpoints ≡ self.old.endpoints }
+    {
+        endpoints::add_all(rt, endpoints, plan)?;
         self.descriptors
-            .reserve(endpoints.len().saturating_add(MOST_HANDED))?;
-        self.endpoints = endpoints;
-        Ok(())
+            .reserve(endpoints.len().saturating_add(MOST_HANDED))
     }
 
     /// The server has ended, so nothing comes any more.
@@ -312,27 +337,33 @@ impl Sockets {
     }
 
     /// The event of a failed accept. The endpoint waits a little before the next try.
-    fn accept_failed(&mut self, at: usize, number: u32, now: u64) -> Option<Event>
-        requires { self.old.is_draining ≡ false }
-        ensures { TellsNext result (seen self.old) (seen self.new) }
+    fn accept_failed(&mut self, at: usize, number: u32, now: u64) -> Event
+        requires place { at < vec_len self.old.endpoints }
+        requires accepts { self.old.is_draining ≡ false }
+        ensures event { IfSome (slice_get self.old.endpoints.items at) (λ endpoint. result ≡ failed_at number endpoint) }
+        ensures told { Tells result (seen self.old) (seen self.new) }
     {
-        let endpoint = self.endpoints.get_mut(at)?;
+        let endpoint = &mut self.endpoints[at];
         endpoint.rests_until = now.saturating_add(MOMENT_EVERY);
-        Some(Event::AcceptFailed(endpoint.service, endpoint.number, number))
+        Event::AcceptFailed(endpoint.service, endpoint.number, number)
     }
 
     /// The event of a connection that came. Room for it is made before.
-    fn admit(&mut self, seat: Seat, at: usize, stream: TcpStream, addr: SocketAddr) -> Option<Event>
+    fn admit(&mut self, seat: Seat, at: usize, stream: TcpStream, addr: SocketAddr) -> Event
         requires place { at < vec_len self.old.endpoints }
         requires accepts { self.old.is_draining ≡ false }
         requires room { vec_len self.old.connections < vec_capacity self.old.connections }
         requires spare { IsSome self.old.spare }
-        ensures comes { IsSome result }
-        ensures told { TellsNext result (seen self.old) (seen self.new) }
+        ensures event { IfSome (slice_get self.old.endpoints.items at) (λ endpoint. result ≡ arrived_at self.old.number (peer_address addr) endpoint) }
+        ensures row { (c : Connection) × (self.new.connections.items ≡ self.old.connections.items ++ c ∷ [])
+            × IsNoteOf c result }
+        ensures told { Tells result (seen self.old) (seen self.new) }
     {
-        let endpoint = self.endpoints.get(at)?;
+        let endpoint = &self.endpoints[at];
         let (service, number) = (endpoint.service, endpoint.number);
-        let outgoing = self.spare.take()?;
+        let Some(outgoing) = self.spare.take() else {
+            unreachable!()
+        };
         let c = self.number;
         self.number = c.saturating_add(1);
         let incoming = Incoming {
@@ -348,10 +379,8 @@ impl Sockets {
             incoming,
             outgoing,
         };
-        if self.connections.push(connection).is_err() {
-            return None;
-        }
-        Some(Event::Arrived(service, number, c, peer_of(addr)))
+        self.connections.push_reserved(connection);
+        Event::Arrived(service, number, c, peer_of(addr))
     }
 
     /// Makes room for one connection.
@@ -380,10 +409,10 @@ impl Sockets {
         self.prepare()?;
         match self.accept_in_turn(now) {
             (_, Accepted::Nothing) => Ok(None),
-            (at, Accepted::Failed(number)) => Ok(self.accept_failed(at, number, now)),
+            (at, Accepted::Failed(number)) => Ok(Some(self.accept_failed(at, number, now))),
             (at, Accepted::Came(stream, addr)) => {
                 self.turn = at.wrapping_add(1);
-                Ok(self.admit(seat, at, stream, addr))
+                Ok(Some(self.admit(seat, at, stream, addr)))
             }
         }
     }

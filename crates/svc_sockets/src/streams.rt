@@ -1,7 +1,9 @@
 //! Both directions of a connection: a source over its nonblocking stream, and a sink of the bytes that
 //! the stream hasn't taken yet.
 
-ghost use Rattle.std.specs.Prelude.{◌≡◌, ◌≤◌};
+ghost use Rattle.std.specs.Prelude.{◌≡◌, ℕ, ◌≤◌, ◌++◌, [], drop, take, length, slice_range};
+ghost use Rattle.std.specs.Io.KnownBytes.{Appends};
+ghost use Rattle.svc_sockets.specs.Pending.{IsLeft};
 
 use crate::echoing::{EchoEnd, PIECE, echo};
 use std::io::{ErrorKind, Read, Write};
@@ -61,7 +63,7 @@ pub struct Outgoing {
 }
 
 /// What a stream left of what it was to take.
-#[derive(Clone, Copy, PartialEq, Eq, Debug)]
+#[derive(Clone, Copy)]
 pub(crate) enum Flushed {
     Nothing,
     Some,
@@ -71,7 +73,7 @@ pub(crate) enum Flushed {
 impl Outgoing {
     /// Nothing is to be taken.
     pub fn new() -> Self
-        ensures empty { result.from ≡ result.to }
+        ensures empty { slice_range result.bytes result.from result.to ≡ [] }
         ensures faults { result.count ≡ 0 }
     {
         Outgoing {
@@ -83,7 +85,10 @@ impl Outgoing {
     }
 
     /// Nothing is to be taken any more.
-    fn clear(&mut self) {
+    fn clear(&mut self)
+        ensures empty { slice_range self.new.bytes self.new.from self.new.to ≡ [] }
+        ensures faults { self.new.count ≡ self.old.count }
+    {
         *self = Outgoing {
             bytes: self.bytes,
             from: 0,
@@ -93,7 +98,11 @@ impl Outgoing {
     }
 
     /// The stream took so many bytes more.
-    fn skip(&mut self, count: usize) -> Flushed {
+    fn skip(&mut self, count: usize) -> Flushed
+        ensures rest { slice_range self.new.bytes self.new.from self.new.to ≡ drop count (slice_range self.old.bytes self.old.from self.old.to) }
+        ensures left { IsLeft result (slice_range self.new.bytes self.new.from self.new.to) }
+        ensures faults { self.new.count ≡ self.old.count }
+    {
         if count >= self.to - self.from {
             self.clear();
             return Flushed::Nothing;
@@ -102,16 +111,36 @@ impl Outgoing {
         Flushed::Some
     }
 
-    /// Gives the stream what it takes without waiting.
-    pub(crate) fn flush(&mut self, mut stream: &TcpStream) -> Flushed {
+    /// Gives a writer the bytes in their order, as far as it takes them in one call. What it doesn't take is
+    /// left.
+    pub(crate) fn flush<W: Write>(&mut self, writer: &mut W) -> Flushed
+        ensures given { (n : ℕ) × (slice_range self.new.bytes self.new.from self.new.to ≡ drop n (slice_range self.old.bytes self.old.from self.old.to))
+            × Appends (W.contents writer.old) (W.contents writer.new) (take n (slice_range self.old.bytes self.old.from self.old.to)) }
+        ensures left { IsLeft result (slice_range self.new.bytes self.new.from self.new.to) }
+        ensures faults { self.new.count ≡ self.old.count }
+    {
         if self.from == self.to {
             return Flushed::Nothing;
         }
-        match stream.write(&self.bytes[self.from..self.to]) {
+        match writer.write(&self.bytes[self.from..self.to]) {
             Ok(count) => self.skip(count),
             Err(error) if may_come(error.kind()) => Flushed::Some,
             Err(_) => Flushed::Failed,
         }
+    }
+
+    /// Takes a front of the piece, as much as there is room for.
+    fn put(&mut self, piece: &[u8]) -> usize
+        ensures fits { result ≤ length piece.now }
+        ensures pending { slice_range self.new.bytes self.new.from self.new.to
+            ≡ slice_range self.old.bytes self.old.from self.old.to ++ take result piece.now }
+        ensures faults { self.new.count ≡ self.old.count }
+    {
+        let count = piece.len().min(PIECE - self.to);
+        let to = self.to + count;
+        self.bytes[self.to..to].copy_from_slice(&piece[..count]);
+        self.to = to;
+        count
     }
 }
 
@@ -127,20 +156,18 @@ impl Sink for Outgoing {
     }
 
     fn write(&mut self, piece: &[u8]) -> Put {
-        let count = piece.len().min(PIECE - self.to);
-        if count == 0 {
-            self.count = self.count.saturating_add(1);
-            return Put::Failed;
+        match self.put(piece) {
+            0 => {
+                self.count = self.count.saturating_add(1);
+                Put::Failed
+            }
+            count => Put::Wrote(count),
         }
-        let to = self.to + count;
-        self.bytes[self.to..to].copy_from_slice(&piece[..count]);
-        self.to = to;
-        Put::Wrote(count)
     }
 }
 
 /// What became of a piece.
-#[derive(Clone, Copy, PartialEq, Eq, Debug)]
+#[derive(Clone, Copy)]
 pub(crate) enum Progress {
     /// It came, and another one may be there.
     More,
@@ -153,7 +180,7 @@ pub(crate) enum Progress {
 /// Writes one piece back, after what is left of the one before. So a piece is read only where there is
 /// room for it, and none is lost.
 pub(crate) fn echo_piece(incoming: &mut Incoming, outgoing: &mut Outgoing) -> Progress {
-    match outgoing.flush(&incoming.stream) {
+    match outgoing.flush(&mut &incoming.stream) {
         Flushed::Nothing => {}
         Flushed::Some => return Progress::Waits,
         Flushed::Failed => return Progress::Over,

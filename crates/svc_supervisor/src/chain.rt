@@ -11,6 +11,7 @@ use crate::places::{check_step, first_generation, next_generation, take_at};
 use crate::refused::ChainRefused;
 use std::alloc::Global;
 use std::marker::Model;
+use std::mem::drop;
 use svc_base::NoMemory;
 use svc_core::{Entries, Event, Plan, StepEnd};
 
@@ -49,7 +50,11 @@ impl Chain {
                 generations,
                 finished: false,
             }),
-            Err(_) => Err(ChainRefused::NoMemory(None)),
+            Err(refused) => {
+                drop(refused);
+                drop(generations);
+                Err(ChainRefused::NoMemory(None))
+            }
         }
     }
 
@@ -90,7 +95,10 @@ impl Chain {
         };
         match self.generations.push(generation) {
             Ok(()) => Ok(number),
-            Err(_) => Err(ChainRefused::NoMemory(None)),
+            Err(refused) => {
+                drop(refused);
+                Err(ChainRefused::NoMemory(None))
+            }
         }
     }
 

@@ -1,6 +1,6 @@
 //! A generation of a chain: a core that has begun, with the record of its run.
 
-ghost use Rattle.std.specs.Prelude.{◌≡◌, ◌+◌, ◌≤◌, ◌++◌, length, map, IsTrue, IfOk, IfErr, OnOk, OnErr, None};
+ghost use Rattle.std.specs.Prelude.{◌≡◌, ◌+◌, ◌≤◌, ◌++◌, [], length, map, IsTrue, IfOk, IfErr, OnOk, OnErr, None};
 ghost use Rattle.std.specs.Option.{option_copied, option_map};
 ghost use Rattle.svc_base.specs.Items.{list_of, spare};
 ghost use Rattle.svc_record.specs.Validity.{IsValid};
@@ -11,6 +11,7 @@ ghost use Rattle.svc_supervisor.specs.Generations.{Begins, Takes, IsSame, HasSte
 
 use crate::marks::{Marks, channel_between};
 use std::alloc::Global;
+use std::mem::drop;
 use svc_base::NoMemory;
 use svc_core::{Actions, Core, Entries, Entry, Event, Plan, StepEnd};
 use svc_handover::ChannelState;
@@ -27,6 +28,31 @@ pub(crate) struct Generation {
     closing: Actions,
 }
 
+/// An empty record and an empty list of closes, each with so much room.
+fn reserved(alloc: Global, room: u64) -> Result<(Entries, Actions), NoMemory>
+    ensures entries { IfOk result (λ lists. (list_of lists.0 ≡ []) × (room ≤ spare lists.0)) }
+    ensures closing { IfOk result (λ lists. (list_of lists.1 ≡ []) × (room ≤ spare lists.1)) }
+{
+    let mut entries = Entries::new(alloc);
+    let mut closing = Actions::new(alloc);
+    match entries.reserve(alloc, room) {
+        Ok(()) => {}
+        Err(NoMemory) => {
+            drop(entries);
+            drop(closing);
+            return Err(NoMemory);
+        }
+    }
+    match closing.reserve(alloc, room) {
+        Ok(()) => Ok((entries, closing)),
+        Err(NoMemory) => {
+            drop(entries);
+            drop(closing);
+            Err(NoMemory)
+        }
+    }
+}
+
 impl Generation {
     /// The server of the plan begins.
     pub(crate) fn begin(alloc: Global, plan: Plan) -> Result<Generation, NoMemory>
@@ -36,14 +62,24 @@ impl Generation {
         read_addresses(&plan);
         let mut core = Core::new(alloc, plan)?;
         let room = core.step_room();
-        let mut entries = Entries::new(alloc);
-        entries.reserve(alloc, room)?;
-        let mut closing = Actions::new(alloc);
-        closing.reserve(alloc, room)?;
+        let (mut entries, closing) = match reserved(alloc, room) {
+            Ok(lists) => lists,
+            Err(NoMemory) => {
+                drop(core);
+                return Err(NoMemory);
+            }
+        };
         let mut told = Actions::new(alloc);
-        core.begin(alloc, &mut told)?;
+        let Ok(_) = core.begin(alloc, &mut told) else {
+            drop(core);
+            drop(entries);
+            drop(closing);
+            drop(told);
+            return Err(NoMemory);
+        };
         let marks = Marks::new().after_told(told.as_slice());
         put_told(&mut told, &mut entries);
+        drop(told);
         Ok(Generation {
             core,
             entries,
@@ -75,11 +111,13 @@ impl Generation {
         }
         let mut told = Actions::new(alloc);
         let Ok(end) = self.core.step(alloc, &event, said, &mut told) else {
+            drop(told);
             return Err(event);
         };
         self.marks = self.marks.after_event(&event).after_told(told.as_slice());
         self.entries.put(Entry::Got(event));
         put_told(&mut told, &mut self.entries);
+        drop(told);
         Ok(end)
     }
 

@@ -73,6 +73,10 @@ fn lists_take_and_give_in_order(rt: HostRuntime) {
     same(rt, bytes.as_slice(), [3u8, 4].as_slice());
     same(rt, bytes.pop_first(), Some(3));
     same(rt, bytes.len(), 1);
+    let mut plain = bytes.into_items();
+    same(rt, plain.as_slice(), [4u8].as_slice());
+    holds(rt, plain.push(rt.alloc(), 5).is_ok());
+    same(rt, plain.into_reserved().as_slice(), [4u8, 5].as_slice());
 }
 
 #[test]

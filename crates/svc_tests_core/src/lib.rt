@@ -1,5 +1,5 @@
 //! Tests of the core and its parts, of what the rows of tests/rows can't show: a server that
-//! bootstraps by itself, the step that tells twice, and readers.
+//! bootstraps by itself, the step that tells twice, readers, and handovers between two servers.
 #![tactic(auto)]
 
 #[cfg(test)]
@@ -8,3 +8,5 @@ mod bootstrapping;
 mod checking;
 #[cfg(test)]
 mod cores;
+#[cfg(test)]
+mod handovers;

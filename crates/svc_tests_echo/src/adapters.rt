@@ -1,7 +1,7 @@
 //! The binder and the accepting socket over TCP.
 
 use crate::checking::{holds, same};
-use crate::clients::{connected, free_address, said_back};
+use crate::clients::{connected, free_address, is_closed};
 use std::alloc::Global;
 use std::net::{SocketAddr, TcpListener};
 use std::test::Fail;
@@ -30,8 +30,10 @@ fn a_busy_address_is_in_use(rt: HostRuntime) -> Result<(), Fail> {
     let addr = tcp(alloc, address)?;
     let mut binder = SocketBinder::new(&rt, alloc, 10)?;
     let mut other = SocketBinder::new(&rt, alloc, 10)?;
-    same(&rt, outcome_of(binder.bind(&addr)), BindOutcome::Bound(3));
-    same(&rt, outcome_of(other.bind(&addr)), BindOutcome::InUse);
+    let bound = outcome_of(binder.bind(&addr));
+    holds(&rt, matches!(bound, BindOutcome::Bound(3)));
+    let busy = outcome_of(other.bind(&addr));
+    holds(&rt, matches!(busy, BindOutcome::InUse));
     same(&rt, (other.faults(), other.waits()), (0, 1));
     holds(&rt, binder.adopt(&addr, 3));
     holds(&rt, !binder.adopt(&addr, 4));
@@ -52,7 +54,7 @@ fn a_connection_is_accepted_and_refused(rt: HostRuntime) -> Result<(), Fail> {
     holds(&rt, matches!(arrival, Arrival::Came(2, _)));
     holds(&rt, accepting.set(2, &Setting::NoDelay));
     accepting.refuse(2);
-    holds(&rt, !said_back(&client, b"word").unwrap_or(false));
+    holds(&rt, is_closed(&client));
     same(&rt, (accepting.faults(), accepting.waits()), (0, 1));
     Ok(())
 }

@@ -1,6 +1,6 @@
 //! Clients of a listener on loopback. Each of their waits is bounded.
 
-use std::io::{Read, Write};
+use std::io::Read;
 use std::net::{Net, SocketAddr, TcpListener, TcpStream};
 use std::time::{Clock, Duration};
 use std::{io, thread};
@@ -45,10 +45,11 @@ fn bounded(stream: TcpStream) -> io::Result<TcpStream> {
     Ok(stream)
 }
 
-/// Says a word, and answers whether it came back.
-pub(crate) fn said_back(mut stream: &TcpStream, word: &[u8; 4]) -> io::Result<bool> {
-    stream.write_all(word)?;
-    let mut got = [0u8; 4];
-    stream.read_exact(&mut got)?;
-    Ok(got == *word)
+/// Whether the other side has closed the connection within ten seconds, where it writes nothing.
+pub(crate) fn is_closed(mut stream: &TcpStream) -> bool {
+    let mut got = [0u8; 1];
+    match stream.read(&mut got) {
+        Ok(count) => count == 0,
+        Err(error) => error.kind() == io::ErrorKind::ConnectionReset,
+    }
 }

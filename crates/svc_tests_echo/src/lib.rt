@@ -13,6 +13,8 @@ mod echoes;
 #[cfg(test)]
 mod plans;
 #[cfg(test)]
+mod real_desks;
+#[cfg(test)]
 mod tables;
 #[cfg(test)]
 mod two_desks;

@@ -14,7 +14,11 @@ use svc_graph::Kind;
 use svc_record::{Action, Event};
 
 /// The sockets of a server whose one endpoint is at this address.
-fn sockets_at<R: Net>(rt: &R, alloc: Global, address: SocketAddr) -> Result<Sockets, Fail> {
+pub(crate) fn sockets_at<R: Net>(
+    rt: &R,
+    alloc: Global,
+    address: SocketAddr,
+) -> Result<Sockets, Fail> {
     let address = format!(in alloc; "{address}")?;
     let plan = plan_of(alloc, "echo", Kind::Plain, &[address.as_str()])?;
     let mut sockets = Sockets::new(alloc);

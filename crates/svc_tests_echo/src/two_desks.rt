@@ -26,12 +26,14 @@ fn desk_of(alloc: Global, events: Vec<Event>) -> Result<MemoryDesk, Fail> {
     Ok(MemoryDesk::new(alloc, 100, items)?)
 }
 
-/// Each worker waits after its first answer for the other's first.
+/// Each worker waits after its first answer for the other's first. It counts the calls for each worker,
+/// and those whose number of answers isn't their count.
 #[derive(Drop)]
 struct Turnstile {
     left: AtomicU64,
     right: AtomicU64,
     late: AtomicU64,
+    wrong: AtomicU64,
 }
 
 impl Gate for Turnstile {
@@ -41,7 +43,10 @@ impl Gate for Turnstile {
         } else {
             (&self.right, &self.left)
         };
-        mine.fetch_add(1, Ordering::SeqCst);
+        let earlier = mine.fetch_add(1, Ordering::SeqCst);
+        if answered != earlier.saturating_add(1) {
+            self.wrong.fetch_add(1, Ordering::SeqCst);
+        }
         if answered > 1 {
             return;
         }
@@ -126,13 +131,18 @@ fn both_workers_work_at_once(rt: HostRuntime) -> Result<(), Fail> {
         left: AtomicU64::new(0),
         right: AtomicU64::new(0),
         late: AtomicU64::new(0),
+        wrong: AtomicU64::new(0),
     };
     let plan = plan_of(alloc, "a", Kind::Notifying, &[])?;
     let fast = Event::Signal(ShutdownSignal::FastShutdown);
-    let left = vec![in alloc; Event::Ready(0), Event::Moment(1)]?;
+    // The left worker's first event strays, so that it takes two and has one answer.
+    let left = vec![in alloc; Event::Finished(1), Event::Ready(0)]?;
     let right = vec![in alloc; Event::Moment(1), fast]?;
     let echoed = served(&rt, alloc, plan, left, right, &gate)?;
     same(&rt, gate.late.load(Ordering::SeqCst), 0);
+    same(&rt, gate.wrong.load(Ordering::SeqCst), 0);
+    same(&rt, gate.left.load(Ordering::SeqCst), 1);
+    same(&rt, gate.right.load(Ordering::SeqCst), 2);
     same(&rt, echoed.right_end, WorkEnd::Over);
     holds(&rt, begins_with_either(&echoed));
     Ok(())

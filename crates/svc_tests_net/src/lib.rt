@@ -1,5 +1,5 @@
-//! Tests of svc_socket, svc_streams and svc_listen: that their calls succeed, and the texts of their
-//! errors.
+//! Tests of svc_socket, svc_streams, svc_listen and svc_gate: that their calls succeed, and the texts of
+//! their errors.
 #![tactic(auto)]
 
 #[cfg(test)]
@@ -12,6 +12,8 @@ mod connections;
 mod dialing;
 #[cfg(test)]
 mod endpoints;
+#[cfg(test)]
+mod gate;
 #[cfg(test)]
 mod listening;
 #[cfg(test)]

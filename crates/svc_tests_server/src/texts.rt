@@ -3,7 +3,8 @@
 use crate::checking::prints;
 use svc_conf::Key;
 use svc_record::BootstrapError;
-use svc_server::{AddError, PostReason, RunError, SplitReason};
+use svc_server::{AddError, RunError};
+use svc_shared::{PostReason, SplitReason};
 use svc_text::ScriptError;
 
 #[test]

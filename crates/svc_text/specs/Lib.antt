@@ -13,3 +13,4 @@ pub mod Edges
 pub mod ScriptPlans
 pub mod Filters
 pub mod BlockedNumbers
+pub mod LineTails

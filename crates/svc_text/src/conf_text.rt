@@ -15,7 +15,7 @@ use std::str;
 use svc_conf::{ReadError, ServerConf};
 
 /// Where the text of the configuration stands, as far as a script's lines were passed.
-#[derive(Clone, Copy, Debug, PartialEq, Eq)]
+#[derive(Clone, Copy)]
 pub struct ConfText {
     /// How many lines stand before it, with the one that begins its part.
     pub before: usize,

@@ -8,10 +8,11 @@ use crate::lists::push_item;
 use crate::service::EndpointLine;
 use std::alloc::Global;
 use std::marker::Model;
+use std::mem::drop;
 use svc_base::{NoMemory, Setting};
 
 /// The endpoints of a service line, in its order. Contracts see them as a list.
-#[derive(Debug, Drop)]
+#[derive(Drop)]
 pub struct EndpointLines {
     lines: Vec<EndpointLine>,
 }
@@ -69,12 +70,14 @@ impl EndpointLines {
         }
     }
 
+    /// The lines, in the order in which they were appended.
     pub fn as_slice(&self) -> &[EndpointLine]
         ensures { result.now ≡ self.now }
     {
         self.lines.as_slice()
     }
 
+    /// How many lines there are.
     pub fn len(&self) -> u64
         ensures { result ≡ length self.now }
     {
@@ -86,9 +89,16 @@ impl EndpointLines {
         ensures ok { OnOk result (self.new ≡ self.old ++ endpoint ∷ []) }
         ensures refused { OnErr result (self.new ≡ self.old) }
     {
-        self.lines.reserve(1)?;
-        self.lines.push_reserved(endpoint);
-        Ok(())
+        match self.lines.reserve(1) {
+            Ok(()) => {
+                self.lines.push_reserved(endpoint);
+                Ok(())
+            }
+            Err(_) => {
+                drop(endpoint);
+                Err(NoMemory)
+            }
+        }
     }
 
     /// The number of the last TCP endpoint.

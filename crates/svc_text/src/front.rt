@@ -6,11 +6,12 @@ ghost use Rattle.svc_text.specs.Fronts.{IsFront};
 use crate::conf_text::ConfText;
 use crate::reading::{LineError, Reading, is_text};
 use std::alloc::Global;
+use std::mem::drop;
 use svc_base::{NoMemory, split_line};
 
 /// The lines of a script up to the first that doesn't fit those before it. Those of the configuration
 /// are found, and not yet looked at.
-#[derive(Debug, Drop)]
+#[derive(Drop)]
 pub struct ParsedPrefix {
     /// How many lines fit.
     pub number: usize,
@@ -22,6 +23,27 @@ pub struct ParsedPrefix {
     pub reading: Reading,
     /// The number of each service's line.
     pub lines: Vec<usize>,
+}
+
+impl ParsedPrefix {
+    /// The prefix that has these parts.
+    fn new(
+        number: usize,
+        refused: bool,
+        conf: ConfText,
+        reading: Reading,
+        lines: Vec<usize>,
+    ) -> Self
+        ensures { result ≡ record { number = number; refused = refused; conf = conf; reading = reading; lines = lines } }
+    {
+        ParsedPrefix {
+            number,
+            refused,
+            conf,
+            reading,
+            lines,
+        }
+    }
 }
 
 /// Notes a line's number, where it said a service.
@@ -54,26 +76,22 @@ pub fn parse_prefix(alloc: Global, bytes: &[u8]) -> Result<ParsedPrefix, NoMemor
         match reading.take_line(alloc, line, known) {
             Ok(()) => {}
             Err(LineError::Refused) => {
-                return Ok(ParsedPrefix {
-                    number,
-                    refused: true,
-                    conf,
-                    reading,
-                    lines,
-                });
+                return Ok(ParsedPrefix::new(number, true, conf, reading, lines));
             }
-            Err(LineError::NoMemory) => return Err(NoMemory),
+            Err(LineError::NoMemory) => {
+                drop(reading);
+                drop(lines);
+                return Err(NoMemory);
+            }
         }
         rest = after;
         number += 1;
         conf.pass(was, reading.part, bytes.len() - rest.len());
-        note_line(&mut lines, reading.services.len(), number)?;
+        let Ok(()) = note_line(&mut lines, reading.services.len(), number) else {
+            drop(reading);
+            drop(lines);
+            return Err(NoMemory);
+        };
     }
-    Ok(ParsedPrefix {
-        number,
-        refused: false,
-        conf,
-        reading,
-        lines,
-    })
+    Ok(ParsedPrefix::new(number, false, conf, reading, lines))
 }

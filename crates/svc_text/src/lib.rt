@@ -9,6 +9,7 @@ mod filters;
 mod fitting;
 mod front;
 mod keys;
+mod line_tails;
 mod lists;
 mod message_words;
 mod parsing;

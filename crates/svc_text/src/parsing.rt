@@ -11,6 +11,7 @@ use crate::conf_text::read_conf;
 use crate::front::{ParsedPrefix, parse_prefix};
 use crate::service::ServiceLine;
 use std::alloc::Global;
+use std::mem::drop;
 use svc_conf::ServerConf;
 use svc_record::Item;
 use thiserror::Error;
@@ -48,6 +49,8 @@ fn finished(front: ParsedPrefix, conf: ServerConf) -> Result<Script, ScriptError
 {
     let next = front.number + 1;
     if front.refused || front.reading.part.number() != 3 {
+        drop(front);
+        drop(conf);
         return Err(ScriptError::Line(next));
     }
     let ParsedPrefix { reading, lines, .. } = front;
@@ -73,7 +76,10 @@ pub fn parse(alloc: Global, bytes: &[u8]) -> Result<Script, ScriptError>
     let text = &bytes[front.conf.start..front.conf.end];
     let conf = match read_conf(alloc, text, front.conf.before) {
         Ok(conf) => conf,
-        Err(error) => return Err(error),
+        Err(error) => {
+            drop(front);
+            return Err(error);
+        }
     };
     finished(front, conf)
 }

@@ -6,7 +6,7 @@ ghost use Rattle.svc_text.specs.Script.{header_of, section_index};
 use crate::keys::spells;
 
 /// The part of a script that a line stands in.
-#[derive(Clone, Copy, Debug, PartialEq, Eq)]
+#[derive(Clone, Copy)]
 pub enum Section {
     Nothing,
     Conf,

@@ -14,12 +14,13 @@ use crate::event_lines::item_of_key;
 use crate::part::{Section, header_of};
 use crate::service::{ServiceLine, is_eager, service_of_line};
 use std::alloc::{AllocFailed, Global};
+use std::mem::drop;
 use std::str;
 use svc_base::{NoMemory, split_word};
 use svc_record::Item;
 
 /// Why a line wasn't taken.
-#[derive(Clone, Copy, Debug, PartialEq, Eq)]
+#[derive(Clone, Copy)]
 pub enum LineError {
     Refused,
     NoMemory,
@@ -46,7 +47,7 @@ impl<T: Drop> From<AllocFailed<T>> for LineError {
 }
 
 /// What the lines so far said.
-#[derive(Debug, Drop)]
+#[derive(Drop)]
 pub struct Reading {
     pub part: Section,
     pub services: Vec<ServiceLine>,
@@ -119,6 +120,7 @@ impl Reading {
             return Err(LineError::Refused);
         };
         if self.services.len() >= 1024 {
+            drop(service);
             return Err(LineError::Refused);
         }
         self.services.push(service)?;

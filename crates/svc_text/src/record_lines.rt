@@ -6,50 +6,19 @@ ghost use Rattle.svc_socket.specs.declared.peer.Peer.TheVariants.{Inet};
 ghost use Rattle.svc_socket.specs.Peers.{peer_text};
 ghost use Rattle.svc_record.specs.declared.event.Event.TheVariants.{Arrived};
 ghost use Rattle.svc_record.specs.declared.entry.Entry.TheVariants.{Got};
-ghost use Rattle.svc_record.specs.Text.{ok_word, yes_word, spaced, line_of};
+ghost use Rattle.svc_record.specs.Text.{spaced, line_of};
+ghost use Rattle.svc_text.specs.LineTails.{numbers_text, tail_text};
 
-use itoa::{Buffer, write_digits};
+use crate::line_tails::{LineTail, Numbers, action_tail, event_tail};
+use itoa::write_digits;
 use std::fmt::Write;
 use std::str;
-use svc_base::{NoMemory, Setting};
-use svc_record::{Action, Entry, Event};
+use svc_base::NoMemory;
+use svc_record::{Entry, Event};
 use svc_socket::{Peer, PeerAddr};
 
 /// The bytes of the longest line's numbers: eight of up to 20 digits, with a mark behind each.
 const LINE: usize = 8 * 21;
-
-/// Appends a number.
-fn push_number(text: &mut String, n: u64) -> Result<(), NoMemory>
-    ensures { OnOk result (string_bytes text.new ≡ string_bytes text.old ++ decimal n) }
-{
-    let mut digits = Buffer::new();
-    text.push_str(digits.format(n))?;
-    Ok(())
-}
-
-/// Appends words that end with a space, a number, and what ends the line.
-fn push_numbered(text: &mut String, words: &str, n: u64, end: &str) -> Result<(), NoMemory>
-    ensures { OnOk result (string_bytes text.new ≡ string_bytes text.old ++ words.now ++ decimal n ++ end.now) }
-{
-    text.push_str(words)?;
-    push_number(text, n)?;
-    text.push_str(end)?;
-    Ok(())
-}
-
-/// The end of a line that tells whether it went well.
-fn ok_end(ok: bool) -> &'static str
-    ensures { result.now ≡ 32 ∷ ok_word ok ++ 10 ∷ [] }
-{
-    if ok { " ok\n" } else { " no\n" }
-}
-
-/// The end of a line that tells what a filter said.
-fn yes_end(said: bool) -> &'static str
-    ensures { result.now ≡ 32 ∷ yes_word said ++ 10 ∷ [] }
-{
-    if said { " yes\n" } else { " no\n" }
-}
 
 /// Writes a number and what follows it so that they end at this place. It answers where they start.
 fn write_before(n: u64, mark: u8, line: &mut [u8; LINE], end: usize) -> usize
@@ -78,6 +47,53 @@ fn write_arrived(s: u32, i: u32, c: u64, ip: u32, port: u16, line: &mut [u8; LIN
     write_before(s as u64, b' ', line, at)
 }
 
+/// Writes a space and a number so that they end at this place. It answers where they start.
+fn write_behind_space(n: u64, line: &mut [u8; LINE], end: usize) -> usize
+    requires { (21 ≤ end) × (end ≤ 168) }
+    ensures start { (result ≤ end) × (end ≤ result + 21) }
+    ensures written { drop result line.new ≡ 32 ∷ decimal n ++ drop end line.old }
+    ensures ascii { IsAscii (drop end line.old) → IsAscii (drop result line.new) }
+{
+    let at = write_digits(n, line, end);
+    line[at - 1] = b' ';
+    at - 1
+}
+
+/// Writes numbers, with a space before each, and a line feed so that they end where the bytes do.
+/// It answers where they start.
+fn write_numbers(numbers: Numbers, line: &mut [u8; LINE]) -> usize
+    ensures within { result ≤ 168 }
+    ensures written { drop result line.new ≡ numbers_text numbers }
+    ensures ascii { IsAscii (drop result line.new) }
+{
+    line[LINE - 1] = b'\n';
+    match numbers {
+        Numbers::One(n) => write_behind_space(n, line, LINE - 1),
+        Numbers::Two(m, n) => {
+            let at = write_behind_space(n, line, LINE - 1);
+            write_behind_space(m, line, at)
+        }
+        Numbers::Three(k, m, n) => {
+            let at = write_behind_space(n, line, LINE - 1);
+            let at = write_behind_space(m, line, at);
+            write_behind_space(k, line, at)
+        }
+    }
+}
+
+/// Appends the bytes of a line from this place on.
+fn push_from(text: &mut String, line: &[u8; LINE], start: usize) -> Result<(), NoMemory>
+    requires within { start ≤ 168 }
+    requires ascii { IsAscii (drop start line.now) }
+    ensures { OnOk result (string_bytes text.new ≡ string_bytes text.old ++ drop start line.now) }
+{
+    let Ok(rest) = str::from_utf8(&line[start..]) else {
+        unreachable!()
+    };
+    text.push_str(rest)?;
+    Ok(())
+}
+
 /// Appends the line of a connection that arrived from a peer with an address of 32 bits.
 fn push_arrived(
     text: &mut String,
@@ -91,11 +107,56 @@ fn push_arrived(
 {
     let mut line = [0; LINE];
     let start = write_arrived(s, i, c, ip, port, &mut line);
-    let Ok(numbers) = str::from_utf8(&line[start..]) else {
-        unreachable!()
-    };
     text.push_str("got arrived ")?;
-    text.push_str(numbers)?;
+    push_from(text, &line, start)
+}
+
+/// Appends numbers, with a space before each, and a line feed.
+fn push_numbers(text: &mut String, numbers: Numbers) -> Result<(), NoMemory>
+    ensures { OnOk result (string_bytes text.new ≡ string_bytes text.old ++ numbers_text numbers) }
+{
+    let mut line = [0; LINE];
+    let start = write_numbers(numbers, &mut line);
+    push_from(text, &line, start)
+}
+
+/// Appends a space, a number, and what ends the line.
+fn push_number_end(text: &mut String, n: u64, end: &str) -> Result<(), NoMemory>
+    ensures { OnOk result (string_bytes text.new ≡ string_bytes text.old ++ 32 ∷ decimal n ++ end.now) }
+{
+    let mut line = [0; LINE];
+    let start = write_behind_space(n, &mut line, LINE);
+    push_from(text, &line, start)?;
+    text.push_str(end)?;
+    Ok(())
+}
+
+/// Appends a space and a word.
+fn push_word(text: &mut String, word: &str) -> Result<(), NoMemory>
+    ensures { OnOk result (string_bytes text.new ≡ string_bytes text.old ++ 32 ∷ word.now) }
+{
+    text.push_str(" ")?;
+    text.push_str(word)?;
+    Ok(())
+}
+
+/// Appends what stands in a line behind its keyword.
+fn push_tail(text: &mut String, tail: LineTail) -> Result<(), NoMemory>
+    ensures { OnOk result (string_bytes text.new ≡ string_bytes text.old ++ tail_text tail) }
+{
+    match tail {
+        LineTail::Nothing => text.push_str("\n")?,
+        LineTail::Word(word) => {
+            push_word(text, word)?;
+            text.push_str("\n")?;
+        }
+        LineTail::Numbers(numbers) => push_numbers(text, numbers)?,
+        LineTail::WordNumber(word, n) => {
+            push_word(text, word)?;
+            push_numbers(text, Numbers::One(n))?;
+        }
+        LineTail::NumberEnd(n, end) => push_number_end(text, n, end)?,
+    }
     Ok(())
 }
 
@@ -112,21 +173,23 @@ pub(crate) fn push_line(text: &mut String, entry: &Entry) -> Result<(), NoMemory
     ensures { OnOk result (string_bytes text.new ≡ string_bytes text.old ++ line_of entry.now) }
 {
     match entry {
-        Entry::Got(Event::Moment(ms)) => push_numbered(text, "got moment ", *ms, "\n"),
-        Entry::Got(Event::Set(c, ok)) => push_numbered(text, "got set ", *c, ok_end(*ok)),
-        Entry::Got(Event::Shaken(c, ok)) => push_numbered(text, "got shaken ", *c, ok_end(*ok)),
-        Entry::Got(Event::Finished(c)) => push_numbered(text, "got finished ", *c, "\n"),
-        Entry::Got(Event::Arrived(s, i, c, peer)) => match *peer {
-            Peer::Inet(PeerAddr::V4 { ip, port }) => push_arrived(text, *s, *i, *c, ip, port),
-            _ => push_any(text, entry),
+        Entry::Got(Event::Arrived(s, i, c, Peer::Inet(PeerAddr::V4 { ip, port }))) => {
+            push_arrived(text, *s, *i, *c, *ip, *port)
+        }
+        Entry::Got(event) => match event_tail(event) {
+            Some(tail) => {
+                text.push_str("got ")?;
+                text.push_str(event.keyword())?;
+                push_tail(text, tail)
+            }
+            None => push_any(text, entry),
         },
-        Entry::Told(Action::Judged(c, said)) => push_numbered(text, "judged ", *c, yes_end(*said)),
-        Entry::Told(Action::Settings(c, list)) => match list.as_slice() {
-            [Setting::NoDelay] => push_numbered(text, "settings ", *c, " nodelay\n"),
-            _ => push_any(text, entry),
+        Entry::Told(action) => match action_tail(action) {
+            Some(tail) => {
+                text.push_str(action.keyword())?;
+                push_tail(text, tail)
+            }
+            None => push_any(text, entry),
         },
-        Entry::Told(Action::Handshake(c)) => push_numbered(text, "handshake ", *c, "\n"),
-        Entry::Told(Action::Serve(c)) => push_numbered(text, "serve ", *c, "\n"),
-        _ => push_any(text, entry),
     }
 }

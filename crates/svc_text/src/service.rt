@@ -11,6 +11,7 @@ use crate::endpoint_lines::EndpointLines;
 use crate::lists::push_item;
 use crate::message_words::joined_of;
 use std::alloc::Global;
+use std::mem::drop;
 use std::str;
 use svc_base::{
     Items, NoMemory, Numbers, Setting, Settings, TcpKeepalive, Text, Texts, number, number8,
@@ -20,7 +21,7 @@ use svc_graph::Kind;
 use svc_socket::{IpNumber, read_ip};
 
 /// An endpoint that a service line names.
-#[derive(Debug, Drop)]
+#[derive(Drop)]
 pub struct EndpointLine {
     /// The address's text: of 1 to 4,096 bytes.
     pub address: Text,
@@ -31,7 +32,7 @@ pub struct EndpointLine {
 }
 
 /// What a service line says.
-#[derive(Debug, Drop)]
+#[derive(Drop)]
 pub struct ServiceLine {
     pub name: Text,
     pub kind: Kind,
@@ -119,9 +120,16 @@ fn numbers_of(alloc: Global, word: &[u8]) -> Result<Option<Numbers>, NoMemory>
     let mut numbers = Numbers::new(alloc);
     for piece in word.split(|b| *b == b',') {
         let Some(n) = number32(piece) else {
+            drop(numbers);
             return Ok(None);
         };
-        push_item(alloc, &mut numbers, n)?;
+        match push_item(alloc, &mut numbers, n) {
+            Ok(()) => {}
+            Err(NoMemory) => {
+                drop(numbers);
+                return Err(NoMemory);
+            }
+        }
     }
     Ok(Some(numbers))
 }
@@ -402,10 +410,10 @@ pub fn service_of_line(alloc: Global, line: &[u8]) -> Result<Option<ServiceLine>
     let Some((kind, items)) = split_word(rest) else {
         return Ok(None);
     };
-    let Some(name) = name_of(alloc, name)? else {
+    let Some(kind) = kind_of(kind) else {
         return Ok(None);
     };
-    let Some(kind) = kind_of(kind) else {
+    let Some(name) = name_of(alloc, name)? else {
         return Ok(None);
     };
     let mut service = ServiceLine {
@@ -417,10 +425,16 @@ pub fn service_of_line(alloc: Global, line: &[u8]) -> Result<Option<ServiceLine>
         blocked: Items::new(alloc),
         endpoints: EndpointLines::new(alloc),
     };
-    if take_items(alloc, &mut service, items)? {
-        Ok(Some(service))
-    } else {
-        Ok(None)
+    match take_items(alloc, &mut service, items) {
+        Ok(true) => Ok(Some(service)),
+        Ok(false) => {
+            drop(service);
+            Ok(None)
+        }
+        Err(NoMemory) => {
+            drop(service);
+            Err(NoMemory)
+        }
     }
 }
 

@@ -3,7 +3,6 @@
 ghost use Rattle.std.specs.Prelude.{◌≡◌, Bool, Option, Some, None, Ok, if◌then◌else◌, IfOk, IfSome, IsErrOf, string_bytes};
 ghost use Rattle.svc_proc.specs.Daemons.{old_name, moving, Daemonizes, fork_of, made_of};
 ghost use Rattle.svc_proc.specs.ProcessData.{Asks};
-ghost use Rattle.svc_proc.specs.Limits.{has_passed};
 
 use crate::process::{ForkAnswer, Process};
 use std::alloc::{AllocError, Global};
@@ -11,10 +10,9 @@ use svc_conf::ServerConf;
 use thiserror::Error;
 
 mod notify;
-mod parent;
 
 pub use notify::{Notified, NotifyNext, NotifyRetry, notify_parent_ready_for_fds};
-pub use parent::{ParentEvent, ParentNext, ParentWait};
+pub use svc_parent::{ParentEvent, ParentNext, ParentWait};
 
 /// How many seconds a parent waits where nothing sets it.
 const DEFAULT_DAEMON_READY_TIMEOUT: u64 = 600;
@@ -65,13 +63,6 @@ impl From<AllocError> for DaemonError {
     fn from(_: AllocError) -> Self {
         DaemonError::NoMemory
     }
-}
-
-/// Whether so many whole seconds have passed from one moment to another. Moments are in milliseconds.
-fn has_passed(limit_seconds: u64, start: u64, moment: u64) -> bool
-    ensures { result ≡ has_passed (record { seconds = limit_seconds; start = start }) moment }
-{
-    moment.saturating_sub(start) / 1000 >= limit_seconds
 }
 
 /// The name that an older pid file gets.

@@ -6,10 +6,11 @@ ghost use Rattle.svc_server.specs.Servers.{answer_of, answers_of, depends_of, wi
 
 use crate::run::{Outcome, RunError};
 use std::alloc::Global;
-use svc_base::{Items, NoMemory, Text, Texts};
+use std::mem::drop;
+use svc_base::{ItemRefused, Items, NoMemory, Numbers, Text, Texts};
 use svc_conf::Opt;
-use svc_graph::DependencyGraph;
 use svc_graph::services::ServiceWithDependents;
+use svc_graph::{DependencyGraph, EndpointList};
 use svc_record::{ServiceList, ServicePlan};
 
 /// The items as a list of a plan.
@@ -38,6 +39,24 @@ fn declared_of<B: ServiceWithDependents>(
     }
 }
 
+/// What the graph says that the service with this number depends on, as a plan has it.
+fn depends_of(alloc: Global, graph: &DependencyGraph, s: u32) -> Result<Numbers, NoMemory>
+    requires { s < node_count graph.now }
+    ensures { IfOk result (λ depends. depends ≡ depends_of graph.now s) }
+{
+    list_of(alloc, graph.get_dependencies(alloc, s)?)
+}
+
+/// The service's endpoints, as a plan has them.
+fn endpoints_of<B: ServiceWithDependents>(
+    alloc: Global,
+    service: &B,
+) -> Result<EndpointList, NoMemory>
+    ensures { IfOk result (λ endpoints. endpoints ≡ B.configures service.now) }
+{
+    list_of(alloc, service.listener_configs(alloc)?)
+}
+
 /// What the service with this number answers, with what the graph says that it depends on.
 fn service_plan<B: ServiceWithDependents>(
     alloc: Global,
@@ -51,13 +70,37 @@ fn service_plan<B: ServiceWithDependents>(
           depends = depends_of graph.now s;
         }) }
 {
-    Ok(ServicePlan {
-        name: Text::new(alloc, service.name())?,
-        kind: service.kind(),
-        depends: list_of(alloc, graph.get_dependencies(alloc, s)?)?,
-        declared: declared_of(alloc, service)?,
-        endpoints: list_of(alloc, service.listener_configs(alloc)?)?,
-    })
+    let name = Text::new(alloc, service.name())?;
+    let depends = match depends_of(alloc, graph, s) {
+        Ok(depends) => depends,
+        Err(NoMemory) => {
+            drop(name);
+            return Err(NoMemory);
+        }
+    };
+    let declared = match declared_of(alloc, service) {
+        Ok(declared) => declared,
+        Err(NoMemory) => {
+            drop(name);
+            drop(depends);
+            return Err(NoMemory);
+        }
+    };
+    match endpoints_of(alloc, service) {
+        Ok(endpoints) => Ok(ServicePlan {
+            name,
+            kind: service.kind(),
+            depends,
+            declared,
+            endpoints,
+        }),
+        Err(NoMemory) => {
+            drop(name);
+            drop(depends);
+            drop(declared);
+            Err(NoMemory)
+        }
+    }
 }
 
 /// What each of the services answers, with what the graph says that it depends on.
@@ -74,9 +117,21 @@ pub(super) fn service_plans<B: ServiceWithDependents>(
 {
     let mut plans = ServiceList::new(alloc);
     for s in 0..graph.len() as u32 {
-        let plan = service_plan(alloc, graph, s, &services[s as usize])?;
-        if let Err(refused) = plans.push(alloc, plan) {
-            return Err(refused.reason);
+        let plan = match service_plan(alloc, graph, s, &services[s as usize]) {
+            Ok(plan) => plan,
+            Err(NoMemory) => {
+                drop(plans);
+                return Err(NoMemory);
+            }
+        };
+        match plans.push(alloc, plan) {
+            Ok(()) => {}
+            Err(refused) => {
+                let ItemRefused { reason, item } = refused;
+                drop(item);
+                drop(plans);
+                return Err(reason);
+            }
         }
     }
     Ok(plans)

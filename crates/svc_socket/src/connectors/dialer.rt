@@ -103,7 +103,7 @@ pub enum DialAnswer {
 }
 
 /// A dial, with its answer.
-#[derive(PartialEq, Eq, Debug, Drop)]
+#[derive(Drop)]
 pub struct DialCall {
     pub target: Target,
     pub from: Option<BindTo>,

@@ -35,7 +35,7 @@ fn note_dial(
 }
 
 /// A dial that is to fail.
-#[derive(Clone, Copy, PartialEq, Eq, Debug)]
+#[derive(Clone, Copy)]
 pub struct FailingDial {
     /// The number of the dial, from 0.
     pub call: u64,

@@ -8,7 +8,18 @@ use super::place::Place;
 use super::read_error::ReadError;
 use crate::server::configuration::{Opt, ServerConf};
 use std::alloc::Global;
+use std::mem::drop;
 use svc_base::{FileError, Files, NoMemory, split_line};
+
+/// The error, which is want of memory.
+fn memory_alone(error: ReadError) -> NoMemory
+    requires { error ≡ ReadError.NoMemory }
+{
+    match error {
+        ReadError::NoMemory => NoMemory,
+        _ => unreachable!(),
+    }
+}
 
 impl ServerConf {
     ghost use Rattle.svc_conf.specs.Configuration.{defaults};
@@ -57,9 +68,14 @@ impl ServerConf {
         while let Some((line, after)) = split_line(rest) {
             match conf.take_line(alloc, &mut place, line, after) {
                 Ok(()) => rest = after,
-                Err(error) => return Err(error),
+                Err(error) => {
+                    drop(place);
+                    drop(conf);
+                    return Err(error);
+                }
             }
         }
+        drop(place);
         Ok(conf)
     }
 
@@ -70,7 +86,10 @@ impl ServerConf {
         let conf = ServerConf::parse(alloc, text)?;
         match conf.validate() {
             Ok(()) => Ok(conf),
-            Err(key) => Err(ReadError::Invalid(key)),
+            Err(key) => {
+                drop(conf);
+                Err(ReadError::Invalid(key))
+            }
         }
     }
 
@@ -81,7 +100,7 @@ impl ServerConf {
     {
         match ServerConf::from_yaml(alloc, "---\nversion: 1") {
             Ok(conf) => Ok(conf),
-            Err(_) => Err(NoMemory),
+            Err(error) => Err(memory_alone(error)),
         }
     }
 

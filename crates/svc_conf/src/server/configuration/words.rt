@@ -10,6 +10,7 @@ use crate::server::configuration::Opt;
 use clap::error::ErrorKind;
 use clap::{Arg, ArgAction, ArgMatches, Command};
 use std::alloc::{AllocError, Global};
+use std::mem::drop;
 use std::rc::RcStr;
 use svc_base::{NoMemory, Text};
 use thiserror::Error;
@@ -47,17 +48,17 @@ fn command<'a>(alloc: Global) -> Result<Command<'a>, AllocError>
     ensures { IfOk result (λ command. app_of command ≡ opt_app) }
 {
     let upgrade = flag(alloc, "upgrade").short('u');
+    let with_upgrade = Command::new(alloc, "basic").arg(upgrade)?;
     let daemon = flag(alloc, "daemon").short('d');
+    let with_daemon = with_upgrade.arg(daemon)?;
     let nocapture = flag(alloc, "nocapture");
+    let with_nocapture = with_daemon.arg(nocapture)?;
     let test = flag(alloc, "test").short('t');
+    let with_test = with_nocapture.arg(test)?;
     let conf = Arg::new(alloc, "conf")
         .long("conf")
         .short('c')
         .action(ArgAction::Set);
-    let with_upgrade = Command::new(alloc, "basic").arg(upgrade)?;
-    let with_daemon = with_upgrade.arg(daemon)?;
-    let with_nocapture = with_daemon.arg(nocapture)?;
-    let with_test = with_nocapture.arg(test)?;
     let with_conf = with_test.arg(conf)?;
     Ok(with_conf)
 }
@@ -117,11 +118,22 @@ impl Opt {
             return Err(OptError::NoMemory);
         };
         match command.try_get_matches_from(words) {
-            Ok(matches) => Ok(Opt::from_matches(alloc, &matches)?),
-            Err(error) => match error.kind() {
-                ErrorKind::OutOfMemory => Err(OptError::NoMemory),
-                kind => Err(OptError::Words(kind)),
-            },
+            Ok(matches) => {
+                let opt = Opt::from_matches(alloc, &matches);
+                drop(matches);
+                match opt {
+                    Ok(opt) => Ok(opt),
+                    Err(NoMemory) => Err(OptError::NoMemory),
+                }
+            }
+            Err(error) => {
+                let kind = error.kind();
+                drop(error);
+                match kind {
+                    ErrorKind::OutOfMemory => Err(OptError::NoMemory),
+                    kind => Err(OptError::Words(kind)),
+                }
+            }
         }
     }
 

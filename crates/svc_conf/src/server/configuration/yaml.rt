@@ -24,11 +24,12 @@ fn put(out: &mut Vec<u8>, bytes: &[u8]) -> Result<(), NoMemory>
 
 /// The bytes as a text, which they are.
 fn text_in(alloc: Global, bytes: &[u8]) -> Result<Text, NoMemory>
+    requires { IsText bytes.now }
     ensures { IfOk result (λ text. text ≡ bytes.now) }
 {
     match str::from_utf8(bytes) {
         Ok(text) => Text::new(alloc, text),
-        Err(_) => Err(NoMemory),
+        Err(_) => unreachable!(),
     }
 }
 

@@ -1,10 +1,11 @@
-use Rattle.std.proofs.Common.{arith, ◌≡◌, ◌∙◌, ◌&&◌, ap, sym, not, true, false, List, Bool, slice_index}
+use Rattle.std.proofs.Common.{arith, ◌≡◌, ◌∙◌, ◌&&◌, ap, sym, not, true, false, Bool, slice_index}
 use Rattle.svc_base.specs.Items.{list_of}
 use Rattle.svc_graph.specs.declared.plan.Kind.TheVariants.{Bootstrap}
 use Rattle.svc_record.specs.Plans.{has_kind}
-use Rattle.svc_core.specs.StartsState.{starts_now}
 use Rattle.svc_core.proofs.PassLemmas.{starting-boot, none-begins}
-use Rattle.svc_core.proofs.PlaceLemmas.{starts-only}
+use Rattle.svc_boot.specs.BootData.{BootData}
+use Rattle.svc_core.proofs.PlaceLemmas.{starts-due, starts-only}
+use Rattle.svc_core.proofs.WaitsLemmas.{begun-complete}
 use Rattle.svc_core.proofs.pass.start.Goals.{else-starts_now-via-then-starts_now+then-is_bootstrap+else-not-is_begun, else-starts_now-via-then-starts_now+else-is_bootstrap, else-starts_now-via-else-starts_now}
 use Rattle.svc_core.proofs.pass.start.Goals as goal
 
@@ -14,11 +15,9 @@ returns-then-not-is_begun-clause-started c =
     (starting-boot c.args.plan.now c.requires.formed.valid c.args.order.now c.args.drain.now c.args.k c.requires.place c.requires.formed.in_order
     c.args.starts.now c.args.endpoints.now.parts c.args.boot.now
     (list_of c.args.actions.now) (list_of c.visit-starts_now.new.actions) (list_of c.begin.new.actions) c.requires.formed.starts c.requires.untested
-    (sym c.if-starts_now.true ∙ c.visit-starts_now.ensures.due
-    ∙ ap (λ (failed : List Bool). starts_now c.args.plan.now c.args.starts.now failed c.is_complete-complete.result (slice_index c.args.order.now c.args.k))
-    c.failed.ensures
-    ∙ ap (λ (complete : Bool). starts_now c.args.plan.now c.args.starts.now c.args.endpoints.now.parts.failed complete (slice_index c.args.order.now c.args.k))
-    c.is_complete-complete.ensures)
+    (sym c.if-starts_now.true
+    ∙ starts-due c.args.plan.now c.args.starts.now c.args.endpoints.now.parts.failed c.args.boot.now.complete (slice_index c.args.order.now c.args.k)
+    c.visit-starts_now.result c.requires.due c.visit-starts_now.ensures.fresh)
     (sym c.is_bootstrap.ensures ∙ c.if-is_bootstrap.true) (sym c.is_begun.ensures ∙ c.if-not-is_begun.true)
     (rw c.if-starts_now.true at c.visit-starts_now.ensures.told)
     (rw c.moment.ensures at c.begin.ensures.told)
@@ -26,11 +25,8 @@ returns-then-not-is_begun-clause-started c =
 
 pub returns-else-starts_now-clause-started : goal.returns-else-starts_now-clause-started
 returns-else-starts_now-clause-started c =
-    let due = c.visit-starts_now.ensures.due
-    ∙ ap (λ (failed : List Bool). starts_now c.args.plan.now c.args.starts.now failed c.is_complete-complete.result (slice_index c.args.order.now c.args.k))
-    c.failed.ensures
-    ∙ ap (λ (complete : Bool). starts_now c.args.plan.now c.args.starts.now c.args.endpoints.now.parts.failed complete (slice_index c.args.order.now c.args.k))
-    c.is_complete-complete.ensures in
+    let due = starts-due c.args.plan.now c.args.starts.now c.args.endpoints.now.parts.failed c.args.boot.now.complete (slice_index c.args.order.now c.args.k)
+    c.visit-starts_now.result c.requires.due c.visit-starts_now.ensures.fresh in
     none-begins c.args.plan.now c.requires.formed.valid c.args.order.now c.args.drain.now c.args.k c.requires.place c.requires.formed.in_order c.args.starts.now
     c.visit-starts_now.new.self c.args.endpoints.now.parts c.args.boot.now
     c.visit-starts_now.result (list_of c.args.actions.now)
@@ -56,20 +52,18 @@ pub returns-then-not-is_begun-clause-only : goal.returns-then-not-is_begun-claus
 returns-then-not-is_begun-clause-only c =
     starts-only c.args.plan.now c.args.starts.now c.visit-starts_now.new.self c.args.endpoints.now.parts.failed c.args.boot.now.complete
     (slice_index c.args.order.now c.args.k) c.visit-starts_now.result
-    (c.visit-starts_now.ensures.due
-    ∙ ap (λ (failed : List Bool). starts_now c.args.plan.now c.args.starts.now failed c.is_complete-complete.result (slice_index c.args.order.now c.args.k))
-    c.failed.ensures
-    ∙ ap (λ (complete : Bool). starts_now c.args.plan.now c.args.starts.now c.args.endpoints.now.parts.failed complete (slice_index c.args.order.now c.args.k))
-    c.is_complete-complete.ensures)
+    (starts-due c.args.plan.now c.args.starts.now c.args.endpoints.now.parts.failed c.args.boot.now.complete (slice_index c.args.order.now c.args.k)
+    c.visit-starts_now.result c.requires.due c.visit-starts_now.ensures.fresh)
     c.visit-starts_now.ensures.after
 
 pub returns-else-starts_now-clause-only : goal.returns-else-starts_now-clause-only
 returns-else-starts_now-clause-only c =
     starts-only c.args.plan.now c.args.starts.now c.visit-starts_now.new.self c.args.endpoints.now.parts.failed c.args.boot.now.complete
     (slice_index c.args.order.now c.args.k) c.visit-starts_now.result
-    (c.visit-starts_now.ensures.due
-    ∙ ap (λ (failed : List Bool). starts_now c.args.plan.now c.args.starts.now failed c.is_complete-complete.result (slice_index c.args.order.now c.args.k))
-    c.failed.ensures
-    ∙ ap (λ (complete : Bool). starts_now c.args.plan.now c.args.starts.now c.args.endpoints.now.parts.failed complete (slice_index c.args.order.now c.args.k))
-    c.is_complete-complete.ensures)
+    (starts-due c.args.plan.now c.args.starts.now c.args.endpoints.now.parts.failed c.args.boot.now.complete (slice_index c.args.order.now c.args.k)
+    c.visit-starts_now.result c.requires.due c.visit-starts_now.ensures.fresh)
     c.visit-starts_now.ensures.after
+
+pub returns-then-not-is_begun-clause-late : goal.returns-then-not-is_begun-clause-late
+returns-then-not-is_begun-clause-late c = λ on.
+    ap (λ (b : BootData). b.complete) c.begin.ensures.after ∙ begun-complete c.args.plan.now c.args.boot.now on

@@ -1,9 +1,11 @@
-use Rattle.std.proofs.Common.{sym, ◌∙◌}
+use Rattle.std.proofs.Common.{sym, refl, inl, inr, ◌∙◌}
 use Rattle.svc_core.proofs.pass.waits_still.Goals as goal
 
-pub returns-in-Some : goal.returns-in-Some
-returns-in-Some c = (
-  sym c.is_started.ensures
-      ∙ c.if-is_started.false,
-  (c.in-Some.at, (c.in-Some.ensures.lacks, rw (c.lacking.ensures.same, c.depends_of.ensures) at c.park.ensures)),
-)
+pub returns-then-is_started : goal.returns-then-is_started
+returns-then-is_started c = (inl (sym c.is_started.ensures ∙ c.if-is_started.true), refl)
+
+pub returns-then-missing-eq0 : goal.returns-then-missing-eq0
+returns-then-missing-eq0 c = (inr (sym c.missing.ensures ∙ c.if-missing-eq0.true), refl)
+
+pub returns : goal.returns
+returns c = (sym c.is_started.ensures ∙ c.if-is_started.false, (λ none. c.if-missing-eq0.false (c.missing.ensures ∙ none), c.close.ensures))

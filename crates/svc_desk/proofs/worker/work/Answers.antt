@@ -41,6 +41,7 @@ returns-in-Some g c =
         done = done;
         shows = record {
           taken = at_desk.taken;
+          said = at_desk.said;
           performed = at_desk.performed;
           refused = at_desk.refused;
           takes = takes-then a b d c.loop.counter c.args.turns (omega arith) i.takes e.2;
@@ -93,6 +94,7 @@ returns g c =
         done = i.done;
         shows = record {
           taken = i.at_desk.taken;
+          said = i.at_desk.said;
           performed = i.at_desk.performed;
           refused = i.at_desk.refused;
           takes = (c.args.turns, (let le : c.args.turns ≤ c.args.turns = omega arith in le), grew);

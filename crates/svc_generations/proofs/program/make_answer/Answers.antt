@@ -12,7 +12,7 @@ returns-in-Ok-read_input-clause-answer g c =
     let none = no_words _ c.args.words.now c.is_empty.result c.is_empty.ensures c.if-not-is_empty.false in
     if_ok _ _ c.answer_input.result c.answer_input.ensures (λ a h.
     input_answer _ (g.S.Source.left c.args.source.now) c.in-Ok.bytes.items (input_parts_of c.in-Ok-read_input.input) a.line _ none
-    c.in-Ok.ensures.whole (rw c.deref.ensures.value at c.in-Ok-read_input.ensures.read) h)
+    c.in-Ok.ensures.whole c.in-Ok.ensures.short (rw c.deref.ensures.value at c.in-Ok-read_input.ensures.read) h)
 
 pub returns-in-Ok-read_input-clause-ended : goal.returns-in-Ok-read_input-clause-ended
 returns-in-Ok-read_input-clause-ended g c =

@@ -22,11 +22,11 @@ loop-index-preserved c =
 pub take-requires : goal.take-requires
 take-requires c = record { may = c.if-not-allows.ensures.may refl }
 
+pub returns-in-Err-clause-stray : goal.returns-in-Err-clause-stray
+returns-in-Err-clause-stray c k e = absurd (no-memory-strays k e)
+
 pub returns-in_default-clause-stray : goal.returns-in_default-clause-stray
 returns-in_default-clause-stray c k e = absurd (no-memory-strays k e)
-
-pub returns-in_default-take-clause-stray : goal.returns-in_default-take-clause-stray
-returns-in_default-take-clause-stray c k e = absurd (no-memory-strays k e)
 
 pub returns-then-not-allows-clause-stray : goal.returns-then-not-allows-clause-stray
 returns-then-not-allows-clause-stray c k e =

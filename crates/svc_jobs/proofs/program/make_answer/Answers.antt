@@ -9,4 +9,5 @@ returns-in-Ok-read_jobs-clause-answer g c =
     if_ok _ _ c.answer_jobs.result c.answer_jobs.ensures (λ a h.
     jobs_answer _ (g.S.Source.left c.args.source.now) c.in-Ok.bytes.items c.in-Ok-read_jobs.jobs.script.lines.items
     (job_parts_of c.in-Ok-read_jobs.jobs) a.line _ none
-    c.in-Ok.ensures.whole (rw c.deref.ensures.value at c.in-Ok-read_jobs.ensures.parts) (rw c.deref.ensures.value at c.in-Ok-read_jobs.ensures.numbers) h)
+    c.in-Ok.ensures.whole c.in-Ok.ensures.short
+    (rw c.deref.ensures.value at c.in-Ok-read_jobs.ensures.parts) (rw c.deref.ensures.value at c.in-Ok-read_jobs.ensures.numbers) h)

@@ -15,19 +15,18 @@ pub server_of_services-requires-clause-edges : goal.server_of_services-requires-
 server_of_services-requires-clause-edges c = subst RefusesNone (sym (c.as_slice.ensures.value ∙ c.in_ok-services.ensures)) (services_sound c.args.n)
 
 pub run_made-requires-clause-few : goal.run_made-requires-clause-few
-run_made-requires-clause-few c = subst (All BringsFew) (sym c.in_ok-made_items.ensures) (events_few c.args.n)
+run_made-requires-clause-few c = subst (All BringsFew) (sym c.in-Ok-made_items.ensures) (events_few c.args.n)
 
 pub run_made-requires-clause-lines : goal.run_made-requires-clause-lines
 run_made-requires-clause-lines c =
     let set = c.configured-server.ensures in
     made_lines c.args.n _ _ _ _ _ _ _ (c.as_slice.ensures.value ∙ c.in_ok-services.ensures) set.dependencies set.filters
-    (ap (answers_of services.TheImpl.ghosts) set.services) c.in_ok-server.ensures.lines
+    (ap (answers_of services.TheImpl.ghosts) set.services) c.in-Ok.ensures.lines
 
-pub returns : goal.returns
-returns c =
+pub run_made-requires-clause-server : goal.run_made-requires-clause-server
+run_made-requires-clause-server c =
     let set = c.configured-server.ensures in
-    c.run_made.ensures c.args.n c.requires
-    (made_server c.args.n _ _ _ _ _ _ _ _ _ _ _ _ _
-    (c.as_slice.ensures.value ∙ c.in_ok-services.ensures) c.no_flags.ensures c.in_ok-conf.ensures set.configuration set.options c.in_ok-server.ensures.eager
+    made_server c.args.n _ _ _ _ _ _ _ _ _ _ _ _ _
+    (c.as_slice.ensures.value ∙ c.in_ok-services.ensures) c.no_flags.ensures c.in-Ok-default.ensures set.configuration set.options c.in-Ok.ensures.eager
     set.eager set.dependencies set.filters
-    (ap (answers_of services.TheImpl.ghosts) set.services) c.in_ok-server.ensures.lines) c.in_ok-made_items.ensures
+    (ap (answers_of services.TheImpl.ghosts) set.services) c.in-Ok.ensures.lines

@@ -3,11 +3,11 @@ use Rattle.svc_record.specs.declared.item.Item.{Item}
 use Rattle.svc_main.proofs.RunLemmas.{run_is}
 use Rattle.svc_main.proofs.answering.run_over.Goals as goal
 
-pub returns : goal.returns
-returns g c =
+pub returns-in-Ok : goal.returns-in-Ok
+returns-in-Ok g c =
     rw c.into_recorder-recorder.ensures (
     λ opt parts server items.
-    run_is opt parts c.in_ok-end.end _ c.args.server.configuration (c.len.result + 1) c.new-host.result.left _ server.configuration c.in_ok-end.ensures.judged
+    run_is opt parts c.in-Ok.end _ c.args.server.configuration (c.len.result + 1) c.new-host.result.left _ server.configuration c.in-Ok.ensures.judged
     (omega (arith, c.len.ensures, ap length items))
-    (c.in_ok-end.ensures.tells opt parts server)
-    (ap (λ (o : Option (List Item)). unwrap_or o c.args.items.items) c.new-host.ensures.ahead ∙ sym items) c.in_ok-end.ensures.takes)
+    (c.in-Ok.ensures.tells opt parts server)
+    (ap (λ (o : Option (List Item)). unwrap_or o c.args.items.items) c.new-host.ensures.ahead ∙ sym items) c.in-Ok.ensures.takes)

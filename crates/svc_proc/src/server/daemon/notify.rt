@@ -4,6 +4,7 @@ ghost use Rattle.svc_proc.specs.Notifying.{Notifies};
 
 use crate::process::{Process, SignalAnswer};
 use std::marker::Model;
+use svc_parent::has_passed;
 
 /// How long a daemon rests, in milliseconds, before it tries again to notify its parent.
 const NOTIFY_RETRY_INTERVAL: u64 = 100;
@@ -37,7 +38,7 @@ pub struct NotifyRetry {
 }
 
 impl Model for NotifyRetry {
-    ghost use Rattle.svc_proc.specs.Limits.{Limit};
+    ghost use Rattle.svc_parent.specs.Limits.{Limit};
 
     ghost Value = { Limit };
 
@@ -46,7 +47,7 @@ impl Model for NotifyRetry {
 
 impl NotifyRetry {
     ghost use Rattle.std.specs.Prelude.{◌≡◌, not};
-    ghost use Rattle.svc_proc.specs.Limits.{has_passed};
+    ghost use Rattle.svc_parent.specs.Limits.{has_passed};
     ghost use Rattle.svc_proc.specs.Notifying.{notify_next};
 
     /// Tries of so many seconds from the moment `start` on, which is in milliseconds.
@@ -63,7 +64,7 @@ impl NotifyRetry {
     pub fn next(&self, now: u64) -> bool
         ensures { result ≡ not (has_passed self.now now) }
     {
-        !super::has_passed(self.limit_seconds, self.start, now)
+        !has_passed(self.limit_seconds, self.start, now)
     }
 
     /// What follows a try with this answer.

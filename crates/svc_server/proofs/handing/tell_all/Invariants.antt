@@ -15,6 +15,7 @@ invariant-loop-action g l = record {
   room : g.H.Host.spare l.initial.host + 2 * length (reverse (list_of l.actions)) ≤ g.H.Host.spare l.host + 2 * length (reverse (list_of l.initial.actions));
   counts : g.H.Host.counts l.host ≡ g.H.Host.counts l.initial.host;
   ahead : g.H.Host.ahead l.host ≡ g.H.Host.ahead l.initial.host;
+  made : g.H.Host.made_of l.host ≡ g.H.Host.made_of l.initial.host;
 }
 
 abbrev pub decreases-loop-action : goal.decreases-loop-action

@@ -1,5 +1,6 @@
-use Rattle.std.proofs.Common.{ap, length, refl, sym, ◌∙◌, arith, ◌≡◌}
+use Rattle.std.proofs.Common.{ap, length, refl, subst, sym, ◌∙◌, arith, ◌≡◌}
 use Rattle.std.proofs.lemmas.Str.{IsUtf8-from_is_utf8}
+use Rattle.svc_text.specs.Fronts.{IsFront}
 use Rattle.svc_text.proofs.ConfTextLemmas.{none_passed, one_line_more}
 use Rattle.svc_text.proofs.ScriptLemmas.{none_read, reads_more, lines_none, lines_more}
 use Rattle.svc_text.proofs.FrontLemmas.{front_refused, front_whole}
@@ -23,9 +24,10 @@ take_line-requires c =
 
 pub returns-in-Err-Refused : goal.returns-in-Err-Refused
 returns-in-Err-Refused c =
-    front_refused c.args.bytes.now c.loop-line.rest.now c.in-Some.line.now c.in-Some.after.now c.loop-line.number c.loop-line.reading _ c.loop-line.invariant.0
+    subst (IsFront c.args.bytes.now) (sym c.new.ensures)
+    (front_refused c.args.bytes.now c.loop-line.rest.now c.in-Some.line.now c.in-Some.after.now c.loop-line.number c.loop-line.reading _ c.loop-line.invariant.0
     c.in-Some.ensures.first
-    (rw c.in-Err-Refused.field-0-is at c.in-Err-Refused.ensures.test) c.loop-line.invariant.3 (let short = c.loop-line.invariant.1 in omega arith) refl refl
+    (rw c.in-Err-Refused.field-0-is at c.in-Err-Refused.ensures.test) c.loop-line.invariant.3 (let short = c.loop-line.invariant.1 in omega arith) refl refl)
 
 pub loop-line-preserved : goal.loop-line-preserved
 loop-line-preserved c =
@@ -36,7 +38,7 @@ loop-line-preserved c =
       (let short = c.loop-line.invariant.1 in omega (arith, c.in-Some.ensures.shorter)),
       lines_more c.args.bytes.now c.loop-line.rest.now c.in-Some.after.now c.in-Some.line.now c.loop-line.number c.loop-line.reading c.take_line.new.self
           c.loop-line.lines.items _ c.loop-line.invariant.0 read
-          c.in-Ok.ensures.after c.loop-line.invariant.2 (rw count at c.in_ok-note_line.ensures),
+          c.in-Ok.ensures.after c.loop-line.invariant.2 (rw count at c.in-Ok-note_line.ensures),
       one_line_more c.args.bytes.now c.loop-line.rest.now c.in-Some.line.now c.in-Some.after.now c.loop-line.number c.loop-line.reading c.take_line.new.self
           c.loop-line.conf _ c.loop-line.invariant.0 c.in-Some.ensures.first c.in-Ok.ensures.test c.in-Ok.ensures.after c.loop-line.invariant.3
           c.in-Some.ensures.cut c.pass.ensures,
@@ -46,6 +48,7 @@ loop-line-preserved c =
 
 pub returns : goal.returns
 returns c =
-    front_whole c.args.bytes.now c.loop-line.rest.now c.loop-line.number c.loop-line.reading _ c.loop-line.invariant.0 c.in_default.ensures.first
+    subst (IsFront c.args.bytes.now) (sym c.new-2.ensures)
+    (front_whole c.args.bytes.now c.loop-line.rest.now c.loop-line.number c.loop-line.reading _ c.loop-line.invariant.0 c.in_default.ensures.first
     c.loop-line.invariant.3 c.loop-line.invariant.2
-    (let short = c.loop-line.invariant.1 in omega arith) refl refl refl
+    (let short = c.loop-line.invariant.1 in omega arith) refl refl refl)

@@ -1,4 +1,5 @@
-use Rattle.std.proofs.Common.{Result, sym, subst}
+use Rattle.std.proofs.Common.{Result, sym, subst, arith}
+use Rattle.std.proofs.lemmas.Grind.{common_steps}
 use Rattle.svc_text.specs.declared.parsing.Script.{Script}
 use Rattle.svc_text.specs.declared.parsing.ScriptError.{ScriptError}
 use Rattle.svc_text.specs.Script.{script}
@@ -13,3 +14,9 @@ pub returns-clause-parts : goal.returns-clause-parts
 returns-clause-parts c =
     subst (λ (r : Result Script ScriptError). Gives r (script c.args.bytes.now)) (sym c.finished.ensures)
     (finished_gives c.args.bytes.now c.in-Ok.front c.in-Ok-read_conf.conf c.in-Ok.ensures c.in-Ok-read_conf.ensures)
+
+pub returns-clause-accepted : goal.returns-clause-accepted
+returns-clause-accepted c = grind (arith, common_steps)
+
+pub returns-clause-numbers : goal.returns-clause-numbers
+returns-clause-numbers c = grind (arith, common_steps)

@@ -1,12 +1,11 @@
-use Rattle.std.proofs.Common.{rules, arith, ◌≤◌, length, decimal}
-use Rattle.std.proofs.lemmas.Fmt.{length-decimal-le}
+use Rattle.std.proofs.Common.{arith}
+use Rattle.svc_text.proofs.RecordLineLemmas.{number_short}
 use Rattle.svc_text.proofs.record_lines.write_before.Goals as goal
 
 pub write_digits-requires : goal.write_digits-requires
-write_digits-requires c = search (rules, length-decimal-le 20)
+write_digits-requires c =
+    let short = number_short c.args.n c.ranges.n.fits in (omega (arith, short, c.requires), omega (arith, c.requires, c.told-line))
 
 pub returns-clause-start : goal.returns-clause-start
 returns-clause-start c =
-    let short : length (decimal c.args.n) ≤ 20 =
-    length-decimal-le 20 c.args.n (omega arith) (omega (arith, c.ranges.n.fits)) (omega (arith, c.ranges.n.fits)) in
-    (omega (arith, c.write_digits.ensures.start), omega (arith, c.write_digits.ensures.start, short, c.requires))
+    (omega (arith, c.write_digits.ensures.start), omega (arith, c.write_digits.ensures.start, number_short c.args.n c.ranges.n.fits, c.requires))

@@ -23,7 +23,7 @@ loop-piece-preserved c = (
       let t = YieldsList-turn y c.loop-piece.yielded _ c.loop-piece.yielded_by _ _ c.in-Some.piece c.in-Some.is c.next.ensures.steps in
       read_more (slice_split (λ b. b == 44) c.args.word.now)
       (length c.loop-piece.yielded) _ c.in-Some-number32.n c.in-Some.piece.now c.loop-piece.numbers _ t c.in-Some-number32.ensures
-      (length_push c.loop-piece.yielded c.in-Some.piece) c.in_ok-push_item.ensures.ok c.loop-piece.invariant.2,
+      (length_push c.loop-piece.yielded c.in-Some.piece) c.in-Ok.ensures.ok c.loop-piece.invariant.2,
 )
 
 pub returns : goal.returns

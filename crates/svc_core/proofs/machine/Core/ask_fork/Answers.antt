@@ -6,6 +6,8 @@ use Rattle.svc_core.specs.Stands.{HasNotBegun}
 use Rattle.svc_core.proofs.HeldLemmas.{begin-daemon}
 use Rattle.svc_core.proofs.CopyLemmas.{bare-these}
 use Rattle.svc_core.proofs.StepForms.{forks}
+use Rattle.svc_boot.specs.BootData.{BootData}
+use Rattle.svc_core.proofs.WaitsLemmas.{kept-boot}
 use Rattle.svc_core.proofs.machine.Core.ask_fork.Goals as goal
 
 pub returns : goal.returns
@@ -17,3 +19,7 @@ returns c =
     c.ask_fork.ensures.after c.ask_fork.ensures.told c.ask_fork.ensures.stands)
     (bare-these (list_of c.args.actions.now) (list_of c.ask_fork.new.actions) _ c.ask_fork.ensures.told refl)
     (record { few = omega arith; room = omega arith }))
+
+pub invariant_of-self : goal.invariant_of-self
+invariant_of-self c =
+    kept-boot c.self.inside.boot.complete c.ask_fork.new.self.complete (λ on. ap (λ (b : BootData). b.complete) c.ask_fork.ensures.after ∙ on) c.self.invariant

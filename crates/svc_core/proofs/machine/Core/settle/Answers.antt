@@ -1,11 +1,13 @@
+use Rattle.std.proofs.lemmas.Bool.{or_left}
 use Rattle.std.proofs.Common.{refl, sym, ap, ◌∙◌, arith}
 use Rattle.svc_base.specs.Items.{list_of}
-use Rattle.svc_boot.specs.BootData.{BootData}
 use Rattle.svc_core.specs.Stands.{Struck}
 use Rattle.svc_core.specs.Steps.{finish_room}
 use Rattle.svc_core.proofs.FinishLemmas.{follows-ended-at, follows-on-at}
 use Rattle.svc_core.proofs.CopyLemmas.{bare-these, complete-bare}
 use Rattle.svc_core.proofs.GoForms.{opened-goes, stops, visited-goes}
+use Rattle.svc_boot.specs.BootData.{BootData}
+use Rattle.svc_core.proofs.WaitsLemmas.{kept-boot}
 use Rattle.svc_core.proofs.machine.Core.settle.Goals as goal
 
 pub returns-then-not-is_on : goal.returns-then-not-is_on
@@ -23,3 +25,8 @@ returns c = opened-goes (λ core. Struck core c.args.copy) finish_room c.self.vi
     c.end-self-inside.ensures (sym c.is_on.ensures ∙ c.if-not-is_on.false) c.complete.ensures.due c.complete.ensures.after
     (rw c.moment.ensures at c.complete.ensures.told) (rw c.moment.ensures at (c.complete.ensures.stands c.self.inside.plan)) refl
     c.startup_pass.ensures.kept c.advance.ensures.kept))
+
+pub invariant_of-self-2 : goal.invariant_of-self-2
+invariant_of-self-2 c =
+    kept-boot c.self.inside.boot.complete c.complete.new.self.complete (λ on. ap (λ (b : BootData). b.complete) c.complete.ensures.after
+    ∙ or_left c.self.inside.boot.complete c.complete.result on) c.self.invariant

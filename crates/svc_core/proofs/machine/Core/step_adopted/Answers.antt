@@ -1,7 +1,8 @@
-use Rattle.std.proofs.Common.{Bool, List, length, ◌<◌, ◌∙◌, refl, sym, subst, ap, arith, rules}
+use Rattle.std.proofs.Common.{List, length, ◌<◌, ◌∙◌, refl, sym, subst, ap, arith, rules}
 use Rattle.svc_record.specs.declared.event.Event.TheVariants.{Adopted}
 use Rattle.svc_endpoints.specs.declared.table.Open.{Open}
 use Rattle.svc_endpoints.specs.Effects.{has_open}
+use Rattle.svc_graph.specs.WaitingData.{WaitingData}
 use Rattle.svc_record.specs.Plans.{service_count}
 use Rattle.svc_core.specs.CoreData.{CoreData}
 use Rattle.svc_core.proofs.StepLemmas.{strike-answer, fits-adopt, silently}
@@ -24,6 +25,7 @@ invariant_of-self c = record {
       c.on_adopted.ensures.held c.on_adopted.ensures.others c.on_adopted.ensures.failed
       (λ a none. ap (λ (table : List Open). has_open table a) c.on_adopted.ensures.table ∙ none)
       (rw c.deref.ensures.value at c.reopen.ensures) c.free.ensures c.self.invariant.watched;
+  late = λ on. c.self.invariant.late (sym c.reopen.ensures.complete ∙ sym c.free.ensures.complete ∙ on);
 }
 
 pub reopen-requires : goal.reopen-requires
@@ -32,5 +34,5 @@ reopen-requires c = rw c.deref.ensures.value (short-order c.self.invariant.forme
 pub free-requires : goal.free-requires
 free-requires c =
     let inside = subst (λ (core : CoreData). c.args.s < service_count core.plan) (sym c.self.view_is) c.requires.may.inside in
-    let count = ap (λ (marks : List Bool). length marks) c.reopen.ensures.marks ∙ c.self.invariant.watched.count in
+    let count = ap (λ (counts : WaitingData). length counts.marks) c.reopen.ensures.counts ∙ c.self.invariant.watched.count in
     omega arith

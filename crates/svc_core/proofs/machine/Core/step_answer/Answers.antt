@@ -21,4 +21,5 @@ invariant_of-self c = record {
   formed = search rules;
   watched = watched-same c.self.inside.plan c.self.inside.order.items c.self.inside.starts c.self.inside.endpoints.parts c.release.new.self.parts
       c.self.inside.waits c.release.ensures.rows c.release.ensures.failed c.release.ensures.gains c.self.invariant.watched;
+  late = c.self.invariant.late;
 }

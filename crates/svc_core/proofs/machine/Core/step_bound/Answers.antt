@@ -18,7 +18,7 @@ returns c = opened c.self.view_is c.requires (λ may.
 
 pub invariant_of-self : goal.invariant_of-self
 invariant_of-self c =
-    subst (λ (d : EndpointsData). IsKept c.self.inside.plan c.self.inside.order.items c.self.inside.starts d c.self.inside.waits)
+    subst (λ (d : EndpointsData). IsKept c.self.inside.plan c.self.inside.order.items c.self.inside.starts d c.self.inside.boot.complete c.self.inside.waits)
     (sym c.reserve.ensures.parts) c.self.invariant
 
 pub invariant_of-self-2 : goal.invariant_of-self-2
@@ -30,6 +30,7 @@ invariant_of-self-2 c = record {
       (subst (λ (d : EndpointsData). OthersStay c.args.s d c.on_bound.new.self.parts) c.in_ok-reserve.ensures.parts c.on_bound.ensures.others)
       (c.on_bound.ensures.failed ∙ ap (λ (d : EndpointsData). d.failed) c.in_ok-reserve.ensures.parts)
       (rw c.deref.ensures.value at c.reopen.ensures) c.free_all.ensures c.self.invariant.watched;
+  late = λ on. c.self.invariant.late (sym c.reopen.ensures.complete ∙ sym c.free_all.ensures.complete ∙ on);
 }
 
 pub reopen-requires : goal.reopen-requires

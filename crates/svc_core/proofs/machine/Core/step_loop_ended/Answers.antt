@@ -16,7 +16,7 @@ returns c = opened c.self.view_is c.requires (λ may.
 
 pub invariant_of-self : goal.invariant_of-self
 invariant_of-self c =
-    subst (λ (d : EndpointsData). IsKept c.self.inside.plan c.self.inside.order.items c.self.inside.starts d c.self.inside.waits)
+    subst (λ (d : EndpointsData). IsKept c.self.inside.plan c.self.inside.order.items c.self.inside.starts d c.self.inside.boot.complete c.self.inside.waits)
     (sym c.reserve_loop.ensures.parts) c.self.invariant
 
 pub invariant_of-self-2 : goal.invariant_of-self-2
@@ -28,4 +28,5 @@ invariant_of-self-2 c = record {
       (c.on_loop_ended.ensures.failed ∙ ap (λ (d : EndpointsData). d.failed) c.in_ok-reserve_loop.ensures.parts)
       (subst (λ (d : EndpointsData). GainsNone d c.on_loop_ended.new.self.parts) c.in_ok-reserve_loop.ensures.parts c.on_loop_ended.ensures.gains)
       c.self.invariant.watched;
+  late = c.self.invariant.late;
 }

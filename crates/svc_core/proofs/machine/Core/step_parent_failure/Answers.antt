@@ -1,6 +1,8 @@
-use Rattle.std.proofs.Common.{refl}
+use Rattle.std.proofs.Common.{refl, ap, ◌∙◌}
 use Rattle.svc_core.proofs.HeldLemmas.{ends-held, failure-is, failure-row}
 use Rattle.svc_core.proofs.StepForms.{opened, held}
+use Rattle.svc_boot.specs.BootData.{BootData}
+use Rattle.svc_core.proofs.WaitsLemmas.{kept-boot}
 use Rattle.svc_core.proofs.machine.Core.step_parent_failure.Goals as goal
 
 pub returns : goal.returns
@@ -9,3 +11,8 @@ returns c = opened c.self.view_is c.requires.may (λ may. held c.hold.ensures.af
     ends-held _ c.args.event.now _ 1 is.event is.other is.plain is.row may.on
     (failure-row _ c.args.event.now c.requires.failure may.may) c.on_parent_failure.ensures.after
     (λ q. c.on_parent_failure.ensures.stands c.self.inside.plan q c.args.event.now c.requires.failure)))
+
+pub invariant_of-self : goal.invariant_of-self
+invariant_of-self c =
+    kept-boot c.self.inside.boot.complete c.on_parent_failure.new.self.complete (λ on. ap (λ
+    (b : BootData). b.complete) c.on_parent_failure.ensures.after ∙ on) c.self.invariant

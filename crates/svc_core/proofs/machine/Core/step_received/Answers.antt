@@ -1,4 +1,5 @@
-use Rattle.std.proofs.Common.{refl, arith, rules}
+use Rattle.std.proofs.Common.{refl, arith, rules, ap, sym, ◌∙◌}
+use Rattle.svc_boot.specs.BootData.{BootData}
 use Rattle.svc_core.proofs.StepLemmas.{strike-received}
 use Rattle.svc_core.proofs.StepForms.{opened, gives-up}
 use Rattle.svc_core.proofs.WaitsLemmas.{watched-received}
@@ -19,4 +20,5 @@ invariant_of-self-2 c = record {
   watched = watched-received c.self.inside.plan c.self.inside.order.items c.self.inside.starts c.self.inside.endpoints.parts c.on_received.new.self.parts
       c.self.inside.waits c.free_all.new.self
       c.on_received.ensures.rows c.on_received.ensures.failed c.free_all.ensures c.self.invariant.watched;
+  late = λ on. ap (λ (b : BootData). b.complete) c.on_received-2.ensures.after ∙ c.self.invariant.late (sym c.free_all.ensures.complete ∙ on);
 }

@@ -1,6 +1,8 @@
-use Rattle.std.proofs.Common.{refl}
+use Rattle.std.proofs.Common.{refl, ap, ◌∙◌}
 use Rattle.svc_core.proofs.HeldLemmas.{waiting-held}
 use Rattle.svc_core.proofs.StepForms.{opened, held}
+use Rattle.svc_boot.specs.BootData.{BootData}
+use Rattle.svc_core.proofs.WaitsLemmas.{kept-boot}
 use Rattle.svc_core.proofs.machine.Core.step_waiting.Goals as goal
 
 pub returns : goal.returns
@@ -8,3 +10,7 @@ returns c = opened c.self.view_is c.requires.may (λ may. held c.hold.ensures.af
     (waiting-held _ c.args.ms _ _ may.on
     (rw (← c.self.view_is) at c.requires.held) may.may c.on_moment.ensures.after c.on_moment.ensures.stands c.wait_on.ensures.after
     c.wait_on.ensures.stands))
+
+pub invariant_of-self : goal.invariant_of-self
+invariant_of-self c =
+    kept-boot c.self.inside.boot.complete c.wait_on.new.self.complete (λ on. ap (λ (b : BootData). b.complete) c.wait_on.ensures.after ∙ on) c.self.invariant

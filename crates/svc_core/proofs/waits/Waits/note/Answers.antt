@@ -9,7 +9,7 @@ returns-clause-complete c = c.look_at.ensures.complete ∙ c.is_at.ensures c.if-
 pub returns-clause-ready : goal.returns-clause-ready
 returns-clause-ready c = λ t inside on.
     elim (cases_eq c.args.s t) [
-      | inl same ↦ subst (λ u. is_flagged c.look_at.new.self.marks u ≡ true) same
+      | inl same ↦ subst (λ u. is_flagged c.look_at.new.self.counts.marks u ≡ true) same
           (c.look_at.ensures.ready (subst (λ u. ready_now c.args.plan.now c.args.starts.now c.args.failed.now c.args.complete u ≡ true) (sym same) on))
       | inr ne ↦ c.look_at.ensures.opens.kept t (c.requires.others t inside (ne_eqb c.args.s t ne)
           (subst (λ (complete : Bool). ready_now c.args.plan.now c.args.starts.now c.args.failed.now complete t ≡ true)

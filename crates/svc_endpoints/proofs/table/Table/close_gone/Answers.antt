@@ -3,8 +3,7 @@ use Rattle.svc_base.specs.Items.{list_of}
 use Rattle.svc_base.specs.Blocks.{joined, rises_by}
 use Rattle.svc_base.proofs.KeyLemmas.{rises-filter}
 use Rattle.svc_endpoints.specs.declared.table.Open.{Open}
-use Rattle.svc_endpoints.specs.Effects.{goes}
-use Rattle.svc_endpoints.specs.Uses.{states_of}
+use Rattle.svc_endpoints.specs.Counts.{goes_by}
 use Rattle.svc_endpoints.specs.Sums.{have_sums}
 use Rattle.svc_endpoints.proofs.RestLemmas.{unpicked, picked-length}
 use Rattle.svc_endpoints.proofs.TableSums.{summed-filter}
@@ -12,7 +11,7 @@ use Rattle.svc_endpoints.proofs.table.Table.close_gone.Goals as goal
 
 pub put_blocks-requires : goal.put_blocks-requires
 put_blocks-requires c =
-    let done = goes c.args.plan.now c.args.kept.now (states_of c.args.rows.now c.args.failed.now (list_of c.args.loops.now)) in
+    let done = goes_by c.args.plan.now c.args.failed.now c.args.kept.now (list_of c.args.uses.now) in
     let size = ap length c.close_done_blocks.ensures.after in
     let few = c.take_blocks-blocks.ensures.few in
     record {
@@ -23,7 +22,7 @@ put_blocks-requires c =
 
 pub invariant_of-self : goal.invariant_of-self
 invariant_of-self c =
-    let done = goes c.args.plan.now c.args.kept.now (states_of c.args.rows.now c.args.failed.now (list_of c.args.loops.now)) in
+    let done = goes_by c.args.plan.now c.args.failed.now c.args.kept.now (list_of c.args.uses.now) in
     let left : list_of c.put_blocks.new.self ≡ unpicked done (list_of c.self.inside.entries) =
     c.put_blocks.ensures ∙ c.close_done_blocks.ensures.after ∙ ap (unpicked done) c.take_blocks-blocks.ensures.entries in
     ap (have_sums (list_of c.self.inside.sums)) left

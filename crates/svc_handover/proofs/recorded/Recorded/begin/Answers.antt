@@ -7,10 +7,10 @@ use Rattle.svc_handover.proofs.recorded.Recorded.begin.Goals as goal
 pub returns : goal.returns
 returns c = record {
   begins = record {
-    end = c.in_ok-begin.field-0;
-    begun = rw c.new-told.ensures at c.in_ok-begin.ensures.kept;
-    plan_is = c.in_ok-begin.ensures.plan ∙ c.in_ok-core.ensures.plan;
-    entries = c.in_ok-append_told.ensures ∙ ap (λ (xs : List Entry). xs ++ told_entries c.as_slice.result.now) c.new-entries.ensures
+    end = c.in-Ok.field-0;
+    begun = rw c.new-told.ensures at c.in-Ok.ensures.kept;
+    plan_is = c.in-Ok.ensures.plan ∙ c.in_ok-core.ensures.plan;
+    entries = c.in-Ok-append_told.ensures ∙ ap (λ (xs : List Entry). xs ++ told_entries c.as_slice.result.now) c.new-entries.ensures
         ∙ ap (λ (xs : List Action). told_entries xs) c.as_slice.ensures;
   };
 }

@@ -9,8 +9,8 @@ use Rattle.svc_handover.proofs.servers.Servers.begin.Goals as goal
 pub returns : goal.returns
 returns c = record {
   begins = runs-first c.args.old c.args.new
-      (record { predecessor = c.in_ok-predecessor.predecessor; successor = c.in_ok-successor.successor; channel = c.after_told-channel.result })
-      (list_of c.in_ok-predecessor.field-0-1) (list_of c.in_ok-successor.told)
-      c.in_ok-predecessor.ensures.begins c.in_ok-successor.ensures.begins
+      (record { predecessor = c.in-Ok.predecessor; successor = c.in-Ok-begin.begun.0; channel = c.after_told-channel.result })
+      (list_of c.in-Ok.told) (list_of c.in-Ok-begin.begun.1)
+      c.in-Ok.ensures.begins c.in-Ok-begin.ensures.begins
       (c.after_told-channel.ensures ∙ ap (λ (xs : List Action). after_told xs Missing) c.as_slice.ensures) c.read_addresses.ensures;
 }

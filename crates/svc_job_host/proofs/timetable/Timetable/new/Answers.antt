@@ -1,12 +1,15 @@
-use Rattle.std.proofs.Common.{arith, sym, subst, List, [], false}
+use Rattle.std.proofs.Common.{sym, subst, List, [], false}
 use Rattle.svc_base.specs.Items.{spare}
 use Rattle.svc_job_host.specs.declared.plan.JobRun.{JobRun}
 use Rattle.svc_job_host.specs.Timetables.{IsTimetableOf, periods_of}
-use Rattle.svc_job_host.proofs.TableLemmas.{table_new, paced_new}
+use Rattle.svc_job_host.proofs.TableLemmas.{table_new, paced_new, few_rows}
 use Rattle.svc_job_host.proofs.timetable.Timetable.new.Goals as goal
 
 pub invariant_of-result : goal.invariant_of-result
-invariant_of-result c = (paced_new c.args.plans.now c.in_ok-rows.rows.items c.in_ok-rows.ensures c.requires, omega (arith, c.in_ok-rows.rows.ok))
+invariant_of-result c = (
+  paced_new c.args.plans.now c.in_ok-rows.rows.items c.in_ok-rows.ensures c.requires.periods,
+  few_rows c.args.plans.now c.in_ok-rows.rows.items c.in_ok-rows.ensures c.requires.few,
+)
 
 pub returns : goal.returns
 returns c = record {

@@ -9,12 +9,12 @@ use Rattle.svc_server.proofs.server.Server.run.Goals as goal
 
 pub run_plan-requires-clause-valid : goal.run_plan-requires-clause-valid
 run_plan-requires-clause-valid g c =
-    c.in_ok-plan.ensures.valid (sym c.validate.ensures ∙ c.in_default.is)
+    c.in-Ok.ensures.valid (sym c.validate.ensures ∙ c.in_default.is)
 
 pub run_plan-requires-clause-known : goal.run_plan-requires-clause-known
 run_plan-requires-clause-known g c =
     let server = c.args.self in
-    subst (λ (p : Plan). NamesFilters p (length server.filters)) (sym c.in_ok-plan.ensures.plan)
+    subst (λ (p : Plan). NamesFilters p (length server.filters)) (sym c.in-Ok.ensures.plan)
     (names-filters server.configuration server.options server.eager server.dependencies (length server.filters)
     (answers_of g.B.ServiceWithDependents server.services.items) c.requires.sound)
 
@@ -22,8 +22,8 @@ pub run_plan-requires-clause-names : goal.run_plan-requires-clause-names
 run_plan-requires-clause-names g c =
     let server = c.args.self in
     names-plan_of g.B.ServiceWithDependents server.services.items server.configuration server.options server.eager server.dependencies
-    ∙ ap (λ (p : Plan). names_of p) (sym c.in_ok-plan.ensures.plan)
+    ∙ ap (λ (p : Plan). names_of p) (sym c.in-Ok.ensures.plan)
 
-pub returns-clause-complete : goal.returns-clause-complete
-returns-clause-complete g c =
-    through-account _ _ _ _ c.run_plan.result (g.H.Host.account c.run_plan.new.host) c.in_ok-plan.ensures.plan c.run_plan.ensures.tells
+pub returns-in-Ok-clause-complete : goal.returns-in-Ok-clause-complete
+returns-in-Ok-clause-complete g c =
+    through-account _ _ _ _ c.run_plan.result (g.H.Host.account c.run_plan.new.host) c.in-Ok.ensures.plan c.run_plan.ensures.tells

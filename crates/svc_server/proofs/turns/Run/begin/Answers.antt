@@ -10,19 +10,19 @@ pub tell_all-requires-clause-may : goal.tell_all-requires-clause-may
 tell_all-requires-clause-may g c =
     let left = names_left g.B.ServiceWithDependents.named c.args.self.now.boxes in
     may-begin c.begin.new.self c.args.self.now.core.plan left (g.H.Host.account c.reserve-2.new.self) (list_of c.new-actions.result)
-    (list_of c.begin.new.actions) (list_of c.begin.new.actions) c.in_ok-end.end
-    c.in_ok-end.ensures.kept c.new-actions.ensures refl c.in_ok-end.ensures.plan
+    (list_of c.begin.new.actions) (list_of c.begin.new.actions) c.in-Ok.end
+    c.in-Ok.ensures.kept c.new-actions.ensures refl c.in-Ok.ensures.plan
     (hands-same left left (g.H.Host.account c.args.host.now)
     (g.H.Host.account c.reserve-2.new.self) c.args.self.now.core.plan _ refl c.reserve-2.ensures.account c.requires.hands)
 
-pub returns-clause-leaves : goal.returns-clause-leaves
-returns-clause-leaves g c =
+pub returns-in-Ok-clause-leaves : goal.returns-in-Ok-clause-leaves
+returns-in-Ok-clause-leaves g c =
     let left = names_left g.B.ServiceWithDependents.named c.args.self.now.boxes in
     begin-leaves (verdict_at g.F.ConnectionFilter.verdict c.args.self.now.filters) c.begin.new.self c.args.self.now.core.plan left
     (names_left g.B.ServiceWithDependents.named c.tell_all.new.boxes) (g.H.Host.account c.reserve-2.new.self)
     (g.H.Host.account c.tell_all.new.host) (list_of c.new-actions.result) (list_of c.begin.new.actions)
-    (list_of c.begin.new.actions) c.in_ok-end.end c.in_ok-end.ensures.kept c.in_ok-end.ensures.judged
-    c.new-actions.ensures refl c.in_ok-end.ensures.plan
+    (list_of c.begin.new.actions) c.in-Ok.end c.in-Ok.ensures.kept c.in-Ok.ensures.judged
+    c.new-actions.ensures refl c.in-Ok.ensures.plan
     (hands-same left left (g.H.Host.account c.args.host.now)
     (g.H.Host.account c.reserve-2.new.self) c.args.self.now.core.plan _ refl c.reserve-2.ensures.account c.requires.hands)
     c.tell_all.ensures.hands

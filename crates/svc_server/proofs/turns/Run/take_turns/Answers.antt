@@ -82,6 +82,7 @@ loop-k-init g c = record {
   filters = refl;
   plan = refl;
   unfailed = (refl, refl);
+  made = refl;
   failures = omega arith;
 }
 
@@ -102,6 +103,7 @@ loop-k-preserved g c =
       filters = c.turn.ensures.filters ∙ c.loop-k.invariant.filters;
       plan = c.turn.ensures.plan ∙ c.loop-k.invariant.plan;
       unfailed = counts.unfailed;
+      made = c.turn.ensures.made ∙ c.loop-k.invariant.made;
       failures = counts.failures;
     }
 

@@ -23,5 +23,6 @@ invariant-loop-k g l = record {
   filters : length l.self.filters ≡ length l.initial.self.filters;
   plan : l.self.core.plan ≡ l.initial.self.core.plan;
   unfailed : IsUnfailed (g.H.Host.counts l.initial.host) (g.H.Host.counts l.host);
+  made : g.H.Host.made_of l.host ≡ g.H.Host.made_of l.initial.host;
   failures : HasNotFallen (g.H.Host.counts l.initial.host).failures (g.H.Host.counts l.host).failures;
 }

@@ -22,4 +22,4 @@ returns c =
     ∙ ap₂ with_rule (c.in_ok-with_nocapture.ensures.shape c.flag-nocapture.ensures.own
     ∙ ap₂ with_rule (c.in_ok-with_daemon.ensures.shape own_2
     ∙ ap₂ with_rule (c.in_ok-with_upgrade.ensures.shape own_1
-    ∙ ap₂ with_rule c.new-2.ensures.app upgrade_is) daemon_is) c.flag-nocapture.ensures.rule) test_is) conf_is
+    ∙ ap₂ with_rule c.new.ensures.app upgrade_is) daemon_is) c.flag-nocapture.ensures.rule) test_is) conf_is

@@ -11,5 +11,5 @@ returns c =
     let sized = c.self.invariant.sized in
     let lt : c.args.s < length c.self.inside.marks.items = omega arith in
     get_or_read c.self.inside.counts.items c.args.s c.index.result.now (omega arith) c.index.ensures 0
-    ∙ missing-seen c.self.inside.counts.items c.self.inside.edges c.self.inside.marks.items c.self.invariant c.args.s lt
+    ∙ missing-seen c.self.inside.counts.items c.self.inside.dependents.items c.self.inside.starts.items c.self.inside.marks.items c.self.invariant c.args.s lt
     ∙ ap (λ (w : WaitingData). missing_of w c.args.s) c.self.view_is

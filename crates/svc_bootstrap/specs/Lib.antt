@@ -1,0 +1,2 @@
+pub mod BootstrapData
+pub mod Lending

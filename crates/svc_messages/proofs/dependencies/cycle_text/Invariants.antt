@@ -1,0 +1,6 @@
+use Rattle.std.specs.Prelude.{string_bytes}
+use Rattle.svc_messages.specs.Messages.{IsMessage}
+use Rattle.svc_messages.proofs.dependencies.cycle_text.Given as goal
+
+abbrev pub invariant-loop : goal.invariant-loop
+invariant-loop l = IsMessage (string_bytes l.text)
