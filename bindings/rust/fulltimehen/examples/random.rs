@@ -4,14 +4,18 @@
 //!
 //! Services, endpoints and events are drawn; of the events mostly those that fit.
 
-use fulltimehen::{Core, End, Event, Plan, Side, Signal};
+use fulltimehen::{Core, End, Event, Plan, RunningCore, Side, Signal};
 use std::fmt::Write;
 
 /// Numbers that look random (xorshift).
-struct Draw(u64);
+pub struct Draw(u64);
 
 impl Draw {
-    fn below(&mut self, most: u64) -> u64 {
+    pub fn of(seed: u64) -> Draw {
+        Draw(seed.wrapping_mul(0x9e37_79b9_7f4a_7c15) | 1)
+    }
+
+    pub fn below(&mut self, most: u64) -> u64 {
         self.0 ^= self.0 << 13;
         self.0 ^= self.0 >> 7;
         self.0 ^= self.0 << 17;
@@ -70,7 +74,68 @@ fn conf(draw: &mut Draw) -> String {
     if draw.one_in(3) {
         conf += "daemon_wait_for_ready: true\n";
     }
+    if draw.one_in(6) {
+        (0..1 + draw.below(4)).for_each(|_| conf += &noise(draw));
+    }
     conf
+}
+
+/// A line of a configuration that may be refused.
+fn noise(draw: &mut Draw) -> String {
+    let mut one_of = |words: &[&'static str]| words[draw.below(words.len() as u64) as usize];
+    let key = one_of(&[
+        "user",
+        "threads",
+        "thraeds",
+        "Daemon",
+        "work_stealing",
+        "client_bind_to_ipv4",
+        "client_bind_to_ipv6",
+        "max_blocking_threads",
+        "runtime_metrics_poll_time_histogram_scale",
+        "daemon_notify_timeout_seconds",
+        "other.key-1",
+        "grace_period_seconds",
+        "pid_file",
+        "",
+    ]);
+    let colon = one_of(&[": ", ": ", ": ", ":", ":\t", " : ", ""]);
+    let value = one_of(&[
+        "",
+        "0",
+        "07",
+        "1",
+        "18446744073709551616",
+        "true",
+        "TRUE",
+        "yes",
+        "null",
+        "~",
+        "[]",
+        "log",
+        "a b",
+        "a: b",
+        "a:",
+        "'it''s'",
+        "'a' b",
+        "\"a\\t\\\"\" # c",
+        "\"a\\x\"",
+        "\"a",
+        "# c",
+        "a#b",
+        "%a",
+        "é\u{7f}",
+    ]);
+    let line = format!("{key}{colon}{value}");
+    match one_of(&["", "", "", "", "item", "dash", "blank", "start", "comment", "return"]) {
+        "item" => format!("- {value}\n"),
+        "dash" => format!("client_bind_to_ipv4:\n  # c\n  - {value}\n-{value}\n"),
+        "blank" => format!(" {line}\n"),
+        "start" => format!("---{value}\n"),
+        "comment" => format!("  # {line}\n\n"),
+        "return" => format!("{line}\r\n"),
+        _ => format!("{line}\n"),
+    }
 }
 
 /// An event with numbers that may fit. `next` is a number that wasn't used yet.
@@ -120,41 +185,52 @@ fn event(draw: &mut Draw, services: u64, next: u64, moment: u64) -> Event {
     }
 }
 
-fn main() {
-    let seed: u64 = std::env::args().nth(1).and_then(|word| word.parse().ok()).unwrap_or(1);
-    let mut draw = Draw(seed.wrapping_mul(0x9e37_79b9_7f4a_7c15) | 1);
+/// A plan that looks random: the text of its script up to the events, its flags, and how many services it has.
+pub fn head(draw: &mut Draw) -> (String, [bool; 3], u64) {
     let services = 1 + draw.below(4);
     let eager = if draw.one_in(3) { "eager\n" } else { "" };
-    let lines: Vec<String> = (0..services).map(|number| service(&mut draw, number)).collect();
-    let head =
-        format!("%conf\n{}%services\n{eager}{}\n%events\n", conf(&mut draw), lines.join("\n"));
-    let flags = [draw.one_in(3), draw.one_in(8), draw.one_in(20)];
+    let lines: Vec<String> = (0..services).map(|number| service(draw, number)).collect();
+    let text = format!("%conf\n{}%services\n{eager}{}\n%events\n", conf(draw), lines.join("\n"));
+    (text, [draw.one_in(3), draw.one_in(8), draw.one_in(20)], services)
+}
+
+/// An event that fits, if one is drawn soon.
+pub fn fitting(
+    draw: &mut Draw,
+    core: &mut RunningCore,
+    services: u64,
+    next: u64,
+    moment: u64,
+) -> Option<Event> {
+    let mut drawn = (0..200).map(|_| event(draw, services, next, moment));
+    drawn.find(|event| core.asks(event).is_ok())
+}
+
+fn main() {
+    let seed: u64 = std::env::args().nth(1).and_then(|word| word.parse().ok()).unwrap_or(1);
+    let mut draw = Draw::of(seed);
+    let (head, flags, services) = head(&mut draw);
     let plan = Plan::from_script(&head).upgrade(flags[0]).daemon(flags[1]).test(flags[2]);
-    let words = ["--upgrade", "--daemon", "--test"];
-    let given: Vec<&str> =
-        words.iter().zip(flags).filter(|(_, given)| *given).map(|(word, _)| *word).collect();
-    println!("# {}\n{head}", given.join(" "));
-    let Ok(mut core) = Core::new(&plan) else {
+    println!("# {}\n{head}", plan.words().join(" "));
+    let Ok(core) = Core::new(&plan) else {
         return;
     };
-    let _ = core.begin();
+    let Ok(mut core) = core.begin() else {
+        return;
+    };
     let (mut next, mut moment) = (3, 0);
     for _ in 0..20 + draw.below(150) {
         if core.end() != End::On {
             return;
         }
-        let drawn = (0..200).map(|_| event(&mut draw, services, next, moment));
-        let Some(event) =
-            drawn.collect::<Vec<_>>().into_iter().find(|event| core.asks(event).is_ok())
-        else {
+        let Some(event) = fitting(&mut draw, &mut core, services, next, moment) else {
             return;
         };
         if draw.one_in(60) {
             println!("{}", self::event(&mut draw, services, next, moment));
         }
         println!("{event}");
-        let said = core.asks(&event).is_ok_and(|asked| asked.said);
-        let _ = core.step(&event, said);
+        let _ = core.step(&event);
         if let Event::Moment { ms } = event {
             moment = ms;
         }

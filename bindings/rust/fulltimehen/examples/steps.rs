@@ -11,14 +11,13 @@ const ROUNDS: u64 = 9;
 fn main() -> Result<(), Box<dyn std::error::Error>> {
     let plan = Plan::new().service(Service::plain("web").tcp("127.0.0.1:80"));
     for _ in 0..ROUNDS {
-        let mut core = Core::new(&plan)?;
-        core.begin()?;
-        core.step(&Event::Bound { service: 0, endpoint: 0, fd: 3 }, true)?;
+        let mut core = Core::new(&plan)?.begin()?;
+        core.step(&Event::Bound { service: 0, endpoint: 0, fd: 3 })?;
         let mut told = 0;
 
         let then = Instant::now();
         for _ in 0..MOMENTS {
-            told += core.step(&Event::Moment { ms: 1 }, true)?.actions().count();
+            told += core.step(&Event::Moment { ms: 1 })?.actions().count();
         }
         println!("moments {MOMENTS} {}", then.elapsed().as_nanos());
 
@@ -32,7 +31,7 @@ fn main() -> Result<(), Box<dyn std::error::Error>> {
                 Event::Shaken { connection, ok: true },
                 Event::Finished { connection },
             ] {
-                told += core.step(&event, true)?.actions().count();
+                told += core.step(&event)?.actions().count();
             }
         }
         println!("connections {} {}", 4 * CONNECTIONS, then.elapsed().as_nanos());

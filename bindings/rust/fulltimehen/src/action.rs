@@ -5,20 +5,42 @@ use std::fmt;
 use std::str::FromStr;
 
 /// What the core tells a program to do. `FORMATS.md`, "Actions", and `EMBEDDING.md`, "What a real host
-/// does", say what each means on a Unix system, and which event answers it.
+/// does", say what each means on a Unix system, and which event answers it. The numbers of services and of
+/// their endpoints are those of the plan, from 0; those of descriptors and connections are the program's.
 #[derive(Clone, Debug, PartialEq, Eq)]
-#[allow(missing_docs)]
+#[non_exhaustive]
 pub enum Action {
     /// Start the service.
-    Start { service: u32 },
+    Start {
+        /// The service.
+        service: u32,
+    },
     /// Give the service up.
-    Fail { service: u32 },
+    Fail {
+        /// The service.
+        service: u32,
+    },
     /// Bind the endpoint's address: `Bound`, `InUse` or `BindFailed` answers.
-    Bind { service: u32, endpoint: u32 },
+    Bind {
+        /// The service.
+        service: u32,
+        /// The endpoint of the service.
+        endpoint: u32,
+    },
     /// Listen for the endpoint on a descriptor that is held: `Adopted` or `AdoptFailed` answers.
-    Adopt { service: u32, endpoint: u32, fd: u64 },
+    Adopt {
+        /// The service.
+        service: u32,
+        /// The endpoint of the service.
+        endpoint: u32,
+        /// The descriptor.
+        fd: u64,
+    },
     /// Close the descriptor.
-    Close { fd: u64 },
+    Close {
+        /// The descriptor.
+        fd: u64,
+    },
     /// Remove an old path, and make the receiving socket at `upgrade_sock`.
     OpenReceiver,
     /// Accept and receive once: `Received`, `NoSender` or `ReceiveFailed` answers.
@@ -30,44 +52,97 @@ pub enum Action {
     /// Connect to `upgrade_sock` once: `Connected`, `NotThere`, `Connecting` or `ConnectFailed` answers.
     Connect,
     /// Send these bytes with these descriptors once: `Sent`, `SendBusy` or `SendFailed` answers.
-    Send { bytes: Vec<u8>, fds: Vec<u64> },
+    Send {
+        /// The bytes, as `FORMATS.md` has them under "The handover message".
+        bytes: Vec<u8>,
+        /// The descriptors, at most 32.
+        fds: Vec<u64>,
+    },
     /// Tell the services that the server shuts down: `LoopEnded` and `Ended` follow.
     Broadcast,
     /// What the endpoint's filter answered. There is nothing to do.
-    Judged { connection: u64, yes: bool },
-    /// Drop the connection.
-    Refuse { connection: u64 },
-    /// Apply these settings in order: `Set` answers.
-    Settings { connection: u64, settings: Vec<Setting> },
+    Judged {
+        /// The connection.
+        connection: u64,
+        /// Its peer is accepted.
+        yes: bool,
+    },
+    /// Drop the connection, whose peer is blocked.
+    Refuse {
+        /// The connection.
+        connection: u64,
+    },
+    /// Apply these settings in order, up to the first that fails: `Set` answers.
+    Settings {
+        /// The connection.
+        connection: u64,
+        /// The settings.
+        settings: Vec<Setting>,
+    },
     /// Poll the handshake, for at most 60 seconds: `Shaken` answers.
-    Handshake { connection: u64 },
+    Handshake {
+        /// The connection.
+        connection: u64,
+    },
     /// Hand the connection to the application: `Finished` follows.
-    Serve { connection: u64 },
-    /// Drop it after a failure.
-    Drop { connection: u64 },
+    Serve {
+        /// The connection.
+        connection: u64,
+    },
+    /// Drop it after its settings or its handshake failed.
+    Drop {
+        /// The connection.
+        connection: u64,
+    },
     /// Let the accept loop that met the failure rest one second.
-    Rest { service: u32, endpoint: u32 },
+    Rest {
+        /// The service.
+        service: u32,
+        /// The endpoint of the service.
+        endpoint: u32,
+    },
     /// Drop a live connection.
-    Cut { connection: u64 },
-    /// Publish the phase; `ms` is the last moment.
-    Phase { phase: Phase, ms: u64 },
-    /// Stop the services' workers, waiting so long.
-    Stop { seconds: u64 },
+    Cut {
+        /// The connection.
+        connection: u64,
+    },
+    /// Publish the phase.
+    Phase {
+        /// The phase that begins.
+        phase: Phase,
+        /// The last moment, in milliseconds.
+        ms: u64,
+    },
+    /// Stop the services' workers.
+    Stop {
+        /// How long to wait for them, in seconds.
+        seconds: u64,
+    },
 }
 
 /// Where a run is.
-#[derive(Clone, Copy, Debug, PartialEq, Eq)]
-#[allow(missing_docs)]
+#[derive(Clone, Copy, Debug, PartialEq, Eq, Hash)]
+#[non_exhaustive]
 pub enum Phase {
+    /// The server bootstraps.
     Bootstrap,
+    /// It has bootstrapped: what an older server sent is taken over.
     BootstrapComplete,
+    /// Services start as their dependencies are ready, and signals are taken.
     Running,
+    /// The operator asked for an upgrade: the sockets are offered to a successor.
     GracefulUpgradeTransferringFds,
+    /// The offer is over, and the server goes on for five seconds.
     GracefulUpgradeCloseTimeout,
+    /// The operator asked for the end with a grace period.
     GracefulTerminate,
+    /// The shutdown begins.
     ShutdownStarted,
+    /// The services have the grace period to end.
     ShutdownGracePeriod,
+    /// What is live is cut, what is open is closed, and the services' workers stop.
     ShutdownRuntimes,
+    /// The run is over.
     Terminated,
 }
 
@@ -84,20 +159,46 @@ const PHASES: [Phase; 10] = [
     Phase::Terminated,
 ];
 
+impl Phase {
+    fn name(self) -> &'static str {
+        match self {
+            Phase::Bootstrap => "Bootstrap",
+            Phase::BootstrapComplete => "BootstrapComplete",
+            Phase::Running => "Running",
+            Phase::GracefulUpgradeTransferringFds => "GracefulUpgradeTransferringFds",
+            Phase::GracefulUpgradeCloseTimeout => "GracefulUpgradeCloseTimeout",
+            Phase::GracefulTerminate => "GracefulTerminate",
+            Phase::ShutdownStarted => "ShutdownStarted",
+            Phase::ShutdownGracePeriod => "ShutdownGracePeriod",
+            Phase::ShutdownRuntimes => "ShutdownRuntimes",
+            Phase::Terminated => "Terminated",
+        }
+    }
+}
+
 impl fmt::Display for Phase {
     fn fmt(&self, f: &mut fmt::Formatter<'_>) -> fmt::Result {
-        write!(f, "{self:?}")
+        f.write_str(self.name())
     }
 }
 
 /// A setting of an accepted connection.
 #[derive(Clone, Copy, Debug, PartialEq, Eq)]
-#[allow(missing_docs)]
+#[non_exhaustive]
 pub enum Setting {
     /// Send without waiting for more.
     NoDelay,
-    /// Keep alive; the times are in nanoseconds.
-    KeepAlive { idle: u64, interval: u64, count: u64, user_timeout: u64 },
+    /// Keep alive.
+    KeepAlive {
+        /// How long a connection is idle before the first probe, in nanoseconds.
+        idle: u64,
+        /// The time between two probes, in nanoseconds.
+        interval: u64,
+        /// How many probes without an answer end the connection.
+        count: u64,
+        /// How long sent bytes may stay unacknowledged, in nanoseconds; 0: the system decides.
+        user_timeout: u64,
+    },
     /// The differentiated services byte.
     Dscp(u8),
     /// The size of the buffer for what is sent, in bytes.
@@ -212,8 +313,8 @@ fn action_of(words: &mut Words<'_>) -> Result<Action, LineError> {
         "broadcast" => Action::Broadcast,
         "phase" => {
             let name = words.word()?;
-            let phase = PHASES.into_iter().find(|phase| phase.to_string() == name);
-            Action::Phase { phase: phase.ok_or(words.error())?, ms: words.number()? }
+            let phase = PHASES.into_iter().find(|phase| phase.name() == name);
+            Action::Phase { phase: phase.ok_or_else(|| words.error())?, ms: words.number()? }
         }
         "stop" => Action::Stop { seconds: words.number()? },
         key => return connection_action(key, words),

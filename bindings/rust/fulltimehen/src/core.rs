@@ -1,23 +1,44 @@
-//! The core: the proved machine.
+//! The core: the proved machine, in the three states of its life.
 
 use crate::action::Action;
-use crate::event::Event;
-use crate::plan::{Endpoint, Plan};
+use crate::book::Book;
+use crate::event::{Event, Peer};
+use crate::line::Line;
+use crate::messages::{Shown, fits_where};
+use crate::plan::{Plan, PlanError};
 use crate::sys::Session;
-use std::fmt;
-use std::fmt::Write;
+use std::fmt::{self, Write};
+use std::net::SocketAddr;
 use std::str;
 
-/// The lifecycle of one server. It stays on the thread that made it.
+/// The lifecycle of one server, before its run. It stays on the thread that made it, as do the states
+/// that follow: [`Core::begin`] gives the running core, and [`RunningCore::close`] the closed one.
 pub struct Core {
     session: Session,
-    line: String,
-    told: Vec<u8>,
+    judges: bool,
+}
+
+/// The lifecycle of a server that runs: it takes events and tells actions.
+pub struct RunningCore {
+    session: Session,
+    record: RecordBuffer,
+    line: Line,
+    end: End,
+    /// The plan blocks some address, so that its word on a peer has to be asked.
+    judges: bool,
+    book: Book,
+}
+
+/// The lifecycle of a server whose descriptors and connections were all told to be let go.
+pub struct ClosedCore {
+    session: Session,
+    record: RecordBuffer,
     end: End,
 }
 
 /// How far a run is, or how it has ended.
 #[derive(Clone, Copy, Debug, PartialEq, Eq)]
+#[non_exhaustive]
 pub enum End {
     /// It goes on.
     On,
@@ -25,7 +46,8 @@ pub enum End {
     Served,
     /// It tested that it can start.
     Tested,
-    /// This process is the parent of the server's, and ends with this status.
+    /// This process is the parent of the server's, and ends with this status: 0 where the child is ready
+    /// or isn't waited for, 1 where it isn't ready.
     Parent(u8),
     /// A try to receive the older server's sockets failed.
     Transfer,
@@ -66,83 +88,84 @@ impl fmt::Display for End {
     }
 }
 
-/// Why no core was made of a plan.
-#[derive(Clone, Debug, PartialEq, Eq)]
-pub enum PlanError {
-    /// Out of memory.
-    NoMemory,
-    /// The plan's script is refused at this line; 0 where it is too long.
-    Line(u64),
-    /// The configuration is refused at this key.
-    Config(String),
-    /// A name or an address is empty or has blanks, or the configuration has a line of a script's parts.
-    Word(String),
-}
-
-impl fmt::Display for PlanError {
-    fn fmt(&self, f: &mut fmt::Formatter<'_>) -> fmt::Result {
-        match self {
-            PlanError::NoMemory => f.write_str("out of memory"),
-            PlanError::Line(line) => write!(f, "line {line} of the plan's script is refused"),
-            PlanError::Config(key) => write!(f, "the configuration is refused at {key}"),
-            PlanError::Word(word) => write!(f, "{word:?} can't stand in a script"),
-        }
-    }
-}
-
-impl std::error::Error for PlanError {}
-
 /// Why a call of a core was refused. But for `Untold` the core is as it was.
-#[derive(Clone, Copy, Debug, PartialEq, Eq)]
+#[derive(Clone, Debug, PartialEq, Eq)]
+#[non_exhaustive]
 pub enum CoreError {
     /// Out of memory.
     NoMemory,
-    /// The event's line isn't one that the core knows, as a message of more than 32 descriptors.
-    NoEvent,
+    /// The event is none that the core knows: a message of more than 32 descriptors.
+    NoEvent(Event),
     /// The event doesn't fit: nothing that was told asks for it.
-    Stray,
-    /// A step came before the first one, a second first step came, or a call after `close`.
-    Order,
-    /// The call was taken, and there was no memory for the lines of what it told. [`Core::last`] gives
-    /// them once there is.
+    Stray(Event),
+    /// The call was taken, and there was no memory for the lines of what it told. [`RunningCore::last`] and
+    /// [`ClosedCore::last`] give them once there is.
     Untold,
-}
-
-impl CoreError {
-    fn of(number: u32) -> CoreError {
-        match number {
-            19 => CoreError::NoEvent,
-            20 => CoreError::Stray,
-            21 => CoreError::Order,
-            _ => CoreError::NoMemory,
-        }
-    }
-
-    fn number(self) -> u32 {
-        match self {
-            CoreError::NoMemory => 16,
-            CoreError::NoEvent => 19,
-            CoreError::Stray => 20,
-            CoreError::Order => 21,
-            CoreError::Untold => 16,
-        }
-    }
+    /// What the call before told wasn't given yet for want of memory, so that its actions would be lost:
+    /// [`RunningCore::last`] gives it once there is some, and then this call may come again.
+    Behind,
 }
 
 impl fmt::Display for CoreError {
     fn fmt(&self, f: &mut fmt::Formatter<'_>) -> fmt::Result {
-        f.write_str(&Session::reason(self.number()))
+        match self {
+            CoreError::NoMemory => f.write_str("out of memory"),
+            CoreError::NoEvent(event) => {
+                write!(f, "{} is no event: a message brings at most 32 descriptors", Shown(event))
+            }
+            CoreError::Stray(event) => {
+                write!(f, "{} doesn't fit; it fits where {}", Shown(event), fits_where(event))
+            }
+            CoreError::Untold => f.write_str("out of memory for what the call told"),
+            CoreError::Behind => f.write_str("what the call before told wasn't given yet"),
+        }
     }
 }
 
 impl std::error::Error for CoreError {}
 
+/// A call that takes a core by value was refused, and the core comes back as it was. Since a core stays on
+/// its thread, so does this; `map_err(CoreError::from)` makes it an error that may leave.
+///
+/// ```
+/// use fulltimehen::{Core, CoreError, Plan};
+///
+/// fn begin(plan: &Plan) -> Result<(), Box<dyn std::error::Error + Send + Sync>> {
+///     let mut core = Core::new(plan)?.begin().map_err(CoreError::from)?;
+///     assert!(core.last()?.record().ends_with("phase Running 0\n"));
+///     Ok(())
+/// }
+/// begin(&Plan::new()).expect("there is memory");
+/// ```
+#[derive(Debug)]
+pub struct Refused<C> {
+    /// The core.
+    pub core: C,
+    /// Why the call was refused.
+    pub error: CoreError,
+}
+
+impl<C> From<Refused<C>> for CoreError {
+    fn from(refused: Refused<C>) -> CoreError {
+        refused.error
+    }
+}
+
+impl<C> fmt::Display for Refused<C> {
+    fn fmt(&self, f: &mut fmt::Formatter<'_>) -> fmt::Result {
+        self.error.fmt(f)
+    }
+}
+
+impl<C: fmt::Debug> std::error::Error for Refused<C> {}
+
 /// What is asked at an event that fits.
 #[derive(Clone, Copy, Debug, PartialEq, Eq)]
+#[non_exhaustive]
 pub struct Asked {
     /// The number of the filter. Services that block addresses have one each, numbered in their order.
     pub filter: Option<u32>,
-    /// What the blocked addresses of the plan say.
+    /// What the plan's blocked addresses say of the peer: `false` of one that is blocked.
     pub said: bool,
 }
 
@@ -155,16 +178,19 @@ pub struct Told<'a> {
 
 impl<'a> Told<'a> {
     /// How far the run is.
+    #[must_use]
     pub fn end(&self) -> End {
         self.end
     }
 
     /// The lines that the call added to the record: the event behind `got`, and each action.
+    #[must_use]
     pub fn record(&self) -> &'a str {
         self.record
     }
 
-    /// The actions that were told, in order.
+    /// The actions that were told, in order. Their own lists are made as std makes lists, so that want of
+    /// memory for one ends the program.
     ///
     /// # Panics
     ///
@@ -175,116 +201,339 @@ impl<'a> Told<'a> {
     }
 }
 
-/// A word of a script: visible, and in one piece.
-fn checked(word: &str) -> Result<(), PlanError> {
-    let is_word = !word.is_empty() && !word.chars().any(|c| c.is_whitespace() || c.is_control());
-    if is_word { Ok(()) } else { Err(PlanError::Word(word.to_owned())) }
+/// The line of an event, in place of what was there.
+fn set(line: &mut Line, event: &Event) -> Result<(), CoreError> {
+    line.clear();
+    let written = match event {
+        // Each connection has these, so they are put together without the formatter.
+        Event::Arrived {
+            service,
+            endpoint,
+            connection,
+            peer: Peer::Inet(SocketAddr::V4(peer)),
+        } => line
+            .put("arrived", &[u64::from(*service), u64::from(*endpoint), *connection])
+            .and_then(|()| line.put_address(*peer)),
+        Event::Set { connection, ok: true } => {
+            line.put("set", &[*connection]).and_then(|()| line.write_str(" ok"))
+        }
+        Event::Shaken { connection, ok: true } => {
+            line.put("shaken", &[*connection]).and_then(|()| line.write_str(" ok"))
+        }
+        Event::Finished { connection } => line.put("finished", &[*connection]),
+        event => write!(line, "{event}"),
+    };
+    written.map_err(|_| CoreError::NoMemory)
 }
 
-fn check(plan: &Plan) -> Result<(), PlanError> {
-    for service in plan.services() {
-        checked(service.name())?;
-        service.endpoints().iter().map(Endpoint::address).try_for_each(checked)?;
+/// The lines of a session's last call.
+#[derive(Debug)]
+struct RecordBuffer {
+    bytes: Vec<u8>,
+    length: usize,
+    /// The last call was taken, and its lines weren't read.
+    is_behind: bool,
+}
+
+impl RecordBuffer {
+    const fn new() -> RecordBuffer {
+        RecordBuffer { bytes: Vec::new(), length: 0, is_behind: true }
     }
-    match plan.conf().lines().find(|line| line.starts_with('%')) {
-        Some(line) => Err(PlanError::Word(line.to_owned())),
-        None => Ok(()),
+
+    fn grow(&mut self, length: usize) -> Result<(), CoreError> {
+        let more = length.saturating_sub(self.bytes.len());
+        self.bytes.try_reserve(more).map_err(|_| CoreError::Untold)?;
+        self.bytes.resize(length, 0);
+        Ok(())
+    }
+
+    /// Reads the lines of the session's last call, unless that is done. The buffer grows until they fit.
+    fn read(&mut self, session: &mut Session) -> Result<(), CoreError> {
+        while self.is_behind {
+            let (number, length) = session.told(&mut self.bytes);
+            let length = usize::try_from(length).map_err(|_| CoreError::Untold)?;
+            match number {
+                0 => {
+                    self.length = length;
+                    self.is_behind = false;
+                }
+                22 => self.grow(length.checked_next_power_of_two().unwrap_or(length).max(1024))?,
+                _ => return Err(CoreError::Untold),
+            }
+        }
+        Ok(())
+    }
+
+    fn bytes(&self) -> &[u8] {
+        &self.bytes[..self.length]
+    }
+
+    fn lines(&self) -> &str {
+        str::from_utf8(self.bytes()).expect("a record is UTF-8")
     }
 }
 
 impl Core {
     /// A core that has told nothing yet.
+    ///
+    /// # Errors
+    ///
+    /// Whatever of the plan is refused, with its place and cause; [`PlanError::NoMemory`] where memory lacks.
     pub fn new(plan: &Plan) -> Result<Core, PlanError> {
-        check(plan)?;
-        let flags = [plan.upgrade, plan.daemon, plan.test];
-        let session =
-            Session::new(plan.script().as_bytes(), flags).map_err(|refused| {
-                match refused.number {
-                    17 => PlanError::Line(refused.place),
-                    18 => PlanError::Config(refused.key),
-                    _ => PlanError::NoMemory,
-                }
-            })?;
-        Ok(Core { session, line: String::new(), told: vec![0; 1024], end: End::On })
+        plan.check()?;
+        let session = plan.session()?;
+        Ok(Core { session, judges: plan.judges() })
     }
 
-    /// The first step: once, before all others.
-    pub fn begin(&mut self) -> Result<Told<'_>, CoreError> {
-        let number = self.session.begin();
-        self.answer(number)
+    /// The first step. What it told is [`RunningCore::last`].
+    ///
+    /// # Errors
+    ///
+    /// [`CoreError::NoMemory`], with the core as it was.
+    pub fn begin(mut self) -> Result<RunningCore, Refused<Core>> {
+        let Some(end) = End::of(self.session.begin()) else {
+            return Err(Refused { core: self, error: CoreError::NoMemory });
+        };
+        let Core { session, judges } = self;
+        let mut core = RunningCore {
+            session,
+            record: RecordBuffer::new(),
+            line: Line::default(),
+            end,
+            judges,
+            book: Book::default(),
+        };
+        // Where memory lacks for what it told, the core is behind, and `last` tries again.
+        let _ = core.last();
+        Ok(core)
     }
+}
 
+impl RunningCore {
     /// Whether the event fits now, and what is asked at it.
+    ///
+    /// # Errors
+    ///
+    /// [`CoreError::Stray`] and [`CoreError::NoEvent`] where it doesn't, and [`CoreError::NoMemory`].
     pub fn asks(&mut self, event: &Event) -> Result<Asked, CoreError> {
-        self.write(event);
+        set(&mut self.line, event)?;
         let (number, filter, said) = self.session.fits(self.line.as_bytes());
         match number {
             0 => Ok(Asked { filter: None, said }),
             1 => Ok(Asked { filter: Some(filter), said }),
-            _ => Err(CoreError::of(number)),
+            _ => Err(refusal(number, event)),
         }
     }
 
-    /// The step of an event, with what the filter said that [`Core::asks`] named; `true` where it named
-    /// none. A refused event changes nothing.
-    pub fn step(&mut self, event: &Event, said: bool) -> Result<Told<'_>, CoreError> {
-        self.write(event);
-        let number = self.session.step(self.line.as_bytes(), said);
-        self.answer(number)
+    /// The step of an event. Of an arrival's peer the plan's blocked addresses decide.
+    ///
+    /// # Errors
+    ///
+    /// [`CoreError::Stray`] and [`CoreError::NoEvent`] where the event doesn't fit, [`CoreError::NoMemory`],
+    /// and [`CoreError::Behind`] after a call that was `Untold`: then nothing has changed.
+    /// [`CoreError::Untold`] where the event was taken and memory lacks for what it told.
+    pub fn step(&mut self, event: &Event) -> Result<Told<'_>, CoreError> {
+        let accepts = match event {
+            Event::Arrived { peer: Peer::Inet(_), .. } if self.judges => self.asks(event)?.said,
+            _ => true,
+        };
+        self.step_judged(event, accepts)
     }
 
-    /// Cuts each live connection and closes each open descriptor, and with them what the event brought
-    /// that was left unfinished. It is for a run that is given up, or that has ended otherwise than
-    /// `Served`; no step follows it.
-    pub fn close(&mut self, unfinished: Option<&Event>) -> Result<Told<'_>, CoreError> {
-        self.line.clear();
-        if let Some(event) = unfinished {
-            self.write(event);
-        }
-        match self.session.close(self.line.as_bytes()) {
-            0 => self.last(),
-            number => Err(CoreError::of(number)),
-        }
+    /// The step of an event, with the caller's word on an arrival's peer in place of the plan's:
+    /// [`RunningCore::asks`] tells what the plan says. Where no filter is asked, the word doesn't matter.
+    ///
+    /// # Errors
+    ///
+    /// As for [`RunningCore::step`].
+    pub fn step_judged(&mut self, event: &Event, accepts: bool) -> Result<Told<'_>, CoreError> {
+        self.not_behind()?;
+        set(&mut self.line, event)?;
+        let number = self.session.step(self.line.as_bytes(), accepts);
+        let Some(end) = End::of(number) else {
+            return Err(refusal(number, event));
+        };
+        self.end = end;
+        self.record.is_behind = true;
+        self.last()
+    }
+
+    fn not_behind(&self) -> Result<(), CoreError> {
+        if self.record.is_behind { Err(CoreError::Behind) } else { Ok(()) }
     }
 
     /// How far the run is.
+    #[must_use]
     pub fn end(&self) -> End {
         self.end
     }
 
-    /// What the last call that wasn't refused told, once more.
+    /// The least moment, in milliseconds, at which an [`Event::Moment`] tells something or ends the run, if
+    /// no other event comes before; each earlier one tells nothing. None while only another event can. A
+    /// host that waits for events waits no longer than until then. Since the core knows the time by its
+    /// moments alone, and each wait counts from the last one, a host gives one also right before an event
+    /// that may begin or end a wait: a signal, or an answer.
+    ///
+    /// It costs a few steps, but while an address in use rests, when each service is looked at.
+    #[must_use]
+    pub fn next_due(&mut self) -> Option<u64> {
+        if self.end == End::On { self.session.next_due() } else { None }
+    }
+
+    /// What the last call that was taken told, once more.
+    ///
+    /// # Errors
+    ///
+    /// [`CoreError::Untold`] where memory lacks for it.
     pub fn last(&mut self) -> Result<Told<'_>, CoreError> {
-        self.told().map_err(|_| CoreError::Untold)
+        if self.record.is_behind {
+            self.book.reserve().map_err(|_| CoreError::Untold)?;
+            self.record.read(&mut self.session)?;
+            self.book.enter(self.record.bytes());
+        }
+        Ok(Told { end: self.end, record: self.record.lines() })
     }
 
-    fn write(&mut self, event: &Event) {
-        self.line.clear();
-        // A String takes all that is written to it.
-        let _ = write!(self.line, "{event}");
-    }
-
-    fn answer(&mut self, number: u32) -> Result<Told<'_>, CoreError> {
-        match End::of(number) {
-            Some(end) => {
-                self.end = end;
-                self.last()
+    /// What is to be let go of an event that was refused and that isn't given again: `Close` of each
+    /// descriptor that it brought and `Refuse` of the connection that came by it, but of none whose number
+    /// the core has already. These actions aren't in the record, since the event isn't.
+    pub fn left_by(&mut self, event: &Event) -> Vec<Action> {
+        match event {
+            Event::Bound { fd, .. } => self.closes(&[*fd]),
+            Event::Received { fds, .. } => self.closes(fds),
+            Event::Arrived { connection, .. } if !self.has(*connection) => {
+                vec![Action::Refuse { connection: *connection }]
             }
-            None => Err(CoreError::of(number)),
+            _ => Vec::new(),
         }
     }
 
-    /// The lines of the last call. The buffer grows until they fit.
-    fn told(&mut self) -> Result<Told<'_>, CoreError> {
-        loop {
-            let (number, length) = self.session.told(&mut self.told);
-            let length = usize::try_from(length).map_err(|_| CoreError::NoMemory)?;
-            match number {
-                0 => {
-                    let record = str::from_utf8(&self.told[..length]).expect("a record is ASCII");
-                    return Ok(Told { end: self.end, record });
-                }
-                22 => self.told.resize(length.next_power_of_two(), 0),
-                number => return Err(CoreError::of(number)),
+    fn closes(&self, fds: &[u64]) -> Vec<Action> {
+        let mut left: Vec<u64> = fds.iter().copied().filter(|fd| !self.book.is_open(*fd)).collect();
+        left.sort_unstable();
+        left.dedup();
+        left.into_iter().map(|fd| Action::Close { fd }).collect()
+    }
+
+    /// The core has a live connection with this number, or can't say for want of memory.
+    fn has(&mut self, connection: u64) -> bool {
+        let events = [
+            Event::Set { connection, ok: false },
+            Event::Shaken { connection, ok: false },
+            Event::Finished { connection },
+        ];
+        events.iter().any(|event| !matches!(self.asks(event), Err(CoreError::Stray(_))))
+    }
+
+    /// Cuts each live connection and closes each open descriptor, and with them what the event brought
+    /// that was left unfinished. It is for a run that is given up, or that has ended otherwise than
+    /// `Served`. What it told is [`ClosedCore::last`].
+    ///
+    /// # Errors
+    ///
+    /// [`CoreError::NoMemory`], [`CoreError::NoEvent`], and [`CoreError::Behind`] after a call that was
+    /// `Untold`; each with the core as it was.
+    #[expect(clippy::result_large_err, reason = "a box wants memory, which may be what lacks")]
+    pub fn close(mut self, unfinished: Option<&Event>) -> Result<ClosedCore, Refused<RunningCore>> {
+        match self.try_close(unfinished) {
+            Ok(()) => {
+                let RunningCore { session, mut record, end, .. } = self;
+                record.is_behind = true;
+                let mut core = ClosedCore { session, record, end };
+                // As at the beginning.
+                let _ = core.last();
+                Ok(core)
+            }
+            Err(error) => Err(Refused { core: self, error }),
+        }
+    }
+
+    fn try_close(&mut self, unfinished: Option<&Event>) -> Result<(), CoreError> {
+        self.not_behind()?;
+        match unfinished {
+            Some(event) => set(&mut self.line, event)?,
+            None => self.line.clear(),
+        }
+        match (self.session.close(self.line.as_bytes()), unfinished) {
+            (0, _) => Ok(()),
+            (number, Some(event)) => Err(refusal(number, event)),
+            (_, None) => Err(CoreError::NoMemory),
+        }
+    }
+}
+
+impl ClosedCore {
+    /// How far the run was.
+    #[must_use]
+    pub fn end(&self) -> End {
+        self.end
+    }
+
+    /// What the close told.
+    ///
+    /// # Errors
+    ///
+    /// [`CoreError::Untold`] where memory lacks for it.
+    pub fn last(&mut self) -> Result<Told<'_>, CoreError> {
+        self.record.read(&mut self.session)?;
+        Ok(Told { end: self.end, record: self.record.lines() })
+    }
+}
+
+/// Why a call with this event was refused, by the library's number.
+fn refusal(number: u32, event: &Event) -> CoreError {
+    match number {
+        19 => CoreError::NoEvent(event.clone()),
+        20 => CoreError::Stray(event.clone()),
+        _ => CoreError::NoMemory,
+    }
+}
+
+impl fmt::Debug for Core {
+    fn fmt(&self, f: &mut fmt::Formatter<'_>) -> fmt::Result {
+        f.debug_struct("Core").finish_non_exhaustive()
+    }
+}
+
+impl fmt::Debug for RunningCore {
+    fn fmt(&self, f: &mut fmt::Formatter<'_>) -> fmt::Result {
+        f.debug_struct("RunningCore").field("end", &self.end).finish_non_exhaustive()
+    }
+}
+
+impl fmt::Debug for ClosedCore {
+    fn fmt(&self, f: &mut fmt::Formatter<'_>) -> fmt::Result {
+        f.debug_struct("ClosedCore").field("end", &self.end).finish_non_exhaustive()
+    }
+}
+
+#[cfg(test)]
+mod tests {
+    use super::*;
+
+    #[test]
+    fn lines_of_connections_are_those_of_events() {
+        let mut line = Line::default();
+        for connection in [0, 9, 10, 12_345, u64::MAX] {
+            let mut events = vec![Event::Finished { connection }];
+            for ok in [true, false] {
+                events.push(Event::Set { connection, ok });
+                events.push(Event::Shaken { connection, ok });
+            }
+            for peer in [
+                "0.0.0.0:0",
+                "127.0.0.1:80",
+                "255.10.9.100:65535",
+                "[::1]:80",
+                "[::ffff:1.2.3.4]:5",
+            ] {
+                let peer = Peer::Inet(peer.parse().unwrap());
+                events.push(Event::Arrived { service: 7, endpoint: u32::MAX, connection, peer });
+            }
+            events.push(Event::Arrived { service: 0, endpoint: 0, connection, peer: Peer::Unix });
+            for event in events {
+                set(&mut line, &event).unwrap();
+                assert_eq!(line.as_str(), event.to_string());
             }
         }
     }

@@ -2,38 +2,84 @@
 
 use crate::words::{Hex, Joined, LineError, Words};
 use std::fmt;
-use std::net::{IpAddr, Ipv4Addr, Ipv6Addr, SocketAddr};
+use std::net::{IpAddr, SocketAddr};
 use std::str::FromStr;
 
-/// What a program tells the core. `FORMATS.md`, "Events", says where each fits; [`crate::Core::asks`]
-/// tests it. Numbers of descriptors and of connections are the program's own, each used once in a run.
+/// What a program tells the core. `FORMATS.md`, "Events", says where each fits;
+/// [`RunningCore::asks`](crate::RunningCore::asks) tests it. The numbers of services and of their endpoints
+/// are those of the plan, from 0; those of descriptors and connections are the program's own, each used
+/// once in a run, and connections best ascending: [`Numbers`](crate::Numbers) gives such ones.
 #[derive(Clone, Debug, PartialEq, Eq)]
-#[allow(missing_docs)]
+#[non_exhaustive]
 pub enum Event {
-    /// The time, in milliseconds since the run began.
-    Moment { ms: u64 },
+    /// The time that has passed.
+    Moment {
+        /// Milliseconds since the run began, never below the last moment's.
+        ms: u64,
+    },
     /// A notifying service says that it is ready.
-    Ready { service: u32 },
+    Ready {
+        /// The service.
+        service: u32,
+    },
     /// The work of a service without endpoints has ended.
-    Ended { service: u32 },
-    /// A bind brought this descriptor.
-    Bound { service: u32, endpoint: u32, fd: u64 },
+    Ended {
+        /// The service.
+        service: u32,
+    },
+    /// A bind brought a descriptor.
+    Bound {
+        /// The service.
+        service: u32,
+        /// The endpoint of the service.
+        endpoint: u32,
+        /// The descriptor's number, which is a new one.
+        fd: u64,
+    },
     /// The address of the endpoint is in use.
-    InUse { service: u32, endpoint: u32 },
+    InUse {
+        /// The service.
+        service: u32,
+        /// The endpoint of the service.
+        endpoint: u32,
+    },
     /// The bind failed otherwise.
-    BindFailed { service: u32, endpoint: u32 },
+    BindFailed {
+        /// The service.
+        service: u32,
+        /// The endpoint of the service.
+        endpoint: u32,
+    },
     /// The endpoint listens on the descriptor that it was offered.
-    Adopted { service: u32, endpoint: u32 },
+    Adopted {
+        /// The service.
+        service: u32,
+        /// The endpoint of the service.
+        endpoint: u32,
+    },
     /// The endpoint couldn't take the descriptor that it was offered.
-    AdoptFailed { service: u32, endpoint: u32 },
-    /// The older server sent these bytes and descriptors, at most 32.
-    Received { bytes: Vec<u8>, fds: Vec<u64> },
-    /// The try met no sender.
+    AdoptFailed {
+        /// The service.
+        service: u32,
+        /// The endpoint of the service.
+        endpoint: u32,
+    },
+    /// The older server sent its message.
+    Received {
+        /// The bytes of the message.
+        bytes: Vec<u8>,
+        /// The descriptors' numbers, at most 32, each a new one.
+        fds: Vec<u64>,
+    },
+    /// The try to receive met no sender.
     NoSender,
-    /// The try failed.
+    /// The try to receive failed.
     ReceiveFailed,
     /// The operator's signal.
-    Signal { kind: Signal },
+    Signal {
+        /// What the operator asks for.
+        kind: Signal,
+    },
     /// The successor was reached.
     Connected,
     /// No successor is there.
@@ -49,19 +95,58 @@ pub enum Event {
     /// The send failed otherwise.
     SendFailed,
     /// A connection came to the endpoint.
-    Arrived { service: u32, endpoint: u32, connection: u64, peer: Peer },
-    /// Accepting failed with this error number.
-    AcceptFailed { service: u32, endpoint: u32, error: u32 },
+    Arrived {
+        /// The service.
+        service: u32,
+        /// The endpoint of the service.
+        endpoint: u32,
+        /// The connection's number, which is a new one.
+        connection: u64,
+        /// Where it comes from.
+        peer: Peer,
+    },
+    /// Accepting failed.
+    AcceptFailed {
+        /// The service.
+        service: u32,
+        /// The endpoint of the service.
+        endpoint: u32,
+        /// The system's number of the error, as 24 where too many files are open.
+        error: u32,
+    },
     /// The settings of a connection were applied, or weren't.
-    Set { connection: u64, ok: bool },
+    Set {
+        /// The connection.
+        connection: u64,
+        /// All were applied.
+        ok: bool,
+    },
     /// The handshake of a connection is done, or failed.
-    Shaken { connection: u64, ok: bool },
+    Shaken {
+        /// The connection.
+        connection: u64,
+        /// It is done.
+        ok: bool,
+    },
     /// The application is done with the connection.
-    Finished { connection: u64 },
+    Finished {
+        /// The connection.
+        connection: u64,
+    },
     /// An accept loop of the endpoint has ended.
-    LoopEnded { service: u32, endpoint: u32, number: u64 },
+    LoopEnded {
+        /// The service.
+        service: u32,
+        /// The endpoint of the service.
+        endpoint: u32,
+        /// The loop's number, from 0 and below `listener_tasks_per_fd`.
+        number: u64,
+    },
     /// Which side of a fork the process is.
-    Side { side: Side },
+    Side {
+        /// The side.
+        side: Side,
+    },
     /// The child of a daemon's parent is ready.
     ChildReady,
     /// The child is gone.
@@ -72,6 +157,7 @@ pub enum Event {
 
 /// What an operator asks for.
 #[derive(Clone, Copy, Debug, PartialEq, Eq)]
+#[non_exhaustive]
 pub enum Signal {
     /// The server ends at once: SIGINT.
     Fast,
@@ -83,6 +169,7 @@ pub enum Signal {
 
 /// A side of a fork.
 #[derive(Clone, Copy, Debug, PartialEq, Eq)]
+#[non_exhaustive]
 pub enum Side {
     /// The child, which is the server.
     Child,
@@ -90,8 +177,10 @@ pub enum Side {
     Parent,
 }
 
-/// Where a connection comes from.
+/// Where a connection comes from. However it is made, the core is told the canonical address: an IPv4
+/// address that is mapped into IPv6 is one of IPv4.
 #[derive(Clone, Copy, Debug, PartialEq, Eq)]
+#[non_exhaustive]
 pub enum Peer {
     /// It isn't known: no filter is asked.
     Unknown,
@@ -106,13 +195,10 @@ impl fmt::Display for Peer {
         match self {
             Peer::Unknown => f.write_str("-"),
             Peer::Unix => f.write_str("unix"),
-            Peer::Inet(SocketAddr::V4(peer)) => write!(f, "{}:{}", peer.ip(), peer.port()),
-            Peer::Inet(SocketAddr::V6(peer)) => {
-                let [first, others @ ..] = peer.ip().segments();
-                write!(f, "[{first:x}")?;
-                others.iter().try_for_each(|group| write!(f, ":{group:x}"))?;
-                write!(f, "]:{}", peer.port())
-            }
+            Peer::Inet(peer) => match peer.ip().to_canonical() {
+                ip @ IpAddr::V4(_) => write!(f, "{ip}:{}", peer.port()),
+                ip @ IpAddr::V6(_) => write!(f, "[{}]:{}", IpWord(ip), peer.port()),
+            },
         }
     }
 }
@@ -139,12 +225,19 @@ impl From<SocketAddr> for Peer {
     }
 }
 
-/// An address as a service line has it: of IPv6 all eight groups.
-pub(crate) fn ip_word(ip: IpAddr) -> String {
-    let word = Peer::Inet(SocketAddr::new(ip, 0)).to_string();
-    match word.strip_prefix('[') {
-        Some(rest) => rest[..rest.len() - 3].to_owned(),
-        None => word[..word.len() - 2].to_owned(),
+/// An address as a script has it: of IPv6 all eight groups.
+pub(crate) struct IpWord(pub IpAddr);
+
+impl fmt::Display for IpWord {
+    fn fmt(&self, f: &mut fmt::Formatter<'_>) -> fmt::Result {
+        match self.0 {
+            IpAddr::V4(ip) => ip.fmt(f),
+            IpAddr::V6(ip) => {
+                let [first, others @ ..] = ip.segments();
+                write!(f, "{first:x}")?;
+                others.iter().try_for_each(|group| write!(f, ":{group:x}"))
+            }
+        }
     }
 }
 
@@ -290,20 +383,6 @@ fn connection_event(key: &str, words: &mut Words<'_>) -> Result<Event, LineError
     })
 }
 
-/// A peer of an IPv4 address, for examples and tests.
-impl From<(Ipv4Addr, u16)> for Peer {
-    fn from(peer: (Ipv4Addr, u16)) -> Peer {
-        Peer::Inet(SocketAddr::from(peer))
-    }
-}
-
-/// A peer of an IPv6 address, as it stands.
-impl From<(Ipv6Addr, u16)> for Peer {
-    fn from(peer: (Ipv6Addr, u16)) -> Peer {
-        Peer::Inet(SocketAddr::from(peer))
-    }
-}
-
 #[cfg(test)]
 mod tests {
     use super::*;
@@ -331,7 +410,7 @@ mod tests {
 
     #[test]
     fn addresses_stand_in_full() {
-        assert_eq!(ip_word("::1".parse().unwrap()), "0:0:0:0:0:0:0:1");
-        assert_eq!(ip_word("10.0.0.1".parse().unwrap()), "10.0.0.1");
+        assert_eq!(IpWord("::1".parse().unwrap()).to_string(), "0:0:0:0:0:0:0:1");
+        assert_eq!(IpWord("10.0.0.1".parse().unwrap()).to_string(), "10.0.0.1");
     }
 }

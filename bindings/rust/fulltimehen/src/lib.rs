@@ -5,45 +5,52 @@
 //! The machine is the Rattle library `svc_core`, proved and linked as a static library; what is proved
 //! and what isn't is said in the README, "Where the trust ends".
 //!
-//! - A [`Plan`] says what is to run: a configuration, services with their endpoints, and flags.
-//! - A [`Core`] is the machine. [`Core::step`] takes an [`Event`], and answers the [`Action`]s.
+//! - A [`Plan`] says what is to run: a [`Configuration`], [`Service`]s with their endpoints, and flags.
+//! - A [`Core`] is the machine. [`Core::begin`] makes it a [`RunningCore`], whose [`step`](RunningCore::step)
+//!   takes an [`Event`], and answers the [`Action`]s.
 //! - A [`Host`] is the outside of a run, and [`run`] the loop over both.
-//! - [`unix`] has what std lacks for it: signals, descriptors that pass between processes, polling.
+//! - A [`Record`] takes the lines of a run, which `svc run` prints again for the same events.
 //!
 //! ```
 //! use fulltimehen::{Action, Core, End, Event, Plan, Service, Signal};
 //!
 //! let plan = Plan::new().service(Service::plain("web").tcp("127.0.0.1:80"));
-//! let mut core = Core::new(&plan)?;
+//! let mut core = Core::new(&plan)?.begin()?;
+//! assert_eq!(core.last()?.record(), "start 0\nbind 0 0\nphase Running 0\n");
 //!
-//! let told = core.begin()?;
-//! assert_eq!(told.record(), "start 0\nbind 0 0\nphase Running 0\n");
-//!
-//! let told = core.step(&Event::Bound { service: 0, endpoint: 0, fd: 3 }, true)?;
+//! let told = core.step(&Event::Bound { service: 0, endpoint: 0, fd: 3 })?;
 //! assert_eq!(told.end(), End::On);
 //!
-//! let told = core.step(&Event::Signal { kind: Signal::Fast }, true)?;
+//! let told = core.step(&Event::Signal { kind: Signal::Fast })?;
 //! assert!(told.actions().any(|action| action == Action::Close { fd: 3 }));
 //! assert_eq!(told.end(), End::Served);
 //! # Ok::<(), Box<dyn std::error::Error>>(())
 //! ```
 
 #![deny(unsafe_code)]
-#![warn(missing_docs)]
+#![warn(missing_docs, missing_debug_implementations)]
 
 mod action;
+mod book;
+mod configuration;
 mod core;
 mod event;
 mod host;
+mod line;
+mod messages;
+mod numbers;
 mod plan;
+mod record;
 #[allow(unsafe_code)]
 mod sys;
-pub mod unix;
 mod words;
 
 pub use action::{Action, Phase, Setting};
-pub use core::{Asked, Core, CoreError, End, PlanError, Told};
+pub use configuration::{Configuration, ConfigurationError, ConfigurationFault, HistogramScale};
+pub use core::{Asked, ClosedCore, Core, CoreError, End, Refused, RunningCore, Told};
 pub use event::{Event, Peer, Side, Signal};
-pub use host::{Host, Next, Outcome, RunError, run};
-pub use plan::{Endpoint, Plan, Service};
+pub use host::{Host, Next, OnStray, Outcome, RunError, Stray, run};
+pub use numbers::Numbers;
+pub use plan::{Endpoint, KeepAlive, Plan, PlanError, Service, TcpOptions, WordFault};
+pub use record::{Record, RecordError};
 pub use words::LineError;

@@ -39,7 +39,7 @@ impl<'a> Words<'a> {
     }
 
     pub(crate) fn word(&mut self) -> Result<&'a str, LineError> {
-        self.words.next().ok_or(LineError::new(self.line))
+        self.words.next().ok_or_else(|| self.error())
     }
 
     pub(crate) fn number<T: FromStr>(&mut self) -> Result<T, LineError> {
@@ -68,7 +68,7 @@ impl<'a> Words<'a> {
                 _ => None,
             })
             .collect::<Option<Vec<u8>>>()
-            .ok_or(self.error())
+            .ok_or_else(|| self.error())
     }
 
     pub(crate) fn numbers(&mut self) -> Result<Vec<u64>, LineError> {

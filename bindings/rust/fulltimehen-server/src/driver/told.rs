@@ -1,0 +1,415 @@
+//! What the core tells is carried out.
+
+use super::{Driver, Input, Known, Socket, Wanted};
+use crate::accept::{self, Place, Polled};
+use crate::connection::{Common, Connection, Guard};
+use crate::fds;
+use crate::listener::Listener;
+use crate::log::say;
+use crate::pid_file::FileId;
+use crate::service::{Handler, Kind, Task};
+use crate::succession::Held;
+use fulltimehen::{Action, Event, Peer, Phase, Setting};
+use socket2::{Domain, SockRef, TcpKeepalive};
+use std::collections::HashSet;
+use std::fs;
+use std::io;
+use std::path::PathBuf;
+use std::rc::Rc;
+use std::sync::Arc;
+use std::sync::atomic::{AtomicBool, Ordering};
+use std::thread;
+use std::time::Duration;
+use tokio::io::unix::AsyncFd;
+use tokio::sync::oneshot;
+use tokio::task::JoinHandle;
+use tokio::time::timeout;
+
+/// How long a handshake may take.
+const HANDSHAKE: Duration = Duration::from_secs(60);
+
+/// Tells that the work of a background service has ended, however that came.
+struct EndOfWork {
+    service: u32,
+    inputs: super::Inputs,
+}
+
+impl Drop for EndOfWork {
+    fn drop(&mut self) {
+        let panicked = thread::panicking();
+        self.inputs.give(Input::Ended { service: self.service, panicked });
+    }
+}
+
+/// Answers a handshake: that it failed, where nothing else is said.
+struct Answered {
+    connection: u64,
+    inputs: Option<super::Inputs>,
+}
+
+impl Answered {
+    fn give(&mut self, ok: bool) {
+        if let Some(inputs) = self.inputs.take() {
+            inputs.give(Input::Shaken { connection: self.connection, ok });
+        }
+    }
+}
+
+impl Drop for Answered {
+    fn drop(&mut self) {
+        self.give(false);
+    }
+}
+
+/// Applies a setting to an accepted connection.
+fn apply(setting: &Setting, socket: &SockRef<'_>, peer: Peer) -> io::Result<()> {
+    let size = |bytes: u64| usize::try_from(bytes).unwrap_or(usize::MAX);
+    match *setting {
+        // Nothing waits in a socket of the Unix domain.
+        Setting::NoDelay if peer == Peer::Unix => Ok(()),
+        Setting::NoDelay => socket.set_nodelay(true),
+        Setting::KeepAlive { idle, interval, count, user_timeout } => {
+            let count = u32::try_from(count).map_err(|_| io::ErrorKind::InvalidInput)?;
+            let times = TcpKeepalive::new()
+                .with_time(Duration::from_nanos(idle))
+                .with_interval(Duration::from_nanos(interval))
+                .with_retries(count);
+            socket.set_tcp_keepalive(&times)?;
+            socket.set_tcp_user_timeout(Some(Duration::from_nanos(user_timeout)))
+        }
+        Setting::Dscp(byte) => {
+            if socket.domain()? == Domain::IPV6 {
+                fds::set_traffic_class(&**socket, byte)?;
+            }
+            // A peer of IPv4 may come to a socket of IPv6.
+            match peer {
+                Peer::Inet(peer) if peer.ip().to_canonical().is_ipv6() => Ok(()),
+                _ => socket.set_tos(byte.into()),
+            }
+        }
+        Setting::SndBuf(bytes) => socket.set_send_buffer_size(size(bytes)),
+        Setting::RcvBuf(bytes) => socket.set_recv_buffer_size(size(bytes)),
+        _ => Err(io::ErrorKind::Unsupported.into()),
+    }
+}
+
+impl Driver {
+    pub(super) fn carry_out(&mut self, action: Action) {
+        match action {
+            Action::Start { service } => self.start(service),
+            Action::Fail { service } => self.give_up(service),
+            Action::Bind { service, endpoint } => self.bind(Place { service, endpoint }),
+            Action::Adopt { service, endpoint, fd } => self.adopt(Place { service, endpoint }, fd),
+            Action::Close { fd } => self.close(fd),
+            Action::Broadcast => self.broadcast(),
+            Action::Settings { connection, settings } => {
+                let ok = self.set(connection, &settings);
+                self.events.push_back(Event::Set { connection, ok });
+            }
+            Action::Handshake { connection } => self.shake(connection),
+            Action::Serve { connection } => self.serve(connection),
+            Action::Refuse { connection }
+            | Action::Drop { connection }
+            | Action::Cut { connection } => self.drop_connection(connection),
+            Action::Phase { phase, .. } => self.publish(phase),
+            Action::Connect => self.connect(),
+            Action::Send { bytes, fds } => self.send(bytes, &fds),
+            Action::OpenReceiver => self.open_receiver(),
+            Action::TryReceive => self.try_receive(),
+            // A judgement is the core's own, a rest is told to its loop, workers end with their runtime, and
+            // no server forks.
+            _ => {}
+        }
+    }
+
+    fn start(&mut self, service: u32) {
+        self.progress[service as usize].started = true;
+        let Kind::Background { work, says_ready } = &self.setup.services[service as usize].kind
+        else {
+            return;
+        };
+        let (work, inputs) = (Arc::clone(work), self.inputs.clone());
+        let says_ready = *says_ready;
+        let was_said = AtomicBool::new(!says_ready);
+        let ready = move || {
+            if !was_said.swap(true, Ordering::SeqCst) {
+                inputs.give(Input::Ready(service));
+            }
+        };
+        let shutdown = self.finished.shutdown().clone();
+        let task = Task::new(self.name(service), shutdown, Arc::new(ready));
+        let end = EndOfWork { service, inputs: self.inputs.clone() };
+        let work = self.setup.handlers.spawn(async move {
+            let _end = end;
+            work(task).await;
+        });
+        self.progress[service as usize].work = Some(work);
+    }
+
+    fn give_up(&mut self, service: u32) {
+        self.progress[service as usize].failed = true;
+        self.progress[service as usize].held.clear();
+        self.end_loops(|place| place.service == service);
+        say!(error, "{}: it is given up, without its addresses", self.name(service));
+    }
+
+    /// A listening socket of the poller, with a number.
+    pub(super) fn keep(&mut self, word: String, listener: Listener) -> io::Result<u64> {
+        let file = listener.file();
+        let listener = Rc::new(AsyncFd::new(listener)?);
+        Ok(self.keep_polled(word, listener, file))
+    }
+
+    fn keep_polled(
+        &mut self,
+        word: String,
+        listener: Polled,
+        file: Option<(PathBuf, FileId)>,
+    ) -> u64 {
+        let number = self.numbers.take();
+        self.sockets.insert(number, Socket { word, listener, file });
+        number
+    }
+
+    fn bind(&mut self, place: Place) {
+        let Place { service, endpoint } = place;
+        let answer = match self.socket_for(place) {
+            Ok(fd) => {
+                self.hold(place, fd);
+                Event::Bound { service, endpoint, fd }
+            }
+            Err(error) => {
+                let word = &self.setup.addresses[&place].0;
+                let text = format!("{} can't listen at {word}: {error}", self.name(service));
+                let is_in_use = error.kind() == io::ErrorKind::AddrInUse;
+                if self.refusals.get(&place) != Some(&text) {
+                    let again = if is_in_use { "; it is tried again each second" } else { "" };
+                    say!(error, "{text}{again}");
+                    self.refusals.insert(place, text);
+                }
+                match is_in_use {
+                    true => Event::InUse { service, endpoint },
+                    false => Event::BindFailed { service, endpoint },
+                }
+            }
+        };
+        self.events.push_back(answer);
+    }
+
+    /// A socket for the endpoint: one that is there already, or a new one.
+    fn socket_for(&mut self, place: Place) -> io::Result<u64> {
+        let addresses = Rc::clone(&self.setup.addresses);
+        let (word, address) = &addresses[&place];
+        let is_it = |held: &Held| held.listener.get_ref().is_at(address);
+        if let Some(at) = self.setup.pool.iter().position(is_it) {
+            let held = self.setup.pool.swap_remove(at);
+            held.listener.get_ref().prepare(self.setup.keep_alive)?;
+            let file = held.listener.get_ref().file();
+            return Ok(self.keep_polled(word.clone(), held.listener, file));
+        }
+        let listener = Listener::bind(address)?;
+        listener.prepare(self.setup.keep_alive)?;
+        self.keep(word.clone(), listener)
+    }
+
+    fn adopt(&mut self, place: Place, fd: u64) {
+        let Place { service, endpoint } = place;
+        let address = &self.setup.addresses[&place].1;
+        let adopted = match self.sockets.get(&fd) {
+            Some(socket) if !socket.listener.get_ref().is_at(address) => {
+                Err(io::Error::other("the socket listens at another address"))
+            }
+            Some(socket) => socket.listener.get_ref().prepare(self.setup.keep_alive),
+            None => Err(io::ErrorKind::NotFound.into()),
+        };
+        let answer = match adopted {
+            Ok(()) => {
+                self.hold(place, fd);
+                Event::Adopted { service, endpoint }
+            }
+            Err(error) => {
+                let text = format!("{} can't take its socket over: {error}", self.name(service));
+                say!(error, "{text}");
+                self.refusals.insert(place, text);
+                Event::AdoptFailed { service, endpoint }
+            }
+        };
+        self.events.push_back(answer);
+    }
+
+    /// The endpoint has its socket. Where all of its service have one, they accept.
+    fn hold(&mut self, place: Place, fd: u64) {
+        let progress = &mut self.progress[place.service as usize];
+        progress.held.insert(place.endpoint);
+        self.refusals.remove(&place);
+        self.loops.insert(place, (fd, Vec::new()));
+        let all = self.setup.services[place.service as usize].endpoints().len();
+        if progress.held.len() < all {
+            return;
+        }
+        for (place, (fd, loops)) in &mut self.loops {
+            if let (true, Some(socket)) = (loops.is_empty(), self.sockets.get(fd)) {
+                let begin =
+                    |_| accept::begin(*place, Rc::clone(&socket.listener), self.inputs.clone());
+                *loops = (0..self.setup.tasks).map(begin).collect();
+            }
+        }
+    }
+
+    pub(super) fn end_loops(&mut self, of: impl Fn(&Place) -> bool) {
+        self.loops.retain(|place, (_, loops)| {
+            let ends = of(place);
+            if ends {
+                loops.iter().for_each(JoinHandle::abort);
+            }
+            !ends
+        });
+    }
+
+    fn close(&mut self, fd: u64) {
+        let places: HashSet<Place> =
+            self.loops.iter().filter(|(_, (of, _))| *of == fd).map(|(place, _)| *place).collect();
+        self.end_loops(|place| places.contains(place));
+        let Some(socket) = self.sockets.remove(&fd) else {
+            return;
+        };
+        // Where the service ends, the path of its socket does, too.
+        if let Some((path, id)) = socket.file
+            && self.wanted == Wanted::Stop
+            && FileId::at(&path) == Some(id)
+        {
+            _ = fs::remove_file(path);
+        }
+    }
+
+    /// No more connections are accepted but those that wait already, where nobody else would have them.
+    fn broadcast(&mut self) {
+        _ = self.shutdown.send(true);
+        let loops = std::mem::take(&mut self.loops);
+        for (place, (fd, tasks)) in loops {
+            let count = tasks.len();
+            tasks.into_iter().for_each(|task| task.abort());
+            if let (Wanted::Stop, Some(socket)) = (self.wanted, self.sockets.get(&fd)) {
+                let listener = Rc::clone(&socket.listener);
+                while let Ok((stream, peer)) = listener.get_ref().accept() {
+                    self.take(Input::Arrived { place, stream, peer });
+                }
+            }
+            let Place { service, endpoint } = place;
+            for number in 0..count as u64 {
+                self.events.push_back(Event::LoopEnded { service, endpoint, number });
+            }
+        }
+    }
+
+    fn set(&self, connection: u64, settings: &[Setting]) -> bool {
+        let Some(Known::Waiting { stream, peer, .. }) = self.connections.get(&connection) else {
+            return false;
+        };
+        let socket = stream.socket();
+        let set = settings.iter().try_for_each(|setting| apply(setting, &socket, *peer));
+        if let Err(error) = &set {
+            tracing::debug!("the settings of connection {connection}: {error}");
+        }
+        set.is_ok()
+    }
+
+    fn guard(&self, connection: u64, service: u32) -> Arc<Guard> {
+        Arc::new(Guard { number: connection, service, common: self.finished.clone() })
+    }
+
+    /// What the service of a connection does with one.
+    fn handler(&self, connection: u64) -> Option<(u32, &Handler)> {
+        let Some(Known::Waiting { service, .. }) = self.connections.get(&connection) else {
+            return None;
+        };
+        match &self.setup.services[*service as usize].kind {
+            Kind::Listening { handler, .. } => Some((*service, handler)),
+            Kind::Background { .. } => None,
+        }
+    }
+
+    fn shake(&mut self, connection: u64) {
+        let Some((service, Handler::Shaking(shake))) = self.handler(connection) else {
+            return self.events.push_back(Event::Shaken { connection, ok: true });
+        };
+        let shake = Arc::clone(shake);
+        let Some(Known::Waiting { stream, peer, .. }) = self.connections.remove(&connection) else {
+            return;
+        };
+        let guard = self.guard(connection, service);
+        let (go, goes) = oneshot::channel();
+        let mut answer = Answered { connection, inputs: Some(self.inputs.clone()) };
+        let task = self.setup.handlers.spawn(async move {
+            let Ok(made) = Connection::new(stream, peer, Arc::clone(&guard)) else {
+                return;
+            };
+            match timeout(HANDSHAKE, shake(made)).await {
+                Ok(Ok(work)) => {
+                    answer.give(true);
+                    if goes.await.is_ok() {
+                        work.await;
+                    }
+                }
+                Ok(Err(error)) => tracing::debug!("a handshake: {error}"),
+                Err(_) => tracing::debug!("a handshake took too long"),
+            }
+            drop(guard);
+        });
+        let known = Known::Shaking { task, go };
+        self.connections.insert(connection, known);
+    }
+
+    fn serve(&mut self, connection: u64) {
+        let handler = self.handler(connection).map(|(service, handler)| (service, handler.clone()));
+        let known = match (self.connections.remove(&connection), handler) {
+            (
+                Some(Known::Waiting { stream, peer, .. }),
+                Some((service, Handler::Plain(handle))),
+            ) => {
+                let guard = self.guard(connection, service);
+                self.beat.go_on(&self.setup.handlers);
+                let task = self.setup.handlers.spawn(async move {
+                    match Connection::new(stream, peer, Arc::clone(&guard)) {
+                        Ok(connection) => handle(connection).await,
+                        Err(error) => tracing::warn!("a connection isn't served: {error}"),
+                    }
+                    drop(guard);
+                });
+                Known::Live(task)
+            }
+            // Where its task is gone, it says so itself.
+            (Some(Known::Shaking { task, go }), _) => {
+                _ = go.send(());
+                Known::Live(task)
+            }
+            _ => return self.events.push_back(Event::Finished { connection }),
+        };
+        self.connections.insert(connection, known);
+    }
+
+    fn drop_connection(&mut self, connection: u64) {
+        if let Some(Known::Live(task) | Known::Shaking { task, .. }) =
+            self.connections.remove(&connection)
+        {
+            task.abort();
+        }
+    }
+
+    /// What the outside wants to know of a phase.
+    fn publish(&mut self, phase: Phase) {
+        // Nobody may be watching.
+        _ = self.setup.phases.send(phase);
+        tracing::info!("{phase}");
+        match phase {
+            Phase::BootstrapComplete => self.receiver = None,
+            Phase::Running => self.running = true,
+            Phase::GracefulUpgradeCloseTimeout => self.offered(),
+            Phase::ShutdownGracePeriod => self.drains = true,
+            _ => {}
+        }
+        if !matches!(self.wanted, Wanted::Handover) && phase != Phase::Running {
+            self.setup.shared.notify(&format!("STATUS={phase}"));
+        }
+    }
+}

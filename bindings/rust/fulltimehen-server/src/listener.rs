@@ -1,0 +1,220 @@
+//! Listening sockets, and the connections that they accept.
+
+use crate::pid_file::FileId;
+use fulltimehen::Peer;
+use socket2::{Domain, SockAddr, SockRef, Socket, TcpKeepalive, Type};
+use std::fs::{self, Permissions};
+use std::io;
+use std::net::{self, SocketAddr, ToSocketAddrs};
+use std::os::fd::{AsFd, AsRawFd, BorrowedFd, OwnedFd, RawFd};
+use std::os::unix::fs::{FileTypeExt, PermissionsExt};
+use std::os::unix::net as unix;
+use std::path::{Path, PathBuf};
+use std::time::Duration;
+
+/// How many connections wait to be accepted at most, where the system allows as many.
+const BACKLOG: i32 = 4_096;
+
+/// Where a service listens.
+#[derive(Clone, Debug, PartialEq, Eq)]
+pub(crate) enum Address {
+    Tcp(SocketAddr),
+    Unix { path: PathBuf, mode: u32 },
+}
+
+impl Address {
+    /// The address of a text as `127.0.0.1:80` or `localhost:80`, of which the first address counts.
+    ///
+    /// # Errors
+    ///
+    /// What looking the name up says.
+    pub(crate) fn tcp(text: &str) -> io::Result<Address> {
+        let mut found = text.to_socket_addrs()?;
+        let none = || io::Error::new(io::ErrorKind::NotFound, "the name has no address");
+        found.next().ok_or_else(none).map(Address::Tcp)
+    }
+
+    /// As a plan has it.
+    pub(crate) fn word(&self) -> String {
+        match self {
+            Address::Tcp(address) => address.to_string(),
+            Address::Unix { path, .. } => path.display().to_string(),
+        }
+    }
+}
+
+/// How connections are kept alive while nothing is sent.
+#[derive(Clone, Copy, Debug, PartialEq, Eq)]
+pub(crate) struct KeepAlive {
+    pub(crate) idle: Duration,
+    pub(crate) interval: Duration,
+    pub(crate) count: u32,
+}
+
+/// A listening socket. It doesn't block.
+#[derive(Debug)]
+pub(crate) enum Listener {
+    Tcp(net::TcpListener),
+    Unix(unix::UnixListener),
+}
+
+/// An accepted connection. It doesn't block.
+#[derive(Debug)]
+pub(crate) enum Accepted {
+    Tcp(net::TcpStream),
+    Unix(unix::UnixStream),
+}
+
+/// Removes the path of a Unix socket at which nobody listens any more.
+fn remove_stale(path: &Path) -> io::Result<()> {
+    match fs::symlink_metadata(path) {
+        Err(error) if error.kind() == io::ErrorKind::NotFound => return Ok(()),
+        Ok(old) if old.file_type().is_socket() => {}
+        Ok(_) => return Err(io::Error::new(io::ErrorKind::AlreadyExists, "it is no socket")),
+        Err(error) => return Err(error),
+    }
+    match unix::UnixStream::connect(path) {
+        Err(error) if error.kind() == io::ErrorKind::ConnectionRefused => fs::remove_file(path),
+        _ => Err(io::ErrorKind::AddrInUse.into()),
+    }
+}
+
+impl Listener {
+    /// Binds the address and listens.
+    pub(crate) fn bind(address: &Address) -> io::Result<Listener> {
+        let socket = match address {
+            Address::Tcp(address) => {
+                let socket = Socket::new(Domain::for_address(*address), Type::STREAM, None)?;
+                socket.set_reuse_address(true)?;
+                socket.bind(&SockAddr::from(*address))?;
+                socket
+            }
+            Address::Unix { path, mode } => {
+                remove_stale(path)?;
+                let socket = Socket::new(Domain::UNIX, Type::STREAM, None)?;
+                socket.bind(&SockAddr::unix(path)?)?;
+                // Nobody can connect before it listens.
+                fs::set_permissions(path, Permissions::from_mode(*mode))?;
+                socket
+            }
+        };
+        socket.listen(BACKLOG)?;
+        socket.set_nonblocking(true)?;
+        Ok(match address {
+            Address::Tcp(_) => Listener::Tcp(socket.into()),
+            Address::Unix { .. } => Listener::Unix(socket.into()),
+        })
+    }
+
+    /// The listening socket of a descriptor that came from outside.
+    ///
+    /// # Errors
+    ///
+    /// What looking at it says; `InvalidInput` where it isn't a listening socket of streams, of the internet
+    /// or of a Unix path.
+    pub(crate) fn from_outside(fd: OwnedFd) -> io::Result<Listener> {
+        let socket = SockRef::from(&fd);
+        let refused = |text: &str| Err(io::Error::new(io::ErrorKind::InvalidInput, text));
+        if !socket.is_listener()? || socket.r#type()? != Type::STREAM {
+            return refused("it isn't a listening socket");
+        }
+        let listener = match socket.domain()? {
+            Domain::IPV4 | Domain::IPV6 => Listener::Tcp(net::TcpListener::from(fd)),
+            Domain::UNIX => Listener::Unix(unix::UnixListener::from(fd)),
+            _ => return refused("it is a socket of another family"),
+        };
+        listener.unblock()?;
+        Ok(listener)
+    }
+
+    /// Whether it listens at this address. A port 0 is any port.
+    pub(crate) fn is_at(&self, address: &Address) -> bool {
+        match (self, address) {
+            (Listener::Tcp(listener), Address::Tcp(address)) => {
+                listener.local_addr().is_ok_and(|local| {
+                    local.ip() == address.ip()
+                        && (address.port() == 0 || local.port() == address.port())
+                })
+            }
+            (Listener::Unix(listener), Address::Unix { path, .. }) => {
+                listener.local_addr().is_ok_and(|local| local.as_pathname() == Some(path))
+            }
+            _ => false,
+        }
+    }
+
+    /// Sees to it that accepting doesn't block: another program that has the socket may have changed that.
+    pub(crate) fn unblock(&self) -> io::Result<()> {
+        match self {
+            Listener::Tcp(listener) => listener.set_nonblocking(true),
+            Listener::Unix(listener) => listener.set_nonblocking(true),
+        }
+    }
+
+    /// Listens once more, with the backlog of this program, and has connections kept alive.
+    pub(crate) fn prepare(&self, keep_alive: Option<KeepAlive>) -> io::Result<()> {
+        self.unblock()?;
+        let socket = SockRef::from(self);
+        socket.listen(BACKLOG)?;
+        if let (Listener::Tcp(_), Some(times)) = (self, keep_alive) {
+            // An accepted connection has what its listener has.
+            let keep_alive = TcpKeepalive::new()
+                .with_time(times.idle)
+                .with_interval(times.interval)
+                .with_retries(times.count);
+            socket.set_tcp_keepalive(&keep_alive)?;
+        }
+        Ok(())
+    }
+
+    /// The file of a Unix socket's path.
+    pub(crate) fn file(&self) -> Option<(PathBuf, FileId)> {
+        let Listener::Unix(listener) = self else {
+            return None;
+        };
+        let path = listener.local_addr().ok()?.as_pathname()?.to_owned();
+        let id = FileId::at(&path)?;
+        Some((path, id))
+    }
+
+    /// Accepts a connection, without waiting.
+    pub(crate) fn accept(&self) -> io::Result<(Accepted, Peer)> {
+        Ok(match self {
+            Listener::Tcp(listener) => {
+                let (stream, peer) = listener.accept()?;
+                stream.set_nonblocking(true)?;
+                (Accepted::Tcp(stream), Peer::from(peer))
+            }
+            Listener::Unix(listener) => {
+                let (stream, _) = listener.accept()?;
+                stream.set_nonblocking(true)?;
+                (Accepted::Unix(stream), Peer::Unix)
+            }
+        })
+    }
+}
+
+impl AsFd for Listener {
+    fn as_fd(&self) -> BorrowedFd<'_> {
+        match self {
+            Listener::Tcp(listener) => listener.as_fd(),
+            Listener::Unix(listener) => listener.as_fd(),
+        }
+    }
+}
+
+impl AsRawFd for Listener {
+    fn as_raw_fd(&self) -> RawFd {
+        self.as_fd().as_raw_fd()
+    }
+}
+
+impl Accepted {
+    /// The connection, for its options.
+    pub(crate) fn socket(&self) -> SockRef<'_> {
+        match self {
+            Accepted::Tcp(stream) => SockRef::from(stream),
+            Accepted::Unix(stream) => SockRef::from(stream),
+        }
+    }
+}

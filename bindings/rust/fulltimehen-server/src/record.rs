@@ -1,0 +1,31 @@
+//! The record of a run, in a file.
+
+use crate::log::say;
+use crate::pid_file::with_ending;
+use fulltimehen::{Plan, Record};
+use std::fs::{self, File};
+use std::path::Path;
+use std::process;
+
+/// Begins the record, with the plan beside it, in `PATH.svc`, as a script without events. No record is
+/// written over: where one stands at the path, this one gets the process's number behind its name, and
+/// where that one stands, too, `.again`.
+pub(crate) fn begin(path: &Path, plan: &Plan) -> Option<Record> {
+    let numbered = with_ending(path, &format!(".{}", process::id()));
+    let again = with_ending(&numbered, ".again");
+    let open = |path: &&Path| File::create_new(path).map(|file| (path.to_path_buf(), file));
+    let paths = [path, &numbered, &again];
+    let opened = open(&paths[0]).or_else(|_| open(&paths[1])).or_else(|_| open(&paths[2]));
+    let (path, file) = match opened {
+        Ok(opened) => opened,
+        Err(error) => {
+            say!(warn, "there is no record: {}: {error}", path.display());
+            return None;
+        }
+    };
+    if let Err(error) = fs::write(with_ending(&path, ".svc"), plan.script()) {
+        say!(warn, "the plan of the record wasn't written: {error}");
+    }
+    let record = Record::to(file);
+    record.inspect_err(|error| say!(warn, "there is no record: {error}")).ok()
+}

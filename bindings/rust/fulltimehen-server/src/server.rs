@@ -1,0 +1,561 @@
+//! The server: what it runs, and its run.
+
+use crate::accept::Place;
+use crate::driver::{Drive, Driver, Inputs, Setup, Signals};
+use crate::error::{Outcome, ServerError};
+use crate::fds::{self, Inherited};
+use crate::limits;
+use crate::listener::{Address, KeepAlive, Listener};
+use crate::log::{self, say};
+use crate::notify::Manager;
+use crate::opt::Opt;
+use crate::pid_file::{self, Holder};
+use crate::record;
+use crate::service::Service;
+use crate::succession::{Held, Paths, Shared, Succession};
+use crate::takeover::{self, Addresses, Predecessor};
+use fulltimehen::{self as machine, Configuration, OnStray, Phase, Plan, Signal, TcpOptions};
+use std::cell::RefCell;
+use std::collections::BTreeSet;
+use std::env;
+use std::fmt;
+use std::fs;
+use std::io;
+use std::net::IpAddr;
+use std::os::fd::{OwnedFd, RawFd};
+use std::path::Path;
+use std::process;
+use std::rc::Rc;
+use std::thread;
+use std::time::Duration;
+use tokio::io::unix::AsyncFd;
+use tokio::runtime::{Builder, Handle, Runtime};
+use tokio::signal::unix::{SignalKind, signal};
+use tokio::sync::{broadcast, mpsc};
+use tokio::task::LocalSet;
+
+/// How many phases a watcher may be behind.
+const PHASES: usize = 64;
+/// An address that no peer has: with it blocked, the core asks of each peer.
+const NOBODY: IpAddr = IpAddr::V4(std::net::Ipv4Addr::UNSPECIFIED);
+
+/// What services start after, as their handles say it.
+type Dependencies = Rc<RefCell<Vec<BTreeSet<u32>>>>;
+
+/// A service of a server.
+#[derive(Clone)]
+pub struct ServiceHandle {
+    number: u32,
+    name: String,
+    dependencies: Dependencies,
+}
+
+impl fmt::Debug for ServiceHandle {
+    fn fmt(&self, f: &mut fmt::Formatter<'_>) -> fmt::Result {
+        f.debug_struct("ServiceHandle")
+            .field("number", &self.number)
+            .field("name", &self.name)
+            .finish_non_exhaustive()
+    }
+}
+
+/// Why a service can't start after another one.
+#[derive(Clone, Debug, PartialEq, Eq, thiserror::Error)]
+#[non_exhaustive]
+pub enum DependencyError {
+    /// The other one starts after this one already, or is this one.
+    #[error("{dependency} starts after {dependent} already")]
+    Circular {
+        /// The service that was to start later.
+        dependent: String,
+        /// The service that it was to wait for.
+        dependency: String,
+    },
+    /// The services are of two servers.
+    #[error("{dependency} is a service of another server")]
+    Unknown {
+        /// The service that it was to wait for.
+        dependency: String,
+    },
+}
+
+impl ServiceHandle {
+    /// Its name.
+    #[must_use]
+    pub fn name(&self) -> &str {
+        &self.name
+    }
+
+    /// It starts once the other one is ready.
+    ///
+    /// ```
+    /// use fulltimehen_server::{Opt, Server, background, listening};
+    ///
+    /// let mut server = Server::new(Opt::default())?;
+    /// let cache = server.add_service(background("cache", |task| async move { task.ready() }));
+    /// let web = server.add_service(listening("web", |_| async {}).tcp("127.0.0.1:8080"));
+    /// web.add_dependency(&cache)?;
+    /// assert!(cache.add_dependency(&web).is_err());
+    /// # Ok::<(), Box<dyn std::error::Error>>(())
+    /// ```
+    ///
+    /// # Errors
+    ///
+    /// [`DependencyError::Circular`] where the other one starts after this one already, by way of others too,
+    /// and [`DependencyError::Unknown`] where it is of another server. Nothing changes then.
+    pub fn add_dependency(&self, dependency: &ServiceHandle) -> Result<(), DependencyError> {
+        if !Rc::ptr_eq(&self.dependencies, &dependency.dependencies) {
+            return Err(DependencyError::Unknown { dependency: dependency.name.clone() });
+        }
+        let mut dependencies = self.dependencies.borrow_mut();
+        let (mut seen, mut open) = (BTreeSet::new(), vec![dependency.number]);
+        while let Some(service) = open.pop() {
+            if service == self.number {
+                return Err(DependencyError::Circular {
+                    dependent: self.name.clone(),
+                    dependency: dependency.name.clone(),
+                });
+            }
+            if seen.insert(service) {
+                open.extend(&dependencies[service as usize]);
+            }
+        }
+        dependencies[self.number as usize].insert(dependency.number);
+        Ok(())
+    }
+
+    /// It starts once all of these are ready.
+    ///
+    /// # Errors
+    ///
+    /// As for [`ServiceHandle::add_dependency`], of the first one that is refused. Those before it stay.
+    pub fn add_dependencies<'a>(
+        &self,
+        dependencies: impl IntoIterator<Item = &'a ServiceHandle>,
+    ) -> Result<(), DependencyError> {
+        dependencies.into_iter().try_for_each(|dependency| self.add_dependency(dependency))
+    }
+}
+
+/// How a server is run.
+#[derive(Debug, Default)]
+#[non_exhaustive]
+pub struct RunArgs {
+    /// Where the operator's signals come from, in place of the process's: then none of those is taken.
+    pub signals: Option<mpsc::Receiver<Signal>>,
+    /// What is done where the core refuses an event. By itself it is logged, and the run goes on.
+    pub on_stray: Option<OnStray>,
+}
+
+impl RunArgs {
+    /// The operator's signals come over a channel, as in a test.
+    #[must_use]
+    pub fn signals(mut self, signals: mpsc::Receiver<Signal>) -> RunArgs {
+        self.signals = Some(signals);
+        self
+    }
+
+    /// What is done where the core refuses an event, which no event of this crate's should be.
+    ///
+    /// ```
+    /// use fulltimehen_server::{OnStray, RunArgs};
+    ///
+    /// // A test ends by it.
+    /// let args = RunArgs::default().on_stray(OnStray::End);
+    /// # drop(args);
+    /// ```
+    #[must_use]
+    pub fn on_stray(mut self, on_stray: OnStray) -> RunArgs {
+        self.on_stray = Some(on_stray);
+        self
+    }
+}
+
+/// A server: services, and the lifecycle over them.
+///
+/// SIGTERM ends it gracefully: no connection is accepted any more, and those that are live have
+/// `grace_period_seconds` (300 where the configuration doesn't say it), or as long as some are. SIGINT ends it at
+/// once. SIGQUIT has the next program take over ([`Succession`]).
+pub struct Server {
+    /// The settings.
+    pub configuration: Configuration,
+    opt: Opt,
+    name: String,
+    services: Vec<Service>,
+    dependencies: Dependencies,
+    phases: broadcast::Sender<Phase>,
+    succession: Option<Succession>,
+    keep_alive: Option<KeepAlive>,
+    /// What a service manager passed, and the numbers of what it said to pass and didn't.
+    inherited: (Vec<Inherited>, Vec<RawFd>),
+}
+
+impl fmt::Debug for Server {
+    fn fmt(&self, f: &mut fmt::Formatter<'_>) -> fmt::Result {
+        f.debug_struct("Server")
+            .field("name", &self.name)
+            .field("services", &self.services)
+            .finish_non_exhaustive()
+    }
+}
+
+/// The name of the program's file.
+fn program_name() -> String {
+    let own = env::args_os().next();
+    let name = own.as_deref().map(Path::new).and_then(Path::file_stem);
+    name.map_or("server".to_owned(), |name| name.to_string_lossy().into_owned())
+}
+
+/// The configuration of a text. Where it doesn't say how many threads there are, they are as many as processors.
+fn configuration(text: &str) -> Result<Configuration, ServerError> {
+    for key in Configuration::misspelled(text) {
+        say!(warn, "the configuration: {key}");
+    }
+    let configuration: Configuration = text.parse().map_err(ServerError::Configuration)?;
+    let says_threads = text.lines().any(|line| line.starts_with("threads:"));
+    let processors = thread::available_parallelism().map_or(1, usize::from) as u64;
+    Ok(if says_threads { configuration } else { configuration.threads(processors) })
+}
+
+impl Server {
+    /// A server without services, with the settings of the file that `-c` names.
+    ///
+    /// # Errors
+    ///
+    /// [`ServerError::ConfigurationFile`] and [`ServerError::Configuration`] where there is a file and it
+    /// can't be read or is refused; [`ServerError::Unsupported`] for what this server doesn't do (`-d`).
+    pub fn new(opt: impl Into<Option<Opt>>) -> Result<Server, ServerError> {
+        let opt: Opt = opt.into().unwrap_or_default();
+        let text = match &opt.conf {
+            Some(path) => fs::read_to_string(path)
+                .map_err(|source| ServerError::ConfigurationFile { path: path.clone(), source })?,
+            None => String::new(),
+        };
+        Server::new_with_opt_and_conf(opt, configuration(&text)?)
+    }
+
+    /// A server without services, with these settings. A file that `-c` names isn't read.
+    ///
+    /// The first server of a process takes the listening sockets that a service manager passed (`LISTEN_FDS`), and
+    /// takes that out of the environment where the process has one thread still: so a program makes its server
+    /// before it begins threads, and before anything else that knows of such sockets.
+    ///
+    /// # Errors
+    ///
+    /// [`ServerError::Unsupported`] for what this server doesn't do (`-d`).
+    pub fn new_with_opt_and_conf(
+        opt: impl Into<Option<Opt>>,
+        configuration: Configuration,
+    ) -> Result<Server, ServerError> {
+        let opt = opt.into().unwrap_or_default();
+        let hint = "a service manager runs a server in the background (systemd: Type=notify)";
+        let by_manager = "a service manager sets it (systemd: User=, Group=, WorkingDirectory=)";
+        for (is_set, key, hint) in [
+            (opt.daemon, "--daemon", hint),
+            (configuration.daemon, "daemon", hint),
+            (configuration.user.is_some(), "user", by_manager),
+            (configuration.group.is_some(), "group", by_manager),
+            (configuration.working_directory.is_some(), "working_directory", by_manager),
+        ] {
+            if is_set {
+                return Err(ServerError::Unsupported { key, hint });
+            }
+        }
+        Ok(Server {
+            configuration,
+            opt,
+            name: program_name(),
+            services: Vec::new(),
+            dependencies: Dependencies::default(),
+            phases: broadcast::channel(PHASES).0,
+            succession: None,
+            keep_alive: Some(KeepAlive {
+                idle: Duration::from_secs(60),
+                interval: Duration::from_secs(10),
+                count: 6,
+            }),
+            inherited: fds::inherited(),
+        })
+    }
+
+    /// Adds a service. Services are numbered in the order in which they come.
+    pub fn add_service(&mut self, service: impl Into<Service>) -> ServiceHandle {
+        let service = service.into();
+        let number = u32::try_from(self.services.len()).unwrap_or(u32::MAX);
+        let name = service.name.clone();
+        self.services.push(service);
+        self.dependencies.borrow_mut().push(BTreeSet::new());
+        ServiceHandle { number, name, dependencies: Rc::clone(&self.dependencies) }
+    }
+
+    /// Turns upgrades on: at SIGQUIT another program takes over, without a lost connection, and this one
+    /// serves until that one does.
+    ///
+    /// The programs meet at `pid_file` and `upgrade_sock` of the configuration. Where it doesn't say them, they
+    /// stand in the folder that `RUNTIME_DIRECTORY` names (systemd sets it), or in one with the program's name
+    /// below `XDG_RUNTIME_DIR`, or below `/run` for root.
+    pub fn succession(&mut self, succession: Succession) {
+        self.succession = Some(succession);
+    }
+
+    /// When the connections of all services are looked at whether they live: after so long without a byte, and
+    /// then so often in this interval. By itself it is after 60 seconds, and then 6 times, every 10 seconds.
+    pub fn tcp_keepalive(&mut self, idle: Duration, interval: Duration, count: u32) {
+        self.keep_alive = Some(KeepAlive { idle, interval, count });
+    }
+
+    /// The phases of the run, as they come. One who is more than 64 behind misses some.
+    ///
+    /// ```
+    /// use fulltimehen_server::{Phase, RunArgs, Server, Signal};
+    ///
+    /// let server = Server::new(None)?;
+    /// let mut phases = server.watch_execution_phase();
+    /// let (operator, signals) = tokio::sync::mpsc::channel(1);
+    /// operator.blocking_send(Signal::Fast)?;
+    /// server.run(RunArgs::default().signals(signals))?;
+    /// assert_eq!(phases.try_recv(), Ok(Phase::Bootstrap));
+    /// # Ok::<(), Box<dyn std::error::Error>>(())
+    /// ```
+    #[must_use]
+    pub fn watch_execution_phase(&self) -> broadcast::Receiver<Phase> {
+        self.phases.subscribe()
+    }
+
+    /// Runs the server to its end, and ends the program: with status 0, or [`ServerError::status`] and the
+    /// error on standard error.
+    pub fn run_forever(self) -> ! {
+        match self.run(RunArgs::default()) {
+            Ok(_) => {
+                log::flush();
+                process::exit(0)
+            }
+            Err(error) => error.exit(),
+        }
+    }
+
+    /// Runs the server to its end.
+    ///
+    /// ```
+    /// use fulltimehen_server::{Opt, Outcome, RunArgs, Server, Signal, listening};
+    ///
+    /// let mut server = Server::new(Opt::default())?;
+    /// server.add_service(listening("web", |_| async {}).tcp("127.0.0.1:0"));
+    /// let (operator, signals) = tokio::sync::mpsc::channel(1);
+    /// operator.blocking_send(Signal::Terminate)?;
+    /// assert_eq!(server.run(RunArgs::default().signals(signals))?, Outcome::Served);
+    /// # Ok::<(), Box<dyn std::error::Error>>(())
+    /// ```
+    ///
+    /// # Errors
+    ///
+    /// Why it didn't start, or ended: [`ServerError`] says what each means. All of its sockets are closed.
+    pub fn run(self, args: RunArgs) -> Result<Outcome, ServerError> {
+        if Handle::try_current().is_ok() {
+            return Err(ServerError::WithinRuntime);
+        }
+        let addresses = Rc::new(self.addresses()?);
+        let paths = match self.succession.is_some() || self.opt.upgrade {
+            true => Some(Paths::find(&self.configuration, &self.name)?),
+            false => None,
+        };
+        let plan = self.plan(&addresses, paths.as_ref());
+        if let Err(error) = limits::raise_descriptors() {
+            say!(warn, "the limit of descriptors stays as it is: {error}");
+        }
+        let handlers = self.handlers()?;
+        let own = Builder::new_current_thread().enable_all().build();
+        let own = own.map_err(ServerError::system("the poller"))?;
+        let run = self.run_on(args, plan, addresses, paths, handlers.handle().clone());
+        let outcome = LocalSet::new().block_on(&own, run);
+        // Handlers that don't yield are left.
+        handlers.shutdown_timeout(Duration::from_millis(100));
+        outcome
+    }
+
+    /// The runtime that the handlers run on.
+    fn handlers(&self) -> Result<Runtime, ServerError> {
+        let mut builder = Builder::new_multi_thread();
+        let threads = usize::try_from(self.configuration.threads).unwrap_or(usize::MAX);
+        builder.worker_threads(threads.clamp(1, 1024)).thread_name("handler").enable_all();
+        if let Some(most) = self.configuration.max_blocking_threads {
+            builder.max_blocking_threads(usize::try_from(most).unwrap_or(usize::MAX).max(1));
+        }
+        if let Some(seconds) = self.configuration.blocking_threads_ttl_seconds {
+            builder.thread_keep_alive(Duration::from_secs(seconds));
+        }
+        builder.build().map_err(ServerError::system("the threads"))
+    }
+
+    /// The address of each endpoint, looked up.
+    fn addresses(&self) -> Result<Addresses, ServerError> {
+        let mut addresses = Addresses::new();
+        for (service, number) in self.services.iter().zip(0..) {
+            for (endpoint, place) in service.endpoints().iter().zip(0..) {
+                let address = endpoint.address().map_err(|source| ServerError::Address {
+                    service: service.name.clone(),
+                    address: endpoint.word.clone(),
+                    source,
+                })?;
+                let place = Place { service: number, endpoint: place };
+                addresses.insert(place, (address.word(), address));
+            }
+        }
+        Ok(addresses)
+    }
+
+    fn plan(&self, addresses: &Addresses, paths: Option<&Paths>) -> Plan {
+        let mut configuration = self.configuration.clone();
+        if let Some(paths) = paths {
+            configuration.pid_file = paths.pid_file.display().to_string();
+            configuration.upgrade_sock = paths.upgrade_sock.display().to_string();
+        }
+        let plan = Plan::new().configuration(configuration).eager(true).test(self.opt.test);
+        let dependencies = self.dependencies.borrow();
+        let services = self.services.iter().zip(0..).zip(dependencies.iter());
+        services.fold(plan, |plan, ((service, number), after)| {
+            plan.service(planned(service, number, addresses, after))
+        })
+    }
+
+    async fn run_on(
+        self,
+        args: RunArgs,
+        plan: Plan,
+        addresses: Rc<Addresses>,
+        paths: Option<Paths>,
+        handlers: Handle,
+    ) -> Result<Outcome, ServerError> {
+        let manager = Manager::find().unwrap_or_else(|error| {
+            say!(warn, "the service manager isn't told anything: {error}");
+            Manager::none()
+        });
+        let (inputs, mut from) = Inputs::channel();
+        let is_upgrade = self.opt.upgrade;
+        let shared =
+            Shared::new(self.succession, is_upgrade, paths.clone(), manager, inputs.clone());
+        let shared = Rc::new(shared);
+        let mut signals = match args.signals {
+            Some(signals) => Signals::Channel(signals),
+            None => Signals::Process(process_signals()?),
+        };
+        if let (Some(paths), false) = (&paths, is_upgrade)
+            && let Ok(Holder::Serves(pid)) = pid_file::holder(&paths.pid_file)
+        {
+            return Err(ServerError::AlreadyRunning { pid });
+        }
+        let (mut pool, mut link) = (inherited(self.inherited)?, None);
+        let mut waits = is_upgrade;
+        let mut takes_over = is_upgrade;
+        if let (true, Some(paths)) = (is_upgrade && shared.succession.is_some(), &paths) {
+            match takeover::meet(&shared, paths, &addresses).await {
+                Predecessor::Known { link: found, copies } => {
+                    link = Some(Rc::new(found));
+                    for (word, listener) in copies {
+                        pool.push(polled(word, listener)?);
+                    }
+                }
+                Predecessor::Gone => (waits, takes_over) = (false, false),
+                Predecessor::Unknown => {}
+            }
+        }
+        let services: Rc<[Service]> = self.services.into();
+        let mut upgrade = waits;
+        loop {
+            let plan = plan.clone().upgrade(upgrade);
+            let record = self.opt.record.as_deref().and_then(|path| record::begin(path, &plan));
+            let setup = Setup {
+                services: Rc::clone(&services),
+                addresses: Rc::clone(&addresses),
+                plan,
+                tasks: self.configuration.listener_tasks_per_fd,
+                handlers: handlers.clone(),
+                keep_alive: self.keep_alive,
+                phases: self.phases.clone(),
+                on_stray: args.on_stray.unwrap_or(OnStray::Drop),
+                shared: Rc::clone(&shared),
+                link: link.take(),
+                pool,
+                takes_over,
+            };
+            let driver = Driver::new(setup, record)?;
+            let drive = driver.run(&mut from, &mut signals).await;
+            if let Ok(Drive::Anew(sockets)) = drive {
+                // What was still to be told is of the run before.
+                while from.try_recv().is_ok() {}
+                (pool, upgrade, takes_over) = (sockets, false, true);
+                continue;
+            }
+            shared.leave();
+            shared.tell_rest().await;
+            return match drive? {
+                Drive::Done(outcome) => Ok(outcome),
+                Drive::Anew(_) => Ok(Outcome::Served),
+            };
+        }
+    }
+}
+
+/// A service as the plan has it.
+fn planned(
+    service: &Service,
+    number: u32,
+    addresses: &Addresses,
+    after: &BTreeSet<u32>,
+) -> machine::Service {
+    let says_ready =
+        matches!(service.kind, crate::service::Kind::Background { says_ready: true, .. });
+    let name = service.name.as_str();
+    let mut planned = match says_ready {
+        true => machine::Service::notify(name),
+        false => machine::Service::plain(name),
+    };
+    for (endpoint, place) in service.endpoints().iter().zip(0..) {
+        let (word, address) = &addresses[&Place { service: number, endpoint: place }];
+        let options = TcpOptions::new()
+            .dscp(endpoint.dscp)
+            .sndbuf(endpoint.send_buffer)
+            .rcvbuf(endpoint.receive_buffer);
+        planned = match address {
+            Address::Tcp(_) => planned.tcp_with(word.as_str(), options),
+            Address::Unix { .. } => planned.unix(word.as_str()),
+        };
+    }
+    if service.is_filtered() {
+        planned = planned.block(NOBODY);
+    }
+    after.iter().fold(planned, |planned, dependency| planned.after(*dependency))
+}
+
+fn process_signals() -> Result<[tokio::signal::unix::Signal; 3], ServerError> {
+    let watch = || {
+        Ok([
+            signal(SignalKind::interrupt())?,
+            signal(SignalKind::terminate())?,
+            signal(SignalKind::quit())?,
+        ])
+    };
+    watch().map_err(ServerError::system("the signals"))
+}
+
+fn polled(word: String, listener: Listener) -> Result<Held, ServerError> {
+    let listener = AsyncFd::new(listener).map_err(ServerError::system("a listening socket"))?;
+    Ok(Held { word, listener: Rc::new(listener) })
+}
+
+/// The listening sockets of a service manager.
+fn inherited((taken, left): (Vec<Inherited>, Vec<RawFd>)) -> Result<Vec<Held>, ServerError> {
+    for fd in left {
+        say!(warn, "LISTEN_FDS: descriptor {fd} isn't a listening socket of a service manager");
+    }
+    let listener = |fd: OwnedFd| -> io::Result<Listener> { Listener::from_outside(fd) };
+    let mut held = Vec::new();
+    for Inherited { name, fd } in taken {
+        let name = name.unwrap_or_default();
+        match listener(fd) {
+            Ok(listener) => held.push(polled(name, listener)?),
+            Err(error) => say!(warn, "LISTEN_FDS: {name}: {error}"),
+        }
+    }
+    Ok(held)
+}
