@@ -1,5 +1,6 @@
 -- What contracts see of a session.
-use Rattle.std.specs.Prelude.{◌≡◌, List}
+use Rattle.std.specs.Prelude.{◌≡◌, List, []}
+use Rattle.svc_record.specs.declared.action.Action.{Action}
 use Rattle.svc_record.specs.declared.action.StepEnd.{StepEnd}
 use Rattle.svc_record.specs.declared.entry.Entry.{Entry}
 use Rattle.svc_text.specs.declared.service.ServiceLine.{ServiceLine}
@@ -16,6 +17,7 @@ pub record SessionData : Type 0 where
   pub end : StepEnd
   pub entries : List Entry
 
--- where the first step wasn't taken, nothing was got or told
-pub record IsKept (core : CoreData) (stage : Stage) : Type 0 where
+-- where the first step wasn't taken, nothing was got or told; between calls the list for actions is empty
+pub record IsKept (core : CoreData) (stage : Stage) (told : List Action) : Type 0 where
   pub first : stage ≡ Fresh → HasNotBegun core
+  pub empty : told ≡ []

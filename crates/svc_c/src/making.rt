@@ -10,6 +10,7 @@ ghost use Rattle.svc_c.specs.Making.{flags_of, IsFirst, IsConfigured, IsMade};
 use crate::plans::{first_refused, service_plans, settled};
 use crate::session::Session;
 use std::alloc::Global;
+use std::mem::drop;
 use svc_base::NoMemory;
 use svc_conf::{Key, Opt};
 use svc_core::Core;
@@ -59,10 +60,18 @@ fn session_of(
     requires { IsValid plan }
     ensures { IfOk result (λ s. IsFirst plan services.items s.value) }
 {
-    let core = Core::new(alloc, plan)?;
-    match Box::new(alloc, Session::new(alloc, core, services)) {
-        Ok(session) => Ok(session),
-        Err(_) => Err(NoMemory),
+    match Core::new(alloc, plan) {
+        Ok(core) => match Box::new(alloc, Session::new(alloc, core, services)) {
+            Ok(session) => Ok(session),
+            Err(refused) => {
+                drop(refused);
+                Err(NoMemory)
+            }
+        },
+        Err(NoMemory) => {
+            drop(services);
+            Err(NoMemory)
+        }
     }
 }
 
@@ -72,14 +81,33 @@ fn session_with(alloc: Global, opt: &Opt, script: Script) -> Result<Box<Session>
     requires edges { RefusesNone script.services.items }
     ensures { IsConfigured opt.now (parts_of script) result }
 {
-    let mut conf = script.conf;
+    let Script {
+        mut conf,
+        services,
+        eager,
+        items,
+        lines,
+    } = script;
+    drop(items);
+    drop(lines);
     conf.merge_with_opt(opt);
     if let Err(key) = conf.validate() {
+        drop(conf);
+        drop(services);
         return Err(MakeError::Config(key));
     }
-    let services = service_plans(alloc, script.services.as_slice())?;
-    let plan = settled(&conf, opt, script.eager, services);
-    Ok(session_of(alloc, plan, script.services)?)
+    match service_plans(alloc, services.as_slice()) {
+        Ok(plans) => {
+            let plan = settled(&conf, opt, eager, plans);
+            drop(conf);
+            Ok(session_of(alloc, plan, services)?)
+        }
+        Err(NoMemory) => {
+            drop(conf);
+            drop(services);
+            Err(MakeError::NoMemory)
+        }
+    }
 }
 
 /// The session of a script with these flags.
@@ -91,8 +119,16 @@ pub(crate) fn make(alloc: Global, opt: Opt, bytes: &[u8]) -> Result<Box<Session>
         Err(ScriptError::Line(n)) => return Err(MakeError::Line(n as u64)),
         Err(ScriptError::NoMemory) => return Err(MakeError::NoMemory),
     };
-    if let Some(k) = first_refused(alloc, script.services.as_slice())? {
-        return Err(MakeError::Line(script.lines[k] as u64));
+    match first_refused(alloc, script.services.as_slice()) {
+        Ok(None) => session_with(alloc, &opt, script),
+        Ok(Some(k)) => {
+            let line = script.lines[k] as u64;
+            drop(script);
+            Err(MakeError::Line(line))
+        }
+        Err(NoMemory) => {
+            drop(script);
+            Err(MakeError::NoMemory)
+        }
     }
-    session_with(alloc, &opt, script)
 }

@@ -7,7 +7,8 @@ ghost use Rattle.svc_text.specs.Edges.{HasEdges};
 ghost use Rattle.svc_text.specs.ScriptPlans.{endpoint_of, addresses_of, depends_of, declared_of, service_plan, plans_from, settled};
 
 use std::alloc::Global;
-use svc_base::{Items, NoMemory, Numbers, Text, Texts, copy_items};
+use std::mem::drop;
+use svc_base::{ItemRefused, Items, NoMemory, Numbers, Text, Texts, copy_items};
 use svc_conf::{Opt, ServerConf};
 use svc_graph::{DependencyGraph, EndpointList, EndpointPlan};
 use svc_record::{Plan, ServiceList, ServicePlan};
@@ -20,7 +21,11 @@ fn push_item<T: Drop>(alloc: Global, list: &mut Items<T>, item: T) -> Result<(),
 {
     match list.push(alloc, item) {
         Ok(()) => Ok(()),
-        Err(refused) => Err(refused.reason),
+        Err(refused) => {
+            let ItemRefused { reason, item } = refused;
+            drop(item);
+            Err(reason)
+        }
     }
 }
 
@@ -32,12 +37,32 @@ fn endpoint_of(
 ) -> Result<EndpointPlan, NoMemory>
     ensures { IfOk result (λ endpoint. endpoint ≡ endpoint_of filter line.now) }
 {
-    Ok(EndpointPlan {
-        address: line.address.copy(alloc)?,
-        unix: line.unix,
-        options: copy_items(alloc, line.options.as_slice())?,
-        filter,
-    })
+    let address = line.address.copy(alloc)?;
+    match copy_items(alloc, line.options.as_slice()) {
+        Ok(options) => Ok(EndpointPlan {
+            address,
+            unix: line.unix,
+            options,
+            filter,
+        }),
+        Err(NoMemory) => {
+            drop(address);
+            Err(NoMemory)
+        }
+    }
+}
+
+/// Appends the endpoint that a line names, with this filter.
+fn add_endpoint(
+    alloc: Global,
+    endpoints: &mut EndpointList,
+    filter: Option<u32>,
+    line: &EndpointLine,
+) -> Result<(), NoMemory>
+    ensures { OnOk result (endpoints.new ≡ endpoints.old ++ endpoint_of filter line.now ∷ []) }
+{
+    let endpoint = endpoint_of(alloc, filter, line)?;
+    push_item(alloc, endpoints, endpoint)
 }
 
 /// The endpoints that the lines name, in order, with this filter.
@@ -50,20 +75,29 @@ fn endpoints_of(
 {
     let mut endpoints = EndpointList::new(alloc);
     for line in lines {
-        push_item(alloc, &mut endpoints, endpoint_of(alloc, filter, line)?)?;
+        match add_endpoint(alloc, &mut endpoints, filter, line) {
+            Ok(()) => {}
+            Err(NoMemory) => {
+                drop(endpoints);
+                return Err(NoMemory);
+            }
+        }
     }
     Ok(endpoints)
 }
 
-/// Their addresses, in order.
-fn addresses_of(alloc: Global, lines: &[EndpointLine]) -> Result<Texts, NoMemory>
-    ensures { IfOk result (λ addresses. addresses ≡ map (λ (e : EndpointLine). e.address) lines.now) }
+/// Adds the addresses of endpoints, in order.
+fn add_addresses(
+    alloc: Global,
+    addresses: &mut Texts,
+    lines: &[EndpointLine],
+) -> Result<(), NoMemory>
+    ensures { OnOk result (addresses.new ≡ addresses.old ++ map (λ (e : EndpointLine). e.address) lines.now) }
 {
-    let mut addresses = Texts::new(alloc);
     for line in lines {
-        push_item(alloc, &mut addresses, line.address.copy(alloc)?)?;
+        push_item(alloc, addresses, line.address.copy(alloc)?)?;
     }
-    Ok(addresses)
+    Ok(())
 }
 
 /// Adds the addresses that a line declares beside those of its endpoints.
@@ -76,6 +110,15 @@ fn add_claims(alloc: Global, addresses: &mut Texts, claims: &[Text]) -> Result<(
     Ok(())
 }
 
+/// Adds the addresses of a line's endpoints, and its claims.
+fn add_declared(alloc: Global, addresses: &mut Texts, line: &ServiceLine) -> Result<(), NoMemory>
+    ensures { OnOk result (addresses.new ≡ (addresses.old ++ addresses_of line.now) ++ line.now.claims) }
+{
+    add_addresses(alloc, addresses, line.endpoints.as_slice())?;
+    add_claims(alloc, addresses, line.claims.as_slice())?;
+    Ok(())
+}
+
 /// What a line declares: its endpoints' addresses and its claims, unless it doesn't declare any.
 fn declared_of(alloc: Global, line: &ServiceLine) -> Result<Option<Texts>, NoMemory>
     ensures { IfOk result (λ declared. declared ≡ declared_of line.now) }
@@ -83,9 +126,14 @@ fn declared_of(alloc: Global, line: &ServiceLine) -> Result<Option<Texts>, NoMem
     if line.undeclared {
         return Ok(None);
     }
-    let mut addresses = addresses_of(alloc, line.endpoints.as_slice())?;
-    add_claims(alloc, &mut addresses, line.claims.as_slice())?;
-    Ok(Some(addresses))
+    let mut addresses = Texts::new(alloc);
+    match add_declared(alloc, &mut addresses, line) {
+        Ok(()) => Ok(Some(addresses)),
+        Err(NoMemory) => {
+            drop(addresses);
+            Err(NoMemory)
+        }
+    }
 }
 
 /// The services that service s names as its dependencies, ascending.
@@ -116,13 +164,37 @@ fn service_plan(
     ensures { IfOk result (λ plan. plan ≡ service_plan services.now s line.now) }
 {
     let filter = filter_number(&services[..s as usize], line);
-    Ok(ServicePlan {
-        name: line.name.copy(alloc)?,
-        kind: line.kind,
-        depends: depends_of(alloc, services, s)?,
-        declared: declared_of(alloc, line)?,
-        endpoints: endpoints_of(alloc, filter, line.endpoints.as_slice())?,
-    })
+    let name = line.name.copy(alloc)?;
+    let depends = match depends_of(alloc, services, s) {
+        Ok(depends) => depends,
+        Err(NoMemory) => {
+            drop(name);
+            return Err(NoMemory);
+        }
+    };
+    let declared = match declared_of(alloc, line) {
+        Ok(declared) => declared,
+        Err(NoMemory) => {
+            drop(name);
+            drop(depends);
+            return Err(NoMemory);
+        }
+    };
+    match endpoints_of(alloc, filter, line.endpoints.as_slice()) {
+        Ok(endpoints) => Ok(ServicePlan {
+            name,
+            kind: line.kind,
+            depends,
+            declared,
+            endpoints,
+        }),
+        Err(NoMemory) => {
+            drop(name);
+            drop(depends);
+            drop(declared);
+            Err(NoMemory)
+        }
+    }
 }
 
 /// The services, of their lines.
@@ -135,8 +207,20 @@ pub(crate) fn service_plans(
 {
     let mut plans = ServiceList::new(alloc);
     for s in 0..services.len() as u32 {
-        let line = &services[s as usize];
-        push_item(alloc, &mut plans, service_plan(alloc, services, s, line)?)?;
+        let plan = match service_plan(alloc, services, s, &services[s as usize]) {
+            Ok(plan) => plan,
+            Err(NoMemory) => {
+                drop(plans);
+                return Err(NoMemory);
+            }
+        };
+        match push_item(alloc, &mut plans, plan) {
+            Ok(()) => {}
+            Err(NoMemory) => {
+                drop(plans);
+                return Err(NoMemory);
+            }
+        }
     }
     Ok(plans)
 }
@@ -167,10 +251,21 @@ fn graph_of(alloc: Global, services: &[ServiceLine]) -> Result<DependencyGraph, 
 {
     let mut graph = DependencyGraph::new(alloc);
     for line in services {
-        match graph.add_node(alloc, line.name.copy(alloc)?) {
+        let name = match line.name.copy(alloc) {
+            Ok(name) => name,
+            Err(NoMemory) => {
+                drop(graph);
+                return Err(NoMemory);
+            }
+        };
+        match graph.add_node(alloc, name) {
             Ok(_) => {}
             // There are few services, so it is memory that is wanted.
-            Err(_) => return Err(NoMemory),
+            Err(refused) => {
+                drop(refused);
+                drop(graph);
+                return Err(NoMemory);
+            }
         }
     }
     Ok(graph)
@@ -184,6 +279,12 @@ pub(crate) fn first_refused(
     requires { length services.now ≤ 1024 }
     ensures { IfOk result (λ refused. MatchOption refused (RefusesNone services.now) (RefusesAt services.now)) }
 {
-    let mut graph = graph_of(alloc, services)?;
-    add_dependencies(alloc, &mut graph, services)
+    match graph_of(alloc, services) {
+        Ok(mut graph) => {
+            let refused = add_dependencies(alloc, &mut graph, services);
+            drop(graph);
+            refused
+        }
+        Err(NoMemory) => Err(NoMemory),
+    }
 }

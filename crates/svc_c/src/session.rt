@@ -12,6 +12,7 @@ ghost use Rattle.svc_c.specs.Sessions.{own_word, put_in, brought_by, entries_of,
 use crate::stage::Stage;
 use std::alloc::Global;
 use std::marker::Model;
+use std::mem::drop;
 use svc_base::NoMemory;
 use svc_core::Core;
 use svc_record::{Actions, Entry, Event, StepEnd};
@@ -55,22 +56,26 @@ pub struct Session {
     stage: Stage,
     end: StepEnd,
     entries: Vec<Entry>,
+    /// Where a step tells its actions. Between calls it is empty, and its memory is kept.
+    told: Actions,
 }
 
 impl Model for Session {
+    ghost use Rattle.svc_base.specs.Items.{list_of};
     ghost use Rattle.svc_c.specs.SessionData.{SessionData, IsKept};
 
     ghost Value = { SessionData };
 
     ghost view = { λ s. record { core = s.core; services = s.services.items; stage = s.stage; end = s.end; entries = s.entries.items } };
 
-    ghost invariant = { λ s. IsKept s.core s.stage };
+    ghost invariant = { λ s. IsKept s.core s.stage (list_of s.told) };
 }
 
 /// The actions are appended as entries, and leave their list.
 fn keep_told(told: &mut Actions, entries: &mut Vec<Entry>)
     requires room { vec_len entries.old + length (list_of told.old) ≤ vec_capacity entries.old }
-    ensures { entries.new.items ≡ entries.old.items ++ map Told (list_of told.old) }
+    ensures all { entries.new.items ≡ entries.old.items ++ map Told (list_of told.old) }
+    ensures left { list_of told.new ≡ [] }
 {
     told.reverse();
     while let Some(action) = told.pop_last() {
@@ -102,7 +107,8 @@ fn close_room(core: &Core, also: Option<&Event>) -> Option<u64>
 /// The entries are the event, if there is one, and the actions, which leave their list.
 fn keep_all(also: Option<Event>, told: &mut Actions, entries: &mut Vec<Entry>)
     requires room { length (list_of told.old) + 1 ≤ vec_capacity entries.old }
-    ensures { entries.new.items ≡ entries_of also ++ map Told (list_of told.old) }
+    ensures all { entries.new.items ≡ entries_of also ++ map Told (list_of told.old) }
+    ensures left { list_of told.new ≡ [] }
 {
     entries.clear();
     if let Some(event) = also {
@@ -157,6 +163,7 @@ impl Session {
             stage: Stage::Fresh,
             end: StepEnd::On,
             entries: Vec::new(alloc),
+            told: Actions::new(alloc),
         }
     }
 
@@ -187,12 +194,11 @@ impl Session {
         if self.entries.reserve(room as usize).is_err() {
             return Err(StepError::NoMemory);
         }
-        let mut told = Actions::new(alloc);
-        let Ok(end) = self.core.begin(alloc, &mut told) else {
+        let Ok(end) = self.core.begin(alloc, &mut self.told) else {
             return Err(StepError::NoMemory);
         };
         self.entries.clear();
-        keep_told(&mut told, &mut self.entries);
+        keep_told(&mut self.told, &mut self.entries);
         self.stage = Stage::Begun;
         self.end = end;
         Ok(end)
@@ -207,12 +213,15 @@ impl Session {
         }
         let event = event_of(alloc, line)?;
         if !self.core.fits(&event) {
+            drop(event);
             return Err(StepError::Stray);
         }
-        Ok(Asked {
+        let asked = Asked {
             filter: self.core.asks(&event),
             said: own_word(self.services.as_slice(), &event),
-        })
+        };
+        drop(event);
+        Ok(asked)
     }
 
     /// The step of a line's event, with what was said of its peer.
@@ -224,6 +233,7 @@ impl Session {
         }
         let event = event_of(alloc, line)?;
         if !self.core.fits(&event) {
+            drop(event);
             return Err(StepError::Stray);
         }
         self.take(alloc, event, said)
@@ -237,13 +247,14 @@ impl Session {
     {
         let room = self.core.step_room();
         if self.entries.reserve(room as usize).is_err() {
+            drop(event);
             return Err(StepError::NoMemory);
         }
-        let mut told = Actions::new(alloc);
-        let Ok(end) = self.core.step(alloc, &event, said, &mut told) else {
+        let Ok(end) = self.core.step(alloc, &event, said, &mut self.told) else {
+            drop(event);
             return Err(StepError::NoMemory);
         };
-        keep_all(Some(event), &mut told, &mut self.entries);
+        keep_all(Some(event), &mut self.told, &mut self.entries);
         self.end = end;
         Ok(end)
     }
@@ -267,14 +278,15 @@ impl Session {
         ensures { IsEndedWith also self.old self.new result }
     {
         let Some(room) = close_room(&self.core, also.as_ref()) else {
+            drop(also);
             return Err(StepError::NoMemory);
         };
-        let mut told = Actions::new(alloc);
-        if told.reserve(alloc, room).is_err() || self.entries.reserve(room as usize).is_err() {
+        if self.told.reserve(alloc, room).is_err() || self.entries.reserve(room as usize).is_err() {
+            drop(also);
             return Err(StepError::NoMemory);
         }
-        self.core.close_all(also.as_ref(), &mut told);
-        keep_all(also, &mut told, &mut self.entries);
+        self.core.close_all(also.as_ref(), &mut self.told);
+        keep_all(also, &mut self.told, &mut self.entries);
         self.stage = Stage::Closed;
         Ok(())
     }

@@ -129,6 +129,14 @@ impl Host for HelloHost {
         Ok(())
     }
 
+    fn asks_due(&self) -> bool {
+        true
+    }
+
+    fn wait_until(&mut self, due: Option<u64>) {
+        self.world.due = due;
+    }
+
     fn next(&mut self) -> Next {
         let event = self.next_event();
         self.failures = failures_with(self.failures, &event);

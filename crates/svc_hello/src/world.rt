@@ -6,7 +6,7 @@ ghost use Rattle.svc_server.specs.Hosts.{BringsFew};
 use svc_record::{Action, Event, ExecutionPhase, ShutdownSignal, Side};
 use svc_socket::{Peer, PeerAddr};
 
-/// How long the world sleeps where nothing happens, in milliseconds.
+/// How long the world sleeps where no moment is due, in milliseconds.
 const NAP: u64 = 400;
 
 /// 127.0.0.1.
@@ -25,6 +25,8 @@ pub struct World {
     next_number: u64,
     /// The time, in milliseconds.
     now: u64,
+    /// Until when no moment tells the server anything, if it waits for one.
+    pub due: Option<u64>,
     running: bool,
     stopped: bool,
     /// The services were told that the server shuts down.
@@ -43,6 +45,7 @@ impl World {
             door: None,
             next_number: 3,
             now: 0,
+            due: None,
             running: false,
             stopped: false,
             shutdown: false,
@@ -131,7 +134,10 @@ impl World {
             self.stopped = true;
             return Event::Signal(ShutdownSignal::GracefulTerminate);
         }
-        self.now = self.now.saturating_add(NAP);
+        self.now = match self.due {
+            Some(due) => due.max(self.now),
+            None => self.now.saturating_add(NAP),
+        };
         Event::Moment(self.now)
     }
 }

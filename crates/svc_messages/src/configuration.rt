@@ -105,11 +105,11 @@ fn meant(key: &[u8]) -> Option<&'static str>
 
 /// The key at the front of a line, and what follows its colon.
 fn split_key(line: &[u8]) -> Option<(&[u8], &[u8])> {
-    let end = line.iter().position(|b| *b == b':')?;
-    match line.first() {
-        None | Some(b' ' | b'\t' | b'-' | b'#' | b':') => None,
-        Some(_) => Some((&line[..end], &line[end + 1..])),
+    if matches!(line.first(), None | Some(b' ' | b'\t' | b'-' | b'#' | b':')) {
+        return None;
     }
+    let end = line.iter().position(|b| *b == b':')?;
+    Some((&line[..end], &line[end + 1..]))
 }
 
 /// The number of the first line, from 1, in the configuration of a script that has this key, and what
@@ -345,10 +345,21 @@ fn unknown_key(alloc: Global, number: usize, line: &[u8]) -> Result<Option<Strin
     Ok(Some(numbered(alloc, number, cause.as_str())?))
 }
 
+/// What is said of keys that aren't known, and how far a script was looked through for them.
+#[derive(Drop)]
+pub(crate) struct KeyNotes<'a> {
+    /// A line for each key.
+    pub notes: Vec<String>,
+    /// The script from the line on that begins its services, or from an earlier one.
+    pub rest: &'a [u8],
+    /// The number of that line, from 1.
+    pub number: usize,
+}
+
 /// What is said of the first ten keys of a script's configuration that aren't known: a line each.
-pub fn unknown_keys(alloc: Global, bytes: &[u8]) -> Result<Vec<String>, NoMemory>
-    ensures messages { IfOk result (λ notes. All (λ note. IsMessage (string_bytes note)) notes.items) }
-    ensures lines { IfOk result (λ notes. All (λ note. TellsOfLine (lines bytes.now) (string_bytes note)) notes.items) }
+pub(crate) fn key_notes(alloc: Global, bytes: &[u8]) -> Result<KeyNotes<'_>, NoMemory>
+    ensures messages { IfOk result (λ told. All (λ note. IsMessage (string_bytes note)) told.notes.items) }
+    ensures lines { IfOk result (λ told. All (λ note. TellsOfLine (lines bytes.now) (string_bytes note)) told.notes.items) }
 {
     let mut notes = Vec::new(alloc);
     let mut section = Section::Nothing;
@@ -357,7 +368,7 @@ pub fn unknown_keys(alloc: Global, bytes: &[u8]) -> Result<Vec<String>, NoMemory
     while let Some((line, after)) = split_line(rest) {
         section = header(line).unwrap_or(section);
         if section == Section::Services || notes.len() >= TOLD {
-            return Ok(notes);
+            break;
         }
         if section == Section::Configuration
             && let Some(note) = unknown_key(alloc, number, line)?
@@ -367,5 +378,20 @@ pub fn unknown_keys(alloc: Global, bytes: &[u8]) -> Result<Vec<String>, NoMemory
         rest = after;
         number = number.saturating_add(1);
     }
-    Ok(notes)
+    Ok(KeyNotes {
+        notes,
+        rest,
+        number,
+    })
+}
+
+/// What is said of the first ten keys of a script's configuration that aren't known: a line each.
+pub fn unknown_keys(alloc: Global, bytes: &[u8]) -> Result<Vec<String>, NoMemory>
+    ensures messages { IfOk result (λ notes. All (λ note. IsMessage (string_bytes note)) notes.items) }
+    ensures lines { IfOk result (λ notes. All (λ note. TellsOfLine (lines bytes.now) (string_bytes note)) notes.items) }
+{
+    match key_notes(alloc, bytes) {
+        Ok(KeyNotes { notes, .. }) => Ok(notes),
+        Err(NoMemory) => Err(NoMemory),
+    }
 }

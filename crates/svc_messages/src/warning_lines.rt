@@ -4,7 +4,7 @@ ghost use Rattle.std.specs.Prelude.{All, OnOk, IfOk, IfSome, string_bytes};
 ghost use Rattle.svc_messages.specs.Messages.{IsMessage};
 
 use crate::addresses::is_address;
-use crate::configuration::unknown_keys;
+use crate::configuration::{KeyNotes, key_notes};
 use crate::explaining::Ending;
 use crate::pieces::{about, numbered};
 use crate::places::{Section, header};
@@ -151,14 +151,20 @@ fn line_note(
     }
 }
 
-/// Adds what is said of addresses that are none, of the first ten lines that have one.
-fn add_addresses(alloc: Global, notes: &mut Vec<String>, bytes: &[u8]) -> Result<(), NoMemory>
+/// Adds what is said of addresses that are none, of the first ten lines that have one. The script is looked
+/// through from a line on that stands before its services and has this number.
+fn add_addresses(
+    alloc: Global,
+    notes: &mut Vec<String>,
+    script: &[u8],
+    first: usize,
+) -> Result<(), NoMemory>
     ensures { OnOk result (All (λ note. IsMessage (string_bytes note)) notes.old.items → All (λ note. IsMessage (string_bytes note)) notes.new.items) }
 {
     let most = notes.len().saturating_add(TOLD);
     let mut section = Section::Nothing;
-    let mut rest = bytes;
-    let mut number = 1usize;
+    let mut rest = script;
+    let mut number = first;
     while let Some((line, after)) = split_line(rest) {
         section = header(line).unwrap_or(section);
         if section == Section::Events || notes.len() >= most {
@@ -172,18 +178,21 @@ fn add_addresses(alloc: Global, notes: &mut Vec<String>, bytes: &[u8]) -> Result
     Ok(())
 }
 
-/// Adds what is said of flags and addresses of a run.
+/// Adds what is said of flags and addresses of a run, from a line on that stands before the script's
+/// services and has this number.
 fn add_warnings(
     alloc: Global,
     notes: &mut Vec<String>,
     words: &[RcStr],
-    bytes: &[u8],
+    script: &[u8],
+    number: usize,
 ) -> Result<(), NoMemory>
     ensures { OnOk result (All (λ note. IsMessage (string_bytes note)) notes.old.items → All (λ note. IsMessage (string_bytes note)) notes.new.items) }
 {
     let flags = said_flags(alloc, words)?;
-    add_flags(alloc, notes, flags, can_bootstrap(bytes))?;
-    add_addresses(alloc, notes, bytes)?;
+    let bootstraps = (flags.upgrade || flags.test) && can_bootstrap(script);
+    add_flags(alloc, notes, flags, bootstraps)?;
+    add_addresses(alloc, notes, script, number)?;
     Ok(())
 }
 
@@ -194,11 +203,15 @@ pub fn warnings(alloc: Global, ending: Ending<'_>) -> Result<Vec<String>, NoMemo
     ensures messages { IfOk result (λ notes. All (λ note. IsMessage (string_bytes note)) notes.items) }
 {
     let bytes = ending.script.unwrap_or(&[]);
-    let mut notes = unknown_keys(alloc, bytes)?;
+    let KeyNotes {
+        mut notes,
+        rest,
+        number,
+    } = key_notes(alloc, bytes)?;
     if ending.status == 3 {
         return Ok(notes);
     }
-    match add_warnings(alloc, &mut notes, ending.words, bytes) {
+    match add_warnings(alloc, &mut notes, ending.words, rest, number) {
         Ok(()) => Ok(notes),
         Err(NoMemory) => {
             drop(notes);

@@ -122,6 +122,14 @@ impl<H: InnerHost, B: ServiceWithDependents> Host for AccountHost<H, B> {
         self.account.reserve(alloc, n)
     }
 
+    fn asks_due(&self) -> bool {
+        self.inner.asks_due()
+    }
+
+    fn wait_until(&mut self, due: Option<u64>) {
+        self.inner.wait_until(due);
+    }
+
     fn next(&mut self) -> Next {
         match self.inner.give() {
             Some(Item::Event(event)) => {

@@ -72,6 +72,23 @@ pub trait Host {
         ensures ahead { ahead self.new ≡ ahead self.old }
         ensures made { made_of self.new ≡ made_of self.old };
 
+    /// Whether it wants to be told before each event until when no moment is due (`wait_until`). A host
+    /// that waits for the system does. One that has its events already doesn't: finding the moment may
+    /// look at each service.
+    fn asks_due(&self) -> bool {
+        false
+    }
+
+    /// Is told the least moment, in milliseconds, at which the event `Moment` tells something; none
+    /// where only other events do. An earlier `Moment` tells nothing, so it may wait until then.
+    fn wait_until(&mut self, _due: Option<u64>)
+        ensures room { spare self.old ≤ spare self.new }
+        ensures account { account self.new ≡ account self.old }
+        ensures counts { counts self.new ≡ counts self.old }
+        ensures ahead { ahead self.new ≡ ahead self.old }
+        ensures made { made_of self.new ≡ made_of self.old }
+    {}
+
     /// Takes the next event, if one comes. It needs room for one, and uses it. An event brings at
     /// most 32 descriptors.
     fn next(&mut self) -> Next

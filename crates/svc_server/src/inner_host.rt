@@ -38,6 +38,19 @@ pub trait InnerHost {
         ensures ahead { ahead self.new ≡ ahead self.old }
         ensures made { (q : Record) (faults idles : ℕ) → keeps self.old q faults idles → made_of self.new ≡ made_of self.old };
 
+    /// Whether it wants to be told before each item until when no moment is due, as `Host::asks_due`.
+    fn asks_due(&self) -> bool {
+        false
+    }
+
+    /// Is told the least moment at which the event `Moment` tells something, as `Host::wait_until`.
+    fn wait_until(&mut self, _due: Option<u64>)
+        ensures room { spare self.old ≤ spare self.new }
+        ensures keeps { (q : Record) (faults idles : ℕ) → keeps self.old q faults idles → keeps self.new q faults idles }
+        ensures ahead { ahead self.new ≡ ahead self.old }
+        ensures made { (q : Record) (faults idles : ℕ) → keeps self.old q faults idles → made_of self.new ≡ made_of self.old }
+    {}
+
     /// Gives the next item, if one comes. It needs room for one, and uses it. An event brings at most
     /// 32 descriptors.
     fn give(&mut self) -> Option<Item>

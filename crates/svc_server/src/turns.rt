@@ -122,7 +122,21 @@ impl<B: ServiceWithDependents, F: ConnectionFilter> Run<B, F> {
         tell_all(self.core.plan(), &mut self.boxes, &mut self.closing, host);
     }
 
-    /// Takes the memory of the next step, and of the closes after it.
+    /// Tells the host until when no moment is due, where it asks.
+    fn tell_due<H: Host<Service = B>>(&self, host: &mut H)
+        ensures room { H.spare host.old ≤ H.spare host.new }
+        ensures account { H.account host.new ≡ H.account host.old }
+        ensures counts { H.counts host.new ≡ H.counts host.old }
+        ensures ahead { H.ahead host.new ≡ H.ahead host.old }
+        ensures made { H.made_of host.new ≡ H.made_of host.old }
+    {
+        if host.asks_due() {
+            host.wait_until(self.core.next_due());
+        }
+    }
+
+    /// Takes the memory of the next step, and of the closes after it. The host may then wait until
+    /// something is due.
     fn make_room<H: Host<Service = B>>(
         &mut self,
         alloc: Global,
@@ -142,7 +156,9 @@ impl<B: ServiceWithDependents, F: ConnectionFilter> Run<B, F> {
     {
         let room = self.core.step_room();
         self.closing.reserve(alloc, room)?;
-        host.reserve(alloc, room + 1)
+        host.reserve(alloc, room + 1)?;
+        self.tell_due(host);
+        Ok(())
     }
 
     /// The first step, with its actions told. After `NoMemory` nothing was told.

@@ -4,6 +4,6 @@ use Rattle.svc_c.proofs.plans.service_plans.Goals as goal
 
 pub loop-s-preserved : goal.loop-s-preserved
 loop-s-preserved c =
-    plans_more c.args.services.now c.loop-s.s c.index-services-s.result c.loop-s.plans c.push_item.new.list c.in_ok-service_plan.field-0
-    (omega arith) c.index-services-s.is c.loop-s.invariant c.in_ok-service_plan.ensures
-    c.in_ok-push_item.ensures.ok
+    plans_more c.args.services.now c.loop-s.s c.index-services-s.result c.loop-s.plans c.push_item.new.list c.in-Ok.plan
+    (omega arith) c.index-services-s.is c.loop-s.invariant c.in-Ok.ensures
+    c.in-Ok-push_item.ensures.ok

@@ -2,7 +2,7 @@ use Rattle.std.proofs.Common.{◌+◌, ◌-◌, ◌<◌, ◌≤◌, All, length,
 use Rattle.std.specs.Str.Lines.{lines}
 use Rattle.svc_messages.specs.Messages.{IsMessage}
 use Rattle.svc_messages.specs.Refusals.{TellsOfLine}
-use Rattle.svc_messages.proofs.configuration.unknown_keys.Given as goal
+use Rattle.svc_messages.proofs.configuration.key_notes.Given as goal
 
 abbrev pub invariant-loop-line : goal.invariant-loop-line
 invariant-loop-line l = record {

@@ -3,8 +3,8 @@ use Rattle.std.proofs.lemmas.List.Elements.{All-push}
 use Rattle.std.specs.Str.Lines.{lines}
 use Rattle.svc_messages.specs.Messages.{IsMessage}
 use Rattle.svc_messages.specs.Refusals.{TellsOfLine}
-use Rattle.svc_messages.proofs.configuration.unknown_keys.Goals.{then-eq-2+in_ok-note+in-Some-2+in_ok-push, else-eq-2}
-use Rattle.svc_messages.proofs.configuration.unknown_keys.Goals as goal
+use Rattle.svc_messages.proofs.configuration.key_notes.Goals.{then-eq-2+in_ok-note+in-Some-2+in_ok-push, else-eq-2}
+use Rattle.svc_messages.proofs.configuration.key_notes.Goals as goal
 
 pub loop-line-preserved : goal.loop-line-preserved
 loop-line-preserved c =

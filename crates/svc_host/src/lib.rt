@@ -1,0 +1,19 @@
+//! A host of the operating system: a server's actions are performed on real sockets, its events come of
+//! them, and its record is shown to a recorder as it grows.
+#![tactic(auto)]
+
+mod answers;
+mod log;
+mod recorded_host;
+mod recorder;
+mod served_service;
+mod serving;
+mod system_host;
+mod told_account;
+
+pub use log::Log;
+pub use recorded_host::RecordedHost;
+pub use recorder::Recorder;
+pub use served_service::{AddressFilter, ServedService};
+pub use serving::{ServedRun, ServedServer, ServerRefused, run_served, server_of};
+pub use system_host::SystemHost;

@@ -1,0 +1,60 @@
+//! The record of a run in a file, as it grows.
+
+ghost use Rattle.std.specs.Prelude.{◌≡◌, true};
+
+use crate::recorder::Recorder;
+use std::alloc::Global;
+use std::fmt::Write;
+use svc_base::{NoMemory, Sink, write_all};
+use svc_record::Entry;
+
+/// The record of a run, in its text, in a sink. What an event and its step tell is written together. Where
+/// the sink fails, or there is no memory for a line, nothing more is written.
+#[derive(Drop)]
+pub struct Log<K: Sink> {
+    sink: K,
+    text: String,
+    /// Everything that was shown was written or is held back.
+    is_whole: bool,
+}
+
+/// The entry's line behind the text.
+fn put_line(text: &mut String, entry: &Entry) -> Result<(), NoMemory> {
+    writeln!(text, "{entry}")?;
+    Ok(())
+}
+
+impl<K: Sink> Log<K> {
+    /// A log of nothing.
+    pub fn new(alloc: Global, sink: K) -> Self
+        ensures { result.is_whole ≡ true }
+    {
+        Log {
+            sink,
+            text: String::new(alloc),
+            is_whole: true,
+        }
+    }
+
+    /// Whether everything that was shown was written or is held back.
+    pub fn is_whole(&self) -> bool
+        ensures { result ≡ self.now.is_whole }
+    {
+        self.is_whole
+    }
+}
+
+impl<K: Sink + Drop> Recorder for Log<K> {
+    fn note(&mut self, entry: &Entry) {
+        if self.is_whole && put_line(&mut self.text, entry).is_err() {
+            self.is_whole = false;
+        }
+    }
+
+    fn settle(&mut self) {
+        if self.is_whole && !self.text.is_empty() {
+            self.is_whole = write_all(&mut self.sink, self.text.as_bytes()).is_ok();
+        }
+        self.text.clear();
+    }
+}

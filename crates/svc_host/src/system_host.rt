@@ -1,0 +1,66 @@
+//! What a host of the operating system does by itself: it performs actions, and gives what comes of them.
+
+ghost use Rattle.std.specs.Prelude.{◌≡◌};
+
+use crate::answers::Answers;
+use std::alloc::Global;
+use std::net::{Net, TcpListener, TcpStream};
+use std::rt::Files;
+use std::time::Clock;
+use svc_base::NoMemory;
+use svc_record::{Action, Item};
+use svc_server::InnerHost;
+use svc_system::System;
+
+/// A host over the operating system, without its account.
+#[derive(Drop)]
+pub struct SystemHost<'a, R: Net<Listener = TcpListener, Stream = TcpStream> + Files + Clock> {
+    system: System<'a, R>,
+    answers: Answers,
+}
+
+impl<'a, R: Net<Listener = TcpListener, Stream = TcpStream> + Files + Clock> SystemHost<'a, R> {
+    /// A host over this side of the system, to which nothing was told yet.
+    pub fn new(alloc: Global, system: System<'a, R>) -> Self {
+        SystemHost {
+            system,
+            answers: Answers::new(alloc),
+        }
+    }
+
+    /// The system's side of the server.
+    pub fn system(&self) -> &System<'a, R>
+        ensures { result.now ≡ self.now.system }
+    {
+        &self.system
+    }
+}
+
+impl<'a, R: Net<Listener = TcpListener, Stream = TcpStream> + Files + Clock> InnerHost
+    for SystemHost<'a, R> {
+    ghost use Rattle.svc_host.specs.Answers.{room};
+
+    ghost keeps = { λ _ _ _ _. Unit {0} };
+
+    ghost spare = { λ h. room h.answers };
+
+    fn reserve(&mut self, _alloc: Global, n: u64) -> Result<(), NoMemory> {
+        self.answers.reserve(n)
+    }
+
+    fn give(&mut self) -> Option<Item> {
+        match self.answers.take() {
+            Some(event) => {
+                self.system.give(&event);
+                Some(Item::Event(event))
+            }
+            None => self.system.next(),
+        }
+    }
+
+    fn note(&mut self, action: &Action) {
+        if let Some(answer) = self.system.perform(action) {
+            self.answers.put(answer);
+        }
+    }
+}

@@ -1,0 +1,45 @@
+-- Which event answers an action.
+use Rattle.std.specs.Prelude.{ℕ, ◌≡◌, Option, Some, None, IfSome, IsSomeAnd, true}
+use Rattle.svc_record.specs.declared.action.Action.{Action}
+use Rattle.svc_record.specs.declared.action.Action.TheVariants as actions
+use Rattle.svc_record.specs.declared.event.Event.{Event}
+use Rattle.svc_record.specs.declared.event.Event.TheVariants as events
+
+-- what a bind of this endpoint gives: a descriptor, that the address is in use, or that it failed
+abbrev pub AnswersBind : ℕ → ℕ → Event → Type 0
+AnswersBind s i (events.Bound t j fd) = (t ≡ s) × (j ≡ i)
+AnswersBind s i (events.InUse t j) = (t ≡ s) × (j ≡ i)
+AnswersBind s i (events.BindFailed t j) = (t ≡ s) × (j ≡ i)
+AnswersBind s i event = ⊥
+
+-- what this endpoint says of a descriptor that it is offered
+abbrev pub AnswersAdopt : ℕ → ℕ → Event → Type 0
+AnswersAdopt s i (events.Adopted t j) = (t ≡ s) × (j ≡ i)
+AnswersAdopt s i (events.AdoptFailed t j) = (t ≡ s) × (j ≡ i)
+AnswersAdopt s i event = ⊥
+
+-- whether the settings of this connection were applied
+abbrev pub AnswersSettings : ℕ → Event → Type 0
+AnswersSettings c (events.Set d ok) = d ≡ c
+AnswersSettings c event = ⊥
+
+-- what is answered to an action of a connection, and to no other one
+abbrev pub AnswersOnConnection : Action → Option Event → Type 0
+AnswersOnConnection (actions.Settings c list) answer = IsSomeAnd answer (AnswersSettings c)
+AnswersOnConnection (actions.Handshake c) answer = answer ≡ Some (events.Shaken c true)
+AnswersOnConnection (actions.Serve c) answer = IfSome answer (λ event. event ≡ events.Finished c)
+AnswersOnConnection action answer = answer ≡ None
+
+-- the same of an endpoint or a service, too
+abbrev pub AnswersOnEndpoint : Action → Option Event → Type 0
+AnswersOnEndpoint (actions.Start s) answer = IfSome answer (λ event. event ≡ events.Ready s)
+AnswersOnEndpoint (actions.Bind s i) answer = IsSomeAnd answer (AnswersBind s i)
+AnswersOnEndpoint (actions.Adopt s i fd) answer = IsSomeAnd answer (AnswersAdopt s i)
+AnswersOnEndpoint action answer = AnswersOnConnection action answer
+
+-- what is answered to any action
+abbrev pub Answers : Action → Option Event → Type 0
+Answers actions.TryReceive answer = answer ≡ Some events.ReceiveFailed
+Answers actions.Connect answer = answer ≡ Some events.ConnectFailed
+Answers (actions.Send bytes fds) answer = answer ≡ Some events.SendFailed
+Answers action answer = AnswersOnEndpoint action answer

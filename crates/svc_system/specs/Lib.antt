@@ -1,0 +1,4 @@
+pub mod Answering
+pub mod Given
+pub mod Lines
+pub mod Orders

@@ -1,0 +1,16 @@
+-- What a line of an operator says so far.
+use Rattle.std.specs.Prelude.{Option, Some, None, take, if◌then◌else◌}
+use Rattle.svc_system.specs.Orders.{order_of}
+use Rattle.svc_system.specs.declared.orders.LineStep.{LineStep}
+use Rattle.svc_system.specs.declared.orders.LineStep.TheVariants as steps
+use Rattle.svc_system.specs.declared.orders.Order.{Order}
+use Rattle.svc_system.specs.declared.orders.OrderLine.{OrderLine}
+
+-- what the line asks for, if it is whole now
+abbrev pub known : OrderLine → Option Order
+known line = if line.is_long then None else order_of (take line.count line.bytes)
+
+-- what a line feed makes of a line that asks for this
+abbrev pub step_of : Option Order → LineStep
+step_of (Some order) = steps.Order order
+step_of None = steps.Unknown

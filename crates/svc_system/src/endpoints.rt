@@ -1,0 +1,284 @@
+//! The services of a server and their endpoints, and how far each is.
+
+ghost use Rattle.std.specs.Prelude.{◌≡◌, ◌≤◌, length, IfSome};
+ghost use Rattle.svc_record.specs.declared.entry.Entry.TheVariants.{Got};
+ghost use Rattle.svc_record.specs.Descriptors.{numbers_of};
+
+use crate::address::Address;
+use crate::times::sooner;
+use std::alloc::Global;
+use std::mem::drop;
+use std::net::Net;
+use svc_base::NoMemory;
+use svc_graph::Kind;
+use svc_record::{Event, Plan, ServicePlan};
+
+/// How far a service is.
+#[derive(Clone, Copy, PartialEq)]
+pub(crate) enum Stage {
+    Waiting,
+    Started,
+    /// The server gave it up.
+    Failed,
+}
+
+/// A service, whose endpoints stand behind one another.
+#[derive(Drop)]
+pub(crate) struct Service {
+    pub stage: Stage,
+    /// It says by itself when it is ready.
+    notifies: bool,
+    first: usize,
+    count: usize,
+    /// So many of its endpoints listen.
+    held: usize,
+}
+
+/// An endpoint of a service.
+#[derive(Drop)]
+pub(crate) struct Endpoint {
+    pub service: u32,
+    pub number: u32,
+    pub address: Address,
+    /// The listening socket that it has.
+    pub fd: Option<u64>,
+    /// Before this moment nothing is accepted.
+    pub rests_until: u64,
+    /// Before this moment its address isn't tried again.
+    pub binds_at: u64,
+    /// So many of its accept loops were said to have ended.
+    ended: u64,
+}
+
+/// All of them.
+#[derive(Drop)]
+pub(crate) struct Endpoints {
+    pub rows: Vec<Endpoint>,
+    pub services: Vec<Service>,
+    /// How many accept loops an endpoint has.
+    tasks: u64,
+    /// The place of the endpoint whose accept loops end next.
+    ending: usize,
+}
+
+impl Service {
+    /// Each of its endpoints listens, and the server wasn't told to give it up.
+    pub(crate) fn serves(&self) -> bool {
+        self.stage == Stage::Started && self.held >= self.count
+    }
+}
+
+/// Adds the endpoints of a service.
+fn add_endpoints<R: Net>(
+    rt: &R,
+    alloc: Global,
+    rows: &mut Vec<Endpoint>,
+    service: u32,
+    plan: &ServicePlan,
+) -> Result<(), NoMemory> {
+    let mut number = 0u32;
+    for endpoint in plan.endpoints.as_slice() {
+        rows.push(Endpoint {
+            service,
+            number,
+            address: Address::of(rt, alloc, &endpoint.address, endpoint.unix)?,
+            fd: None,
+            rests_until: 0,
+            binds_at: 0,
+            ended: 0,
+        })?;
+        number = number.saturating_add(1);
+    }
+    Ok(())
+}
+
+impl Endpoints {
+    /// Those of no server.
+    fn new(alloc: Global, tasks: u64) -> Self {
+        Endpoints {
+            rows: Vec::new(alloc),
+            services: Vec::new(alloc),
+            tasks,
+            ending: 0,
+        }
+    }
+
+    /// Adds a service with its endpoints.
+    fn add<R: Net>(
+        &mut self,
+        rt: &R,
+        alloc: Global,
+        number: u32,
+        plan: &ServicePlan,
+    ) -> Result<(), NoMemory> {
+        let first = self.rows.len();
+        add_endpoints(rt, alloc, &mut self.rows, number, plan)?;
+        self.services.push(Service {
+            stage: Stage::Waiting,
+            notifies: plan.kind == Kind::Notifying,
+            first,
+            count: self.rows.len().saturating_sub(first),
+            held: 0,
+        })?;
+        Ok(())
+    }
+
+    /// Adds the services of a plan.
+    fn add_all<R: Net>(&mut self, rt: &R, alloc: Global, plan: &Plan) -> Result<(), NoMemory> {
+        let mut number = 0u32;
+        for service in plan.services.as_slice() {
+            self.add(rt, alloc, number, service)?;
+            number = number.saturating_add(1);
+        }
+        Ok(())
+    }
+
+    /// Those of a plan. Each address is looked up.
+    pub(crate) fn learn<R: Net>(rt: &R, alloc: Global, plan: &Plan) -> Result<Self, NoMemory> {
+        let mut endpoints = Endpoints::new(alloc, plan.tasks);
+        match endpoints.add_all(rt, alloc, plan) {
+            Ok(()) => Ok(endpoints),
+            Err(NoMemory) => {
+                drop(endpoints);
+                Err(NoMemory)
+            }
+        }
+    }
+
+    /// Where an endpoint stands.
+    pub(crate) fn place(&self, service: u32, number: u32) -> Option<usize> {
+        let row = self.services.get(service as usize)?;
+        if (number as usize) < row.count {
+            row.first.checked_add(number as usize)
+        } else {
+            None
+        }
+    }
+
+    /// The service with this number serves.
+    pub(crate) fn serves(&self, service: u32) -> bool {
+        match self.services.get(service as usize) {
+            Some(service) => service.serves(),
+            None => false,
+        }
+    }
+
+    /// The service is to be started: what it says at once.
+    pub(crate) fn start(&mut self, number: u32) -> Option<Event>
+        ensures few { IfSome result (λ e. length (numbers_of (Got e)) ≤ 32) }
+        ensures answers { IfSome result (λ e. e ≡ Event.Ready number) }
+    {
+        let service = self.services.get_mut(number as usize)?;
+        service.stage = Stage::Started;
+        if service.notifies {
+            Some(Event::Ready(number))
+        } else {
+            None
+        }
+    }
+
+    /// The service is given up.
+    pub(crate) fn fail(&mut self, number: u32) {
+        if let Some(service) = self.services.get_mut(number as usize) {
+            service.stage = Stage::Failed;
+        }
+    }
+
+    /// It was told that the endpoint listens. Answers whether its service serves from now on.
+    pub(crate) fn hold(&mut self, service: u32) -> bool {
+        match self.services.get_mut(service as usize) {
+            Some(service) => {
+                service.held = service.held.saturating_add(1);
+                service.serves()
+            }
+            None => false,
+        }
+    }
+
+    /// The socket that the endpoint has from now on.
+    pub(crate) fn give(&mut self, at: usize, fd: u64) {
+        if let Some(row) = self.rows.get_mut(at) {
+            row.fd = Some(fd);
+        }
+    }
+
+    /// The socket is closed.
+    pub(crate) fn forget(&mut self, fd: u64) {
+        for row in self.rows.iter_mut() {
+            if row.fd == Some(fd) {
+                row.fd = None;
+            }
+        }
+    }
+
+    /// The first endpoint at which this socket is accepted at.
+    pub(crate) fn accepting(&self, fd: u64, now: u64) -> Option<usize> {
+        self.rows.iter().position(|row| {
+            row.fd == Some(fd) && row.rests_until <= now && self.serves(row.service)
+        })
+    }
+
+    /// The endpoint's accept loop rests until then.
+    pub(crate) fn rest(&mut self, at: usize, until: u64) {
+        if let Some(row) = self.rows.get_mut(at) {
+            row.rests_until = until;
+        }
+    }
+
+    /// The endpoint's address is tried again then.
+    pub(crate) fn bind_at(&mut self, at: usize, moment: u64) {
+        if let Some(row) = self.rows.get_mut(at) {
+            row.binds_at = moment;
+        }
+    }
+
+    /// When the next address after this moment is tried again.
+    pub(crate) fn next_bind(&self, now: u64) -> Option<u64> {
+        let mut next = None;
+        for row in self.rows.as_slice() {
+            if row.binds_at > now {
+                next = sooner(next, row.binds_at);
+            }
+        }
+        next
+    }
+
+    /// When the next accept loop after this moment has rested.
+    pub(crate) fn next_rest(&self, now: u64) -> Option<u64> {
+        let mut next = None;
+        for row in self.rows.as_slice() {
+            if row.rests_until > now {
+                next = sooner(next, row.rests_until);
+            }
+        }
+        next
+    }
+
+    /// The next accept loop that ends, where all end.
+    pub(crate) fn next_end(&mut self) -> Option<Event>
+        ensures { IfSome result (λ e. length (numbers_of (Got e)) ≤ 32) }
+    {
+        for _ in 0..u64::MAX {
+            let at = self.ending;
+            let serves = match self.rows.get(at) {
+                Some(row) => row.ended < self.tasks && self.serves(row.service),
+                None => return None,
+            };
+            if serves {
+                return self.end_one(at);
+            }
+            self.ending = at.saturating_add(1);
+        }
+        None
+    }
+
+    /// An accept loop of this endpoint ends.
+    fn end_one(&mut self, at: usize) -> Option<Event>
+        ensures { IfSome result (λ e. length (numbers_of (Got e)) ≤ 32) }
+    {
+        let row = self.rows.get_mut(at)?;
+        let number = row.ended;
+        row.ended = number.saturating_add(1);
+        Some(Event::LoopEnded(row.service, row.number, number))
+    }
+}

@@ -1,0 +1,20 @@
+//! What the operating system is to one server: the sockets that it listens on, its connections, which
+//! of them are ready, the time, and the operators at its control socket.
+#![tactic(auto)]
+
+mod address;
+mod connections;
+mod endpoints;
+mod listeners;
+mod operators;
+mod orders;
+mod pieces;
+mod readiness;
+mod report;
+mod system;
+mod times;
+mod tokens;
+
+pub use address::{ControlAddress, is_loopback};
+pub use orders::{Order, OrderLine, order_of};
+pub use system::{OpenRefused, System};

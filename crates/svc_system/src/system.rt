@@ -1,0 +1,633 @@
+//! The operating system's side of one server: what is told is performed on its sockets, and what comes
+//! of them is given as events.
+
+ghost use Rattle.std.specs.Prelude.{◌≡◌, ◌≤◌, length, IfSome};
+ghost use Rattle.svc_record.specs.declared.entry.Entry.TheVariants.{Got};
+ghost use Rattle.svc_record.specs.Descriptors.{numbers_of};
+ghost use Rattle.svc_system.specs.Answering.{Answers, AnswersAdopt, AnswersBind, AnswersOnConnection, AnswersOnEndpoint};
+ghost use Rattle.svc_system.specs.Given.{GivesFew, GivesFewItem};
+
+use crate::address::{Address, ControlAddress};
+use crate::connections::{Connections, Turn};
+use crate::endpoints::Endpoints;
+use crate::listeners::{BindRefused, Came, Listeners, Socket};
+use crate::operators::{Admitted, ControlRefused, Operators};
+use crate::readiness::Readiness;
+use crate::report::Report;
+use crate::times::{Times, sooner};
+use crate::tokens::Ready;
+use std::alloc::Global;
+use std::mem::drop;
+use std::net::{Net, TcpListener, TcpStream};
+use std::rt::Files;
+use std::time::Clock;
+use svc_base::{NoMemory, Text};
+use svc_record::{Action, Event, ExecutionPhase, Item, Plan, ShutdownSignal};
+use svc_socket::Peer;
+use thiserror::Error;
+
+/// The error number of want of memory.
+const NO_MEMORY: u32 = 12;
+
+/// So many milliseconds an address that was in use isn't tried again, and an accept loop rests that is told to.
+const REST: u64 = 1000;
+
+/// So many milliseconds an accept loop rests after a failure.
+const PAUSE: u64 = 100;
+
+/// So many milliseconds an older server stays after its offer.
+const CLOSE_TIMEOUT: u64 = 5000;
+
+/// Why a server's side of the operating system can't be opened.
+#[derive(Clone, Copy, Debug, PartialEq, Eq, Error)]
+pub enum OpenRefused {
+    #[error("out of memory")]
+    NoMemory,
+    /// The clock can't be read.
+    #[error("the clock can't be read")]
+    Clock,
+    /// Nothing can be watched: the system has no descriptor left, or no memory.
+    #[error("the system can't watch sockets")]
+    Readiness,
+    /// Somebody listens at the control address.
+    #[error("the control address is in use")]
+    ControlInUse,
+    /// The control address can't be listened at.
+    #[error("the control address can't be bound")]
+    Control,
+}
+
+impl From<NoMemory> for OpenRefused {
+    fn from(_: NoMemory) -> Self {
+        OpenRefused::NoMemory
+    }
+}
+
+impl From<ControlRefused> for OpenRefused {
+    fn from(refused: ControlRefused) -> Self {
+        match refused {
+            ControlRefused::NoMemory => OpenRefused::NoMemory,
+            ControlRefused::InUse => OpenRefused::ControlInUse,
+            ControlRefused::Failed => OpenRefused::Control,
+        }
+    }
+}
+
+/// What one look gave.
+enum Look {
+    Event(Event),
+    Nothing,
+    Failed,
+}
+
+/// The sockets, the connections, the operators and the time of one server.
+#[derive(Drop)]
+pub struct System<'a, R: Net<Listener = TcpListener, Stream = TcpStream> + Files + Clock> {
+    rt: &'a R,
+    alloc: Global,
+    readiness: Readiness,
+    times: Times,
+    endpoints: Endpoints,
+    listeners: Listeners,
+    connections: Connections,
+    operators: Operators,
+    /// The grace period, in milliseconds.
+    grace: u64,
+    phase: ExecutionPhase,
+    /// What operators asked for and wasn't given yet.
+    signal: Option<ShutdownSignal>,
+    is_draining: bool,
+    has_ended: bool,
+    /// Memory was refused for what is ready.
+    has_failed: bool,
+}
+
+/// What watches sockets, with the operators' socket in it.
+fn watched<R: Net>(rt: &R, alloc: Global, operators: &Operators) -> Result<Readiness, OpenRefused> {
+    match Readiness::open(rt, alloc) {
+        Ok(readiness) => {
+            if operators.watch(&readiness) {
+                Ok(readiness)
+            } else {
+                drop(readiness);
+                Err(OpenRefused::Readiness)
+            }
+        }
+        Err(_) => Err(OpenRefused::Readiness),
+    }
+}
+
+/// The path that goes with an address.
+fn path_of(alloc: Global, address: &Address) -> Result<Option<Text>, NoMemory> {
+    match address {
+        Address::Unix(path) => Ok(Some(path.copy(alloc)?)),
+        _ => Ok(None),
+    }
+}
+
+/// Binds an address, and adds what listens there.
+fn bind<R: Net<Listener = TcpListener, Stream = TcpStream> + Files>(
+    rt: &R,
+    alloc: Global,
+    listeners: &mut Listeners,
+    address: &Address,
+) -> Result<u64, BindRefused> {
+    let Ok(path) = path_of(alloc, address) else {
+        return Err(BindRefused::Failed);
+    };
+    match Socket::bind(rt, address) {
+        Ok(socket) => match listeners.add(socket, path) {
+            Ok(number) => Ok(number),
+            Err(NoMemory) => Err(BindRefused::Failed),
+        },
+        Err(refused) => {
+            drop(path);
+            Err(refused)
+        }
+    }
+}
+
+impl<'a, R: Net<Listener = TcpListener, Stream = TcpStream> + Files + Clock> System<'a, R> {
+    /// The system's side of a server with this plan, of which nothing was told yet. Operators are listened
+    /// to from now on.
+    pub fn open(
+        rt: &'a R,
+        alloc: Global,
+        plan: &Plan,
+        control: ControlAddress,
+    ) -> Result<Self, OpenRefused> {
+        let Ok(times) = Times::start(rt) else {
+            return Err(OpenRefused::Clock);
+        };
+        let operators = Operators::open(rt, alloc, control)?;
+        let readiness = match watched(rt, alloc, &operators) {
+            Ok(readiness) => readiness,
+            Err(refused) => {
+                operators.close(rt);
+                drop(operators);
+                return Err(refused);
+            }
+        };
+        let connections = match Connections::new(alloc) {
+            Ok(connections) => connections,
+            Err(NoMemory) => {
+                operators.close(rt);
+                drop(operators);
+                drop(readiness);
+                return Err(OpenRefused::NoMemory);
+            }
+        };
+        let endpoints = match Endpoints::learn(rt, alloc, plan) {
+            Ok(endpoints) => endpoints,
+            Err(NoMemory) => {
+                operators.close(rt);
+                drop(operators);
+                drop(readiness);
+                drop(connections);
+                return Err(OpenRefused::NoMemory);
+            }
+        };
+        Ok(System {
+            rt,
+            alloc,
+            readiness,
+            times,
+            endpoints,
+            listeners: Listeners::new(alloc),
+            connections,
+            operators,
+            grace: plan.grace.saturating_mul(1000),
+            phase: ExecutionPhase::Setup,
+            signal: None,
+            is_draining: false,
+            has_ended: false,
+            has_failed: false,
+        })
+    }
+
+    /// The server has ended: the control address is free again.
+    pub fn close(&self) {
+        self.operators.close(self.rt);
+    }
+
+    /// It has its turn at once.
+    fn wake(&mut self, ready: Ready) {
+        if self.readiness.again(ready).is_err() {
+            self.has_failed = true;
+        }
+    }
+
+    /// The socket of the endpoint in this place has its turn.
+    fn wake_endpoint(&mut self, at: usize) {
+        let fd = match self.endpoints.rows.get(at) {
+            Some(row) => row.fd,
+            None => None,
+        };
+        if let Some(fd) = fd {
+            self.wake(Ready::Listener(fd));
+        }
+    }
+
+    /// The sockets of all endpoints have their turn.
+    fn wake_all(&mut self) {
+        for at in 0..self.endpoints.rows.len() {
+            self.wake_endpoint(at);
+        }
+    }
+
+    /// What the bind of an endpoint gives.
+    fn bind(&mut self, service: u32, number: u32) -> Event
+        ensures few { length (numbers_of (Got result)) ≤ 32 }
+        ensures answers { AnswersBind service number result }
+    {
+        let Some(at) = self.endpoints.place(service, number) else {
+            return Event::BindFailed(service, number);
+        };
+        let Some(row) = self.endpoints.rows.get(at) else {
+            return Event::BindFailed(service, number);
+        };
+        match bind(self.rt, self.alloc, &mut self.listeners, &row.address) {
+            Ok(fd) => self.opened(at, service, number, fd),
+            Err(BindRefused::InUse) => Event::InUse(service, number),
+            Err(BindRefused::Failed) => Event::BindFailed(service, number),
+        }
+    }
+
+    /// A socket listens for the endpoint in this place.
+    fn opened(&mut self, at: usize, service: u32, number: u32, fd: u64) -> Event
+        ensures few { length (numbers_of (Got result)) ≤ 32 }
+        ensures answers { AnswersBind service number result }
+    {
+        let is_watched = match self.listeners.get(fd) {
+            Some(socket) => self.readiness.watch(socket.raw(), Ready::Listener(fd)),
+            None => false,
+        };
+        if !is_watched {
+            self.listeners.close(self.rt, fd);
+            return Event::BindFailed(service, number);
+        }
+        self.endpoints.give(at, fd);
+        Event::Bound(service, number, fd)
+    }
+
+    /// What the endpoint says of a socket that it is offered.
+    fn adopt(&mut self, service: u32, number: u32, fd: u64) -> Event
+        ensures few { length (numbers_of (Got result)) ≤ 32 }
+        ensures answers { AnswersAdopt service number result }
+    {
+        match self.endpoints.place(service, number) {
+            Some(at) if self.listeners.get(fd).is_some() => {
+                self.endpoints.give(at, fd);
+                Event::Adopted(service, number)
+            }
+            _ => Event::AdoptFailed(service, number),
+        }
+    }
+
+    /// Closes a listening socket.
+    fn close_listener(&mut self, fd: u64) {
+        self.listeners.close(self.rt, fd);
+        self.endpoints.forget(fd);
+    }
+
+    /// An accept loop rests for so many milliseconds.
+    fn rest(&mut self, at: usize, ms: u64) {
+        let until = self.times.now.saturating_add(ms);
+        self.endpoints.rest(at, until);
+        self.times.rests = sooner(self.times.rests, until);
+    }
+
+    fn rest_endpoint(&mut self, service: u32, number: u32) {
+        if let Some(at) = self.endpoints.place(service, number) {
+            self.rest(at, REST);
+        }
+    }
+
+    /// The server is in this phase from now on.
+    fn enter(&mut self, phase: ExecutionPhase, moment: u64) {
+        self.phase = phase;
+        match phase {
+            ExecutionPhase::ShutdownGracePeriod => {
+                self.times.ends = Some(moment.saturating_add(self.grace));
+            }
+            ExecutionPhase::GracefulUpgradeCloseTimeout => {
+                self.times.ends = Some(moment.saturating_add(CLOSE_TIMEOUT));
+            }
+            ExecutionPhase::Terminated => self.has_ended = true,
+            _ => {}
+        }
+    }
+
+    /// The application has the connection. One that can't be watched is done with at once.
+    fn serve(&mut self, c: u64) -> Option<Event>
+        ensures few { IfSome result (λ e. length (numbers_of (Got e)) ≤ 32) }
+        ensures answers { IfSome result (λ e. e ≡ Event.Finished c) }
+    {
+        if self.connections.serve(c, &self.readiness) {
+            return None;
+        }
+        self.connections.remove(c);
+        Some(Event::Finished(c))
+    }
+
+    /// Performs an action of a connection. Gives the answer, if the action asks for one.
+    fn perform_on_connection(&mut self, action: &Action) -> Option<Event>
+        ensures few { IfSome result (λ e. length (numbers_of (Got e)) ≤ 32) }
+        ensures answers { AnswersOnConnection action.now result }
+    {
+        match action {
+            Action::Settings(c, list) => {
+                Some(Event::Set(*c, self.connections.set(*c, list.as_slice())))
+            }
+            Action::Handshake(c) => Some(Event::Shaken(*c, true)),
+            Action::Serve(c) => self.serve(*c),
+            Action::Refuse(c) | Action::Drop(c) | Action::Cut(c) => {
+                self.connections.remove(*c);
+                None
+            }
+            _ => None,
+        }
+    }
+
+    /// Performs an action on endpoints and services. Gives the answer, if the action asks for one.
+    fn perform_on_endpoint(&mut self, action: &Action) -> Option<Event>
+        ensures few { IfSome result (λ e. length (numbers_of (Got e)) ≤ 32) }
+        ensures answers { AnswersOnEndpoint action.now result }
+    {
+        match action {
+            Action::Start(s) => self.endpoints.start(*s),
+            Action::Fail(s) => {
+                self.endpoints.fail(*s);
+                None
+            }
+            Action::Bind(s, i) => Some(self.bind(*s, *i)),
+            Action::Adopt(s, i, fd) => Some(self.adopt(*s, *i, *fd)),
+            Action::Close(fd) => {
+                self.close_listener(*fd);
+                None
+            }
+            Action::Rest(s, i) => {
+                self.rest_endpoint(*s, *i);
+                None
+            }
+            _ => self.perform_on_connection(action),
+        }
+    }
+
+    /// Performs an action. Gives the answer, if the action asks for one. Nothing is received from an older
+    /// server and nothing sent to a newer one.
+    pub fn perform(&mut self, action: &Action) -> Option<Event>
+        ensures few { IfSome result (λ e. length (numbers_of (Got e)) ≤ 32) }
+        ensures answers { Answers action.now result }
+    {
+        match action {
+            Action::TryReceive => Some(Event::ReceiveFailed),
+            Action::Connect => Some(Event::ConnectFailed),
+            Action::Send(_, _) => Some(Event::SendFailed),
+            Action::Phase(phase, moment) => {
+                self.enter(*phase, *moment);
+                None
+            }
+            Action::Broadcast => {
+                self.is_draining = true;
+                None
+            }
+            _ => self.perform_on_endpoint(action),
+        }
+    }
+
+    /// An endpoint of the service was told to listen. Where the service serves from now on, its sockets have
+    /// their turn, since connections may have come before.
+    fn hold(&mut self, service: u32) {
+        if self.endpoints.hold(service) {
+            self.wake_all();
+        }
+    }
+
+    /// The endpoint's address was told to be in use.
+    fn wait_for_address(&mut self, service: u32, number: u32) {
+        let moment = self.times.told.saturating_add(REST);
+        if let Some(at) = self.endpoints.place(service, number) {
+            self.endpoints.bind_at(at, moment);
+        }
+        self.times.binds = sooner(self.times.binds, moment);
+    }
+
+    /// This answer is given to the server now.
+    pub fn give(&mut self, answer: &Event) {
+        match answer {
+            Event::Bound(s, _, _) | Event::Adopted(s, _) => self.hold(*s),
+            Event::InUse(s, i) => self.wait_for_address(*s, *i),
+            _ => {}
+        }
+    }
+
+    /// How the server is.
+    fn report(&self) -> Report {
+        Report::new(
+            self.phase,
+            self.endpoints.services.as_slice(),
+            self.listeners.count(),
+            self.connections.count(),
+        )
+    }
+
+    /// Takes the operators who came.
+    fn admit_operators(&mut self) {
+        match self.operators.admit(&self.readiness) {
+            Admitted::All => {}
+            Admitted::Some => self.wake(Ready::Control),
+            Admitted::Failed => {
+                let until = self.times.now.saturating_add(PAUSE);
+                self.times.rests = sooner(self.times.rests, until);
+            }
+        }
+    }
+
+    /// Takes what an operator says.
+    fn hear(&mut self, place: usize) {
+        let report = self.report();
+        let heard = self.operators.hear(self.alloc, place, &report);
+        if let Some(signal) = heard.signal {
+            self.signal = Some(signal);
+        }
+        if heard.more {
+            self.wake(Ready::Operator(place));
+        }
+    }
+
+    /// An accept at the endpoint in this place failed with this error number. It rests a little.
+    fn accept_failed(&mut self, at: usize, number: u32) -> Look
+        ensures { GivesFew result }
+    {
+        self.rest(at, PAUSE);
+        match self.endpoints.rows.get(at) {
+            Some(row) => Look::Event(Event::AcceptFailed(row.service, row.number, number)),
+            None => Look::Nothing,
+        }
+    }
+
+    /// A connection came at the endpoint in this place.
+    fn admit(&mut self, at: usize, stream: TcpStream, peer: Peer) -> Look
+        ensures { GivesFew result }
+    {
+        let Ok(c) = self.connections.add(stream, peer) else {
+            return self.accept_failed(at, NO_MEMORY);
+        };
+        match self.endpoints.rows.get(at) {
+            Some(row) => Look::Event(Event::Arrived(row.service, row.number, c, peer)),
+            None => Look::Nothing,
+        }
+    }
+
+    /// Accepts a connection at the endpoint in this place, which listens on this socket.
+    fn accept_at(&mut self, at: usize, fd: u64) -> Look
+        ensures { GivesFew result }
+    {
+        let came = match self.listeners.get(fd) {
+            Some(socket) => socket.accept(),
+            None => Came::Nothing,
+        };
+        match came {
+            Came::Nothing => Look::Nothing,
+            Came::Gone => {
+                self.wake(Ready::Listener(fd));
+                Look::Nothing
+            }
+            Came::Failed(number) => self.accept_failed(at, number),
+            Came::Connection(stream, peer) => {
+                self.wake(Ready::Listener(fd));
+                self.admit(at, stream, peer)
+            }
+        }
+    }
+
+    /// Accepts a connection on this socket. From the broadcast on none is accepted: what waits is for
+    /// a successor, if there is one.
+    fn accept(&mut self, fd: u64) -> Look
+        ensures { GivesFew result }
+    {
+        if self.is_draining {
+            return Look::Nothing;
+        }
+        match self.endpoints.accepting(fd, self.times.now) {
+            Some(at) => self.accept_at(at, fd),
+            None => Look::Nothing,
+        }
+    }
+
+    /// A connection has its turn.
+    fn advance(&mut self, c: u64) -> Look
+        ensures { GivesFew result }
+    {
+        match self.connections.turn(c) {
+            Turn::Waits => Look::Nothing,
+            Turn::More => {
+                self.wake(Ready::Connection(c));
+                Look::Nothing
+            }
+            Turn::Over => {
+                self.connections.remove(c);
+                Look::Event(Event::Finished(c))
+            }
+        }
+    }
+
+    /// What is ready has its turn.
+    fn turn(&mut self, ready: Ready) -> Look
+        ensures { GivesFew result }
+    {
+        match ready {
+            Ready::Control => {
+                self.admit_operators();
+                Look::Nothing
+            }
+            Ready::Operator(place) => {
+                self.hear(place);
+                Look::Nothing
+            }
+            Ready::Listener(fd) => self.accept(fd),
+            Ready::Connection(c) => self.advance(c),
+        }
+    }
+
+    /// All sockets at which something comes have their turn where a rest is over.
+    fn end_rests(&mut self) {
+        if self.times.have_rested() {
+            self.times.rests = self.endpoints.next_rest(self.times.now);
+            self.wake_all();
+            self.wake(Ready::Control);
+        }
+    }
+
+    /// Tells the moment.
+    fn tell_moment(&mut self) -> Look
+        ensures { GivesFew result }
+    {
+        let moment = self.times.tell();
+        self.times.binds = self.endpoints.next_bind(moment);
+        Look::Event(Event::Moment(moment))
+    }
+
+    /// Waits for the system. Tells the moment, where it is to be told.
+    fn wait(&mut self) -> Look
+        ensures { GivesFew result }
+    {
+        if !self.readiness.wait(self.times.until_due()) || !self.times.read(self.rt) {
+            return Look::Failed;
+        }
+        self.end_rests();
+        if self.times.is_due(!self.readiness.is_empty()) {
+            return self.tell_moment();
+        }
+        Look::Nothing
+    }
+
+    /// What an operator asked for, or the end of an accept loop from the broadcast on.
+    fn pending(&mut self) -> Option<Event>
+        ensures { IfSome result (λ e. length (numbers_of (Got e)) ≤ 32) }
+    {
+        if let Some(signal) = self.signal.take() {
+            return Some(Event::Signal(signal));
+        }
+        if self.is_draining {
+            self.endpoints.next_end()
+        } else {
+            None
+        }
+    }
+
+    /// Looks once.
+    fn look(&mut self) -> Look
+        ensures { GivesFew result }
+    {
+        if self.has_failed {
+            return Look::Failed;
+        }
+        if let Some(event) = self.pending() {
+            return Look::Event(event);
+        }
+        match self.readiness.next() {
+            Some(ready) => self.turn(ready),
+            None => self.wait(),
+        }
+    }
+
+    /// What comes next. It waits until something does. None where the server has ended, and a fault where
+    /// the clock failed or memory was refused for what is ready.
+    pub fn next(&mut self) -> Option<Item>
+        ensures { IfSome result GivesFewItem }
+    {
+        if self.has_ended {
+            return None;
+        }
+        for _ in 0..u64::MAX {
+            match self.look() {
+                Look::Event(event) => return Some(Item::Event(event)),
+                Look::Failed => return Some(Item::Fault),
+                Look::Nothing => {}
+            }
+        }
+        None
+    }
+}
