@@ -1,4 +1,4 @@
-//! Finds the proved library `libsvc_c.a`, which `rt lib` builds in `crates/svc_c`.
+//! Finds the proved library `libsvc_c.a`, which `bin/archive` builds in `crates/svc_c/out`.
 //!
 //! `FULLTIMEHEN_LIB` names the folder that it lies in, where it isn't the repository's own. Where the library
 //! is missing or is one of another target, programs and documentation are checked all the same, and the
@@ -45,7 +45,7 @@ fn main() {
         (None, _) => {
             println!("cargo::rustc-cfg=svc_c=\"missing\"");
             println!(
-                "cargo::warning={} is missing: programs are checked, and none can be made; run `rt lib` in crates/svc_c, or name its folder in FULLTIMEHEN_LIB",
+                "cargo::warning={} is missing: programs are checked, and none can be made; run `bin/archive`, or name its folder in FULLTIMEHEN_LIB",
                 library.display()
             );
         }

@@ -3,6 +3,7 @@
 use crate::listener::Accepted;
 use crate::log::say;
 use fulltimehen::Peer;
+use socket2::SockRef;
 use std::fmt;
 use std::io;
 use std::net::SocketAddr;
@@ -159,13 +160,37 @@ impl fmt::Debug for Connection {
 impl Connection {
     pub(crate) fn new(accepted: Accepted, peer: Peer, guard: Arc<Guard>) -> io::Result<Connection> {
         let stream = match accepted {
-            Accepted::Tcp(stream) => Stream::Tcp(TcpStream::from_std(stream)?),
+            Accepted::Tcp(stream, _) => Stream::Tcp(TcpStream::from_std(stream)?),
             Accepted::Unix(stream) => Stream::Unix(UnixStream::from_std(stream)?),
         };
         Ok(Connection { stream, peer, idle: None, guard })
     }
 
     /// Its number: each of a server has its own, as in the record.
+    ///
+    /// ```
+    /// use fulltimehen_server::{Connection, Opt, Server, listening};
+    /// use std::io;
+    /// use tokio::io::AsyncWriteExt;
+    ///
+    /// /// Tells clients who they are.
+    /// async fn greet(mut connection: Connection) -> io::Result<()> {
+    ///     let who = match (connection.peer_addr(), connection.as_unix()) {
+    ///         (Some(address), _) => address.to_string(),
+    ///         (None, Some(stream)) => format!("user {}", stream.peer_cred()?.uid()),
+    ///         (None, None) => connection.peer().to_string(),
+    ///     };
+    ///     if let Some(stream) = connection.as_tcp() {
+    ///         stream.set_ttl(32)?;
+    ///     }
+    ///     let text = format!("connection {} of {who}\n", connection.number());
+    ///     connection.write_all(text.as_bytes()).await
+    /// }
+    ///
+    /// let mut server = Server::new(Opt::default())?;
+    /// server.add_service(listening("greet", greet).tcp("127.0.0.1:8080").unix("/run/greet.sock", 0o660));
+    /// # Ok::<(), fulltimehen_server::ServerError>(())
+    /// ```
     #[must_use]
     pub fn number(&self) -> u64 {
         self.guard.number
@@ -209,6 +234,34 @@ impl Connection {
     #[must_use]
     pub fn shutdown(&self) -> Shutdown {
         self.guard.common.shutdown().clone()
+    }
+
+    /// Ends the connection by a reset (RST): its client sees an error, and doesn't take what it got for all there is. At
+    /// the end of a handler alone the client sees an end, or an error where bytes of its own weren't read. A peer of the
+    /// Unix domain sees an end.
+    ///
+    /// ```
+    /// use fulltimehen_server::{Server, connect, listening, relay};
+    /// use std::time::Duration;
+    ///
+    /// let forward = listening("forward", |mut client| async move {
+    ///     let upstream = connect("127.0.0.1:8000".parse().unwrap(), Duration::from_secs(10)).await;
+    ///     match upstream {
+    ///         Ok(mut server) => relay(&mut client, &mut server).await.map(drop),
+    ///         Err(error) => {
+    ///             client.reset();
+    ///             Err(error)
+    ///         }
+    ///     }
+    /// });
+    /// Server::new(None)?.add_service(forward.tcp("127.0.0.1:8080"));
+    /// # Ok::<(), fulltimehen_server::ServerError>(())
+    /// ```
+    pub fn reset(self) {
+        if let Stream::Tcp(stream) = &self.stream {
+            // Where it can't be set, the connection ends as others do.
+            _ = SockRef::from(stream).set_linger(Some(Duration::ZERO));
+        }
     }
 
     /// Reading and writing fail with `TimedOut` where nothing was read or written for so long and they have

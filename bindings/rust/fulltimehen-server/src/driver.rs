@@ -13,6 +13,7 @@ use crate::log::say;
 use crate::pid_file::FileId;
 use crate::process::Process;
 use crate::service::Service;
+use crate::signals::Signals;
 use crate::succession::{Held, Shared};
 use crate::takeover::{Addresses, Ended};
 use fulltimehen::{
@@ -20,6 +21,7 @@ use fulltimehen::{
     Signal,
 };
 use std::collections::{BTreeMap, HashMap, HashSet, VecDeque};
+use std::hash::{BuildHasherDefault, Hasher};
 use std::io;
 use std::os::fd::AsFd;
 use std::panic::{AssertUnwindSafe, catch_unwind};
@@ -107,8 +109,28 @@ struct FinishedList {
 }
 
 impl FinishedList {
-    fn take(&self) -> Vec<u64> {
-        std::mem::take(&mut *self.numbers.lock().unwrap_or_else(PoisonError::into_inner))
+    /// Swaps the numbers for an empty list.
+    fn swap(&self, empty: &mut Vec<u64>) {
+        std::mem::swap(&mut *self.numbers.lock().unwrap_or_else(PoisonError::into_inner), empty);
+    }
+}
+
+/// Hashes a connection's number by itself: numbers ascend, and the server gives them.
+#[derive(Default)]
+struct NumberHasher(u64);
+
+impl Hasher for NumberHasher {
+    fn finish(&self) -> u64 {
+        self.0
+    }
+
+    fn write(&mut self, _: &[u8]) {
+        unreachable!("a number is written")
+    }
+
+    fn write_u64(&mut self, number: u64) {
+        // The table looks at the highest bits, too.
+        self.0 = number.wrapping_mul(0x9e37_79b9_7f4a_7c15);
     }
 }
 
@@ -196,30 +218,6 @@ pub(crate) enum Drive {
     Anew(Vec<Held>),
 }
 
-/// The operator's signals.
-pub(crate) enum Signals {
-    /// Those of the process.
-    Process([tokio::signal::unix::Signal; 3]),
-    /// Those of a channel.
-    Channel(mpsc::Receiver<Signal>),
-}
-
-impl Signals {
-    async fn next(&mut self) -> Signal {
-        match self {
-            Signals::Process([interrupt, terminate, quit]) => tokio::select! {
-                Some(()) = interrupt.recv() => Signal::Fast,
-                Some(()) = terminate.recv() => Signal::Terminate,
-                Some(()) = quit.recv() => Signal::Upgrade,
-            },
-            Signals::Channel(signals) => match signals.recv().await {
-                Some(signal) => signal,
-                None => std::future::pending().await,
-            },
-        }
-    }
-}
-
 /// What the operator wants.
 #[derive(Clone, Copy, PartialEq, Eq)]
 enum Wanted {
@@ -248,8 +246,10 @@ pub(crate) struct Driver {
     connection_numbers: Numbers,
     sockets: BTreeMap<u64, Socket>,
     loops: BTreeMap<Place, (u64, Vec<JoinHandle<()>>)>,
-    connections: HashMap<u64, Known>,
+    connections: HashMap<u64, Known, BuildHasherDefault<NumberHasher>>,
     finished: Arc<FinishedList>,
+    /// Room for what is taken out of that list.
+    done_with: Vec<u64>,
     beat: Beat,
     progress: Vec<Progress>,
     shutdown: watch::Sender<bool>,
@@ -302,8 +302,9 @@ impl Driver {
             connection_numbers: Numbers::new(),
             sockets: BTreeMap::new(),
             loops: BTreeMap::new(),
-            connections: HashMap::new(),
+            connections: HashMap::default(),
             finished,
+            done_with: Vec::new(),
             beat: Beat::default(),
             progress: setup.services.iter().map(|_| Progress::default()).collect(),
             shutdown,
@@ -403,9 +404,10 @@ impl Driver {
     /// The core takes what is owed and what came, until nothing is left.
     fn settle(&mut self) {
         loop {
-            for connection in self.finished.take() {
-                self.over(connection);
-            }
+            let mut done_with = std::mem::take(&mut self.done_with);
+            self.finished.swap(&mut done_with);
+            done_with.drain(..).for_each(|connection| self.over(connection));
+            self.done_with = done_with;
             while let Some(event) = self.events.pop_front() {
                 self.give(event);
                 if self.core.end() != End::On {
@@ -646,8 +648,7 @@ impl Driver {
             let text: Vec<&str> = self.refusals.values().map(String::as_str).collect();
             return self.fail(ServerError::Bind(text.join("; ")));
         }
-        // What nobody took goes.
-        self.setup.pool.clear();
+        self.drop_pool();
         *self.setup.shared.held.borrow_mut() = self.held();
         if let Err(error) = self.setup.shared.claim(self.setup.takes_over) {
             return self.fail(error);
@@ -660,6 +661,25 @@ impl Driver {
         }
         self.setup.shared.notify(&format!("READY=1\nMAINPID={}\nSTATUS=Running", process::id()));
         tracing::info!("serving");
+    }
+
+    /// What nobody took goes. Where it is at an address that no service has, that is said.
+    fn drop_pool(&mut self) {
+        for Held { word, listener } in self.setup.pool.drain(..) {
+            let address = listener.get_ref().address();
+            let is_it = |socket: &Socket| socket.listener.get_ref().address() == address;
+            if !self.sockets.values().any(is_it) {
+                let name = if word.is_empty() || word == address {
+                    String::new()
+                } else {
+                    format!(" ({word})")
+                };
+                say!(
+                    warn,
+                    "no service listens at {address}{name}: the socket that is there is closed"
+                );
+            }
+        }
     }
 
     fn all_failed(&self) -> bool {

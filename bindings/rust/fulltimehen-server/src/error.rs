@@ -30,6 +30,17 @@ impl fmt::Display for Outcome {
 }
 
 /// Why a server didn't run, or ended.
+///
+/// ```
+/// use fulltimehen_server::{RunArgs, Server, ServerError, listening};
+///
+/// let mut server = Server::new(None)?;
+/// server.add_service(listening("web", |_| async {}).tcp("not an address"));
+/// let error = server.run(RunArgs::default()).unwrap_err();
+/// assert!(matches!(&error, ServerError::Address { service, .. } if service == "web"));
+/// assert_eq!(error.status(), 3);
+/// # Ok::<(), ServerError>(())
+/// ```
 #[derive(Debug, thiserror::Error)]
 #[non_exhaustive]
 pub enum ServerError {
@@ -129,6 +140,13 @@ impl ServerError {
     }
 
     /// Ends the program with this error on standard error and its [`status`](ServerError::status).
+    ///
+    /// ```
+    /// use fulltimehen_server::Server;
+    ///
+    /// let server = Server::new(None).unwrap_or_else(|error| error.exit());
+    /// # drop(server);
+    /// ```
     pub fn exit(self) -> ! {
         say!(error, "{self}");
         log::flush();

@@ -25,6 +25,13 @@ pub struct Cidr {
 }
 
 /// The text isn't a range of addresses: an address, and perhaps `/` and the number of bits that count.
+///
+/// ```
+/// use fulltimehen_server::{Cidr, CidrError};
+///
+/// let refused: Result<Cidr, CidrError> = "10.0.0.0/33".parse();
+/// assert!(refused.unwrap_err().to_string().starts_with("\"10.0.0.0/33\" isn't a range of addresses"));
+/// ```
 #[derive(Clone, Debug, PartialEq, Eq, thiserror::Error)]
 #[error("{0:?} isn't a range of addresses, as 10.0.0.0/8 or 2001:db8::/32")]
 pub struct CidrError(String);

@@ -5,6 +5,7 @@ use crate::limits::Spare;
 use crate::log::say;
 use crate::pid_file::{FileId, with_ending};
 use crate::process::Process;
+use crate::sys;
 use socket2::{Domain, SockAddr, SockRef, Socket, Type};
 use std::cell::RefCell;
 use std::fs::{self, Permissions};
@@ -250,7 +251,7 @@ pub(crate) async fn receive(
                     Err(_) => return Ok(()),
                 }
             }
-            let take = || fds::receive(stream, &mut piece);
+            let take = || sys::receive(stream, &mut piece);
             match stream.try_io(Interest::READABLE, take) {
                 Ok((0, _)) if bytes.is_empty() || frame == Frame::Length => {
                     return Err(io::ErrorKind::UnexpectedEof.into());
@@ -326,6 +327,10 @@ fn decode_version_2(mut rest: &str) -> Option<Vec<String>> {
 #[cfg(test)]
 mod tests {
     use super::*;
+    use nix::sys::socket::{setsockopt, sockopt};
+    use std::fs::File;
+    use std::io::Read;
+    use std::os::fd::{AsFd, AsRawFd};
 
     #[test]
     fn messages_are_those_of_the_formats() {
@@ -339,5 +344,43 @@ mod tests {
             assert_eq!(decode(refused.as_bytes()), None, "{refused}");
         }
         assert_eq!(decode(&[0xff]), None);
+    }
+
+    /// A message of more bytes than a socket passes at once, with as many sockets as it may have, in either frame;
+    /// with the sender's credentials before the sockets, as a socket that asks for them has it.
+    #[tokio::test]
+    async fn a_long_message_comes_whole() {
+        for frame in [Frame::ToItsEnd, Frame::Length] {
+            let (one, other) = UnixStream::pair().unwrap();
+            setsockopt(other.as_raw_fd(), sockopt::PassCred, &true).unwrap();
+            let sockets: Vec<_> =
+                (0..fds::MOST_FDS).map(|_| File::open("/dev/null").unwrap()).collect();
+            let fds: Vec<_> = sockets.iter().map(AsFd::as_fd).collect();
+            let bytes = vec![b'a'; 65_536];
+            let (sent, received) =
+                tokio::join!(send(&one, &bytes, &fds, frame), receive(&other, frame));
+            sent.unwrap();
+            let (got, came) = received.unwrap();
+            assert_eq!((got, came.len()), (bytes, fds::MOST_FDS));
+        }
+    }
+
+    /// More bytes or sockets than a message has are refused, and closed.
+    #[tokio::test]
+    async fn too_much_is_refused() {
+        for (length, count) in [(MOST_BYTES + 1, 1), (10, fds::MOST_FDS + 1)] {
+            let (one, other) = UnixStream::pair().unwrap();
+            let (mut reader, writer) = std::io::pipe().unwrap();
+            let fds = vec![writer.as_fd(); count];
+            let bytes = vec![b'a'; length];
+            let (_, received) = tokio::join!(
+                send(&one, &bytes, &fds, Frame::ToItsEnd),
+                receive(&other, Frame::ToItsEnd)
+            );
+            assert_eq!(received.unwrap_err().kind(), io::ErrorKind::InvalidData);
+            drop((one, other, writer));
+            // Nobody has the other end any more.
+            assert_eq!(reader.read(&mut [0]).unwrap(), 0);
+        }
     }
 }

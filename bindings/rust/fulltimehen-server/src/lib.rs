@@ -34,23 +34,25 @@ mod beat;
 mod connection;
 mod driver;
 mod error;
-#[allow(unsafe_code)]
 mod fds;
 mod filter;
 mod handover;
+mod inherited;
 mod limits;
 mod listener;
 mod log;
 mod notify;
 mod opt;
 mod pid_file;
-#[allow(unsafe_code)]
 mod process;
 mod record;
 mod relay;
 mod server;
 mod service;
+mod signals;
 mod succession;
+#[allow(unsafe_code)]
+mod sys;
 mod takeover;
 
 pub use connection::{Connection, Shutdown, connect};

@@ -3,9 +3,10 @@
 use crate::pid_file::FileId;
 use fulltimehen::Peer;
 use socket2::{Domain, SockAddr, SockRef, Socket, TcpKeepalive, Type};
+use std::cell::Cell;
 use std::fs::{self, Permissions};
 use std::io;
-use std::net::{self, SocketAddr, ToSocketAddrs};
+use std::net::{self, Ipv4Addr, Ipv6Addr, SocketAddr, ToSocketAddrs};
 use std::os::fd::{AsFd, AsRawFd, BorrowedFd, OwnedFd, RawFd};
 use std::os::unix::fs::{FileTypeExt, PermissionsExt};
 use std::os::unix::net as unix;
@@ -54,14 +55,24 @@ pub(crate) struct KeepAlive {
 /// A listening socket. It doesn't block.
 #[derive(Debug)]
 pub(crate) enum Listener {
-    Tcp(net::TcpListener),
+    Tcp(net::TcpListener, Cell<NoDelay>),
     Unix(unix::UnixListener),
+}
+
+/// Whether what a listening socket accepts sends without delay: it has that from its listener, from the moment on at
+/// which that is set so.
+#[derive(Clone, Copy, Debug, PartialEq, Eq)]
+pub(crate) enum NoDelay {
+    No,
+    /// Not those that waited before.
+    Later,
+    Yes,
 }
 
 /// An accepted connection. It doesn't block.
 #[derive(Debug)]
 pub(crate) enum Accepted {
-    Tcp(net::TcpStream),
+    Tcp(net::TcpStream, NoDelay),
     Unix(unix::UnixStream),
 }
 
@@ -77,6 +88,10 @@ fn remove_stale(path: &Path) -> io::Result<()> {
         Err(error) if error.kind() == io::ErrorKind::ConnectionRefused => fs::remove_file(path),
         _ => Err(io::ErrorKind::AddrInUse.into()),
     }
+}
+
+fn is_would_block<T>(answer: &io::Result<T>) -> bool {
+    matches!(answer, Err(error) if error.kind() == io::ErrorKind::WouldBlock)
 }
 
 impl Listener {
@@ -101,7 +116,7 @@ impl Listener {
         socket.listen(BACKLOG)?;
         socket.set_nonblocking(true)?;
         Ok(match address {
-            Address::Tcp(_) => Listener::Tcp(socket.into()),
+            Address::Tcp(_) => Listener::Tcp(socket.into(), Cell::new(NoDelay::No)),
             Address::Unix { .. } => Listener::Unix(socket.into()),
         })
     }
@@ -119,7 +134,9 @@ impl Listener {
             return refused("it isn't a listening socket");
         }
         let listener = match socket.domain()? {
-            Domain::IPV4 | Domain::IPV6 => Listener::Tcp(net::TcpListener::from(fd)),
+            Domain::IPV4 | Domain::IPV6 => {
+                Listener::Tcp(net::TcpListener::from(fd), Cell::new(NoDelay::No))
+            }
             Domain::UNIX => Listener::Unix(unix::UnixListener::from(fd)),
             _ => return refused("it is a socket of another family"),
         };
@@ -127,12 +144,13 @@ impl Listener {
         Ok(listener)
     }
 
-    /// Whether it listens at this address. A port 0 is any port.
+    /// Whether it listens at this address. A port 0 is any port; and a socket of all addresses of IPv6 that takes IPv4,
+    /// too, as service managers make it for a port alone, is one of all addresses of IPv4.
     pub(crate) fn is_at(&self, address: &Address) -> bool {
         match (self, address) {
-            (Listener::Tcp(listener), Address::Tcp(address)) => {
+            (Listener::Tcp(listener, _), Address::Tcp(address)) => {
                 listener.local_addr().is_ok_and(|local| {
-                    local.ip() == address.ip()
+                    (local.ip() == address.ip() || self.has_all_of(local, *address))
                         && (address.port() == 0 || local.port() == address.port())
                 })
             }
@@ -143,21 +161,47 @@ impl Listener {
         }
     }
 
+    /// Whether it is of all addresses of both families, and all of IPv4 are asked for.
+    fn has_all_of(&self, local: SocketAddr, address: SocketAddr) -> bool {
+        local.ip() == Ipv6Addr::UNSPECIFIED
+            && address.ip() == Ipv4Addr::UNSPECIFIED
+            && SockRef::from(self).only_v6().is_ok_and(|only| !only)
+    }
+
+    /// Its address, for messages.
+    pub(crate) fn address(&self) -> String {
+        match self {
+            Listener::Tcp(listener, _) => {
+                listener.local_addr().map_or("?".to_owned(), |address| address.to_string())
+            }
+            Listener::Unix(listener) => {
+                let address = listener.local_addr().ok();
+                let path = address.as_ref().and_then(|address| address.as_pathname());
+                path.map_or("?".to_owned(), |path| path.display().to_string())
+            }
+        }
+    }
+
     /// Sees to it that accepting doesn't block: another program that has the socket may have changed that.
     pub(crate) fn unblock(&self) -> io::Result<()> {
         match self {
-            Listener::Tcp(listener) => listener.set_nonblocking(true),
+            Listener::Tcp(listener, _) => listener.set_nonblocking(true),
             Listener::Unix(listener) => listener.set_nonblocking(true),
         }
     }
 
-    /// Listens once more, with the backlog of this program, and has connections kept alive.
+    /// Listens once more, with the backlog of this program, and has connections send without delay and kept alive.
     pub(crate) fn prepare(&self, keep_alive: Option<KeepAlive>) -> io::Result<()> {
         self.unblock()?;
         let socket = SockRef::from(self);
         socket.listen(BACKLOG)?;
-        if let (Listener::Tcp(_), Some(times)) = (self, keep_alive) {
-            // An accepted connection has what its listener has.
+        let Listener::Tcp(_, no_delay) = self else {
+            return Ok(());
+        };
+        // An accepted connection has what its listener has.
+        socket.set_nodelay(true)?;
+        no_delay.set(NoDelay::Later);
+        if let Some(times) = keep_alive {
             let keep_alive = TcpKeepalive::new()
                 .with_time(times.idle)
                 .with_interval(times.interval)
@@ -180,10 +224,15 @@ impl Listener {
     /// Accepts a connection, without waiting.
     pub(crate) fn accept(&self) -> io::Result<(Accepted, Peer)> {
         Ok(match self {
-            Listener::Tcp(listener) => {
-                let (stream, peer) = listener.accept()?;
+            Listener::Tcp(listener, no_delay) => {
+                let accepted = listener.accept();
+                if no_delay.get() == NoDelay::Later && is_would_block(&accepted) {
+                    // None waits any more that came before.
+                    no_delay.set(NoDelay::Yes);
+                }
+                let (stream, peer) = accepted?;
                 stream.set_nonblocking(true)?;
-                (Accepted::Tcp(stream), Peer::from(peer))
+                (Accepted::Tcp(stream, no_delay.get()), Peer::from(peer))
             }
             Listener::Unix(listener) => {
                 let (stream, _) = listener.accept()?;
@@ -197,7 +246,7 @@ impl Listener {
 impl AsFd for Listener {
     fn as_fd(&self) -> BorrowedFd<'_> {
         match self {
-            Listener::Tcp(listener) => listener.as_fd(),
+            Listener::Tcp(listener, _) => listener.as_fd(),
             Listener::Unix(listener) => listener.as_fd(),
         }
     }
@@ -210,10 +259,15 @@ impl AsRawFd for Listener {
 }
 
 impl Accepted {
+    /// Whether it sends without delay already.
+    pub(crate) fn has_no_delay(&self) -> bool {
+        matches!(self, Accepted::Tcp(_, NoDelay::Yes))
+    }
+
     /// The connection, for its options.
     pub(crate) fn socket(&self) -> SockRef<'_> {
         match self {
-            Accepted::Tcp(stream) => SockRef::from(stream),
+            Accepted::Tcp(stream, _) => SockRef::from(stream),
             Accepted::Unix(stream) => SockRef::from(stream),
         }
     }

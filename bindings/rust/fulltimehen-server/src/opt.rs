@@ -48,12 +48,27 @@ pub struct Opt {
 impl Opt {
     /// The words of the program's command line. Where they are refused, or ask for help, that is printed, and
     /// the program ends.
+    ///
+    /// ```
+    /// use fulltimehen_server::{Opt, Server};
+    ///
+    /// let server = Server::new(Opt::parse_args()).unwrap_or_else(|error| error.exit());
+    /// # drop(server);
+    /// ```
     #[must_use]
     pub fn parse_args() -> Opt {
         Opt::parse()
     }
 
     /// The words of this command line, of which the first is the program's name.
+    ///
+    /// ```
+    /// use fulltimehen_server::Opt;
+    ///
+    /// let opt = Opt::parse_from_args(["web", "--test", "--conf", "/etc/web.yaml"])?;
+    /// assert!(opt.test && !opt.upgrade && opt.conf.is_some());
+    /// # Ok::<(), Box<dyn std::error::Error>>(())
+    /// ```
     ///
     /// # Errors
     ///

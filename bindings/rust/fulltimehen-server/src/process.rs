@@ -1,16 +1,14 @@
 //! Other processes, each by a descriptor that stays its own (`pidfd_open(2)`): its number may be another's later.
 
+use crate::sys;
 use nix::sys::signal::{Signal, kill};
 use nix::unistd::Pid;
+use socket2::SockRef;
 use std::fs;
 use std::io;
-use std::os::fd::{AsRawFd, FromRawFd, OwnedFd};
-use std::ptr;
+use std::os::fd::OwnedFd;
 use std::sync::Arc;
 use tokio::net::UnixStream;
-
-/// The option that tells the descriptor of who is at the other end, from Linux 6.5 on.
-const SO_PEERPIDFD: libc::c_int = 77;
 
 /// Another process.
 #[derive(Clone, Debug)]
@@ -21,50 +19,28 @@ pub(crate) struct Process {
     fd: Option<Arc<OwnedFd>>,
 }
 
-/// The descriptor that a call of the C library answered.
-fn new_fd(answer: libc::c_long) -> io::Result<OwnedFd> {
-    match libc::c_int::try_from(answer) {
-        // SAFETY: the kernel has made the descriptor for this process in the call that answered it, and
-        // nothing else knows its number.
-        Ok(fd) if fd >= 0 => Ok(unsafe { OwnedFd::from_raw_fd(fd) }),
-        _ => Err(io::Error::last_os_error()),
-    }
-}
-
-fn open(number: u32) -> io::Result<OwnedFd> {
-    // SAFETY: the call takes two numbers.
-    new_fd(unsafe { libc::syscall(libc::SYS_pidfd_open, number, 0) })
-}
-
-fn at_other_end(stream: &UnixStream) -> io::Result<OwnedFd> {
-    let (mut fd, mut length): (libc::c_int, libc::socklen_t) = (-1, 4);
-    // SAFETY: the two pointers are those of locals, and the length is that of the first one.
-    let answer = unsafe {
-        libc::getsockopt(
-            stream.as_raw_fd(),
-            libc::SOL_SOCKET,
-            SO_PEERPIDFD,
-            (&raw mut fd).cast(),
-            &raw mut length,
-        )
-    };
-    new_fd(if answer == 0 { fd.into() } else { -1 })
+/// Whether the other end is closed.
+fn is_closed(stream: &UnixStream) -> bool {
+    // Nothing is sent.
+    let sent = SockRef::from(stream).send_with_flags(&[], libc::MSG_NOSIGNAL);
+    sent.is_err_and(|error| error.kind() == io::ErrorKind::BrokenPipe)
 }
 
 impl Process {
     /// The process that has this number now.
     pub(crate) fn numbered(number: u32) -> Process {
-        Process { number, fd: open(number).ok().map(Arc::new) }
+        Process { number, fd: sys::process_fd(number).ok().map(Arc::new) }
     }
 
-    /// The process at the other end, where its number is known here: it isn't in another namespace.
+    /// The process at the other end, where its number is known here: it isn't in another namespace. Where it has
+    /// closed its end it may be gone, and its number another's.
     pub(crate) fn of(stream: &UnixStream) -> io::Result<Option<Process>> {
         let number = stream.peer_cred()?.pid().and_then(|pid| u32::try_from(pid).ok());
         let Some(number) = number.filter(|number| *number > 0) else {
             return Ok(None);
         };
-        let fd = at_other_end(stream).or_else(|_| open(number));
-        Ok(Some(Process { number, fd: fd.ok().map(Arc::new) }))
+        let process = Process::numbered(number);
+        Ok(Some(process).filter(|_| !is_closed(stream)))
     }
 
     pub(crate) fn number(&self) -> u32 {
@@ -79,10 +55,7 @@ impl Process {
             let state = stat.rsplit(") ").next().and_then(|rest| rest.chars().next());
             return !matches!(state, None | Some('Z' | 'X'));
         };
-        let mut ended = libc::pollfd { fd: fd.as_raw_fd(), events: libc::POLLIN, revents: 0 };
-        // SAFETY: the pointer is that of a local, which is one descriptor.
-        let count = unsafe { libc::poll(&raw mut ended, 1, 0) };
-        count == 0
+        !sys::has_ended(fd)
     }
 
     /// Tells it to end.
@@ -95,12 +68,7 @@ impl Process {
             let number = i32::try_from(self.number).map_err(|_| io::ErrorKind::InvalidInput)?;
             return Ok(kill(Pid::from_raw(number), Signal::SIGTERM)?);
         };
-        let no_info: *const libc::siginfo_t = ptr::null();
-        // SAFETY: the call takes two numbers, a null pointer, and a number.
-        let answer = unsafe {
-            libc::syscall(libc::SYS_pidfd_send_signal, fd.as_raw_fd(), libc::SIGTERM, no_info, 0)
-        };
-        if answer == 0 { Ok(()) } else { Err(io::Error::last_os_error()) }
+        sys::send_signal(fd, libc::SIGTERM)
     }
 }
 
@@ -129,9 +97,14 @@ mod tests {
 
     #[tokio::test]
     async fn the_other_end_is_a_process() {
-        let (one, _other) = UnixStream::pair().unwrap();
+        let (one, other) = UnixStream::pair().unwrap();
         let process = Process::of(&one).unwrap().unwrap();
         assert_eq!(process.number(), std::process::id());
         assert!(process.fd.is_some() && process.lives());
+        // Bytes that it left are there still, but not it.
+        other.writable().await.unwrap();
+        other.try_write(b"gone").unwrap();
+        drop(other);
+        assert!(Process::of(&one).unwrap().is_none());
     }
 }

@@ -1,9 +1,9 @@
 //! The server: what it runs, and its run.
 
 use crate::accept::Place;
-use crate::driver::{Drive, Driver, Inputs, Setup, Signals};
+use crate::driver::{Drive, Driver, Inputs, Setup};
 use crate::error::{Outcome, ServerError};
-use crate::fds::{self, Inherited};
+use crate::inherited::{self, Inherited};
 use crate::limits;
 use crate::listener::{Address, KeepAlive, Listener};
 use crate::log::{self, say};
@@ -12,6 +12,7 @@ use crate::opt::Opt;
 use crate::pid_file::{self, Holder};
 use crate::record;
 use crate::service::Service;
+use crate::signals::Signals;
 use crate::succession::{Held, Paths, Shared, Succession};
 use crate::takeover::{self, Addresses, Predecessor};
 use fulltimehen::{self as machine, Configuration, OnStray, Phase, Plan, Signal, TcpOptions};
@@ -20,9 +21,7 @@ use std::collections::BTreeSet;
 use std::env;
 use std::fmt;
 use std::fs;
-use std::io;
 use std::net::IpAddr;
-use std::os::fd::{OwnedFd, RawFd};
 use std::path::Path;
 use std::process;
 use std::rc::Rc;
@@ -30,7 +29,6 @@ use std::thread;
 use std::time::Duration;
 use tokio::io::unix::AsyncFd;
 use tokio::runtime::{Builder, Handle, Runtime};
-use tokio::signal::unix::{SignalKind, signal};
 use tokio::sync::{broadcast, mpsc};
 use tokio::task::LocalSet;
 
@@ -42,7 +40,16 @@ const NOBODY: IpAddr = IpAddr::V4(std::net::Ipv4Addr::UNSPECIFIED);
 /// What services start after, as their handles say it.
 type Dependencies = Rc<RefCell<Vec<BTreeSet<u32>>>>;
 
-/// A service of a server.
+/// A service of a server: others may start after it.
+///
+/// ```
+/// use fulltimehen_server::{Server, ServiceHandle, background};
+///
+/// let mut server = Server::new(None)?;
+/// let cache: ServiceHandle = server.add_service(background("cache", |_| async {}));
+/// assert_eq!(cache.name(), "cache");
+/// # Ok::<(), fulltimehen_server::ServerError>(())
+/// ```
 #[derive(Clone)]
 pub struct ServiceHandle {
     number: u32,
@@ -60,6 +67,19 @@ impl fmt::Debug for ServiceHandle {
 }
 
 /// Why a service can't start after another one.
+///
+/// ```
+/// use fulltimehen_server::{DependencyError, Server, background};
+///
+/// let mut server = Server::new(None)?;
+/// let (one, other) = (background("one", |_| async {}), background("other", |_| async {}));
+/// let (one, other) = (server.add_service(one), server.add_service(other));
+/// one.add_dependency(&other)?;
+/// let error = other.add_dependency(&one).unwrap_err();
+/// assert!(matches!(&error, DependencyError::Circular { .. }));
+/// assert_eq!(error.to_string(), "one starts after other already");
+/// # Ok::<(), Box<dyn std::error::Error>>(())
+/// ```
 #[derive(Clone, Debug, PartialEq, Eq, thiserror::Error)]
 #[non_exhaustive]
 pub enum DependencyError {
@@ -126,6 +146,17 @@ impl ServiceHandle {
 
     /// It starts once all of these are ready.
     ///
+    /// ```
+    /// use fulltimehen_server::{Server, background, listening};
+    ///
+    /// let mut server = Server::new(None)?;
+    /// let cache = server.add_service(background("cache", |task| async move { task.ready() }));
+    /// let keys = server.add_service(background("keys", |task| async move { task.ready() }));
+    /// let web = server.add_service(listening("web", |_| async {}).tcp("127.0.0.1:8080"));
+    /// web.add_dependencies([&cache, &keys])?;
+    /// # Ok::<(), Box<dyn std::error::Error>>(())
+    /// ```
+    ///
     /// # Errors
     ///
     /// As for [`ServiceHandle::add_dependency`], of the first one that is refused. Those before it stay.
@@ -186,8 +217,8 @@ pub struct Server {
     phases: broadcast::Sender<Phase>,
     succession: Option<Succession>,
     keep_alive: Option<KeepAlive>,
-    /// What a service manager passed, and the numbers of what it said to pass and didn't.
-    inherited: (Vec<Inherited>, Vec<RawFd>),
+    /// What a service manager passed.
+    inherited: Inherited,
 }
 
 impl fmt::Debug for Server {
@@ -237,8 +268,17 @@ impl Server {
     /// A server without services, with these settings. A file that `-c` names isn't read.
     ///
     /// The first server of a process takes the listening sockets that a service manager passed (`LISTEN_FDS`), and
-    /// takes that out of the environment where the process has one thread still: so a program makes its server
-    /// before it begins threads, and before anything else that knows of such sockets.
+    /// takes that out of the environment. Where the process has threads already it leaves both, and says so when it
+    /// runs: a program makes its server before it begins threads, and before anything else that knows of such sockets.
+    ///
+    /// ```
+    /// use fulltimehen_server::{Configuration, Opt, Server};
+    ///
+    /// let configuration = Configuration::default().grace_period_seconds(20);
+    /// let server = Server::new_with_opt_and_conf(Opt::default(), configuration)?;
+    /// assert_eq!(server.configuration.grace_period_seconds, Some(20));
+    /// # Ok::<(), fulltimehen_server::ServerError>(())
+    /// ```
     ///
     /// # Errors
     ///
@@ -274,7 +314,7 @@ impl Server {
                 interval: Duration::from_secs(10),
                 count: 6,
             }),
-            inherited: fds::inherited(),
+            inherited: inherited::take(),
         })
     }
 
@@ -300,6 +340,15 @@ impl Server {
 
     /// When the connections of all services are looked at whether they live: after so long without a byte, and
     /// then so often in this interval. By itself it is after 60 seconds, and then 6 times, every 10 seconds.
+    ///
+    /// ```
+    /// use fulltimehen_server::Server;
+    /// use std::time::Duration;
+    ///
+    /// let mut server = Server::new(None)?;
+    /// server.tcp_keepalive(Duration::from_secs(30), Duration::from_secs(5), 3);
+    /// # Ok::<(), fulltimehen_server::ServerError>(())
+    /// ```
     pub fn tcp_keepalive(&mut self, idle: Duration, interval: Duration, count: u32) {
         self.keep_alive = Some(KeepAlive { idle, interval, count });
     }
@@ -324,6 +373,16 @@ impl Server {
 
     /// Runs the server to its end, and ends the program: with status 0, or [`ServerError::status`] and the
     /// error on standard error.
+    ///
+    /// ```
+    /// use fulltimehen_server::{Opt, Server, listening};
+    ///
+    /// // It is only looked whether the server could start.
+    /// let opt = Opt::parse_from_args(["web", "--test"]).unwrap();
+    /// let mut server = Server::new(opt).unwrap();
+    /// server.add_service(listening("web", |_| async {}).tcp("127.0.0.1:8080"));
+    /// server.run_forever();
+    /// ```
     pub fn run_forever(self) -> ! {
         match self.run(RunArgs::default()) {
             Ok(_) => {
@@ -350,6 +409,9 @@ impl Server {
     /// # Errors
     ///
     /// Why it didn't start, or ended: [`ServerError`] says what each means. All of its sockets are closed.
+    ///
+    /// After it, where it took the process's signals, SIGINT, SIGTERM and SIGQUIT still don't end the process, since `tokio`
+    /// never gives them back: a program that goes on looks at them itself, or runs its servers with [`RunArgs::signals`].
     pub fn run(self, args: RunArgs) -> Result<Outcome, ServerError> {
         if Handle::try_current().is_ok() {
             return Err(ServerError::WithinRuntime);
@@ -437,14 +499,14 @@ impl Server {
         let shared = Rc::new(shared);
         let mut signals = match args.signals {
             Some(signals) => Signals::Channel(signals),
-            None => Signals::Process(process_signals()?),
+            None => Signals::of_process().map_err(ServerError::system("the signals"))?,
         };
         if let (Some(paths), false) = (&paths, is_upgrade)
             && let Ok(Holder::Serves(pid)) = pid_file::holder(&paths.pid_file)
         {
             return Err(ServerError::AlreadyRunning { pid });
         }
-        let (mut pool, mut link) = (inherited(self.inherited)?, None);
+        let (mut pool, mut link) = (held(self.inherited)?, None);
         let mut waits = is_upgrade;
         let mut takes_over = is_upgrade;
         if let (true, Some(paths)) = (is_upgrade && shared.succession.is_some(), &paths) {
@@ -527,35 +589,15 @@ fn planned(
     after.iter().fold(planned, |planned, dependency| planned.after(*dependency))
 }
 
-fn process_signals() -> Result<[tokio::signal::unix::Signal; 3], ServerError> {
-    let watch = || {
-        Ok([
-            signal(SignalKind::interrupt())?,
-            signal(SignalKind::terminate())?,
-            signal(SignalKind::quit())?,
-        ])
-    };
-    watch().map_err(ServerError::system("the signals"))
-}
-
 fn polled(word: String, listener: Listener) -> Result<Held, ServerError> {
     let listener = AsyncFd::new(listener).map_err(ServerError::system("a listening socket"))?;
     Ok(Held { word, listener: Rc::new(listener) })
 }
 
-/// The listening sockets of a service manager.
-fn inherited((taken, left): (Vec<Inherited>, Vec<RawFd>)) -> Result<Vec<Held>, ServerError> {
-    for fd in left {
-        say!(warn, "LISTEN_FDS: descriptor {fd} isn't a listening socket of a service manager");
+/// The listening sockets of a service manager, under their names.
+fn held(inherited: Inherited) -> Result<Vec<Held>, ServerError> {
+    for text in inherited.left {
+        say!(warn, "LISTEN_FDS: {text}");
     }
-    let listener = |fd: OwnedFd| -> io::Result<Listener> { Listener::from_outside(fd) };
-    let mut held = Vec::new();
-    for Inherited { name, fd } in taken {
-        let name = name.unwrap_or_default();
-        match listener(fd) {
-            Ok(listener) => held.push(polled(name, listener)?),
-            Err(error) => say!(warn, "LISTEN_FDS: {name}: {error}"),
-        }
-    }
-    Ok(held)
+    inherited.sockets.into_iter().map(|(name, listener)| polled(name, listener)).collect()
 }

@@ -16,6 +16,22 @@ pub(crate) type Work = Pin<Box<dyn Future<Output = ()> + Send>>;
 type ReadyCall = Arc<dyn Fn() + Send + Sync>;
 
 /// What a handler answers: nothing, or a result, whose error is logged.
+///
+/// ```
+/// use fulltimehen_server::{Answer, Listening, listening};
+/// use std::io;
+///
+/// fn at_home<R>(answer: impl Fn() -> R + Send + Sync + 'static) -> Listening
+/// where
+///     R: Future<Output: Answer> + Send + 'static,
+/// {
+///     listening("home", move |_| answer()).tcp("127.0.0.1:8080")
+/// }
+/// # let _ =
+/// at_home(|| async {});
+/// # let _ =
+/// at_home(|| async { io::Result::Ok(()) });
+/// ```
 pub trait Answer {
     /// Logs what went wrong.
     #[doc(hidden)]
@@ -35,6 +51,29 @@ impl<T, E: fmt::Display> Answer for Result<T, E> {
 }
 
 /// What the work of a background service has of its server.
+///
+/// ```
+/// use fulltimehen_server::{Outcome, RunArgs, Server, Signal, Task, background};
+/// use std::time::Duration;
+///
+/// async fn work(task: Task) {
+///     assert_eq!(task.name(), "cache");
+///     task.ready();
+///     while !task.is_shutting_down() {
+///         tokio::select! {
+///             () = tokio::time::sleep(Duration::from_secs(60)) => { /* .. keep it fresh .. */ }
+///             () = task.shutdown() => {}
+///         }
+///     }
+/// }
+///
+/// let mut server = Server::new(None)?;
+/// server.add_service(background("cache", work));
+/// let (operator, signals) = tokio::sync::mpsc::channel(1);
+/// operator.blocking_send(Signal::Terminate)?;
+/// assert_eq!(server.run(RunArgs::default().signals(signals))?, Outcome::Served);
+/// # Ok::<(), Box<dyn std::error::Error>>(())
+/// ```
 #[derive(Clone)]
 pub struct Task {
     name: Arc<str>,
@@ -124,6 +163,20 @@ pub(crate) enum Kind {
 }
 
 /// A service that a server can be given: [`background`] and [`listening`] make them.
+///
+/// ```
+/// use fulltimehen_server::{Server, Service, background, listening};
+///
+/// let services: [Service; 2] = [
+///     background("cache", |task| async move { task.shutdown().await }).into(),
+///     listening("web", |_| async {}).tcp("127.0.0.1:8080").into(),
+/// ];
+/// let mut server = Server::new(None)?;
+/// for service in services {
+///     server.add_service(service);
+/// }
+/// # Ok::<(), fulltimehen_server::ServerError>(())
+/// ```
 #[derive(Clone)]
 pub struct Service {
     pub(crate) name: String,
@@ -192,6 +245,14 @@ where
 }
 
 /// A background service that is being described.
+///
+/// ```
+/// use fulltimehen_server::{Background, Server, background};
+///
+/// let jobs: Background = background("jobs", |task| async move { task.shutdown().await });
+/// Server::new(None)?.add_service(jobs.ready_at_once());
+/// # Ok::<(), fulltimehen_server::ServerError>(())
+/// ```
 #[must_use = "it runs once a server has it: `Server::add_service`"]
 pub struct Background {
     name: String,
@@ -298,6 +359,19 @@ where
 }
 
 /// A listening service that is being described.
+///
+/// ```
+/// use fulltimehen_server::{Listening, Server, listening};
+///
+/// let web: Listening = listening("web", |_| async {})
+///     .tcp("127.0.0.1:8080")
+///     .dscp(0x2e << 2)
+///     .tcp("[::1]:8080")
+///     .buffers(65_536, 65_536)
+///     .deny(["10.0.0.0/8".parse()?]);
+/// Server::new(None)?.add_service(web);
+/// # Ok::<(), Box<dyn std::error::Error>>(())
+/// ```
 #[must_use = "it runs once a server has it: `Server::add_service`"]
 pub struct Listening {
     name: String,

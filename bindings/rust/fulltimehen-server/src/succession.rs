@@ -9,6 +9,7 @@ use crate::driver::{Input, Inputs};
 use crate::error::ServerError;
 use crate::fds;
 use crate::handover::{self, Frame, PrivateSocket};
+use crate::inherited;
 use crate::limits::Spare;
 use crate::log::say;
 use crate::notify::Manager;
@@ -96,6 +97,15 @@ impl Succession {
     }
 
     /// Whether a next program is started where none waits. If not, this one serves on until one does.
+    ///
+    /// ```
+    /// use fulltimehen_server::{Server, Succession};
+    ///
+    /// let mut server = Server::new(None)?;
+    /// // Who deploys starts the next program.
+    /// server.succession(Succession::new().starts(false));
+    /// # Ok::<(), fulltimehen_server::ServerError>(())
+    /// ```
     #[must_use]
     pub fn starts(mut self, starts: bool) -> Succession {
         self.starts = starts;
@@ -114,7 +124,7 @@ impl Succession {
             None if upgrades => command.args(own),
             None => command.arg("--upgrade").args(own),
         };
-        for name in fds::VARIABLES.into_iter().chain(["WATCHDOG_PID"]) {
+        for name in inherited::VARIABLES.into_iter().chain(["WATCHDOG_PID"]) {
             command.env_remove(name);
         }
         command.stdin(Stdio::null()).spawn()

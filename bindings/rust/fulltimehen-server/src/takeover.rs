@@ -96,7 +96,7 @@ fn own_word(word: &str, listener: &Listener, addresses: &Addresses) -> String {
 fn is_right(word: &str, listener: &Listener, addresses: &Addresses) -> bool {
     let own = addresses.values().find(|(own, _)| own == word).map(|(_, address)| address.clone());
     let address = own.or_else(|| match listener {
-        Listener::Tcp(_) => word.parse().map(Address::Tcp).ok(),
+        Listener::Tcp(..) => word.parse().map(Address::Tcp).ok(),
         Listener::Unix(_) => Some(Address::Unix { path: word.into(), mode: 0 }),
     });
     address.is_some_and(|address| listener.is_at(&address))

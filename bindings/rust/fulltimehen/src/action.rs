@@ -121,6 +121,15 @@ pub enum Action {
 }
 
 /// Where a run is.
+///
+/// ```
+/// use fulltimehen::{Action, Core, Phase, Plan};
+///
+/// let mut core = Core::new(&Plan::new())?.begin()?;
+/// let serves = |action| matches!(action, Action::Phase { phase: Phase::Running, .. });
+/// assert!(core.last()?.actions().any(serves));
+/// # Ok::<(), Box<dyn std::error::Error>>(())
+/// ```
 #[derive(Clone, Copy, Debug, PartialEq, Eq, Hash)]
 #[non_exhaustive]
 pub enum Phase {
@@ -183,6 +192,15 @@ impl fmt::Display for Phase {
 }
 
 /// A setting of an accepted connection.
+///
+/// ```
+/// use fulltimehen::{Action, Setting};
+///
+/// let told: Action = "settings 7 nodelay dscp=184".parse()?;
+/// let settings = vec![Setting::NoDelay, Setting::Dscp(184)];
+/// assert_eq!(told, Action::Settings { connection: 7, settings });
+/// # Ok::<(), fulltimehen::LineError>(())
+/// ```
 #[derive(Clone, Copy, Debug, PartialEq, Eq)]
 #[non_exhaustive]
 pub enum Setting {

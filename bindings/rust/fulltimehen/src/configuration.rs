@@ -10,6 +10,15 @@ use std::sync::LazyLock;
 use value::KeyValue;
 
 /// How the buckets of the histogram of poll times grow.
+///
+/// ```
+/// use fulltimehen::{Configuration, HistogramScale};
+///
+/// let text = "runtime_metrics_poll_time_histogram_scale: log\n";
+/// let configuration: Configuration = text.parse()?;
+/// assert_eq!(configuration.runtime_metrics_poll_time_histogram_scale, Some(HistogramScale::Log));
+/// # Ok::<(), fulltimehen::ConfigurationError>(())
+/// ```
 #[derive(Clone, Copy, Debug, PartialEq, Eq)]
 #[non_exhaustive]
 pub enum HistogramScale {
@@ -186,6 +195,13 @@ impl Configuration {
     /// What is said of the first ten keys of a text that aren't known: a line each, with the known one that the key
     /// is one letter off, as `line 3: threadz is no key and is skipped; did you mean threads?`, or with those that
     /// are near it.
+    ///
+    /// ```
+    /// use fulltimehen::Configuration;
+    ///
+    /// let said = Configuration::misspelled("threadz: 2\n");
+    /// assert_eq!(said, ["line 1: threadz is no key and is skipped; did you mean threads?"]);
+    /// ```
     #[must_use]
     pub fn misspelled(text: &str) -> Vec<String> {
         misspelled(text)
@@ -220,6 +236,14 @@ impl Configuration {
     }
 
     /// Whether a server can run with these settings.
+    ///
+    /// ```
+    /// use fulltimehen::{Configuration, ConfigurationFault};
+    ///
+    /// let error = Configuration::new().listener_tasks_per_fd(0_u64).validate().unwrap_err();
+    /// assert_eq!(error.fault(), ConfigurationFault::Unfit);
+    /// assert_eq!(error.key(), Some("listener_tasks_per_fd"));
+    /// ```
     ///
     /// # Errors
     ///
@@ -266,6 +290,15 @@ pub enum ConfigurationFault {
 }
 
 /// Why a configuration is refused: the key, its line in the text, and what would be taken.
+///
+/// ```
+/// use fulltimehen::{Configuration, ConfigurationError};
+///
+/// let refused: Result<Configuration, ConfigurationError> = "threads: 2\ndaemon: perhaps\n".parse();
+/// let error = refused.unwrap_err();
+/// assert_eq!((error.line(), error.key()), (Some(2), Some("daemon")));
+/// assert_eq!(error.to_string(), format!("line 2: {}", error.message()));
+/// ```
 #[derive(Clone, Debug, PartialEq, Eq)]
 pub struct ConfigurationError {
     fault: ConfigurationFault,

@@ -19,6 +19,20 @@ pub struct Core {
 }
 
 /// The lifecycle of a server that runs: it takes events and tells actions.
+///
+/// ```
+/// use fulltimehen::{Core, CoreError, Event, Plan, Refused, RunningCore, Signal, Told};
+///
+/// let begun: Result<RunningCore, Refused<Core>> = Core::new(&Plan::new())?.begin();
+/// let mut core = begun.map_err(CoreError::from)?;
+/// // Nothing waits for the time.
+/// assert_eq!(core.next_due(), None);
+/// let told: Told<'_> = core.step(&Event::Signal { kind: Signal::Terminate })?;
+/// assert!(told.record().contains("phase GracefulTerminate 0\n"));
+/// // And now the grace period runs.
+/// assert!(core.next_due().is_some());
+/// # Ok::<(), Box<dyn std::error::Error>>(())
+/// ```
 pub struct RunningCore {
     session: Session,
     record: RecordBuffer,
@@ -160,6 +174,21 @@ impl<C> fmt::Display for Refused<C> {
 impl<C: fmt::Debug> std::error::Error for Refused<C> {}
 
 /// What is asked at an event that fits.
+///
+/// ```
+/// use fulltimehen::{Asked, Core, Event, Peer, Plan, Service};
+///
+/// let web = Service::plain("web").tcp("127.0.0.1:80").block("10.0.0.1".parse()?);
+/// let mut core = Core::new(&Plan::new().service(web))?.begin()?;
+/// core.step(&Event::Bound { service: 0, endpoint: 0, fd: 3 })?;
+/// let peer: Peer = "10.0.0.1:5000".parse()?;
+/// let event = Event::Arrived { service: 0, endpoint: 0, connection: 1, peer };
+/// let Asked { filter, said, .. } = core.asks(&event)?;
+/// assert_eq!((filter, said), (Some(0), false));
+/// // It comes in all the same, by the caller's own word.
+/// assert!(core.step_judged(&event, true)?.record().contains("judged 1 yes"));
+/// # Ok::<(), Box<dyn std::error::Error>>(())
+/// ```
 #[derive(Clone, Copy, Debug, PartialEq, Eq)]
 #[non_exhaustive]
 pub struct Asked {
@@ -397,6 +426,16 @@ impl RunningCore {
     /// What is to be let go of an event that was refused and that isn't given again: `Close` of each
     /// descriptor that it brought and `Refuse` of the connection that came by it, but of none whose number
     /// the core has already. These actions aren't in the record, since the event isn't.
+    ///
+    /// ```
+    /// use fulltimehen::{Action, Core, Event, Plan};
+    ///
+    /// let mut core = Core::new(&Plan::new())?.begin()?;
+    /// let unasked = Event::Bound { service: 0, endpoint: 0, fd: 3 };
+    /// assert!(core.step(&unasked).is_err());
+    /// assert_eq!(core.left_by(&unasked), [Action::Close { fd: 3 }]);
+    /// # Ok::<(), Box<dyn std::error::Error>>(())
+    /// ```
     pub fn left_by(&mut self, event: &Event) -> Vec<Action> {
         match event {
             Event::Bound { fd, .. } => self.closes(&[*fd]),
@@ -428,6 +467,17 @@ impl RunningCore {
     /// Cuts each live connection and closes each open descriptor, and with them what the event brought
     /// that was left unfinished. It is for a run that is given up, or that has ended otherwise than
     /// `Served`. What it told is [`ClosedCore::last`].
+    ///
+    /// ```
+    /// use fulltimehen::{ClosedCore, Core, CoreError, Event, Plan, Service};
+    ///
+    /// let web = Service::plain("web").tcp("127.0.0.1:80");
+    /// let mut core = Core::new(&Plan::new().service(web))?.begin()?;
+    /// core.step(&Event::Bound { service: 0, endpoint: 0, fd: 3 })?;
+    /// let mut closed: ClosedCore = core.close(None).map_err(CoreError::from)?;
+    /// assert_eq!(closed.last()?.record(), "close 3\n");
+    /// # Ok::<(), Box<dyn std::error::Error>>(())
+    /// ```
     ///
     /// # Errors
     ///

@@ -168,6 +168,16 @@ pub enum Signal {
 }
 
 /// A side of a fork.
+///
+/// ```
+/// use fulltimehen::{Core, Event, Plan, Side};
+///
+/// let mut core = Core::new(&Plan::new().daemon(true))?.begin()?;
+/// assert_eq!(core.last()?.record(), "daemonize\n");
+/// let told = core.step(&Event::Side { side: Side::Child })?;
+/// assert!(told.record().starts_with("got side child\n"));
+/// # Ok::<(), Box<dyn std::error::Error>>(())
+/// ```
 #[derive(Clone, Copy, Debug, PartialEq, Eq)]
 #[non_exhaustive]
 pub enum Side {
@@ -179,6 +189,15 @@ pub enum Side {
 
 /// Where a connection comes from. However it is made, the core is told the canonical address: an IPv4
 /// address that is mapped into IPv6 is one of IPv4.
+///
+/// ```
+/// use fulltimehen::Peer;
+/// use std::net::SocketAddr;
+///
+/// let address: SocketAddr = "[::ffff:10.0.0.1]:5000".parse()?;
+/// assert_eq!(Peer::Inet(address).to_string(), "10.0.0.1:5000");
+/// # Ok::<(), std::net::AddrParseError>(())
+/// ```
 #[derive(Clone, Copy, Debug, PartialEq, Eq)]
 #[non_exhaustive]
 pub enum Peer {

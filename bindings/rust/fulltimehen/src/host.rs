@@ -34,6 +34,36 @@ pub enum OnStray {
 }
 
 /// What a core runs over: it gives events and is told actions.
+///
+/// ```
+/// use fulltimehen::{Action, Core, Event, Host, Next, OnStray, Plan, RunError, Signal, Stray, run};
+///
+/// /// A host in which these events happen, one after the other.
+/// struct Script(Vec<Event>);
+///
+/// impl Host for Script {
+///     fn next(&mut self) -> Next {
+///         self.0.pop().map_or(Next::Nothing, Next::Event)
+///     }
+///     fn tell(&mut self, action: Action) {
+///         println!("{action}");
+///     }
+///     fn on_stray(&mut self, stray: &Stray) -> OnStray {
+///         eprintln!("{stray}");
+///         OnStray::End
+///     }
+/// }
+///
+/// let signal = || Event::Signal { kind: Signal::Fast };
+/// let outcome = run(Core::new(&Plan::new())?, &mut Script(vec![signal()]))?;
+/// assert_eq!(outcome.to_string(), "served");
+///
+/// let unasked = Event::BindFailed { service: 0, endpoint: 0 };
+/// let error = run(Core::new(&Plan::new())?, &mut Script(vec![signal(), unasked])).unwrap_err();
+/// assert!(matches!(&error, RunError::Stray(stray) if stray.number == 1));
+/// assert_eq!(error.status().as_deref(), Some("stray 1"));
+/// # Ok::<(), Box<dyn std::error::Error>>(())
+/// ```
 pub trait Host {
     /// The next event. It may block as long as nothing happens, but has to come back with a moment for
     /// each time at which something falls due: at the one that [`Host::due`] was told last.

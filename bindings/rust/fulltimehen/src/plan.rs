@@ -50,6 +50,15 @@ impl Plan {
 
     /// A plan from the text of a script, as `svc run` reads it. Its events aren't looked at. A
     /// configuration and services that are set besides don't count.
+    ///
+    /// ```
+    /// use fulltimehen::{Core, Plan};
+    ///
+    /// let plan = Plan::from_script("%conf\nthreads: 2\n%services\nweb plain tcp 127.0.0.1:80\n%events\n");
+    /// let mut core = Core::new(&plan)?.begin()?;
+    /// assert!(core.last()?.record().starts_with("start 0\nbind 0 0\n"));
+    /// # Ok::<(), Box<dyn std::error::Error>>(())
+    /// ```
     #[must_use]
     pub fn from_script(script: &str) -> Plan {
         Plan { written: Some(script.to_owned()), ..Plan::default() }
@@ -121,6 +130,16 @@ impl Plan {
     /// The script whose run by `svc run`, with the words of [`Plan::words`], prints this record again: the
     /// plan with the events of the record behind it. A caller's own word on a peer, other than the plan's,
     /// can't stand in a script.
+    ///
+    /// ```
+    /// use fulltimehen::{Core, Event, Plan, Signal};
+    ///
+    /// let plan = Plan::new();
+    /// let mut core = Core::new(&plan)?.begin()?;
+    /// let told = core.step(&Event::Signal { kind: Signal::Fast })?;
+    /// assert!(plan.replay(told.record()).ends_with("%events\nsignal fast\n"));
+    /// # Ok::<(), Box<dyn std::error::Error>>(())
+    /// ```
     #[must_use]
     pub fn replay(&self, record: &str) -> String {
         let script = self.script();
@@ -137,6 +156,20 @@ impl Plan {
     }
 
     /// The words of the flags, as `svc run` takes them.
+    ///
+    /// ```
+    /// use fulltimehen::{Configuration, Plan};
+    ///
+    /// let plan = Plan::new()
+    ///     .configuration(Configuration::new().threads(2_u64))
+    ///     .eager(true)
+    ///     .upgrade(true)
+    ///     .daemon(false)
+    ///     .test(true);
+    /// assert_eq!(plan.words(), ["--upgrade", "--test"]);
+    /// assert_eq!(plan.settings().threads, 2);
+    /// assert_eq!(plan.script(), "%conf\nthreads: 2\n%services\neager\n%events\n");
+    /// ```
     #[must_use]
     pub fn words(&self) -> Vec<&'static str> {
         let flags = [(self.upgrade, "--upgrade"), (self.daemon, "--daemon"), (self.test, "--test")];
@@ -303,6 +336,16 @@ impl fmt::Display for WordFault {
 }
 
 /// Why no core was made of a plan.
+///
+/// ```
+/// use fulltimehen::{Core, Plan, PlanError, Service, WordFault};
+///
+/// let refused = |service| Core::new(&Plan::new().service(service)).unwrap_err();
+/// let error = refused(Service::plain("#web"));
+/// assert!(matches!(&error, PlanError::Word { fault: WordFault::Mark, .. }));
+/// let error = refused(Service::plain("web").after(7));
+/// assert_eq!(error.to_string(), "the service web starts after service 7, which isn't there");
+/// ```
 #[derive(Clone, Debug, PartialEq, Eq)]
 #[non_exhaustive]
 pub enum PlanError {
@@ -463,6 +506,16 @@ pub struct Service {
 }
 
 /// Where a service listens.
+///
+/// ```
+/// use fulltimehen::{Endpoint, Service, TcpOptions};
+///
+/// let buffers = TcpOptions::new().sndbuf(65_536).rcvbuf(65_536);
+/// let web = Service::plain("web").tcp_with("127.0.0.1:80", buffers).unix("/run/web.sock");
+/// assert_eq!(web.name(), "web");
+/// let addresses: Vec<&str> = web.endpoints().iter().map(Endpoint::address).collect();
+/// assert_eq!(addresses, ["127.0.0.1:80", "/run/web.sock"]);
+/// ```
 #[derive(Clone, Debug, PartialEq, Eq)]
 #[non_exhaustive]
 pub enum Endpoint {
@@ -612,6 +665,15 @@ impl Service {
     }
 
     /// A service whose work is bootstrapping. It takes [`Service::after`] alone.
+    ///
+    /// ```
+    /// use fulltimehen::{Core, Plan, Service};
+    ///
+    /// let plan = Plan::new()
+    ///     .service(Service::bootstrap("takeover"))
+    ///     .service(Service::plain("web").after(0).tcp("127.0.0.1:80"));
+    /// assert!(Core::new(&plan).is_ok());
+    /// ```
     #[must_use]
     pub fn bootstrap(name: impl Into<String>) -> Service {
         Service::of_kind(name, "bootstrap")
@@ -653,6 +715,14 @@ impl Service {
     }
 
     /// It doesn't say which addresses it uses, so that all that an older server hands over are kept.
+    ///
+    /// ```
+    /// use fulltimehen::Service;
+    ///
+    /// let web = Service::plain("web").claim("127.0.0.1:81");
+    /// assert_eq!(web.to_string(), "web plain claim 127.0.0.1:81");
+    /// assert_eq!(Service::plain("web").undeclared(true).to_string(), "web plain undeclared");
+    /// ```
     #[must_use]
     pub fn undeclared(mut self, undeclared: bool) -> Service {
         self.undeclared = undeclared;

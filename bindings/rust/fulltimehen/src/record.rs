@@ -34,6 +34,20 @@ pub struct Record {
 }
 
 /// Why the rest of a record was lost.
+///
+/// ```
+/// use fulltimehen::{Record, RecordError};
+/// use std::fs::File;
+/// use std::time::Duration;
+///
+/// // A disk that is full.
+/// let mut record = Record::to(File::options().write(true).open("/dev/full")?)?;
+/// assert!(record.lost().is_none());
+/// record.put("start 0\n");
+/// let error = record.finish(Duration::from_secs(10)).unwrap_err();
+/// assert!(matches!(error, RecordError::Writer(_)));
+/// # Ok::<(), std::io::Error>(())
+/// ```
 #[derive(Debug)]
 #[non_exhaustive]
 pub enum RecordError {

@@ -27,7 +27,7 @@ macro_rules! declare {
             $(
                 #[cfg_attr(
                     svc_c = "missing",
-                    link_name = "libsvc_c.a is missing: run `rt lib` in crates/svc_c, or name its folder in FULLTIMEHEN_LIB, and build again"
+                    link_name = "libsvc_c.a is missing: run `bin/archive`, or name its folder in FULLTIMEHEN_LIB, and build again"
                 )]
                 #[cfg_attr(
                     svc_c = "foreign",

@@ -4,6 +4,13 @@ use std::fmt;
 use std::str::FromStr;
 
 /// A line that says no event or no action, or a word of it that doesn't fit.
+///
+/// ```
+/// use fulltimehen::{Event, LineError};
+///
+/// let refused: Result<Event, LineError> = "bound 0".parse();
+/// assert_eq!(refused.unwrap_err().to_string(), "not a line that is known: \"bound 0\"");
+/// ```
 #[derive(Clone, Debug, PartialEq, Eq)]
 pub struct LineError {
     line: String,

@@ -48,8 +48,16 @@ fn server(words: &Words) -> Result<Server, ServerError> {
     let (upstream, idle) = (words.upstream, Duration::from_secs(words.idle));
     let forward = listening("forward", move |mut client| async move {
         client.set_idle_timeout(Some(idle));
-        let mut server = connect(upstream, Duration::from_secs(10)).await?;
-        relay(&mut client, &mut server).await
+        let relayed = async {
+            let mut server = connect(upstream, Duration::from_secs(10)).await?;
+            relay(&mut client, &mut server).await
+        };
+        let relayed = relayed.await;
+        if relayed.is_err() {
+            // What the client got isn't all.
+            client.reset();
+        }
+        relayed
     });
     server.add_service(forward.tcp(&words.listen));
     Ok(server)

@@ -3,14 +3,14 @@
 use super::{Driver, Input, Known, Socket, Wanted};
 use crate::accept::{self, Place, Polled};
 use crate::connection::{Common, Connection, Guard};
-use crate::fds;
-use crate::listener::Listener;
+use crate::listener::{Accepted, Listener};
 use crate::log::say;
 use crate::pid_file::FileId;
 use crate::service::{Handler, Kind, Task};
 use crate::succession::Held;
+use crate::sys;
 use fulltimehen::{Action, Event, Peer, Phase, Setting};
-use socket2::{Domain, SockRef, TcpKeepalive};
+use socket2::{Domain, TcpKeepalive};
 use std::collections::HashSet;
 use std::fs;
 use std::io;
@@ -62,11 +62,12 @@ impl Drop for Answered {
 }
 
 /// Applies a setting to an accepted connection.
-fn apply(setting: &Setting, socket: &SockRef<'_>, peer: Peer) -> io::Result<()> {
+fn apply(setting: &Setting, stream: &Accepted, peer: Peer) -> io::Result<()> {
+    let socket = stream.socket();
     let size = |bytes: u64| usize::try_from(bytes).unwrap_or(usize::MAX);
     match *setting {
         // Nothing waits in a socket of the Unix domain.
-        Setting::NoDelay if peer == Peer::Unix => Ok(()),
+        Setting::NoDelay if peer == Peer::Unix || stream.has_no_delay() => Ok(()),
         Setting::NoDelay => socket.set_nodelay(true),
         Setting::KeepAlive { idle, interval, count, user_timeout } => {
             let count = u32::try_from(count).map_err(|_| io::ErrorKind::InvalidInput)?;
@@ -79,7 +80,7 @@ fn apply(setting: &Setting, socket: &SockRef<'_>, peer: Peer) -> io::Result<()> 
         }
         Setting::Dscp(byte) => {
             if socket.domain()? == Domain::IPV6 {
-                fds::set_traffic_class(&**socket, byte)?;
+                sys::set_traffic_class(&*socket, byte)?;
             }
             // A peer of IPv4 may come to a socket of IPv6.
             match peer {
@@ -306,8 +307,7 @@ impl Driver {
         let Some(Known::Waiting { stream, peer, .. }) = self.connections.get(&connection) else {
             return false;
         };
-        let socket = stream.socket();
-        let set = settings.iter().try_for_each(|setting| apply(setting, &socket, *peer));
+        let set = settings.iter().try_for_each(|setting| apply(setting, stream, *peer));
         if let Err(error) = &set {
             tracing::debug!("the settings of connection {connection}: {error}");
         }
