@@ -122,6 +122,13 @@ fn core() -> RunningCore {
     core
 }
 
+/// The same with all endpoints held, so that connections may come.
+fn serving() -> RunningCore {
+    let mut core = core();
+    core.step(&Event::Bound { service: 0, endpoint: 39, fd: 39 }).expect("it fits");
+    core
+}
+
 /// How many allocations may fail, one after the other, before none does.
 const MOST: usize = 4000;
 
@@ -147,35 +154,44 @@ fn a_plan_is_refused_or_made() {
     assert!(refused > 0);
 }
 
-/// Each allocation of a step fails once: the step is refused and may come again, or what it told comes
-/// later. No action is lost.
-#[test]
-fn no_action_is_lost() {
-    let event = Event::Signal { kind: Signal::Fast };
-    let whole = core().step(&event).expect("it fits").record().to_owned();
-    assert_eq!(whole.matches("close ").count(), 39);
+/// Each allocation of the core's step fails once: the step is refused and may come again, or what it told
+/// comes later. No action is lost. Answers how often it was refused, and how often what it told came later.
+fn fail_in_turn(made: impl Fn() -> RunningCore, event: &Event) -> (usize, usize) {
+    let whole = made().step(event).expect("it fits").record().to_owned();
     let (mut refused, mut untold) = (0, 0);
     for at in 0..MOST {
-        let mut core = core();
+        let mut core = made();
         FAULTS.set((at, 1));
-        let told = core.step(&event).map(|_| ());
+        let told = core.step(event).map(|_| ());
         let (_, left) = FAULTS.replace((0, 0));
         match told {
             Ok(()) if left == 1 => break,
             Ok(()) => {}
             Err(CoreError::NoMemory) => {
                 refused += 1;
-                core.step(&event).expect("it fits still");
+                core.step(event).expect("it fits still");
             }
             Err(CoreError::Untold) => {
                 untold += 1;
-                assert_eq!(core.step(&event).map(|_| ()), Err(CoreError::Behind));
+                assert_eq!(core.step(event).map(|_| ()), Err(CoreError::Behind));
                 core = core.close(None).expect_err("it is behind").core;
             }
             Err(error) => panic!("{error}"),
         }
         assert_eq!(core.last().expect("memory").record(), whole, "allocation {at}");
     }
+    (refused, untold)
+}
+
+/// What a step tells of many closes may come later; what a first connection takes may be refused.
+#[test]
+fn no_action_is_lost() {
+    let signal = Event::Signal { kind: Signal::Fast };
+    let whole = core().step(&signal).expect("it fits").record().to_owned();
+    assert_eq!(whole.matches("close ").count(), 39);
+    let (_, untold) = fail_in_turn(core, &signal);
+    let arrival = Event::Arrived { service: 0, endpoint: 0, connection: 1, peer: Peer::Unknown };
+    let (refused, _) = fail_in_turn(serving, &arrival);
     assert!(refused > 0 && untold > 0, "{refused} refused, {untold} untold");
 }
 
