@@ -8,7 +8,7 @@ use std::alloc::Global;
 use std::mem::drop;
 
 /// A block with more entries is cut.
-const FULL: usize = 256;
+const FULL: usize = 64;
 
 /// So many entries go from a block that is cut.
 const HALF: usize = FULL / 2;
@@ -19,7 +19,7 @@ pub(crate) const SLACK: usize = 64;
 /// Where a block of so many entries is cut. The last one stays full, so that keys that ascend leave no
 /// block half empty.
 fn cut_place(len: usize, is_last: bool) -> usize
-    requires { 256 < len }
+    requires { 64 < len }
     ensures lower { 0 < result }
     ensures upper { result < len }
 {

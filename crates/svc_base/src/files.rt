@@ -19,6 +19,7 @@ pub enum FileError {
     /// It can't be read, isn't UTF-8 or has over 16,777,216 bytes.
     #[error("the file can't be read")]
     Failed,
+    /// There was no memory.
     #[error("out of memory")]
     NoMemory,
 }

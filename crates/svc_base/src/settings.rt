@@ -28,7 +28,9 @@ impl fmt::Display for TcpKeepalive {
 /// An option that is set on an accepted connection.
 #[derive(Clone, Copy, PartialEq, Eq, Debug)]
 pub enum Setting {
+    /// Small pieces are sent at once.
     NoDelay,
+    /// The connection is probed where there is no traffic, by these times.
     KeepAlive(TcpKeepalive),
     /// The differentiated services byte.
     Dscp(u8),

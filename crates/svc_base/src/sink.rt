@@ -11,6 +11,7 @@ use thiserror::Error;
 pub enum Put {
     /// So many bytes, at least one, from the front of the piece.
     Wrote(usize),
+    /// The write failed, and nothing was taken.
     Failed,
 }
 

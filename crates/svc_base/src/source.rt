@@ -14,7 +14,9 @@ pub const READ_LIMIT: usize = 16_777_216;
 pub enum Taken {
     /// So many bytes, at least one, stand at the front of the buffer.
     Got(usize),
+    /// There are no more bytes.
     End,
+    /// The read failed, and gave nothing.
     Failed,
 }
 
@@ -48,6 +50,7 @@ pub enum ReadAllError {
     /// It has over `READ_LIMIT` bytes.
     #[error("over 16777216 bytes")]
     TooLong,
+    /// There was no memory.
     #[error("out of memory")]
     NoMemory,
 }

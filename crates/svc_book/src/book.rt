@@ -50,6 +50,7 @@ pub enum Refusal {
     Full,
     /// The event doesn't fit after so many posts.
     Stray(u64),
+    /// There was no memory.
     NoMemory,
 }
 

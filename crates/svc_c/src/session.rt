@@ -22,6 +22,7 @@ use svc_text::{ServiceLine, event_of_line, is_blocked, record_text};
 /// Why a call of a session was refused.
 #[derive(Clone, Copy, PartialEq, Eq, Debug)]
 pub enum StepError {
+    /// There was no memory.
     NoMemory,
     /// The line is no event.
     NoEvent,
@@ -34,6 +35,7 @@ pub enum StepError {
 /// Why the lines weren't written.
 #[derive(Clone, Copy, PartialEq, Eq, Debug)]
 pub enum ToldError {
+    /// There was no memory.
     NoMemory,
     /// They are so many bytes.
     TooShort(u64),

@@ -14,6 +14,7 @@ use svc_record::{Action, Event, Plan};
 /// What a desk in memory answers at a take.
 #[derive(Debug, Drop)]
 pub enum DeskItem {
+    /// An event comes.
     Event(Event),
     /// Nothing came in time.
     Nothing,

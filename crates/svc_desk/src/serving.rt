@@ -26,6 +26,7 @@ pub enum EchoReason {
     /// The plan isn't valid.
     #[error("the plan isn't valid")]
     BadPlan,
+    /// There was no memory.
     #[error("out of memory")]
     NoMemory,
 }

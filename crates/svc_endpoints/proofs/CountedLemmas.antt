@@ -22,7 +22,7 @@ use Rattle.svc_endpoints.specs.EndpointsState.{IsEndpointsSized, idle, last_at, 
 use Rattle.svc_endpoints.specs.Effects.{first_of, held_now, put, with_number, put_open, put_opens, put_numbers, opens_of, without_numbers, is_done_for, goes, gone_numbers, cleared, fail_if, loop_ended}
 use Rattle.svc_endpoints.specs.Loops.{loop_count}
 use Rattle.svc_endpoints.specs.Uses.{uses, is_holder_by, is_user, any_endpoint, is_drained_by}
-use Rattle.svc_endpoints.specs.Counts.{AreUsesKept, share_of, share_at, row_share, row_size, has_hold, has_use, raised, lowered, unused, counted_numbers, are_few, is_let_go, goes_by, gone_by, left_by, count_to, count_all, is_counted, are_counted, changed_to, put_unused, is_known}
+use Rattle.svc_endpoints.specs.Counts.{AreUsesKept, holder_share, share_of, share_at, row_share, row_size, has_hold, has_use, raised, lowered, unused, counted_numbers, are_few, is_let_go, goes_by, gone_by, left_by, count_to, count_all, is_counted, are_counted, changed_to, put_unused, is_known}
 use Rattle.svc_endpoints.proofs.CountLemmas.{all-same, any-counted, hold-is, use-is, counted-as, counted-next, counted-few, none-changed, changed-numbers, let-go-is}
 use Rattle.svc_endpoints.proofs.UsesLemmas.{numbers-put}
 use Rattle.svc_endpoints.proofs.PutLemmas.{last_at-put}
@@ -573,17 +573,6 @@ module _ (d : EndpointsData) (counts : List UseCount) (kept : AreUsesKept d coun
       shares l rs fs e g = ap (λ (x : List Bool). row_share (slice_index_or x s false) l d.tasks s (slice_index_or rs s []) i) g
           ∙ ap (λ (x : List (List EndpointState)). row_share (failed_at d s) l d.tasks s (slice_index_or x s []) i) e
 
-  pub open-keeps : (fd : ℕ) (address : Option (List ℕ)) (table : List Open) (came : List ℕ) (news : List UseCount) → is_in fd d.came ≡ false
-      → table ≡ put_open (record { fd = fd; address = address }) d.table → came ≡ put_number fd d.came
-      → news ≡ put_by (λ (u : UseCount). u.fd) (unused fd) counts → AreUsesKept (record d { table = table; came = came }) news
-  open-keeps fd address table came news none t n changed =
-      kept-as (record d { came = put_number fd d.came; table = put_open (record { fd = fd; address = address }) d.table })
-      (record d { table = table; came = came })
-      (put_by (λ (u : UseCount). u.fd) (unused fd) counts) news
-      (ap (λ (x : List Open). record d { table = x; came = came }) t
-      ∙ ap (λ (x : List ℕ). record d { table = put_open (record { fd = fd; address = address }) d.table; came = x }) n) changed
-      (kept-open d counts kept fd address none)
-
   pub rest-keeps : (out fds : List ℕ) (words : List (List ℕ)) (table : List Open) (came : List ℕ) (news : List UseCount) → all_new d.came fds ≡ true
       → table ≡ put_opens (without_numbers out (opens_of fds words)) d.table → came ≡ put_numbers fds d.came
       → news ≡ put_unused (filter (λ n. not (is_in n out)) fds) counts → AreUsesKept (record d { table = table; came = came }) news
@@ -675,3 +664,23 @@ known-held Idle came h = refl
 known-held Binding came h = refl
 known-held (AddressInUse at) came h = refl
 known-held AdoptionFailed came h = refl
+
+-- a descriptor is live, and holds the endpoint
+pub bound-keeps : (d : EndpointsData) (counts : List UseCount) → AreUsesKept d counts → (s i fd times : ℕ) (address : Option (List ℕ)) → s < length d.rows
+    → i < row_size d.rows s → is_in fd d.came ≡ false
+    → (row next : List EndpointState) (failed done : Bool) (old : EndpointState) (was : Option Share) (is : Share) (table : List Open) (came : List ℕ)
+    → (news : List UseCount) → row ≡ slice_index_or d.rows s [] → next ≡ slice_set row i (record { last = Holding fd; times_in_use = times })
+    → failed ≡ failed_at d s → done ≡ (loop_count d.loops s i == d.tasks) → old ≡ slice_index_or row i idle → was ≡ share_of failed done old.last
+    → is ≡ holder_share failed done fd → table ≡ put_open (record { fd = fd; address = address }) d.table → came ≡ put_number fd d.came
+    → news ≡ map (raised (Some is)) (map (lowered was) (put_by (λ (u : UseCount). u.fd) (unused is.fd) counts))
+    → AreUsesKept (record d { rows = slice_set d.rows s next; table = table; came = came }) news
+bound-keeps d counts kept s i fd times address inside within none row next failed done old was is table came news same set flag ended state had has t m
+    changed =
+    let live : EndpointsData = record d { came = put_number fd d.came; table = put_open (record { fd = fd; address = address }) d.table } in
+    kept-as (record live { rows = slice_set d.rows s next }) (record d { rows = slice_set d.rows s next; table = table; came = came }) news news
+    (ap (λ (x : List Open). record d { rows = slice_set d.rows s next; table = x; came = came }) t
+    ∙ ap (λ (x : List ℕ). record live { rows = slice_set d.rows s next; came = x }) m) refl
+    (put-keeps live (put_by (λ (u : UseCount). u.fd) (unused fd) counts) (kept-open d counts kept fd address none) s i
+    (record { last = Holding fd; times_in_use = times }) inside within (came-now fd d.came) row next failed done old was (Some is) news same set flag ended
+    state had (ap Some has)
+    (changed ∙ ap (λ (x : Share). map (raised (Some is)) (map (lowered was) (put_by (λ (u : UseCount). u.fd) (unused x.fd) counts))) has))

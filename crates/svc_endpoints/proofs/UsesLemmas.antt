@@ -8,7 +8,7 @@ use Rattle.svc_base.proofs.Logic.{clash, apart_from, not_in, neither, false_wher
 use Rattle.svc_base.proofs.NumberSetLemmas.{distinct-put}
 use Rattle.svc_endpoints.specs.declared.uses.Share.{Share}
 use Rattle.svc_endpoints.specs.declared.uses.UseCount.{UseCount}
-use Rattle.svc_endpoints.specs.Counts.{has_hold, has_use, one, raised, lowered, counted_numbers, are_few, is_unused, is_let_go}
+use Rattle.svc_endpoints.specs.Counts.{has_hold, has_use, one, raised, lowered, unused, counted_numbers, are_few, is_unused, is_let_go}
 
 abbrev key : UseCount → ℕ
 key u = u.fd
@@ -162,6 +162,16 @@ pub once-put : (x : UseCount) (xs : List UseCount) → is_in x.fd (counted_numbe
     → distinct (counted_numbers (put_by key x xs)) ≡ true
 once-put x xs new once = ap distinct (numbers-put x xs) ∙ distinct-put x.fd (counted_numbers xs) new once
 
+-- what changes each count, and no number, changes the one that is put in, too
+put_changed : (f : UseCount → UseCount) (x : UseCount) (xs : List UseCount)
+    → ((u w : UseCount) → nat_lt (f u).fd (f w).fd ≡ nat_lt u.fd w.fd)
+    → map f (put_by key x xs) ≡ put_by key (f x) (map f xs)
+put_changed f x [] same = refl
+put_changed f x (y ∷ xs) same = elim (cases_Bool (nat_lt x.fd y.fd)) [
+  | inl below ↦ rw (below, same x y ∙ below) refl
+  | inr above ↦ rw (above, same x y ∙ above) (ap (λ (ys : List UseCount). f y ∷ ys) (put_changed f x xs same))
+]
+
 filter_in : (f : UseCount → Bool) (n : ℕ) (xs : List UseCount) → is_in n (counted_numbers xs) ≡ false → is_in n (counted_numbers (filter f xs)) ≡ false
 filter_in f n [] h = refl
 filter_in f n (x ∷ xs) h = let parts = or_parts (x.fd == n) (is_in n (counted_numbers xs)) h in elim (cases_Bool (f x)) [
@@ -208,6 +218,42 @@ raised-other x u ne =
 
     plain : (k o : ℕ) → o ≡ 0 → k + o ≡ k
     plain k o e = omega arith
+
+lowered_numbers : (was : Option Share) (xs : List UseCount) → counted_numbers (map (lowered was) xs) ≡ counted_numbers xs
+lowered_numbers was [] = refl
+lowered_numbers was (u ∷ xs) = ap (λ ns. u.fd ∷ ns) (lowered_numbers was xs)
+
+pub once-shared : (was : Option Share) (x : UseCount) (old low : List UseCount) → is_in x.fd (counted_numbers old) ≡ false → low ≡ map (lowered was) old
+    → distinct (counted_numbers low) ≡ true → distinct (counted_numbers (put_by key x low)) ≡ true
+once-shared was x old low none lower = once-put x low (ap (λ (l : List UseCount). is_in x.fd (counted_numbers l)) lower
+    ∙ ap (is_in x.fd) (lowered_numbers was old) ∙ none)
+
+-- a descriptor that is put in with a share of one endpoint, as what that endpoint had before goes
+pub put-shared : (was : Option Share) (is : Share) (old low new : List UseCount) → is_in is.fd (counted_numbers old) ≡ false → low ≡ map (lowered was) old
+    → new ≡ put_by key (record { fd = is.fd; holders = one is.holds; users = one is.uses }) low
+    → new ≡ map (raised (Some is)) (map (lowered was) (put_by key (unused is.fd) old))
+put-shared was is old low new none lower put =
+    put ∙ ap (put_by key (record { fd = is.fd; holders = one is.holds; users = one is.uses })) (lower ∙ sym others)
+    ∙ ap (λ (x : UseCount). put_by key x (map (raised (Some is)) (map (lowered was) old))) (sym here)
+    ∙ sym (put_changed (raised (Some is)) (lowered was (unused is.fd)) (map (lowered was) old) (λ u w. refl))
+    ∙ ap (map (raised (Some is))) (sym (put_changed (lowered was) (unused is.fd) old (λ u w. refl)))
+  where
+    others : map (raised (Some is)) (map (lowered was) old) ≡ map (lowered was) old
+    others = map_others (raised (Some is)) is.fd (map (lowered was) old) (raised-other is)
+        (has-number is.fd (map (lowered was) old) ∙ ap (is_in is.fd) (lowered_numbers was old) ∙ none)
+
+    and_on : (b c : Bool) → c ≡ true → (b && c) ≡ b
+    and_on b c h = grind arith
+
+    rise : (k : ℕ) (b c : Bool) → c ≡ true → 0 - k + one (b && c) ≡ one b
+    rise k b c h = let e = ap one (and_on b c h) in omega (arith, e)
+
+    here : raised (Some is) (lowered was (unused is.fd)) ≡ record { fd = is.fd; holders = one is.holds; users = one is.uses }
+    here =
+        ap (λ (k : ℕ). record { fd = is.fd; holders = k; users = 0 - one (has_use is.fd was) + one (is.uses && is.fd == is.fd) })
+        (rise (one (has_hold is.fd was)) is.holds (is.fd == is.fd) (eq-eqb is.fd is.fd refl))
+        ∙ ap (λ (k : ℕ). record { fd = is.fd; holders = one is.holds; users = k })
+        (rise (one (has_use is.fd was)) is.uses (is.fd == is.fd) (eq-eqb is.fd is.fd refl))
 
 -- so does none
 pub lowered-none : (xs : List UseCount) → xs ≡ map (lowered None) xs

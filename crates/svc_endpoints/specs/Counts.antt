@@ -18,10 +18,14 @@ use Rattle.svc_endpoints.specs.Effects.{is_done_for}
 use Rattle.svc_record.specs.declared.plan.Plan.{Plan}
 use Rattle.svc_endpoints.specs.Loops.{loop_count}
 
+-- what an endpoint has of the descriptor that it holds, as its service failed or not, and as each of its loops ended or not
+abbrev pub holder_share : Bool → Bool → ℕ → Share
+holder_share failed done fd = record { fd = fd; holds = not failed; uses = not failed && not done }
+
 -- what an endpoint has of a descriptor, as its service failed or not, and as each of its loops ended or not
 abbrev pub share_of : Bool → Bool → EndpointStatus → Option Share
 share_of failed done (Adopting fd) = Some (record { fd = fd; holds = false; uses = true })
-share_of failed done (Holding fd) = Some (record { fd = fd; holds = not failed; uses = not failed && not done })
+share_of failed done (Holding fd) = Some (holder_share failed done fd)
 share_of failed done _ = None
 
 -- it holds this descriptor, of a service that hasn't failed

@@ -343,8 +343,7 @@ impl Endpoints {
             self.put_last(s as usize, i as usize, EndpointStatus::Idle);
             actions.put(Action::Close(fd));
         } else {
-            self.take_open(fd, text);
-            self.put_last(s as usize, i as usize, EndpointStatus::Holding(fd));
+            self.take_bound(s as usize, i as usize, fd, text);
         }
     }
 

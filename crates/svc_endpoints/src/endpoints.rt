@@ -11,7 +11,7 @@ ghost use Rattle.svc_record.specs.Validity.{IsValid};
 ghost use Rattle.svc_endpoints.specs.EndpointsState.{IsEndpointsSized, EndpointsStand, last_at, failed_at, state_at, open_numbers, numbers_with, is_binding, is_adopting, is_holding, all_new};
 ghost use Rattle.svc_base.specs.NumberSets.{is_in};
 ghost use Rattle.svc_endpoints.specs.declared.states.EndpointStatus.TheVariants.{Idle};
-ghost use Rattle.svc_endpoints.specs.Effects.{held_now, put, put_last, fail_if, has_open, first_of, with_number, with_open, cleared, given_up, gone_numbers, loop_ended, is_abandoned_by, put_opens, put_numbers, opens_of, without_numbers, without_number, numbers_like};
+ghost use Rattle.svc_endpoints.specs.Effects.{held_now, put, put_last, bound, fail_if, has_open, first_of, with_number, cleared, given_up, gone_numbers, loop_ended, is_abandoned_by, put_opens, put_numbers, opens_of, without_numbers, without_number, numbers_like};
 ghost use Rattle.svc_endpoints.specs.Sums.{sum_of};
 ghost use Rattle.svc_endpoints.specs.Calm.{IsServiceCalm};
 ghost use Rattle.svc_endpoints.specs.Uses.{is_drained_by};
@@ -25,7 +25,7 @@ use crate::states::{
 };
 use crate::sums::{shared_sums, sum_of};
 use crate::table::Table;
-use crate::uses::{Share, Uses, share_of};
+use crate::uses::{Share, Uses, holder_share, share_of};
 use std::alloc::Global;
 use std::marker::Model;
 use svc_base::{NoMemory, NumberSet, Text};
@@ -528,15 +528,29 @@ impl Endpoints {
         self.came.add(fd);
     }
 
-    /// The number came, and its descriptor is live.
-    pub(crate) fn take_open(&mut self, fd: u64, address: Text)
+    /// The number came, its descriptor is live, and it holds the endpoint.
+    pub(crate) fn take_bound(&mut self, s: usize, i: usize, fd: u64, address: Text)
+        requires service { s < length self.old.parts.rows }
+        requires endpoint { i < length (slice_index_or self.old.parts.rows s []) }
         requires new { list_any (λ n. n == fd) self.old.parts.came ≡ false }
         requires room { 0 < self.old.room }
-        ensures { self.new.parts ≡ with_open fd address self.old.parts }
+        ensures { self.new.parts ≡ bound self.old.parts s i fd address }
     {
+        let failed = self.failed[s];
+        let done = is_done(&self.loops, self.tasks, s, i);
+        let row = &mut self.rows[s];
+        let state = row.get(i);
+        let last = EndpointStatus::Holding(fd);
+        let times_in_use = state.times_in_use;
+        row.set(i, EndpointState { last, times_in_use });
+        let busy = row.is_ever_busy(false);
         self.table.add(fd, Some(address));
-        self.uses.add(fd);
+        self.uses.add_shared(
+            share_of(failed, done, state.last),
+            holder_share(failed, done, fd),
+        );
         self.came.add(fd);
+        put_bit(&mut self.busy, s as u32, busy);
     }
 
     /// Says that the service is given up, and closes what nobody needs any more, but for what is

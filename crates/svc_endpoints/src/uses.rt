@@ -6,7 +6,7 @@ ghost use Rattle.svc_base.specs.Items.{list_of, spare};
 ghost use Rattle.svc_base.specs.NumberSets.{is_in};
 ghost use Rattle.svc_endpoints.specs.declared.uses.UseCount.{UseCount};
 ghost use Rattle.svc_endpoints.specs.EndpointsState.{numbers_of_table};
-ghost use Rattle.svc_endpoints.specs.Counts.{share_of, raised, lowered, unused, one, are_few, is_unused, is_let_go, counted_numbers};
+ghost use Rattle.svc_endpoints.specs.Counts.{holder_share, share_of, raised, lowered, unused, one, are_few, is_unused, is_let_go, counted_numbers};
 
 use crate::states::EndpointStatus;
 use crate::table::Table;
@@ -42,6 +42,18 @@ pub(crate) struct Share {
     pub uses: bool,
 }
 
+/// What an endpoint has of the descriptor that it holds, as its service failed or not, and as each of its
+/// loops ended or not.
+pub(crate) fn holder_share(failed: bool, done: bool, fd: u64) -> Share
+    ensures { result ≡ holder_share failed done fd }
+{
+    Share {
+        fd,
+        holds: !failed,
+        uses: !failed && !done,
+    }
+}
+
 /// What the endpoint has of a descriptor, as its service failed or not, and as each of its loops ended or
 /// not.
 pub(crate) fn share_of(failed: bool, done: bool, last: EndpointStatus) -> Option<Share>
@@ -53,11 +65,7 @@ pub(crate) fn share_of(failed: bool, done: bool, last: EndpointStatus) -> Option
             holds: false,
             uses: true,
         }),
-        EndpointStatus::Holding(fd) => Some(Share {
-            fd,
-            holds: !failed,
-            uses: !failed && !done,
-        }),
+        EndpointStatus::Holding(fd) => Some(holder_share(failed, done, fd)),
         _ => None,
     }
 }
@@ -153,6 +161,20 @@ impl Uses {
         self.counts.reserve(count)
     }
 
+    /// Takes a descriptor of which one endpoint, which had the other share before, has this one.
+    pub(crate) fn add_shared(&mut self, was: Option<Share>, is: Share)
+        requires new { is_in is.fd (counted_numbers (list_of self.old)) ≡ false }
+        requires room { 0 < spare self.old }
+        ensures { list_of self.new ≡ map (raised (Some is)) (map (lowered was) (put_by (λ (u : UseCount). u.fd) (unused is.fd) (list_of self.old))) }
+    {
+        self.lower(was);
+        self.counts.insert(UseCount {
+            fd: is.fd,
+            holders: one(is.holds),
+            users: one(is.uses),
+        });
+    }
+
     /// Takes a descriptor that no endpoint has.
     pub(crate) fn add(&mut self, fd: u64)
         requires new { is_in fd (counted_numbers (list_of self.old)) ≡ false }
@@ -193,7 +215,8 @@ impl Uses {
     }
 
     fn lower(&mut self, share: Option<Share>)
-        ensures { list_of self.new ≡ map (lowered share) (list_of self.old) }
+        ensures counts { list_of self.new ≡ map (lowered share) (list_of self.old) }
+        ensures room { spare self.new ≡ spare self.old }
     {
         if let Some(share) = share {
             if let Some(count) = self.counts.find(share.fd) {

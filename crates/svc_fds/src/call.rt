@@ -11,6 +11,7 @@ pub enum ReceiveAnswer {
     Got(Bytes, Vec<Fd>),
     /// Nobody sends yet.
     NotYet,
+    /// The channel failed.
     ReceiveFailed,
     /// There was no memory for the message, which waits.
     NoMemory,
@@ -19,17 +20,24 @@ pub enum ReceiveAnswer {
 /// What one try to receive gave, as a channel tells it: with the numbers of the descriptors.
 #[derive(Drop)]
 pub enum Receipt {
+    /// A message's bytes, and the numbers of its descriptors.
     Got(Bytes, Items<u64>),
+    /// Nobody sends yet.
     NotYet,
+    /// The channel failed.
     Failed,
+    /// There was no memory for the message, which waits.
     NoMemory,
 }
 
 /// A call of a channel, with its answer.
 #[derive(Drop)]
 pub enum ChannelCall {
+    /// Whether it listens from then on.
     Listen(bool),
+    /// A try to receive, and what it gave.
     Receive(Receipt),
+    /// A try to connect, and its answer.
     Connect(SendAnswer),
     /// The bytes and the numbers that were to be sent.
     Send(Bytes, Items<u64>, SendAnswer),

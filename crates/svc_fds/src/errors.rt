@@ -13,6 +13,7 @@ pub enum EncodeError {
     /// The table has over 32 descriptors.
     #[error("too many descriptors")]
     TooMany,
+    /// There was no memory.
     #[error("out of memory")]
     NoMemory,
 }
@@ -37,6 +38,7 @@ pub enum ListsError {
     /// A text stands twice.
     #[error("an address stands twice")]
     Repeated,
+    /// There was no memory.
     #[error("out of memory")]
     NoMemory,
 }
@@ -44,6 +46,7 @@ pub enum ListsError {
 /// Why a message isn't a table. They come in this order.
 #[derive(Clone, Copy, PartialEq, Eq, Debug, Error)]
 pub enum DecodeError {
+    /// The message isn't UTF-8.
     #[error("the message isn't UTF-8")]
     NotUtf8,
     /// The message begins as version 2, and isn't a list of lengths and words.
@@ -55,6 +58,7 @@ pub enum DecodeError {
     /// A word stands twice.
     #[error("an address stands twice")]
     Repeated,
+    /// There was no memory.
     #[error("out of memory")]
     NoMemory,
 }
@@ -95,6 +99,7 @@ pub enum SendError {
     /// Twenty tries found the receiver busy.
     #[error("the receiver is still busy")]
     StillBusy,
+    /// There was no memory.
     #[error("out of memory")]
     NoMemory,
 }
@@ -108,6 +113,7 @@ pub enum ReceiveError {
     /// A word stands twice.
     #[error("an address stands twice")]
     Repeated,
+    /// The message isn't UTF-8.
     #[error("the message isn't UTF-8")]
     NotUtf8,
     /// The message begins as version 2, and isn't a list of lengths and words.
@@ -119,6 +125,7 @@ pub enum ReceiveError {
     /// More tries than the limit found no sender.
     #[error("no sender")]
     NoSender,
+    /// There was no memory.
     #[error("out of memory")]
     NoMemory,
 }

@@ -37,9 +37,13 @@ pub enum SendAnswer {
 /// What comes next in a transfer to a successor. The numbers are milliseconds of rest before the call.
 #[derive(Clone, Copy, PartialEq, Eq, Debug)]
 pub enum SendNext {
+    /// A connect, after so many milliseconds.
     Connect(u64),
+    /// A send, after so many milliseconds.
     Send(u64),
+    /// The message was sent.
     Done,
+    /// The transfer is given up.
     Refused(SendError),
 }
 
@@ -50,6 +54,7 @@ pub enum ReceiveKind {
     Came,
     /// Nobody sends yet.
     NotYet,
+    /// The channel failed.
     Failed,
 }
 
@@ -57,8 +62,11 @@ pub enum ReceiveKind {
 /// call.
 #[derive(Clone, Copy, PartialEq, Eq, Debug)]
 pub enum ReceiveNext {
+    /// A try to receive, after so many milliseconds.
     Receive(u64),
+    /// The message came.
     Done,
+    /// The transfer is given up.
     Refused(ReceiveError),
 }
 

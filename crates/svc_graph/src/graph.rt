@@ -22,8 +22,10 @@ pub const NODE_LIMIT: u64 = 1024;
 /// Why a node isn't taken into the graph.
 #[derive(Clone, Copy, PartialEq, Eq, Debug, Error)]
 pub enum AddNodeReason {
+    /// The graph has as many nodes as it may have.
     #[error("too many services")]
     TooMany,
+    /// There was no memory.
     #[error("out of memory")]
     NoMemory,
 }
@@ -44,6 +46,7 @@ pub enum DependencyError {
     /// One of the numbers isn't in the graph.
     #[error("Unknown service")]
     UnknownService,
+    /// There was no memory.
     #[error("out of memory")]
     NoMemory,
 }

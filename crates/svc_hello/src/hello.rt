@@ -36,6 +36,7 @@ pub enum HelloError {
     /// The run served nobody: it only tested that it can start, or this process is the parent.
     #[error("nobody was served")]
     NotServed,
+    /// There was no memory.
     #[error("{0}")]
     NoMemory(#[from] NoMemory),
 }

@@ -11,8 +11,11 @@ use svc_record::Event;
 /// How far a service is.
 #[derive(Clone, Copy, PartialEq, Eq, Debug)]
 pub enum Stage {
+    /// It isn't ready yet.
     Starting,
+    /// It was started and is ready.
     Running,
+    /// It has ended.
     Ended,
 }
 

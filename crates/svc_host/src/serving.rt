@@ -28,6 +28,7 @@ pub enum ServerRefused {
     /// The service with this number, from 0, depends on one that isn't there, or closes a cycle.
     #[error("service {0} depends on one that isn't there, or closes a cycle")]
     Dependency(usize),
+    /// There was no memory.
     #[error("out of memory")]
     NoMemory,
 }

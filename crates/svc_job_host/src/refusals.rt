@@ -18,6 +18,7 @@ pub enum JobError {
     /// The plan with this index, from 0, is the first whose period is 0.
     #[error("the period of job {0} is 0")]
     ZeroPeriod(u64),
+    /// There was no memory.
     #[error("out of memory")]
     NoMemory,
 }

@@ -20,6 +20,7 @@ pub enum Arrival {
 /// A call of what accepts, with its answer.
 #[derive(Clone, Copy, PartialEq, Eq, Debug)]
 pub enum AcceptingCall {
+    /// A call that accepts, and what it brought.
     Accept(Arrival),
     /// The connection was refused.
     Refuse(u64),

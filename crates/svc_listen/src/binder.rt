@@ -20,14 +20,18 @@ pub enum BindAnswer {
 /// What one try to bind an address gave, as a binder tells it: with the number of the descriptor.
 #[derive(Clone, Copy)]
 pub enum BindOutcome {
+    /// A descriptor of this number that listens on the address.
     Bound(u64),
+    /// The address is in use.
     InUse,
+    /// It failed otherwise.
     Failed,
 }
 
 /// A call of a binder, with its answer.
 #[derive(Drop)]
 pub enum BinderCall {
+    /// A try to bind the address, and what it gave.
     Bind(ServerAddress, BindOutcome),
     /// The number of the descriptor that was to be adopted, and whether it was.
     Adopt(ServerAddress, u64, bool),

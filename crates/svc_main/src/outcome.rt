@@ -36,6 +36,7 @@ pub enum StatusLine {
     Line(u64),
     /// The source failed.
     ReadFault,
+    /// The server ran, and ended so.
     Run(RunEnd),
 }
 

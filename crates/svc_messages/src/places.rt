@@ -11,8 +11,11 @@ use svc_base::split_line;
 pub enum Section {
     /// Before `%conf`.
     Nothing,
+    /// From `%conf` on.
     Configuration,
+    /// From `%services` on.
     Services,
+    /// From `%events` on.
     Events,
 }
 

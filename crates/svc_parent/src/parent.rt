@@ -19,6 +19,7 @@ pub enum ParentEvent {
 /// What a parent does next.
 #[derive(Clone, Copy, PartialEq, Eq, Debug)]
 pub enum ParentNext {
+    /// It waits for what comes next.
     Wait,
     /// It ends with this status.
     Exit(u8),

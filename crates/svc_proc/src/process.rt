@@ -12,12 +12,14 @@ pub enum ForkAnswer {
     Child,
     /// This is the parent.
     Parent,
+    /// There is no child.
     Failed,
 }
 
 /// What the sending of a signal answers.
 #[derive(Clone, Copy, PartialEq, Eq, Debug)]
 pub enum SignalAnswer {
+    /// The signal was sent.
     Sent,
     /// The process isn't permitted to send it.
     Denied,
@@ -32,6 +34,7 @@ pub enum ProcessCall {
     Exists(Text, bool),
     /// Whether the first path was renamed to the second.
     Rename(Text, Text, bool),
+    /// A fork, and what it answered.
     Fork(ForkAnswer),
     /// What the signal to the process of this number answered.
     Notify(u32, SignalAnswer),

@@ -8,15 +8,25 @@ use svc_fds::FdList;
 pub enum ExecutionPhase {
     /// Before everything. It is never told.
     Setup,
+    /// It takes over an older server's sockets, if it was started for that.
     Bootstrap,
+    /// It has what its services start with.
     BootstrapComplete,
+    /// Its services run, and it waits for a signal.
     Running,
+    /// It hands its sockets to a successor.
     GracefulUpgradeTransferringFds,
+    /// It has handed them over, and gives the successor time before it ends its own loops.
     GracefulUpgradeCloseTimeout,
+    /// It was asked to end gracefully.
     GracefulTerminate,
+    /// Its services were told to end.
     ShutdownStarted,
+    /// Connections have the grace period to end.
     ShutdownGracePeriod,
+    /// What still runs has a last time to end.
     ShutdownRuntimes,
+    /// It has ended.
     Terminated,
 }
 

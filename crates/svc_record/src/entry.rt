@@ -6,7 +6,9 @@ use svc_base::Reserved;
 /// An entry of a record: what was got from the host, or told to it.
 #[derive(PartialEq, Eq, Debug, Drop)]
 pub enum Entry {
+    /// The host told this event.
     Got(Event),
+    /// The core told this action.
     Told(Action),
 }
 

@@ -18,7 +18,9 @@ pub enum ShutdownSignal {
 /// Which of the two processes after a fork this one is.
 #[derive(Clone, Copy, PartialEq, Eq, Debug)]
 pub enum Side {
+    /// The new process.
     Child,
+    /// The one that forked.
     Parent,
 }
 
@@ -73,6 +75,7 @@ pub enum Event {
     Finished(u64),
     /// At the service's endpoint the accept loop with this number ended.
     LoopEnded(u32, u32, u64),
+    /// The process got this signal.
     Signal(ShutdownSignal),
     /// The fork is done, and this process is the one.
     Side(Side),

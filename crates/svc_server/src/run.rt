@@ -38,6 +38,7 @@ pub enum RunError {
     /// Nothing came any more.
     #[error("out of events")]
     OutOfEvents,
+    /// There was no memory.
     #[error("out of memory")]
     NoMemory,
 }

@@ -17,6 +17,7 @@ pub enum PostReason {
     /// The event doesn't fit after so many posts.
     #[error("the event doesn't fit after {0} posts")]
     Stray(u64),
+    /// There was no memory.
     #[error("out of memory")]
     NoMemory,
 }

@@ -6,15 +6,20 @@ ghost use Rattle.svc_socket.specs.OptionsData.{OptionsData, IsAsked};
 /// The family of a socket's addresses.
 #[derive(Clone, Copy, PartialEq, Eq, Debug)]
 pub enum Family {
+    /// IPv4.
     V4,
+    /// IPv6.
     V6,
+    /// Another family.
     Other,
 }
 
 /// An option of a socket. Sizes are in bytes.
 #[derive(Clone, Copy, PartialEq, Eq, Debug)]
 pub enum SockOption {
+    /// The size of the receive buffer.
     RcvBuf(u64),
+    /// The size of the send buffer.
     SndBuf(u64),
     /// Connects send data with their first segment.
     FastopenConnect,
@@ -24,6 +29,7 @@ pub enum SockOption {
     Tos(u8),
     /// The differentiated services byte of IPv6.
     TClass(u8),
+    /// The connection is probed where there is no traffic.
     KeepAlive,
     /// Seconds without traffic before the first probe.
     KeepIdle(u64),
@@ -33,8 +39,11 @@ pub enum SockOption {
     KeepCount(u64),
     /// Milliseconds that sent data may stay unanswered.
     UserTimeout(u64),
+    /// Small pieces are sent at once.
     NoDelay,
+    /// Whether it takes addresses of IPv6 alone.
     V6Only(bool),
+    /// Whether several sockets may listen on one port.
     ReusePort(bool),
 }
 

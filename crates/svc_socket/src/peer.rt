@@ -8,6 +8,7 @@ use std::fmt;
 /// The address of a TCP peer.
 #[derive(Clone, Copy, PartialEq, Eq, Debug)]
 pub enum PeerAddr {
+    /// The 32 bits of an address, and a port.
     V4 { ip: u32, port: u16 },
     /// The upper and the lower 64 bits of an address of 128. A number of 128 bits would be aligned
     /// to 16 bytes, and all that holds an address with it.
@@ -37,8 +38,11 @@ impl PeerAddr {
 /// Who is at the other end of a connection.
 #[derive(Clone, Copy, PartialEq, Eq, Debug)]
 pub enum Peer {
+    /// It isn't known.
     Unknown,
+    /// The user of a Unix socket.
     Unix,
+    /// A TCP address.
     Inet(PeerAddr),
 }
 

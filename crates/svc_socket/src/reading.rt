@@ -11,7 +11,9 @@ use svc_base::{number8, number16};
 /// The number of an address: of 32 bits, or of 128.
 #[derive(Clone, Copy, PartialEq, Eq, Debug)]
 pub enum IpNumber {
+    /// 32 bits.
     V4(u32),
+    /// 128 bits.
     V6(u128),
 }
 

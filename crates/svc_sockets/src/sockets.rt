@@ -42,7 +42,9 @@ const REST: u64 = 1000;
 /// Which of a server's two workers asks.
 #[derive(Clone, Copy, Debug, PartialEq, Eq)]
 pub enum Seat {
+    /// One of them.
     Left,
+    /// The other.
     Right,
 }
 
@@ -52,6 +54,7 @@ pub enum NextRefused {
     /// What was to be told is told at a later call.
     #[error("out of memory")]
     NoMemory,
+    /// The clock failed.
     #[error("the clock failed")]
     Clock,
 }

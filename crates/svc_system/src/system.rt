@@ -41,6 +41,7 @@ const CLOSE_TIMEOUT: u64 = 5000;
 /// Why a server's side of the operating system can't be opened.
 #[derive(Clone, Copy, Debug, PartialEq, Eq, Error)]
 pub enum OpenRefused {
+    /// There was no memory.
     #[error("out of memory")]
     NoMemory,
     /// The clock can't be read.

@@ -38,6 +38,7 @@ pub enum ScriptError {
     /// is missing, it is the line behind the last one.
     #[error("line {0} is refused")]
     Line(usize),
+    /// There was no memory.
     #[error("out of memory")]
     NoMemory,
 }

@@ -8,9 +8,13 @@ use crate::keys::spells;
 /// The part of a script that a line stands in.
 #[derive(Clone, Copy)]
 pub enum Section {
+    /// Before `%conf`.
     Nothing,
+    /// From `%conf` on.
     Conf,
+    /// From `%services` on.
     Services,
+    /// From `%events` on.
     Events,
 }
 

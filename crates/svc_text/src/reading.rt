@@ -22,7 +22,9 @@ use svc_record::Item;
 /// Why a line wasn't taken.
 #[derive(Clone, Copy)]
 pub enum LineError {
+    /// The line doesn't fit those before it.
     Refused,
+    /// There was no memory.
     NoMemory,
 }
 

@@ -49,8 +49,10 @@ pub enum Daemonized {
 /// Why there is no daemon.
 #[derive(Clone, Copy, PartialEq, Eq, Debug, Error)]
 pub enum DaemonError {
+    /// The fork failed.
     #[error("the process couldn't fork")]
     Fork,
+    /// There was no memory.
     #[error("out of memory")]
     NoMemory,
 }

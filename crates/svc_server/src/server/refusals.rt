@@ -21,6 +21,7 @@ pub enum AddError {
     /// The endpoint with this index, from 0, is the first with a filter that the server doesn't have.
     #[error("endpoint {0} has an unknown filter")]
     UnknownFilter(u64),
+    /// There was no memory.
     #[error("out of memory")]
     NoMemory,
 }

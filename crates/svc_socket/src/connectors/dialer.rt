@@ -13,6 +13,7 @@ use svc_base::{NoMemory, Text};
 /// Where a connect goes.
 #[derive(PartialEq, Eq, Debug, Drop)]
 pub enum Target {
+    /// A TCP address.
     Inet(PeerAddr),
     /// The path of a Unix socket.
     Unix(Text),
@@ -55,12 +56,19 @@ impl BindTo {
 /// What the system answered to a connect.
 #[derive(Clone, Copy, PartialEq, Eq, Debug)]
 pub enum OsFault {
+    /// Nobody listens there.
     Refused,
+    /// No answer came in time.
     TimedOut,
+    /// The local address isn't this machine's.
     AddrNotAvailable,
+    /// The process isn't permitted to connect there.
     PermissionDenied,
+    /// The local address is in use.
     AddrInUse,
+    /// No route leads to the network.
     NetUnreachable,
+    /// No route leads to the host.
     HostUnreachable,
     /// Another error number.
     Other(i32),
@@ -98,7 +106,9 @@ pub enum DialFault {
 /// What a dial answers, with the local address, where it is known.
 #[derive(Clone, Copy, PartialEq, Eq, Debug)]
 pub enum DialAnswer {
+    /// There is a connection.
     Connected(Option<PeerAddr>),
+    /// There is none, for this reason.
     Failed(DialFault, Option<PeerAddr>),
 }
 

@@ -16,7 +16,9 @@ use std::os::unix::net::UnixStream;
 /// A stream that was connected.
 #[derive(Drop)]
 pub enum Dialed<S> {
+    /// A TCP stream.
     Inet(S),
+    /// A stream of a Unix socket.
     Unix(UnixStream),
 }
 

@@ -17,6 +17,7 @@ pub const HANDSHAKE_TIMEOUT_MS: u64 = 60000;
 pub enum HandshakePoll {
     /// It is to be polled again.
     Pending,
+    /// The connection can be used.
     Done,
     /// The stream has TLS, and there is no backend for it.
     NoTls,

@@ -12,77 +12,117 @@ use crate::server::configuration::Key;
 /// Keys whose value is a number.
 #[derive(Clone, Copy)]
 pub enum NumberKey {
+    /// The key `version`.
     Version,
+    /// The key `threads`.
     Threads,
+    /// The key `listener_tasks_per_fd`.
     ListenerTasksPerFd,
+    /// The key `upstream_keepalive_pool_size`.
     UpstreamKeepalivePoolSize,
+    /// The key `max_retries`.
     MaxRetries,
 }
 
 /// Keys whose value is a flag.
 #[derive(Clone, Copy)]
 pub enum FlagKey {
+    /// The key `daemon`.
     Daemon,
+    /// The key `work_stealing`.
     WorkStealing,
+    /// The key `runtime_enable_alt_timer`.
     RuntimeEnableAltTimer,
+    /// The key `upstream_debug_ssl_keylog`.
     UpstreamDebugSslKeylog,
+    /// The key `runtime_metrics_poll_time_histogram`.
     RuntimeMetricsPollTimeHistogram,
+    /// The key `daemon_wait_for_ready`.
     DaemonWaitForReady,
 }
 
 /// Keys whose value is a text.
 #[derive(Clone, Copy)]
 pub enum TextKey {
+    /// The key `pid_file`.
     PidFile,
+    /// The key `upgrade_sock`.
     UpgradeSock,
 }
 
 /// Keys whose value is a text or unset.
 #[derive(Clone, Copy)]
 pub enum OptionalTextKey {
+    /// The key `error_log`.
     ErrorLog,
+    /// The key `user`.
     User,
+    /// The key `group`.
     Group,
+    /// The key `working_directory`.
     WorkingDirectory,
+    /// The key `ca_file`.
     CaFile,
 }
 
 /// Keys whose value is a number or unset.
 #[derive(Clone, Copy)]
 pub enum OptionalNumberKey {
+    /// The key `grace_period_seconds`.
     GracePeriodSeconds,
+    /// The key `graceful_shutdown_timeout_seconds`.
     GracefulShutdownTimeoutSeconds,
+    /// The key `upstream_connect_offload_threadpools`.
     UpstreamConnectOffloadThreadpools,
+    /// The key `upstream_connect_offload_thread_per_pool`.
     UpstreamConnectOffloadThreadPerPool,
+    /// The key `downstream_tls_offload_threadpools`.
     DownstreamTlsOffloadThreadpools,
+    /// The key `downstream_tls_offload_thread_per_pool`.
     DownstreamTlsOffloadThreadPerPool,
+    /// The key `upgrade_sock_connect_accept_max_retries`.
     UpgradeSockConnectAcceptMaxRetries,
+    /// The key `max_blocking_threads`.
     MaxBlockingThreads,
+    /// The key `blocking_threads_ttl_seconds`.
     BlockingThreadsTtlSeconds,
+    /// The key `fast_timeout_to_tokio_threshold_seconds`.
     FastTimeoutToTokioThresholdSeconds,
+    /// The key `runtime_metrics_poll_time_histogram_resolution_micros`.
     RuntimeMetricsPollTimeHistogramResolutionMicros,
+    /// The key `runtime_metrics_poll_time_histogram_buckets`.
     RuntimeMetricsPollTimeHistogramBuckets,
+    /// The key `daemon_ready_timeout_seconds`.
     DaemonReadyTimeoutSeconds,
+    /// The key `daemon_notify_timeout_seconds`.
     DaemonNotifyTimeoutSeconds,
 }
 
 /// Keys whose value is a list of texts.
 #[derive(Clone, Copy)]
 pub enum ListKey {
+    /// The key `client_bind_to_ipv4`.
     ClientBindToIpv4,
+    /// The key `client_bind_to_ipv6`.
     ClientBindToIpv6,
 }
 
 /// A key, by what its value is.
 #[derive(Clone, Copy)]
 pub enum Field {
+    /// A number.
     Number(NumberKey),
+    /// A flag.
     Flag(FlagKey),
+    /// A text.
     Text(TextKey),
+    /// A text, or unset.
     OptionalText(OptionalTextKey),
+    /// A number, or unset.
     OptionalNumber(OptionalNumberKey),
     /// How the histogram's buckets grow, or unset.
     Scale,
+    /// A list of texts.
     List(ListKey),
 }
 

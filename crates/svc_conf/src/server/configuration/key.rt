@@ -4,40 +4,75 @@ ghost use Rattle.std.specs.Prelude.{◌≡◌};
 /// A field of `ServerConf`.
 #[derive(Clone, Copy, PartialEq, Eq, Debug)]
 pub enum Key {
+    /// The key `version`.
     Version,
+    /// The key `daemon`.
     Daemon,
+    /// The key `error_log`.
     ErrorLog,
+    /// The key `pid_file`.
     PidFile,
+    /// The key `upgrade_sock`.
     UpgradeSock,
+    /// The key `user`.
     User,
+    /// The key `group`.
     Group,
+    /// The key `working_directory`.
     WorkingDirectory,
+    /// The key `threads`.
     Threads,
+    /// The key `listener_tasks_per_fd`.
     ListenerTasksPerFd,
+    /// The key `work_stealing`.
     WorkStealing,
+    /// The key `runtime_enable_alt_timer`.
     RuntimeEnableAltTimer,
+    /// The key `ca_file`.
     CaFile,
+    /// The key `grace_period_seconds`.
     GracePeriodSeconds,
+    /// The key `graceful_shutdown_timeout_seconds`.
     GracefulShutdownTimeoutSeconds,
+    /// The key `client_bind_to_ipv4`.
     ClientBindToIpv4,
+    /// The key `client_bind_to_ipv6`.
     ClientBindToIpv6,
+    /// The key `upstream_keepalive_pool_size`.
     UpstreamKeepalivePoolSize,
+    /// The key `upstream_connect_offload_threadpools`.
     UpstreamConnectOffloadThreadpools,
+    /// The key `upstream_connect_offload_thread_per_pool`.
     UpstreamConnectOffloadThreadPerPool,
+    /// The key `downstream_tls_offload_threadpools`.
     DownstreamTlsOffloadThreadpools,
+    /// The key `downstream_tls_offload_thread_per_pool`.
     DownstreamTlsOffloadThreadPerPool,
+    /// The key `upstream_debug_ssl_keylog`.
     UpstreamDebugSslKeylog,
+    /// The key `max_retries`.
     MaxRetries,
+    /// The key `upgrade_sock_connect_accept_max_retries`.
     UpgradeSockConnectAcceptMaxRetries,
+    /// The key `max_blocking_threads`.
     MaxBlockingThreads,
+    /// The key `blocking_threads_ttl_seconds`.
     BlockingThreadsTtlSeconds,
+    /// The key `fast_timeout_to_tokio_threshold_seconds`.
     FastTimeoutToTokioThresholdSeconds,
+    /// The key `runtime_metrics_poll_time_histogram`.
     RuntimeMetricsPollTimeHistogram,
+    /// The key `runtime_metrics_poll_time_histogram_scale`.
     RuntimeMetricsPollTimeHistogramScale,
+    /// The key `runtime_metrics_poll_time_histogram_resolution_micros`.
     RuntimeMetricsPollTimeHistogramResolutionMicros,
+    /// The key `runtime_metrics_poll_time_histogram_buckets`.
     RuntimeMetricsPollTimeHistogramBuckets,
+    /// The key `daemon_wait_for_ready`.
     DaemonWaitForReady,
+    /// The key `daemon_ready_timeout_seconds`.
     DaemonReadyTimeoutSeconds,
+    /// The key `daemon_notify_timeout_seconds`.
     DaemonNotifyTimeoutSeconds,
 }
 

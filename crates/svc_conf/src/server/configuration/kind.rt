@@ -27,6 +27,7 @@ pub enum Kind {
     Unknown,
     /// An item of a list.
     Item,
+    /// None of these: it is refused.
     Other,
 }
 

@@ -23,6 +23,7 @@ pub enum ReadError {
     /// No path was given.
     #[error("no path of a configuration file is given")]
     NoPath,
+    /// There was no memory.
     #[error("out of memory")]
     NoMemory,
 }

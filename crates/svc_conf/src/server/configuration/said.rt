@@ -11,14 +11,21 @@ use svc_base::{NoMemory, RuntimeMetricsPollTimeHistogramScale, Text, Texts};
 /// The value of a key, or an item of a list.
 #[derive(Drop)]
 pub enum Said {
+    /// A number.
     Number(NumberKey, u64),
+    /// A flag.
     Flag(FlagKey, bool),
+    /// A text.
     Text(TextKey, Text),
+    /// A text, or that there is none.
     OptionalText(OptionalTextKey, Option<Text>),
+    /// A number, or that there is none.
     OptionalNumber(OptionalNumberKey, Option<u64>),
+    /// How the histogram's buckets grow, or that it isn't said.
     Scale(Option<RuntimeMetricsPollTimeHistogramScale>),
     /// The list without items.
     Empty(ListKey),
+    /// An item of the list.
     Item(ListKey, Text),
 }
 

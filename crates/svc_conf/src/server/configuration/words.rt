@@ -21,6 +21,7 @@ pub enum OptError {
     /// The words are refused, for this kind of error. A request for help is one.
     #[error("the command words are refused")]
     Words(ErrorKind),
+    /// There was no memory.
     #[error("out of memory")]
     NoMemory,
 }

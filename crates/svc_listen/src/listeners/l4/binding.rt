@@ -36,10 +36,13 @@ pub enum BindErrorKind {
 /// Why there is no listening endpoint.
 #[derive(Clone, Copy, PartialEq, Eq, Debug, Error)]
 pub enum ListenError {
+    /// There is no address to listen on.
     #[error("no address was given")]
     NoAddress,
+    /// The address of an endpoint could not be bound.
     #[error("{0}")]
     BindError(BindErrorKind),
+    /// There was no memory.
     #[error("out of memory")]
     NoMemory,
 }

@@ -23,6 +23,7 @@ pub enum NotifyNext {
 /// How the notifying of a parent ended.
 #[derive(Clone, Copy, PartialEq, Eq, Debug)]
 pub enum Notified {
+    /// The parent was notified.
     Sent,
     /// It was denied until the limit had passed, or ten times for each second of it.
     Denied,

@@ -11,14 +11,18 @@ use svc_base::TcpKeepalive;
 pub enum IoPoll {
     /// It moved so many bytes.
     Ready(u64),
+    /// It is to be polled again.
     Pending,
+    /// The stream failed.
     Failed,
 }
 
 /// An option of a virtual socket.
 #[derive(Clone, Copy, PartialEq, Eq, Debug)]
 pub enum VirtualSockOpt {
+    /// Small pieces are sent at once.
     NoDelay,
+    /// The connection is probed where there is no traffic, by these times.
     KeepAlive(TcpKeepalive),
 }
 

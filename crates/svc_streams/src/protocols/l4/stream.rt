@@ -72,6 +72,8 @@ pub struct L4Stream {
 pub enum StepPoll {
     /// It is to be polled again.
     Pending,
+    /// The step is done.
     Done,
+    /// The step failed.
     Failed,
 }

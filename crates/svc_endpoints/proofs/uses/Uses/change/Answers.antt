@@ -5,4 +5,4 @@ use Rattle.svc_endpoints.proofs.UsesLemmas.{few-lowered}
 use Rattle.svc_endpoints.proofs.uses.Uses.change.Goals as goal
 
 pub raise-requires : goal.raise-requires
-raise-requires c = record { few = ap are_few c.lower.ensures ∙ few-lowered c.args.was (list_of c.args.self.now) c.requires.few }
+raise-requires c = record { few = ap are_few c.lower.ensures.counts ∙ few-lowered c.args.was (list_of c.args.self.now) c.requires.few }
