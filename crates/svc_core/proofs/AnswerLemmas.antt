@@ -33,32 +33,10 @@ use Rattle.svc_core.proofs.EndLemmas.{step-served}
 
 -- the core with this offer, and with this end of a run
 abbrev pub with_offer : OfferData → CoreData → CoreData
-with_offer o core =
-    record {
-      plan = core.plan;
-      order = core.order;
-      starts = core.starts;
-      endpoints = core.endpoints;
-      boot = core.boot;
-      offer = o;
-      drain = core.drain;
-      connections = core.connections;
-      end = core.end;
-    }
+with_offer o core = record core { offer = o }
 
 abbrev pub with_drain : DrainData → CoreData → CoreData
-with_drain dr core =
-    record {
-      plan = core.plan;
-      order = core.order;
-      starts = core.starts;
-      endpoints = core.endpoints;
-      boot = core.boot;
-      offer = core.offer;
-      drain = dr;
-      connections = core.connections;
-      end = core.end;
-    }
+with_drain dr core = record core { drain = dr }
 
 map-on : (c : Bool) (A B : Type 0) → (A → B) → OnTrue c A → OnTrue c B
 map-on true A B f x = f x

@@ -321,18 +321,7 @@ carried false true A B e f x = absurd (cc)
 
 -- the core with other connections
 abbrev pub with_connections : ConnectionsData → CoreData → CoreData
-with_connections cn core =
-    record {
-      plan = core.plan;
-      order = core.order;
-      starts = core.starts;
-      endpoints = core.endpoints;
-      boot = core.boot;
-      offer = core.offer;
-      drain = core.drain;
-      connections = cn;
-      end = core.end;
-    }
+with_connections cn core = record core { connections = cn }
 
 -- an event of a connection, and what is told of it
 module _ (core : CoreData) (cn : ConnectionsData) (e : Event) (told : List Action) (on : is_on core.end ≡ true) (event : is_connection_event e ≡ true)

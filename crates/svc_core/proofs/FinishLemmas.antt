@@ -61,32 +61,10 @@ on-by p b untested goes alive =
 
 -- the core with other parts
 abbrev pub with_boot : BootData → CoreData → CoreData
-with_boot b core =
-    record {
-      plan = core.plan;
-      order = core.order;
-      starts = core.starts;
-      endpoints = core.endpoints;
-      boot = b;
-      offer = core.offer;
-      drain = core.drain;
-      connections = core.connections;
-      end = core.end;
-    }
+with_boot b core = record core { boot = b }
 
 abbrev pub with_pass : StartsData → EndpointsData → BootData → CoreData → CoreData
-with_pass st d b core =
-    record {
-      plan = core.plan;
-      order = core.order;
-      starts = st;
-      endpoints = d;
-      boot = b;
-      offer = core.offer;
-      drain = core.drain;
-      connections = core.connections;
-      end = core.end;
-    }
+with_pass st d b core = record core { starts = st; endpoints = d; boot = b }
 
 -- a run that goes on wasn't tested or refused, and isn't that of a parent which ends
 pub on-end : (p : Plan) (b : BootData) → is_on (end_of p b) ≡ true
@@ -392,17 +370,7 @@ module _ (core : CoreData) (in_order : IsInOrder core.plan core.order) (on : is_
       → is_free core.plan core.boot.fork ≡ true → IsBootRipe core.plan core.boot
       → OnTrue (may_start core.plan core.boot) (VisitedUpTo core.plan core.order (length core.order) q) → dr.running ≡ may_start core.plan core.boot
       → HasCopy core copy
-      → Tried (record {
-        plan = core.plan;
-        order = core.order;
-        starts = core.starts;
-        endpoints = core.endpoints;
-        boot = tried_if due core.boot;
-        offer = core.offer;
-        drain = dr;
-        connections = core.connections;
-        end = end_of core.plan core.boot;
-      }) copy (tell q (try_told due))
+      → Tried (record core { boot = tried_if due core.boot; drain = dr; end = end_of core.plan core.boot }) copy (tell q (try_told due))
   settle copy q going free ripe visited runs copied = record {
     going = going-from core.plan core.starts core.endpoints (tried_if due core.boot) core.offer dr core.connections (tell q (try_told due))
         (loose-tell core.plan core.starts core.offer dr core.connections q (try_told due) (tries-loose (now q) due)
@@ -439,33 +407,13 @@ pub go-on : (core : CoreData) (copy : Option Message) (before mid after : List A
     → ((q : Record) → core.drain.moment ≡ now q → is_free core.plan core.boot.fork ≡ true → BootStands core.plan core.boot q
     → BootStands core.plan (tried_if due core.boot) (tell q (try_told due)))
     → Tells before after (λ told. (q : Record) → Visited core copy q
-    → Tried (record {
-      plan = core.plan;
-      order = core.order;
-      starts = core.starts;
-      endpoints = core.endpoints;
-      boot = tried_if due core.boot;
-      offer = core.offer;
-      drain = run core.drain;
-      connections = core.connections;
-      end = end_of core.plan core.boot;
-    }) copy (tell q told))
+    → Tried (record core { boot = tried_if due core.boot; drain = run core.drain; end = end_of core.plan core.boot }) copy (tell q told))
 go-on core copy before mid after in_order on may runs first due due_is next stands = record {
   told = run_told core.drain ++ try_told due;
   appended = next ∙ ap (λ w. w ++ try_told due) first ∙ append_assoc before (run_told core.drain) (try_told due);
   kept = λ q visited.
       subst (λ r. Tried
-      (record {
-        plan = core.plan;
-        order = core.order;
-        starts = core.starts;
-        endpoints = core.endpoints;
-        boot = tried_if due core.boot;
-        offer = core.offer;
-        drain = run core.drain;
-        connections = core.connections;
-        end = end_of core.plan core.boot;
-      }) copy r)
+      (record core { boot = tried_if due core.boot; drain = run core.drain; end = end_of core.plan core.boot }) copy r)
       (sym (tell-append q (run_told core.drain) (try_told due)))
       (settle core in_order on due due_is (run core.drain) refl stands copy (tell q (run_told core.drain))
       (run-going core q may runs visited.going) visited.free visited.ripe
@@ -490,17 +438,7 @@ pub go-waiting : (core : CoreData) (copy : Option Message) (before after : List 
     → ((q : Record) → core.drain.moment ≡ now q → is_free core.plan core.boot.fork ≡ true → BootStands core.plan core.boot q
     → BootStands core.plan (tried_if due core.boot) (tell q (try_told due)))
     → Tells before after (λ told. (q : Record) → Visited core copy q
-    → Tried (record {
-      plan = core.plan;
-      order = core.order;
-      starts = core.starts;
-      endpoints = core.endpoints;
-      boot = tried_if due core.boot;
-      offer = core.offer;
-      drain = core.drain;
-      connections = core.connections;
-      end = end_of core.plan core.boot;
-    }) copy (tell q told))
+    → Tried (record core { boot = tried_if due core.boot; end = end_of core.plan core.boot }) copy (tell q told))
 go-waiting core copy before after in_order on off due due_is told stands = record {
   told = try_told due;
   appended = told;
@@ -573,17 +511,7 @@ pub go-on-at : (core : CoreData) (copy : Option Message) (end : StepEnd) (b : Bo
     → ((q : Record) → core.drain.moment ≡ now q → is_free core.plan core.boot.fork ≡ true → BootStands core.plan core.boot q
     → BootStands core.plan b (tell q (try_told due)))
     → Tells before after (λ told. (q : Record) → Visited core copy q
-    → Tried (record {
-      plan = core.plan;
-      order = core.order;
-      starts = core.starts;
-      endpoints = core.endpoints;
-      boot = b;
-      offer = core.offer;
-      drain = dr;
-      connections = core.connections;
-      end = end;
-    }) copy (tell q told))
+    → Tried (record core { boot = b; drain = dr; end = end }) copy (tell q told))
 go-on-at core copy end b dr before mid after due same boots drains in_order on may runs first due_is next stands =
     rw (same, boots, drains)
     (go-on core copy before mid after in_order (sym (ap is_on same) ∙ on) may (rw drains at runs) first due due_is next (rw boots at stands))
@@ -595,17 +523,7 @@ pub go-waiting-at : (core : CoreData) (copy : Option Message) (end : StepEnd) (b
     → ((q : Record) → core.drain.moment ≡ now q → is_free core.plan core.boot.fork ≡ true → BootStands core.plan core.boot q
     → BootStands core.plan b (tell q (try_told due)))
     → Tells before after (λ told. (q : Record) → Visited core copy q
-    → Tried (record {
-      plan = core.plan;
-      order = core.order;
-      starts = core.starts;
-      endpoints = core.endpoints;
-      boot = b;
-      offer = core.offer;
-      drain = core.drain;
-      connections = core.connections;
-      end = end;
-    }) copy (tell q told))
+    → Tried (record core { boot = b; end = end }) copy (tell q told))
 go-waiting-at core copy end b before after due same boots in_order on off due_is told stands =
     rw (same, boots) (go-waiting core copy before after in_order (sym (ap is_on same) ∙ on) off due due_is told (rw boots at stands))
 
@@ -620,17 +538,7 @@ pub follows-on-at : (core ripe_core visited_core new : CoreData) (copy : Option 
     → mid ≡ before ++ complete_told due core.drain.moment
     → ((r : Record) → is_free core.plan core.boot.fork ≡ true → BootStands core.plan core.boot r
     → BootStands core.plan b (tell r (complete_told due core.drain.moment)))
-    → ripe_core ≡ record {
-      plan = core.plan;
-      order = core.order;
-      starts = core.starts;
-      endpoints = core.endpoints;
-      boot = b;
-      offer = core.offer;
-      drain = core.drain;
-      connections = core.connections;
-      end = held;
-    }
+    → ripe_core ≡ record core { boot = b; end = held }
     → Tells mid passed (λ told. (copy : Option Message) (q : Record) → Ripe ripe_core copy q → Visited visited_core copy (tell q told))
     → Tells passed after (λ told. (q : Record) → Visited visited_core copy q → StepRight new (tell q told) end)
     → Follows core new copy before after end
@@ -639,17 +547,7 @@ follows-on-at core ripe_core visited_core new copy held end b before mid passed 
     follows-on (with_end held core) ripe_core visited_core new copy before mid passed after end due due_is first (rw boots at stands)
     (sym (ap is_on same) ∙ on)
     (ripe ∙ ap (λ (x : BootData).
-    record {
-      plan = core.plan;
-      order = core.order;
-      starts = core.starts;
-      endpoints = core.endpoints;
-      boot = x;
-      offer = core.offer;
-      drain = core.drain;
-      connections = core.connections;
-      end = held;
-    }) boots) starts goes in
+    record core { boot = x; end = held }) boots) starts goes in
     record {
       told = follows.told;
       appended = follows.appended;

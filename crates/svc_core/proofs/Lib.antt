@@ -3,6 +3,7 @@ pub mod StartsLemmas
 pub mod CountLemmas
 pub mod ParkedLemmas
 pub mod WaitsLemmas
+pub mod KeptLemmas
 pub mod PlaceLemmas
 pub mod GoingLemmas
 pub mod PassLemmas

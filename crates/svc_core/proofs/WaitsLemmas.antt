@@ -20,7 +20,7 @@ use Rattle.svc_core.specs.CoreData.{IsFormed}
 use Rattle.svc_core.specs.StartsData.{StartsData}
 use Rattle.svc_core.specs.StartsState.{IsStartsSized, is_flagged, ready_now, due_now, start_if, word_taken, end_taken}
 use Rattle.svc_core.specs.WaitsData.{WaitsData}
-use Rattle.svc_core.specs.WaitsState.{CountsPlan, IsSound, MarksOnly, AsksNothing, AreApart, IsShortOrder, IsOpenOf, Reopens, StaysBusy, IsParked, IsIdle, AreIdle, KnowsReady, KnowsOthers, IsWatched, IsKnown, IsKept, Opens, IsMarked, MarksIf, HasBits, JoinsRow, Frees, HandsOn, FreesAll, Wakes, StartsOnly, is_open, is_behind, is_parked}
+use Rattle.svc_core.specs.WaitsState.{CountsPlan, IsSound, MarksOnly, AsksNothing, AreApart, IsShortOrder, IsOpenOf, Reopens, StaysBusy, IsParked, IsIdle, AreIdle, KnowsReady, KnowsOthers, IsWatched, IsKnown, Opens, IsMarked, MarksIf, HasBits, JoinsRow, Frees, HandsOn, FreesAll, Wakes, StartsOnly, is_open, is_behind, is_parked}
 use Rattle.svc_core.proofs.StartsLemmas.{flag-set}
 use Rattle.svc_core.proofs.CountLemmas.{and_clash, not-due, sound-marked, sound-only, grows-word, grows-end, grows-failed, grows-complete, ready-word, ready-end, ready-failed}
 use Rattle.svc_core.proofs.ParkedLemmas.{parked-grown, parked-on, parked-started, parked-kept, parked-others, parked-rows}
@@ -599,11 +599,6 @@ watched-open p order st d w count edges none opened off = record {
   idle = λ k lt closed. and_clash (is_open w k) (opened k lt) closed (IsIdle p order st d 0 w (slice_index order k) k);
   ready = when_fresh false w.fresh (KnowsReady p st d.failed w.complete w) (KnowsReady p st d.failed w.complete w) off (λ knows. knows) tt;
 }
-
--- what a core keeps, where bootstrapping that was complete is
-pub kept-boot : {p : Plan} {order : List ℕ} {st : StartsData} {d : EndpointsData} {w : WaitsData} (was is : Bool) → (was ≡ true → is ≡ true)
-    → IsKept p order st d was w → IsKept p order st d is w
-kept-boot was is more kept = record { formed = kept.formed; watched = kept.watched; late = λ on. more (kept.late on) }
 
 -- a beginning leaves what was complete
 begun_complete : (begun test upgrade : Bool) (b : BootData) → b.complete ≡ true → (if begun then b else begun_with test upgrade b).complete ≡ true

@@ -37,18 +37,7 @@ is_served _ = false
 
 -- the core with this end
 abbrev pub with_end : StepEnd → CoreData → CoreData
-with_end end core =
-    record {
-      plan = core.plan;
-      order = core.order;
-      starts = core.starts;
-      endpoints = core.endpoints;
-      boot = core.boot;
-      offer = core.offer;
-      drain = core.drain;
-      connections = core.connections;
-      end = end;
-    }
+with_end end core = record core { end = end }
 
 -- the order and the parts fit the plan
 pub record IsFormed (p : Plan) (order : List ℕ) (st : StartsData) (d : EndpointsData) : Type 0 where

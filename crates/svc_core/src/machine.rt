@@ -5,7 +5,8 @@ ghost use Rattle.svc_base.specs.Items.{list_of, spare};
 ghost use Rattle.svc_record.specs.Record.{Record};
 ghost use Rattle.svc_record.specs.Plans.{service_count};
 ghost use Rattle.svc_record.specs.Starts.{is_ready};
-ghost use Rattle.svc_record.specs.Validity.{IsValid};
+ghost use Rattle.svc_record.specs.Building.{IsGraphUpTo};
+ghost use Rattle.svc_record.specs.Validity.{IsValid, IsStartupOrder, IsInOrder};
 ghost use Rattle.svc_record.specs.Told.{TellsBoth};
 ghost use Rattle.svc_offer.specs.OfferEffects.{event_of};
 ghost use Rattle.svc_record.specs.Judging.{TellsJudged, judged_at, asked_filter};
@@ -40,6 +41,7 @@ use svc_connections::{Connections, settings_of};
 use svc_drain::Drain;
 use svc_endpoints::Endpoints;
 use svc_fds::{Message, SendAnswer};
+use svc_graph::DependencyGraph;
 use svc_graph::services::ServiceReadyWatch;
 use svc_offer::Offer;
 use svc_record::{Actions, Event, Plan, ShutdownSignal, StepEnd, startup_graph};
@@ -88,15 +90,55 @@ impl Core {
         ensures plan { IfOk result (λ core. core.plan ≡ plan) }
         ensures first { IfOk result HasNotBegun }
     {
-        let found = startup_graph(alloc, &plan)?;
+        match startup_graph(alloc, &plan) {
+            Ok((graph, order)) => {
+                let made = Core::in_order(alloc, plan, &graph, order);
+                drop(graph);
+                made
+            }
+            Err(NoMemory) => {
+                drop(plan);
+                Err(NoMemory)
+            }
+        }
+    }
+
+    /// A core that has told nothing yet, by a graph of the services' dependencies that is there already.
+    pub fn with_graph(alloc: Global, plan: Plan, graph: &DependencyGraph) -> Result<Core, NoMemory>
+        requires valid { IsValid plan }
+        requires graph { IsGraphUpTo plan (service_count plan) graph.now }
+        ensures plan { IfOk result (λ core. core.plan ≡ plan) }
+        ensures first { IfOk result HasNotBegun }
+    {
+        match graph.topological_sort(alloc) {
+            Ok(order) => Core::in_order(alloc, plan, graph, order),
+            Err(NoMemory) => {
+                drop(plan);
+                Err(NoMemory)
+            }
+        }
+    }
+
+    /// A core that has told nothing yet, and that starts its services in this order.
+    fn in_order(
+        alloc: Global,
+        plan: Plan,
+        graph: &DependencyGraph,
+        order: Vec<u32>,
+    ) -> Result<Core, NoMemory>
+        requires valid { IsValid plan }
+        requires graph { IsGraphUpTo plan (service_count plan) graph.now }
+        requires least { IsStartupOrder plan order.items }
+        requires in_order { IsInOrder plan order.items }
+        ensures plan { IfOk result (λ core. core.plan ≡ plan) }
+        ensures first { IfOk result HasNotBegun }
+    {
         let starts = Starts::new(alloc, &plan)?;
         let endpoints = Endpoints::new(alloc, &plan)?;
         let boot = Boot::new(plan.limit);
         let offer = Offer::new(plan.limit);
         let connections = Connections::new(alloc);
-        let waits = Waits::new(alloc, &found.0, &found.1)?;
-        let (graph, order) = found;
-        drop(graph);
+        let waits = Waits::new(alloc, graph, &order)?;
         Ok(Core {
             plan,
             order,

@@ -37,6 +37,12 @@ use svc_record::Item;
 use svc_server::Server;
 use svc_text::{RecordText, Script, ScriptError};
 
+/// So many bytes of a record are reckoned for each item of a script.
+const LINES: usize = 48;
+
+/// For so many items at most memory is taken before the run.
+const MOST_ROOM: usize = 1 << 20;
+
 /// A status line, and what is to be written with it.
 #[derive(Debug, Drop)]
 pub(crate) struct Answer {
@@ -120,7 +126,8 @@ fn run_script(
         → parts.items ≡ items.items
         → IfOk result (λ a. (end : RunEnd) × (a.line ≡ RunLine end) × RanText opt parts end (string_bytes a.text)) }
 {
-    let left = run_over(alloc, server, items, RecordText::new(alloc))?;
+    let lines = RecordText::new(alloc, items.len().min(MOST_ROOM) * LINES);
+    let left = run_over(alloc, server, items, lines)?;
     ran(left.end, left.recorder)
 }
 

@@ -5,7 +5,7 @@ ghost use Rattle.svc_text.specs.ScriptPlans.{endpoint_of};
 ghost use Rattle.svc_text.specs.declared.service.EndpointLine.{EndpointLine};
 
 use std::alloc::Global;
-use svc_base::{Items, NoMemory, Text, Texts, copy_items};
+use svc_base::{Items, NoMemory, Reserved, Text, Texts, copy_items};
 use svc_graph::services::{RunPoll, ServiceReadyNotifier, ServiceWithDependents, StartPoll};
 use svc_graph::{EndpointPlan, Kind};
 use svc_text::{EndpointLine, ServiceLine};
@@ -46,7 +46,7 @@ fn endpoints_of(
 ) -> Result<Vec<EndpointPlan>, NoMemory>
     ensures { IfOk result (λ endpoints. endpoints.items ≡ map (endpoint_of filter) lines.now) }
 {
-    let mut endpoints = Vec::new(alloc);
+    let mut endpoints = Vec::with_capacity(alloc, lines.len())?;
     for line in lines {
         endpoints.push(endpoint_of(alloc, filter, line)?)?;
     }
@@ -57,7 +57,7 @@ fn endpoints_of(
 fn addresses_of(alloc: Global, lines: &[EndpointLine]) -> Result<Vec<Text>, NoMemory>
     ensures { IfOk result (λ addresses. addresses.items ≡ map (λ (e : EndpointLine). e.address) lines.now) }
 {
-    let mut addresses = Vec::new(alloc);
+    let mut addresses = Vec::with_capacity(alloc, lines.len())?;
     for line in lines {
         addresses.push(line.address.copy(alloc)?)?;
     }
@@ -78,33 +78,26 @@ fn add_claims(alloc: Global, addresses: &mut Vec<Text>, claims: &[Text]) -> Resu
 fn copy_texts(alloc: Global, texts: &[Text]) -> Result<Texts, NoMemory>
     ensures { IfOk result (λ copy. copy ≡ texts.now) }
 {
-    let mut copy = Texts::new(alloc);
+    let mut copy = Vec::with_capacity(alloc, texts.len())?;
     for text in texts {
-        match copy.push(alloc, text.copy(alloc)?) {
-            Ok(()) => {}
-            Err(_) => return Err(NoMemory),
-        }
+        copy.push(text.copy(alloc)?)?;
     }
-    Ok(copy)
+    Ok(Reserved::of(copy).into_items())
 }
 
 /// The lines once more.
 fn copy_of(alloc: Global, lines: &[EndpointLine]) -> Result<Items<EndpointLine>, NoMemory>
     ensures { IfOk result (λ copy. copy ≡ lines.now) }
 {
-    let mut copy = Items::new(alloc);
+    let mut copy = Vec::with_capacity(alloc, lines.len())?;
     for line in lines {
-        let endpoint = EndpointLine {
+        copy.push(EndpointLine {
             address: line.address.copy(alloc)?,
             unix: line.unix,
             options: copy_items(alloc, line.options.as_slice())?,
-        };
-        match copy.push(alloc, endpoint) {
-            Ok(()) => {}
-            Err(_) => return Err(NoMemory),
-        }
+        })?;
     }
-    Ok(copy)
+    Ok(Reserved::of(copy).into_items())
 }
 
 impl ScriptService {

@@ -1,11 +1,11 @@
 -- The plan of a server: what it says of each service, and that a server can be run by it.
-use Rattle.std.proofs.Common.{ℕ, zero, suc, Bool, true, false, ◌||◌, ◌==◌, List, [], ◌∷◌, ◌++◌, ◌≡◌, refl, sym, ◌∙◌, ap, subst, inl, inr, arith, ◌+◌, ◌<◌, ◌≤◌, length, map, filter, take, slice_index, get_or, All}
+use Rattle.std.proofs.Common.{ℕ, zero, suc, Bool, true, false, ◌||◌, ◌&&◌, ◌==◌, List, [], ◌∷◌, ◌++◌, ◌≡◌, refl, sym, ◌∙◌, ap, subst, inl, inr, arith, ◌+◌, ◌<◌, ◌≤◌, nat_lt, length, map, filter, take, slice_index, get_or, All}
 use Rattle.std.specs.Prelude.{Option, Some, None, IfSome, Result, Ok, Err, slice_get, unwrap_or, if◌then◌else◌}
 use Rattle.std.specs.List.{range_with_len}
 use Rattle.std.specs.List.Sorted.{IsStrictlyIncreasing}
-use Rattle.std.proofs.lemmas.Bool.{eq-eqb, ne_eqb, cases_eq}
+use Rattle.std.proofs.lemmas.Bool.{eq-eqb, ne_eqb, cases_eq, lt-ltb}
 use Rattle.std.proofs.lemmas.Option.{slice_get_cases, slice_get_within, get_or_from_slice_get, same_Some}
-use Rattle.std.proofs.lemmas.List.{length-map, length-take-le, map_more}
+use Rattle.std.proofs.lemmas.List.{length-map, length-take-le, map_more, get_or_past}
 use Rattle.std.proofs.lemmas.List.Elements.{filter_passes}
 use Rattle.svc_graph.specs.GraphData.{GraphData}
 use Rattle.svc_graph.specs.Graphs.{node_count, is_edge, is_listed, row_of, IsGraph}
@@ -17,7 +17,7 @@ use Rattle.svc_record.specs.declared.plan.Plan.{Plan}
 use Rattle.svc_record.specs.declared.plan.ServicePlan.{ServicePlan}
 use Rattle.svc_record.specs.Plans.{service_count, depends, filter_of}
 use Rattle.svc_record.specs.Validity.{IsAddress, IsValid, depends_on}
-use Rattle.svc_record.specs.Building.{DependsWell}
+use Rattle.svc_record.specs.Building.{DependsWell, IsGraphUpTo}
 use Rattle.svc_record.proofs.ValidLemmas.{valid-plan}
 use Rattle.svc_conf.specs.declared.server.configuration.ServerConf.{ServerConf}
 use Rattle.svc_conf.specs.declared.server.configuration.Opt.{Opt}
@@ -113,6 +113,24 @@ listed-filter p (suc n) lo (x ∷ xs) up same few =
 
 edge_inside : (g : GraphData) (s a : ℕ) → IsGraph g → is_edge g s a ≡ true → a < node_count g
 edge_inside g s a graph e = All-listed (λ b. b < node_count g) (row_of g.depends s) a (graph.inside s) e
+
+edge_from : (g : GraphData) (a b : ℕ) → IsGraph g → is_edge g a b ≡ true → a < node_count g
+edge_from g a b graph e =
+    elim (slice_get_cases g.depends a).1 [
+      | inl at ↦ omega (arith, at.1, graph.rows)
+      | inr past ↦ absurd (let none : is_edge g a b ≡ false = ap (λ (row : List ℕ). is_listed row b) (get_or_past g.depends a [] past.0) in cc)
+    ]
+
+or_true : (b c : Bool) → c ≡ true → (b || c) ≡ true
+or_true true c e = refl
+or_true false c e = e
+
+-- one is true exactly where both others are
+same_where : (e x y : Bool) → (e ≡ true → (x ≡ true) × (y ≡ true)) → (x ≡ true → y ≡ true → e ≡ true) → e ≡ (x && y)
+same_where true x y there back = let both = there refl in rw both.0 (sym both.1)
+same_where false true true there back = absurd (let on : false ≡ true = back refl refl in cc)
+same_where false true false there back = refl
+same_where false false y there back = refl
 
 -- the rising list of the nodes that s depends on is the one that the plan has
 pub depends_of-listed : (g : GraphData) (s : ℕ) (xs : List ℕ) → IsGraph g → IsStrictlyIncreasing xs → ((a : ℕ) → is_listed xs a ≡ is_edge g s a)
@@ -215,6 +233,32 @@ module _ (conf : ServerConf) (options : Option Opt) (eager : Bool) (g : GraphDat
 
   depends-well : DependsWell whole
   depends-well = record { inside = inside; acyclic = acyclic-within (depends_on whole) (is_edge g) depends_on-edge graph.acyclic }
+
+  -- and the other way round
+  listed_in : (p : ℕ → Bool) (n lo b : ℕ) → lo ≤ b → b < lo + n → p b ≡ true → is_listed (filter p (range_with_len lo n)) b ≡ true
+  listed_in p zero lo b from lt e = absurd (omega (arith, from, lt))
+  listed_in p (suc n) lo b from lt e =
+      elim (cases_eq lo b) [
+        | inl here ↦ (let first : p lo ≡ true = subst (λ (k : ℕ). p k ≡ true) (sym here) e in rw first (rw (eq-eqb lo b here) refl))
+        | inr apart ↦ later (p lo) refl (listed_in p n (lo + 1) b (omega (arith, from, apart)) (omega (arith, lt)) e)
+      ]
+    where
+      later : (x : Bool) → p lo ≡ x → is_listed (filter p (range_with_len (lo + 1) n)) b ≡ true → is_listed (filter p (range_with_len lo (suc n))) b ≡ true
+      later true is h = rw is (or_true (lo == b) (is_listed (filter p (range_with_len (lo + 1) n)) b) h)
+      later false is h = rw is h
+
+  edge-depends_on : (a b : ℕ) → is_edge g a b ≡ true → depends_on whole a b ≡ true
+  edge-depends_on a b e =
+      let lt : a < node_count g = edge_from g a b graph e in
+      rw (depends-whole a lt) (listed_in (is_edge g a) (node_count g) 0 b (omega arith) (omega (arith, edge_inside g a b graph e)) e)
+
+  -- the graph is that of the plan's dependencies
+  pub whole-graph : IsGraphUpTo whole (service_count whole) g
+  whole-graph = record {
+    nodes = sym size;
+    edges = λ a b. same_where (is_edge g a b) (nat_lt a (service_count whole)) (depends_on whole a b)
+        (λ e. (lt-ltb a (service_count whole) (omega (arith, edge_from g a b graph e, size)), edge-depends_on a b e)) (λ e f. depends_on-edge a b f);
+  }
 
   pub whole-valid : judged conf ≡ Ok tt → IsValid whole
   whole-valid accepted = valid-plan whole (record {

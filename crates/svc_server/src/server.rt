@@ -13,7 +13,7 @@ use crate::server::adding::fault_of;
 use crate::server::addresses::expected_addresses;
 use crate::server::lists::reversed;
 use crate::server::planning::{is_test, is_upgrade, service_plans, status_of};
-use crate::turns::run_plan;
+use crate::turns::{Planned, run_plan};
 pub use refusals::{AddAllRefused, AddError, AddRefused};
 use std::alloc::Global;
 use std::mem::drop;
@@ -52,7 +52,7 @@ impl<B: ServiceWithDependents, F: ConnectionFilter> Server<B, F> {
     ghost use Rattle.svc_server.specs.declared.run.Outcome.{Outcome};
     ghost use Rattle.svc_server.specs.declared.run.RunError.{RunError};
     ghost use Rattle.svc_server.specs.Runs.{RunTells, RunCounts, RunTakes, RunLeaves, GoesWell, GoesThrough};
-    ghost use Rattle.svc_graph.specs.Graphs.{node_count, with_node};
+    ghost use Rattle.svc_graph.specs.Graphs.{node_count, with_node, IsGraph};
     ghost use Rattle.svc_server.specs.Additions.{fault_of, IsReason, AddsFirst, RefusesAt};
     ghost use Rattle.svc_server.specs.Adding.{AddsOne};
     ghost use Rattle.svc_server.specs.Servers.{answer_of, answers_of, plan_of, merged, status_of, IsSound};
@@ -269,6 +269,7 @@ impl<B: ServiceWithDependents, F: ConnectionFilter> Server<B, F> {
             ≡ plan_of self.now.configuration self.now.options self.now.eager self.now.dependencies
             (answers_of B.ServiceWithDependents self.now.services.items)) }
         ensures valid { judged self.now.configuration ≡ Ok tt → IfOk result IsValid }
+        ensures graph { IsGraph self.now.dependencies }
     {
         let conf = &self.configuration;
         let services = service_plans(alloc, &self.dependencies, &self.services)?;
@@ -341,8 +342,11 @@ impl<B: ServiceWithDependents, F: ConnectionFilter> Server<B, F> {
                 } = self;
                 drop(configuration);
                 drop(options);
-                drop(dependencies);
-                run_plan(alloc, plan, services, filters, args.turns, host)
+                let planned = Planned {
+                    plan,
+                    graph: dependencies,
+                };
+                run_plan(alloc, planned, services, filters, args.turns, host)
             }
             Err(NoMemory) => {
                 drop(self);

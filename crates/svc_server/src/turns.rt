@@ -7,6 +7,8 @@ ghost use Rattle.svc_record.specs.declared.item.Item.{Item};
 ghost use Rattle.svc_record.specs.Record.{Record};
 ghost use Rattle.svc_record.specs.Right.{Right};
 ghost use Rattle.svc_record.specs.Connections.{Verdict};
+ghost use Rattle.svc_record.specs.Plans.{service_count};
+ghost use Rattle.svc_record.specs.Building.{IsGraphUpTo};
 ghost use Rattle.svc_record.specs.Validity.{IsValid};
 ghost use Rattle.svc_streams.specs.Verdicts.{verdict_at};
 ghost use Rattle.svc_core.specs.CoreData.{is_served};
@@ -27,9 +29,17 @@ use std::alloc::Global;
 use std::mem::drop;
 use svc_base::NoMemory;
 use svc_core::Core;
+use svc_graph::DependencyGraph;
 use svc_graph::services::ServiceWithDependents;
 use svc_record::{Actions, Plan, StepEnd};
 use svc_streams::{ConnectionFilter, Filters};
+
+/// What is run: a plan, and the graph of its services' dependencies.
+#[derive(Drop)]
+pub(crate) struct Planned {
+    pub plan: Plan,
+    pub graph: DependencyGraph,
+}
 
 /// A run on its way: the core, the services that aren't handed over yet, the filters, an empty list
 /// that has room for the closes of all, and one for what an event's step tells, which keeps its room.
@@ -55,18 +65,22 @@ impl<B: ServiceWithDependents, F: ConnectionFilter> Run<B, F> {
     /// Nothing was told yet, and all services are left.
     fn new(
         alloc: Global,
-        plan: Plan,
+        planned: Planned,
         services: Vec<B>,
         filters: Filters<F>,
     ) -> Result<Self, NoMemory>
-        requires valid { IsValid plan }
-        ensures plan { IfOk result (λ machine. machine.core.plan ≡ plan) }
+        requires valid { IsValid planned.plan }
+        requires graph { IsGraphUpTo planned.plan (service_count planned.plan) planned.graph }
+        ensures plan { IfOk result (λ machine. machine.core.plan ≡ planned.plan) }
         ensures first { IfOk result (λ machine. HasNotBegun machine.core) }
         ensures left { IfOk result (λ machine. machine.boxes ≡ map Some services.items) }
         ensures filters { IfOk result (λ machine. machine.filters ≡ filters) }
         ensures empty { IfOk result (λ machine. list_of machine.closing ≡ []) }
     {
-        match Core::new(alloc, plan) {
+        let Planned { plan, graph } = planned;
+        let made = Core::with_graph(alloc, plan, &graph);
+        drop(graph);
+        match made {
             Ok(core) => match PendingServices::new(alloc, services) {
                 Ok(boxes) => Ok(Run {
                     core,
@@ -424,23 +438,24 @@ fn answer_of(end: StepEnd) -> Option<Result<Outcome, RunError>>
 /// the filters those that its endpoints name.
 pub(crate) fn run_plan<B: ServiceWithDependents, F: ConnectionFilter, H: Host<Service = B>>(
     alloc: Global,
-    plan: Plan,
+    planned: Planned,
     services: Vec<B>,
     filters: Filters<F>,
     turns: u64,
     host: &mut H,
 ) -> Result<Outcome, RunError>
-    requires valid { IsValid plan }
-    requires known { NamesFilters plan (length filters) }
-    requires names { map B.named services.items ≡ names_of plan }
+    requires valid { IsValid planned.plan }
+    requires graph { IsGraphUpTo planned.plan (service_count planned.plan) planned.graph }
+    requires known { NamesFilters planned.plan (length filters) }
+    requires names { map B.named services.items ≡ names_of planned.plan }
     requires first { IfSome (H.account host.old) (λ a. a ≡ no_account) }
-    ensures tells { IfSome (H.account host.new) (RunTells (verdict_at F.verdict filters) plan turns result) }
+    ensures tells { IfSome (H.account host.new) (RunTells (verdict_at F.verdict filters) planned.plan turns result) }
     ensures counts { RunCounts result (H.counts host.old) (H.counts host.new) }
     ensures takes { IfSome (H.account host.new) (λ a. IfSome (H.ahead host.old) (λ before. IfSome (H.ahead host.new) (RunTakes result a.entries before))) }
     ensures configured { IsConfigured result }
     ensures made { H.made_of host.new ≡ H.made_of host.old }
 {
-    match Run::new(alloc, plan, services, filters) {
+    match Run::new(alloc, planned, services, filters) {
         Ok(machine) => {
             let mut machine = machine;
             let answer = machine.run(alloc, turns, host);

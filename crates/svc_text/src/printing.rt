@@ -47,13 +47,24 @@ impl Model for RecordText {
     ghost invariant = { λ r. All EntryFits (reverse r.entries) × (r.is_short ≡ false → string_bytes r.text ≡ text_of (reverse r.entries)) };
 }
 
+/// A text without bytes, and with memory for so many, if there is so much.
+fn empty_text(alloc: Global, capacity: usize) -> String
+    ensures { string_bytes result ≡ [] }
+{
+    match String::with_capacity(alloc, capacity) {
+        Ok(text) => text,
+        Err(_) => String::new(alloc),
+    }
+}
+
 impl RecordText {
-    /// The text of a record with no entry.
-    pub fn new(alloc: Global) -> Self
+    /// The text of a record with no entry. It has memory for so many bytes, if there is so much: where they
+    /// are enough, it isn't moved as it grows.
+    pub fn new(alloc: Global, capacity: usize) -> Self
         ensures { result ≡ [] }
     {
         RecordText {
-            text: String::new(alloc),
+            text: empty_text(alloc, capacity),
             is_short: false,
             entries: History::new(),
         }

@@ -7,23 +7,17 @@ ghost use Rattle.svc_server.specs.Servers.{answer_of, answers_of, depends_of, wi
 use crate::run::{Outcome, RunError};
 use std::alloc::Global;
 use std::mem::drop;
-use svc_base::{ItemRefused, Items, NoMemory, Numbers, Text, Texts};
+use svc_base::{ItemRefused, Items, NoMemory, Numbers, Reserved, Text, Texts};
 use svc_conf::Opt;
 use svc_graph::services::ServiceWithDependents;
 use svc_graph::{DependencyGraph, EndpointList};
 use svc_record::{ServiceList, ServicePlan};
 
 /// The items as a list of a plan.
-fn list_of<T: Drop>(alloc: Global, items: Vec<T>) -> Result<Items<T>, NoMemory>
-    ensures { IfOk result (λ list. list ≡ items.items) }
+fn list_of<T: Drop>(items: Vec<T>) -> Items<T>
+    ensures { result ≡ items.items }
 {
-    let mut list = Items::new(alloc);
-    for item in items {
-        if let Err(refused) = list.push(alloc, item) {
-            return Err(refused.reason);
-        }
-    }
-    Ok(list)
+    Reserved::of(items).into_items()
 }
 
 /// What the service declares, as a plan has it.
@@ -34,7 +28,7 @@ fn declared_of<B: ServiceWithDependents>(
     ensures { IfOk result (λ declared. declared ≡ B.declares service.now) }
 {
     match service.listen_addresses(alloc)? {
-        Some(texts) => Ok(Some(list_of(alloc, texts)?)),
+        Some(texts) => Ok(Some(list_of(texts))),
         None => Ok(None),
     }
 }
@@ -44,7 +38,7 @@ fn depends_of(alloc: Global, graph: &DependencyGraph, s: u32) -> Result<Numbers,
     requires { s < node_count graph.now }
     ensures { IfOk result (λ depends. depends ≡ depends_of graph.now s) }
 {
-    list_of(alloc, graph.get_dependencies(alloc, s)?)
+    Ok(list_of(graph.get_dependencies(alloc, s)?))
 }
 
 /// The service's endpoints, as a plan has them.
@@ -54,7 +48,7 @@ fn endpoints_of<B: ServiceWithDependents>(
 ) -> Result<EndpointList, NoMemory>
     ensures { IfOk result (λ endpoints. endpoints ≡ B.configures service.now) }
 {
-    list_of(alloc, service.listener_configs(alloc)?)
+    Ok(list_of(service.listener_configs(alloc)?))
 }
 
 /// What the service with this number answers, with what the graph says that it depends on.

@@ -1,12 +1,11 @@
-use Rattle.std.proofs.Common.{refl, sym, ◌∙◌, arith, ap}
+use Rattle.std.proofs.Common.{refl, sym, ◌∙◌, arith}
 use Rattle.svc_base.specs.Items.{list_of}
 use Rattle.svc_core.specs.Stands.{Visited}
 use Rattle.svc_core.specs.Steps.{go_room}
 use Rattle.svc_core.proofs.FinishLemmas.{go-ended-at, go-on-at, go-waiting-at, go-then}
 use Rattle.svc_core.proofs.CopyLemmas.{bare-these, bare-then, run-bare, try-bare}
 use Rattle.svc_core.proofs.GoForms.{opened-goes, stops, then-goes}
-use Rattle.svc_boot.specs.BootData.{BootData}
-use Rattle.svc_core.proofs.WaitsLemmas.{kept-boot}
+use Rattle.svc_core.proofs.KeptLemmas.{kept-boot}
 use Rattle.svc_core.proofs.machine.Core.advance.Goals as goal
 
 pub returns-then-not-is_on : goal.returns-then-not-is_on
@@ -44,11 +43,7 @@ returns c = opened-goes (λ core. Visited core c.args.copy) go_room c.self.view_
     c.advance_shutdown-2.ensures.kept))
 
 pub invariant_of-self-then-not-may_start : goal.invariant_of-self-then-not-may_start
-invariant_of-self-then-not-may_start c =
-    kept-boot c.self.inside.boot.complete c.try_again.new.self.complete (λ on. ap (λ (b : BootData). b.complete) c.try_again.ensures.after
-    ∙ on) c.self.invariant
+invariant_of-self-then-not-may_start c = kept-boot c.self.inside.boot c.try_again.ensures.after (λ on. on) c.self.invariant
 
 pub invariant_of-self-3 : goal.invariant_of-self-3
-invariant_of-self-3 c =
-    kept-boot c.self.inside.boot.complete c.try_again-2.new.self.complete (λ on. ap (λ (b : BootData). b.complete) c.try_again-2.ensures.after
-    ∙ on) c.self.invariant
+invariant_of-self-3 c = kept-boot c.self.inside.boot c.try_again-2.ensures.after (λ on. on) c.self.invariant

@@ -6,8 +6,7 @@ use Rattle.svc_core.specs.Stands.{HasNotBegun}
 use Rattle.svc_core.proofs.HeldLemmas.{begin-daemon}
 use Rattle.svc_core.proofs.CopyLemmas.{bare-these}
 use Rattle.svc_core.proofs.StepForms.{forks}
-use Rattle.svc_boot.specs.BootData.{BootData}
-use Rattle.svc_core.proofs.WaitsLemmas.{kept-boot}
+use Rattle.svc_core.proofs.KeptLemmas.{kept-boot}
 use Rattle.svc_core.proofs.machine.Core.ask_fork.Goals as goal
 
 pub returns : goal.returns
@@ -21,5 +20,4 @@ returns c =
     (record { few = omega arith; room = omega arith }))
 
 pub invariant_of-self : goal.invariant_of-self
-invariant_of-self c =
-    kept-boot c.self.inside.boot.complete c.ask_fork.new.self.complete (λ on. ap (λ (b : BootData). b.complete) c.ask_fork.ensures.after ∙ on) c.self.invariant
+invariant_of-self c = kept-boot c.self.inside.boot c.ask_fork.ensures.after (λ on. on) c.self.invariant

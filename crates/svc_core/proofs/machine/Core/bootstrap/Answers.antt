@@ -1,4 +1,4 @@
-use Rattle.std.proofs.Common.{refl, sym, ◌∙◌, arith, ap}
+use Rattle.std.proofs.Common.{refl, sym, ◌∙◌, arith}
 use Rattle.svc_base.specs.Items.{list_of}
 use Rattle.svc_boot.specs.BootState.{notifies}
 use Rattle.svc_core.specs.Stands.{MayBootstrap}
@@ -7,8 +7,8 @@ use Rattle.svc_core.proofs.BeginLemmas.{bootstrap-plain, bootstrap-eager-at}
 use Rattle.svc_core.proofs.CopyLemmas.{bare-none, bare-these, begin-bare}
 use Rattle.svc_core.proofs.GoForms.{opened-goes, then-goes}
 use Rattle.svc_core.proofs.StepForms.{begin-few}
-use Rattle.svc_boot.specs.BootData.{BootData}
-use Rattle.svc_core.proofs.WaitsLemmas.{begun-complete, kept-boot}
+use Rattle.svc_core.proofs.WaitsLemmas.{begun-complete}
+use Rattle.svc_core.proofs.KeptLemmas.{kept-boot}
 use Rattle.svc_core.proofs.machine.Core.bootstrap.Goals as goal
 
 pub returns-then-is_eager : goal.returns-then-is_eager
@@ -28,6 +28,4 @@ returns c =
     (sym c.is_eager.ensures ∙ c.if-is_eager.false) c.settle-2.ensures.kept)
 
 pub invariant_of-self : goal.invariant_of-self
-invariant_of-self c =
-    kept-boot c.self.inside.boot.complete c.begin.new.self.complete (λ on. ap (λ (b : BootData). b.complete) c.begin.ensures.after
-    ∙ begun-complete c.self.inside.plan c.self.inside.boot on) c.self.invariant
+invariant_of-self c = kept-boot c.self.inside.boot c.begin.ensures.after (λ on. begun-complete c.self.inside.plan c.self.inside.boot on) c.self.invariant

@@ -7,7 +7,7 @@ use Rattle.svc_core.proofs.FinishLemmas.{follows-ended-at, follows-on-at}
 use Rattle.svc_core.proofs.CopyLemmas.{bare-these, complete-bare}
 use Rattle.svc_core.proofs.GoForms.{opened-goes, stops, visited-goes}
 use Rattle.svc_boot.specs.BootData.{BootData}
-use Rattle.svc_core.proofs.WaitsLemmas.{kept-boot}
+use Rattle.svc_core.proofs.KeptLemmas.{kept-boot}
 use Rattle.svc_core.proofs.machine.Core.settle.Goals as goal
 
 pub returns-then-not-is_on : goal.returns-then-not-is_on
@@ -27,6 +27,4 @@ returns c = opened-goes (λ core. Struck core c.args.copy) finish_room c.self.vi
     c.startup_pass.ensures.kept c.advance.ensures.kept))
 
 pub invariant_of-self-2 : goal.invariant_of-self-2
-invariant_of-self-2 c =
-    kept-boot c.self.inside.boot.complete c.complete.new.self.complete (λ on. ap (λ (b : BootData). b.complete) c.complete.ensures.after
-    ∙ or_left c.self.inside.boot.complete c.complete.result on) c.self.invariant
+invariant_of-self-2 c = kept-boot c.self.inside.boot c.complete.ensures.after (λ on. or_left c.self.inside.boot.complete c.complete.result on) c.self.invariant

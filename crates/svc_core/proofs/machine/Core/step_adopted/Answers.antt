@@ -1,13 +1,11 @@
-use Rattle.std.proofs.Common.{List, length, ◌<◌, ◌∙◌, refl, sym, subst, ap, arith, rules}
+use Rattle.std.proofs.Common.{List, length, ◌∙◌, refl, sym, ap, arith, rules}
 use Rattle.svc_record.specs.declared.event.Event.TheVariants.{Adopted}
 use Rattle.svc_endpoints.specs.declared.table.Open.{Open}
 use Rattle.svc_endpoints.specs.Effects.{has_open}
-use Rattle.svc_graph.specs.WaitingData.{WaitingData}
-use Rattle.svc_record.specs.Plans.{service_count}
-use Rattle.svc_core.specs.CoreData.{CoreData}
 use Rattle.svc_core.proofs.StepLemmas.{strike-answer, fits-adopt, silently}
 use Rattle.svc_core.proofs.StepForms.{opened, gives-up}
 use Rattle.svc_core.proofs.WaitsLemmas.{short-order, watched-adopted}
+use Rattle.svc_core.proofs.KeptLemmas.{inside-of, counted}
 use Rattle.svc_core.proofs.machine.Core.step_adopted.Goals as goal
 
 pub returns : goal.returns
@@ -32,7 +30,4 @@ pub reopen-requires : goal.reopen-requires
 reopen-requires c = rw c.deref.ensures.value (short-order c.self.invariant.formed)
 
 pub free-requires : goal.free-requires
-free-requires c =
-    let inside = subst (λ (core : CoreData). c.args.s < service_count core.plan) (sym c.self.view_is) c.requires.may.inside in
-    let count = ap (λ (counts : WaitingData). length counts.marks) c.reopen.ensures.counts ∙ c.self.invariant.watched.count in
-    omega arith
+free-requires c = counted c.args.s c.self.invariant.watched c.reopen.ensures.counts (inside-of c.args.s c.self.view_is c.requires.may.inside)

@@ -1,7 +1,7 @@
-use Rattle.std.proofs.Common.{rules, refl, sym, ◌∙◌, arith}
+use Rattle.std.proofs.Common.{refl, sym, ◌∙◌, arith}
 use Rattle.svc_core.proofs.SignalLemmas.{strike-rests, strike-ends, awaited-row}
 use Rattle.svc_core.proofs.StepForms.{opened, gives-up, silently-taken}
-use Rattle.svc_core.proofs.WaitsLemmas.{watched-same}
+use Rattle.svc_core.proofs.KeptLemmas.{kept-closed}
 use Rattle.svc_core.proofs.machine.Core.step_answer.Goals as goal
 
 pub returns-then-is_some : goal.returns-then-is_some
@@ -17,9 +17,4 @@ returns c = opened c.self.view_is c.requires.may (λ may. silently-taken c.settl
     c.over_since.result c.over_since.ensures (sym c.is_some.ensures ∙ c.if-is_some.false) c.requires.rests))
 
 pub invariant_of-self : goal.invariant_of-self
-invariant_of-self c = record {
-  formed = search rules;
-  watched = watched-same c.self.inside.plan c.self.inside.order.items c.self.inside.starts c.self.inside.endpoints.parts c.release.new.self.parts
-      c.self.inside.waits c.release.ensures.rows c.release.ensures.failed c.release.ensures.gains c.self.invariant.watched;
-  late = c.self.invariant.late;
-}
+invariant_of-self c = kept-closed c.self.invariant c.release.ensures.sized c.release.ensures.rows c.release.ensures.failed c.release.ensures.gains

@@ -1,13 +1,9 @@
-use Rattle.std.proofs.Common.{Bool, List, length, ◌<◌, refl, ap, arith, rules, sym, subst, ◌∙◌}
+use Rattle.std.proofs.Common.{refl, arith}
 use Rattle.svc_record.specs.declared.event.Event.TheVariants.{BindFailed}
 use Rattle.svc_core.proofs.StepLemmas.{strike-answer, fits-bind, timeless}
 use Rattle.svc_core.proofs.StepForms.{opened, gives-up}
-use Rattle.svc_graph.specs.WaitingData.{WaitingData}
-use Rattle.svc_record.specs.Plans.{service_count}
-use Rattle.svc_core.specs.CoreData.{CoreData}
-use Rattle.svc_core.specs.StartsState.{is_flagged}
-use Rattle.svc_core.specs.WaitsState.{MarksIf}
-use Rattle.svc_core.proofs.WaitsLemmas.{marked-late, short-order, watched-answer}
+use Rattle.svc_core.proofs.WaitsLemmas.{short-order}
+use Rattle.svc_core.proofs.KeptLemmas.{inside-of, counted, counted-flags, kept-answer}
 use Rattle.svc_core.proofs.machine.Core.step_bind_failed.Goals as goal
 
 pub returns : goal.returns
@@ -17,34 +13,19 @@ returns c = opened c.self.view_is c.requires (λ may. gives-up c.settle.ensures 
 
 pub mark_failed-requires-clause-service : goal.mark_failed-requires-clause-service
 mark_failed-requires-clause-service c =
-    let inside = subst (λ (core : CoreData). c.args.s < service_count core.plan) (sym c.self.view_is) c.requires.may.inside in
-    let count = ap (λ (counts : WaitingData). length counts.marks) c.reopen.ensures.counts ∙ c.self.invariant.watched.count in
-    omega arith
+    counted c.args.s c.self.invariant.watched c.reopen.ensures.counts (inside-of c.args.s c.self.view_is c.requires.may.inside)
 
 pub mark_failed-requires-clause-flags : goal.mark_failed-requires-clause-flags
-mark_failed-requires-clause-flags c =
-    let count = ap (λ (counts : WaitingData). length counts.marks) c.reopen.ensures.counts ∙ c.self.invariant.watched.count in
-    let flags = ap (λ (failed : List Bool). length failed) c.failed.ensures in
-    let sized = c.on_bind_failed.ensures.sized.failed in
-    omega arith
+mark_failed-requires-clause-flags c = counted-flags c.self.invariant.watched c.reopen.ensures.counts c.on_bind_failed.ensures.sized c.failed.ensures
 
 pub mark_failed-requires-clause-order : goal.mark_failed-requires-clause-order
 mark_failed-requires-clause-order c = rw c.deref-2.ensures.value (short-order c.self.invariant.formed)
 
 pub invariant_of-self : goal.invariant_of-self
-invariant_of-self c = record {
-  formed = search rules;
-  watched = watched-answer c.self.inside.plan c.self.inside.order.items c.self.inside.starts c.self.inside.endpoints.parts c.on_bind_failed.new.self.parts
-      c.args.s c.self.inside.waits c.reopen.new.self c.mark_failed.new.self
-      (subst (λ (core : CoreData). c.args.s < service_count core.plan) (sym c.self.view_is) c.requires.may.inside) c.self.invariant.formed.endpoints
-      c.on_bind_failed.ensures.failed c.on_bind_failed.ensures.held c.on_bind_failed.ensures.unheld c.on_bind_failed.ensures.gains
-      c.on_bind_failed.ensures.others
-      (rw c.deref.ensures.value at c.reopen.ensures)
-      (subst (λ (failed : List Bool). MarksIf (is_flagged failed c.args.s) c.self.inside.order.items c.args.s c.reopen.new.self c.mark_failed.new.self)
-      c.failed.ensures
-      (rw c.deref-2.ensures.value at c.mark_failed.ensures)) c.self.invariant.watched;
-  late = λ on. c.self.invariant.late (sym c.reopen.ensures.complete ∙ sym (marked-late _ _ _ _ _ c.mark_failed.ensures) ∙ on);
-}
+invariant_of-self c =
+    kept-answer c.self.invariant (inside-of c.args.s c.self.view_is c.requires.may.inside) c.on_bind_failed.ensures.sized c.on_bind_failed.ensures.failed
+    c.on_bind_failed.ensures.held c.on_bind_failed.ensures.unheld c.on_bind_failed.ensures.gains c.on_bind_failed.ensures.others
+    c.deref.ensures.value c.reopen.ensures c.failed.ensures c.deref-2.ensures.value c.mark_failed.ensures
 
 pub reopen-requires : goal.reopen-requires
 reopen-requires c = rw c.deref.ensures.value (short-order c.self.invariant.formed)

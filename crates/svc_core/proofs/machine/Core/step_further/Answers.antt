@@ -1,7 +1,7 @@
-use Rattle.std.proofs.Common.{refl, sym, ◌∙◌, arith, rules}
+use Rattle.std.proofs.Common.{refl, sym, ◌∙◌, arith}
 use Rattle.svc_core.proofs.SignalLemmas.{cut-strikes}
 use Rattle.svc_core.proofs.StepForms.{opened, opened-same, gives-up, later-taken}
-use Rattle.svc_core.proofs.WaitsLemmas.{watched-same}
+use Rattle.svc_core.proofs.KeptLemmas.{kept-closed}
 use Rattle.svc_core.proofs.machine.Core.step_further.Goals as goal
 
 pub returns-then-not-cuts-clause-steps : goal.returns-then-not-cuts-clause-steps
@@ -16,9 +16,4 @@ returns-clause-steps c = opened c.self.view_is c.requires.may (λ may. gives-up 
     _ c.on_signal.ensures.after c.on_signal.ensures.cut _ _ _ c.release.ensures.stands))
 
 pub invariant_of-self : goal.invariant_of-self
-invariant_of-self c = record {
-  formed = search rules;
-  watched = watched-same c.self.inside.plan c.self.inside.order.items c.self.inside.starts c.self.inside.endpoints.parts c.release.new.self.parts
-      c.self.inside.waits c.release.ensures.rows c.release.ensures.failed c.release.ensures.gains c.self.invariant.watched;
-  late = c.self.invariant.late;
-}
+invariant_of-self c = kept-closed c.self.invariant c.release.ensures.sized c.release.ensures.rows c.release.ensures.failed c.release.ensures.gains

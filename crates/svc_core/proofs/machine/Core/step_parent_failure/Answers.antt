@@ -1,8 +1,7 @@
-use Rattle.std.proofs.Common.{refl, ap, ◌∙◌}
+use Rattle.std.proofs.Common.{refl}
 use Rattle.svc_core.proofs.HeldLemmas.{ends-held, failure-is, failure-row}
 use Rattle.svc_core.proofs.StepForms.{opened, held}
-use Rattle.svc_boot.specs.BootData.{BootData}
-use Rattle.svc_core.proofs.WaitsLemmas.{kept-boot}
+use Rattle.svc_core.proofs.KeptLemmas.{kept-boot}
 use Rattle.svc_core.proofs.machine.Core.step_parent_failure.Goals as goal
 
 pub returns : goal.returns
@@ -13,6 +12,4 @@ returns c = opened c.self.view_is c.requires.may (λ may. held c.hold.ensures.af
     (λ q. c.on_parent_failure.ensures.stands c.self.inside.plan q c.args.event.now c.requires.failure)))
 
 pub invariant_of-self : goal.invariant_of-self
-invariant_of-self c =
-    kept-boot c.self.inside.boot.complete c.on_parent_failure.new.self.complete (λ on. ap (λ
-    (b : BootData). b.complete) c.on_parent_failure.ensures.after ∙ on) c.self.invariant
+invariant_of-self c = kept-boot c.self.inside.boot c.on_parent_failure.ensures.after (λ on. on) c.self.invariant

@@ -1,11 +1,11 @@
-use Rattle.std.proofs.Common.{refl, ap, arith, ◌∙◌}
+use Rattle.std.proofs.Common.{refl, ap, arith}
 use Rattle.svc_record.specs.declared.event.Event.TheVariants.{ReceiveFailed}
 use Rattle.svc_endpoints.proofs.EventLemmas.{stands-got}
 use Rattle.svc_offer.proofs.OfferRules.{held-back-got}
 use Rattle.svc_core.proofs.StepLemmas.{strike-refused, fits-try}
 use Rattle.svc_core.proofs.StepForms.{opened, silently-taken}
 use Rattle.svc_boot.specs.BootData.{BootData}
-use Rattle.svc_core.proofs.WaitsLemmas.{kept-boot}
+use Rattle.svc_core.proofs.KeptLemmas.{kept-boot}
 use Rattle.svc_core.proofs.machine.Core.step_receive_failed.Goals as goal
 
 pub returns : goal.returns
@@ -18,6 +18,4 @@ returns c = opened c.self.view_is c.requires (λ may. silently-taken c.settle.en
     (λ q time. c.on_receive_failed.ensures.stands c.self.inside.plan q)))
 
 pub invariant_of-self : goal.invariant_of-self
-invariant_of-self c =
-    kept-boot c.self.inside.boot.complete c.on_receive_failed.new.self.complete (λ on. ap (λ
-    (b : BootData). b.complete) c.on_receive_failed.ensures.after ∙ on) c.self.invariant
+invariant_of-self c = kept-boot c.self.inside.boot c.on_receive_failed.ensures.after (λ on. on) c.self.invariant

@@ -1,8 +1,7 @@
-use Rattle.std.proofs.Common.{refl, ap, ◌∙◌}
+use Rattle.std.proofs.Common.{refl}
 use Rattle.svc_core.proofs.HeldLemmas.{waiting-held}
 use Rattle.svc_core.proofs.StepForms.{opened, held}
-use Rattle.svc_boot.specs.BootData.{BootData}
-use Rattle.svc_core.proofs.WaitsLemmas.{kept-boot}
+use Rattle.svc_core.proofs.KeptLemmas.{kept-boot}
 use Rattle.svc_core.proofs.machine.Core.step_waiting.Goals as goal
 
 pub returns : goal.returns
@@ -12,5 +11,4 @@ returns c = opened c.self.view_is c.requires.may (λ may. held c.hold.ensures.af
     c.wait_on.ensures.stands))
 
 pub invariant_of-self : goal.invariant_of-self
-invariant_of-self c =
-    kept-boot c.self.inside.boot.complete c.wait_on.new.self.complete (λ on. ap (λ (b : BootData). b.complete) c.wait_on.ensures.after ∙ on) c.self.invariant
+invariant_of-self c = kept-boot c.self.inside.boot c.wait_on.ensures.after (λ on. on) c.self.invariant

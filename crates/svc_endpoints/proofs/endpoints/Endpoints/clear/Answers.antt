@@ -1,7 +1,7 @@
 use Rattle.std.proofs.Common.{map, not, ap, sym, subst, arith, ◌∙◌, ◌++◌, length}
 use Rattle.svc_base.specs.Items.{list_of}
 use Rattle.svc_endpoints.specs.declared.table.Open.{Open}
-use Rattle.svc_endpoints.specs.EndpointsData.{EndpointsData, EndpointsRoom}
+use Rattle.svc_endpoints.specs.EndpointsData.{EndpointsRoom}
 use Rattle.svc_endpoints.specs.Counts.{goes_by}
 use Rattle.svc_endpoints.proofs.CountedLemmas.{left-keeps}
 use Rattle.svc_record.specs.declared.action.Action.TheVariants.{Close}
@@ -13,16 +13,7 @@ use Rattle.svc_endpoints.proofs.endpoints.Endpoints.clear.Goals as goal
 
 pub close_gone-requires-clause-flags : goal.close_gone-requires-clause-flags
 close_gone-requires-clause-flags c =
-    let d : EndpointsData = record {
-      rows = c.self.inside.rows.items;
-      failed = c.self.inside.failed.items;
-      loops = list_of c.self.inside.loops;
-      table = list_of c.self.inside.table;
-      came = list_of c.self.inside.came;
-      shared = list_of c.self.inside.shared;
-      tasks = c.self.inside.tasks;
-    } in
-    flags-sized c.args.plan.now d (subst (λ (e : EndpointsRoom). IsEndpointsSized c.args.plan.now e.parts) (sym c.self.view_is) c.requires.sized)
+    flags-sized c.args.plan.now _ (subst (λ (e : EndpointsRoom). IsEndpointsSized c.args.plan.now e.parts) (sym c.self.view_is) c.requires.sized)
     c.deref.result.now c.deref.ensures.value
 
 pub returns-clause-room : goal.returns-clause-room
@@ -35,32 +26,14 @@ returns-clause-room c =
 
 pub returns-clause-after : goal.returns-clause-after
 returns-clause-after c =
-    let d : EndpointsData = record {
-      rows = c.self.inside.rows.items;
-      failed = c.self.inside.failed.items;
-      loops = list_of c.self.inside.loops;
-      table = list_of c.self.inside.table;
-      came = list_of c.self.inside.came;
-      shared = list_of c.self.inside.shared;
-      tasks = c.self.inside.tasks;
-    } in
-    cleared-by d (list_of c.self.inside.uses) c.self.invariant.1 c.args.plan.now
+    cleared-by _ _ c.self.invariant.1 c.args.plan.now
     (subst (λ (e : EndpointsRoom). IsEndpointsSized c.args.plan.now e.parts) (sym c.self.view_is) c.requires.sized) c.args.kept.now c.deref.result.now
     c.deref.ensures.value (list_of c.close_gone.new.self) c.close_gone.ensures.after
     ∙ ap (λ (e : EndpointsRoom). cleared c.args.plan.now c.args.kept.now e.parts) c.self.view_is
 
 pub returns-clause-told : goal.returns-clause-told
 returns-clause-told c =
-    let d : EndpointsData = record {
-      rows = c.self.inside.rows.items;
-      failed = c.self.inside.failed.items;
-      loops = list_of c.self.inside.loops;
-      table = list_of c.self.inside.table;
-      came = list_of c.self.inside.came;
-      shared = list_of c.self.inside.shared;
-      tasks = c.self.inside.tasks;
-    } in
-    told-by d (list_of c.self.inside.uses) c.self.invariant.1 c.args.plan.now
+    told-by _ _ c.self.invariant.1 c.args.plan.now
     (subst (λ (e : EndpointsRoom). IsEndpointsSized c.args.plan.now e.parts) (sym c.self.view_is) c.requires.sized) c.args.kept.now c.deref.result.now
     c.deref.ensures.value (list_of c.args.actions.now) (list_of c.close_gone.new.actions) c.close_gone.ensures.told
     ∙ ap (λ (e : EndpointsRoom). list_of c.args.actions.now ++ map Close (gone_numbers c.args.plan.now c.args.kept.now e.parts e.parts.table)) c.self.view_is
@@ -68,15 +41,7 @@ returns-clause-told c =
 pub invariant_of-self : goal.invariant_of-self
 invariant_of-self c = (
   c.self.invariant.0,
-  left-keeps (record {
-    rows = c.self.inside.rows.items;
-    failed = c.self.inside.failed.items;
-    loops = list_of c.self.inside.loops;
-    table = list_of c.self.inside.table;
-    came = list_of c.self.inside.came;
-    shared = list_of c.self.inside.shared;
-    tasks = c.self.inside.tasks;
-  }) (list_of c.self.inside.uses) c.self.invariant.1
+  left-keeps _ _ c.self.invariant.1
       (λ (o : Open). not (goes_by c.args.plan.now c.deref.result.now c.args.kept.now (list_of c.self.inside.uses) o)) (list_of c.close_gone.new.self)
       (list_of c.keep.new.self) c.close_gone.ensures.after c.keep.ensures,
 )

@@ -17,14 +17,6 @@ returns-clause-room c =
 pub invariant_of-self : goal.invariant_of-self
 invariant_of-self c = (
   c.self.invariant.0,
-  closed-keeps (record {
-    rows = c.self.inside.rows.items;
-    failed = c.self.inside.failed.items;
-    loops = list_of c.self.inside.loops;
-    table = list_of c.self.inside.table;
-    came = list_of c.self.inside.came;
-    shared = list_of c.self.inside.shared;
-    tasks = c.self.inside.tasks;
-  }) (list_of c.self.inside.uses) c.self.invariant.1 c.args.fd (list_of c.close_number.new.self) (list_of c.remove.new.self)
+  closed-keeps _ _ c.self.invariant.1 c.args.fd (list_of c.close_number.new.self) (list_of c.remove.new.self)
       c.close_number.ensures.after c.remove.ensures,
 )

@@ -1,5 +1,4 @@
 use Rattle.std.proofs.Common.{Some, IfSome, subst, ◌≡◌, true}
-use Rattle.svc_base.specs.Items.{list_of}
 use Rattle.svc_base.specs.NumberSets.{is_in}
 use Rattle.svc_endpoints.specs.EndpointsData.{EndpointsRoom}
 use Rattle.svc_endpoints.proofs.CountedLemmas.{found-came}
@@ -8,12 +7,4 @@ use Rattle.svc_endpoints.proofs.endpoints.Endpoints.find.Goals as goal
 pub returns-clause-came : goal.returns-clause-came
 returns-clause-came c =
     subst (λ (e : EndpointsRoom). IfSome c.find.result (λ fd. is_in fd e.parts.came ≡ true)) c.self.view_is
-    (found-came (record {
-      rows = c.self.inside.rows.items;
-      failed = c.self.inside.failed.items;
-      loops = list_of c.self.inside.loops;
-      table = list_of c.self.inside.table;
-      came = list_of c.self.inside.came;
-      shared = list_of c.self.inside.shared;
-      tasks = c.self.inside.tasks;
-    }) (list_of c.self.inside.uses) c.self.invariant.1 (Some c.args.address.now) c.find.result c.find.ensures)
+    (found-came _ _ c.self.invariant.1 (Some c.args.address.now) c.find.result c.find.ensures)

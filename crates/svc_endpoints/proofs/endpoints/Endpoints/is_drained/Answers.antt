@@ -1,7 +1,6 @@
 use Rattle.std.proofs.Common.{ap, sym, subst, ◌∙◌}
-use Rattle.svc_base.specs.Items.{list_of}
 use Rattle.svc_base.specs.NumberSets.{is_in}
-use Rattle.svc_endpoints.specs.EndpointsData.{EndpointsData, EndpointsRoom}
+use Rattle.svc_endpoints.specs.EndpointsData.{EndpointsRoom}
 use Rattle.svc_endpoints.specs.EndpointsState.{open_numbers}
 use Rattle.svc_endpoints.proofs.CountedLemmas.{drained-counted}
 use Rattle.svc_endpoints.specs.Uses.{is_drained_by}
@@ -10,17 +9,8 @@ use Rattle.svc_endpoints.proofs.endpoints.Endpoints.is_drained.Goals as goal
 
 pub returns : goal.returns
 returns c =
-    let d : EndpointsData = record {
-      rows = c.self.inside.rows.items;
-      failed = c.self.inside.failed.items;
-      loops = list_of c.self.inside.loops;
-      table = list_of c.self.inside.table;
-      came = list_of c.self.inside.came;
-      shared = list_of c.self.inside.shared;
-      tasks = c.self.inside.tasks;
-    } in
     λ live. c.is_let_go.ensures
-    ∙ drained-counted d (list_of c.self.inside.uses) c.self.invariant.1 c.args.plan.now
+    ∙ drained-counted _ _ c.self.invariant.1 c.args.plan.now
     (subst (λ (e : EndpointsRoom). IsEndpointsSized c.args.plan.now e.parts) (sym c.self.view_is) c.requires.sized) c.args.fd
     (ap (λ (e : EndpointsRoom). is_in c.args.fd (open_numbers e.parts)) c.self.view_is ∙ live)
     ∙ ap (λ (e : EndpointsRoom). is_drained_by c.args.plan.now e.parts c.args.fd) c.self.view_is

@@ -1,7 +1,7 @@
 use Rattle.std.proofs.Common.{ap, sym, subst, arith, ◌∙◌, ◌≡◌, ◌<◌, [], length, false, slice_index_or}
 use Rattle.std.proofs.lemmas.List.{get_or_default}
 use Rattle.svc_base.specs.Items.{list_of}
-use Rattle.svc_endpoints.specs.EndpointsData.{EndpointsData, EndpointsRoom}
+use Rattle.svc_endpoints.specs.EndpointsData.{EndpointsRoom}
 use Rattle.svc_endpoints.specs.EndpointsState.{idle}
 use Rattle.svc_endpoints.specs.Counts.{row_size, is_known}
 use Rattle.svc_endpoints.proofs.CountedLemmas.{kept-few, put-keeps}
@@ -10,28 +10,11 @@ use Rattle.svc_endpoints.proofs.endpoints.Endpoints.put.Goals as goal
 
 pub change-requires : goal.change-requires
 change-requires c = record {
-  few = kept-few (record {
-    rows = c.self.inside.rows.items;
-    failed = c.self.inside.failed.items;
-    loops = list_of c.self.inside.loops;
-    table = list_of c.self.inside.table;
-    came = list_of c.self.inside.came;
-    shared = list_of c.self.inside.shared;
-    tasks = c.self.inside.tasks;
-  }) (list_of c.self.inside.uses) c.self.invariant.1 c.self.invariant.0.few;
+  few = kept-few _ _ c.self.invariant.1 c.self.invariant.0.few;
 }
 
 pub invariant_of-self : goal.invariant_of-self
 invariant_of-self c =
-    let d : EndpointsData = record {
-      rows = c.self.inside.rows.items;
-      failed = c.self.inside.failed.items;
-      loops = list_of c.self.inside.loops;
-      table = list_of c.self.inside.table;
-      came = list_of c.self.inside.came;
-      shared = list_of c.self.inside.shared;
-      tasks = c.self.inside.tasks;
-    } in
     let rows = c.self.inside.rows.items in
     let same : length rows ≡ length c.args.self.now.parts.rows = ap (λ (e : EndpointsRoom). length e.parts.rows) c.self.view_is in
     let given = c.requires.service in
@@ -42,7 +25,7 @@ invariant_of-self c =
       known-put rows c.self.inside.failed.items c.self.inside.busy c.put_bit.new.bits c.args.s c.self.invariant.0 c.put_bit.ensures.rows
           c.put_bit.ensures.others
           c.set.new.self inside (λ off. c.is_ever_busy-is_busy.ensures (sym c.put_bit.ensures.here ∙ off)),
-      put-keeps d (list_of c.self.inside.uses) c.self.invariant.1 c.args.s c.args.i c.args.state inside
+      put-keeps _ _ c.self.invariant.1 c.args.s c.args.i c.args.state inside
           (subst (λ (e : EndpointsRoom). c.args.i < row_size e.parts.rows c.args.s) (sym c.self.view_is) c.requires.endpoint)
           (ap (λ (e : EndpointsRoom). is_known c.args.state.last e.parts.came) c.self.view_is ∙ c.requires.known)
           c.index_mut-row.result.now c.set.new.self c.index-failed.result.now c.is_done-done.result c.get.result c.share_of-was.result c.share_of.result

@@ -16,15 +16,7 @@ fail_shares-requires c =
     let flags = c.self.invariant.0.flags in
     let inside : c.args.s < length rows = omega (arith, same, given, flags) in
     record {
-      few = failing-fits (record {
-        rows = c.self.inside.rows.items;
-        failed = c.self.inside.failed.items;
-        loops = list_of c.self.inside.loops;
-        table = list_of c.self.inside.table;
-        came = list_of c.self.inside.came;
-        shared = list_of c.self.inside.shared;
-        tasks = c.self.inside.tasks;
-      }) (list_of c.self.inside.uses) c.self.invariant.1 c.args.s inside c.index-row.result.now c.index-failed.result.now
+      few = failing-fits _ _ c.self.invariant.1 c.args.s inside c.index-row.result.now c.index-failed.result.now
           (c.index-row.ensures ∙ get_or_default rows c.args.s c.index-row.result.now [] inside)
           (c.index-failed.ensures ∙ get_or_default c.self.inside.failed.items c.args.s c.index-failed.result.now false (omega (arith, inside, flags)))
           c.self.invariant.0.few;
@@ -42,15 +34,7 @@ invariant_of-self c =
           (λ off. subst (λ (row : List EndpointState). IsRowCalm true row)
           (c.index-row.ensures ∙ get_or_default rows c.args.s c.index-row.result.now [] inside)
           (c.is_ever_busy-is_busy.ensures (sym c.put_bit.ensures.here ∙ off))),
-      failed-keeps (record {
-        rows = c.self.inside.rows.items;
-        failed = c.self.inside.failed.items;
-        loops = list_of c.self.inside.loops;
-        table = list_of c.self.inside.table;
-        came = list_of c.self.inside.came;
-        shared = list_of c.self.inside.shared;
-        tasks = c.self.inside.tasks;
-      }) (list_of c.self.inside.uses) c.self.invariant.1 c.args.s inside c.index-row.result.now c.index-failed.result.now
+      failed-keeps _ _ c.self.invariant.1 c.args.s inside c.index-row.result.now c.index-failed.result.now
           (c.index-row.ensures ∙ get_or_default rows c.args.s c.index-row.result.now [] inside)
           (c.index-failed.ensures ∙ get_or_default c.self.inside.failed.items c.args.s c.index-failed.result.now false (omega (arith, inside, flags)))
           (omega (arith, inside, flags)) (list_of c.fail_shares.new.uses) c.fail_shares.ensures,

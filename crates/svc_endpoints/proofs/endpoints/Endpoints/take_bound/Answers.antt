@@ -2,7 +2,7 @@ use Rattle.std.proofs.Common.{ap, sym, subst, arith, ◌∙◌, ◌≡◌, ◌<�
 use Rattle.std.proofs.lemmas.List.{get_or_default}
 use Rattle.svc_base.specs.Items.{list_of}
 use Rattle.svc_base.specs.NumberSets.{is_in}
-use Rattle.svc_endpoints.specs.EndpointsData.{EndpointsData, EndpointsRoom}
+use Rattle.svc_endpoints.specs.EndpointsData.{EndpointsRoom}
 use Rattle.svc_endpoints.specs.EndpointsState.{idle}
 use Rattle.svc_endpoints.specs.Counts.{row_size}
 use Rattle.svc_endpoints.proofs.CountedLemmas.{bound-keeps}
@@ -11,15 +11,6 @@ use Rattle.svc_endpoints.proofs.endpoints.Endpoints.take_bound.Goals as goal
 
 pub invariant_of-self : goal.invariant_of-self
 invariant_of-self c =
-    let d : EndpointsData = record {
-      rows = c.self.inside.rows.items;
-      failed = c.self.inside.failed.items;
-      loops = list_of c.self.inside.loops;
-      table = list_of c.self.inside.table;
-      came = list_of c.self.inside.came;
-      shared = list_of c.self.inside.shared;
-      tasks = c.self.inside.tasks;
-    } in
     let rows = c.self.inside.rows.items in
     let same : length rows ≡ length c.args.self.now.parts.rows = ap (λ (e : EndpointsRoom). length e.parts.rows) c.self.view_is in
     let given = c.requires.service in
@@ -30,7 +21,7 @@ invariant_of-self c =
       known-put rows c.self.inside.failed.items c.self.inside.busy c.put_bit.new.bits c.args.s c.self.invariant.0 c.put_bit.ensures.rows
           c.put_bit.ensures.others
           c.set.new.self inside (λ off. c.is_ever_busy-busy.ensures (sym c.put_bit.ensures.here ∙ off)),
-      bound-keeps d (list_of c.self.inside.uses) c.self.invariant.1 c.args.s c.args.i c.args.fd c.get-state.result.times_in_use (Some c.args.address) inside
+      bound-keeps _ _ c.self.invariant.1 c.args.s c.args.i c.args.fd c.get-state.result.times_in_use (Some c.args.address) inside
           (subst (λ (e : EndpointsRoom). c.args.i < row_size e.parts.rows c.args.s) (sym c.self.view_is) c.requires.endpoint)
           (ap (λ (e : EndpointsRoom). is_in c.args.fd e.parts.came) c.self.view_is ∙ c.requires.new)
           c.index_mut-row.result.now c.set.new.self c.index-failed.result.now c.is_done-done.result c.get-state.result c.share_of.result c.holder_share.result

@@ -1,8 +1,8 @@
-use Rattle.std.proofs.Common.{List, ℕ, ap, ◌∙◌, ◌≡◌, map}
+use Rattle.std.proofs.Common.{List, ℕ, ap, ◌∙◌}
 use Rattle.svc_base.specs.Items.{list_of}
 use Rattle.svc_base.specs.NumberSets.{distinct}
 use Rattle.svc_endpoints.specs.declared.uses.UseCount.{UseCount}
-use Rattle.svc_endpoints.specs.Counts.{one, lowered, counted_numbers}
+use Rattle.svc_endpoints.specs.Counts.{counted_numbers}
 use Rattle.svc_endpoints.proofs.UsesLemmas.{once-shared, put-shared}
 use Rattle.svc_endpoints.proofs.uses.Uses.add_shared.Goals as goal
 

@@ -1,4 +1,4 @@
-use Rattle.std.proofs.Common.{List, ℕ, ◌≡◌, subst, IfOk}
+use Rattle.std.proofs.Common.{◌∙◌}
 use Rattle.svc_server.proofs.PlanLemmas.{depends_of-listed}
 use Rattle.svc_server.proofs.server.planning.depends_of.Goals as goal
 
@@ -6,5 +6,4 @@ pub returns : goal.returns
 returns c =
     let numbers = c.in_ok-get_dependencies.field-0.items in
     let said = c.in_ok-get_dependencies.ensures in
-    let depends = depends_of-listed c.args.graph.now c.args.s numbers said.graph said.order said.edges in
-    subst (λ (xs : List ℕ). IfOk c.list_of.result (λ list. list ≡ xs)) depends c.list_of.ensures
+    c.list_of.ensures ∙ depends_of-listed c.args.graph.now c.args.s numbers said.graph said.order said.edges
