@@ -1,4 +1,3 @@
 pub mod AsBox
-mod PlanLemmas
 mod RoomLemmas
 mod MakingLemmas

@@ -7,7 +7,6 @@ ghost use Rattle.svc_c.specs.Exports.{Makes, Begins, Tests, Steps, Tells, Ends, 
 mod answers;
 mod handle;
 mod making;
-mod plans;
 mod session;
 mod stage;
 

@@ -7,13 +7,13 @@ ghost use Rattle.svc_text.specs.Dependencies.{RefusesNone};
 ghost use Rattle.svc_text.specs.Outcome.{parts_of};
 ghost use Rattle.svc_c.specs.Making.{flags_of, IsFirst, IsConfigured, IsMade};
 
-use crate::plans::{first_refused, service_plans, settled};
 use crate::session::Session;
 use std::alloc::Global;
 use std::mem::drop;
 use svc_base::NoMemory;
 use svc_conf::{Key, Opt};
 use svc_core::Core;
+use svc_plans::{first_refused, service_plans, settled};
 use svc_record::Plan;
 use svc_text::{Script, ScriptError, ServiceLine, parse};
 

@@ -8,6 +8,7 @@ use std::process::ExitCode;
 use std::sync::Mutex;
 use svc_base::Writing;
 use svc_echo::{Seat, Slot, Sockets, real_desk, run_echo};
+use svc_system::hold_standard_descriptors;
 use svc_words::words;
 
 /// So many entries of each of its lists a desk tells.
@@ -17,6 +18,7 @@ const ROOM: u64 = 65_536;
 const NO_MEMORY: u8 = 7;
 
 fn main(rt: HostRuntime) -> ExitCode {
+    let _held = hold_standard_descriptors(&rt);
     let alloc = rt.alloc();
     let Ok(words) = words(alloc, env::args(&rt)) else {
         return ExitCode::from(NO_MEMORY);

@@ -1,6 +1,6 @@
 //! What is answered to an input.
 
-ghost use Rattle.std.specs.Prelude.{◌≡◌, ◌<◌, ◌≤◌, ◌++◌, length, All, List, IfOk, string_bytes};
+ghost use Rattle.std.specs.Prelude.{◌≡◌, ◌<◌, ◌≤◌, ◌++◌, [], length, All, List, IfOk, string_bytes};
 ghost use Rattle.svc_generations.specs.declared.outcome.ChainLine.TheVariants.{Unbegun};
 ghost use Rattle.svc_generations.specs.BlockReadings.{IsBlock};
 ghost use Rattle.svc_generations.specs.ChainStatus.{status_line, line_of};
@@ -8,6 +8,7 @@ ghost use Rattle.svc_generations.specs.Serving.{chain_text};
 ghost use Rattle.svc_generations.specs.ChainPrograms.{AnswersInput, PrintsChain};
 ghost use Rattle.svc_generations.specs.Inputs.{BlockParts, input_parts_of};
 ghost use Rattle.svc_generations.specs.PlanReadings.{HasPlans, MayServe};
+ghost use Rattle.svc_generations.specs.Servings.{IsServing, IsOpen};
 
 use crate::input::Input;
 use crate::outcome::{ChainLine, StepRefusal};
@@ -17,6 +18,7 @@ use crate::serving::Serving;
 use crate::steps::Step;
 use std::alloc::Global;
 use std::fmt::Write;
+use std::mem::drop;
 use svc_base::NoMemory;
 use svc_main::{RunEnd, StatusLine};
 use svc_supervisor::Chain;
@@ -59,15 +61,26 @@ fn line_of(end: Option<(u64, StepRefusal)>) -> ChainLine
 }
 
 /// Takes the steps, closes all that is open, and prints the chain and its status line.
+fn finished(alloc: Global, serving: &mut Serving, steps: &[Step]) -> Result<Answer, NoMemory>
+    requires { IsOpen serving.old }
+    ensures { (blocks : List BlockParts) → IsServing blocks [] serving.old
+        → IfOk result (λ a. PrintsChain (record { blocks = blocks; steps = steps.now }) a.line (string_bytes a.text)) }
+{
+    let line = line_of(serving.take_all(alloc, steps)?);
+    serving.chain.finish()?;
+    printed(alloc, &serving.chain, line)
+}
+
+/// Serves the plans: takes the steps, closes all that is open, and prints the chain and its status line.
 fn serve_steps(alloc: Global, plans: Plans, steps: &[Step]) -> Result<Answer, NoMemory>
     requires { MayServe plans.plans }
     ensures { (blocks : List BlockParts) → HasPlans blocks plans
         → IfOk result (λ a. PrintsChain (record { blocks = blocks; steps = steps.now }) a.line (string_bytes a.text)) }
 {
     let mut serving = Serving::new(alloc, plans)?;
-    let line = line_of(serving.take_all(alloc, steps)?);
-    serving.chain.finish()?;
-    printed(alloc, &serving.chain, line)
+    let answer = finished(alloc, &mut serving, steps);
+    drop(serving);
+    answer
 }
 
 /// The answer to an input.
@@ -80,10 +93,24 @@ pub(crate) fn answer_input(alloc: Global, input: Input) -> Result<Answer, NoMemo
     let Input { blocks, steps } = input;
     match plans_of(alloc, blocks) {
         Ok(plans) => match plans.refused {
-            Some(key) => said(alloc, StatusLine::Run(RunEnd::Config(key))),
-            None => serve_steps(alloc, plans, &steps),
+            Some(key) => {
+                drop(plans);
+                drop(steps);
+                said(alloc, StatusLine::Run(RunEnd::Config(key)))
+            }
+            None => {
+                let answer = serve_steps(alloc, plans, &steps);
+                drop(steps);
+                answer
+            }
         },
-        Err(ScriptError::Line(n)) => said(alloc, StatusLine::Line(n as u64)),
-        Err(ScriptError::NoMemory) => Err(NoMemory),
+        Err(ScriptError::Line(n)) => {
+            drop(steps);
+            said(alloc, StatusLine::Line(n as u64))
+        }
+        Err(ScriptError::NoMemory) => {
+            drop(steps);
+            Err(NoMemory)
+        }
     }
 }

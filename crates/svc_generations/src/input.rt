@@ -12,6 +12,7 @@ ghost use Rattle.svc_generations.specs.BlockReadings.{IsBlock, IsBehind, Refuses
 use crate::block_text::{BlockText, read_lines};
 use crate::steps::{Step, is_text, read_steps};
 use std::alloc::Global;
+use std::mem::drop;
 use svc_base::{Items, NoMemory, split_line};
 use svc_main::is_skipped;
 use svc_text::{Script, ScriptError, parse};
@@ -53,7 +54,10 @@ fn script_of(alloc: Global, block: &BlockText) -> Result<Script, ScriptError>
     match parse(alloc, &block.text) {
         Ok(script) => match block.daemon {
             None => Ok(script),
-            Some(n) => Err(ScriptError::Line(n)),
+            Some(n) => {
+                drop(script);
+                Err(ScriptError::Line(n))
+            }
         },
         Err(ScriptError::Line(n)) => Err(ScriptError::Line(first_refused(block.daemon, n))),
         Err(ScriptError::NoMemory) => Err(ScriptError::NoMemory),
@@ -139,15 +143,23 @@ fn read_blocks(alloc: Global, text: &[u8], before: usize) -> Result<Input, Scrip
     let mut left = 64u32;
     while let Some(after) = behind(rest, b"%generation") {
         if left == 0 {
+            drop(blocks);
             return Err(ScriptError::Line(passed + 1));
         }
         let (block, count, behind) = match read_block(alloc, after, passed + 1) {
             Ok(read) => read,
-            Err(error) => return Err(error),
+            Err(error) => {
+                drop(blocks);
+                return Err(error);
+            }
         };
         match blocks.push(alloc, block) {
             Ok(()) => {}
-            Err(_) => return Err(ScriptError::NoMemory),
+            Err(refused) => {
+                drop(refused);
+                drop(blocks);
+                return Err(ScriptError::NoMemory);
+            }
         }
         passed += 1 + count;
         rest = behind;
@@ -155,7 +167,10 @@ fn read_blocks(alloc: Global, text: &[u8], before: usize) -> Result<Input, Scrip
     }
     match steps_behind(alloc, rest, passed) {
         Ok(steps) => Ok(Input { blocks, steps }),
-        Err(error) => Err(error),
+        Err(error) => {
+            drop(blocks);
+            Err(error)
+        }
     }
 }
 

@@ -12,6 +12,7 @@ ghost use Rattle.svc_generations.specs.Serving.{flags_of};
 
 use crate::input::{Block, refused_behind};
 use std::alloc::Global;
+use std::mem::drop;
 use svc_base::{Items, NoMemory};
 use svc_conf::{Key, Opt};
 use svc_main::{PlannedScript, plan_script};
@@ -48,7 +49,12 @@ fn plan_block(alloc: Global, block: Block, later: bool) -> Result<PlannedScript,
     ensures edges { OnOk result (RefusesNone block.script.services.items) }
     ensures refused { IfErr result (RefusesIn (block_parts_of block)) }
 {
-    let Block { script, before, .. } = block;
+    let Block {
+        script,
+        text,
+        before,
+    } = block;
+    drop(text);
     match plan_script(alloc, flags_of(later), script) {
         Ok(planned) => Ok(planned),
         Err(ScriptError::Line(n)) => Err(refused_behind(before, n)),
@@ -80,11 +86,20 @@ impl Plans {
             services,
             refused,
         } = planned;
-        if self.plans.push(alloc, plan).is_err() {
-            return Err(NoMemory);
+        match self.plans.push(alloc, plan) {
+            Ok(()) => {}
+            Err(back) => {
+                drop(back);
+                drop(services);
+                return Err(NoMemory);
+            }
         }
-        if self.services.push(alloc, services).is_err() {
-            return Err(NoMemory);
+        match self.services.push(alloc, services) {
+            Ok(()) => {}
+            Err(back) => {
+                drop(back);
+                return Err(NoMemory);
+            }
         }
         if self.refused.is_none() {
             self.refused = refused;
@@ -110,10 +125,19 @@ pub(crate) fn plans_of(alloc: Global, blocks: Items<Block>) -> Result<Plans, Scr
         match plan_block(alloc, block, later) {
             Ok(planned) => match plans.add(alloc, planned) {
                 Ok(()) => {}
-                Err(NoMemory) => return Err(ScriptError::NoMemory),
+                Err(NoMemory) => {
+                    drop(plans);
+                    drop(blocks);
+                    return Err(ScriptError::NoMemory);
+                }
             },
-            Err(error) => return Err(error),
+            Err(error) => {
+                drop(plans);
+                drop(blocks);
+                return Err(error);
+            }
         }
     }
+    drop(blocks);
     Ok(plans)
 }

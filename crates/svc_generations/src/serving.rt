@@ -13,6 +13,7 @@ use crate::outcome::StepRefusal;
 use crate::plans::Plans;
 use crate::steps::Step;
 use std::alloc::Global;
+use std::mem::drop;
 use svc_base::{Items, NoMemory};
 use svc_record::{Event, Plan};
 use svc_socket::Peer;
@@ -79,7 +80,12 @@ impl Serving {
                 plans,
                 services,
             }),
-            Err(ChainRefused::NoMemory(_)) => Err(NoMemory),
+            Err(ChainRefused::NoMemory(event)) => {
+                drop(event);
+                drop(plans);
+                drop(services);
+                Err(NoMemory)
+            }
             Err(_) => unreachable!(),
         }
     }
@@ -97,8 +103,14 @@ impl Serving {
         };
         match self.chain.launch(alloc, plan) {
             Ok(_) => Ok(None),
-            Err(ChainRefused::NotReady(_)) => Ok(Some(StepRefusal::NotReady)),
-            Err(ChainRefused::NoMemory(_)) => Err(NoMemory),
+            Err(ChainRefused::NotReady(plan)) => {
+                drop(plan);
+                Ok(Some(StepRefusal::NotReady))
+            }
+            Err(ChainRefused::NoMemory(event)) => {
+                drop(event);
+                Err(NoMemory)
+            }
             Err(_) => unreachable!(),
         }
     }
@@ -116,15 +128,25 @@ impl Serving {
         ensures open { OnOk result (IsOpen self.new) }
     {
         if generation >= self.chain.generations() as u64 {
+            drop(event);
             return Ok(Some(StepRefusal::Unknown));
         }
         let number = generation as u32;
         let said = said_to(self.services.as_slice(), number as usize, &event);
         match self.chain.step(alloc, number, event, said) {
             Ok(_) => Ok(None),
-            Err(ChainRefused::Early(_)) => Ok(Some(StepRefusal::Early)),
-            Err(ChainRefused::Stray(_)) => Ok(Some(StepRefusal::Stray)),
-            Err(ChainRefused::NoMemory(_)) => Err(NoMemory),
+            Err(ChainRefused::Early(event)) => {
+                drop(event);
+                Ok(Some(StepRefusal::Early))
+            }
+            Err(ChainRefused::Stray(event)) => {
+                drop(event);
+                Ok(Some(StepRefusal::Stray))
+            }
+            Err(ChainRefused::NoMemory(event)) => {
+                drop(event);
+                Err(NoMemory)
+            }
             Err(_) => unreachable!(),
         }
     }

@@ -15,6 +15,7 @@ use svc_base::NoMemory;
 use svc_desk::{Gate, WorkEnd, serve_desks};
 use svc_echo::{JOURNAL_LIMIT, Seat, Slot, Sockets, echo_plan, real_desk};
 use svc_record::Plan;
+use svc_system::hold_standard_descriptors;
 use svc_words::words;
 
 /// How often a desk is asked at most.
@@ -150,6 +151,7 @@ fn serve_both<
 }
 
 fn main(rt: HostRuntime) -> ExitCode {
+    let _held = hold_standard_descriptors(&rt);
     let alloc = rt.alloc();
     let Ok(words) = words(alloc, env::args(&rt)) else {
         return ExitCode::from(NO_MEMORY);

@@ -1,6 +1,6 @@
 //! The server: its configuration, its services, and its run.
 
-ghost use Rattle.std.specs.Prelude.{◌≡◌, [], ◌∷◌, ◌++◌, reverse, length, Some, None, IfOk, OnOk};
+ghost use Rattle.std.specs.Prelude.{◌≡◌, [], ◌∷◌, ◌++◌, reverse, length, false, Some, None, IfOk, OnOk};
 ghost use Rattle.svc_base.specs.Items.{list_of};
 ghost use Rattle.svc_conf.specs.Configuration.{defaults};
 ghost use Rattle.svc_graph.specs.Graphs.{node_count, with_node};
@@ -11,6 +11,7 @@ ghost use Rattle.svc_hello.specs.HelloPlan.{hello_plan};
 use crate::host::HelloHost;
 use crate::services::HelloService;
 use std::alloc::Global;
+use std::mem::drop;
 use svc_base::NoMemory;
 use svc_conf::{ReadError, ServerConf};
 use svc_graph::services::ServiceWithDependents;
@@ -75,7 +76,27 @@ fn add(
         .map_err(|refused| HelloError::Service(refused.reason))
 }
 
-/// The server. Its web service starts once its cache is ready.
+/// Adds the services to a server that has none. The web service starts once the cache is ready.
+fn add_services(alloc: Global, server: &mut Server<HelloService>) -> Result<(), HelloError>
+    requires configuration { server.old.configuration ≡ record defaults { grace_period_seconds = Some 1 } }
+    requires options { server.old.options ≡ None }
+    requires dependencies { server.old.dependencies ≡ record { names = []; depends = [] } }
+    requires services { server.old.services.items ≡ [] }
+    requires eager { server.old.eager ≡ false }
+    requires sound { IsSound server.old.dependencies (length server.old.filters)
+        (answers_of ⟦<HelloService as ServiceWithDependents>⟧ server.old.services.items) }
+    ensures plan { OnOk result (plan_of server.new.configuration server.new.options server.new.eager server.new.dependencies
+        (answers_of ⟦<HelloService as ServiceWithDependents>⟧ server.new.services.items) ≡ hello_plan) }
+    ensures sound { OnOk result (IsSound server.new.dependencies (length server.new.filters)
+        (answers_of ⟦<HelloService as ServiceWithDependents>⟧ server.new.services.items)) }
+{
+    let cache = add(server, alloc, HelloService::cache(alloc, 3)?)?;
+    let web = add(server, alloc, HelloService::web(alloc, "127.0.0.1:8080")?)?;
+    web.add_dependency(alloc, &mut server.dependencies, &cache)?;
+    Ok(())
+}
+
+/// The server, with its services.
 fn hello_server(alloc: Global) -> Result<Server<HelloService>, HelloError>
     ensures plan { IfOk result (λ server. plan_of server.configuration server.options server.eager server.dependencies
         (answers_of ⟦<HelloService as ServiceWithDependents>⟧ server.services.items) ≡ hello_plan) }
@@ -83,14 +104,13 @@ fn hello_server(alloc: Global) -> Result<Server<HelloService>, HelloError>
         (answers_of ⟦<HelloService as ServiceWithDependents>⟧ server.services.items)) }
 {
     let mut server = Server::new_with_opt_and_conf(alloc, None, configuration(alloc)?)?;
-    let cache = add(&mut server, alloc, HelloService::cache(alloc, 3)?)?;
-    let web = add(
-        &mut server,
-        alloc,
-        HelloService::web(alloc, "127.0.0.1:8080")?,
-    )?;
-    web.add_dependency(alloc, &mut server.dependencies, &cache)?;
-    Ok(server)
+    match add_services(alloc, &mut server) {
+        Ok(()) => Ok(server),
+        Err(error) => {
+            drop(server);
+            Err(error)
+        }
+    }
 }
 
 /// Runs the server, to which so many visitors come before it is stopped, and gives the host, with the
@@ -100,8 +120,15 @@ pub fn run(alloc: Global, visitors: u64) -> Result<HelloHost, HelloError>
 {
     let server = hello_server(alloc)?;
     let mut host = HelloHost::new(alloc, visitors);
-    match server.run(alloc, RunArgs::default(), &mut host)? {
-        Outcome::Served => Ok(host),
-        Outcome::TestPassed | Outcome::Parent(_) => Err(HelloError::NotServed),
+    match server.run(alloc, RunArgs::default(), &mut host) {
+        Ok(Outcome::Served) => Ok(host),
+        Ok(Outcome::TestPassed | Outcome::Parent(_)) => {
+            drop(host);
+            Err(HelloError::NotServed)
+        }
+        Err(error) => {
+            drop(host);
+            Err(HelloError::Run(error))
+        }
     }
 }

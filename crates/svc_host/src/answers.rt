@@ -25,6 +25,11 @@ impl Answers {
         }
     }
 
+    /// None is owed.
+    pub(crate) fn is_empty(&self) -> bool {
+        self.events.is_empty()
+    }
+
     /// Makes room for so many more.
     pub(crate) fn reserve(&mut self, n: u64) -> Result<(), NoMemory>
         ensures room { OnOk result (n ≤ room self.new) }

@@ -10,6 +10,7 @@ mod served_service;
 mod serving;
 mod system_host;
 mod told_account;
+mod waiting;
 
 pub use log::Log;
 pub use recorded_host::RecordedHost;
@@ -17,3 +18,4 @@ pub use recorder::Recorder;
 pub use served_service::{AddressFilter, ServedService};
 pub use serving::{ServedRun, ServedServer, ServerRefused, run_served, server_of};
 pub use system_host::SystemHost;
+pub use waiting::Waiting;

@@ -8,8 +8,11 @@ use std::fmt::Write;
 use svc_base::{NoMemory, Sink, write_all};
 use svc_record::Entry;
 
-/// The record of a run, in its text, in a sink. What an event and its step tell is written together. Where
-/// the sink fails, or there is no memory for a line, nothing more is written.
+/// So many bytes of text are held back at most, before the line that makes them more.
+const HELD: usize = 65536;
+
+/// The record of a run, in its text, in a sink. It is held back while more comes, and written where nothing
+/// is ready. Where the sink fails, or there is no memory for a line, nothing more is written.
 #[derive(Drop)]
 pub struct Log<K: Sink> {
     sink: K,
@@ -46,6 +49,9 @@ impl<K: Sink> Log<K> {
 
 impl<K: Sink + Drop> Recorder for Log<K> {
     fn note(&mut self, entry: &Entry) {
+        if self.text.len() >= HELD {
+            self.settle();
+        }
         if self.is_whole && put_line(&mut self.text, entry).is_err() {
             self.is_whole = false;
         }

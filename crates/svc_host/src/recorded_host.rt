@@ -6,6 +6,7 @@ ghost use Rattle.svc_server.specs.ScriptHosts.{counts_with, handed_with};
 
 use crate::recorder::Recorder;
 use crate::told_account::ToldAccount;
+use crate::waiting::Waiting;
 use std::alloc::Global;
 use std::marker::Model;
 use svc_base::NoMemory;
@@ -44,7 +45,7 @@ impl<H: InnerHost, K: Recorder, B> Model for RecordedHost<H, K, B> {
     ghost invariant = { λ h. H.keeps h.inner h.account.entries h.account.faults h.account.idles };
 }
 
-impl<H: InnerHost, K: Recorder, B: ServiceWithDependents> RecordedHost<H, K, B> {
+impl<H: InnerHost + Waiting, K: Recorder, B: ServiceWithDependents> RecordedHost<H, K, B> {
     /// A host of a run that hasn't begun.
     pub fn new(inner: H, recorder: K) -> Self
         requires { H.keeps inner [] 0 0 }
@@ -74,7 +75,7 @@ impl<H: InnerHost, K: Recorder, B: ServiceWithDependents> RecordedHost<H, K, B> 
 }
 
 /// It tells everything.
-impl<H: InnerHost, K: Recorder, B: ServiceWithDependents> Host for RecordedHost<H, K, B> {
+impl<H: InnerHost + Waiting, K: Recorder, B: ServiceWithDependents> Host for RecordedHost<H, K, B> {
     type Service = B;
 
     ghost account = { λ h. Some (record { entries = h.entries; handed = map (handed_with B.named) h.handed }) };
@@ -106,7 +107,9 @@ impl<H: InnerHost, K: Recorder, B: ServiceWithDependents> Host for RecordedHost<
     }
 
     fn next(&mut self) -> Next {
-        self.recorder.settle();
+        if self.inner.is_at_rest() {
+            self.recorder.settle();
+        }
         match self.inner.give() {
             Some(Item::Event(event)) => {
                 self.account.take(event, &mut self.recorder);

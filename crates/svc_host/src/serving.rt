@@ -8,6 +8,7 @@ ghost use Rattle.svc_server.specs.declared.run.Outcome.TheVariants as outcomes;
 use crate::recorded_host::RecordedHost;
 use crate::recorder::Recorder;
 use crate::served_service::{AddressFilter, ServedService};
+use crate::waiting::Waiting;
 use std::alloc::Global;
 use std::mem::drop;
 use svc_base::{NoMemory, Numbers};
@@ -263,7 +264,7 @@ pub struct ServedRun<H: InnerHost, K: Recorder> {
 
 /// Runs a server over an inner host, and shows the record to a recorder as it grows. Where it served, the
 /// record is a served one of the server's plan, however long the run was.
-pub fn run_served<H: InnerHost, K: Recorder>(
+pub fn run_served<H: InnerHost + Waiting, K: Recorder>(
     alloc: Global,
     server: ServedServer,
     inner: H,

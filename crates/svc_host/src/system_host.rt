@@ -3,7 +3,9 @@
 ghost use Rattle.std.specs.Prelude.{◌≡◌};
 
 use crate::answers::Answers;
+use crate::waiting::Waiting;
 use std::alloc::Global;
+use std::fs::File;
 use std::net::{Net, TcpListener, TcpStream};
 use std::rt::Files;
 use std::time::Clock;
@@ -14,14 +16,22 @@ use svc_system::System;
 
 /// A host over the operating system, without its account.
 #[derive(Drop)]
-pub struct SystemHost<'a, R: Net<Listener = TcpListener, Stream = TcpStream> + Files + Clock> {
+pub struct SystemHost<
+    'a,
+    R: Net<Listener = TcpListener, Stream = TcpStream> + Files<File = File> + Clock,
+> {
     system: System<'a, R>,
     answers: Answers,
 }
 
-impl<'a, R: Net<Listener = TcpListener, Stream = TcpStream> + Files + Clock> SystemHost<'a, R> {
+impl<
+    'a,
+    R: Net<Listener = TcpListener, Stream = TcpStream> + Files<File = File> + Clock,
+> SystemHost<'a, R> {
     /// A host over this side of the system, to which nothing was told yet.
-    pub fn new(alloc: Global, system: System<'a, R>) -> Self {
+    pub fn new(alloc: Global, system: System<'a, R>) -> Self
+        ensures { result.system ≡ system.entry }
+    {
         SystemHost {
             system,
             answers: Answers::new(alloc),
@@ -36,7 +46,7 @@ impl<'a, R: Net<Listener = TcpListener, Stream = TcpStream> + Files + Clock> Sys
     }
 }
 
-impl<'a, R: Net<Listener = TcpListener, Stream = TcpStream> + Files + Clock> InnerHost
+impl<'a, R: Net<Listener = TcpListener, Stream = TcpStream> + Files<File = File> + Clock> InnerHost
     for SystemHost<'a, R> {
     ghost use Rattle.svc_host.specs.Answers.{room};
 
@@ -62,5 +72,12 @@ impl<'a, R: Net<Listener = TcpListener, Stream = TcpStream> + Files + Clock> Inn
         if let Some(answer) = self.system.perform(action) {
             self.answers.put(answer);
         }
+    }
+}
+
+impl<'a, R: Net<Listener = TcpListener, Stream = TcpStream> + Files<File = File> + Clock> Waiting
+    for SystemHost<'a, R> {
+    fn is_at_rest(&self) -> bool {
+        self.answers.is_empty() && self.system.is_at_rest()
     }
 }

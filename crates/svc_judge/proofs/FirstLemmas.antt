@@ -5,9 +5,10 @@ use Rattle.svc_record.specs.declared.entry.Entry.{Entry}
 use Rattle.svc_record.specs.declared.entry.Entry.TheVariants.{Got, Told}
 use Rattle.svc_record.specs.Record.{Record, each_earlier}
 use Rattle.svc_record.specs.Right.{is_right}
-use Rattle.svc_judge.specs.declared.verdict.Rule.{Rule}
-use Rattle.svc_judge.specs.declared.verdict.Breach.{Breach}
-use Rattle.svc_judge.specs.Verdicts.{first_of, at, entry_breach, step_breach, breach_below, breach_of, FirstBreach}
+use Rattle.svc_judge.specs.declared.judging.Rule.{Rule}
+use Rattle.svc_judge.specs.declared.judging.Breach.{Breach}
+use Rattle.svc_judge.specs.Firsts.{first_of}
+use Rattle.svc_judge.specs.Verdicts.{at, entry_breach, step_breach, breach_below, breach_of, FirstBreach}
 use Rattle.svc_judge.proofs.VerdictLemmas.{nowhere, right_from_none, and}
 
 pick : {A : Type 0} (x y : Option A) (b : A) → first_of x y ≡ Some b → (x ≡ Some b) ⊎ ((x ≡ None) × (y ≡ Some b))

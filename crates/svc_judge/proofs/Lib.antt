@@ -1,2 +1,17 @@
+pub mod PastLemmas
+pub mod EndpointLemmas
+pub mod OfferLemmas
+pub mod ConnectionLemmas
+pub mod MarkLemmas
+pub mod EndingLemmas
+pub mod FactLemmas
 pub mod VerdictLemmas
 pub mod FirstLemmas
+pub mod LoopLemmas
+pub mod FirstOfLemmas
+pub mod AnewLemmas
+pub mod QuietLemmas
+pub mod NewLemmas
+pub mod ServedLemmas
+pub mod DescriptorLemmas
+pub mod NumberLemmas

@@ -19,9 +19,10 @@ use Rattle.svc_record.specs.Fits.{event_fits, fits_row}
 use Rattle.svc_record.specs.Right.{in_service, ended_right, open_right, settled_right, passed_right, last_step_right, is_right_by_words, is_stronger, is_right}
 use Rattle.svc_record.proofs.Sound.{both}
 use Rattle.svc_judge.specs.Settled.{offer_kept, starts_kept}
-use Rattle.svc_judge.specs.declared.verdict.Rule.{Rule}
-use Rattle.svc_judge.specs.declared.verdict.Rule.TheVariants as rules
-use Rattle.svc_judge.specs.Verdicts.{unless, first_of, at, entry_breach, are_endpoints_kept, are_phases_kept, open_breach, settled_breach, step_breach, breach_below, breach_of}
+use Rattle.svc_judge.specs.declared.judging.Rule.{Rule}
+use Rattle.svc_judge.specs.declared.judging.Rule.TheVariants as rules
+use Rattle.svc_judge.specs.Firsts.{first_of}
+use Rattle.svc_judge.specs.Verdicts.{unless, at, entry_breach, are_endpoints_kept, are_phases_kept, open_breach, settled_breach_by, step_breach, breach_below, breach_of}
 
 pub and : (a b : Bool) → a ≡ true → b ≡ true → (a && b) ≡ true
 and true true h g = refl
@@ -33,14 +34,14 @@ kept : (b : Bool) (rule : Rule) (next : Option Rule) → unless b rule next ≡ 
 kept true rule next h = (refl, h)
 kept false rule next h = cc
 
-neither : {A : Type 0} (x y : Option A) → first_of x y ≡ None → (x ≡ None) × (y ≡ None)
+pub neither : {A : Type 0} (x y : Option A) → first_of x y ≡ None → (x ≡ None) × (y ≡ None)
 neither (Some x) y h = cc
 neither None y h = (refl, h)
 
 pub nowhere : {A : Type 0} (x y : Option A) → x ≡ None → y ≡ None → first_of x y ≡ None
 nowhere x y h g = rw (h) g
 
-no_rule : (n : ℕ) (r : Option Rule) → at n r ≡ None → r ≡ None
+pub no_rule : (n : ℕ) (r : Option Rule) → at n r ≡ None → r ≡ None
 no_rule n (Some rule) h = cc
 no_rule n None h = refl
 
@@ -71,20 +72,20 @@ earlier p test f (Told a ∷ b) h =
     earlier p test f b ((neither (breach_below p b) (at (length b + 1) (entry_breach p (Told a) b)) h).0)
 
 -- what an entry keeps that breaks no rule
-record EntryKeeps (p : Plan) (e : Entry) (b : Record) : Type 0 where
-  fits : event_fits p e b ≡ true
-  start_due : start_due p e b ≡ true
-  ask_due : ask_due p e b ≡ true
-  boot_due : boot_due p e b ≡ true
-  try_due : try_due e b ≡ true
-  retry_due : retry_due e b ≡ true
-  close_once : close_once p e b ≡ true
-  moment : every_moment_right e b ≡ true
-  start_known : start_known p e b ≡ true
-  ask_known : ask_known p e b ≡ true
-  connection_known : connection_known p e b ≡ true
+pub record EntryKeeps (p : Plan) (e : Entry) (b : Record) : Type 0 where
+  pub fits : event_fits p e b ≡ true
+  pub start_due : start_due p e b ≡ true
+  pub ask_due : ask_due p e b ≡ true
+  pub boot_due : boot_due p e b ≡ true
+  pub try_due : try_due e b ≡ true
+  pub retry_due : retry_due e b ≡ true
+  pub close_once : close_once p e b ≡ true
+  pub moment : every_moment_right e b ≡ true
+  pub start_known : start_known p e b ≡ true
+  pub ask_known : ask_known p e b ≡ true
+  pub connection_known : connection_known p e b ≡ true
 
-entry_keeps : (p : Plan) (e : Entry) (b : Record) → entry_breach p e b ≡ None → EntryKeeps p e b
+pub entry_keeps : (p : Plan) (e : Entry) (b : Record) → entry_breach p e b ≡ None → EntryKeeps p e b
 entry_keeps p e b h =
     let a = kept (event_fits p e b) rules.Fits _ h in
     let c = kept (start_due p e b) rules.StartDue _ a.1 in
@@ -123,9 +124,20 @@ from_both : (a b c : Bool) → (a || (b && c)) ≡ true → ((a || b) ≡ true) 
 from_both true b c h = (refl, refl)
 from_both false b c h = both b c h
 
--- a settled prefix that breaks no rule while the run goes on is right
-open_kept : (p : Plan) (q : Record) → open_breach p q ≡ None → open_right p q ≡ true
-open_kept p q h =
+-- what a settled prefix keeps that breaks no rule while the run goes on
+pub record OpenKeeps (p : Plan) (q : Record) : Type 0 where
+  pub boot : boot_right p q ≡ true
+  pub offer : offer_kept p q ≡ true
+  pub connections : conn_right p q ≡ true
+  pub closes : closes_right p q ≡ true
+  pub one_live : one_live p q ≡ true
+  pub starts : (not (from_the_start q) || starts_kept p q) ≡ true
+  pub endpoints : are_endpoints_kept p q ≡ true
+  pub phases : are_phases_kept p q ≡ true
+  pub ending : not (has is_ending q) ≡ true
+
+pub open_keeps : (p : Plan) (q : Record) → open_breach p q ≡ None → OpenKeeps p q
+open_keeps p q h =
     let a = kept (boot_right p q) rules.Bootstrapping _ h in
     let b = kept (offer_kept p q) rules.Offer _ a.1 in
     let c = kept (conn_right p q) rules.Connections _ b.1 in
@@ -135,28 +147,45 @@ open_kept p q h =
     let g = kept (are_endpoints_kept p q) rules.Endpoints _ f.1 in
     let i = kept (are_phases_kept p q) rules.Phases _ g.1 in
     let j = kept (not (has is_ending q)) rules.Ending None i.1 in
-    let held = both (not (from_the_start q) || endpoints_right_late p q) (not (in_service q) || endpoints_right p q) g.0 in
-    let started = or_both (not (from_the_start q)) (starts_kept p q) (endpoints_right_late p q) f.0 held.0 in
-    and _ _ (and _ _ (and _ _ (and _ _ a.0 b.0) (and _ _ c.0 d.0)) (and _ _ e.0 started)) (and _ _ held.1 (and _ _ i.0 j.0))
+    record {
+      boot = a.0;
+      offer = b.0;
+      connections = c.0;
+      closes = d.0;
+      one_live = e.0;
+      starts = f.0;
+      endpoints = g.0;
+      phases = i.0;
+      ending = j.0;
+    }
 
-settled_kept : (p : Plan) (q : Record) → settled_breach p q ≡ None → settled_right p q ≡ true
+-- a settled prefix that breaks no rule while the run goes on is right
+open_kept : (p : Plan) (q : Record) → open_breach p q ≡ None → open_right p q ≡ true
+open_kept p q h =
+    let k = open_keeps p q h in
+    let held = both (not (from_the_start q) || endpoints_right_late p q) (not (in_service q) || endpoints_right p q) k.endpoints in
+    let started = or_both (not (from_the_start q)) (starts_kept p q) (endpoints_right_late p q) k.starts held.0 in
+    and _ _ (and _ _ (and _ _ (and _ _ k.boot k.offer) (and _ _ k.connections k.closes)) (and _ _ k.one_live started))
+    (and _ _ held.1 (and _ _ k.phases k.ending))
+
+settled_kept : (p : Plan) (q : Record) → settled_breach_by (boot_right p q) (conn_right p q) p q ≡ None → settled_right p q ≡ true
 settled_kept p q h = elim (cases_Bool (has_ended p q)) [
   | inl y ↦ (let g : unless (ended_right p q) rules.Ended None ≡ None = rw (y) at h in rw (y) ((kept (ended_right p q) rules.Ended None g).0))
   | inr n ↦ (let g : open_breach p q ≡ None = rw (n) at h in rw (n) (open_kept p q g))
 ]
 
 -- what a settled prefix keeps that breaks no rule
-record StepKeeps (p : Plan) (q : Record) : Type 0 where
-  settled : settled_right p q ≡ true
-  fails : fails_right p q ≡ true
-  one_ask : one_ask p q ≡ true
-  passed : (not (waits_are_over p q) || passed_right p q) ≡ true
-  tested : (not (ends_tested p q) || tested_right p q) ≡ true
-  last_step : (not (waits_are_over p q) || last_step_right p (before_runtimes q)) ≡ true
+pub record StepKeeps (p : Plan) (q : Record) : Type 0 where
+  pub settled : settled_right p q ≡ true
+  pub fails : fails_right p q ≡ true
+  pub one_ask : one_ask p q ≡ true
+  pub passed : (not (waits_are_over p q) || passed_right p q) ≡ true
+  pub tested : (not (ends_tested p q) || tested_right p q) ≡ true
+  pub last_step : (not (waits_are_over p q) || last_step_right p (before_runtimes q)) ≡ true
 
-step_keeps : (p : Plan) (q : Record) → step_breach p q ≡ None → StepKeeps p q
+pub step_keeps : (p : Plan) (q : Record) → step_breach p q ≡ None → StepKeeps p q
 step_keeps p q h =
-    let a = neither (settled_breach p q) _ h in
+    let a = neither (settled_breach_by (boot_right p q) (conn_right p q) p q) _ h in
     let b = kept (fails_right p q) rules.Fails _ a.1 in
     let c = kept (one_ask p q) rules.OneAsk _ b.1 in
     let d = kept (not (waits_are_over p q) || passed_right p q) rules.Served _ c.1 in
@@ -205,7 +234,7 @@ open_clear p q h =
     let held : are_endpoints_kept p q ≡ true = and _ _ started.1 right.0 in
     rw (begun.0, begun.1, joined.0, joined.1, second.0, started.0, held, last.0, last.1)
 
-settled_clear : (p : Plan) (q : Record) → settled_right p q ≡ true → settled_breach p q ≡ None
+settled_clear : (p : Plan) (q : Record) → settled_right p q ≡ true → settled_breach_by (boot_right p q) (conn_right p q) p q ≡ None
 settled_clear p q h = elim (cases_Bool (has_ended p q)) [
   | inl y ↦ (let g : ended_right p q ≡ true = rw (y) at h in rw (y, g))
   | inr n ↦ (let g : open_right p q ≡ true = rw (n) at h in rw (n) (open_clear p q g))
@@ -266,7 +295,7 @@ behind p e b k settled fails one_ask = record {
 }
 
 -- an event comes only while the run goes on
-goes_on : (ended row : Bool) → (not ended && row) ≡ true → ended ≡ false
+pub goes_on : (ended row : Bool) → (not ended && row) ≡ true → ended ≡ false
 goes_on true row h = absurd (false≢true h)
 goes_on false row h = refl
 

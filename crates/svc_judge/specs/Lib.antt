@@ -1,2 +1,15 @@
+pub mod Firsts
+pub mod Queries
+pub mod Pasts
+pub mod Steps
+pub mod ConnectionSteps
+pub mod Rules
+pub mod Marks
+pub mod Endings
+pub mod Facts
 pub mod Settled
+pub mod Holding
+pub mod Closing
+pub mod Numbers
 pub mod Verdicts
+pub mod Anew

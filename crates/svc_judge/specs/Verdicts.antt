@@ -16,19 +16,15 @@ use Rattle.svc_record.specs.Drain.{waits_are_over, phases_right, moment_right, e
 use Rattle.svc_record.specs.Ends.{has_ended, ends_tested, tested_right}
 use Rattle.svc_record.specs.Fits.{event_fits}
 use Rattle.svc_record.specs.Right.{in_service, ended_right, passed_right, last_step_right, is_right}
+use Rattle.svc_judge.specs.Firsts.{first_of}
 use Rattle.svc_judge.specs.Settled.{offer_kept, starts_kept}
-use Rattle.svc_judge.specs.declared.verdict.Rule.{Rule}
-use Rattle.svc_judge.specs.declared.verdict.Rule.TheVariants as rules
-use Rattle.svc_judge.specs.declared.verdict.Breach.{Breach}
+use Rattle.svc_judge.specs.declared.judging.Rule.{Rule}
+use Rattle.svc_judge.specs.declared.judging.Rule.TheVariants as rules
+use Rattle.svc_judge.specs.declared.judging.Breach.{Breach}
 
 -- the rule is broken where this doesn't hold; else what is broken next
 abbrev pub unless : Bool → Rule → Option Rule → Option Rule
 unless holds rule next = if holds then next else Some rule
-
--- the first, if there is one, else the second
-abbrev pub first_of : {A : Type 0} → Option A → Option A → Option A
-first_of (Some x) y = Some x
-first_of None y = y
 
 -- the first rule that the entry breaks
 abbrev pub entry_breach : Plan → Entry → Record → Option Rule
@@ -52,21 +48,26 @@ are_endpoints_kept p q = (not (from_the_start q) || endpoints_right_late p q) &&
 abbrev pub are_phases_kept : Plan → Record → Bool
 are_phases_kept p q = phases_right p q && each_entry moment_right q
 
--- the first rule that a settled prefix breaks in which the run goes on
-abbrev pub open_breach : Plan → Record → Option Rule
-open_breach p q =
-    unless (boot_right p q) rules.Bootstrapping
+-- the first rule that a settled prefix breaks in which the run goes on, where what is asked of the beginning and of connections is known
+abbrev pub open_breach_by : Bool → Bool → Plan → Record → Option Rule
+open_breach_by boots connects p q =
+    unless boots rules.Bootstrapping
     (unless (offer_kept p q) rules.Offer
-    (unless (conn_right p q) rules.Connections
+    (unless connects rules.Connections
     (unless (closes_right p q) rules.Closes
     (unless (one_live p q) rules.OneLive
     (unless (not (from_the_start q) || starts_kept p q) rules.Starts
     (unless (are_endpoints_kept p q) rules.Endpoints
     (unless (are_phases_kept p q) rules.Phases (unless (not (has is_ending q)) rules.Ending None))))))))
 
+-- the first rule that a settled prefix breaks in which the run goes on
+abbrev pub open_breach : Plan → Record → Option Rule
+open_breach p q = open_breach_by (boot_right p q) (conn_right p q) p q
+
 -- the same, by whether the run has ended in it
-abbrev pub settled_breach : Plan → Record → Option Rule
-settled_breach p q = if has_ended p q then unless (ended_right p q) rules.Ended None else open_breach p q
+abbrev pub settled_breach_by : Bool → Bool → Plan → Record → Option Rule
+settled_breach_by boots connects p q =
+    if has_ended p q then unless (ended_right p q) rules.Ended None else open_breach_by boots connects p q
 
 -- the first rule of a run's end that the settled prefix breaks
 abbrev pub end_breach : Plan → Record → Option Rule
@@ -75,22 +76,30 @@ end_breach p q =
     (unless (not (ends_tested p q) || tested_right p q) rules.Tested
     (unless (not (waits_are_over p q) || last_step_right p (before_runtimes q)) rules.LastStep None))
 
+-- the first rule that a settled prefix breaks, where what is asked of the beginning and of connections is known
+abbrev pub step_breach_by : Bool → Bool → Plan → Record → Option Rule
+step_breach_by boots connects p q =
+    first_of (settled_breach_by boots connects p q)
+    (unless (fails_right p q) rules.Fails (unless (one_ask p q) rules.OneAsk (end_breach p q)))
+
 -- the first rule that a settled prefix breaks
 abbrev pub step_breach : Plan → Record → Option Rule
-step_breach p q =
-    first_of (settled_breach p q) (unless (fails_right p q) rules.Fails (unless (one_ask p q) rules.OneAsk (end_breach p q)))
+step_breach p q = step_breach_by (boot_right p q) (conn_right p q) p q
 
 -- the breach of a rule at this place
 abbrev pub at : ℕ → Option Rule → Option Breach
 at n (Some rule) = Some (record { entry = n; rule = rule })
 at n None = None
 
+-- the breach at an entry: where it is an event, first that of what stands before it
+abbrev pub place_breach : Plan → Entry → Record → Option Breach
+place_breach p (Got e) before = first_of (at (length before) (step_breach p before)) (at (length before + 1) (entry_breach p (Got e) before))
+place_breach p (Told a) before = at (length before + 1) (entry_breach p (Told a) before)
+
 -- the first breach in the entries, and in what stands before an event
 abbrev pub breach_below : Plan → Record → Option Breach
 breach_below p [] = None
-breach_below p (Got e ∷ before) =
-    first_of (breach_below p before) (first_of (at (length before) (step_breach p before)) (at (length before + 1) (entry_breach p (Got e) before)))
-breach_below p (Told a ∷ before) = first_of (breach_below p before) (at (length before + 1) (entry_breach p (Told a) before))
+breach_below p (e ∷ before) = first_of (breach_below p before) (place_breach p e before)
 
 -- the first breach of the record
 abbrev pub breach_of : Plan → Record → Option Breach

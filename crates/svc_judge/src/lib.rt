@@ -1,7 +1,27 @@
-//! Where a record first isn't right, and which rule it breaks there.
+//! Whether a record is right: each definition of a right record as a function that looks back over it.
 #![tactic(auto)]
 
+mod anew;
+mod boot;
+mod closes;
+mod connections;
+mod descriptors;
+mod ending;
+mod endpoints;
+mod ends;
+mod facts;
+mod failed;
+mod fits;
+mod judging;
 pub mod laws;
-mod verdict;
+mod looking;
+mod marks;
+mod offer;
+mod past;
+mod plans;
+mod query;
+mod rules;
+mod settled;
+mod waits;
 
-pub use verdict::{Breach, Rule};
+pub use judging::{Breach, Rule, Verdict, judge};

@@ -18,8 +18,10 @@ pub enum Ending {
     ReadFault,
     /// This key asks for what the program doesn't do, or has a value that no server can run with.
     Config(Key),
-    /// The log, the control address or what watches sockets couldn't be opened.
+    /// The log, the pid file, the control address or what watches sockets couldn't be opened.
     HostFault,
+    /// Every service was given up, so that nothing could be served any more.
+    NoService,
     /// Memory was refused.
     NoMemory,
     /// The run ended so.
@@ -41,7 +43,7 @@ impl Ending {
 
     /// The status with which the program ends: 0 exactly where the run went through its shutdown or tested.
     pub(crate) fn status(self) -> u8
-        ensures { result ≤ 7 }
+        ensures { result ≤ 8 }
     {
         match self {
             Ending::Words => 2,
@@ -51,6 +53,7 @@ impl Ending {
             Ending::Run(Ok(Outcome::Served | Outcome::TestPassed | Outcome::Parent(0))) => 0,
             Ending::Run(Ok(Outcome::Parent(_))) => 1,
             Ending::Config(_) | Ending::HostFault | Ending::Run(Err(_)) => 4,
+            Ending::NoService => 8,
         }
     }
 }
@@ -78,6 +81,7 @@ impl fmt::Display for EndLine {
             Ending::ReadFault => write!(f, "status read fault"),
             Ending::Config(key) => write!(f, "status config {}", key.name()),
             Ending::HostFault => write!(f, "status host fault"),
+            Ending::NoService => write!(f, "status no service"),
             Ending::NoMemory => write!(f, "status no memory"),
             Ending::Run(Ok(Outcome::Served)) => write!(f, "status served"),
             Ending::Run(Ok(Outcome::TestPassed)) => write!(f, "status tested"),

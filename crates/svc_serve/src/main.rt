@@ -4,6 +4,7 @@
 
 mod ending;
 mod notices;
+mod pid_file;
 mod reading;
 mod serve;
 
@@ -11,9 +12,11 @@ use crate::ending::Ending;
 use crate::serve::serve_file;
 use std::env;
 use std::process::ExitCode;
+use svc_system::hold_standard_descriptors;
 use svc_words::{are_text, words};
 
 fn main(rt: HostRuntime) -> ExitCode {
+    let _held = hold_standard_descriptors(&rt);
     let args = env::args(&rt);
     let is_text = are_text(&args);
     let Ok(words) = words(rt.alloc(), args) else {

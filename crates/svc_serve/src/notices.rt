@@ -3,42 +3,80 @@
 use std::fs::File;
 use svc_base::Writing;
 use svc_host::{Log, Recorder};
-use svc_record::{Action, Entry, Event};
+use svc_record::{Action, Entry, Event, Plan};
 
-/// The log, if there is one, and standard error.
+/// The log, if there is one, and standard error, where services and addresses stand by their names.
 #[derive(Drop)]
 pub struct Notices<'a> {
     rt: &'a HostRuntime,
+    plan: Plan,
     log: Option<Log<Writing<File>>>,
     /// That the log isn't whole was said.
     is_said: bool,
 }
 
+/// The name of a service.
+fn name_of(plan: &Plan, service: u32) -> &str {
+    match plan.services.as_slice().get(service as usize) {
+        Some(service) => service.name.as_str(),
+        None => "",
+    }
+}
+
+/// The address of an endpoint.
+fn address_of(plan: &Plan, service: u32, number: u32) -> &str {
+    match plan.services.as_slice().get(service as usize) {
+        Some(service) => match service.endpoints.as_slice().get(number as usize) {
+            Some(endpoint) => endpoint.address.as_str(),
+            None => "",
+        },
+        None => "",
+    }
+}
+
 impl<'a> Notices<'a> {
-    /// Notices of a run that hasn't begun.
-    pub(crate) fn new(rt: &'a HostRuntime, log: Option<Log<Writing<File>>>) -> Self {
+    /// Notices of a run of this plan that hasn't begun.
+    pub(crate) fn new(rt: &'a HostRuntime, plan: Plan, log: Option<Log<Writing<File>>>) -> Self {
         Notices {
             rt,
+            plan,
             log,
             is_said: false,
         }
     }
 
+    /// Says what became of an endpoint.
+    fn say_endpoint(&self, service: u32, number: u32, what: &str) {
+        let rt = self.rt;
+        let name = name_of(&self.plan, service);
+        let address = address_of(&self.plan, service, number);
+        let _ = eprintln!(rt; "svc serve: {name}: {address} {what}");
+    }
+
+    /// Says that an accept failed.
+    fn say_accept(&self, service: u32, number: u32, error: u32) {
+        let rt = self.rt;
+        let name = name_of(&self.plan, service);
+        let address = address_of(&self.plan, service, number);
+        let _ = eprintln!(rt; "svc serve: {name}: {address} can't accept: error {error}");
+    }
+
+    /// Says that a service is given up.
+    fn say_failed(&self, service: u32) {
+        let rt = self.rt;
+        let name = name_of(&self.plan, service);
+        let _ = eprintln!(rt; "svc serve: {name} is given up");
+    }
+
     /// Says what an entry means for an operator.
     fn say(&self, entry: &Entry) {
-        let rt = self.rt;
         match entry {
-            Entry::Got(Event::BindFailed(s, i)) => {
-                let _ = eprintln!(rt; "svc serve: service {s}: endpoint {i} can't be bound");
+            Entry::Got(Event::BindFailed(s, i)) => self.say_endpoint(*s, *i, "can't be bound"),
+            Entry::Got(Event::InUse(s, i)) => {
+                self.say_endpoint(*s, *i, "is in use, and is tried again in a second")
             }
-            Entry::Got(Event::AcceptFailed(s, i, n)) => {
-                let _ = eprintln!(rt;
-                    "svc serve: service {s}: endpoint {i} can't accept: error {n}"
-                );
-            }
-            Entry::Told(Action::Fail(s)) => {
-                let _ = eprintln!(rt; "svc serve: service {s} is given up");
-            }
+            Entry::Got(Event::AcceptFailed(s, i, n)) => self.say_accept(*s, *i, *n),
+            Entry::Told(Action::Fail(s)) => self.say_failed(*s),
             _ => {}
         }
     }

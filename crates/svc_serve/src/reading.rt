@@ -7,7 +7,7 @@ use std::fs::File;
 use std::mem::drop;
 use std::net::SocketAddr;
 use std::rt::Files;
-use svc_base::{NoMemory, ReadAllError, Reading, read_all};
+use svc_base::{NoMemory, ReadAllError, Reading, Text, read_all};
 use svc_conf::{Key, ServerConf};
 use svc_system::{ControlAddress, is_loopback};
 use svc_text::{Script, ScriptError, parse};
@@ -79,5 +79,22 @@ pub(crate) fn control_of(alloc: Global, conf: &ServerConf) -> Result<ControlAddr
             Ok(path) => Ok(ControlAddress::Unix(path)),
             Err(NoMemory) => Err(Ending::NoMemory),
         },
+    }
+}
+
+/// Where the pid file is to be: at the configured path, unless that is the one of a configuration that names
+/// none.
+pub(crate) fn pid_path_of(alloc: Global, conf: &ServerConf) -> Result<Option<Text>, Ending> {
+    let Ok(default) = ServerConf::default(alloc) else {
+        return Err(Ending::NoMemory);
+    };
+    let is_named = conf.pid_file != default.pid_file;
+    drop(default);
+    if !is_named {
+        return Ok(None);
+    }
+    match conf.pid_file.copy(alloc) {
+        Ok(path) => Ok(Some(path)),
+        Err(NoMemory) => Err(Ending::NoMemory),
     }
 }

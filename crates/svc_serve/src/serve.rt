@@ -1,12 +1,22 @@
 //! The run.
 
+ghost use Rattle.std.specs.Prelude.{length};
+ghost use Rattle.svc_server.specs.Servers.{answers_of, IsSound};
+
 use crate::ending::Ending;
 use crate::notices::Notices;
-use crate::reading::{control_of, read_script, refused_key};
+use crate::pid_file::{PidFile, PidRefused};
+use crate::reading::{control_of, pid_path_of, read_script, refused_key};
+use std::alloc::Global;
 use std::fs;
+use std::fs::File;
 use std::mem::drop;
-use svc_base::{NoMemory, Writing};
-use svc_host::{Log, ServerRefused, SystemHost, run_served, server_of};
+use svc_base::{NoMemory, Text, Writing};
+use svc_conf::ServerConf;
+use svc_graph::services::ServiceWithDependents;
+use svc_host::{
+    Log, ServedServer, ServedService, ServerRefused, SystemHost, run_served, server_of,
+};
 use svc_system::{ControlAddress, OpenRefused, System};
 use svc_text::Script;
 
@@ -21,16 +31,38 @@ fn refuse_key(rt: &HostRuntime, ending: Ending) -> Ending {
     ending
 }
 
-/// What a file says, and where operators are listened to.
-fn script_of(rt: &HostRuntime, path: &str) -> Result<(Script, ControlAddress), Ending> {
-    let alloc = rt.alloc();
-    let script = read_script(rt, alloc, path)?;
-    if let Some(key) = refused_key(&script.conf) {
-        drop(script);
+/// What a file says, and what its configuration says of the program.
+#[derive(Drop)]
+struct FileRead {
+    script: Script,
+    control: ControlAddress,
+    pid_path: Option<Text>,
+}
+
+/// What a configuration says of the program: where operators are listened to, and where the pid file is.
+fn outside_of(alloc: Global, conf: &ServerConf) -> Result<(ControlAddress, Option<Text>), Ending> {
+    if let Some(key) = refused_key(conf) {
         return Err(Ending::Config(key));
     }
-    match control_of(alloc, &script.conf) {
-        Ok(control) => Ok((script, control)),
+    let pid_path = pid_path_of(alloc, conf)?;
+    match control_of(alloc, conf) {
+        Ok(control) => Ok((control, pid_path)),
+        Err(ending) => {
+            drop(pid_path);
+            Err(ending)
+        }
+    }
+}
+
+/// What a file says.
+fn read_file(rt: &HostRuntime, path: &str) -> Result<FileRead, Ending> {
+    let script = read_script(rt, rt.alloc(), path)?;
+    match outside_of(rt.alloc(), &script.conf) {
+        Ok((control, pid_path)) => Ok(FileRead {
+            script,
+            control,
+            pid_path,
+        }),
         Err(ending) => {
             drop(script);
             Err(ending)
@@ -39,15 +71,47 @@ fn script_of(rt: &HostRuntime, path: &str) -> Result<(Script, ControlAddress), E
 }
 
 /// The log, if one is asked for.
-fn notices_of<'a>(rt: &'a HostRuntime, path: Option<&str>) -> Result<Notices<'a>, Ending> {
+type ServedLog = Option<Log<Writing<File>>>;
+
+/// Opens the log, if one is asked for.
+fn log_of(rt: &HostRuntime, path: Option<&str>) -> Result<ServedLog, Ending> {
     let Some(path) = path else {
-        return Ok(Notices::new(rt, None));
+        return Ok(None);
     };
     match fs::create(rt, path) {
-        Ok(file) => Ok(Notices::new(rt, Some(Log::new(rt.alloc(), Writing::new(file))))),
+        Ok(file) => Ok(Some(Log::new(rt.alloc(), Writing::new(file)))),
         Err(_) => {
             let _ = eprintln!(rt; "svc serve: {path}: the log can't be opened");
             Err(Ending::HostFault)
+        }
+    }
+}
+
+/// Says why the number of the process isn't written.
+fn refuse_pid(rt: &HostRuntime, path: &str, refused: PidRefused) -> Ending {
+    let why = match refused {
+        PidRefused::NoMemory => return Ending::NoMemory,
+        PidRefused::Held => "another process holds the pid file",
+        PidRefused::Failed => "the pid file can't be written",
+    };
+    let _ = eprintln!(rt; "svc serve: {path}: {why}");
+    Ending::HostFault
+}
+
+/// Writes the pid file, if the configuration names one.
+fn pid_file_of(rt: &HostRuntime, path: Option<Text>) -> Result<Option<PidFile>, Ending> {
+    let Some(path) = path else {
+        return Ok(None);
+    };
+    match PidFile::write(rt, rt.alloc(), &path) {
+        Ok(file) => {
+            drop(path);
+            Ok(Some(file))
+        }
+        Err(refused) => {
+            let ending = refuse_pid(rt, path.as_str(), refused);
+            drop(path);
+            Err(ending)
         }
     }
 }
@@ -70,57 +134,134 @@ fn refuse_system(rt: &HostRuntime, refused: OpenRefused) -> Ending {
     }
 }
 
-/// Runs the server over the system.
-fn run(rt: &HostRuntime, script: Script, control: ControlAddress, notices: Notices<'_>) -> Ending {
+/// Where the run writes to besides, and where operators come.
+#[derive(Drop)]
+struct Outside {
+    control: ControlAddress,
+    /// The path of the pid file, if there is to be one.
+    pid_path: Option<Text>,
+    log: ServedLog,
+}
+
+/// Runs the server over the system, to its end.
+fn run_over(
+    rt: &HostRuntime,
+    server: ServedServer,
+    system: System<'_, HostRuntime>,
+    notices: Notices<'_>,
+) -> Ending
+    requires { IsSound server.dependencies (length server.filters) (answers_of ⟦<ServedService as ServiceWithDependents>⟧ server.services.items) }
+{
     let alloc = rt.alloc();
-    let server = match server_of(alloc, script) {
-        Ok(server) => server,
-        Err(refused) => {
-            drop(control);
-            drop(notices);
-            return refuse_server(rt, refused);
+    let host = SystemHost::new(alloc, system);
+    let mut run = run_served(alloc, server, host, notices);
+    let answer = run.answer;
+    run.host.settle();
+    run.host.inner().system().close();
+    let is_forsaken = run.host.inner().system().is_forsaken();
+    drop(run);
+    if is_forsaken {
+        Ending::NoService
+    } else {
+        Ending::Run(answer)
+    }
+}
+
+/// Runs the server over a system that is open, with its pid file there.
+fn run_with_pid(
+    rt: &HostRuntime,
+    server: ServedServer,
+    system: System<'_, HostRuntime>,
+    pid_path: Option<Text>,
+    notices: Notices<'_>,
+) -> Ending
+    requires { IsSound server.dependencies (length server.filters) (answers_of ⟦<ServedService as ServiceWithDependents>⟧ server.services.items) }
+{
+    match pid_file_of(rt, pid_path) {
+        Ok(pid_file) => {
+            let ending = run_over(rt, server, system, notices);
+            if let Some(pid_file) = pid_file {
+                pid_file.remove(rt);
+            }
+            ending
         }
-    };
+        Err(ending) => {
+            system.close();
+            drop(server);
+            drop(system);
+            drop(notices);
+            ending
+        }
+    }
+}
+
+/// Runs the server over the system.
+fn run(rt: &HostRuntime, server: ServedServer, outside: Outside) -> Ending
+    requires { IsSound server.dependencies (length server.filters) (answers_of ⟦<ServedService as ServiceWithDependents>⟧ server.services.items) }
+{
+    let alloc = rt.alloc();
     let plan = match server.plan(alloc) {
         Ok(plan) => plan,
         Err(NoMemory) => {
             drop(server);
-            drop(control);
-            drop(notices);
+            drop(outside);
             return Ending::NoMemory;
         }
     };
-    let opened = System::open(rt, alloc, &plan, control);
-    drop(plan);
-    match opened {
-        Ok(system) => {
-            let host = SystemHost::new(alloc, system);
-            let mut run = run_served(alloc, server, host, notices);
-            let answer = run.answer;
-            run.host.settle();
-            run.host.inner().system().close();
-            drop(run);
-            Ending::Run(answer)
-        }
+    let Outside {
+        control,
+        pid_path,
+        log,
+    } = outside;
+    match System::open(rt, alloc, &plan, control) {
+        Ok(system) => run_with_pid(rt, server, system, pid_path, Notices::new(rt, plan, log)),
         Err(refused) => {
             drop(server);
-            drop(notices);
+            drop(plan);
+            drop(pid_path);
+            drop(log);
             refuse_system(rt, refused)
         }
     }
 }
 
-/// Serves what a file says, until an operator ends it. With a path for it, the record goes to a log there.
+/// Runs the server of a script.
+fn run_script(rt: &HostRuntime, script: Script, outside: Outside) -> Ending {
+    match server_of(rt.alloc(), script) {
+        Ok(server) => run(rt, server, outside),
+        Err(refused) => {
+            drop(outside);
+            refuse_server(rt, refused)
+        }
+    }
+}
+
+/// Serves what a file says, until an operator ends it or nothing is left that could be served. With a path
+/// for it, the record goes to a log there.
 pub(crate) fn serve_file(rt: &HostRuntime, file: &str, log: Option<&str>) -> Ending {
-    let (script, control) = match script_of(rt, file) {
+    let read = match read_file(rt, file) {
         Ok(read) => read,
         Err(ending) => return refuse_key(rt, ending),
     };
-    match notices_of(rt, log) {
-        Ok(notices) => run(rt, script, control, notices),
+    let FileRead {
+        script,
+        control,
+        pid_path,
+    } = read;
+    match log_of(rt, log) {
+        Ok(log) => run_script(
+            rt,
+            script,
+            Outside {
+                control,
+                pid_path,
+                log,
+            },
+        ),
         Err(ending) => {
             drop(script);
             drop(control);
+            drop(pid_path);
             ending
         }
     }

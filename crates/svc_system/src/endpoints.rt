@@ -184,6 +184,15 @@ impl Endpoints {
         }
     }
 
+    /// There are services, and each was given up.
+    pub(crate) fn have_failed(&self) -> bool {
+        !self.services.is_empty()
+            && self
+                .services
+                .iter()
+                .all(|service| service.stage == Stage::Failed)
+    }
+
     /// It was told that the endpoint listens. Answers whether its service serves from now on.
     pub(crate) fn hold(&mut self, service: u32) -> bool {
         match self.services.get_mut(service as usize) {

@@ -11,10 +11,12 @@ mod orders;
 mod pieces;
 mod readiness;
 mod report;
+mod standard;
 mod system;
 mod times;
 mod tokens;
 
 pub use address::{ControlAddress, is_loopback};
 pub use orders::{Order, OrderLine, order_of};
+pub use standard::{StandardDescriptors, hold_standard_descriptors};
 pub use system::{OpenRefused, System};

@@ -8,7 +8,9 @@ use crate::report::Report;
 use crate::tokens::{OPERATORS, Ready};
 use std::alloc::Global;
 use std::fs;
+use std::fs::File;
 use std::io::{ErrorKind, Read, Write};
+use std::mem::drop;
 use std::net::{Net, TcpListener, TcpStream};
 use std::os::fd::AsRawFd;
 use std::rt::Files;
@@ -20,6 +22,11 @@ const PIECE: usize = 1024;
 
 /// So many pieces are taken at a turn.
 const PIECES: u32 = 16;
+
+/// The error numbers of a process that has no descriptor left, and of a system that has none.
+const NO_DESCRIPTOR: u32 = 24;
+
+const NO_DESCRIPTOR_OF_SYSTEM: u32 = 23;
 
 /// An operator, and the line that is being said.
 #[derive(Drop)]
@@ -43,6 +50,8 @@ pub(crate) struct Heard {
     pub signal: Option<ShutdownSignal>,
     /// Another turn is wanted.
     pub more: bool,
+    /// The operator is gone, and others may wait for the place.
+    pub is_gone: bool,
 }
 
 /// What became of those who came.
@@ -64,6 +73,18 @@ pub(crate) struct Operators {
     path: Option<Text>,
     rows: Vec<Option<Operator>>,
     turn: usize,
+    /// A descriptor that is kept for an operator who comes where the system has no other left.
+    spare: Option<File>,
+}
+
+/// A descriptor that can be given up at any time, if the system has one.
+fn spare<R: Files<File = File>>(rt: &R) -> Option<File> {
+    fs::open(rt, "/dev/null").ok()
+}
+
+/// The system, or the process, has no descriptor left.
+fn lacks_descriptors(error: u32) -> bool {
+    error == NO_DESCRIPTOR || error == NO_DESCRIPTOR_OF_SYSTEM
 }
 
 /// Of two signals that are asked for, the faster one.
@@ -226,7 +247,7 @@ impl From<NoMemory> for ControlRefused {
 
 impl Operators {
     /// Listens to operators at this address.
-    pub(crate) fn open<R: Net<Listener = TcpListener, Stream = TcpStream> + Files>(
+    pub(crate) fn open<R: Net<Listener = TcpListener, Stream = TcpStream> + Files<File = File>>(
         rt: &R,
         alloc: Global,
         control: ControlAddress,
@@ -239,6 +260,7 @@ impl Operators {
             path,
             rows,
             turn: 0,
+            spare: spare(rt),
         })
     }
 
@@ -262,10 +284,35 @@ impl Operators {
         }
     }
 
+    /// Gives the spare descriptor up. Answers whether there was one.
+    fn make_way(&mut self) -> bool {
+        match self.spare.take() {
+            Some(spare) => {
+                drop(spare);
+                true
+            }
+            None => false,
+        }
+    }
+
+    /// Accepts one who comes, also where no descriptor but the spare one is left.
+    fn accept(&mut self) -> Came {
+        match self.socket.accept() {
+            Came::Failed(error) => {
+                if lacks_descriptors(error) && self.make_way() {
+                    self.socket.accept()
+                } else {
+                    Came::Failed(error)
+                }
+            }
+            came => came,
+        }
+    }
+
     /// Takes those who came, as many as there are places.
-    pub(crate) fn admit(&mut self, readiness: &Readiness) -> Admitted {
+    fn admit_all(&mut self, readiness: &Readiness) -> Admitted {
         for _ in 0..OPERATORS {
-            match self.socket.accept() {
+            match self.accept() {
                 Came::Connection(stream, _) => self.take(stream, readiness),
                 Came::Gone => {}
                 Came::Nothing => return Admitted::All,
@@ -275,8 +322,32 @@ impl Operators {
         Admitted::Some
     }
 
+    /// Keeps a descriptor again, where none is kept and one can be had.
+    fn refill<R: Files<File = File>>(&mut self, rt: &R) {
+        if self.spare.is_none() {
+            self.spare = spare(rt);
+        }
+    }
+
+    /// Takes those who came, as many as there are places; one of them also where no descriptor is left.
+    pub(crate) fn admit<R: Files<File = File>>(
+        &mut self,
+        rt: &R,
+        readiness: &Readiness,
+    ) -> Admitted {
+        let admitted = self.admit_all(readiness);
+        self.refill(rt);
+        admitted
+    }
+
     /// Takes what the operator in this place says.
-    pub(crate) fn hear(&mut self, alloc: Global, place: usize, report: &Report) -> Heard {
+    pub(crate) fn hear<R: Files<File = File>>(
+        &mut self,
+        rt: &R,
+        alloc: Global,
+        place: usize,
+        report: &Report,
+    ) -> Heard {
         let mut signal = None;
         let left = match self.rows.get_mut(place) {
             Some(Some(operator)) => operator.hear(alloc, report, &mut signal),
@@ -286,10 +357,12 @@ impl Operators {
             if let Some(row) = self.rows.get_mut(place) {
                 *row = None;
             }
+            self.refill(rt);
         }
         Heard {
             signal,
             more: left == Left::More,
+            is_gone: left == Left::Gone,
         }
     }
 

@@ -1,7 +1,7 @@
 //! The operating system's side of one server: what is told is performed on its sockets, and what comes
 //! of them is given as events.
 
-ghost use Rattle.std.specs.Prelude.{◌≡◌, ◌≤◌, length, IfSome};
+ghost use Rattle.std.specs.Prelude.{◌≡◌, ◌≤◌, true, false, length, None, IfOk, IfSome};
 ghost use Rattle.svc_record.specs.declared.entry.Entry.TheVariants.{Got};
 ghost use Rattle.svc_record.specs.Descriptors.{numbers_of};
 ghost use Rattle.svc_system.specs.Answering.{Answers, AnswersAdopt, AnswersBind, AnswersOnConnection, AnswersOnEndpoint};
@@ -17,6 +17,7 @@ use crate::report::Report;
 use crate::times::{Times, sooner};
 use crate::tokens::Ready;
 use std::alloc::Global;
+use std::fs::File;
 use std::mem::drop;
 use std::net::{Net, TcpListener, TcpStream};
 use std::rt::Files;
@@ -83,7 +84,10 @@ enum Look {
 
 /// The sockets, the connections, the operators and the time of one server.
 #[derive(Drop)]
-pub struct System<'a, R: Net<Listener = TcpListener, Stream = TcpStream> + Files + Clock> {
+pub struct System<
+    'a,
+    R: Net<Listener = TcpListener, Stream = TcpStream> + Files<File = File> + Clock,
+> {
     rt: &'a R,
     alloc: Global,
     readiness: Readiness,
@@ -98,6 +102,8 @@ pub struct System<'a, R: Net<Listener = TcpListener, Stream = TcpStream> + Files
     /// What operators asked for and wasn't given yet.
     signal: Option<ShutdownSignal>,
     is_draining: bool,
+    /// Every service was given up, and the server was asked to end.
+    is_forsaken: bool,
     has_ended: bool,
     /// Memory was refused for what is ready.
     has_failed: bool,
@@ -148,7 +154,43 @@ fn bind<R: Net<Listener = TcpListener, Stream = TcpStream> + Files>(
     }
 }
 
-impl<'a, R: Net<Listener = TcpListener, Stream = TcpStream> + Files + Clock> System<'a, R> {
+/// The operators' socket, and what watches it.
+fn listened<R: Net<Listener = TcpListener, Stream = TcpStream> + Files<File = File>>(
+    rt: &R,
+    alloc: Global,
+    control: ControlAddress,
+) -> Result<(Operators, Readiness), OpenRefused> {
+    let operators = Operators::open(rt, alloc, control)?;
+    match watched(rt, alloc, &operators) {
+        Ok(readiness) => Ok((operators, readiness)),
+        Err(refused) => {
+            operators.close(rt);
+            drop(operators);
+            Err(refused)
+        }
+    }
+}
+
+/// The tables of a server with this plan.
+fn tables<R: Net>(
+    rt: &R,
+    alloc: Global,
+    plan: &Plan,
+) -> Result<(Endpoints, Connections), NoMemory> {
+    let endpoints = Endpoints::learn(rt, alloc, plan)?;
+    match Connections::new(alloc) {
+        Ok(connections) => Ok((endpoints, connections)),
+        Err(NoMemory) => {
+            drop(endpoints);
+            Err(NoMemory)
+        }
+    }
+}
+
+impl<'a, R: Net<Listener = TcpListener, Stream = TcpStream> + Files<File = File> + Clock> System<
+    'a,
+    R,
+> {
     /// The system's side of a server with this plan, of which nothing was told yet. Operators are listened
     /// to from now on.
     pub fn open(
@@ -156,54 +198,47 @@ impl<'a, R: Net<Listener = TcpListener, Stream = TcpStream> + Files + Clock> Sys
         alloc: Global,
         plan: &Plan,
         control: ControlAddress,
-    ) -> Result<Self, OpenRefused> {
+    ) -> Result<Self, OpenRefused>
+        ensures goes_on { IfOk result (λ system. system.has_ended ≡ false) }
+        ensures serves { IfOk result (λ system. system.is_forsaken ≡ false) }
+    {
         let Ok(times) = Times::start(rt) else {
+            drop(control);
             return Err(OpenRefused::Clock);
         };
-        let operators = Operators::open(rt, alloc, control)?;
-        let readiness = match watched(rt, alloc, &operators) {
-            Ok(readiness) => readiness,
-            Err(refused) => {
-                operators.close(rt);
-                drop(operators);
-                return Err(refused);
-            }
-        };
-        let connections = match Connections::new(alloc) {
-            Ok(connections) => connections,
+        let (operators, readiness) = listened(rt, alloc, control)?;
+        match tables(rt, alloc, plan) {
+            Ok((endpoints, connections)) => Ok(System {
+                rt,
+                alloc,
+                readiness,
+                times,
+                endpoints,
+                listeners: Listeners::new(alloc),
+                connections,
+                operators,
+                grace: plan.grace.saturating_mul(1000),
+                phase: ExecutionPhase::Setup,
+                signal: None,
+                is_draining: false,
+                is_forsaken: false,
+                has_ended: false,
+                has_failed: false,
+            }),
             Err(NoMemory) => {
                 operators.close(rt);
                 drop(operators);
                 drop(readiness);
-                return Err(OpenRefused::NoMemory);
+                Err(OpenRefused::NoMemory)
             }
-        };
-        let endpoints = match Endpoints::learn(rt, alloc, plan) {
-            Ok(endpoints) => endpoints,
-            Err(NoMemory) => {
-                operators.close(rt);
-                drop(operators);
-                drop(readiness);
-                drop(connections);
-                return Err(OpenRefused::NoMemory);
-            }
-        };
-        Ok(System {
-            rt,
-            alloc,
-            readiness,
-            times,
-            endpoints,
-            listeners: Listeners::new(alloc),
-            connections,
-            operators,
-            grace: plan.grace.saturating_mul(1000),
-            phase: ExecutionPhase::Setup,
-            signal: None,
-            is_draining: false,
-            has_ended: false,
-            has_failed: false,
-        })
+        }
+    }
+
+    /// Every service was given up, so the system itself asked the server to end.
+    pub fn is_forsaken(&self) -> bool
+        ensures { result ≡ self.now.is_forsaken }
+    {
+        self.is_forsaken
     }
 
     /// The server has ended: the control address is free again.
@@ -319,6 +354,16 @@ impl<'a, R: Net<Listener = TcpListener, Stream = TcpStream> + Files + Clock> Sys
         }
     }
 
+    /// The service is given up. Where none is left, nothing can be served any more, and the server is asked to
+    /// end at once.
+    fn fail(&mut self, service: u32) {
+        self.endpoints.fail(service);
+        if !self.is_forsaken && self.endpoints.have_failed() {
+            self.is_forsaken = true;
+            self.signal = Some(ShutdownSignal::FastShutdown);
+        }
+    }
+
     /// The application has the connection. One that can't be watched is done with at once.
     fn serve(&mut self, c: u64) -> Option<Event>
         ensures few { IfSome result (λ e. length (numbers_of (Got e)) ≤ 32) }
@@ -358,7 +403,7 @@ impl<'a, R: Net<Listener = TcpListener, Stream = TcpStream> + Files + Clock> Sys
         match action {
             Action::Start(s) => self.endpoints.start(*s),
             Action::Fail(s) => {
-                self.endpoints.fail(*s);
+                self.fail(*s);
                 None
             }
             Action::Bind(s, i) => Some(self.bind(*s, *i)),
@@ -435,7 +480,7 @@ impl<'a, R: Net<Listener = TcpListener, Stream = TcpStream> + Files + Clock> Sys
 
     /// Takes the operators who came.
     fn admit_operators(&mut self) {
-        match self.operators.admit(&self.readiness) {
+        match self.operators.admit(self.rt, &self.readiness) {
             Admitted::All => {}
             Admitted::Some => self.wake(Ready::Control),
             Admitted::Failed => {
@@ -448,12 +493,15 @@ impl<'a, R: Net<Listener = TcpListener, Stream = TcpStream> + Files + Clock> Sys
     /// Takes what an operator says.
     fn hear(&mut self, place: usize) {
         let report = self.report();
-        let heard = self.operators.hear(self.alloc, place, &report);
+        let heard = self.operators.hear(self.rt, self.alloc, place, &report);
         if let Some(signal) = heard.signal {
             self.signal = Some(signal);
         }
         if heard.more {
             self.wake(Ready::Operator(place));
+        }
+        if heard.is_gone {
+            self.wake(Ready::Control);
         }
     }
 
@@ -612,6 +660,13 @@ impl<'a, R: Net<Listener = TcpListener, Stream = TcpStream> + Files + Clock> Sys
             Some(ready) => self.turn(ready),
             None => self.wait(),
         }
+    }
+
+    /// Nothing is ready, and nothing is to be told: what comes next has to be waited for.
+    pub fn is_at_rest(&self) -> bool
+        ensures { result ≡ true → self.now.signal ≡ None }
+    {
+        self.readiness.is_empty() && self.signal.is_none()
     }
 
     /// What comes next. It waits until something does. None where the server has ended, and a fault where

@@ -2,6 +2,7 @@
 
 use std::io::Read;
 use std::net::{Net, SocketAddr, TcpListener, TcpStream};
+use std::process::Abort;
 use std::time::{Clock, Duration};
 use std::{io, thread};
 
@@ -9,10 +10,11 @@ use std::{io, thread};
 const WAIT: u64 = 10;
 
 /// An address on loopback that was free a moment ago.
-pub(crate) fn free_address<R: Net<Listener = TcpListener, Stream = TcpStream>>(
+pub(crate) fn free_address<R: Net<Listener = TcpListener, Stream = TcpStream> + Abort>(
     rt: &R,
-) -> io::Result<SocketAddr> {
-    TcpListener::bind(rt, "127.0.0.1:0")?.local_addr()
+) -> SocketAddr {
+    let listener = TcpListener::bind(rt, "127.0.0.1:0").expect(rt, "a listener");
+    listener.local_addr().expect(rt, "its address")
 }
 
 /// Whether a connection is taken at the address now.
@@ -25,24 +27,26 @@ pub(crate) fn is_taken<R: Net<Listener = TcpListener, Stream = TcpStream>>(
 
 /// Connects as soon as something listens, within about ten seconds. Each read and write on the connection
 /// ends within ten seconds.
-pub(crate) fn connected<R: Net<Listener = TcpListener, Stream = TcpStream> + Clock>(
+pub(crate) fn connected<R: Net<Listener = TcpListener, Stream = TcpStream> + Clock + Abort>(
     rt: &R,
     at: SocketAddr,
-) -> io::Result<TcpStream> {
+) -> TcpStream {
     for _ in 0..1000u32 {
         if let Ok(stream) = TcpStream::connect_timeout(rt, &at, Duration::from_secs(WAIT)) {
-            return bounded(stream);
+            return bounded(rt, stream);
         }
         thread::sleep(rt, Duration::from_millis(10));
     }
-    bounded(TcpStream::connect_timeout(rt, &at, Duration::from_secs(WAIT))?)
+    let stream = TcpStream::connect_timeout(rt, &at, Duration::from_secs(WAIT));
+    bounded(rt, stream.expect(rt, "a connection"))
 }
 
 /// Each read and write on the connection ends within ten seconds.
-fn bounded(stream: TcpStream) -> io::Result<TcpStream> {
-    stream.set_read_timeout(Some(Duration::from_secs(WAIT)))?;
-    stream.set_write_timeout(Some(Duration::from_secs(WAIT)))?;
-    Ok(stream)
+fn bounded(rt: &impl Abort, stream: TcpStream) -> TcpStream {
+    let wait = Some(Duration::from_secs(WAIT));
+    stream.set_read_timeout(wait).expect(rt, "a limit");
+    stream.set_write_timeout(wait).expect(rt, "a limit");
+    stream
 }
 
 /// Whether the other side has closed the connection within ten seconds, where it writes nothing.

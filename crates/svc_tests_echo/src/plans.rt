@@ -1,7 +1,7 @@
 //! Plans of one service.
 
 use std::alloc::Global;
-use std::test::Fail;
+use std::process::Abort;
 use svc_base::{Numbers, Text};
 use svc_desk::Gate;
 use svc_graph::{EndpointList, EndpointPlan, Kind};
@@ -10,31 +10,32 @@ use svc_socket::settings_of;
 
 /// A plan with one service, which listens on these addresses.
 pub(crate) fn plan_of(
+    rt: &impl Abort,
     alloc: Global,
     name: &str,
     kind: Kind,
     addresses: &[&str],
-) -> Result<Plan, Fail> {
+) -> Plan {
     let mut endpoints = EndpointList::new(alloc);
     for address in addresses {
         let endpoint = EndpointPlan {
-            address: Text::new(alloc, *address)?,
+            address: Text::new(alloc, *address).expect(rt, "memory"),
             unix: false,
-            options: settings_of(alloc, None)?,
+            options: settings_of(alloc, None).expect(rt, "memory"),
             filter: None,
         };
-        endpoints.push(alloc, endpoint)?;
+        endpoints.push(alloc, endpoint).expect(rt, "memory");
     }
     let service = ServicePlan {
-        name: Text::new(alloc, name)?,
+        name: Text::new(alloc, name).expect(rt, "memory"),
         kind,
         depends: Numbers::new(alloc),
         declared: None,
         endpoints,
     };
     let mut services = ServiceList::new(alloc);
-    services.push(alloc, service)?;
-    Ok(Plan {
+    services.push(alloc, service).expect(rt, "memory");
+    Plan {
         services,
         grace: 300,
         stop: 5,
@@ -46,7 +47,7 @@ pub(crate) fn plan_of(
         daemon: false,
         wait: false,
         ready_timeout: 600,
-    })
+    }
 }
 
 /// Holds nobody.

@@ -6,7 +6,6 @@ use crate::tables::sockets_at;
 use std::alloc::Global;
 use std::net::TcpListener;
 use std::sync::Mutex;
-use std::test::Fail;
 use svc_desk::{Desk, DeskAnswer};
 use svc_echo::{Seat, Slot, real_desk};
 use svc_record::{Action, Event};
@@ -24,21 +23,22 @@ fn taken<D: Desk>(alloc: Global, desk: &mut D) -> Option<Event> {
 }
 
 #[test]
-fn what_a_stray_event_brought_is_closed(rt: HostRuntime) -> Result<(), Fail> {
+fn what_a_stray_event_brought_is_closed(rt: HostRuntime) {
     let alloc = rt.alloc();
-    let address = free_address(&rt)?;
-    let sockets = Mutex::new(sockets_at(&rt, alloc, address)?);
+    let address = free_address(&rt);
+    let sockets = Mutex::new(sockets_at(&rt, alloc, address));
     let slot: Mutex<Slot<TcpListener>> = Mutex::new(Slot::Missing);
-    let mut desk = real_desk(&rt, alloc, Seat::Left, &sockets, &slot, 1_000)?;
+    let desk = real_desk(&rt, alloc, Seat::Left, &sockets, &slot, 1_000);
+    let mut desk = desk.expect(&rt, "a desk");
     desk.perform(Action::Bind(0, 0));
-    let bound = taken(alloc, &mut desk).ok_or("the endpoint is bound")?;
-    same(&rt, bound.copy(alloc)?, Event::Bound(0, 0, 3));
-    let client = connected(&rt, address)?;
-    let arrived = taken(alloc, &mut desk).ok_or("the client is here")?;
+    let bound = taken(alloc, &mut desk).expect(&rt, "the endpoint is bound");
+    let copy = bound.copy(alloc).expect(&rt, "a copy");
+    same(&rt, copy, Event::Bound(0, 0, 3));
+    let client = connected(&rt, address);
+    let arrived = taken(alloc, &mut desk).expect(&rt, "the client is here");
     holds(&rt, matches!(&arrived, Event::Arrived(0, 0, 1, _)));
     desk.refuse(arrived);
     holds(&rt, is_closed(&client));
     desk.refuse(bound);
     holds(&rt, !is_taken(&rt, address));
-    Ok(())
 }

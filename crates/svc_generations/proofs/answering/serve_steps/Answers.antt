@@ -1,10 +1,4 @@
-use Rattle.svc_main.proofs.ScriptAnswerLemmas.{if_ok}
-use Rattle.svc_generations.proofs.AnswerLemmas.{prints_chain}
 use Rattle.svc_generations.proofs.answering.serve_steps.Goals as goal
 
 pub returns : goal.returns
-returns c = λ blocks has.
-    if_ok _ _ c.printed.result c.printed.ensures (λ a h.
-    prints_chain (record { blocks = blocks; steps = c.args.steps.now }) c.take_all.new.self _ _ _ a.line _
-    (c.in_ok-take_all.ensures.ends blocks (c.in_ok-serving.ensures.serving blocks has)) c.in_ok-finish.ensures.closed c.in_ok-finish.ensures.finished
-    c.line_of-line.ensures h.0 h.1)
+returns c = λ blocks has. c.finished-answer.ensures blocks (c.in_ok-serving.ensures.serving blocks has)

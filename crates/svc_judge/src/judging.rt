@@ -1,0 +1,382 @@
+//! The judgement: whether the run served, and the first place at which the record isn't right.
+
+ghost use Rattle.std.specs.Prelude.{◌≡◌, ◌+◌, Option, Some, IfOk};
+ghost use Rattle.svc_record.specs.Right.{is_served};
+ghost use Rattle.svc_judge.specs.Pasts.{IsPast, plan_of, record_of};
+ghost use Rattle.svc_judge.specs.Anew.{connection_breach, new_breach, new_place_breach};
+ghost use Rattle.svc_judge.specs.Verdicts.{entry_breach, open_breach_by, settled_breach_by, end_breach, step_breach_by, breach_below, breach_of, are_endpoints_kept, are_phases_kept};
+
+use crate::anew::{boot_kept, conn_kept, connections_kept, each_new, only_connections};
+use crate::closes::closes_right;
+use crate::descriptors::one_live;
+use crate::endpoints::{endpoints_right, endpoints_right_late};
+use crate::ends::ends_tested;
+use crate::facts::{offer_of, opened_of, startup_order};
+use crate::failed::fails_right;
+use crate::looking::has;
+use crate::marks::phases_right;
+use crate::offer::one_ask;
+use crate::past::{Past, Split};
+use crate::query::{Order, Query};
+use crate::rules::{EntryRule, each_entry};
+use crate::settled::{
+    ended_right, in_service, is_last_well, is_served, offer_kept, passed_right, starts_kept,
+    tested_right,
+};
+use crate::waits::{has_ended, waits_are_over};
+use std::alloc::Global;
+use svc_base::NoMemory;
+use svc_record::{Entry, Plan};
+
+/// A rule of a right record, in the order in which they are looked at: first those of an entry with what
+/// stands before it, then those of a settled prefix.
+#[derive(Clone, Copy, PartialEq, Eq, Debug)]
+pub enum Rule {
+    /// The event may come.
+    Fits,
+    /// A service starts once, and after its dependencies are ready.
+    StartDue,
+    /// An endpoint is bound, or offered a descriptor, in its turn.
+    AskDue,
+    /// What belongs to bootstrapping comes after it has begun.
+    BootDue,
+    /// A try to receive comes when there may be one.
+    TryDue,
+    /// A retry of the offer comes when its rest is over.
+    RetryDue,
+    /// A descriptor is closed once, and after it was opened.
+    CloseOnce,
+    /// A phase carries its moment.
+    Moment,
+    /// A start is of a service of the plan.
+    StartKnown,
+    /// What is given up, bound or offered a descriptor is of the plan.
+    AskKnown,
+    /// What is told of a connection is of one that has arrived.
+    ConnectionKnown,
+    /// A run that ended otherwise than served told what is due then.
+    Ended,
+    /// The fork, bootstrapping and `Running` are told where they are due.
+    Bootstrapping,
+    /// While the offer goes on, one of its asks is open, or the last answer rests.
+    Offer,
+    /// Each entry on a connection stands where it is due.
+    Connections,
+    /// Exactly what is gone is closed.
+    Closes,
+    /// No address has two live descriptors.
+    OneLive,
+    /// Each service is started exactly where it is due.
+    Starts,
+    /// Each endpoint of a service at work is held or waits.
+    Endpoints,
+    /// Each phase, and the broadcast, is told when it is due.
+    Phases,
+    /// What only the end tells isn't told before.
+    Ending,
+    /// Exactly what has failed is given up.
+    Fails,
+    /// While the offer goes on, only one of its asks is open.
+    OneAsk,
+    /// A run whose waits have passed is one that served.
+    Served,
+    /// A run that was tested did what comes before bootstrapping.
+    Tested,
+    /// What stands before `ShutdownRuntimes` is right.
+    LastStep,
+}
+
+/// The first place at which a record isn't right.
+#[derive(Clone, Copy, PartialEq, Eq, Debug)]
+pub struct Breach {
+    /// How many entries the record has up to there: the number of the entry that breaks the rule, the first
+    /// one being 1, or of the last entry of the settled prefix that does; 0 where that has none.
+    pub entry: u64,
+    /// The rule that is broken there.
+    pub rule: Rule,
+}
+
+/// What is judged of a record.
+#[derive(Clone, Copy, PartialEq, Eq, Debug)]
+pub struct Verdict {
+    /// It is the record of a run that served.
+    pub served: bool,
+    /// The first place at which it isn't right; none where it is a right record.
+    pub breach: Option<Breach>,
+}
+
+/// The first rule that the entry breaks, if it breaks one.
+fn entry_breach(entry: &Entry, before: &Past) -> Option<Rule>
+    requires { IsPast before.now }
+    ensures { result ≡ entry_breach (plan_of before.now) entry.now (record_of before.now) }
+{
+    if !EntryRule::Fits.holds(entry, before) {
+        return Some(Rule::Fits);
+    }
+    if !EntryRule::StartDue.holds(entry, before) {
+        return Some(Rule::StartDue);
+    }
+    if !EntryRule::AskDue.holds(entry, before) {
+        return Some(Rule::AskDue);
+    }
+    if !EntryRule::BootDue.holds(entry, before) {
+        return Some(Rule::BootDue);
+    }
+    if !EntryRule::TryDue.holds(entry, before) {
+        return Some(Rule::TryDue);
+    }
+    if !EntryRule::RetryDue.holds(entry, before) {
+        return Some(Rule::RetryDue);
+    }
+    if !EntryRule::CloseOnce.holds(entry, before) {
+        return Some(Rule::CloseOnce);
+    }
+    if !EntryRule::EveryMoment.holds(entry, before) {
+        return Some(Rule::Moment);
+    }
+    if !EntryRule::StartKnown.holds(entry, before) {
+        return Some(Rule::StartKnown);
+    }
+    if !EntryRule::AskKnown.holds(entry, before) {
+        return Some(Rule::AskKnown);
+    }
+    if !EntryRule::ConnectionKnown.holds(entry, before) {
+        return Some(Rule::ConnectionKnown);
+    }
+    None
+}
+
+/// The endpoints of the services at work are held or wait: as they have to be before the signal, and as
+/// after it.
+fn are_endpoints_kept(past: &Past) -> bool
+    requires { IsPast past.now }
+    ensures { result ≡ are_endpoints_kept (plan_of past.now) (record_of past.now) }
+{
+    (!has(Query::Order(Order::Running), past.entries) || endpoints_right_late(past))
+        && (!in_service(past.entries) || endpoints_right(past))
+}
+
+/// Each phase, and the broadcast, is told when it is due, with its moment.
+fn are_phases_kept(past: &Past) -> bool
+    requires { IsPast past.now }
+    ensures { result ≡ are_phases_kept (plan_of past.now) (record_of past.now) }
+{
+    phases_right(past) && each_entry(EntryRule::Moment, past)
+}
+
+/// The first rule that a settled prefix breaks in which the run goes on, if it breaks one, where what is
+/// asked of the beginning and of connections is known.
+fn open_breach(past: &Past, boots: bool, connects: bool) -> Option<Rule>
+    requires { IsPast past.now }
+    ensures { result ≡ open_breach_by boots connects (plan_of past.now) (record_of past.now) }
+{
+    if !boots {
+        return Some(Rule::Bootstrapping);
+    }
+    if !offer_kept(past) {
+        return Some(Rule::Offer);
+    }
+    if !connects {
+        return Some(Rule::Connections);
+    }
+    if !closes_right(past) {
+        return Some(Rule::Closes);
+    }
+    if !one_live(past) {
+        return Some(Rule::OneLive);
+    }
+    if has(Query::Order(Order::Running), past.entries) && !starts_kept(past) {
+        return Some(Rule::Starts);
+    }
+    if !are_endpoints_kept(past) {
+        return Some(Rule::Endpoints);
+    }
+    if !are_phases_kept(past) {
+        return Some(Rule::Phases);
+    }
+    if has(Query::Order(Order::Ending), past.entries) {
+        return Some(Rule::Ending);
+    }
+    None
+}
+
+/// The same, by whether the run has ended in it.
+fn settled_breach(past: &Past, boots: bool, connects: bool) -> Option<Rule>
+    requires { IsPast past.now }
+    ensures { result ≡ settled_breach_by boots connects (plan_of past.now) (record_of past.now) }
+{
+    if has_ended(past) {
+        if ended_right(past) {
+            None
+        } else {
+            Some(Rule::Ended)
+        }
+    } else {
+        open_breach(past, boots, connects)
+    }
+}
+
+/// The first rule of a run's end that the settled prefix breaks, if it breaks one.
+fn end_breach(alloc: Global, past: &Past) -> Result<Option<Rule>, NoMemory>
+    requires { IsPast past.now }
+    ensures { IfOk result (λ rule. rule ≡ end_breach (plan_of past.now) (record_of past.now)) }
+{
+    if waits_are_over(past) && !passed_right(alloc, past)? {
+        return Ok(Some(Rule::Served));
+    }
+    if ends_tested(past) && !tested_right(past) {
+        return Ok(Some(Rule::Tested));
+    }
+    if !is_last_well(past) {
+        return Ok(Some(Rule::LastStep));
+    }
+    Ok(None)
+}
+
+/// The first rule that a settled prefix breaks, if it breaks one, where what is asked of the beginning and of
+/// connections is known.
+fn step_breach_by(
+    alloc: Global,
+    past: &Past,
+    boots: bool,
+    connects: bool,
+) -> Result<Option<Rule>, NoMemory>
+    requires { IsPast past.now }
+    ensures { IfOk result (λ rule. rule ≡ step_breach_by boots connects (plan_of past.now) (record_of past.now)) }
+{
+    if let Some(rule) = settled_breach(past, boots, connects) {
+        return Ok(Some(rule));
+    }
+    if !fails_right(past) {
+        return Ok(Some(Rule::Fails));
+    }
+    if !one_ask(past) {
+        return Ok(Some(Rule::OneAsk));
+    }
+    end_breach(alloc, past)
+}
+
+/// The first rule that a settled prefix breaks after entries of connections alone, if it breaks one.
+fn connection_breach(past: &Past) -> Option<Rule>
+    requires { IsPast past.now }
+    ensures { result ≡ connection_breach (plan_of past.now) (record_of past.now) }
+{
+    if !each_new(EntryRule::ForkFirst, past) {
+        return Some(Rule::Bootstrapping);
+    }
+    if !connections_kept(past) {
+        return Some(Rule::Connections);
+    }
+    None
+}
+
+/// The first rule that a settled prefix breaks, if it breaks one, where none is broken up to the one before it.
+fn new_breach(alloc: Global, past: &Past) -> Result<Option<Rule>, NoMemory>
+    requires { IsPast past.now }
+    ensures { IfOk result (λ rule. rule ≡ new_breach (plan_of past.now) (record_of past.now)) }
+{
+    if only_connections(past.entries) {
+        Ok(connection_breach(past))
+    } else {
+        step_breach_by(alloc, past, boot_kept(past), conn_kept(past))
+    }
+}
+
+/// The breach at an entry, if there is one, where there is none up to it: where the entry is an event, first
+/// that of what stands before it.
+fn new_place_breach(alloc: Global, entry: &Entry, before: &Past) -> Result<Option<Breach>, NoMemory>
+    requires { IsPast before.now }
+    ensures { IfOk result (λ found. found ≡ new_place_breach (plan_of before.now) entry.now (record_of before.now)) }
+{
+    if let Entry::Got(_) = entry
+        && let Some(rule) = new_breach(alloc, before)?
+    {
+        return Ok(Some(Breach {
+            entry: before.entries.len() as u64,
+            rule,
+        }));
+    }
+    match entry_breach(entry, before) {
+        Some(rule) => Ok(Some(Breach {
+            entry: before.entries.len() as u64 + 1,
+            rule,
+        })),
+        None => Ok(None),
+    }
+}
+
+/// The first breach in the entries and in what stands before an event, if there is one.
+#[tactic(auto, using(crate::proofs::NewLemmas::new_place_step))]
+fn breach_below(alloc: Global, past: &Past) -> Result<Option<Breach>, NoMemory>
+    requires { IsPast past.now }
+    ensures { IfOk result (λ found. found ≡ breach_below (plan_of past.now) (record_of past.now)) }
+{
+    let mut rest = *past;
+    let mut found = None;
+    'entries: while let Some(
+        Split {
+            entry,
+            news: _,
+            before,
+        },
+    ) = rest.split()
+    {
+        if let Some(breach) = new_place_breach(alloc, entry, &before)? {
+            found = Some(breach);
+        }
+        rest = before;
+    }
+    Ok(found)
+}
+
+/// The first breach of the record, if there is one.
+#[tactic(auto, using(crate::proofs::NewLemmas::new_is))]
+fn breach_of(alloc: Global, past: &Past) -> Result<Option<Breach>, NoMemory>
+    requires { IsPast past.now }
+    ensures { IfOk result (λ found. found ≡ breach_of (plan_of past.now) (record_of past.now)) }
+{
+    if let Some(found) = breach_below(alloc, past)? {
+        return Ok(Some(found));
+    }
+    match new_breach(alloc, past)? {
+        Some(rule) => Ok(Some(Breach {
+            entry: past.entries.len() as u64,
+            rule,
+        })),
+        None => Ok(None),
+    }
+}
+
+/// Judges a record, whose newest entry comes first: whether the run served, and where it isn't a right record
+/// the first place at which a prefix of it isn't, with a rule that it breaks there. Nothing is asked of the
+/// plan.
+///
+/// Its cost grows with the square of the record's length, times what is opened, and the services' endpoints.
+/// `NoMemory` where there is no memory for what is looked up often.
+#[tactic(auto, using(crate::proofs::ServedLemmas::served_by_waits))]
+pub fn judge(alloc: Global, plan: &Plan, entries: &[Entry]) -> Result<Verdict, NoMemory>
+    ensures served { IfOk result (λ v. v.served ≡ is_served plan.now entries.now) }
+    ensures breach { IfOk result (λ v. v.breach ≡ breach_of plan.now entries.now) }
+{
+    let (opened, reads) = opened_of(alloc, plan, entries)?;
+    let offer = offer_of(alloc, plan, entries)?;
+    let order = startup_order(alloc, plan)?;
+    let past = Past {
+        plan,
+        entries,
+        opened: &opened,
+        reads: &reads,
+        offer: &offer,
+        order: &order,
+    };
+    match breach_of(alloc, &past)? {
+        Some(found) => Ok(Verdict {
+            served: is_served(alloc, &past)?,
+            breach: Some(found),
+        }),
+        None => Ok(Verdict {
+            served: waits_are_over(&past),
+            breach: None,
+        }),
+    }
+}

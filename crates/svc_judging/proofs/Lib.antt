@@ -1,0 +1,4 @@
+pub mod LineFronts
+pub mod SettingLemmas
+pub mod EntryLemmas
+pub mod RecordLemmas

@@ -1,5 +1,0 @@
-use Rattle.std.proofs.Common.{length}
-use Rattle.svc_tests_net.proofs.listening.spent.Given as goal
-
-abbrev pub decreases-loop-bind : goal.decreases-loop-bind
-decreases-loop-bind g l = length l.table.entries
