@@ -14,6 +14,8 @@ use tokio::net::TcpStream;
 const WORD: &[u8; 32] = b"0123456789abcdef0123456789abcdef";
 /// As the word, and the connection stays.
 const KEPT_WORD: &[u8; 32] = b"k123456789abcdef0123456789abcdef";
+/// How many idle connections are opened at once.
+const OPENERS: usize = 64;
 const ASK: &[u8] = b"GET / HTTP/1.1\r\nHost: bench\r\n\r\n";
 const LAST_ASK: &[u8] = b"GET / HTTP/1.1\r\nHost: bench\r\nConnection: close\r\n\r\n";
 
@@ -98,12 +100,24 @@ async fn work(kind: String, address: SocketAddr, end: Instant) -> (Vec<u32>, u64
     (took, failed, why)
 }
 
-async fn idle(address: SocketAddr, count: usize) {
+/// Opens so many connections one after the other.
+async fn open(address: SocketAddr, count: usize) -> Vec<TcpStream> {
     let mut held = Vec::new();
     for _ in 0..count {
         let mut stream = connect(address).await.expect("a connection");
         tcp(&mut stream, KEPT_WORD).await.expect("an answer");
         held.push(stream);
+    }
+    held
+}
+
+/// Holds so many connections, which as many as `OPENERS` open at once.
+async fn idle(address: SocketAddr, count: usize) {
+    let share = |at: usize| (count + at) / OPENERS;
+    let openers: Vec<_> = (0..OPENERS).map(|at| tokio::spawn(open(address, share(at)))).collect();
+    let mut held = Vec::new();
+    for opener in openers {
+        held.push(opener.await.expect("connections"));
     }
     println!("{{\"held\":{count}}}");
     _ = io::stdin().read_to_end(&mut Vec::new());

@@ -1,8 +1,8 @@
 //! The limit of open descriptors, and one that is kept for when there is no other left.
 
 use nix::sys::resource::{Resource, getrlimit, setrlimit};
-use std::fs::File;
 use std::io;
+use std::os::unix::net::UnixDatagram;
 
 /// Raises the number of descriptors that the process may have open to the most that it may set, and answers
 /// that number.
@@ -17,9 +17,10 @@ pub(crate) fn raise_descriptors() -> io::Result<u64> {
 /// How many descriptors are held: a handover opens a few at once.
 const SPARES: usize = 4;
 
-/// Descriptors that are held so that some can be had where none is left: for a handover.
+/// Descriptors that are held so that some can be had where none is left: for a handover. They are sockets, which want
+/// no file: a program may see none but its own.
 #[derive(Debug)]
-pub(crate) struct Spare(Vec<File>);
+pub(crate) struct Spare(Vec<UnixDatagram>);
 
 impl Spare {
     pub(crate) fn hold() -> Spare {
@@ -36,8 +37,8 @@ impl Spare {
     /// Takes as many as are missing, and answers whether none is missing now.
     pub(crate) fn fill(&mut self) -> bool {
         while self.0.len() < SPARES {
-            match File::open("/dev/null") {
-                Ok(file) => self.0.push(file),
+            match UnixDatagram::unbound() {
+                Ok(socket) => self.0.push(socket),
                 Err(_) => return false,
             }
         }

@@ -5,13 +5,14 @@ use std::ffi::OsString;
 use std::path::PathBuf;
 
 /// The words that a server takes on its command line. A program with words of its own has these among
-/// them by `#[command(flatten)]`.
+/// them by `#[command(flatten)]`, and by `#[command(version)]` `--version`.
 ///
 /// ```
 /// use clap::Parser;
 /// use fulltimehen_server::Opt;
 ///
 /// #[derive(Parser)]
+/// #[command(version)]
 /// struct Words {
 ///     #[command(flatten)]
 ///     server: Opt,

@@ -410,8 +410,8 @@ impl Server {
     ///
     /// Why it didn't start, or ended: [`ServerError`] says what each means. All of its sockets are closed.
     ///
-    /// After it, where it took the process's signals, SIGINT, SIGTERM and SIGQUIT still don't end the process, since `tokio`
-    /// never gives them back: a program that goes on looks at them itself, or runs its servers with [`RunArgs::signals`].
+    /// After it SIGINT, SIGTERM and SIGQUIT do what they did before it: at first, where nothing else was set, they end the process.
+    /// That also goes for what another part of the program has set for them meanwhile.
     pub fn run(self, args: RunArgs) -> Result<Outcome, ServerError> {
         if Handle::try_current().is_ok() {
             return Err(ServerError::WithinRuntime);

@@ -127,7 +127,9 @@ impl Succession {
         for name in inherited::VARIABLES.into_iter().chain(["WATCHDOG_PID"]) {
             command.env_remove(name);
         }
-        command.stdin(Stdio::null()).spawn()
+        // Where the program sees no such file, the next one has its standard input.
+        let nothing = fs::File::open("/dev/null");
+        command.stdin(nothing.map_or(Stdio::inherit(), Stdio::from)).spawn()
     }
 }
 

@@ -1,11 +1,14 @@
 //! All `unsafe` code of the crate: what no safe crate has in all of the versions that `Cargo.toml` takes. The numbers of
 //! received descriptors (`nix` tells them as numbers), descriptors of processes (`rustix` has them from 0.38 on, which Debian
-//! 12 hasn't), and the traffic class of IPv6 (`socket2` has it from 0.5 on). Each call takes and answers what is safe to have.
+//! 12 hasn't), the traffic class of IPv6 (`socket2` has it from 0.5 on), and what the process does at a signal (`tokio` sets that,
+//! and never puts back what was there). Each call takes and answers what is safe to have.
 
 use nix::sys::socket::{CmsgIterator, ControlMessageOwned, MsgFlags, UnixAddr, recvmsg};
 use std::io::{self, IoSliceMut};
+use std::mem::{self, MaybeUninit};
 use std::os::fd::{AsRawFd, FromRawFd, OwnedFd, RawFd};
 use std::ptr;
+use std::sync::atomic::{AtomicUsize, Ordering};
 
 /// The control messages of a message: later versions of `nix` look whether all were delivered.
 trait Walk {
@@ -108,4 +111,106 @@ pub(crate) fn send_signal(process: &OwnedFd, signal: libc::c_int) -> io::Result<
         libc::syscall(libc::SYS_pidfd_send_signal, process.as_raw_fd(), signal, no_info, none)
     };
     if answer == 0 { Ok(()) } else { Err(io::Error::last_os_error()) }
+}
+
+/// A signal's handler with all three parameters.
+type Handler = extern "C" fn(libc::c_int, *mut libc::siginfo_t, *mut libc::c_void);
+
+/// The addresses of the handlers that `keeping_errno` calls, by their signals.
+static BEHIND: [AtomicUsize; 32] = [const { AtomicUsize::new(0) }; 32];
+
+fn behind(signal: libc::c_int) -> Option<&'static AtomicUsize> {
+    BEHIND.get(usize::try_from(signal).ok()?)
+}
+
+/// Calls the handler that is behind it, and leaves `errno` as it was for the code that it interrupts.
+extern "C" fn keeping_errno(
+    signal: libc::c_int,
+    info: *mut libc::siginfo_t,
+    context: *mut libc::c_void,
+) {
+    // SAFETY: the address is that of a variable of this thread.
+    let before = unsafe { *libc::__errno_location() };
+    let address = behind(signal).map_or(0, |behind| behind.load(Ordering::Acquire));
+    if address != 0 {
+        // SAFETY: `Disposition::keeping_errno` has put the address of such a handler there.
+        let handler = unsafe { mem::transmute::<usize, Handler>(address) };
+        handler(signal, info, context);
+    }
+    // SAFETY: as above.
+    unsafe { *libc::__errno_location() = before };
+}
+
+/// What the process does at a signal.
+#[derive(Clone, Copy)]
+pub(crate) struct Disposition {
+    signal: libc::c_int,
+    action: libc::sigaction,
+}
+
+impl Disposition {
+    /// What it does now.
+    pub(crate) fn of(signal: libc::c_int) -> io::Result<Disposition> {
+        let mut now = MaybeUninit::uninit();
+        // SAFETY: the first pointer is null, so that nothing is set, and the other one is that of a local.
+        let answer = unsafe { libc::sigaction(signal, ptr::null(), now.as_mut_ptr()) };
+        match answer {
+            // SAFETY: the call has filled it.
+            0 => Ok(Disposition { signal, action: unsafe { now.assume_init() } }),
+            _ => Err(io::Error::last_os_error()),
+        }
+    }
+
+    /// The same, but for that its handler leaves `errno` as it was.
+    pub(crate) fn keeping_errno(mut self) -> Disposition {
+        let own = keeping_errno as Handler as usize;
+        let action = &mut self.action;
+        let is_handler = action.sa_flags & libc::SA_SIGINFO != 0 && action.sa_sigaction != own;
+        if let Some(behind) = behind(self.signal).filter(|_| is_handler) {
+            behind.store(action.sa_sigaction, Ordering::Release);
+            action.sa_sigaction = own;
+        }
+        self
+    }
+
+    /// It does this from now on.
+    pub(crate) fn set(&self) -> io::Result<()> {
+        // SAFETY: a disposition is one that the process had (`of`), so its handler is one that may run at a signal of
+        // this program, and so is `keeping_errno` before it; the pointer is that of a local, and the other one is null.
+        let answer =
+            unsafe { libc::sigaction(self.signal, &raw const self.action, ptr::null_mut()) };
+        if answer == 0 { Ok(()) } else { Err(io::Error::last_os_error()) }
+    }
+}
+
+#[cfg(test)]
+mod tests {
+    use super::*;
+    use std::fs::File;
+
+    #[test]
+    fn a_handler_leaves_errno_as_it_was() {
+        extern "C" fn clobber(_: libc::c_int, _: *mut libc::siginfo_t, _: *mut libc::c_void) {
+            // SAFETY: the address is that of a variable of this thread.
+            unsafe { *libc::__errno_location() = libc::EAGAIN };
+        }
+        /// What `errno` is after a call that failed, and a signal.
+        fn errno() -> Option<i32> {
+            let missing = File::open("/nowhere");
+            // SAFETY: the call takes a number.
+            assert_eq!(unsafe { libc::raise(libc::SIGUSR2) }, 0);
+            let error = io::Error::last_os_error();
+            assert!(missing.is_err());
+            error.raw_os_error()
+        }
+        let before = Disposition::of(libc::SIGUSR2).unwrap();
+        let mut handler = before;
+        handler.action.sa_sigaction = clobber as Handler as usize;
+        handler.action.sa_flags = libc::SA_SIGINFO;
+        handler.set().unwrap();
+        assert_eq!(errno(), Some(libc::EAGAIN));
+        handler.keeping_errno().set().unwrap();
+        assert_eq!(errno(), Some(libc::ENOENT));
+        before.set().unwrap();
+    }
 }

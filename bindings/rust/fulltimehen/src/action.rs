@@ -304,11 +304,27 @@ impl FromStr for Action {
     type Err = LineError;
 
     fn from_str(line: &str) -> Result<Action, LineError> {
+        if let Some(action) = usual(line) {
+            return Ok(action);
+        }
         let mut words = Words::of(line);
         let action = action_of(&mut words)?;
         words.end()?;
         Ok(action)
     }
+}
+
+/// What each connection is told where nothing is special about it: these lines are read without looking for words.
+fn usual(line: &str) -> Option<Action> {
+    let number = |digits: &str| digits.parse().ok();
+    if let Some(connection) = line.strip_prefix("serve ") {
+        return number(connection).map(|connection| Action::Serve { connection });
+    }
+    if let Some(connection) = line.strip_prefix("handshake ") {
+        return number(connection).map(|connection| Action::Handshake { connection });
+    }
+    let connection = number(line.strip_prefix("settings ")?.strip_suffix(" nodelay")?)?;
+    Some(Action::Settings { connection, settings: vec![Setting::NoDelay] })
 }
 
 fn action_of(words: &mut Words<'_>) -> Result<Action, LineError> {
@@ -367,6 +383,10 @@ mod tests {
             "send 3132372e302e302e313a3830 3,4",
             "judged 4 yes",
             "settings 4 nodelay keepalive=1,2,3,4 dscp=10 sndbuf=4096",
+            "settings 4 nodelay",
+            "settings 4",
+            "handshake 18446744073709551615",
+            "serve 4",
             "phase GracefulUpgradeCloseTimeout 12",
             "stop 5",
         ] {
@@ -375,7 +395,17 @@ mod tests {
                 Ok(line.to_owned())
             );
         }
-        for line in ["", "got moment 1", "phase Setup 0", "settings 1 fast"] {
+        for line in [
+            "",
+            "got moment 1",
+            "phase Setup 0",
+            "settings 1 fast",
+            "settings nodelay",
+            "serve",
+            "serve ",
+            "handshake 4 5",
+            "serve 18446744073709551616",
+        ] {
             assert!(line.parse::<Action>().is_err(), "{line}");
         }
     }

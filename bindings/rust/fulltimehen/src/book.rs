@@ -12,9 +12,8 @@ pub(crate) struct Book {
     open: Vec<u64>,
 }
 
-/// The number that a word of a record is, or 0 where there is none.
-fn number<'a>(words: &mut impl Iterator<Item = &'a [u8]>) -> u64 {
-    let digits = words.next().unwrap_or_default();
+/// The number that a word of a record is.
+fn number(digits: &[u8]) -> u64 {
     digits.iter().fold(0, |n: u64, digit| n.wrapping_mul(10).wrapping_add(u64::from(digit & 15)))
 }
 
@@ -27,29 +26,16 @@ impl Book {
     /// Enters the lines of a call, for which there is room.
     pub(crate) fn enter(&mut self, lines: &[u8]) {
         for line in lines.split(|byte| *byte == b'\n') {
-            let mut words = line.split(|byte| *byte == b' ');
-            match words.next().unwrap_or_default() {
-                b"got" => self.enter_event(&mut words),
-                b"close" => {
-                    let fd = number(&mut words);
-                    self.open.retain(|open| *open != fd);
-                }
-                _ => {}
+            if let Some(words) = line.strip_prefix(b"close ") {
+                let fd = number(words);
+                self.open.retain(|open| *open != fd);
+            } else if let Some(words) = line.strip_prefix(b"got bound ") {
+                self.open.extend(words.split(|byte| *byte == b' ').nth(2).map(number));
+            } else if let Some(words) = line.strip_prefix(b"got received ") {
+                let fds = words.split(|byte| *byte == b' ').nth(1).filter(|word| *word != b"-");
+                let fds = fds.into_iter().flat_map(|word| word.split(|byte| *byte == b','));
+                self.open.extend(fds.map(number));
             }
-        }
-    }
-
-    fn enter_event<'a>(&mut self, words: &mut impl Iterator<Item = &'a [u8]>) {
-        match words.next().unwrap_or_default() {
-            b"bound" => self.open.push(number(&mut words.skip(2))),
-            b"received" => {
-                let fds = words.nth(1).filter(|word| *word != b"-").into_iter();
-                let mut fds = fds.flat_map(|word| word.split(|byte| *byte == b',')).peekable();
-                while fds.peek().is_some() {
-                    self.open.push(number(&mut fds));
-                }
-            }
-            _ => {}
         }
     }
 

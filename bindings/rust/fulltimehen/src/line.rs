@@ -30,25 +30,33 @@ fn digits(mut number: u64, room: &mut [u8; 20]) -> &str {
 }
 
 impl Line {
+    fn reserve(&mut self, bytes: usize) -> fmt::Result {
+        self.0.try_reserve(bytes).map_err(|_| fmt::Error)
+    }
+
     /// A word, and numbers behind it.
     pub(crate) fn put(&mut self, word: &str, numbers: &[u64]) -> fmt::Result {
-        self.write_str(word)?;
         let mut room = [0; 20];
-        numbers.iter().try_for_each(|number| {
-            self.write_str(" ")?;
-            self.write_str(digits(*number, &mut room))
-        })
+        self.reserve(word.len() + numbers.len() * (" ".len() + room.len()))?;
+        self.0.push_str(word);
+        for number in numbers {
+            self.0.push(' ');
+            self.0.push_str(digits(*number, &mut room));
+        }
+        Ok(())
     }
 
     /// An address, behind a space.
     pub(crate) fn put_address(&mut self, address: SocketAddrV4) -> fmt::Result {
+        self.reserve(" 255.255.255.255:65535".len())?;
         let mut room = [0; 20];
-        for (byte, before) in address.ip().octets().into_iter().zip([" ", ".", ".", "."]) {
-            self.write_str(before)?;
-            self.write_str(digits(byte.into(), &mut room))?;
+        for (byte, before) in address.ip().octets().into_iter().zip([' ', '.', '.', '.']) {
+            self.0.push(before);
+            self.0.push_str(digits(byte.into(), &mut room));
         }
-        self.write_str(":")?;
-        self.write_str(digits(address.port().into(), &mut room))
+        self.0.push(':');
+        self.0.push_str(digits(address.port().into(), &mut room));
+        Ok(())
     }
 
     pub(crate) fn clear(&mut self) {

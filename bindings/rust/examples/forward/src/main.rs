@@ -9,6 +9,7 @@ use std::time::Duration;
 
 /// Forwards TCP connections.
 #[derive(Parser)]
+#[command(version)]
 struct Words {
     #[command(flatten)]
     server: Opt,

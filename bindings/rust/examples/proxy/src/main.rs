@@ -12,8 +12,8 @@ use std::sync::atomic::{AtomicBool, AtomicUsize, Ordering::Relaxed};
 use std::time::Duration;
 use tokio::time::timeout;
 
-/// Hands HTTP asks to the upstreams that answer.
 #[derive(Parser)]
+#[command(version, about = "Hands HTTP asks to the upstreams that answer")]
 struct Words {
     #[command(flatten)]
     server: Opt,
@@ -28,7 +28,7 @@ struct Words {
 }
 
 struct Proxy {
-    upstreams: Vec<(SocketAddr, AtomicBool)>,
+    upstreams: Vec<(SocketAddr, String, AtomicBool)>,
     next: AtomicUsize,
     client: Client<hyper::client::HttpConnector>,
 }
@@ -45,10 +45,10 @@ fn drop_hops(headers: &mut HeaderMap) {
 
 impl Proxy {
     /// The next upstream that answers.
-    fn next(&self) -> Option<&(SocketAddr, AtomicBool)> {
+    fn next(&self) -> Option<&(SocketAddr, String, AtomicBool)> {
         let (first, all) = (self.next.fetch_add(1, Relaxed), self.upstreams.len());
         let mut turn = (0..all).map(|at| &self.upstreams[(first % all + at) % all]);
-        turn.find(|(_, answers)| answers.load(Relaxed))
+        turn.find(|(_, _, answers)| answers.load(Relaxed))
     }
 
     async fn answer(
@@ -57,9 +57,9 @@ impl Proxy {
     ) -> hyper::http::Result<Response<Body>> {
         drop_hops(ask.headers_mut());
         *ask.version_mut() = Version::HTTP_11;
-        if let Some((upstream, answers)) = self.next() {
+        if let Some((_, begin, answers)) = self.next() {
             let path = ask.uri().path_and_query().map_or("/", |it| it.as_str());
-            *ask.uri_mut() = Uri::try_from(format!("http://{upstream}{path}"))?;
+            *ask.uri_mut() = Uri::try_from([begin, path].concat())?;
             match self.client.request(ask).await {
                 Ok(mut answer) => {
                     drop_hops(answer.headers_mut());
@@ -88,7 +88,7 @@ impl Proxy {
     /// Looks each second which upstreams take connections.
     async fn look_after(self: Arc<Self>, task: Task) {
         loop {
-            for (address, answers) in &self.upstreams {
+            for (address, _, answers) in &self.upstreams {
                 let is_there = connect(*address, Duration::from_millis(500)).await.is_ok();
                 answers.store(is_there, Relaxed);
                 is_there.then(|| task.ready());
@@ -102,7 +102,8 @@ impl Proxy {
 
 fn main() {
     let words = Words::parse();
-    let upstreams = words.upstreams.iter().map(|it| (*it, AtomicBool::new(false))).collect();
+    let upstream = |it: &SocketAddr| (*it, format!("http://{it}"), AtomicBool::new(false));
+    let upstreams = words.upstreams.iter().map(upstream).collect();
     let proxy = Arc::new(Proxy { upstreams, next: AtomicUsize::new(0), client: Client::new() });
     let looking = Arc::clone(&proxy);
     let mut server = Server::new(words.server).unwrap_or_else(|error| error.exit());
@@ -112,8 +113,7 @@ fn main() {
     let http = listening("http", move |client| Arc::clone(&proxy).serve(client));
     let http = server.add_service(http.tcp(&words.listen));
     let ready = server.add_service(listening("ready", |_| async {}).tcp(&words.ready));
-    for listener in [http, ready] {
-        listener.add_dependency(&health).expect("both are of this server");
-    }
+    http.add_dependency(&health).expect("both are of this server");
+    ready.add_dependency(&health).expect("both are of this server");
     server.run_forever()
 }

@@ -13,6 +13,7 @@ use tokio_rustls::rustls::{Certificate, PrivateKey, ServerConfig};
 
 /// Echoes over TLS.
 #[derive(Parser)]
+#[command(version)]
 struct Words {
     #[command(flatten)]
     server: Opt,
