@@ -23,6 +23,7 @@ pub mod FailLemmas
 pub mod OneLiveLemmas
 pub mod EventLemmas
 pub mod NamedLemmas
+pub mod AbandonedLemmas
 pub mod ClearLemmas
 pub mod AnswerLemmas
 pub mod ReleaseLemmas

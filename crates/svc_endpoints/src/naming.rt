@@ -106,18 +106,6 @@ fn names(plan: &Plan, s: usize, address: &str) -> bool
     declares(plan, s, address) || has_endpoint(endpoints_of(plan, s), address)
 }
 
-/// Some service names the address.
-fn is_named(plan: &Plan, address: &str) -> bool
-    ensures { result ≡ list_any (λ s. names plan.now s address.now) (services plan.now) }
-{
-    for s in 0..service_count(plan) {
-        if names(plan, s, address) {
-            return true;
-        }
-    }
-    false
-}
-
 /// The service declares a list, and doesn't name the address.
 fn is_foreign_to(plan: &Plan, s: usize, address: &str) -> bool
     requires { s < service_count plan.now }
@@ -136,6 +124,28 @@ pub(crate) fn is_unclaimed(plan: &Plan, address: &str) -> bool
         }
     }
     true
+}
+
+/// The service has failed, and names the address.
+fn has_failed_naming(plan: &Plan, failed: &[bool], s: usize, address: &str) -> bool
+    requires flags { length failed.now ≡ service_count plan.now }
+    requires service { s < service_count plan.now }
+    ensures { result ≡ (slice_index_or failed.now s false && names plan.now s address.now) }
+{
+    failed[s] && names(plan, s, address)
+}
+
+/// Some failed service names the address.
+fn is_named_by_failed(plan: &Plan, failed: &[bool], address: &str) -> bool
+    requires flags { length failed.now ≡ service_count plan.now }
+    ensures { result ≡ list_any (λ s. slice_index_or failed.now s false && names plan.now s address.now) (services plan.now) }
+{
+    for s in 0..service_count(plan) {
+        if has_failed_naming(plan, failed, s, address) {
+            return true;
+        }
+    }
+    false
 }
 
 /// The service has failed, or doesn't name the address.
@@ -160,11 +170,12 @@ fn all_failed(plan: &Plan, failed: &[bool], address: &str) -> bool
     true
 }
 
-/// Some service names the address, and all that name it have failed.
+/// Some service names the address, and all that name it have failed. Only then a failed one does, so that
+/// of most addresses the failed services alone are asked.
 pub(crate) fn is_abandoned(plan: &Plan, failed: &[bool], address: &str) -> bool
     requires flags { length failed.now ≡ service_count plan.now }
     ensures { result ≡ (list_any (λ s. names plan.now s address.now) (services plan.now)
         && list_all (λ s. not (names plan.now s address.now) || slice_index_or failed.now s false) (services plan.now)) }
 {
-    is_named(plan, address) && all_failed(plan, failed, address)
+    is_named_by_failed(plan, failed, address) && all_failed(plan, failed, address)
 }
