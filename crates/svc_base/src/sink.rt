@@ -122,6 +122,7 @@ pub struct SteadySink {
 }
 
 impl SteadySink {
+    /// A sink that has taken nothing yet.
     pub fn new(alloc: Global) -> Self
         ensures { result.bytes.items ≡ [] }
     {
@@ -160,6 +161,7 @@ pub struct Writing<W: Write> {
 }
 
 impl<W: Write> Writing<W> {
+    /// A sink over this writer, which has failed no write yet.
     pub fn new(inner: W) -> Self
         ensures inner { result.inner ≡ inner }
         ensures count { result.count ≡ 0 }

@@ -153,6 +153,7 @@ pub struct SteadySource {
 }
 
 impl SteadySource {
+    /// A source of these bytes, none of which is read yet.
     pub fn new(bytes: Vec<u8>) -> Self
         ensures { result.bytes.items ≡ bytes.items }
     {
@@ -191,6 +192,7 @@ pub struct Reading<R: Read> {
 }
 
 impl<R: Read> Reading<R> {
+    /// A source over this reader, which has failed no read yet.
     pub fn new(inner: R) -> Self
         ensures inner { result.inner ≡ inner }
         ensures count { result.count ≡ 0 }

@@ -5,14 +5,10 @@ use Rattle.std.proofs.lemmas.Bool.{cases_Bool, or_cases}
 use Rattle.svc_record.specs.declared.plan.Plan.{Plan}
 use Rattle.svc_record.specs.Record.{Record}
 use Rattle.svc_record.specs.Plans.{same_address}
-use Rattle.svc_record.specs.Descriptors.{Descriptor, live_descriptors, one_live}
+use Rattle.svc_record.specs.Descriptors.{Descriptor, live_descriptors, one_live, apart}
 use Rattle.svc_endpoints.specs.EndpointsData.{EndpointsData}
 use Rattle.svc_endpoints.specs.EndpointsState.{StatesKept, StatesStand}
 use Rattle.svc_endpoints.proofs.LiveLemmas.{same_self}
-
-abbrev apart : List Descriptor → Bool
-apart [] = true
-apart (d ∷ more) = not (list_any (λ (x : Descriptor). same_address x.address d.address) more) && apart more
 
 abbrev numbers : List Descriptor → Option (List ℕ) → List ℕ
 numbers xs a = map (λ (x : Descriptor). x.number) (filter (λ (x : Descriptor). same_address x.address a) xs)

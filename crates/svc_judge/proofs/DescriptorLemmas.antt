@@ -4,9 +4,8 @@ use Rattle.std.specs.List.{list_any}
 use Rattle.std.proofs.lemmas.Bool.{cases_Bool}
 use Rattle.svc_record.specs.Record.{Record}
 use Rattle.svc_record.specs.Plans.{same_address}
-use Rattle.svc_record.specs.Descriptors.{Descriptor}
+use Rattle.svc_record.specs.Descriptors.{Descriptor, apart}
 use Rattle.svc_judge.specs.Facts.{is_unclosed}
-use Rattle.svc_judge.specs.Steps.{apart}
 
 -- the live ones are apart where the first isn't twinned, and the others are
 pub apart_step : (q : Record) (d : Descriptor) (more : List Descriptor)

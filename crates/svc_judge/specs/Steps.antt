@@ -27,11 +27,6 @@ abbrev pub first_address : ℕ → List Descriptor → Option (List ℕ)
 first_address fd [] = None
 first_address fd (d ∷ more) = if d.number == fd then d.address else first_address fd more
 
--- no two of the descriptors have one address
-abbrev pub apart : List Descriptor → Bool
-apart [] = true
-apart (d ∷ more) = not (list_any (λ (x : Descriptor). same_address x.address d.address) more) && apart more
-
 -- an endpoint with this address is busy
 abbrev pub is_any_busy : Plan → Record → Option (List ℕ) → Bool
 is_any_busy p q a = any_with p a (is_busy p q)

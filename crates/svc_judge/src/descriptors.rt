@@ -4,10 +4,9 @@ ghost use Rattle.std.specs.Prelude.{◌≡◌, ◌==◌, ◌&&◌, not, filter, 
 ghost use Rattle.std.specs.List.{list_any};
 ghost use Rattle.std.specs.Option.{option_copied};
 ghost use Rattle.svc_record.specs.Record.{has};
-ghost use Rattle.svc_record.specs.Descriptors.{Descriptor, is_opened, is_close, has_live, live_numbers_with, address_of, is_doubled, one_live};
+ghost use Rattle.svc_record.specs.Descriptors.{Descriptor, is_opened, is_close, has_live, live_numbers_with, address_of, is_doubled, one_live, apart};
 ghost use Rattle.svc_record.specs.Closes.{is_received};
 ghost use Rattle.svc_record.specs.Plans.{same_address};
-ghost use Rattle.svc_judge.specs.Steps.{apart};
 ghost use Rattle.svc_judge.specs.Facts.{is_unclosed};
 ghost use Rattle.svc_judge.specs.Pasts.{IsPast, plan_of, record_of};
 

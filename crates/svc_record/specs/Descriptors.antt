@@ -87,13 +87,14 @@ abbrev pub is_doubled : Plan → Record → ℕ → Bool
 is_doubled p [] fd = false
 is_doubled p (e ∷ before) fd = list_any (λ (d : Descriptor). d.number == fd && has_live p before d.address) (descriptors_of p e) || is_doubled p before fd
 
+-- no two of the descriptors have one address
+abbrev pub apart : List Descriptor → Bool
+apart [] = true
+apart (d ∷ more) = not (list_any (λ (x : Descriptor). same_address x.address d.address) more) && apart more
+
 -- no address has two live descriptors
 abbrev pub one_live : Plan → Record → Bool
 one_live p q = apart (live_descriptors p q)
-  where
-    apart : List Descriptor → Bool
-    apart [] = true
-    apart (d ∷ more) = not (list_any (λ (x : Descriptor). same_address x.address d.address) more) && apart more
 
 -- the descriptor with its address, where it has one
 abbrev pub as_entry : Descriptor → Option TableEntry

@@ -1,6 +1,6 @@
 use Rattle.std.proofs.Common.{◌≡◌, filter, length}
 use Rattle.svc_judge.specs.Facts.{is_unclosed}
-use Rattle.svc_judge.specs.Steps.{apart}
+use Rattle.svc_record.specs.Descriptors.{apart}
 use Rattle.svc_judge.proofs.descriptors.are_apart.Given as goal
 
 abbrev pub invariant-opened : goal.invariant-opened

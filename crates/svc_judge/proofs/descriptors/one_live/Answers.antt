@@ -1,7 +1,6 @@
 use Rattle.std.proofs.Common.{List, filter, ap, ◌∙◌}
-use Rattle.svc_record.specs.Descriptors.{Descriptor}
+use Rattle.svc_record.specs.Descriptors.{Descriptor, apart}
 use Rattle.svc_judge.specs.Facts.{is_unclosed}
-use Rattle.svc_judge.specs.Steps.{apart}
 use Rattle.svc_judge.specs.Pasts.{record_of}
 use Rattle.svc_judge.proofs.descriptors.one_live.Goals as goal
 
