@@ -5,6 +5,7 @@ pub mod Copies
 pub mod CoreData
 pub mod WaitsState
 pub mod Passes
+pub mod Visits
 pub mod Rooms
 pub mod Stands
 pub mod Steps

@@ -145,14 +145,7 @@ Passes p order dr j k st st' d d' b b' before after =
     (λ told. (o : OfferData) (cn : ConnectionsData) (q : Record) → PassedUpTo p order j st d b o dr cn q
     → PassedUpTo p order k st' d' b' o dr cn (tell q told))
 
--- a call's part of it: the first half of a visit, a visit, and the visits of all
-abbrev pub StartsAt : Plan → List ℕ → DrainData → ℕ → StartsData → StartsData → EndpointsRoom → BootData → BootData → List Action × ℕ → List Action × ℕ → Type 0
-StartsAt p order dr k st st' d b b' before after = Starting p order dr k st st' d.parts b b' (list_of before) (list_of after)
-
-abbrev pub VisitsAt : Plan → List ℕ → DrainData → ℕ → StartsData → StartsData → EndpointsRoom → EndpointsRoom
-    → BootData → BootData → List Action × ℕ → List Action × ℕ → Type 0
-VisitsAt p order dr k st st' d d' b b' before after = Passes p order dr k (k + 1) st st' d.parts d'.parts b b' (list_of before) (list_of after)
-
+-- a call's part of it: the visits of all
 abbrev pub VisitsAll : Plan → List ℕ → DrainData → StartsData → StartsData → EndpointsRoom → EndpointsRoom
     → BootData → BootData → List Action × ℕ → List Action × ℕ → Type 0
 VisitsAll p order dr st st' d d' b b' before after = Passes p order dr 0 (length order) st st' d.parts d'.parts b b' (list_of before) (list_of after)

@@ -7,11 +7,12 @@ ghost use Rattle.svc_record.specs.Validity.{IsInOrder};
 ghost use Rattle.svc_core.specs.Copies.{TellsBare};
 ghost use Rattle.svc_core.specs.CoreData.{IsFormed};
 ghost use Rattle.svc_core.specs.StartsState.{IsStartsSized, is_flagged};
-ghost use Rattle.svc_core.specs.Passes.{StartsAt, VisitsAt, VisitsAll, is_tested, begin_room};
+ghost use Rattle.svc_core.specs.Passes.{VisitsAll, is_tested, begin_room};
 ghost use Rattle.svc_core.specs.Steps.{Spends};
 ghost use Rattle.svc_endpoints.specs.Rests.{IsStanding, WaitsBehind};
 ghost use Rattle.svc_endpoints.specs.Stays.{StaysHeld, StaysUnheld, OthersStay};
-ghost use Rattle.svc_core.specs.WaitsState.{IsDueAt, IsHeir, IsKnown, StartsOnly, WaitsStill, is_open};
+ghost use Rattle.svc_core.specs.Visits.{IsNextHeir, IsPlaceFormed, Knows, KnowsPlaces, MayVisit, StartsAt, StartsNoOther, VisitsAt, service_at, service_of};
+ghost use Rattle.svc_core.specs.WaitsState.{IsKnown, WaitsStill, is_open};
 
 use crate::plans::is_bootstrap;
 use crate::starts::Starts;
@@ -28,271 +29,253 @@ fn is_tested(plan: &Plan, boot: &Boot) -> bool
     plan.test && boot.is_begun()
 }
 
-/// Starts the service at the place, which is due, if it isn't started. With the first that bootstraps
-/// bootstrapping begins.
-fn start(
-    plan: &Plan,
-    order: &[u32],
-    k: usize,
-    drain: &Drain,
-    starts: &mut Starts,
-    endpoints: &Endpoints,
-    boot: &mut Boot,
-    actions: &mut Actions,
-)
-    requires formed { IsFormed plan.now order.now starts.old endpoints.now.parts }
-    requires place { k < length order.now }
-    requires untested { is_tested plan.now boot.old ≡ false }
-    requires due { IsDueAt plan.now starts.old endpoints.now.parts.failed boot.old.complete (slice_index order.now k) }
-    requires room { 1 + begin_room boot.old ≤ spare actions.old }
-    ensures starts_sized { IsStartsSized plan.now starts.new }
-    ensures bare { TellsBare (list_of actions.old) (list_of actions.new) }
-    ensures spends { Spends (begin_room boot.old + 1) (begin_room boot.new) actions.old actions.new }
-    ensures only { StartsOnly plan.now endpoints.now.parts.failed boot.old.complete (slice_index order.now k) starts.old starts.new }
-    ensures late { boot.old.complete ≡ true → boot.new.complete ≡ true }
-    ensures started { StartsAt plan.now order.now drain.now k starts.old starts.new endpoints.now boot.old boot.new actions.old actions.new }
-{
-    let s = order[k];
-    let starts_now = starts.visit(plan, s, actions);
-    if starts_now && is_bootstrap(plan, s) && !boot.is_begun() {
-        boot.begin(plan, drain.moment(), actions);
-    }
-}
-
-/// Starts the service at the place, which is due, if it isn't started, and asks for its endpoints, unless
-/// the run was tested before or by that.
-fn visit(
-    plan: &Plan,
-    order: &[u32],
-    k: usize,
-    drain: &Drain,
-    starts: &mut Starts,
-    endpoints: &mut Endpoints,
-    boot: &mut Boot,
-    actions: &mut Actions,
-)
-    requires formed { IsFormed plan.now order.now starts.old endpoints.old.parts }
-    requires place { k < length order.now }
-    requires due { IsDueAt plan.now starts.old endpoints.old.parts.failed boot.old.complete (slice_index order.now k) }
-    requires room { 2 + begin_room boot.old ≤ spare actions.old }
-    ensures formed { IsFormed plan.now order.now starts.new endpoints.new.parts }
-    ensures table { endpoints.new.parts.table ≡ endpoints.old.parts.table }
-    ensures bare { TellsBare (list_of actions.old) (list_of actions.new) }
-    ensures spends { Spends (begin_room boot.old + 2) (begin_room boot.new) actions.old actions.new }
-    ensures failed { endpoints.new.parts.failed ≡ endpoints.old.parts.failed }
-    ensures held { StaysHeld endpoints.old.parts endpoints.new.parts }
-    ensures unheld { StaysUnheld endpoints.old.parts endpoints.new.parts }
-    ensures others { OthersStay (slice_index order.now k) endpoints.old.parts endpoints.new.parts }
-    ensures only { StartsOnly plan.now endpoints.old.parts.failed boot.old.complete (slice_index order.now k) starts.old starts.new }
-    ensures late { boot.old.complete ≡ true → boot.new.complete ≡ true }
-    ensures passed { VisitsAt plan.now order.now drain.now k starts.old starts.new endpoints.old endpoints.new boot.old boot.new actions.old actions.new }
-{
-    if is_tested(plan, boot) {
-        return;
-    }
-    start(plan, order, k, drain, starts, endpoints, boot, actions);
-    if is_tested(plan, boot) {
-        return;
-    }
-    let s = order[k];
-    let is_started = starts.is_started(plan, s);
-    endpoints.visit(plan, s, is_started, drain.moment(), actions);
-}
-
-/// Where the service at the place isn't started and lacks a dependency, the place isn't visited until it
-/// lacks none.
-fn waits_still(plan: &Plan, order: &[u32], k: usize, starts: &Starts, waits: &mut Waits) -> bool
-    requires in_order { IsInOrder plan.now order.now }
-    requires place { k < length order.now }
-    requires sized { IsStartsSized plan.now starts.now }
-    requires count { length waits.old.counts.marks ≡ service_count plan.now }
-    ensures { WaitsStill starts.now (slice_index order.now k) k waits.old waits.new result }
-{
-    let s = order[k];
-    if starts.is_started(plan, s) {
-        return false;
-    }
-    if waits.missing(s) == 0 {
-        return false;
-    }
-    waits.close(k);
-    true
-}
-
-/// What becomes of the place of a service that was visited: it is left out of the next visits while they
-/// would tell nothing.
-fn settle(
-    plan: &Plan,
-    order: &[u32],
-    k: usize,
-    drain: &Drain,
-    starts: &Starts,
-    endpoints: &Endpoints,
+/// A place whose service was visited, as the services and their endpoints stand after it.
+struct VisitedPlace<'a> {
+    plan: &'a Plan,
+    order: &'a [u32],
+    starts: &'a Starts,
+    endpoints: &'a Endpoints,
+    /// Whether bootstrapping is complete.
     complete: bool,
-    waits: &mut Waits,
-)
-    requires formed { IsFormed plan.now order.now starts.now endpoints.now.parts }
-    requires place { k < length order.now }
-    requires known { IsKnown plan.now order.now starts.now endpoints.now.parts complete drain.now.moment k waits.old }
-    requires open { is_open waits.old k ≡ true }
-    ensures { IsKnown plan.now order.now starts.now endpoints.now.parts complete drain.now.moment (k + 1) waits.new }
-{
-    let s = order[k];
-    if !starts.is_started(plan, s) {
-        return;
-    }
-    let moment = drain.moment();
-    let standing = endpoints.standing(plan, s, moment);
-    settle_started(
-        plan, order, k, starts, endpoints, complete, moment, standing, waits,
-    );
-}
-
-/// The same of a service that is started, by how it stands.
-fn settle_started(
-    plan: &Plan,
-    order: &[u32],
-    k: usize,
-    starts: &Starts,
-    endpoints: &Endpoints,
-    complete: bool,
+    /// In milliseconds.
     moment: u64,
-    standing: Standing,
-    waits: &mut Waits,
-)
-    requires formed { IsFormed plan.now order.now starts.now endpoints.now.parts }
-    requires place { k < length order.now }
-    requires started { is_flagged starts.now.started (slice_index order.now k) ≡ true }
-    requires stands { IsStanding plan.now endpoints.now.parts (slice_index order.now k) moment standing }
-    requires known { IsKnown plan.now order.now starts.now endpoints.now.parts complete moment k waits.old }
-    requires open { is_open waits.old k ≡ true }
-    ensures { IsKnown plan.now order.now starts.now endpoints.now.parts complete moment (k + 1) waits.new }
-{
-    match standing {
-        Standing::Asking => waits.close_asking(k),
-        Standing::Resting(end) => waits.rest(k, order[k], end),
-        Standing::Served => {
-            hand_on(plan, order, k, starts, endpoints, complete, moment, waits);
-            waits.close(k);
+    /// Below the length of the order.
+    place: usize,
+}
+
+impl VisitedPlace<'_> {
+    /// What becomes of the place: it is left out of the next visits while they would tell nothing.
+    fn settle(&self, waits: &mut Waits)
+        requires formed { IsPlaceFormed self.now }
+        requires known { KnowsPlaces self.now self.now.place waits.old }
+        requires open { is_open waits.old self.now.place ≡ true }
+        ensures { KnowsPlaces self.now (self.now.place + 1) waits.new }
+    {
+        let s = self.order[self.place];
+        if !self.starts.is_started(self.plan, s) {
+            return;
         }
-        Standing::Behind(t) => {
-            waits.free(order[k]);
-            settle_behind(
-                plan, order, k, starts, endpoints, complete, moment, t, waits,
-            );
+        let standing = self.endpoints.standing(self.plan, s, self.moment);
+        self.settle_started(standing, waits);
+    }
+
+    /// The same of a service that is started, by how it stands.
+    fn settle_started(&self, standing: Standing, waits: &mut Waits)
+        requires formed { IsPlaceFormed self.now }
+        requires started { is_flagged self.now.starts.now.started (service_of self.now) ≡ true }
+        requires stands { IsStanding self.now.plan.now self.now.endpoints.now.parts (service_of self.now) self.now.moment standing }
+        requires known { KnowsPlaces self.now self.now.place waits.old }
+        requires open { is_open waits.old self.now.place ≡ true }
+        ensures { KnowsPlaces self.now (self.now.place + 1) waits.new }
+    {
+        let s = self.order[self.place];
+        match standing {
+            Standing::Asking => waits.close_asking(self.place),
+            Standing::Resting(end) => waits.rest(self.place, s, end),
+            Standing::Served => {
+                self.hand_on(waits);
+                waits.close(self.place);
+            }
+            Standing::Behind(t) => {
+                waits.free(s);
+                self.settle_behind(t, waits);
+            }
+            Standing::Due => waits.free(s),
         }
-        Standing::Due => waits.free(order[k]),
+    }
+
+    /// The service asks for nothing more: of what waits behind it the first place alone is visited
+    /// again, and the others wait behind that one, if it wants the same address; else all are.
+    fn hand_on(&self, waits: &mut Waits)
+        requires formed { IsPlaceFormed self.now }
+        requires known { KnowsPlaces self.now self.now.place waits.old }
+        requires open { is_open waits.old self.now.place ≡ true }
+        ensures { KnowsPlaces self.now (self.now.place + 1) waits.new }
+    {
+        let s = self.order[self.place];
+        match self.heir(waits) {
+            Some(next) => waits.hand_on(s, self.order[next], next),
+            None => waits.free(s),
+        }
+    }
+
+    /// The first place that waits, or has waited, behind the service, where its service is started and
+    /// wants the same address.
+    fn heir(&self, waits: &Waits) -> Option<usize>
+        requires formed { IsPlaceFormed self.now }
+        requires count { length waits.now.counts.marks ≡ service_count self.now.plan.now }
+        ensures { IfSome result (IsNextHeir self.now waits.now) }
+    {
+        let s = self.order[self.place];
+        let next = waits.next_behind(s, self.place + 1, self.order.len())?;
+        let t = self.order[next];
+        if self.starts.is_started(self.plan, t) && self.endpoints.lack_same(self.plan, s, t) {
+            Some(next)
+        } else {
+            None
+        }
+    }
+
+    /// The service is started and waits behind another one, where that one has an earlier place.
+    fn settle_behind(&self, t: u32, waits: &mut Waits)
+        requires formed { IsPlaceFormed self.now }
+        requires started { is_flagged self.now.starts.now.started (service_of self.now) ≡ true }
+        requires waits { WaitsBehind self.now.plan.now self.now.endpoints.now.parts (service_of self.now) t }
+        requires known { KnowsPlaces self.now (self.now.place + 1) waits.old }
+        requires open { is_open waits.old self.now.place ≡ true }
+        ensures { KnowsPlaces self.now (self.now.place + 1) waits.new }
+    {
+        let e = waits.last_asked();
+        if e > self.place || self.order[e] != t {
+            return;
+        }
+        if self.starts.is_started(self.plan, t) {
+            waits.park_behind(self.place, t);
+        }
     }
 }
 
-/// The service at the place asks for nothing more: of what waits behind it the first place alone is
-/// visited again, and the others wait behind that one, if it wants the same address; else all are.
-fn hand_on(
-    plan: &Plan,
-    order: &[u32],
-    k: usize,
-    starts: &Starts,
-    endpoints: &Endpoints,
-    complete: bool,
-    moment: u64,
-    waits: &mut Waits,
-)
-    requires formed { IsFormed plan.now order.now starts.now endpoints.now.parts }
-    requires place { k < length order.now }
-    requires known { IsKnown plan.now order.now starts.now endpoints.now.parts complete moment k waits.old }
-    requires open { is_open waits.old k ≡ true }
-    ensures { IsKnown plan.now order.now starts.now endpoints.now.parts complete moment (k + 1) waits.new }
-{
-    match heir(plan, order, k, starts, endpoints, waits) {
-        Some(next) => waits.hand_on(order[k], order[next], next),
-        None => waits.free(order[k]),
-    }
+/// A place of the startup order that a pass has come to.
+struct Place<'a> {
+    plan: &'a Plan,
+    order: &'a [u32],
+    drain: &'a Drain,
+    /// Below the length of the order.
+    place: usize,
 }
 
-/// The first place that waits, or has waited, behind the service at this one, where its service is
-/// started and wants the same address.
-fn heir(
-    plan: &Plan,
-    order: &[u32],
-    k: usize,
-    starts: &Starts,
-    endpoints: &Endpoints,
-    waits: &Waits,
-) -> Option<usize>
-    requires formed { IsFormed plan.now order.now starts.now endpoints.now.parts }
-    requires place { k < length order.now }
-    requires count { length waits.now.counts.marks ≡ service_count plan.now }
-    ensures { IfSome result (IsHeir plan.now order.now starts.now.started endpoints.now.parts waits.now k) }
-{
-    let next = waits.next_behind(order[k], k + 1, order.len())?;
-    if starts.is_started(plan, order[next]) && endpoints.lack_same(plan, order[k], order[next]) {
-        Some(next)
-    } else {
-        None
+impl Place<'_> {
+    /// Starts the service at the place, which is due, if it isn't started. With the first that bootstraps
+    /// bootstrapping begins.
+    fn start(
+        &self,
+        starts: &mut Starts,
+        endpoints: &Endpoints,
+        boot: &mut Boot,
+        actions: &mut Actions,
+    )
+        requires formed { IsFormed self.now.plan.now self.now.order.now starts.old endpoints.now.parts }
+        requires place { self.now.place < length self.now.order.now }
+        requires untested { is_tested self.now.plan.now boot.old ≡ false }
+        requires due { MayVisit self.now starts.old endpoints.now.parts.failed boot.old.complete }
+        requires room { 1 + begin_room boot.old ≤ spare actions.old }
+        ensures starts_sized { IsStartsSized self.now.plan.now starts.new }
+        ensures bare { TellsBare (list_of actions.old) (list_of actions.new) }
+        ensures spends { Spends (begin_room boot.old + 1) (begin_room boot.new) actions.old actions.new }
+        ensures only { StartsNoOther self.now endpoints.now.parts.failed boot.old.complete starts.old starts.new }
+        ensures late { boot.old.complete ≡ true → boot.new.complete ≡ true }
+        ensures started { StartsAt self.now starts.old starts.new endpoints.now boot.old boot.new actions.old actions.new }
+    {
+        let s = self.order[self.place];
+        let starts_now = starts.visit(self.plan, s, actions);
+        if starts_now && is_bootstrap(self.plan, s) && !boot.is_begun() {
+            boot.begin(self.plan, self.drain.moment(), actions);
+        }
     }
-}
 
-/// A service that is started waits behind another one, where that one has an earlier place.
-fn settle_behind(
-    plan: &Plan,
-    order: &[u32],
-    k: usize,
-    starts: &Starts,
-    endpoints: &Endpoints,
-    complete: bool,
-    moment: u64,
-    t: u32,
-    waits: &mut Waits,
-)
-    requires formed { IsFormed plan.now order.now starts.now endpoints.now.parts }
-    requires place { k < length order.now }
-    requires started { is_flagged starts.now.started (slice_index order.now k) ≡ true }
-    requires waits { WaitsBehind plan.now endpoints.now.parts (slice_index order.now k) t }
-    requires known { IsKnown plan.now order.now starts.now endpoints.now.parts complete moment (k + 1) waits.old }
-    requires open { is_open waits.old k ≡ true }
-    ensures { IsKnown plan.now order.now starts.now endpoints.now.parts complete moment (k + 1) waits.new }
-{
-    let e = waits.last_asked();
-    if e > k || order[e] != t {
-        return;
+    /// Starts the service at the place, which is due, if it isn't started, and asks for its endpoints, unless
+    /// the run was tested before or by that.
+    fn visit(
+        &self,
+        starts: &mut Starts,
+        endpoints: &mut Endpoints,
+        boot: &mut Boot,
+        actions: &mut Actions,
+    )
+        requires formed { IsFormed self.now.plan.now self.now.order.now starts.old endpoints.old.parts }
+        requires place { self.now.place < length self.now.order.now }
+        requires due { MayVisit self.now starts.old endpoints.old.parts.failed boot.old.complete }
+        requires room { 2 + begin_room boot.old ≤ spare actions.old }
+        ensures formed { IsFormed self.now.plan.now self.now.order.now starts.new endpoints.new.parts }
+        ensures table { endpoints.new.parts.table ≡ endpoints.old.parts.table }
+        ensures bare { TellsBare (list_of actions.old) (list_of actions.new) }
+        ensures spends { Spends (begin_room boot.old + 2) (begin_room boot.new) actions.old actions.new }
+        ensures failed { endpoints.new.parts.failed ≡ endpoints.old.parts.failed }
+        ensures held { StaysHeld endpoints.old.parts endpoints.new.parts }
+        ensures unheld { StaysUnheld endpoints.old.parts endpoints.new.parts }
+        ensures others { OthersStay (service_at self.now) endpoints.old.parts endpoints.new.parts }
+        ensures only { StartsNoOther self.now endpoints.old.parts.failed boot.old.complete starts.old starts.new }
+        ensures late { boot.old.complete ≡ true → boot.new.complete ≡ true }
+        ensures passed { VisitsAt self.now starts.old starts.new endpoints.old endpoints.new boot.old boot.new actions.old actions.new }
+    {
+        if is_tested(self.plan, boot) {
+            return;
+        }
+        self.start(starts, endpoints, boot, actions);
+        if is_tested(self.plan, boot) {
+            return;
+        }
+        let s = self.order[self.place];
+        let is_started = starts.is_started(self.plan, s);
+        endpoints.visit(self.plan, s, is_started, self.drain.moment(), actions);
     }
-    if starts.is_started(plan, t) {
-        waits.park_behind(k, t);
-    }
-}
 
-/// Visits the service at an open place, and keeps what is known of the places.
-fn attend(
-    plan: &Plan,
-    order: &[u32],
-    k: usize,
-    drain: &Drain,
-    starts: &mut Starts,
-    endpoints: &mut Endpoints,
-    boot: &mut Boot,
-    waits: &mut Waits,
-    actions: &mut Actions,
-)
-    requires formed { IsFormed plan.now order.now starts.old endpoints.old.parts }
-    requires place { k < length order.now }
-    requires room { 2 + begin_room boot.old ≤ spare actions.old }
-    requires known { IsKnown plan.now order.now starts.old endpoints.old.parts boot.old.complete drain.now.moment k waits.old }
-    requires open { is_open waits.old k ≡ true }
-    ensures formed { IsFormed plan.now order.now starts.new endpoints.new.parts }
-    ensures table { endpoints.new.parts.table ≡ endpoints.old.parts.table }
-    ensures known { IsKnown plan.now order.now starts.new endpoints.new.parts boot.new.complete drain.now.moment (k + 1) waits.new }
-    ensures bare { TellsBare (list_of actions.old) (list_of actions.new) }
-    ensures spends { Spends (begin_room boot.old + 2) (begin_room boot.new) actions.old actions.new }
-    ensures passed { VisitsAt plan.now order.now drain.now k starts.old starts.new endpoints.old endpoints.new boot.old boot.new actions.old actions.new }
-{
-    if waits_still(plan, order, k, starts, waits) {
-        return;
+    /// Where the service at the place isn't started and lacks a dependency, the place isn't visited until it
+    /// lacks none.
+    fn waits_still(&self, starts: &Starts, waits: &mut Waits) -> bool
+        requires in_order { IsInOrder self.now.plan.now self.now.order.now }
+        requires place { self.now.place < length self.now.order.now }
+        requires sized { IsStartsSized self.now.plan.now starts.now }
+        requires count { length waits.old.counts.marks ≡ service_count self.now.plan.now }
+        ensures { WaitsStill starts.now (service_at self.now) self.now.place waits.old waits.new result }
+    {
+        let s = self.order[self.place];
+        if starts.is_started(self.plan, s) {
+            return false;
+        }
+        if waits.missing(s) == 0 {
+            return false;
+        }
+        waits.close(self.place);
+        true
     }
-    waits.leave(k);
-    visit(plan, order, k, drain, starts, endpoints, boot, actions);
-    let complete = boot.is_complete();
-    waits.note(plan, order, starts, endpoints.failed(), complete, order[k]);
-    settle(plan, order, k, drain, starts, endpoints, complete, waits);
+
+    /// Visits the service at an open place, and keeps what is known of the places.
+    fn attend(
+        &self,
+        starts: &mut Starts,
+        endpoints: &mut Endpoints,
+        boot: &mut Boot,
+        waits: &mut Waits,
+        actions: &mut Actions,
+    )
+        requires formed { IsFormed self.now.plan.now self.now.order.now starts.old endpoints.old.parts }
+        requires place { self.now.place < length self.now.order.now }
+        requires room { 2 + begin_room boot.old ≤ spare actions.old }
+        requires known { Knows self.now self.now.place starts.old endpoints.old boot.old waits.old }
+        requires open { is_open waits.old self.now.place ≡ true }
+        ensures formed { IsFormed self.now.plan.now self.now.order.now starts.new endpoints.new.parts }
+        ensures table { endpoints.new.parts.table ≡ endpoints.old.parts.table }
+        ensures known { Knows self.now (self.now.place + 1) starts.new endpoints.new boot.new waits.new }
+        ensures bare { TellsBare (list_of actions.old) (list_of actions.new) }
+        ensures spends { Spends (begin_room boot.old + 2) (begin_room boot.new) actions.old actions.new }
+        ensures passed { VisitsAt self.now starts.old starts.new endpoints.old endpoints.new boot.old boot.new actions.old actions.new }
+    {
+        if self.waits_still(starts, waits) {
+            return;
+        }
+        waits.leave(self.place);
+        self.visit(starts, endpoints, boot, actions);
+        let complete = boot.is_complete();
+        waits.note(
+            self.plan,
+            self.order,
+            starts,
+            endpoints.failed(),
+            complete,
+            self.order[self.place],
+        );
+        let visited = VisitedPlace {
+            plan: self.plan,
+            order: self.order,
+            starts,
+            endpoints,
+            complete,
+            moment: self.drain.moment(),
+            place: self.place,
+        };
+        visited.settle(waits);
+    }
 }
 
 /// Visits each service once, in the startup order, unless the run was tested at one of them. A service
@@ -319,9 +302,13 @@ pub(crate) fn pass(
 {
     let mut from = 0;
     while let Some(k) = waits.next(from, order.len()) {
-        attend(
-            plan, order, k, drain, starts, endpoints, boot, waits, actions,
-        );
+        let place = Place {
+            plan,
+            order,
+            drain,
+            place: k,
+        };
+        place.attend(starts, endpoints, boot, waits, actions);
         from = k + 1;
     }
 }

@@ -1,5 +1,5 @@
 use Rattle.std.proofs.Common.{sym, refl, inl, inr, ◌∙◌}
-use Rattle.svc_core.proofs.pass.waits_still.Goals as goal
+use Rattle.svc_core.proofs.pass.Place.waits_still.Goals as goal
 
 pub returns-then-is_started : goal.returns-then-is_started
 returns-then-is_started c = (inl (sym c.is_started.ensures ∙ c.if-is_started.true), refl)
