@@ -1,5 +1,5 @@
 -- The places that a pass visits, as its code holds them.
-use Rattle.std.specs.Prelude.{ℕ, Bool, ◌×◌, ◌<◌, ◌+◌, List, length, slice_index}
+use Rattle.std.specs.Prelude.{ℕ, Bool, ◌<◌, ◌+◌, List, length, slice_index}
 use Rattle.svc_base.specs.Items.{list_of}
 use Rattle.svc_record.specs.declared.action.Action.{Action}
 use Rattle.svc_endpoints.specs.EndpointsData.{EndpointsRoom}

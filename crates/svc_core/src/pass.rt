@@ -30,6 +30,7 @@ fn is_tested(plan: &Plan, boot: &Boot) -> bool
 }
 
 /// A place whose service was visited, as the services and their endpoints stand after it.
+#[derive(Drop)]
 struct VisitedPlace<'a> {
     plan: &'a Plan,
     order: &'a [u32],
@@ -136,6 +137,7 @@ impl VisitedPlace<'_> {
 }
 
 /// A place of the startup order that a pass has come to.
+#[derive(Drop)]
 struct Place<'a> {
     plan: &'a Plan,
     order: &'a [u32],

@@ -57,7 +57,7 @@ settle-requires-clause-known c =
     let left = subst (λ (w : WaitsData). LeavesPlace c.args.self.now.place w c.leave.new.self) same c.leave.ensures in
     let known = known-left c.args.self.now.plan.now c.args.self.now.order.now c.args.starts.now c.args.endpoints.now.parts c.args.boot.now.complete c.args.self.now.drain.now.moment
     c.args.self.now.place c.args.waits.now c.leave.new.self left c.requires.open c.requires.known in
-    attended c.args.self.now.plan.now c.args.self.now.order.now c.args.starts.now c.visit.new.starts c.args.endpoints.now.parts c.visit.new.endpoints.parts
+    rw c.moment.ensures (attended c.args.self.now.plan.now c.args.self.now.order.now c.args.starts.now c.visit.new.starts c.args.endpoints.now.parts c.visit.new.endpoints.parts
     c.args.boot.now.complete c.is_complete-complete.result c.args.self.now.drain.now.moment
     c.leave.new.self c.note.new.self c.args.self.now.place c.requires.formed.starts c.requires.formed.in_order
     (order-apart c.args.self.now.plan.now c.args.self.now.order.now c.requires.formed.least) c.requires.place
@@ -65,7 +65,7 @@ settle-requires-clause-known c =
     (λ on. c.is_complete-complete.ensures ∙ c.visit.ensures.late on)
     (left-open c.args.self.now.plan.now c.args.self.now.order.now c.args.starts.now c.args.endpoints.now.parts c.args.boot.now.complete c.args.self.now.drain.now.moment c.args.self.now.place
     c.args.waits.now c.leave.new.self left c.requires.open)
-    c.note.ensures.opens c.note.ensures.complete (rw c.failed.ensures at c.note.ensures.ready) (rw c.failed.ensures at c.note.ensures.only)
+    c.note.ensures.opens c.note.ensures.complete (rw c.failed.ensures at c.note.ensures.ready) (rw c.failed.ensures at c.note.ensures.only))
 
 pub settle-requires-clause-open : goal.settle-requires-clause-open
 settle-requires-clause-open c =
@@ -77,7 +77,7 @@ settle-requires-clause-open c =
     c.args.waits.now c.leave.new.self left c.requires.open)
 
 pub returns-clause-known : goal.returns-clause-known
-returns-clause-known c = rw c.is_complete-complete.ensures at c.settle.ensures
+returns-clause-known c = rw (c.is_complete-complete.ensures, c.moment.ensures) at c.settle.ensures
 
 pub visit-requires-clause-due : goal.visit-requires-clause-due
 visit-requires-clause-due c =
