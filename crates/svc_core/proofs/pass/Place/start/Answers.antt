@@ -12,11 +12,13 @@ use Rattle.svc_core.proofs.pass.Place.start.Goals as goal
 pub returns-then-not-is_begun-clause-started : goal.returns-then-not-is_begun-clause-started
 returns-then-not-is_begun-clause-started c =
     rw (c.visit-starts_now.ensures.after, c.if-starts_now.true, c.begin.ensures.after)
-    (starting-boot c.args.self.now.plan.now c.requires.formed.valid c.args.self.now.order.now c.args.self.now.drain.now c.args.self.now.place c.requires.place c.requires.formed.in_order
+    (starting-boot c.args.self.now.plan.now c.requires.formed.valid c.args.self.now.order.now c.args.self.now.drain.now c.args.self.now.place
+    c.requires.place c.requires.formed.in_order
     c.args.starts.now c.args.endpoints.now.parts c.args.boot.now
     (list_of c.args.actions.now) (list_of c.visit-starts_now.new.actions) (list_of c.begin.new.actions) c.requires.formed.starts c.requires.untested
     (sym c.if-starts_now.true
-    ∙ starts-due c.args.self.now.plan.now c.args.starts.now c.args.endpoints.now.parts.failed c.args.boot.now.complete (slice_index c.args.self.now.order.now c.args.self.now.place)
+    ∙ starts-due c.args.self.now.plan.now c.args.starts.now c.args.endpoints.now.parts.failed c.args.boot.now.complete (slice_index
+    c.args.self.now.order.now c.args.self.now.place)
     c.visit-starts_now.result c.requires.due c.visit-starts_now.ensures.fresh)
     (sym c.is_bootstrap.ensures ∙ c.if-is_bootstrap.true) (sym c.is_begun.ensures ∙ c.if-not-is_begun.true)
     (rw c.if-starts_now.true at c.visit-starts_now.ensures.told)
@@ -25,18 +27,22 @@ returns-then-not-is_begun-clause-started c =
 
 pub returns-else-starts_now-clause-started : goal.returns-else-starts_now-clause-started
 returns-else-starts_now-clause-started c =
-    let due = starts-due c.args.self.now.plan.now c.args.starts.now c.args.endpoints.now.parts.failed c.args.boot.now.complete (slice_index c.args.self.now.order.now c.args.self.now.place)
+    let due = starts-due c.args.self.now.plan.now c.args.starts.now c.args.endpoints.now.parts.failed c.args.boot.now.complete (slice_index
+    c.args.self.now.order.now c.args.self.now.place)
     c.visit-starts_now.result c.requires.due c.visit-starts_now.ensures.fresh in
-    none-begins c.args.self.now.plan.now c.requires.formed.valid c.args.self.now.order.now c.args.self.now.drain.now c.args.self.now.place c.requires.place c.requires.formed.in_order c.args.starts.now
+    none-begins c.args.self.now.plan.now c.requires.formed.valid c.args.self.now.order.now c.args.self.now.drain.now c.args.self.now.place c.requires.place
+    c.requires.formed.in_order c.args.starts.now
     c.visit-starts_now.new.self c.args.endpoints.now.parts c.args.boot.now
     c.visit-starts_now.result (list_of c.args.actions.now)
     (list_of c.visit-starts_now.new.actions) c.requires.formed.starts c.requires.untested due c.visit-starts_now.ensures.after
     (λ started. elim c.else-starts_now.branch [
       | else-starts_now-via-then-starts_now+then-is_bootstrap+else-not-is_begun w ↦
           begun_already
-          (has_kind c.args.self.now.plan.now Bootstrap (slice_index c.args.self.now.order.now c.args.self.now.place)) c.args.boot.now.begun w.if-not-is_begun.false w.is_begun.ensures
+          (has_kind c.args.self.now.plan.now Bootstrap (slice_index c.args.self.now.order.now c.args.self.now.place)) c.args.boot.now.begun
+          w.if-not-is_begun.false w.is_begun.ensures
       | else-starts_now-via-then-starts_now+else-is_bootstrap w ↦
-          other_kind (has_kind c.args.self.now.plan.now Bootstrap (slice_index c.args.self.now.order.now c.args.self.now.place)) c.args.boot.now.begun w.if-is_bootstrap.false
+          other_kind (has_kind c.args.self.now.plan.now Bootstrap (slice_index c.args.self.now.order.now c.args.self.now.place)) c.args.boot.now.begun
+          w.if-is_bootstrap.false
           w.is_bootstrap.ensures
       | else-starts_now-via-else-starts_now w ↦ absurd (let off = w.if-starts_now.false in cc)
     ])
@@ -52,7 +58,8 @@ pub returns-then-not-is_begun-clause-only : goal.returns-then-not-is_begun-claus
 returns-then-not-is_begun-clause-only c =
     starts-only c.args.self.now.plan.now c.args.starts.now c.visit-starts_now.new.self c.args.endpoints.now.parts.failed c.args.boot.now.complete
     (slice_index c.args.self.now.order.now c.args.self.now.place) c.visit-starts_now.result
-    (starts-due c.args.self.now.plan.now c.args.starts.now c.args.endpoints.now.parts.failed c.args.boot.now.complete (slice_index c.args.self.now.order.now c.args.self.now.place)
+    (starts-due c.args.self.now.plan.now c.args.starts.now c.args.endpoints.now.parts.failed c.args.boot.now.complete (slice_index
+    c.args.self.now.order.now c.args.self.now.place)
     c.visit-starts_now.result c.requires.due c.visit-starts_now.ensures.fresh)
     c.visit-starts_now.ensures.after
 
@@ -60,7 +67,8 @@ pub returns-else-starts_now-clause-only : goal.returns-else-starts_now-clause-on
 returns-else-starts_now-clause-only c =
     starts-only c.args.self.now.plan.now c.args.starts.now c.visit-starts_now.new.self c.args.endpoints.now.parts.failed c.args.boot.now.complete
     (slice_index c.args.self.now.order.now c.args.self.now.place) c.visit-starts_now.result
-    (starts-due c.args.self.now.plan.now c.args.starts.now c.args.endpoints.now.parts.failed c.args.boot.now.complete (slice_index c.args.self.now.order.now c.args.self.now.place)
+    (starts-due c.args.self.now.plan.now c.args.starts.now c.args.endpoints.now.parts.failed c.args.boot.now.complete (slice_index
+    c.args.self.now.order.now c.args.self.now.place)
     c.visit-starts_now.result c.requires.due c.visit-starts_now.ensures.fresh)
     c.visit-starts_now.ensures.after
 
