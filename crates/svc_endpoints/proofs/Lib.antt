@@ -42,7 +42,8 @@ pub mod WordLemmas
 pub mod BusyLemmas
 pub mod CalmLemmas
 pub mod SumLemmas
-pub mod TableSums
+pub mod FirstLemmas
+pub mod FoundLemmas
 pub mod TallyLemmas
 pub mod StaysLemmas
 pub mod CountLemmas

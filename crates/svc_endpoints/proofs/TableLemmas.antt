@@ -101,25 +101,25 @@ pub record ClearedUpTo (done : Open → Bool) (table here_table : List Open) (st
 module _ (done : Open → Bool) (table here_table : List Open) (left k : ℕ) (x : Open) (lt : k < length here_table) (is : x ≡ get_or here_table k x)
     (start here : List Action × ℕ)
     (was : ClearedUpTo done table here_table start here left k) where
-  at_first : x ≡ get_or table k x
-  at_first =
+  pub at-first : x ≡ get_or table k x
+  at-first =
       let at : (xs : List Open) → get_or xs k x ≡ get_or (drop k xs) 0 x = λ xs. ap (λ n. get_or xs n x) (sym (add-zero k)) ∙ sym (get_or-drop k xs 0 x) in
       is ∙ at here_table ∙ ap (λ xs. get_or xs 0 x) was.keeps.rest ∙ sym (at table)
 
-  inside : k < length table
-  inside = let long = was.keeps.long in omega arith
+  pub at-inside : k < length table
+  at-inside = let long = was.keeps.long in omega arith
 
   pub clears-here : (next : List Action × ℕ) → done x ≡ true → list_of next ≡ list_of here ++ Close x.fd ∷ [] → spare here ≤ spare next + 1
       → ClearedUpTo done table here_table start next left (k + 1)
   clears-here next h told room = record {
-    closes = closes-here done table k x inside at_first start here was.closes next h told room;
+    closes = closes-here done table k x at-inside at-first start here was.closes next h told room;
     keeps = FiltersInPlace-more_no was.keeps lt (ap not h) is;
   }
 
   pub clears-past : (next_table : List Open) → done x ≡ false → SwappedAt here_table next_table left k
       → ClearedUpTo done table next_table start here (left + 1) (k + 1)
   clears-past next_table h swapped = record {
-    closes = closes-past done table k x inside at_first start here was.closes h;
+    closes = closes-past done table k x at-inside at-first start here was.closes h;
     keeps = FiltersInPlace-more_swap was.keeps lt (ap not h) is swapped;
   }
 
@@ -138,22 +138,22 @@ pub record ClearedBlocks {Z : Type 0} (done : Open → Bool) (bs here_bs : List 
 module _ {Z : Type 0} (done : Open → Bool) (bs here_bs : List (Vec Open Z)) (start here : List Action × ℕ) (k : ℕ) (b : Vec Open Z) (lt : k < length here_bs)
     (is : b ≡ get_or here_bs k b)
     (was : ClearedBlocks done bs here_bs start here k) where
-  first_block : b ≡ get_or bs k b
-  first_block =
+  pub block-first : b ≡ get_or bs k b
+  block-first =
       let at : (vs : List (Vec Open Z))
       → get_or vs k b ≡ get_or (drop k vs) 0 b = λ vs. ap (λ n. get_or vs n b) (sym (add-zero k)) ∙ sym (get_or-drop k vs 0 b) in
       is ∙ at here_bs ∙ ap (λ vs. get_or vs 0 b) was.rest ∙ sym (at bs)
 
-  inside_block : k < length bs
-  inside_block = let same = was.same in omega arith
+  pub block-inside : k < length bs
+  block-inside = let same = was.same in omega arith
 
   -- there is room for what goes of the block
   pub block-fits : length (joined bs) ≤ spare start → length b.items ≤ spare here
   block-fits fits =
       let room = was.room in
       let few = picked-length done (joined (take k bs)) in
-      let most = length-flat_map-take vec_items bs k b inside_block in
-      let size = ap (λ (v : Vec Open Z). length v.items) first_block in
+      let most = length-flat_map-take vec_items bs k b block-inside in
+      let size = ap (λ (v : Vec Open Z). length v.items) block-first in
       omega arith
 
   pub block-cleared : (v : Vec Open Z) (next : List Action × ℕ) → v.items ≡ unpicked done b.items
@@ -161,7 +161,7 @@ module _ {Z : Type 0} (done : Open → Bool) (bs here_bs : List (Vec Open Z)) (s
       → ClearedBlocks done bs (set here_bs k v) start next (k + 1)
   block-cleared v next items told room =
       let one : suc k ≡ k + 1 = omega arith in
-      let more = joined-front bs k b inside_block first_block in
+      let more = joined-front bs k b block-inside block-first in
       let gone : picked done (joined (take (k + 1) bs)) ≡ picked done (joined (take k bs)) ++ picked done b.items =
       ap (picked done) more ∙ picked-append done (joined (take k bs)) b.items in
       record {

@@ -1,6 +1,7 @@
 pub mod Loops
 pub mod EndpointsData
 pub mod Sums
+pub mod Firsts
 pub mod EndpointsState
 pub mod Rows
 pub mod Uses

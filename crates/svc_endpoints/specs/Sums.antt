@@ -1,10 +1,8 @@
--- Sums of addresses, by which an address that one endpoint alone has is told, and one that no live descriptor has.
-use Rattle.std.specs.Prelude.{ℕ, Bool, true, ◌≡◌, ◌≢◌, ◌⊎◌, ◌<◌, ◌+◌, ◌*◌, ◌%◌, List, [], ◌∷◌, Option, Some, None, length}
-use Rattle.std.specs.List.{list_all}
+-- Sums of addresses, by which an address that one endpoint alone has is told.
+use Rattle.std.specs.Prelude.{ℕ, true, ◌≡◌, ◌≢◌, ◌⊎◌, ◌<◌, ◌+◌, ◌*◌, ◌%◌, List, [], ◌∷◌, Some, length}
 use Rattle.svc_record.specs.declared.plan.Plan.{Plan}
 use Rattle.svc_record.specs.Plans.{service_count, endpoints, address}
 use Rattle.svc_base.specs.NumberSets.{is_in}
-use Rattle.svc_endpoints.specs.declared.table.Open.{Open}
 
 -- a number below 2 ^ 32 that is made of one and of the bytes
 abbrev pub hash_from : ℕ → List ℕ → ℕ
@@ -37,12 +35,3 @@ pub record AreNoted (p : Plan) (s i : ℕ) (seen shared : List ℕ) : Type 0 whe
 -- none of the numbers is gone
 abbrev pub Grows : List ℕ → List ℕ → Type 0
 Grows old new = (n : ℕ) → is_in n old ≡ true → is_in n new ≡ true
-
--- the sum of the address is among these, if there is one
-abbrev pub has_sum : List ℕ → Option (List ℕ) → Bool
-has_sum sums (Some a) = is_in (sum_of a) sums
-has_sum sums None = true
-
--- that of each descriptor's address is
-abbrev pub have_sums : List ℕ → List Open → Bool
-have_sums sums table = list_all (λ (o : Open). has_sum sums o.address) table

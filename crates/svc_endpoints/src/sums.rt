@@ -1,15 +1,14 @@
-//! Sums of addresses, by which an address that one endpoint alone has is told, and one that no live
-//! descriptor has.
+//! Sums of addresses, by which an address that one endpoint alone has is told.
 
 ghost use Rattle.std.specs.Prelude.{◌≡◌, ◌+◌, ◌<◌, ◌≤◌, IfOk, OnOk, true};
 ghost use Rattle.svc_base.specs.Items.{list_of, spare};
 ghost use Rattle.svc_base.specs.NumberSets.{is_in};
 ghost use Rattle.svc_record.specs.Plans.{service_count};
-ghost use Rattle.svc_endpoints.specs.Sums.{hash_from, sum_of, has_sum, AreShared, AreNoted, Grows};
+ghost use Rattle.svc_endpoints.specs.Sums.{hash_from, sum_of, AreShared, AreNoted, Grows};
 
 use crate::naming::{address_of, endpoint_count, service_count};
 use std::alloc::Global;
-use svc_base::{NoMemory, NumberSet, Text};
+use svc_base::{NoMemory, NumberSet};
 use svc_record::Plan;
 
 /// A number that is made of the bytes.
@@ -39,18 +38,6 @@ fn take(numbers: &mut NumberSet, number: u64)
 {
     if !numbers.has(number) {
         numbers.add(number);
-    }
-}
-
-/// Takes the sum of the address, if there is one and its sum isn't there.
-pub(crate) fn take_sum(sums: &mut NumberSet, address: &Option<Text>)
-    requires { 0 < spare sums.old }
-    ensures put { has_sum (list_of sums.new) address.now ≡ true }
-    ensures kept { Grows (list_of sums.old) (list_of sums.new) }
-    ensures room { spare sums.old ≤ spare sums.new + 1 }
-{
-    if let Some(text) = address {
-        take(sums, sum_of(text.as_str()));
     }
 }
 

@@ -2,7 +2,7 @@
 
 ghost use Rattle.std.specs.Prelude.{true, ◌≡◌, ◌+◌, ◌<◌, ◌≤◌, ◌++◌, [], length, ℕ, List, Option, Some, None, OnOk, map, vec_len, ◌||◌, ◌&&◌, false, ◌^◌, if◌then◌else◌, ◌==◌, filter, not};
 ghost use Rattle.std.specs.Option.{option_to_list};
-ghost use Rattle.svc_base.specs.Blocks.{joined};
+ghost use Rattle.svc_base.specs.Blocks.{joined, rises_by};
 ghost use Rattle.svc_base.specs.Items.{list_of, spare};
 ghost use Rattle.svc_base.specs.NumberSets.{is_in};
 ghost use Rattle.svc_record.specs.declared.plan.Plan.{Plan};
@@ -11,11 +11,14 @@ ghost use Rattle.svc_record.specs.Plans.{service_count, same_address};
 ghost use Rattle.svc_endpoints.specs.EndpointsState.{numbers_with, numbers_of_table};
 ghost use Rattle.svc_endpoints.specs.Effects.{first_of, put_open, put_opens, opens_of, without_numbers, passes, is_abandoned_by, is_done_for, numbers_like};
 ghost use Rattle.svc_endpoints.specs.Counts.{goes_by, gone_by, left_by};
+ghost use Rattle.svc_endpoints.specs.Firsts.{are_from, Follows};
+ghost use Rattle.svc_endpoints.specs.Sums.{sum_of};
 ghost use Rattle.svc_endpoints.specs.declared.table.Open.{Open};
 
 use crate::came::contains;
+use crate::firsts::{First, forget, least, note};
 use crate::naming::is_abandoned;
-use crate::sums::{sum_of, take_sum};
+use crate::sums::sum_of;
 use crate::uses::Uses;
 use std::alloc::Global;
 use std::marker::Model;
@@ -30,25 +33,25 @@ pub(crate) struct Open {
 }
 
 /// Live descriptors in ascending number. Contracts see them and for how many more there is memory. Beside
-/// them stand the sums of their addresses, so that nearly each address that none has is told without a walk.
-/// The sum of one that is gone stays, as the number of each that came does.
+/// them stands for each sum of their addresses the least number and how many there are, so that the one with an
+/// address, or that there is none, is found without a walk unless two live addresses have one sum.
 #[derive(Drop)]
 pub(crate) struct Table {
     entries: Blocks<Open>,
-    sums: NumberSet,
+    firsts: Blocks<First>,
 }
 
 impl Model for Table {
     ghost use Rattle.std.specs.Prelude.{List, ℕ, ◌≡◌, true, min};
     ghost use Rattle.svc_base.specs.Items.{list_of, spare};
     ghost use Rattle.svc_endpoints.specs.declared.table.Open.{Open};
-    ghost use Rattle.svc_endpoints.specs.Sums.{have_sums};
+    ghost use Rattle.svc_endpoints.specs.Firsts.{AreIndexed};
 
     ghost Value = { List Open × ℕ };
 
-    ghost view = { λ t. (list_of t.entries, min (spare t.entries) (spare t.sums)) };
+    ghost view = { λ t. (list_of t.entries, min (spare t.entries) (spare t.firsts)) };
 
-    ghost invariant = { λ t. have_sums (list_of t.sums) (list_of t.entries) ≡ true };
+    ghost invariant = { λ t. AreIndexed (list_of t.firsts) (list_of t.entries) };
 }
 
 impl Keyed for Open {
@@ -155,6 +158,7 @@ fn close_blocks(blocks: &[Vec<Open>], actions: &mut Actions)
 /// Closes those that are drained, or abandoned and not kept, and takes them out.
 fn close_done(
     table: &mut Vec<Open>,
+    firsts: &mut Blocks<First>,
     plan: &Plan,
     failed: &[bool],
     kept: &[u64],
@@ -164,6 +168,7 @@ fn close_done(
     requires flags { length failed.now ≡ service_count plan.now }
     requires room { vec_len table.old ≤ spare actions.old }
     ensures after { table.new.items ≡ left_by plan.now failed.now kept.now (list_of uses.now) table.old.items }
+    ensures firsts { Follows table.old.items table.new.items (list_of firsts.old) (list_of firsts.new) }
     ensures told { list_of actions.new ≡ list_of actions.old
         ++ map Close (gone_by plan.now failed.now kept.now (list_of uses.now) table.old.items) }
     ensures room { spare actions.old ≤ spare actions.new
@@ -173,6 +178,7 @@ fn close_done(
     for i in 0..table.len() {
         let entry = &table[i];
         if goes(entry, plan, failed, kept, uses) {
+            forget(firsts, &entry.address);
             actions.put(Action::Close(entry.fd));
         } else {
             table.swap(left, i);
@@ -185,6 +191,7 @@ fn close_done(
 /// The same, block after block.
 fn close_done_blocks(
     blocks: &mut Vec<Vec<Open>>,
+    firsts: &mut Blocks<First>,
     plan: &Plan,
     failed: &[bool],
     kept: &[u64],
@@ -194,24 +201,27 @@ fn close_done_blocks(
     requires flags { length failed.now ≡ service_count plan.now }
     requires room { length (joined blocks.old.items) ≤ spare actions.old }
     ensures after { joined blocks.new.items ≡ left_by plan.now failed.now kept.now (list_of uses.now) (joined blocks.old.items) }
+    ensures firsts { Follows (joined blocks.old.items) (joined blocks.new.items) (list_of firsts.old) (list_of firsts.new) }
     ensures told { list_of actions.new ≡ list_of actions.old
         ++ map Close (gone_by plan.now failed.now kept.now (list_of uses.now) (joined blocks.old.items)) }
     ensures room { spare actions.old ≤ spare actions.new
         + length (gone_by plan.now failed.now kept.now (list_of uses.now) (joined blocks.old.items)) }
 {
     for at in 0..blocks.len() {
-        close_done(&mut blocks[at], plan, failed, kept, uses, actions);
+        close_done(&mut blocks[at], firsts, plan, failed, kept, uses, actions);
     }
 }
 
 /// Closes those with this number, and takes them out.
-fn close_like(table: &mut Blocks<Open>, fd: u64, actions: &mut Actions)
+fn close_like(table: &mut Blocks<Open>, firsts: &mut Blocks<First>, fd: u64, actions: &mut Actions)
     requires room { length (list_of table.old) ≤ spare actions.old }
     ensures after { list_of table.new ≡ filter (λ (o : Open). not (o.fd == fd)) (list_of table.old) }
+    ensures firsts { Follows (list_of table.old) (list_of table.new) (list_of firsts.old) (list_of firsts.new) }
     ensures told { list_of actions.new ≡ list_of actions.old ++ map Close (numbers_like fd (list_of table.old)) }
     ensures room { spare actions.old ≤ spare actions.new + length (numbers_like fd (list_of table.old)) }
 {
-    while let Some(_closed) = table.remove(fd) {
+    while let Some(closed) = table.remove(fd) {
+        forget(firsts, &closed.address);
         actions.put(Action::Close(fd));
     }
 }
@@ -222,7 +232,7 @@ impl Table {
     {
         Table {
             entries: Blocks::new(alloc),
-            sums: NumberSet::new(alloc),
+            firsts: Blocks::new(alloc),
         }
     }
 
@@ -233,7 +243,7 @@ impl Table {
         ensures room { OnOk result (count ≤ spare self.new) }
     {
         self.entries.reserve(count)?;
-        self.sums.reserve(count)
+        self.firsts.reserve(count)
     }
 
     pub(crate) fn len(&self) -> usize
@@ -261,10 +271,32 @@ impl Table {
     pub(crate) fn find(&self, address: &str) -> Option<u64>
         ensures { result ≡ first_of (numbers_with (list_of self.now) (Some address.now)) }
     {
-        if !self.sums.has(sum_of(address)) {
-            return None;
+        match least(&self.firsts, sum_of(address)) {
+            Some(fd) => self.find_from(fd, address),
+            None => None,
+        }
+    }
+
+    /// The same, where none with the address has a lesser number than this. Mostly this one has it.
+    fn find_from(&self, fd: u64, address: &str) -> Option<u64>
+        requires rise { rises_by (λ (o : Open). o.fd) (list_of self.now) ≡ true }
+        requires from { are_from (sum_of address.now) fd (list_of self.now) ≡ true }
+        ensures { result ≡ first_of (numbers_with (list_of self.now) (Some address.now)) }
+    {
+        if self.has_with(fd, address) {
+            return Some(fd);
         }
         find_in_blocks(self.entries.as_blocks(), address)
+    }
+
+    /// A descriptor with this number has the address.
+    fn has_with(&self, fd: u64, address: &str) -> bool
+        ensures { result ≡ true → is_in fd (numbers_with (list_of self.now) (Some address.now)) ≡ true }
+    {
+        match self.entries.find(fd) {
+            Some(entry) => has_address(entry, address),
+            None => false,
+        }
     }
 
     /// Takes a descriptor.
@@ -273,7 +305,8 @@ impl Table {
         ensures entries { list_of self.new ≡ put_open (record { fd = fd; address = address }) (list_of self.old) }
         ensures room { spare self.old ≤ spare self.new + 1 }
     {
-        take_sum(&mut self.sums, &address);
+        prove!(self.entries.len() < 1 << 59);
+        note(&mut self.firsts, &address, fd);
         self.entries.insert(Open { fd, address });
     }
 
@@ -318,7 +351,15 @@ impl Table {
             (gone_by plan.now failed.now kept.now (list_of uses.now) (list_of self.old)) }
     {
         let mut blocks = self.entries.take_blocks();
-        close_done_blocks(&mut blocks, plan, failed, kept, uses, actions);
+        close_done_blocks(
+            &mut blocks,
+            &mut self.firsts,
+            plan,
+            failed,
+            kept,
+            uses,
+            actions,
+        );
         self.entries.put_blocks(blocks);
     }
 
@@ -329,7 +370,7 @@ impl Table {
         ensures told { list_of actions.new ≡ list_of actions.old ++ map Close (numbers_like fd (list_of self.old)) }
         ensures room { spare actions.old ≤ spare actions.new + length (numbers_like fd (list_of self.old)) }
     {
-        close_like(&mut self.entries, fd, actions);
+        close_like(&mut self.entries, &mut self.firsts, fd, actions);
     }
 
     /// Closes each descriptor, in ascending number.

@@ -1,9 +1,11 @@
-use Rattle.std.proofs.Common.{ap, ◌∙◌, List, ℕ}
+use Rattle.std.proofs.Common.{ap, sym, ◌∙◌, List, ℕ, subst, arith, ◌≡◌}
 use Rattle.svc_base.specs.Items.{list_of}
+use Rattle.svc_base.specs.Blocks.{rises_by}
+use Rattle.svc_base.proofs.KeyLemmas.{rises-put}
 use Rattle.svc_endpoints.specs.declared.table.Open.{Open}
 use Rattle.svc_endpoints.specs.Effects.{put_open}
-use Rattle.svc_endpoints.specs.Sums.{have_sums}
-use Rattle.svc_endpoints.proofs.TableSums.{summed-put, summed-grows}
+use Rattle.svc_endpoints.specs.Firsts.{AreFirsts}
+use Rattle.svc_endpoints.proofs.FirstLemmas.{firsts-put}
 use Rattle.svc_endpoints.proofs.TableLemmas.{put-open}
 use Rattle.svc_endpoints.proofs.table.Table.add.Goals as goal
 
@@ -15,7 +17,11 @@ returns-clause-entries c =
 
 pub invariant_of-self : goal.invariant_of-self
 invariant_of-self c =
-    ap (have_sums (list_of c.take_sum.new.sums))
-    (c.insert.ensures.entries ∙ put-open (record { fd = c.args.fd; address = c.args.address }) (list_of c.self.inside.entries))
-    ∙ summed-put (list_of c.take_sum.new.sums) (record { fd = c.args.fd; address = c.args.address }) (list_of c.self.inside.entries) c.take_sum.ensures.put
-    (summed-grows (list_of c.self.inside.sums) (list_of c.take_sum.new.sums) (list_of c.self.inside.entries) c.take_sum.ensures.kept c.self.invariant)
+    let o : Open = record { fd = c.args.fd; address = c.args.address } in
+    let t = list_of c.self.inside.entries in
+    let put : list_of c.insert.new.self ≡ put_open o t = c.insert.ensures.entries ∙ put-open o t in
+    record {
+      rise = ap (rises_by (λ (o : Open). o.fd)) c.insert.ensures.entries ∙ rises-put (λ (o : Open). o.fd) o t c.self.invariant.rise;
+      known = subst (AreFirsts (list_of c.note.new.firsts)) (sym put)
+          (firsts-put (list_of c.note.new.firsts) o t (c.note.ensures.firsts t (omega arith) c.self.invariant.known));
+    }
