@@ -1,6 +1,7 @@
 //! Accept loops.
 
 use crate::driver::{Input, Inputs};
+use crate::limits::Room;
 use crate::listener::Listener;
 use std::io;
 use std::rc::Rc;
@@ -31,8 +32,8 @@ fn is_of_one(error: &io::Error) -> bool {
     matches!(error.raw_os_error(), Some(4 | 71 | 103))
 }
 
-/// Begins an accept loop of an endpoint. It ends where it is aborted.
-pub(crate) fn begin(place: Place, listener: Polled, inputs: Inputs) -> JoinHandle<()> {
+/// Begins an accept loop of an endpoint, whose connections have this room. It ends where it is aborted.
+pub(crate) fn begin(place: Place, listener: Polled, inputs: Inputs, room: Room) -> JoinHandle<()> {
     spawn_local(async move {
         loop {
             let Ok(mut guard) = listener.readable().await else {
@@ -42,9 +43,12 @@ pub(crate) fn begin(place: Place, listener: Polled, inputs: Inputs) -> JoinHandl
             // Another program that has the socket may have it block again.
             _ = listener.get_ref().unblock();
             for _ in 0..BURST {
+                let seat = room.enter().await;
                 match guard.try_io(|listener| listener.get_ref().accept()) {
                     Err(_) => break,
-                    Ok(Ok((stream, peer))) => inputs.give(Input::Arrived { place, stream, peer }),
+                    Ok(Ok((stream, peer))) => {
+                        inputs.give(Input::Arrived { place, stream, peer, seat });
+                    }
                     Ok(Err(error)) => {
                         let is_of_one = is_of_one(&error);
                         let (answer, rests) = oneshot::channel();

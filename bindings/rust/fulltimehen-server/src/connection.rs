@@ -1,5 +1,6 @@
 //! A connection, as a handler has it.
 
+use crate::limits::Seat;
 use crate::listener::Accepted;
 use crate::log::say;
 use fulltimehen::Peer;
@@ -78,6 +79,8 @@ pub(crate) struct Guard {
     pub(crate) number: u64,
     pub(crate) service: u32,
     pub(crate) common: Arc<dyn Common>,
+    /// The descriptors that it may have are others' from then on.
+    pub(crate) _seat: Seat,
 }
 
 impl Drop for Guard {

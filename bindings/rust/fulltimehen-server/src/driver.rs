@@ -8,6 +8,7 @@ use crate::beat::Beat;
 use crate::connection::{Common, Shutdown};
 use crate::error::{Outcome, ServerError};
 use crate::handover::PrivateSocket;
+use crate::limits::{Room, Seat};
 use crate::listener::{Accepted, KeepAlive, Listener};
 use crate::log::say;
 use crate::pid_file::FileId;
@@ -48,6 +49,7 @@ pub(crate) enum Input {
         place: Place,
         stream: Accepted,
         peer: Peer,
+        seat: Seat,
     },
     AcceptFailed {
         place: Place,
@@ -162,6 +164,7 @@ enum Known {
         stream: Accepted,
         peer: Peer,
         service: u32,
+        seat: Seat,
     },
     /// It shakes hands, and waits then for the core's word.
     Shaking {
@@ -246,6 +249,7 @@ pub(crate) struct Driver {
     connection_numbers: Numbers,
     sockets: BTreeMap<u64, Socket>,
     loops: BTreeMap<Place, (u64, Vec<JoinHandle<()>>)>,
+    room: Room,
     connections: HashMap<u64, Known, BuildHasherDefault<NumberHasher>>,
     finished: Arc<FinishedList>,
     /// Room for what is taken out of that list.
@@ -302,6 +306,7 @@ impl Driver {
             connection_numbers: Numbers::new(),
             sockets: BTreeMap::new(),
             loops: BTreeMap::new(),
+            room: Room::within_limit(setup.addresses.len()),
             connections: HashMap::default(),
             finished,
             done_with: Vec::new(),
@@ -508,7 +513,7 @@ impl Driver {
 
     fn take(&mut self, input: Input) {
         match input {
-            Input::Arrived { place, stream, peer } => {
+            Input::Arrived { place, stream, peer, seat } => {
                 if !self.setup.shared.spare.borrow_mut().fill() {
                     // What a handover needs comes before a connection.
                     drop(stream);
@@ -516,9 +521,9 @@ impl Driver {
                     return;
                 }
                 let connection = self.connection_numbers.take();
-                self.connections
-                    .insert(connection, Known::Waiting { stream, peer, service: place.service });
                 let Place { service, endpoint } = place;
+                let known = Known::Waiting { stream, peer, service, seat };
+                self.connections.insert(connection, known);
                 self.events.push_back(Event::Arrived { service, endpoint, connection, peer });
             }
             Input::AcceptFailed { place, error, answer } => {

@@ -331,6 +331,9 @@ mod tests {
     use std::fs::File;
     use std::io::Read;
     use std::os::fd::{AsFd, AsRawFd};
+    use std::sync::atomic::{AtomicBool, Ordering};
+    use std::time::Instant;
+    use std::{env, thread};
 
     #[test]
     fn messages_are_those_of_the_formats() {
@@ -363,6 +366,51 @@ mod tests {
             let (got, came) = received.unwrap();
             assert_eq!((got, came.len()), (bytes, fds::MOST_FDS));
         }
+    }
+
+    /// A receiver that doesn't read is given up, and holds nobody up.
+    #[tokio::test]
+    async fn one_who_never_reads_is_given_up() {
+        let (one, _other) = UnixStream::pair().unwrap();
+        let (begun, bytes) = (Instant::now(), vec![b'a'; 65_536]);
+        let error = loop {
+            if let Err(error) = send(&one, &bytes, &[], Frame::Length).await {
+                break error;
+            }
+        };
+        assert_eq!(error.kind(), io::ErrorKind::TimedOut);
+        assert!(begun.elapsed() >= PATIENCE);
+    }
+
+    /// A socket that takes another one's path leaves no moment without one, and keeps it where that one goes.
+    #[tokio::test]
+    async fn a_socket_that_was_replaced_leaves_the_path() {
+        let folder = env::temp_dir().join(format!("fulltimehen-sock-{}", process::id()));
+        fs::create_dir_all(&folder).unwrap();
+        let path = folder.join("sock");
+        let spare = RefCell::new(Spare::none());
+        let mut socket = PrivateSocket::open(&path).unwrap();
+        let is_over = AtomicBool::new(false);
+        let gaps = thread::scope(|scope| {
+            let looks = scope.spawn(|| {
+                let mut gaps = 0;
+                while !is_over.load(Ordering::Relaxed) {
+                    gaps += u32::from(fs::symlink_metadata(&path).is_err());
+                }
+                gaps
+            });
+            for _ in 0..500 {
+                // The one before goes once the next one is there.
+                socket = PrivateSocket::open(&path).unwrap();
+            }
+            is_over.store(true, Ordering::Relaxed);
+            looks.join().unwrap()
+        });
+        assert_eq!(gaps, 0);
+        connect(&path, &spare).unwrap();
+        drop(socket);
+        assert!(!path.exists());
+        fs::remove_dir_all(folder).unwrap();
     }
 
     /// More bytes or sockets than a message has are refused, and closed.

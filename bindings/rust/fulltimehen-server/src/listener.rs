@@ -84,7 +84,10 @@ fn remove_stale(path: &Path) -> io::Result<()> {
         Ok(_) => return Err(io::Error::new(io::ErrorKind::AlreadyExists, "it is no socket")),
         Err(error) => return Err(error),
     }
-    match unix::UnixStream::connect(path) {
+    let socket = Socket::new(Domain::UNIX, Type::STREAM, None)?;
+    // Where as many wait there as may, this one doesn't.
+    socket.set_nonblocking(true)?;
+    match socket.connect(&SockAddr::unix(path)?) {
         Err(error) if error.kind() == io::ErrorKind::ConnectionRefused => fs::remove_file(path),
         _ => Err(io::ErrorKind::AddrInUse.into()),
     }

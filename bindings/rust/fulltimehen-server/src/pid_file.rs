@@ -148,7 +148,10 @@ mod tests {
         fs::write(&path, "1\n").unwrap();
         // The process 1 lives, and isn't the server: the file isn't locked.
         assert!(matches!(holder(&path), Ok(Holder::Gone(_, Some(1)))));
+        let before = File::open(&path).unwrap();
         let own = PidFile::put(&path).unwrap();
+        // Who reads meanwhile reads a whole file.
+        assert_eq!(io::read_to_string(before).unwrap(), "1\n");
         let number = fs::read_to_string(&path).unwrap();
         assert_eq!(number, format!("{}\n", process::id()));
         assert!(matches!(holder(&path), Ok(Holder::Serves(Some(pid))) if pid == process::id()));

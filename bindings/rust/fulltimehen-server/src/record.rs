@@ -1,11 +1,42 @@
-//! The record of a run, in a file.
+//! The record of a run, in a file or where the program wants it.
 
 use crate::log::say;
 use crate::pid_file::with_ending;
 use fulltimehen::{Plan, Record};
+use std::fmt;
 use std::fs::{self, File};
+use std::io::Write;
 use std::path::Path;
 use std::process;
+
+type Begin = Box<dyn FnMut(&str) -> Box<dyn Write + Send> + Send>;
+
+/// Where the program wants its records.
+pub(crate) struct Sink(Begin);
+
+impl fmt::Debug for Sink {
+    fn fmt(&self, f: &mut fmt::Formatter<'_>) -> fmt::Result {
+        f.debug_struct("Sink").finish_non_exhaustive()
+    }
+}
+
+impl Sink {
+    pub(crate) fn new<W: Write + Send + 'static>(
+        mut begin: impl FnMut(&str) -> W + Send + 'static,
+    ) -> Sink {
+        Sink(Box::new(move |plan| Box::new(begin(plan))))
+    }
+
+    /// Begins the record of a run with this plan.
+    pub(crate) fn begin(&mut self, plan: &Plan) -> Option<Record> {
+        said(Record::to((self.0)(&plan.script())))
+    }
+}
+
+/// The record, or the reason why there is none is said.
+fn said(record: std::io::Result<Record>) -> Option<Record> {
+    record.inspect_err(|error| say!(warn, "there is no record: {error}")).ok()
+}
 
 /// Begins the record, with the plan beside it, in `PATH.svc`, as a script without events. No record is
 /// written over: where one stands at the path, this one gets the process's number behind its name, and
@@ -26,6 +57,5 @@ pub(crate) fn begin(path: &Path, plan: &Plan) -> Option<Record> {
     if let Err(error) = fs::write(with_ending(&path, ".svc"), plan.script()) {
         say!(warn, "the plan of the record wasn't written: {error}");
     }
-    let record = Record::to(file);
-    record.inspect_err(|error| say!(warn, "there is no record: {error}")).ok()
+    said(Record::to(file))
 }

@@ -21,6 +21,7 @@ use std::collections::BTreeSet;
 use std::env;
 use std::fmt;
 use std::fs;
+use std::io::Write;
 use std::net::IpAddr;
 use std::path::Path;
 use std::process;
@@ -176,6 +177,7 @@ pub struct RunArgs {
     pub signals: Option<mpsc::Receiver<Signal>>,
     /// What is done where the core refuses an event. By itself it is logged, and the run goes on.
     pub on_stray: Option<OnStray>,
+    record: Option<record::Sink>,
 }
 
 impl RunArgs {
@@ -198,6 +200,37 @@ impl RunArgs {
     #[must_use]
     pub fn on_stray(mut self, on_stray: OnStray) -> RunArgs {
         self.on_stray = Some(on_stray);
+        self
+    }
+
+    /// The record goes to what this makes of the plan's script, in place of the file of `--record`. It is called
+    /// once for each run of the machine: where another program should have served and doesn't, a new one begins. The
+    /// writer has a thread of its own, and where it fails or falls behind, the rest of the record is lost alone.
+    ///
+    /// ```
+    /// use fulltimehen_server::{Outcome, RunArgs, Server, Signal};
+    /// use std::io::{Read, pipe};
+    ///
+    /// let (mut reader, writer) = pipe()?;
+    /// let mut writer = Some(writer);
+    /// let (operator, signals) = tokio::sync::mpsc::channel(1);
+    /// operator.blocking_send(Signal::Fast)?;
+    /// let args = RunArgs::default().signals(signals).record(move |plan| {
+    ///     assert!(plan.contains("%services"));
+    ///     writer.take().expect("one run")
+    /// });
+    /// assert_eq!(Server::new(None)?.run(args)?, Outcome::Served);
+    /// let mut record = String::new();
+    /// reader.read_to_string(&mut record)?;
+    /// assert!(record.contains("got signal fast\n"));
+    /// # Ok::<(), Box<dyn std::error::Error>>(())
+    /// ```
+    #[must_use]
+    pub fn record<W: Write + Send + 'static>(
+        mut self,
+        begin: impl FnMut(&str) -> W + Send + 'static,
+    ) -> RunArgs {
+        self.record = Some(record::Sink::new(begin));
         self
     }
 }
@@ -482,7 +515,7 @@ impl Server {
 
     async fn run_on(
         self,
-        args: RunArgs,
+        mut args: RunArgs,
         plan: Plan,
         addresses: Rc<Addresses>,
         paths: Option<Paths>,
@@ -525,7 +558,11 @@ impl Server {
         let mut upgrade = waits;
         loop {
             let plan = plan.clone().upgrade(upgrade);
-            let record = self.opt.record.as_deref().and_then(|path| record::begin(path, &plan));
+            let record = match (&mut args.record, &self.opt.record) {
+                (Some(sink), _) => sink.begin(&plan),
+                (None, Some(path)) => record::begin(path, &plan),
+                (None, None) => None,
+            };
             let setup = Setup {
                 services: Rc::clone(&services),
                 addresses: Rc::clone(&addresses),

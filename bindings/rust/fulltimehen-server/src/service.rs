@@ -159,7 +159,7 @@ impl Endpoint {
 #[derive(Clone)]
 pub(crate) enum Kind {
     Background { work: Arc<dyn Fn(Task) -> Work + Send + Sync>, says_ready: bool },
-    Listening { handler: Handler, endpoints: Vec<Endpoint>, filters: Vec<Filter> },
+    Listening { handler: Handler, endpoints: Vec<Endpoint>, filters: Vec<Filter>, descriptors: u32 },
 }
 
 /// A service that a server can be given: [`background`] and [`listening`] make them.
@@ -194,6 +194,14 @@ impl Service {
         match &self.kind {
             Kind::Background { .. } => &[],
             Kind::Listening { endpoints, .. } => endpoints,
+        }
+    }
+
+    /// How many descriptors a connection takes.
+    pub(crate) fn descriptors(&self) -> u32 {
+        match &self.kind {
+            Kind::Background { .. } => 0,
+            Kind::Listening { descriptors, .. } => *descriptors,
         }
     }
 
@@ -378,6 +386,7 @@ pub struct Listening {
     handler: Handler,
     endpoints: Vec<Endpoint>,
     filters: Vec<Filter>,
+    descriptors: u32,
 }
 
 impl fmt::Debug for Listening {
@@ -391,7 +400,13 @@ impl fmt::Debug for Listening {
 
 impl Listening {
     fn new(name: &str, handler: Handler) -> Listening {
-        Listening { name: name.to_owned(), handler, endpoints: Vec::new(), filters: Vec::new() }
+        Listening {
+            name: name.to_owned(),
+            handler,
+            endpoints: Vec::new(),
+            filters: Vec::new(),
+            descriptors: 1,
+        }
     }
 
     fn endpoint(mut self, word: String, kind: EndpointKind) -> Listening {
@@ -432,6 +447,26 @@ impl Listening {
             endpoint.send_buffer = Some(send);
             endpoint.receive_buffer = Some(receive);
         })
+    }
+
+    /// So many descriptors a connection takes while it is served, its own among them: 1 where this isn't said,
+    /// and 2 for one that is forwarded. One for which the limit of descriptors leaves too few isn't accepted: it
+    /// waits until others have ended.
+    ///
+    /// ```
+    /// use fulltimehen_server::{Server, connect, listening, relay};
+    /// use std::time::Duration;
+    ///
+    /// let forward = listening("forward", |mut client| async move {
+    ///     let mut server = connect("127.0.0.1:8000".parse().unwrap(), Duration::from_secs(10)).await?;
+    ///     relay(&mut client, &mut server).await
+    /// });
+    /// Server::new(None)?.add_service(forward.tcp("127.0.0.1:8080").descriptors(2));
+    /// # Ok::<(), fulltimehen_server::ServerError>(())
+    /// ```
+    pub fn descriptors(mut self, descriptors: u32) -> Listening {
+        self.descriptors = descriptors;
+        self
     }
 
     /// A connection comes in only where this says yes of its peer, and every other filter does.
@@ -476,7 +511,7 @@ impl Listening {
 
 impl From<Listening> for Service {
     fn from(listening: Listening) -> Service {
-        let Listening { name, handler, endpoints, filters } = listening;
-        Service { name, kind: Kind::Listening { handler, endpoints, filters } }
+        let Listening { name, handler, endpoints, filters, descriptors } = listening;
+        Service { name, kind: Kind::Listening { handler, endpoints, filters, descriptors } }
     }
 }

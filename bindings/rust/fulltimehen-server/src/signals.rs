@@ -108,3 +108,18 @@ impl Drop for Taken {
         }
     }
 }
+
+#[cfg(test)]
+mod tests {
+    use super::*;
+
+    #[tokio::test]
+    async fn the_handlers_of_a_run_leave_errno_as_it_was() {
+        for _ in 0..2 {
+            let signals = Signals::of_process().unwrap();
+            assert!(dispositions().unwrap().iter().all(Disposition::keeps_errno));
+            drop(signals);
+            assert!(!dispositions().unwrap().iter().any(Disposition::keeps_errno));
+        }
+    }
+}

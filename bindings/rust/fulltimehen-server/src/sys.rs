@@ -173,6 +173,12 @@ impl Disposition {
         self
     }
 
+    /// Its handler leaves `errno` as it was.
+    #[cfg(test)]
+    pub(crate) fn keeps_errno(&self) -> bool {
+        self.action.sa_sigaction == keeping_errno as Handler as usize
+    }
+
     /// It does this from now on.
     pub(crate) fn set(&self) -> io::Result<()> {
         // SAFETY: a disposition is one that the process had (`of`), so its handler is one that may run at a signal of

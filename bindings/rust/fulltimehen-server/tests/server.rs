@@ -4,8 +4,9 @@ use fulltimehen_server::{
     Configuration, Connection, Opt, Outcome, Phase, RunArgs, Server, ServerError, Signal,
     Succession, Task, background, listening, listening_with_handshake,
 };
+use socket2::{Domain, SockAddr, Socket, Type};
 use std::io::{self, ErrorKind, Read, Write};
-use std::net::{Ipv4Addr, Shutdown, TcpListener, TcpStream};
+use std::net::{Ipv4Addr, Shutdown, SocketAddr, TcpListener, TcpStream};
 use std::os::fd::AsRawFd;
 use std::os::unix::fs::PermissionsExt;
 use std::os::unix::net::UnixStream;
@@ -217,6 +218,33 @@ fn a_path_of_the_unix_domain_has_its_mode_and_goes_with_the_service() {
     fs::remove_file(path).unwrap();
 }
 
+/// Somebody else listens at the path and never accepts: that the address is in use is found out without waiting.
+#[test]
+fn a_path_with_a_deaf_listener_is_in_use() {
+    let path = scratch("deaf");
+    let deaf = Socket::new(Domain::UNIX, Type::STREAM, None).unwrap();
+    deaf.bind(&SockAddr::unix(&path).unwrap()).unwrap();
+    deaf.listen(0).unwrap();
+    let waiting: Vec<_> = (0..3)
+        .map(|_| {
+            let socket = Socket::new(Domain::UNIX, Type::STREAM, None).unwrap();
+            socket.set_nonblocking(true).unwrap();
+            _ = socket.connect(&SockAddr::unix(&path).unwrap());
+            socket
+        })
+        .collect();
+    let there = path.clone();
+    let running = start(20, move |server| {
+        server.add_service(listening("web", echo).unix(&there, 0o600));
+    });
+    running.wait_for(Phase::Running);
+    running.signal(Signal::Fast);
+    assert_eq!(running.end_within(10).unwrap(), Outcome::Served);
+    assert!(path.exists());
+    drop(waiting);
+    fs::remove_file(path).unwrap();
+}
+
 #[test]
 fn filters_refuse_and_one_that_panics_does() {
     let (all, none, mapped, broken) = (free(), free(), free(), free());
@@ -292,6 +320,39 @@ fn a_drain_waits_for_connections_and_no_longer() {
     assert_eq!(rest, ", and bye");
     assert_eq!(running.end_within(20).unwrap(), Outcome::Served);
     assert!(begun.elapsed() < Duration::from_secs(20), "the grace period is a minute");
+}
+
+/// Where handlers have all threads, connections wait: those that did so when the drain began are served in it.
+#[test]
+fn those_who_wait_when_a_drain_begins_are_served() {
+    let address = free();
+    let there = address.clone();
+    let running = start(20, move |server| {
+        let web = listening("web", |mut connection: Connection| async move {
+            let mut word = Vec::new();
+            connection.read_to_end(&mut word).await?;
+            if word == b"block" {
+                thread::sleep(Duration::from_millis(500));
+            }
+            connection.write_all(&word).await
+        });
+        server.add_service(web.tcp(&there));
+    });
+    let say = |word: &str| {
+        let mut stream = connect(&address);
+        stream.write_all(word.as_bytes()).unwrap();
+        stream.shutdown(Shutdown::Write).unwrap();
+        stream
+    };
+    let blocking = [say("block"), say("block")];
+    thread::sleep(Duration::from_millis(100));
+    let waiting: Vec<_> = (0..50).map(|_| say("hello")).collect();
+    running.signal(Signal::Terminate);
+    for stream in waiting {
+        assert_eq!(io::read_to_string(stream).unwrap(), "hello");
+    }
+    assert_eq!(running.end_within(20).unwrap(), Outcome::Served);
+    drop(blocking);
 }
 
 #[test]
@@ -406,6 +467,30 @@ fn a_silent_peer_and_one_that_never_reads_are_timed_out() {
         assert_eq!(told.recv_timeout(Duration::from_secs(20)).unwrap(), ErrorKind::TimedOut);
     }
     running.end();
+}
+
+#[test]
+fn a_connect_has_a_time_limit() {
+    let listener = Socket::new(Domain::IPV4, Type::STREAM, None).unwrap();
+    listener.bind(&SocketAddr::from((Ipv4Addr::LOCALHOST, 0)).into()).unwrap();
+    listener.listen(0).unwrap();
+    let address = listener.local_addr().unwrap().as_socket().unwrap();
+    // Its queue is full, so that whoever comes hears nothing.
+    let waiting: Vec<_> = (0..8)
+        .map(|_| {
+            let socket = Socket::new(Domain::IPV4, Type::STREAM, None).unwrap();
+            socket.set_nonblocking(true).unwrap();
+            _ = socket.connect(&address.into());
+            socket
+        })
+        .collect();
+    let runtime = tokio::runtime::Builder::new_current_thread().enable_all().build().unwrap();
+    let begun = Instant::now();
+    let limit = Duration::from_millis(300);
+    let answer = runtime.block_on(fulltimehen_server::connect(address, limit));
+    assert_eq!(answer.unwrap_err().kind(), ErrorKind::TimedOut);
+    assert!((limit..Duration::from_secs(20)).contains(&begun.elapsed()));
+    drop(waiting);
 }
 
 #[test]

@@ -60,7 +60,7 @@ fn server(words: &Words) -> Result<Server, ServerError> {
         }
         relayed
     });
-    server.add_service(forward.tcp(&words.listen));
+    server.add_service(forward.tcp(&words.listen).descriptors(2));
     Ok(server)
 }
 

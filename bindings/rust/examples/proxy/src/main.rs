@@ -111,7 +111,7 @@ fn main() {
     let health = background("health", move |task| Arc::clone(&looking).look_after(task));
     let health = server.add_service(health);
     let http = listening("http", move |client| Arc::clone(&proxy).serve(client));
-    let http = server.add_service(http.tcp(&words.listen));
+    let http = server.add_service(http.tcp(&words.listen).descriptors(2));
     let ready = server.add_service(listening("ready", |_| async {}).tcp(&words.ready));
     http.add_dependency(&health).expect("both are of this server");
     ready.add_dependency(&health).expect("both are of this server");

@@ -3,6 +3,7 @@
 use super::{Driver, Input, Known, Socket, Wanted};
 use crate::accept::{self, Place, Polled};
 use crate::connection::{Common, Connection, Guard};
+use crate::limits::Seat;
 use crate::listener::{Accepted, Listener};
 use crate::log::say;
 use crate::pid_file::FileId;
@@ -250,8 +251,11 @@ impl Driver {
         }
         for (place, (fd, loops)) in &mut self.loops {
             if let (true, Some(socket)) = (loops.is_empty(), self.sockets.get(fd)) {
-                let begin =
-                    |_| accept::begin(*place, Rc::clone(&socket.listener), self.inputs.clone());
+                let room = self.room.of(self.setup.services[place.service as usize].descriptors());
+                let begin = |_| {
+                    let listener = Rc::clone(&socket.listener);
+                    accept::begin(*place, listener, self.inputs.clone(), room.clone())
+                };
                 *loops = (0..self.setup.tasks).map(begin).collect();
             }
         }
@@ -292,8 +296,11 @@ impl Driver {
             tasks.into_iter().for_each(|task| task.abort());
             if let (Wanted::Stop, Some(socket)) = (self.wanted, self.sockets.get(&fd)) {
                 let listener = Rc::clone(&socket.listener);
-                while let Ok((stream, peer)) = listener.get_ref().accept() {
-                    self.take(Input::Arrived { place, stream, peer });
+                let room = self.room.of(self.setup.services[place.service as usize].descriptors());
+                while let Some(seat) = room.try_enter()
+                    && let Ok((stream, peer)) = listener.get_ref().accept()
+                {
+                    self.take(Input::Arrived { place, stream, peer, seat });
                 }
             }
             let Place { service, endpoint } = place;
@@ -314,8 +321,9 @@ impl Driver {
         set.is_ok()
     }
 
-    fn guard(&self, connection: u64, service: u32) -> Arc<Guard> {
-        Arc::new(Guard { number: connection, service, common: self.finished.clone() })
+    fn guard(&self, connection: u64, service: u32, seat: Seat) -> Arc<Guard> {
+        let common = self.finished.clone();
+        Arc::new(Guard { number: connection, service, common, _seat: seat })
     }
 
     /// What the service of a connection does with one.
@@ -334,10 +342,11 @@ impl Driver {
             return self.events.push_back(Event::Shaken { connection, ok: true });
         };
         let shake = Arc::clone(shake);
-        let Some(Known::Waiting { stream, peer, .. }) = self.connections.remove(&connection) else {
+        let waiting = self.connections.remove(&connection);
+        let Some(Known::Waiting { stream, peer, seat, .. }) = waiting else {
             return;
         };
-        let guard = self.guard(connection, service);
+        let guard = self.guard(connection, service, seat);
         let (go, goes) = oneshot::channel();
         let mut answer = Answered { connection, inputs: Some(self.inputs.clone()) };
         let task = self.setup.handlers.spawn(async move {
@@ -364,10 +373,10 @@ impl Driver {
         let handler = self.handler(connection).map(|(service, handler)| (service, handler.clone()));
         let known = match (self.connections.remove(&connection), handler) {
             (
-                Some(Known::Waiting { stream, peer, .. }),
+                Some(Known::Waiting { stream, peer, seat, .. }),
                 Some((service, Handler::Plain(handle))),
             ) => {
-                let guard = self.guard(connection, service);
+                let guard = self.guard(connection, service, seat);
                 self.beat.go_on(&self.setup.handlers);
                 let task = self.setup.handlers.spawn(async move {
                     match Connection::new(stream, peer, Arc::clone(&guard)) {
