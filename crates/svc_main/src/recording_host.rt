@@ -10,6 +10,7 @@ use crate::items_left::ItemsLeft;
 use crate::recorder::Recorder;
 use std::alloc::Global;
 use std::marker::Model;
+use std::mem::{drop, replace};
 use svc_base::NoMemory;
 use svc_graph::services::ServiceWithDependents;
 use svc_history::History;
@@ -85,8 +86,8 @@ impl<R: Recorder, B: ServiceWithDependents + Drop> RecordingHost<R, B> {
         let entry = Entry::Got(event);
         self.recorder.note(&entry);
         match entry {
-            Entry::Got(event) => self.last = Some(event),
-            Entry::Told(_action) => {}
+            Entry::Got(event) => drop(replace(&mut self.last, Some(event))),
+            Entry::Told(action) => drop(action),
         }
     }
 }
@@ -96,7 +97,18 @@ impl<R: Recorder + Drop, B: Drop> RecordingHost<R, B> {
     pub(crate) fn into_recorder(self) -> R
         ensures { result ≡ self.recorder }
     {
-        let RecordingHost { recorder, .. } = self;
+        let RecordingHost {
+            left,
+            recorder,
+            handed,
+            last,
+            faults: _,
+            idles: _,
+            failures: _,
+        } = self;
+        drop(left);
+        drop(handed);
+        drop(last);
         recorder
     }
 }

@@ -13,7 +13,7 @@ ghost use Rattle.svc_main.specs.Services.{HasLines};
 use crate::script_filter::{ScriptFilter, add_filters};
 use crate::script_service::ScriptService;
 use std::alloc::Global;
-use std::mem::drop;
+use std::mem::{drop, replace};
 use svc_base::NoMemory;
 use svc_conf::{Opt, ServerConf};
 use svc_graph::services::ServiceWithDependents;
@@ -162,9 +162,9 @@ pub(crate) fn configured(
     ensures services { result.services.items ≡ server.services.items }
 {
     let mut server = server;
-    server.configuration = conf;
+    drop(replace(&mut server.configuration, conf));
     server.configuration.merge_with_opt(&opt);
-    server.options = Some(opt);
+    drop(replace(&mut server.options, Some(opt)));
     if eager {
         server.bootstrap();
     }

@@ -117,6 +117,11 @@ configured-end ends.Tested answer is = let same : Ok TestPassed ≡ answer = cc 
 configured-end (ends.Parent n) answer is = let same : Ok (Parent n) ≡ answer = cc in subst (λ (a : Result Outcome RunError). IsConfigured a) same tt
 configured-end (ends.Ended x) answer is = let same : Err (Bootstrap x) ≡ answer = cc in subst (λ (a : Result Outcome RunError). IsConfigured a) same tt
 
+pub configured-by : {given answer : Result Outcome RunError} {found : Option (Result Outcome RunError)} (end : StepEnd) → given ≡ answer → found ≡ Some answer
+    → found ≡ answer_of end → IsConfigured given
+configured-by {answer = answer} end given is found =
+    subst (λ (a : Result Outcome RunError). IsConfigured a) (sym given) (configured-end end answer (sym found ∙ is))
+
 -- a run that hasn't ended goes on
 pub on-end : (end : StepEnd) → answer_of end ≡ None → end ≡ ends.On
 on-end ends.On is = refl

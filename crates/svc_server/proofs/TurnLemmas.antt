@@ -30,7 +30,7 @@ use Rattle.svc_server.specs.Judges.{IsSaid, Judges}
 use Rattle.svc_server.specs.Runs.{events_of, names_of, IsClosed, IsEndedSo, RunEnds, StopsEarly, RunTells, RunTakes, taken_items, LeavesNothing, answer_of}
 use Rattle.svc_server.specs.Handing.{account_of, names_left, Hands}
 use Rattle.svc_server.specs.Turns.{IsAt, IsAtEvent, IsSomewhereAtEvent, IsAhead, ClosesTo, Leaves, RunGives, TurnGives, EventGives, FailsBy}
-use Rattle.svc_server.proofs.SaidLemmas.{said-untold, judges-got, closing-judges}
+use Rattle.svc_server.proofs.SaidLemmas.{said-untold, judges-first, judges-got, closing-judges}
 use Rattle.svc_server.proofs.AnswerOfStep.{served_from_answer, on_from_answer, failure_from_answer}
 
 -- what is told adds no event
@@ -342,6 +342,13 @@ gives-ended verdict p account k turns (ends.Ended x) answer q r before now other
 pub ahead-first : (before now : Option (List Item)) → now ≡ before → IsAhead before now []
 ahead-first before None same = sym same
 ahead-first before (Some x) same = sym same
+
+-- and so after the first step, which nothing came before
+pub first-at : {answers begun : Verdict} {core : CoreData} {left : List (Option (List ℕ))} {account : Option Account} {end : StepEnd}
+    {before now : Option (List Item)} → Leaves answers begun core left account end [] → now ≡ before
+    → (t : Record) × (IsAt core left account 0 end t × (IsAhead before now t × Judges answers begun core.plan t))
+first-at {answers = answers} {begun = begun} {core = core} {left = left} {account = account} {end = end} {before = before} {now = now} h same =
+    leaves-at answers answers begun core left account 0 end [] before now h refl (ahead-first before now same) (judges-first answers core.plan)
 
 -- ---- an event comes
 

@@ -1,29 +1,22 @@
-use Rattle.std.proofs.Common.{[], List, length, ap, refl, subst, sym, ◌∙◌, arith}
+use Rattle.std.proofs.Common.{List, length, ap, subst, sym, ◌∙◌, arith}
 use Rattle.std.specs.Prelude.{Result}
 use Rattle.svc_record.specs.declared.action.StepEnd.{StepEnd}
 use Rattle.svc_server.specs.declared.run.Outcome.{Outcome}
 use Rattle.svc_server.specs.declared.run.RunError.{RunError}
 use Rattle.svc_server.specs.Hosts.{Counts}
-use Rattle.svc_server.specs.Runs.{RunCounts, IsConfigured}
+use Rattle.svc_server.specs.Runs.{RunCounts}
 use Rattle.svc_streams.specs.Verdicts.{verdict_at}
 use Rattle.svc_server.specs.Handing.{names_left}
 use Rattle.svc_server.specs.Turns.{IsAt}
 use Rattle.svc_server.proofs.AnswerOfStep.{first_unfailed}
-use Rattle.svc_server.proofs.CountLemmas.{counts-same, counts-end, configured-end, on-end}
-use Rattle.svc_server.proofs.SaidLemmas.{judges-first, names-now}
-use Rattle.svc_server.proofs.TurnLemmas.{leaves-at, gives-nothing, plan-now, account-same, ahead-first}
+use Rattle.svc_server.proofs.CountLemmas.{counts-same, counts-end, configured-by, on-end}
+use Rattle.svc_server.proofs.SaidLemmas.{names-now}
+use Rattle.svc_server.proofs.TurnLemmas.{first-at, gives-nothing, plan-now, account-same}
 use Rattle.svc_server.proofs.turns.Run.run.Goals as goal
 
 pub finish-requires-clause-at : goal.finish-requires-clause-at
 finish-requires-clause-at g c =
-    let core = c.begin.new.self.core in
-    let left = names_left g.B.ServiceWithDependents.named c.begin.new.self.boxes in
-    let account = g.H.Host.account c.begin.new.host in
-    let before = g.H.Host.ahead c.args.host.now in
-    let answers = verdict_at g.F.ConnectionFilter.verdict c.args.self.now.filters in
-    let t = leaves-at answers answers (verdict_at g.F.ConnectionFilter.verdict c.begin.new.self.filters) core left account 0 c.in-Ok.end [] before
-    (g.H.Host.ahead c.begin.new.host) c.in-Ok.ensures.leaves refl
-    (ahead-first before (g.H.Host.ahead c.begin.new.host) c.begin.ensures.ahead) (judges-first answers core.plan) in
+    let t = first-at c.in-Ok.ensures.leaves c.begin.ensures.ahead in
     (0, (t.0, t.1.0))
 
 pub take_turns-requires-clause-at : goal.take_turns-requires-clause-at
@@ -31,11 +24,8 @@ take_turns-requires-clause-at g c =
     let core = c.begin.new.self.core in
     let left = names_left g.B.ServiceWithDependents.named c.begin.new.self.boxes in
     let account = g.H.Host.account c.begin.new.host in
-    let before = g.H.Host.ahead c.args.host.now in
     let answers = verdict_at g.F.ConnectionFilter.verdict c.args.self.now.filters in
-    let t = leaves-at answers answers (verdict_at g.F.ConnectionFilter.verdict c.begin.new.self.filters) core left account 0 c.in-Ok.end [] before
-    (g.H.Host.ahead c.begin.new.host) c.in-Ok.ensures.leaves refl
-    (ahead-first before (g.H.Host.ahead c.begin.new.host) c.begin.ensures.ahead) (judges-first answers core.plan) in
+    let t = first-at c.in-Ok.ensures.leaves c.begin.ensures.ahead in
     (t.0, (subst (λ (end : StepEnd). IsAt core left account 0 end t.0) (on-end c.in-Ok.end (sym c.answer_of.ensures ∙ c.in-None.is)) t.1.0, (answers, t.1.1.1)))
 
 pub take_turns-requires-clause-known : goal.take_turns-requires-clause-known
@@ -47,13 +37,9 @@ take_turns-requires-clause-known g c =
 pub returns-in-Some-clause-gives : goal.returns-in-Some-clause-gives
 returns-in-Some-clause-gives g c =
     let core = c.begin.new.self.core in
-    let left = names_left g.B.ServiceWithDependents.named c.begin.new.self.boxes in
-    let account = g.H.Host.account c.begin.new.host in
     let before = g.H.Host.ahead c.args.host.now in
     let answers = verdict_at g.F.ConnectionFilter.verdict c.args.self.now.filters in
-    let t = leaves-at answers answers (verdict_at g.F.ConnectionFilter.verdict c.begin.new.self.filters) core left account 0 c.in-Ok.end [] before
-    (g.H.Host.ahead c.begin.new.host) c.in-Ok.ensures.leaves refl
-    (ahead-first before (g.H.Host.ahead c.begin.new.host) c.begin.ensures.ahead) (judges-first answers core.plan) in
+    let t = first-at c.in-Ok.ensures.leaves c.begin.ensures.ahead in
     plan-now answers core.plan c.args.self.now.core.plan c.args.turns c.finish.result (g.H.Host.account c.finish.new.host) before
     (g.H.Host.ahead c.finish.new.host) (sym c.in-Ok.ensures.plan)
     (c.finish.ensures.gives answers 0 c.args.turns before t.0 (omega arith) t.1.0 t.1.1.0 t.1.1.1)
@@ -68,9 +54,7 @@ returns-in-Some-clause-counts g c =
     (λ is. first_unfailed c.begin.new.self.core.plan c.in-Ok.ensures.leaves.told (sym is ∙ c.in-Ok.ensures.leaves.step.answer))))
 
 pub returns-in-Some-clause-configured : goal.returns-in-Some-clause-configured
-returns-in-Some-clause-configured g c =
-    subst (λ (answer : Result Outcome RunError). IsConfigured answer) (sym c.finish.ensures.answers)
-    (configured-end c.in-Ok.end c.in-Some.answer (sym c.answer_of.ensures ∙ c.in-Some.is))
+returns-in-Some-clause-configured g c = configured-by c.in-Ok.end c.finish.ensures.answers c.in-Some.is c.answer_of.ensures
 
 pub returns-in-None-clause-gives : goal.returns-in-None-clause-gives
 returns-in-None-clause-gives g c =
@@ -79,9 +63,7 @@ returns-in-None-clause-gives g c =
     let account = g.H.Host.account c.begin.new.host in
     let before = g.H.Host.ahead c.args.host.now in
     let answers = verdict_at g.F.ConnectionFilter.verdict c.args.self.now.filters in
-    let t = leaves-at answers answers (verdict_at g.F.ConnectionFilter.verdict c.begin.new.self.filters) core left account 0 c.in-Ok.end [] before
-    (g.H.Host.ahead c.begin.new.host) c.in-Ok.ensures.leaves refl
-    (ahead-first before (g.H.Host.ahead c.begin.new.host) c.begin.ensures.ahead) (judges-first answers core.plan) in
+    let t = first-at c.in-Ok.ensures.leaves c.begin.ensures.ahead in
     plan-now answers core.plan c.args.self.now.core.plan c.args.turns c.take_turns.result (g.H.Host.account c.take_turns.new.host) before
     (g.H.Host.ahead c.take_turns.new.host) (sym c.in-Ok.ensures.plan)
     (c.take_turns.ensures.gives answers before t.0

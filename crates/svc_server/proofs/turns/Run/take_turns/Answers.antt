@@ -9,13 +9,13 @@ use Rattle.std.specs.Prelude.{Result}
 use Rattle.svc_server.specs.Hosts.{Counts}
 use Rattle.svc_record.specs.Record.{Record, tell}
 use Rattle.svc_record.specs.Tail.{closing_actions}
-use Rattle.svc_server.specs.Runs.{events_of, RunCounts, IsConfigured}
+use Rattle.svc_server.specs.Runs.{events_of, RunCounts}
 use Rattle.svc_streams.specs.Verdicts.{verdict_at}
 use Rattle.svc_server.specs.Handing.{names_left}
 use Rattle.svc_server.specs.Turns.{TurnGives, EndCounts}
 use Rattle.svc_server.proofs.TurnLemmas.{ClosedAt, closed-at, gives-spent, plan-now, ahead-now}
 use Rattle.svc_server.proofs.SaidLemmas.{names-now}
-use Rattle.svc_server.proofs.CountLemmas.{counts-after, counts-joined, counts-end, configured-end, on-end}
+use Rattle.svc_server.proofs.CountLemmas.{counts-after, counts-joined, counts-end, configured-by, on-end}
 use Rattle.svc_server.proofs.turns.Run.take_turns.Goals as goal
 
 pub turn-requires-clause-at : goal.turn-requires-clause-at
@@ -71,9 +71,7 @@ returns-in-Some-clause-counts g c =
     (g.H.Host.counts c.turn.new.host) c.loop-k.invariant.unfailed c.loop-k.invariant.failures c.in-Ok.ensures.counts)))
 
 pub returns-in-Some-clause-configured : goal.returns-in-Some-clause-configured
-returns-in-Some-clause-configured g c =
-    subst (λ (answer : Result Outcome RunError). IsConfigured answer) (sym c.finish.ensures.answers)
-    (configured-end c.in-Ok.end c.in-Some.answer (sym c.answer_of.ensures ∙ c.in-Some.is))
+returns-in-Some-clause-configured g c = configured-by c.in-Ok.end c.finish.ensures.answers c.in-Some.is c.answer_of.ensures
 
 pub loop-k-init : goal.loop-k-init
 loop-k-init g c = record {
