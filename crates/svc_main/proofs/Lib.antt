@@ -1,8 +1,6 @@
 pub mod PieceLemmas
 pub mod TextLemmas
 pub mod GeneratorLemmas
-pub mod ServerLemmas
-pub mod AcceptedLemmas
 pub mod RunLemmas
 pub mod AnswerLemmas
 pub mod WholeLemmas
@@ -11,6 +9,7 @@ pub mod ScriptAnswerLemmas
 pub mod MadeRecords
 pub mod MadeLists
 pub mod MadePlan
+pub mod MadeServer
 pub mod MadeFits
 pub mod MadeRows
 pub mod MadeThrough

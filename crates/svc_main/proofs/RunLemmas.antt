@@ -30,8 +30,8 @@ use Rattle.svc_main.specs.declared.answering.Answer.{Answer}
 use Rattle.svc_main.specs.declared.outcome.RunEnd.{RunEnd}
 use Rattle.svc_main.specs.declared.outcome.StatusLine.TheVariants.{Run}
 use Rattle.svc_main.specs.Status.{status_line, StatusFits}
-use Rattle.svc_main.specs.declared.script_filter.ScriptFilter.{ScriptFilter}
-use Rattle.svc_main.specs.BlockedLists.{blocked_by}
+use Rattle.svc_services.specs.declared.script_filter.ScriptFilter.{ScriptFilter}
+use Rattle.svc_services.specs.BlockedLists.{blocked_by}
 use Rattle.svc_main.specs.Program.{answer_of, turns_of, Judges, TellsRun, IsRunOf, RanText}
 
 -- what a run answers, by another name of its answer

@@ -1,8 +1,6 @@
 pub mod TextLines
 pub mod Planned
 pub mod Status
-pub mod BlockedLists
-pub mod Services
 pub mod CommandWords
 pub mod Generator
 pub mod Counts

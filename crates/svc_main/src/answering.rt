@@ -12,7 +12,7 @@ ghost use Rattle.svc_main.specs.declared.outcome.RunEnd.{RunEnd};
 ghost use Rattle.svc_main.specs.declared.outcome.RunEnd.TheVariants.{Served};
 ghost use Rattle.svc_main.specs.declared.outcome.StatusLine.TheVariants.{Run as RunLine};
 ghost use Rattle.svc_main.specs.Status.{status_line, StatusFits};
-ghost use Rattle.svc_main.specs.Services.{HasLines, IsServerOf};
+ghost use Rattle.svc_services.specs.Services.{HasLines, IsServerOf};
 ghost use Rattle.svc_record.specs.declared.item.Item.TheVariants as item;
 ghost use Rattle.svc_main.specs.Counts.{summary, FitCounts};
 ghost use Rattle.svc_main.specs.Generator.{made_events, made_parts, no_flags};
@@ -24,9 +24,6 @@ use crate::outcome::{RunEnd, StatusLine};
 use crate::recorder::Recorder;
 use crate::recording_host::RecordingHost;
 use crate::runs::run_items;
-use crate::script_filter::ScriptFilter;
-use crate::script_service::ScriptService;
-use crate::services::{configured, server_of_script, server_of_services};
 use std::alloc::Global;
 use std::fmt::Write;
 use std::mem::drop;
@@ -35,6 +32,7 @@ use svc_conf::{Opt, ServerConf};
 use svc_graph::services::ServiceWithDependents;
 use svc_record::Item;
 use svc_server::Server;
+use svc_services::{ScriptFilter, ScriptService, configured, server_of_script, server_of_services};
 use svc_text::{RecordText, Script, ScriptError};
 
 /// So many bytes of a record are reckoned for each item of a script.

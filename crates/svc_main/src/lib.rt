@@ -11,9 +11,6 @@ mod program;
 mod recorder;
 mod recording_host;
 mod runs;
-mod script_filter;
-mod script_service;
-mod services;
 mod text_lines;
 mod words;
 

@@ -11,12 +11,12 @@ ghost use Rattle.svc_text.specs.ScriptPlans.{plan_of};
 ghost use Rattle.svc_text.specs.declared.parsing.ScriptError.TheVariants as errors;
 ghost use Rattle.svc_main.specs.Planned.{IsRefused};
 
-use crate::services::{configured, server_of_script};
 use std::alloc::Global;
 use std::mem::drop;
 use svc_base::NoMemory;
 use svc_conf::{Key, Opt, ServerConf};
 use svc_record::Plan;
+use svc_services::{configured, server_of_script};
 use svc_text::{Script, ScriptError, ServiceLine};
 
 /// What the server of a script's services is run by.

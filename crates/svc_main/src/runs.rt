@@ -8,18 +8,17 @@ ghost use Rattle.svc_server.specs.Hosts.{no_account};
 ghost use Rattle.svc_server.specs.Runs.{RunTakes};
 ghost use Rattle.svc_server.specs.Servers.{answers_of};
 ghost use Rattle.svc_text.specs.Script.{Parts};
-ghost use Rattle.svc_main.specs.Services.{HasLines, IsServerOf};
+ghost use Rattle.svc_services.specs.Services.{HasLines, IsServerOf};
 ghost use Rattle.svc_main.specs.Program.{answer_of, Judges, TellsRun};
 
 use crate::outcome::RunEnd;
 use crate::recorder::Recorder;
 use crate::recording_host::RecordingHost;
-use crate::script_filter::ScriptFilter;
-use crate::script_service::ScriptService;
 use std::alloc::Global;
 use svc_base::NoMemory;
 use svc_graph::services::ServiceWithDependents;
 use svc_server::{Host, Outcome, RunArgs, RunError, Server};
+use svc_services::{ScriptFilter, ScriptService};
 
 /// Runs a script's server over a host that has fewer items ahead than there are turns.
 pub(crate) fn run_items<R: Recorder>(

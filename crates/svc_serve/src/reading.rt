@@ -1,5 +1,8 @@
 //! The file: a script's text without its events.
 
+ghost use Rattle.std.specs.Prelude.{IfOk};
+ghost use Rattle.svc_serve.specs.Files.{IsTaken, SaysScript};
+
 use crate::ending::Ending;
 use std::alloc::Global;
 use std::fs;
@@ -15,21 +18,33 @@ use svc_text::{Script, ScriptError, parse};
 /// What stands behind the file's text: the events come of the system.
 const EVENTS: &[u8] = b"\n%events\n";
 
-/// The bytes of a file, with a header for the events behind them.
+/// The bytes of a file.
 fn bytes_of<R: Files<File = File>>(rt: &R, alloc: Global, path: &str) -> Result<Vec<u8>, Ending> {
     let Ok(file) = fs::open(rt, path) else {
         return Err(Ending::ReadFault);
     };
     let mut source = Reading::new(file);
-    let mut bytes = match read_all(alloc, &mut source) {
-        Ok(bytes) => bytes,
-        Err(ReadAllError::Fault) => return Err(Ending::ReadFault),
-        Err(ReadAllError::TooLong) => return Err(Ending::Line(0)),
-        Err(ReadAllError::NoMemory) => return Err(Ending::NoMemory),
-    };
-    match bytes.extend_from_slice(EVENTS) {
-        Ok(()) => Ok(bytes),
-        Err(_) => Err(Ending::NoMemory),
+    match read_all(alloc, &mut source) {
+        Ok(bytes) => Ok(bytes),
+        Err(ReadAllError::Fault) => Err(Ending::ReadFault),
+        Err(ReadAllError::TooLong) => Err(Ending::Line(0)),
+        Err(ReadAllError::NoMemory) => Err(Ending::NoMemory),
+    }
+}
+
+/// What a file's text says: a script of which the events stand elsewhere. `Line` with the first that is refused.
+fn script_of(alloc: Global, bytes: Vec<u8>) -> Result<Script, Ending>
+    ensures says { IfOk result (λ s. SaysScript bytes.items s) }
+    ensures taken { IfOk result IsTaken }
+{
+    let mut bytes = bytes;
+    if bytes.extend_from_slice(EVENTS).is_err() {
+        return Err(Ending::NoMemory);
+    }
+    match parse(alloc, &bytes) {
+        Ok(script) => Ok(script),
+        Err(ScriptError::Line(n)) => Err(Ending::Line(n as u64)),
+        Err(ScriptError::NoMemory) => Err(Ending::NoMemory),
     }
 }
 
@@ -38,16 +53,11 @@ pub(crate) fn read_script<R: Files<File = File>>(
     rt: &R,
     alloc: Global,
     path: &str,
-) -> Result<Script, Ending> {
+) -> Result<Script, Ending>
+    ensures { IfOk result IsTaken }
+{
     let bytes = bytes_of(rt, alloc, path)?;
-    match parse(alloc, &bytes) {
-        Ok(script) => {
-            drop(bytes);
-            Ok(script)
-        }
-        Err(ScriptError::Line(n)) => Err(Ending::Line(n as u64)),
-        Err(ScriptError::NoMemory) => Err(Ending::NoMemory),
-    }
+    script_of(alloc, bytes)
 }
 
 /// The first key that asks for what the program doesn't do: a service manager starts it in the background,

@@ -1,7 +1,8 @@
 //! The run.
 
-ghost use Rattle.std.specs.Prelude.{length};
+ghost use Rattle.std.specs.Prelude.{length, IfOk};
 ghost use Rattle.svc_server.specs.Servers.{answers_of, IsSound};
+ghost use Rattle.svc_serve.specs.Files.{IsTaken};
 
 use crate::ending::Ending;
 use crate::notices::Notices;
@@ -12,13 +13,12 @@ use std::fs;
 use std::fs::File;
 use std::mem::drop;
 use svc_base::{NoMemory, Text, Writing};
-use svc_conf::ServerConf;
+use svc_conf::{Opt, ServerConf};
 use svc_graph::services::ServiceWithDependents;
-use svc_host::{
-    Log, ServedServer, ServedService, ServerRefused, SystemHost, run_served, server_of,
-};
+use svc_host::{Log, ServedServer, SystemHost, run_served};
+use svc_services::{ScriptService, configured_script};
 use svc_system::{ControlAddress, OpenRefused, System};
-use svc_text::Script;
+use svc_text::{Script, ScriptError};
 
 /// Says what a key asks for that the program doesn't do.
 fn refuse_key(rt: &HostRuntime, ending: Ending) -> Ending {
@@ -55,7 +55,9 @@ fn outside_of(alloc: Global, conf: &ServerConf) -> Result<(ControlAddress, Optio
 }
 
 /// What a file says.
-fn read_file(rt: &HostRuntime, path: &str) -> Result<FileRead, Ending> {
+fn read_file(rt: &HostRuntime, path: &str) -> Result<FileRead, Ending>
+    ensures { IfOk result (λ read. IsTaken read.script) }
+{
     let script = read_script(rt, rt.alloc(), path)?;
     match outside_of(rt.alloc(), &script.conf) {
         Ok((control, pid_path)) => Ok(FileRead {
@@ -117,11 +119,15 @@ fn pid_file_of(rt: &HostRuntime, path: Option<Text>) -> Result<Option<PidFile>, 
 }
 
 /// Says why there is no server.
-fn refuse_server(rt: &HostRuntime, refused: ServerRefused) -> Ending {
-    let _ = eprintln!(rt; "svc serve: {refused}");
+fn refuse_server(rt: &HostRuntime, refused: ScriptError) -> Ending {
     match refused {
-        ServerRefused::NoMemory => Ending::NoMemory,
-        ServerRefused::Dependency(_) => Ending::Line(0),
+        ScriptError::NoMemory => Ending::NoMemory,
+        ScriptError::Line(n) => {
+            let _ = eprintln!(rt;
+                "svc serve: line {n}: a dependency isn't there, or closes a cycle"
+            );
+            Ending::Line(n as u64)
+        }
     }
 }
 
@@ -150,7 +156,7 @@ fn run_over(
     system: System<'_, HostRuntime>,
     notices: Notices<'_>,
 ) -> Ending
-    requires { IsSound server.dependencies (length server.filters) (answers_of ⟦<ServedService as ServiceWithDependents>⟧ server.services.items) }
+    requires { IsSound server.dependencies (length server.filters) (answers_of ⟦<ScriptService as ServiceWithDependents>⟧ server.services.items) }
 {
     let alloc = rt.alloc();
     let host = SystemHost::new(alloc, system);
@@ -175,7 +181,7 @@ fn run_with_pid(
     pid_path: Option<Text>,
     notices: Notices<'_>,
 ) -> Ending
-    requires { IsSound server.dependencies (length server.filters) (answers_of ⟦<ServedService as ServiceWithDependents>⟧ server.services.items) }
+    requires { IsSound server.dependencies (length server.filters) (answers_of ⟦<ScriptService as ServiceWithDependents>⟧ server.services.items) }
 {
     match pid_file_of(rt, pid_path) {
         Ok(pid_file) => {
@@ -197,7 +203,7 @@ fn run_with_pid(
 
 /// Runs the server over the system.
 fn run(rt: &HostRuntime, server: ServedServer, outside: Outside) -> Ending
-    requires { IsSound server.dependencies (length server.filters) (answers_of ⟦<ServedService as ServiceWithDependents>⟧ server.services.items) }
+    requires { IsSound server.dependencies (length server.filters) (answers_of ⟦<ScriptService as ServiceWithDependents>⟧ server.services.items) }
 {
     let alloc = rt.alloc();
     let plan = match server.plan(alloc) {
@@ -226,8 +232,10 @@ fn run(rt: &HostRuntime, server: ServedServer, outside: Outside) -> Ending
 }
 
 /// Runs the server of a script.
-fn run_script(rt: &HostRuntime, script: Script, outside: Outside) -> Ending {
-    match server_of(rt.alloc(), script) {
+fn run_script(rt: &HostRuntime, script: Script, outside: Outside) -> Ending
+    requires { IsTaken script }
+{
+    match configured_script(rt.alloc(), Opt::default(), script) {
         Ok(server) => run(rt, server, outside),
         Err(refused) => {
             drop(outside);

@@ -2,9 +2,9 @@ use Rattle.std.proofs.Common.{ap, sym, subst, ◌∙◌, All}
 use Rattle.svc_text.specs.Accepted.{AreAccepted, BringsFew}
 use Rattle.svc_text.specs.Dependencies.{RefusesNone}
 use Rattle.svc_server.specs.Servers.{answers_of}
-use Rattle.svc_main.specs.contracts.script_service.ScriptServiceServiceWithDependents as services
+use Rattle.svc_services.specs.contracts.script_service.ScriptServiceServiceWithDependents as services
 use Rattle.svc_main.proofs.GeneratorLemmas.{services_accepted, services_sound, events_few}
-use Rattle.svc_main.proofs.ServerLemmas.{made_lines, made_server}
+use Rattle.svc_main.proofs.MadeServer.{made_lines, made_server}
 use Rattle.svc_main.proofs.answering.answer_made.Goals as goal
 
 pub server_of_services-requires-clause-accepted : goal.server_of_services-requires-clause-accepted

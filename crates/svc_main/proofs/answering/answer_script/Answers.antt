@@ -1,8 +1,8 @@
 use Rattle.std.proofs.Common.{ap, refl}
 use Rattle.svc_text.specs.Outcome.{parts_of}
 use Rattle.svc_server.specs.Servers.{answers_of}
-use Rattle.svc_main.specs.contracts.script_service.ScriptServiceServiceWithDependents as services
-use Rattle.svc_main.proofs.ServerLemmas.{server_is}
+use Rattle.svc_services.specs.contracts.script_service.ScriptServiceServiceWithDependents as services
+use Rattle.svc_services.proofs.ServerLemmas.{server_is}
 use Rattle.svc_main.proofs.ScriptAnswerLemmas.{if_ok, ran_answer}
 use Rattle.svc_main.proofs.answering.answer_script.Goals as goal
 

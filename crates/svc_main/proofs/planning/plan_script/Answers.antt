@@ -1,8 +1,8 @@
 use Rattle.std.proofs.Common.{ap, ◌∙◌}
 use Rattle.svc_text.specs.Outcome.{parts_of}
 use Rattle.svc_server.specs.Servers.{answers_of}
-use Rattle.svc_main.specs.contracts.script_service.ScriptServiceServiceWithDependents as services
-use Rattle.svc_main.proofs.ServerLemmas.{server_is, same_plan}
+use Rattle.svc_services.specs.contracts.script_service.ScriptServiceServiceWithDependents as services
+use Rattle.svc_services.proofs.ServerLemmas.{server_is, same_plan}
 use Rattle.svc_main.proofs.planning.plan_script.Goals as goal
 
 pub returns-in-Ok-plan-clause-plan : goal.returns-in-Ok-plan-clause-plan

@@ -2,7 +2,7 @@ use Rattle.std.proofs.Common.{ap, ◌∙◌, Ok, Err}
 use Rattle.svc_server.specs.declared.run.Outcome.TheVariants as outcomes
 use Rattle.svc_server.specs.declared.run.RunError.TheVariants as errors
 use Rattle.svc_text.specs.Filters.{blocked_lists}
-use Rattle.svc_main.proofs.ServerLemmas.{same_plan}
+use Rattle.svc_services.proofs.ServerLemmas.{same_plan}
 use Rattle.svc_main.proofs.RunLemmas.{ends_by, one_verdict, tells_by, takes_by, turns_left}
 use Rattle.svc_main.proofs.runs.run_items.Goals as goal
 

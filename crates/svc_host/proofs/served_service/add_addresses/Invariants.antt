@@ -1,6 +1,0 @@
-use Rattle.std.proofs.Common.{◌≡◌, ◌++◌, map, take}
-use Rattle.svc_text.specs.declared.service.EndpointLine.{EndpointLine}
-use Rattle.svc_host.proofs.served_service.add_addresses.Given as goal
-
-abbrev pub invariant-loop-line : goal.invariant-loop-line
-invariant-loop-line l = l.addresses.items ≡ l.fn.addresses.items ++ map (λ (e : EndpointLine). e.address) (take l.line-index l.lines)

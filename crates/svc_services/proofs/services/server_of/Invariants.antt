@@ -1,0 +1,11 @@
+use Rattle.std.proofs.Common.{◌≡◌, false}
+use Rattle.svc_server.specs.Servers.{answers_of}
+use Rattle.svc_services.specs.contracts.script_service.ScriptServiceServiceWithDependents as services
+use Rattle.svc_services.proofs.ServerLemmas.{HasFirst}
+use Rattle.svc_services.proofs.services.server_of.Given as goal
+
+abbrev pub invariant-loop-k : goal.invariant-loop-k
+invariant-loop-k l = record {
+  eager : l.server.eager ≡ false;
+  first : HasFirst l.lines l.k l.server.dependencies l.server.filters (answers_of services.TheImpl.ghosts l.server.services.items);
+}

@@ -1,0 +1,2 @@
+pub mod BlockedLists
+pub mod Services

@@ -1,0 +1,209 @@
+//! The server that the services of a script are in, with their filters and dependencies.
+
+ghost use Rattle.std.specs.Prelude.{◌≡◌, ◌<◌, ◌||◌, ℕ, [], length, slice_index, Some, None, false, IfOk, IfErr, OnOk};
+ghost use Rattle.svc_conf.specs.Configuration.{defaults};
+ghost use Rattle.svc_conf.specs.ConfigurationText.{merged};
+ghost use Rattle.svc_text.specs.Accepted.{AreAccepted};
+ghost use Rattle.svc_text.specs.Dependencies.{RefusesNone, RefusesAt};
+ghost use Rattle.svc_text.specs.Outcome.{parts_of};
+ghost use Rattle.svc_text.specs.declared.parsing.ScriptError.TheVariants as errors;
+ghost use Rattle.svc_server.specs.declared.server.refusals.AddError.TheVariants as refusals;
+ghost use Rattle.svc_server.specs.Servers.{answers_of, IsSound};
+ghost use Rattle.svc_services.specs.Services.{HasLines, IsServerOf};
+
+use crate::script_filter::{ScriptFilter, add_filters};
+use crate::script_service::ScriptService;
+use std::alloc::Global;
+use std::mem::{drop, replace};
+use svc_base::NoMemory;
+use svc_conf::{Opt, ServerConf};
+use svc_graph::services::ServiceWithDependents;
+use svc_server::{AddError, AddRefused, Server};
+use svc_text::{Script, ScriptError, ServiceLine, add_dependencies, filter_number};
+
+/// A server without services, with the default configuration.
+fn empty_server(alloc: Global) -> Result<Server<ScriptService, ScriptFilter>, NoMemory>
+    ensures configuration { IfOk result (λ server. server.configuration ≡ defaults) }
+    ensures options { IfOk result (λ server. server.options ≡ None) }
+    ensures dependencies { IfOk result (λ server. server.dependencies ≡ record { names = []; depends = [] }) }
+    ensures services { IfOk result (λ server. server.services.items ≡ []) }
+    ensures eager { IfOk result (λ server. server.eager ≡ false) }
+    ensures filters { IfOk result (λ server. server.filters ≡ []) }
+    ensures sound { IfOk result (λ server. IsSound server.dependencies (length server.filters)
+        (answers_of ⟦<ScriptService as ServiceWithDependents>⟧ server.services.items)) }
+{
+    let conf = ServerConf::default(alloc)?;
+    match Server::new_with_opt_and_conf(alloc, None, conf) {
+        Ok(server) => Ok(server),
+        Err(_) => unreachable!(),
+    }
+}
+
+/// A refusal for want of memory.
+fn memory_alone(reason: AddError) -> NoMemory
+    requires { reason ≡ refusals.NoMemory }
+{
+    match reason {
+        AddError::NoMemory => NoMemory,
+        AddError::TooMany
+        | AddError::TooManyEndpoints
+        | AddError::BadAddressText(_)
+        | AddError::UnknownFilter(_) => unreachable!(),
+    }
+}
+
+/// A server with the services of a script and their filters, and no dependencies yet. Against none of
+/// them a cause stands, so it is memory that is wanted.
+fn server_of(
+    alloc: Global,
+    lines: &[ServiceLine],
+) -> Result<Server<ScriptService, ScriptFilter>, NoMemory>
+    requires { AreAccepted lines.now }
+    ensures eager { IfOk result (λ server. server.eager ≡ false) }
+    ensures lines { IfOk result (λ server. HasLines lines.now 0 server.dependencies server.filters
+        (answers_of ⟦<ScriptService as ServiceWithDependents>⟧ server.services.items)) }
+{
+    let mut server = empty_server(alloc)?;
+    match add_filters(alloc, &mut server.filters, lines) {
+        Ok(()) => {}
+        Err(NoMemory) => {
+            drop(server);
+            return Err(NoMemory);
+        }
+    }
+    for k in 0..lines.len() {
+        let line = &lines[k];
+        let service = match ScriptService::new(alloc, line, filter_number(&lines[..k], line)) {
+            Ok(service) => service,
+            Err(NoMemory) => {
+                drop(server);
+                return Err(NoMemory);
+            }
+        };
+        match server.add_service(alloc, service) {
+            Ok(_) => {}
+            Err(refused) => {
+                let AddRefused { service, reason } = refused;
+                drop(service);
+                drop(server);
+                return Err(memory_alone(reason));
+            }
+        }
+    }
+    Ok(server)
+}
+
+/// The server of a script's services, with the dependencies that they name. `Line` with the line of
+/// the first service whose dependencies are refused.
+pub fn server_of_script(
+    alloc: Global,
+    script: &Script,
+) -> Result<Server<ScriptService, ScriptFilter>, ScriptError>
+    requires accepted { AreAccepted script.now.services.items }
+    requires lines { length script.now.lines.items ≡ length script.now.services.items }
+    ensures eager { IfOk result (λ server. server.eager ≡ false) }
+    ensures lines { IfOk result (λ server. HasLines script.now.services.items
+        (length script.now.services.items) server.dependencies server.filters
+        (answers_of ⟦<ScriptService as ServiceWithDependents>⟧ server.services.items)) }
+    ensures edges { OnOk result (RefusesNone script.now.services.items) }
+    ensures refused { IfErr result (λ error. (n : ℕ) → error ≡ errors.Line n
+        → (k : ℕ) × (RefusesAt script.now.services.items k × (n ≡ slice_index script.now.lines.items k))) }
+{
+    let mut server = match server_of(alloc, &script.services) {
+        Ok(server) => server,
+        Err(NoMemory) => return Err(ScriptError::NoMemory),
+    };
+    match add_dependencies(alloc, &mut server.dependencies, &script.services) {
+        Ok(None) => Ok(server),
+        Ok(Some(k)) => {
+            drop(server);
+            Err(ScriptError::Line(script.lines[k]))
+        }
+        Err(NoMemory) => {
+            drop(server);
+            Err(ScriptError::NoMemory)
+        }
+    }
+}
+
+/// A server with services whose dependencies are known and close no cycle.
+pub fn server_of_services(
+    alloc: Global,
+    lines: &[ServiceLine],
+) -> Result<Server<ScriptService, ScriptFilter>, NoMemory>
+    requires accepted { AreAccepted lines.now }
+    requires edges { RefusesNone lines.now }
+    ensures eager { IfOk result (λ server. server.eager ≡ false) }
+    ensures lines { IfOk result (λ server. HasLines lines.now (length lines.now) server.dependencies server.filters
+        (answers_of ⟦<ScriptService as ServiceWithDependents>⟧ server.services.items)) }
+{
+    let mut server = server_of(alloc, lines)?;
+    match add_dependencies(alloc, &mut server.dependencies, lines) {
+        Ok(None) => Ok(server),
+        Ok(Some(_)) => unreachable!(),
+        Err(NoMemory) => {
+            drop(server);
+            Err(NoMemory)
+        }
+    }
+}
+
+/// The server with this configuration, into which the flags are merged.
+pub fn configured(
+    server: Server<ScriptService, ScriptFilter>,
+    conf: ServerConf,
+    opt: Opt,
+    eager: bool,
+) -> Server<ScriptService, ScriptFilter>
+    ensures configuration { result.configuration ≡ merged opt conf }
+    ensures options { result.options ≡ Some opt }
+    ensures eager { result.eager ≡ (server.eager || eager) }
+    ensures dependencies { result.dependencies ≡ server.dependencies }
+    ensures filters { result.filters ≡ server.filters }
+    ensures services { result.services.items ≡ server.services.items }
+{
+    let mut server = server;
+    drop(replace(&mut server.configuration, conf));
+    server.configuration.merge_with_opt(&opt);
+    drop(replace(&mut server.options, Some(opt)));
+    if eager {
+        server.bootstrap();
+    }
+    server
+}
+
+/// The server of a script with these flags, without the script's events: they come of elsewhere. `Line` with
+/// the line of the first service whose dependencies are refused.
+pub fn configured_script(
+    alloc: Global,
+    opt: Opt,
+    script: Script,
+) -> Result<Server<ScriptService, ScriptFilter>, ScriptError>
+    requires accepted { AreAccepted script.services.items }
+    requires lines { length script.lines.items ≡ length script.services.items }
+    ensures server { IfOk result (λ server. IsServerOf opt (parts_of script) server.configuration server.options server.eager
+        server.dependencies server.filters (answers_of ⟦<ScriptService as ServiceWithDependents>⟧ server.services.items)) }
+    ensures refused { IfErr result (λ error. (n : ℕ) → error ≡ errors.Line n
+        → (k : ℕ) × (RefusesAt script.services.items k × (n ≡ slice_index script.lines.items k))) }
+{
+    match server_of_script(alloc, &script) {
+        Ok(server) => {
+            let Script {
+                conf,
+                services,
+                eager,
+                items,
+                lines,
+            } = script;
+            drop(services);
+            drop(items);
+            drop(lines);
+            Ok(configured(server, conf, opt, eager))
+        }
+        Err(error) => {
+            drop(opt);
+            drop(script);
+            Err(error)
+        }
+    }
+}
