@@ -106,6 +106,14 @@ impl<H: InnerHost + Waiting, K: Recorder, B: ServiceWithDependents> Host for Rec
         self.inner.reserve(alloc, n)
     }
 
+    fn asks_due(&self) -> bool {
+        self.inner.asks_due()
+    }
+
+    fn wait_until(&mut self, due: Option<u64>) {
+        self.inner.wait_until(due);
+    }
+
     fn next(&mut self) -> Next {
         if self.inner.is_at_rest() {
             self.recorder.settle();

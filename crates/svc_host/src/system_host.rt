@@ -58,6 +58,15 @@ impl<'a, R: Net<Listener = TcpListener, Stream = TcpStream> + Files<File = File>
         self.answers.reserve(n)
     }
 
+    /// It waits for the system, and so for nothing longer than until something is due.
+    fn asks_due(&self) -> bool {
+        true
+    }
+
+    fn wait_until(&mut self, due: Option<u64>) {
+        self.system.wait_until(due);
+    }
+
     fn give(&mut self) -> Option<Item> {
         match self.answers.take() {
             Some(event) => {

@@ -44,8 +44,6 @@ pub(crate) struct Endpoint {
     pub fd: Option<u64>,
     /// Before this moment nothing is accepted.
     pub rests_until: u64,
-    /// Before this moment its address isn't tried again.
-    pub binds_at: u64,
     /// So many of its accept loops were said to have ended.
     ended: u64,
 }
@@ -84,7 +82,6 @@ fn add_endpoints<R: Net>(
             address: Address::of(rt, alloc, &endpoint.address, endpoint.unix)?,
             fd: None,
             rests_until: 0,
-            binds_at: 0,
             ended: 0,
         })?;
         number = number.saturating_add(1);
@@ -232,24 +229,6 @@ impl Endpoints {
         if let Some(row) = self.rows.get_mut(at) {
             row.rests_until = until;
         }
-    }
-
-    /// The endpoint's address is tried again then.
-    pub(crate) fn bind_at(&mut self, at: usize, moment: u64) {
-        if let Some(row) = self.rows.get_mut(at) {
-            row.binds_at = moment;
-        }
-    }
-
-    /// When the next address after this moment is tried again.
-    pub(crate) fn next_bind(&self, now: u64) -> Option<u64> {
-        let mut next = None;
-        for row in self.rows.as_slice() {
-            if row.binds_at > now {
-                next = sooner(next, row.binds_at);
-            }
-        }
-        next
     }
 
     /// When the next accept loop after this moment has rested.

@@ -30,14 +30,11 @@ use thiserror::Error;
 /// The error number of want of memory.
 const NO_MEMORY: u32 = 12;
 
-/// So many milliseconds an address that was in use isn't tried again, and an accept loop rests that is told to.
+/// So many milliseconds an accept loop rests that is told to.
 const REST: u64 = 1000;
 
 /// So many milliseconds an accept loop rests after a failure.
 const PAUSE: u64 = 100;
-
-/// So many milliseconds an older server stays after its offer.
-const CLOSE_TIMEOUT: u64 = 5000;
 
 /// Why a server's side of the operating system can't be opened.
 #[derive(Clone, Copy, Debug, PartialEq, Eq, Error)]
@@ -96,8 +93,6 @@ pub struct System<
     listeners: Listeners,
     connections: Connections,
     operators: Operators,
-    /// The grace period, in milliseconds.
-    grace: u64,
     phase: ExecutionPhase,
     /// What operators asked for and wasn't given yet.
     signal: Option<ShutdownSignal>,
@@ -217,7 +212,6 @@ impl<'a, R: Net<Listener = TcpListener, Stream = TcpStream> + Files<File = File>
                 listeners: Listeners::new(alloc),
                 connections,
                 operators,
-                grace: plan.grace.saturating_mul(1000),
                 phase: ExecutionPhase::Setup,
                 signal: None,
                 is_draining: false,
@@ -340,17 +334,10 @@ impl<'a, R: Net<Listener = TcpListener, Stream = TcpStream> + Files<File = File>
     }
 
     /// The server is in this phase from now on.
-    fn enter(&mut self, phase: ExecutionPhase, moment: u64) {
+    fn enter(&mut self, phase: ExecutionPhase) {
         self.phase = phase;
-        match phase {
-            ExecutionPhase::ShutdownGracePeriod => {
-                self.times.ends = Some(moment.saturating_add(self.grace));
-            }
-            ExecutionPhase::GracefulUpgradeCloseTimeout => {
-                self.times.ends = Some(moment.saturating_add(CLOSE_TIMEOUT));
-            }
-            ExecutionPhase::Terminated => self.has_ended = true,
-            _ => {}
+        if let ExecutionPhase::Terminated = phase {
+            self.has_ended = true;
         }
     }
 
@@ -430,8 +417,8 @@ impl<'a, R: Net<Listener = TcpListener, Stream = TcpStream> + Files<File = File>
             Action::TryReceive => Some(Event::ReceiveFailed),
             Action::Connect => Some(Event::ConnectFailed),
             Action::Send(_, _) => Some(Event::SendFailed),
-            Action::Phase(phase, moment) => {
-                self.enter(*phase, *moment);
+            Action::Phase(phase, _) => {
+                self.enter(*phase);
                 None
             }
             Action::Broadcast => {
@@ -450,22 +437,19 @@ impl<'a, R: Net<Listener = TcpListener, Stream = TcpStream> + Files<File = File>
         }
     }
 
-    /// The endpoint's address was told to be in use.
-    fn wait_for_address(&mut self, service: u32, number: u32) {
-        let moment = self.times.told.saturating_add(REST);
-        if let Some(at) = self.endpoints.place(service, number) {
-            self.endpoints.bind_at(at, moment);
-        }
-        self.times.binds = sooner(self.times.binds, moment);
-    }
-
     /// This answer is given to the server now.
     pub fn give(&mut self, answer: &Event) {
-        match answer {
-            Event::Bound(s, _, _) | Event::Adopted(s, _) => self.hold(*s),
-            Event::InUse(s, i) => self.wait_for_address(*s, *i),
-            _ => {}
+        if let Event::Bound(s, _, _) | Event::Adopted(s, _) = answer {
+            self.hold(*s);
         }
+    }
+
+    /// Before this moment, in milliseconds, none tells the server anything: so it isn't told one where nothing
+    /// else happens. None where only other events do.
+    pub fn wait_until(&mut self, due: Option<u64>)
+        ensures { self.new ≡ record self.old { times = record self.old.times { due = due } } }
+    {
+        self.times.due = due;
     }
 
     /// How the server is.
@@ -613,9 +597,7 @@ impl<'a, R: Net<Listener = TcpListener, Stream = TcpStream> + Files<File = File>
     fn tell_moment(&mut self) -> Look
         ensures { GivesFew result }
     {
-        let moment = self.times.tell();
-        self.times.binds = self.endpoints.next_bind(moment);
-        Look::Event(Event::Moment(moment))
+        Look::Event(Event::Moment(self.times.tell()))
     }
 
     /// Waits for the system. Tells the moment, where it is to be told.

@@ -16,10 +16,8 @@ pub(crate) struct Times {
     pub now: u64,
     /// The last moment that was told.
     pub told: u64,
-    /// When an address that was in use is to be tried again.
-    pub binds: Option<u64>,
-    /// When a wait of the shutdown is over.
-    pub ends: Option<u64>,
+    /// The least moment that tells the server something, as it said last.
+    pub due: Option<u64>,
     /// When an accept loop has rested.
     pub rests: Option<u64>,
 }
@@ -58,8 +56,7 @@ impl Times {
             start,
             now: 0,
             told: 0,
-            binds: None,
-            ends: None,
+            due: None,
             rests: None,
         })
     }
@@ -82,15 +79,13 @@ impl Times {
 
     /// In how many milliseconds the time next matters; none where it never does.
     pub(crate) fn until_due(&self) -> Option<u64> {
-        let due = earlier(earlier(self.binds, self.ends), self.rests)?;
+        let due = earlier(self.due, self.rests)?;
         Some(due.saturating_sub(self.now))
     }
 
-    /// The moment is to be told: a wait of the server is over, or something happens and the last one is old.
+    /// The moment is to be told: it tells the server something, or something happens and the last one is old.
     pub(crate) fn is_due(&self, happens: bool) -> bool {
-        is_there(self.binds, self.now)
-            || is_there(self.ends, self.now)
-            || (happens && self.now.saturating_sub(self.told) >= FRESH)
+        is_there(self.due, self.now) || (happens && self.now.saturating_sub(self.told) >= FRESH)
     }
 
     /// Accept loops have rested.
@@ -104,9 +99,6 @@ impl Times {
         ensures rises { self.old.told ≤ result }
     {
         self.told = self.now.max(self.told);
-        if is_there(self.ends, self.told) {
-            self.ends = None;
-        }
         self.told
     }
 }
