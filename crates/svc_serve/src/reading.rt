@@ -1,6 +1,6 @@
-//! The file: a script's text without its events.
+//! The file: a script's text without its events, and perhaps what its services do.
 
-ghost use Rattle.std.specs.Prelude.{IfOk};
+ghost use Rattle.std.specs.Prelude.{◌≡◌, ◌+◌, ◌++◌, ◌<◌, ◌≤◌, ◌^◌, length, codes, IfOk};
 ghost use Rattle.svc_serve.specs.Files.{IsTaken, SaysScript};
 
 use crate::ending::Ending;
@@ -13,13 +13,24 @@ use std::rt::Files;
 use svc_base::{NoMemory, ReadAllError, Reading, Text, read_all};
 use svc_conf::{Key, ServerConf};
 use svc_system::{ControlAddress, is_loopback};
-use svc_text::{Script, ScriptError, parse};
+use svc_text::{Script, ScriptError, ServiceLine, parse};
+use svc_work::{WorkLine, WorksRefused, file_parts, works_of};
 
-/// What stands behind the file's text: the events come of the system.
+/// What stands behind the script's text: the events come of the system.
 const EVENTS: &[u8] = b"\n%events\n";
 
+/// What a file says.
+#[derive(Drop)]
+pub(crate) struct FileText {
+    pub script: Script,
+    /// What its services do.
+    pub works: Vec<WorkLine>,
+}
+
 /// The bytes of a file.
-fn bytes_of<R: Files<File = File>>(rt: &R, alloc: Global, path: &str) -> Result<Vec<u8>, Ending> {
+fn bytes_of<R: Files<File = File>>(rt: &R, alloc: Global, path: &str) -> Result<Vec<u8>, Ending>
+    ensures { IfOk result (λ v. length v.items ≤ 16777216) }
+{
     let Ok(file) = fs::open(rt, path) else {
         return Err(Ending::ReadFault);
     };
@@ -32,15 +43,24 @@ fn bytes_of<R: Files<File = File>>(rt: &R, alloc: Global, path: &str) -> Result<
     }
 }
 
-/// What a file's text says: a script of which the events stand elsewhere. `Line` with the first that is refused.
-fn script_of(alloc: Global, bytes: Vec<u8>) -> Result<Script, Ending>
-    ensures says { IfOk result (λ s. SaysScript bytes.items s) }
+/// A text with a header for the events behind it.
+fn with_events(alloc: Global, text: &[u8]) -> Result<Vec<u8>, NoMemory>
+    ensures { IfOk result (λ bytes. bytes.items ≡ text.now ++ codes "\n%events\n") }
+{
+    let mut bytes = Vec::new(alloc);
+    bytes.extend_from_slice(text)?;
+    bytes.extend_from_slice(EVENTS)?;
+    Ok(bytes)
+}
+
+/// What a script's text says, of which the events stand elsewhere. `Line` with the first that is refused.
+fn script_of(alloc: Global, text: &[u8]) -> Result<Script, Ending>
+    ensures says { IfOk result (SaysScript text.now) }
     ensures taken { IfOk result IsTaken }
 {
-    let mut bytes = bytes;
-    if bytes.extend_from_slice(EVENTS).is_err() {
+    let Ok(bytes) = with_events(alloc, text) else {
         return Err(Ending::NoMemory);
-    }
+    };
     match parse(alloc, &bytes) {
         Ok(script) => Ok(script),
         Err(ScriptError::Line(n)) => Err(Ending::Line(n as u64)),
@@ -48,16 +68,53 @@ fn script_of(alloc: Global, bytes: Vec<u8>) -> Result<Script, Ending>
     }
 }
 
+/// The names of services.
+fn names_of(alloc: Global, services: &[ServiceLine]) -> Result<Vec<Text>, NoMemory> {
+    let mut names = Vec::new(alloc);
+    for service in services {
+        names.push(service.name.copy(alloc)?)?;
+    }
+    Ok(names)
+}
+
+/// What services do, as the lines behind the header say it.
+fn works_in(
+    alloc: Global,
+    services: &[ServiceLine],
+    text: &[u8],
+    first: u64,
+) -> Result<Vec<WorkLine>, Ending>
+    requires { first + length text.now < 2 ^ 64 }
+{
+    let Ok(names) = names_of(alloc, services) else {
+        return Err(Ending::NoMemory);
+    };
+    match works_of(alloc, names.as_slice(), text, first) {
+        Ok(works) => Ok(works),
+        Err(WorksRefused::Line(n)) => Err(Ending::Line(n)),
+        Err(WorksRefused::NoMemory) => Err(Ending::NoMemory),
+    }
+}
+
 /// What a file says.
-pub(crate) fn read_script<R: Files<File = File>>(
+pub(crate) fn read_text<R: Files<File = File>>(
     rt: &R,
     alloc: Global,
     path: &str,
-) -> Result<Script, Ending>
-    ensures { IfOk result IsTaken }
+) -> Result<FileText, Ending>
+    ensures { IfOk result (λ read. IsTaken read.script) }
 {
     let bytes = bytes_of(rt, alloc, path)?;
-    script_of(alloc, bytes)
+    let parts = file_parts(bytes.as_slice());
+    let script = script_of(alloc, parts.script)?;
+    let first = parts.number + 1;
+    match works_in(alloc, script.services.as_slice(), parts.works, first) {
+        Ok(works) => Ok(FileText { script, works }),
+        Err(ending) => {
+            drop(script);
+            Err(ending)
+        }
+    }
 }
 
 /// The first key that asks for what the program doesn't do: a service manager starts it in the background,

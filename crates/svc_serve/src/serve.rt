@@ -7,7 +7,7 @@ ghost use Rattle.svc_serve.specs.Files.{IsTaken};
 use crate::ending::Ending;
 use crate::notices::Notices;
 use crate::pid_file::{PidFile, PidRefused};
-use crate::reading::{control_of, pid_path_of, read_script, refused_key};
+use crate::reading::{FileText, control_of, pid_path_of, read_text, refused_key};
 use std::alloc::Global;
 use std::fs;
 use std::fs::File;
@@ -19,6 +19,7 @@ use svc_host::{Log, ServedServer, SystemHost, run_served};
 use svc_services::{ScriptService, configured_script};
 use svc_system::{ControlAddress, OpenRefused, System};
 use svc_text::{Script, ScriptError};
+use svc_work::WorkLine;
 
 /// Says what a key asks for that the program doesn't do.
 fn refuse_key(rt: &HostRuntime, ending: Ending) -> Ending {
@@ -35,6 +36,7 @@ fn refuse_key(rt: &HostRuntime, ending: Ending) -> Ending {
 #[derive(Drop)]
 struct FileRead {
     script: Script,
+    works: Vec<WorkLine>,
     control: ControlAddress,
     pid_path: Option<Text>,
 }
@@ -58,15 +60,17 @@ fn outside_of(alloc: Global, conf: &ServerConf) -> Result<(ControlAddress, Optio
 fn read_file(rt: &HostRuntime, path: &str) -> Result<FileRead, Ending>
     ensures { IfOk result (λ read. IsTaken read.script) }
 {
-    let script = read_script(rt, rt.alloc(), path)?;
+    let FileText { script, works } = read_text(rt, rt.alloc(), path)?;
     match outside_of(rt.alloc(), &script.conf) {
         Ok((control, pid_path)) => Ok(FileRead {
             script,
+            works,
             control,
             pid_path,
         }),
         Err(ending) => {
             drop(script);
+            drop(works);
             Err(ending)
         }
     }
@@ -140,9 +144,10 @@ fn refuse_system(rt: &HostRuntime, refused: OpenRefused) -> Ending {
     }
 }
 
-/// Where the run writes to besides, and where operators come.
+/// What services do, where operators come, and where the run writes to besides.
 #[derive(Drop)]
 struct Outside {
+    works: Vec<WorkLine>,
     control: ControlAddress,
     /// The path of the pid file, if there is to be one.
     pid_path: Option<Text>,
@@ -215,13 +220,18 @@ fn run(rt: &HostRuntime, server: ServedServer, outside: Outside) -> Ending
         }
     };
     let Outside {
+        works,
         control,
         pid_path,
         log,
     } = outside;
-    match System::open(rt, alloc, &plan, control) {
-        Ok(system) => run_with_pid(rt, server, system, pid_path, Notices::new(rt, plan, log)),
+    match System::open(rt, alloc, &plan, works.as_slice(), control) {
+        Ok(system) => {
+            drop(works);
+            run_with_pid(rt, server, system, pid_path, Notices::new(rt, plan, log))
+        }
         Err(refused) => {
+            drop(works);
             drop(server);
             drop(plan);
             drop(pid_path);
@@ -253,6 +263,7 @@ pub(crate) fn serve_file(rt: &HostRuntime, file: &str, log: Option<&str>) -> End
     };
     let FileRead {
         script,
+        works,
         control,
         pid_path,
     } = read;
@@ -261,6 +272,7 @@ pub(crate) fn serve_file(rt: &HostRuntime, file: &str, log: Option<&str>) -> End
             rt,
             script,
             Outside {
+                works,
                 control,
                 pid_path,
                 log,
@@ -268,6 +280,7 @@ pub(crate) fn serve_file(rt: &HostRuntime, file: &str, log: Option<&str>) -> End
         ),
         Err(ending) => {
             drop(script);
+            drop(works);
             drop(control);
             drop(pid_path);
             ending

@@ -1,30 +1,47 @@
 //! The connections of a server, by their numbers.
 
-ghost use Rattle.std.specs.Prelude.{◌≡◌, IfOk};
+ghost use Rattle.std.specs.Prelude.{◌≡◌, ◌<◌, length, vec_len, IfOk};
 ghost use Rattle.svc_system.specs.Given.{number_behind};
 
-use crate::pieces::{PIECE, Progress, Untaken};
+use crate::address::Address;
+use crate::forward::Forward;
 use crate::readiness::Readiness;
+use crate::streams::{Incoming, Outgoing};
 use crate::tokens::Ready;
 use std::alloc::Global;
 use std::collections::BTreeMap;
-use std::net::TcpStream;
+use std::net::{Net, TcpStream};
 use std::os::fd::AsRawFd;
 use svc_base::{NoMemory, Setting};
 use svc_socket::Peer;
+use svc_work::{Conveyance, Conveyed};
 
-/// So many pieces of a connection are written back at a turn.
-const PIECES: u32 = 16;
+/// The most bytes of a piece that is read at once.
+const PIECE: usize = 16384;
 
-/// A connection, with what its stream hasn't taken yet.
+/// So many pieces of a connection go on at a turn, in each direction.
+pub(crate) const PIECES: u32 = 16;
+
+/// What the application does with a connection.
+#[derive(Drop)]
+enum Course {
+    /// The application hasn't got it yet.
+    Waits,
+    /// What comes goes back.
+    Echoes(Conveyance),
+    /// What comes goes on to another stream, and what comes from there goes back.
+    Forwards(Forward),
+}
+
+/// A connection.
 #[derive(Drop)]
 struct Connection {
     stream: TcpStream,
-    untaken: Untaken,
+    /// The number of its service.
+    service: u32,
     /// It is of the Unix domain, where there are no segments.
     is_unix: bool,
-    /// The application has it.
-    is_served: bool,
+    course: Course,
 }
 
 /// What a turn left of a connection.
@@ -46,6 +63,7 @@ pub(crate) struct Connections {
     pub next: u64,
     /// Room for the piece that has its turn.
     room: Vec<u8>,
+    ghost roomy: { 0 < vec_len room },
 }
 
 impl Connection {
@@ -64,16 +82,52 @@ impl Connection {
         true
     }
 
-    /// Writes back what is there, up to so many pieces.
-    fn echo(&mut self, alloc: Global, room: &mut [u8]) -> Turn {
-        for _ in 0..PIECES {
-            match self.untaken.echo(alloc, &self.stream, room) {
-                Progress::More => {}
-                Progress::Waits => return Turn::Waits,
-                Progress::Over => return Turn::Over,
-            }
+    /// The application has it from now on: it echoes, or goes on to this address. Answers whether it can be
+    /// watched, and whether that address can be connected to.
+    fn serve<R: Net>(
+        &mut self,
+        rt: &R,
+        alloc: Global,
+        target: Option<&Address>,
+        readiness: &Readiness,
+        ready: Ready,
+    ) -> bool {
+        let Some(target) = target else {
+            self.course = Course::Echoes(Conveyance::new(alloc));
+            return readiness.watch(self.stream.as_raw_fd(), ready);
+        };
+        let Some(forward) = Forward::begin(rt, alloc, target) else {
+            return false;
+        };
+        let is_watched = readiness.watch(forward.raw(), ready)
+            && readiness.watch(self.stream.as_raw_fd(), ready);
+        self.course = Course::Forwards(forward);
+        is_watched
+    }
+
+    /// It has its turn, where the application has it.
+    fn turn(&mut self, alloc: Global, room: &mut [u8]) -> Turn
+        requires { 0 < length room.old }
+    {
+        match &mut self.course {
+            Course::Waits => Turn::Waits,
+            Course::Echoes(back) => echo(alloc, &self.stream, back, room),
+            Course::Forwards(forward) => forward.turn(alloc, &self.stream, room),
         }
-        Turn::More
+    }
+}
+
+/// Writes back what is there, up to so many pieces.
+fn echo(alloc: Global, stream: &TcpStream, back: &mut Conveyance, room: &mut [u8]) -> Turn
+    requires { 0 < length room.old }
+{
+    let mut from = Incoming::of(stream);
+    let mut to = Outgoing::of(stream);
+    match back.convey(alloc, &mut from, &mut to, room, PIECES) {
+        Conveyed::More => Turn::More,
+        Conveyed::ReadFault if from.waits => Turn::Waits,
+        Conveyed::WriteFault if to.waits => Turn::Waits,
+        _ => Turn::Over,
     }
 }
 
@@ -97,7 +151,12 @@ impl Connections {
     }
 
     /// Adds a connection, and answers its number. Without memory its stream is closed.
-    pub(crate) fn add(&mut self, stream: TcpStream, peer: Peer) -> Result<u64, NoMemory>
+    pub(crate) fn add(
+        &mut self,
+        service: u32,
+        stream: TcpStream,
+        peer: Peer,
+    ) -> Result<u64, NoMemory>
         ensures number { IfOk result (λ c. c ≡ self.old.next) }
         ensures next { self.new.next ≡ number_behind self.old.next }
     {
@@ -105,9 +164,9 @@ impl Connections {
         self.next = number.saturating_add(1);
         let connection = Connection {
             stream,
-            untaken: Untaken::new(self.alloc),
+            service,
             is_unix: peer == Peer::Unix,
-            is_served: false,
+            course: Course::Waits,
         };
         match self.rows.insert(number, connection) {
             Ok(_) => Ok(number),
@@ -123,14 +182,28 @@ impl Connections {
         }
     }
 
-    /// The application has the connection from now on. Answers whether it can be watched.
-    pub(crate) fn serve(&mut self, number: u64, readiness: &Readiness) -> bool
+    /// The service of a connection.
+    pub(crate) fn service(&self, number: u64) -> Option<u32> {
+        match self.rows.get(&number) {
+            Some(connection) => Some(connection.service),
+            None => None,
+        }
+    }
+
+    /// The application has the connection from now on: it echoes, or goes on to this address. Answers whether
+    /// that can be had.
+    pub(crate) fn serve<R: Net>(
+        &mut self,
+        rt: &R,
+        number: u64,
+        target: Option<&Address>,
+        readiness: &Readiness,
+    ) -> bool
         ensures { self.new.next ≡ self.old.next }
     {
         match self.rows.get_mut(&number) {
             Some(connection) => {
-                connection.is_served = true;
-                readiness.watch(connection.stream.as_raw_fd(), Ready::Connection(number))
+                connection.serve(rt, self.alloc, target, readiness, Ready::Connection(number))
             }
             None => false,
         }
@@ -141,13 +214,7 @@ impl Connections {
         ensures { self.new.next ≡ self.old.next }
     {
         match self.rows.get_mut(&number) {
-            Some(connection) => {
-                if connection.is_served {
-                    connection.echo(self.alloc, self.room.as_mut_slice())
-                } else {
-                    Turn::Waits
-                }
-            }
+            Some(connection) => connection.turn(self.alloc, self.room.as_mut_slice()),
             None => Turn::Waits,
         }
     }

@@ -12,6 +12,7 @@ use std::net::Net;
 use svc_base::NoMemory;
 use svc_graph::Kind;
 use svc_record::{Event, Plan, ServicePlan};
+use svc_work::{Work, WorkLine};
 
 /// How far a service is.
 #[derive(Clone, Copy, PartialEq)]
@@ -32,6 +33,12 @@ pub(crate) struct Service {
     count: usize,
     /// So many of its endpoints listen.
     held: usize,
+    /// Where its connections go on to, unless they echo.
+    target: Option<Address>,
+    /// It says so many milliseconds after its start that it is ready.
+    ready_after: u64,
+    /// When it says that it is ready, where that is due.
+    ready_at: Option<u64>,
 }
 
 /// An endpoint of a service.
@@ -63,6 +70,14 @@ impl Service {
     /// Each of its endpoints listens, and the server wasn't told to give it up.
     pub(crate) fn serves(&self) -> bool {
         self.stage == Stage::Started && self.held >= self.count
+    }
+
+    /// It says by now that it is ready, and hasn't yet.
+    fn is_ready(&self, now: u64) -> bool {
+        match self.ready_at {
+            Some(moment) => moment <= now,
+            None => false,
+        }
     }
 }
 
@@ -116,6 +131,9 @@ impl Endpoints {
             first,
             count: self.rows.len().saturating_sub(first),
             held: 0,
+            target: None,
+            ready_after: 0,
+            ready_at: None,
         })?;
         Ok(())
     }
@@ -130,10 +148,48 @@ impl Endpoints {
         Ok(())
     }
 
-    /// Those of a plan. Each address is looked up.
-    pub(crate) fn learn<R: Net>(rt: &R, alloc: Global, plan: &Plan) -> Result<Self, NoMemory> {
+    /// Learns what a service does.
+    fn assign<R: Net>(&mut self, rt: &R, alloc: Global, line: &WorkLine) -> Result<(), NoMemory> {
+        let Some(service) = self.services.get_mut(line.service) else {
+            return Ok(());
+        };
+        match &line.work {
+            Work::ForwardTcp(text) => {
+                service.target = Some(Address::of(rt, alloc, text, false)?);
+            }
+            Work::ForwardUnix(path) => {
+                service.target = Some(Address::of(rt, alloc, path, true)?);
+            }
+            Work::Ready(ms) => service.ready_after = *ms,
+            Work::Echo => service.target = None,
+        }
+        Ok(())
+    }
+
+    /// Adds the services of a plan, and learns what they do.
+    fn fill<R: Net>(
+        &mut self,
+        rt: &R,
+        alloc: Global,
+        plan: &Plan,
+        works: &[WorkLine],
+    ) -> Result<(), NoMemory> {
+        self.add_all(rt, alloc, plan)?;
+        for line in works {
+            self.assign(rt, alloc, line)?;
+        }
+        Ok(())
+    }
+
+    /// Those of a plan, whose services do what these lines say. Each address is looked up.
+    pub(crate) fn learn<R: Net>(
+        rt: &R,
+        alloc: Global,
+        plan: &Plan,
+        works: &[WorkLine],
+    ) -> Result<Self, NoMemory> {
         let mut endpoints = Endpoints::new(alloc, plan.tasks);
-        match endpoints.add_all(rt, alloc, plan) {
+        match endpoints.fill(rt, alloc, plan, works) {
             Ok(()) => Ok(endpoints),
             Err(NoMemory) => {
                 drop(endpoints);
@@ -161,16 +217,53 @@ impl Endpoints {
     }
 
     /// The service is to be started: what it says at once.
-    pub(crate) fn start(&mut self, number: u32) -> Option<Event>
+    pub(crate) fn start(&mut self, number: u32, now: u64) -> Option<Event>
         ensures few { IfSome result (λ e. length (numbers_of (Got e)) ≤ 32) }
         ensures answers { IfSome result (λ e. e ≡ Event.Ready number) }
     {
         let service = self.services.get_mut(number as usize)?;
         service.stage = Stage::Started;
-        if service.notifies {
-            Some(Event::Ready(number))
-        } else {
-            None
+        if !service.notifies {
+            return None;
+        }
+        if service.ready_after == 0 {
+            return Some(Event::Ready(number));
+        }
+        service.ready_at = Some(now.saturating_add(service.ready_after));
+        None
+    }
+
+    /// When the next service says that it is ready.
+    pub(crate) fn next_ready(&self) -> Option<u64> {
+        let mut next = None;
+        for service in self.services.as_slice() {
+            if let Some(moment) = service.ready_at {
+                next = sooner(next, moment);
+            }
+        }
+        next
+    }
+
+    /// A service that is ready by now, which then has said so.
+    pub(crate) fn take_ready(&mut self, now: u64) -> Option<Event>
+        ensures { IfSome result (λ e. length (numbers_of (Got e)) ≤ 32) }
+    {
+        let mut number = 0u32;
+        for service in self.services.iter_mut() {
+            if service.is_ready(now) {
+                service.ready_at = None;
+                return Some(Event::Ready(number));
+            }
+            number = number.saturating_add(1);
+        }
+        None
+    }
+
+    /// Where the service's connections go on to; none where they echo.
+    pub(crate) fn target(&self, service: Option<u32>) -> Option<&Address> {
+        match self.services.get(service? as usize) {
+            Some(service) => service.target.as_ref(),
+            None => None,
         }
     }
 
@@ -178,6 +271,7 @@ impl Endpoints {
     pub(crate) fn fail(&mut self, number: u32) {
         if let Some(service) = self.services.get_mut(number as usize) {
             service.stage = Stage::Failed;
+            service.ready_at = None;
         }
     }
 

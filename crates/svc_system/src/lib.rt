@@ -5,13 +5,14 @@
 mod address;
 mod connections;
 mod endpoints;
+mod forward;
 mod listeners;
 mod operators;
 mod orders;
-mod pieces;
 mod readiness;
 mod report;
 mod standard;
+mod streams;
 mod system;
 mod times;
 mod tokens;

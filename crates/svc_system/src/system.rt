@@ -25,6 +25,7 @@ use std::time::Clock;
 use svc_base::{NoMemory, Text};
 use svc_record::{Action, Event, ExecutionPhase, Item, Plan, ShutdownSignal};
 use svc_socket::Peer;
+use svc_work::WorkLine;
 use thiserror::Error;
 
 /// The error number of want of memory.
@@ -166,13 +167,14 @@ fn listened<R: Net<Listener = TcpListener, Stream = TcpStream> + Files<File = Fi
     }
 }
 
-/// The tables of a server with this plan.
+/// The tables of a server with this plan, whose services do what these lines say.
 fn tables<R: Net>(
     rt: &R,
     alloc: Global,
     plan: &Plan,
+    works: &[WorkLine],
 ) -> Result<(Endpoints, Connections), NoMemory> {
-    let endpoints = Endpoints::learn(rt, alloc, plan)?;
+    let endpoints = Endpoints::learn(rt, alloc, plan, works)?;
     match Connections::new(alloc) {
         Ok(connections) => Ok((endpoints, connections)),
         Err(NoMemory) => {
@@ -186,12 +188,14 @@ impl<'a, R: Net<Listener = TcpListener, Stream = TcpStream> + Files<File = File>
     'a,
     R,
 > {
-    /// The system's side of a server with this plan, of which nothing was told yet. Operators are listened
+    /// The system's side of a server with this plan, whose services do what these lines say: a later line goes
+    /// before an earlier one, and a service without a line echoes. Nothing was told yet. Operators are listened
     /// to from now on.
     pub fn open(
         rt: &'a R,
         alloc: Global,
         plan: &Plan,
+        works: &[WorkLine],
         control: ControlAddress,
     ) -> Result<Self, OpenRefused>
         ensures goes_on { IfOk result (λ system. system.has_ended ≡ false) }
@@ -202,7 +206,7 @@ impl<'a, R: Net<Listener = TcpListener, Stream = TcpStream> + Files<File = File>
             return Err(OpenRefused::Clock);
         };
         let (operators, readiness) = listened(rt, alloc, control)?;
-        match tables(rt, alloc, plan) {
+        match tables(rt, alloc, plan, works) {
             Ok((endpoints, connections)) => Ok(System {
                 rt,
                 alloc,
@@ -351,12 +355,15 @@ impl<'a, R: Net<Listener = TcpListener, Stream = TcpStream> + Files<File = File>
         }
     }
 
-    /// The application has the connection. One that can't be watched is done with at once.
+    /// The application has the connection. One that can't be watched, or can't go on to where its service
+    /// forwards, is done with at once.
     fn serve(&mut self, c: u64) -> Option<Event>
         ensures few { IfSome result (λ e. length (numbers_of (Got e)) ≤ 32) }
         ensures answers { IfSome result (λ e. e ≡ Event.Finished c) }
     {
-        if self.connections.serve(c, &self.readiness) {
+        let target = self.endpoints.target(self.connections.service(c));
+        let is_served = self.connections.serve(self.rt, c, target, &self.readiness);
+        if is_served {
             return None;
         }
         self.connections.remove(c);
@@ -382,13 +389,23 @@ impl<'a, R: Net<Listener = TcpListener, Stream = TcpStream> + Files<File = File>
         }
     }
 
+    /// The service is to be started: what it says at once.
+    fn start(&mut self, service: u32) -> Option<Event>
+        ensures few { IfSome result (λ e. length (numbers_of (Got e)) ≤ 32) }
+        ensures answers { IfSome result (λ e. e ≡ Event.Ready service) }
+    {
+        let answer = self.endpoints.start(service, self.times.now);
+        self.times.readies = self.endpoints.next_ready();
+        answer
+    }
+
     /// Performs an action on endpoints and services. Gives the answer, if the action asks for one.
     fn perform_on_endpoint(&mut self, action: &Action) -> Option<Event>
         ensures few { IfSome result (λ e. length (numbers_of (Got e)) ≤ 32) }
         ensures answers { AnswersOnEndpoint action.now result }
     {
         match action {
-            Action::Start(s) => self.endpoints.start(*s),
+            Action::Start(s) => self.start(*s),
             Action::Fail(s) => {
                 self.fail(*s);
                 None
@@ -504,12 +521,13 @@ impl<'a, R: Net<Listener = TcpListener, Stream = TcpStream> + Files<File = File>
     fn admit(&mut self, at: usize, stream: TcpStream, peer: Peer) -> Look
         ensures { GivesFew result }
     {
-        let Ok(c) = self.connections.add(stream, peer) else {
-            return self.accept_failed(at, NO_MEMORY);
+        let Some(row) = self.endpoints.rows.get(at) else {
+            drop(stream);
+            return Look::Nothing;
         };
-        match self.endpoints.rows.get(at) {
-            Some(row) => Look::Event(Event::Arrived(row.service, row.number, c, peer)),
-            None => Look::Nothing,
+        match self.connections.add(row.service, stream, peer) {
+            Ok(c) => Look::Event(Event::Arrived(row.service, row.number, c, peer)),
+            Err(NoMemory) => self.accept_failed(at, NO_MEMORY),
         }
     }
 
@@ -614,12 +632,27 @@ impl<'a, R: Net<Listener = TcpListener, Stream = TcpStream> + Files<File = File>
         Look::Nothing
     }
 
-    /// What an operator asked for, or the end of an accept loop from the broadcast on.
+    /// What a service says that is ready by now.
+    fn next_ready(&mut self) -> Option<Event>
+        ensures { IfSome result (λ e. length (numbers_of (Got e)) ≤ 32) }
+    {
+        if !self.times.are_ready() {
+            return None;
+        }
+        let event = self.endpoints.take_ready(self.times.now);
+        self.times.readies = self.endpoints.next_ready();
+        event
+    }
+
+    /// What an operator asked for, that a service is ready, or the end of an accept loop from the broadcast on.
     fn pending(&mut self) -> Option<Event>
         ensures { IfSome result (λ e. length (numbers_of (Got e)) ≤ 32) }
     {
         if let Some(signal) = self.signal.take() {
             return Some(Event::Signal(signal));
+        }
+        if let Some(event) = self.next_ready() {
+            return Some(event);
         }
         if self.is_draining {
             self.endpoints.next_end()

@@ -20,6 +20,8 @@ pub(crate) struct Times {
     pub due: Option<u64>,
     /// When an accept loop has rested.
     pub rests: Option<u64>,
+    /// When a service says that it is ready.
+    pub readies: Option<u64>,
 }
 
 /// The earlier of the two, where the first is known.
@@ -58,6 +60,7 @@ impl Times {
             told: 0,
             due: None,
             rests: None,
+            readies: None,
         })
     }
 
@@ -79,18 +82,25 @@ impl Times {
 
     /// In how many milliseconds the time next matters; none where it never does.
     pub(crate) fn until_due(&self) -> Option<u64> {
-        let due = earlier(self.due, self.rests)?;
+        let told = earlier(self.due, self.rests);
+        let due = earlier(told, self.readies)?;
         Some(due.saturating_sub(self.now))
     }
 
     /// The moment is to be told: it tells the server something, or something happens and the last one is old.
     pub(crate) fn is_due(&self, happens: bool) -> bool {
-        is_there(self.due, self.now) || (happens && self.now.saturating_sub(self.told) >= FRESH)
+        is_there(self.due, self.now)
+            || ((happens || self.are_ready()) && self.now.saturating_sub(self.told) >= FRESH)
     }
 
     /// Accept loops have rested.
     pub(crate) fn have_rested(&self) -> bool {
         is_there(self.rests, self.now)
+    }
+
+    /// A service says that it is ready.
+    pub(crate) fn are_ready(&self) -> bool {
+        is_there(self.readies, self.now)
     }
 
     /// Tells the moment.

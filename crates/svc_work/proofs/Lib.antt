@@ -1,0 +1,3 @@
+mod AddressLemmas
+mod ConveyLemmas
+mod PartLemmas

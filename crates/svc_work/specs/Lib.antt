@@ -1,0 +1,3 @@
+pub mod Conveying
+pub mod Parts
+pub mod Works

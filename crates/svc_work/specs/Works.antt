@@ -1,0 +1,50 @@
+-- What the lines of a part say that services do.
+use Rattle.std.specs.Prelude.{ℕ, ◌^◌, nat_lt, nat_le, if◌then◌else◌, ◌&&◌, List, [], ◌∷◌, length, codes, position, Option, Some, None}
+use Rattle.std.specs.Option.{option_map}
+use Rattle.std.specs.Str.{bytes_eq, is_utf8}
+use Rattle.svc_base.specs.Options.{◌>>=◌}
+use Rattle.svc_base.specs.Words.{number_of}
+use Rattle.svc_work.specs.declared.works.Work.{Work}
+use Rattle.svc_work.specs.declared.works.Work.TheVariants.{Echo, ForwardTcp, ForwardUnix, Ready}
+use Rattle.svc_work.specs.declared.works.WorkLine.{WorkLine}
+
+-- the address or path that a word is: a text of 1 to 4,096 bytes
+unfoldable pub address_of : List ℕ → Option (List ℕ)
+address_of word = if is_utf8 word && (nat_lt 0 (length word) && nat_le (length word) 4096) then Some word else None
+
+-- `echo`
+unfoldable pub bare_work : List ℕ → Option Work
+bare_work word = if bytes_eq word (codes "echo") then Some Echo else None
+
+-- `ready MS`
+unfoldable pub ready_of : List ℕ → List ℕ → Option Work
+ready_of word value = if bytes_eq word (codes "ready") then option_map Ready (number_of (2 ^ 64) value) else None
+
+-- the work of forwarding to this kind of address
+abbrev pub forward_to : List ℕ → List ℕ → Option Work
+forward_to kind text =
+    if bytes_eq kind (codes "tcp") then Some (ForwardTcp text) else (if bytes_eq kind (codes "unix") then Some (ForwardUnix text) else None)
+
+-- `tcp ADDRESS` or `unix PATH`
+unfoldable pub forward_of : List ℕ → List ℕ → Option Work
+forward_of kind value = address_of value >>= forward_to kind
+
+-- `forward tcp ADDRESS` or `forward unix PATH`
+unfoldable pub long_work : List ℕ → List ℕ → List ℕ → Option Work
+long_work word kind value = if bytes_eq word (codes "forward") then forward_of kind value else None
+
+-- what these words say that a service does
+unfoldable pub work_of : List (List ℕ) → Option Work
+work_of (word ∷ []) = bare_work word
+work_of (word ∷ value ∷ []) = ready_of word value
+work_of (word ∷ kind ∷ value ∷ []) = long_work word kind value
+work_of _ = None
+
+-- the number of the first service with this name
+abbrev pub service_named : List (List ℕ) → List ℕ → Option ℕ
+service_named names word = position (λ name. bytes_eq name word) names
+
+-- what the words of a line say, where the services have these names: the number of a service, and what that does
+unfoldable pub line_of : List (List ℕ) → List (List ℕ) → Option WorkLine
+line_of names [] = None
+line_of names (name ∷ rest) = service_named names name >>= λ s. option_map (λ work. record { service = s; work = work }) (work_of rest)
