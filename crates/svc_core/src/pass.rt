@@ -1,6 +1,6 @@
 //! The pass over the services: it starts what is due, asks for endpoints, and begins to bootstrap.
 
-ghost use Rattle.std.specs.Prelude.{◌≡◌, ◌+◌, ◌*◌, ◌<◌, ◌≤◌, length, slice_index, true, false, IfSome};
+ghost use Rattle.std.specs.Prelude.{◌≡◌, ◌+◌, ◌*◌, ◌<◌, ◌≤◌, length, true, false, IfSome};
 ghost use Rattle.svc_base.specs.Items.{list_of, spare};
 ghost use Rattle.svc_record.specs.Plans.{service_count, endpoints};
 ghost use Rattle.svc_record.specs.Validity.{IsInOrder};

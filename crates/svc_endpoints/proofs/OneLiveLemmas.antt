@@ -1,5 +1,5 @@
 -- Where the table has one descriptor of an address at most, so has the record.
-use Rattle.std.proofs.Common.{ℕ, Bool, true, ◌&&◌, not, inl, inr, List, [], ◌∷◌, ◌≡◌, refl, subst, arith, ◌≤◌, length, Option, Some, None, map, filter}
+use Rattle.std.proofs.Common.{ℕ, Bool, true, inl, inr, List, [], ◌∷◌, ◌≡◌, refl, subst, arith, ◌≤◌, length, Option, Some, None, map, filter}
 use Rattle.std.specs.List.{list_any}
 use Rattle.std.proofs.lemmas.Bool.{cases_Bool, or_cases}
 use Rattle.svc_record.specs.declared.plan.Plan.{Plan}
