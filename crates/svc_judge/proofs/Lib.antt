@@ -2,6 +2,7 @@ pub mod PastLemmas
 pub mod EndpointLemmas
 pub mod OfferLemmas
 pub mod ConnectionLemmas
+pub mod ChainLemmas
 pub mod MarkLemmas
 pub mod EndingLemmas
 pub mod FactLemmas
@@ -11,7 +12,9 @@ pub mod LoopLemmas
 pub mod FirstOfLemmas
 pub mod AnewLemmas
 pub mod QuietLemmas
+pub mod MemoLemmas
 pub mod NewLemmas
+pub mod PassedLemmas
 pub mod ServedLemmas
 pub mod DescriptorLemmas
 pub mod NumberLemmas

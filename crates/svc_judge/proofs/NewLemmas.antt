@@ -1,5 +1,5 @@
 -- The rule that is broken anew is the first that is broken, where none is broken up to the settled prefix before.
-use Rattle.std.proofs.Common.{Bool, true, false, not, ◌&&◌, ◌||◌, ◌+◌, [], ◌∷◌, length, ◌≡◌, refl, sym, ap, ◌∙◌, if◌then◌else◌, Option, Some, None}
+use Rattle.std.proofs.Common.{Bool, true, false, not, ◌&&◌, ◌||◌, ◌+◌, [], ◌∷◌, length, ◌≡◌, refl, sym, ap, ◌∙◌, if◌then◌else◌, Option, None}
 use Rattle.std.proofs.lemmas.Bool.{false≢true}
 use Rattle.std.specs.List.{list_all}
 use Rattle.svc_record.specs.declared.plan.Plan.{Plan}
@@ -21,30 +21,29 @@ use Rattle.svc_record.proofs.Sound.{both}
 use Rattle.svc_judge.specs.Settled.{offer_kept, starts_kept}
 use Rattle.svc_judge.specs.declared.judging.Rule.{Rule}
 use Rattle.svc_judge.specs.declared.judging.Rule.TheVariants as rules
-use Rattle.svc_judge.specs.declared.judging.Breach.{Breach}
 use Rattle.svc_judge.specs.Firsts.{first_of}
 use Rattle.svc_judge.specs.Verdicts.{unless, at, entry_breach, are_endpoints_kept, are_phases_kept, open_breach, step_breach_by, settled_breach_by, step_breach, place_breach, breach_below}
-use Rattle.svc_judge.specs.Anew.{earlier, each_new, is_of_connection, only_connections, connections_kept, conn_kept, boot_kept, connection_breach, new_breach, new_place_breach}
+use Rattle.svc_judge.specs.Anew.{earlier, each_new, is_of_connection, only_connections, connections_kept, conn_kept, boot_kept, connection_breach, new_breach}
 use Rattle.svc_judge.proofs.AnewLemmas.{each_by_new, connections_by_touched}
 use Rattle.svc_judge.proofs.QuietLemmas.{same_since}
 use Rattle.svc_judge.proofs.VerdictLemmas.{neither, no_rule, entry_keeps, goes_on, step_keeps, OpenKeeps, open_keeps}
 
 -- where a prefix breaks no rule and goes on, what is asked of it while it goes on holds
-open_from : (p : Plan) (q : Record) → step_breach p q ≡ None → has_ended p q ≡ false → OpenKeeps p q
+pub open_from : (p : Plan) (q : Record) → step_breach p q ≡ None → has_ended p q ≡ false → OpenKeeps p q
 open_from p q h on =
     let settled = (neither (settled_breach_by (boot_right p q) (conn_right p q) p q) _ h).0 in
     let g : open_breach p q ≡ None = rw (on) at settled in
     open_keeps p q g
 
 -- what is known of the prefix before an event that breaks nothing
-record Before (p : Plan) (q : Record) : Type 0 where
-  step : step_breach p q ≡ None
-  on : has_ended p q ≡ false
+pub record Before (p : Plan) (q : Record) : Type 0 where
+  pub step : step_breach p q ≡ None
+  pub on : has_ended p q ≡ false
 
-before : (p : Plan) (e : Entry) (q : Record) → breach_below p (e ∷ q) ≡ None → breach_below p q ≡ None
+pub before : (p : Plan) (e : Entry) (q : Record) → breach_below p (e ∷ q) ≡ None → breach_below p q ≡ None
 before p e q h = (neither (breach_below p q) (place_breach p e q) h).0
 
-at_event : (p : Plan) (q : Record) → (e : _) → breach_below p (Got e ∷ q) ≡ None → Before p q
+pub at_event : (p : Plan) (q : Record) → (e : _) → breach_below p (Got e ∷ q) ≡ None → Before p q
 at_event p q e h =
     let cut = neither (breach_below p q) (place_breach p (Got e) q) h in
     let last = neither (at (length q) (step_breach p q)) (at (length q + 1) (entry_breach p (Got e) q)) cut.1 in
@@ -110,7 +109,7 @@ asked_twice r l s e x y z w h g f i k = rw (h, g, f, i) k
 both_same : (a b x y : Bool) → a ≡ x → b ≡ y → (x && y) ≡ true → (a && b) ≡ true
 both_same a b x y h g f = rw (h, g) f
 
-all_false : (a b c : Bool) → ((a || b) || c) ≡ false → (a ≡ false) × (b ≡ false) × (c ≡ false)
+pub all_false : (a b c : Bool) → ((a || b) || c) ≡ false → (a ≡ false) × (b ≡ false) × (c ≡ false)
 all_false true b c h = absurd (false≢true (sym h))
 all_false false true c h = absurd (false≢true (sym h))
 all_false false false c h = (refl, refl, h)
@@ -193,16 +192,3 @@ pub new_is : (p : Plan) (q : Record) → breach_below p q ≡ None → step_brea
 new_is p q h =
     by_case (only_connections q) (step_breach p q) (connection_breach p q) (step_breach_by (boot_kept p q) (conn_kept p q) p q)
     (quiet p q h) (λ n. step_anew p q (held p q h))
-
-place_is : (p : Plan) (e : Entry) (q : Record) → breach_below p q ≡ None → place_breach p e q ≡ new_place_breach p e q
-place_is p (Got e) q h = ap (λ r. first_of (at (length q) r) (at (length q + 1) (entry_breach p (Got e) q))) (new_is p q h)
-place_is p (Told a) q h = refl
-
-joined : (x y z found : Option Breach) → (x ≡ None → y ≡ z) → first_of (first_of x y) found ≡ first_of x (first_of z found)
-joined (Some b) y z found f = refl
-joined None y z found f = ap (λ o. first_of o found) (f refl)
-
--- one entry further back
-pub new_place_step : (p : Plan) (e : Entry) (q : Record) (found : Option Breach)
-    → first_of (first_of (breach_below p q) (place_breach p e q)) found ≡ first_of (breach_below p q) (first_of (new_place_breach p e q) found)
-new_place_step p e q found = joined (breach_below p q) (place_breach p e q) (new_place_breach p e q) found (place_is p e q)

@@ -25,11 +25,11 @@ use Rattle.svc_judge.specs.Settled.{offer_kept, starts_kept, settled_test}
 use Rattle.svc_judge.specs.Anew.{earlier, is_of_connection, only_connections}
 
 -- the value is the same with an entry of a connection as without it
-abbrev Ignores : (Record → Bool) → Type 0
+abbrev pub Ignores : (Record → Bool) → Type 0
 Ignores test = (e : Entry) (q : Record) → is_of_connection e ≡ true → test (e ∷ q) ≡ test q
 
 -- so it is where it is with each kind of entry of a connection
-ignores : (test : Record → Bool)
+pub ignores : (test : Record → Bool)
     → ((s i n : ℕ) (peer : Peer) (q : Record) → test (Got (Arrived s i n peer) ∷ q) ≡ test q)
     → ((n : ℕ) (ok : Bool) (q : Record) → test (Got (Set n ok) ∷ q) ≡ test q)
     → ((n : ℕ) (ok : Bool) (q : Record) → test (Got (Shaken n ok) ∷ q) ≡ test q)
@@ -68,17 +68,17 @@ since test f (Told a ∷ q) h =
     second true c g = g
     second false c g = absurd (false≢true g)
 
-ignores_waits : (p : Plan) → Ignores (waits_are_over p)
+pub ignores_waits : (p : Plan) → Ignores (waits_are_over p)
 ignores_waits p =
     ignores (waits_are_over p) (λ s i n peer q. refl) (λ n ok q. refl) (λ n ok q. refl) (λ n q. refl) (λ n said q. refl) (λ n q. refl) (λ n list q. refl)
     (λ n q. refl) (λ n q. refl) (λ n q. refl)
 
-ignores_tested : (p : Plan) → Ignores (ends_tested p)
+pub ignores_tested : (p : Plan) → Ignores (ends_tested p)
 ignores_tested p =
     ignores (ends_tested p) (λ s i n peer q. refl) (λ n ok q. refl) (λ n ok q. refl) (λ n q. refl) (λ n said q. refl) (λ n q. refl) (λ n list q. refl)
     (λ n q. refl) (λ n q. refl) (λ n q. refl)
 
-ignores_early : (p : Plan) → Ignores (has_ended_early p)
+pub ignores_early : (p : Plan) → Ignores (has_ended_early p)
 ignores_early p =
     ignores (has_ended_early p) (λ s i n peer q. refl) (λ n ok q. refl) (λ n ok q. refl) (λ n q. refl) (λ n said q. refl) (λ n q. refl) (λ n list q. refl)
     (λ n q. refl) (λ n q. refl) (λ n q. refl)

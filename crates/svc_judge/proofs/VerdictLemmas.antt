@@ -49,7 +49,7 @@ no_place : (n : ℕ) (r : Option Rule) → r ≡ None → at n r ≡ None
 no_place n r h = rw (h)
 
 -- where no rule is broken, each entry passes a test that the unbroken rules give
-entries : (p : Plan) (test : Entry → Record → Bool) → ((e : Entry) (b : Record) → entry_breach p e b ≡ None → test e b ≡ true) → (q : Record)
+pub entries : (p : Plan) (test : Entry → Record → Bool) → ((e : Entry) (b : Record) → entry_breach p e b ≡ None → test e b ≡ true) → (q : Record)
     → breach_below p q ≡ None → each_entry test q ≡ true
 entries p test f [] h = refl
 entries p test f (Got e ∷ b) h =

@@ -1,5 +1,5 @@
 -- What of a settled prefix is looked at anew, where no rule was broken up to the one before it.
-use Rattle.std.specs.Prelude.{ℕ, Bool, true, false, ◌==◌, not, ◌&&◌, ◌||◌, ◌+◌, [], ◌∷◌, length, Option, None, if◌then◌else◌}
+use Rattle.std.specs.Prelude.{ℕ, Bool, true, false, ◌==◌, not, ◌&&◌, ◌||◌, [], ◌∷◌, Option, None, if◌then◌else◌}
 use Rattle.std.specs.List.{list_all}
 use Rattle.svc_record.specs.declared.plan.Plan.{Plan}
 use Rattle.svc_record.specs.declared.entry.Entry.{Entry}
@@ -12,9 +12,7 @@ use Rattle.svc_record.specs.Boot.{boot_entries_right, stands_first, fork_first, 
 use Rattle.svc_record.specs.Connections.{Arrival, arrivals, connection_right, rests_right, rest_due}
 use Rattle.svc_judge.specs.declared.judging.Rule.{Rule}
 use Rattle.svc_judge.specs.declared.judging.Rule.TheVariants as rules
-use Rattle.svc_judge.specs.declared.judging.Breach.{Breach}
-use Rattle.svc_judge.specs.Firsts.{first_of}
-use Rattle.svc_judge.specs.Verdicts.{unless, at, entry_breach, step_breach_by}
+use Rattle.svc_judge.specs.Verdicts.{unless, step_breach_by}
 
 -- what stands before the last event
 abbrev pub earlier : Record → Record
@@ -93,8 +91,3 @@ connection_breach p q = unless (each_new (fork_first p) q) rules.Bootstrapping (
 -- the first rule that a settled prefix breaks, where none is broken up to the one before it
 abbrev pub new_breach : Plan → Record → Option Rule
 new_breach p q = if only_connections q then connection_breach p q else step_breach_by (boot_kept p q) (conn_kept p q) p q
-
--- the breach at an entry, where none is broken up to it
-abbrev pub new_place_breach : Plan → Entry → Record → Option Breach
-new_place_breach p (Got e) before = first_of (at (length before) (new_breach p before)) (at (length before + 1) (entry_breach p (Got e) before))
-new_place_breach p (Told a) before = at (length before + 1) (entry_breach p (Told a) before)

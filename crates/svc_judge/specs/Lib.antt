@@ -13,3 +13,7 @@ pub mod Closing
 pub mod Numbers
 pub mod Verdicts
 pub mod Anew
+pub mod Chains
+pub mod Memos
+pub mod Passed
+pub mod Groups

@@ -4,9 +4,12 @@ ghost use Rattle.std.specs.Prelude.{◌≡◌, ◌==◌, ◌||◌};
 ghost use Rattle.svc_judge.specs.Pasts.{IsPast, plan_of, record_of};
 ghost use Rattle.svc_judge.specs.Rules.{entry_test};
 ghost use Rattle.svc_judge.specs.Anew.{is_of_connection, only_connections, touches, is_touched, is_connection_kept, connections_kept, conn_kept, boot_kept, each_new};
+ghost use Rattle.svc_judge.specs.Chains.{IsChains};
 ghost use Rattle.svc_judge.specs.ConnectionSteps.{arrival};
 
+use crate::alone;
 use crate::boot::boot_entries_right;
+use crate::chains::Chains;
 use crate::connections::{connection_right, rests_right};
 use crate::past::{Past, Split};
 use crate::rules::{EntryRule, each_entry};
@@ -14,7 +17,7 @@ use svc_record::{Action, Entry, Event, ExecutionPhase};
 use svc_socket::Peer;
 
 /// The entry is of a connection, and comes while the run goes on.
-fn is_of_connection(entry: &Entry) -> bool
+pub(crate) fn is_of_connection(entry: &Entry) -> bool
     ensures { result ≡ is_of_connection entry.now }
 {
     match entry {
@@ -147,11 +150,14 @@ pub(crate) fn each_new(rule: EntryRule, past: &Past) -> bool
 }
 
 /// What is asked of connections, where it held before the last event.
-pub(crate) fn conn_kept(past: &Past) -> bool
-    requires { IsPast past.now }
+pub(crate) fn conn_kept(past: &Past, chains: &Chains) -> bool
+    requires past { IsPast past.now }
+    requires chains { IsChains chains.now (record_of past.now) }
     ensures { result ≡ conn_kept (plan_of past.now) (record_of past.now) }
 {
-    connections_kept(past) && rests_right(past.entries) && each_entry(EntryRule::RestDue, past)
+    alone::connections_kept(past, chains)
+        && rests_right(past.entries)
+        && each_entry(EntryRule::RestDue, past)
 }
 
 /// What is asked of the beginning, where it held before the last event.

@@ -1,13 +1,13 @@
 //! What becomes of a connection.
 
 ghost use Rattle.std.specs.Prelude.{◌≡◌, ◌==◌, ◌&&◌};
-ghost use Rattle.std.specs.List.{list_all};
 ghost use Rattle.std.specs.Option.{option_copied, option_to_list};
 ghost use Rattle.svc_record.specs.Record.{has, once_if, times};
-ghost use Rattle.svc_record.specs.Connections.{Arrival, arrivals, goes_on, is_arrival, is_live_connection, same_keepalive, same_setting, same_settings, first_of, settings_list, is_settings_of, is_known, has_filter, is_cut_off, connection_right, rests_right, rest_due, connection_known};
+ghost use Rattle.svc_record.specs.Connections.{Arrival, goes_on, is_arrival, is_live_connection, same_keepalive, same_setting, same_settings, first_of, settings_list, is_settings_of, is_known, has_filter, is_cut_off, connection_right, rests_right, rest_due, connection_known};
 ghost use Rattle.svc_judge.specs.Pasts.{IsPast, plan_of, record_of};
-ghost use Rattle.svc_judge.specs.ConnectionSteps.{sort_test, without_front, arrival, judgement_right, connections_right, first_of_each, options_list, is_done, is_kept};
+ghost use Rattle.svc_judge.specs.ConnectionSteps.{sort_test, without_front, arrival, judgement_right, first_of_each, options_list, is_done};
 ghost use Rattle.svc_judge.specs.Endings.{is_uncut};
+ghost use Rattle.svc_judge.specs.Chains.{connection_right_by};
 
 use crate::boot::once_if;
 use crate::looking::{has, is_full_at, times};
@@ -15,7 +15,7 @@ use crate::past::Past;
 use crate::plans::{filter_of, is_endpoint, is_unix, options_of};
 use crate::query::{Answer, Ask, Deed, News, Order, Query};
 use svc_base::{Setting, TcpKeepalive};
-use svc_record::{Action, Entry, Event};
+use svc_record::{Action, Entry};
 use svc_socket::Peer;
 
 /// Neither refused nor dropped nor finished.
@@ -237,10 +237,17 @@ fn judgement_right(past: &Past, s: u64, i: u64, c: u64, peer: Peer) -> bool
             && times_settings(past, s, i, c) == if refused { 0 } else { 1 })
 }
 
-/// Each entry on the connection stands where it is due, once, and not at all elsewhere.
-pub(crate) fn connection_right(past: &Past, s: u64, i: u64, c: u64, peer: Peer) -> bool
-    requires { IsPast past.now }
-    ensures { result ≡ connection_right (plan_of past.now) (record_of past.now) (arrival s i c peer) }
+/// Each entry on the connection stands where it is due, once, and not at all elsewhere, where it is known
+/// whether the end of the run cut it off.
+pub(crate) fn connection_right_by(
+    past: &Past,
+    cut: bool,
+    s: u64,
+    i: u64,
+    c: u64,
+    peer: Peer,
+) -> bool
+    ensures { result ≡ connection_right_by cut (plan_of past.now) (record_of past.now) (arrival s i c peer) }
 {
     judgement_right(past, s, i, c, peer)
         && (once_if(
@@ -257,40 +264,15 @@ pub(crate) fn connection_right(past: &Past, s: u64, i: u64, c: u64, peer: Peer) 
                 || has(Query::Answer(Answer::HandshakeFailed(c)), past.entries),
             Query::Deed(Deed::Drop(c)),
             past.entries,
-        ) && once_if(is_cut_off(past, c), Query::Deed(Deed::Cut(c)), past.entries))
+        ) && once_if(cut, Query::Deed(Deed::Cut(c)), past.entries))
 }
 
-/// The connection is right.
-fn is_kept(past: &Past, s: u64, i: u64, c: u64, peer: Peer) -> bool
+/// Each entry on the connection stands where it is due, once, and not at all elsewhere.
+pub(crate) fn connection_right(past: &Past, s: u64, i: u64, c: u64, peer: Peer) -> bool
     requires { IsPast past.now }
-    ensures { result ≡ is_kept (plan_of past.now) (record_of past.now) (arrival s i c peer) }
+    ensures { result ≡ connection_right (plan_of past.now) (record_of past.now) (arrival s i c peer) }
 {
-    connection_right(past, s, i, c, peer)
-}
-
-/// Each connection is kept right.
-fn are_kept(past: &Past) -> bool
-    requires { IsPast past.now }
-    ensures { result ≡ list_all (is_kept (plan_of past.now) (record_of past.now)) (arrivals (record_of past.now)) }
-{
-    let mut rest = past.entries;
-    'entries: while let Some((entry, before)) = rest.split_first() {
-        if let Entry::Got(Event::Arrived(s, i, c, peer)) = entry
-            && !is_kept(past, u64::from(*s), u64::from(*i), *c, *peer)
-        {
-            return false;
-        }
-        rest = before;
-    }
-    true
-}
-
-/// Each connection is right.
-pub(crate) fn connections_right(past: &Past) -> bool
-    requires { IsPast past.now }
-    ensures { result ≡ connections_right (plan_of past.now) (record_of past.now) }
-{
-    are_kept(past)
+    connection_right_by(past, is_cut_off(past, c), s, i, c, peer)
 }
 
 /// Loops rest after each failure that asks for it.

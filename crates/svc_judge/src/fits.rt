@@ -1,6 +1,8 @@
 //! Which event may come after a record.
 
-ghost use Rattle.std.specs.Prelude.{◌≡◌};
+ghost use Rattle.std.specs.Prelude.{◌≡◌, true};
+ghost use Rattle.svc_record.specs.declared.plan.Plan.{Plan};
+ghost use Rattle.svc_judge.specs.Groups.{is_answer};
 ghost use Rattle.svc_record.specs.Fits.{is_new, are_new, may_end, accepts, parent_waits, fits_row, event_fits};
 ghost use Rattle.svc_judge.specs.Pasts.{IsPast, plan_of, record_of};
 ghost use Rattle.svc_judge.specs.Steps.{loop_fits};
@@ -50,7 +52,7 @@ fn may_end(past: &Past, s: u64) -> bool
 }
 
 /// The service serves, and a loop of its endpoint goes on.
-fn accepts(past: &Past, s: u64, i: u64) -> bool
+pub(crate) fn accepts(past: &Past, s: u64, i: u64) -> bool
     requires { IsPast past.now }
     ensures { result ≡ accepts (plan_of past.now) (record_of past.now) s i }
 {
@@ -75,8 +77,29 @@ fn loop_fits(past: &Past, s: u64, i: u64, j: u64) -> bool
         && (j < past.plan.tasks && !has(Query::Answer(Answer::LoopEnd(s, i, j)), past.entries))
 }
 
+/// The ask is open that the event answers.
+fn fits_answer(event: &Event, entries: &[Entry]) -> bool
+    requires { is_answer event.now ≡ true }
+    ensures { (p : Plan) → result ≡ fits_row p entries.now event.now }
+{
+    match event {
+        Event::InUse(s, i) => is_open(Ask::Bind(u64::from(*s), u64::from(*i)), entries),
+        Event::BindFailed(s, i) => is_open(Ask::Bind(u64::from(*s), u64::from(*i)), entries),
+        Event::Adopted(s, i) => is_open(Ask::Adopt(u64::from(*s), u64::from(*i)), entries),
+        Event::AdoptFailed(s, i) => is_open(Ask::Adopt(u64::from(*s), u64::from(*i)), entries),
+        Event::NoSenderYet | Event::ReceiveFailed => is_open(Ask::Receive, entries),
+        Event::Connected | Event::NotThere | Event::StillConnecting | Event::ConnectFailed =>
+            is_open(Ask::Connect, entries),
+        Event::Sent | Event::SendBusy | Event::SendFailed => is_open(Ask::Send, entries),
+        Event::Set(c, _) => is_open(Ask::Settings(*c), entries),
+        Event::Shaken(c, _) => is_open(Ask::Handshake(*c), entries),
+        Event::Side(_) => is_open(Ask::Fork, entries),
+        _ => unreachable!(),
+    }
+}
+
 /// The event's condition holds.
-fn fits_row(event: &Event, past: &Past) -> bool
+pub(crate) fn fits_row(event: &Event, past: &Past) -> bool
     requires { IsPast past.now }
     ensures { result ≡ fits_row (plan_of past.now) (record_of past.now) event.now }
 {
@@ -96,33 +119,23 @@ fn fits_row(event: &Event, past: &Past) -> bool
         Event::Bound(s, i, fd) => {
             is_open(Ask::Bind(u64::from(*s), u64::from(*i)), entries) && is_new(entries, *fd)
         }
-        Event::InUse(s, i) => is_open(Ask::Bind(u64::from(*s), u64::from(*i)), entries),
-        Event::BindFailed(s, i) => is_open(Ask::Bind(u64::from(*s), u64::from(*i)), entries),
-        Event::Adopted(s, i) => is_open(Ask::Adopt(u64::from(*s), u64::from(*i)), entries),
-        Event::AdoptFailed(s, i) => is_open(Ask::Adopt(u64::from(*s), u64::from(*i)), entries),
         Event::Received(_, fds) => {
             is_open(Ask::Receive, entries)
                 && fds.as_slice().len() <= 32
                 && are_new(entries, fds.as_slice())
         }
-        Event::NoSenderYet | Event::ReceiveFailed => is_open(Ask::Receive, entries),
-        Event::Connected | Event::NotThere | Event::StillConnecting | Event::ConnectFailed =>
-            is_open(Ask::Connect, entries),
-        Event::Sent | Event::SendBusy | Event::SendFailed => is_open(Ask::Send, entries),
         Event::Arrived(s, i, c, _) => {
             accepts(past, u64::from(*s), u64::from(*i))
                 && !has(Query::Answer(Answer::Arrival(*c)), entries)
         }
         Event::AcceptFailed(s, i, _) => accepts(past, u64::from(*s), u64::from(*i)),
-        Event::Set(c, _) => is_open(Ask::Settings(*c), entries),
-        Event::Shaken(c, _) => is_open(Ask::Handshake(*c), entries),
         Event::Finished(c) => {
             has(Query::Deed(Deed::Serve(*c)), entries) && is_live_connection(entries, *c)
         }
         Event::LoopEnded(s, i, j) => loop_fits(past, u64::from(*s), u64::from(*i), *j),
         Event::Signal(_) => has(Query::Order(Order::Running), entries),
-        Event::Side(_) => is_open(Ask::Fork, entries),
         Event::ChildReady | Event::ChildGone | Event::DropFailed => parent_waits(past),
+        _ => fits_answer(event, entries),
     }
 }
 

@@ -1,12 +1,19 @@
 //! The judgement: whether the run served, and the first place at which the record isn't right.
 
-ghost use Rattle.std.specs.Prelude.{◌≡◌, ◌+◌, Option, Some, IfOk};
+ghost use Rattle.std.specs.Prelude.{◌≡◌, ◌+◌, length, Option, Some, IfOk, OnOk};
 ghost use Rattle.svc_record.specs.Right.{is_served};
+ghost use Rattle.svc_record.specs.Fits.{event_fits};
+ghost use Rattle.svc_record.specs.Connections.{connection_known};
 ghost use Rattle.svc_judge.specs.Pasts.{IsPast, plan_of, record_of};
-ghost use Rattle.svc_judge.specs.Anew.{connection_breach, new_breach, new_place_breach};
-ghost use Rattle.svc_judge.specs.Verdicts.{entry_breach, open_breach_by, settled_breach_by, end_breach, step_breach_by, breach_below, breach_of, are_endpoints_kept, are_phases_kept};
+ghost use Rattle.svc_judge.specs.Anew.{connection_breach, boot_kept, conn_kept};
+ghost use Rattle.svc_judge.specs.Passed.{end_anew, step_anew_by, late_breach, late_place_breach};
+ghost use Rattle.svc_judge.specs.Chains.{IsChains};
+ghost use Rattle.svc_judge.specs.Memos.{IsMemo};
+ghost use Rattle.svc_judge.specs.Verdicts.{at, entry_breach, open_breach_by, settled_breach_by, breach_below, breach_of, are_endpoints_kept, are_phases_kept};
 
-use crate::anew::{boot_kept, conn_kept, connections_kept, each_new, only_connections};
+use crate::alone::{connection_known, connections_kept};
+use crate::anew::{boot_kept, conn_kept, each_new, only_connections};
+use crate::chains::Chains;
 use crate::closes::closes_right;
 use crate::descriptors::one_live;
 use crate::endpoints::{endpoints_right, endpoints_right_late};
@@ -15,16 +22,18 @@ use crate::facts::{offer_of, opened_of, startup_order};
 use crate::failed::fails_right;
 use crate::looking::has;
 use crate::marks::phases_right;
+use crate::memo::Memo;
 use crate::offer::one_ask;
 use crate::past::{Past, Split};
 use crate::query::{Order, Query};
 use crate::rules::{EntryRule, each_entry};
 use crate::settled::{
-    ended_right, in_service, is_last_well, is_served, offer_kept, passed_right, starts_kept,
+    ended_right, in_service, is_last_well, is_served, offer_kept, passed_anew, starts_kept,
     tested_right,
 };
 use crate::waits::{has_ended, waits_are_over};
 use std::alloc::Global;
+use std::mem::drop;
 use svc_base::NoMemory;
 use svc_record::{Entry, Plan};
 
@@ -105,12 +114,15 @@ pub struct Verdict {
     pub breach: Option<Breach>,
 }
 
-/// The first rule that the entry breaks, if it breaks one.
-fn entry_breach(entry: &Entry, before: &Past) -> Option<Rule>
-    requires { IsPast before.now }
+/// The first rule that the entry breaks, if it breaks one, where it is known whether the event may come, and
+/// whether its connection has arrived.
+fn entry_breach(entry: &Entry, before: &Past, fits: bool, known: bool) -> Option<Rule>
+    requires past { IsPast before.now }
+    requires fits { fits ≡ event_fits (plan_of before.now) entry.now (record_of before.now) }
+    requires known { known ≡ connection_known (plan_of before.now) entry.now (record_of before.now) }
     ensures { result ≡ entry_breach (plan_of before.now) entry.now (record_of before.now) }
 {
-    if !EntryRule::Fits.holds(entry, before) {
+    if !fits {
         return Some(Rule::Fits);
     }
     if !EntryRule::StartDue.holds(entry, before) {
@@ -140,7 +152,7 @@ fn entry_breach(entry: &Entry, before: &Past) -> Option<Rule>
     if !EntryRule::AskKnown.holds(entry, before) {
         return Some(Rule::AskKnown);
     }
-    if !EntryRule::ConnectionKnown.holds(entry, before) {
+    if !known {
         return Some(Rule::ConnectionKnown);
     }
     None
@@ -216,33 +228,33 @@ fn settled_breach(past: &Past, boots: bool, connects: bool) -> Option<Rule>
     }
 }
 
-/// The first rule of a run's end that the settled prefix breaks, if it breaks one.
-fn end_breach(alloc: Global, past: &Past) -> Result<Option<Rule>, NoMemory>
+/// The first rule of a run's end that the settled prefix breaks, if it breaks one, where none is broken up to it.
+fn end_anew(alloc: Global, past: &Past) -> Result<Option<Rule>, NoMemory>
     requires { IsPast past.now }
-    ensures { IfOk result (λ rule. rule ≡ end_breach (plan_of past.now) (record_of past.now)) }
+    ensures { IfOk result (λ rule. rule ≡ end_anew (plan_of past.now) (record_of past.now)) }
 {
-    if waits_are_over(past) && !passed_right(alloc, past)? {
+    if waits_are_over(past) && !passed_anew(alloc, past)? {
         return Ok(Some(Rule::Served));
     }
     if ends_tested(past) && !tested_right(past) {
         return Ok(Some(Rule::Tested));
     }
-    if !is_last_well(past) {
+    if !is_last_well(alloc, past)? {
         return Ok(Some(Rule::LastStep));
     }
     Ok(None)
 }
 
-/// The first rule that a settled prefix breaks, if it breaks one, where what is asked of the beginning and of
-/// connections is known.
-fn step_breach_by(
+/// The first rule that a settled prefix breaks, if it breaks one, where none is broken up to it, and what is
+/// asked of the beginning and of connections is known.
+fn step_anew_by(
     alloc: Global,
     past: &Past,
     boots: bool,
     connects: bool,
 ) -> Result<Option<Rule>, NoMemory>
     requires { IsPast past.now }
-    ensures { IfOk result (λ rule. rule ≡ step_breach_by boots connects (plan_of past.now) (record_of past.now)) }
+    ensures { IfOk result (λ rule. rule ≡ step_anew_by boots connects (plan_of past.now) (record_of past.now)) }
 {
     if let Some(rule) = settled_breach(past, boots, connects) {
         return Ok(Some(rule));
@@ -253,65 +265,119 @@ fn step_breach_by(
     if !one_ask(past) {
         return Ok(Some(Rule::OneAsk));
     }
-    end_breach(alloc, past)
+    end_anew(alloc, past)
 }
 
 /// The first rule that a settled prefix breaks after entries of connections alone, if it breaks one.
-fn connection_breach(past: &Past) -> Option<Rule>
-    requires { IsPast past.now }
+fn connection_breach(past: &Past, chains: &Chains) -> Option<Rule>
+    requires past { IsPast past.now }
+    requires chains { IsChains chains.now (record_of past.now) }
     ensures { result ≡ connection_breach (plan_of past.now) (record_of past.now) }
 {
     if !each_new(EntryRule::ForkFirst, past) {
         return Some(Rule::Bootstrapping);
     }
-    if !connections_kept(past) {
+    if !connections_kept(past, chains) {
         return Some(Rule::Connections);
     }
     None
 }
 
-/// The first rule that a settled prefix breaks, if it breaks one, where none is broken up to the one before it.
-fn new_breach(alloc: Global, past: &Past) -> Result<Option<Rule>, NoMemory>
-    requires { IsPast past.now }
-    ensures { IfOk result (λ rule. rule ≡ new_breach (plan_of past.now) (record_of past.now)) }
+/// The same, where what is asked of the beginning and of connections is looked at only in a run that goes on.
+#[tactic(auto, using(crate::proofs::PassedLemmas::ended_anyhow))]
+fn step_anew(alloc: Global, past: &Past, chains: &Chains) -> Result<Option<Rule>, NoMemory>
+    requires past { IsPast past.now }
+    requires chains { IsChains chains.now (record_of past.now) }
+    ensures { IfOk result (λ rule. rule ≡ step_anew_by (boot_kept (plan_of past.now) (record_of past.now))
+        (conn_kept (plan_of past.now) (record_of past.now)) (plan_of past.now) (record_of past.now)) }
 {
-    if only_connections(past.entries) {
-        Ok(connection_breach(past))
+    if has_ended(past) {
+        step_anew_by(alloc, past, true, true)
     } else {
-        step_breach_by(alloc, past, boot_kept(past), conn_kept(past))
+        step_anew_by(alloc, past, boot_kept(past), conn_kept(past, chains))
     }
 }
 
-/// The breach at an entry, if there is one, where there is none up to it: where the entry is an event, first
-/// that of what stands before it.
-fn new_place_breach(alloc: Global, entry: &Entry, before: &Past) -> Result<Option<Breach>, NoMemory>
-    requires { IsPast before.now }
-    ensures { IfOk result (λ found. found ≡ new_place_breach (plan_of before.now) entry.now (record_of before.now)) }
+/// The first rule that a settled prefix breaks, if it breaks one, where none is broken up to the one before it.
+fn late_breach(alloc: Global, past: &Past, chains: &Chains) -> Result<Option<Rule>, NoMemory>
+    requires past { IsPast past.now }
+    requires chains { IsChains chains.now (record_of past.now) }
+    ensures { IfOk result (λ rule. rule ≡ late_breach (plan_of past.now) (record_of past.now)) }
 {
-    if let Entry::Got(_) = entry
-        && let Some(rule) = new_breach(alloc, before)?
-    {
-        return Ok(Some(Breach {
-            entry: before.entries.len() as u64,
-            rule,
-        }));
+    if only_connections(past.entries) {
+        Ok(connection_breach(past, chains))
+    } else {
+        step_anew(alloc, past, chains)
     }
-    match entry_breach(entry, before) {
-        Some(rule) => Ok(Some(Breach {
+}
+
+/// The breach of an entry, if it breaks a rule.
+fn entry_place(entry: &Entry, before: &Past, chains: &Chains, memo: &mut Memo) -> Option<Breach>
+    requires past { IsPast before.now }
+    requires chains { IsChains chains.now (record_of before.now) }
+    requires memo { IsMemo memo.old (plan_of before.now) (record_of before.now) }
+    ensures is { result ≡ at (length (record_of before.now) + 1) (entry_breach (plan_of before.now) entry.now (record_of before.now)) }
+    ensures memo { IsMemo memo.new (plan_of before.now) (record_of before.now) }
+{
+    let fits = memo.event_fits(entry, before, chains);
+    let known = connection_known(entry, before, chains);
+    match entry_breach(entry, before, fits, known) {
+        Some(rule) => Some(Breach {
             entry: before.entries.len() as u64 + 1,
+            rule,
+        }),
+        None => None,
+    }
+}
+
+/// The breach of a settled prefix, if it breaks a rule.
+fn settled_place(alloc: Global, past: &Past, chains: &Chains) -> Result<Option<Breach>, NoMemory>
+    requires past { IsPast past.now }
+    requires chains { IsChains chains.now (record_of past.now) }
+    ensures { IfOk result (λ found. found ≡ at (length (record_of past.now)) (late_breach (plan_of past.now) (record_of past.now))) }
+{
+    match late_breach(alloc, past, chains)? {
+        Some(rule) => Ok(Some(Breach {
+            entry: past.entries.len() as u64,
             rule,
         })),
         None => Ok(None),
     }
 }
 
-/// The first breach in the entries and in what stands before an event, if there is one.
-#[tactic(auto, using(crate::proofs::NewLemmas::new_place_step))]
-fn breach_below(alloc: Global, past: &Past) -> Result<Option<Breach>, NoMemory>
-    requires { IsPast past.now }
+/// The breach at an entry, if there is one, where there is none up to it: where the entry is an event, first
+/// that of what stands before it.
+fn late_place_breach(
+    alloc: Global,
+    entry: &Entry,
+    before: &Past,
+    chains: &Chains,
+    memo: &mut Memo,
+) -> Result<Option<Breach>, NoMemory>
+    requires past { IsPast before.now }
+    requires chains { IsChains chains.now (record_of before.now) }
+    requires memo { IsMemo memo.old (plan_of before.now) (record_of before.now) }
+    ensures is { IfOk result (λ found. found ≡ late_place_breach (plan_of before.now) entry.now (record_of before.now)) }
+    ensures memo { OnOk result (IsMemo memo.new (plan_of before.now) (record_of before.now)) }
+{
+    if let Entry::Got(_) = entry
+        && let Some(breach) = settled_place(alloc, before, chains)?
+    {
+        return Ok(Some(breach));
+    }
+    Ok(entry_place(entry, before, chains, memo))
+}
+
+/// The first breach in the entries and in what stands before an event, if there is one, where the chains are
+/// those of the entries.
+#[tactic(auto, using(crate::proofs::PassedLemmas::late_place_step))]
+fn breach_below(alloc: Global, past: &Past, chains: &mut Chains) -> Result<Option<Breach>, NoMemory>
+    requires past { IsPast past.now }
+    requires chains { IsChains chains.old (record_of past.now) }
     ensures { IfOk result (λ found. found ≡ breach_below (plan_of past.now) (record_of past.now)) }
 {
     let mut rest = *past;
+    let mut memo = Memo::new();
     let mut found = None;
     'entries: while let Some(
         Split {
@@ -321,7 +387,9 @@ fn breach_below(alloc: Global, past: &Past) -> Result<Option<Breach>, NoMemory>
         },
     ) = rest.split()
     {
-        if let Some(breach) = new_place_breach(alloc, entry, &before)? {
+        chains.take(entry);
+        memo = memo.before(entry);
+        if let Some(breach) = late_place_breach(alloc, entry, &before, chains, &mut memo)? {
             found = Some(breach);
         }
         rest = before;
@@ -329,21 +397,41 @@ fn breach_below(alloc: Global, past: &Past) -> Result<Option<Breach>, NoMemory>
     Ok(found)
 }
 
+/// The first breach of the record, if there is one, where the chains are those of its entries.
+#[tactic(auto, using(crate::proofs::PassedLemmas::late_is))]
+fn breach_by(
+    alloc: Global,
+    past: &Past,
+    last: Option<Breach>,
+    chains: &mut Chains,
+) -> Result<Option<Breach>, NoMemory>
+    requires past { IsPast past.now }
+    requires last { last ≡ at (length (record_of past.now)) (late_breach (plan_of past.now) (record_of past.now)) }
+    requires chains { IsChains chains.old (record_of past.now) }
+    ensures { IfOk result (λ found. found ≡ breach_of (plan_of past.now) (record_of past.now)) }
+{
+    if let Some(found) = breach_below(alloc, past, chains)? {
+        return Ok(Some(found));
+    }
+    Ok(last)
+}
+
 /// The first breach of the record, if there is one.
-#[tactic(auto, using(crate::proofs::NewLemmas::new_is))]
 fn breach_of(alloc: Global, past: &Past) -> Result<Option<Breach>, NoMemory>
     requires { IsPast past.now }
     ensures { IfOk result (λ found. found ≡ breach_of (plan_of past.now) (record_of past.now)) }
 {
-    if let Some(found) = breach_below(alloc, past)? {
-        return Ok(Some(found));
-    }
-    match new_breach(alloc, past)? {
-        Some(rule) => Ok(Some(Breach {
-            entry: past.entries.len() as u64,
-            rule,
-        })),
-        None => Ok(None),
+    let mut chains = Chains::new(alloc, past.entries)?;
+    match settled_place(alloc, past, &chains) {
+        Ok(last) => {
+            let found = breach_by(alloc, past, last, &mut chains);
+            drop(chains);
+            found
+        }
+        Err(NoMemory) => {
+            drop(chains);
+            Err(NoMemory)
+        }
     }
 }
 
@@ -351,8 +439,10 @@ fn breach_of(alloc: Global, past: &Past) -> Result<Option<Breach>, NoMemory>
 /// the first place at which a prefix of it isn't, with a rule that it breaks there. Nothing is asked of the
 /// plan.
 ///
-/// Its cost grows with the square of the record's length, times what is opened, and the services' endpoints.
-/// `NoMemory` where there is no memory for what is looked up often.
+/// An entry on a connection costs what stands in the record on those connections whose numbers leave the same
+/// remainder, divided by a quarter of the record's length. Any other entry costs the record's length up to
+/// there, times what is opened, and the services' endpoints, so a record of such entries alone the square of
+/// its length. `NoMemory` where there is no memory for what is looked up often.
 #[tactic(auto, using(crate::proofs::ServedLemmas::served_by_waits))]
 pub fn judge(alloc: Global, plan: &Plan, entries: &[Entry]) -> Result<Verdict, NoMemory>
     ensures served { IfOk result (λ v. v.served ≡ is_served plan.now entries.now) }

@@ -1,8 +1,10 @@
 //! Whether a record is right: each definition of a right record as a function that looks back over it.
 #![tactic(auto)]
 
+mod alone;
 mod anew;
 mod boot;
+mod chains;
 mod closes;
 mod connections;
 mod descriptors;
@@ -16,6 +18,7 @@ mod judging;
 pub mod laws;
 mod looking;
 mod marks;
+mod memo;
 mod offer;
 mod past;
 mod plans;

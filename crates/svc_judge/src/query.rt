@@ -1,6 +1,7 @@
 //! What is asked of an entry: one variant for each test of an event or an action.
 
-ghost use Rattle.std.specs.Prelude.{◌≡◌, ◌==◌, ◌&&◌};
+ghost use Rattle.std.specs.Prelude.{◌≡◌, ◌==◌, ◌&&◌, true};
+ghost use Rattle.svc_judge.specs.Groups.{is_on_connection};
 ghost use Rattle.svc_judge.specs.Queries.{ask_test, answer_test, news_test, answer_event_test, order_test, deed_test, query_test};
 
 use svc_record::{Action, Entry, Event, ExecutionPhase, Side};
@@ -208,28 +209,12 @@ impl News {
 }
 
 impl Answer {
-    /// The entry is this event, with these numbers.
-    pub fn matches(self, entry: &Entry) -> bool
+    /// The entry is this event of a connection, with this number.
+    fn matches_connection(self, entry: &Entry) -> bool
+        requires { is_on_connection self ≡ true }
         ensures { result ≡ answer_event_test self entry.now }
     {
         match self {
-            Answer::Failure(s, i) => match entry {
-                Entry::Got(Event::BindFailed(t, j)) => is_pair(*t, *j, s, i),
-                Entry::Got(Event::AdoptFailed(t, j)) => is_pair(*t, *j, s, i),
-                _ => false,
-            },
-            Answer::Ready(s) => match entry {
-                Entry::Got(Event::Ready(t)) => u64::from(*t) == s,
-                _ => false,
-            },
-            Answer::Ended(s) => match entry {
-                Entry::Got(Event::Ended(t)) => u64::from(*t) == s,
-                _ => false,
-            },
-            Answer::LoopEnd(s, i, j) => match entry {
-                Entry::Got(Event::LoopEnded(t, k, n)) => is_pair(*t, *k, s, i) && *n == j,
-                _ => false,
-            },
             Answer::Arrival(c) => match entry {
                 Entry::Got(Event::Arrived(_, _, n, _)) => *n == c,
                 _ => false,
@@ -254,6 +239,33 @@ impl Answer {
                 Entry::Got(Event::Shaken(n, false)) => *n == c,
                 _ => false,
             },
+            _ => unreachable!(),
+        }
+    }
+
+    /// The entry is this event, with these numbers.
+    pub fn matches(self, entry: &Entry) -> bool
+        ensures { result ≡ answer_event_test self entry.now }
+    {
+        match self {
+            Answer::Failure(s, i) => match entry {
+                Entry::Got(Event::BindFailed(t, j)) => is_pair(*t, *j, s, i),
+                Entry::Got(Event::AdoptFailed(t, j)) => is_pair(*t, *j, s, i),
+                _ => false,
+            },
+            Answer::Ready(s) => match entry {
+                Entry::Got(Event::Ready(t)) => u64::from(*t) == s,
+                _ => false,
+            },
+            Answer::Ended(s) => match entry {
+                Entry::Got(Event::Ended(t)) => u64::from(*t) == s,
+                _ => false,
+            },
+            Answer::LoopEnd(s, i, j) => match entry {
+                Entry::Got(Event::LoopEnded(t, k, n)) => is_pair(*t, *k, s, i) && *n == j,
+                _ => false,
+            },
+            _ => self.matches_connection(entry),
         }
     }
 }

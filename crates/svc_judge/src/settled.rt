@@ -1,20 +1,22 @@
 //! The rules of a settled prefix: what stands before an event, or the whole.
 
-ghost use Rattle.std.specs.Prelude.{◌≡◌, ◌||◌, IfOk};
-ghost use Rattle.svc_record.specs.Record.{each_entry, each_earlier, each_settled, now, last_step};
+ghost use Rattle.std.specs.Prelude.{◌≡◌, ◌&&◌, ◌||◌, not, IfOk};
+ghost use Rattle.svc_record.specs.Record.{has, before_runtimes, each_entry, each_earlier, each_settled, now, last_step};
 ghost use Rattle.svc_record.specs.Boot.{boot_right};
 ghost use Rattle.svc_record.specs.Connections.{conn_right};
 ghost use Rattle.svc_record.specs.Ends.{tested_right};
-ghost use Rattle.svc_record.specs.Right.{in_service, is_silent, is_quiet, is_test_step, serves_right, last_step_right, ended_right, is_served_by_words, passed_right, is_stronger, is_served};
-ghost use Rattle.svc_record.specs.Drain.{drain_right};
+ghost use Rattle.svc_record.specs.Right.{in_service, is_silent, is_quiet, is_test_step, serves_right, last_step_right, ended_right, is_served_by_words, is_stronger, is_served};
+ghost use Rattle.svc_record.specs.Drain.{drain_right, ends_right, is_ending};
+ghost use Rattle.svc_judge.specs.Passed.{passed_anew};
 ghost use Rattle.svc_judge.specs.Pasts.{IsPast, plan_of, record_of};
 ghost use Rattle.svc_judge.specs.Anew.{only_connections};
 ghost use Rattle.svc_judge.specs.Settled.{offer_kept, starts_kept, settled_test, all_visited_start, all_visited_held, is_booting, is_ordered, is_tested_well, is_last_well, is_ended_well, is_known};
 
+use crate::alone::connections_right;
 use crate::anew::only_connections;
 use crate::boot::{boot_entries_right, has_begun, may_begin};
 use crate::closes::{closes_right, is_closed_once};
-use crate::connections::{connections_right, rests_right};
+use crate::connections::rests_right;
 use crate::ending::ends_right;
 use crate::endpoints::{are_right_late, endpoints_right, endpoints_right_late};
 use crate::ends::{ends_tested, has_ended_early};
@@ -52,11 +54,12 @@ pub(crate) fn offer_kept(past: &Past) -> bool
 }
 
 /// Each connection is right, and loops rest exactly after the failures that ask for it.
-pub(crate) fn conn_right(past: &Past) -> bool
+pub(crate) fn conn_right(alloc: Global, past: &Past) -> Result<bool, NoMemory>
     requires { IsPast past.now }
-    ensures { result ≡ conn_right (plan_of past.now) (record_of past.now) }
+    ensures { IfOk result (λ right. right ≡ conn_right (plan_of past.now) (record_of past.now)) }
 {
-    connections_right(past) && rests_right(past.entries) && each_entry(EntryRule::RestDue, past)
+    let each = connections_right(alloc, past)?;
+    Ok(each && rests_right(past.entries) && each_entry(EntryRule::RestDue, past))
 }
 
 /// Each service is started exactly where it is due, and was due as it was started.
@@ -85,12 +88,17 @@ fn serves_right(past: &Past) -> bool
 }
 
 /// What stands before `ShutdownRuntimes` is right as a settled prefix is.
-pub(crate) fn last_step_right(past: &Past) -> bool
+pub(crate) fn last_step_right(alloc: Global, past: &Past) -> Result<bool, NoMemory>
     requires { IsPast past.now }
-    ensures { result ≡ last_step_right (plan_of past.now) (record_of past.now) }
+    ensures { IfOk result (λ right. right ≡ last_step_right (plan_of past.now) (record_of past.now)) }
 {
-    (starts_kept(past) && endpoints_right_late(past) && (closes_right(past) && boot_right(past)))
-        && (offer_kept(past) && conn_right(past))
+    let connects = conn_right(alloc, past)?;
+    Ok(
+        (starts_kept(past)
+            && endpoints_right_late(past)
+            && (closes_right(past) && boot_right(past)))
+            && (offer_kept(past) && connects),
+    )
 }
 
 /// Nothing was told since the last event.
@@ -274,14 +282,13 @@ fn drain_right(alloc: Global, past: &Past) -> Result<bool, NoMemory>
     requires { IsPast past.now }
     ensures { IfOk result (λ right. right ≡ drain_right (plan_of past.now) (record_of past.now)) }
 {
-    let at = past.before_runtimes();
-    let ends = ends_right(alloc, &at, past.entries)?;
+    let ends = ends_once(alloc, past)?;
     Ok(
         (waits_are_over(past)
             && each_earlier(SettledRule::GoesOn, past)
             && each_settled(SettledRule::Phases, past)
             && each_entry(EntryRule::EveryMoment, past))
-            && (ends && !has(Query::Order(Order::Ending), at.entries)),
+            && ends,
     )
 }
 
@@ -297,13 +304,29 @@ fn is_served_by_words(alloc: Global, past: &Past) -> Result<bool, NoMemory>
     )
 }
 
-/// What holds besides of a record that has passed.
-pub(crate) fn passed_right(alloc: Global, past: &Past) -> Result<bool, NoMemory>
+/// The record ends with what is told from `ShutdownRuntimes` on, and none of it stands before.
+fn ends_once(alloc: Global, past: &Past) -> Result<bool, NoMemory>
     requires { IsPast past.now }
-    ensures { IfOk result (λ right. right ≡ passed_right (plan_of past.now) (record_of past.now)) }
+    ensures { IfOk result (λ right. right ≡ (ends_right (plan_of past.now) (before_runtimes (record_of past.now)) (record_of past.now)
+        && not (has is_ending (before_runtimes (record_of past.now))))) }
 {
-    let served = is_served_by_words(alloc, past)?;
-    Ok((served && boot_right(past)) && (offer_kept(past) && conn_right(past)))
+    let at = past.before_runtimes();
+    let ends = ends_right(alloc, &at, past.entries)?;
+    Ok(ends && !has(Query::Order(Order::Ending), at.entries))
+}
+
+/// What holds besides of a record that has passed, where it held of all before it.
+pub(crate) fn passed_anew(alloc: Global, past: &Past) -> Result<bool, NoMemory>
+    requires { IsPast past.now }
+    ensures { IfOk result (λ right. right ≡ passed_anew (plan_of past.now) (record_of past.now)) }
+{
+    let ends = ends_once(alloc, past)?;
+    let connects = conn_right(alloc, past)?;
+    Ok(
+        (((phases_right(past) && ends) && (serves_right(past) && is_closed_once(past)))
+            && boot_right(past))
+            && (offer_kept(past) && connects),
+    )
 }
 
 /// What belongs to bootstrapping, tries and retries come when they are due.
@@ -325,21 +348,24 @@ fn is_tested_well(past: &Past) -> bool
 }
 
 /// A run whose waits have passed ends with a right last step.
-pub(crate) fn is_last_well(past: &Past) -> bool
+pub(crate) fn is_last_well(alloc: Global, past: &Past) -> Result<bool, NoMemory>
     requires { IsPast past.now }
-    ensures { result ≡ is_last_well (plan_of past.now) (record_of past.now) }
+    ensures { IfOk result (λ well. well ≡ is_last_well (plan_of past.now) (record_of past.now)) }
 {
-    !waits_are_over(past) || last_step_right(&past.before_runtimes())
+    if waits_are_over(past) {
+        last_step_right(alloc, &past.before_runtimes())
+    } else {
+        Ok(true)
+    }
 }
 
 /// Closes, the last step and moments are as they should be.
-fn is_ended_well(past: &Past) -> bool
+fn is_ended_well(alloc: Global, past: &Past) -> Result<bool, NoMemory>
     requires { IsPast past.now }
-    ensures { result ≡ is_ended_well (plan_of past.now) (record_of past.now) }
+    ensures { IfOk result (λ well. well ≡ is_ended_well (plan_of past.now) (record_of past.now)) }
 {
-    each_entry(EntryRule::CloseOnce, past)
-        && is_last_well(past)
-        && each_entry(EntryRule::EveryMoment, past)
+    let last = is_last_well(alloc, past)?;
+    Ok(each_entry(EntryRule::CloseOnce, past) && last && each_entry(EntryRule::EveryMoment, past))
 }
 
 /// What is told is of the plan, or has arrived.
@@ -353,11 +379,12 @@ fn is_known(past: &Past) -> bool
 }
 
 /// What is asked of every record beyond the words.
-fn is_stronger(past: &Past) -> bool
+fn is_stronger(alloc: Global, past: &Past) -> Result<bool, NoMemory>
     requires { IsPast past.now }
-    ensures { result ≡ is_stronger (plan_of past.now) (record_of past.now) }
+    ensures { IfOk result (λ stronger. stronger ≡ is_stronger (plan_of past.now) (record_of past.now)) }
 {
-    ((is_ordered(past) && is_tested_well(past)) && is_ended_well(past)) && is_known(past)
+    let ended = is_ended_well(alloc, past)?;
+    Ok(((is_ordered(past) && is_tested_well(past)) && ended) && is_known(past))
 }
 
 /// It is the record of a run that served.
@@ -366,5 +393,6 @@ pub(crate) fn is_served(alloc: Global, past: &Past) -> Result<bool, NoMemory>
     ensures { IfOk result (λ served. served ≡ is_served (plan_of past.now) (record_of past.now)) }
 {
     let worded = is_served_by_words(alloc, past)?;
-    Ok(worded && is_stronger(past))
+    let stronger = is_stronger(alloc, past)?;
+    Ok(worded && stronger)
 }

@@ -3,7 +3,7 @@ use Rattle.std.specs.List.{list_all}
 use Rattle.svc_record.specs.Connections.{arrivals}
 use Rattle.svc_judge.specs.ConnectionSteps.{is_kept}
 use Rattle.svc_judge.specs.Pasts.{plan_of, record_of}
-use Rattle.svc_judge.proofs.connections.are_kept.Given as goal
+use Rattle.svc_judge.proofs.alone.are_right_in.Given as goal
 
 abbrev pub invariant-entries : goal.invariant-entries
 invariant-entries l =

@@ -1,0 +1,26 @@
+-- Entries of connections leave whether the run has ended, and whether an endpoint accepts.
+use Rattle.std.proofs.Common.{ℕ, true, ◌∷◌, ◌≡◌, refl, ◌∙◌}
+use Rattle.svc_record.specs.declared.plan.Plan.{Plan}
+use Rattle.svc_record.specs.declared.entry.Entry.{Entry}
+use Rattle.svc_record.specs.Record.{Record}
+use Rattle.svc_record.specs.Ends.{has_ended}
+use Rattle.svc_record.specs.Fits.{accepts}
+use Rattle.svc_judge.specs.declared.memo.Memo.{Memo}
+use Rattle.svc_judge.specs.Anew.{is_of_connection}
+use Rattle.svc_judge.specs.Memos.{IsMemo}
+use Rattle.svc_judge.proofs.QuietLemmas.{Ignores, ignores, ignores_waits, ignores_tested, ignores_early}
+
+ignores_accepts : (p : Plan) (s i : ℕ) → Ignores (λ q. accepts p q s i)
+ignores_accepts p s i =
+    ignores (λ q. accepts p q s i) (λ t k n peer q. refl) (λ n ok q. refl) (λ n ok q. refl) (λ n q. refl) (λ n said q. refl) (λ n q. refl) (λ n list q. refl)
+    (λ n q. refl) (λ n q. refl) (λ n q. refl)
+
+ignores_ended : (p : Plan) → Ignores (has_ended p)
+ignores_ended p = λ e q h. rw (ignores_waits p e q h, ignores_tested p e q h, ignores_early p e q h)
+
+-- what was known with an entry of a connection is so without it
+pub memo_before : (m : Memo) (p : Plan) (e : Entry) (q : Record) → is_of_connection e ≡ true → IsMemo m p (e ∷ q) → IsMemo m p q
+memo_before m p e q h k = record {
+  ended = λ b g. k.ended b g ∙ ignores_ended p e q h;
+  accepting = λ a g. k.accepting a g ∙ ignores_accepts p a.service a.endpoint e q h;
+}

@@ -1,0 +1,130 @@
+//! What is known of a record's prefix, and stays so while entries of connections alone are taken away.
+
+ghost use Rattle.std.specs.Prelude.{◌≡◌, ◌∷◌};
+ghost use Rattle.svc_record.specs.declared.plan.Plan.{Plan};
+ghost use Rattle.svc_record.specs.Record.{Record};
+ghost use Rattle.svc_record.specs.Ends.{has_ended};
+ghost use Rattle.svc_record.specs.Fits.{accepts, fits_row, event_fits};
+ghost use Rattle.svc_record.specs.declared.entry.Entry.TheVariants.{Got};
+ghost use Rattle.svc_judge.specs.Chains.{IsChains};
+ghost use Rattle.svc_judge.specs.Memos.{IsMemo};
+ghost use Rattle.svc_judge.specs.Pasts.{IsPast, plan_of, record_of};
+
+use crate::alone::alone_fits;
+use crate::anew::is_of_connection;
+use crate::chains::Chains;
+use crate::past::Past;
+use crate::{fits, waits};
+use svc_record::{Entry, Event};
+
+/// Whether an endpoint accepts.
+#[derive(Clone, Copy)]
+pub(crate) struct Accepting {
+    service: u64,
+    endpoint: u64,
+    holds: bool,
+}
+
+/// Whether the run has ended, and whether an endpoint accepts, where that is known.
+#[derive(Clone, Copy)]
+pub(crate) struct Memo {
+    ended: Option<bool>,
+    accepting: Option<Accepting>,
+}
+
+impl Memo {
+    /// Nothing is known.
+    pub(crate) fn new() -> Self
+        ensures { (p : Plan) (q : Record) → IsMemo result p q }
+    {
+        Memo {
+            ended: None,
+            accepting: None,
+        }
+    }
+
+    /// What is known without the newest entry.
+    #[tactic(auto, using(crate::proofs::MemoLemmas::memo_before))]
+    pub(crate) fn before(self, entry: &Entry) -> Self
+        ensures { (p : Plan) (q : Record) → IsMemo self p (entry.now ∷ q) → IsMemo result p q }
+    {
+        if is_of_connection(entry) {
+            self
+        } else {
+            Memo::new()
+        }
+    }
+
+    /// Whether the run has ended.
+    fn has_ended(&mut self, past: &Past) -> bool
+        requires past { IsPast past.now }
+        requires memo { IsMemo self.old (plan_of past.now) (record_of past.now) }
+        ensures is { result ≡ has_ended (plan_of past.now) (record_of past.now) }
+        ensures memo { IsMemo self.new (plan_of past.now) (record_of past.now) }
+    {
+        if let Some(ended) = self.ended {
+            return ended;
+        }
+        let ended = waits::has_ended(past);
+        self.ended = Some(ended);
+        ended
+    }
+
+    /// Whether the endpoint accepts.
+    fn accepts(&mut self, past: &Past, s: u64, i: u64) -> bool
+        requires past { IsPast past.now }
+        requires memo { IsMemo self.old (plan_of past.now) (record_of past.now) }
+        ensures is { result ≡ accepts (plan_of past.now) (record_of past.now) s i }
+        ensures memo { IsMemo self.new (plan_of past.now) (record_of past.now) }
+    {
+        if let Some(known) = self.accepting
+            && known.service == s
+            && known.endpoint == i
+        {
+            return known.holds;
+        }
+        let holds = fits::accepts(past, s, i);
+        self.accepting = Some(Accepting {
+            service: s,
+            endpoint: i,
+            holds,
+        });
+        holds
+    }
+
+    /// The event's condition holds.
+    fn fits_row(&mut self, event: &Event, entry: &Entry, past: &Past, chains: &Chains) -> bool
+        requires entry { entry.now ≡ Got event.now }
+        requires past { IsPast past.now }
+        requires memo { IsMemo self.old (plan_of past.now) (record_of past.now) }
+        requires chains { IsChains chains.now (record_of past.now) }
+        ensures is { result ≡ fits_row (plan_of past.now) (record_of past.now) event.now }
+        ensures memo { IsMemo self.new (plan_of past.now) (record_of past.now) }
+    {
+        match event {
+            Event::Arrived(s, i, _, _) => {
+                self.accepts(past, u64::from(*s), u64::from(*i)) && alone_fits(entry, chains)
+            }
+            Event::Set(_, _) | Event::Shaken(_, _) | Event::Finished(_) => {
+                alone_fits(entry, chains)
+            }
+            _ => fits::fits_row(event, past),
+        }
+    }
+
+    /// An event fits what stands before it: the run hasn't ended, and the event's condition holds.
+    pub(crate) fn event_fits(&mut self, entry: &Entry, past: &Past, chains: &Chains) -> bool
+        requires past { IsPast past.now }
+        requires memo { IsMemo self.old (plan_of past.now) (record_of past.now) }
+        requires chains { IsChains chains.now (record_of past.now) }
+        ensures is { result ≡ event_fits (plan_of past.now) entry.now (record_of past.now) }
+        ensures memo { IsMemo self.new (plan_of past.now) (record_of past.now) }
+    {
+        match entry {
+            Entry::Got(event) => {
+                !self.has_ended(past) && self.fits_row(event, entry, past, chains)
+            }
+            Entry::Told(_) => true,
+        }
+    }
+}
