@@ -14,7 +14,7 @@ use crate::runs::{RunLeft, run_text};
 use crate::services::server_of_jobs;
 use std::alloc::Global;
 use std::fmt::Write;
-use std::mem::{drop, replace};
+use std::mem::drop;
 use svc_base::NoMemory;
 use svc_job_host::JobRun;
 use svc_main::{RunEnd, StatusLine};
@@ -66,7 +66,7 @@ pub(crate) fn answer_jobs(alloc: Global, jobs: JobsText) -> Result<Answer, NoMem
                 lines,
             } = script;
             drop(lines);
-            drop(replace(&mut server.configuration, conf));
+            server.configuration = conf;
             match run_text(alloc, server, &services, &periods, items) {
                 Ok(left) => {
                     drop(services);

@@ -12,7 +12,6 @@ ghost use Rattle.svc_supervisor.specs.Generations.{Begins, Linked, MayStep, MayL
 use crate::generation::{Generation, may_come};
 use crate::refused::ChainRefused;
 use std::alloc::Global;
-use std::mem::drop;
 use svc_base::NoMemory;
 use svc_core::{Event, Plan, StepEnd};
 
@@ -130,10 +129,7 @@ pub(crate) fn first_generation(alloc: Global, plan: Plan) -> Result<Generation, 
     match may_begin(alloc, &plan, false) {
         Ok(true) => {}
         Ok(false) => return Err(ChainRefused::BadPlan(plan)),
-        Err(NoMemory) => {
-            drop(plan);
-            return Err(ChainRefused::NoMemory(None));
-        }
+        Err(NoMemory) => return Err(ChainRefused::NoMemory(None)),
     }
     match Generation::begin(alloc, plan) {
         Ok(generation) => Ok(generation),
@@ -155,10 +151,7 @@ pub(crate) fn next_generation(
     match may_begin(alloc, &plan, true) {
         Ok(true) => {}
         Ok(false) => return Err(ChainRefused::BadPlan(plan)),
-        Err(NoMemory) => {
-            drop(plan);
-            return Err(ChainRefused::NoMemory(None));
-        }
+        Err(NoMemory) => return Err(ChainRefused::NoMemory(None)),
     }
     if generations.len() >= 64 {
         return Err(ChainRefused::TooMany(plan));
