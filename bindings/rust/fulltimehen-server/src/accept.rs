@@ -1,14 +1,16 @@
-//! Accept loops.
+//! Accept loops. They run beside the handlers, and give the core's task what came at once: it is woken once for many.
 
 use crate::driver::{Input, Inputs};
-use crate::limits::Room;
-use crate::listener::Listener;
+use crate::limits::{Room, Seat};
+use crate::listener::{Accepted, Listener};
+use fulltimehen::Peer;
 use std::io;
-use std::rc::Rc;
+use std::sync::Arc;
 use std::time::Duration;
 use tokio::io::unix::AsyncFd;
+use tokio::runtime::Handle;
 use tokio::sync::oneshot;
-use tokio::task::{JoinHandle, spawn_local, yield_now};
+use tokio::task::{JoinHandle, yield_now};
 use tokio::time::sleep;
 
 /// How many connections a loop accepts before the others get their turn.
@@ -23,8 +25,44 @@ pub(crate) struct Place {
     pub(crate) endpoint: u32,
 }
 
-/// A listening socket of the driver's poller.
-pub(crate) type Polled = Rc<AsyncFd<Listener>>;
+/// A listening socket of the poller of the handlers.
+pub(crate) type Polled = Arc<AsyncFd<Listener>>;
+
+/// A listening socket, for accept loops on this runtime.
+pub(crate) fn polled(listener: Listener, on: &Handle) -> io::Result<Polled> {
+    let _within = on.enter();
+    AsyncFd::new(listener).map(Arc::new)
+}
+
+/// A connection that was accepted.
+pub(crate) struct Arrival {
+    pub(crate) stream: Accepted,
+    pub(crate) peer: Peer,
+    pub(crate) seat: Seat,
+}
+
+/// An accept loop of an endpoint, by its number.
+pub(crate) struct Loop {
+    pub(crate) place: Place,
+    pub(crate) number: u64,
+    pub(crate) inputs: Inputs,
+    pub(crate) room: Room,
+}
+
+impl Drop for Loop {
+    fn drop(&mut self) {
+        self.inputs.give(Input::LoopEnded { place: self.place, number: self.number });
+    }
+}
+
+/// Why a loop stops accepting for now.
+enum Pause {
+    /// Nobody waits, or it is the others' turn.
+    Turn,
+    /// There is no room for another connection.
+    Full,
+    Failed(io::Error),
+}
 
 /// The failure is of one connection, and says nothing of the next one.
 fn is_of_one(error: &io::Error) -> bool {
@@ -32,36 +70,54 @@ fn is_of_one(error: &io::Error) -> bool {
     matches!(error.raw_os_error(), Some(4 | 71 | 103))
 }
 
-/// Begins an accept loop of an endpoint, whose connections have this room. It ends where it is aborted.
-pub(crate) fn begin(place: Place, listener: Polled, inputs: Inputs, room: Room) -> JoinHandle<()> {
-    spawn_local(async move {
-        loop {
-            let Ok(mut guard) = listener.readable().await else {
-                // The poller is gone.
-                return;
-            };
-            // Another program that has the socket may have it block again.
-            _ = listener.get_ref().unblock();
-            for _ in 0..BURST {
-                let seat = room.enter().await;
-                match guard.try_io(|listener| listener.get_ref().accept()) {
-                    Err(_) => break,
-                    Ok(Ok((stream, peer))) => {
-                        inputs.give(Input::Arrived { place, stream, peer, seat });
-                    }
-                    Ok(Err(error)) => {
-                        let is_of_one = is_of_one(&error);
-                        let (answer, rests) = oneshot::channel();
-                        inputs.give(Input::AcceptFailed { place, error, answer });
-                        let rest = rests.await.unwrap_or(None);
-                        if let Some(rest) = rest.or((!is_of_one).then_some(REST)) {
-                            sleep(rest).await;
-                        }
-                    }
+impl Loop {
+    /// Begins it. It ends where it is aborted, and says so once all that it has accepted was given.
+    pub(crate) fn begin(self, listener: Polled, on: &Handle) -> JoinHandle<()> {
+        on.spawn(async move {
+            while let Ok(pause) = self.accept_some(&listener).await {
+                match pause {
+                    Pause::Turn => yield_now().await,
+                    Pause::Full => drop(self.room.enter().await),
+                    Pause::Failed(error) => self.rest(error).await,
                 }
             }
-            drop(guard);
-            yield_now().await;
+        })
+    }
+
+    /// Accepts those that wait, once there are some.
+    async fn accept_some(&self, listener: &AsyncFd<Listener>) -> io::Result<Pause> {
+        let mut guard = listener.readable().await?;
+        // Another program that has the socket may have it block again.
+        _ = listener.get_ref().unblock();
+        let (mut came, mut pause) = (Vec::new(), Pause::Turn);
+        while came.len() < BURST {
+            let Some(seat) = self.room.try_enter() else {
+                pause = Pause::Full;
+                break;
+            };
+            match guard.try_io(|listener| listener.get_ref().accept()) {
+                Err(_) => break,
+                Ok(Ok((stream, peer))) => came.push(Arrival { stream, peer, seat }),
+                Ok(Err(error)) => {
+                    pause = Pause::Failed(error);
+                    break;
+                }
+            }
         }
-    })
+        if !came.is_empty() {
+            self.inputs.give(Input::Arrived { place: self.place, came });
+        }
+        Ok(pause)
+    }
+
+    /// Rests where the core says so, or where other connections would fail, too.
+    async fn rest(&self, error: io::Error) {
+        let is_of_one = is_of_one(&error);
+        let (answer, rests) = oneshot::channel();
+        self.inputs.give(Input::AcceptFailed { place: self.place, error, answer });
+        let rest = rests.await.unwrap_or(None);
+        if let Some(rest) = rest.or((!is_of_one).then_some(REST)) {
+            sleep(rest).await;
+        }
+    }
 }

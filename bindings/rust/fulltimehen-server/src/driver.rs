@@ -3,7 +3,7 @@
 mod handing;
 mod told;
 
-use crate::accept::{Place, Polled};
+use crate::accept::{Arrival, Place, Polled};
 use crate::beat::Beat;
 use crate::connection::{Common, Shutdown};
 use crate::error::{Outcome, ServerError};
@@ -47,9 +47,11 @@ const REST: Duration = Duration::from_secs(1);
 pub(crate) enum Input {
     Arrived {
         place: Place,
-        stream: Accepted,
-        peer: Peer,
-        seat: Seat,
+        came: Vec<Arrival>,
+    },
+    LoopEnded {
+        place: Place,
+        number: u64,
     },
     AcceptFailed {
         place: Place,
@@ -249,6 +251,8 @@ pub(crate) struct Driver {
     connection_numbers: Numbers,
     sockets: BTreeMap<u64, Socket>,
     loops: BTreeMap<Place, (u64, Vec<JoinHandle<()>>)>,
+    /// Those that were told to end, and haven't ended.
+    ending: BTreeMap<Place, (u64, Vec<JoinHandle<()>>)>,
     room: Room,
     connections: HashMap<u64, Known, BuildHasherDefault<NumberHasher>>,
     finished: Arc<FinishedList>,
@@ -306,6 +310,7 @@ impl Driver {
             connection_numbers: Numbers::new(),
             sockets: BTreeMap::new(),
             loops: BTreeMap::new(),
+            ending: BTreeMap::new(),
             room: Room::within_limit(setup.addresses.len()),
             connections: HashMap::default(),
             finished,
@@ -385,6 +390,7 @@ impl Driver {
                 }
             }
         }
+        self.end_all_loops().await;
         self.finish()
     }
 
@@ -513,19 +519,10 @@ impl Driver {
 
     fn take(&mut self, input: Input) {
         match input {
-            Input::Arrived { place, stream, peer, seat } => {
-                if !self.setup.shared.spare.borrow_mut().fill() {
-                    // What a handover needs comes before a connection.
-                    drop(stream);
-                    self.setup.shared.spare.borrow_mut().fill();
-                    return;
-                }
-                let connection = self.connection_numbers.take();
-                let Place { service, endpoint } = place;
-                let known = Known::Waiting { stream, peer, service, seat };
-                self.connections.insert(connection, known);
-                self.events.push_back(Event::Arrived { service, endpoint, connection, peer });
+            Input::Arrived { place, came } => {
+                came.into_iter().for_each(|arrival| self.arrived(place, arrival));
             }
+            Input::LoopEnded { place, number } => self.loop_ended(place, number),
             Input::AcceptFailed { place, error, answer } => {
                 self.accept_failed(place, &error, answer)
             }
@@ -544,6 +541,21 @@ impl Driver {
             Input::Ended { service, panicked } => self.ended(service, panicked),
             input => self.take_of_handover(input),
         }
+    }
+
+    fn arrived(&mut self, place: Place, arrival: Arrival) {
+        let Arrival { stream, peer, seat } = arrival;
+        if !self.setup.shared.spare.borrow_mut().fill() {
+            // What a handover needs comes before a connection.
+            drop(stream);
+            self.setup.shared.spare.borrow_mut().fill();
+            return;
+        }
+        let connection = self.connection_numbers.take();
+        let Place { service, endpoint } = place;
+        let known = Known::Waiting { stream, peer, service, seat };
+        self.connections.insert(connection, known);
+        self.events.push_back(Event::Arrived { service, endpoint, connection, peer });
     }
 
     fn accept_failed(
@@ -697,6 +709,7 @@ impl Driver {
     fn end_early(&mut self) {
         let is_done = self.drains
             && self.connections.is_empty()
+            && self.ending.is_empty()
             && self.progress.iter().zip(self.setup.services.iter()).all(|(progress, service)| {
                 !progress.started || progress.ended || !service.endpoints().is_empty()
             });
@@ -709,7 +722,6 @@ impl Driver {
     /// The run is over: what it has goes, and it is said how it ended.
     fn finish(mut self) -> Result<Drive, ServerError> {
         self.abort_tasks();
-        self.end_loops(|_| true);
         for (_, known) in self.connections.drain() {
             if let Known::Live(task) | Known::Shaking { task, .. } = known {
                 task.abort();

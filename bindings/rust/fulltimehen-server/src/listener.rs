@@ -3,7 +3,6 @@
 use crate::pid_file::FileId;
 use fulltimehen::Peer;
 use socket2::{Domain, SockAddr, SockRef, Socket, TcpKeepalive, Type};
-use std::cell::Cell;
 use std::fs::{self, Permissions};
 use std::io;
 use std::net::{self, Ipv4Addr, Ipv6Addr, SocketAddr, ToSocketAddrs};
@@ -11,6 +10,7 @@ use std::os::fd::{AsFd, AsRawFd, BorrowedFd, OwnedFd, RawFd};
 use std::os::unix::fs::{FileTypeExt, PermissionsExt};
 use std::os::unix::net as unix;
 use std::path::{Path, PathBuf};
+use std::sync::atomic::{AtomicU8, Ordering};
 use std::time::Duration;
 
 /// How many connections wait to be accepted at most, where the system allows as many.
@@ -55,7 +55,7 @@ pub(crate) struct KeepAlive {
 /// A listening socket. It doesn't block.
 #[derive(Debug)]
 pub(crate) enum Listener {
-    Tcp(net::TcpListener, Cell<NoDelay>),
+    Tcp(net::TcpListener, NoDelayCell),
     Unix(unix::UnixListener),
 }
 
@@ -67,6 +67,24 @@ pub(crate) enum NoDelay {
     /// Not those that waited before.
     Later,
     Yes,
+}
+
+/// A `NoDelay` that the loops of a listening socket have in common.
+#[derive(Debug, Default)]
+pub(crate) struct NoDelayCell(AtomicU8);
+
+impl NoDelayCell {
+    fn get(&self) -> NoDelay {
+        match self.0.load(Ordering::SeqCst) {
+            0 => NoDelay::No,
+            1 => NoDelay::Later,
+            _ => NoDelay::Yes,
+        }
+    }
+
+    fn set(&self, no_delay: NoDelay) {
+        self.0.store(no_delay as u8, Ordering::SeqCst);
+    }
 }
 
 /// An accepted connection. It doesn't block.
@@ -119,7 +137,7 @@ impl Listener {
         socket.listen(BACKLOG)?;
         socket.set_nonblocking(true)?;
         Ok(match address {
-            Address::Tcp(_) => Listener::Tcp(socket.into(), Cell::new(NoDelay::No)),
+            Address::Tcp(_) => Listener::Tcp(socket.into(), NoDelayCell::default()),
             Address::Unix { .. } => Listener::Unix(socket.into()),
         })
     }
@@ -138,7 +156,7 @@ impl Listener {
         }
         let listener = match socket.domain()? {
             Domain::IPV4 | Domain::IPV6 => {
-                Listener::Tcp(net::TcpListener::from(fd), Cell::new(NoDelay::No))
+                Listener::Tcp(net::TcpListener::from(fd), NoDelayCell::default())
             }
             Domain::UNIX => Listener::Unix(unix::UnixListener::from(fd)),
             _ => return refused("it is a socket of another family"),
@@ -228,14 +246,16 @@ impl Listener {
     pub(crate) fn accept(&self) -> io::Result<(Accepted, Peer)> {
         Ok(match self {
             Listener::Tcp(listener, no_delay) => {
+                // What is accepted later came later.
+                let before = no_delay.get();
                 let accepted = listener.accept();
-                if no_delay.get() == NoDelay::Later && is_would_block(&accepted) {
+                if before == NoDelay::Later && is_would_block(&accepted) {
                     // None waits any more that came before.
                     no_delay.set(NoDelay::Yes);
                 }
                 let (stream, peer) = accepted?;
                 stream.set_nonblocking(true)?;
-                (Accepted::Tcp(stream, no_delay.get()), Peer::from(peer))
+                (Accepted::Tcp(stream, before), Peer::from(peer))
             }
             Listener::Unix(listener) => {
                 let (stream, _) = listener.accept()?;

@@ -1,6 +1,6 @@
 //! The server: what it runs, and its run.
 
-use crate::accept::Place;
+use crate::accept::{self, Place};
 use crate::driver::{Drive, Driver, Inputs, Setup};
 use crate::error::{Outcome, ServerError};
 use crate::inherited::{self, Inherited};
@@ -28,7 +28,6 @@ use std::process;
 use std::rc::Rc;
 use std::thread;
 use std::time::Duration;
-use tokio::io::unix::AsyncFd;
 use tokio::runtime::{Builder, Handle, Runtime};
 use tokio::sync::{broadcast, mpsc};
 use tokio::task::LocalSet;
@@ -539,7 +538,7 @@ impl Server {
         {
             return Err(ServerError::AlreadyRunning { pid });
         }
-        let (mut pool, mut link) = (held(self.inherited)?, None);
+        let (mut pool, mut link) = (held(self.inherited, &handlers)?, None);
         let mut waits = is_upgrade;
         let mut takes_over = is_upgrade;
         if let (true, Some(paths)) = (is_upgrade && shared.succession.is_some(), &paths) {
@@ -547,7 +546,7 @@ impl Server {
                 Predecessor::Known { link: found, copies } => {
                     link = Some(Rc::new(found));
                     for (word, listener) in copies {
-                        pool.push(polled(word, listener)?);
+                        pool.push(polled(word, listener, &handlers)?);
                     }
                 }
                 Predecessor::Gone => (waits, takes_over) = (false, false),
@@ -626,15 +625,16 @@ fn planned(
     after.iter().fold(planned, |planned, dependency| planned.after(*dependency))
 }
 
-fn polled(word: String, listener: Listener) -> Result<Held, ServerError> {
-    let listener = AsyncFd::new(listener).map_err(ServerError::system("a listening socket"))?;
-    Ok(Held { word, listener: Rc::new(listener) })
+fn polled(word: String, listener: Listener, on: &Handle) -> Result<Held, ServerError> {
+    let listener = accept::polled(listener, on);
+    let listener = listener.map_err(ServerError::system("a listening socket"))?;
+    Ok(Held { word, listener })
 }
 
 /// The listening sockets of a service manager, under their names.
-fn held(inherited: Inherited) -> Result<Vec<Held>, ServerError> {
+fn held(inherited: Inherited, on: &Handle) -> Result<Vec<Held>, ServerError> {
     for text in inherited.left {
         say!(warn, "LISTEN_FDS: {text}");
     }
-    inherited.sockets.into_iter().map(|(name, listener)| polled(name, listener)).collect()
+    inherited.sockets.into_iter().map(|(name, listener)| polled(name, listener, on)).collect()
 }

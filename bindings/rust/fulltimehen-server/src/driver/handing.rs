@@ -13,6 +13,7 @@ use std::io;
 use std::os::fd::AsFd;
 use std::path::{Path, PathBuf};
 use std::rc::Rc;
+use std::sync::Arc;
 use tokio::net::UnixStream;
 use tokio::task::spawn_local;
 
@@ -138,7 +139,7 @@ impl Driver {
     pub(super) fn held(&self) -> Vec<Held> {
         let held = self.sockets.values().map(|socket| Held {
             word: socket.word.clone(),
-            listener: Rc::clone(&socket.listener),
+            listener: Arc::clone(&socket.listener),
         });
         held.collect()
     }
@@ -186,7 +187,7 @@ impl Driver {
         };
         self.sent_to = process;
         let sockets = fds.iter().filter_map(|fd| self.sockets.get(fd));
-        let listeners: Vec<_> = sockets.map(|socket| Rc::clone(&socket.listener)).collect();
+        let listeners: Vec<_> = sockets.map(|socket| Arc::clone(&socket.listener)).collect();
         let inputs = self.inputs.clone();
         spawn_local(async move {
             let fds: Vec<_> = listeners.iter().map(|it| it.get_ref().as_fd()).collect();

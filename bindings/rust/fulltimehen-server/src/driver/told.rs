@@ -1,7 +1,7 @@
 //! What the core tells is carried out.
 
 use super::{Driver, Input, Known, Socket, Wanted};
-use crate::accept::{self, Place, Polled};
+use crate::accept::{self, Arrival, Loop, Place, Polled};
 use crate::connection::{Common, Connection, Guard};
 use crate::limits::Seat;
 use crate::listener::{Accepted, Listener};
@@ -21,11 +21,12 @@ use std::sync::Arc;
 use std::sync::atomic::{AtomicBool, Ordering};
 use std::thread;
 use std::time::Duration;
-use tokio::io::unix::AsyncFd;
 use tokio::sync::oneshot;
 use tokio::task::JoinHandle;
 use tokio::time::timeout;
 
+/// How long an accept loop that is to end is waited for.
+const LOOPS_END: Duration = Duration::from_millis(100);
 /// How long a handshake may take.
 const HANDSHAKE: Duration = Duration::from_secs(60);
 
@@ -158,7 +159,7 @@ impl Driver {
     /// A listening socket of the poller, with a number.
     pub(super) fn keep(&mut self, word: String, listener: Listener) -> io::Result<u64> {
         let file = listener.file();
-        let listener = Rc::new(AsyncFd::new(listener)?);
+        let listener = accept::polled(listener, &self.setup.handlers)?;
         Ok(self.keep_polled(word, listener, file))
     }
 
@@ -252,16 +253,17 @@ impl Driver {
         for (place, (fd, loops)) in &mut self.loops {
             if let (true, Some(socket)) = (loops.is_empty(), self.sockets.get(fd)) {
                 let room = self.room.of(self.setup.services[place.service as usize].descriptors());
-                let begin = |_| {
-                    let listener = Rc::clone(&socket.listener);
-                    accept::begin(*place, listener, self.inputs.clone(), room.clone())
+                let begin = |number| {
+                    let (inputs, room) = (self.inputs.clone(), room.clone());
+                    let accepting = Loop { place: *place, number, inputs, room };
+                    accepting.begin(Arc::clone(&socket.listener), &self.setup.handlers)
                 };
                 *loops = (0..self.setup.tasks).map(begin).collect();
             }
         }
     }
 
-    pub(super) fn end_loops(&mut self, of: impl Fn(&Place) -> bool) {
+    fn end_loops(&mut self, of: impl Fn(&Place) -> bool) {
         self.loops.retain(|place, (_, loops)| {
             let ends = of(place);
             if ends {
@@ -271,10 +273,22 @@ impl Driver {
         });
     }
 
+    /// Ends all loops, and waits for that, but for a handler that has their thread.
+    pub(super) async fn end_all_loops(&mut self) {
+        let mut loops = std::mem::take(&mut self.loops);
+        loops.append(&mut self.ending);
+        let loops: Vec<_> = loops.into_values().flat_map(|(_, loops)| loops).collect();
+        loops.iter().for_each(JoinHandle::abort);
+        for ending in loops {
+            _ = timeout(LOOPS_END, ending).await;
+        }
+    }
+
     fn close(&mut self, fd: u64) {
         let places: HashSet<Place> =
             self.loops.iter().filter(|(_, (of, _))| *of == fd).map(|(place, _)| *place).collect();
         self.end_loops(|place| places.contains(place));
+        self.ending.retain(|_, (of, _)| *of != fd);
         let Some(socket) = self.sockets.remove(&fd) else {
             return;
         };
@@ -290,24 +304,45 @@ impl Driver {
     /// No more connections are accepted but those that wait already, where nobody else would have them.
     fn broadcast(&mut self) {
         _ = self.shutdown.send(true);
-        let loops = std::mem::take(&mut self.loops);
-        for (place, (fd, tasks)) in loops {
-            let count = tasks.len();
-            tasks.into_iter().for_each(|task| task.abort());
-            if let (Wanted::Stop, Some(socket)) = (self.wanted, self.sockets.get(&fd)) {
-                let listener = Rc::clone(&socket.listener);
-                let room = self.room.of(self.setup.services[place.service as usize].descriptors());
-                while let Some(seat) = room.try_enter()
-                    && let Ok((stream, peer)) = listener.get_ref().accept()
-                {
-                    self.take(Input::Arrived { place, stream, peer, seat });
-                }
-            }
-            let Place { service, endpoint } = place;
-            for number in 0..count as u64 {
-                self.events.push_back(Event::LoopEnded { service, endpoint, number });
+        for (place, (fd, tasks)) in std::mem::take(&mut self.loops) {
+            tasks.iter().for_each(JoinHandle::abort);
+            match tasks.is_empty() {
+                true => self.accept_rest(place, fd),
+                false => _ = self.ending.insert(place, (fd, tasks)),
             }
         }
+    }
+
+    /// A loop has ended, and all that it accepted has come.
+    pub(super) fn loop_ended(&mut self, place: Place, number: u64) {
+        // Where it was closed meanwhile, the core has no loop any more.
+        let Some((fd, tasks)) = self.ending.get_mut(&place) else {
+            return;
+        };
+        let fd = *fd;
+        tasks.pop();
+        if tasks.is_empty() {
+            self.ending.remove(&place);
+            self.accept_rest(place, fd);
+        }
+        let Place { service, endpoint } = place;
+        self.events.push_back(Event::LoopEnded { service, endpoint, number });
+    }
+
+    /// Where the service ends, those that wait at a socket come in: nobody else would have them.
+    fn accept_rest(&mut self, place: Place, fd: u64) {
+        let (Wanted::Stop, Some(socket)) = (self.wanted, self.sockets.get(&fd)) else {
+            return;
+        };
+        let listener = Arc::clone(&socket.listener);
+        let room = self.room.of(self.setup.services[place.service as usize].descriptors());
+        let mut came = Vec::new();
+        while let Some(seat) = room.try_enter()
+            && let Ok((stream, peer)) = listener.get_ref().accept()
+        {
+            came.push(Arrival { stream, peer, seat });
+        }
+        self.take(Input::Arrived { place, came });
     }
 
     fn set(&self, connection: u64, settings: &[Setting]) -> bool {
