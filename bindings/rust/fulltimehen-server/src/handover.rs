@@ -328,12 +328,11 @@ fn decode_version_2(mut rest: &str) -> Option<Vec<String>> {
 mod tests {
     use super::*;
     use nix::sys::socket::{setsockopt, sockopt};
+    use std::env;
     use std::fs::File;
     use std::io::Read;
     use std::os::fd::{AsFd, AsRawFd};
-    use std::sync::atomic::{AtomicBool, Ordering};
     use std::time::Instant;
-    use std::{env, thread};
 
     #[test]
     fn messages_are_those_of_the_formats() {
@@ -379,36 +378,20 @@ mod tests {
             }
         };
         assert_eq!(error.kind(), io::ErrorKind::TimedOut);
-        assert!(begun.elapsed() >= PATIENCE);
+        assert!((PATIENCE..10 * PATIENCE).contains(&begun.elapsed()));
     }
 
-    /// A socket that takes another one's path leaves no moment without one, and keeps it where that one goes.
+    /// A socket whose path another one has by now leaves it there.
     #[tokio::test]
     async fn a_socket_that_was_replaced_leaves_the_path() {
         let folder = env::temp_dir().join(format!("fulltimehen-sock-{}", process::id()));
         fs::create_dir_all(&folder).unwrap();
-        let path = folder.join("sock");
-        let spare = RefCell::new(Spare::none());
-        let mut socket = PrivateSocket::open(&path).unwrap();
-        let is_over = AtomicBool::new(false);
-        let gaps = thread::scope(|scope| {
-            let looks = scope.spawn(|| {
-                let mut gaps = 0;
-                while !is_over.load(Ordering::Relaxed) {
-                    gaps += u32::from(fs::symlink_metadata(&path).is_err());
-                }
-                gaps
-            });
-            for _ in 0..500 {
-                // The one before goes once the next one is there.
-                socket = PrivateSocket::open(&path).unwrap();
-            }
-            is_over.store(true, Ordering::Relaxed);
-            looks.join().unwrap()
-        });
-        assert_eq!(gaps, 0);
+        let (path, spare) = (folder.join("sock"), RefCell::new(Spare::none()));
+        let first = PrivateSocket::open(&path).unwrap();
+        let second = PrivateSocket::open(&path).unwrap();
+        drop(first);
         connect(&path, &spare).unwrap();
-        drop(socket);
+        drop(second);
         assert!(!path.exists());
         fs::remove_dir_all(folder).unwrap();
     }
