@@ -1,6 +1,7 @@
 //! Listening sockets, and the connections that they accept.
 
 use crate::pid_file::FileId;
+use crate::sys;
 use fulltimehen::Peer;
 use socket2::{Domain, SockAddr, SockRef, Socket, TcpKeepalive, Type};
 use std::fs::{self, Permissions};
@@ -248,19 +249,19 @@ impl Listener {
             Listener::Tcp(listener, no_delay) => {
                 // What is accepted later came later.
                 let before = no_delay.get();
-                let accepted = listener.accept();
+                let accepted = sys::accept(listener);
                 if before == NoDelay::Later && is_would_block(&accepted) {
                     // None waits any more that came before.
                     no_delay.set(NoDelay::Yes);
                 }
-                let (stream, peer) = accepted?;
-                stream.set_nonblocking(true)?;
+                let (stream, address) = accepted?;
+                let peer = address.as_socket().ok_or(io::ErrorKind::InvalidData)?;
+                let stream = net::TcpStream::from(stream);
                 (Accepted::Tcp(stream, before), Peer::from(peer))
             }
             Listener::Unix(listener) => {
-                let (stream, _) = listener.accept()?;
-                stream.set_nonblocking(true)?;
-                (Accepted::Unix(stream), Peer::Unix)
+                let (stream, _) = sys::accept(listener)?;
+                (Accepted::Unix(unix::UnixStream::from(stream)), Peer::Unix)
             }
         })
     }

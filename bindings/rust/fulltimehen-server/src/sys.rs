@@ -1,9 +1,11 @@
-//! All `unsafe` code of the crate: what no safe crate has in all of the versions that `Cargo.toml` takes. The numbers of
-//! received descriptors (`nix` tells them as numbers), descriptors of processes (`rustix` has them from 0.38 on, which Debian
-//! 12 hasn't), the traffic class of IPv6 (`socket2` has it from 0.5 on), and what the process does at a signal (`tokio` sets that,
-//! and never puts back what was there). Each call takes and answers what is safe to have.
+//! All `unsafe` code of the crate: what no safe crate has in all of the versions that `Cargo.toml` takes. Connections that
+//! don't block from the first call on (`std` and `socket2` have a second call for that), the numbers of received
+//! descriptors (`nix` tells them as numbers), descriptors of processes (`rustix` has them from 0.38 on, which Debian 12
+//! hasn't), the traffic class of IPv6 (`socket2` has it from 0.5 on), and what the process does at a signal (`tokio` sets
+//! that, and never puts back what was there). Each call takes and answers what is safe to have.
 
 use nix::sys::socket::{CmsgIterator, ControlMessageOwned, MsgFlags, UnixAddr, recvmsg};
+use socket2::SockAddr;
 use std::io::{self, IoSliceMut};
 use std::mem::{self, MaybeUninit};
 use std::os::fd::{AsRawFd, FromRawFd, OwnedFd, RawFd};
@@ -64,6 +66,25 @@ pub(crate) fn receive(
         ));
     }
     Ok((message.bytes, fds))
+}
+
+/// Accepts a connection, which doesn't block and isn't passed on to programs that are started, and tells its peer.
+pub(crate) fn accept(listener: &impl AsRawFd) -> io::Result<(OwnedFd, SockAddr)> {
+    // SAFETY: an address of zeros is one: of no family.
+    let mut address: libc::sockaddr_storage = unsafe { mem::zeroed() };
+    let mut length = size_of_val(&address) as libc::socklen_t;
+    let flags = libc::SOCK_CLOEXEC | libc::SOCK_NONBLOCK;
+    // SAFETY: the pointers are those of locals, and the length is that of the room for the address.
+    let answer = unsafe {
+        let address = (&raw mut address).cast();
+        libc::accept4(listener.as_raw_fd(), address, &raw mut length, flags)
+    };
+    if answer < 0 {
+        return Err(io::Error::last_os_error());
+    }
+    // SAFETY: the kernel has made the descriptor for this process in this call, and nothing else knows its
+    // number; and it has written the address, of that length.
+    Ok(unsafe { (OwnedFd::from_raw_fd(answer), SockAddr::new(address, length)) })
 }
 
 /// What a connection of the IPv6 family sends has this traffic class.

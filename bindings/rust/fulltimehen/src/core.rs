@@ -1,7 +1,7 @@
 //! The core: the proved machine, in the three states of its life.
 
 use crate::action::Action;
-use crate::book::Book;
+use crate::book::{Book, Lines};
 use crate::event::{Event, Peer};
 use crate::line::Line;
 use crate::messages::{Shown, fits_where};
@@ -225,7 +225,7 @@ impl<'a> Told<'a> {
     ///
     /// Where a line is no action, which the library never tells.
     pub fn actions(&self) -> impl Iterator<Item = Action> + use<'a> {
-        let told = self.record.lines().filter(|line| !line.starts_with("got "));
+        let told = Lines(self.record).filter(|line| !line.starts_with("got "));
         told.map(|line| line.parse().expect("the library tells actions"))
     }
 }
@@ -293,12 +293,8 @@ impl RecordBuffer {
         Ok(())
     }
 
-    fn bytes(&self) -> &[u8] {
-        &self.bytes[..self.length]
-    }
-
     fn lines(&self) -> &str {
-        str::from_utf8(self.bytes()).expect("a record is UTF-8")
+        str::from_utf8(&self.bytes[..self.length]).expect("a record is UTF-8")
     }
 }
 
@@ -415,12 +411,16 @@ impl RunningCore {
     ///
     /// [`CoreError::Untold`] where memory lacks for it.
     pub fn last(&mut self) -> Result<Told<'_>, CoreError> {
-        if self.record.is_behind {
+        let is_behind = self.record.is_behind;
+        if is_behind {
             self.book.reserve().map_err(|_| CoreError::Untold)?;
             self.record.read(&mut self.session)?;
-            self.book.enter(self.record.bytes());
         }
-        Ok(Told { end: self.end, record: self.record.lines() })
+        let record = self.record.lines();
+        if is_behind {
+            self.book.enter(record);
+        }
+        Ok(Told { end: self.end, record })
     }
 
     /// What is to be let go of an event that was refused and that isn't given again: `Close` of each
