@@ -45,12 +45,14 @@ fn leave() {
     assert_eq!(socket(), before);
 }
 
-/// A program that has a file of its own where the environment says a socket is: it keeps it.
+/// A program that has a file and a socket of its own where the environment says sockets are: it keeps them.
 fn own_file() {
     let mut file = fs::File::open("/proc/self/status").unwrap();
-    assert!((3..103).contains(&file.as_raw_fd()));
+    let listener = TcpListener::bind("127.0.0.1:0").unwrap();
+    assert!([file.as_raw_fd(), listener.as_raw_fd()].iter().all(|fd| (3..103).contains(fd)));
     drop(Server::new(None).unwrap());
     file.read_to_string(&mut String::new()).unwrap();
+    listener.local_addr().unwrap();
 }
 
 /// Starts this program with that word, with the listener as what a service manager passes, if there is one.

@@ -237,10 +237,8 @@ fn a_path_with_a_deaf_listener_is_in_use() {
     let running = start(20, move |server| {
         server.add_service(listening("web", echo).unix(&there, 0o600));
     });
-    running.wait_for(Phase::Running);
-    running.signal(Signal::Fast);
-    assert_eq!(running.end_within(10).unwrap(), Outcome::Served);
-    assert!(path.exists());
+    let error = running.end_within(10).unwrap_err();
+    assert!(matches!(error, ServerError::Bind(_)) && path.exists(), "{error}");
     drop(waiting);
     fs::remove_file(path).unwrap();
 }

@@ -31,8 +31,9 @@ fn run() {
 
 /// The program, and the lines that it prints.
 fn begin(shell: &str) -> (Child, impl FnMut(&str)) {
-    let mut child = Command::new("sh")
-        .args(["-c", &format!("{shell} exec \"$0\" serve")])
+    // Whatever the test's own signals do, the shell begins with what they do by themselves.
+    let mut child = Command::new("env")
+        .args(["--default-signal", "sh", "-c", &format!("{shell} exec \"$0\" serve")])
         .arg(env::current_exe().unwrap())
         .stdout(Stdio::piped())
         .spawn()

@@ -4,7 +4,7 @@ use super::{Driver, Input, Known, Socket, Wanted};
 use crate::accept::{self, Arrival, Loop, Place, Polled};
 use crate::connection::{Common, Connection, Guard};
 use crate::limits::Seat;
-use crate::listener::{Accepted, Listener};
+use crate::listener::{Accepted, Address, Listener};
 use crate::log::say;
 use crate::pid_file::FileId;
 use crate::service::{Handler, Kind, Task};
@@ -182,11 +182,15 @@ impl Driver {
                 Event::Bound { service, endpoint, fd }
             }
             Err(error) => {
-                let word = &self.setup.addresses[&place].0;
+                let (word, address) = &self.setup.addresses[&place];
                 let text = format!("{} can't listen at {word}: {error}", self.name(service));
                 let is_in_use = error.kind() == io::ErrorKind::AddrInUse;
                 if self.refusals.get(&place) != Some(&text) {
-                    let again = if is_in_use { "; it is tried again each second" } else { "" };
+                    // A path is given up at once.
+                    let again = match address {
+                        Address::Tcp(_) if is_in_use => "; it is tried again each second",
+                        _ => "",
+                    };
                     say!(error, "{text}{again}");
                     self.refusals.insert(place, text);
                 }
