@@ -1,7 +1,7 @@
 -- What the fields of a graph keep, from one change to the next.
 use Rattle.std.proofs.Common.{ℕ, zero, suc, Bool, true, false, ◌&&◌, ◌||◌, ◌==◌, ◌⊎◌, inl, inr, List, [], ◌∷◌, ◌++◌, ◌≡◌, ◌≢◌, refl, sym, ◌∙◌, subst, ap, arith, All, ◌<◌, ◌≤◌, ◌+◌, nat_lt, length, length-append, length-set, slice_set}
-use Rattle.std.proofs.lemmas.Bool.{cases_eq, cases_lt, eq-eqb, ne_eqb, lt-ltb, le-ltb, or_left, or_right, and_left, and_from, false_from_ne_true}
-use Rattle.std.proofs.lemmas.List.{get_or-set_other, get_or-set_same, get_or_past, length_push}
+use Rattle.std.proofs.lemmas.Bool.{cases_eq, cases_lt, eq-eqb, ne_eqb, lt-ltb, le-ltb, and_left, false_from_ne_true}
+use Rattle.std.proofs.lemmas.List.{get_or-set_other, get_or-set_same, length_push}
 use Rattle.std.proofs.lemmas.List.Folds.{list_any-append}
 use Rattle.svc_graph.specs.Paths.{Path}
 use Rattle.svc_graph.specs.GraphData.{GraphData}
@@ -9,14 +9,14 @@ use Rattle.svc_graph.specs.Graphs.{row_of, is_in_row, is_listed, IsGraph}
 use Rattle.svc_graph.specs.Marks.{RowsBelow}
 use Rattle.svc_graph.specs.Bits.{is_set, HasRows}
 use Rattle.svc_graph.specs.Counts.{count_below, AreSized}
-use Rattle.svc_graph.specs.Ranks.{IsKept}
+use Rattle.svc_graph.specs.Ranks.{IsKept, IsAbove}
 use Rattle.svc_graph.proofs.Lists.{All-listed, All-from_listed, listed_push, listed_last}
 use Rattle.svc_graph.proofs.Counts.{count-more, none_at}
-use Rattle.svc_graph.proofs.Reaches.{none_set, reach-grown, needed-grown, reach-node, reach-edge, reach-divides}
+use Rattle.svc_graph.proofs.Reaches.{none_set, needed-grown, above-same, above-edge, above-divides}
 use Rattle.svc_graph.proofs.Chains.{ranked-acyclic, rank-added, raised, path-falls}
 
-pub kept-none : IsKept 0 [] [] []
-kept-none = record {
+pub kept-none : (above : List ℕ) (node : ℕ) → 1024 ≤ node → IsKept 0 [] [] above node
+kept-none above node none = record {
   few = omega arith;
   sized = refl;
   inside = λ a k d lt. absurd (omega arith);
@@ -24,17 +24,11 @@ kept-none = record {
   ranked = λ a b e. absurd (cc);
   unique = λ a. refl;
   direct = record { rows = omega arith; edges = λ a b. none_set b a };
-  chains = record {
-    rows = omega arith;
-    inside = λ a b e. absurd (let free = none_set a b in cc);
-    own = λ a lt. absurd (omega arith);
-    along = λ a b c e there. absurd (cc);
-    led = λ a b e. absurd (let free = none_set a b in cc);
-  };
+  leading = λ lt. absurd (omega arith);
 }
 
-pub kept-graph : (g : GraphData) (needed reach : List ℕ) → IsKept (length g.names) g.depends needed reach → IsGraph g
-kept-graph g needed reach kept = record {
+pub kept-graph : (g : GraphData) (needed above : List ℕ) (node : ℕ) → IsKept (length g.names) g.depends needed above node → IsGraph g
+kept-graph g needed above node kept = record {
   few = kept.few;
   rows = kept.sized;
   inside = kept.inside;
@@ -42,25 +36,38 @@ kept-graph g needed reach kept = record {
 }
 
 -- the same for a graph that is seen as one
-pub view-graph : {names rows : List (List ℕ)} {needed reach : List ℕ} {g : GraphData} → record { names = names; depends = rows } ≡ g
-    → IsKept (length names) rows needed reach → IsGraph g
-view-graph {names} {rows} {needed} {reach} same kept =
-    subst (λ (h : GraphData). IsGraph h) same (kept-graph (record { names = names; depends = rows }) needed reach kept)
+pub view-graph : {names rows : List (List ℕ)} {needed above : List ℕ} {node : ℕ} {g : GraphData} → record { names = names; depends = rows } ≡ g
+    → IsKept (length names) rows needed above node → IsGraph g
+view-graph {names} {rows} {needed} {above} {node} same kept =
+    subst (λ (h : GraphData). IsGraph h) same (kept-graph (record { names = names; depends = rows }) needed above node kept)
 
 -- more room for bits
-pub kept-grown : (count : ℕ) (rows : List (List ℕ)) (needed reach needed_now reach_now : List ℕ)
+pub kept-grown : (count : ℕ) (rows : List (List ℕ)) (needed above : List ℕ) (node : ℕ) (needed_now : List ℕ)
     → length needed ≤ length needed_now → ((a b : ℕ) → is_set needed_now a b ≡ is_set needed a b)
-    → length reach ≤ length reach_now → ((a b : ℕ) → is_set reach_now a b ≡ is_set reach a b)
-    → IsKept count rows needed reach → IsKept count rows needed_now reach_now
-kept-grown count rows needed reach needed_now reach_now needed_longer needed_same reach_longer reach_same kept = record {
+    → IsKept count rows needed above node → IsKept count rows needed_now above node
+kept-grown count rows needed above node needed_now longer same kept = record {
   few = kept.few;
   sized = kept.sized;
   inside = kept.inside;
   rank = kept.rank;
   ranked = kept.ranked;
   unique = kept.unique;
-  direct = needed-grown count (is_in_row rows) needed needed_now needed_longer needed_same kept.direct;
-  chains = reach-grown count (is_in_row rows) reach reach_now reach_longer reach_same kept.chains;
+  direct = needed-grown count (is_in_row rows) needed needed_now longer same kept.direct;
+  leading = λ lt. above-same needed needed_now above node same (kept.leading lt);
+}
+
+-- after a search for the nodes that lead to another node
+pub kept-looked : (count : ℕ) (rows : List (List ℕ)) (needed before : List ℕ) (node : ℕ) (above : List ℕ) (s : ℕ) → IsAbove needed above s
+    → IsKept count rows needed before node → IsKept count rows needed above s
+kept-looked count rows needed before node above s leads kept = record {
+  few = kept.few;
+  sized = kept.sized;
+  inside = kept.inside;
+  rank = kept.rank;
+  ranked = kept.ranked;
+  unique = kept.unique;
+  direct = kept.direct;
+  leading = λ lt. leads;
 }
 
 -- a row without nodes changes no row
@@ -81,11 +88,10 @@ unique_node rows inside unique a =
     ap (λ row. length row) (row_more rows a) ∙ unique a ∙ sym here ∙ ap (λ n. count_below (λ b. is_in_row rows a b) n) (sym size)
     ∙ ap (λ row. count_below (λ b. is_listed row b) (length (rows ++ [] ∷ []))) (sym (row_more rows a))
 
--- what the fields keep with one more node, whose row has the node itself
-pub kept-node : (count : ℕ) (rows : List (List ℕ)) (needed reach reach_now : List ℕ) → count < 1024 → HasRows needed (count + 1) → HasRows reach_now (count + 1)
-    → ((a b : ℕ) → is_set reach_now a b ≡ (is_set reach a b || (a == count && b == count)))
-    → IsKept count rows needed reach → IsKept (count + 1) (rows ++ [] ∷ []) needed reach_now
-kept-node count rows needed reach reach_now room needed_rows reach_rows bits kept =
+-- what the fields keep with one more node
+pub kept-node : (count : ℕ) (rows : List (List ℕ)) (needed above : List ℕ) (node : ℕ) → count < 1024 → HasRows needed (count + 1)
+    → IsKept count rows needed above node → IsKept (count + 1) (rows ++ [] ∷ []) needed above node
+kept-node count rows needed above node room needed_rows kept =
     let same : (a b : ℕ) → is_in_row (rows ++ [] ∷ []) a b ≡ is_in_row rows a b = λ a b. ap (λ row. is_listed row b) (row_more rows a) in
     record {
       few = omega arith;
@@ -95,8 +101,7 @@ kept-node count rows needed reach reach_now room needed_rows reach_rows bits kep
       ranked = λ a b e. kept.ranked a b (sym (same a b) ∙ e);
       unique = λ a. unique_node rows (subst (λ n. RowsBelow n rows) (sym kept.sized) kept.inside) kept.unique a;
       direct = record { rows = needed_rows; edges = λ a b. kept.direct.edges a b ∙ sym (same a b) };
-      chains = reach-node count (is_in_row rows) (is_in_row (rows ++ [] ∷ [])) reach reach_now same
-          (λ b. ap (λ row. is_listed row b) (get_or_past rows count [] (let sized = kept.sized in omega arith))) reach_rows bits kept.chains;
+      leading = kept.leading;
     }
 
 -- the rows with one more edge
@@ -177,16 +182,15 @@ unique_pushed rows s d lt d_in fresh unique a =
     none u v w e = grind arith
 
 -- an edge to a node that doesn't lead back
-pub kept-edge : (count : ℕ) (rows : List (List ℕ)) (needed reach needed_now reach_now : List ℕ) (s d : ℕ) → IsKept count rows needed reach → s < count
-    → d < count
-    → is_in_row rows s d ≡ false → is_set reach d s ≡ false
+pub kept-edge : (count : ℕ) (rows : List (List ℕ)) (needed before : List ℕ) (node : ℕ) (needed_now above : List ℕ) (s d : ℕ)
+    → IsKept count rows needed before node → s < count → d < count
+    → is_in_row rows s d ≡ false → IsAbove needed above s → is_set above 0 d ≡ false
     → length needed_now ≡ length needed → ((a b : ℕ) → is_set needed_now a b ≡ (is_set needed a b || (a == d && b == s)))
-    → length reach_now ≡ length reach → ((a b : ℕ) → is_set reach_now a b ≡ (is_set reach a b || (is_set reach a s && is_set reach d b)))
-    → IsKept count (pushed rows s d) needed_now reach_now
-kept-edge count rows needed reach needed_now reach_now s d kept s_in d_in fresh apart needed_len needed_bits reach_len reach_bits =
+    → IsKept count (pushed rows s d) needed_now above s
+kept-edge count rows needed before node needed_now above s d kept s_in d_in fresh leads apart needed_len needed_bits =
     let sized = kept.sized in
     let lt : s < length rows = omega arith in
-    let divides = reach-divides count (is_in_row rows) reach kept.chains s d d_in apart in
+    let divides = above-divides (is_in_row rows) needed above s d kept.direct.edges leads apart in
     record {
       few = kept.few;
       sized = length-set rows s (row_of rows s ++ d ∷ []) ∙ kept.sized;
@@ -198,27 +202,23 @@ kept-edge count rows needed reach needed_now reach_now s d kept s_in d_in fresh 
         rows = (let room = kept.direct.rows in omega arith);
         edges = λ a b. needed_bits b a ∙ ap (λ w. w || (b == d && a == s)) (kept.direct.edges a b) ∙ sym (edge_pushed rows s d lt a b);
       };
-      chains = reach-edge count (is_in_row rows) (is_in_row (pushed rows s d)) reach reach_now s d d_in
-          (λ a b e. edge_pushed rows s d lt a b ∙ or_left (is_in_row rows a b) (b == d && a == s) e)
-          (edge_cases rows s d lt)
-          (edge_pushed rows s d lt s d ∙ or_right (is_in_row rows s d) (d == d && s == s) (and_from (d == d) (s == s) (eq-eqb d d refl) (eq-eqb s s refl)))
-          apart (let room = kept.chains.rows in omega arith) reach_bits kept.chains;
+      leading = λ here. above-edge needed needed_now above s d needed_bits apart leads;
     }
 
 -- no way leads back from the end of an edge that is there
-pub edge-no_return : (count : ℕ) (rows : List (List ℕ)) (needed reach : List ℕ) (s d : ℕ) → IsKept count rows needed reach → is_in_row rows s d ≡ true
+pub edge-no_return : (count : ℕ) (rows : List (List ℕ)) (needed above : List ℕ) (node s d : ℕ) → IsKept count rows needed above node → is_in_row rows s d ≡ true
     → (s ≡ d) ⊎ Path (is_in_row rows) d s → ⊥
-edge-no_return count rows needed reach s d kept e (inl same) =
+edge-no_return count rows needed above node s d kept e (inl same) =
     let h = kept.ranked s d e in
     let there : kept.rank d ≡ kept.rank s = ap kept.rank (sym same) in omega arith
-edge-no_return count rows needed reach s d kept e (inr path) =
+edge-no_return count rows needed above node s d kept e (inr path) =
     let h = kept.ranked s d e in
     let back = path-falls (is_in_row rows) kept.rank kept.ranked d s path in omega arith
 
 -- the nodes whose row has the bit of s are those that s depends on
-pub kept-row : (count : ℕ) (rows : List (List ℕ)) (needed reach : List ℕ) → IsKept count rows needed reach → (s a : ℕ)
+pub kept-row : (count : ℕ) (rows : List (List ℕ)) (needed above : List ℕ) (node : ℕ) → IsKept count rows needed above node → (s a : ℕ)
     → (nat_lt a count && is_set needed a s) ≡ is_in_row rows s a
-kept-row count rows needed reach kept s a =
+kept-row count rows needed above node kept s a =
     elim (cases_lt a count) [
       | inl lt ↦ ap (λ w. w && is_set needed a s) (lt-ltb a count lt) ∙ kept.direct.edges s a
       | inr le ↦ and_left (nat_lt a count) (is_set needed a s) (le-ltb a count le)

@@ -4,7 +4,7 @@ use Rattle.std.proofs.lemmas.Bool.{cases_eq, cases_lt, eq-eqb, ne_eqb, lt-ltb, l
 use Rattle.std.proofs.lemmas.List.{get_or-set_other, get_or-set_same}
 use Rattle.svc_graph.specs.Bits.{is_set}
 use Rattle.svc_graph.proofs.Counts.{one_at, none_at}
-use Rattle.svc_graph.proofs.Spreads.{or_false, next_lt}
+use Rattle.svc_graph.proofs.Bounds.{or_false, next_lt}
 
 bit_here : (a k : ℕ) → a ≡ k → (0 == 0 && a == k) ≡ true
 bit_here a k e = eq-eqb a k e

@@ -17,7 +17,7 @@ use Rattle.svc_graph.specs.Waitings.{IsCounted, AreRows, dependents_at, dependen
 use Rattle.svc_graph.proofs.Lists.{All-listed}
 use Rattle.svc_graph.proofs.Counts.{one_at, none_at, count-same, count-zero, missing-less}
 use Rattle.svc_graph.proofs.Orders.{edge_inside}
-use Rattle.svc_graph.proofs.Spreads.{or_false}
+use Rattle.svc_graph.proofs.Bounds.{or_false}
 use Rattle.svc_graph.proofs.Those.{listed-those, those-inside, those-all, those-rise, those-same, length-those, those_of-few, those_of-below, listed-bits, slice-grown, slice-last}
 
 rows_len : (has : ℕ → ℕ → Bool) (n k : ℕ) → length (rows_of_test has n k) ≡ k

@@ -170,4 +170,21 @@ impl Bits {
         }
         None
     }
+
+    /// A bit of a row of others that row `x` doesn't have.
+    pub(crate) fn other(&self, x: u32, others: &Bits, y: u32) -> Option<u32>
+        requires row { HasRows self.now (x + 1) }
+        requires others { HasRows others.now (y + 1) }
+        ensures found { IfSome result (λ b. (b < 1024) × (is_set others.now y b ≡ true) × (is_set self.now x b ≡ false)) }
+        ensures none { IfNone result ((b : ℕ) → is_set others.now y b ≡ true → is_set self.now x b ≡ true) }
+    {
+        for k in 0..16u32 {
+            let word = others.words[ROW_WORDS * y as usize + k as usize];
+            let own = self.words[ROW_WORDS * x as usize + k as usize];
+            if let Some(bit) = least_bit(word & !own, 0) {
+                return Some(64 * k + bit);
+            }
+        }
+        None
+    }
 }

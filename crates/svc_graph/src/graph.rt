@@ -7,8 +7,8 @@ ghost use Rattle.svc_graph.specs.Bits.{is_set, HasRows};
 
 mod waiting;
 
+use crate::above::Above;
 use crate::bits::Bits;
-use crate::reach::spread;
 use crate::sort::sorted;
 use std::alloc::Global;
 use std::marker::Model;
@@ -71,8 +71,8 @@ pub struct DependencyGraph {
     rows: Vec<Numbers>,
     /// Row b has the bit of each service that depends on b.
     needed: Bits,
-    /// Row a has the bit of each service that a is or leads to by a chain.
-    reach: Bits,
+    /// The services that lead to the one whose dependencies were added last.
+    above: Above,
 }
 
 impl Model for DependencyGraph {
@@ -84,7 +84,7 @@ impl Model for DependencyGraph {
 
     ghost view = { λ g. record { names = g.names; depends = g.rows.items } };
 
-    ghost invariant = { λ g. IsKept (length g.names) g.rows.items g.needed g.reach };
+    ghost invariant = { λ g. IsKept (length g.names) g.rows.items g.needed g.above.nodes g.above.node };
 }
 
 /// Appends to a row.
@@ -106,23 +106,14 @@ fn push_edge(
 }
 
 /// Makes room for one more row, and for the bits of this many nodes.
-fn make_room(
-    rows: &mut Vec<Numbers>,
-    needed: &mut Bits,
-    reach: &mut Bits,
-    count: u32,
-) -> Result<(), NoMemory>
+fn make_room(rows: &mut Vec<Numbers>, needed: &mut Bits, count: u32) -> Result<(), NoMemory>
     ensures items { rows.new.items ≡ rows.old.items }
     ensures room { OnOk result (vec_len rows.new < vec_capacity rows.new) }
     ensures needed { (a b : ℕ) → is_set needed.new a b ≡ is_set needed.old a b }
     ensures needed_rows { OnOk result (HasRows needed.new count) }
     ensures needed_kept { length needed.old ≤ length needed.new }
-    ensures reach { (a b : ℕ) → is_set reach.new a b ≡ is_set reach.old a b }
-    ensures reach_rows { OnOk result (HasRows reach.new count) }
-    ensures reach_kept { length reach.old ≤ length reach.new }
 {
     needed.grow(count)?;
-    reach.grow(count)?;
     rows.reserve(1)?;
     Ok(())
 }
@@ -180,7 +171,7 @@ impl DependencyGraph {
             names: Texts::new(alloc),
             rows: Vec::new(alloc),
             needed: Bits::new(alloc),
-            reach: Bits::new(alloc),
+            above: Above::new(alloc),
         }
     }
 
@@ -219,14 +210,7 @@ impl DependencyGraph {
             });
         }
         let number = number as u32;
-        if make_room(
-            &mut self.rows,
-            &mut self.needed,
-            &mut self.reach,
-            number + 1,
-        )
-        .is_err()
-        {
+        if make_room(&mut self.rows, &mut self.needed, number + 1).is_err() {
             return Err(AddNodeRefused {
                 reason: AddNodeReason::NoMemory,
                 name,
@@ -235,7 +219,6 @@ impl DependencyGraph {
         match self.names.push(alloc, name) {
             Ok(()) => {
                 self.rows.push_reserved(Numbers::new(alloc));
-                self.reach.set(number, number);
                 Ok(number)
             }
             Err(refused) => Err(AddNodeRefused {
@@ -278,22 +261,16 @@ impl DependencyGraph {
         if self.needed.has(dependency, dependent) {
             return Ok(());
         }
-        if self.reach.has(dependency, dependent) {
+        self.above
+            .look_up(alloc, &self.needed, count as u32, dependent)?;
+        if self.above.has(dependency) {
             return Err(DependencyError::Circular {
                 dependency,
                 dependent,
             });
         }
         push_edge(alloc, &mut self.rows, dependent, dependency)?;
-        let is_alone = self.needed.next(dependent, 0).is_none();
         self.needed.set(dependency, dependent);
-        spread(
-            &mut self.reach,
-            count as u32,
-            is_alone,
-            dependent,
-            dependency,
-        );
         Ok(())
     }
 

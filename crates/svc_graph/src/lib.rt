@@ -2,12 +2,12 @@
 //! of its endpoints.
 #![tactic(auto)]
 
+mod above;
 mod bits;
 mod graph;
 mod handles;
 pub mod laws;
 mod plan;
-mod reach;
 pub mod services;
 mod sort;
 
