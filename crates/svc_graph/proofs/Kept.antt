@@ -6,13 +6,13 @@ use Rattle.std.proofs.lemmas.List.Folds.{list_any-append}
 use Rattle.svc_graph.specs.Paths.{Path}
 use Rattle.svc_graph.specs.GraphData.{GraphData}
 use Rattle.svc_graph.specs.Graphs.{row_of, is_in_row, is_listed, IsGraph}
-use Rattle.svc_graph.specs.Marks.{RowsBelow}
+use Rattle.svc_graph.specs.Marks.{RowsBelow, Divides}
 use Rattle.svc_graph.specs.Bits.{is_set, HasRows}
 use Rattle.svc_graph.specs.Counts.{count_below, AreSized}
-use Rattle.svc_graph.specs.Ranks.{IsKept, IsAbove}
+use Rattle.svc_graph.specs.Ranks.{IsKept, KeepsAbove, KeepsWith, needs}
 use Rattle.svc_graph.proofs.Lists.{All-listed, All-from_listed, listed_push, listed_last}
 use Rattle.svc_graph.proofs.Counts.{count-more, none_at}
-use Rattle.svc_graph.proofs.Reaches.{none_set, needed-grown, above-same, above-edge, above-divides}
+use Rattle.svc_graph.proofs.Reaches.{none_set, needed-grown, above-same, divides-same}
 use Rattle.svc_graph.proofs.Chains.{ranked-acyclic, rank-added, raised, path-falls}
 
 pub kept-none : (above : List ℕ) (node : ℕ) → 1024 ≤ node → IsKept 0 [] [] above node
@@ -57,9 +57,9 @@ kept-grown count rows needed above node needed_now longer same kept = record {
 }
 
 -- after a search for the nodes that lead to another node
-pub kept-looked : (count : ℕ) (rows : List (List ℕ)) (needed before : List ℕ) (node : ℕ) (above : List ℕ) (s : ℕ) → IsAbove needed above s
-    → IsKept count rows needed before node → IsKept count rows needed above s
-kept-looked count rows needed before node above s leads kept = record {
+pub kept-looked : (count : ℕ) (rows : List (List ℕ)) (needed before : List ℕ) (node : ℕ) (above : List ℕ) (node_now : ℕ) → KeepsAbove needed above node_now
+    → IsKept count rows needed before node → IsKept count rows needed above node_now
+kept-looked count rows needed before node above node_now leads kept = record {
   few = kept.few;
   sized = kept.sized;
   inside = kept.inside;
@@ -67,7 +67,7 @@ kept-looked count rows needed before node above s leads kept = record {
   ranked = kept.ranked;
   unique = kept.unique;
   direct = kept.direct;
-  leading = λ lt. leads;
+  leading = leads;
 }
 
 -- a row without nodes changes no row
@@ -182,15 +182,15 @@ unique_pushed rows s d lt d_in fresh unique a =
     none u v w e = grind arith
 
 -- an edge to a node that doesn't lead back
-pub kept-edge : (count : ℕ) (rows : List (List ℕ)) (needed before : List ℕ) (node : ℕ) (needed_now above : List ℕ) (s d : ℕ)
+pub kept-edge : (count : ℕ) (rows : List (List ℕ)) (needed before : List ℕ) (node : ℕ) (needed_now above : List ℕ) (node_now s d : ℕ)
     → IsKept count rows needed before node → s < count → d < count
-    → is_in_row rows s d ≡ false → IsAbove needed above s → is_set above 0 d ≡ false
+    → is_in_row rows s d ≡ false → Divides (needs needed) d s → KeepsWith needed s d above node_now
     → length needed_now ≡ length needed → ((a b : ℕ) → is_set needed_now a b ≡ (is_set needed a b || (a == d && b == s)))
-    → IsKept count (pushed rows s d) needed_now above s
-kept-edge count rows needed before node needed_now above s d kept s_in d_in fresh leads apart needed_len needed_bits =
+    → IsKept count (pushed rows s d) needed_now above node_now
+kept-edge count rows needed before node needed_now above node_now s d kept s_in d_in fresh apart later needed_len needed_bits =
     let sized = kept.sized in
     let lt : s < length rows = omega arith in
-    let divides = above-divides (is_in_row rows) needed above s d kept.direct.edges leads apart in
+    let divides = divides-same (needs needed) (is_in_row rows) d s kept.direct.edges apart in
     record {
       few = kept.few;
       sized = length-set rows s (row_of rows s ++ d ∷ []) ∙ kept.sized;
@@ -202,7 +202,7 @@ kept-edge count rows needed before node needed_now above s d kept s_in d_in fres
         rows = (let room = kept.direct.rows in omega arith);
         edges = λ a b. needed_bits b a ∙ ap (λ w. w || (b == d && a == s)) (kept.direct.edges a b) ∙ sym (edge_pushed rows s d lt a b);
       };
-      leading = λ here. above-edge needed needed_now above s d needed_bits apart leads;
+      leading = later needed_now needed_bits;
     }
 
 -- no way leads back from the end of an edge that is there

@@ -1,8 +1,10 @@
 //! Which nodes lead to a node.
 
-ghost use Rattle.std.specs.Prelude.{◌≡◌, ◌<◌, ◌≤◌, ℕ, true, IfOk, OnOk, OnErr};
+ghost use Rattle.std.specs.Prelude.{◌≡◌, ◌<◌, ◌≤◌, ℕ, true, false, ◌⊎◌, IfOk, OnOk, OnErr};
 ghost use Rattle.svc_graph.specs.Bits.{is_set, HasRows};
-ghost use Rattle.svc_graph.specs.Ranks.{IsAbove, KeepsAbove};
+ghost use Rattle.svc_graph.specs.Ranks.{IsAbove, KeepsAbove, KeepsWith, needs};
+ghost use Rattle.svc_graph.specs.Paths.{Path};
+ghost use Rattle.svc_graph.specs.Marks.{Divides};
 
 use crate::bits::Bits;
 use std::alloc::Global;
@@ -55,7 +57,7 @@ impl Above {
     }
 
     /// Looks for the nodes that lead to this one, unless they are known.
-    pub fn look_up(
+    fn look_up(
         &mut self,
         alloc: Global,
         needed: &Bits,
@@ -78,12 +80,33 @@ impl Above {
         Ok(())
     }
 
-    /// Whether the node is among them.
-    pub fn has(&self, node: u32) -> bool
-        requires row { HasRows self.now.nodes 1 }
-        requires node { node < 1024 }
-        ensures { result ≡ is_set self.now.nodes 0 node }
+    /// Whether the dependency is the dependent or leads to it. Where it depends on none, nothing has to be looked for.
+    pub fn leads_back(
+        &mut self,
+        alloc: Global,
+        needed: &Bits,
+        count: u32,
+        edge: (u32, u32),
+        is_leaf: bool,
+    ) -> Result<bool, NoMemory>
+        requires few { count ≤ 1024 }
+        requires rows { HasRows needed.now count }
+        requires inside { (a b : ℕ) → is_set needed.now b a ≡ true → a < count }
+        requires dependent { edge.0 < count }
+        requires dependency { edge.1 < count }
+        requires kept { KeepsAbove needed.now self.old.nodes self.old.node }
+        requires leaf { is_leaf ≡ true → (b : ℕ) → needs needed.now edge.1 b ≡ false }
+        ensures led { IfOk result (λ led. led ≡ true → (edge.1 ≡ edge.0) ⊎ Path (needs needed.now) edge.1 edge.0) }
+        ensures apart { IfOk result (λ led. led ≡ false → Divides (needs needed.now) edge.1 edge.0) }
+        ensures kept { KeepsAbove needed.now self.new.nodes self.new.node }
+        ensures later { IfOk result (λ led. led ≡ false → KeepsWith needed.now edge.0 edge.1 self.new.nodes self.new.node) }
     {
-        self.nodes.has(0, node)
+        let (dependent, dependency) = edge;
+        if is_leaf && self.node != dependent && dependency != dependent {
+            self.node = NO_NODE;
+            return Ok(false);
+        }
+        self.look_up(alloc, needed, count, dependent)?;
+        Ok(self.nodes.has(0, dependency))
     }
 }

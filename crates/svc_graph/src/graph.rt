@@ -261,9 +261,12 @@ impl DependencyGraph {
         if self.needed.has(dependency, dependent) {
             return Ok(());
         }
-        self.above
-            .look_up(alloc, &self.needed, count as u32, dependent)?;
-        if self.above.has(dependency) {
+        let is_leaf = self.rows[dependency as usize].is_empty();
+        let edge = (dependent, dependency);
+        if self
+            .above
+            .leads_back(alloc, &self.needed, count as u32, edge, is_leaf)?
+        {
             return Err(DependencyError::Circular {
                 dependency,
                 dependent,
