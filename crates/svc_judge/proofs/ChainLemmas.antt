@@ -14,6 +14,7 @@ use Rattle.svc_record.specs.Record.{Record, has, times, before_runtimes, is_runt
 use Rattle.svc_record.specs.Asks.{is_open, is_settings, is_set, is_handshake, is_shaken}
 use Rattle.svc_record.specs.Connections.{Arrival, arrivals, connection_right, goes_on, is_arrival, is_judged, is_judged_as, is_refuse, is_settings_of, settings_list, is_set_as, is_shaken_as, is_serve, is_drop, is_cut, is_finished, is_live_connection}
 use Rattle.svc_judge.specs.Chains.{number_at, is_in_chain, chain, connection_right_by, alone_fits, with_number, touched_numbers, is_numbered_right, are_numbered_right}
+use Rattle.svc_judge.specs.Endings.{is_uncut}
 use Rattle.svc_judge.specs.Anew.{touches, is_touched, is_connection_kept, connections_kept}
 use Rattle.svc_judge.proofs.ConnectionLemmas.{live_by_arrival}
 
@@ -133,6 +134,9 @@ pub goes_on_in : (n c : ℕ) (q : Record) → goes_on (chain n (c % n) q) c ≡ 
 goes_on_in n c q =
     let k = c % n in
     rw (has_in n k (is_refuse c) (refuse_in n c) q, has_in n k (is_drop c) (drop_in n c) q, has_in n k (is_finished c) (finished_in n c) q)
+
+pub uncut_in : (n c : ℕ) (q : Record) → is_uncut (chain n (c % n) q) c ≡ is_uncut q c
+uncut_in n c q = rw (goes_on_in n c q, has_in n (c % n) (is_cut c) (cut_in n c) q)
 
 pub right_in : (p : Plan) (n : ℕ) (q : Record) (cut : Bool) (x : Arrival)
     → connection_right_by cut p (chain n (x.number % n) q) x ≡ connection_right_by cut p q x

@@ -1,22 +1,26 @@
 //! What is told from `ShutdownRuntimes` on.
 
-ghost use Rattle.std.specs.Prelude.{◌≡◌, ◌≤◌, nat_lt, [], ◌∷◌, length, map, filter, IfOk, OnOk};
+ghost use Rattle.std.specs.Prelude.{◌≡◌, ◌<◌, ◌≤◌, nat_lt, [], ◌∷◌, length, map, filter, IfOk, OnOk};
 ghost use Rattle.std.specs.Option.{option_copied, option_to_list};
 ghost use Rattle.std.specs.List.{position_or_len};
 ghost use Rattle.svc_base.specs.NumberSets.{put_number, ascending};
 ghost use Rattle.svc_record.specs.declared.action.Action.TheVariants.{Cut, Close, Stop, Phase};
 ghost use Rattle.svc_record.specs.Connections.{live_connections, arrived_numbers};
 ghost use Rattle.svc_record.specs.Drain.{is_told, stop_seconds, ends_right};
+ghost use Rattle.svc_judge.specs.Chains.{IsChains};
+ghost use Rattle.svc_record.specs.Record.{Record};
 ghost use Rattle.svc_judge.specs.Numbers.{put_onto, live_in, unclosed_in};
 ghost use Rattle.svc_judge.specs.Pasts.{IsPast, plan_of, record_of};
 ghost use Rattle.svc_judge.specs.Endings.{before_told, strip_back, before_ends, is_there, is_uncut};
 
+use crate::chains::Chains;
 use crate::connections::is_uncut;
 use crate::descriptors::is_unclosed;
 use crate::looking::{has_cut, now, signal_of};
 use crate::marks::phase_number;
 use crate::past::{Opened, Past};
 use std::alloc::Global;
+use std::mem::drop;
 use svc_base::NoMemory;
 use svc_record::{Action, Entry, Event, ExecutionPhase, ShutdownSignal};
 
@@ -56,11 +60,25 @@ fn arrival(entry: &Entry) -> Option<u64>
     }
 }
 
+/// The connection goes on, and isn't cut, by the entries on it.
+fn is_uncut_in(chains: &Chains, c: u64) -> bool
+    requires { 0 < length chains.now.parts }
+    ensures { (q : Record) → IsChains chains.now q → result ≡ is_uncut q c }
+{
+    is_uncut(chains.of(c), c)
+}
+
 /// Adds the connection, where it is live.
-fn put_uncut(numbers: &mut Vec<u64>, whole: &[Entry], c: u64) -> Result<(), NoMemory>
+fn put_uncut(
+    numbers: &mut Vec<u64>,
+    whole: &[Entry],
+    chains: &Chains,
+    c: u64,
+) -> Result<(), NoMemory>
+    requires { IsChains chains.now whole.now }
     ensures { OnOk result (numbers.new.items ≡ put_onto (filter (is_uncut whole.now) (c ∷ [])) numbers.old.items) }
 {
-    if is_uncut(whole, c) {
+    if is_uncut_in(chains, c) {
         put_number(numbers, c)?;
         return Ok(());
     }
@@ -68,27 +86,44 @@ fn put_uncut(numbers: &mut Vec<u64>, whole: &[Entry], c: u64) -> Result<(), NoMe
 }
 
 /// Adds the connection that the entry brings, where it is live.
-fn put_live(numbers: &mut Vec<u64>, whole: &[Entry], entry: &Entry) -> Result<(), NoMemory>
+fn put_live(
+    numbers: &mut Vec<u64>,
+    whole: &[Entry],
+    chains: &Chains,
+    entry: &Entry,
+) -> Result<(), NoMemory>
+    requires { IsChains chains.now whole.now }
     ensures { OnOk result (numbers.new.items ≡ put_onto (live_in whole.now (entry.now ∷ [])) numbers.old.items) }
 {
     match arrival(entry) {
-        Some(c) => put_uncut(numbers, whole, c),
+        Some(c) => put_uncut(numbers, whole, chains, c),
         None => Ok(()),
     }
 }
 
-/// The live connections, ascending.
+/// The live connections, ascending, where the chains are those of the entries.
 #[tactic(auto, using(crate::proofs::NumberLemmas::onto_none, crate::proofs::NumberLemmas::live_last))]
-fn live_connections(alloc: Global, entries: &[Entry]) -> Result<Vec<u64>, NoMemory>
+fn live_by(alloc: Global, entries: &[Entry], chains: &Chains) -> Result<Vec<u64>, NoMemory>
+    requires { IsChains chains.now entries.now }
     ensures { IfOk result (λ numbers. numbers.items ≡ ascending (live_connections entries.now)) }
 {
     let mut numbers = Vec::new(alloc);
     let mut rest = entries;
     'entries: while let Some((entry, before)) = rest.split_last() {
-        put_live(&mut numbers, entries, entry)?;
+        put_live(&mut numbers, entries, chains, entry)?;
         rest = before;
     }
     Ok(numbers)
+}
+
+/// The live connections, ascending.
+fn live_connections(alloc: Global, entries: &[Entry]) -> Result<Vec<u64>, NoMemory>
+    ensures { IfOk result (λ numbers. numbers.items ≡ ascending (live_connections entries.now)) }
+{
+    let chains = Chains::new(alloc, entries)?;
+    let numbers = live_by(alloc, entries, &chains);
+    drop(chains);
+    numbers
 }
 
 /// Adds the descriptor's number, where it is live.
