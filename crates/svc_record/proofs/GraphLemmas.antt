@@ -1,6 +1,7 @@
 -- Adding the dependencies of services to a graph.
 use Rattle.std.proofs.Common.{ℕ, Bool, true, false, ◌||◌, ◌&&◌, ◌==◌, ◌⊎◌, inl, inr, List, [], ◌∷◌, ◌≡◌, refl, sym, ◌∙◌, subst, ap, arith, ◌<◌, ◌+◌, nat_lt, length, take, drop, All, slice_index_or}
-use Rattle.std.proofs.lemmas.Bool.{and_parts, and_from, or_cases, or_left, or_right, eqb-true, eq-eqb, ne_eqb, cases_eq}
+use Rattle.std.proofs.Math.Bool.{or-false}
+use Rattle.std.proofs.lemmas.Bool.{and_parts, and_from, or_cases, or_left, or_right, eqb-true, eq-eqb, ne_eqb, lt-ltb, le-ltb, cases_eq}
 use Rattle.std.proofs.lemmas.List.Folds.{list_any_at, list_any_more, list_any-append}
 use Rattle.std.proofs.lemmas.List.{take-append-drop}
 use Rattle.svc_graph.specs.Paths.{Edges, Path, IsAcyclic}
@@ -78,3 +79,29 @@ graph-cause p g s lt so_far refused well =
       | inr new ↦ (let parts = and_parts (a == s) (is_listed (depends p s) b) new in
           subst (λ x. depends_on p x b ≡ true) (sym (eqb-true a s parts.0)) parts.1)
     ]) well.acyclic)
+
+-- what the first services have, and what the next one has
+one_more : (p : Plan) (s a b : ℕ)
+    → ((nat_lt a s && depends_on p a b) || (a == s && is_listed (depends p s) b)) ≡ (nat_lt a (s + 1) && depends_on p a b)
+one_more p s a b =
+    elim (cases_eq a s) [
+      | inl e ↦ subst (λ x. ((nat_lt x s && depends_on p x b) || (x == s && is_listed (depends p s) b)) ≡ (nat_lt x (s + 1) && depends_on p x b)) (sym e)
+          (rw (le-ltb s s (omega arith), lt-ltb s (s + 1) (omega arith), eq-eqb s s refl) refl)
+      | inr ne ↦ apart a ne (ne_eqb a s ne)
+    ]
+  where
+    same : (a : ℕ) → (a ≡ s → ⊥) → nat_lt a s ≡ nat_lt a (s + 1)
+    same a ne = grind arith
+
+    apart : (a : ℕ) → (a ≡ s → ⊥) → (a == s) ≡ false
+        → ((nat_lt a s && depends_on p a b) || (a == s && is_listed (depends p s) b)) ≡ (nat_lt a (s + 1) && depends_on p a b)
+    apart a ne e =
+        rw e (or-false (nat_lt a s && depends_on p a b) ∙ ap (λ below. below && depends_on p a b) (same a ne))
+
+-- the dependencies of one more service
+pub graph-step : (p : Plan) (was now : GraphData) (s : ℕ) → IsGraphUpTo p s was → node_count now ≡ node_count was
+    → ((a b : ℕ) → is_edge now a b ≡ with_row (is_edge was) s (depends p s) a b) → IsGraphUpTo p (s + 1) now
+graph-step p was now s so_far names added = record {
+  nodes = names ∙ so_far.nodes;
+  edges = λ a b. added a b ∙ ap (λ old. old || (a == s && is_listed (depends p s) b)) (so_far.edges a b) ∙ one_more p s a b;
+}
