@@ -16,5 +16,5 @@ pub use graph::{
     AddNodeReason, AddNodeRefused, DependencyError, DependencyGraph, NODE_LIMIT, Waiting,
 };
 pub use handles::ServiceHandle;
-pub use plan::{EndpointList, EndpointPlan, Kind};
+pub use plan::{ADDRESS_LIMIT, ENDPOINT_LIMIT, EndpointList, EndpointPlan, Kind};
 pub use svc_steps::Steps;

@@ -11,7 +11,9 @@ use crate::plan::{Plan, ServicePlan};
 use std::alloc::Global;
 use std::mem::drop;
 use svc_base::NoMemory;
-use svc_graph::{DependencyError, DependencyGraph, EndpointPlan};
+use svc_graph::{
+    ADDRESS_LIMIT, DependencyError, DependencyGraph, ENDPOINT_LIMIT, EndpointPlan, NODE_LIMIT,
+};
 
 /// The services that a service depends on.
 fn depends(plan: &Plan, service: usize) -> &[u32]
@@ -109,14 +111,14 @@ fn is_address(endpoint: &EndpointPlan) -> bool
     ensures { IsTrue result ↔ IsAddress endpoint.now }
 {
     let length = endpoint.address.as_str().len();
-    (1..=4096).contains(&length)
+    (1..=ADDRESS_LIMIT).contains(&length)
 }
 
 /// There are at most 64 endpoints, each with an address.
 fn are_endpoints(endpoints: &[EndpointPlan]) -> bool
     ensures { IsTrue result ↔ ((length endpoints.now ≤ 64) × All IsAddress endpoints.now) }
 {
-    endpoints.len() <= 64 && endpoints.iter().all(is_address)
+    endpoints.len() <= ENDPOINT_LIMIT && endpoints.iter().all(is_address)
 }
 
 /// Each service has at most 64 endpoints, each with an address.
@@ -134,7 +136,7 @@ fn keeps_limits(plan: &Plan) -> bool
     ensures { IsTrue result ↔ KeepsLimits plan.now }
 {
     let services = plan.services.as_slice();
-    services.len() <= 1024 && plan.tasks > 0 && have_endpoints(services)
+    services.len() as u64 <= NODE_LIMIT && plan.tasks > 0 && have_endpoints(services)
 }
 
 impl Plan {

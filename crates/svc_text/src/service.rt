@@ -17,7 +17,7 @@ use svc_base::{
     Items, NoMemory, Numbers, Setting, Settings, TcpKeepalive, Text, Texts, number, number8,
     number32, split_word,
 };
-use svc_graph::Kind;
+use svc_graph::{ADDRESS_LIMIT, Kind};
 use svc_socket::{IpNumber, read_ip};
 
 /// An endpoint that a service line names.
@@ -137,7 +137,7 @@ fn numbers_of(alloc: Global, word: &[u8]) -> Result<Option<Numbers>, NoMemory>
 fn is_address(word: &[u8]) -> bool
     ensures { result ≡ is_address word.now }
 {
-    !word.is_empty() && word.len() <= 4096
+    !word.is_empty() && word.len() <= ADDRESS_LIMIT
 }
 
 #[tactic(auto, unfolding(crate::specs::ServiceLines::address_of))]

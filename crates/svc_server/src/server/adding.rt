@@ -8,13 +8,7 @@ use crate::server::refusals::AddError;
 use std::alloc::Global;
 use svc_base::NoMemory;
 use svc_graph::services::ServiceWithDependents;
-use svc_graph::{DependencyGraph, EndpointPlan, NODE_LIMIT};
-
-/// How many endpoints a service has at most.
-const ENDPOINT_LIMIT: usize = 64;
-
-/// How many bytes an address has at most.
-const ADDRESS_LIMIT: usize = 4096;
+use svc_graph::{ADDRESS_LIMIT, DependencyGraph, ENDPOINT_LIMIT, EndpointPlan, NODE_LIMIT};
 
 /// The address is empty or too long.
 fn is_bad_address(endpoint: &EndpointPlan) -> bool
