@@ -1,5 +1,5 @@
 -- Places that wait behind a service, an endpoint of which keeps their address busy.
-use Rattle.std.proofs.Common.{ℕ, Bool, true, inl, inr, List, ◌≡◌, ◌≢◌, refl, ap, sym, ◌∙◌, subst, arith, ◌<◌, ◌≤◌, ◌+◌, length, slice_index}
+use Rattle.std.proofs.Common.{ℕ, Bool, true, inl, inr, false, List, ◌≡◌, ◌≢◌, refl, ap, sym, ◌∙◌, subst, arith, ◌<◌, ◌≤◌, ◌+◌, length, slice_index}
 use Rattle.std.proofs.lemmas.Bool.{cases_eq, cases_lt}
 use Rattle.svc_base.proofs.Logic.{clash}
 use Rattle.svc_graph.specs.Bits.{is_set}
@@ -9,6 +9,7 @@ use Rattle.svc_endpoints.specs.declared.states.EndpointState.{EndpointState}
 use Rattle.svc_endpoints.specs.declared.states.EndpointStatus.{EndpointStatus}
 use Rattle.svc_endpoints.specs.EndpointsData.{EndpointsData}
 use Rattle.svc_endpoints.specs.EndpointsState.{failed_at, last_at, is_asking, is_holding}
+use Rattle.svc_endpoints.specs.Effects.{has_open}
 use Rattle.svc_endpoints.specs.Rests.{IsBusyUntil, LackSame, SharesWith}
 use Rattle.svc_endpoints.specs.Stays.{StaysHeld, StaysUnheld, OthersStay, GainsNone}
 use Rattle.svc_endpoints.specs.Visits.{IsFirst, busy_of, busy_in}
@@ -146,17 +147,18 @@ module _ (p : Plan) (order : List ℕ) (on : List Bool) where
     parked = y.parked;
   }
 
-  -- states of a service changed, behind which it doesn't wait
-  pub parked-others : (d d' : EndpointsData) (from : ℕ) (w : WaitsData) (x s c : ℕ) → GainsNone d d' → OthersStay x d d' → d'.failed ≡ d.failed → s ≢ x
-      → (y : IsParked p order on d from w s c) → slice_index order y.by ≢ x → IsParked p order on d' from w s c
-  parked-others d d' from w x s c gains others failed own y ne = record {
+  -- states of a service changed, behind which it doesn't wait, and the address that it waits for has no live descriptor yet
+  pub parked-others : (d d' : EndpointsData) (from : ℕ) (w : WaitsData) (x s c : ℕ) → OthersStay x d d' → d'.failed ≡ d.failed → s ≢ x
+      → (y : IsParked p order on d from w s c) → slice_index order y.by ≢ x → has_open d'.table (address p s y.shares.at) ≡ false
+      → IsParked p order on d' from w s c
+  parked-others d d' from w x s c others failed own y ne none = record {
     by = y.by;
     earlier = y.earlier;
     started = y.started;
     shares = record {
       at = y.shares.at;
       first = first_others p d d' x s y.shares.at others own y.shares.first;
-      none = gains _ y.shares.none;
+      none = none;
       other = y.shares.other;
       other_first = first_others p d d' x (slice_index order y.by) y.shares.other others ne y.shares.other_first;
       same = y.shares.same;

@@ -9,18 +9,20 @@ use Rattle.svc_graph.specs.WaitingData.{WaitingData}
 use Rattle.svc_graph.specs.Waitings.{missing_of}
 use Rattle.svc_graph.specs.declared.plan.Kind.TheVariants.{Plain, Bootstrap}
 use Rattle.svc_record.specs.declared.plan.Plan.{Plan}
-use Rattle.svc_record.specs.Plans.{service_count, has_kind}
+use Rattle.svc_record.specs.Plans.{service_count, address, has_kind}
 use Rattle.svc_record.specs.Validity.{IsStartupOrder, is_listed}
 use Rattle.svc_endpoints.specs.EndpointsData.{EndpointsData}
 use Rattle.svc_endpoints.specs.EndpointsState.{IsEndpointsSized, failed_at, last_at, is_asking, is_holding}
-use Rattle.svc_endpoints.specs.Stays.{FailsOnly, StaysHeld, StaysUnheld, OthersStay, GainsNone}
+use Rattle.svc_endpoints.specs.Effects.{has_open}
+use Rattle.svc_endpoints.specs.Rests.{IsAlone}
+use Rattle.svc_endpoints.specs.Stays.{FailsOnly, StaysHeld, StaysUnheld, OthersStay, GainsNone, GainsOnly}
 use Rattle.svc_boot.specs.BootData.{BootData}
 use Rattle.svc_boot.specs.BootEffects.{begun_with, begun_by}
 use Rattle.svc_core.specs.CoreData.{IsFormed}
 use Rattle.svc_core.specs.StartsData.{StartsData}
 use Rattle.svc_core.specs.StartsState.{IsStartsSized, is_flagged, ready_now, due_now, start_if, word_taken, end_taken}
 use Rattle.svc_core.specs.WaitsData.{WaitsData}
-use Rattle.svc_core.specs.WaitsState.{CountsPlan, IsSound, MarksOnly, AsksNothing, AreApart, IsShortOrder, IsOpenOf, Reopens, StaysBusy, IsParked, IsIdle, AreIdle, KnowsReady, KnowsOthers, IsWatched, IsKnown, Opens, IsMarked, MarksIf, HasBits, JoinsRow, Frees, HandsOn, FreesAll, Wakes, StartsOnly, is_open, is_behind, is_parked}
+use Rattle.svc_core.specs.WaitsState.{CountsPlan, IsSound, MarksOnly, AsksNothing, AreApart, IsShortOrder, IsOpenOf, Reopens, StaysBusy, IsParked, IsIdle, AreIdle, KnowsReady, KnowsOthers, IsWatched, IsKnown, Opens, IsMarked, MarksIf, HasBits, JoinsRow, Frees, HandsOn, FreesAll, FreesMore, Wakes, StartsOnly, is_open, is_behind, is_parked}
 use Rattle.svc_core.proofs.StartsLemmas.{flag-set}
 use Rattle.svc_core.proofs.CountLemmas.{and_clash, not-due, sound-marked, sound-only, grows-word, grows-end, grows-failed, grows-complete, ready-word, ready-end, ready-failed}
 use Rattle.svc_core.proofs.ParkedLemmas.{parked-grown, parked-on, parked-started, parked-kept, parked-others, parked-rows}
@@ -431,40 +433,53 @@ opened_then order s u v grown opened k lt same = grown-open order u v k grown (o
 pub keeps-same : (s : ℕ) (d d' : EndpointsData) → StaysHeld d d' → OthersStay s d d' → d'.failed ≡ d.failed → KeepsHeld s d d'
 keeps-same s d d' held others same = record { held = held; failed = λ t on. ap (λ flags. is_flagged flags t) same ∙ on; others = others }
 
--- what waits behind it was opened
+-- states of the service changed, whose place was opened and a row of others, and what waits in a place that isn't open still does
+watched_freed : (p : Plan) (order : List ℕ) (st : StartsData) (d d' : EndpointsData) (s row : ℕ) (u w v : WaitsData) → StaysHeld d d' → OthersStay s d d'
+    → d'.failed ≡ d.failed → Reopens order s u w → JoinsRow row w.until w v
+    → ((k : ℕ) → k < length order → is_open v k ≡ false → slice_index order k ≢ s → IsParked p order st.started d 0 v (slice_index order k) k
+    → IsParked p order st.started d' 0 v (slice_index order k) k)
+    → IsWatched p order st d u → IsWatched p order st d' v
+watched_freed p order st d d' s row u w v held others same r j moves was =
+    let freed = watched_joined p order st d row w v j (watched_reopened p order st d s u w r was) in record {
+      count = freed.count;
+      edges = freed.edges;
+      sound = subst (λ failed. IsSound p st failed v.complete v) (sym same) freed.sound;
+      idle = idle-kept p order st d d' 0 s v (keeps-same s d d' held others same)
+          (opened_then order s w v (opens-joined order row w v j) r.opened) moves freed.idle;
+      ready = subst (λ failed. OnTrue v.fresh (KnowsReady p st failed v.complete v)) (sym same) freed.ready;
+    }
+
+-- what waited behind the service is open; what waits behind another one still does, where the address that it waits for has no live descriptor yet
+moves_behind : (p : Plan) (order : List ℕ) (on : List Bool) (d d' : EndpointsData) (s k : ℕ) (w v : WaitsData) → OthersStay s d d' → d'.failed ≡ d.failed
+    → Frees s w v → is_open v k ≡ false → slice_index order k ≢ s → (x : IsParked p order on d 0 v (slice_index order k) k)
+    → has_open d'.table (address p (slice_index order k) x.shares.at) ≡ false → IsParked p order on d' 0 v (slice_index order k) k
+moves_behind p order on d d' s k w v others same j off ne x none = elim (cases_eq (slice_index order x.by) s) [
+  | inl here ↦
+      and_clash (is_open v k) (none-behind s w v k j (subst (λ t. is_behind v t k ≡ true) here x.behind)) off
+      (IsParked p order on d' 0 v (slice_index order k) k)
+  | inr other ↦ parked-others p order on d d' 0 v s (slice_index order k) k others same ne x other none
+]
+
+-- where no address has gained a live descriptor
 pub watched-adopted : (p : Plan) (order : List ℕ) (st : StartsData) (d d' : EndpointsData) (s : ℕ) (u w v : WaitsData) → StaysHeld d d' → OthersStay s d d'
     → d'.failed ≡ d.failed → GainsNone d d' → Reopens order s u w → Frees s w v
     → IsWatched p order st d u → IsWatched p order st d' v
 watched-adopted p order st d d' s u w v held others same gains r j was =
-    let freed = watched_joined p order st d (1 + s) w v j (watched_reopened p order st d s u w r was) in record {
-      count = freed.count;
-      edges = freed.edges;
-      sound = subst (λ failed. IsSound p st failed v.complete v) (sym same) freed.sound;
-      idle = idle-kept p order st d d' 0 s v (keeps-same s d d' held others same)
-          (opened_then order s w v (opens-joined order (1 + s) w v j) r.opened)
-          (λ k lt off ne x. elim (cases_eq (slice_index order x.by) s) [
-            | inl here ↦
-                and_clash (is_open v k) (none-behind s w v k j (subst (λ t. is_behind v t k ≡ true) here x.behind)) off
-                (IsParked p order st.started d' 0 v (slice_index order k) k)
-            | inr other ↦ parked-others p order st.started d d' 0 v s (slice_index order k) k gains others same ne x other
-          ]) freed.idle;
-      ready = subst (λ failed. OnTrue v.fresh (KnowsReady p st failed v.complete v)) (sym same) freed.ready;
-    }
+    watched_freed p order st d d' s (1 + s) u w v held others same r j
+    (λ k lt off ne x. moves_behind p order st.started d d' s k w v others same j off ne x (gains _ x.shares.none)) was
 
--- and where an address may have gained a live descriptor, all that waits behind a service
-pub watched-bound : (p : Plan) (order : List ℕ) (st : StartsData) (d d' : EndpointsData) (s : ℕ) (u w v : WaitsData) → StaysHeld d d' → OthersStay s d d'
-    → d'.failed ≡ d.failed → Reopens order s u w → FreesAll w v
+-- and where the address of the service's endpoint i may have: all that waits behind a service is open, or no other service has the address
+pub watched-bound : (p : Plan) (order : List ℕ) (st : StartsData) (d d' : EndpointsData) (s i : ℕ) (all : Bool) (u w v : WaitsData)
+    → ((k : ℕ) → k < length order → slice_index order k < service_count p) → StaysHeld d d' → OthersStay s d d'
+    → d'.failed ≡ d.failed → GainsOnly (address p s i) d d' → (all ≡ false → IsAlone p s i) → Reopens order s u w → FreesMore all s w v
     → IsWatched p order st d u → IsWatched p order st d' v
-watched-bound p order st d d' s u w v held others same r j was =
-    let freed = watched_joined p order st d (length w.counts.marks + 1) w v j (watched_reopened p order st d s u w r was) in record {
-      count = freed.count;
-      edges = freed.edges;
-      sound = subst (λ failed. IsSound p st failed v.complete v) (sym same) freed.sound;
-      idle = idle-kept p order st d d' 0 s v (keeps-same s d d' held others same)
-          (opened_then order s w v (opens-joined order (length w.counts.marks + 1) w v j) r.opened)
-          (λ k lt off ne x. and_clash (is_open v k) (none-parked w v k j x.parked) off (IsParked p order st.started d' 0 v (slice_index order k) k)) freed.idle;
-      ready = subst (λ failed. OnTrue v.fresh (KnowsReady p st failed v.complete v)) (sym same) freed.ready;
-    }
+watched-bound p order st d d' s i true u w v inside held others same gains alone r j was =
+    watched_freed p order st d d' s (length w.counts.marks + 1) u w v held others same r j
+    (λ k lt off ne x. and_clash (is_open v k) (none-parked w v k j x.parked) off (IsParked p order st.started d' 0 v (slice_index order k) k)) was
+watched-bound p order st d d' s i false u w v inside held others same gains alone r j was =
+    watched_freed p order st d d' s (1 + s) u w v held others same r j
+    (λ k lt off ne x. moves_behind p order st.started d d' s k w v others same j off ne x
+    (gains _ (alone refl (slice_index order k) x.shares.at (inside k lt) x.shares.first.within ne) x.shares.none)) was
 
 -- where no state changed
 watched_rows : (p : Plan) (order : List ℕ) (st : StartsData) (d d' : EndpointsData) (w : WaitsData) → d'.rows ≡ d.rows → d'.failed ≡ d.failed
@@ -614,3 +629,8 @@ begun-complete p b on = begun_complete b.begun p.test p.upgrade b on
 pub marked-late : (order : List ℕ) (s : ℕ) (w v : WaitsData) (b : Bool) → MarksIf b order s w v → v.complete ≡ w.complete
 marked-late order s w v true m = m.complete
 marked-late order s w v false m = ap (λ (x : WaitsData). x.complete) m
+
+-- and so do places that are freed
+pub free-late : (all : Bool) (t : ℕ) (w v : WaitsData) → FreesMore all t w v → v.complete ≡ w.complete
+free-late true t w v j = j.complete
+free-late false t w v j = j.complete

@@ -189,6 +189,11 @@ HandsOn s t k old new =
 abbrev pub FreesAll : WaitsData → WaitsData → Type 0
 FreesAll old new = JoinsRow (length old.counts.marks + 1) old.until old new
 
+-- all of them, or those that wait behind the service
+abbrev pub FreesMore : Bool → ℕ → WaitsData → WaitsData → Type 0
+FreesMore true t old new = FreesAll old new
+FreesMore false t old new = Frees t old new
+
 -- what rests is open again, or nothing has changed
 abbrev pub Wakes : WaitsData → WaitsData → Type 0
 Wakes old new = (new ≡ old) ⊎ JoinsRow (length old.counts.marks + 2) new.until old new

@@ -518,8 +518,9 @@ impl Core {
         self.endpoints.reserve()?;
         self.endpoints
             .on_bound(&self.plan, s, i, fd, address, actions);
+        let alone = self.endpoints.is_alone(&self.plan, s, i);
         self.waits.reopen(&self.order, s);
-        self.waits.free_all();
+        self.waits.free_more(!alone, s);
         Ok(self.settle(None, actions))
     }
 

@@ -7,7 +7,7 @@ ghost use Rattle.svc_graph.specs.Waitings.{missing_of, waits_for};
 ghost use Rattle.svc_record.specs.Plans.{service_count};
 ghost use Rattle.svc_core.specs.StartsState.{IsStartsSized, is_flagged, ready_now};
 ghost use Rattle.std.specs.Bool.{OnTrue};
-ghost use Rattle.svc_core.specs.WaitsState.{is_open, is_behind, KnowsReady, KnowsOthers, Opens, MarksOnly, IsMarked, MarksIf, ClosesPlace, IsShortOrder, Reopens, JoinsRow, Frees, HandsOn, FreesAll, Wakes, LeavesPlace, ParksBehind, ParksResting};
+ghost use Rattle.svc_core.specs.WaitsState.{is_open, is_behind, KnowsReady, KnowsOthers, Opens, MarksOnly, IsMarked, MarksIf, ClosesPlace, IsShortOrder, Reopens, JoinsRow, Frees, HandsOn, FreesAll, FreesMore, Wakes, LeavesPlace, ParksBehind, ParksResting};
 
 use crate::starts::Starts;
 use std::alloc::Global;
@@ -335,6 +335,18 @@ impl Waits {
     {
         let row = self.parked_row();
         self.bits.join(OPEN, row);
+    }
+
+    /// The places that wait behind the service are visited again, or all that wait behind some service.
+    pub(crate) fn free_more(&mut self, all: bool, t: u32)
+        requires { t < length self.old.counts.marks }
+        ensures { FreesMore all t self.old self.new }
+    {
+        if all {
+            self.free_all();
+        } else {
+            self.free(t);
+        }
     }
 
     /// What rests is visited again, once one of the rests is over at the moment, in milliseconds.

@@ -12,10 +12,11 @@ use Rattle.svc_endpoints.specs.declared.visit.Visit.{Visit}
 use Rattle.svc_endpoints.specs.declared.visit.Visit.TheVariants.{Nothing, Binds, Adopts}
 use Rattle.svc_endpoints.specs.EndpointsData.{EndpointsData}
 use Rattle.svc_endpoints.specs.EndpointsState.{IsEndpointsSized, last_at, failed_at, is_binding, is_adopting, is_asking, is_holding, times_in_use_at, numbers_with}
-use Rattle.svc_endpoints.specs.Effects.{first_of, has_open, goes, put, fail_if, refused, is_last_refusal, bind_failed, adopt_failed, adopted, held_now, cleared_if, bound_or_again}
+use Rattle.svc_endpoints.specs.Effects.{first_of, not_empty, has_open, goes, put, fail_if, refused, is_last_refusal, bind_failed, adopt_failed, adopted, held_now, cleared_if, bound_or_again}
 use Rattle.svc_endpoints.specs.Visits.{IsDecided, IsFirst, IsWithin, busy_in, adopt_or_bind, decide_at, after}
-use Rattle.svc_endpoints.specs.Stays.{FailsOnly, StaysHeld, StaysUnheld, OthersStay, GainsNone}
+use Rattle.svc_endpoints.specs.Stays.{FailsOnly, StaysHeld, StaysUnheld, OthersStay, GainsNone, GainsOnly}
 use Rattle.svc_endpoints.proofs.OneLemmas.{binding_asks}
+use Rattle.svc_endpoints.proofs.LiveLemmas.{numbers_with-put}
 use Rattle.svc_endpoints.proofs.KeptLemmas.{asking_not_holding, adopting_asks}
 use Rattle.svc_endpoints.proofs.ChangeLemmas.{Changed, changed-put}
 use Rattle.svc_endpoints.proofs.PutLemmas.{last_at-put}
@@ -234,3 +235,15 @@ pub gains-answer : (p : Plan) (d mid made new : EndpointsData) (b : Bool) (keep 
 gains-answer p d mid made new b keep is left same a none =
     ap (λ (m : EndpointsData). has_open m.table a) left
     ∙ gains_cleared b p keep made a (ap (λ (m : EndpointsData). has_open m.table a) is ∙ ap (λ table. has_open table a) same ∙ none)
+
+-- a bind's descriptor has the one address
+none_there : (xs : List ℕ) → not_empty xs ≡ false → xs ≡ []
+none_there [] h = refl
+none_there (x ∷ xs) h = absurd (cc)
+
+pub gains-bound : (b : Bool) (d : EndpointsData) (s i fd : ℕ) (text : List ℕ) → b ≡ has_open d.table (Some text)
+    → GainsOnly (Some text) d (bound_or_again b d s i fd text)
+gains-bound true d s i fd text is a other none = none
+gains-bound false d s i fd text is a other none =
+    ap not_empty (numbers_with-put (record { fd = fd; address = Some text }) d.table (none_there (numbers_with d.table (Some text)) (sym is)) a ∙ (rw other refl))
+    ∙ none

@@ -1,5 +1,5 @@
 -- The sums of addresses that several endpoints have are found, and tell that another one has none of them.
-use Rattle.std.proofs.Common.{ℕ, Bool, true, false, ◌&&◌, ◌==◌, inl, inr, ◌⊎◌, List, ◌≡◌, refl, ap, sym, ◌∙◌, subst, arith, ◌+◌, ◌<◌, length, Some}
+use Rattle.std.proofs.Common.{ℕ, Bool, true, false, ◌&&◌, ◌==◌, inl, inr, ◌⊎◌, List, ◌≡◌, ◌≢◌, refl, ap, sym, ◌∙◌, subst, arith, ◌+◌, ◌<◌, length, Some}
 use Rattle.std.proofs.lemmas.Bool.{cases_Bool, cases_lt, eq-eqb, or_left, or_right}
 use Rattle.svc_base.specs.NumberSets.{is_in, put_number}
 use Rattle.svc_base.proofs.Logic.{clash}
@@ -7,6 +7,7 @@ use Rattle.svc_base.proofs.NumberSetLemmas.{any-put}
 use Rattle.svc_record.specs.declared.plan.Plan.{Plan}
 use Rattle.svc_record.specs.Plans.{service_count, endpoints, address, same_address, any_with}
 use Rattle.svc_endpoints.specs.Sums.{sum_of, HasAddress, AreShared, IsBefore, AreNoted, Grows}
+use Rattle.svc_endpoints.specs.Rests.{IsAlone}
 use Rattle.svc_endpoints.proofs.LiveLemmas.{same_eq}
 use Rattle.svc_endpoints.proofs.RangeLemmas.{none0}
 
@@ -86,7 +87,16 @@ module _ (p : Plan) where
     ]
   ]
 
-  -- where an endpoint's sum isn't among them, no other one has its address
+  -- where an endpoint's sum isn't among them, no other service has its address
+  pub alone-is : (shared : List ℕ) → AreShared p shared → (s i : ℕ) (a : List ℕ) → HasAddress p s i a → is_in (sum_of a) shared ≡ false → IsAlone p s i
+  alone-is shared are s i a one alone t k inside within ne = elim (cases_Bool (same_address (address p s i) (address p t k))) [
+    | inl same ↦
+        let named : address p t k ≡ Some a = sym (same_eq (address p s i) (address p t k) same) ∙ one.named in
+        absurd (clash (is_in (sum_of a) shared) (are t k s i a (λ e. absurd (ne e)) (record { inside = inside; within = within; named = named }) one) alone)
+    | inr n ↦ n
+  ]
+
+  -- and no other endpoint has it
   module _ (shared : List ℕ) (are : AreShared p shared) (s i : ℕ) (a : List ℕ) (one : HasAddress p s i a) (alone : is_in (sum_of a) shared ≡ false)
       (test : ℕ → ℕ → Bool) (off : test s i ≡ false) where
     other : (t k : ℕ) → test t k ≡ true → t ≡ s → k ≡ i → ⊥

@@ -1,5 +1,5 @@
 -- How a started service stands, as far as a visit of it goes.
-use Rattle.std.specs.Prelude.{ℕ, true, false, ◌≡◌, ◌<◌, ◌≤◌, ◌⊎◌, List, Option, length}
+use Rattle.std.specs.Prelude.{ℕ, true, false, ◌≡◌, ◌≢◌, ◌<◌, ◌≤◌, ◌⊎◌, List, Option, length}
 use Rattle.svc_record.specs.declared.plan.Plan.{Plan}
 use Rattle.svc_record.specs.Plans.{service_count, endpoints, address, same_address}
 use Rattle.svc_endpoints.specs.declared.rests.Standing.{Standing}
@@ -35,6 +35,10 @@ pub record LackSame (p : Plan) (d : EndpointsData) (s t : ℕ) : Type 0 where
   pub other : ℕ
   pub other_first : IsFirst p d t other
   pub same : address p t other ≡ address p s at
+
+-- no other service has an endpoint with the address of endpoint i of s
+abbrev pub IsAlone : Plan → ℕ → ℕ → Type 0
+IsAlone p s i = (t k : ℕ) → t < service_count p → k < length (endpoints p t) → t ≢ s → same_address (address p s i) (address p t k) ≡ false
 
 -- it is busy at each moment up to this one
 abbrev pub IsBusyUntil : EndpointsData → ℕ → ℕ → ℕ → Type 0

@@ -21,7 +21,7 @@ ghost use Rattle.svc_endpoints.specs.EndpointsState.{IsEndpointsSized, Endpoints
 ghost use Rattle.svc_endpoints.specs.Foreign.{is_endpoints_event};
 ghost use Rattle.svc_endpoints.specs.Effects.{is_last_refusal, refused, bind_failed, adopt_failed, adopted, bound_or_again, has_open, cleared_if, given_up_if, close_told, drains_at, closed_out, numbers_among};
 ghost use Rattle.svc_endpoints.specs.Loops.{has_loop};
-ghost use Rattle.svc_endpoints.specs.Stays.{FailsOnly, StaysHeld, StaysUnheld, OthersStay, GainsNone};
+ghost use Rattle.svc_endpoints.specs.Stays.{FailsOnly, StaysHeld, StaysUnheld, OthersStay, GainsNone, GainsOnly};
 ghost use Rattle.svc_endpoints.specs.Uses.{serves_by, accepts_by};
 
 use crate::endpoints::Endpoints;
@@ -58,6 +58,7 @@ impl Endpoints {
         ensures few { length (list_of actions.new) + length self.new.parts.table ≤ length (list_of actions.old) + length self.old.parts.table + 2 }
         ensures failed { self.new.parts.failed ≡ self.old.parts.failed }
         ensures held { StaysHeld self.old.parts self.new.parts }
+        ensures gains { GainsOnly (address plan.now s i) self.old.parts self.new.parts }
         ensures others { OthersStay s self.old.parts self.new.parts }
     {
         self.bind_or_close(plan, s, i, fd, text, actions);

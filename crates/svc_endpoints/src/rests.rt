@@ -1,11 +1,11 @@
 //! How a started service stands, as far as a visit of it goes.
 
-ghost use Rattle.std.specs.Prelude.{◌≡◌, ◌<◌, ℕ, Some, true, false};
-ghost use Rattle.svc_record.specs.Plans.{service_count, address};
+ghost use Rattle.std.specs.Prelude.{◌≡◌, ◌<◌, ℕ, Some, true, false, length};
+ghost use Rattle.svc_record.specs.Plans.{service_count, endpoints, address};
 ghost use Rattle.svc_endpoints.specs.EndpointsState.{IsEndpointsSized, failed_at};
 ghost use Rattle.svc_endpoints.specs.Effects.{has_open};
 ghost use Rattle.svc_endpoints.specs.Visits.{IsFirst};
-ghost use Rattle.svc_endpoints.specs.Rests.{AsksWith, IsStanding, LackSame};
+ghost use Rattle.svc_endpoints.specs.Rests.{AsksWith, IsAlone, IsStanding, LackSame};
 
 use crate::endpoints::Endpoints;
 use crate::naming::{address_of, endpoint_count, service_count};
@@ -95,6 +95,16 @@ impl Endpoints {
         }
         is_asking(self.last(t as usize, k as usize))
             && address_of(plan, t as usize, k as usize) == text
+    }
+
+    /// No other service has an endpoint with the address of this one. Where it says no, one may have.
+    pub fn is_alone(&self, plan: &Plan, s: u32, i: u32) -> bool
+        requires sized { IsEndpointsSized plan.now self.now.parts }
+        requires service { s < service_count plan.now }
+        requires endpoint { i < length (endpoints plan.now s) }
+        ensures { result ≡ true → IsAlone plan.now s i }
+    {
+        !self.may_share(address_of(plan, s as usize, i as usize))
     }
 
     /// The first endpoints of the two services that aren't held have the same address.
