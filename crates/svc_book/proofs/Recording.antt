@@ -11,7 +11,7 @@ use Rattle.svc_record.specs.Ends.{step_end}
 use Rattle.svc_record.specs.Journal.{PostData, record_after, told_as_said, posts_as_said}
 use Rattle.svc_record.specs.Judging.{judged_at, judgements, TellsJudged}
 use Rattle.svc_core.specs.CoreData.{CoreData}
-use Rattle.svc_core.specs.Stands.{StandsFor, StepKeeps}
+use Rattle.svc_core.specs.Stands.{Represents, StepKeeps}
 use Rattle.svc_core.proofs.JudgedLemmas.{judged-said}
 use Rattle.svc_book.specs.BookData.{book}
 use Rattle.svc_book.specs.Journals.{record_of, IsLegal, end_after}
@@ -31,7 +31,7 @@ said-more plan q (x ∷ xs) p all last =
 
 -- what the book keeps
 pub record Stays (core : CoreData) (opening : List Action) (limit : ℕ) (posts : List PostData) : Type 0 where
-  pub stands : StandsFor core (record_of (book core.plan opening limit posts) posts)
+  pub stands : Represents core (record_of (book core.plan opening limit posts) posts)
   pub legal : IsLegal (book core.plan opening limit posts) posts
 
 -- the same, and the answer of its last post
@@ -54,7 +54,7 @@ grows old new opening limit posts posts' p after end was keeps judges plan kept 
     let said : posts_as_said old.plan (tell [] opening) (posts ++ p ∷ []) ≡ true = said-more old.plan (tell [] opening) posts p was.legal.said as_said in
     record {
       stays = record {
-        stands = subst (StandsFor new) now right.stands;
+        stands = subst (Represents new) now right.stands;
         legal = record {
           right = subst (Right new.plan) now right.right;
           said = ap (λ (b : Plan). posts_as_said b (tell [] opening) posts') plan ∙ (ap (posts_as_said old.plan (tell [] opening)) more ∙ said);

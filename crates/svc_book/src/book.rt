@@ -32,13 +32,13 @@ impl Model for Book {
     ghost use Rattle.svc_base.specs.Items.{list_of};
     ghost use Rattle.svc_book.specs.BookData.{BookData, book};
     ghost use Rattle.svc_book.specs.Journals.{record_of, IsLegal};
-    ghost use Rattle.svc_core.specs.Stands.{StandsFor};
+    ghost use Rattle.svc_core.specs.Stands.{Represents};
 
     ghost Value = { BookData };
 
     ghost view = { λ b. book b.core.plan (list_of b.opening) b.limit b.posts.items };
 
-    ghost invariant = { λ b. StandsFor b.core (record_of (book b.core.plan (list_of b.opening) b.limit b.posts.items) b.posts.items)
+    ghost invariant = { λ b. Represents b.core (record_of (book b.core.plan (list_of b.opening) b.limit b.posts.items) b.posts.items)
         × IsLegal (book b.core.plan (list_of b.opening) b.limit b.posts.items) b.posts.items × (length b.posts.items ≤ b.limit) × (b.limit < 2 ^ 62)
         × (list_of b.stage ≡ []) × (list_of b.second ≡ []) };
 }

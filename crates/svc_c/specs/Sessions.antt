@@ -17,7 +17,7 @@ use Rattle.svc_text.specs.declared.service.ServiceLine.{ServiceLine}
 use Rattle.svc_base.specs.Words.{words}
 use Rattle.svc_text.specs.EventLines.{event_of}
 use Rattle.svc_text.specs.Filters.{is_blocked}
-use Rattle.svc_core.specs.Stands.{StandsFor, MayCome, BeginKeeps, StepKeeps, ClosesAll}
+use Rattle.svc_core.specs.Stands.{Represents, MayCome, BeginKeeps, StepKeeps, ClosesAll}
 use Rattle.svc_c.specs.declared.session.Asked.{Asked}
 use Rattle.svc_c.specs.declared.session.StepError.{StepError}
 use Rattle.svc_c.specs.declared.session.StepError.TheVariants.{NoMemory, NoEvent, Stray, Order}
@@ -116,7 +116,7 @@ entries_of (Some e) = Got e ∷ []
 -- all was closed, with what an event brought
 pub record ClosesWith (also : Option Event) (old new : SessionData) (told : List Action) : Type 0 where
   pub entries : new.entries ≡ entries_of also ++ map Told told
-  pub closes : (q : Record) → StandsFor old.core q → ClosesAll old.core.plan q also [] told
+  pub closes : (q : Record) → Represents old.core q → ClosesAll old.core.plan q also [] told
   pub core : new.core ≡ old.core
   pub services : new.services ≡ old.services
   pub stage : new.stage ≡ Closed

@@ -25,7 +25,7 @@ use Rattle.svc_connections.specs.ConnectionsState.{numbers}
 use Rattle.svc_connections.proofs.Foreign as sockets
 use Rattle.svc_core.specs.CoreData.{CoreData, with_end}
 use Rattle.svc_core.specs.Passes.{Going, VisitedUpTo, may_start}
-use Rattle.svc_core.specs.Stands.{Tried, Answered, StepRight, HasCopy}
+use Rattle.svc_core.specs.Stands.{AfterRetry, Answered, StepRight, HasCopy}
 use Rattle.svc_core.proofs.GoingLemmas.{base-of, base-tell, going-from, begun-frees}
 use Rattle.svc_core.proofs.LateLemmas.{late-keeps, ask-late, ask-other, over-asked, row-late, row-other, are_late}
 use Rattle.svc_core.proofs.OpenLemmas.{step-on}
@@ -113,7 +113,7 @@ module _ (core : CoreData) (copy : Option Message) (o : OfferData) (dr : DrainDa
   same-over : over_since core.offer.state ≡ over_since o.state
   same-over = over-asked core.offer dr.moment ∙ sym (ap (λ (x : OfferData). over_since x.state) after)
 
-  answered-whole : (q : Record) → Tried core copy q
+  answered-whole : (q : Record) → AfterRetry core copy q
       → Answered answered_core (tell (tell q (row_told core.drain (over_since core.offer.state))) (ask_with copy core.offer dr.moment))
   answered-whole q tried =
       let rowed : Record = tell q (row_told core.drain (over_since core.offer.state)) in
@@ -139,7 +139,7 @@ module _ (core : CoreData) (copy : Option Message) (o : OfferData) (dr : DrainDa
         offer = settled;
       }
 
-  pub answered-is : (q : Record) → Tried core copy q → Answered answered_core (tell q answer_told)
+  pub answered-is : (q : Record) → AfterRetry core copy q → Answered answered_core (tell q answer_told)
   answered-is q tried =
       subst (Answered answered_core) (sym (tell-append q (row_told core.drain (over_since core.offer.state)) (ask_with copy core.offer dr.moment)))
       (answered-whole q tried)
@@ -147,7 +147,7 @@ module _ (core : CoreData) (copy : Option Message) (o : OfferData) (dr : DrainDa
   -- the run goes on
   pub answer-on : (before mid after_all : List Action) → IsInOrder core.plan core.order → passes core.plan dr ≡ false
       → mid ≡ before ++ row_told core.drain (over_since core.offer.state) → after_all ≡ mid ++ ask_with copy core.offer dr.moment
-      → Tells before after_all (λ told_now. (q : Record) → Tried core copy q → StepRight answered_core (tell q told_now) core.end)
+      → Tells before after_all (λ told_now. (q : Record) → AfterRetry core copy q → StepRight answered_core (tell q told_now) core.end)
   answer-on before mid after_all in_order waits first second = record {
     told = answer_told;
     appended = second ∙ ap (λ w. w ++ ask_with copy core.offer dr.moment) first
@@ -159,7 +159,7 @@ module _ (core : CoreData) (copy : Option Message) (o : OfferData) (dr : DrainDa
   pub answer-end : (before mid asked_all after_all : List Action) → IsInOrder core.plan core.order → passes core.plan dr ≡ true
       → mid ≡ before ++ row_told core.drain (over_since core.offer.state) → asked_all ≡ mid ++ ask_with copy core.offer dr.moment
       → after_all ≡ asked_all ++ end_told core.plan dr (numbers core.connections.live) (open_numbers core.endpoints)
-      → Tells before after_all (λ told_now. (q : Record) → Tried core copy q → StepRight (with_end Served answered_core) (tell q told_now) Served)
+      → Tells before after_all (λ told_now. (q : Record) → AfterRetry core copy q → StepRight (with_end Served answered_core) (tell q told_now) Served)
   answer-end before mid asked_all after_all in_order passed first second last = record {
     told = answer_told ++ end_told core.plan dr (numbers core.connections.live) (open_numbers core.endpoints);
     appended = last

@@ -25,7 +25,7 @@ use Rattle.svc_boot.proofs.Begun.{may_begin-is}
 use Rattle.svc_drain.specs.DrainState.{DrainStands}
 use Rattle.svc_core.specs.CoreData.{CoreData, is_on}
 use Rattle.svc_core.specs.Passes.{Going, IsBootRipe, MayEnd}
-use Rattle.svc_core.specs.Stands.{HasNotBegun, MayBootstrap, Bootstraps, Struck, EndedSo, StepRight, BeginKeeps, Follows}
+use Rattle.svc_core.specs.Stands.{HasNotBegun, MayBootstrap, Bootstraps, AfterEvent, EndedSo, StepRight, BeginKeeps, Follows}
 use Rattle.svc_core.proofs.RecordLemmas.{to_false, to_true, not_true, not_false}
 use Rattle.svc_core.proofs.GoingLemmas.{Loose, loose-tell, may-tell, going-from, are_loose, begun-tell}
 use Rattle.svc_core.proofs.PassLemmas.{begin-loose, begin-ends, begun-now, ripe-begun, tested-told}
@@ -121,7 +121,7 @@ module _ (core : CoreData) (q : Record) (may : MayBootstrap core q) where
   unended = tested-is core.plan core.boot q may.boot ∙ untested core.plan.test core.boot.begun may.unbegun
 
   -- bootstrapping doesn't come first
-  strike-plain : core.plan.eager ≡ false → Struck core None q
+  strike-plain : core.plan.eager ≡ false → AfterEvent core None q
   strike-plain late = record {
     going = going-from core.plan core.starts core.endpoints core.boot core.offer core.drain core.connections q loose may.ends may.boot
         (may.begins ∙ late ∙ sym may.unbegun) (λ r. absurd (let idle = may.idle in cc));
@@ -208,7 +208,7 @@ module _ (core : CoreData) (q : Record) (may : MayBootstrap core q) where
         no_test : (t b : Bool) → t ≡ false → (t && b) ≡ false
         no_test t b h = grind arith
 
-    strike-eager : Struck (with_boot (begun_by core.plan core.boot) core) None followed
+    strike-eager : AfterEvent (with_boot (begun_by core.plan core.boot) core) None followed
     strike-eager = record {
       going = going;
       free = after-free;

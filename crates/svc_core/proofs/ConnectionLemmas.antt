@@ -53,7 +53,7 @@ use Rattle.svc_core.specs.StartsData.{StartsData}
 use Rattle.svc_core.specs.StartsState.{StartsStand, is_flagged}
 use Rattle.svc_core.specs.CoreData.{CoreData, is_on}
 use Rattle.svc_core.specs.Passes.{Going, is_tested}
-use Rattle.svc_core.specs.Stands.{StandsFor, StepRight, StepKeeps, MayAccept, ArrivedMayCome}
+use Rattle.svc_core.specs.Stands.{Represents, StepRight, StepKeeps, MayAccept, ArrivedMayCome}
 use Rattle.svc_core.proofs.RecordLemmas.{not_true}
 use Rattle.svc_core.proofs.StartsLemmas.{is_due-grows}
 use Rattle.svc_core.proofs.GoingLemmas.{Base, base-tell, going-from, are_free, begun-frees}
@@ -326,7 +326,7 @@ with_connections cn core = record core { connections = cn }
 -- an event of a connection, and what is told of it
 module _ (core : CoreData) (cn : ConnectionsData) (e : Event) (told : List Action) (on : is_on core.end ≡ true) (event : is_connection_event e ≡ true)
     (deals : list_all is_dealing told ≡ true)
-    (q : Record) (right : Right core.plan q) (stands : StandsFor core q) (fit : fits core.plan q e ≡ true)
+    (q : Record) (right : Right core.plan q) (stands : Represents core q) (fit : fits core.plan q e ≡ true)
     (connections : ConnectionsStand core.plan cn (tell (Got e ∷ q) told)) where
   abbrev p : Plan
   p = core.plan
@@ -460,7 +460,7 @@ module _ (core : CoreData) (cn : ConnectionsData) (e : Event) (told : List Actio
 -- a step of such an event
 pub deals-with : (core : CoreData) (cn : ConnectionsData) (e : Event) (before after told : List Action) → is_on core.end ≡ true → is_connection_event e ≡ true
     → list_all is_dealing told ≡ true → after ≡ before ++ told
-    → ((q : Record) → StandsFor core q → fits core.plan q e ≡ true)
+    → ((q : Record) → Represents core q → fits core.plan q e ≡ true)
     → ((q : Record) → ConnectionsStand core.plan core.connections q → ConnectionsStand core.plan cn (tell (Got e ∷ q) told))
     → StepKeeps core (with_connections cn core) e before after core.end
 deals-with core cn e before after told on event deals appended fit takes = record {
@@ -471,7 +471,7 @@ deals-with core cn e before after told on event deals appended fit takes = recor
 
 -- which connections may come, by the parts
 module _ (core : CoreData) (q : Record) (s i : ℕ) (sized : IsEndpointsSized core.plan core.endpoints) (on : is_on core.end ≡ true)
-    (stands : StandsFor core q) where
+    (stands : Represents core q) where
   pub accepts-same : s < service_count core.plan → accepts_by core.plan core.endpoints (is_flagged core.starts.started s) s i ≡ accepts core.plan q s i
   accepts-same inside =
       accepts-is core.plan core.endpoints q sized s (is_flagged core.starts.started s) inside (stands.starts.started_is s inside) (ends-of core q stands on) i
@@ -479,36 +479,36 @@ module _ (core : CoreData) (q : Record) (s i : ℕ) (sized : IsEndpointsSized co
   accepts-row : MayAccept core s i → accepts core.plan q s i ≡ true
   accepts-row may = sym (accepts-same may.inside) ∙ may.goes_on
 
-pub arrived-is : (core : CoreData) (q : Record) (c : ℕ) → is_on core.end ≡ true → StandsFor core q → has (is_arrival c) q ≡ is_in c core.connections.came
+pub arrived-is : (core : CoreData) (q : Record) (c : ℕ) → is_on core.end ≡ true → Represents core q → has (is_arrival c) q ≡ is_in c core.connections.came
 arrived-is core q c on stands =
     arrival-in c q ∙ is_in-same c (arrived_numbers q) (ascending (arrived_numbers q)) (sym (tally-ascending c (arrived_numbers q)))
     ∙ ap (is_in c) (sym (connections-of core q stands on).came_is)
 
-pub fits-accept : (core : CoreData) (q : Record) (s i n : ℕ) → IsEndpointsSized core.plan core.endpoints → is_on core.end ≡ true → StandsFor core q
+pub fits-accept : (core : CoreData) (q : Record) (s i n : ℕ) → IsEndpointsSized core.plan core.endpoints → is_on core.end ≡ true → Represents core q
     → MayAccept core s i → fits core.plan q (AcceptFailed s i n) ≡ true
 fits-accept core q s i n sized on stands may =
     and_from (not (has_ended core.plan q)) (accepts core.plan q s i) (going-on core q stands on) (accepts-row core q s i sized on stands may)
 
 pub fits-arrived : (core : CoreData) (q : Record) (s i c : ℕ) (peer : Peer) → IsEndpointsSized core.plan core.endpoints → is_on core.end ≡ true
-    → StandsFor core q → ArrivedMayCome core s i c → fits core.plan q (Arrived s i c peer) ≡ true
+    → Represents core q → ArrivedMayCome core s i c → fits core.plan q (Arrived s i c peer) ≡ true
 fits-arrived core q s i c peer sized on stands may =
     and_from (not (has_ended core.plan q)) (fits_row core.plan q (Arrived s i c peer)) (going-on core q stands on)
     (and_from (accepts core.plan q s i) (not (has (is_arrival c) q)) (accepts-row core q s i sized on stands may.accepts)
     (ap not (arrived-is core q c on stands) ∙ may.fresh))
 
-pub fits-set : (core : CoreData) (q : Record) (c : ℕ) (ok : Bool) → is_on core.end ≡ true → StandsFor core q
+pub fits-set : (core : CoreData) (q : Record) (c : ℕ) (ok : Bool) → is_on core.end ≡ true → Represents core q
     → is_setting (stage_of core.connections.live c) ≡ true → fits core.plan q (Set c ok) ≡ true
 fits-set core q c ok on stands may =
     and_from (not (has_ended core.plan q)) (is_settings_open q c) (going-on core q stands on)
     (((connections-of core q stands on).stages_are c).setting_is ∙ may)
 
-pub fits-shaken : (core : CoreData) (q : Record) (c : ℕ) (ok : Bool) → is_on core.end ≡ true → StandsFor core q
+pub fits-shaken : (core : CoreData) (q : Record) (c : ℕ) (ok : Bool) → is_on core.end ≡ true → Represents core q
     → is_shaking (stage_of core.connections.live c) ≡ true → fits core.plan q (Shaken c ok) ≡ true
 fits-shaken core q c ok on stands may =
     and_from (not (has_ended core.plan q)) (is_handshake_open q c) (going-on core q stands on)
     (((connections-of core q stands on).stages_are c).shaking_is ∙ may)
 
-pub fits-finished : (core : CoreData) (q : Record) (c : ℕ) → is_on core.end ≡ true → StandsFor core q → is_serving (stage_of core.connections.live c) ≡ true
+pub fits-finished : (core : CoreData) (q : Record) (c : ℕ) → is_on core.end ≡ true → Represents core q → is_serving (stage_of core.connections.live c) ≡ true
     → fits core.plan q (Finished c) ≡ true
 fits-finished core q c on stands may =
     and_from (not (has_ended core.plan q)) (has (is_serve c) q && is_live_connection q c) (going-on core q stands on)

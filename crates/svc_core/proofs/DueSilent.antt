@@ -41,7 +41,7 @@ use Rattle.svc_core.specs.CoreData.{CoreData, IsFormed, is_on, with_end}
 use Rattle.svc_core.specs.Copies.{message_at}
 use Rattle.svc_core.specs.Dues.{GoesOnFrom, TellsNothingBefore, TellsAt, AsksSome, RunsAndAsks, NothingAsked, IsRested, IsDueAt, EndsWaitAt, from_last}
 use Rattle.svc_core.specs.Passes.{VisitedUpTo, is_tested, may_start}
-use Rattle.svc_core.specs.Stands.{Struck, StepRight}
+use Rattle.svc_core.specs.Stands.{AfterEvent, StepRight}
 use Rattle.svc_core.proofs.DueGrows.{due-grows, wait-grows}
 use Rattle.svc_core.proofs.DueRecords.{try-wrong, ask-wrong, rest-wrong, moment-stands}
 use Rattle.svc_core.proofs.FinishLemmas.{on-by, on-end}
@@ -98,7 +98,7 @@ module _ (core : CoreData) (q : Record) (from : GoesOnFrom core q) (t : ℕ) (la
 
   -- a server that goes on
   module _ (free : is_free core.plan core.boot.fork ≡ true) where
-    struck-is : Struck moved (message_at core (Moment t)) next
+    struck-is : AfterEvent moved (message_at core (Moment t)) next
     struck-is = strike-moment core t (at_moment t core.drain) (message_at core (Moment t)) from.on free later refl
         (λ p over r far stand. moment-stands p core.drain over r t far stand) refl q from.right from.stands
 

@@ -40,7 +40,7 @@ use Rattle.svc_connections.proofs.Foreign as sockets
 use Rattle.svc_core.specs.StartsData.{StartsData}
 use Rattle.svc_core.specs.CoreData.{CoreData, is_on, with_end}
 use Rattle.svc_core.specs.Passes.{Going, IsBootRipe, VisitedUpTo, TestedAt, Passes, AreStarted, is_tested, may_start}
-use Rattle.svc_core.specs.Stands.{Struck, Ripe, Visited, Tried, StepRight, Follows, EndedSo, HasCopy}
+use Rattle.svc_core.specs.Stands.{AfterEvent, AfterBootstrap, AfterPass, AfterRetry, StepRight, Follows, EndedSo, HasCopy}
 use Rattle.svc_core.proofs.RecordLemmas.{to_true, not_true, on_false}
 use Rattle.svc_core.proofs.GoingLemmas.{base-of, base-tell, loose-of, loose-tell, may-tell, going-from, are_free, are_loose, begun-frees, begun-tell}
 use Rattle.svc_core.proofs.PassLemmas.{may-free, may-complete}
@@ -109,8 +109,8 @@ through_after c h t u b due f e g k = grind (arith, f, g, k)
 pub ripen : (core : CoreData) (copy : Option Message) (q : Record) (due : Bool) → due ≡ is_complete_due core.boot
     → ((r : Record) → is_free core.plan core.boot.fork ≡ true → BootStands core.plan core.boot r
     → BootStands core.plan (completed_if due core.boot) (tell r (complete_told due core.drain.moment)))
-    → is_on (end_of core.plan core.boot) ≡ true → (core.plan.upgrade ≡ false → core.boot.complete ≡ is_through core.plan core.boot) → Struck core copy q
-    → Ripe (with_boot (completed_if due core.boot) core) copy (tell q (complete_told due core.drain.moment))
+    → is_on (end_of core.plan core.boot) ≡ true → (core.plan.upgrade ≡ false → core.boot.complete ≡ is_through core.plan core.boot) → AfterEvent core copy q
+    → AfterBootstrap (with_boot (completed_if due core.boot) core) copy (tell q (complete_told due core.drain.moment))
 ripen core copy q due e stands on alone struck =
     let going = struck.going in
     let loose : are_loose (now q) (complete_told due core.drain.moment) ≡ true =
@@ -168,7 +168,7 @@ ripen core copy q due e stands on alone struck =
 -- the services are visited
 pub start-up : (core : CoreData) (st : StartsData) (d : EndpointsData) (b : BootData) (before after : List Action) → may_start core.plan core.boot ≡ true
     → Passes core.plan core.order core.drain 0 (length core.order) core.starts st core.endpoints d core.boot b before after
-    → Tells before after (λ told. (copy : Option Message) (q : Record) → Ripe core copy q → Visited (with_pass st d b core) copy (tell q told))
+    → Tells before after (λ told. (copy : Option Message) (q : Record) → AfterBootstrap core copy q → AfterPass (with_pass st d b core) copy (tell q told))
 start-up core st d b before after may pass = record {
   told = pass.told;
   appended = pass.appended;
@@ -201,7 +201,7 @@ start-up core st d b before after may pass = record {
 
 -- none may start yet
 pub start-none : (core : CoreData) (before : List Action) → may_start core.plan core.boot ≡ false
-    → Tells before before (λ told. (copy : Option Message) (q : Record) → Ripe core copy q → Visited core copy (tell q told))
+    → Tells before before (λ told. (copy : Option Message) (q : Record) → AfterBootstrap core copy q → AfterPass core copy (tell q told))
 start-none core before off = record {
   told = [];
   appended = sym (append-nil before);
@@ -219,7 +219,7 @@ start-none core before off = record {
 pub go-ended : (core : CoreData) (copy : Option Message) (before : List Action) → IsStartupOrder core.plan core.order → IsInOrder core.plan core.order
     → is_on (end_of core.plan core.boot) ≡ false
     → Tells before before
-    (λ told. (q : Record) → Visited core copy q → StepRight (with_end (end_of core.plan core.boot) core) (tell q told) (end_of core.plan core.boot))
+    (λ told. (q : Record) → AfterPass core copy q → StepRight (with_end (end_of core.plan core.boot) core) (tell q told) (end_of core.plan core.boot))
 go-ended core copy before least in_order off = record {
   told = [];
   appended = sym (append-nil before);
@@ -370,7 +370,7 @@ module _ (core : CoreData) (in_order : IsInOrder core.plan core.order) (on : is_
       → is_free core.plan core.boot.fork ≡ true → IsBootRipe core.plan core.boot
       → OnTrue (may_start core.plan core.boot) (VisitedUpTo core.plan core.order (length core.order) q) → dr.running ≡ may_start core.plan core.boot
       → HasCopy core copy
-      → Tried (record core { boot = tried_if due core.boot; drain = dr; end = end_of core.plan core.boot }) copy (tell q (try_told due))
+      → AfterRetry (record core { boot = tried_if due core.boot; drain = dr; end = end_of core.plan core.boot }) copy (tell q (try_told due))
   settle copy q going free ripe visited runs copied = record {
     going = going-from core.plan core.starts core.endpoints (tried_if due core.boot) core.offer dr core.connections (tell q (try_told due))
         (loose-tell core.plan core.starts core.offer dr core.connections q (try_told due) (tries-loose (now q) due)
@@ -406,13 +406,13 @@ pub go-on : (core : CoreData) (copy : Option Message) (before mid after : List A
     → mid ≡ before ++ run_told core.drain → (due : Bool) → due ≡ is_due_in core.boot.receiving core.drain.moment → after ≡ mid ++ try_told due
     → ((q : Record) → core.drain.moment ≡ now q → is_free core.plan core.boot.fork ≡ true → BootStands core.plan core.boot q
     → BootStands core.plan (tried_if due core.boot) (tell q (try_told due)))
-    → Tells before after (λ told. (q : Record) → Visited core copy q
-    → Tried (record core { boot = tried_if due core.boot; drain = run core.drain; end = end_of core.plan core.boot }) copy (tell q told))
+    → Tells before after (λ told. (q : Record) → AfterPass core copy q
+    → AfterRetry (record core { boot = tried_if due core.boot; drain = run core.drain; end = end_of core.plan core.boot }) copy (tell q told))
 go-on core copy before mid after in_order on may runs first due due_is next stands = record {
   told = run_told core.drain ++ try_told due;
   appended = next ∙ ap (λ w. w ++ try_told due) first ∙ append_assoc before (run_told core.drain) (try_told due);
   kept = λ q visited.
-      subst (λ r. Tried
+      subst (λ r. AfterRetry
       (record core { boot = tried_if due core.boot; drain = run core.drain; end = end_of core.plan core.boot }) copy r)
       (sym (tell-append q (run_told core.drain) (try_told due)))
       (settle core in_order on due due_is (run core.drain) refl stands copy (tell q (run_told core.drain))
@@ -437,8 +437,8 @@ pub go-waiting : (core : CoreData) (copy : Option Message) (before after : List 
     → (due : Bool) → due ≡ is_due_in core.boot.receiving core.drain.moment → after ≡ before ++ try_told due
     → ((q : Record) → core.drain.moment ≡ now q → is_free core.plan core.boot.fork ≡ true → BootStands core.plan core.boot q
     → BootStands core.plan (tried_if due core.boot) (tell q (try_told due)))
-    → Tells before after (λ told. (q : Record) → Visited core copy q
-    → Tried (record core { boot = tried_if due core.boot; end = end_of core.plan core.boot }) copy (tell q told))
+    → Tells before after (λ told. (q : Record) → AfterPass core copy q
+    → AfterRetry (record core { boot = tried_if due core.boot; end = end_of core.plan core.boot }) copy (tell q told))
 go-waiting core copy before after in_order on off due due_is told stands = record {
   told = try_told due;
   appended = told;
@@ -467,8 +467,8 @@ pub follows-on : (core ripe_core visited_core new : CoreData) (copy : Option Mes
     → ((r : Record) → is_free core.plan core.boot.fork ≡ true → BootStands core.plan core.boot r
     → BootStands core.plan (completed_if due core.boot) (tell r (complete_told due core.drain.moment)))
     → is_on (end_of core.plan core.boot) ≡ true → ripe_core ≡ with_boot (completed_if due core.boot) core
-    → Tells mid passed (λ told. (copy : Option Message) (q : Record) → Ripe ripe_core copy q → Visited visited_core copy (tell q told))
-    → Tells passed after (λ told. (q : Record) → Visited visited_core copy q → StepRight new (tell q told) end)
+    → Tells mid passed (λ told. (copy : Option Message) (q : Record) → AfterBootstrap ripe_core copy q → AfterPass visited_core copy (tell q told))
+    → Tells passed after (λ told. (q : Record) → AfterPass visited_core copy q → StepRight new (tell q told) end)
     → Follows core new copy before after end
 follows-on core ripe_core visited_core new copy before mid passed after end due due_is first stands on same starts goes = record {
   told = complete_told due core.drain.moment ++ (starts.told ++ goes.told);
@@ -481,22 +481,23 @@ follows-on core ripe_core visited_core new copy before mid passed after end due 
       ∙ tell-append (tell q (complete_told due core.drain.moment)) starts.told goes.told))
       (goes.kept (tell (tell q (complete_told due core.drain.moment)) starts.told)
       (starts.kept copy (tell q (complete_told due core.drain.moment))
-      (subst (λ c. Ripe c copy (tell q (complete_told due core.drain.moment))) (sym same) (ripen core copy q due due_is stands on struck.alone struck))));
+      (subst (λ c. AfterBootstrap c copy (tell q (complete_told due core.drain.moment))) (sym same)
+      (ripen core copy q due due_is stands on struck.alone struck))));
 }
 
 -- the same with what the calls gave
 pub go-ended-at : (core : CoreData) (copy : Option Message) (end : StepEnd) (before : List Action) → end ≡ end_of core.plan core.boot
     → IsStartupOrder core.plan core.order → IsInOrder core.plan core.order → is_on end ≡ false
-    → Tells before before (λ told. (q : Record) → Visited core copy q → StepRight (with_end end core) (tell q told) end)
+    → Tells before before (λ told. (q : Record) → AfterPass core copy q → StepRight (with_end end core) (tell q told) end)
 go-ended-at core copy end before same least in_order off =
-    subst (λ e. Tells before before (λ told. (q : Record) → Visited core copy q → StepRight (with_end e core) (tell q told) e)) (sym same)
+    subst (λ e. Tells before before (λ told. (q : Record) → AfterPass core copy q → StepRight (with_end e core) (tell q told) e)) (sym same)
     (go-ended core copy before least in_order (sym (ap is_on same) ∙ off))
 
 -- and then what is told of the offer and of the signal
 pub go-then : (core mid_core new : CoreData) (copy : Option Message) (before mid after : List Action) (end : StepEnd)
-    → Tells before mid (λ told. (q : Record) → Visited core copy q → Tried mid_core copy (tell q told))
-    → Tells mid after (λ told. (q : Record) → Tried mid_core copy q → StepRight new (tell q told) end)
-    → Tells before after (λ told. (q : Record) → Visited core copy q → StepRight new (tell q told) end)
+    → Tells before mid (λ told. (q : Record) → AfterPass core copy q → AfterRetry mid_core copy (tell q told))
+    → Tells mid after (λ told. (q : Record) → AfterRetry mid_core copy q → StepRight new (tell q told) end)
+    → Tells before after (λ told. (q : Record) → AfterPass core copy q → StepRight new (tell q told) end)
 go-then core mid_core new copy before mid after end first next = record {
   told = first.told ++ next.told;
   appended = next.appended ∙ ap (λ w. w ++ next.told) first.appended ∙ append_assoc before first.told next.told;
@@ -510,8 +511,8 @@ pub go-on-at : (core : CoreData) (copy : Option Message) (end : StepEnd) (b : Bo
     → mid ≡ before ++ run_told core.drain → due ≡ is_due_in core.boot.receiving core.drain.moment → after ≡ mid ++ try_told due
     → ((q : Record) → core.drain.moment ≡ now q → is_free core.plan core.boot.fork ≡ true → BootStands core.plan core.boot q
     → BootStands core.plan b (tell q (try_told due)))
-    → Tells before after (λ told. (q : Record) → Visited core copy q
-    → Tried (record core { boot = b; drain = dr; end = end }) copy (tell q told))
+    → Tells before after (λ told. (q : Record) → AfterPass core copy q
+    → AfterRetry (record core { boot = b; drain = dr; end = end }) copy (tell q told))
 go-on-at core copy end b dr before mid after due same boots drains in_order on may runs first due_is next stands =
     rw (same, boots, drains)
     (go-on core copy before mid after in_order (sym (ap is_on same) ∙ on) may (rw drains at runs) first due due_is next (rw boots at stands))
@@ -522,8 +523,8 @@ pub go-waiting-at : (core : CoreData) (copy : Option Message) (end : StepEnd) (b
     → due ≡ is_due_in core.boot.receiving core.drain.moment → after ≡ before ++ try_told due
     → ((q : Record) → core.drain.moment ≡ now q → is_free core.plan core.boot.fork ≡ true → BootStands core.plan core.boot q
     → BootStands core.plan b (tell q (try_told due)))
-    → Tells before after (λ told. (q : Record) → Visited core copy q
-    → Tried (record core { boot = b; end = end }) copy (tell q told))
+    → Tells before after (λ told. (q : Record) → AfterPass core copy q
+    → AfterRetry (record core { boot = b; end = end }) copy (tell q told))
 go-waiting-at core copy end b before after due same boots in_order on off due_is told stands =
     rw (same, boots) (go-waiting core copy before after in_order (sym (ap is_on same) ∙ on) off due due_is told (rw boots at stands))
 
@@ -539,8 +540,8 @@ pub follows-on-at : (core ripe_core visited_core new : CoreData) (copy : Option 
     → ((r : Record) → is_free core.plan core.boot.fork ≡ true → BootStands core.plan core.boot r
     → BootStands core.plan b (tell r (complete_told due core.drain.moment)))
     → ripe_core ≡ record core { boot = b; end = held }
-    → Tells mid passed (λ told. (copy : Option Message) (q : Record) → Ripe ripe_core copy q → Visited visited_core copy (tell q told))
-    → Tells passed after (λ told. (q : Record) → Visited visited_core copy q → StepRight new (tell q told) end)
+    → Tells mid passed (λ told. (copy : Option Message) (q : Record) → AfterBootstrap ripe_core copy q → AfterPass visited_core copy (tell q told))
+    → Tells passed after (λ told. (q : Record) → AfterPass visited_core copy q → StepRight new (tell q told) end)
     → Follows core new copy before after end
 follows-on-at core ripe_core visited_core new copy held end b before mid passed after due same on due_is boots first stands ripe starts goes =
     let follows =

@@ -36,7 +36,7 @@ use Rattle.svc_offer.specs.OfferState.{is_connecting, is_sending}
 use Rattle.svc_connections.specs.ConnectionsState.{is_setting, is_shaking, is_serving, stage_of}
 use Rattle.svc_connections.proofs.Rests.{finished-row}
 use Rattle.svc_core.specs.CoreData.{CoreData, is_on}
-use Rattle.svc_core.specs.Stands.{StandsFor, MayAccept, ArrivedMayCome, ReadyMayCome, EndedMayCome, BindMayBeAnswered, BoundMayCome, AdoptMayBeAnswered, LoopMayEnd, ReceivedMayCome}
+use Rattle.svc_core.specs.Stands.{Represents, MayAccept, ArrivedMayCome, ReadyMayCome, EndedMayCome, BindMayBeAnswered, BoundMayCome, AdoptMayBeAnswered, LoopMayEnd, ReceivedMayCome}
 use Rattle.svc_core.proofs.StepLemmas.{fits-loop, loop-same, broadcast-told, fits-moment, fits-ready, fits-ended, fits-bound, fits-bind, fits-adopt, fits-try, fits-received, fresh, new-is, ends-of, uncut-of, drain-of, offer-of, connections-of, going-on, running-is}
 use Rattle.svc_core.proofs.SignalLemmas.{fits-connect, fits-send}
 use Rattle.svc_core.proofs.HeldLemmas.{fits-side, fits-parent, parent-same}
@@ -99,7 +99,7 @@ open-known p ask answer s i f (e ∷ q) k h = elim (cases_Bool (ask e)) [
 ]
 
 -- the core's test of binds, of adoptions and of messages
-module _ (core : CoreData) (q : Record) (on : is_on core.end ≡ true) (stands : StandsFor core q) where
+module _ (core : CoreData) (q : Record) (on : is_on core.end ≡ true) (stands : Represents core q) where
   module _ (s i : ℕ) where
     bind-means : is_bind_open q s i ≡ true → BindMayBeAnswered core s i
     bind-means asked =
@@ -246,7 +246,7 @@ module _ (core : CoreData) (q : Record) (on : is_on core.end ≡ true) (stands :
       either a b c h = grind arith
 
 -- an arrival and a failed accept, by the parts
-module _ (core : CoreData) (q : Record) (on : is_on core.end ≡ true) (stands : StandsFor core q) (sized : IsEndpointsSized core.plan core.endpoints) where
+module _ (core : CoreData) (q : Record) (on : is_on core.end ≡ true) (stands : Represents core q) (sized : IsEndpointsSized core.plan core.endpoints) where
   accept-means : (s i : ℕ) → accepts core.plan q s i ≡ true → MayAccept core s i
   accept-means s i h =
       let both = and_parts (serves core.plan q s && is_endpoint core.plan s i) (not (have_loops_ended core.plan q s i)) h in
@@ -276,7 +276,7 @@ module _ (core : CoreData) (q : Record) (on : is_on core.end ≡ true) (stands :
   )
 
 -- an answer to the settings, and to the handshake, and the end of a connection
-module _ (core : CoreData) (q : Record) (on : is_on core.end ≡ true) (stands : StandsFor core q) (c : ℕ) where
+module _ (core : CoreData) (q : Record) (on : is_on core.end ≡ true) (stands : Represents core q) (c : ℕ) where
   pub set-fits : (ok : Bool)
       → (is_setting (stage_of core.connections.live c) ≡ true → Fits core.plan q (Set c ok))
       × (Fits core.plan q (Set c ok) → is_setting (stage_of core.connections.live c) ≡ true)
@@ -302,7 +302,7 @@ module _ (core : CoreData) (q : Record) (on : is_on core.end ≡ true) (stands :
   )
 
 -- the fork that is awaited, and what comes to a parent that waits
-module _ (core : CoreData) (q : Record) (on : is_on core.end ≡ true) (stands : StandsFor core q) where
+module _ (core : CoreData) (q : Record) (on : is_on core.end ≡ true) (stands : Represents core q) where
   pub side-fits : (side : Side)
       → (is_asked core.boot.fork ≡ true → Fits core.plan q (SideCame side)) × (Fits core.plan q (SideCame side) → is_asked core.boot.fork ≡ true)
   side-fits side = (
@@ -318,7 +318,7 @@ module _ (core : CoreData) (q : Record) (on : is_on core.end ≡ true) (stands :
   )
 
 -- nothing fits once the run has ended
-pub ended-none : (core : CoreData) (q : Record) (e : Event) → is_on core.end ≡ false → StandsFor core q → fits core.plan q e ≡ true → ⊥
+pub ended-none : (core : CoreData) (q : Record) (e : Event) → is_on core.end ≡ false → Represents core q → fits core.plan q e ≡ true → ⊥
 ended-none core q e off stands fit =
     ended (has_ended core.plan q) (step_end core.plan q) (sym (ap is_on stands.end_is) ∙ off) (goes_on core.plan q)
     (and_parts (not (has_ended core.plan q)) (fits_row core.plan q e) fit).0

@@ -19,7 +19,7 @@ use Rattle.svc_endpoints.specs.declared.table.Open.{Open}
 use Rattle.svc_core.specs.CoreData.{CoreData}
 use Rattle.svc_core.specs.Copies.{TellsBare, copy_of}
 use Rattle.svc_core.specs.Rooms.{most_open}
-use Rattle.svc_core.specs.Stands.{Struck, Visited, StepRight}
+use Rattle.svc_core.specs.Stands.{AfterEvent, AfterPass, StepRight}
 use Rattle.svc_core.specs.Steps.{Actions, Spends, Goes, Visits, EndsRun, finish_room, go_room}
 use Rattle.svc_core.proofs.CopyLemmas.{bare-none, bare-then, bare-first, copied-bare}
 use Rattle.svc_core.proofs.RoomLemmas.{few-open}
@@ -76,11 +76,11 @@ visits-spend core {mid = mid} order begun as_many first visits =
 
 -- bootstrapping was completed or not, the services were visited, and the rest
 pub visited-goes : {core mid visited new : CoreData} {copy : Option Message} {before given between after : Actions} {end : StepEnd}
-    → Goes (Visited visited copy) (go_room visited) visited new copy between after end → Visits mid visited given between
+    → Goes (AfterPass visited copy) (go_room visited) visited new copy between after end → Visits mid visited given between
     → mid.plan ≡ core.plan → mid.order ≡ core.order → mid.boot.begun ≡ core.boot.begun → most_open mid ≡ most_open core
     → TellsBare (list_of before) (list_of given) → Spends 1 0 before given
-    → Tells (list_of before) (list_of after) (λ told. (q : Record) → Struck core copy q → StepRight new (tell q told) end)
-    → Goes (Struck core copy) (finish_room core) core new copy before after end
+    → Tells (list_of before) (list_of after) (λ told. (q : Record) → AfterEvent core copy q → StepRight new (tell q told) end)
+    → Goes (AfterEvent core copy) (finish_room core) core new copy before after end
 visited-goes {core = core} {before = before} {given = given} {between = between} next visits plan order begun as_many bare spends kept =
     then-goes next (visits.plan ∙ plan) (bare-then (list_of before) (list_of given) (list_of between) bare visits.bare)
     (visits-spend core order begun as_many spends visits) kept

@@ -54,7 +54,7 @@ use Rattle.svc_core.specs.StartsData.{StartsData}
 use Rattle.svc_core.specs.StartsState.{StartsStand}
 use Rattle.svc_core.specs.CoreData.{CoreData, is_on, with_end}
 use Rattle.svc_core.specs.Passes.{Going, is_tested, may_start}
-use Rattle.svc_core.specs.Stands.{HasNotBegun, MayBootstrap, Bootstraps, StandsFor, Answered, EndedSo, StepRight, StepKeeps, BeginKeeps, RowMayCome}
+use Rattle.svc_core.specs.Stands.{HasNotBegun, MayBootstrap, Bootstraps, Represents, Answered, EndedSo, StepRight, StepKeeps, BeginKeeps, RowMayCome}
 use Rattle.svc_core.proofs.RecordLemmas.{not_true}
 use Rattle.svc_core.proofs.GoingLemmas.{Loose, base-told, going-from}
 use Rattle.svc_core.proofs.OpenLemmas.{step-on, step-ended}
@@ -290,7 +290,7 @@ of-fork p q DropFailed h =
 of-fork p q _ h = absurd (cc)
 
 -- a core that is held doesn't run
-held-idle : (core : CoreData) (q : Record) → StandsFor core q → is_free core.plan core.boot.fork ≡ false → core.drain.running ≡ false
+held-idle : (core : CoreData) (q : Record) → Represents core q → is_free core.plan core.boot.fork ≡ false → core.drain.running ≡ false
 held-idle core q stands awaits = elim (cases_Bool core.drain.running) [
   | inl runs ↦
       absurd (let may = stands.runs runs in let off = first_none (is_free core.plan core.boot.fork) (not core.plan.eager || core.boot.complete) awaits in cc)
@@ -298,7 +298,7 @@ held-idle core q stands awaits = elim (cases_Bool core.drain.running) [
 ]
 
 -- an event of the fork, after which nothing is told
-module _ (core : CoreData) (q : Record) (e : Event) (b : BootData) (dr : DrainData) (right : Right core.plan q) (stands : StandsFor core q)
+module _ (core : CoreData) (q : Record) (e : Event) (b : BootData) (dr : DrainData) (right : Right core.plan q) (stands : Represents core q)
     (on : is_on core.end ≡ true) (fit : fits core.plan q e ≡ true)
     (event : is_fork_event e ≡ true) (other : is_side_child (Got e) ≡ false) (was_held : is_free core.plan core.boot.fork ≡ false)
     (drain : DrainStands core.plan dr (over_since core.offer.state) (Got e ∷ q)) (running : dr.running ≡ core.drain.running)
@@ -323,7 +323,7 @@ module _ (core : CoreData) (q : Record) (e : Event) (b : BootData) (dr : DrainDa
   }
 
 pub held-keeps : (core mid : CoreData) (e : Event) (before : List Action) → IsInOrder mid.plan mid.order
-    → ((q : Record) → Right core.plan q → StandsFor core q → Held mid (Got e ∷ q))
+    → ((q : Record) → Right core.plan q → Represents core q → Held mid (Got e ∷ q))
     → StepKeeps core (with_end (end_of mid.plan mid.boot) mid) e before before (end_of mid.plan mid.boot)
 held-keeps core mid e before in_order held = record {
   told = [];
@@ -380,15 +380,15 @@ waited-none limit m (Waiting at) h = either (nat_le limit ((m - at) / 1000))
 waited-none limit m (Over status) h = refl
 
 -- what the core tests, fits
-pub fits-side : (core : CoreData) (q : Record) (side : Side) → is_on core.end ≡ true → is_asked core.boot.fork ≡ true → StandsFor core q
+pub fits-side : (core : CoreData) (q : Record) (side : Side) → is_on core.end ≡ true → is_asked core.boot.fork ≡ true → Represents core q
     → fits core.plan q (Forked side) ≡ true
 fits-side core q side on may stands = and_from (not (has_ended core.plan q)) (is_daemonize_open q) (going-on core q stands on) (stands.boot.fork.asked_is ∙ may)
 
-pub parent-same : (core : CoreData) (q : Record) → is_on core.end ≡ true → StandsFor core q → parent_waits core.plan q ≡ is_waiting core.boot.fork
+pub parent-same : (core : CoreData) (q : Record) → is_on core.end ≡ true → Represents core q → parent_waits core.plan q ≡ is_waiting core.boot.fork
 parent-same core q on stands = waits-is core.plan core.boot q stands.boot (settled-of core q stands on).boot.no_parent_over
 
 pub fits-parent : (core : CoreData) (q : Record) (e : Event) → fits_row core.plan q e ≡ parent_waits core.plan q → is_on core.end ≡ true
-    → is_waiting core.boot.fork ≡ true → StandsFor core q → fits core.plan q e ≡ true
+    → is_waiting core.boot.fork ≡ true → Represents core q → fits core.plan q e ≡ true
 fits-parent core q e row on may stands =
     and_from (not (has_ended core.plan q)) (fits_row core.plan q e) (going-on core q stands on) (row ∙ parent-same core q on stands ∙ may)
 
@@ -396,7 +396,7 @@ fits-parent core q e row on may stands =
 pub parent-held : (core : CoreData) (b : BootData) → is_on core.end ≡ true → is_asked core.boot.fork ≡ true
     → b ≡ forked (side_taken core.plan.wait sides.Parent core.drain.moment) core.boot
     → ((q : Record) → core.drain.moment ≡ now q → BootStands core.plan core.boot q → BootStands core.plan b (Got (Forked sides.Parent) ∷ q))
-    → (q : Record) → Right core.plan q → StandsFor core q
+    → (q : Record) → Right core.plan q → Represents core q
     → Held (struck core core.starts core.endpoints b core.offer core.drain) (Got (Forked sides.Parent) ∷ q)
 parent-held core b on may after boots q right stands =
     let fit = fits-side core q sides.Parent on may stands in
@@ -412,7 +412,7 @@ pub ends-held : (core : CoreData) (e : Event) (b : BootData) (status : ℕ) → 
     → ((q : Record) → fits_row core.plan q e ≡ parent_waits core.plan q)
     → is_on core.end ≡ true → is_waiting core.boot.fork ≡ true → b ≡ forked (Over status) core.boot
     → ((q : Record) → BootStands core.plan core.boot q → BootStands core.plan b (Got e ∷ q))
-    → (q : Record) → Right core.plan q → StandsFor core q → Held (struck core core.starts core.endpoints b core.offer core.drain) (Got e ∷ q)
+    → (q : Record) → Right core.plan q → Represents core q → Held (struck core core.starts core.endpoints b core.offer core.drain) (Got e ∷ q)
 ends-held core e b status event other plain row on may after boots q right stands =
     let fit = fits-parent core q e (row q) on may stands in
     event-held core q e b core.drain right stands on fit event other
@@ -440,7 +440,7 @@ pub waiting-held : (core : CoreData) (ms : ℕ) (b : BootData) (dr : DrainData) 
     → DrainStands p dr over (Got (Moment ms) ∷ q))
     → b ≡ forked (waited core.plan.ready_timeout ms core.boot.fork) core.boot
     → ((q : Record) → is_parent_over core.boot.fork ≡ false → BootStands core.plan core.boot q → BootStands core.plan b (Got (Moment ms) ∷ q))
-    → (q : Record) → Right core.plan q → StandsFor core q → Held (struck core core.starts core.endpoints b core.offer dr) (Got (Moment ms) ∷ q)
+    → (q : Record) → Right core.plan q → Represents core q → Held (struck core core.starts core.endpoints b core.offer dr) (Got (Moment ms) ∷ q)
 waiting-held core ms b dr on awaits may moved drain after boots q right stands =
     let settled = (settled-of core q stands on).boot in
     event-held core q (Moment ms) b dr right stands on (fits-moment core q ms on may stands) refl refl awaits
@@ -457,7 +457,7 @@ waiting-held core ms b dr on awaits may moved drain after boots q right stands =
 -- the process is the child, and a server's run may begin
 pub child-may : (core : CoreData) (b : BootData) → is_on core.end ≡ true → is_asked core.boot.fork ≡ true → b ≡ forked Child core.boot
     → ((q : Record) → core.drain.moment ≡ now q → BootStands core.plan core.boot q → BootStands core.plan b (Got (Forked sides.Child) ∷ q))
-    → (q : Record) → Right core.plan q → StandsFor core q
+    → (q : Record) → Right core.plan q → Represents core q
     → MayBootstrap (struck core core.starts core.endpoints b core.offer core.drain) (Got (Forked sides.Child) ∷ q)
 child-may core b on may after boots q right stands =
     let fit = fits-side core q sides.Child on may stands in
@@ -494,7 +494,7 @@ child-may core b on may after boots q right stands =
     begins_by eager begun h = grind arith
 
 pub child-keeps : (core mid new : CoreData) (before after : List Action) (end : StepEnd)
-    → ((q : Record) → Right core.plan q → StandsFor core q → MayBootstrap mid (Got (Forked sides.Child) ∷ q))
+    → ((q : Record) → Right core.plan q → Represents core q → MayBootstrap mid (Got (Forked sides.Child) ∷ q))
     → Bootstraps mid new before after end → StepKeeps core new (Forked sides.Child) before after end
 child-keeps core mid new before after end may bootstraps = record {
   told = bootstraps.told;

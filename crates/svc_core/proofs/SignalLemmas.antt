@@ -62,7 +62,7 @@ use Rattle.svc_core.specs.CoreData.{CoreData, is_on}
 use Rattle.svc_core.specs.Copies.{message_at}
 use Rattle.svc_core.specs.Passes.{Going, AreStarted, MayEnd, is_tested}
 use Rattle.svc_core.specs.Signals.{offers_by, is_reached}
-use Rattle.svc_core.specs.Stands.{StandsFor, Struck, StepRight, StepKeeps, RowMayCome}
+use Rattle.svc_core.specs.Stands.{Represents, AfterEvent, StepRight, StepKeeps, RowMayCome}
 use Rattle.svc_core.proofs.GoingLemmas.{may-tell}
 use Rattle.svc_core.proofs.RecordLemmas.{signal-is, signal-none, on_true, to_true, not_true}
 use Rattle.svc_connections.specs.ConnectionsFacts.{is_connection_event}
@@ -96,8 +96,8 @@ pub strike-moment : (core : CoreData) (ms : ℕ) (dr : DrainData) (copy : Option
     → ((p : Plan) (over : Option ℕ) (q : Record) → IsDrainSettled core.drain over → DrainStands p core.drain over q
     → DrainStands p dr over (Got (events.Moment ms) ∷ q))
     → copy ≡ message_at core (events.Moment ms)
-    → (q : Record) → Right core.plan q → StandsFor core q
-    → Struck (struck core core.starts core.endpoints core.boot core.offer dr) copy (Got (events.Moment ms) ∷ q)
+    → (q : Record) → Right core.plan q → Represents core q
+    → AfterEvent (struck core core.starts core.endpoints core.boot core.offer dr) copy (Got (events.Moment ms) ∷ q)
 strike-moment core ms dr copy on free may after drain copied q right stands =
     strike core q (events.Moment ms) core.starts core.endpoints core.boot core.offer dr copy [] right stands on
     (fits-moment core q ms on may stands) free refl refl tt
@@ -146,13 +146,13 @@ held-cut p q fd h =
 
 -- a signal
 module _ (core : CoreData) (kind : ShutdownSignal) (on : is_on core.end ≡ true) (runs : core.drain.running ≡ true) (q : Record) (right : Right core.plan q)
-    (stands : StandsFor core q) where
+    (stands : Represents core q) where
   fits-signal : fits core.plan q (events.Signal kind) ≡ true
   fits-signal = and_from (not (has_ended core.plan q)) (from_the_start q) (going-on core q stands on) (running-is core q stands on ∙ runs)
 
   strike-signal : (o : OfferData) (dr : DrainData) → has_cut (Got (events.Signal kind) ∷ q) ≡ has_cut q → OfferStands core.plan o (Got (events.Signal kind) ∷ q)
       → DrainStands core.plan dr (over_since o.state) (Got (events.Signal kind) ∷ q) → dr.running ≡ core.drain.running
-      → is_send_due o.state dr.moment ≡ false → Struck (struck core core.starts core.endpoints core.boot o dr) None (Got (events.Signal kind) ∷ q)
+      → is_send_due o.state dr.moment ≡ false → AfterEvent (struck core core.starts core.endpoints core.boot o dr) None (Got (events.Signal kind) ∷ q)
   strike-signal o dr calm offer drain running unsent =
       strike core q (events.Signal kind) core.starts core.endpoints core.boot o dr None [] right stands on fits-signal
       (free-of core q (events.Signal kind) stands fits-signal refl) refl refl tt drain running offer
@@ -202,7 +202,7 @@ module _ (core : CoreData) (kind : ShutdownSignal) (on : is_on core.end ≡ true
     no-cut : has_cut (Got (events.Signal kind) ∷ q) ≡ has_cut q
     no-cut = cut-signal q kind ∙ ap (λ b. b || has_cut q) (ap (λ s. cuts s kind) (sym (drain-of core q stands on).signal_is) ∙ calm)
 
-    later-struck : Struck (struck core core.starts core.endpoints core.boot core.offer core.drain) None (Got (events.Signal kind) ∷ q)
+    later-struck : AfterEvent (struck core core.starts core.endpoints core.boot core.offer core.drain) None (Got (events.Signal kind) ∷ q)
     later-struck = strike-signal core.offer core.drain no-cut (stands-later core.plan core.offer q kind earlier no-cut (offer-of core q stands on))
         (subst (λ (x : DrainData). DrainStands core.plan x (over_since core.offer.state) (Got (events.Signal kind) ∷ q))
         (same-later core.drain kind core.drain.signal refl came calm)
@@ -300,7 +300,7 @@ module _ (core : CoreData) (kind : ShutdownSignal) (on : is_on core.end ≡ true
       → (is_upgrade (Some kind) ≡ true → false ≡ not (is_empty_table (live_table p r))) → OverIs p (Got (events.Signal kind) ∷ r) over
       → DrainStands p core.drain None r → DrainStands p dr over (Got (events.Signal kind) ∷ r))
       → is_some core.drain.signal ≡ false → (EndpointsStand core.plan core.endpoints q → false ≡ offers_by kind (is_empty_table (live_table core.plan q)))
-      → Struck (struck core core.starts core.endpoints core.boot core.offer dr) None (Got (events.Signal kind) ∷ q)
+      → AfterEvent (struck core core.starts core.endpoints core.boot core.offer dr) None (Got (events.Signal kind) ∷ q)
   strike-unoffered dr after first none_came says =
       let silent : has is_signal q ≡ false = sym came-is ∙ none_came in
       let empty : is_upgrade (Some kind) ≡ true
@@ -326,7 +326,7 @@ module _ (core : CoreData) (kind : ShutdownSignal) (on : is_on core.end ≡ true
       → (is_upgrade (Some kind) ≡ true → true ≡ not (is_empty_table (live_table p r))) → OverIs p (Got (events.Signal kind) ∷ r) over
       → DrainStands p core.drain None r → DrainStands p dr over (Got (events.Signal kind) ∷ r))
       → is_some core.drain.signal ≡ false → (EndpointsStand core.plan core.endpoints q → true ≡ offers_by kind (is_empty_table (live_table core.plan q)))
-      → Struck (struck core core.starts core.endpoints core.boot o dr) None (Got (events.Signal kind) ∷ q)
+      → AfterEvent (struck core core.starts core.endpoints core.boot o dr) None (Got (events.Signal kind) ∷ q)
   strike-offered o dr message told after begins written first none_came says =
       let offered = says (ends-of core q stands on) in
       let silent : has is_signal q ≡ false = sym came-is ∙ none_came in
@@ -365,7 +365,7 @@ module _ (core : CoreData) (kind : ShutdownSignal) (on : is_on core.end ≡ true
       → IsGivingUp gave
       → ((r : Record) (e : Event) → is_endpoints_event e ≡ false → ((fd : ℕ) → is_held_back core.plan (Got e ∷ r) fd ≡ false)
       → EndpointsStand core.plan core.endpoints r → EndpointsStand core.plan d (tell (Got e ∷ r) gave))
-      → Struck (struck core core.starts d core.boot o dr) None (tell (Got (events.Signal kind) ∷ q) gave)
+      → AfterEvent (struck core core.starts d core.boot o dr) None (tell (Got (events.Signal kind) ∷ q) gave)
   strike-cut o dr d gave cut after told cuts_offer settles cuts_drain giving ends =
       let fast = fast-cut core.drain.signal kind cut in
       let was = drain-of core q stands on in
@@ -406,8 +406,8 @@ pub cut-strikes : (core : CoreData) (kind : ShutdownSignal) → is_on core.end �
     → EndpointsStand core.plan core.endpoints r → EndpointsStand core.plan d (tell (Got e ∷ r) told)))
     → Tells before mid
     (λ told. IsGivingUp told
-    × ((q : Record) → Right core.plan q → StandsFor core q
-    → Struck (struck core core.starts d core.boot o dr) None (tell (Got (events.Signal kind) ∷ q) told)))
+    × ((q : Record) → Right core.plan q → Represents core q
+    → AfterEvent (struck core core.starts d core.boot o dr) None (tell (Got (events.Signal kind) ∷ q) told)))
 cut-strikes core kind on runs cut o after cuts_offer settles dr told cuts_drain d before mid gave = record {
   told = gave.told;
   appended = gave.appended;
@@ -518,19 +518,19 @@ answer-is p answers.SendFailed =
     }
 
 -- an ask that is open is answered
-pub fits-connect : (core : CoreData) (q : Record) → is_on core.end ≡ true → is_connecting core.offer.state ≡ true → StandsFor core q
+pub fits-connect : (core : CoreData) (q : Record) → is_on core.end ≡ true → is_connecting core.offer.state ≡ true → Represents core q
     → (not (has_ended core.plan q) && is_connect_open q) ≡ true
 fits-connect core q on may stands =
     and_from (not (has_ended core.plan q)) (is_connect_open q) (going-on core q stands on)
     ((offer-of core q stands on).connecting_is (uncut-of core q stands on) ∙ may)
 
-pub fits-send : (core : CoreData) (q : Record) → is_on core.end ≡ true → is_sending core.offer.state ≡ true → StandsFor core q
+pub fits-send : (core : CoreData) (q : Record) → is_on core.end ≡ true → is_sending core.offer.state ≡ true → Represents core q
     → (not (has_ended core.plan q) && is_send_open q) ≡ true
 fits-send core q on may stands =
     and_from (not (has_ended core.plan q)) (is_send_open q) (going-on core q stands on)
     ((offer-of core q stands on).sending_is (uncut-of core q stands on) ∙ may)
 
-pub fits-answer : (core : CoreData) (q : Record) (a : SendAnswer) → is_on core.end ≡ true → is_awaited core.offer.state a ≡ true → StandsFor core q
+pub fits-answer : (core : CoreData) (q : Record) (a : SendAnswer) → is_on core.end ≡ true → is_awaited core.offer.state a ≡ true → Represents core q
     → fits core.plan q (event_of a) ≡ true
 fits-answer core q answers.Connected on may stands = fits-connect core q on may stands
 fits-answer core q answers.NotThere on may stands = fits-connect core q on may stands
@@ -599,7 +599,7 @@ awaited-offers (Delayed at) a h = refl
 awaited-offers (Stalled at) a h = refl
 awaited-offers (Over at) a h = refl
 
-pub awaited-runs : (core : CoreData) (a : SendAnswer) → is_on core.end ≡ true → is_awaited core.offer.state a ≡ true → (q : Record) → StandsFor core q
+pub awaited-runs : (core : CoreData) (a : SendAnswer) → is_on core.end ≡ true → is_awaited core.offer.state a ≡ true → (q : Record) → Represents core q
     → core.drain.running ≡ true
 awaited-runs core a on may q stands = elim (cases_Bool core.drain.running) [
   | inl runs ↦ runs
@@ -614,7 +614,7 @@ awaited-runs core a on may q stands = elim (cases_Bool core.drain.running) [
 module _ (core : CoreData) (a : SendAnswer) (on : is_on core.end ≡ true) (may : is_awaited core.offer.state a ≡ true) (o : OfferData)
     (after : o ≡ answered a core.drain.moment core.offer)
     (takes : (p : Plan) (r : Record) → core.drain.moment ≡ now r → OfferStands p core.offer r → OfferStands p o (Got (event_of a) ∷ r)) (q : Record)
-    (right : Right core.plan q) (stands : StandsFor core q) where
+    (right : Right core.plan q) (stands : Represents core q) where
   answer-offer : OfferStands core.plan o (Got (event_of a) ∷ q)
   answer-offer = takes core.plan q (drain-of core q stands on).moment_is (offer-of core q stands on)
 
@@ -638,7 +638,7 @@ module _ (core : CoreData) (a : SendAnswer) (on : is_on core.end ≡ true) (may 
   -- by which it isn't over
   pub strike-going : (copy : Option Message) → is_some (over_since o.state) ≡ false → (is_send_due o.state core.drain.moment ≡ true → copy ≡ o.message)
       → core.drain.running ≡ true
-      → Struck (struck core core.starts core.endpoints core.boot o core.drain) copy (Got (event_of a) ∷ q)
+      → AfterEvent (struck core core.starts core.endpoints core.boot o core.drain) copy (Got (event_of a) ∷ q)
   strike-going copy goes copied runs =
       strike core q (event_of a) core.starts core.endpoints core.boot o core.drain copy [] right stands on
       (fits-answer core q a on may stands) answer-free answer-other (answer-is core.plan a).apart tt
@@ -655,7 +655,7 @@ module _ (core : CoreData) (a : SendAnswer) (on : is_on core.end ≡ true) (may 
   pub strike-over : (d : EndpointsData) (gave : List Action) → is_some (over_since o.state) ≡ true → is_reached a ≡ false → IsGivingUp gave
       → ((r : Record) (e : Event) → is_endpoints_event e ≡ false → ((fd : ℕ) → is_held_back core.plan (Got e ∷ r) fd ≡ false)
       → EndpointsStand core.plan core.endpoints r → EndpointsStand core.plan d (tell (Got e ∷ r) gave))
-      → Struck (struck core core.starts d core.boot o core.drain) None (tell (Got (event_of a) ∷ q) gave)
+      → AfterEvent (struck core core.starts d core.boot o core.drain) None (tell (Got (event_of a) ∷ q) gave)
   strike-over d gave over rests giving ends =
       let may_end : MayEnd core.plan (Got (event_of a) ∷ q) = record {
         unpassed = passed-got core.plan core.drain (over_since core.offer.state) (over_since o.state) q (event_of a) (answer-is core.plan a).plain
@@ -683,8 +683,8 @@ pub strike-connected : (core : CoreData) (o : OfferData) (copy : Option Message)
     → o ≡ answered answers.Connected core.drain.moment core.offer
     → ((p : Plan) (r : Record) → core.drain.moment ≡ now r → OfferStands p core.offer r → OfferStands p o (Got events.Connected ∷ r))
     → copy ≡ message_at core events.Connected
-    → (q : Record) → Right core.plan q → StandsFor core q
-    → Struck (struck core core.starts core.endpoints core.boot o core.drain) copy (Got events.Connected ∷ q)
+    → (q : Record) → Right core.plan q → Represents core q
+    → AfterEvent (struck core core.starts core.endpoints core.boot o core.drain) copy (Got events.Connected ∷ q)
 strike-connected core o copy on may after takes copied q right stands =
     strike-going core answers.Connected on may o after takes q right stands copy
     (ap (λ (x : OfferData). is_some (over_since x.state)) after)
@@ -696,7 +696,8 @@ pub strike-rests : (core : CoreData) (a : SendAnswer) → is_on core.end ≡ tru
     → o ≡ answered a core.drain.moment core.offer
     → ((p : Plan) (r : Record) → core.drain.moment ≡ now r → OfferStands p core.offer r → OfferStands p o (Got (event_of a) ∷ r))
     → (over : Option ℕ) → over ≡ over_since o.state → is_some over ≡ false → is_reached a ≡ false
-    → (q : Record) → Right core.plan q → StandsFor core q → Struck (struck core core.starts core.endpoints core.boot o core.drain) None (Got (event_of a) ∷ q)
+    → (q : Record) → Right core.plan q → Represents core q
+    → AfterEvent (struck core core.starts core.endpoints core.boot o core.drain) None (Got (event_of a) ∷ q)
 strike-rests core a on may o after takes over over_is goes rests q right stands =
     strike-going core a on may o after takes q right stands None
     (none-since over (over_since o.state) over_is goes)
@@ -719,8 +720,8 @@ pub strike-ends : (core : CoreData) (a : SendAnswer) → is_on core.end ≡ true
     → EndpointsStand core.plan core.endpoints r → EndpointsStand core.plan d (tell (Got e ∷ r) told)))
     → Tells before mid
     (λ told. IsGivingUp told
-    × ((q : Record) → Right core.plan q → StandsFor core q
-    → Struck (struck core core.starts d core.boot o core.drain) None (tell (Got (event_of a) ∷ q) told)))
+    × ((q : Record) → Right core.plan q → Represents core q
+    → AfterEvent (struck core core.starts d core.boot o core.drain) None (tell (Got (event_of a) ∷ q) told)))
 strike-ends core a on may o after takes d before mid over over_is done rests gave = record {
   told = gave.told;
   appended = gave.appended;

@@ -29,7 +29,7 @@ use Rattle.svc_core.specs.Copies.{TellsBare, TellsCopied, are_copied, copy_of, m
 use Rattle.svc_core.specs.Passes.{begin_room}
 use Rattle.svc_core.specs.Rooms.{TellsWithin, KeepsRoom, tell_room, close_room, open_count, most_open}
 use Rattle.svc_core.specs.Signals.{IgnoresLater}
-use Rattle.svc_core.specs.Stands.{StandsFor, Struck, MayBootstrap, BeginKeeps, StepKeeps}
+use Rattle.svc_core.specs.Stands.{Represents, AfterEvent, MayBootstrap, BeginKeeps, StepKeeps}
 use Rattle.svc_core.specs.Steps.{Actions, Spends, MayStep, Steps, StepsOr, Takes, Ignores, Judges, Goes, Begins, finish_room, bootstrap_room}
 use Rattle.svc_core.proofs.StepLemmas.{step-by}
 use Rattle.svc_core.proofs.ConnectionLemmas.{is_dealing, deals-with, with_connections}
@@ -69,10 +69,10 @@ within core mid new before between after order first next =
 
 -- an event, and what follows
 after-event : {core mid new : CoreData} {e : Event} {copy : Option Message} {before between after : Actions} {end : StepEnd}
-    → Goes (Struck mid copy) (finish_room mid) mid new copy between after end
+    → Goes (AfterEvent mid copy) (finish_room mid) mid new copy between after end
     → mid.plan ≡ core.plan → mid.order ≡ core.order → Spends (most_open core + 33) (most_open mid) before between
     → TellsCopied (copy_at core e) (list_of before) (list_of after)
-    → Tells (list_of before) (list_of between) (λ gave. (q : Record) → Right core.plan q → StandsFor core q → Struck mid copy (tell (Got e ∷ q) gave))
+    → Tells (list_of before) (list_of between) (λ gave. (q : Record) → Right core.plan q → Represents core q → AfterEvent mid copy (tell (Got e ∷ q) gave))
     → Steps core new e before after end
 after-event {core = core} {mid = mid} {new = new} {e = e} {copy = copy} {before = before} {between = between} {after = after} {end = end} next plan order spends
     copied struck = record {
@@ -84,10 +84,10 @@ after-event {core = core} {mid = mid} {new = new} {e = e} {copy = copy} {before 
 
 -- an event by which services are given up
 pub gives-up : {core mid new : CoreData} {e : Event} {before between after : Actions} {end : StepEnd}
-    → Goes (Struck mid None) (finish_room mid) mid new None between after end
+    → Goes (AfterEvent mid None) (finish_room mid) mid new None between after end
     → mid.plan ≡ core.plan → mid.order ≡ core.order → Spends (most_open core + 33) (most_open mid) before between
     → Tells (list_of before) (list_of between)
-    (λ gave. IsGivingUp gave × ((q : Record) → Right core.plan q → StandsFor core q → Struck mid None (tell (Got e ∷ q) gave)))
+    (λ gave. IsGivingUp gave × ((q : Record) → Right core.plan q → Represents core q → AfterEvent mid None (tell (Got e ∷ q) gave)))
     → Steps core new e before after end
 gives-up {core = core} {e = e} {before = before} {between = between} {after = after} next plan order spends struck =
     after-event next plan order spends
@@ -98,26 +98,26 @@ gives-up {core = core} {e = e} {before = before} {between = between} {after = af
 
 -- an event that tells nothing
 silent-event : {core mid new : CoreData} {e : Event} {copy : Option Message} {before after : Actions} {end : StepEnd}
-    → Goes (Struck mid copy) (finish_room mid) mid new copy before after end
+    → Goes (AfterEvent mid copy) (finish_room mid) mid new copy before after end
     → mid.plan ≡ core.plan → mid.order ≡ core.order → most_open mid ≤ most_open core + 33 → TellsCopied (copy_at core e) (list_of before) (list_of after)
-    → ((q : Record) → Right core.plan q → StandsFor core q → Struck mid copy (Got e ∷ q)) → Steps core new e before after end
+    → ((q : Record) → Right core.plan q → Represents core q → AfterEvent mid copy (Got e ∷ q)) → Steps core new e before after end
 silent-event {before = before} next plan order fits_in copied struck =
     after-event next plan order (record { few = omega (arith, fits_in); room = omega (arith, fits_in) }) copied
     (record { told = []; appended = sym (append-nil (list_of before)); kept = struck })
 
 pub silently-taken : {core mid new : CoreData} {e : Event} {before after : Actions} {end : StepEnd}
-    → Goes (Struck mid None) (finish_room mid) mid new None before after end
+    → Goes (AfterEvent mid None) (finish_room mid) mid new None before after end
     → mid.plan ≡ core.plan → mid.order ≡ core.order → most_open mid ≤ most_open core + 33
-    → ((q : Record) → Right core.plan q → StandsFor core q → Struck mid None (Got e ∷ q)) → Steps core new e before after end
+    → ((q : Record) → Right core.plan q → Represents core q → AfterEvent mid None (Got e ∷ q)) → Steps core new e before after end
 silently-taken {core = core} {e = e} {before = before} {after = after} next plan order fits_in struck =
     silent-event next plan order fits_in
     (copied-bare (copy_at core e) (list_of before) (list_of after) (bare-all (list_of before) (list_of after) next.copied)) struck
 
 -- one by which the copy may be sent
 pub copy-taken : {core mid new : CoreData} {e : Event} {copy : Option Message} {before after : Actions} {end : StepEnd}
-    → Goes (Struck mid copy) (finish_room mid) mid new copy before after end
+    → Goes (AfterEvent mid copy) (finish_room mid) mid new copy before after end
     → mid.plan ≡ core.plan → mid.order ≡ core.order → most_open mid ≤ most_open core + 33 → copy_of copy ≡ copy_at core e
-    → ((q : Record) → Right core.plan q → StandsFor core q → Struck mid copy (Got e ∷ q)) → Steps core new e before after end
+    → ((q : Record) → Right core.plan q → Represents core q → AfterEvent mid copy (Got e ∷ q)) → Steps core new e before after end
 copy-taken {before = before} {after = after} next plan order fits_in copies struck =
     silent-event next plan order fits_in (subst (λ copy. TellsCopied copy (list_of before) (list_of after)) copies next.copied) struck
 
@@ -126,7 +126,7 @@ pub dealt : {core : CoreData} {e : Event} {before after : Actions} (cn : Connect
     → is_connection_event e ≡ true → list_all is_dealing told ≡ true
     → are_copied (copy_at core e) told ≡ true → list_of after ≡ list_of before ++ told → length cn.live ≤ length core.connections.live + 1
     → Spends 2 0 before after
-    → ((q : Record) → StandsFor core q → fits core.plan q e ≡ true)
+    → ((q : Record) → Represents core q → fits core.plan q e ≡ true)
     → ((q : Record) → ConnectionsStand core.plan core.connections q → ConnectionsStand core.plan cn (tell (Got e ∷ q) told))
     → Steps core (with_connections cn core) e before after core.end
 dealt {core = core} {e = e} {before = before} {after = after} cn told on event deals copied appended few spends fit takes =
@@ -141,7 +141,7 @@ dealt {core = core} {e = e} {before = before} {after = after} cn told on event d
 -- an event while the fork is awaited, or to a parent
 pub held : {core mid new : CoreData} {e : Event} {before : Actions} {end : StepEnd} → new ≡ with_end (end_of mid.plan mid.boot) mid → end ≡ new.end
     → mid.plan ≡ core.plan → mid.order ≡ core.order → most_open mid ≡ most_open core → IsInOrder mid.plan mid.order
-    → ((q : Record) → Right core.plan q → StandsFor core q → Held mid (Got e ∷ q))
+    → ((q : Record) → Right core.plan q → Represents core q → Held mid (Got e ∷ q))
     → Steps core new e before before end
 held {core = core} {mid = mid} {new = new} {e = e} {before = before} {end = end} after ends plan order as_many in_order stays =
     let few = few-open (with_end (end_of mid.plan mid.boot) mid) in
@@ -157,7 +157,7 @@ held {core = core} {mid = mid} {new = new} {e = e} {before = before} {end = end}
 pub child-begins : {core mid new : CoreData} {before after : Actions} {end : StepEnd}
     → Goes (MayBootstrap mid) (bootstrap_room mid) mid new None before after end
     → mid.plan ≡ core.plan → mid.order ≡ core.order → most_open mid ≡ most_open core
-    → ((q : Record) → Right core.plan q → StandsFor core q → MayBootstrap mid (Got (Side Child) ∷ q))
+    → ((q : Record) → Right core.plan q → Represents core q → MayBootstrap mid (Got (Side Child) ∷ q))
     → Steps core new (Side Child) before after end
 child-begins {core = core} {mid = mid} {new = new} {before = before} {after = after} {end = end} next plan order as_many may =
     let same = ap length order in

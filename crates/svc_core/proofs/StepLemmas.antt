@@ -62,7 +62,7 @@ use Rattle.svc_core.specs.StartsData.{StartsData}
 use Rattle.svc_core.specs.StartsState.{StartsStand, is_flagged, word_taken, end_taken}
 use Rattle.svc_core.specs.CoreData.{CoreData, IsFormed, is_on, is_served}
 use Rattle.svc_core.specs.Passes.{AreStarted, MayEnd, is_tested}
-use Rattle.svc_core.specs.Stands.{StandsFor, IsSettled, Struck, StepRight, StepKeeps, Follows, EndedSo, ReadyMayCome, EndedMayCome, BindMayBeAnswered, BoundMayCome, AdoptMayBeAnswered, LoopMayEnd, ReceivedMayCome, is_loop_on}
+use Rattle.svc_core.specs.Stands.{Represents, IsSettled, AfterEvent, StepRight, StepKeeps, Follows, EndedSo, ReadyMayCome, EndedMayCome, BindMayBeAnswered, BoundMayCome, AdoptMayBeAnswered, LoopMayEnd, ReceivedMayCome, is_loop_on}
 use Rattle.svc_core.proofs.RecordLemmas.{not_true, to_false, on_true}
 use Rattle.svc_core.proofs.ClosesLemmas.{has-times}
 use Rattle.svc_core.proofs.StartsLemmas.{is_due-grows, stands-word, stands-end, is_word, starts-got}
@@ -76,7 +76,7 @@ unserved On h = refl
 unserved _ h = absurd (cc)
 
 -- a core that goes on
-module _ (core : CoreData) (q : Record) (stands : StandsFor core q) (on : is_on core.end ≡ true) where
+module _ (core : CoreData) (q : Record) (stands : Represents core q) (on : is_on core.end ≡ true) where
   on-now : is_on (step_end core.plan q) ≡ true
   on-now = sym (ap is_on stands.end_is) ∙ on
 
@@ -175,7 +175,7 @@ through-same : (p : Plan) (b c : BootData) → p.upgrade ≡ false → c.begun �
 through-same p b c alone begun = rw (alone, begun) refl
 
 -- an event that isn't of the fork comes only to a server that goes on
-pub free-of : (core : CoreData) (q : Record) (e : Event) → StandsFor core q → fits core.plan q e ≡ true → is_fork_event e ≡ false
+pub free-of : (core : CoreData) (q : Record) (e : Event) → Represents core q → fits core.plan q e ≡ true → is_fork_event e ≡ false
     → is_free core.plan core.boot.fork ≡ true
 free-of core q e stands fit other = fit-free core.plan core.boot q stands.boot e other (and_parts (not (has_ended core.plan q)) (fits_row core.plan q e) fit).1
 
@@ -194,7 +194,7 @@ pub begun-got : (p : Plan) (r : Record) (x : Event) → is_side_child (Got x) �
 begun-got p r x h = rw h refl
 
 -- an event, by the parts but those on endpoints and on bootstrapping
-pub got-loose : (core : CoreData) (q : Record) (e : Event) (st : StartsData) (o : OfferData) (dr : DrainData) → Right core.plan q → StandsFor core q
+pub got-loose : (core : CoreData) (q : Record) (e : Event) (st : StartsData) (o : OfferData) (dr : DrainData) → Right core.plan q → Represents core q
     → is_on core.end ≡ true → fits core.plan q e ≡ true → is_connection_event e ≡ false
     → DrainStands core.plan dr (over_since o.state) (Got e ∷ q) → OfferStands core.plan o (Got e ∷ q) → StartsStand core.plan st (Got e ∷ q)
     → Loose core.plan st o dr core.connections (Got e ∷ q)
@@ -222,15 +222,15 @@ got-loose core q e st o dr right stands on fit apart drain offer starts = record
 -- an event, and what is given up by it, where no fork is awaited
 pub strike : (core : CoreData) (q : Record) (e : Event) (st : StartsData) (d : EndpointsData) (b : BootData) (o : OfferData) (dr : DrainData)
     (copy : Option Message) (gave : List Action)
-    → Right core.plan q → StandsFor core q → is_on core.end ≡ true → fits core.plan q e ≡ true → is_free core.plan b.fork ≡ true → is_side_child (Got e) ≡ false
-    → is_connection_event e ≡ false → IsGivingUp gave
+    → Right core.plan q → Represents core q → is_on core.end ≡ true → fits core.plan q e ≡ true → is_free core.plan b.fork ≡ true
+    → is_side_child (Got e) ≡ false → is_connection_event e ≡ false → IsGivingUp gave
     → DrainStands core.plan dr (over_since o.state) (Got e ∷ q) → dr.running ≡ core.drain.running → OfferStands core.plan o (Got e ∷ q)
     → StartsStand core.plan st (Got e ∷ q) → EndpointsStand core.plan d (tell (Got e ∷ q) gave)
     → BootStands core.plan b (Got e ∷ q) → b.begun ≡ core.boot.begun → b.complete ≡ core.boot.complete
     → OnFalse (is_on (end_of core.plan b)) (EndedSo core.plan (tell (Got e ∷ q) gave))
     → (AreStarted core.plan (tell (Got e ∷ q) gave) × (is_complete_due b ≡ false)) ⊎ MayEnd core.plan (tell (Got e ∷ q) gave)
     → (is_send_due o.state dr.moment ≡ true → copy ≡ o.message)
-    → Struck (struck core st d b o dr) copy (tell (Got e ∷ q) gave)
+    → AfterEvent (struck core st d b o dr) copy (tell (Got e ∷ q) gave)
 strike core q e st d b o dr copy gave right stands on fit free other apart giving drain running offer starts ends boot begun complete ended calm copied =
     let loose = got-loose core q e st o dr right stands on fit apart drain offer starts in
     let settled = (settled-of core q stands on).boot in
@@ -256,7 +256,7 @@ pub over-of : (p : Plan) (o : OfferData) (q : Record) → OfferStands p o q → 
 over-of p o q h = record { is = h.over_is; moment = h.since_is }
 
 -- an event that is no moment, no signal and no answer to an ask of the offer
-module _ (core : CoreData) (q : Record) (e : Event) (right : Right core.plan q) (stands : StandsFor core q) (on : is_on core.end ≡ true)
+module _ (core : CoreData) (q : Record) (e : Event) (right : Right core.plan q) (stands : Represents core q) (on : is_on core.end ≡ true)
     (fit : fits core.plan q e ≡ true)
     (plain : is_drain_event e ≡ false) (foreign_event : is_offer_event e ≡ false) where
   pub same-time : now (Got e ∷ q) ≡ now q
@@ -291,7 +291,7 @@ module _ (core : CoreData) (q : Record) (e : Event) (right : Right core.plan q) 
       → StartsStand core.plan st (Got e ∷ q) → EndpointsStand core.plan d (tell (Got e ∷ q) gave)
       → BootStands core.plan b (Got e ∷ q) → b.fork ≡ core.boot.fork → b.begun ≡ core.boot.begun → b.complete ≡ core.boot.complete
       → (MayEnd core.plan (tell (Got e ∷ q) gave) → OnFalse (is_on (end_of core.plan b)) (EndedSo core.plan (tell (Got e ∷ q) gave)))
-      → Struck (struck core st d b core.offer core.drain) None (tell (Got e ∷ q) gave)
+      → AfterEvent (struck core st d b core.offer core.drain) None (tell (Got e ∷ q) gave)
   strike-plain other st d b gave apart giving starts ends boot fork begun complete ended =
       let may = may-tell core.plan (now q) (Got e ∷ q) gave (giving-loose (now q) gave giving) plain-may in
       strike core q e st d b core.offer core.drain None gave right stands on fit (ap (is_free core.plan) fork ∙ free-of core q e stands fit other)
@@ -300,7 +300,7 @@ module _ (core : CoreData) (q : Record) (e : Event) (right : Right core.plan q) 
 
 -- an event, then the rest of the step
 pub step-by : (core mid_core new : CoreData) (e : Event) (copy : Option Message) (before mid after : List Action) (end : StepEnd)
-    → Tells before mid (λ gave. (q : Record) → Right core.plan q → StandsFor core q → Struck mid_core copy (tell (Got e ∷ q) gave))
+    → Tells before mid (λ gave. (q : Record) → Right core.plan q → Represents core q → AfterEvent mid_core copy (tell (Got e ∷ q) gave))
     → Follows mid_core new copy mid after end
     → StepKeeps core new e before after end
 step-by core mid_core new e copy before mid after end first next = record {
@@ -335,21 +335,21 @@ ended-so p b q e boot untested may = to_false (is_on (end_of p b)) (EndedSo p (G
     always false A a = tt
 
 -- what the core tests, fits
-pub fits-moment : (core : CoreData) (q : Record) (ms : ℕ) → is_on core.end ≡ true → core.drain.moment ≤ ms → StandsFor core q
+pub fits-moment : (core : CoreData) (q : Record) (ms : ℕ) → is_on core.end ≡ true → core.drain.moment ≤ ms → Represents core q
     → fits core.plan q (Moment ms) ≡ true
 fits-moment core q ms on may stands =
     let time = (drain-of core q stands on).moment_is in
     let later : now q ≤ ms = omega arith in
     and_from (not (has_ended core.plan q)) (nat_le (now q) ms) (going-on core q stands on) (le-leb (now q) ms later)
 
-pub fits-ready : (core : CoreData) (q : Record) (s : ℕ) → is_on core.end ≡ true → ReadyMayCome core s → StandsFor core q → fits core.plan q (Ready s) ≡ true
+pub fits-ready : (core : CoreData) (q : Record) (s : ℕ) → is_on core.end ≡ true → ReadyMayCome core s → Represents core q → fits core.plan q (Ready s) ≡ true
 fits-ready core q s on may stands =
     let st = stands.starts in
     let started : is_started q s ≡ true = sym (st.started_is s may.inside) ∙ may.started in
     let first : has (is_ready_event s) q ≡ false = sym (st.ready_is s may.inside) ∙ may.first in
     and_from (not (has_ended core.plan q)) (fits_row core.plan q (Ready s)) (going-on core q stands on) (rw (may.notifies, started, first) refl)
 
-pub fits-ended : (core : CoreData) (q : Record) (s : ℕ) → is_on core.end ≡ true → EndedMayCome core s → StandsFor core q → fits core.plan q (Ended s) ≡ true
+pub fits-ended : (core : CoreData) (q : Record) (s : ℕ) → is_on core.end ≡ true → EndedMayCome core s → Represents core q → fits core.plan q (Ended s) ≡ true
 fits-ended core q s on may stands =
     let st = stands.starts in
     let started : is_started q s ≡ true = sym (st.started_is s may.inside) ∙ may.started in
@@ -358,42 +358,42 @@ fits-ended core q s on may stands =
     (and_from (may_end core.plan s && is_started q s) (not (has (is_ended_event s) q)) (and_from (may_end core.plan s) (is_started q s) may.ends started)
     (ap not first))
 
-pub fresh : (core : CoreData) (q : Record) (fd : ℕ) → StandsFor core q → has (brings fd) q ≡ is_in fd core.endpoints.came
+pub fresh : (core : CoreData) (q : Record) (fd : ℕ) → Represents core q → has (brings fd) q ≡ is_in fd core.endpoints.came
 fresh core q fd stands =
     brings-in q fd ∙ is_in-same fd (numbers_in q) (ascending (numbers_in q)) (sym (tally-ascending fd (numbers_in q))) ∙ ap (is_in fd) (sym stands.came)
 
-pub bind-open : (core : CoreData) (q : Record) (s i : ℕ) → is_on core.end ≡ true → BindMayBeAnswered core s i → StandsFor core q → is_bind_open q s i ≡ true
+pub bind-open : (core : CoreData) (q : Record) (s i : ℕ) → is_on core.end ≡ true → BindMayBeAnswered core s i → Represents core q → is_bind_open q s i ≡ true
 bind-open core q s i on may stands = sym ((ends-of core q stands on).states.each s i may.inside may.within).binding_is ∙ may.asked
 
-pub adopt-open : (core : CoreData) (q : Record) (s i : ℕ) → is_on core.end ≡ true → AdoptMayBeAnswered core s i → StandsFor core q → is_adopt_open q s i ≡ true
+pub adopt-open : (core : CoreData) (q : Record) (s i : ℕ) → is_on core.end ≡ true → AdoptMayBeAnswered core s i → Represents core q → is_adopt_open q s i ≡ true
 adopt-open core q s i on may stands = sym ((ends-of core q stands on).states.each s i may.inside may.within).adopting_is ∙ may.asked
 
-pub fits-bound : (core : CoreData) (q : Record) (s i fd : ℕ) → is_on core.end ≡ true → BoundMayCome core s i fd → StandsFor core q
+pub fits-bound : (core : CoreData) (q : Record) (s i fd : ℕ) → is_on core.end ≡ true → BoundMayCome core s i fd → Represents core q
     → fits core.plan q (Bound s i fd) ≡ true
 fits-bound core q s i fd on may stands =
     let new : has (brings fd) q ≡ false = fresh core q fd stands ∙ may.fresh in
     and_from (not (has_ended core.plan q)) (fits_row core.plan q (Bound s i fd)) (going-on core q stands on)
     (rw (bind-open core q s i on may.asked stands, new) refl)
 
-pub fits-bind : (core : CoreData) (q : Record) (s i : ℕ) → is_on core.end ≡ true → BindMayBeAnswered core s i → StandsFor core q
+pub fits-bind : (core : CoreData) (q : Record) (s i : ℕ) → is_on core.end ≡ true → BindMayBeAnswered core s i → Represents core q
     → (not (has_ended core.plan q) && is_bind_open q s i) ≡ true
 fits-bind core q s i on may stands =
     and_from (not (has_ended core.plan q)) (is_bind_open q s i) (going-on core q stands on) (bind-open core q s i on may stands)
 
-pub fits-adopt : (core : CoreData) (q : Record) (s i : ℕ) → is_on core.end ≡ true → AdoptMayBeAnswered core s i → StandsFor core q
+pub fits-adopt : (core : CoreData) (q : Record) (s i : ℕ) → is_on core.end ≡ true → AdoptMayBeAnswered core s i → Represents core q
     → (not (has_ended core.plan q) && is_adopt_open q s i) ≡ true
 fits-adopt core q s i on may stands =
     and_from (not (has_ended core.plan q)) (is_adopt_open q s i) (going-on core q stands on) (adopt-open core q s i on may stands)
 
-pub fits-try : (core : CoreData) (q : Record) → is_on core.end ≡ true → is_trying core.boot.receiving ≡ true → StandsFor core q
+pub fits-try : (core : CoreData) (q : Record) → is_on core.end ≡ true → is_trying core.boot.receiving ≡ true → Represents core q
     → (not (has_ended core.plan q) && is_try_open q) ≡ true
 fits-try core q on may stands = and_from (not (has_ended core.plan q)) (is_try_open q) (going-on core q stands on) (stands.boot.receiving.trying_is ∙ may)
 
-pub new-is : (core : CoreData) (q : Record) (fds : List ℕ) → StandsFor core q → are_new q fds ≡ all_new core.endpoints.came fds
+pub new-is : (core : CoreData) (q : Record) (fds : List ℕ) → Represents core q → are_new q fds ≡ all_new core.endpoints.came fds
 new-is core q [] stands = refl
 new-is core q (fd ∷ fds) stands = rw (fresh core q fd stands, new-is core q fds stands) refl
 
-pub fits-received : (core : CoreData) (q : Record) (bytes fds : List ℕ) → is_on core.end ≡ true → ReceivedMayCome core fds → StandsFor core q
+pub fits-received : (core : CoreData) (q : Record) (bytes fds : List ℕ) → is_on core.end ≡ true → ReceivedMayCome core fds → Represents core q
     → fits core.plan q (Received bytes fds) ≡ true
 fits-received core q bytes fds on may stands =
     and_from (not (has_ended core.plan q)) (fits_row core.plan q (Received bytes fds)) (going-on core q stands on)
@@ -403,7 +403,7 @@ fits-received core q bytes fds on may stands =
 
 -- which loops may end, by the parts
 module _ (core : CoreData) (q : Record) (s i j : ℕ) (sized : IsEndpointsSized core.plan core.endpoints) (on : is_on core.end ≡ true)
-    (stands : StandsFor core q) where
+    (stands : Represents core q) where
   pub broadcast-told : has is_broadcast q ≡ is_broadcast_told core.drain
   broadcast-told =
       broadcast-is core.plan core.drain (over_since core.offer.state) q (uncut core.plan core.drain (settled-of core q stands on).waits)
@@ -435,8 +435,8 @@ module _ (core : CoreData) (q : Record) (s i j : ℕ) (sized : IsEndpointsSized 
 
 -- each event
 pub strike-ready : (core : CoreData) (s : ℕ) → IsFormed core.plan core.order core.starts core.endpoints → is_on core.end ≡ true → ReadyMayCome core s
-    → (q : Record) → Right core.plan q → StandsFor core q
-    → Struck (struck core (word_taken s core.starts) core.endpoints core.boot core.offer core.drain) None (Got (Ready s) ∷ q)
+    → (q : Record) → Right core.plan q → Represents core q
+    → AfterEvent (struck core (word_taken s core.starts) core.endpoints core.boot core.offer core.drain) None (Got (Ready s) ∷ q)
 strike-ready core s formed on may q right stands =
     strike-plain core q (Ready s) right stands on (fits-ready core q s on may stands) refl refl refl
     (word_taken s core.starts) core.endpoints core.boot [] refl tt
@@ -446,8 +446,8 @@ strike-ready core s formed on may q right stands =
     (λ m. not-ended core.plan core.boot (Got (Ready s) ∷ q) (on-boot core q stands on))
 
 pub strike-ended : (core : CoreData) (s : ℕ) → IsFormed core.plan core.order core.starts core.endpoints → is_on core.end ≡ true → EndedMayCome core s
-    → (q : Record) → Right core.plan q → StandsFor core q
-    → Struck (struck core (end_taken s core.starts) core.endpoints core.boot core.offer core.drain) None (Got (Ended s) ∷ q)
+    → (q : Record) → Right core.plan q → Represents core q
+    → AfterEvent (struck core (end_taken s core.starts) core.endpoints core.boot core.offer core.drain) None (Got (Ended s) ∷ q)
 strike-ended core s formed on may q right stands =
     strike-plain core q (Ended s) right stands on (fits-ended core q s on may stands) refl refl refl
     (end_taken s core.starts) core.endpoints core.boot [] refl tt
@@ -459,15 +459,15 @@ strike-ended core s formed on may q right stands =
 -- an answer to an ask of an endpoint
 pub strike-answer : (core : CoreData) (e : Event) (d : EndpointsData) (before after : List Action) → is_on core.end ≡ true
     → is_connection_event e ≡ false → is_drain_event e ≡ false → is_offer_event e ≡ false → is_boot_event e ≡ false → is_word e ≡ false
-    → ((q : Record) → StandsFor core q → fits core.plan q e ≡ true)
+    → ((q : Record) → Represents core q → fits core.plan q e ≡ true)
     → Tells before after
     (λ told. IsGivingUp told
     × ((q : Record) → core.drain.moment ≡ now q → AreOnOffer core.plan (numbers_on_offer core.offer) q → EndpointsStand core.plan core.endpoints q
     → EndpointsStand core.plan d (tell (Got e ∷ q) told)))
     → Tells before after
     (λ told. IsGivingUp told
-    × ((q : Record) → Right core.plan q → StandsFor core q
-    → Struck (struck core core.starts d core.boot core.offer core.drain) None (tell (Got e ∷ q) told)))
+    × ((q : Record) → Right core.plan q → Represents core q
+    → AfterEvent (struck core core.starts d core.boot core.offer core.drain) None (tell (Got e ∷ q) told)))
 strike-answer core e d before after on apart plain asks other word fit gave = record {
   told = gave.told;
   appended = gave.appended;
@@ -512,8 +512,8 @@ pub strike-received : (core : CoreData) (bytes fds : List ℕ) (good : Bool) (d 
     × ((q : Record) → EndpointsStand core.plan core.endpoints q → EndpointsStand core.plan d (tell (Got (Received bytes fds) ∷ q) told)))
     → Tells before after
     (λ told. IsGivingUp told
-    × ((q : Record) → Right core.plan q → StandsFor core q
-    → Struck (struck core core.starts d b core.offer core.drain) None (tell (Got (Received bytes fds) ∷ q) told)))
+    × ((q : Record) → Right core.plan q → Represents core q
+    → AfterEvent (struck core core.starts d b core.offer core.drain) None (tell (Got (Received bytes fds) ∷ q) told)))
 strike-received core bytes fds good d b before after on may read now_boot boots gave = record {
   told = gave.told;
   appended = gave.appended;
@@ -529,7 +529,7 @@ strike-received core bytes fds good d b before after on may read now_boot boots 
   );
 }
   where
-    by : (c : Bool) → good ≡ c → (q : Record) → StandsFor core q → MayEnd core.plan (tell (Got (Received bytes fds) ∷ q) gave.told)
+    by : (c : Bool) → good ≡ c → (q : Record) → Represents core q → MayEnd core.plan (tell (Got (Received bytes fds) ∷ q) gave.told)
         → OnFalse (is_on (end_of core.plan b)) (EndedSo core.plan (tell (Got (Received bytes fds) ∷ q) gave.told))
     by true e q stands m = not-ended core.plan b (tell (Got (Received bytes fds) ∷ q) gave.told)
         (ap (λ (x : BootData). is_on (end_of core.plan x)) now_boot ∙ ap (λ (g : Bool). is_on (end_of core.plan (received g core.boot))) e
@@ -550,8 +550,8 @@ pub strike-loop : (core : CoreData) (s i j : ℕ) (d : EndpointsData) (before af
     → EndpointsStand core.plan core.endpoints q → EndpointsStand core.plan d (tell (Got (LoopEnded s i j) ∷ q) told)))
     → Tells before after
     (λ told. IsGivingUp told
-    × ((q : Record) → Right core.plan q → StandsFor core q
-    → Struck (struck core core.starts d core.boot core.offer core.drain) None (tell (Got (LoopEnded s i j) ∷ q) told)))
+    × ((q : Record) → Right core.plan q → Represents core q
+    → AfterEvent (struck core core.starts d core.boot core.offer core.drain) None (tell (Got (LoopEnded s i j) ∷ q) told)))
 strike-loop core s i j d before after sized on may gave = record {
   told = gave.told;
   appended = gave.appended;
@@ -571,10 +571,10 @@ strike-loop core s i j d before after sized on may gave = record {
 pub strike-refused : (core : CoreData) (e : Event) (b : BootData) → is_fork_event e ≡ false → is_on core.end ≡ true → b.fork ≡ core.boot.fork
     → b.begun ≡ core.boot.begun → b.complete ≡ core.boot.complete
     → is_connection_event e ≡ false → is_drain_event e ≡ false → is_offer_event e ≡ false → is_word e ≡ false
-    → ((q : Record) → StandsFor core q → fits core.plan q e ≡ true)
+    → ((q : Record) → Represents core q → fits core.plan q e ≡ true)
     → ((q : Record) → EndpointsStand core.plan core.endpoints q → EndpointsStand core.plan core.endpoints (Got e ∷ q))
     → ((q : Record) → core.drain.moment ≡ now q → BootStands core.plan core.boot q → BootStands core.plan b (Got e ∷ q))
-    → (q : Record) → Right core.plan q → StandsFor core q → Struck (struck core core.starts core.endpoints b core.offer core.drain) None (Got e ∷ q)
+    → (q : Record) → Right core.plan q → Represents core q → AfterEvent (struck core core.starts core.endpoints b core.offer core.drain) None (Got e ∷ q)
 strike-refused core e b other on fork begun complete apart plain asks word fit ends boots q right stands =
     strike-plain core q e right stands on (fit q stands) plain asks other core.starts core.endpoints b [] apart tt
     (starts-got core.plan core.starts q e word stands.starts) (ends q (ends-of core q stands on))

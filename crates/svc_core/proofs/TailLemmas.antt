@@ -16,24 +16,24 @@ use Rattle.svc_connections.specs.ConnectionsState.{numbers}
 use Rattle.svc_connections.specs.ConnectionsEffects.{cuts}
 use Rattle.svc_core.specs.CoreData.{CoreData, is_served}
 use Rattle.svc_core.specs.Rooms.{open_numbers, open_connections, left_numbers}
-use Rattle.svc_core.specs.Stands.{StandsFor, ClosesAll}
+use Rattle.svc_core.specs.Stands.{Represents, ClosesAll}
 use Rattle.svc_core.proofs.StepLemmas.{fresh}
 
-open-live : (core : CoreData) (q : Record) → StandsFor core q → (b : Bool) → is_served core.end ≡ b → open_numbers core ≡ ascending (live_numbers core.plan q)
+open-live : (core : CoreData) (q : Record) → Represents core q → (b : Bool) → is_served core.end ≡ b → open_numbers core ≡ ascending (live_numbers core.plan q)
 open-live core q stands true e = rw e (sym (ap ascending (stands.closed e)))
 open-live core q stands false e = rw e (stands.endpoints e).open_are
 
 -- the numbers that came
-left-kept : (core : CoreData) (q : Record) → StandsFor core q → (fds : List ℕ)
+left-kept : (core : CoreData) (q : Record) → Represents core q → (fds : List ℕ)
     → filter (λ n. not (list_any (λ m. m == n) core.endpoints.came)) fds ≡ filter (λ n. not (has (brings n) q)) fds
 left-kept core q stands [] = refl
 left-kept core q stands (fd ∷ fds) = rw (fresh core q fd stands, left-kept core q stands fds) refl
 
-left-new : (core : CoreData) (q : Record) (e : Event) → StandsFor core q → left_numbers core e ≡ new_numbers q (Some e)
+left-new : (core : CoreData) (q : Record) (e : Event) → Represents core q → left_numbers core e ≡ new_numbers q (Some e)
 left-new core q e stands = ap each_once (left-kept core q stands (numbers_of (Got e)))
 
 -- the connections that are live
-cut-live : (core : CoreData) (q : Record) → StandsFor core q → (b : Bool) → is_served core.end ≡ b
+cut-live : (core : CoreData) (q : Record) → Represents core q → (b : Bool) → is_served core.end ≡ b
     → numbers (open_connections core) ≡ ascending (live_connections q)
 cut-live core q stands true e = rw e (sym (ap ascending (stands.uncut e)))
 cut-live core q stands false e = rw e (stands.connections e).live_is
@@ -41,7 +41,7 @@ cut-live core q stands false e = rw e (stands.connections e).live_is
 -- where no event was left unfinished
 pub closes-open : (core : CoreData) (q : Record) (before after : List Action)
     → after ≡ before ++ (cuts (open_connections core) ++ map (λ (fd : ℕ). Close fd) (open_numbers core))
-    → StandsFor core q → ClosesAll core.plan q None before after
+    → Represents core q → ClosesAll core.plan q None before after
 closes-open core q before after told stands = record {
   told = record {
     told = cuts (open_connections core) ++ map (λ (fd : ℕ). Close fd) (open_numbers core);
@@ -59,7 +59,7 @@ closes-open core q before after told stands = record {
 pub closes-brought : (core : CoreData) (q : Record) (e : Event) (before mid after : List Action)
     → mid ≡ before ++ (cuts (open_connections core) ++ map (λ (fd : ℕ). Close fd) (open_numbers core))
     → after ≡ mid ++ map (λ (fd : ℕ). Close fd) (left_numbers core e)
-    → StandsFor core q → ClosesAll core.plan q (Some e) before after
+    → Represents core q → ClosesAll core.plan q (Some e) before after
 closes-brought core q e before mid after first next stands = record {
   told = record {
     told = (cuts (open_connections core) ++ map (λ (fd : ℕ). Close fd) (open_numbers core)) ++ map (λ (fd : ℕ). Close fd) (left_numbers core e);

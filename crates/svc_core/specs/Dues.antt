@@ -18,12 +18,12 @@ use Rattle.svc_offer.specs.OfferDues as offers
 use Rattle.svc_drain.specs.DrainDues as drains
 use Rattle.svc_core.specs.CoreData.{CoreData, is_on}
 use Rattle.svc_core.specs.StartsState.{is_flagged}
-use Rattle.svc_core.specs.Stands.{StandsFor}
+use Rattle.svc_core.specs.Stands.{Represents}
 
 -- the core stands for the right record, and the run goes on
 pub record GoesOnFrom (core : CoreData) (q : Record) : Type 0 where
   pub right : Right core.plan q
-  pub stands : StandsFor core q
+  pub stands : Represents core q
   pub on : is_on core.end ≡ true
 
 -- the moment comes next

@@ -47,7 +47,7 @@ pub record IsSettled (core : CoreData) : Type 0 where
 
 -- one clause for each part; once the run has served, which services failed and what came is all that is left of endpoints, and nothing is live,
 -- offered or waited for
-pub record StandsFor (core : CoreData) (q : Record) : Type 0 where
+pub record Represents (core : CoreData) (q : Record) : Type 0 where
   pub drain : is_served core.end ≡ false → DrainStands core.plan core.drain (over_since core.offer.state) q
   pub offer : is_served core.end ≡ false → OfferStands core.plan core.offer q
   pub starts : StartsStand core.plan core.starts q
@@ -114,7 +114,7 @@ pub record MayBootstrap (core : CoreData) (q : Record) : Type 0 where
 -- an event was taken, or nothing yet, and what follows from it may be told: the parts stand for q; no fork is awaited; as long as bootstrapping
 -- hasn't begun, this step told only failures and closes; where no older server is asked, it was told that bootstrapping is complete; where the event
 -- ended the run, it ended as is right; and where it may let services start, the run may end by that
-pub record Struck (core : CoreData) (copy : Option Message) (q : Record) : Type 0 where
+pub record AfterEvent (core : CoreData) (copy : Option Message) (q : Record) : Type 0 where
   pub going : Going core.plan core.starts core.endpoints core.boot core.offer core.drain core.connections q
   pub free : is_free core.plan core.boot.fork ≡ true
   pub quiet : core.boot.begun ≡ false → is_quiet (last_step q) ≡ true
@@ -124,7 +124,7 @@ pub record Struck (core : CoreData) (copy : Option Message) (q : Record) : Type 
   pub copied : HasCopy core copy
 
 -- it was told where bootstrapping is complete, and services may be visited
-pub record Ripe (core : CoreData) (copy : Option Message) (q : Record) : Type 0 where
+pub record AfterBootstrap (core : CoreData) (copy : Option Message) (q : Record) : Type 0 where
   pub going : Going core.plan core.starts core.endpoints core.boot core.offer core.drain core.connections q
   pub free : is_free core.plan core.boot.fork ≡ true
   pub quiet : core.boot.begun ≡ false → is_quiet (last_step q) ≡ true
@@ -134,7 +134,7 @@ pub record Ripe (core : CoreData) (copy : Option Message) (q : Record) : Type 0 
   pub copied : HasCopy core copy
 
 -- the services were visited, where they may start, and what is left of the step may be told
-pub record Visited (core : CoreData) (copy : Option Message) (q : Record) : Type 0 where
+pub record AfterPass (core : CoreData) (copy : Option Message) (q : Record) : Type 0 where
   pub going : Going core.plan core.starts core.endpoints core.boot core.offer core.drain core.connections q
   pub free : is_free core.plan core.boot.fork ≡ true
   pub ripe : IsBootRipe core.plan core.boot
@@ -144,7 +144,7 @@ pub record Visited (core : CoreData) (copy : Option Message) (q : Record) : Type
   pub copied : HasCopy core copy
 
 -- the run goes on in its bootstrapping: it runs where it may, and what is due of bootstrapping was told
-pub record Tried (core : CoreData) (copy : Option Message) (q : Record) : Type 0 where
+pub record AfterRetry (core : CoreData) (copy : Option Message) (q : Record) : Type 0 where
   pub going : Going core.plan core.starts core.endpoints core.boot core.offer core.drain core.connections q
   pub free : is_free core.plan core.boot.fork ≡ true
   pub settled : IsBootSettled core.plan core.boot core.drain.moment
@@ -169,13 +169,13 @@ pub record Answered (core : CoreData) (q : Record) : Type 0 where
 
 -- what a step gives: a right record that the core stands for, with its answer
 pub record StepRight (core : CoreData) (q : Record) (end : StepEnd) : Type 0 where
-  pub stands : StandsFor core q
+  pub stands : Represents core q
   pub right : Right core.plan q
   pub answer : end ≡ step_end core.plan q
 
 -- what follows from an event
 abbrev pub Follows : CoreData → CoreData → Option Message → List Action → List Action → StepEnd → Type 0
-Follows old new copy before after end = Tells before after (λ told. (q : Record) → Struck old copy q → StepRight new (tell q told) end)
+Follows old new copy before after end = Tells before after (λ told. (q : Record) → AfterEvent old copy q → StepRight new (tell q told) end)
 
 -- what the beginning of a server's run tells
 abbrev pub Bootstraps : CoreData → CoreData → List Action → List Action → StepEnd → Type 0
@@ -188,7 +188,7 @@ BeginKeeps new before after end = Tells before after (λ told. StepRight new (te
 -- a step of an event: for each right record that the core stood for
 abbrev pub StepKeeps : CoreData → CoreData → Event → List Action → List Action → StepEnd → Type 0
 StepKeeps old new e before after end =
-    Tells before after (λ told. (q : Record) → Right old.plan q → StandsFor old q → StepRight new (tell (Got e ∷ q) told) end)
+    Tells before after (λ told. (q : Record) → Right old.plan q → Represents old q → StepRight new (tell (Got e ∷ q) told) end)
 
 -- what closing all tells: the record's closing actions, after which each number that came has one close if the record is right
 pub record ClosesAll (p : Plan) (q : Record) (also : Option Event) (before after : List Action) : Type 0 where

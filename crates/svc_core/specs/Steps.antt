@@ -18,7 +18,7 @@ use Rattle.svc_core.specs.CoreData.{CoreData, is_on, with_end}
 use Rattle.svc_core.specs.Copies.{TellsBare, TellsCopied, copy_of, copy_at}
 use Rattle.svc_core.specs.Passes.{begin_room}
 use Rattle.svc_core.specs.Rooms.{tell_room, close_room, open_count, most_open}
-use Rattle.svc_core.specs.Stands.{HasNotBegun, Ripe, Visited, StepRight, StepKeeps, BeginKeeps, RowMayCome}
+use Rattle.svc_core.specs.Stands.{HasNotBegun, AfterBootstrap, AfterPass, StepRight, StepKeeps, BeginKeeps, RowMayCome}
 
 -- a list of actions, and for how many more it has memory
 abbrev pub Actions : Type 0
@@ -111,7 +111,8 @@ pub record Visits (old new : CoreData) (before after : Actions) : Type 0 where
   pub order : new.order ≡ old.order
   pub table : new.endpoints.table ≡ old.endpoints.table
   pub connections : new.connections ≡ old.connections
-  pub kept : Tells (list_of before) (list_of after) (λ told. (copy : Option Message) (q : Record) → Ripe old copy q → Visited new copy (tell q told))
+  pub kept : Tells (list_of before) (list_of after) (λ told. (copy : Option Message) (q : Record)
+      → AfterBootstrap old copy q → AfterPass new copy (tell q told))
   pub bare : TellsBare (list_of before) (list_of after)
   pub spends : Spends (visit_room old) 0 before after
 

@@ -15,7 +15,7 @@ ghost use Rattle.svc_core.specs.Copies.{TellsCopied, message_at, copy_at};
 ghost use Rattle.svc_core.specs.EventKinds.{is_plain, is_answer};
 ghost use Rattle.svc_core.specs.CoreData.{is_on, is_served};
 ghost use Rattle.svc_core.specs.Passes.{may_start};
-ghost use Rattle.svc_core.specs.Stands.{StandsFor, HasNotBegun, Struck, Visited, Tried, MayCome, StepKeeps, BeginKeeps};
+ghost use Rattle.svc_core.specs.Stands.{Represents, HasNotBegun, AfterEvent, AfterPass, AfterRetry, MayCome, StepKeeps, BeginKeeps};
 ghost use Rattle.svc_core.specs.Steps.{MayStep, Steps, StepsOr, Ignores, Takes, Goes, Visits, EndsRun, finish_room, visit_room, go_room, answer_room};
 ghost use Rattle.svc_core.specs.Signals.{OffersBy, IgnoresLater, is_reached};
 ghost use Rattle.svc_core.specs.Rooms.{TellsWithin, KeepsRoom, tell_room, step_room, most_open};
@@ -181,7 +181,7 @@ impl Core {
     /// or it is started and plain, or it is started, bootstraps, and bootstrapping is complete.
     pub fn ready(&self, watch: &ServiceReadyWatch) -> bool
         requires service { watch.now < service_count self.now.plan }
-        ensures { (q : Record) → StandsFor self.now q → result ≡ is_ready self.now.plan q watch.now }
+        ensures { (q : Record) → Represents self.now q → result ≡ is_ready self.now.plan q watch.now }
     {
         self.starts.is_ready(
             &self.plan,
@@ -224,7 +224,7 @@ impl Core {
     /// the event ended the run, nothing follows. The copy is of the message, where its send is due.
     fn settle(&mut self, copy: Option<Message>, actions: &mut Actions) -> StepEnd
         requires { finish_room self.old ≤ spare actions.old }
-        ensures { Goes (Struck self.old copy) (finish_room self.old) self.old self.new copy actions.old actions.new result }
+        ensures { Goes (AfterEvent self.old copy) (finish_room self.old) self.old self.new copy actions.old actions.new result }
     {
         self.end = self.boot.end(&self.plan);
         if !is_on(self.end) {
@@ -273,7 +273,7 @@ impl Core {
     /// unless the run was tested.
     fn advance(&mut self, copy: Option<Message>, actions: &mut Actions) -> StepEnd
         requires { go_room self.old ≤ spare actions.old }
-        ensures { Goes (Visited self.old copy) (go_room self.old) self.old self.new copy actions.old actions.new result }
+        ensures { Goes (AfterPass self.old copy) (go_room self.old) self.old self.new copy actions.old actions.new result }
     {
         self.end = self.boot.end(&self.plan);
         if !is_on(self.end) {
@@ -292,7 +292,7 @@ impl Core {
     /// ends where all the signal's waits have passed.
     fn advance_shutdown(&mut self, copy: Option<Message>, actions: &mut Actions) -> StepEnd
         requires { answer_room self.old ≤ spare actions.old }
-        ensures { Goes (Tried self.old copy) (answer_room self.old) self.old self.new copy actions.old actions.new result }
+        ensures { Goes (AfterRetry self.old copy) (answer_room self.old) self.old self.new copy actions.old actions.new result }
     {
         let over = self.offer.over_since();
         let passed = self.drain.publish_due(&self.plan, over, actions);

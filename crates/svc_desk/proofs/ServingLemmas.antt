@@ -29,7 +29,7 @@ use Rattle.svc_desk.specs.declared.serving.EchoReason.TheVariants as reasons
 use Rattle.svc_desk.specs.Desks.{DeskData, IsPerformed, Grew, meeting}
 use Rattle.svc_desk.specs.Deeds.{Deed, events_of, posts_of, actions_of, stray_events, Follows, EndsBy, Shows}
 use Rattle.svc_desk.specs.Working.{IsWorked}
-use Rattle.svc_desk.specs.Serving.{desk_end, StandsFor, OfTwo, IsServed, IsLater, IsBack, IsHandedBack, AreSides, IsOpened, IsJournalOf}
+use Rattle.svc_desk.specs.Serving.{desk_end, Represents, OfTwo, IsServed, IsLater, IsBack, IsHandedBack, AreSides, IsOpened, IsJournalOf}
 use Rattle.svc_desk.proofs.DeedLemmas.{follows-later, ends-later, stays-then, said-from, performed-none}
 
 -- CLOSING
@@ -116,7 +116,8 @@ shows-later o a b n m turns first before now log hand strays end more same x = r
 -- a desk that performed these actions and then did its work, against the journal of its server
 pub stands_for : (s : SharedServer) (p : Pass) (turns n : ℕ) (first : List Action) (before mid now : DeskData) (r : Worked) (journal : List PostData)
     → IsPerformed before mid first → IsWorked s p turns mid now r → seen_of p ≡ [] → own_of p ≡ []
-    → own_posts journal n ≡ own_of r.pass → Begins journal (seen_of r.pass) → StandsFor (origin_of s) journal n turns first before (desk_end now r.end r.strays)
+    → own_posts journal n ≡ own_of r.pass → Begins journal (seen_of r.pass)
+    → Represents (origin_of s) journal n turns first before (desk_end now r.end r.strays)
 stands_for s p turns n first before mid now r journal performed w none_seen none own front = record {
   log = w.log;
   hand = w.hand;
@@ -139,7 +140,7 @@ served plan limit turns s p1 p2 opening left mid right one two r1 r2 journal val
   begun = o.begun;
   legal = j.legal;
   seats = j.seats;
-  left_desk = subst (λ (first : List Action). StandsFor (origin_of s) journal 0 turns first (meeting left) (desk_end one r1.end r1.strays))
+  left_desk = subst (λ (first : List Action). Represents (origin_of s) journal 0 turns first (meeting left) (desk_end one r1.end r1.strays))
       (sym o.opening_is)
       (stands_for s p1 turns 0 opening (meeting left) mid one r1 journal performed w1 o.left_seen o.left_own j.left_own j.front_left);
   right_desk = stands_for s p2 turns 1 [] (meeting right) (meeting right) two r2 journal (performed-none (meeting right)) w2

@@ -31,7 +31,7 @@ abbrev pub desk_end : DeskData → WorkEnd → List Strayed × ℕ → DeskEnd
 desk_end desk end strays = record { desk = desk; end = end; strays = list_of strays }
 
 -- a desk against its journal: the posts of seat n are those of its worker's deeds, which it shows from the journal's beginning on
-pub record StandsFor (b : BookData) (journal : List PostData) (n turns : ℕ) (first : List Action) (before : DeskData) (after : DeskEnd) : Type 0 where
+pub record Represents (b : BookData) (journal : List PostData) (n turns : ℕ) (first : List Action) (before : DeskData) (after : DeskEnd) : Type 0 where
   pub log : List Deed
   pub hand : List Event
   pub posts_are : own_posts journal n ≡ posts_of log
@@ -52,8 +52,8 @@ pub record IsServed (plan : Plan) (limit turns : ℕ) (left right : DeskData) (o
   pub begun : IsLegal origin []
   pub legal : IsLegal origin journal
   pub seats : OfTwo 0 1 journal
-  pub left_desk : StandsFor origin journal 0 turns origin.opening (meeting left) one
-  pub right_desk : StandsFor origin journal 1 turns [] (meeting right) two
+  pub left_desk : Represents origin journal 0 turns origin.opening (meeting left) one
+  pub right_desk : Represents origin journal 1 turns [] (meeting right) two
 
 -- the desk is the one from before: its lists begin with what they told then and are told as long as room is left, and its counts didn't fall
 pub record IsLater (before now : DeskData) : Type 0 where

@@ -13,7 +13,7 @@ use Rattle.svc_record.specs.Fits.{event_fits, fits_row}
 use Rattle.svc_record.specs.Right.{Right, SettledRight, LastStepRight, PassedRight}
 use Rattle.svc_record.proofs.ClosesOnce.{closed_was_opened}
 use Rattle.svc_core.specs.CoreData.{CoreData, is_served}
-use Rattle.svc_core.specs.Stands.{StandsFor}
+use Rattle.svc_core.specs.Stands.{Represents}
 use Rattle.svc_core.proofs.RecordLemmas.{on_true}
 use Rattle.svc_endpoints.proofs.GoneLemmas.{closed-is}
 use Rattle.svc_handover.specs.GivingUp.{before_end, is_received_unclaimed, is_abandoned_off_offer, has_cause, is_caused, are_caused, gives_up_rightly}
@@ -49,7 +49,7 @@ earlier-caused p (Got e ∷ b) fits once settled =
 earlier-caused p (Told a ∷ q) fits once settled = earlier-caused p q fits.1 once.1 settled
 
 -- before the end
-last-caused : (core : CoreData) (q : Record) → StandsFor core q → Right core.plan q → are_caused core.plan (before_end core.plan q) ≡ true
+last-caused : (core : CoreData) (q : Record) → Represents core q → Right core.plan q → are_caused core.plan (before_end core.plan q) ≡ true
 last-caused core q stand right = by (waits_are_over core.plan q) refl
   where
     by : (c : Bool) → waits_are_over core.plan q ≡ c → are_caused core.plan (if c then before_runtimes q else q) ≡ true
@@ -69,6 +69,6 @@ last-caused core q stand right = by (waits_are_over core.plan q) refl
         off false f = refl
 
 -- so it is in the record of every core
-pub gives-up-rightly : (core : CoreData) (q : Record) → StandsFor core q → Right core.plan q → gives_up_rightly core.plan q ≡ true
+pub gives-up-rightly : (core : CoreData) (q : Record) → Represents core q → Right core.plan q → gives_up_rightly core.plan q ≡ true
 gives-up-rightly core q stand right = and_from (each_earlier (are_caused core.plan) q) (are_caused core.plan (before_end core.plan q))
     (earlier-caused core.plan q right.fits right.stronger.closes right.settled.1) (last-caused core q stand right)

@@ -16,7 +16,7 @@ use Rattle.svc_record.specs.Drain.{waits_are_over}
 use Rattle.svc_record.specs.Right.{Right}
 use Rattle.svc_record.proofs.ClosesOnce.{closed_was_opened}
 use Rattle.svc_core.specs.CoreData.{CoreData, is_served}
-use Rattle.svc_core.specs.Stands.{StandsFor}
+use Rattle.svc_core.specs.Stands.{Represents}
 use Rattle.svc_offer.specs.OfferState.{over_since}
 use Rattle.svc_offer.proofs.RecordFacts.{no-kind}
 use Rattle.svc_drain.proofs.Broadcasts.{unsignalled-silent}
@@ -95,7 +95,7 @@ gone-off r u d h b o dr x y z w = rw (x, y, z, w) (none r)
     none : (r : Bool) → ((((r && false) || false) || false) || false) ≡ false
     none r = grind arith
 
-pub never-given-up : (core : CoreData) (q : Record) (a : List ℕ) → StandsFor core q → Right core.plan q → has is_signal q ≡ false → is_named core.plan a ≡ true
+pub never-given-up : (core : CoreData) (q : Record) (a : List ℕ) → Represents core q → Right core.plan q → has is_signal q ≡ false → is_named core.plan a ≡ true
     → is_sound_for core.plan q a ≡ true → has_given_up core.plan q a ≡ false
 never-given-up core q a stand right silent named sound = false_from_ne_true (has_given_up core.plan q a) (λ hit.
     let g = given-up core.plan q a q hit in

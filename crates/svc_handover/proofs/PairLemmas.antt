@@ -22,7 +22,7 @@ use Rattle.svc_record.specs.Boot.{is_read, is_bad_message, is_open_receiver}
 use Rattle.svc_record.specs.Fits.{fits}
 use Rattle.svc_record.specs.Right.{Right}
 use Rattle.svc_core.specs.CoreData.{CoreData}
-use Rattle.svc_core.specs.Stands.{StandsFor}
+use Rattle.svc_core.specs.Stands.{Represents}
 use Rattle.svc_core.proofs.RecordLemmas.{has-tell}
 use Rattle.svc_handover.specs.declared.pair.PairStep.{PairStep}
 use Rattle.svc_handover.specs.Channel.{is_in_flight, is_taken, is_joined, is_sent, is_join, is_receipt, receipt_of, sent_message, is_as_sent, names_address, old_may, new_may, reached}
@@ -144,7 +144,7 @@ lands : (t s j l : Bool) → t ≡ true → is_taken (reached t s j l) ≡ true
 lands true s j l a = refl
 lands false s j l a = absurd (cc)
 
-module _ (old : CoreData) (n : Plan) (w : World) (stand : StandsFor old w.old) (right_old : Right old.plan w.old) (right_new : Right n w.new)
+module _ (old : CoreData) (n : Plan) (w : World) (stand : Represents old w.old) (right_old : Right old.plan w.old) (right_new : Right n w.new)
     (kept : PairKept w) (texts : AreTexts (table old.plan w.old)) where
   -- while the offer isn't over
   while-offered : is_upgrade (signal_of w.old) ≡ true → is_over old.plan w.old ≡ false

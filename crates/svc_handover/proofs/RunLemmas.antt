@@ -12,7 +12,7 @@ use Rattle.svc_record.specs.Judging.{judged_at, judgements}
 use Rattle.svc_record.specs.Right.{Right}
 use Rattle.svc_record.specs.Fits.{Fits, fits}
 use Rattle.svc_record.specs.declared.event.Event.{Event}
-use Rattle.svc_core.specs.Stands.{StandsFor}
+use Rattle.svc_core.specs.Stands.{Represents}
 use Rattle.svc_core.specs.CoreData.{CoreData}
 use Rattle.svc_handover.specs.declared.pair.PairStep.{PairStep}
 use Rattle.svc_handover.specs.declared.pair.ChannelState.{ChannelState}
@@ -89,13 +89,13 @@ decided false false h = refl
 
 -- a server's test of an event is that of its record
 pub fits-old : (p n : Plan) (before : List PairStep) (servers : Servers) (runs : Runs p n before servers) (e : Event) (b : Bool)
-    → ((q : Record) → StandsFor servers.predecessor.core q → (b ≡ true) ↔ Fits servers.predecessor.core.plan q e) → b ≡ fits p runs.world.old e
+    → ((q : Record) → Represents servers.predecessor.core q → (b ≡ true) ↔ Fits servers.predecessor.core.plan q e) → b ≡ fits p runs.world.old e
 fits-old p n before servers runs e b means =
     decided b (fits servers.predecessor.core.plan runs.world.old e) (means runs.world.old runs.stands.old_stands)
     ∙ ap (λ x. fits x runs.world.old e) runs.old_plan
 
 pub fits-new : (p n : Plan) (before : List PairStep) (servers : Servers) (runs : Runs p n before servers) (e : Event) (b : Bool)
-    → ((q : Record) → StandsFor servers.successor.core q → (b ≡ true) ↔ Fits servers.successor.core.plan q e) → b ≡ fits n runs.world.new e
+    → ((q : Record) → Represents servers.successor.core q → (b ≡ true) ↔ Fits servers.successor.core.plan q e) → b ≡ fits n runs.world.new e
 fits-new p n before servers runs e b means =
     decided b (fits servers.successor.core.plan runs.world.new e) (means runs.world.new runs.stands.new_stands)
     ∙ ap (λ x. fits x runs.world.new e) runs.new_plan

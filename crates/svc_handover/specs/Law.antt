@@ -9,7 +9,7 @@ use Rattle.svc_record.specs.Plans.{address}
 use Rattle.svc_record.specs.Boot.{is_bad_message}
 use Rattle.svc_record.specs.Right.{Right}
 use Rattle.svc_core.specs.CoreData.{CoreData}
-use Rattle.svc_core.specs.Stands.{StandsFor}
+use Rattle.svc_core.specs.Stands.{Represents}
 use Rattle.svc_handover.specs.declared.pair.PairStep.{PairStep}
 use Rattle.svc_handover.specs.declared.pair.ChannelState.{ChannelState}
 use Rattle.svc_handover.specs.Channel.{channel_of, is_receipt, receipt_of, sent_message, is_as_sent}
@@ -59,8 +59,8 @@ HasTexts p = (s i : ℕ) → IsTextOr (address p s i)
 -- what is kept of the pair: both cores stand for their records, which are right; the channel is the one read off them; what was received is what was
 -- sent, and can be read; and the old plan's addresses are texts
 pub record PairStands (old new : CoreData) (w : World) : Type 0 where
-  pub old_stands : StandsFor old w.old
-  pub new_stands : StandsFor new w.new
+  pub old_stands : Represents old w.old
+  pub new_stands : Represents new w.new
   pub old_right : Right old.plan w.old
   pub new_right : Right new.plan w.new
   pub channel : w.channel ≡ channel_of w.old w.new

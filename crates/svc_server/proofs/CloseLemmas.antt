@@ -12,7 +12,7 @@ use Rattle.svc_base.specs.NumberSets.{ascending}
 use Rattle.svc_record.specs.Tail.{with_event, new_numbers, closing_actions}
 use Rattle.svc_core.specs.CoreData.{CoreData}
 use Rattle.svc_core.specs.Rooms.{close_need, close_room}
-use Rattle.svc_core.specs.Stands.{StandsFor, ClosesAll}
+use Rattle.svc_core.specs.Stands.{Represents, ClosesAll}
 use Rattle.svc_server.specs.Hosts.{Account, BringsFew}
 use Rattle.svc_server.specs.Handing.{Hands, DueStarts, MayHandAll}
 use Rattle.svc_server.specs.Turns.{CanClose, ClosesTo}
@@ -45,7 +45,7 @@ closing-told p q also before after h empty = h.told.appended ∙ ap (λ xs. xs +
 
 -- they may be told
 pub may-close : (core : CoreData) (left : List (Option (List ℕ))) (account : Option Account) (also : Option Event) (before after : List Action)
-    → ((q : Record) → StandsFor core q → ClosesAll core.plan q also before after) → before ≡ [] → CanClose core left account also
+    → ((q : Record) → Represents core q → ClosesAll core.plan q also before after) → before ≡ [] → CanClose core left account also
     → MayHandAll left account after
 may-close core left account also before after closes empty can =
     let q = can.0 in (
@@ -63,7 +63,7 @@ may-close core left account also before after closes empty can =
 -- and then all is closed
 pub closed : (core : CoreData) (left now_left : List (Option (List ℕ))) (account now_account : Option Account) (also : Option Event)
     (before after : List Action)
-    → ((q : Record) → StandsFor core q → ClosesAll core.plan q also before after) → before ≡ []
+    → ((q : Record) → Represents core q → ClosesAll core.plan q also before after) → before ≡ []
     → ((p : Plan) (t : Record) → Hands left account p t → DueStarts p t after → Hands now_left now_account p (tell t after))
     → ClosesTo core left now_left account now_account also
 closed core left now_left account now_account also before after closes empty step = λ q stands hands.

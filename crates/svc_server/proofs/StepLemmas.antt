@@ -16,7 +16,7 @@ use Rattle.svc_record.proofs.Sound.{both}
 use Rattle.svc_record.specs.Connections.{Verdict}
 use Rattle.svc_record.specs.Judging.{asked_filter, judged_at, TellsJudged}
 use Rattle.svc_core.specs.CoreData.{CoreData}
-use Rattle.svc_core.specs.Stands.{StandsFor, StepRight, BeginKeeps, StepKeeps}
+use Rattle.svc_core.specs.Stands.{Represents, StepRight, BeginKeeps, StepKeeps}
 use Rattle.svc_server.specs.Hosts.{Account}
 use Rattle.svc_server.specs.Judges.{peer_at, Asks, Judges}
 use Rattle.svc_server.specs.Handing.{Hands, DueStart, DueStarts, MayHandAll}
@@ -84,7 +84,7 @@ begin-leaves answers core p left now_left account now_account before after told 
 
 stepped : (old core : CoreData) (e : Event) (before after told : List Action) (end : StepEnd) (q : Record) → StepKeeps old core e before after end → before ≡ []
     → told ≡ after
-    → Right old.plan q → StandsFor old q → StepRight core (tell (Got e ∷ q) told) end
+    → Right old.plan q → Represents old q → StepRight core (tell (Got e ∷ q) told) end
 stepped old core e before after told end q keeps empty same right stands =
     subst (λ xs. StepRight core (tell (Got e ∷ q) xs) end) (sym (same ∙ (keeps.appended ∙ ap (λ xs. xs ++ keeps.told) empty))) (keeps.kept q right stands)
 
@@ -106,7 +106,8 @@ pub step-leaves : (answers now : Verdict) (said : Bool) (old core : CoreData) (l
     → StepKeeps old core e before after end → TellsJudged (judged_at old.plan e said) before after → Asks answers now (asked_filter old.plan e) (peer_at e) said
     → before ≡ [] → told ≡ after → core.plan ≡ old.plan
     → ((r : Plan) (t : Record) → Hands left account r t → DueStarts r t told → Hands now_left now_account r (tell t told))
-    → (q : Record) → StandsFor old q → Right old.plan q → Hands left account old.plan (Got e ∷ q) → Leaves answers now core now_left now_account end (Got e ∷ q)
+    → (q : Record) → Represents old q → Right old.plan q → Hands left account old.plan (Got e ∷ q)
+    → Leaves answers now core now_left now_account end (Got e ∷ q)
 step-leaves answers now said old core left now_left account now_account e before after told end keeps judged asks empty same plan step q stands right hands =
     let kept = stepped old core e before after told end q keeps empty same right stands in
     leaves answers now core now_left now_account old.plan (Got e ∷ q) told end plan kept

@@ -19,7 +19,7 @@ use Rattle.svc_record.specs.Tail.{with_event, closing_actions}
 use Rattle.svc_record.specs.Connections.{Verdict}
 use Rattle.svc_record.proofs.Closing.{right_closes}
 use Rattle.svc_core.specs.CoreData.{CoreData, is_served}
-use Rattle.svc_core.specs.Stands.{StandsFor}
+use Rattle.svc_core.specs.Stands.{Represents}
 use Rattle.svc_server.specs.declared.run.Outcome.{Outcome}
 use Rattle.svc_server.specs.declared.run.Outcome.TheVariants.{Served, TestPassed, Parent}
 use Rattle.svc_server.specs.declared.run.RunError.{RunError}
@@ -286,7 +286,7 @@ gives-step verdict answers now_answers core left now_left account now_account ol
 pub fails-by : (answers now_answers : Verdict) (core now_core : CoreData) (left now_left : List (Option (List ℕ))) (account now_account : Option Account)
     (k : ℕ) (end : StepEnd) (last : Option Event) (e : Event) → last ≡ Some e
     → now_core.plan ≡ core.plan → IsSomewhereAtEvent core left account k last
-    → ((q : Record) → StandsFor core q → Right core.plan q → Hands left account core.plan (Got e ∷ q)
+    → ((q : Record) → Represents core q → Right core.plan q → Hands left account core.plan (Got e ∷ q)
     → Leaves answers now_answers now_core now_left now_account end (Got e ∷ q)) → IfSome last (FailsBy (Ok end))
 fails-by answers now_answers core now_core left now_left account now_account k end last e same plan somewhere leaves =
     let there : IsSomewhereAtEvent core left account k (Some e) = subst (λ (o : Option Event). IsSomewhereAtEvent core left account k o) same somewhere in
@@ -412,11 +412,11 @@ left-first named [] = refl
 left-first named (x ∷ xs) = ap (λ ys. Some (named x) ∷ ys) (left-first named xs)
 
 -- all services are left, and nothing was told
-pub hands-first : {B : Type 0} (named : B → List ℕ) (services : List B) (boxes : List (Option B)) (account : Option Account) (p q : Plan) → q ≡ p
-    → boxes ≡ map Some services → map named services ≡ names_of p
-    → IfSome account (λ a. a ≡ no_account) → Hands (names_left named boxes) account q []
-hands-first named services boxes account p q same left names first =
-    subst (λ x. Hands (names_left named boxes) account x []) (sym same)
+pub hands-first : {B : Type 0} (named : B → List ℕ) (services : List B) (pending : List (Option B)) (account : Option Account) (p q : Plan) → q ≡ p
+    → pending ≡ map Some services → map named services ≡ names_of p
+    → IfSome account (λ a. a ≡ no_account) → Hands (names_left named pending) account q []
+hands-first named services pending account p q same left names first =
+    subst (λ x. Hands (names_left named pending) account x []) (sym same)
     (record { left_is = ap (names_left named) left ∙ (left-first named services ∙ ap (map Some) names); told_is = first })
 
 pub gives-nothing : (verdict : Verdict) (account : Option Account) (p : Plan) (turns : ℕ) (before now : Option (List Item))

@@ -13,7 +13,7 @@ use Rattle.svc_server.specs.Runs.{names_of, handed_of}
 
 -- the names of the services that are left, by their numbers
 abbrev pub names_left : {B : Type 0} → (B → List ℕ) → List (Option B) → List (Option (List ℕ))
-names_left named boxes = map (option_map named) boxes
+names_left named pending = map (option_map named) pending
 
 -- after a record: each service that isn't started, by its name
 abbrev pub left_of : List (List ℕ) → Record → List (Option (List ℕ))

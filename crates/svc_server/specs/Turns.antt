@@ -19,7 +19,7 @@ use Rattle.svc_record.specs.Connections.{Verdict}
 use Rattle.svc_record.specs.Tail.{with_event, closing_actions}
 use Rattle.svc_core.specs.CoreData.{CoreData}
 use Rattle.svc_core.specs.Rooms.{close_room}
-use Rattle.svc_core.specs.Stands.{StandsFor, StepRight}
+use Rattle.svc_core.specs.Stands.{Represents, StepRight}
 use Rattle.svc_server.specs.declared.run.Outcome.{Outcome}
 use Rattle.svc_server.specs.declared.run.RunError.{RunError}
 use Rattle.svc_server.specs.declared.run.RunError.TheVariants.{Stray, NoMemory}
@@ -31,7 +31,7 @@ use Rattle.svc_server.specs.Handing.{Hands}
 -- between two turns, or after the last: the core stands for the record q, which is right and leaves the run so; the services that aren't started are
 -- left, and the host's account is q's; k events came
 pub record IsAt (core : CoreData) (left : List (Option (List ℕ))) (account : Option Account) (k : ℕ) (end : StepEnd) (q : Record) : Type 0 where
-  pub stands : StandsFor core q
+  pub stands : Represents core q
   pub right : Right core.plan q
   pub answer : end ≡ step_end core.plan q
   pub hands : Hands left account core.plan q
@@ -39,7 +39,7 @@ pub record IsAt (core : CoreData) (left : List (Option (List ℕ))) (account : O
 
 -- within a turn: the next event is in the account, and isn't taken yet
 pub record IsAtEvent (core : CoreData) (left : List (Option (List ℕ))) (account : Option Account) (k : ℕ) (e : Event) (q : Record) : Type 0 where
-  pub stands : StandsFor core q
+  pub stands : Represents core q
   pub right : Right core.plan q
   pub goes_on : has_ended core.plan q ≡ false
   pub hands : Hands left account core.plan (Got e ∷ q)
@@ -70,18 +70,18 @@ pub record HasRoom (core : CoreData) (closing : List Action × ℕ) (host : ℕ)
 
 -- all can be closed, perhaps with an unfinished event
 abbrev pub CanClose : CoreData → List (Option (List ℕ)) → Option Account → Option Event → Type 0
-CanClose core left account also = (q : Record) × (StandsFor core q × Hands left account core.plan (with_event also q))
+CanClose core left account also = (q : Record) × (Represents core q × Hands left account core.plan (with_event also q))
 
 -- then all that the core's record has open was closed, and with it what an unfinished event brought
 abbrev pub ClosesTo : CoreData → List (Option (List ℕ)) → List (Option (List ℕ)) → Option Account → Option Account → Option Event → Type 0
 ClosesTo core left now_left account now_account also =
-    (q : Record) → StandsFor core q → Hands left account core.plan (with_event also q)
+    (q : Record) → Represents core q → Hands left account core.plan (with_event also q)
     → Hands now_left now_account core.plan (tell (with_event also q) (closing_actions core.plan q also))
 
 -- an event can be taken, which the host's account has already
 abbrev pub CanTake : CoreData → List (Option (List ℕ)) → Option Account → Option Event → Type 0
 CanTake core left account None = ⊥
-CanTake core left account (Some e) = (q : Record) × ((StandsFor core q × Right core.plan q) × Hands left account core.plan (Got e ∷ q))
+CanTake core left account (Some e) = (q : Record) × ((Represents core q × Right core.plan q) × Hands left account core.plan (Got e ∷ q))
 
 -- after the record q some actions were told; the record with them is right, the core stands for it, and the answer is its own; where each judgement
 -- was its filter's verdict, it still is, with what the filters answer before and now

@@ -4,10 +4,10 @@
 mod account;
 mod account_host;
 mod asking;
-mod boxes;
 mod handing;
 mod host;
 mod inner_host;
+mod pending_services;
 mod run;
 mod script_host;
 mod script_items;

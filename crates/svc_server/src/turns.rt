@@ -13,7 +13,7 @@ ghost use Rattle.svc_record.specs.Validity.{IsValid};
 ghost use Rattle.svc_streams.specs.Verdicts.{verdict_at};
 ghost use Rattle.svc_core.specs.CoreData.{is_served};
 ghost use Rattle.svc_core.specs.Rooms.{tell_room, close_room};
-ghost use Rattle.svc_core.specs.Stands.{StandsFor, HasNotBegun, MayCome};
+ghost use Rattle.svc_core.specs.Stands.{Represents, HasNotBegun, MayCome};
 ghost use Rattle.svc_server.specs.Hosts.{ComesWith, no_account};
 ghost use Rattle.svc_server.specs.Handing.{names_left, Hands};
 ghost use Rattle.svc_server.specs.Judges.{Judges, NamesFilters};
@@ -21,9 +21,9 @@ ghost use Rattle.svc_server.specs.Turns.{IsAt, IsSomewhere, IsJudgedSomewhere, I
 ghost use Rattle.svc_server.specs.Runs.{RunTells, RunCounts, RunTakes, IsConfigured, answer_of, names_of};
 
 use crate::asking::ask_filter;
-use crate::boxes::PendingServices;
 use crate::handing::tell_all;
 use crate::host::{Host, Next};
+use crate::pending_services::PendingServices;
 use crate::run::{Outcome, RunError};
 use std::alloc::Global;
 use std::mem::drop;
@@ -46,7 +46,7 @@ pub(crate) struct Planned {
 #[derive(Drop)]
 struct Run<B, F> {
     core: Core,
-    boxes: PendingServices<B>,
+    pending: PendingServices<B>,
     filters: Filters<F>,
     closing: Actions,
     told: Actions,
@@ -71,20 +71,20 @@ impl<B: ServiceWithDependents, F: ConnectionFilter> Run<B, F> {
     ) -> Result<Self, NoMemory>
         requires valid { IsValid planned.plan }
         requires graph { IsGraphUpTo planned.plan (service_count planned.plan) planned.graph }
-        ensures plan { IfOk result (λ machine. machine.core.plan ≡ planned.plan) }
-        ensures first { IfOk result (λ machine. HasNotBegun machine.core) }
-        ensures left { IfOk result (λ machine. machine.boxes ≡ map Some services.items) }
-        ensures filters { IfOk result (λ machine. machine.filters ≡ filters) }
-        ensures empty { IfOk result (λ machine. list_of machine.closing ≡ []) }
+        ensures plan { IfOk result (λ run. run.core.plan ≡ planned.plan) }
+        ensures first { IfOk result (λ run. HasNotBegun run.core) }
+        ensures left { IfOk result (λ run. run.pending ≡ map Some services.items) }
+        ensures filters { IfOk result (λ run. run.filters ≡ filters) }
+        ensures empty { IfOk result (λ run. list_of run.closing ≡ []) }
     {
         let Planned { plan, graph } = planned;
         let made = Core::with_graph(alloc, plan, &graph);
         drop(graph);
         match made {
             Ok(core) => match PendingServices::new(alloc, services) {
-                Ok(boxes) => Ok(Run {
+                Ok(pending) => Ok(Run {
                     core,
-                    boxes,
+                    pending,
                     filters,
                     closing: Actions::new(alloc),
                     told: Actions::new(alloc),
@@ -106,8 +106,8 @@ impl<B: ServiceWithDependents, F: ConnectionFilter> Run<B, F> {
     /// Closes all.
     fn close<H: Host<Service = B>>(&mut self, host: &mut H)
         requires room { HasRoom self.old.core self.old.closing (H.spare host.old) }
-        requires can { CanClose self.old.core (names_left B.named self.old.boxes) (H.account host.old) None }
-        ensures closed { ClosesTo self.old.core (names_left B.named self.old.boxes) (names_left B.named self.new.boxes) (H.account host.old)
+        requires can { CanClose self.old.core (names_left B.named self.old.pending) (H.account host.old) None }
+        ensures closed { ClosesTo self.old.core (names_left B.named self.old.pending) (names_left B.named self.new.pending) (H.account host.old)
             (H.account host.new) None }
         ensures core { self.new.core ≡ self.old.core }
         ensures filters { self.new.filters ≡ self.old.filters }
@@ -116,15 +116,15 @@ impl<B: ServiceWithDependents, F: ConnectionFilter> Run<B, F> {
         ensures made { H.made_of host.new ≡ H.made_of host.old }
     {
         self.core.close_all(None, &mut self.closing);
-        tell_all(self.core.plan(), &mut self.boxes, &mut self.closing, host);
+        tell_all(self.core.plan(), &mut self.pending, &mut self.closing, host);
     }
 
     /// Closes all, with what the host's last event brought, which is left unfinished.
     fn close_with_event<H: Host<Service = B>>(&mut self, host: &mut H)
         requires room { HasRoom self.old.core self.old.closing (H.spare host.old) }
         requires few { ComesWith Next.Event (H.last host.old) }
-        requires can { CanClose self.old.core (names_left B.named self.old.boxes) (H.account host.old) (H.last host.old) }
-        ensures closed { ClosesTo self.old.core (names_left B.named self.old.boxes) (names_left B.named self.new.boxes) (H.account host.old)
+        requires can { CanClose self.old.core (names_left B.named self.old.pending) (H.account host.old) (H.last host.old) }
+        ensures closed { ClosesTo self.old.core (names_left B.named self.old.pending) (names_left B.named self.new.pending) (H.account host.old)
             (H.account host.new) (H.last host.old) }
         ensures core { self.new.core ≡ self.old.core }
         ensures filters { self.new.filters ≡ self.old.filters }
@@ -133,7 +133,7 @@ impl<B: ServiceWithDependents, F: ConnectionFilter> Run<B, F> {
         ensures made { H.made_of host.new ≡ H.made_of host.old }
     {
         self.core.close_all(Some(host.event()), &mut self.closing);
-        tell_all(self.core.plan(), &mut self.boxes, &mut self.closing, host);
+        tell_all(self.core.plan(), &mut self.pending, &mut self.closing, host);
     }
 
     /// Tells the host until when no moment is due, where it asks.
@@ -161,7 +161,7 @@ impl<B: ServiceWithDependents, F: ConnectionFilter> Run<B, F> {
         ensures list { OnOk result (tell_room self.new.core ≤ spare self.new.closing) }
         ensures host { OnOk result (2 * tell_room self.new.core + 1 ≤ H.spare host.new) }
         ensures core { self.new.core ≡ self.old.core }
-        ensures boxes { self.new.boxes ≡ self.old.boxes }
+        ensures pending { self.new.pending ≡ self.old.pending }
         ensures filters { self.new.filters ≡ self.old.filters }
         ensures account { H.account host.new ≡ H.account host.old }
         ensures counts { H.counts host.new ≡ H.counts host.old }
@@ -183,11 +183,11 @@ impl<B: ServiceWithDependents, F: ConnectionFilter> Run<B, F> {
     ) -> Result<StepEnd, NoMemory>
         requires first { HasNotBegun self.old.core }
         requires empty { list_of self.old.closing ≡ [] }
-        requires hands { Hands (names_left B.named self.old.boxes) (H.account host.old) self.old.core.plan [] }
+        requires hands { Hands (names_left B.named self.old.pending) (H.account host.old) self.old.core.plan [] }
         ensures plan { IfOk result (λ _. self.new.core.plan ≡ self.old.core.plan) }
         ensures filters { self.new.filters ≡ self.old.filters }
         ensures leaves { IfOk result (λ end. Leaves (verdict_at F.verdict self.old.filters) (verdict_at F.verdict self.new.filters)
-            self.new.core (names_left B.named self.new.boxes) (H.account host.new) end []) }
+            self.new.core (names_left B.named self.new.pending) (H.account host.new) end []) }
         ensures room { OnOk result (HasRoom self.new.core self.new.closing (H.spare host.new)) }
         ensures untold { OnErr result (H.account host.new ≡ H.account host.old) }
         ensures counts { H.counts host.new ≡ H.counts host.old }
@@ -200,7 +200,7 @@ impl<B: ServiceWithDependents, F: ConnectionFilter> Run<B, F> {
         let mut actions = Actions::new(alloc);
         match self.core.begin(alloc, &mut actions) {
             Ok(end) => {
-                tell_all(self.core.plan(), &mut self.boxes, &mut actions, host);
+                tell_all(self.core.plan(), &mut self.pending, &mut actions, host);
                 drop(actions);
                 Ok(end)
             }
@@ -220,17 +220,17 @@ impl<B: ServiceWithDependents, F: ConnectionFilter> Run<B, F> {
     ) -> Result<StepEnd, NoMemory>
         requires fits { IfSome (H.last host.old) (MayCome self.old.core) }
         requires room { 2 * tell_room self.old.core ≤ H.spare host.old }
-        requires can { CanTake self.old.core (names_left B.named self.old.boxes) (H.account host.old) (H.last host.old) }
+        requires can { CanTake self.old.core (names_left B.named self.old.pending) (H.account host.old) (H.last host.old) }
         requires known { NamesFilters self.old.core.plan (length self.old.filters) }
         ensures plan { IfOk result (λ _. self.new.core.plan ≡ self.old.core.plan) }
-        ensures leaves { IfOk result (λ end. IfSome (H.last host.old) (λ e. (q : Record) → StandsFor self.old.core q → Right self.old.core.plan q
-            → Hands (names_left B.named self.old.boxes) (H.account host.old) self.old.core.plan (Got e ∷ q)
+        ensures leaves { IfOk result (λ end. IfSome (H.last host.old) (λ e. (q : Record) → Represents self.old.core q → Right self.old.core.plan q
+            → Hands (names_left B.named self.old.pending) (H.account host.old) self.old.core.plan (Got e ∷ q)
             → Leaves (verdict_at F.verdict self.old.filters) (verdict_at F.verdict self.new.filters)
-            self.new.core (names_left B.named self.new.boxes) (H.account host.new) end (Got e ∷ q))) }
+            self.new.core (names_left B.named self.new.pending) (H.account host.new) end (Got e ∷ q))) }
         ensures room { OnOk result (2 * close_room self.new.core ≤ H.spare host.new) }
         ensures few { OnOk result (close_room self.new.core ≤ tell_room self.old.core) }
         ensures refused { OnErr result (self.new.core ≡ self.old.core) }
-        ensures left { OnErr result (self.new.boxes ≡ self.old.boxes) }
+        ensures left { OnErr result (self.new.pending ≡ self.old.pending) }
         ensures untold { OnErr result (host.new ≡ host.old) }
         ensures filters { length self.new.filters ≡ length self.old.filters }
         ensures list { self.new.closing ≡ self.old.closing }
@@ -242,8 +242,8 @@ impl<B: ServiceWithDependents, F: ConnectionFilter> Run<B, F> {
         let event = host.event();
         let said = ask_filter(&mut self.filters, self.core.asks(event), event);
         let end = self.core.step(alloc, event, said, &mut self.told)?;
-        self.boxes.note_event(event);
-        tell_all(self.core.plan(), &mut self.boxes, &mut self.told, host);
+        self.pending.note_event(event);
+        tell_all(self.core.plan(), &mut self.pending, &mut self.told, host);
         Ok(end)
     }
 
@@ -258,11 +258,11 @@ impl<B: ServiceWithDependents, F: ConnectionFilter> Run<B, F> {
         requires room { HasRoom self.old.core self.old.closing (H.spare host.old) }
         requires list { tell_room self.old.core ≤ spare self.old.closing }
         requires told { 2 * tell_room self.old.core ≤ H.spare host.old }
-        requires at { IsSomewhereAtEvent self.old.core (names_left B.named self.old.boxes) (H.account host.old) k (H.last host.old) }
+        requires at { IsSomewhereAtEvent self.old.core (names_left B.named self.old.pending) (H.account host.old) k (H.last host.old) }
         requires known { NamesFilters self.old.core.plan (length self.old.filters) }
         ensures gives { IfSome (H.last host.old)
             (EventGives (verdict_at F.verdict self.old.filters) (verdict_at F.verdict self.new.filters) self.old.core self.new.core
-            (names_left B.named self.old.boxes) (names_left B.named self.new.boxes)
+            (names_left B.named self.old.pending) (names_left B.named self.new.pending)
             (H.account host.old) (H.account host.new) k result (H.ahead host.old) (H.ahead host.new)) }
         ensures room { OnOk result (HasRoom self.new.core self.new.closing (H.spare host.new)) }
         ensures plan { self.new.core.plan ≡ self.old.core.plan }
@@ -294,13 +294,13 @@ impl<B: ServiceWithDependents, F: ConnectionFilter> Run<B, F> {
     ) -> Result<StepEnd, RunError>
         requires small { k < u64.MAX }
         requires room { HasRoom self.old.core self.old.closing (H.spare host.old) }
-        requires at { IsSomewhere self.old.core (names_left B.named self.old.boxes) (H.account host.old) k StepEnd.On }
+        requires at { IsSomewhere self.old.core (names_left B.named self.old.pending) (H.account host.old) k StepEnd.On }
         requires known { NamesFilters self.old.core.plan (length self.old.filters) }
         ensures gives { (verdict : Verdict) (turns : ℕ) (before : Option (List Item)) (q : Record) → k < turns
-            → IsAt self.old.core (names_left B.named self.old.boxes) (H.account host.old) k StepEnd.On q
+            → IsAt self.old.core (names_left B.named self.old.pending) (H.account host.old) k StepEnd.On q
             → IsAhead before (H.ahead host.old) q
             → Judges verdict (verdict_at F.verdict self.old.filters) self.old.core.plan q
-            → TurnGives verdict (verdict_at F.verdict self.new.filters) self.new.core (names_left B.named self.new.boxes)
+            → TurnGives verdict (verdict_at F.verdict self.new.filters) self.new.core (names_left B.named self.new.pending)
             (H.account host.new) k turns result before (H.ahead host.new) }
         ensures room { OnOk result (HasRoom self.new.core self.new.closing (H.spare host.new)) }
         ensures plan { self.new.core.plan ≡ self.old.core.plan }
@@ -335,9 +335,9 @@ impl<B: ServiceWithDependents, F: ConnectionFilter> Run<B, F> {
     ) -> Result<Outcome, RunError>
         requires answers { answer_of end ≡ Some answer }
         requires room { HasRoom self.old.core self.old.closing (H.spare host.old) }
-        requires at { (k : ℕ) × IsSomewhere self.old.core (names_left B.named self.old.boxes) (H.account host.old) k end }
+        requires at { (k : ℕ) × IsSomewhere self.old.core (names_left B.named self.old.pending) (H.account host.old) k end }
         ensures gives { (verdict : Verdict) (k turns : ℕ) (before : Option (List Item)) (q : Record) → k ≤ turns
-            → IsAt self.old.core (names_left B.named self.old.boxes) (H.account host.old) k end q
+            → IsAt self.old.core (names_left B.named self.old.pending) (H.account host.old) k end q
             → IsAhead before (H.ahead host.old) q
             → Judges verdict (verdict_at F.verdict self.old.filters) self.old.core.plan q
             → RunGives verdict self.old.core.plan turns result (H.account host.new) before (H.ahead host.new) }
@@ -360,11 +360,11 @@ impl<B: ServiceWithDependents, F: ConnectionFilter> Run<B, F> {
         host: &mut H,
     ) -> Result<Outcome, RunError>
         requires room { HasRoom self.old.core self.old.closing (H.spare host.old) }
-        requires at { IsJudgedSomewhere (verdict_at F.verdict self.old.filters) self.old.core (names_left B.named self.old.boxes)
+        requires at { IsJudgedSomewhere (verdict_at F.verdict self.old.filters) self.old.core (names_left B.named self.old.pending)
             (H.account host.old) 0 StepEnd.On }
         requires known { NamesFilters self.old.core.plan (length self.old.filters) }
         ensures gives { (verdict : Verdict) (before : Option (List Item)) (q : Record)
-            → IsAt self.old.core (names_left B.named self.old.boxes) (H.account host.old) 0 StepEnd.On q
+            → IsAt self.old.core (names_left B.named self.old.pending) (H.account host.old) 0 StepEnd.On q
             → IsAhead before (H.ahead host.old) q
             → Judges verdict (verdict_at F.verdict self.old.filters) self.old.core.plan q
             → RunGives verdict self.old.core.plan turns result (H.account host.new) before (H.ahead host.new) }
@@ -395,7 +395,7 @@ impl<B: ServiceWithDependents, F: ConnectionFilter> Run<B, F> {
     ) -> Result<Outcome, RunError>
         requires first { HasNotBegun self.old.core }
         requires empty { list_of self.old.closing ≡ [] }
-        requires hands { Hands (names_left B.named self.old.boxes) (H.account host.old) self.old.core.plan [] }
+        requires hands { Hands (names_left B.named self.old.pending) (H.account host.old) self.old.core.plan [] }
         requires known { NamesFilters self.old.core.plan (length self.old.filters) }
         ensures gives { RunGives (verdict_at F.verdict self.old.filters) self.old.core.plan turns result (H.account host.new) (H.ahead host.old)
             (H.ahead host.new) }
@@ -456,10 +456,10 @@ pub(crate) fn run_plan<B: ServiceWithDependents, F: ConnectionFilter, H: Host<Se
     ensures made { H.made_of host.new ≡ H.made_of host.old }
 {
     match Run::new(alloc, planned, services, filters) {
-        Ok(machine) => {
-            let mut machine = machine;
-            let answer = machine.run(alloc, turns, host);
-            drop(machine);
+        Ok(run) => {
+            let mut run = run;
+            let answer = run.run(alloc, turns, host);
+            drop(run);
             answer
         }
         Err(NoMemory) => Err(RunError::NoMemory),

@@ -12,7 +12,7 @@ use Rattle.svc_record.specs.Ends.{step_end}
 use Rattle.svc_record.specs.Judging.{judgements}
 use Rattle.svc_record.specs.Right.{Right}
 use Rattle.svc_core.specs.CoreData.{CoreData}
-use Rattle.svc_core.specs.Stands.{StandsFor}
+use Rattle.svc_core.specs.Stands.{Represents}
 use Rattle.svc_core.specs.Rooms.{open_count}
 use Rattle.svc_handover.specs.declared.pair.PairStep.{PairStep}
 use Rattle.svc_handover.specs.Law.{HasTexts}
@@ -31,7 +31,7 @@ pub stands-begun : (p : Plan) (g : Generation) → Begins p g → Stands g
 stands-begun p g b =
     let told : tell [] b.begins.begun.told ≡ history g = sym (begun-history p g b ∙ ap (tell []) b.begins.begun.appended) in
     record {
-      stands = subst (StandsFor g.core) told b.begins.begun.kept.stands;
+      stands = subst (Represents g.core) told b.begins.begun.kept.stands;
       right = subst (Right g.core.plan) told b.begins.begun.kept.right;
       marks = b.marks ∙ ap marks_of (sym (begun-history p g b));
       texts = subst HasTexts (sym b.begins.plan_is) b.texts;
@@ -60,7 +60,7 @@ stands-taken g next e said end s t =
     let kept = t.keeps.kept (history g) s.right s.stands in
     let grown : tell (Got e ∷ history g) t.keeps.told ≡ history next = sym (taken-history g next e said end t) in
     record {
-      stands = subst (StandsFor next.core) grown kept.stands;
+      stands = subst (Represents next.core) grown kept.stands;
       right = subst (Right next.core.plan) grown kept.right;
       marks = t.marks (history g) s.marks ∙ ap marks_of (ap (tell (Got e ∷ history g)) t.keeps.appended ∙ grown);
       texts = subst HasTexts (sym t.plan_is) s.texts;
@@ -88,7 +88,7 @@ same-data g next s = let core = s.core in let entries = s.entries in cc
 
 pub stands-same : (g next : Generation) → IsSame g next → Stands g → Stands next
 stands-same g next s z = record {
-  stands = subst (λ (c : CoreData). StandsFor c (history next)) (sym s.core) (subst (StandsFor g.core) (sym (same-history g next s)) z.stands);
+  stands = subst (λ (c : CoreData). Represents c (history next)) (sym s.core) (subst (Represents g.core) (sym (same-history g next s)) z.stands);
   right = subst (λ (c : CoreData). Right c.plan (history next)) (sym s.core) (subst (Right g.core.plan) (sym (same-history g next s)) z.right);
   marks = s.marks ∙ z.marks ∙ ap marks_of (sym (same-history g next s));
   texts = subst (λ (c : CoreData). HasTexts c.plan) (sym s.core) z.texts;

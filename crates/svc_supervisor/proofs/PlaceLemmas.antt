@@ -9,7 +9,7 @@ use Rattle.svc_record.specs.declared.event.Event.{Event}
 use Rattle.svc_record.specs.Record.{Record, has}
 use Rattle.svc_record.specs.Boot.{is_open_receiver}
 use Rattle.svc_record.specs.Fits.{Fits, fits}
-use Rattle.svc_core.specs.Stands.{StandsFor}
+use Rattle.svc_core.specs.Stands.{Represents}
 use Rattle.svc_base.proofs.Logic.{bool_same}
 use Rattle.svc_handover.specs.Channel.{reached, is_taken, is_receipt, is_sent, is_join}
 use Rattle.svc_supervisor.specs.declared.generation.Generation.{Generation}
@@ -25,7 +25,7 @@ unless-err (Ok x) P h p = p
 unless-err (Err e) P h p = absurd (cc)
 
 -- the test of an event by the core is that by its record
-pub fits-here : (g : Generation) (e : Event) (b : Bool) → ((q : Record) → StandsFor g.core q → (b ≡ true) ↔ Fits g.core.plan q e) → Stands g
+pub fits-here : (g : Generation) (e : Event) (b : Bool) → ((q : Record) → Represents g.core q → (b ≡ true) ↔ Fits g.core.plan q e) → Stands g
     → b ≡ fits g.core.plan (history g) e
 fits-here g e b means s = bool_same b (fits g.core.plan (history g) e) (means (history g) s.stands).0 (means (history g) s.stands).1
 

@@ -11,7 +11,7 @@ use Rattle.svc_record.specs.Judging.{judged_at, judgements}
 use Rattle.svc_record.specs.Right.{Right}
 use Rattle.svc_record.specs.Tail.{closing_actions, tail_right}
 use Rattle.svc_core.specs.CoreData.{CoreData}
-use Rattle.svc_core.specs.Stands.{StandsFor, StepKeeps, MayCome}
+use Rattle.svc_core.specs.Stands.{Represents, StepKeeps, MayCome}
 use Rattle.svc_core.specs.Rooms.{open_count, step_room}
 use Rattle.svc_handover.specs.declared.recorded.Recorded.{Recorded}
 use Rattle.svc_handover.specs.declared.servers.Servers.{Servers}
@@ -80,7 +80,7 @@ pub record IsSame (old new : Generation) : Type 0 where
 
 -- its core and its marks are those of its record, which is right
 pub record Stands (g : Generation) : Type 0 where
-  pub stands : StandsFor g.core (history g)
+  pub stands : Represents g.core (history g)
   pub right : Right g.core.plan (history g)
   pub marks : g.marks ≡ marks_of (history g)
   pub texts : HasTexts g.core.plan

@@ -7,7 +7,7 @@ ghost use Rattle.svc_record.specs.declared.action.Action.TheVariants.{Close};
 ghost use Rattle.svc_record.specs.declared.entry.Entry.TheVariants.{Got};
 ghost use Rattle.svc_record.specs.Record.{Record};
 ghost use Rattle.svc_record.specs.Descriptors.{numbers_of};
-ghost use Rattle.svc_core.specs.Stands.{StandsFor, ClosesAll};
+ghost use Rattle.svc_core.specs.Stands.{Represents, ClosesAll};
 ghost use Rattle.svc_core.specs.Rooms.{close_need, open_closes, open_count, left_numbers};
 
 use super::Core;
@@ -19,7 +19,7 @@ impl Core {
     /// what the event brought that was left unfinished. A caller who had `step_room` before a step has the room after it.
     pub fn close_all(&self, also: Option<&Event>, actions: &mut Actions)
         requires room { close_need self.now (option_copied also) ≤ spare actions.old }
-        ensures closes { (q : Record) → StandsFor self.now q
+        ensures closes { (q : Record) → Represents self.now q
             → ClosesAll self.now.plan q (option_copied also.entry) (list_of actions.old) (list_of actions.new) }
         ensures few { length (list_of actions.new) ≤ length (list_of actions.old) + close_need self.now (option_copied also.entry) }
     {

@@ -3,7 +3,7 @@
 ghost use Rattle.std.specs.Prelude.{IsTrue, ◌↔◌};
 ghost use Rattle.svc_record.specs.Record.{Record};
 ghost use Rattle.svc_record.specs.Fits.{Fits};
-ghost use Rattle.svc_core.specs.Stands.{StandsFor, MayCome, ReadyMayCome, EndedMayCome, ReceivedMayCome, BoundMayCome, BindMayBeAnswered, AdoptMayBeAnswered, LoopMayEnd, MayAccept, ArrivedMayCome};
+ghost use Rattle.svc_core.specs.Stands.{Represents, MayCome, ReadyMayCome, EndedMayCome, ReceivedMayCome, BoundMayCome, BindMayBeAnswered, AdoptMayBeAnswered, LoopMayEnd, MayAccept, ArrivedMayCome};
 
 use super::Core;
 use crate::ends::is_on;
@@ -14,7 +14,7 @@ impl Core {
     /// Whether the event may come now.
     pub fn fits(&self, event: &Event) -> bool
         ensures may { IsTrue result ↔ MayCome self.now event.now }
-        ensures means { (q : Record) → StandsFor self.now q → IsTrue result ↔ Fits self.now.plan q event.now }
+        ensures means { (q : Record) → Represents self.now q → IsTrue result ↔ Fits self.now.plan q event.now }
     {
         if !is_on(self.end) {
             return false;

@@ -14,12 +14,12 @@ tell-requires-clause-handed g c =
 
 pub unreachable-requires : goal.unreachable-requires
 unreachable-requires g c =
-    none-taken (names_left g.B.ServiceWithDependents.named c.args.boxes.now)
+    none-taken (names_left g.B.ServiceWithDependents.named c.args.pending.now)
     (g.H.Host.account c.args.host.now) c.requires.may.0 c.requires.may.1.0 c.args.s c.requires.may.1.1.0 c.requires.may.1.1.1 c.in-None.ensures.taken
 
 pub returns-clause-hands : goal.returns-clause-hands
 returns-clause-hands g c = λ p q h due.
-    hands-started (names_left g.B.ServiceWithDependents.named c.args.boxes.now) (names_left g.B.ServiceWithDependents.named c.take.new.self)
+    hands-started (names_left g.B.ServiceWithDependents.named c.args.pending.now) (names_left g.B.ServiceWithDependents.named c.take.new.self)
     (g.H.Host.account c.args.host.now) (g.H.Host.account c.hand.new.self)
     (g.H.Host.account c.tell.new.self) p q c.args.s
     (g.B.ServiceWithDependents.named c.in-Some.service) c.take.ensures.left c.hand.ensures.account c.tell.ensures.account c.in-Some.ensures.taken h due

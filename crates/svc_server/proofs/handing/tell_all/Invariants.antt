@@ -8,9 +8,9 @@ use Rattle.svc_server.proofs.handing.tell_all.Given as goal
 
 abbrev pub invariant-loop-action : goal.invariant-loop-action
 invariant-loop-action g l = record {
-  hands : (p : Plan) (q : Record) → Hands (names_left g.B.ServiceWithDependents.named l.initial.boxes) (g.H.Host.account l.initial.host) p q
+  hands : (p : Plan) (q : Record) → Hands (names_left g.B.ServiceWithDependents.named l.initial.pending) (g.H.Host.account l.initial.host) p q
       → DueStarts p q (reverse (list_of l.initial.actions))
-      → Leads (names_left g.B.ServiceWithDependents.named l.boxes) (g.H.Host.account l.host) p (reverse (list_of l.actions))
+      → Leads (names_left g.B.ServiceWithDependents.named l.pending) (g.H.Host.account l.host) p (reverse (list_of l.actions))
       (tell q (reverse (list_of l.initial.actions)));
   room : g.H.Host.spare l.initial.host + 2 * length (reverse (list_of l.actions)) ≤ g.H.Host.spare l.host + 2 * length (reverse (list_of l.initial.actions));
   counts : g.H.Host.counts l.host ≡ g.H.Host.counts l.initial.host;

@@ -1,6 +1,6 @@
 use Rattle.std.proofs.Common.{refl, sym, ◌∙◌, arith}
 use Rattle.svc_base.specs.Items.{list_of}
-use Rattle.svc_core.specs.Stands.{Visited}
+use Rattle.svc_core.specs.Stands.{AfterPass}
 use Rattle.svc_core.specs.Steps.{go_room}
 use Rattle.svc_core.proofs.FinishLemmas.{go-ended-at, go-on-at, go-waiting-at, go-then}
 use Rattle.svc_core.proofs.CopyLemmas.{bare-these, bare-then, run-bare, try-bare}
@@ -9,13 +9,13 @@ use Rattle.svc_core.proofs.KeptLemmas.{kept-boot}
 use Rattle.svc_core.proofs.machine.Core.advance.Goals as goal
 
 pub returns-then-not-is_on : goal.returns-then-not-is_on
-returns-then-not-is_on c = opened-goes (λ core. Visited core c.args.copy) go_room c.self.view_is (stops c.args.copy refl (omega arith)
+returns-then-not-is_on c = opened-goes (λ core. AfterPass core c.args.copy) go_room c.self.view_is (stops c.args.copy refl (omega arith)
     (go-ended-at _ c.args.copy c.end-self-inside.result
     (list_of c.args.actions.now) c.end-self-inside.ensures c.self.invariant.formed.least c.self.invariant.formed.in_order
     (sym c.is_on.ensures ∙ c.if-not-is_on.true)))
 
 pub returns-then-not-may_start : goal.returns-then-not-may_start
-returns-then-not-may_start c = opened-goes (λ core. Visited core c.args.copy) go_room c.self.view_is (then-goes c.advance_shutdown.ensures refl
+returns-then-not-may_start c = opened-goes (λ core. AfterPass core c.args.copy) go_room c.self.view_is (then-goes c.advance_shutdown.ensures refl
     (bare-these (list_of c.args.actions.now) (list_of c.try_again.new.actions) _ c.try_again.ensures.told (try-bare c.try_again.result))
     (record { few = omega arith; room = omega arith })
     (go-then _ _ _ c.args.copy (list_of c.args.actions.now) (list_of c.try_again.new.actions) (list_of c.advance_shutdown.new.actions) c.advance_shutdown.result
@@ -26,7 +26,7 @@ returns-then-not-may_start c = opened-goes (λ core. Visited core c.args.copy) g
     c.advance_shutdown.ensures.kept))
 
 pub returns : goal.returns
-returns c = opened-goes (λ core. Visited core c.args.copy) go_room c.self.view_is (then-goes c.advance_shutdown-2.ensures refl
+returns c = opened-goes (λ core. AfterPass core c.args.copy) go_room c.self.view_is (then-goes c.advance_shutdown-2.ensures refl
     (bare-then (list_of c.args.actions.now) (list_of c.run_once.new.actions) (list_of c.try_again-2.new.actions)
     (bare-these (list_of c.args.actions.now) (list_of c.run_once.new.actions) _ c.run_once.ensures.told (run-bare c.self.inside.drain))
     (bare-these (list_of c.run_once.new.actions) (list_of c.try_again-2.new.actions) _ c.try_again-2.ensures.told (try-bare c.try_again-2.result)))

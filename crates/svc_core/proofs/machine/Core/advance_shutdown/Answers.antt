@@ -3,7 +3,7 @@ use Rattle.svc_base.specs.Items.{list_of}
 use Rattle.svc_core.specs.CoreData.{CoreData}
 use Rattle.svc_core.specs.Copies.{copy_of}
 use Rattle.svc_core.specs.Steps.{answer_room}
-use Rattle.svc_core.specs.Stands.{Tried}
+use Rattle.svc_core.specs.Stands.{AfterRetry}
 use Rattle.svc_endpoints.specs.EndpointsState.{open_numbers}
 use Rattle.svc_connections.specs.ConnectionsState.{numbers}
 use Rattle.svc_core.proofs.AnswerLemmas.{answer-on, answer-end}
@@ -13,7 +13,7 @@ use Rattle.svc_core.proofs.GoForms.{opened-goes, ended-few}
 use Rattle.svc_core.proofs.machine.Core.advance_shutdown.Goals as goal
 
 pub returns-then-passed : goal.returns-then-passed
-returns-then-passed c = opened-goes (λ core. Tried core c.args.copy) answer_room c.self.view_is (record {
+returns-then-passed c = opened-goes (λ core. AfterRetry core c.args.copy) answer_room c.self.view_is (record {
   plan = ap (λ (core : CoreData). core.plan) c.end_run.ensures.after;
   kept = rw (c.end_run.ensures.end, c.end_run.ensures.after)
       (answer-end _ c.args.copy c.ask.new.self c.publish_due-passed.new.self
@@ -35,7 +35,7 @@ returns-then-passed c = opened-goes (λ core. Tried core c.args.copy) answer_roo
 })
 
 pub returns : goal.returns
-returns c = opened-goes (λ core. Tried core c.args.copy) answer_room c.self.view_is (record {
+returns c = opened-goes (λ core. AfterRetry core c.args.copy) answer_room c.self.view_is (record {
   plan = refl;
   kept = answer-on _ c.args.copy c.ask.new.self c.publish_due-passed.new.self
       (rw c.over_since-over.ensures at c.publish_due-passed.ensures.after) (rw c.moment.ensures at c.ask.ensures.after)

@@ -8,7 +8,7 @@ use Rattle.svc_server.proofs.turns.Run.begin.Goals as goal
 
 pub tell_all-requires-clause-may : goal.tell_all-requires-clause-may
 tell_all-requires-clause-may g c =
-    let left = names_left g.B.ServiceWithDependents.named c.args.self.now.boxes in
+    let left = names_left g.B.ServiceWithDependents.named c.args.self.now.pending in
     may-begin c.begin.new.self c.args.self.now.core.plan left (g.H.Host.account c.reserve-2.new.self) (list_of c.new-actions.result)
     (list_of c.begin.new.actions) (list_of c.begin.new.actions) c.in-Ok.end
     c.in-Ok.ensures.kept c.new-actions.ensures refl c.in-Ok.ensures.plan
@@ -17,9 +17,9 @@ tell_all-requires-clause-may g c =
 
 pub returns-in-Ok-clause-leaves : goal.returns-in-Ok-clause-leaves
 returns-in-Ok-clause-leaves g c =
-    let left = names_left g.B.ServiceWithDependents.named c.args.self.now.boxes in
+    let left = names_left g.B.ServiceWithDependents.named c.args.self.now.pending in
     begin-leaves (verdict_at g.F.ConnectionFilter.verdict c.args.self.now.filters) c.begin.new.self c.args.self.now.core.plan left
-    (names_left g.B.ServiceWithDependents.named c.tell_all.new.boxes) (g.H.Host.account c.reserve-2.new.self)
+    (names_left g.B.ServiceWithDependents.named c.tell_all.new.pending) (g.H.Host.account c.reserve-2.new.self)
     (g.H.Host.account c.tell_all.new.host) (list_of c.new-actions.result) (list_of c.begin.new.actions)
     (list_of c.begin.new.actions) c.in-Ok.end c.in-Ok.ensures.kept c.in-Ok.ensures.judged
     c.new-actions.ensures refl c.in-Ok.ensures.plan

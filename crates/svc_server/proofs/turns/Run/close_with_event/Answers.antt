@@ -28,7 +28,7 @@ tell_all-requires-clause-room g c =
 
 pub tell_all-requires-clause-may : goal.tell_all-requires-clause-may
 tell_all-requires-clause-may g c =
-    let left = names_left g.B.ServiceWithDependents.named c.args.self.now.boxes in
+    let left = names_left g.B.ServiceWithDependents.named c.args.self.now.pending in
     let account = g.H.Host.account c.args.host.now in
     may-close c.args.self.now.core left account (Some c.event.result.now) (list_of c.args.self.now.closing)
     (list_of c.close_all.new.actions) c.close_all.ensures.closes c.requires.room.empty
@@ -37,8 +37,8 @@ tell_all-requires-clause-may g c =
 pub returns-clause-closed : goal.returns-clause-closed
 returns-clause-closed g c =
     let named = g.B.ServiceWithDependents.named in
-    let left = names_left named c.args.self.now.boxes in
-    let now_left = names_left named c.tell_all.new.boxes in
+    let left = names_left named c.args.self.now.pending in
+    let now_left = names_left named c.tell_all.new.pending in
     let account = g.H.Host.account c.args.host.now in
     let now_account = g.H.Host.account c.tell_all.new.host in
     subst (λ (o : Option Event). ClosesTo c.args.self.now.core left now_left account now_account o) (sym c.event.ensures)

@@ -22,7 +22,7 @@ finish-requires-clause-at g c =
 pub take_turns-requires-clause-at : goal.take_turns-requires-clause-at
 take_turns-requires-clause-at g c =
     let core = c.begin.new.self.core in
-    let left = names_left g.B.ServiceWithDependents.named c.begin.new.self.boxes in
+    let left = names_left g.B.ServiceWithDependents.named c.begin.new.self.pending in
     let account = g.H.Host.account c.begin.new.host in
     let answers = verdict_at g.F.ConnectionFilter.verdict c.args.self.now.filters in
     let t = first-at c.in-Ok.ensures.leaves c.begin.ensures.ahead in
@@ -59,7 +59,7 @@ returns-in-Some-clause-configured g c = configured-by c.in-Ok.end c.finish.ensur
 pub returns-in-None-clause-gives : goal.returns-in-None-clause-gives
 returns-in-None-clause-gives g c =
     let core = c.begin.new.self.core in
-    let left = names_left g.B.ServiceWithDependents.named c.begin.new.self.boxes in
+    let left = names_left g.B.ServiceWithDependents.named c.begin.new.self.pending in
     let account = g.H.Host.account c.begin.new.host in
     let before = g.H.Host.ahead c.args.host.now in
     let answers = verdict_at g.F.ConnectionFilter.verdict c.args.self.now.filters in

@@ -6,7 +6,7 @@ use Rattle.svc_record.specs.declared.entry.Entry.TheVariants.{Got}
 use Rattle.svc_record.specs.Record.{Record}
 use Rattle.svc_record.specs.Right.{Right}
 use Rattle.svc_streams.specs.Verdicts.{verdict_at}
-use Rattle.svc_core.specs.Stands.{StandsFor, MayCome}
+use Rattle.svc_core.specs.Stands.{Represents, MayCome}
 use Rattle.svc_server.specs.Judges.{peer_at, Asks}
 use Rattle.svc_server.specs.Handing.{names_left, Hands}
 use Rattle.svc_server.specs.Turns.{CanTake, Leaves}
@@ -42,18 +42,18 @@ returns-clause-leaves g c =
     let named = g.B.ServiceWithDependents.named in
     let account = g.H.Host.account c.args.host.now in
     let core = c.args.self.now.core in
-    let left = names_left named c.args.self.now.boxes in
+    let left = names_left named c.args.self.now.pending in
     let same = ap (names_left named) c.note_event.ensures in
     let answers = verdict_at g.F.ConnectionFilter.verdict c.args.self.now.filters in
     let now = verdict_at g.F.ConnectionFilter.verdict c.ask_filter-said.new.filters in
     let asks = subst
     (λ (number : Option ℕ). Asks answers now number (peer_at c.event-event.result.now) c.ask_filter-said.result) c.asks.ensures
     c.ask_filter-said.ensures.asks in
-    subst (λ (o : Option Event). IfSome o (λ e. (q : Record) → StandsFor core q → Right core.plan q → Hands left account core.plan (Got e ∷ q)
-    → Leaves answers now c.step.new.self (names_left named c.tell_all.new.boxes) (g.H.Host.account c.tell_all.new.host) c.in_ok-end.end (Got e ∷ q)))
+    subst (λ (o : Option Event). IfSome o (λ e. (q : Record) → Represents core q → Right core.plan q → Hands left account core.plan (Got e ∷ q)
+    → Leaves answers now c.step.new.self (names_left named c.tell_all.new.pending) (g.H.Host.account c.tell_all.new.host) c.in_ok-end.end (Got e ∷ q)))
     (sym c.event-event.ensures)
     (λ q stands right hands. step-leaves answers now c.ask_filter-said.result core c.step.new.self (names_left named c.note_event.new.self)
-    (names_left named c.tell_all.new.boxes) account (g.H.Host.account c.tell_all.new.host)
+    (names_left named c.tell_all.new.pending) account (g.H.Host.account c.tell_all.new.host)
     c.event-event.result.now (list_of c.empty.new.actions) (list_of c.step.new.actions)
     (list_of c.step.new.actions) c.in_ok-end.end c.in_ok-end.ensures.kept c.in_ok-end.ensures.judged asks
     c.empty.ensures refl c.in_ok-end.ensures.plan c.tell_all.ensures.hands q stands right

@@ -7,7 +7,7 @@ use Rattle.svc_record.specs.Tail.{closing_actions}
 use Rattle.std.specs.Prelude.{Some, IfSome}
 use Rattle.svc_record.specs.Right.{Right}
 use Rattle.svc_streams.specs.Verdicts.{verdict_at}
-use Rattle.svc_core.specs.Stands.{StandsFor}
+use Rattle.svc_core.specs.Stands.{Represents}
 use Rattle.svc_server.specs.declared.run.RunError.TheVariants as errors
 use Rattle.svc_server.specs.Handing.{names_left, Hands}
 use Rattle.svc_server.specs.Turns.{ClosesTo, Leaves, EventGives}
@@ -19,8 +19,8 @@ returns-then-not-fits-clause-gives g c =
     let named = g.B.ServiceWithDependents.named in
     let core = c.args.self.now.core in
     let now_core = c.close_with_event.new.self.core in
-    let left = names_left named c.args.self.now.boxes in
-    let now_left = names_left named c.close_with_event.new.self.boxes in
+    let left = names_left named c.args.self.now.pending in
+    let now_left = names_left named c.close_with_event.new.self.pending in
     let account = g.H.Host.account c.args.host.now in
     let now_account = g.H.Host.account c.close_with_event.new.host in
     let e = c.event.result.now in
@@ -41,17 +41,17 @@ returns-in-Ok-clause-gives g c =
     let named = g.B.ServiceWithDependents.named in
     let core = c.args.self.now.core in
     let now_core = c.take.new.self.core in
-    let left = names_left named c.args.self.now.boxes in
-    let now_left = names_left named c.take.new.self.boxes in
+    let left = names_left named c.args.self.now.pending in
+    let now_left = names_left named c.take.new.self.pending in
     let account = g.H.Host.account c.args.host.now in
     let now_account = g.H.Host.account c.take.new.host in
     let e = c.event.result.now in
     let answers = verdict_at g.F.ConnectionFilter.verdict c.args.self.now.filters in
     let now_answers = verdict_at g.F.ConnectionFilter.verdict c.take.new.self.filters in
-    let leaves : (q : Record) → StandsFor core q → Right core.plan q → Hands left account core.plan (Got e ∷ q)
+    let leaves : (q : Record) → Represents core q → Right core.plan q → Hands left account core.plan (Got e ∷ q)
     → Leaves answers now_answers now_core now_left now_account c.in-Ok.end (Got e ∷ q) =
     subst (λ (o : Option Event). IfSome o
-    (λ x. (q : Record) → StandsFor core q → Right core.plan q → Hands left account core.plan (Got x ∷ q)
+    (λ x. (q : Record) → Represents core q → Right core.plan q → Hands left account core.plan (Got x ∷ q)
     → Leaves answers now_answers now_core now_left now_account c.in-Ok.end (Got x ∷ q))) c.event.ensures c.in-Ok.ensures.leaves in
     if-came (EventGives answers now_answers core now_core left now_left account now_account c.args.k (Ok c.in-Ok.end) (g.H.Host.ahead c.args.host.now)
     (g.H.Host.ahead c.take.new.host)) (g.H.Host.last c.args.host.now) e c.event.ensures
@@ -65,9 +65,9 @@ returns-in-Err-clause-gives g c =
     let named = g.B.ServiceWithDependents.named in
     let core = c.args.self.now.core in
     let now_core = c.close_with_event-in-Err.new.self.core in
-    let left = names_left named c.args.self.now.boxes in
-    let left2 = names_left named c.take.new.self.boxes in
-    let now_left = names_left named c.close_with_event-in-Err.new.self.boxes in
+    let left = names_left named c.args.self.now.pending in
+    let left2 = names_left named c.take.new.self.pending in
+    let now_left = names_left named c.close_with_event-in-Err.new.self.pending in
     let account = g.H.Host.account c.args.host.now in
     let account2 = g.H.Host.account c.take.new.host in
     let now_account = g.H.Host.account c.close_with_event-in-Err.new.host in
@@ -92,17 +92,17 @@ returns-in-Ok-clause-failed g c =
     let named = g.B.ServiceWithDependents.named in
     let core = c.args.self.now.core in
     let now_core = c.take.new.self.core in
-    let left = names_left named c.args.self.now.boxes in
-    let now_left = names_left named c.take.new.self.boxes in
+    let left = names_left named c.args.self.now.pending in
+    let now_left = names_left named c.take.new.self.pending in
     let account = g.H.Host.account c.args.host.now in
     let now_account = g.H.Host.account c.take.new.host in
     let e = c.event.result.now in
     let answers = verdict_at g.F.ConnectionFilter.verdict c.args.self.now.filters in
     let now_answers = verdict_at g.F.ConnectionFilter.verdict c.take.new.self.filters in
-    let leaves : (q : Record) → StandsFor core q → Right core.plan q → Hands left account core.plan (Got e ∷ q)
+    let leaves : (q : Record) → Represents core q → Right core.plan q → Hands left account core.plan (Got e ∷ q)
     → Leaves answers now_answers now_core now_left now_account c.in-Ok.end (Got e ∷ q) =
     subst (λ (o : Option Event). IfSome o
-    (λ x. (q : Record) → StandsFor core q → Right core.plan q → Hands left account core.plan (Got x ∷ q)
+    (λ x. (q : Record) → Represents core q → Right core.plan q → Hands left account core.plan (Got x ∷ q)
     → Leaves answers now_answers now_core now_left now_account c.in-Ok.end (Got x ∷ q))) c.event.ensures c.in-Ok.ensures.leaves in
     fails-by answers now_answers core now_core left now_left account now_account c.args.k c.in-Ok.end
     (g.H.Host.last c.args.host.now) e c.event.ensures c.in-Ok.ensures.plan c.requires.at leaves

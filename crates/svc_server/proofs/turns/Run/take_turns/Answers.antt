@@ -94,7 +94,7 @@ loop-k-preserved g c =
       at = λ verdict before q at ahead judges. (
           let t = c.loop-k.invariant.at verdict before q at ahead judges in
           subst (λ (end : StepEnd). TurnGives verdict (verdict_at g.F.ConnectionFilter.verdict c.turn.new.self.filters) c.turn.new.self.core
-          (names_left g.B.ServiceWithDependents.named c.turn.new.self.boxes) (g.H.Host.account c.turn.new.host) c.loop-k.k c.args.turns (Ok end) before
+          (names_left g.B.ServiceWithDependents.named c.turn.new.self.pending) (g.H.Host.account c.turn.new.host) c.loop-k.k c.args.turns (Ok end) before
           (g.H.Host.ahead c.turn.new.host))
           on (c.in-Ok.ensures.gives verdict c.args.turns before t.0 c.loop-k-test.true t.1.0 t.1.1.0 t.1.1.1));
       room = c.in-Ok.ensures.room;
@@ -117,13 +117,13 @@ returns-clause-gives g c = λ verdict before q at ahead judges.
     let named = g.B.ServiceWithDependents.named in
     let t = c.loop-k.invariant.at verdict before q at ahead judges in
     let core = c.loop-k.self.core in
-    let left = names_left named c.loop-k.self.boxes in
+    let left = names_left named c.loop-k.self.pending in
     let account = g.H.Host.account c.loop-k.host in
     let r : Record = tell t.0 (closing_actions core.plan t.0 None) in
     let spent : c.loop-k.k ≡ c.args.turns = omega arith in
     let closed =
     closed-at verdict (verdict_at g.F.ConnectionFilter.verdict c.loop-k.self.filters) core core left left
-    (names_left named c.close.new.self.boxes) account account
+    (names_left named c.close.new.self.pending) account account
     (g.H.Host.account c.close.new.host) c.loop-k.k ends.On t.0 refl refl refl t.1.0 t.1.1.1 c.close.ensures.closed in
     plan-now verdict core.plan c.args.self.now.core.plan c.args.turns _ (g.H.Host.account c.close.new.host) before (g.H.Host.ahead c.close.new.host)
     (sym c.loop-k.invariant.plan)

@@ -13,11 +13,11 @@ use Rattle.svc_server.proofs.turns.Run.take_turns.Given as goal
 abbrev pub invariant-loop-k : goal.invariant-loop-k
 invariant-loop-k g l = record {
   at : (verdict : Verdict) (before : Option (List Item)) (q : Record)
-      → IsAt l.initial.self.core (names_left g.B.ServiceWithDependents.named l.initial.self.boxes) (g.H.Host.account l.initial.host) 0 ends.On q
+      → IsAt l.initial.self.core (names_left g.B.ServiceWithDependents.named l.initial.self.pending) (g.H.Host.account l.initial.host) 0 ends.On q
       → IsAhead before (g.H.Host.ahead l.initial.host) q
       → Judges verdict (verdict_at g.F.ConnectionFilter.verdict l.initial.self.filters) l.initial.self.core.plan q
       → (t : Record)
-      × (IsAt l.self.core (names_left g.B.ServiceWithDependents.named l.self.boxes) (g.H.Host.account l.host) l.k ends.On t
+      × (IsAt l.self.core (names_left g.B.ServiceWithDependents.named l.self.pending) (g.H.Host.account l.host) l.k ends.On t
       × (IsAhead before (g.H.Host.ahead l.host) t × Judges verdict (verdict_at g.F.ConnectionFilter.verdict l.self.filters) l.self.core.plan t));
   room : HasRoom l.self.core l.self.closing (g.H.Host.spare l.host);
   filters : length l.self.filters ≡ length l.initial.self.filters;

@@ -15,11 +15,11 @@ pub returns-then-is_err-clause-gives : goal.returns-then-is_err-clause-gives
 returns-then-is_err-clause-gives g c = λ verdict turns before q lt at ahead judges.
     let named = g.B.ServiceWithDependents.named in
     let core = c.args.self.now.core in
-    let left = names_left named c.args.self.now.boxes in
-    let same_left = ap (names_left named) c.make_room.ensures.boxes in
+    let left = names_left named c.args.self.now.pending in
+    let same_left = ap (names_left named) c.make_room.ensures.pending in
     let closed =
     closed-at verdict (verdict_at g.F.ConnectionFilter.verdict c.args.self.now.filters) core c.make_room.new.self.core left
-    (names_left named c.make_room.new.self.boxes) (names_left named c.close.new.self.boxes) (g.H.Host.account c.args.host.now)
+    (names_left named c.make_room.new.self.pending) (names_left named c.close.new.self.pending) (g.H.Host.account c.args.host.now)
     (g.H.Host.account c.make_room.new.host)
     (g.H.Host.account c.close.new.host) c.args.k ends.On q c.make_room.ensures.core same_left c.make_room.ensures.account at judges
     c.close.ensures.closed in
@@ -32,10 +32,10 @@ returns-then-is_err-clause-gives g c = λ verdict turns before q lt at ahead jud
 pub take_event-requires-clause-at : goal.take_event-requires-clause-at
 take_event-requires-clause-at g c =
     let named = g.B.ServiceWithDependents.named in
-    at-came c.args.self.now.core c.make_room.new.self.core (names_left named c.args.self.now.boxes) (names_left named c.make_room.new.self.boxes)
+    at-came c.args.self.now.core c.make_room.new.self.core (names_left named c.args.self.now.pending) (names_left named c.make_room.new.self.pending)
     (g.H.Host.account c.args.host.now) (g.H.Host.account c.make_room.new.host)
     (g.H.Host.account c.next.new.self) c.args.k (g.H.Host.last c.next.new.self) c.requires.at.0 c.in-Event.ensures.event c.make_room.ensures.core
-    (ap (names_left named) c.make_room.ensures.boxes) c.make_room.ensures.account
+    (ap (names_left named) c.make_room.ensures.pending) c.make_room.ensures.account
     c.in-Event.ensures.account c.requires.at.1
 
 pub take_event-requires-clause-known : goal.take_event-requires-clause-known
@@ -49,14 +49,14 @@ returns-in-Event-clause-gives g c = λ verdict turns before q lt at ahead judges
     let named = g.B.ServiceWithDependents.named in
     gives-came verdict (verdict_at g.F.ConnectionFilter.verdict c.args.self.now.filters) (verdict_at g.F.ConnectionFilter.verdict c.make_room.new.self.filters)
     (verdict_at g.F.ConnectionFilter.verdict c.take_event.new.self.filters)
-    c.args.self.now.core c.make_room.new.self.core c.take_event.new.self.core (names_left named c.args.self.now.boxes)
-    (names_left named c.make_room.new.self.boxes) (names_left named c.take_event.new.self.boxes)
+    c.args.self.now.core c.make_room.new.self.core c.take_event.new.self.core (names_left named c.args.self.now.pending)
+    (names_left named c.make_room.new.self.pending) (names_left named c.take_event.new.self.pending)
     (g.H.Host.account c.args.host.now) (g.H.Host.account c.make_room.new.host) (g.H.Host.account c.next.new.self)
     (g.H.Host.account c.take_event.new.host) c.args.k turns c.take_event.result before
     (g.H.Host.ahead c.args.host.now) (g.H.Host.ahead c.make_room.new.host) (g.H.Host.ahead c.next.new.self) (g.H.Host.ahead c.take_event.new.host)
     (g.H.Host.last c.next.new.self) q
     c.in-Event.ensures.event c.make_room.ensures.core
-    (ap (names_left named) c.make_room.ensures.boxes) c.make_room.ensures.account c.in-Event.ensures.account c.make_room.ensures.ahead
+    (ap (names_left named) c.make_room.ensures.pending) c.make_room.ensures.account c.in-Event.ensures.account c.make_room.ensures.ahead
     c.in-Event.ensures.ahead
     (ap (verdict_at g.F.ConnectionFilter.verdict) c.make_room.ensures.filters) c.take_event.ensures.gives lt at ahead judges
 
@@ -74,11 +74,11 @@ pub returns-in-None-clause-gives : goal.returns-in-None-clause-gives
 returns-in-None-clause-gives g c = λ verdict turns before q lt at ahead judges.
     let named = g.B.ServiceWithDependents.named in
     let core = c.args.self.now.core in
-    let left = names_left named c.args.self.now.boxes in
-    let same_left = ap (names_left named) c.make_room.ensures.boxes in
+    let left = names_left named c.args.self.now.pending in
+    let same_left = ap (names_left named) c.make_room.ensures.pending in
     let closed =
     closed-at verdict (verdict_at g.F.ConnectionFilter.verdict c.args.self.now.filters) core c.make_room.new.self.core left
-    (names_left named c.make_room.new.self.boxes) (names_left named c.close-in-None.new.self.boxes) (g.H.Host.account c.args.host.now)
+    (names_left named c.make_room.new.self.pending) (names_left named c.close-in-None.new.self.pending) (g.H.Host.account c.args.host.now)
     (g.H.Host.account c.next.new.self) (g.H.Host.account c.close-in-None.new.host) c.args.k ends.On q c.make_room.ensures.core same_left
     (c.in-None.ensures.account ∙ c.make_room.ensures.account) at judges c.close-in-None.ensures.closed in
     plan-now verdict core.plan c.close-in-None.new.self.core.plan turns _ (g.H.Host.account c.close-in-None.new.host) before
@@ -94,11 +94,11 @@ pub returns-in-Failed-clause-gives : goal.returns-in-Failed-clause-gives
 returns-in-Failed-clause-gives g c = λ verdict turns before q lt at ahead judges.
     let named = g.B.ServiceWithDependents.named in
     let core = c.args.self.now.core in
-    let left = names_left named c.args.self.now.boxes in
-    let same_left = ap (names_left named) c.make_room.ensures.boxes in
+    let left = names_left named c.args.self.now.pending in
+    let same_left = ap (names_left named) c.make_room.ensures.pending in
     let closed =
     closed-at verdict (verdict_at g.F.ConnectionFilter.verdict c.args.self.now.filters) core c.make_room.new.self.core left
-    (names_left named c.make_room.new.self.boxes) (names_left named c.close-in-Failed.new.self.boxes) (g.H.Host.account c.args.host.now)
+    (names_left named c.make_room.new.self.pending) (names_left named c.close-in-Failed.new.self.pending) (g.H.Host.account c.args.host.now)
     (g.H.Host.account c.next.new.self) (g.H.Host.account c.close-in-Failed.new.host) c.args.k ends.On q c.make_room.ensures.core same_left
     (c.in-Failed.ensures.account ∙ c.make_room.ensures.account) at judges
     c.close-in-Failed.ensures.closed in

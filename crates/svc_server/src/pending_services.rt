@@ -15,7 +15,7 @@ use svc_record::{Action, Event, ExecutionPhase, Plan};
 /// see the services alone.
 #[derive(Drop)]
 pub(crate) struct PendingServices<B> {
-    boxes: Vec<Option<B>>,
+    pending: Vec<Option<B>>,
     /// The last moment that came, in milliseconds.
     moment: u64,
     /// The moment at which the server ran, where it runs.
@@ -27,7 +27,7 @@ impl<B> Model for PendingServices<B> {
 
     ghost Value = { List (Option B) };
 
-    ghost view = { λ b. b.boxes.items };
+    ghost view = { λ b. b.pending.items };
 }
 
 /// Whether the service waits for others.
@@ -41,10 +41,10 @@ fn has_dependencies(plan: &Plan, s: u32) -> bool {
 impl<B: ServiceWithDependents> PendingServices<B> {
     /// All services are left.
     pub(crate) fn new(alloc: Global, services: Vec<B>) -> Result<Self, NoMemory>
-        ensures { IfOk result (λ boxes. boxes ≡ map Some services.items) }
+        ensures { IfOk result (λ pending. pending ≡ map Some services.items) }
     {
         Ok(PendingServices {
-            boxes: services
+            pending: services
                 .into_iter()
                 .map(|service| Some(service))
                 .collect(alloc)?,
@@ -85,7 +85,7 @@ impl<B: ServiceWithDependents> PendingServices<B> {
         ensures taken { option_map B.named result ≡ unwrap_or (slice_get (names_left B.named self.old) s) None }
     {
         let waited = self.waited();
-        let taken = take_at(&mut self.boxes, s as usize);
+        let taken = take_at(&mut self.pending, s as usize);
         if let Some(service) = &taken {
             if has_dependencies(plan, s) {
                 service.on_startup_delay(waited);
@@ -96,12 +96,12 @@ impl<B: ServiceWithDependents> PendingServices<B> {
 }
 
 /// Takes out what stands at the place.
-fn take_at<B: ServiceWithDependents>(boxes: &mut Vec<Option<B>>, place: usize) -> Option<B>
-    ensures left { names_left B.named boxes.new.items ≡ slice_set (names_left B.named boxes.old.items) place None }
-    ensures taken { option_map B.named result ≡ unwrap_or (slice_get (names_left B.named boxes.old.items) place) None }
+fn take_at<B: ServiceWithDependents>(pending: &mut Vec<Option<B>>, place: usize) -> Option<B>
+    ensures left { names_left B.named pending.new.items ≡ slice_set (names_left B.named pending.old.items) place None }
+    ensures taken { option_map B.named result ≡ unwrap_or (slice_get (names_left B.named pending.old.items) place) None }
 {
-    if place >= boxes.len() {
+    if place >= pending.len() {
         return None;
     }
-    mem::replace(&mut boxes[place], None)
+    mem::replace(&mut pending[place], None)
 }
