@@ -6,7 +6,7 @@ use fulltimehen_server::{
 };
 use socket2::{Domain, SockAddr, Socket, Type};
 use std::io::{self, ErrorKind, Read, Write};
-use std::net::{Ipv4Addr, Shutdown, SocketAddr, TcpListener, TcpStream};
+use std::net::{Ipv4Addr, Shutdown, SocketAddr, TcpListener, TcpStream, ToSocketAddrs};
 use std::os::fd::AsRawFd;
 use std::os::unix::fs::PermissionsExt;
 use std::os::unix::net::UnixStream;
@@ -216,6 +216,34 @@ fn a_path_of_the_unix_domain_has_its_mode_and_goes_with_the_service() {
     assert_eq!(error.status(), 5);
     assert_eq!(fs::read_to_string(&path).unwrap(), "a file");
     fs::remove_file(path).unwrap();
+}
+
+/// A name is looked up before the plan is made, so that services which call one address by different words share its socket.
+#[test]
+fn an_address_by_two_words_is_one() {
+    let address = free();
+    let by_name = address.replace("127.0.0.1", "localhost");
+    let found = by_name.to_socket_addrs().ok().and_then(|mut found| found.next());
+    if found.map(|found| found.to_string()).as_ref() != Some(&address) {
+        return eprintln!("not tried: localhost is another address first");
+    }
+    let (mut reader, writer) = io::pipe().unwrap();
+    let (operator, signals) = mpsc::channel(1);
+    let there = address.clone();
+    let run = thread::spawn(move || {
+        let mut server = Server::new(None).unwrap();
+        server.add_service(listening("one", echo).tcp(&there));
+        server.add_service(listening("other", echo).tcp(&by_name));
+        let mut writer = Some(writer);
+        let args = RunArgs::default().signals(signals);
+        server.run(args.record(move |_| writer.take().unwrap()))
+    });
+    assert_eq!(ask(&address, "hello"), "hello");
+    operator.blocking_send(Signal::Terminate).unwrap();
+    assert_eq!(run.join().unwrap().unwrap(), Outcome::Served);
+    let mut record = String::new();
+    reader.read_to_string(&mut record).unwrap();
+    assert!(record.contains("got bound 0 0 1\nadopt 1 0 1\n"), "{record}");
 }
 
 /// Somebody else listens at the path and never accepts: that the address is in use is found out without waiting.
