@@ -449,7 +449,16 @@ impl Driver {
             self.moment = self.now();
             self.step(Event::Moment { ms: self.moment });
         }
+        let held = match event {
+            Event::Bound { service, endpoint, .. } | Event::Adopted { service, endpoint } => {
+                Some(Place { service, endpoint })
+            }
+            _ => None,
+        };
         self.step(event);
+        if let Some(place) = held {
+            self.begin_loops(place);
+        }
     }
 
     fn step(&mut self, event: Event) {

@@ -218,6 +218,29 @@ fn a_path_of_the_unix_domain_has_its_mode_and_goes_with_the_service() {
     fs::remove_file(path).unwrap();
 }
 
+/// A service accepts once it has all of its addresses, whatever others have by then: who comes before that waits.
+#[test]
+fn a_service_without_all_of_its_addresses_has_its_clients_wait() {
+    let (one, taken, other) = (free(), free(), free());
+    let holder = TcpListener::bind(&taken).unwrap();
+    let addresses = [one.clone(), taken, other.clone()];
+    let running = start(20, move |server| {
+        let [one, taken, other] = addresses;
+        server.add_service(listening("both", echo).tcp(&one).tcp(&taken));
+        server.add_service(listening("other", echo).tcp(&other));
+    });
+    assert_eq!(ask(&other, "hello"), "hello");
+    let mut early = connect(&one);
+    early.write_all(b"hello").unwrap();
+    early.shutdown(Shutdown::Write).unwrap();
+    early.set_read_timeout(Some(Duration::from_millis(300))).unwrap();
+    assert_eq!(early.read(&mut [0]).unwrap_err().kind(), ErrorKind::WouldBlock);
+    drop(holder);
+    early.set_read_timeout(Some(Duration::from_secs(20))).unwrap();
+    assert_eq!(io::read_to_string(early).unwrap(), "hello");
+    running.end();
+}
+
 /// A name is looked up before the plan is made, so that services which call one address by different words share its socket.
 #[test]
 fn an_address_by_two_words_is_one() {
