@@ -449,7 +449,16 @@ impl Driver {
             self.moment = self.now();
             self.step(Event::Moment { ms: self.moment });
         }
+        let held = match event {
+            Event::Bound { service, endpoint, .. } | Event::Adopted { service, endpoint } => {
+                Some(Place { service, endpoint })
+            }
+            _ => None,
+        };
         self.step(event);
+        if let Some(place) = held {
+            self.begin_loops(place);
+        }
     }
 
     fn step(&mut self, event: Event) {
@@ -502,7 +511,7 @@ impl Driver {
     fn refused(&mut self, event: &Event, error: CoreError) {
         let is_stray = matches!(error, CoreError::Stray(_) | CoreError::NoEvent(_));
         say!(error, "the core refused an event: {error}");
-        let left = self.core.left_by(event);
+        let left: Vec<Action> = self.core.left_by(event).collect();
         left.into_iter().for_each(|action| self.carry_out(action));
         if !is_stray || self.setup.on_stray == OnStray::End {
             self.fail(ServerError::Core(error));

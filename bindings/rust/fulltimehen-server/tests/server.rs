@@ -6,7 +6,7 @@ use fulltimehen_server::{
 };
 use socket2::{Domain, SockAddr, Socket, Type};
 use std::io::{self, ErrorKind, Read, Write};
-use std::net::{Ipv4Addr, Shutdown, SocketAddr, TcpListener, TcpStream};
+use std::net::{Ipv4Addr, Shutdown, SocketAddr, TcpListener, TcpStream, ToSocketAddrs};
 use std::os::fd::AsRawFd;
 use std::os::unix::fs::PermissionsExt;
 use std::os::unix::net::UnixStream;
@@ -216,6 +216,57 @@ fn a_path_of_the_unix_domain_has_its_mode_and_goes_with_the_service() {
     assert_eq!(error.status(), 5);
     assert_eq!(fs::read_to_string(&path).unwrap(), "a file");
     fs::remove_file(path).unwrap();
+}
+
+/// A service accepts once it has all of its addresses, whatever others have by then: who comes before that waits.
+#[test]
+fn a_service_without_all_of_its_addresses_has_its_clients_wait() {
+    let (one, taken, other) = (free(), free(), free());
+    let holder = TcpListener::bind(&taken).unwrap();
+    let addresses = [one.clone(), taken, other.clone()];
+    let running = start(20, move |server| {
+        let [one, taken, other] = addresses;
+        server.add_service(listening("both", echo).tcp(&one).tcp(&taken));
+        server.add_service(listening("other", echo).tcp(&other));
+    });
+    assert_eq!(ask(&other, "hello"), "hello");
+    let mut early = connect(&one);
+    early.write_all(b"hello").unwrap();
+    early.shutdown(Shutdown::Write).unwrap();
+    early.set_read_timeout(Some(Duration::from_millis(300))).unwrap();
+    assert_eq!(early.read(&mut [0]).unwrap_err().kind(), ErrorKind::WouldBlock);
+    drop(holder);
+    early.set_read_timeout(Some(Duration::from_secs(20))).unwrap();
+    assert_eq!(io::read_to_string(early).unwrap(), "hello");
+    running.end();
+}
+
+/// A name is looked up before the plan is made, so that services which call one address by different words share its socket.
+#[test]
+fn an_address_by_two_words_is_one() {
+    let address = free();
+    let by_name = address.replace("127.0.0.1", "localhost");
+    let found = by_name.to_socket_addrs().ok().and_then(|mut found| found.next());
+    if found.map(|found| found.to_string()).as_ref() != Some(&address) {
+        return eprintln!("not tried: localhost is another address first");
+    }
+    let (mut reader, writer) = io::pipe().unwrap();
+    let (operator, signals) = mpsc::channel(1);
+    let there = address.clone();
+    let run = thread::spawn(move || {
+        let mut server = Server::new(None).unwrap();
+        server.add_service(listening("one", echo).tcp(&there));
+        server.add_service(listening("other", echo).tcp(&by_name));
+        let mut writer = Some(writer);
+        let args = RunArgs::default().signals(signals);
+        server.run(args.record(move |_| writer.take().unwrap()))
+    });
+    assert_eq!(ask(&address, "hello"), "hello");
+    operator.blocking_send(Signal::Terminate).unwrap();
+    assert_eq!(run.join().unwrap().unwrap(), Outcome::Served);
+    let mut record = String::new();
+    reader.read_to_string(&mut record).unwrap();
+    assert!(record.contains("got bound 0 0 1\nadopt 1 0 1\n"), "{record}");
 }
 
 /// Somebody else listens at the path and never accepts: that the address is in use is found out without waiting.

@@ -248,21 +248,22 @@ impl FromStr for Setting {
             return if word == "nodelay" { Ok(Setting::NoDelay) } else { Err(error()) };
         };
         match key {
-            "keepalive" => {
-                let times: Vec<u64> = value.split(',').map_while(|n| n.parse().ok()).collect();
-                match times[..] {
-                    [idle, interval, count, user_timeout] => {
-                        Ok(Setting::KeepAlive { idle, interval, count, user_timeout })
-                    }
-                    _ => Err(error()),
-                }
-            }
+            "keepalive" => keep_alive(value).ok_or_else(error),
             "dscp" => value.parse().map(Setting::Dscp).map_err(|_| error()),
             "sndbuf" => value.parse().map(Setting::SndBuf).map_err(|_| error()),
             "rcvbuf" => value.parse().map(Setting::RcvBuf).map_err(|_| error()),
             _ => Err(error()),
         }
     }
+}
+
+/// Keeping alive, of its four numbers.
+fn keep_alive(numbers: &str) -> Option<Setting> {
+    let mut numbers = numbers.split(',').map(|number| number.parse().ok());
+    let mut next = || numbers.next().flatten();
+    let (idle, interval, count, user_timeout) = (next()?, next()?, next()?, next()?);
+    let is_all = numbers.next().is_none();
+    is_all.then_some(Setting::KeepAlive { idle, interval, count, user_timeout })
 }
 
 /// The action's line, as a record has it.
@@ -324,7 +325,10 @@ fn usual(line: &str) -> Option<Action> {
         return number(connection).map(|connection| Action::Handshake { connection });
     }
     let connection = number(line.strip_prefix("settings ")?.strip_suffix(" nodelay")?)?;
-    Some(Action::Settings { connection, settings: vec![Setting::NoDelay] })
+    let mut settings = Vec::new();
+    settings.try_reserve_exact(1).ok()?;
+    settings.push(Setting::NoDelay);
+    Some(Action::Settings { connection, settings })
 }
 
 fn action_of(words: &mut Words<'_>) -> Result<Action, LineError> {
@@ -359,10 +363,7 @@ fn connection_action(key: &str, words: &mut Words<'_>) -> Result<Action, LineErr
     Ok(match key {
         "judged" => Action::Judged { connection: words.number()?, yes: words.either("yes", "no")? },
         "refuse" => Action::Refuse { connection: words.number()? },
-        "settings" => Action::Settings {
-            connection: words.number()?,
-            settings: words.map(str::parse).collect::<Result<_, _>>()?,
-        },
+        "settings" => Action::Settings { connection: words.number()?, settings: words.rest()? },
         "handshake" => Action::Handshake { connection: words.number()? },
         "serve" => Action::Serve { connection: words.number()? },
         "drop" => Action::Drop { connection: words.number()? },
@@ -400,6 +401,9 @@ mod tests {
             "got moment 1",
             "phase Setup 0",
             "settings 1 fast",
+            "settings 1 keepalive=1,2,3",
+            "settings 1 keepalive=1,2,3,4,5",
+            "settings 1 keepalive=1,2,3,x",
             "settings nodelay",
             "serve",
             "serve ",

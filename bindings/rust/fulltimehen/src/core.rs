@@ -7,8 +7,10 @@ use crate::line::Line;
 use crate::messages::{Shown, fits_where};
 use crate::plan::{Plan, PlanError};
 use crate::sys::Session;
+use crate::words::LineError;
 use std::fmt::{self, Write};
 use std::net::SocketAddr;
+use std::slice;
 use std::str;
 
 /// The lifecycle of one server, before its run. It stays on the thread that made it, as do the states
@@ -218,15 +220,38 @@ impl<'a> Told<'a> {
         self.record
     }
 
-    /// The actions that were told, in order. Their own lists are made as std makes lists, so that want of
-    /// memory for one ends the program.
+    /// The actions that were told, in order.
+    ///
+    /// # Panics
+    ///
+    /// Where memory lacks for the list of an action, of `Settings` or of `Send`: [`Told::try_actions`] says that. And where a
+    /// line is no action, which the library never tells.
+    pub fn actions(&self) -> impl Iterator<Item = Action> + use<'a> {
+        self.try_actions().map(|action| action.expect("there is memory for its list"))
+    }
+
+    /// The actions that were told, in order, with [`CoreError::NoMemory`] in place of one for whose list memory
+    /// lacks. They may be asked for again.
     ///
     /// # Panics
     ///
     /// Where a line is no action, which the library never tells.
-    pub fn actions(&self) -> impl Iterator<Item = Action> + use<'a> {
+    ///
+    /// ```
+    /// use fulltimehen::{Action, Core, Plan, Service};
+    ///
+    /// let mut core = Core::new(&Plan::new().service(Service::plain("web")))?.begin()?;
+    /// assert_eq!(core.last()?.try_actions().next(), Some(Ok(Action::Start { service: 0 })));
+    /// # Ok::<(), Box<dyn std::error::Error>>(())
+    /// ```
+    pub fn try_actions(&self) -> impl Iterator<Item = Result<Action, CoreError>> + use<'a> {
         let told = Lines(self.record).filter(|line| !line.starts_with("got "));
-        told.map(|line| line.parse().expect("the library tells actions"))
+        told.map(|line| {
+            line.parse().map_err(|error: LineError| {
+                assert!(error.is_no_memory(), "the library tells actions: {line}");
+                CoreError::NoMemory
+            })
+        })
     }
 }
 
@@ -433,25 +458,25 @@ impl RunningCore {
     /// let mut core = Core::new(&Plan::new())?.begin()?;
     /// let unasked = Event::Bound { service: 0, endpoint: 0, fd: 3 };
     /// assert!(core.step(&unasked).is_err());
-    /// assert_eq!(core.left_by(&unasked), [Action::Close { fd: 3 }]);
+    /// assert!(core.left_by(&unasked).eq([Action::Close { fd: 3 }]));
     /// # Ok::<(), Box<dyn std::error::Error>>(())
     /// ```
-    pub fn left_by(&mut self, event: &Event) -> Vec<Action> {
-        match event {
-            Event::Bound { fd, .. } => self.closes(&[*fd]),
-            Event::Received { fds, .. } => self.closes(fds),
-            Event::Arrived { connection, .. } if !self.has(*connection) => {
-                vec![Action::Refuse { connection: *connection }]
-            }
-            _ => Vec::new(),
-        }
-    }
-
-    fn closes(&self, fds: &[u64]) -> Vec<Action> {
-        let mut left: Vec<u64> = fds.iter().copied().filter(|fd| !self.book.is_open(*fd)).collect();
-        left.sort_unstable();
-        left.dedup();
-        left.into_iter().map(|fd| Action::Close { fd }).collect()
+    pub fn left_by<'a>(&'a mut self, event: &'a Event) -> impl Iterator<Item = Action> + use<'a> {
+        let connection = match event {
+            Event::Arrived { connection, .. } => Some(*connection).filter(|it| !self.has(*it)),
+            _ => None,
+        };
+        let fds: &[u64] = match event {
+            Event::Bound { fd, .. } => slice::from_ref(fd),
+            Event::Received { fds, .. } => fds,
+            _ => &[],
+        };
+        let book = &self.book;
+        let is_left =
+            move |(at, fd): &(usize, &u64)| !book.is_open(**fd) && !fds[..*at].contains(fd);
+        let closes = fds.iter().enumerate().filter(is_left);
+        let closes = closes.map(|(_, fd)| Action::Close { fd: *fd });
+        closes.chain(connection.map(|connection| Action::Refuse { connection }))
     }
 
     /// The core has a live connection with this number, or can't say for want of memory.
@@ -532,9 +557,9 @@ impl ClosedCore {
 
 /// Why a call with this event was refused, by the library's number.
 fn refusal(number: u32, event: &Event) -> CoreError {
-    match number {
-        19 => CoreError::NoEvent(event.clone()),
-        20 => CoreError::Stray(event.clone()),
+    match (number, event.try_clone()) {
+        (19, Ok(event)) => CoreError::NoEvent(event),
+        (20, Ok(event)) => CoreError::Stray(event),
         _ => CoreError::NoMemory,
     }
 }

@@ -1,6 +1,7 @@
 //! Events: what a program tells the core.
 
 use crate::words::{Hex, Joined, LineError, Words};
+use std::collections::TryReserveError;
 use std::fmt;
 use std::net::{IpAddr, SocketAddr};
 use std::str::FromStr;
@@ -267,6 +268,27 @@ impl fmt::Display for Signal {
             Signal::Terminate => "terminate",
             Signal::Upgrade => "upgrade",
         })
+    }
+}
+
+/// A copy of a list, where there is memory for it.
+fn copied<T: Copy>(list: &[T]) -> Result<Vec<T>, TryReserveError> {
+    let mut copy = Vec::new();
+    copy.try_reserve_exact(list.len())?;
+    copy.extend_from_slice(list);
+    Ok(copy)
+}
+
+impl Event {
+    /// The same event, where there is memory for its lists.
+    pub(crate) fn try_clone(&self) -> Result<Event, TryReserveError> {
+        match self {
+            Event::Received { bytes, fds } => {
+                Ok(Event::Received { bytes: copied(bytes)?, fds: copied(fds)? })
+            }
+            // The others have no list.
+            event => Ok(event.clone()),
+        }
     }
 }
 

@@ -3,9 +3,10 @@
 use crate::action::Action;
 use crate::core::{Core, CoreError, End, Refused, RunningCore, Told};
 use crate::event::Event;
+use crate::line::Line;
 use crate::messages::{Shown, fits_where};
 use crate::record::Record;
-use std::fmt;
+use std::fmt::{self, Write};
 use std::io;
 use std::sync::{Mutex, PoisonError};
 use std::thread::sleep;
@@ -107,8 +108,10 @@ fn say(what: &impl fmt::Display) {
     if said.is_none() {
         *said = Record::to(io::stderr()).ok();
     }
-    if let Some(said) = said.as_mut() {
-        said.put(&format!("fulltimehen: {what}\n"));
+    let mut line = Line::default();
+    // What memory lacks for isn't said.
+    if let (Some(said), Ok(())) = (said.as_mut(), writeln!(line, "fulltimehen: {what}")) {
+        said.put(line.as_str());
     }
 }
 
@@ -252,9 +255,17 @@ impl std::error::Error for RunError {
 const PAUSE: Duration = Duration::from_millis(10);
 const TRIES: u32 = 100;
 
+/// Passes on what a call told. As long as memory lacks for the list of an action the run waits.
 fn pass_on(told: Told<'_>, host: &mut (impl Host + ?Sized)) {
     host.record(told.record());
-    told.actions().for_each(|action| host.tell(action));
+    let mut passed = 0;
+    while let Err(CoreError::NoMemory) = told.try_actions().skip(passed).try_for_each(|action| {
+        host.tell(action?);
+        passed += 1;
+        Ok(())
+    }) {
+        sleep(PAUSE);
+    }
 }
 
 /// Passes on what the last call told. As long as memory lacks for it the run waits: an action that isn't
@@ -294,7 +305,7 @@ fn close(mut core: RunningCore, mut event: Option<&Event>, host: &mut (impl Host
 
 /// Tells what is to be let go of an event that the core doesn't take.
 fn let_go(core: &mut RunningCore, event: &Event, host: &mut (impl Host + ?Sized)) {
-    core.left_by(event).into_iter().for_each(|action| host.tell(action));
+    core.left_by(event).for_each(|action| host.tell(action));
 }
 
 /// Gives the run up: what is open is told to be closed, with what the event brought.
@@ -425,8 +436,8 @@ fn refused(
             Ok(core)
         }
         OnStray::End => {
-            let event = stray.event.clone();
-            Err(give_up(core, Some(&event), host, RunError::Stray(stray)))
+            close(core, Some(&stray.event), host);
+            Err(RunError::Stray(stray))
         }
     }
 }

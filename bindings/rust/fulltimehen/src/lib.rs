@@ -11,6 +11,9 @@
 //! - A [`Host`] is the outside of a run, and [`run`] the loop over both.
 //! - A [`Record`] takes the lines of a run, which `svc run` prints again for the same events.
 //!
+//! Want of memory is an ordinary answer of a core's calls, and [`run`] waits for memory. What a program makes itself, a plan and
+//! its texts, is made as std makes it, and so is what is said of a plan that is refused.
+//!
 //! ```
 //! use fulltimehen::{Action, Core, End, Event, Plan, Service, Signal};
 //!
@@ -29,6 +32,12 @@
 
 #![deny(unsafe_code)]
 #![warn(missing_docs, missing_debug_implementations)]
+#![warn(
+    clippy::missing_errors_doc,
+    clippy::missing_panics_doc,
+    clippy::must_use_candidate,
+    clippy::return_self_not_must_use
+)]
 
 mod action;
 mod book;

@@ -803,3 +803,19 @@ impl fmt::Display for Service {
         if self.undeclared { f.write_str(" undeclared") } else { Ok(()) }
     }
 }
+
+#[cfg(test)]
+mod tests {
+    use super::*;
+
+    /// A service whose line the library would skip as a comment is missed, were its name let through.
+    #[test]
+    fn a_service_that_vanishes_is_missed() {
+        let services = |first: &str| {
+            Plan::new().service(Service::plain(first)).service(Service::plain("web").tcp("a:1"))
+        };
+        assert!(services("first").session().is_ok());
+        assert!(matches!(services("#first").session(), Err(PlanError::Count)));
+        assert!(services("#first").check().is_err());
+    }
+}

@@ -3,7 +3,7 @@
 use std::fmt;
 use std::str::FromStr;
 
-/// A line that says no event or no action, or a word of it that doesn't fit.
+/// A line that says no event or no action, or a word of it that doesn't fit; or memory lacked for what it says.
 ///
 /// ```
 /// use fulltimehen::{Event, LineError};
@@ -13,18 +13,36 @@ use std::str::FromStr;
 /// ```
 #[derive(Clone, Debug, PartialEq, Eq)]
 pub struct LineError {
-    line: String,
+    /// None where memory lacked.
+    line: Option<String>,
 }
 
 impl LineError {
     pub(crate) fn new(line: &str) -> LineError {
-        LineError { line: line.to_owned() }
+        let mut copy = String::new();
+        if copy.try_reserve_exact(line.len()).is_err() {
+            return LineError::no_memory();
+        }
+        copy.push_str(line);
+        LineError { line: Some(copy) }
+    }
+
+    fn no_memory() -> LineError {
+        LineError { line: None }
+    }
+
+    /// Memory lacked.
+    pub(crate) fn is_no_memory(&self) -> bool {
+        self.line.is_none()
     }
 }
 
 impl fmt::Display for LineError {
     fn fmt(&self, f: &mut fmt::Formatter<'_>) -> fmt::Result {
-        write!(f, "not a line that is known: {:?}", self.line)
+        match &self.line {
+            Some(line) => write!(f, "not a line that is known: {line:?}"),
+            None => f.write_str("out of memory"),
+        }
     }
 }
 
@@ -68,14 +86,11 @@ impl<'a> Words<'a> {
         if word == "-" {
             return Ok(Vec::new());
         }
-        let pairs = word.as_bytes().chunks(2);
-        pairs
-            .map(|pair| match pair {
-                [high, low] => Some(digit(*high)? << 4 | digit(*low)?),
-                _ => None,
-            })
-            .collect::<Option<Vec<u8>>>()
-            .ok_or_else(|| self.error())
+        let byte = |pair: &[u8]| match pair {
+            [high, low] => Some(digit(*high)? << 4 | digit(*low)?),
+            _ => None,
+        };
+        self.list(word.as_bytes().chunks(2).map(byte))
     }
 
     pub(crate) fn numbers(&mut self) -> Result<Vec<u64>, LineError> {
@@ -83,8 +98,24 @@ impl<'a> Words<'a> {
         if word == "-" {
             return Ok(Vec::new());
         }
-        let numbers = word.split(',').map(str::parse);
-        numbers.collect::<Result<Vec<u64>, _>>().map_err(|_| self.error())
+        self.list(word.split(',').map(|number| number.parse().ok()))
+    }
+
+    /// What all words say that are left.
+    pub(crate) fn rest<T: FromStr>(&mut self) -> Result<Vec<T>, LineError> {
+        let words = std::mem::replace(&mut self.words, "".split_ascii_whitespace());
+        self.list(words.map(|word| word.parse().ok()))
+    }
+
+    /// The items; an error where one is none, or memory lacks for them.
+    fn list<T>(&self, items: impl Iterator<Item = Option<T>> + Clone) -> Result<Vec<T>, LineError> {
+        let mut list = Vec::new();
+        let count = items.clone().count();
+        list.try_reserve_exact(count).map_err(|_| LineError::no_memory())?;
+        for item in items {
+            list.push(item.ok_or_else(|| self.error())?);
+        }
+        Ok(list)
     }
 
     pub(crate) fn end(&mut self) -> Result<(), LineError> {
@@ -92,14 +123,6 @@ impl<'a> Words<'a> {
             None => Ok(()),
             Some(_) => Err(self.error()),
         }
-    }
-}
-
-impl<'a> Iterator for Words<'a> {
-    type Item = &'a str;
-
-    fn next(&mut self) -> Option<&'a str> {
-        self.words.next()
     }
 }
 

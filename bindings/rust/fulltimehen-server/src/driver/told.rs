@@ -244,19 +244,25 @@ impl Driver {
         self.events.push_back(answer);
     }
 
-    /// The endpoint has its socket. Where all of its service have one, they accept.
+    /// The endpoint has its socket.
     fn hold(&mut self, place: Place, fd: u64) {
-        let progress = &mut self.progress[place.service as usize];
-        progress.held.insert(place.endpoint);
         self.refusals.remove(&place);
         self.loops.insert(place, (fd, Vec::new()));
-        let all = self.setup.services[place.service as usize].endpoints().len();
-        if progress.held.len() < all {
+    }
+
+    /// The core knows that the endpoint has its socket. Where all of its service have one, they accept.
+    pub(super) fn begin_loops(&mut self, Place { service, endpoint }: Place) {
+        let progress = &mut self.progress[service as usize];
+        if progress.failed {
             return;
         }
-        for (place, (fd, loops)) in &mut self.loops {
+        progress.held.insert(endpoint);
+        if progress.held.len() < self.setup.services[service as usize].endpoints().len() {
+            return;
+        }
+        let room = self.room.of(self.setup.services[service as usize].descriptors());
+        for (place, (fd, loops)) in self.loops.iter_mut().filter(|(it, _)| it.service == service) {
             if let (true, Some(socket)) = (loops.is_empty(), self.sockets.get(fd)) {
-                let room = self.room.of(self.setup.services[place.service as usize].descriptors());
                 let begin = |number| {
                     let (inputs, room) = (self.inputs.clone(), room.clone());
                     let accepting = Loop { place: *place, number, inputs, room };

@@ -1,4 +1,5 @@
-//! The allocator that a library of this toolchain asks its program for, as the library's own `heap.c` has it.
+//! The allocator that a library of this toolchain asks its program for, as the library's own `heap.c` has it, but that no block is
+//! smaller than a few words: each step makes short lists, which grow from nothing.
 
 use std::ffi::c_void;
 
@@ -21,13 +22,15 @@ impl Tried {
     }
 }
 
-/// A block of `size` bytes; of one where that is 0. `align` is at most 16 and divides the size, or the
-/// size is 0, so `malloc` gives it.
+/// How many bytes a block has at least.
+const LEAST: usize = 64;
+
+/// A block of `size` bytes, or of more. `align` is at most 16 and divides the size, or the size is 0, so `malloc` gives it.
 // SAFETY: the name is this function's alone in the program: it is the one that the library calls.
 #[unsafe(no_mangle)]
-extern "C" fn rattle_alloc(size: usize, align: usize) -> Tried {
+extern "C" fn rattle_alloc(size: usize, _align: usize) -> Tried {
     // SAFETY: `malloc` may be called with each size.
-    Tried::of(unsafe { malloc(if size == 0 { align } else { size }) })
+    Tried::of(unsafe { malloc(size.max(LEAST)) })
 }
 
 /// The block with another size.
@@ -39,12 +42,16 @@ extern "C" fn rattle_alloc(size: usize, align: usize) -> Tried {
 #[unsafe(no_mangle)]
 unsafe extern "C" fn rattle_realloc(
     at: *mut c_void,
-    _kept: usize,
+    kept: usize,
     size: usize,
-    align: usize,
+    _align: usize,
 ) -> Tried {
+    if kept < size && size <= LEAST {
+        // It has as many bytes already.
+        return Tried::of(at);
+    }
     // SAFETY: the block is `malloc`'s, as the caller says.
-    Tried::of(unsafe { realloc(at, if size == 0 { align } else { size }) })
+    Tried::of(unsafe { realloc(at, size.max(LEAST)) })
 }
 
 /// Frees the block.
