@@ -12,6 +12,8 @@ pub mod LoopLemmas
 pub mod FirstOfLemmas
 pub mod AnewLemmas
 pub mod QuietLemmas
+pub mod StillLemmas
+pub mod IdleLemmas
 pub mod MemoLemmas
 pub mod NewLemmas
 pub mod PassedLemmas

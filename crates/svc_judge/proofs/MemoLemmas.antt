@@ -1,4 +1,4 @@
--- Entries of connections leave whether the run has ended, and whether an endpoint accepts.
+-- Entries of connections leave whether the run has ended, whether anything rests, and whether an endpoint accepts.
 use Rattle.std.proofs.Common.{ℕ, true, ◌∷◌, ◌≡◌, refl, ◌∙◌}
 use Rattle.svc_record.specs.declared.plan.Plan.{Plan}
 use Rattle.svc_record.specs.declared.entry.Entry.{Entry}
@@ -7,6 +7,7 @@ use Rattle.svc_record.specs.Ends.{has_ended}
 use Rattle.svc_record.specs.Fits.{accepts}
 use Rattle.svc_judge.specs.declared.memo.Memo.{Memo}
 use Rattle.svc_judge.specs.Anew.{is_of_connection}
+use Rattle.svc_judge.specs.Still.{is_still}
 use Rattle.svc_judge.specs.Memos.{IsMemo}
 use Rattle.svc_judge.proofs.QuietLemmas.{Ignores, ignores, ignores_waits, ignores_tested, ignores_early}
 
@@ -18,9 +19,15 @@ ignores_accepts p s i =
 ignores_ended : (p : Plan) → Ignores (has_ended p)
 ignores_ended p = λ e q h. rw (ignores_waits p e q h, ignores_tested p e q h, ignores_early p e q h)
 
+ignores_still : Ignores is_still
+ignores_still =
+    ignores is_still (λ t k n peer q. refl) (λ n ok q. refl) (λ n ok q. refl) (λ n q. refl) (λ n said q. refl) (λ n q. refl) (λ n list q. refl)
+    (λ n q. refl) (λ n q. refl) (λ n q. refl)
+
 -- what was known with an entry of a connection is so without it
 pub memo_before : (m : Memo) (p : Plan) (e : Entry) (q : Record) → is_of_connection e ≡ true → IsMemo m p (e ∷ q) → IsMemo m p q
 memo_before m p e q h k = record {
   ended = λ b g. k.ended b g ∙ ignores_ended p e q h;
+  still = λ b g. k.still b g ∙ ignores_still e q h;
   accepting = λ a g. k.accepting a g ∙ ignores_accepts p a.service a.endpoint e q h;
 }

@@ -30,7 +30,7 @@ and true false h g = absurd (false≢true g)
 and false b h g = absurd (false≢true h)
 
 -- no rule is broken there, and none next
-kept : (b : Bool) (rule : Rule) (next : Option Rule) → unless b rule next ≡ None → (b ≡ true) × (next ≡ None)
+pub kept : (b : Bool) (rule : Rule) (next : Option Rule) → unless b rule next ≡ None → (b ≡ true) × (next ≡ None)
 kept true rule next h = (refl, h)
 kept false rule next h = cc
 
@@ -240,7 +240,7 @@ settled_clear p q h = elim (cases_Bool (has_ended p q)) [
   | inr n ↦ (let g : open_right p q ≡ true = rw (n) at h in rw (n) (open_clear p q g))
 ]
 
-step_clear : (p : Plan) (q : Record) → StepKeeps p q → step_breach p q ≡ None
+pub step_clear : (p : Plan) (q : Record) → StepKeeps p q → step_breach p q ≡ None
 step_clear p q k = rw (settled_clear p q k.settled, k.fails, k.one_ask, k.passed, k.tested, k.last_step)
 
 -- what each entry keeps, and what stands before each event
@@ -304,10 +304,10 @@ no_parts true t e h = absurd (false≢true (sym h))
 no_parts false true e h = absurd (false≢true (sym h))
 no_parts false false e h = (refl, refl)
 
-unasked : (b c : Bool) → b ≡ false → (not b || c) ≡ true
+pub unasked : (b c : Bool) → b ≡ false → (not b || c) ≡ true
 unasked b c h = rw (h)
 
-before_event : (p : Plan) (b : Record) → has_ended p b ≡ false → settled_right p b ≡ true → fails_right p b ≡ true → one_ask p b ≡ true → StepKeeps p b
+pub before_event : (p : Plan) (b : Record) → has_ended p b ≡ false → settled_right p b ≡ true → fails_right p b ≡ true → one_ask p b ≡ true → StepKeeps p b
 before_event p b on settled fails one_ask =
     let parts = no_parts (waits_are_over p b) (ends_tested p b) (has_ended_early p b) on in
     record {

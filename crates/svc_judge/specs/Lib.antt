@@ -14,6 +14,7 @@ pub mod Numbers
 pub mod Verdicts
 pub mod Anew
 pub mod Chains
+pub mod Still
 pub mod Memos
 pub mod Passed
 pub mod Groups

@@ -17,6 +17,10 @@ use Rattle.svc_record.specs.Message.{encode}
 use Rattle.svc_record.specs.Asks.{is_connect_open, is_send_open, is_adopt_open, last_adopt}
 use Rattle.svc_record.specs.AskRules.{has_turn}
 use Rattle.svc_record.specs.Closes.{is_holder, have_loops_ended, is_broadcast, is_loop_end}
+use Rattle.svc_record.specs.Ends.{ends_transfer, ends_no_sender, ends_bad_message}
+use Rattle.svc_record.specs.declared.action.StepEnd.{StepEnd}
+use Rattle.svc_record.specs.declared.action.StepEnd.TheVariants.{On, Ended}
+use Rattle.svc_record.specs.declared.action.BootstrapError.TheVariants.{Transfer, NoSender, BadMessage}
 
 -- the service was given up once if it has failed, else not at all
 abbrev pub fail_right : Plan → Record → ℕ → Bool
@@ -76,6 +80,10 @@ has_offer_ended p q =
 -- the offer was over 5,000 ms or more before the moment
 abbrev pub has_rested : Plan → Record → ℕ → Bool
 has_rested p q ms = is_over p q && nat_le 5000 (ms - over_moment p q)
+
+-- why the server couldn't take over, if it couldn't
+abbrev pub failed_end : Plan → Record → StepEnd
+failed_end p q = if ends_transfer q then Ended Transfer else (if ends_no_sender p q then Ended NoSender else (if ends_bad_message q then Ended BadMessage else On))
 
 -- a service that bootstraps was started
 abbrev pub has_boot_service : Plan → Record → Bool

@@ -204,7 +204,7 @@ pub(crate) fn alone_fits(entry: &Entry, chains: &Chains) -> bool
 }
 
 /// A connection has arrived.
-fn has_arrived(chains: &Chains, c: u64) -> bool
+pub(crate) fn has_arrived(chains: &Chains, c: u64) -> bool
     requires { 0 < length chains.now.parts }
     ensures { (q : Record) → IsChains chains.now q → result ≡ has (is_arrival c) q }
 {

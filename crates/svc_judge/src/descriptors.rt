@@ -1,6 +1,6 @@
 //! What a record opened, and what of it is live.
 
-ghost use Rattle.std.specs.Prelude.{◌≡◌, ◌==◌, ◌&&◌, not, filter, length};
+ghost use Rattle.std.specs.Prelude.{◌≡◌, ◌==◌, ◌&&◌, not, map, filter, length};
 ghost use Rattle.std.specs.List.{list_any};
 ghost use Rattle.std.specs.Option.{option_copied};
 ghost use Rattle.svc_record.specs.Record.{has};
@@ -31,15 +31,36 @@ pub(crate) fn is_unclosed(entries: &[Entry], opened: &Opened) -> bool
     !has(Query::Deed(Deed::Close(opened.number())), entries)
 }
 
+/// Of the descriptors with the address one isn't closed. The address is compared first, since a close is looked for in the whole record.
+fn is_any_unclosed(entries: &[Entry], opened: &[Opened], address: Option<&str>) -> bool
+    ensures { result ≡ list_any (is_unclosed entries.now)
+        (filter (λ (d : Descriptor). same_address d.address (option_copied address.entry)) opened.now) }
+{
+    opened
+        .iter()
+        .filter(|one| same_address(one.address(), address))
+        .any(|one| is_unclosed(entries, one))
+}
+
 /// A live descriptor has the address.
 pub(crate) fn has_live(past: &Past, address: Option<&str>) -> bool
     requires { IsPast past.now }
     ensures { result ≡ has_live (plan_of past.now) (record_of past.now) (option_copied address.entry) }
 {
-    past.opened
+    is_any_unclosed(past.entries, past.opened, address)
+}
+
+/// Of the descriptors with the address one with this number isn't closed.
+fn is_unclosed_with(entries: &[Entry], opened: &[Opened], address: Option<&str>, fd: u64) -> bool
+    ensures { result ≡ list_any (λ n. n == fd) (map (λ (d : Descriptor). d.number) (filter (is_unclosed entries.now)
+        (filter (λ (d : Descriptor). same_address d.address (option_copied address.entry)) opened.now))) }
+{
+    opened
         .iter()
-        .filter(|opened| is_unclosed(past.entries, opened))
-        .any(|opened| same_address(opened.address(), address))
+        .filter(|one| same_address(one.address(), address))
+        .filter(|one| is_unclosed(entries, one))
+        .map(|one| one.number())
+        .any(|number| number == fd)
 }
 
 /// A live descriptor with the address has this number.
@@ -48,12 +69,20 @@ pub(crate) fn is_live_with(past: &Past, address: Option<&str>, fd: u64) -> bool
     ensures { result ≡ list_any (λ n. n == fd)
         (live_numbers_with (plan_of past.now) (record_of past.now) (option_copied address.entry)) }
 {
-    past.opened
+    is_unclosed_with(past.entries, past.opened, address, fd)
+}
+
+/// How many of the descriptors with the address aren't closed.
+fn count_unclosed(entries: &[Entry], opened: &[Opened], address: Option<&str>) -> usize
+    ensures { result ≡ length (map (λ (d : Descriptor). d.number) (filter (is_unclosed entries.now)
+        (filter (λ (d : Descriptor). same_address d.address (option_copied address.entry)) opened.now))) }
+{
+    opened
         .iter()
-        .filter(|opened| is_unclosed(past.entries, opened))
-        .filter(|opened| same_address(opened.address(), address))
-        .map(|opened| opened.number())
-        .any(|number| number == fd)
+        .filter(|one| same_address(one.address(), address))
+        .filter(|one| is_unclosed(entries, one))
+        .map(|one| one.number())
+        .count()
 }
 
 /// How many live descriptors have the address.
@@ -62,12 +91,7 @@ pub(crate) fn count_live_with(past: &Past, address: Option<&str>) -> usize
     ensures { result ≡ length
         (live_numbers_with (plan_of past.now) (record_of past.now) (option_copied address.entry)) }
 {
-    past.opened
-        .iter()
-        .filter(|opened| is_unclosed(past.entries, opened))
-        .filter(|opened| same_address(opened.address(), address))
-        .map(|opened| opened.number())
-        .count()
+    count_unclosed(past.entries, past.opened, address)
 }
 
 /// The address with which the descriptor was opened.
@@ -120,10 +144,7 @@ fn has_twin(entries: &[Entry], opened: &Opened, others: &[Opened]) -> bool
     ensures { result ≡ list_any (λ (x : Descriptor). same_address x.address opened.now.address)
         (filter (is_unclosed entries.now) others.now) }
 {
-    others
-        .iter()
-        .filter(|other| is_unclosed(entries, other))
-        .any(|other| same_address(other.address(), opened.address()))
+    is_any_unclosed(entries, others, opened.address())
 }
 
 /// The descriptor is live, and a live one of the others has its address.

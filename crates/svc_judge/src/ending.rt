@@ -61,7 +61,7 @@ fn arrival(entry: &Entry) -> Option<u64>
 }
 
 /// The connection goes on, and isn't cut, by the entries on it.
-fn is_uncut_in(chains: &Chains, c: u64) -> bool
+pub(crate) fn is_uncut_in(chains: &Chains, c: u64) -> bool
     requires { 0 < length chains.now.parts }
     ensures { (q : Record) → IsChains chains.now q → result ≡ is_uncut q c }
 {

@@ -1,14 +1,15 @@
 //! Which endpoints are held, and which wait.
 
-ghost use Rattle.std.specs.Prelude.{◌≡◌, ◌==◌, ◌&&◌, not};
+ghost use Rattle.std.specs.Prelude.{◌≡◌, ◌==◌, ◌&&◌, not, map, filter};
 ghost use Rattle.std.specs.Option.{option_copied, option_to_list};
 ghost use Rattle.svc_record.specs.declared.entry.Entry.TheVariants.{Told};
-ghost use Rattle.svc_record.specs.Plans.{endpoint_numbers, address};
-ghost use Rattle.svc_record.specs.Descriptors.{has_live, live_numbers_with};
+ghost use Rattle.svc_record.specs.Plans.{endpoint_numbers, address, same_address};
+ghost use Rattle.svc_record.specs.Descriptors.{Descriptor, has_live, live_numbers_with};
 ghost use Rattle.svc_record.specs.Asks.{last_adopt, is_ask_open};
 ghost use Rattle.svc_record.specs.Endpoints.{is_held, is_held_by, holds, is_at_work, rests, is_busy, is_busy_elsewhere, waits_at, first_missing, waits, serves, endpoint_right, endpoint_right_late, endpoints_right, endpoints_right_late};
 ghost use Rattle.svc_record.specs.AskRules.{has_turn, ask_due, ask_known};
 ghost use Rattle.svc_judge.specs.Pasts.{IsPast, plan_of, record_of};
+ghost use Rattle.svc_judge.specs.Facts.{is_unclosed};
 ghost use Rattle.svc_judge.specs.Holding.{is_some_number, lets_hold, lets_hold_by};
 ghost use Rattle.svc_judge.specs.Steps.{is_any_busy, is_busy_in, is_worked_on_in, bind_due, adopt_due};
 ghost use Rattle.std.specs.List.{list_all, list_any, find, range_with_len};
@@ -16,7 +17,7 @@ ghost use Rattle.std.specs.List.{list_all, list_any, find, range_with_len};
 use crate::descriptors::{count_live_with, has_live, is_live_with, is_unclosed};
 use crate::failed::{has_failed, is_started};
 use crate::looking::{in_use_within, is_open, now};
-use crate::past::{Past, Split};
+use crate::past::{Opened, Past, Split};
 use crate::plans::{address, endpoint_count, is_endpoint, same_address, service_count};
 use crate::query::{Ask, is_pair};
 use svc_record::{Action, Entry, Event};
@@ -149,18 +150,27 @@ pub(crate) fn is_held_by(past: &Past, s: u64, i: u64, fd: u64) -> bool
     false
 }
 
+/// Some of the descriptors with its address that aren't closed holds the endpoint.
+fn is_held_by_any(past: &Past, s: u64, i: u64, opened: &[Opened], address: Option<&str>) -> bool
+    requires { IsPast past.now }
+    ensures { result ≡ list_any (is_held_by (plan_of past.now) (record_of past.now) s i) (map (λ (d : Descriptor). d.number)
+        (filter (is_unclosed (record_of past.now)) (filter (λ (d : Descriptor). same_address d.address (option_copied address.entry)) opened.now))) }
+{
+    opened
+        .iter()
+        .filter(|one| same_address(one.address(), address))
+        .filter(|one| is_unclosed(past.entries, one))
+        .map(|one| one.number())
+        .any(|number| is_held_by(past, s, i, number))
+}
+
 /// Some live descriptor with its address holds the endpoint.
 fn is_held_live(past: &Past, s: u64, i: u64, address: Option<&str>) -> bool
     requires { IsPast past.now }
     ensures { result ≡ list_any (is_held_by (plan_of past.now) (record_of past.now) s i)
         (live_numbers_with (plan_of past.now) (record_of past.now) (option_copied address.entry)) }
 {
-    past.opened
-        .iter()
-        .filter(|opened| is_unclosed(past.entries, opened))
-        .filter(|opened| same_address(opened.address(), address))
-        .map(|opened| opened.number())
-        .any(|number| is_held_by(past, s, i, number))
+    is_held_by_any(past, s, i, past.opened, address)
 }
 
 /// It is held by the one live descriptor with its address.

@@ -49,7 +49,7 @@ pub(crate) fn ends_tested(past: &Past) -> bool
 }
 
 /// The parent needn't wait, or its child is ready.
-fn ends_parent_well(past: &Past) -> bool
+pub(crate) fn ends_parent_well(past: &Past) -> bool
     ensures { result ≡ ends_parent_well (plan_of past.now) (record_of past.now) }
 {
     has(Query::News(News::SideParent), past.entries)
@@ -57,7 +57,7 @@ fn ends_parent_well(past: &Past) -> bool
 }
 
 /// The parent waited for a child that isn't ready.
-fn ends_parent_badly(past: &Past) -> bool
+pub(crate) fn ends_parent_badly(past: &Past) -> bool
     ensures { result ≡ ends_parent_badly (plan_of past.now) (record_of past.now) }
 {
     (past.plan.wait && has(Query::News(News::SideParent), past.entries))
@@ -65,14 +65,14 @@ fn ends_parent_badly(past: &Past) -> bool
 }
 
 /// Receiving failed.
-fn ends_transfer(entries: &[Entry]) -> bool
+pub(crate) fn ends_transfer(entries: &[Entry]) -> bool
     ensures { result ≡ ends_transfer entries.now }
 {
     has(Query::News(News::ReceiveFailure), entries)
 }
 
 /// No sender was there too often.
-fn ends_no_sender(past: &Past) -> bool
+pub(crate) fn ends_no_sender(past: &Past) -> bool
     ensures { result ≡ ends_no_sender (plan_of past.now) (record_of past.now) }
 {
     past.plan.limit < times(Query::News(News::NoSender), past.entries)

@@ -3,6 +3,7 @@
 ghost use Rattle.std.specs.Prelude.{◌≡◌, ◌+◌, length, Option, Some, IfOk, OnOk};
 ghost use Rattle.svc_record.specs.Right.{is_served};
 ghost use Rattle.svc_record.specs.Fits.{event_fits};
+ghost use Rattle.svc_record.specs.Ends.{step_end};
 ghost use Rattle.svc_record.specs.Connections.{connection_known};
 ghost use Rattle.svc_judge.specs.Pasts.{IsPast, plan_of, record_of};
 ghost use Rattle.svc_judge.specs.Anew.{connection_breach, boot_kept, conn_kept};
@@ -31,11 +32,11 @@ use crate::settled::{
     ended_right, in_service, is_last_well, is_served, offer_kept, passed_anew, starts_kept,
     tested_right,
 };
-use crate::waits::{has_ended, waits_are_over};
+use crate::waits::{has_ended, step_end, waits_are_over};
 use std::alloc::Global;
 use std::mem::drop;
 use svc_base::NoMemory;
-use svc_record::{Entry, Plan};
+use svc_record::{Entry, Plan, StepEnd};
 
 /// A rule of a right record, in the order in which they are looked at: first those of an entry with what
 /// stands before it, then those of a settled prefix.
@@ -110,6 +111,9 @@ pub struct Breach {
 pub struct Verdict {
     /// It is the record of a run that served.
     pub served: bool,
+    /// How the run has ended, by the record: `On` where it goes on. A right record is that of a run that served
+    /// exactly where this is `Served`.
+    pub end: StepEnd,
     /// The first place at which it isn't right; none where it is a right record.
     pub breach: Option<Breach>,
 }
@@ -299,13 +303,22 @@ fn step_anew(alloc: Global, past: &Past, chains: &Chains) -> Result<Option<Rule>
 }
 
 /// The first rule that a settled prefix breaks, if it breaks one, where none is broken up to the one before it.
-fn late_breach(alloc: Global, past: &Past, chains: &Chains) -> Result<Option<Rule>, NoMemory>
+fn late_breach(
+    alloc: Global,
+    past: &Past,
+    chains: &Chains,
+    memo: &mut Memo,
+) -> Result<Option<Rule>, NoMemory>
     requires past { IsPast past.now }
     requires chains { IsChains chains.now (record_of past.now) }
-    ensures { IfOk result (λ rule. rule ≡ late_breach (plan_of past.now) (record_of past.now)) }
+    requires memo { IsMemo memo.old (plan_of past.now) (record_of past.now) }
+    ensures is { IfOk result (λ rule. rule ≡ late_breach (plan_of past.now) (record_of past.now)) }
+    ensures memo { IsMemo memo.new (plan_of past.now) (record_of past.now) }
 {
     if only_connections(past.entries) {
         Ok(connection_breach(past, chains))
+    } else if memo.is_idle(past) {
+        Ok(None)
     } else {
         step_anew(alloc, past, chains)
     }
@@ -331,12 +344,19 @@ fn entry_place(entry: &Entry, before: &Past, chains: &Chains, memo: &mut Memo) -
 }
 
 /// The breach of a settled prefix, if it breaks a rule.
-fn settled_place(alloc: Global, past: &Past, chains: &Chains) -> Result<Option<Breach>, NoMemory>
+fn settled_place(
+    alloc: Global,
+    past: &Past,
+    chains: &Chains,
+    memo: &mut Memo,
+) -> Result<Option<Breach>, NoMemory>
     requires past { IsPast past.now }
     requires chains { IsChains chains.now (record_of past.now) }
-    ensures { IfOk result (λ found. found ≡ at (length (record_of past.now)) (late_breach (plan_of past.now) (record_of past.now))) }
+    requires memo { IsMemo memo.old (plan_of past.now) (record_of past.now) }
+    ensures is { IfOk result (λ found. found ≡ at (length (record_of past.now)) (late_breach (plan_of past.now) (record_of past.now))) }
+    ensures memo { IsMemo memo.new (plan_of past.now) (record_of past.now) }
 {
-    match late_breach(alloc, past, chains)? {
+    match late_breach(alloc, past, chains, memo)? {
         Some(rule) => Ok(Some(Breach {
             entry: past.entries.len() as u64,
             rule,
@@ -361,7 +381,7 @@ fn late_place_breach(
     ensures memo { OnOk result (IsMemo memo.new (plan_of before.now) (record_of before.now)) }
 {
     if let Entry::Got(_) = entry
-        && let Some(breach) = settled_place(alloc, before, chains)?
+        && let Some(breach) = settled_place(alloc, before, chains, memo)?
     {
         return Ok(Some(breach));
     }
@@ -388,7 +408,7 @@ fn breach_below(alloc: Global, past: &Past, chains: &mut Chains) -> Result<Optio
     ) = rest.split()
     {
         chains.take(entry);
-        memo = memo.before(entry);
+        memo = memo.before(entry, before.entries);
         if let Some(breach) = late_place_breach(alloc, entry, &before, chains, &mut memo)? {
             found = Some(breach);
         }
@@ -422,7 +442,8 @@ fn breach_of(alloc: Global, past: &Past) -> Result<Option<Breach>, NoMemory>
     ensures { IfOk result (λ found. found ≡ breach_of (plan_of past.now) (record_of past.now)) }
 {
     let mut chains = Chains::new(alloc, past.entries)?;
-    match settled_place(alloc, past, &chains) {
+    let mut memo = Memo::new();
+    match settled_place(alloc, past, &chains, &mut memo) {
         Ok(last) => {
             let found = breach_by(alloc, past, last, &mut chains);
             drop(chains);
@@ -440,12 +461,14 @@ fn breach_of(alloc: Global, past: &Past) -> Result<Option<Breach>, NoMemory>
 /// plan.
 ///
 /// An entry on a connection costs what stands in the record on those connections whose numbers leave the same
-/// remainder, divided by a quarter of the record's length. Any other entry costs the record's length up to
-/// there, times what is opened, and the services' endpoints, so a record of such entries alone the square of
-/// its length. `NoMemory` where there is no memory for what is looked up often.
+/// remainder, divided by a quarter of the record's length, and a moment where no bind, no try and no offer rests costs
+/// what stands since the one before it. Any other entry costs the record's length up to there, times what is opened,
+/// and the services' endpoints, so a record of such entries alone the square of its length. `NoMemory` where there
+/// is no memory for what is looked up often.
 #[tactic(auto, using(crate::proofs::ServedLemmas::served_by_waits))]
 pub fn judge(alloc: Global, plan: &Plan, entries: &[Entry]) -> Result<Verdict, NoMemory>
     ensures served { IfOk result (λ v. v.served ≡ is_served plan.now entries.now) }
+    ensures end { IfOk result (λ v. v.end ≡ step_end plan.now entries.now) }
     ensures breach { IfOk result (λ v. v.breach ≡ breach_of plan.now entries.now) }
 {
     let (opened, reads) = opened_of(alloc, plan, entries)?;
@@ -459,13 +482,16 @@ pub fn judge(alloc: Global, plan: &Plan, entries: &[Entry]) -> Result<Verdict, N
         offer: &offer,
         order: &order,
     };
+    let end = step_end(&past);
     match breach_of(alloc, &past)? {
         Some(found) => Ok(Verdict {
             served: is_served(alloc, &past)?,
+            end,
             breach: Some(found),
         }),
         None => Ok(Verdict {
             served: waits_are_over(&past),
+            end,
             breach: None,
         }),
     }

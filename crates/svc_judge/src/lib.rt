@@ -25,6 +25,7 @@ mod plans;
 mod query;
 mod rules;
 mod settled;
+mod still;
 mod waits;
 
 pub use judging::{Breach, Rule, Verdict, judge};

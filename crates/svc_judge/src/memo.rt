@@ -1,20 +1,24 @@
-//! What is known of a record's prefix, and stays so while entries of connections alone are taken away.
+//! What is known of a record's prefix, and stays so while entries of connections and moments alone are taken away.
 
-ghost use Rattle.std.specs.Prelude.{◌≡◌, ◌∷◌};
+ghost use Rattle.std.specs.Prelude.{Bool, ◌≡◌, ◌∷◌, Some};
 ghost use Rattle.svc_record.specs.declared.plan.Plan.{Plan};
 ghost use Rattle.svc_record.specs.Record.{Record};
 ghost use Rattle.svc_record.specs.Ends.{has_ended};
 ghost use Rattle.svc_record.specs.Fits.{accepts, fits_row, event_fits};
 ghost use Rattle.svc_record.specs.declared.entry.Entry.TheVariants.{Got};
+ghost use Rattle.svc_record.specs.declared.event.Event.TheVariants.{Moment};
 ghost use Rattle.svc_judge.specs.Chains.{IsChains};
+ghost use Rattle.svc_judge.specs.Still.{is_still, is_idle};
 ghost use Rattle.svc_judge.specs.Memos.{IsMemo};
 ghost use Rattle.svc_judge.specs.Pasts.{IsPast, plan_of, record_of};
 
 use crate::alone::alone_fits;
 use crate::anew::is_of_connection;
 use crate::chains::Chains;
+use crate::looking::now;
 use crate::past::Past;
-use crate::{fits, waits};
+use crate::still::is_at_moment;
+use crate::{fits, still, waits};
 use svc_record::{Entry, Event};
 
 /// Whether an endpoint accepts.
@@ -25,10 +29,11 @@ pub(crate) struct Accepting {
     holds: bool,
 }
 
-/// Whether the run has ended, and whether an endpoint accepts, where that is known.
+/// Whether the run has ended, whether time alone changes nothing, and whether an endpoint accepts, where that is known.
 #[derive(Clone, Copy)]
 pub(crate) struct Memo {
     ended: Option<bool>,
+    still: Option<bool>,
     accepting: Option<Accepting>,
 }
 
@@ -39,19 +44,46 @@ impl Memo {
     {
         Memo {
             ended: None,
+            still: None,
             accepting: None,
+        }
+    }
+
+    /// Whether the run had ended before its newest entry, a moment, where that is known.
+    fn ended_before(self, ms: u64, before: &[Entry]) -> Option<bool>
+        ensures { (p : Plan) → IsMemo self p (Got (Moment ms) ∷ before.now) → (b : Bool) → result ≡ Some b → b ≡ has_ended p before.now }
+    {
+        if let Some(false) = self.ended
+            && let Some(true) = self.still
+            && now(before) <= ms
+        {
+            return Some(false);
+        }
+        None
+    }
+
+    /// What is known without the newest entry, a moment.
+    fn before_moment(self, ms: u64, before: &[Entry]) -> Self
+        ensures { (p : Plan) → IsMemo self p (Got (Moment ms) ∷ before.now) → IsMemo result p before.now }
+    {
+        Memo {
+            ended: self.ended_before(ms, before),
+            still: self.still,
+            accepting: self.accepting,
         }
     }
 
     /// What is known without the newest entry.
     #[tactic(auto, using(crate::proofs::MemoLemmas::memo_before))]
-    pub(crate) fn before(self, entry: &Entry) -> Self
-        ensures { (p : Plan) (q : Record) → IsMemo self p (entry.now ∷ q) → IsMemo result p q }
+    pub(crate) fn before(self, entry: &Entry, before: &[Entry]) -> Self
+        ensures { (p : Plan) → IsMemo self p (entry.now ∷ before.now) → IsMemo result p before.now }
     {
         if is_of_connection(entry) {
-            self
-        } else {
-            Memo::new()
+            return self;
+        }
+        match entry {
+            Entry::Got(Event::Moment(ms)) => self.before_moment(*ms, before),
+            _ => Memo::new(),
         }
     }
 
@@ -68,6 +100,30 @@ impl Memo {
         let ended = waits::has_ended(past);
         self.ended = Some(ended);
         ended
+    }
+
+    /// Whether neither a bind nor a try nor an offer rests.
+    fn is_still(&mut self, past: &Past) -> bool
+        requires { IsMemo self.old (plan_of past.now) (record_of past.now) }
+        ensures is { result ≡ is_still (record_of past.now) }
+        ensures memo { IsMemo self.new (plan_of past.now) (record_of past.now) }
+    {
+        if let Some(still) = self.still {
+            return still;
+        }
+        let still = still::is_still(past.entries);
+        self.still = Some(still);
+        still
+    }
+
+    /// Whether a moment came last, nothing rests, and the run goes on.
+    pub(crate) fn is_idle(&mut self, past: &Past) -> bool
+        requires past { IsPast past.now }
+        requires memo { IsMemo self.old (plan_of past.now) (record_of past.now) }
+        ensures is { result ≡ is_idle (plan_of past.now) (record_of past.now) }
+        ensures memo { IsMemo self.new (plan_of past.now) (record_of past.now) }
+    {
+        is_at_moment(past.entries) && self.is_still(past) && !self.has_ended(past)
     }
 
     /// Whether the endpoint accepts.

@@ -25,7 +25,7 @@ fn is_upgrade_signal(entries: &[Entry]) -> bool
 }
 
 /// The same. Where it does, a signal came.
-fn is_upgrade(entries: &[Entry]) -> bool
+pub(crate) fn is_upgrade(entries: &[Entry]) -> bool
     ensures is { result ≡ is_upgrade (signal_of entries.now) }
     ensures came { result ≡ true → has is_signal entries.now ≡ true }
 {

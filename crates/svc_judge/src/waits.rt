@@ -3,15 +3,19 @@
 ghost use Rattle.std.specs.Prelude.{◌≡◌, Option};
 ghost use Rattle.svc_record.specs.Record.{now};
 ghost use Rattle.svc_record.specs.Drain.{rest_end, grace_over, signal_grace_over, offer_grace_over, has_passed_by, waits_are_over};
-ghost use Rattle.svc_record.specs.Ends.{has_ended};
+ghost use Rattle.svc_record.specs.Ends.{has_ended, step_end};
 ghost use Rattle.svc_judge.specs.Pasts.{IsPast, plan_of, record_of};
-ghost use Rattle.svc_judge.specs.Steps.{has_rested};
+ghost use Rattle.svc_judge.specs.Steps.{has_rested, failed_end};
 
-use crate::ends::{ends_tested, has_ended_early};
+use crate::boot::has_bad_message;
+use crate::ends::{
+    ends_no_sender, ends_parent_badly, ends_parent_well, ends_tested, ends_transfer,
+    has_ended_early,
+};
 use crate::looking::{has_cut, now, signal_of};
 use crate::offer::{has_offer, is_over, over_moment};
 use crate::past::{Past, Split};
-use svc_record::{Entry, Event, Plan, ShutdownSignal};
+use svc_record::{BootstrapError, Entry, Event, Plan, ShutdownSignal, StepEnd};
 
 /// The offer was over 5,000 ms or more before the moment.
 fn has_rested(before: &Past, ms: u64) -> bool
@@ -107,4 +111,38 @@ pub(crate) fn has_ended(past: &Past) -> bool
     ensures { result ≡ has_ended (plan_of past.now) (record_of past.now) }
 {
     waits_are_over(past) || ends_tested(past) || has_ended_early(past)
+}
+
+/// Why the server couldn't take over, if it couldn't.
+fn failed_end(past: &Past) -> StepEnd
+    requires { IsPast past.now }
+    ensures { result ≡ failed_end (plan_of past.now) (record_of past.now) }
+{
+    if ends_transfer(past.entries) {
+        StepEnd::Ended(BootstrapError::Transfer)
+    } else if ends_no_sender(past) {
+        StepEnd::Ended(BootstrapError::NoSender)
+    } else if has_bad_message(past) {
+        StepEnd::Ended(BootstrapError::BadMessage)
+    } else {
+        StepEnd::On
+    }
+}
+
+/// How the run has ended, if it has.
+pub(crate) fn step_end(past: &Past) -> StepEnd
+    requires { IsPast past.now }
+    ensures { result ≡ step_end (plan_of past.now) (record_of past.now) }
+{
+    if waits_are_over(past) {
+        StepEnd::Served
+    } else if ends_tested(past) {
+        StepEnd::Tested
+    } else if ends_parent_well(past) {
+        StepEnd::Parent(0)
+    } else if ends_parent_badly(past) {
+        StepEnd::Parent(1)
+    } else {
+        failed_end(past)
+    }
 }
