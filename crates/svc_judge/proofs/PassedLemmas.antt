@@ -30,6 +30,7 @@ use Rattle.svc_judge.specs.Still.{is_idle}
 use Rattle.svc_judge.specs.Passed.{passed_anew, end_anew, step_anew_by, late_breach, late_place_breach}
 use Rattle.svc_judge.proofs.VerdictLemmas.{and, entries, entry_keeps, OpenKeeps}
 use Rattle.svc_judge.proofs.NewLemmas.{before, at_event, open_from, all_false, new_is}
+use Rattle.svc_judge.proofs.StillLemmas.{or_right}
 use Rattle.svc_judge.proofs.IdleLemmas.{idle_is}
 
 -- what stands before each event passes a test that an unbroken prefix gives in which the run goes on
@@ -43,10 +44,6 @@ earlier_open p test f (Told a ∷ b) h = earlier_open p test f b (before p (Told
 
 not_over : (p : Plan) (q : Record) → has_ended p q ≡ false → not (waits_are_over p q) ≡ true
 not_over p q on = ap not ((all_false (waits_are_over p q) (ends_tested p q) (has_ended_early p q) on).0)
-
-or_right : (a b : Bool) → b ≡ true → (a || b) ≡ true
-or_right true b h = refl
-or_right false b h = h
 
 in_service_keeps : (r s starts e : Bool) → (not r || starts) ≡ true → (not (r && not s) || e) ≡ true → (not (r && not s) || (starts && e)) ≡ true
 in_service_keeps false s starts e h g = refl

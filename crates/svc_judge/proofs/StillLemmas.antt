@@ -1,7 +1,7 @@
 -- A moment leaves what is asked of a record in which nothing rests, while the run goes on.
-use Rattle.std.proofs.Common.{ℕ, Bool, true, false, not, ◌&&◌, ◌||◌, ◌==◌, ◌++◌, ◌-◌, ◌/◌, ◌≤◌, nat_lt, nat_le, arith, List, [], ◌∷◌, inl, inr, ◌≡◌, refl, sym, ap, ◌∙◌, eqb-true, Option, Some, None, if◌then◌else◌}
+use Rattle.std.proofs.Common.{ℕ, Bool, true, false, not, ◌&&◌, ◌||◌, ◌==◌, ◌++◌, ◌-◌, nat_lt, nat_le, arith, List, [], ◌∷◌, inl, inr, ◌≡◌, refl, sym, ap, ◌∙◌, eqb-true, Option, Some, None, if◌then◌else◌}
 use Rattle.std.specs.List.{list_any, list_all}
-use Rattle.std.proofs.lemmas.Bool.{false≢true, cases_Bool, lt-ltb, lt-leb, leb-false}
+use Rattle.std.proofs.lemmas.Bool.{false≢true, cases_Bool, lt-ltb}
 use Rattle.svc_record.specs.declared.plan.Plan.{Plan}
 use Rattle.svc_record.specs.declared.entry.Entry.TheVariants.{Got, Told}
 use Rattle.svc_record.specs.declared.event.Event.TheVariants.{Moment, Bound, InUse, BindFailed, Received, NoSenderYet, ReceiveFailed}
@@ -9,30 +9,28 @@ use Rattle.svc_record.specs.declared.action.Action.TheVariants.{Bind}
 use Rattle.svc_record.specs.declared.event.ShutdownSignal.{ShutdownSignal}
 use Rattle.svc_record.specs.declared.event.ShutdownSignal.TheVariants.{FastShutdown, GracefulTerminate, GracefulUpgrade}
 use Rattle.svc_record.specs.declared.action.ExecutionPhase.TheVariants.{Running, ShutdownRuntimes, Terminated}
-use Rattle.svc_record.specs.Record.{Record, has, now, once_if, signal_of, has_cut, before_cut, before_signal, is_running, is_bootstrap, from_the_start, each_entry}
+use Rattle.svc_record.specs.Record.{Record, has, now, once_if, signal_of, has_cut, before_cut, is_running, is_bootstrap, from_the_start, each_entry}
 use Rattle.svc_record.specs.Plans.{services, endpoint_numbers, address, same_address}
 use Rattle.svc_record.specs.Descriptors.{has_live, one_live}
 use Rattle.svc_record.specs.Failed.{has_failed}
 use Rattle.svc_record.specs.Starts.{starts_right, start_due}
 use Rattle.svc_record.specs.Asks.{is_ask_open, is_daemonize, is_try, is_try_open}
 use Rattle.svc_record.specs.Endpoints.{is_held, holds, in_use_within, is_at_work, rests, is_busy, is_busy_elsewhere, waits_at, first_missing, waits_from, waits, endpoint_right, endpoint_right_late, endpoints_right, endpoints_right_late}
-use Rattle.svc_record.specs.Boot.{is_side_parent, is_notify, is_open_receiver, has_begun, boots, try_rests, stands_first, fork_first, complete_right, runs, start_after_boot, boot_right}
+use Rattle.svc_record.specs.Boot.{is_notify, is_open_receiver, has_begun, boots, try_rests, stands_first, fork_first, complete_right, runs, start_after_boot, boot_right}
 use Rattle.svc_record.specs.Offer.{is_upgrade, table, is_empty_table, is_written, is_over, goes_on, offer_right, offer_due}
 use Rattle.svc_record.specs.Message.{encode}
 use Rattle.svc_record.specs.Closes.{closes_right}
 use Rattle.svc_record.specs.Connections.{conn_right}
-use Rattle.svc_record.specs.Drain.{Mark, phase, told_marks, row_by, with_start, wait_row, marks_if, has_passed_by, waits_are_over, same_marks, phases_right, moment_right, is_ending}
-use Rattle.svc_record.specs.Ends.{is_parent_failure, parent_moment, parent_waited, ends_tested, ends_parent_well, ends_transfer, ends_no_sender, ends_bad_message, has_ended_early, has_ended}
+use Rattle.svc_record.specs.Drain.{Mark, phase, told_marks, row_by, with_start, wait_row, marks_if, waits_are_over, same_marks, phases_right, moment_right, is_ending}
 use Rattle.svc_record.specs.Right.{in_service, open_right}
 use Rattle.svc_record.proofs.Sound.{both}
 use Rattle.svc_judge.specs.Still.{awaits_sender, is_last_in_use, has_in_use, is_still}
-use Rattle.svc_judge.proofs.NewLemmas.{all_false, none_of}
 
 or_left : (a b : Bool) → a ≡ true → (a || b) ≡ true
 or_left true b h = refl
 or_left false b h = absurd (false≢true h)
 
-or_right : (a b : Bool) → b ≡ true → (a || b) ≡ true
+pub or_right : (a b : Bool) → b ≡ true → (a || b) ≡ true
 or_right true b h = refl
 or_right false b h = h
 
@@ -229,37 +227,3 @@ open_same p ms r h w =
 
 pub no_offer : (q : Record) → is_still q ≡ true → is_upgrade (signal_of q) ≡ false
 no_offer q h = (none_rest q h).offer
-
-grace_back : (g u t m : ℕ) → u ≤ t → nat_le g ((t - m) / 1000) ≡ false → nat_le g ((u - m) / 1000) ≡ false
-grace_back g u t m le h = lt-leb g ((u - m) / 1000) (omega (arith, leb-false g ((t - m) / 1000) h))
-
-passed_back : (p : Plan) (ms : ℕ) (r : Record) → now r ≤ ms → (x : Option ShutdownSignal) → is_upgrade x ≡ false
-    → has_passed_by p (Got (Moment ms) ∷ r) x ≡ false → has_passed_by p r x ≡ false
-passed_back p ms r le None u h = refl
-passed_back p ms r le (Some FastShutdown) u h = h
-passed_back p ms r le (Some GracefulTerminate) u h = grace_back p.grace (now r) ms (now (before_signal r)) le h
-passed_back p ms r le (Some GracefulUpgrade) u h = absurd (false≢true (sym u))
-
-or_back : (c x y : Bool) → (c || x) ≡ false → (x ≡ false → y ≡ false) → (c || y) ≡ false
-or_back true x y h f = h
-or_back false x y h f = f h
-
-early_back : (w a f x v t n : Bool) → (((w || (a && (f || (x || v)))) || t) || n) ≡ false → (((w || (a && (f || v))) || t) || n) ≡ false
-early_back true a f x v t n h = h
-early_back false false f x v t n h = h
-early_back false true true x v t n h = h
-early_back false true false true v t n h = absurd (false≢true (sym h))
-early_back false true false false v t n h = h
-
--- a run that goes on after a moment went on before it
-pub on_before : (p : Plan) (ms : ℕ) (r : Record) → is_still r ≡ true → now r ≤ ms → has_ended p (Got (Moment ms) ∷ r) ≡ false → has_ended p r ≡ false
-on_before p ms r still le on =
-    let q : Record = Got (Moment ms) ∷ r in
-    let ways = all_false (waits_are_over p q) (ends_tested p q) (has_ended_early p q) on in
-    none_of (waits_are_over p r) (ends_tested p r) (has_ended_early p r)
-    (or_back (has_cut r) (has_passed_by p q (signal_of r)) (has_passed_by p r (signal_of r)) ways.0
-    (passed_back p ms r le (signal_of r) (no_offer r still)))
-    ways.1
-    (early_back (ends_parent_well p r) (p.wait && has is_side_parent r) (has is_parent_failure r)
-    (has is_side_parent r && nat_le p.ready_timeout ((ms - parent_moment r) / 1000)) (parent_waited p r) (ends_transfer r)
-    (ends_no_sender p r || ends_bad_message r) ways.2)
