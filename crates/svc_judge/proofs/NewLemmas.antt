@@ -114,7 +114,7 @@ all_false true b c h = absurd (false≢true (sym h))
 all_false false true c h = absurd (false≢true (sym h))
 all_false false false c h = (refl, refl, h)
 
-pub none_of : (a b c : Bool) → a ≡ false → b ≡ false → c ≡ false → ((a || b) || c) ≡ false
+none_of : (a b c : Bool) → a ≡ false → b ≡ false → c ≡ false → ((a || b) || c) ≡ false
 none_of a b c h g f = rw (h, g, f)
 
 two_left : (b c : Bool) → first_of (unless b rules.Bootstrapping (unless c rules.Connections None)) None
