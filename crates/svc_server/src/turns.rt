@@ -456,10 +456,10 @@ pub(crate) fn run_plan<B: ServiceWithDependents, F: ConnectionFilter, H: Host<Se
     ensures made { H.made_of host.new ≡ H.made_of host.old }
 {
     match Run::new(alloc, planned, services, filters) {
-        Ok(run) => {
-            let mut run = run;
-            let answer = run.run(alloc, turns, host);
-            drop(run);
+        Ok(begun) => {
+            let mut begun = begun;
+            let answer = begun.run(alloc, turns, host);
+            drop(begun);
             answer
         }
         Err(NoMemory) => Err(RunError::NoMemory),
