@@ -4,7 +4,7 @@ use Rattle.std.specs.Prelude.{nat_lt, nat_le, position, count_by}
 use Rattle.std.specs.List.{position_or_len}
 use Rattle.std.specs.Option.{option_map}
 use Rattle.std.proofs.lemmas.Bool.{and_parts, ltb-true, leb-true, le-ltb, lt-leb, ne_eqb}
-use Rattle.std.proofs.lemmas.List.{length-map}
+use Rattle.std.proofs.lemmas.List.{length-map, length-take-le}
 use Rattle.std.proofs.lemmas.List.Sums.{sum_by-append}
 use Rattle.svc_graph.specs.GraphData.{GraphData}
 use Rattle.svc_graph.specs.Graphs.{node_count}
@@ -20,7 +20,10 @@ use Rattle.svc_server.specs.declared.server.refusals.AddError.{AddError}
 use Rattle.svc_server.specs.declared.server.refusals.AddError.TheVariants.{TooMany, TooManyEndpoints, BadAddressText, UnknownFilter, NoMemory}
 use Rattle.svc_server.specs.Additions.{fault_of, cause_if, first_cause, is_unknown_filter, is_bad_address, IsReason}
 use Rattle.svc_services.specs.declared.script_filter.ScriptFilter.{ScriptFilter}
+use Rattle.svc_services.specs.declared.services.Filtered.{Filtered}
+use Rattle.svc_services.specs.declared.services.Filtered.TheVariants.{Blocking, Each}
 use Rattle.svc_services.specs.BlockedLists.{blocked_by}
+use Rattle.svc_services.specs.Filtered.{number_behind, AreEnough}
 use Rattle.svc_services.specs.Services.{answered}
 use Rattle.svc_services.proofs.ServerLemmas.{HasFirst}
 
@@ -70,18 +73,18 @@ count_before (x ∷ lines) (suc k) line lt read h =
         one true is = rw is (omega arith)
         one false is = rw is (omega arith)
 
-known_filter : (lines : List ServiceLine) (k : ℕ) (line : ServiceLine) (filters : List ScriptFilter) (e : EndpointLine) → k < length lines
-    → line ≡ get_or lines k line → map blocked_by filters ≡ blocked_lists lines
-    → is_unknown_filter (length filters) (endpoint_of (filter_number (take k lines) line) e) ≡ false
-known_filter lines k line filters e lt read are = by (blocks line) refl
+-- where the filters are enough, that of the line at index k is known
+known_filter : (filtered : Filtered) (lines : List ServiceLine) (k : ℕ) (line : ServiceLine) (filters : ℕ) (e : EndpointLine) → k < length lines
+    → line ≡ get_or lines k line → AreEnough filtered lines filters
+    → is_unknown_filter filters (endpoint_of (number_behind filtered (take k lines) line) e) ≡ false
+known_filter Each lines k line filters e lt read are =
+    lt-leb filters (length (take k lines)) (omega (arith, are, length-take-le k lines (omega arith)))
+known_filter Blocking lines k line filters e lt read are = by (blocks line) refl
   where
-    count : length filters ≡ length (blocked_lists lines)
-    count = sym (length-map filters blocked_by) ∙ ap length are
-
-    by : (b : Bool) → blocks line ≡ b → is_unknown_filter (length filters) (endpoint_of (filter_number (take k lines) line) e) ≡ false
+    by : (b : Bool) → blocks line ≡ b → is_unknown_filter filters (endpoint_of (filter_number (take k lines) line) e) ≡ false
     by true h =
-        let below : count_by blocks (take k lines) < length filters = omega (arith, count_before lines k line lt read h, count) in
-        rw (h, lt-leb (length filters) (count_by blocks (take k lines)) below) refl
+        let below : count_by blocks (take k lines) < filters = omega (arith, count_before lines k line lt read h, are) in
+        rw (h, lt-leb filters (count_by blocks (take k lines)) below) refl
     by false h = rw h refl
 
 -- of these causes none stands
@@ -90,29 +93,35 @@ none_stands : (full many : Bool) (bad filtered : Option ℕ) → full ≡ false 
 none_stands full many bad filtered ef em eb ei = rw (ef, em, eb, ei) refl
 
 -- no cause stands against the next service
-no_cause : (lines : List ServiceLine) (k : ℕ) (line : ServiceLine) (g : GraphData) (filters : List ScriptFilter) (answers : List ServicePlan)
-    → AreAccepted lines → HasFirst lines k g filters answers → k < length lines → line ≡ get_or lines k line
-    → fault_of g (length filters) (answered (filter_number (take k lines) line) line) ≡ None
-no_cause lines k line g filters answers ok first lt read =
+no_cause : (filtered : Filtered) (lines : List ServiceLine) (k : ℕ) (line : ServiceLine) (g : GraphData) (filters : ℕ) (answers : List ServicePlan)
+    → AreAccepted lines → AreEnough filtered lines filters → HasFirst (number_behind filtered) lines k g filters answers → k < length lines
+    → line ≡ get_or lines k line → fault_of g filters (answered (number_behind filtered (take k lines) line) line) ≡ None
+no_cause filtered lines k line g filters answers ok enough first lt read =
     let good : IsAccepted line = rw read (ok.each k line lt) in
-    let number : Option ℕ = filter_number (take k lines) line in
+    let number : Option ℕ = number_behind filtered (take k lines) line in
     let few : length (map (endpoint_of number) line.endpoints) ≤ 64 = omega (arith, good.few_endpoints, length-map line.endpoints (endpoint_of number)) in
     none_stands (nat_le 1024 (node_count g)) (nat_lt 64 (length (map (endpoint_of number) line.endpoints)))
     (position is_bad_address (map (endpoint_of number) line.endpoints))
-    (position (is_unknown_filter (length filters)) (map (endpoint_of number) line.endpoints))
+    (position (is_unknown_filter filters) (map (endpoint_of number) line.endpoints))
     (lt-leb 1024 (node_count g) (omega (arith, first.nodes.count, ok.few)))
     (le-ltb 64 (length (map (endpoint_of number) line.endpoints)) few)
     (found_none is_bad_address number line.endpoints (λ i d below. good_address number (get_or line.endpoints i d) (good.addresses i d below)))
-    (found_none (is_unknown_filter (length filters)) number line.endpoints
-    (λ i d below. known_filter lines k line filters (get_or line.endpoints i d) lt read first.filters_are))
+    (found_none (is_unknown_filter filters) number line.endpoints
+    (λ i d below. known_filter filtered lines k line filters (get_or line.endpoints i d) lt read enough))
 
 reason_is : (fault : Option AddError) (reason : AddError) → fault ≡ None → IsReason fault reason → reason ≡ NoMemory
 reason_is fault reason none (inl memory) = memory
 reason_is fault reason none (inr stands) = absurd (cc)
 
 -- a service of the script is refused for want of memory alone
-pub only_memory : (lines : List ServiceLine) (k : ℕ) (line : ServiceLine) (g : GraphData) (filters : List ScriptFilter) (answers : List ServicePlan)
-    (plan : ServicePlan) (reason : AddError) → AreAccepted lines → HasFirst lines k g filters answers → k < length lines → line ≡ get_or lines k line
-    → plan ≡ answered (filter_number (take k lines) line) line → IsReason (fault_of g (length filters) plan) reason → reason ≡ NoMemory
-only_memory lines k line g filters answers plan reason ok first lt read says r =
-    reason_is (fault_of g (length filters) plan) reason (ap (fault_of g (length filters)) says ∙ no_cause lines k line g filters answers ok first lt read) r
+pub only_memory : (filtered : Filtered) (lines : List ServiceLine) (k : ℕ) (line : ServiceLine) (g : GraphData) (filters : ℕ) (answers : List ServicePlan)
+    (plan : ServicePlan) (reason : AddError) → AreAccepted lines → AreEnough filtered lines filters → HasFirst (number_behind filtered) lines k g filters answers
+    → k < length lines → line ≡ get_or lines k line → plan ≡ answered (number_behind filtered (take k lines) line) line
+    → IsReason (fault_of g filters plan) reason → reason ≡ NoMemory
+only_memory filtered lines k line g filters answers plan reason ok enough first lt read says r =
+    reason_is (fault_of g filters plan) reason (ap (fault_of g filters) says ∙ no_cause filtered lines k line g filters answers ok enough first lt read) r
+
+-- the filters of services that block addresses are enough
+pub enough_filters : (lines : List ServiceLine) (filters : List ScriptFilter) → map blocked_by filters ≡ blocked_lists lines
+    → length filters ≡ length (blocked_lists lines)
+enough_filters lines filters are = sym (length-map filters blocked_by) ∙ ap length are

@@ -1,2 +1,3 @@
 pub mod BlockedLists
+pub mod Filtered
 pub mod Services

@@ -1,6 +1,6 @@
 //! The filter of a script's service that blocks addresses.
 
-ghost use Rattle.std.specs.Prelude.{◌≡◌, ◌++◌, ◌∷◌, [], map, not, OnOk};
+ghost use Rattle.std.specs.Prelude.{◌≡◌, ◌++◌, ◌∷◌, [], map, not, IfOk, OnOk};
 ghost use Rattle.svc_text.specs.Filters.{is_blocked, blocked_lists};
 ghost use Rattle.svc_services.specs.BlockedLists.{blocked_by};
 
@@ -48,16 +48,16 @@ fn add_filter(
     }
 }
 
-/// Adds a filter for each service that blocks addresses, in their order.
-pub(crate) fn add_filters(
+/// A filter for each service that blocks addresses, in their order.
+pub(crate) fn filters_of(
     alloc: Global,
-    filters: &mut Filters<ScriptFilter>,
     lines: &[ServiceLine],
-) -> Result<(), NoMemory>
-    ensures { OnOk result (map blocked_by filters.new ≡ map blocked_by filters.old ++ blocked_lists lines.now) }
+) -> Result<Filters<ScriptFilter>, NoMemory>
+    ensures { IfOk result (λ filters. map blocked_by filters ≡ blocked_lists lines.now) }
 {
+    let mut filters = Filters::new(alloc);
     for line in lines {
-        add_filter(alloc, filters, line)?;
+        add_filter(alloc, &mut filters, line)?;
     }
-    Ok(())
+    Ok(filters)
 }
