@@ -1,11 +1,11 @@
 -- What the lines of a part say that services do.
-use Rattle.std.specs.Prelude.{ℕ, ◌^◌, nat_lt, nat_le, if◌then◌else◌, ◌&&◌, List, [], ◌∷◌, length, codes, position, Option, Some, None}
-use Rattle.std.specs.Option.{option_map}
+use Rattle.std.specs.Prelude.{ℕ, ◌^◌, nat_lt, nat_le, ◌==◌, if◌then◌else◌, ◌&&◌, List, [], ◌∷◌, length, codes, position, Option, Some, None}
+use Rattle.std.specs.Option.{option_map, option_or}
 use Rattle.std.specs.Str.{bytes_eq, is_utf8}
 use Rattle.svc_base.specs.Options.{◌>>=◌}
 use Rattle.svc_base.specs.Words.{number_of}
 use Rattle.svc_work.specs.declared.works.Work.{Work}
-use Rattle.svc_work.specs.declared.works.Work.TheVariants.{Echo, ForwardTcp, ForwardUnix, Ready}
+use Rattle.svc_work.specs.declared.works.Work.TheVariants.{Echo, ForwardTcp, ForwardUnix, Ready, Gate}
 use Rattle.svc_work.specs.declared.works.WorkLine.{WorkLine}
 
 -- the address or path that a word is: a text of 1 to 4,096 bytes
@@ -16,9 +16,18 @@ address_of word = if is_utf8 word && (nat_lt 0 (length word) && nat_le (length w
 unfoldable pub bare_work : List ℕ → Option Work
 bare_work word = if bytes_eq word (codes "echo") then Some Echo else None
 
--- `ready MS`
-unfoldable pub ready_of : List ℕ → List ℕ → Option Work
-ready_of word value = if bytes_eq word (codes "ready") then option_map Ready (number_of (2 ^ 64) value) else None
+-- `MS` behind `ready`
+unfoldable pub ready_of : List ℕ → Option Work
+ready_of value = option_map Ready (number_of (2 ^ 64) value)
+
+-- `FILE` behind `gate`
+unfoldable pub gate_of : List ℕ → Option Work
+gate_of value = option_map Gate (address_of value)
+
+-- `ready MS` or `gate FILE`
+unfoldable pub short_work : List ℕ → List ℕ → Option Work
+short_work word value =
+    if bytes_eq word (codes "ready") then ready_of value else (if bytes_eq word (codes "gate") then gate_of value else None)
 
 -- the work of forwarding to this kind of address
 abbrev pub forward_to : List ℕ → List ℕ → Option Work
@@ -36,7 +45,7 @@ long_work word kind value = if bytes_eq word (codes "forward") then forward_of k
 -- what these words say that a service does
 unfoldable pub work_of : List (List ℕ) → Option Work
 work_of (word ∷ []) = bare_work word
-work_of (word ∷ value ∷ []) = ready_of word value
+work_of (word ∷ value ∷ []) = short_work word value
 work_of (word ∷ kind ∷ value ∷ []) = long_work word kind value
 work_of _ = None
 
@@ -48,3 +57,21 @@ service_named names word = position (λ name. bytes_eq name word) names
 unfoldable pub line_of : List (List ℕ) → List (List ℕ) → Option WorkLine
 line_of names [] = None
 line_of names (name ∷ rest) = service_named names name >>= λ s. option_map (λ work. record { service = s; work = work }) (work_of rest)
+
+-- the path that a work says for a gate
+abbrev pub gate_in : Work → Option (List ℕ)
+gate_in (Gate path) = Some path
+gate_in _ = None
+
+-- the path that a line says for the gate of this service
+abbrev pub path_in : ℕ → WorkLine → Option (List ℕ)
+path_in service line = if line.service == service then gate_in line.work else None
+
+-- the path that the last of these lines says for the gate of this service; without one that was found before
+abbrev pub path_after : ℕ → Option (List ℕ) → List WorkLine → Option (List ℕ)
+path_after service found [] = found
+path_after service found (line ∷ more) = path_after service (option_or (path_in service line) found) more
+
+-- the same of all lines
+abbrev pub gate_path : ℕ → List WorkLine → Option (List ℕ)
+gate_path service works = path_after service None works

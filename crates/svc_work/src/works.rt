@@ -1,14 +1,15 @@
 //! What a line says that a service does.
 
 ghost use Rattle.std.specs.Prelude.{◌≡◌, IfOk};
+ghost use Rattle.std.specs.Option.{option_map};
 ghost use Rattle.svc_base.specs.Words.{words};
-ghost use Rattle.svc_work.specs.Works.{address_of, bare_work, ready_of, forward_of, long_work, work_of, service_named, line_of};
+ghost use Rattle.svc_work.specs.Works.{address_of, bare_work, ready_of, forward_of, long_work, gate_of, short_work, work_of, service_named, line_of, path_in, gate_path};
 
 use std::alloc::Global;
 use std::str;
 use svc_base::{NoMemory, Text, number, split_word};
 
-/// What a service does with its connections, or before it is ready.
+/// What a service does with its connections, which of them it takes, or when it is ready.
 #[derive(Drop)]
 pub enum Work {
     /// What comes on a connection comes back.
@@ -19,6 +20,8 @@ pub enum Work {
     ForwardUnix(Text),
     /// The service is ready so many milliseconds after its start.
     Ready(u64),
+    /// Connections are taken whose peers the rules in the file at this path allow.
+    Gate(Text),
 }
 
 /// What a line says: what the service with this number does.
@@ -54,18 +57,40 @@ fn bare_work(word: &[u8]) -> Option<Work>
     }
 }
 
-/// What two words say.
+/// When a service is ready.
 #[tactic(auto, unfolding(crate::specs::Works::ready_of))]
-fn ready_of(word: &[u8], value: &[u8]) -> Option<Work>
-    ensures { result ≡ ready_of word.now value.now }
+fn ready_of(value: &[u8]) -> Option<Work>
+    ensures { result ≡ ready_of value.now }
 {
-    if word != b"ready".as_slice() {
-        return None;
-    }
     match number(value) {
         Some(ms) => Some(Work::Ready(ms)),
         None => None,
     }
+}
+
+/// The file with the rules of a gate.
+#[tactic(auto, unfolding(crate::specs::Works::gate_of))]
+fn gate_of(alloc: Global, value: &[u8]) -> Result<Option<Work>, NoMemory>
+    ensures { IfOk result (λ o. o ≡ gate_of value.now) }
+{
+    match address_of(alloc, value)? {
+        Some(path) => Ok(Some(Work::Gate(path))),
+        None => Ok(None),
+    }
+}
+
+/// What two words say.
+#[tactic(auto, unfolding(crate::specs::Works::short_work))]
+fn short_work(alloc: Global, word: &[u8], value: &[u8]) -> Result<Option<Work>, NoMemory>
+    ensures { IfOk result (λ o. o ≡ short_work word.now value.now) }
+{
+    if word == b"ready".as_slice() {
+        return Ok(ready_of(value));
+    }
+    if word == b"gate".as_slice() {
+        return gate_of(alloc, value);
+    }
+    Ok(None)
 }
 
 /// Where a service forwards to.
@@ -113,7 +138,7 @@ fn work_of(alloc: Global, line: &[u8]) -> Result<Option<Work>, NoMemory>
         return Ok(bare_work(word));
     };
     let Some((second, rest)) = split_word(rest) else {
-        return Ok(ready_of(word, first));
+        return short_work(alloc, word, first);
     };
     if split_word(rest).is_some() {
         return Ok(None);
@@ -149,4 +174,27 @@ pub(crate) fn line_of(
         Some(work) => Ok(Some(WorkLine { service, work })),
         None => Ok(None),
     }
+}
+
+/// The path that a line says for the gate of this service.
+fn path_in(line: &WorkLine, service: usize) -> Option<&Text>
+    ensures { option_map (λ path. path.now) result ≡ path_in service line.now }
+{
+    match &line.work {
+        Work::Gate(path) if line.service == service => Some(path),
+        _ => None,
+    }
+}
+
+/// The path of the rules of a service's gate, if it has one: that of the last line that says one.
+pub fn gate_path(works: &[WorkLine], service: usize) -> Option<&Text>
+    ensures { option_map (λ path. path.now) result ≡ gate_path service works.now }
+{
+    let mut found = None;
+    for line in works {
+        if let Some(path) = path_in(line, service) {
+            found = Some(path);
+        }
+    }
+    found
 }
